@@ -1,0 +1,2 @@
+pub mod StdBytes
+pub mod Words

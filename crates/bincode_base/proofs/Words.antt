@@ -1,0 +1,120 @@
+-- Reading and writing the words of numbers, part by part.
+use Rattle.std.specs.Prelude.{◌≡◌, ◌⊎◌, ℕ, ◌-◌, ◌<◌, ◌≤◌, ◌^◌, nat_le, nat_lt, true, false, List, [], ◌∷◌, ◌++◌, length, take, drop, Some, refl, slice_index}
+use Rattle.std.proofs.Common.{sym, ◌∙◌, inl, inr, ap, subst, arith, append-nil, append_assoc}
+use Rattle.std.proofs.Math.Seq.{take-append_seam, drop-append_seam}
+use Rattle.std.proofs.lemmas.Bool.{le-leb, lt-leb, lt-ltb, le-ltb}
+use Rattle.std.proofs.lemmas.List.{length-append}
+use Rattle.bincode_base.specs.declared.config.Endianness.{Endianness}
+use Rattle.bincode_base.specs.declared.error.IntegerType.{IntegerType}
+use Rattle.bincode_base.specs.declared.error.EncodeError.{EncodeError}
+use Rattle.bincode_base.specs.declared.error.DecodeError.{DecodeError}
+use Rattle.bincode_base.specs.declared.error.DecodeError.TheVariants.{InvalidIntegerType}
+use Rattle.bincode_base.specs.Number.{number_of, digits_of}
+use Rattle.bincode_base.specs.Fault.{Fault, End, InvalidInteger, Tells}
+use Rattle.bincode_base.specs.Charge.{Step}
+use Rattle.bincode_base.specs.Format.{Format, Reading, Took, Failed, after_steps, raw, done, refused, ◌>>=◌, map_format, written_as}
+use Rattle.bincode_base.specs.FormatLaws.{raw-lawful, map-lawful}
+use Rattle.bincode_base.specs.Laws.{Lawful}
+use Rattle.bincode_base.specs.Integers.{byte, digits, first_of, varint, first_byte, FirstByte, Itself, Before, TooWide, behind, shortest, shortest_pieces}
+use Rattle.bincode_base.specs.Device.{FallsShort, Rose, Takes, StopsAmong, joined}
+use Rattle.bincode_base.specs.Reads.{Misreads, by_fault, by_device, by_failure}
+
+byte-lawful : Lawful byte
+unfolding byte
+byte-lawful = map-lawful first_of (raw 1) (raw-lawful 1)
+
+-- so many bytes are there
+pub raw-read : (bytes rest : List ℕ) (n : ℕ) → length bytes ≡ n → (raw n).read (bytes ++ rest) ≡ Took bytes rest []
+unfolding raw
+raw-read bytes rest n e = (raw-lawful n).word_read bytes rest bytes [] (e, refl, refl)
+
+-- too few bytes are there
+raw-short : (input : List ℕ) (n : ℕ) → length input < n → (raw n).read input ≡ Failed (End (Some (n - length input))) []
+unfolding raw
+raw-short input n h = (raw-lawful n).fault_read input (End (Some (n - length input))) [] (h, refl, refl)
+
+-- a byte, and digits, are so many bytes as they are
+first_of-index : (bytes : List ℕ) → first_of bytes ≡ slice_index bytes 0
+first_of-index [] = refl
+first_of-index (b ∷ bytes) = refl
+
+pub byte-took : (input bytes rest : List ℕ) → (raw 1).read input ≡ Took bytes rest [] → byte.read input ≡ Took (slice_index bytes 0) rest []
+unfolding byte ◌>>=◌ done
+byte-took input bytes rest e = rw (e, first_of-index bytes) refl
+
+pub byte-failed : (input : List ℕ) (why : Fault) (steps : List Step) → (raw 1).read input ≡ Failed why steps → byte.read input ≡ Failed why steps
+unfolding byte ◌>>=◌
+byte-failed input why steps e = rw e refl
+
+pub digits-took : (order : Endianness) (n : ℕ) (input bytes rest : List ℕ) → (raw n).read input ≡ Took bytes rest [] → (digits order n).read input ≡ Took (number_of order bytes) rest []
+unfolding digits written_as ◌>>=◌ done
+digits-took order n input bytes rest e = rw e refl
+
+pub digits-failed : (order : Endianness) (n : ℕ) (input : List ℕ) (why : Fault) (steps : List Step) → (raw n).read input ≡ Failed why steps → (digits order n).read input ≡ Failed why steps
+unfolding digits written_as ◌>>=◌
+digits-failed order n input why steps e = rw e refl
+
+-- why a read of so many bytes failed
+pub raw-misreads : (ended : ℕ → DecodeError → Type 0) (device : DecodeError → Type 0) (rest rest' : List ℕ) (n before after : ℕ) (e : DecodeError) →
+    FallsShort ended rest n e ⊎ (device e ⊎ Rose before after) → device e ⊎ Takes rest rest' → Misreads ended device ((raw n).read rest) before after rest rest' e
+raw-misreads ended device rest rest' n before after e why (inl d) = by_device d
+raw-misreads ended device rest rest' n before after e (inl h) (inr t) = by_fault (End (Some (n - length rest))) [] (raw-short rest n h.0) h.1 t
+raw-misreads ended device rest rest' n before after e (inr (inl h)) (inr t) = by_device h
+raw-misreads ended device rest rest' n before after e (inr (inr h)) (inr t) = by_failure h t
+
+-- the fault of a part is that of the whole
+pub misreads-more : {A B : Type 0} (ended : ℕ → DecodeError → Type 0) (device : DecodeError → Type 0) (part : Reading A) (whole : Reading B) (before after : ℕ) (rest rest' : List ℕ) (e : DecodeError) →
+    ((why : Fault) (steps : List Step) → part ≡ Failed why steps → whole ≡ Failed why steps) → Misreads ended device part before after rest rest' e → Misreads ended device whole before after rest rest' e
+misreads-more ended device part whole before after rest rest' e same (by_fault why steps h t k) = by_fault why steps (same why steps h) t k
+misreads-more ended device part whole before after rest rest' e same (by_failure h k) = by_failure h k
+misreads-more ended device part whole before after rest rest' e same (by_device h) = by_device h
+
+-- what was taken before, and then more
+takes-then : (rest middle rest' : List ℕ) → Takes rest middle → Takes middle rest' → Takes rest rest'
+takes-then rest middle rest' (a, e) (b, f) = (a ++ b, e ∙ ap (λ z. a ++ z) f ∙ sym (append_assoc a b rest'))
+
+rose-then : (a b c : ℕ) → a ≤ b → Rose b c → Rose a c
+rose-then a b c h (inl r) = inl (omega arith)
+rose-then a b c h (inr r) = inr r
+
+-- what the first byte asks for
+no_steps : {A : Type 0} (r : Reading A) → after_steps [] r ≡ r
+no_steps (Took a rest steps) = refl
+no_steps (Failed why steps) = refl
+
+module _ (tags : ℕ → IntegerType) (name : IntegerType) (order : Endianness) (width : ℕ) (input rest : List ℕ) where
+  pub varint-then : (first : ℕ) → byte.read input ≡ Took first rest [] → (varint tags name order width).read input ≡ (behind order (InvalidInteger name (tags first)) first (first_byte width first)).read rest
+  unfolding varint written_as ◌>>=◌
+  varint-then first e = rw e (no_steps ((behind order (InvalidInteger name (tags first)) first (first_byte width first)).read rest))
+
+  pub varint-none : (why : Fault) (steps : List Step) → byte.read input ≡ Failed why steps → (varint tags name order width).read input ≡ Failed why steps
+  unfolding varint written_as ◌>>=◌
+  varint-none why steps e = rw e refl
+
+  -- a byte is the number itself
+  pub varint-itself : (first n : ℕ) → byte.read input ≡ Took first rest [] → first_byte width first ≡ Itself → n ≡ first → (varint tags name order width).read input ≡ Took n rest []
+  unfolding done
+  varint-itself first n e row same = varint-then first e ∙ rw (row, same) refl
+
+  -- a tag, and then the digits
+  pub varint-digits : (first k : ℕ) → byte.read input ≡ Took first rest [] → first_byte width first ≡ Before k → (varint tags name order width).read input ≡ (digits order k).read rest
+  varint-digits first k e row = varint-then first e ∙ rw row refl
+
+  module _ (ended : ℕ → DecodeError → Type 0) (device : DecodeError → Type 0) where
+    -- a tag that is too wide
+    pub varint-too_wide : (first before after : ℕ) (e : DecodeError) → byte.read input ≡ Took first rest [] → first_byte width first ≡ TooWide → e ≡ InvalidIntegerType name (tags first) → Misreads ended device ((varint tags name order width).read input) before after input rest e
+    unfolding refused
+    varint-too_wide first before after e b row same =
+        let p = byte-lawful.read_word input rest first [] b in
+        by_fault (InvalidInteger name (tags first)) [] (varint-then first b ∙ rw row refl) same (p.word, p.input_is)
+
+    -- digits that are missing
+    pub varint-misreads : (first k before between after : ℕ) (rest' : List ℕ) (e : DecodeError) → byte.read input ≡ Took first rest [] → first_byte width first ≡ Before k → before ≤ between →
+        Misreads ended device ((digits order k).read rest) between after rest rest' e → Misreads ended device ((varint tags name order width).read input) before after input rest' e
+    varint-misreads first k before between after rest' e b row le (by_fault why steps h t f) =
+        let p = byte-lawful.read_word input rest first [] b in
+        by_fault why steps (varint-digits first k b row ∙ h) t (takes-then input rest rest' (p.word, p.input_is) f)
+    varint-misreads first k before between after rest' e b row le (by_failure h f) =
+        let p = byte-lawful.read_word input rest first [] b in
+        by_failure (rose-then before between after le h) (takes-then input rest rest' (p.word, p.input_is) f)
+    varint-misreads first k before between after rest' e b row le (by_device h) = by_device h

@@ -1,0 +1,15 @@
+pub mod Setting
+pub mod Number
+pub mod Fault
+pub mod Charge
+pub mod Format
+pub mod Laws
+pub mod FormatLaws
+pub mod Balance
+pub mod Integers
+pub mod IntegerLaws
+pub mod Device
+pub mod Reads
+pub mod Put
+pub mod Slices
+pub mod Text

@@ -1,0 +1,16 @@
+-- What a slice reader has left, and what a slice writer has written.
+use Rattle.std.specs.Prelude.{ℕ, List}
+use Rattle.bincode_base.specs.declared.read.SliceReader.{SliceReader}
+use Rattle.bincode_base.specs.declared.write.SliceWriter.{SliceWriter}
+
+-- the bytes that are left
+abbrev pub left_of : SliceReader → List ℕ
+left_of r = r.slice.now
+
+-- all bytes of the slice
+abbrev pub bytes_of : SliceWriter → List ℕ
+bytes_of w = w.slice.now
+
+-- how many of them were written
+abbrev pub count_of : SliceWriter → ℕ
+count_of w = w.written

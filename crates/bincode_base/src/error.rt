@@ -1,0 +1,166 @@
+//! What encoding and decoding answer when they fail.
+
+use crate::text::ShortText;
+use std::error::Error;
+use std::fmt;
+use std::io;
+use std::str::Utf8Error;
+
+/// Why a value could not be encoded.
+#[derive(Debug, Drop)]
+pub enum EncodeError {
+    /// The writer has too little room for the next piece.
+    UnexpectedEnd,
+    /// A `RefCell` is borrowed for writing.
+    RefCellAlreadyBorrowed {
+        /// The type that holds it.
+        type_name: ShortText,
+    },
+    /// A lock could not be taken: for users' types.
+    LockFailed {
+        /// The type that holds it.
+        type_name: ShortText,
+    },
+    /// A std writer failed.
+    Io {
+        /// What it answered.
+        inner: io::Error,
+        /// How many bytes were written before.
+        index: usize,
+    },
+    /// A path is no text. Paths are texts here, so it is not met.
+    InvalidPathCharacters,
+    /// Memory was refused.
+    Memory,
+    /// Another cause, by a short text: for users' types.
+    Other(ShortText),
+    /// Another cause, by a text: for users' types.
+    OtherString(String),
+}
+
+/// Why bytes could not be decoded.
+#[derive(Debug, Drop)]
+pub enum DecodeError {
+    /// The reader ended where more bytes were expected.
+    UnexpectedEnd {
+        /// By how many bytes the read fell short.
+        additional: usize,
+    },
+    /// The charges passed the limit of the configuration.
+    LimitExceeded,
+    /// The tag of a number is too wide for its type, or reserved.
+    InvalidIntegerType {
+        /// The type that was read.
+        expected: IntegerType,
+        /// The type that the tag stands for.
+        found: IntegerType,
+    },
+    /// A number that is not zero by its type is zero.
+    NonZeroTypeIsZero {
+        /// The type of the number.
+        non_zero_type: IntegerType,
+    },
+    /// A tag that no variant has.
+    UnexpectedVariant {
+        /// The tag.
+        found: u32,
+        /// The type that was read.
+        type_name: ShortText,
+        /// The tags that its variants have.
+        allowed: AllowedEnumVariants,
+    },
+    /// The bytes of a text are no UTF-8.
+    Utf8 {
+        /// Where and why.
+        inner: Utf8Error,
+    },
+    /// The bytes of a character are no UTF-8: those that were read, and then zeros.
+    InvalidCharEncoding([u8; 4]),
+    /// The byte of a truth value is neither 0 nor 1.
+    InvalidBooleanValue(u8),
+    /// A list has another length than the array that it was read for: for users' types.
+    ArrayLengthMismatch {
+        /// The length of the array.
+        required: usize,
+        /// The length of the list.
+        found: usize,
+    },
+    /// A number is too large for `usize`. It has 64 bits here, so it is not met.
+    OutsideUsizeRange(u64),
+    /// An enum without variants has no values.
+    EmptyEnum {
+        /// The enum.
+        type_name: ShortText,
+    },
+    /// The seconds of a duration, with those that its nanoseconds come to, pass 64 bits.
+    InvalidDuration {
+        /// The seconds as read.
+        secs: u64,
+        /// The nanoseconds as read.
+        nanos: u32,
+    },
+    /// A C string has a zero byte.
+    CStringNulError {
+        /// How many bytes stand before the first one.
+        position: usize,
+    },
+    /// A std reader failed or ended where more bytes were expected.
+    Io {
+        /// What it answered.
+        inner: io::Error,
+        /// By how many bytes the read fell short.
+        additional: usize,
+    },
+    /// Memory was refused.
+    Memory,
+    /// Another cause, by a short text: for users' types.
+    Other(ShortText),
+    /// Another cause, by a text: for users' types.
+    OtherString(String),
+}
+
+/// The tags that the variants of an enum have.
+#[derive(Debug, Drop, PartialEq, Eq)]
+pub enum AllowedEnumVariants {
+    /// All from `min` to `max`, with both.
+    Range { min: u32, max: u32 },
+    /// Each of these.
+    Allowed(Vec<u32>),
+}
+
+/// The integer types by name.
+#[derive(Clone, Copy, Debug, PartialEq, Eq)]
+pub enum IntegerType {
+    U8,
+    U16,
+    U32,
+    U64,
+    U128,
+    Usize,
+
+    I8,
+    I16,
+    I32,
+    I64,
+    I128,
+    Isize,
+
+    /// The tag 255, which no type has.
+    Reserved,
+}
+
+impl fmt::Display for EncodeError {
+    fn fmt<W: fmt::Write>(&self, f: &mut fmt::Formatter<W>) -> fmt::Result {
+        write!(f, "{self:?}")
+    }
+}
+
+impl Error for EncodeError {}
+
+impl fmt::Display for DecodeError {
+    fn fmt<W: fmt::Write>(&self, f: &mut fmt::Formatter<W>) -> fmt::Result {
+        write!(f, "{self:?}")
+    }
+}
+
+impl Error for DecodeError {}

@@ -1,0 +1,56 @@
+ghost use Rattle.std.specs.Prelude.{◌≡◌, ◌<◌, ◌≤◌, ◌^◌, [], IfOk, IfErr};
+ghost use Rattle.bincode_base.specs.Format.{Took};
+ghost use Rattle.bincode_base.specs.Integers.{varint, unsigned_tag};
+ghost use Rattle.bincode_base.specs.Reads.{Misreads};
+ghost use Rattle.bincode_base.specs.declared.error.DecodeError.TheVariants.{InvalidIntegerType};
+ghost use Rattle.bincode_base.specs.declared.error.IntegerType.TheVariants.{U32};
+
+use super::{SINGLE_BYTE_MAX, U16_BYTE, U32_BYTE, U64_BYTE, U128_BYTE};
+use crate::bytes::{read_byte, read_u16, read_u32, read_u64, read_u128};
+use crate::config::Endianness;
+use crate::error::{DecodeError, IntegerType};
+use crate::read::Reader;
+
+/// Reads a word of a number, also one that is longer than its shortest spelling. Fails where bytes are missing, and where
+/// the tag is too wide for the type or reserved.
+pub fn varint_decode_u32<R: Reader>(read: &mut R, endian: Endianness) -> Result<u32, DecodeError>
+    ensures ok { IfOk result (λ v. (varint unsigned_tag U32 endian 4).read (R.rest read.old) ≡ Took v (R.rest read.new) []) }
+    ensures err { IfErr result (Misreads R.ended R.device ((varint unsigned_tag U32 endian 4).read (R.rest read.old)) (R.failures read.old) (R.failures read.new) (R.rest read.old) (R.rest read.new)) }
+    ensures count { R.failures read.old ≤ R.failures read.new }
+    ensures place { R.place read.new ≡ R.place read.old }
+{
+    let n = varint_decode(read, endian, IntegerType::U32, 4)?;
+    Ok(n as u32)
+}
+
+/// The same for a number of so many bytes, of which a fault speaks by name.
+#[inline]
+fn varint_decode<R: Reader>(read: &mut R, endian: Endianness, name: IntegerType, width: usize) -> Result<u128, DecodeError>
+    ensures ok { IfOk result (λ v. (varint unsigned_tag name endian width).read (R.rest read.old) ≡ Took v (R.rest read.new) []) }
+    ensures fits { 2 ≤ width → IfOk result (λ v. v < 256 ^ width) }
+    ensures err { IfErr result (Misreads R.ended R.device ((varint unsigned_tag name endian width).read (R.rest read.old)) (R.failures read.old) (R.failures read.new) (R.rest read.old) (R.rest read.new)) }
+    ensures count { R.failures read.old ≤ R.failures read.new }
+    ensures place { R.place read.new ≡ R.place read.old }
+{
+    match read_byte(read)? {
+        byte @ 0..=SINGLE_BYTE_MAX => Ok(u128::from(byte)),
+        U16_BYTE => Ok(u128::from(read_u16(read, endian)?)),
+        U32_BYTE if width >= 4 => Ok(u128::from(read_u32(read, endian)?)),
+        U64_BYTE if width >= 8 => Ok(u128::from(read_u64(read, endian)?)),
+        U128_BYTE if width >= 16 => read_u128(read, endian),
+        tag => Err(invalid_tag(name, tag)),
+    }
+}
+
+/// The error for a tag that is too wide for the type, or reserved.
+fn invalid_tag(expected: IntegerType, tag: u8) -> DecodeError
+    ensures { result ≡ InvalidIntegerType expected (unsigned_tag tag) }
+{
+    let found = match tag {
+        U32_BYTE => IntegerType::U32,
+        U64_BYTE => IntegerType::U64,
+        U128_BYTE => IntegerType::U128,
+        _ => IntegerType::Reserved,
+    };
+    DecodeError::InvalidIntegerType { expected, found }
+}
