@@ -1,8 +1,10 @@
 -- Reading and writing the words of numbers, part by part.
-use Rattle.std.specs.Prelude.{◌≡◌, ◌⊎◌, ℕ, ◌-◌, ◌<◌, ◌≤◌, ◌^◌, nat_le, nat_lt, true, false, List, [], ◌∷◌, ◌++◌, length, take, drop, Some, refl, slice_index}
+use Rattle.std.specs.Prelude.{◌≡◌, ◌⊎◌, ℕ, ◌-◌, ◌<◌, ◌≤◌, ◌^◌, ◌==◌, ◌&&◌, ◌≢◌, nat_le, true, false, List, [], ◌∷◌, ◌++◌, length, take, drop, Some, refl, slice_index}
 use Rattle.std.proofs.Common.{sym, ◌∙◌, inl, inr, ap, subst, arith, append-nil, append_assoc}
 use Rattle.std.proofs.Math.Seq.{take-append_seam, drop-append_seam}
-use Rattle.std.proofs.lemmas.Bool.{le-leb, lt-leb, lt-ltb, le-ltb}
+use Rattle.std.proofs.Math.Nat.{pow-le-pow_right}
+use Rattle.std.proofs.lemmas.Bool.{le-leb, lt-leb}
+use Rattle.std.proofs.lemmas.Bool.Decides.{nat_tests}
 use Rattle.std.proofs.lemmas.List.{length-append}
 use Rattle.bincode_base.specs.declared.config.Endianness.{Endianness}
 use Rattle.bincode_base.specs.declared.error.IntegerType.{IntegerType}
@@ -13,15 +15,11 @@ use Rattle.bincode_base.specs.Number.{number_of, digits_of}
 use Rattle.bincode_base.specs.Fault.{Fault, End, InvalidInteger, Tells}
 use Rattle.bincode_base.specs.Charge.{Step}
 use Rattle.bincode_base.specs.Format.{Format, Reading, Took, Failed, after_steps, raw, done, refused, ◌>>=◌, map_format, written_as}
-use Rattle.bincode_base.specs.FormatLaws.{raw-lawful, map-lawful}
-use Rattle.bincode_base.specs.Laws.{Lawful}
+use Rattle.bincode_base.specs.FormatLaws.{raw-lawful}
+use Rattle.bincode_base.specs.IntegerLaws.{byte-lawful}
 use Rattle.bincode_base.specs.Integers.{byte, digits, first_of, varint, first_byte, FirstByte, Itself, Before, TooWide, behind, shortest, shortest_pieces}
 use Rattle.bincode_base.specs.Device.{FallsShort, Rose, Takes, StopsAmong, joined}
 use Rattle.bincode_base.specs.Reads.{Misreads, by_fault, by_device, by_failure}
-
-byte-lawful : Lawful byte
-unfolding byte
-byte-lawful = map-lawful first_of (raw 1) (raw-lawful 1)
 
 -- so many bytes are there
 pub raw-read : (bytes rest : List ℕ) (n : ℕ) → length bytes ≡ n → (raw n).read (bytes ++ rest) ≡ Took bytes rest []
@@ -118,3 +116,32 @@ module _ (tags : ℕ → IntegerType) (name : IntegerType) (order : Endianness) 
         let p = byte-lawful.read_word input rest first [] b in
         by_failure (rose-then before between after le h) (takes-then input rest rest' (p.word, p.input_is) f)
     varint-misreads first k before between after rest' e b row le (by_device h) = by_device h
+
+-- what a first byte says
+pub small-itself : (width first : ℕ) → first ≤ 250 → first_byte width first ≡ Itself
+small-itself width first h = let a : nat_le first 250 ≡ true = le-leb first 250 h in rw a refl
+
+-- a tag that its width does not have
+pub tag-too_wide : (width first : ℕ) → 250 < first → first ≢ 251 → first ≢ 252 ⊎ (width < 4) → first ≢ 253 ⊎ (width < 8) → first ≢ 254 ⊎ (width < 16) → first_byte width first ≡ TooWide
+tag-too_wide width first h a b c d =
+    let p : nat_le first 250 ≡ false = lt-leb first 250 h in
+    let q : (first == 251) ≡ false = grind (arith, nat_tests) in
+    let r : ((first == 252) && nat_le 4 width) ≡ false = grind (arith, nat_tests) in
+    let s : ((first == 253) && nat_le 8 width) ≡ false = grind (arith, nat_tests) in
+    let t : ((first == 254) && nat_le 16 width) ≡ false = grind (arith, nat_tests) in
+    rw (p, q, r, s, t) refl
+
+-- a number of fewer bytes
+pub below-wider : (n fewer width : ℕ) → n < 256 ^ fewer → fewer ≤ width → n < 256 ^ width
+below-wider n fewer width h i =
+    let k : 256 ^ fewer ≤ 256 ^ width = pow-le-pow_right {n = 256} (omega arith) i in
+    omega (arith, h, k)
+
+module _ {W : Type 0} (adds : W → List ℕ → W → Type 0) (refuses : W → List ℕ → EncodeError → W → Type 0) where
+  -- the writer refused the first piece
+  pub stops-first : ((w : W) → adds w [] w) → (piece : List ℕ) (others : List (List ℕ)) (before after : W) (e : EncodeError) → refuses before piece e after → StopsAmong adds refuses (piece ∷ others) before e after
+  stops-first none piece others before after e h = record { written = []; piece = piece; others = others; pieces_are = refl; middle = before; added = none before; refused = h }
+
+  -- the writer refused the second piece
+  pub stops-second : (first piece : List ℕ) (others : List (List ℕ)) (before middle after : W) (e : EncodeError) → adds before first middle → refuses middle piece e after → StopsAmong adds refuses (first ∷ piece ∷ others) before e after
+  stops-second first piece others before middle after e h k = record { written = first ∷ []; piece = piece; others = others; pieces_are = refl; middle = middle; added = rw (append-nil first) h; refused = k }

@@ -167,13 +167,14 @@ module _ (tags : ℕ → IntegerType) (name : IntegerType) (order : Endianness) 
     second_word = rw e (digits_word order count n h);
   }
 
-tag_252 : (width : ℕ) → 4 ≤ width → first_byte width 252 ≡ Before 4
+-- the tags that a width has
+pub tag_252 : (width : ℕ) → 4 ≤ width → first_byte width 252 ≡ Before 4
 tag_252 width h = rw (le-leb 4 width h) refl
 
-tag_253 : (width : ℕ) → 8 ≤ width → first_byte width 253 ≡ Before 8
+pub tag_253 : (width : ℕ) → 8 ≤ width → first_byte width 253 ≡ Before 8
 tag_253 width h = rw (le-leb 8 width h) refl
 
-tag_254 : (width : ℕ) → 16 ≤ width → first_byte width 254 ≡ Before 16
+pub tag_254 : (width : ℕ) → 16 ≤ width → first_byte width 254 ≡ Before 16
 tag_254 width h = rw (le-leb 16 width h) refl
 
 at_least_2 : (width : ℕ) → IsWidth width → 2 ≤ width
@@ -225,24 +226,25 @@ size_by n (inl a) (inr b) (inr c) (inr d) = InSixteen d
 size_of : (n : ℕ) → Size n
 size_of n = size_by n (cases_lt 250 n) (cases_lt n 65536) (cases_lt n 4294967296) (cases_lt n 18446744073709551616)
 
+-- the shortest spelling and its pieces, by the size of the number
 module _ (order : Endianness) (n : ℕ) where
-  shortest_1 : n ≤ 250 → (shortest order n ≡ n ∷ []) × (shortest_pieces order n ≡ (n ∷ []) ∷ [])
+  pub shortest_1 : n ≤ 250 → (shortest order n ≡ n ∷ []) × (shortest_pieces order n ≡ (n ∷ []) ∷ [])
   shortest_1 h = let a : nat_le n 250 ≡ true = le-leb n 250 h in (rw a refl, rw a refl)
 
-  shortest_3 : 250 < n → n < 65536 → (shortest order n ≡ 251 ∷ digits_of order 2 n) × (shortest_pieces order n ≡ (251 ∷ []) ∷ digits_of order 2 n ∷ [])
+  pub shortest_3 : 250 < n → n < 65536 → (shortest order n ≡ 251 ∷ digits_of order 2 n) × (shortest_pieces order n ≡ (251 ∷ []) ∷ digits_of order 2 n ∷ [])
   shortest_3 h k =
       let a : nat_le n 250 ≡ false = lt-leb n 250 h in
       let b : nat_lt n 65536 ≡ true = lt-ltb n 65536 k in
       (rw (a, b) refl, rw (a, b) refl)
 
-  shortest_5 : 65536 ≤ n → n < 4294967296 → (shortest order n ≡ 252 ∷ digits_of order 4 n) × (shortest_pieces order n ≡ (252 ∷ []) ∷ digits_of order 4 n ∷ [])
+  pub shortest_5 : 65536 ≤ n → n < 4294967296 → (shortest order n ≡ 252 ∷ digits_of order 4 n) × (shortest_pieces order n ≡ (252 ∷ []) ∷ digits_of order 4 n ∷ [])
   shortest_5 h k =
       let a : nat_le n 250 ≡ false = lt-leb n 250 (omega (arith, h)) in
       let b : nat_lt n 65536 ≡ false = le-ltb n 65536 h in
       let c : nat_lt n 4294967296 ≡ true = lt-ltb n 4294967296 k in
       (rw (a, b, c) refl, rw (a, b, c) refl)
 
-  shortest_9 : 4294967296 ≤ n → n < 18446744073709551616 → (shortest order n ≡ 253 ∷ digits_of order 8 n) × (shortest_pieces order n ≡ (253 ∷ []) ∷ digits_of order 8 n ∷ [])
+  pub shortest_9 : 4294967296 ≤ n → n < 18446744073709551616 → (shortest order n ≡ 253 ∷ digits_of order 8 n) × (shortest_pieces order n ≡ (253 ∷ []) ∷ digits_of order 8 n ∷ [])
   shortest_9 h k =
       let a : nat_le n 250 ≡ false = lt-leb n 250 (omega (arith, h)) in
       let b : nat_lt n 65536 ≡ false = le-ltb n 65536 (omega (arith, h)) in
@@ -250,7 +252,7 @@ module _ (order : Endianness) (n : ℕ) where
       let d : nat_lt n 18446744073709551616 ≡ true = lt-ltb n 18446744073709551616 k in
       (rw (a, b, c, d) refl, rw (a, b, c, d) refl)
 
-  shortest_17 : 18446744073709551616 ≤ n → (shortest order n ≡ 254 ∷ digits_of order 16 n) × (shortest_pieces order n ≡ (254 ∷ []) ∷ digits_of order 16 n ∷ [])
+  pub shortest_17 : 18446744073709551616 ≤ n → (shortest order n ≡ 254 ∷ digits_of order 16 n) × (shortest_pieces order n ≡ (254 ∷ []) ∷ digits_of order 16 n ∷ [])
   shortest_17 h =
       let a : nat_le n 250 ≡ false = lt-leb n 250 (omega (arith, h)) in
       let b : nat_lt n 65536 ≡ false = le-ltb n 65536 (omega (arith, h)) in
