@@ -3,7 +3,7 @@ use Rattle.std.specs.Prelude.{◌≡◌, ℕ, zero, suc, ◌+◌, ◌-◌, ◌*�
 use Rattle.std.specs.Int.{byte_at, byte_worth, bytes_low_first, bytes_high_first, sum_through}
 use Rattle.std.proofs.Common.{sym, ◌∙◌, ap, arith}
 use Rattle.std.proofs.Math.Nat.{pow-suc, div-div-eq-div-mul}
-use Rattle.std.proofs.lemmas.List.{reverse-append, length-append, length-reverse}
+use Rattle.std.proofs.lemmas.List.{reverse-append, length-reverse}
 use Rattle.bincode_base.specs.Number.{low_first_number, low_first_digits}
 
 byte_at-div : (i n : ℕ) → (n / 256 ^ i) % 256 ≡ byte_at i n
@@ -68,8 +68,8 @@ from_low_first-std (suc k) (b ∷ bytes) e =
     let l : length bytes ≡ suc k = omega arith in
     sum-first (λ i. byte_worth i (slice_index (b ∷ bytes) i)) k
     ∙ ap (λ z. b + z) (sum-same (λ i. byte_worth (suc i) (slice_index bytes i)) (λ i. 256 * byte_worth i (slice_index bytes i)) k (λ i le. worth-suc i (slice_index bytes i))
-        ∙ sum-times (λ i. byte_worth i (slice_index bytes i)) k
-        ∙ ap (λ z. 256 * z) (from_low_first-std k bytes l))
+    ∙ sum-times (λ i. byte_worth i (slice_index bytes i)) k
+    ∙ ap (λ z. 256 * z) (from_low_first-std k bytes l))
 
 number-snoc : (xs : List ℕ) (b : ℕ) → low_first_number (xs ++ b ∷ []) ≡ low_first_number xs + b * 256 ^ length xs
 number-snoc [] b = let e : b + 256 * 0 ≡ 0 + b * 1 = omega arith in e
@@ -88,7 +88,7 @@ from_high_first-std (suc k) (b ∷ bytes) e =
     let r : length (reverse bytes) ≡ suc k = length-reverse bytes ∙ l in
     sum-first (λ i. byte_worth (suc k - i) (slice_index (b ∷ bytes) i)) k
     ∙ ap (λ z. byte_worth (suc k - 0) b + z) (sum-same (λ i. byte_worth (suc k - suc i) (slice_index bytes i)) (λ i. byte_worth (k - i) (slice_index bytes i)) k (λ i le. let d : suc k - suc i ≡ k - i = omega arith in ap (λ z. byte_worth z (slice_index bytes i)) d)
-        ∙ from_high_first-std k bytes l)
+    ∙ from_high_first-std k bytes l)
     ∙ last
   where
     last : byte_worth (suc k - 0) b + low_first_number (reverse bytes) ≡ low_first_number (reverse (b ∷ bytes))

@@ -1,24 +1,22 @@
 -- Reading and writing the words of numbers, part by part.
-use Rattle.std.specs.Prelude.{◌≡◌, ◌⊎◌, ℕ, ◌-◌, ◌<◌, ◌≤◌, ◌^◌, ◌==◌, ◌&&◌, ◌≢◌, nat_le, true, false, List, [], ◌∷◌, ◌++◌, length, take, drop, Some, refl, slice_index}
-use Rattle.std.proofs.Common.{sym, ◌∙◌, inl, inr, ap, subst, arith, append-nil, append_assoc}
-use Rattle.std.proofs.Math.Seq.{take-append_seam, drop-append_seam}
+use Rattle.std.specs.Prelude.{◌≡◌, ◌⊎◌, ℕ, ◌-◌, ◌<◌, ◌≤◌, ◌^◌, ◌==◌, ◌&&◌, ◌≢◌, nat_le, true, false, List, [], ◌∷◌, ◌++◌, length, Some, refl, slice_index}
+use Rattle.std.proofs.Common.{sym, ◌∙◌, inl, inr, ap, arith, append-nil, append_assoc}
 use Rattle.std.proofs.Math.Nat.{pow-le-pow_right}
 use Rattle.std.proofs.lemmas.Bool.{le-leb, lt-leb}
 use Rattle.std.proofs.lemmas.Bool.Decides.{nat_tests}
-use Rattle.std.proofs.lemmas.List.{length-append}
 use Rattle.bincode_base.specs.declared.config.Endianness.{Endianness}
 use Rattle.bincode_base.specs.declared.error.IntegerType.{IntegerType}
 use Rattle.bincode_base.specs.declared.error.EncodeError.{EncodeError}
 use Rattle.bincode_base.specs.declared.error.DecodeError.{DecodeError}
 use Rattle.bincode_base.specs.declared.error.DecodeError.TheVariants.{InvalidIntegerType}
-use Rattle.bincode_base.specs.Number.{number_of, digits_of}
-use Rattle.bincode_base.specs.Fault.{Fault, End, InvalidInteger, Tells}
+use Rattle.bincode_base.specs.Number.{number_of}
+use Rattle.bincode_base.specs.Fault.{Fault, End, InvalidInteger}
 use Rattle.bincode_base.specs.Charge.{Step}
-use Rattle.bincode_base.specs.Format.{Format, Reading, Took, Failed, after_steps, raw, done, refused, ◌>>=◌, map_format, written_as}
+use Rattle.bincode_base.specs.Format.{Reading, Took, Failed, after_steps, raw, done, refused, ◌>>=◌, written_as}
 use Rattle.bincode_base.specs.FormatLaws.{raw-lawful}
 use Rattle.bincode_base.specs.IntegerLaws.{byte-lawful}
-use Rattle.bincode_base.specs.Integers.{byte, digits, first_of, varint, first_byte, FirstByte, Itself, Before, TooWide, behind, shortest, shortest_pieces}
-use Rattle.bincode_base.specs.Device.{FallsShort, Rose, Takes, StopsAmong, joined}
+use Rattle.bincode_base.specs.Integers.{byte, digits, first_of, varint, first_byte, Itself, Before, TooWide, behind}
+use Rattle.bincode_base.specs.Device.{FallsShort, Rose, Takes, StopsAmong}
 use Rattle.bincode_base.specs.Reads.{Misreads, by_fault, by_device, by_failure}
 
 -- so many bytes are there
@@ -81,7 +79,7 @@ no_steps (Took a rest steps) = refl
 no_steps (Failed why steps) = refl
 
 module _ (tags : ℕ → IntegerType) (name : IntegerType) (order : Endianness) (width : ℕ) (input rest : List ℕ) where
-  pub varint-then : (first : ℕ) → byte.read input ≡ Took first rest [] → (varint tags name order width).read input ≡ (behind order (InvalidInteger name (tags first)) first (first_byte width first)).read rest
+  varint-then : (first : ℕ) → byte.read input ≡ Took first rest [] → (varint tags name order width).read input ≡ (behind order (InvalidInteger name (tags first)) first (first_byte width first)).read rest
   unfolding varint written_as ◌>>=◌
   varint-then first e = rw e (no_steps ((behind order (InvalidInteger name (tags first)) first (first_byte width first)).read rest))
 

@@ -3,7 +3,6 @@ use Rattle.std.specs.Prelude.{◌≡◌, ◌-◌, ◌^◌, ◌<◌, ◌⊎◌, �
 use Rattle.std.specs.Borrow.{GName}
 use Rattle.bincode_base.specs.declared.error.DecodeError.{DecodeError}
 use Rattle.bincode_base.specs.declared.error.EncodeError.{EncodeError}
-use Rattle.bincode_base.specs.Fault.{Fault, Tells}
 
 -- a count of failures rose, or stands at its last value
 abbrev pub Rose : ℕ → ℕ → Type 0

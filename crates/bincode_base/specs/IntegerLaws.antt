@@ -231,20 +231,20 @@ module _ (order : Endianness) (n : ℕ) where
   pub shortest_1 : n ≤ 250 → (shortest order n ≡ n ∷ []) × (shortest_pieces order n ≡ (n ∷ []) ∷ [])
   shortest_1 h = let a : nat_le n 250 ≡ true = le-leb n 250 h in (rw a refl, rw a refl)
 
-  pub shortest_3 : 250 < n → n < 65536 → (shortest order n ≡ 251 ∷ digits_of order 2 n) × (shortest_pieces order n ≡ (251 ∷ []) ∷ digits_of order 2 n ∷ [])
+  shortest_3 : 250 < n → n < 65536 → (shortest order n ≡ 251 ∷ digits_of order 2 n) × (shortest_pieces order n ≡ (251 ∷ []) ∷ digits_of order 2 n ∷ [])
   shortest_3 h k =
       let a : nat_le n 250 ≡ false = lt-leb n 250 h in
       let b : nat_lt n 65536 ≡ true = lt-ltb n 65536 k in
       (rw (a, b) refl, rw (a, b) refl)
 
-  pub shortest_5 : 65536 ≤ n → n < 4294967296 → (shortest order n ≡ 252 ∷ digits_of order 4 n) × (shortest_pieces order n ≡ (252 ∷ []) ∷ digits_of order 4 n ∷ [])
+  shortest_5 : 65536 ≤ n → n < 4294967296 → (shortest order n ≡ 252 ∷ digits_of order 4 n) × (shortest_pieces order n ≡ (252 ∷ []) ∷ digits_of order 4 n ∷ [])
   shortest_5 h k =
       let a : nat_le n 250 ≡ false = lt-leb n 250 (omega (arith, h)) in
       let b : nat_lt n 65536 ≡ false = le-ltb n 65536 h in
       let c : nat_lt n 4294967296 ≡ true = lt-ltb n 4294967296 k in
       (rw (a, b, c) refl, rw (a, b, c) refl)
 
-  pub shortest_9 : 4294967296 ≤ n → n < 18446744073709551616 → (shortest order n ≡ 253 ∷ digits_of order 8 n) × (shortest_pieces order n ≡ (253 ∷ []) ∷ digits_of order 8 n ∷ [])
+  shortest_9 : 4294967296 ≤ n → n < 18446744073709551616 → (shortest order n ≡ 253 ∷ digits_of order 8 n) × (shortest_pieces order n ≡ (253 ∷ []) ∷ digits_of order 8 n ∷ [])
   shortest_9 h k =
       let a : nat_le n 250 ≡ false = lt-leb n 250 (omega (arith, h)) in
       let b : nat_lt n 65536 ≡ false = le-ltb n 65536 (omega (arith, h)) in
@@ -252,7 +252,7 @@ module _ (order : Endianness) (n : ℕ) where
       let d : nat_lt n 18446744073709551616 ≡ true = lt-ltb n 18446744073709551616 k in
       (rw (a, b, c, d) refl, rw (a, b, c, d) refl)
 
-  pub shortest_17 : 18446744073709551616 ≤ n → (shortest order n ≡ 254 ∷ digits_of order 16 n) × (shortest_pieces order n ≡ (254 ∷ []) ∷ digits_of order 16 n ∷ [])
+  shortest_17 : 18446744073709551616 ≤ n → (shortest order n ≡ 254 ∷ digits_of order 16 n) × (shortest_pieces order n ≡ (254 ∷ []) ∷ digits_of order 16 n ∷ [])
   shortest_17 h =
       let a : nat_le n 250 ≡ false = lt-leb n 250 (omega (arith, h)) in
       let b : nat_lt n 65536 ≡ false = le-ltb n 65536 (omega (arith, h)) in
@@ -709,7 +709,7 @@ signed-least name width z setting written bytes s h w u =
     let q = word_map (integer_by width setting.encoding) F bytes z p.0 p.1 in
     let e : length written ≡ length (spelling setting.encoding setting.order width (number_for width setting.encoding z)) = ap length (signed-written name width z setting written w).1 in
     let f : length (spelling setting.encoding setting.order width (number_for width setting.encoding z)) ≡ length (spelling setting.encoding setting.order width q.0) =
-        ap (λ y. length (spelling setting.encoding setting.order width (number_for width setting.encoding y))) q.3 ∙ same_length width setting.encoding setting.order q.0 in
+    ap (λ y. length (spelling setting.encoding setting.order width (number_for width setting.encoding y))) q.3 ∙ same_length width setting.encoding setting.order q.0 in
     let l : length (spelling setting.encoding setting.order width q.0) ≤ length bytes = spelling-least signed_tag name setting.order width setting.encoding bytes q.0 q.1 h q.2 in
     rw (e, f) l
 

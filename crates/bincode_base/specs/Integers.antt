@@ -1,5 +1,5 @@
 -- The words of numbers.
-use Rattle.std.specs.Prelude.{◌≡◌, ℕ, ◌+◌, ◌<◌, ◌^◌, nat_lt, nat_le, ◌==◌, if◌then◌else◌, ◌&&◌, ℤ, List, [], ◌∷◌}
+use Rattle.std.specs.Prelude.{◌≡◌, ℕ, ◌<◌, ◌^◌, nat_lt, nat_le, ◌==◌, if◌then◌else◌, ◌&&◌, ℤ, List, [], ◌∷◌}
 use Rattle.bincode_base.specs.declared.config.Endianness.{Endianness}
 use Rattle.bincode_base.specs.declared.config.IntEncoding.{IntEncoding}
 use Rattle.bincode_base.specs.declared.config.IntEncoding.TheVariants.{Fixed, Variable}

@@ -14,8 +14,8 @@ pub fn bytes_of_u16(endian: Endianness, n: u16) -> [u8; 2]
     ensures { result ≡ digits_of endian 2 n }
 {
     match endian {
-        Endianness::Little => n.to_le_bytes(),
-        Endianness::Big => n.to_be_bytes(),
+        Endianness::Little => u16::to_le_bytes(n),
+        Endianness::Big => u16::to_be_bytes(n),
     }
 }
 
@@ -24,8 +24,8 @@ pub fn bytes_of_u32(endian: Endianness, n: u32) -> [u8; 4]
     ensures { result ≡ digits_of endian 4 n }
 {
     match endian {
-        Endianness::Little => n.to_le_bytes(),
-        Endianness::Big => n.to_be_bytes(),
+        Endianness::Little => u32::to_le_bytes(n),
+        Endianness::Big => u32::to_be_bytes(n),
     }
 }
 
@@ -34,8 +34,8 @@ pub fn bytes_of_u64(endian: Endianness, n: u64) -> [u8; 8]
     ensures { result ≡ digits_of endian 8 n }
 {
     match endian {
-        Endianness::Little => n.to_le_bytes(),
-        Endianness::Big => n.to_be_bytes(),
+        Endianness::Little => u64::to_le_bytes(n),
+        Endianness::Big => u64::to_be_bytes(n),
     }
 }
 
@@ -44,8 +44,8 @@ pub fn bytes_of_u128(endian: Endianness, n: u128) -> [u8; 16]
     ensures { result ≡ digits_of endian 16 n }
 {
     match endian {
-        Endianness::Little => n.to_le_bytes(),
-        Endianness::Big => n.to_be_bytes(),
+        Endianness::Little => u128::to_le_bytes(n),
+        Endianness::Big => u128::to_be_bytes(n),
     }
 }
 

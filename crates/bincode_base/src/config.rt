@@ -90,9 +90,11 @@ impl<E, I, L> Configuration<E, I, L> {
 }
 
 /// What the library asks of a configuration. Every `Copy` type with the three parts is one.
-pub trait Config:
-    InternalEndianConfig + InternalIntEncodingConfig + InternalLimitConfig + Copy + Clone
-{
+pub trait Config: InternalEndianConfig
+    + InternalIntEncodingConfig
+    + InternalLimitConfig
+    + Copy
+    + Clone {
     /// The byte order and the integer encoding, on which words depend.
     ghost setting: { Setting };
 
@@ -112,9 +114,9 @@ pub trait Config:
         ensures { result ≡ bound };
 }
 
-impl<T: InternalEndianConfig + InternalIntEncodingConfig + InternalLimitConfig + Copy + Clone> Config
-    for T
-{
+impl<
+    T: InternalEndianConfig + InternalIntEncodingConfig + InternalLimitConfig + Copy + Clone,
+> Config for T {
     ghost setting = { record { order = T.ENDIAN; encoding = T.INT_ENCODING } };
 
     ghost bound = { T.LIMIT };

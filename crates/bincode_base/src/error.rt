@@ -2,9 +2,8 @@
 
 use crate::text::ShortText;
 use std::error::Error;
-use std::fmt;
-use std::io;
 use std::str::Utf8Error;
+use std::{fmt, io};
 
 /// Why a value could not be encoded.
 #[derive(Debug, Drop)]

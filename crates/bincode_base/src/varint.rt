@@ -7,7 +7,11 @@ pub use decode_unsigned::varint_decode_u32;
 pub use encode_unsigned::varint_encode_u32;
 
 const SINGLE_BYTE_MAX: u8 = 250;
+
 const U16_BYTE: u8 = 251;
+
 const U32_BYTE: u8 = 252;
+
 const U64_BYTE: u8 = 253;
+
 const U128_BYTE: u8 = 254;

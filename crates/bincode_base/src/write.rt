@@ -117,8 +117,9 @@ impl Writer for SliceWriter<'_> {
     ghost adds_none = { λ w. (Prim.search rules, put_none w.written w.slice.now) };
 
     ghost adds_join = { λ a b c x y p q. (
-        Prim.grind (arith, common_steps),
-        q.1 ∙ ap (put b.written y) p.1 ∙ ap (λ k. put k y (put a.written x a.slice.now)) p.0 ∙ put_join a.written x y a.slice.now a.within) };
+      Prim.grind (arith, common_steps),
+      q.1 ∙ ap (put b.written y) p.1 ∙ ap (λ k. put k y (put a.written x a.slice.now)) p.0 ∙ put_join a.written x y a.slice.now a.within,
+    ) };
 
     ghost refuses_why = { λ a b piece e h. Prim.search rules };
 }

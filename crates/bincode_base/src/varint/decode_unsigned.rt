@@ -25,7 +25,12 @@ pub fn varint_decode_u32<R: Reader>(read: &mut R, endian: Endianness) -> Result<
 
 /// The same for a number of so many bytes, of which a fault speaks by name.
 #[inline]
-fn varint_decode<R: Reader>(read: &mut R, endian: Endianness, name: IntegerType, width: usize) -> Result<u128, DecodeError>
+fn varint_decode<R: Reader>(
+    read: &mut R,
+    endian: Endianness,
+    name: IntegerType,
+    width: usize,
+) -> Result<u128, DecodeError>
     ensures ok { IfOk result (λ v. (varint unsigned_tag name endian width).read (R.rest read.old) ≡ Took v (R.rest read.new) []) }
     ensures fits { 2 ≤ width → IfOk result (λ v. v < 256 ^ width) }
     ensures err { IfErr result (Misreads R.ended R.device ((varint unsigned_tag name endian width).read (R.rest read.old)) (R.failures read.old) (R.failures read.new) (R.rest read.old) (R.rest read.new)) }

@@ -10,7 +10,11 @@ use crate::write::Writer;
 
 /// Writes the shortest spelling of a number: its tag, then its bytes in the order. Where the writer refuses a piece,
 /// those before it stay written.
-pub fn varint_encode_u32<W: Writer>(writer: &mut W, endian: Endianness, val: u32) -> Result<(), EncodeError>
+pub fn varint_encode_u32<W: Writer>(
+    writer: &mut W,
+    endian: Endianness,
+    val: u32,
+) -> Result<(), EncodeError>
     ensures ok { OnOk result (W.adds writer.old (shortest endian val) writer.new) }
     ensures err { IfErr result (λ e. StopsAmong W.adds W.refuses (shortest_pieces endian val) writer.old e writer.new) }
     ensures place { W.place writer.new ≡ W.place writer.old }
@@ -20,7 +24,11 @@ pub fn varint_encode_u32<W: Writer>(writer: &mut W, endian: Endianness, val: u32
 
 /// The same for a number of any width.
 #[inline]
-fn varint_encode<W: Writer>(writer: &mut W, endian: Endianness, val: u128) -> Result<(), EncodeError>
+fn varint_encode<W: Writer>(
+    writer: &mut W,
+    endian: Endianness,
+    val: u128,
+) -> Result<(), EncodeError>
     ensures ok { OnOk result (W.adds writer.old (shortest endian val) writer.new) }
     ensures err { IfErr result (λ e. StopsAmong W.adds W.refuses (shortest_pieces endian val) writer.old e writer.new) }
     ensures place { W.place writer.new ≡ W.place writer.old }

@@ -1,4 +1,4 @@
-use Rattle.std.proofs.Common.{◌≡◌, ◌∙◌, length, rules, arith}
+use Rattle.std.proofs.Common.{◌≡◌, ◌∙◌, length, rules}
 use Rattle.bincode_base.proofs.StdBytes.{from_low_first-std, from_high_first-std}
 use Rattle.bincode_base.proofs.bytes.u64_of_bytes.Goals as goal
 

@@ -1,4 +1,4 @@
-use Rattle.std.proofs.Common.{[], IfOk, ◌≡◌, ◌<◌, ◌≤◌, ◌⊎◌, ◌^◌, ◌∙◌, inl, inr, arith, rules, refl}
+use Rattle.std.proofs.Common.{[], IfOk, ◌≡◌, ◌<◌, ◌∙◌, inl, inr, arith, rules, refl}
 use Rattle.std.proofs.lemmas.Result.{err_from_is_err_and, IfErr-weaker, IfOk-weaker}
 use Rattle.bincode_base.specs.Integers.{first_byte, TooWide}
 use Rattle.bincode_base.specs.IntegerLaws.{tag_252, tag_253, tag_254}
@@ -64,10 +64,10 @@ returns-in-254-clause-err g c = IfErr-weaker c.read_u128.result _ _ (λ e h. var
 pub returns-in_default-clause-err : goal.returns-in_default-clause-err
 returns-in_default-clause-err g c =
     let t : first_byte c.args.width c.in_ok-tag.tag ≡ TooWide =
-        elim c.in_default-1.branch [
-            in_default-via-in-252+else-width-ge4 w ↦ tag-too_wide c.args.width c.in_ok-tag.tag (omega arith) (omega arith) (inr (omega arith)) (inl (omega arith)) (inl (omega arith))
-          | in_default-via-in-253+else-width-ge8 w ↦ tag-too_wide c.args.width c.in_ok-tag.tag (omega arith) (omega arith) (inl (omega arith)) (inr (omega arith)) (inl (omega arith))
-          | in_default-via-in-254+else-width-ge16 w ↦ tag-too_wide c.args.width c.in_ok-tag.tag (omega arith) (omega arith) (inl (omega arith)) (inl (omega arith)) (inr (omega arith))
-          | in_default-via-in_default+else-this-lt251 w ↦ tag-too_wide c.args.width c.in_ok-tag.tag (omega arith) (omega arith) (inl (omega arith)) (inl (omega arith)) (inl (omega arith))
-        ] in
+    elim c.in_default-1.branch [
+      | in_default-via-in-252+else-width-ge4 w ↦ tag-too_wide c.args.width c.in_ok-tag.tag (omega arith) (omega arith) (inr (omega arith)) (inl (omega arith)) (inl (omega arith))
+      | in_default-via-in-253+else-width-ge8 w ↦ tag-too_wide c.args.width c.in_ok-tag.tag (omega arith) (omega arith) (inl (omega arith)) (inr (omega arith)) (inl (omega arith))
+      | in_default-via-in-254+else-width-ge16 w ↦ tag-too_wide c.args.width c.in_ok-tag.tag (omega arith) (omega arith) (inl (omega arith)) (inl (omega arith)) (inr (omega arith))
+      | in_default-via-in_default+else-this-lt251 w ↦ tag-too_wide c.args.width c.in_ok-tag.tag (omega arith) (omega arith) (inl (omega arith)) (inl (omega arith)) (inl (omega arith))
+    ] in
     varint-too_wide _ _ _ _ _ _ _ _ _ _ _ _ c.in_ok-tag.ensures.ok t c.invalid_tag.ensures
