@@ -38,30 +38,30 @@ pub byte-took : (input bytes rest : List ℕ) → (raw 1).read input ≡ Took by
 unfolding byte ◌>>=◌ done
 byte-took input bytes rest e = rw (e, first_of-index bytes) refl
 
-pub byte-failed : (input : List ℕ) (why : Fault) (steps : List Step) → (raw 1).read input ≡ Failed why steps → byte.read input ≡ Failed why steps
+pub byte-failed : (input : List ℕ) (why : Fault) → (raw 1).read input ≡ Failed why [] → byte.read input ≡ Failed why []
 unfolding byte ◌>>=◌
-byte-failed input why steps e = rw e refl
+byte-failed input why e = rw e refl
 
 pub digits-took : (order : Endianness) (n : ℕ) (input bytes rest : List ℕ) → (raw n).read input ≡ Took bytes rest [] → (digits order n).read input ≡ Took (number_of order bytes) rest []
 unfolding digits written_as ◌>>=◌ done
 digits-took order n input bytes rest e = rw e refl
 
-pub digits-failed : (order : Endianness) (n : ℕ) (input : List ℕ) (why : Fault) (steps : List Step) → (raw n).read input ≡ Failed why steps → (digits order n).read input ≡ Failed why steps
+pub digits-failed : (order : Endianness) (n : ℕ) (input : List ℕ) (why : Fault) → (raw n).read input ≡ Failed why [] → (digits order n).read input ≡ Failed why []
 unfolding digits written_as ◌>>=◌
-digits-failed order n input why steps e = rw e refl
+digits-failed order n input why e = rw e refl
 
 -- why a read of so many bytes failed
 pub raw-misreads : (ended : ℕ → DecodeError → Type 0) (device : DecodeError → Type 0) (rest rest' : List ℕ) (n before after : ℕ) (e : DecodeError) →
     FallsShort ended rest n e ⊎ (device e ⊎ Rose before after) → device e ⊎ Takes rest rest' → Misreads ended device ((raw n).read rest) before after rest rest' e
 raw-misreads ended device rest rest' n before after e why (inl d) = by_device d
-raw-misreads ended device rest rest' n before after e (inl h) (inr t) = by_fault (End (Some (n - length rest))) [] (raw-short rest n h.0) h.1 t
+raw-misreads ended device rest rest' n before after e (inl h) (inr t) = by_fault (End (Some (n - length rest))) (raw-short rest n h.0) h.1 t
 raw-misreads ended device rest rest' n before after e (inr (inl h)) (inr t) = by_device h
 raw-misreads ended device rest rest' n before after e (inr (inr h)) (inr t) = by_failure h t
 
 -- the fault of a part is that of the whole
 pub misreads-more : {A B : Type 0} (ended : ℕ → DecodeError → Type 0) (device : DecodeError → Type 0) (part : Reading A) (whole : Reading B) (before after : ℕ) (rest rest' : List ℕ) (e : DecodeError) →
-    ((why : Fault) (steps : List Step) → part ≡ Failed why steps → whole ≡ Failed why steps) → Misreads ended device part before after rest rest' e → Misreads ended device whole before after rest rest' e
-misreads-more ended device part whole before after rest rest' e same (by_fault why steps h t k) = by_fault why steps (same why steps h) t k
+    ((why : Fault) → part ≡ Failed why [] → whole ≡ Failed why []) → Misreads ended device part before after rest rest' e → Misreads ended device whole before after rest rest' e
+misreads-more ended device part whole before after rest rest' e same (by_fault why h t k) = by_fault why (same why h) t k
 misreads-more ended device part whole before after rest rest' e same (by_failure h k) = by_failure h k
 misreads-more ended device part whole before after rest rest' e same (by_device h) = by_device h
 
@@ -83,9 +83,9 @@ module _ (tags : ℕ → IntegerType) (name : IntegerType) (order : Endianness) 
   unfolding varint written_as ◌>>=◌
   varint-then first e = rw e (no_steps ((behind order (InvalidInteger name (tags first)) first (first_byte width first)).read rest))
 
-  pub varint-none : (why : Fault) (steps : List Step) → byte.read input ≡ Failed why steps → (varint tags name order width).read input ≡ Failed why steps
+  pub varint-none : (why : Fault) → byte.read input ≡ Failed why [] → (varint tags name order width).read input ≡ Failed why []
   unfolding varint written_as ◌>>=◌
-  varint-none why steps e = rw e refl
+  varint-none why e = rw e refl
 
   -- a byte is the number itself
   pub varint-itself : (first n : ℕ) → byte.read input ≡ Took first rest [] → first_byte width first ≡ Itself → n ≡ first → (varint tags name order width).read input ≡ Took n rest []
@@ -102,14 +102,14 @@ module _ (tags : ℕ → IntegerType) (name : IntegerType) (order : Endianness) 
     unfolding refused
     varint-too_wide first before after e b row same =
         let p = byte-lawful.read_word input rest first [] b in
-        by_fault (InvalidInteger name (tags first)) [] (varint-then first b ∙ rw row refl) same (p.word, p.input_is)
+        by_fault (InvalidInteger name (tags first)) (varint-then first b ∙ rw row refl) same (p.word, p.input_is)
 
     -- digits that are missing
     pub varint-misreads : (first k before between after : ℕ) (rest' : List ℕ) (e : DecodeError) → byte.read input ≡ Took first rest [] → first_byte width first ≡ Before k → before ≤ between →
         Misreads ended device ((digits order k).read rest) between after rest rest' e → Misreads ended device ((varint tags name order width).read input) before after input rest' e
-    varint-misreads first k before between after rest' e b row le (by_fault why steps h t f) =
+    varint-misreads first k before between after rest' e b row le (by_fault why h t f) =
         let p = byte-lawful.read_word input rest first [] b in
-        by_fault why steps (varint-digits first k b row ∙ h) t (takes-then input rest rest' (p.word, p.input_is) f)
+        by_fault why (varint-digits first k b row ∙ h) t (takes-then input rest rest' (p.word, p.input_is) f)
     varint-misreads first k before between after rest' e b row le (by_failure h f) =
         let p = byte-lawful.read_word input rest first [] b in
         by_failure (rose-then before between after le h) (takes-then input rest rest' (p.word, p.input_is) f)

@@ -108,3 +108,8 @@ signed_byte = charged 1 (map_format (from_two_complement 1) byte)
 abbrev pub spelling : IntEncoding → Endianness → ℕ → ℕ → List ℕ
 spelling Fixed order width n = digits_of order width n
 spelling Variable order width n = shortest order n
+
+-- the pieces in which it is written
+abbrev pub spelling_pieces : IntEncoding → Endianness → ℕ → ℕ → List (List ℕ)
+spelling_pieces Fixed order width n = digits_of order width n ∷ []
+spelling_pieces Variable order width n = shortest_pieces order n

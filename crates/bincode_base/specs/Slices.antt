@@ -1,5 +1,6 @@
 -- What a slice reader has left, and what a slice writer has written.
 use Rattle.std.specs.Prelude.{ℕ, List}
+use Rattle.std.specs.Borrow.{GName}
 use Rattle.bincode_base.specs.declared.read.SliceReader.{SliceReader}
 use Rattle.bincode_base.specs.declared.write.SliceWriter.{SliceWriter}
 
@@ -14,3 +15,7 @@ bytes_of w = w.slice.now
 -- how many of them were written
 abbrev pub count_of : SliceWriter → ℕ
 count_of w = w.written
+
+-- the loan that it writes through
+abbrev pub loan_of : SliceWriter → GName
+loan_of w = w.slice.ghost_name

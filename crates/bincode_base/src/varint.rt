@@ -3,7 +3,9 @@
 mod decode_unsigned;
 mod encode_unsigned;
 
+pub(crate) use decode_unsigned::varint_decode;
 pub use decode_unsigned::varint_decode_u32;
+pub(crate) use encode_unsigned::varint_encode;
 pub use encode_unsigned::varint_encode_u32;
 
 const SINGLE_BYTE_MAX: u8 = 250;

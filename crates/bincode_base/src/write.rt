@@ -55,8 +55,10 @@ pub struct SliceWriter<'s> {
 }
 
 impl Drop for SliceWriter<'_> {
+    ghost use Rattle.bincode_base.specs.Slices.{bytes_of};
+
     fn drop(self)
-        ensures { self.exit.0.now ≡ self.entry.slice.now }
+        ensures { self.exit.0.now ≡ bytes_of self.entry }
     {
         let SliceWriter {
             slice: _,
@@ -66,11 +68,11 @@ impl Drop for SliceWriter<'_> {
 }
 
 impl<'s> SliceWriter<'s> {
-    ghost use Rattle.bincode_base.specs.Slices.{bytes_of, count_of};
+    ghost use Rattle.bincode_base.specs.Slices.{bytes_of, count_of, loan_of};
 
     /// A writer into these bytes, of which none is written.
     pub fn new(bytes: &'s mut [u8]) -> SliceWriter<'s>
-        ensures place { result.slice.ghost_name ≡ bytes.entry.ghost_name }
+        ensures place { loan_of result ≡ bytes.entry.ghost_name }
         ensures bytes { bytes_of result ≡ bytes.old }
         ensures start { count_of result ≡ 0 }
     {
@@ -89,7 +91,7 @@ impl<'s> SliceWriter<'s> {
 }
 
 impl Writer for SliceWriter<'_> {
-    ghost use Rattle.bincode_base.specs.Slices.{bytes_of, count_of};
+    ghost use Rattle.bincode_base.specs.Slices.{bytes_of, count_of, loan_of};
 
     ghost adds = { λ a piece b. (count_of b ≡ count_of a + length piece) × (bytes_of b ≡ put (count_of a) piece (bytes_of a)) };
 
@@ -101,7 +103,7 @@ impl Writer for SliceWriter<'_> {
 
     ghost device = { λ _. ⊥ };
 
-    ghost place = { λ w. w.slice.ghost_name ∷ [] };
+    ghost place = { λ w. loan_of w ∷ [] };
 
     fn write(&mut self, bytes: &[u8]) -> Result<(), EncodeError> {
         let left = self.slice.len() - self.written;

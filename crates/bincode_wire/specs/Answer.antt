@@ -1,5 +1,5 @@
 -- What decoding answers, by a format, a limit, and the charge at the start.
-use Rattle.std.specs.Prelude.{◌≡◌, ℕ, ◌+◌, ◌-◌, ◌≤◌, nat_le, if◌then◌else◌, List, [], ◌∷◌, Option, Some, None}
+use Rattle.std.specs.Prelude.{◌≡◌, ℕ, ◌+◌, ◌-◌, ◌<◌, ◌≤◌, ◌^◌, nat_le, nat_lt, if◌then◌else◌, List, [], ◌∷◌, Option, Some, None}
 use Rattle.bincode_base.specs.Fault.{Fault}
 use Rattle.bincode_base.specs.Charge.{Step, Charge, Reserve, Release}
 use Rattle.bincode_base.specs.Format.{Format, Reading, Took, Failed}
@@ -8,6 +8,16 @@ use Rattle.bincode_base.specs.Format.{Format, Reading, Took, Failed}
 abbrev pub Allows : Option ℕ → ℕ → Type 0
 Allows None charge = Unit {0}
 Allows (Some limit) charge = charge ≤ limit
+
+-- The claim of n bytes stands: without a limit nothing is counted, else the raised charge is within the limit.
+abbrev pub Claimed : Option ℕ → ℕ → ℕ → ℕ → Type 0
+Claimed None before n after = after ≡ before
+Claimed (Some limit) before n after = (before + n ≤ limit) × (after ≡ before + n)
+
+-- It passes the limit: the raised charge is kept if it fits 64 bits, else the charge stays.
+abbrev pub OverClaimed : Option ℕ → ℕ → ℕ → ℕ → Type 0
+OverClaimed None before n after = ⊥
+OverClaimed (Some limit) before n after = (limit < before + n) × (after ≡ (if nat_lt (before + n) (2 ^ 64) then before + n else before))
 
 -- the charge after a claim, if the limit allows it; without a limit nothing is counted
 abbrev pub claimed : Option ℕ → ℕ → ℕ → Option ℕ

@@ -1,2 +1,10 @@
 pub mod Meaning
+pub mod Words
+pub mod WordsLaws
 pub mod Answer
+pub mod AnswerLaws
+pub mod Allowed
+pub mod AllowedLaws
+pub mod Decoding
+pub mod DecodingLaws
+pub mod Rows

@@ -25,7 +25,7 @@ pub fn varint_decode_u32<R: Reader>(read: &mut R, endian: Endianness) -> Result<
 
 /// The same for a number of so many bytes, of which a fault speaks by name.
 #[inline]
-fn varint_decode<R: Reader>(
+pub(crate) fn varint_decode<R: Reader>(
     read: &mut R,
     endian: Endianness,
     name: IntegerType,

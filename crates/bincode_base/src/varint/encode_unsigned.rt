@@ -24,7 +24,7 @@ pub fn varint_encode_u32<W: Writer>(
 
 /// The same for a number of any width.
 #[inline]
-fn varint_encode<W: Writer>(
+pub(crate) fn varint_encode<W: Writer>(
     writer: &mut W,
     endian: Endianness,
     val: u128,

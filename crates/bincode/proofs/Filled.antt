@@ -1,0 +1,60 @@
+-- What a slice holds where a value could not be written.
+use Rattle.std.specs.Prelude.{◌≡◌, ◌⊎◌, ◌↔◌, ◌+◌, ◌-◌, ◌≤◌, ◌<◌, ◌++◌, ℕ, List, length, drop, refl, Result, Err, IsOk, IfErr}
+use Rattle.std.proofs.Common.{sym, ◌∙◌, ap, subst, inl, inr, arith, append_assoc, length-append, length-drop}
+use Rattle.bincode_base.specs.Put.{put}
+use Rattle.bincode_base.specs.Slices.{bytes_of, count_of}
+use Rattle.bincode_base.specs.declared.write.SliceWriter.{SliceWriter}
+use Rattle.bincode_base.specs.declared.error.EncodeError.{EncodeError}
+use Rattle.bincode_base.specs.declared.error.EncodeError.TheVariants.{UnexpectedEnd}
+use Rattle.bincode_wire.specs.Allowed.{OneLength}
+use Rattle.bincode_enc.specs.Encoding.{Begins, IsOwn, Halts, by_writer, by_name}
+use Rattle.bincode.specs.Slice.{Fills, FrontWritten, FitsExactly}
+
+-- what a slice writer adds, and why it refuses a piece
+abbrev pub Added : SliceWriter → List ℕ → SliceWriter → Type 0
+Added a piece b = (count_of b ≡ count_of a + length piece) × (bytes_of b ≡ put (count_of a) piece (bytes_of a))
+
+abbrev pub Refused : SliceWriter → List ℕ → EncodeError → SliceWriter → Type 0
+Refused a piece e b = (e ≡ UnexpectedEnd) × (length (bytes_of a) - count_of a < length piece) × (b ≡ a)
+
+put_front : (n : ℕ) (front s : List ℕ) → n ≡ 0 → put n front s ≡ front ++ drop (length front) s
+put_front n front s e = let z : 0 + length front ≡ length front = omega arith in rw (e, z) refl
+
+filled : (old front : List ℕ) (before middle : SliceWriter) → bytes_of before ≡ old → count_of before ≡ 0 → Added before front middle → Fills front old (bytes_of middle)
+filled old front before middle s w h = h.1 ∙ put_front (count_of before) front (bytes_of before) w ∙ ap (λ z. front ++ drop (length front) z) s
+
+own_or_front : (A : List ℕ → Type 0) (front piece : List ℕ) → Begins A (front ++ piece) → Begins A front
+own_or_front A front piece b some a = let m = b some a in (piece ++ m.0, subst A (append_assoc front piece m.0) m.1)
+
+module _ (A : List ℕ → Type 0) (N : EncodeError → Type 0) (old new : List ℕ) (before after : SliceWriter) (e : EncodeError) (start : bytes_of before ≡ old) (count : count_of before ≡ 0) where
+  -- some front stands in the slice
+  pub halted-left : new ≡ bytes_of after → Halts Added Refused A N before after e → FrontWritten A old new e
+  halted-left end (by_writer front piece middle h r b) = record { front = front; fills = end ∙ ap bytes_of r.2 ∙ filled old front before middle start count h; begins = inr (own_or_front A front piece b) }
+  halted-left end (by_name front h n b) = record { front = front; fills = end ∙ filled old front before after start count h; begins = b }
+
+  -- the type names the error, or the room was too small
+  pub halted-short : Halts Added Refused A N before after e → N e ⊎ ((front : List ℕ) × Begins A front × (length old < length front))
+  halted-short (by_writer front piece middle h r b) =
+      let size : length (bytes_of middle) ≡ length front + length (drop (length front) old) = ap length (filled old front before middle start count h) ∙ length-append front (drop (length front) old) in
+      let left : length (drop (length front) old) ≡ length old - length front = length-drop (length front) old in
+      let at : count_of middle ≡ length front = let g = h.0 in omega arith in
+      let room = r.1 in
+      let both : length (front ++ piece) ≡ length front + length piece = length-append front piece in
+      inr (front ++ piece, b, omega arith)
+  halted-short (by_name front h n b) = inl n
+
+-- a refusal is one for want of room
+pub short-fits : (A : List ℕ → Type 0) (N : EncodeError → Type 0) (room : ℕ) (result : Result ℕ EncodeError) (e : EncodeError) → result ≡ Err e → N e ⊎ ((front : List ℕ) × Begins A front × (room < length front)) → FitsExactly A N room result
+short-fits A N room result e is short = rw is (record {
+  short = short;
+  exact = λ one none word a. (λ h. absurd (cc), λ fits. absurd (too_short A N room e one none word a fits short));
+})
+  where
+    too_short : (A : List ℕ → Type 0) (N : EncodeError → Type 0) (room : ℕ) (e : EncodeError) → OneLength A → ((d : EncodeError) → ¬ (N d)) → (word : List ℕ) → A word → length word ≤ room → N e ⊎ ((front : List ℕ) × Begins A front × (room < length front)) → ⊥
+    too_short A N room e one none word a fits (inl n) = none e n
+    too_short A N room e one none word a fits (inr s) =
+        let m = s.1 word a in
+        let same : length word ≡ length (s.0 ++ m.0) = one word (s.0 ++ m.0) a m.1 in
+        let sum : length (s.0 ++ m.0) ≡ length s.0 + length m.0 = length-append s.0 m.0 in
+        let long = s.2 in
+        omega arith

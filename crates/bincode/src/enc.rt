@@ -1,0 +1,5 @@
+//! Encoders, and what they write to.
+
+pub use bincode_base::write;
+pub use bincode_enc::encode::Encode;
+pub use bincode_enc::encoder::{Encoder, EncoderImpl};

@@ -1,0 +1,21 @@
+//! Compact binary encoding and decoding, in the format of bincode 2.
+//!
+//! ```
+//! let mut bytes = [0u8; 8];
+//! let written = encode_into_slice((7u8, 300u32), &mut bytes, config::standard())?;
+//! let (value, taken): ((u8, u32), usize) = decode_from_slice(alloc, &bytes[..written], config::standard())?;
+//! ```
+#![tactic(auto)]
+
+pub mod de;
+pub mod enc;
+mod slice;
+
+pub use bincode_base::config;
+pub use bincode_base::error;
+pub use bincode_base::varint;
+pub use bincode_wire as model;
+
+pub use bincode_de::decode::Decode;
+pub use bincode_enc::encode::Encode;
+pub use slice::{decode_from_slice, encode_into_slice};

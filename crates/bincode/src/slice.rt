@@ -1,0 +1,73 @@
+//! Encoding into a slice, and decoding from one.
+ghost use Rattle.std.specs.Prelude.{◌≡◌, ◌≤◌, ◌⊎◌, ℕ, OnOk, IfOk, IfErr, length};
+ghost use Rattle.bincode_base.specs.declared.error.EncodeError.TheVariants.{UnexpectedEnd};
+ghost use Rattle.bincode_wire.specs.Allowed.{AllowedWord};
+ghost use Rattle.bincode_wire.specs.Answer.{answer};
+ghost use Rattle.bincode_wire.specs.Decoding.{Decodes, Stops};
+ghost use Rattle.bincode_enc.specs.Encoding.{Writes, Halts};
+ghost use Rattle.bincode.specs.Slice.{WordWritten, FrontWritten, FitsExactly, Decoded, FindsWords, TellsFaults, KeepsLimit};
+
+use bincode_base::config::Config;
+use bincode_base::error::{DecodeError, EncodeError};
+use bincode_base::read::{Reader, SliceReader};
+use bincode_base::write::{SliceWriter, Writer};
+use bincode_de::decode::Decode;
+use bincode_de::decoder::LentDecoder;
+use bincode_enc::encode::Encode;
+use bincode_enc::encoder::LentEncoder;
+use std::alloc::Global;
+
+/// Writes a value into the front of a slice, and answers how many bytes it took. Fails with `UnexpectedEnd` where the
+/// slice is too short, and with the errors that the type names; then a front of the word may stand in the slice.
+pub fn encode_into_slice<E: Encode, C: Config>(val: E, dst: &mut [u8], config: C) -> Result<usize, EncodeError>
+    // A word that the value allows is written, of so many bytes, and the bytes after it stay.
+    ensures word { IfOk result (λ n. WordWritten (AllowedWord (E.means val) (E.format C.setting)) n dst.old dst.new) }
+    // No other errors come,
+    ensures fault { IfErr result (λ e. (e ≡ UnexpectedEnd) ⊎ E.names e) }
+    // the first of them only for want of room,
+    ensures room { FitsExactly (AllowedWord (E.means val) (E.format C.setting)) E.names (length dst.old) result }
+    // and they leave a front of an allowed word.
+    ensures left { IfErr result (FrontWritten (AllowedWord (E.means val) (E.format C.setting)) dst.old dst.new) }
+{
+    let mut writer = SliceWriter::new(dst);
+    encode_with(val, &mut writer, &config)?;
+    Ok(writer.bytes_written())
+}
+
+fn encode_with<E: Encode, W: Writer, C: Config>(val: E, writer: &mut W, config: &C) -> Result<(), EncodeError>
+    ensures ok { OnOk result (Writes W.adds (AllowedWord (E.means val) (E.format C.setting)) writer.old writer.new) }
+    ensures err { IfErr result (Halts W.adds W.refuses (AllowedWord (E.means val) (E.format C.setting)) E.names writer.old writer.new) }
+    ensures place { W.place writer.new ≡ W.place writer.old }
+{
+    let mut encoder = LentEncoder::new(writer, config);
+    val.encode(&mut encoder)
+}
+
+/// Reads a value from the front of a slice, and answers how many bytes its word has. The bytes after them decide nothing.
+/// Fails with the first fault of the bytes, with `LimitExceeded` where the charges pass the limit, and with `Memory` where
+/// decoding takes memory and is refused some.
+pub fn decode_from_slice<D: Decode<()>, C: Config>(alloc: Global, src: &[u8], config: C) -> Result<(D, usize), DecodeError>
+    // What is read is a word within the limit, of so many bytes, and the value is given for its meaning.
+    ensures word { IfOk result (λ x. Decoded (D.format C.setting) C.bound src.now (λ m. D.given m x.0) x.1) }
+    // Each word within the limit is read,
+    ensures found { FindsWords (D.format C.setting) C.bound D.grows src.now result }
+    // each fault within the limit is told,
+    ensures fault { TellsFaults (D.format C.setting) C.bound D.grows src.now result }
+    // and charges that pass the limit are refused.
+    ensures limit { KeepsLimit (D.format C.setting) C.bound D.grows src.now result }
+{
+    let mut reader = SliceReader::new(src);
+    let value = decode_with(alloc, &mut reader, &config, &mut ())?;
+    let taken = src.len() - reader.bytes_left();
+    Ok((value, taken))
+}
+
+fn decode_with<Context: Drop, D: Decode<Context>, R: Reader, C: Config>(alloc: Global, reader: &mut R, config: &C, context: &mut Context) -> Result<D, DecodeError>
+    ensures ok { IfOk result (λ v. (charge : ℕ) × Decodes (λ m. D.given m v) (answer C.bound (D.format C.setting) (R.rest reader.old) 0) (R.rest reader.new) charge) }
+    ensures err { IfErr result (Stops R.ended R.device D.grows (answer C.bound (D.format C.setting) (R.rest reader.old) 0) (R.failures reader.old) (R.failures reader.new) (R.rest reader.old) (R.rest reader.new)) }
+    ensures count { R.failures reader.old ≤ R.failures reader.new }
+    ensures place { R.place reader.new ≡ R.place reader.old }
+{
+    let mut decoder = LentDecoder::new(alloc, reader, config, context);
+    D::decode(&mut decoder)
+}

@@ -1,0 +1,386 @@
+//! Decoders: a reader with a configuration, a context and a charge.
+ghost use Rattle.std.specs.Prelude.{◌≡◌, ◌≤◌, ◌∷◌, ℕ, List, Option, OnOk, IfErr, refl};
+ghost use Rattle.std.proofs.Common.{ap};
+ghost use Rattle.std.specs.Borrow.{GName, Lends, sem};
+ghost use Rattle.bincode_base.specs.declared.error.DecodeError.TheVariants.{LimitExceeded};
+ghost use Rattle.bincode_wire.specs.Answer.{Claimed, OverClaimed};
+
+use bincode_base::config::Config;
+use bincode_base::error::DecodeError;
+use bincode_base::read::Reader;
+use std::alloc::Global;
+
+mod sealed {
+    /// Only the decoders of this crate are decoders.
+    pub trait Sealed {}
+}
+
+use sealed::Sealed;
+
+/// A reader with a configuration, a context and a charge.
+pub trait Decoder: Sealed {
+    type R: Reader;
+    type C: Config;
+    type Context: Drop;
+
+    /// The bytes that are left.
+    ghost rest: { Self → List ℕ };
+
+    /// How often the device failed.
+    ghost failures: { Self → ℕ };
+
+    /// How many bytes are charged.
+    ghost charge: { Self → ℕ };
+
+    /// Its reader.
+    ghost reader_of: { Self → Self.R };
+
+    /// The same with another reader.
+    ghost put_reader: { Self → Self.R → Self };
+
+    /// Its context.
+    ghost context_of: { Self → Self.Context };
+
+    /// The same with another context.
+    ghost put_context: { Self → Self.Context → Self };
+
+    /// The references that it reads through. No call changes them.
+    ghost place: { Self → List GName };
+
+    /// Lends the reader.
+    fn reader(&mut self) -> &mut Self::R
+        ensures* lends { sem 𝓛 (Lends Self.row Self.R.row self.entry result (put_reader self.old)) }
+        ensures value { result.now ≡ reader_of self.old };
+
+    /// Lends the context.
+    fn context(&mut self) -> &mut Self::Context
+        ensures* lends { sem 𝓛 (Lends Self.row Self.Context.row self.entry result (put_context self.old)) }
+        ensures value { result.now ≡ context_of self.old };
+
+    /// Lends the configuration.
+    fn config(&self) -> &Self::C;
+
+    /// Gives the allocator of what is decoded.
+    fn alloc(&self) -> Global;
+
+    /// Charges `n` bytes. Without a limit nothing is counted. Fails with `LimitExceeded` where the raised charge is above
+    /// the limit: the raised charge is kept if it fits 64 bits, else the charge stays.
+    fn claim_bytes_read(&mut self, n: usize) -> Result<(), DecodeError>
+        ensures ok { OnOk result (Claimed Self.C.bound (charge self.old) n (charge self.new)) }
+        ensures err { IfErr result (λ e. (e ≡ LimitExceeded) × OverClaimed Self.C.bound (charge self.old) n (charge self.new)) }
+        ensures rest { rest self.new ≡ rest self.old }
+        ensures failures { failures self.new ≡ failures self.old }
+        ensures place { place self.new ≡ place self.old };
+
+    ghost rest_is: { (d : Self) → Self.R.rest (reader_of d) ≡ rest d };
+
+    ghost failures_is: { (d : Self) → Self.R.failures (reader_of d) ≡ failures d };
+
+    ghost put_rest: { (d : Self) (r : Self.R) → rest (put_reader d r) ≡ Self.R.rest r };
+
+    ghost put_failures: { (d : Self) (r : Self.R) → failures (put_reader d r) ≡ Self.R.failures r };
+
+    ghost put_charge: { (d : Self) (r : Self.R) → charge (put_reader d r) ≡ charge d };
+
+    ghost put_place: { (d : Self) (r : Self.R) → Self.R.place r ≡ Self.R.place (reader_of d) → place (put_reader d r) ≡ place d };
+
+    ghost context_rest: { (d : Self) (x : Self.Context) → rest (put_context d x) ≡ rest d };
+
+    ghost context_failures: { (d : Self) (x : Self.Context) → failures (put_context d x) ≡ failures d };
+
+    ghost context_charge: { (d : Self) (x : Self.Context) → charge (put_context d x) ≡ charge d };
+
+    ghost context_place: { (d : Self) (x : Self.Context) → place (put_context d x) ≡ place d };
+}
+
+/// Charges `n` bytes under a limit.
+fn claim(limit: Option<usize>, bytes_read: &mut usize, n: usize) -> Result<(), DecodeError>
+    ensures ok { OnOk result (Claimed limit bytes_read.old n bytes_read.new) }
+    ensures err { IfErr result (λ e. (e ≡ LimitExceeded) × OverClaimed limit bytes_read.old n bytes_read.new) }
+{
+    let Some(limit) = limit else {
+        return Ok(());
+    };
+    let Some(sum) = bytes_read.checked_add(n) else {
+        return Err(DecodeError::LimitExceeded);
+    };
+    *bytes_read = sum;
+    if sum > limit {
+        return Err(DecodeError::LimitExceeded);
+    }
+    Ok(())
+}
+
+/// A decoder that owns its reader and its context.
+pub struct DecoderImpl<R, C, Context> {
+    reader: R,
+    config: C,
+    context: Context,
+    bytes_read: usize,
+    alloc: Global,
+}
+
+impl<R: Drop, C: Drop, Context: Drop> Drop for DecoderImpl<R, C, Context> {
+    fn drop(self) {
+        let DecoderImpl {
+            reader: _,
+            config: _,
+            context: _,
+            bytes_read: _,
+            alloc: _,
+        } = self;
+    }
+}
+
+impl<R: Reader, C: Config, Context: Drop> DecoderImpl<R, C, Context> {
+    /// A decoder of this reader, which has charged nothing.
+    pub fn new(alloc: Global, reader: R, config: C, context: Context) -> DecoderImpl<R, C, Context>
+        ensures reader { ⟦<DecoderImpl<R, C, Context> as Decoder>⟧.reader_of result ≡ reader }
+        ensures context { ⟦<DecoderImpl<R, C, Context> as Decoder>⟧.context_of result ≡ context }
+        ensures charge { ⟦<DecoderImpl<R, C, Context> as Decoder>⟧.charge result ≡ 0 }
+    {
+        DecoderImpl {
+            reader,
+            config,
+            context,
+            bytes_read: 0,
+            alloc,
+        }
+    }
+}
+
+impl<R: Reader, C: Config, Context: Drop> Sealed for DecoderImpl<R, C, Context> {}
+
+impl<R: Reader, C: Config, Context: Drop> Decoder for DecoderImpl<R, C, Context> {
+    type R = R;
+    type C = C;
+    type Context = Context;
+
+    ghost rest = { λ d. R.rest d.reader };
+
+    ghost failures = { λ d. R.failures d.reader };
+
+    ghost charge = { λ d. d.bytes_read };
+
+    ghost reader_of = { λ d. d.reader };
+
+    ghost put_reader = { λ d r. record d { reader = r } };
+
+    ghost context_of = { λ d. d.context };
+
+    ghost put_context = { λ d x. record d { context = x } };
+
+    ghost place = { λ d. R.place d.reader };
+
+    fn reader(&mut self) -> &mut R {
+        &mut self.reader
+    }
+
+    fn context(&mut self) -> &mut Context {
+        &mut self.context
+    }
+
+    fn config(&self) -> &C {
+        &self.config
+    }
+
+    fn alloc(&self) -> Global {
+        self.alloc
+    }
+
+    fn claim_bytes_read(&mut self, n: usize) -> Result<(), DecodeError> {
+        claim(self.config.limit(), &mut self.bytes_read, n)
+    }
+
+    ghost rest_is = { λ d. refl };
+
+    ghost failures_is = { λ d. refl };
+
+    ghost put_rest = { λ d r. refl };
+
+    ghost put_failures = { λ d r. refl };
+
+    ghost put_charge = { λ d r. refl };
+
+    ghost put_place = { λ d r h. h };
+
+    ghost context_rest = { λ d x. refl };
+
+    ghost context_failures = { λ d x. refl };
+
+    ghost context_charge = { λ d x. refl };
+
+    ghost context_place = { λ d x. refl };
+}
+
+/// A decoder whose reader, configuration and context are lent.
+pub struct LentDecoder<'a, R, C, Context> {
+    reader: &'a mut R,
+    config: &'a C,
+    context: &'a mut Context,
+    bytes_read: usize,
+    alloc: Global,
+}
+
+impl<R, C, Context> Drop for LentDecoder<'_, R, C, Context> {
+    fn drop(self)
+        ensures { self.exit.0.now ≡ self.entry.reader.now }
+    {
+        let LentDecoder {
+            reader: _,
+            config: _,
+            context: _,
+            bytes_read: _,
+            alloc: _,
+        } = self;
+    }
+}
+
+impl<'a, R: Reader, C: Config, Context: Drop> LentDecoder<'a, R, C, Context> {
+    /// A decoder of this reader, which has charged nothing.
+    pub fn new(alloc: Global, reader: &'a mut R, config: &'a C, context: &'a mut Context) -> LentDecoder<'a, R, C, Context>
+        ensures place { ⟦<LentDecoder<'a, R, C, Context> as Decoder>⟧.place result ≡ reader.entry.ghost_name ∷ R.place reader.old }
+        ensures reader { ⟦<LentDecoder<'a, R, C, Context> as Decoder>⟧.reader_of result ≡ reader.old }
+        ensures charge { ⟦<LentDecoder<'a, R, C, Context> as Decoder>⟧.charge result ≡ 0 }
+    {
+        LentDecoder {
+            reader,
+            config,
+            context,
+            bytes_read: 0,
+            alloc,
+        }
+    }
+}
+
+impl<R: Reader, C: Config, Context: Drop> Sealed for LentDecoder<'_, R, C, Context> {}
+
+impl<R: Reader, C: Config, Context: Drop> Decoder for LentDecoder<'_, R, C, Context> {
+    type R = R;
+    type C = C;
+    type Context = Context;
+
+    ghost rest = { λ d. R.rest d.reader.now };
+
+    ghost failures = { λ d. R.failures d.reader.now };
+
+    ghost charge = { λ d. d.bytes_read };
+
+    ghost reader_of = { λ d. d.reader.now };
+
+    ghost put_reader = { λ d r. record d { reader = record d.reader { now = r } } };
+
+    ghost context_of = { λ d. d.context.now };
+
+    ghost put_context = { λ d x. record d { context = record d.context { now = x } } };
+
+    ghost place = { λ d. d.reader.ghost_name ∷ R.place d.reader.now };
+
+    fn reader(&mut self) -> &mut R {
+        self.reader
+    }
+
+    fn context(&mut self) -> &mut Context {
+        self.context
+    }
+
+    fn config(&self) -> &C {
+        self.config
+    }
+
+    fn alloc(&self) -> Global {
+        self.alloc
+    }
+
+    fn claim_bytes_read(&mut self, n: usize) -> Result<(), DecodeError> {
+        claim(self.config.limit(), &mut self.bytes_read, n)
+    }
+
+    ghost rest_is = { λ d. refl };
+
+    ghost failures_is = { λ d. refl };
+
+    ghost put_rest = { λ d r. refl };
+
+    ghost put_failures = { λ d r. refl };
+
+    ghost put_charge = { λ d r. refl };
+
+    ghost put_place = { λ d r h. ap (λ z. d.reader.ghost_name ∷ z) h };
+
+    ghost context_rest = { λ d x. refl };
+
+    ghost context_failures = { λ d x. refl };
+
+    ghost context_charge = { λ d x. refl };
+
+    ghost context_place = { λ d x. refl };
+}
+
+impl<D: Sealed> Sealed for &mut D {}
+
+// The bound says again what `Decoder` says of `C`: with it a call through `&mut D` is known to be one of `D`.
+impl<D: Decoder> Decoder for &mut D
+where
+    D::C: Config,
+{
+    type R = D::R;
+    type C = D::C;
+    type Context = D::Context;
+
+    ghost rest = { λ d. D.rest d.now };
+
+    ghost failures = { λ d. D.failures d.now };
+
+    ghost charge = { λ d. D.charge d.now };
+
+    ghost reader_of = { λ d. D.reader_of d.now };
+
+    ghost put_reader = { λ d r. record d { now = D.put_reader d.now r } };
+
+    ghost context_of = { λ d. D.context_of d.now };
+
+    ghost put_context = { λ d x. record d { now = D.put_context d.now x } };
+
+    ghost place = { λ d. d.ghost_name ∷ D.place d.now };
+
+    fn reader(&mut self) -> &mut D::R {
+        (**self).reader()
+    }
+
+    fn context(&mut self) -> &mut D::Context {
+        (**self).context()
+    }
+
+    fn config(&self) -> &D::C {
+        (**self).config()
+    }
+
+    fn alloc(&self) -> Global {
+        (**self).alloc()
+    }
+
+    fn claim_bytes_read(&mut self, n: usize) -> Result<(), DecodeError> {
+        (**self).claim_bytes_read(n)
+    }
+
+    ghost rest_is = { λ d. D.rest_is d.now };
+
+    ghost failures_is = { λ d. D.failures_is d.now };
+
+    ghost put_rest = { λ d r. D.put_rest d.now r };
+
+    ghost put_failures = { λ d r. D.put_failures d.now r };
+
+    ghost put_charge = { λ d r. D.put_charge d.now r };
+
+    ghost put_place = { λ d r h. ap (λ z. d.ghost_name ∷ z) (D.put_place d.now r h) };
+
+    ghost context_rest = { λ d x. D.context_rest d.now x };
+
+    ghost context_failures = { λ d x. D.context_failures d.now x };
+
+    ghost context_charge = { λ d x. D.context_charge d.now x };
+
+    ghost context_place = { λ d x. ap (λ z. d.ghost_name ∷ z) (D.context_place d.now x) };
+}

@@ -1,0 +1,6 @@
+//! Decoding.
+#![tactic(auto)]
+
+pub mod decode;
+pub mod decoder;
+mod impls;

@@ -1,0 +1,40 @@
+-- What encoding does and leaves.
+use Rattle.std.specs.Prelude.{◌≡◌, ◌⊎◌, ℕ, List, ◌++◌}
+use Rattle.bincode_base.specs.declared.text.ShortText.{ShortText}
+use Rattle.bincode_base.specs.declared.error.EncodeError.{EncodeError}
+use Rattle.bincode_base.specs.declared.error.EncodeError.TheVariants as errors
+
+-- what a write that succeeds does to a writer
+abbrev pub Adds : Type 0 → Type 1
+Adds W = W → List ℕ → W → Type 0
+
+-- what a write that fails answers, and does to it
+abbrev pub Refuses : Type 0 → Type 1
+Refuses W = W → List ℕ → EncodeError → W → Type 0
+
+-- an allowed word was added
+pub record Writes {W : Type 0} (adds : Adds W) (Allowed : List ℕ → Type 0) (before after : W) : Type 0 where
+  pub word : List ℕ
+  pub is_allowed : Allowed word
+  pub added : adds before word after
+
+-- these bytes begin an allowed word, where there is one
+abbrev pub Begins : (List ℕ → Type 0) → List ℕ → Type 0
+Begins Allowed bytes = (some : List ℕ) → Allowed some → (more : List ℕ) × Allowed (bytes ++ more)
+
+-- an error of a user's type, which may stand anywhere in a word
+abbrev pub IsOwn : EncodeError → Type 0
+IsOwn (errors.LockFailed _) = Unit {0}
+IsOwn (errors.Other _) = Unit {0}
+IsOwn (errors.OtherString _) = Unit {0}
+IsOwn (errors.UnexpectedEnd) = ⊥
+IsOwn (errors.RefCellAlreadyBorrowed _) = ⊥
+IsOwn (errors.Io _ _) = ⊥
+IsOwn (errors.InvalidPathCharacters) = ⊥
+IsOwn (errors.Memory) = ⊥
+
+-- Some bytes were added. Then the writer refused a piece, and they and the piece begin an allowed word; or the type named
+-- the error, and they begin an allowed word unless the error is one of a user's type.
+pub data Halts {W : Type 0} (adds : Adds W) (refuses : Refuses W) (Allowed : List ℕ → Type 0) (Names : EncodeError → Type 0) (before after : W) (e : EncodeError) : Type 0 where
+  by_writer : (front piece : List ℕ) (middle : W) → adds before front middle → refuses middle piece e after → Begins Allowed (front ++ piece) → Halts adds refuses Allowed Names before after e
+  by_name : (front : List ℕ) → adds before front after → Names e → IsOwn e ⊎ Begins Allowed front → Halts adds refuses Allowed Names before after e

@@ -1,0 +1,18 @@
+//! What can be encoded.
+ghost use Rattle.std.specs.Prelude.{◌≡◌, OnOk, IfErr};
+ghost use Rattle.bincode_wire.specs.Allowed.{AllowedWord};
+ghost use Rattle.bincode_enc.specs.Encoding.{Writes, Halts};
+
+use crate::encoder::Encoder;
+use bincode_base::error::EncodeError;
+use bincode_wire::wire::Wire;
+
+/// A type whose values can be written.
+pub trait Encode: Wire {
+    /// Writes a word that the value allows. Fails where the writer refuses a piece, or by an error that the type names.
+    /// Then what was written before begins an allowed word, unless the error is one of a user's type.
+    fn encode<E: Encoder>(&self, encoder: &mut E) -> Result<(), EncodeError>
+        ensures ok { OnOk result (Writes E.W.adds (AllowedWord (Self.means self.now) (Self.format E.C.setting)) (E.writer_of encoder.old) (E.writer_of encoder.new)) }
+        ensures err { IfErr result (Halts E.W.adds E.W.refuses (AllowedWord (Self.means self.now) (Self.format E.C.setting)) Self.names (E.writer_of encoder.old) (E.writer_of encoder.new)) }
+        ensures place { E.place encoder.new ≡ E.place encoder.old };
+}

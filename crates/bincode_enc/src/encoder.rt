@@ -1,0 +1,185 @@
+//! Encoders: a writer with a configuration.
+ghost use Rattle.std.specs.Prelude.{◌≡◌, List, ◌∷◌, OnOk, IfErr, refl};
+ghost use Rattle.std.proofs.Common.{ap};
+ghost use Rattle.std.specs.Borrow.{GName, Lends, sem};
+
+use bincode_base::config::Config;
+use bincode_base::error::EncodeError;
+use bincode_base::write::Writer;
+
+mod sealed {
+    /// Only the encoders of this crate are encoders.
+    pub trait Sealed {}
+}
+
+use sealed::Sealed;
+
+/// A writer with a configuration.
+pub trait Encoder: Sealed {
+    type W: Writer;
+    type C: Config;
+
+    /// Its writer.
+    ghost writer_of: { Self → Self.W };
+
+    /// The same with another writer.
+    ghost put_writer: { Self → Self.W → Self };
+
+    /// The references that it writes through. No call changes them.
+    ghost place: { Self → List GName };
+
+    /// Lends the writer.
+    fn writer(&mut self) -> &mut Self::W
+        ensures* lends { sem 𝓛 (Lends Self.row Self.W.row self.entry result (put_writer self.old)) }
+        ensures value { result.now ≡ writer_of self.old };
+
+    /// Lends the configuration.
+    fn config(&self) -> &Self::C;
+
+    ghost put_get: { (e : Self) (w : Self.W) → writer_of (put_writer e w) ≡ w };
+
+    ghost put_place: { (e : Self) (w : Self.W) → Self.W.place w ≡ Self.W.place (writer_of e) → place (put_writer e w) ≡ place e };
+}
+
+/// An encoder that owns its writer.
+pub struct EncoderImpl<W, C> {
+    writer: W,
+    config: C,
+}
+
+impl<W: Drop, C: Drop> Drop for EncoderImpl<W, C> {
+    fn drop(self) {
+        let EncoderImpl {
+            writer: _,
+            config: _,
+        } = self;
+    }
+}
+
+impl<W: Writer, C: Config> EncoderImpl<W, C> {
+    /// An encoder into this writer.
+    pub fn new(writer: W, config: C) -> EncoderImpl<W, C>
+        ensures { ⟦<EncoderImpl<W, C> as Encoder>⟧.writer_of result ≡ writer }
+    {
+        EncoderImpl { writer, config }
+    }
+
+    /// The writer, as the calls since then left it.
+    pub fn into_writer(self) -> W
+        ensures { result ≡ ⟦<EncoderImpl<W, C> as Encoder>⟧.writer_of self }
+    {
+        let EncoderImpl { writer, config: _ } = self;
+        writer
+    }
+}
+
+impl<W: Writer, C: Config> Sealed for EncoderImpl<W, C> {}
+
+impl<W: Writer, C: Config> Encoder for EncoderImpl<W, C> {
+    type W = W;
+    type C = C;
+
+    ghost writer_of = { λ e. e.writer };
+
+    ghost put_writer = { λ e w. record e { writer = w } };
+
+    ghost place = { λ e. W.place e.writer };
+
+    fn writer(&mut self) -> &mut W {
+        &mut self.writer
+    }
+
+    fn config(&self) -> &C {
+        &self.config
+    }
+
+    ghost put_get = { λ e w. refl };
+
+    ghost put_place = { λ e w h. h };
+}
+
+/// An encoder whose writer and configuration are lent.
+pub struct LentEncoder<'a, W, C> {
+    writer: &'a mut W,
+    config: &'a C,
+}
+
+impl<W, C> Drop for LentEncoder<'_, W, C> {
+    fn drop(self)
+        ensures { self.exit.0.now ≡ self.entry.writer.now }
+    {
+        let LentEncoder {
+            writer: _,
+            config: _,
+        } = self;
+    }
+}
+
+impl<'a, W: Writer, C: Config> LentEncoder<'a, W, C> {
+    /// An encoder into this writer.
+    pub fn new(writer: &'a mut W, config: &'a C) -> LentEncoder<'a, W, C>
+        ensures place { ⟦<LentEncoder<'a, W, C> as Encoder>⟧.place result ≡ writer.entry.ghost_name ∷ W.place writer.old }
+        ensures writer { ⟦<LentEncoder<'a, W, C> as Encoder>⟧.writer_of result ≡ writer.old }
+    {
+        LentEncoder { writer, config }
+    }
+}
+
+impl<W: Writer, C: Config> Sealed for LentEncoder<'_, W, C> {}
+
+impl<W: Writer, C: Config> Encoder for LentEncoder<'_, W, C> {
+    type W = W;
+    type C = C;
+
+    ghost writer_of = { λ e. e.writer.now };
+
+    ghost put_writer = { λ e w. record e { writer = record e.writer { now = w } } };
+
+    ghost place = { λ e. e.writer.ghost_name ∷ W.place e.writer.now };
+
+    fn writer(&mut self) -> &mut W {
+        self.writer
+    }
+
+    fn config(&self) -> &C {
+        self.config
+    }
+
+    ghost put_get = { λ e w. refl };
+
+    ghost put_place = { λ e w h. ap (λ z. e.writer.ghost_name ∷ z) h };
+}
+
+impl<E: Encoder> Sealed for &mut E {}
+
+impl<E: Encoder> Encoder for &mut E {
+    type W = E::W;
+    type C = E::C;
+
+    ghost writer_of = { λ e. E.writer_of e.now };
+
+    ghost put_writer = { λ e w. record e { now = E.put_writer e.now w } };
+
+    ghost place = { λ e. e.ghost_name ∷ E.place e.now };
+
+    fn writer(&mut self) -> &mut E::W {
+        (**self).writer()
+    }
+
+    fn config(&self) -> &E::C {
+        (**self).config()
+    }
+
+    ghost put_get = { λ e w. E.put_get e.now w };
+
+    ghost put_place = { λ e w h. ap (λ z. e.ghost_name ∷ z) (E.put_place e.now w h) };
+}
+
+/// Writes a piece to the writer of an encoder.
+pub fn write_from<E: Encoder>(encoder: &mut E, bytes: &[u8]) -> Result<(), EncodeError>
+    ensures ok { OnOk result (E.W.adds (E.writer_of encoder.old) bytes.now (E.writer_of encoder.new)) }
+    ensures err { IfErr result (λ e. E.W.refuses (E.writer_of encoder.old) bytes.now e (E.writer_of encoder.new)) }
+    ensures place { E.place encoder.new ≡ E.place encoder.old }
+{
+    encoder.writer().write(bytes)
+}

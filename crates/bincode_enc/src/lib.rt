@@ -1,0 +1,6 @@
+//! Encoding.
+#![tactic(auto)]
+
+pub mod encode;
+pub mod encoder;
+mod impls;

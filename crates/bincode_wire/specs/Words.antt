@@ -1,0 +1,139 @@
+-- The formats of the types, row by row.
+use Rattle.std.specs.Prelude.{◌≡◌, ℕ, zero, suc, ◌+◌, ◌-◌, ◌*◌, ◌<◌, ◌/◌, ◌%◌, ◌^◌, nat_lt, ◌==◌, if◌then◌else◌, ℤ, pos, Bool, true, false, List, [], ◌∷◌, ◌++◌, take, Result, Ok, Err, Option, Some, None, position}
+use Rattle.std.specs.Str.{is_utf8}
+use Rattle.bincode_base.specs.declared.error.IntegerType.{IntegerType}
+use Rattle.bincode_base.specs.declared.error.IntegerType.TheVariants as integers
+use Rattle.bincode_base.specs.Setting.{Setting}
+use Rattle.bincode_base.specs.Fault.{Fault, Zero, UnexpectedVariant, Utf8, InvalidChar, InvalidBool, InvalidDuration, NulAt, Between}
+use Rattle.bincode_base.specs.Format.{Format, done, refused, raw, ◌>>=◌, settled, map_format, written_as, charged, sequence}
+use Rattle.bincode_base.specs.Integers.{byte, unsigned, signed, unsigned_byte, signed_byte}
+use Rattle.bincode_wire.specs.Meaning.{Meaning, Truth, Number, Character, Bytes, Nothing, Then, Choice, listed}
+
+-- numbers
+
+-- an unsigned number, and a signed one
+abbrev pub natural : Format ℕ → Format Meaning
+natural F = map_format (λ n. Number (pos n)) F
+
+abbrev pub integral : Format ℤ → Format Meaning
+integral F = map_format Number F
+
+-- a number other than 0
+abbrev pub not_zero : IntegerType → Format ℕ → Format ℕ
+not_zero name F = F >>= λ n. settled (if n == 0 then Err (Zero name) else Ok n)
+
+-- lengths and tags
+abbrev pub len : Setting → Format ℕ
+len = unsigned integers.U64 8
+
+abbrev pub tag : Setting → Format ℕ
+tag = unsigned integers.U32 4
+
+-- truth values and choices
+
+abbrev pub truth_of : ℕ → Result Meaning Fault
+truth_of b = if b == 0 then Ok (Truth false) else if b == 1 then Ok (Truth true) else Err (InvalidBool b)
+
+abbrev pub truth : Format Meaning
+truth = unsigned_byte >>= λ b. settled (truth_of b)
+
+-- the tag picks the part; `last` is the last tag
+abbrev pub part : List (Format Meaning) → ℕ → ℕ → ℕ → Format Meaning
+part [] last found place = refused (UnexpectedVariant (Between 0 last) found)
+part (F ∷ others) last found zero = map_format (Choice found) F
+part (F ∷ others) last found (suc place) = part others last found place
+
+abbrev pub optional : Format Meaning → Format Meaning
+optional F = unsigned_byte >>= λ found. part (done Nothing ∷ F ∷ []) 1 found found
+
+abbrev pub either : Setting → Format Meaning → Format Meaning → Format Meaning
+either setting F G = tag setting >>= λ found. part (F ∷ G ∷ []) 1 found found
+
+abbrev pub bound : Setting → Format Meaning → Format Meaning
+bound setting F = tag setting >>= λ found. part (done Nothing ∷ F ∷ F ∷ []) 2 found found
+
+-- parts in order
+unfoldable pub tuple : List (Format Meaning) → Format Meaning
+tuple [] = done Nothing
+tuple (F ∷ others) = F >>= λ m. map_format (Then m) (tuple others)
+
+-- elements, each with its share of the room
+abbrev pub array : ℕ → ℕ → Format Meaning → Format Meaning
+array n share F = map_format listed (sequence n share F)
+
+abbrev pub list : Setting → ℕ → Format Meaning → Format Meaning
+list setting share F = len setting >>= λ n. array n share F
+
+-- bytes behind their length
+abbrev pub counted : Setting → Format (List ℕ)
+counted setting = len setting >>= λ n. charged n (raw n)
+
+abbrev pub text_of : List ℕ → Result Meaning Fault
+text_of bytes = if is_utf8 bytes then Ok (Bytes bytes) else Err Utf8
+
+abbrev pub text : Setting → Format Meaning
+text setting = counted setting >>= λ bytes. settled (text_of bytes)
+
+abbrev pub without_nul_of : List ℕ → Option ℕ → Result Meaning Fault
+without_nul_of bytes None = Ok (Bytes bytes)
+without_nul_of bytes (Some place) = Err (NulAt place)
+
+abbrev pub without_nul : Setting → Format Meaning
+without_nul setting = counted setting >>= λ bytes. settled (without_nul_of bytes (position (λ b. b == 0) bytes))
+
+-- characters
+
+-- how many bytes a character has, by its first byte
+abbrev pub char_width : ℕ → Option ℕ
+char_width first =
+    if nat_lt first 128 then Some 1
+    else if nat_lt first 194 then None
+    else if nat_lt first 224 then Some 2
+    else if nat_lt first 240 then Some 3
+    else if nat_lt first 245 then Some 4
+    else None
+
+-- the digits in base 64 behind those of a number
+abbrev pub low_digits : ℕ → List ℕ → ℕ
+low_digits n [] = n
+low_digits n (b ∷ bytes) = low_digits (n * 64 + b % 64) bytes
+
+abbrev pub code_point : List ℕ → ℕ
+code_point [] = 0
+code_point (first ∷ []) = first
+code_point (first ∷ b ∷ []) = low_digits (first % 32) (b ∷ [])
+code_point (first ∷ b ∷ c ∷ []) = low_digits (first % 16) (b ∷ c ∷ [])
+code_point (first ∷ b ∷ c ∷ bytes) = low_digits (first % 8) (b ∷ c ∷ bytes)
+
+-- the bytes read, and zeros up to four
+abbrev pub four_bytes : List ℕ → List ℕ
+four_bytes bytes = take 4 (bytes ++ 0 ∷ 0 ∷ 0 ∷ 0 ∷ [])
+
+abbrev pub char_of : List ℕ → Result Meaning Fault
+char_of bytes = if is_utf8 bytes then Ok (Character (code_point bytes)) else Err (InvalidChar (four_bytes bytes))
+
+abbrev pub behind_char : ℕ → Option ℕ → Format Meaning
+behind_char first None = refused (InvalidChar (four_bytes (first ∷ [])))
+behind_char first (Some width) = charged width (raw (width - 1) >>= λ bytes. settled (char_of (first ∷ bytes)))
+
+abbrev pub character : Format Meaning
+character = byte >>= λ first. behind_char first (char_width first)
+
+-- seconds and nanoseconds, of which whole seconds are carried; written with less than a second of nanoseconds
+
+abbrev pub second_in_nanos : ℕ
+second_in_nanos = 1_000_000_000
+
+abbrev pub duration_of : ℕ → ℕ → Result Meaning Fault
+duration_of seconds nanos =
+    if nat_lt (seconds + nanos / second_in_nanos) (2 ^ 64)
+    then Ok (listed (Number (pos (seconds + nanos / second_in_nanos)) ∷ Number (pos (nanos % second_in_nanos)) ∷ []))
+    else Err (InvalidDuration seconds nanos)
+
+abbrev pub seconds_and_nanos : Setting → Format (ℕ × ℕ)
+seconds_and_nanos setting = unsigned integers.U64 8 setting >>= λ seconds. map_format (λ nanos. (seconds, nanos)) (unsigned integers.U32 4 setting)
+
+abbrev pub duration : Setting → Format Meaning
+duration setting =
+    written_as (λ bytes meaning. (parts : ℕ × ℕ) × (parts.1 < second_in_nanos) × (duration_of parts.0 parts.1 ≡ Ok meaning) × (seconds_and_nanos setting).Written bytes parts)
+    (seconds_and_nanos setting >>= λ parts. settled (duration_of parts.0 parts.1))

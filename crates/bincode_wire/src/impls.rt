@@ -1,0 +1,4 @@
+//! The types of the format, one module for each family.
+
+mod numbers;
+mod tuples;
