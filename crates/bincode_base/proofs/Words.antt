@@ -11,7 +11,6 @@ use Rattle.bincode_base.specs.declared.error.DecodeError.{DecodeError}
 use Rattle.bincode_base.specs.declared.error.DecodeError.TheVariants.{InvalidIntegerType}
 use Rattle.bincode_base.specs.Number.{number_of}
 use Rattle.bincode_base.specs.Fault.{Fault, End, InvalidInteger}
-use Rattle.bincode_base.specs.Charge.{Step}
 use Rattle.bincode_base.specs.Format.{Reading, Took, Failed, after_steps, raw, done, refused, ◌>>=◌, written_as}
 use Rattle.bincode_base.specs.FormatLaws.{raw-lawful}
 use Rattle.bincode_base.specs.IntegerLaws.{byte-lawful}

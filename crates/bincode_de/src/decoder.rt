@@ -20,7 +20,9 @@ use sealed::Sealed;
 /// A reader with a configuration, a context and a charge.
 pub trait Decoder: Sealed {
     type R: Reader;
+
     type C: Config;
+
     type Context: Drop;
 
     /// The bytes that are left.
@@ -153,7 +155,9 @@ impl<R: Reader, C: Config, Context: Drop> Sealed for DecoderImpl<R, C, Context> 
 
 impl<R: Reader, C: Config, Context: Drop> Decoder for DecoderImpl<R, C, Context> {
     type R = R;
+
     type C = C;
+
     type Context = Context;
 
     ghost rest = { λ d. R.rest d.reader };
@@ -238,7 +242,12 @@ impl<R, C, Context> Drop for LentDecoder<'_, R, C, Context> {
 
 impl<'a, R: Reader, C: Config, Context: Drop> LentDecoder<'a, R, C, Context> {
     /// A decoder of this reader, which has charged nothing.
-    pub fn new(alloc: Global, reader: &'a mut R, config: &'a C, context: &'a mut Context) -> LentDecoder<'a, R, C, Context>
+    pub fn new(
+        alloc: Global,
+        reader: &'a mut R,
+        config: &'a C,
+        context: &'a mut Context,
+    ) -> LentDecoder<'a, R, C, Context>
         ensures place { ⟦<LentDecoder<'a, R, C, Context> as Decoder>⟧.place result ≡ reader.entry.ghost_name ∷ R.place reader.old }
         ensures reader { ⟦<LentDecoder<'a, R, C, Context> as Decoder>⟧.reader_of result ≡ reader.old }
         ensures charge { ⟦<LentDecoder<'a, R, C, Context> as Decoder>⟧.charge result ≡ 0 }
@@ -257,7 +266,9 @@ impl<R: Reader, C: Config, Context: Drop> Sealed for LentDecoder<'_, R, C, Conte
 
 impl<R: Reader, C: Config, Context: Drop> Decoder for LentDecoder<'_, R, C, Context> {
     type R = R;
+
     type C = C;
+
     type Context = Context;
 
     ghost rest = { λ d. R.rest d.reader.now };
@@ -325,7 +336,9 @@ where
     D::C: Config,
 {
     type R = D::R;
+
     type C = D::C;
+
     type Context = D::Context;
 
     ghost rest = { λ d. D.rest d.now };

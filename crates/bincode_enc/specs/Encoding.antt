@@ -1,6 +1,5 @@
 -- What encoding does and leaves.
-use Rattle.std.specs.Prelude.{◌≡◌, ◌⊎◌, ℕ, List, ◌++◌}
-use Rattle.bincode_base.specs.declared.text.ShortText.{ShortText}
+use Rattle.std.specs.Prelude.{◌⊎◌, ℕ, List, ◌++◌}
 use Rattle.bincode_base.specs.declared.error.EncodeError.{EncodeError}
 use Rattle.bincode_base.specs.declared.error.EncodeError.TheVariants as errors
 

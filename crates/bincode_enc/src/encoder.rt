@@ -17,6 +17,7 @@ use sealed::Sealed;
 /// A writer with a configuration.
 pub trait Encoder: Sealed {
     type W: Writer;
+
     type C: Config;
 
     /// Its writer.
@@ -77,6 +78,7 @@ impl<W: Writer, C: Config> Sealed for EncoderImpl<W, C> {}
 
 impl<W: Writer, C: Config> Encoder for EncoderImpl<W, C> {
     type W = W;
+
     type C = C;
 
     ghost writer_of = { λ e. e.writer };
@@ -129,6 +131,7 @@ impl<W: Writer, C: Config> Sealed for LentEncoder<'_, W, C> {}
 
 impl<W: Writer, C: Config> Encoder for LentEncoder<'_, W, C> {
     type W = W;
+
     type C = C;
 
     ghost writer_of = { λ e. e.writer.now };
@@ -154,6 +157,7 @@ impl<E: Encoder> Sealed for &mut E {}
 
 impl<E: Encoder> Encoder for &mut E {
     type W = E::W;
+
     type C = E::C;
 
     ghost writer_of = { λ e. E.writer_of e.now };

@@ -1,9 +1,9 @@
 -- What numbers and wholes allow, by what their parts allow.
-use Rattle.std.specs.Prelude.{◌≡◌, ℕ, ◌+◌, ◌<◌, ◌^◌, ℤ, pos, List, [], ◌∷◌, ◌++◌, length, refl, nat_eq, Bool, true, ◌&&◌}
+use Rattle.std.specs.Prelude.{◌≡◌, ℕ, ◌+◌, ◌<◌, ◌^◌, pos, List, [], ◌∷◌, ◌++◌, length, refl, nat_eq, Bool, true, ◌&&◌}
 use Rattle.std.proofs.Common.{sym, ◌∙◌, ap, subst, append-nil, length-append, eq-eqb}
 use Rattle.bincode_base.specs.declared.error.IntegerType.{IntegerType}
 use Rattle.bincode_base.specs.Setting.{Setting}
-use Rattle.bincode_base.specs.Format.{Format, done, ◌>>=◌, map_format, WrittenInTurn}
+use Rattle.bincode_base.specs.Format.{Format, done, ◌>>=◌, map_format}
 use Rattle.bincode_base.specs.Integers.{unsigned, unsigned_byte, spelling}
 use Rattle.bincode_base.specs.IntegerLaws.{written-unsigned, unsigned-written, written-unsigned_byte, unsigned_byte-written}
 use Rattle.bincode_wire.specs.Meaning.{Meaning, Number, Nothing, Then, IsNumber, IsNothing, IsThen}
@@ -67,10 +67,13 @@ module _ (P Q : Meaning → Type 0) (F : Format Meaning) (others : List (Format 
       let m = w.is_meant in
       let e : Then m.first m.others ≡ Then u.head t.0 = sym m.meaning_is ∙ t.1 in
       let a : m.first ≡ u.head = cc in
-      let b : m.others ≡ t.0 = cc in
-      (u.first, u.second, u.bytes_are,
+      let b : m.others ≡ t.0 = cc in (
+        u.first,
+        u.second,
+        u.bytes_are,
         record { meaning = u.head; is_meant = subst P a m.is_first; is_written = u.first_written },
-        record { meaning = t.0; is_meant = subst Q b m.are_others; is_written = t.2 })
+        record { meaning = t.0; is_meant = subst Q b m.are_others; is_written = t.2 },
+      )
 
 -- the empty tuple allows the empty word
 pub nothing-allows : AllowedWord IsNothing (tuple []) []

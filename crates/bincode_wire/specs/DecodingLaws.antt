@@ -3,7 +3,7 @@ use Rattle.std.specs.Prelude.{◌≡◌, ◌⊎◌, ℕ, ◌≤◌, pos, List, [
 use Rattle.std.proofs.Common.{sym, ◌∙◌, ap, subst, inl, inr, arith, append_assoc}
 use Rattle.bincode_base.specs.declared.error.DecodeError.{DecodeError}
 use Rattle.bincode_base.specs.declared.error.DecodeError.TheVariants.{LimitExceeded}
-use Rattle.bincode_base.specs.Fault.{Fault, Tells}
+use Rattle.bincode_base.specs.Fault.{Fault}
 use Rattle.bincode_base.specs.Charge.{Step, Charge}
 use Rattle.bincode_base.specs.Device.{Rose, Takes}
 use Rattle.bincode_base.specs.Reads as reads
@@ -12,7 +12,7 @@ use Rattle.bincode_base.specs.Format.{Format, Reading, Took, Failed, done, step,
 use Rattle.bincode_base.specs.Laws.{Lawful}
 use Rattle.bincode_wire.specs.Meaning.{Meaning, Number, Nothing, Then, IsNumber, IsNothing, IsThen}
 use Rattle.bincode_wire.specs.Words.{natural, tuple}
-use Rattle.bincode_wire.specs.Answer.{Answer, Gave, Refused, PassedLimit, answer, and_then, weighed, gave_at, refused_at, charge_behind, Claimed, OverClaimed}
+use Rattle.bincode_wire.specs.Answer.{Gave, PassedLimit, answer, and_then, weighed, gave_at, refused_at, charge_behind, Claimed, OverClaimed}
 use Rattle.bincode_wire.specs.AnswerLaws.{answer-then, answer-took, answer-failed, answer-done, answer-charge, answer-charge_passed}
 use Rattle.bincode_wire.specs.Decoding.{Decodes, Stops, by_fault, by_limit, by_memory, by_failure, by_device}
 
@@ -126,7 +126,7 @@ module _ (limit : Option ℕ) (F : Format Meaning) (others : List (Format Meanin
     unfolding tuple
     tuple-stops_next f P middle rest d before between after e p le s =
         stops-next ended device K (H ⊎ K) inr limit F (λ m. map_format (Then m) (tuple others)) f input c before between after p.meaning middle rest d e p.answer_is le
-            (map-stops (Then p.meaning) ended device K limit (tuple others) middle d between after rest e s)
+        (map-stops (Then p.meaning) ended device K limit (tuple others) middle d between after rest e s)
 
 -- the empty tuple
 pub nothing-decodes : (limit : Option ℕ) (input : List ℕ) (c : ℕ) → Decodes IsNothing (answer limit (tuple []) input c) input c

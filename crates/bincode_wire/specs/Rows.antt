@@ -138,7 +138,7 @@ whole-rows : AllHold (
     (tuple (u8 ∷ u32 standard ∷ [])).read (1 ∷ 251 ∷ 44 ∷ 1 ∷ []) gives Took (listed (number 1 ∷ number 300 ∷ [])) [] (Charge 1 ∷ Charge 4 ∷ []) ∷
     (tuple (u8 ∷ u32 standard ∷ [])).read (1 ∷ []) gives Failed (End (Some 1)) (Charge 1 ∷ Charge 4 ∷ []) ∷
     (tuple (u8 ∷ u32 standard ∷ i128 standard ∷ character ∷ array 4 1 u8 ∷ [])).read (0 ∷ 10 ∷ 251 ∷ 32 ∷ 78 ∷ 97 ∷ 0 ∷ 1 ∷ 2 ∷ 3 ∷ [])
-        gives Took (listed (number 0 ∷ number 10 ∷ number 10000 ∷ Character 97 ∷ listed (number 0 ∷ number 1 ∷ number 2 ∷ number 3 ∷ []) ∷ [])) [] (Charge 1 ∷ Charge 4 ∷ Charge 16 ∷ Charge 1 ∷ Reserve 4 ∷ Release 1 ∷ Charge 1 ∷ Release 1 ∷ Charge 1 ∷ Release 1 ∷ Charge 1 ∷ Release 1 ∷ Charge 1 ∷ []) ∷
+    gives Took (listed (number 0 ∷ number 10 ∷ number 10000 ∷ Character 97 ∷ listed (number 0 ∷ number 1 ∷ number 2 ∷ number 3 ∷ []) ∷ [])) [] (Charge 1 ∷ Charge 4 ∷ Charge 16 ∷ Charge 1 ∷ Reserve 4 ∷ Release 1 ∷ Charge 1 ∷ Release 1 ∷ Charge 1 ∷ Release 1 ∷ Charge 1 ∷ Release 1 ∷ Charge 1 ∷ []) ∷
     (array 2 2 (u16 standard)).read (5 ∷ 6 ∷ []) gives Took (listed (number 5 ∷ number 6 ∷ [])) [] (Reserve 4 ∷ Release 2 ∷ Charge 2 ∷ Release 2 ∷ Charge 2 ∷ []) ∷
     -- choices
     (optional u8).read (0 ∷ 9 ∷ []) gives Took (Choice 0 Nothing) (9 ∷ []) (Charge 1 ∷ []) ∷
@@ -152,9 +152,9 @@ whole-rows : AllHold (
     (bound standard u8).read (3 ∷ []) gives Failed (UnexpectedVariant (Between 0 2) 3) (Charge 4 ∷ []) ∷
     -- lists
     (list standard 24 (list standard 1 u8)).read (1 ∷ 2 ∷ 7 ∷ 8 ∷ [])
-        gives Took (listed (listed (number 7 ∷ number 8 ∷ []) ∷ [])) [] (Charge 8 ∷ Reserve 24 ∷ Release 24 ∷ Charge 8 ∷ Reserve 2 ∷ Release 1 ∷ Charge 1 ∷ Release 1 ∷ Charge 1 ∷ []) ∷
+    gives Took (listed (listed (number 7 ∷ number 8 ∷ []) ∷ [])) [] (Charge 8 ∷ Reserve 24 ∷ Release 24 ∷ Charge 8 ∷ Reserve 2 ∷ Release 1 ∷ Charge 1 ∷ Release 1 ∷ Charge 1 ∷ []) ∷
     (list standard 24 (list standard 1 u8)).read (2 ∷ 1 ∷ 9 ∷ 1 ∷ [])
-        gives Failed (End None) (Charge 8 ∷ Reserve 48 ∷ Release 24 ∷ Charge 8 ∷ Reserve 1 ∷ Release 1 ∷ Charge 1 ∷ Release 24 ∷ Charge 8 ∷ Reserve 1 ∷ Release 1 ∷ Charge 1 ∷ []) ∷
+    gives Failed (End None) (Charge 8 ∷ Reserve 48 ∷ Release 24 ∷ Charge 8 ∷ Reserve 1 ∷ Release 1 ∷ Charge 1 ∷ Release 24 ∷ Charge 8 ∷ Reserve 1 ∷ Release 1 ∷ Charge 1 ∷ []) ∷
     (list standard 1 u8).read (3 ∷ 1 ∷ []) gives Failed (End None) (Charge 8 ∷ Reserve 3 ∷ Release 1 ∷ Charge 1 ∷ Release 1 ∷ Charge 1 ∷ []) ∷
     (list legacy 4 (u32 legacy)).read (replicate 8 0) gives Took Nothing [] (Charge 8 ∷ Reserve 0 ∷ []) ∷
     (list standard 0 (tuple [])).read (3 ∷ []) gives Took (listed (Nothing ∷ Nothing ∷ Nothing ∷ [])) [] (Charge 8 ∷ Reserve 0 ∷ Release 0 ∷ Release 0 ∷ Release 0 ∷ []) ∷
@@ -176,7 +176,7 @@ text-rows : AllHold (
     (text standard).read (2 ∷ 195 ∷ 40 ∷ []) gives Failed Utf8 (Charge 8 ∷ Charge 2 ∷ []) ∷
     (without_nul standard).read (3 ∷ 65 ∷ 0 ∷ 66 ∷ []) gives Failed (NulAt 1) (Charge 8 ∷ Charge 3 ∷ []) ∷
     (without_nul standard).read (11 ∷ 72 ∷ 101 ∷ 108 ∷ 108 ∷ 111 ∷ 32 ∷ 119 ∷ 111 ∷ 114 ∷ 108 ∷ 100 ∷ [])
-        gives Took (Bytes (72 ∷ 101 ∷ 108 ∷ 108 ∷ 111 ∷ 32 ∷ 119 ∷ 111 ∷ 114 ∷ 108 ∷ 100 ∷ [])) [] (Charge 8 ∷ Charge 11 ∷ []) ∷
+    gives Took (Bytes (72 ∷ 101 ∷ 108 ∷ 108 ∷ 111 ∷ 32 ∷ 119 ∷ 111 ∷ 114 ∷ 108 ∷ 100 ∷ [])) [] (Charge 8 ∷ Charge 11 ∷ []) ∷
     character.read (65 ∷ []) gives Took (Character 65) [] (Charge 1 ∷ []) ∷
     character.read (226 ∷ 130 ∷ 172 ∷ []) gives Took (Character 8364) [] (Charge 3 ∷ []) ∷
     character.read [] gives Failed (End (Some 1)) [] ∷

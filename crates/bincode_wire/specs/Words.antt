@@ -1,12 +1,12 @@
 -- The formats of the types, row by row.
-use Rattle.std.specs.Prelude.{◌≡◌, ℕ, zero, suc, ◌+◌, ◌-◌, ◌*◌, ◌<◌, ◌/◌, ◌%◌, ◌^◌, nat_lt, ◌==◌, if◌then◌else◌, ℤ, pos, Bool, true, false, List, [], ◌∷◌, ◌++◌, take, Result, Ok, Err, Option, Some, None, position}
+use Rattle.std.specs.Prelude.{◌≡◌, ℕ, zero, suc, ◌+◌, ◌-◌, ◌*◌, ◌<◌, ◌/◌, ◌%◌, ◌^◌, nat_lt, ◌==◌, if◌then◌else◌, ℤ, pos, true, false, List, [], ◌∷◌, ◌++◌, take, Result, Ok, Err, Option, Some, None, position}
 use Rattle.std.specs.Str.{is_utf8}
 use Rattle.bincode_base.specs.declared.error.IntegerType.{IntegerType}
 use Rattle.bincode_base.specs.declared.error.IntegerType.TheVariants as integers
 use Rattle.bincode_base.specs.Setting.{Setting}
 use Rattle.bincode_base.specs.Fault.{Fault, Zero, UnexpectedVariant, Utf8, InvalidChar, InvalidBool, InvalidDuration, NulAt, Between}
 use Rattle.bincode_base.specs.Format.{Format, done, refused, raw, ◌>>=◌, settled, map_format, written_as, charged, sequence}
-use Rattle.bincode_base.specs.Integers.{byte, unsigned, signed, unsigned_byte, signed_byte}
+use Rattle.bincode_base.specs.Integers.{byte, unsigned, unsigned_byte}
 use Rattle.bincode_wire.specs.Meaning.{Meaning, Truth, Number, Character, Bytes, Nothing, Then, Choice, listed}
 
 -- numbers

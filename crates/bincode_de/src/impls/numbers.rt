@@ -14,7 +14,11 @@ use bincode_base::error::{DecodeError, IntegerType};
 use bincode_base::number::read_number;
 
 /// Charges for an unsigned number of so many bytes, and reads it. A fault speaks of it by name.
-fn decode_unsigned<D: Decoder>(decoder: &mut D, name: IntegerType, width: usize) -> Result<u128, DecodeError>
+fn decode_unsigned<D: Decoder>(
+    decoder: &mut D,
+    name: IntegerType,
+    width: usize,
+) -> Result<u128, DecodeError>
     requires { IsWidth width }
     ensures ok { IfOk result (λ v. answer D.C.bound (unsigned name width D.C.setting) (D.rest decoder.old) (D.charge decoder.old) ≡ Gave v (D.rest decoder.new) (D.charge decoder.new)) }
     ensures fits { IfOk result (λ v. v < 256 ^ width) }
@@ -26,7 +30,11 @@ fn decode_unsigned<D: Decoder>(decoder: &mut D, name: IntegerType, width: usize)
     read_number_from(decoder, name, width)
 }
 
-fn read_number_from<D: Decoder>(decoder: &mut D, name: IntegerType, width: usize) -> Result<u128, DecodeError>
+fn read_number_from<D: Decoder>(
+    decoder: &mut D,
+    name: IntegerType,
+    width: usize,
+) -> Result<u128, DecodeError>
     requires { IsWidth width }
     ensures ok { IfOk result (λ v. (number_by unsigned_tag name D.C.setting.order width D.C.setting.encoding).read (D.rest decoder.old) ≡ Took v (D.rest decoder.new) []) }
     ensures fits { IfOk result (λ v. v < 256 ^ width) }

@@ -8,7 +8,7 @@ ghost use Rattle.bincode_wire.specs.Allowed.{AllowedWord};
 ghost use Rattle.bincode_enc.specs.Encoding.{Writes, Halts};
 
 use crate::encode::Encode;
-use crate::encoder::{write_from, Encoder};
+use crate::encoder::{Encoder, write_from};
 use bincode_base::config::Config;
 use bincode_base::error::EncodeError;
 use bincode_base::number::write_number;

@@ -1,0 +1,15 @@
+//! Tests of the library through its public calls. Expected values come from the description of the format.
+#![tactic(auto)]
+
+#[cfg(test)]
+mod coders;
+#[cfg(test)]
+mod configurations;
+#[cfg(test)]
+mod faults;
+#[cfg(test)]
+mod readers;
+#[cfg(test)]
+mod words;
+#[cfg(test)]
+mod writers;
