@@ -11,11 +11,8 @@ pub mod de;
 pub mod enc;
 mod slice;
 
-pub use bincode_base::config;
-pub use bincode_base::error;
-pub use bincode_base::varint;
-pub use bincode_wire as model;
-
+pub use bincode_base::{config, error, varint};
 pub use bincode_de::decode::Decode;
 pub use bincode_enc::encode::Encode;
+pub use bincode_wire as model;
 pub use slice::{decode_from_slice, encode_into_slice};

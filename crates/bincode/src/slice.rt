@@ -19,7 +19,11 @@ use std::alloc::Global;
 
 /// Writes a value into the front of a slice, and answers how many bytes it took. Fails with `UnexpectedEnd` where the
 /// slice is too short, and with the errors that the type names; then a front of the word may stand in the slice.
-pub fn encode_into_slice<E: Encode, C: Config>(val: E, dst: &mut [u8], config: C) -> Result<usize, EncodeError>
+pub fn encode_into_slice<E: Encode, C: Config>(
+    val: E,
+    dst: &mut [u8],
+    config: C,
+) -> Result<usize, EncodeError>
     // A word that the value allows is written, of so many bytes, and the bytes after it stay.
     ensures word { IfOk result (λ n. WordWritten (AllowedWord (E.means val) (E.format C.setting)) n dst.old dst.new) }
     // No other errors come,
@@ -34,7 +38,11 @@ pub fn encode_into_slice<E: Encode, C: Config>(val: E, dst: &mut [u8], config: C
     Ok(writer.bytes_written())
 }
 
-fn encode_with<E: Encode, W: Writer, C: Config>(val: E, writer: &mut W, config: &C) -> Result<(), EncodeError>
+fn encode_with<E: Encode, W: Writer, C: Config>(
+    val: E,
+    writer: &mut W,
+    config: &C,
+) -> Result<(), EncodeError>
     ensures ok { OnOk result (Writes W.adds (AllowedWord (E.means val) (E.format C.setting)) writer.old writer.new) }
     ensures err { IfErr result (Halts W.adds W.refuses (AllowedWord (E.means val) (E.format C.setting)) E.names writer.old writer.new) }
     ensures place { W.place writer.new ≡ W.place writer.old }
@@ -46,7 +54,11 @@ fn encode_with<E: Encode, W: Writer, C: Config>(val: E, writer: &mut W, config: 
 /// Reads a value from the front of a slice, and answers how many bytes its word has. The bytes after them decide nothing.
 /// Fails with the first fault of the bytes, with `LimitExceeded` where the charges pass the limit, and with `Memory` where
 /// decoding takes memory and is refused some.
-pub fn decode_from_slice<D: Decode<()>, C: Config>(alloc: Global, src: &[u8], config: C) -> Result<(D, usize), DecodeError>
+pub fn decode_from_slice<D: Decode<()>, C: Config>(
+    alloc: Global,
+    src: &[u8],
+    config: C,
+) -> Result<(D, usize), DecodeError>
     // What is read is a word within the limit, of so many bytes, and the value is given for its meaning.
     ensures word { IfOk result (λ x. Decoded (D.format C.setting) C.bound src.now (λ m. D.given m x.0) x.1) }
     // Each word within the limit is read,
@@ -62,7 +74,12 @@ pub fn decode_from_slice<D: Decode<()>, C: Config>(alloc: Global, src: &[u8], co
     Ok((value, taken))
 }
 
-fn decode_with<Context: Drop, D: Decode<Context>, R: Reader, C: Config>(alloc: Global, reader: &mut R, config: &C, context: &mut Context) -> Result<D, DecodeError>
+fn decode_with<Context: Drop, D: Decode<Context>, R: Reader, C: Config>(
+    alloc: Global,
+    reader: &mut R,
+    config: &C,
+    context: &mut Context,
+) -> Result<D, DecodeError>
     ensures ok { IfOk result (λ v. (charge : ℕ) × Decodes (λ m. D.given m v) (answer C.bound (D.format C.setting) (R.rest reader.old) 0) (R.rest reader.new) charge) }
     ensures err { IfErr result (Stops R.ended R.device D.grows (answer C.bound (D.format C.setting) (R.rest reader.old) 0) (R.failures reader.old) (R.failures reader.new) (R.rest reader.old) (R.rest reader.new)) }
     ensures count { R.failures reader.old ≤ R.failures reader.new }
