@@ -9,4 +9,3 @@ pub mod read;
 pub mod text;
 pub mod varint;
 pub mod write;
-pub mod zigzag;

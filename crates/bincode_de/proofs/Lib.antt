@@ -1,4 +1,0 @@
--- What the proofs of this crate share.
-pub mod Casts
-pub mod NotZero
-pub mod Tagged

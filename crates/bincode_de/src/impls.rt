@@ -1,7 +1,4 @@
 //! The types of the format, one module for each family.
 
-mod chars;
-mod choices;
-mod nonzero;
 mod numbers;
 mod tuples;

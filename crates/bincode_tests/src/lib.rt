@@ -8,8 +8,6 @@ mod configurations;
 #[cfg(test)]
 mod faults;
 #[cfg(test)]
-mod numbers;
-#[cfg(test)]
 mod readers;
 #[cfg(test)]
 mod words;
