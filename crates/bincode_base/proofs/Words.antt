@@ -11,7 +11,7 @@ use Rattle.bincode_base.specs.declared.error.DecodeError.{DecodeError}
 use Rattle.bincode_base.specs.declared.error.DecodeError.TheVariants.{InvalidIntegerType}
 use Rattle.bincode_base.specs.Number.{number_of}
 use Rattle.bincode_base.specs.Fault.{Fault, End, InvalidInteger}
-use Rattle.bincode_base.specs.Format.{Reading, Took, Failed, after_steps, raw, done, refused, ◌>>=◌, written_as}
+use Rattle.bincode_base.specs.Format.{Format, Reading, Took, Failed, after_steps, raw, done, refused, ◌>>=◌, written_as, map_format}
 use Rattle.bincode_base.specs.FormatLaws.{raw-lawful}
 use Rattle.bincode_base.specs.IntegerLaws.{byte-lawful}
 use Rattle.bincode_base.specs.Integers.{byte, digits, first_of, varint, first_byte, Itself, Before, TooWide, behind}
@@ -48,6 +48,15 @@ digits-took order n input bytes rest e = rw e refl
 pub digits-failed : (order : Endianness) (n : ℕ) (input : List ℕ) (why : Fault) → (raw n).read input ≡ Failed why [] → (digits order n).read input ≡ Failed why []
 unfolding digits written_as ◌>>=◌
 digits-failed order n input why e = rw e refl
+
+-- a format with its meanings mapped
+pub map-took : {A B : Type 0} (f : A → B) (F : Format A) (input rest : List ℕ) (a : A) (b : B) → b ≡ f a → F.read input ≡ Took a rest [] → (map_format f F).read input ≡ Took b rest []
+unfolding ◌>>=◌ done
+map-took f F input rest a b same e = rw (e, same) refl
+
+pub map-failed : {A B : Type 0} (f : A → B) (F : Format A) (input : List ℕ) (why : Fault) → F.read input ≡ Failed why [] → (map_format f F).read input ≡ Failed why []
+unfolding ◌>>=◌
+map-failed f F input why e = rw e refl
 
 -- why a read of so many bytes failed
 pub raw-misreads : (ended : ℕ → DecodeError → Type 0) (device : DecodeError → Type 0) (rest rest' : List ℕ) (n before after : ℕ) (e : DecodeError) →

@@ -6,6 +6,7 @@ use Rattle.std.specs.declared.alloc.Global.{Global}
 use Rattle.std.specs.declared.str.Utf8Error.{Utf8Error}
 use Rattle.bincode_base.specs.declared.text.ShortText.{ShortText}
 use Rattle.bincode_base.specs.declared.error.IntegerType.{IntegerType}
+use Rattle.bincode_base.specs.declared.error.IntegerType.TheVariants.{U8, U16, U32, U64, U128, Usize, I8, I16, I32, I64, I128, Isize}
 use Rattle.bincode_base.specs.declared.error.AllowedEnumVariants.{AllowedEnumVariants}
 use Rattle.bincode_base.specs.declared.error.AllowedEnumVariants.TheVariants.{Range, Allowed as Tags}
 use Rattle.bincode_base.specs.declared.error.DecodeError.{DecodeError}
@@ -75,3 +76,18 @@ Tells ended (Other text) e = IsOther text e
 Tells ended (LengthMismatch required found) e = e ≡ errors.ArrayLengthMismatch required found
 Tells ended EmptyEnum e = (name : ShortText) × (e ≡ errors.EmptyEnum name)
 Tells ended (OutsideUsize n) e = e ≡ errors.OutsideUsizeRange n
+
+-- the name of the signed type of the same width
+abbrev pub signed_name : IntegerType → IntegerType
+signed_name U8 = I8
+signed_name U16 = I16
+signed_name U32 = I32
+signed_name U64 = I64
+signed_name U128 = I128
+signed_name Usize = Isize
+signed_name name = name
+
+-- the same error of a signed type
+abbrev pub signed_error : DecodeError → DecodeError
+signed_error (errors.InvalidIntegerType expected found) = errors.InvalidIntegerType (signed_name expected) (signed_name found)
+signed_error e = e

@@ -13,7 +13,7 @@ use Rattle.bincode_base.specs.declared.config.IntEncoding.{IntEncoding}
 use Rattle.bincode_base.specs.declared.config.IntEncoding.TheVariants.{Fixed, Variable}
 use Rattle.bincode_base.specs.declared.error.IntegerType.{IntegerType}
 use Rattle.bincode_base.specs.Setting.{Setting}
-use Rattle.bincode_base.specs.Number.{low_first_number, low_first_digits, number_of, digits_of, zigzag, unzigzag, two_complement, from_two_complement}
+use Rattle.bincode_base.specs.Number.{low_first_number, low_first_digits, number_of, digits_of, zigzag, unzigzag, FitsIn, two_complement, from_two_complement}
 use Rattle.bincode_base.specs.Fault.{Fault, IsEnd, InvalidInteger}
 use Rattle.bincode_base.specs.Charge.{Step}
 use Rattle.bincode_base.specs.Format.{Format, done, refused, raw, step, ◌>>=◌, written_as, map_format, charged}
@@ -442,11 +442,6 @@ unfolding signed_byte
 signed_byte-balanced = charged-balanced 1 (map_format (from_two_complement 1) byte) (map-balanced (from_two_complement 1) byte byte-balanced)
 
 -- signed numbers
-
--- an integer of so many bytes in two's complement
-abbrev pub FitsIn : ℕ → ℤ → Type 0
-FitsIn width (pos n) = 2 * n < 256 ^ width
-FitsIn width (negsuc n) = 2 * n < 256 ^ width
 
 half_of : (width : ℕ) → 0 < width → (half : ℕ) × (256 ^ width ≡ 2 * half)
 half_of zero h = absurd (omega (arith, h))

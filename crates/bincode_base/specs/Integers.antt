@@ -4,7 +4,7 @@ use Rattle.bincode_base.specs.declared.config.Endianness.{Endianness}
 use Rattle.bincode_base.specs.declared.config.IntEncoding.{IntEncoding}
 use Rattle.bincode_base.specs.declared.config.IntEncoding.TheVariants.{Fixed, Variable}
 use Rattle.bincode_base.specs.declared.error.IntegerType.{IntegerType}
-use Rattle.bincode_base.specs.declared.error.IntegerType.TheVariants.{U32, U64, U128, I32, I64, I128, Reserved}
+use Rattle.bincode_base.specs.declared.error.IntegerType.TheVariants.{U32, U64, U128, I8, I16, I32, I64, I128, Isize, Reserved}
 use Rattle.bincode_base.specs.Setting.{Setting}
 use Rattle.bincode_base.specs.Number.{number_of, digits_of, zigzag, unzigzag, two_complement, from_two_complement}
 use Rattle.bincode_base.specs.Fault.{Fault, InvalidInteger}
@@ -51,6 +51,16 @@ unsigned_tag tag = if tag == 252 then U32 else if tag == 253 then U64 else if ta
 
 abbrev pub signed_tag : ℕ → IntegerType
 signed_tag tag = if tag == 252 then I32 else if tag == 253 then I64 else if tag == 254 then I128 else Reserved
+
+-- by the name of the type
+abbrev pub tags_of : IntegerType → ℕ → IntegerType
+tags_of I8 = signed_tag
+tags_of I16 = signed_tag
+tags_of I32 = signed_tag
+tags_of I64 = signed_tag
+tags_of I128 = signed_tag
+tags_of Isize = signed_tag
+tags_of _ = unsigned_tag
 
 -- the shortest spelling: a number up to 250 is its byte, a larger one has the first tag behind which it fits
 abbrev pub shortest : Endianness → ℕ → List ℕ

@@ -1,5 +1,5 @@
 -- Numbers as digits in base 256, and signed numbers as unsigned ones.
-use Rattle.std.specs.Prelude.{ℕ, zero, suc, ◌+◌, ◌-◌, ◌*◌, ◌/◌, ◌%◌, ◌^◌, List, [], ◌∷◌, ℤ, pos, negsuc, nat_lt, if◌then◌else◌, reverse}
+use Rattle.std.specs.Prelude.{ℕ, zero, suc, ◌+◌, ◌-◌, ◌*◌, ◌/◌, ◌%◌, ◌^◌, ◌<◌, List, [], ◌∷◌, ℤ, pos, negsuc, nat_lt, if◌then◌else◌, reverse}
 use Rattle.bincode_base.specs.declared.config.Endianness.{Endianness}
 use Rattle.bincode_base.specs.declared.config.Endianness.TheVariants.{Little, Big}
 
@@ -22,6 +22,11 @@ number_of Big digits = low_first_number (reverse digits)
 abbrev pub digits_of : Endianness → ℕ → ℕ → List ℕ
 digits_of Little width n = low_first_digits width n
 digits_of Big width n = reverse (low_first_digits width n)
+
+-- an integer of `width` bytes in two's complement
+abbrev pub FitsIn : ℕ → ℤ → Type 0
+FitsIn width (pos n) = 2 * n < 256 ^ width
+FitsIn width (negsuc n) = 2 * n < 256 ^ width
 
 -- 0, -1, 1, -2, 2 are numbered 0, 1, 2, 3, 4, and so on
 abbrev pub zigzag : ℤ → ℕ

@@ -1,4 +1,6 @@
 //! What encoding and decoding answer when they fail.
+ghost use Rattle.std.specs.Prelude.{◌≡◌};
+ghost use Rattle.bincode_base.specs.Fault.{signed_name, signed_error};
 
 use crate::text::ShortText;
 use std::error::Error;
@@ -146,6 +148,38 @@ pub enum IntegerType {
 
     /// The tag 255, which no type has.
     Reserved,
+}
+
+impl IntegerType {
+    /// The signed type of the same width. A name of another kind stays.
+    pub fn into_signed(self) -> IntegerType
+        ensures { result ≡ signed_name self }
+    {
+        match self {
+            IntegerType::U8 => IntegerType::I8,
+            IntegerType::U16 => IntegerType::I16,
+            IntegerType::U32 => IntegerType::I32,
+            IntegerType::U64 => IntegerType::I64,
+            IntegerType::U128 => IntegerType::I128,
+            IntegerType::Usize => IntegerType::Isize,
+            other => other,
+        }
+    }
+}
+
+impl DecodeError {
+    /// The same error of the signed type: a tag that is too wide has signed names. Another error stays.
+    pub fn change_integer_type_to_signed(self) -> DecodeError
+        ensures { result ≡ signed_error self }
+    {
+        match self {
+            DecodeError::InvalidIntegerType { expected, found } => DecodeError::InvalidIntegerType {
+                expected: expected.into_signed(),
+                found: found.into_signed(),
+            },
+            other => other,
+        }
+    }
 }
 
 impl fmt::Display for EncodeError {

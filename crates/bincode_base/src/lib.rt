@@ -9,3 +9,4 @@ pub mod read;
 pub mod text;
 pub mod varint;
 pub mod write;
+pub mod zigzag;

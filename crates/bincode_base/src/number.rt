@@ -1,21 +1,22 @@
-//! Unsigned numbers of 2, 4, 8 or 16 bytes, in either encoding.
+//! Numbers of 2, 4, 8 or 16 bytes, in either encoding, and signed ones of one byte.
 ghost use Rattle.std.specs.Prelude.{◌≡◌, ◌<◌, ◌≤◌, ◌^◌, [], IfOk, IfErr, OnOk};
-ghost use Rattle.bincode_base.specs.Format.{Took};
-ghost use Rattle.bincode_base.specs.Number.{digits_of};
-ghost use Rattle.bincode_base.specs.Integers.{digits, number_by, unsigned_tag, spelling, spelling_pieces};
+ghost use Rattle.bincode_base.specs.Format.{Took, map_format};
+ghost use Rattle.bincode_base.specs.Number.{digits_of, two_complement, from_two_complement, FitsIn};
+ghost use Rattle.bincode_base.specs.Integers.{byte, digits, number_by, integer_by, number_for, tags_of, spelling, spelling_pieces};
 ghost use Rattle.bincode_base.specs.IntegerLaws.{IsWidth};
 ghost use Rattle.bincode_base.specs.Device.{StopsAmong};
 ghost use Rattle.bincode_base.specs.Reads.{Misreads};
 
 use crate::bytes::{
-    bytes_of_u16, bytes_of_u32, bytes_of_u64, bytes_of_u128, read_u16, read_u32, read_u64,
-    read_u128,
+    bytes_of_u16, bytes_of_u32, bytes_of_u64, bytes_of_u128, read_byte, read_u16, read_u32,
+    read_u64, read_u128,
 };
 use crate::config::{Endianness, IntEncoding};
 use crate::error::{DecodeError, EncodeError, IntegerType};
 use crate::read::Reader;
 use crate::varint::{varint_decode, varint_encode};
 use crate::write::Writer;
+use crate::zigzag::{unzigzag, zigzag};
 
 /// Reads a number of so many bytes, of which a fault speaks by name.
 #[inline]
@@ -27,9 +28,9 @@ pub fn read_number<R: Reader>(
     width: usize,
 ) -> Result<u128, DecodeError>
     requires { IsWidth width }
-    ensures ok { IfOk result (λ v. (number_by unsigned_tag name endian width encoding).read (R.rest read.old) ≡ Took v (R.rest read.new) []) }
+    ensures ok { IfOk result (λ v. (number_by (tags_of name) name endian width encoding).read (R.rest read.old) ≡ Took v (R.rest read.new) []) }
     ensures fits { IfOk result (λ v. v < 256 ^ width) }
-    ensures err { IfErr result (Misreads R.ended R.device ((number_by unsigned_tag name endian width encoding).read (R.rest read.old)) (R.failures read.old) (R.failures read.new) (R.rest read.old) (R.rest read.new)) }
+    ensures err { IfErr result (Misreads R.ended R.device ((number_by (tags_of name) name endian width encoding).read (R.rest read.old)) (R.failures read.old) (R.failures read.new) (R.rest read.old) (R.rest read.new)) }
     ensures count { R.failures read.old ≤ R.failures read.new }
     ensures place { R.place read.new ≡ R.place read.old }
 {
@@ -100,4 +101,105 @@ fn write_fixed<W: Writer>(
         8 => writer.write(&bytes_of_u64(endian, val as u64)),
         _ => writer.write(&bytes_of_u128(endian, val)),
     }
+}
+
+/// Reads a signed number of so many bytes, of which a fault speaks by name: a variable one by the zigzag of its number, a
+/// fixed one in two's complement.
+#[inline]
+pub fn read_signed<R: Reader>(
+    read: &mut R,
+    endian: Endianness,
+    encoding: IntEncoding,
+    name: IntegerType,
+    width: usize,
+) -> Result<i128, DecodeError>
+    requires { IsWidth width }
+    ensures ok { IfOk result (λ v. (map_format (integer_by width encoding) (number_by (tags_of name) name endian width encoding)).read (R.rest read.old) ≡ Took v (R.rest read.new) []) }
+    ensures fits { IfOk result (λ v. FitsIn width v) }
+    ensures err { IfErr result (Misreads R.ended R.device ((map_format (integer_by width encoding) (number_by (tags_of name) name endian width encoding)).read (R.rest read.old)) (R.failures read.old) (R.failures read.new) (R.rest read.old) (R.rest read.new)) }
+    ensures count { R.failures read.old ≤ R.failures read.new }
+    ensures place { R.place read.new ≡ R.place read.old }
+{
+    let n = read_number(read, endian, encoding, name, width)?;
+    Ok(integer_of(encoding, width, n))
+}
+
+/// Writes a signed number of so many bytes: a variable one by the zigzag of its number, a fixed one in two's complement.
+#[inline]
+pub fn write_signed<W: Writer>(
+    writer: &mut W,
+    endian: Endianness,
+    encoding: IntEncoding,
+    width: usize,
+    val: i128,
+) -> Result<(), EncodeError>
+    requires width { IsWidth width }
+    requires fits { FitsIn width val }
+    ensures ok { OnOk result (W.adds writer.old (spelling encoding endian width (number_for width encoding val)) writer.new) }
+    ensures err { IfErr result (λ e. StopsAmong W.adds W.refuses (spelling_pieces encoding endian width (number_for width encoding val)) writer.old e writer.new) }
+    ensures place { W.place writer.new ≡ W.place writer.old }
+{
+    let n = number_of_integer(encoding, width, val);
+    write_number(writer, endian, encoding, width, n)
+}
+
+/// The integer that a number of so many bytes stands for.
+#[inline]
+fn integer_of(encoding: IntEncoding, width: usize, n: u128) -> i128
+    requires width { IsWidth width }
+    requires fits { n < 256 ^ width }
+    ensures { result ≡ integer_by width encoding n }
+{
+    match encoding {
+        IntEncoding::Variable => unzigzag(n),
+        IntEncoding::Fixed => match width {
+            2 => i128::from((n as u16).cast_signed()),
+            4 => i128::from((n as u32).cast_signed()),
+            8 => i128::from((n as u64).cast_signed()),
+            _ => n.cast_signed(),
+        },
+    }
+}
+
+/// The number of so many bytes that stands for an integer.
+#[inline]
+fn number_of_integer(encoding: IntEncoding, width: usize, val: i128) -> u128
+    requires width { IsWidth width }
+    requires fits { FitsIn width val }
+    ensures { result ≡ number_for width encoding val }
+{
+    match encoding {
+        IntEncoding::Variable => zigzag(val),
+        IntEncoding::Fixed => match width {
+            2 => u128::from((val as i16).cast_unsigned()),
+            4 => u128::from((val as i32).cast_unsigned()),
+            8 => u128::from((val as i64).cast_unsigned()),
+            _ => val.cast_unsigned(),
+        },
+    }
+}
+
+/// Reads a signed byte.
+pub fn read_i8<R: Reader>(read: &mut R) -> Result<i8, DecodeError>
+    ensures ok { IfOk result (λ v. (map_format (from_two_complement 1) byte).read (R.rest read.old) ≡ Took v (R.rest read.new) []) }
+    ensures err { IfErr result (Misreads R.ended R.device ((map_format (from_two_complement 1) byte).read (R.rest read.old)) (R.failures read.old) (R.failures read.new) (R.rest read.old) (R.rest read.new)) }
+    ensures count { R.failures read.old ≤ R.failures read.new }
+    ensures place { R.place read.new ≡ R.place read.old }
+{
+    let n = read_byte(read)?;
+    Ok(i8_of_byte(n))
+}
+
+/// The byte of a signed byte.
+pub fn byte_of_i8(val: i8) -> u8
+    ensures { result ≡ two_complement 1 val }
+{
+    val.cast_unsigned()
+}
+
+/// The signed byte that a byte stands for.
+pub fn i8_of_byte(n: u8) -> i8
+    ensures { result ≡ from_two_complement 1 n }
+{
+    n.cast_signed()
 }

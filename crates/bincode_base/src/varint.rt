@@ -1,12 +1,28 @@
 //! Variable integers: one byte up to 250, else a tag and 2, 4, 8 or 16 bytes.
 
+mod decode_signed;
 mod decode_unsigned;
+mod encode_signed;
 mod encode_unsigned;
 
+pub use decode_signed::{
+    varint_decode_i16, varint_decode_i32, varint_decode_i64, varint_decode_i128,
+    varint_decode_isize,
+};
 pub(crate) use decode_unsigned::varint_decode;
-pub use decode_unsigned::varint_decode_u32;
+pub use decode_unsigned::{
+    varint_decode_u16, varint_decode_u32, varint_decode_u64, varint_decode_u128,
+    varint_decode_usize,
+};
+pub use encode_signed::{
+    varint_encode_i16, varint_encode_i32, varint_encode_i64, varint_encode_i128,
+    varint_encode_isize,
+};
 pub(crate) use encode_unsigned::varint_encode;
-pub use encode_unsigned::varint_encode_u32;
+pub use encode_unsigned::{
+    varint_encode_u16, varint_encode_u32, varint_encode_u64, varint_encode_u128,
+    varint_encode_usize,
+};
 
 const SINGLE_BYTE_MAX: u8 = 250;
 

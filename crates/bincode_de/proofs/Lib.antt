@@ -1,0 +1,4 @@
+-- What the proofs of this crate share.
+pub mod Casts
+pub mod NotZero
+pub mod Tagged

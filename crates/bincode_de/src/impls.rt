@@ -1,4 +1,7 @@
 //! The types of the format, one module for each family.
 
+mod chars;
+mod choices;
+mod nonzero;
 mod numbers;
 mod tuples;

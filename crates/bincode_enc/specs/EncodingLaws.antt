@@ -1,15 +1,23 @@
 -- What encoding does passes from parts to wholes.
-use Rattle.std.specs.Prelude.{◌≡◌, ◌⊎◌, ℕ, List, [], ◌∷◌, ◌++◌, refl}
-use Rattle.std.proofs.Common.{sym, ◌∙◌, ap, subst, inl, inr, append_assoc, append-nil}
+use Rattle.std.specs.Prelude.{◌≡◌, ◌⊎◌, ℕ, ◌<◌, ℤ, pos, unsigned_abs, FitsSigned, Result, List, [], ◌∷◌, ◌++◌, OnOk, IfErr, refl}
+use Rattle.std.proofs.Common.{to_z, of_z, sym, ◌∙◌, ap, subst, inl, inr, append_assoc, append-nil}
+use Rattle.std.specs.Int.{Width}
+use Rattle.std.proofs.lemmas.Int.{to_z-of_z}
+use Rattle.std.proofs.lemmas.Result.{IfErr-weaker, on_ok_weaker}
+use Rattle.bincode_base.specs.declared.error.IntegerType.{IntegerType}
 use Rattle.bincode_base.specs.declared.error.EncodeError.{EncodeError}
 use Rattle.bincode_base.specs.declared.config.Endianness.{Endianness}
 use Rattle.bincode_base.specs.declared.config.IntEncoding.{IntEncoding}
 use Rattle.bincode_base.specs.declared.config.IntEncoding.TheVariants.{Fixed, Variable}
 use Rattle.bincode_base.specs.Device.{StopsAmong, joined}
 use Rattle.bincode_base.specs.Number.{digits_of}
+use Rattle.bincode_base.specs.Format.{Format, map_format}
 use Rattle.bincode_base.specs.Integers.{spelling, spelling_pieces}
 use Rattle.bincode_base.specs.IntegerLaws.{shortest-pieces}
-use Rattle.bincode_wire.specs.Allowed.{Both}
+use Rattle.bincode_wire.specs.Meaning.{Number, IsNumber}
+use Rattle.bincode_wire.specs.Words.{natural, integral, not_zero_by, not_zero, not_zero_integer}
+use Rattle.bincode_wire.specs.Allowed.{AllowedWord, Both}
+use Rattle.bincode_wire.specs.AllowedLaws.{one_natural, not_zero-allows, allowed-not_zero}
 use Rattle.bincode_enc.specs.Encoding.{Adds, Refuses, Writes, Begins, IsOwn, Halts, by_writer, by_name}
 
 begins_first : (A B : List ℕ → Type 0) (bytes : List ℕ) → Begins A bytes → Begins (Both A B) bytes
@@ -80,3 +88,35 @@ module _ {W : Type 0} (adds : Adds W) (refuses : Refuses W) where
       spelled : (encoding : IntEncoding) → joined (spelling_pieces encoding order width n) ≡ spelling encoding order width n
       spelled Fixed = append-nil (digits_of order width n)
       spelled Variable = shortest-pieces order n
+
+-- a number other than 0 is written as the number
+
+module _ {A : Type 0} (integer : A → ℤ) (one : (a b : A) → integer a ≡ integer b → a ≡ b) (size : A → ℕ) (name : IntegerType) (F : Format A) {T W : Type 0} (r : Result T EncodeError) (adds : Adds W) (before after : W) (number a : A) where
+  writes_tested : number ≡ a → 0 < size a → OnOk r (Writes adds (AllowedWord (IsNumber (integer number)) (map_format (λ k. Number (integer k)) F)) before after) →
+      OnOk r (Writes adds (AllowedWord (IsNumber (integer a)) (map_format (λ k. Number (integer k)) (not_zero_by size name F))) before after)
+  writes_tested e h w =
+      on_ok_weaker r (writes_same adds _ _ before after (λ bytes. not_zero-allows integer one size name F bytes a h))
+      (subst (λ n. OnOk r (Writes adds (AllowedWord (IsNumber (integer n)) (map_format (λ k. Number (integer k)) F)) before after)) e w)
+
+  halts_tested : (refuses : Refuses W) (N : EncodeError → Type 0) → number ≡ a → 0 < size a → IfErr r (Halts adds refuses (AllowedWord (IsNumber (integer number)) (map_format (λ k. Number (integer k)) F)) N before after) →
+      IfErr r (Halts adds refuses (AllowedWord (IsNumber (integer a)) (map_format (λ k. Number (integer k)) (not_zero_by size name F))) N before after)
+  halts_tested refuses N e h w =
+      IfErr-weaker r _ _ (λ d. halts_same adds refuses _ _ N before after d (λ bytes. not_zero-allows integer one size name F bytes a h) (λ bytes. allowed-not_zero integer one size name F bytes a))
+      (subst (λ n. IfErr r (Halts adds refuses (AllowedWord (IsNumber (integer n)) (map_format (λ k. Number (integer k)) F)) N before after)) e w)
+
+module _ (name : IntegerType) (F : Format ℕ) {T W : Type 0} (r : Result T EncodeError) (adds : Adds W) (before after : W) (number n : ℕ) where
+  pub writes_not_zero : number ≡ n → 0 < n → OnOk r (Writes adds (AllowedWord (IsNumber (pos number)) (natural F)) before after) → OnOk r (Writes adds (AllowedWord (IsNumber (pos n)) (natural (not_zero name F))) before after)
+  writes_not_zero = writes_tested pos one_natural (λ k. k) name F r adds before after number n
+
+  pub halts_not_zero : (refuses : Refuses W) (N : EncodeError → Type 0) → number ≡ n → 0 < n → IfErr r (Halts adds refuses (AllowedWord (IsNumber (pos number)) (natural F)) N before after) → IfErr r (Halts adds refuses (AllowedWord (IsNumber (pos n)) (natural (not_zero name F))) N before after)
+  halts_not_zero = halts_tested pos one_natural (λ k. k) name F r adds before after number n
+
+module _ (name : IntegerType) (F : Format ℤ) {T W : Type 0} (r : Result T EncodeError) (adds : Adds W) (before after : W) (w : Width) (number z : ℤ) where
+  pub writes_not_zero_integer : number ≡ z → FitsSigned w z × (0 < unsigned_abs z) → OnOk r (Writes adds (AllowedWord (IsNumber (to_z w (of_z w number))) (integral F)) before after) → OnOk r (Writes adds (AllowedWord (IsNumber z) (integral (not_zero_integer name F))) before after)
+  writes_not_zero_integer e h = writes_tested (λ k. k) (λ a b e. e) unsigned_abs name F r adds before after (to_z w (of_z w number)) z (rw e (to_z-of_z w z h.0)) h.1
+
+  pub halts_not_zero_integer : (refuses : Refuses W) (N : EncodeError → Type 0) → number ≡ z → FitsSigned w z × (0 < unsigned_abs z) → IfErr r (Halts adds refuses (AllowedWord (IsNumber (to_z w (of_z w number))) (integral F)) N before after) → IfErr r (Halts adds refuses (AllowedWord (IsNumber z) (integral (not_zero_integer name F))) N before after)
+  halts_not_zero_integer refuses N e h = halts_tested (λ k. k) (λ a b e. e) unsigned_abs name F r adds before after (to_z w (of_z w number)) z refuses N (rw e (to_z-of_z w z h.0)) h.1
+
+-- for the proofs of `impls/nonzero.rt`
+pub ruleset by_not_zero = (writes_not_zero, halts_not_zero, writes_not_zero_integer, halts_not_zero_integer)

@@ -8,6 +8,8 @@ mod configurations;
 #[cfg(test)]
 mod faults;
 #[cfg(test)]
+mod numbers;
+#[cfg(test)]
 mod readers;
 #[cfg(test)]
 mod words;

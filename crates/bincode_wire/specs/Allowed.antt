@@ -1,5 +1,7 @@
 -- The words that a value allows.
-use Rattle.std.specs.Prelude.{◌≡◌, ℕ, List, ◌++◌, length}
+use Rattle.std.specs.Prelude.{◌≡◌, ℕ, ◌<◌, ◌≤◌, List, ◌++◌, length}
+use Rattle.std.specs.List.{All}
+use Rattle.bincode_base.specs.Charge.{Step}
 use Rattle.bincode_base.specs.Format.{Format}
 use Rattle.bincode_wire.specs.Meaning.{Meaning}
 
@@ -12,6 +14,16 @@ pub record AllowedWord (Means : Meaning → Type 0) (F : Format Meaning) (bytes 
 -- all of these words have one length
 abbrev pub OneLength : (List ℕ → Type 0) → Type 0
 OneLength Allowed = (x y : List ℕ) → Allowed x → Allowed y → length x ≡ length y
+
+-- no word of what the value means is shorter than one that it allows
+abbrev pub NoneShorter : (Meaning → Type 0) → Format Meaning → Type 0
+NoneShorter Means F = (written bytes : List ℕ) (meaning : Meaning) (steps : List Step) → AllowedWord Means F written → All (λ b. b < 256) bytes → F.Word bytes meaning steps → Means meaning → length written ≤ length bytes
+
+-- a value without cells has a word; those that it allows have one length, and none is shorter
+pub record Spelled (Means : Meaning → Type 0) (F : Format Meaning) : Type 0 where
+  pub has_word : (bytes : List ℕ) × AllowedWord Means F bytes
+  pub one_length : OneLength (AllowedWord Means F)
+  pub none_shorter : NoneShorter Means F
 
 -- what one part allows, and then what the other does
 abbrev pub Both : (List ℕ → Type 0) → (List ℕ → Type 0) → List ℕ → Type 0

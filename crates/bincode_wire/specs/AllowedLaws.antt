@@ -1,36 +1,74 @@
 -- What numbers and wholes allow, by what their parts allow.
-use Rattle.std.specs.Prelude.{◌≡◌, ℕ, ◌+◌, ◌<◌, ◌^◌, pos, List, [], ◌∷◌, ◌++◌, length, refl, nat_eq, Bool, true, ◌&&◌}
+use Rattle.std.specs.Prelude.{◌≡◌, ℕ, ◌+◌, ◌<◌, ◌^◌, ℤ, pos, Result, Ok, Err, List, [], ◌∷◌, ◌++◌, length, refl, nat_eq, Bool, true, ◌&&◌}
+use Rattle.std.specs.Ordering.{int_eq}
+use Rattle.std.specs.Cmp.{signed_Decides, booleans_Decides}
+use Rattle.std.proofs.Math.Bool.{beq}
 use Rattle.std.proofs.Common.{sym, ◌∙◌, ap, subst, append-nil, length-append, eq-eqb}
 use Rattle.bincode_base.specs.declared.error.IntegerType.{IntegerType}
 use Rattle.bincode_base.specs.Setting.{Setting}
-use Rattle.bincode_base.specs.Format.{Format, done, ◌>>=◌, map_format}
-use Rattle.bincode_base.specs.Integers.{unsigned, unsigned_byte, spelling}
-use Rattle.bincode_base.specs.IntegerLaws.{written-unsigned, unsigned-written, written-unsigned_byte, unsigned_byte-written}
-use Rattle.bincode_wire.specs.Meaning.{Meaning, Number, Nothing, Then, IsNumber, IsNothing, IsThen}
-use Rattle.bincode_wire.specs.Words.{natural, tuple}
+use Rattle.bincode_base.specs.Number.{two_complement, from_two_complement, FitsIn}
+use Rattle.bincode_base.specs.Fault.{Fault}
+use Rattle.bincode_base.specs.Format.{Format, done, refused, raw, step, settled, ◌>>=◌, map_format}
+use Rattle.bincode_base.specs.Integers.{byte, first_of, number_for, unsigned, signed, unsigned_byte, signed_byte, spelling}
+use Rattle.bincode_base.specs.IntegerLaws.{IsWidth, written-unsigned, unsigned-written, written-signed, signed-written, written-unsigned_byte, unsigned_byte-written, written-signed_byte}
+use Rattle.bincode_wire.specs.Meaning.{Meaning, Truth, Number, Nothing, Then, IsTruth, IsNumber, IsNothing, IsThen}
+use Rattle.bincode_wire.specs.Words.{natural, integral, not_zero_of, not_zero_by, truth_of, truth_byte, truth, tuple}
+use Rattle.bincode_wire.specs.WordsLaws.{not_zero-passes, not_zero-passed, truth_byte-passes, truth_byte-passed}
 use Rattle.bincode_wire.specs.Allowed.{AllowedWord, OneLength, Both}
+
+-- a written word whose meaning passes a test is one behind the test, and back
+module _ {A B : Type 0} (test : A → Result B Fault) (F : Format A) where
+  pub settled-written : (bytes : List ℕ) (a : A) (b : B) → test a ≡ Ok b → F.Written bytes a → (F >>= λ x. settled (test x)).Written bytes b
+  unfolding ◌>>=◌ done
+  settled-written bytes a b e w = record { first = bytes; second = []; head = a; bytes_are = sym (append-nil bytes); first_written = w; second_written = rw e (refl, refl) }
+
+  nothing_written : (r : Result B Fault) (bytes : List ℕ) (b : B) → (settled r).Written bytes b → (bytes ≡ []) × (r ≡ Ok b)
+  unfolding done refused
+  nothing_written (Ok c) bytes b w = (w.0, ap Ok (sym w.1))
+  nothing_written (Err why) bytes b w = absurd w
+
+  pub written-settled : (bytes : List ℕ) (b : B) → (F >>= λ x. settled (test x)).Written bytes b → (a : A) × (test a ≡ Ok b) × F.Written bytes a
+  unfolding ◌>>=◌
+  written-settled bytes b w =
+      let p = nothing_written (test w.head) w.second b w.second_written in
+      let e : bytes ≡ w.first = w.bytes_are ∙ ap (λ z. w.first ++ z) p.0 ∙ append-nil w.first in
+      (w.head, p.1, subst (λ z. F.Written z w.head) (sym e) w.first_written)
 
 -- a written word of a format is one of the format with its meanings renamed, and back
 pub map-written : {A B : Type 0} (f : A → B) (F : Format A) (bytes : List ℕ) (a : A) → F.Written bytes a → (map_format f F).Written bytes (f a)
-unfolding ◌>>=◌ done
-map-written f F bytes a w = record { first = bytes; second = []; head = a; bytes_are = sym (append-nil bytes); first_written = w; second_written = (refl, refl) }
+map-written f F bytes a w = settled-written (λ z. Ok (f z)) F bytes a (f a) refl w
 
 pub written-map : {A B : Type 0} (f : A → B) (F : Format A) (bytes : List ℕ) (b : B) → (map_format f F).Written bytes b → (a : A) × (b ≡ f a) × F.Written bytes a
-unfolding ◌>>=◌ done
-written-map f F bytes b w =
-    let e : bytes ≡ w.first = w.bytes_are ∙ ap (λ z. w.first ++ z) w.second_written.0 ∙ append-nil w.first in
-    (w.head, w.second_written.1, subst (λ z. F.Written z w.head) (sym e) w.first_written)
+written-map f F bytes b w = let p = written-settled (λ z. Ok (f z)) F bytes b w in (p.0, cc, p.2)
+
+module _ {A : Type 0} (integer : A → ℤ) (one : (a b : A) → integer a ≡ integer b → a ≡ b) (F : Format A) where
+  -- a number allows what is written for it
+  pub number-allows : (bytes : List ℕ) (a : A) → F.Written bytes a → AllowedWord (IsNumber (integer a)) (map_format (λ k. Number (integer k)) F) bytes
+  number-allows bytes a w = record { meaning = Number (integer a); is_meant = refl; is_written = map-written (λ k. Number (integer k)) F bytes a w }
+
+  pub allowed-number : (bytes : List ℕ) (a : A) → AllowedWord (IsNumber (integer a)) (map_format (λ k. Number (integer k)) F) bytes → F.Written bytes a
+  allowed-number bytes a w =
+      let p = written-map (λ k. Number (integer k)) F bytes w.meaning w.is_written in
+      let e : Number (integer a) ≡ Number (integer p.0) = sym w.is_meant ∙ p.1 in
+      let q : a ≡ p.0 = one a p.0 (cc) in
+      subst (λ z. F.Written bytes z) (sym q) p.2
+
+pub one_natural : (a b : ℕ) → pos a ≡ pos b → a ≡ b
+one_natural a b e = cc
 
 -- an unsigned number allows what is written for it
 pub natural-allows : (F : Format ℕ) (bytes : List ℕ) (n : ℕ) → F.Written bytes n → AllowedWord (IsNumber (pos n)) (natural F) bytes
-natural-allows F bytes n w = record { meaning = Number (pos n); is_meant = refl; is_written = map-written (λ k. Number (pos k)) F bytes n w }
+natural-allows = number-allows pos one_natural
 
 pub allowed-natural : (F : Format ℕ) (bytes : List ℕ) (n : ℕ) → AllowedWord (IsNumber (pos n)) (natural F) bytes → F.Written bytes n
-allowed-natural F bytes n a =
-    let p = written-map (λ k. Number (pos k)) F bytes a.meaning a.is_written in
-    let e : Number (pos n) ≡ Number (pos p.0) = sym a.is_meant ∙ p.1 in
-    let q : n ≡ p.0 = cc in
-    subst (λ z. F.Written bytes z) (sym q) p.2
+allowed-natural = allowed-number pos one_natural
+
+-- and so does a signed one
+pub integral-allows : (F : Format ℤ) (bytes : List ℕ) (z : ℤ) → F.Written bytes z → AllowedWord (IsNumber z) (integral F) bytes
+integral-allows = number-allows (λ z. z) (λ a b e. e)
+
+pub allowed-integral : (F : Format ℤ) (bytes : List ℕ) (z : ℤ) → AllowedWord (IsNumber z) (integral F) bytes → F.Written bytes z
+allowed-integral = allowed-number (λ z. z) (λ a b e. e)
 
 -- its spelling
 pub unsigned-allows : (name : IntegerType) (width n : ℕ) (s : Setting) → n < 256 ^ width → AllowedWord (IsNumber (pos n)) (natural (unsigned name width s)) (spelling s.encoding s.order width n)
@@ -44,6 +82,48 @@ byte-allows n = natural-allows unsigned_byte (n ∷ []) n (written-unsigned_byte
 
 pub allowed-byte : (n : ℕ) (bytes : List ℕ) → AllowedWord (IsNumber (pos n)) (natural unsigned_byte) bytes → bytes ≡ n ∷ []
 allowed-byte n bytes a = unsigned_byte-written bytes n (allowed-natural unsigned_byte bytes n a)
+
+-- the spelling of the number that stands for it
+pub signed-allows : (name : IntegerType) (width : ℕ) (z : ℤ) (s : Setting) → IsWidth width → FitsIn width z → AllowedWord (IsNumber z) (integral (signed name width s)) (spelling s.encoding s.order width (number_for width s.encoding z))
+signed-allows name width z s w h = integral-allows (signed name width s) (spelling s.encoding s.order width (number_for width s.encoding z)) z (written-signed name width z s w h)
+
+pub allowed-signed : (name : IntegerType) (width : ℕ) (z : ℤ) (s : Setting) (bytes : List ℕ) → AllowedWord (IsNumber z) (integral (signed name width s)) bytes → bytes ≡ spelling s.encoding s.order width (number_for width s.encoding z)
+allowed-signed name width z s bytes a = (signed-written name width z s bytes (allowed-integral (signed name width s) bytes z a)).1
+
+pub signed_byte-allows : (z : ℤ) → FitsIn 1 z → AllowedWord (IsNumber z) (integral signed_byte) (two_complement 1 z ∷ [])
+signed_byte-allows z h = integral-allows signed_byte (two_complement 1 z ∷ []) z (written-signed_byte z h)
+
+-- of numbers above 255 more than one may stand for it
+pub allowed-signed_byte : (z : ℤ) (bytes : List ℕ) → AllowedWord (IsNumber z) (integral signed_byte) bytes → length bytes ≡ 1
+unfolding signed_byte byte raw step ◌>>=◌
+allowed-signed_byte z bytes a =
+    let u = allowed-integral signed_byte bytes z a in
+    let e : bytes ≡ u.second = u.bytes_are ∙ ap (λ x. x ++ u.second) u.first_written in
+    let p = written-map (from_two_complement 1) byte u.second z u.second_written in
+    let q = written-map first_of (raw 1) u.second p.0 p.2 in
+    ap length e ∙ q.2.0
+
+-- a truth value allows its byte
+pub truth-allows : (v : Bool) → AllowedWord (IsTruth v) truth (truth_byte v ∷ [])
+truth-allows v = record { meaning = Truth v; is_meant = refl; is_written = settled-written truth_of unsigned_byte (truth_byte v ∷ []) (truth_byte v) (Truth v) (truth_byte-passes v) (written-unsigned_byte (truth_byte v)) }
+
+pub allowed-truth : (v : Bool) (bytes : List ℕ) → AllowedWord (IsTruth v) truth bytes → bytes ≡ truth_byte v ∷ []
+allowed-truth v bytes a =
+    let p = written-settled truth_of unsigned_byte bytes a.meaning a.is_written in
+    let q : p.0 ≡ truth_byte v = truth_byte-passed p.0 v (p.1 ∙ ap Ok a.is_meant) in
+    unsigned_byte-written bytes p.0 p.2 ∙ ap (λ b. b ∷ []) q
+
+module _ {A : Type 0} (integer : A → ℤ) (one : (a b : A) → integer a ≡ integer b → a ≡ b) (size : A → ℕ) (name : IntegerType) (F : Format A) where
+  -- a number other than 0 allows what it does as a number
+  pub not_zero-allows : (bytes : List ℕ) (a : A) → 0 < size a → AllowedWord (IsNumber (integer a)) (map_format (λ k. Number (integer k)) F) bytes → AllowedWord (IsNumber (integer a)) (map_format (λ k. Number (integer k)) (not_zero_by size name F)) bytes
+  not_zero-allows bytes a h w =
+      number-allows integer one (not_zero_by size name F) bytes a
+      (settled-written (λ x. not_zero_of name (size x) x) F bytes a a (not_zero-passes name (size a) a h) (allowed-number integer one F bytes a w))
+
+  pub allowed-not_zero : (bytes : List ℕ) (a : A) → AllowedWord (IsNumber (integer a)) (map_format (λ k. Number (integer k)) (not_zero_by size name F)) bytes → AllowedWord (IsNumber (integer a)) (map_format (λ k. Number (integer k)) F) bytes
+  allowed-not_zero bytes a w =
+      let p = written-settled (λ x. not_zero_of name (size x) x) F bytes a (allowed-number integer one (not_zero_by size name F) bytes a w) in
+      number-allows integer one F bytes a (subst (λ x. F.Written bytes x) (not_zero-passed name (size p.0) p.0 a p.1) p.2)
 
 -- one word has one length
 pub alone-one_length : (Allowed : List ℕ → Type 0) (word : List ℕ) → ((bytes : List ℕ) → Allowed bytes → bytes ≡ word) → OneLength Allowed
@@ -67,13 +147,10 @@ module _ (P Q : Meaning → Type 0) (F : Format Meaning) (others : List (Format 
       let m = w.is_meant in
       let e : Then m.first m.others ≡ Then u.head t.0 = sym m.meaning_is ∙ t.1 in
       let a : m.first ≡ u.head = cc in
-      let b : m.others ≡ t.0 = cc in (
-        u.first,
-        u.second,
-        u.bytes_are,
-        record { meaning = u.head; is_meant = subst P a m.is_first; is_written = u.first_written },
-        record { meaning = t.0; is_meant = subst Q b m.are_others; is_written = t.2 },
-      )
+      let b : m.others ≡ t.0 = cc in
+      let p : AllowedWord P F u.first = record { meaning = u.head; is_meant = subst P a m.is_first; is_written = u.first_written } in
+      let q : AllowedWord Q (tuple others) u.second = record { meaning = t.0; is_meant = subst Q b m.are_others; is_written = t.2 } in
+      (u.first, u.second, u.bytes_are, p, q)
 
 -- the empty tuple allows the empty word
 pub nothing-allows : AllowedWord IsNothing (tuple []) []
@@ -120,6 +197,13 @@ same_number v w m a b =
     let e : Number (pos v) ≡ Number (pos w) = sym a ∙ b in
     let q : v ≡ w = cc in
     eq-eqb v w q
+
+pub same_integer : (v w : ℤ) (m : Meaning) → IsNumber v m → IsNumber w m → int_eq v w ≡ true
+same_integer v w m a b = let e : Number v ≡ Number w = sym a ∙ b in (signed_Decides v w).1 (cc)
+
+-- truth values of one meaning are equal
+pub same_truth : (v w : Bool) (m : Meaning) → IsTruth v m → IsTruth w m → beq v w ≡ true
+same_truth v w m a b = let e : Truth v ≡ Truth w = sym a ∙ b in (booleans_Decides v w).1 (cc)
 
 -- lists of one meaning are equal if their parts are
 pub then_same : (P P' Q Q' : Meaning → Type 0) (x y : Bool) → ((m : Meaning) → P m → P' m → x ≡ true) → ((m : Meaning) → Q m → Q' m → y ≡ true) → (m : Meaning) → IsThen P Q m → IsThen P' Q' m → (x && y) ≡ true

@@ -1,19 +1,22 @@
 -- What decoding does passes from parts to wholes.
-use Rattle.std.specs.Prelude.{◌≡◌, ◌⊎◌, ℕ, ◌≤◌, pos, List, [], ◌∷◌, ◌++◌, Option, Some, None, refl}
+use Rattle.std.specs.Prelude.{◌≡◌, ◌⊎◌, ℕ, ◌<◌, ◌≤◌, ℤ, pos, Bool, Result, Ok, Err, List, [], ◌∷◌, ◌++◌, Option, Some, None, refl}
 use Rattle.std.proofs.Common.{sym, ◌∙◌, ap, subst, inl, inr, arith, append_assoc}
+use Rattle.bincode_base.specs.declared.error.IntegerType.{IntegerType}
 use Rattle.bincode_base.specs.declared.error.DecodeError.{DecodeError}
 use Rattle.bincode_base.specs.declared.error.DecodeError.TheVariants.{LimitExceeded}
-use Rattle.bincode_base.specs.Fault.{Fault}
+use Rattle.bincode_base.specs.Fault.{Fault, Zero, InvalidBool}
 use Rattle.bincode_base.specs.Charge.{Step, Charge}
 use Rattle.bincode_base.specs.Device.{Rose, Takes}
 use Rattle.bincode_base.specs.Reads as reads
 use Rattle.bincode_base.specs.Reads.{Misreads}
-use Rattle.bincode_base.specs.Format.{Format, Reading, Took, Failed, done, step, ◌>>=◌, map_format, charged}
+use Rattle.bincode_base.specs.Format.{Format, Reading, Took, Failed, done, step, ◌>>=◌, settled, map_format, charged}
 use Rattle.bincode_base.specs.Laws.{Lawful}
-use Rattle.bincode_wire.specs.Meaning.{Meaning, Number, Nothing, Then, IsNumber, IsNothing, IsThen}
-use Rattle.bincode_wire.specs.Words.{natural, tuple}
-use Rattle.bincode_wire.specs.Answer.{Gave, PassedLimit, answer, and_then, weighed, gave_at, refused_at, charge_behind, Claimed, OverClaimed}
-use Rattle.bincode_wire.specs.AnswerLaws.{answer-then, answer-took, answer-failed, answer-done, answer-charge, answer-charge_passed}
+use Rattle.bincode_base.specs.Integers.{unsigned_byte}
+use Rattle.bincode_wire.specs.Meaning.{Meaning, Truth, Number, Nothing, Then, IsTruth, IsNumber, IsNothing, IsThen}
+use Rattle.bincode_wire.specs.Words.{natural, integral, not_zero_of, not_zero_by, truth_of, truth_byte, truth, tuple}
+use Rattle.bincode_wire.specs.WordsLaws.{not_zero-passes, zero-fails, truth_byte-passes, truth-fails}
+use Rattle.bincode_wire.specs.Answer.{Gave, Refused, PassedLimit, answer, and_then, weighed, gave_at, refused_at, charge_behind, Claimed, OverClaimed}
+use Rattle.bincode_wire.specs.AnswerLaws.{answer-then, answer-took, answer-failed, answer-done, answer-refused, answer-charge, answer-charge_passed}
 use Rattle.bincode_wire.specs.Decoding.{Decodes, Stops, by_fault, by_limit, by_memory, by_failure, by_device}
 
 -- a rise after a step that didn't fall
@@ -100,9 +103,39 @@ map-gave f limit F input c a rest d e = answer-next limit F (λ z. done (f z)) i
 pub map-stops : {A B : Type 0} (f : A → B) (ended : ℕ → DecodeError → Type 0) (device : DecodeError → Type 0) (H : Type 0) (limit : Option ℕ) (F : Format A) (input : List ℕ) (c before after : ℕ) (rest : List ℕ) (e : DecodeError) → Stops ended device H (answer limit F input c) before after input rest e → Stops ended device H (answer limit (map_format f F) input c) before after input rest e
 map-stops f ended device H limit F input c before after rest e = stops-first ended device H H (λ h. h) limit F (λ z. done (f z)) input c before after rest e
 
+module _ {A B : Type 0} (test : A → Result B Fault) (limit : Option ℕ) (F : Format A) (input : List ℕ) (c : ℕ) (a : A) (rest : List ℕ) (d : ℕ) where
+  -- a meaning that passes a test
+  pub settled-gave : (b : B) → answer limit F input c ≡ Gave a rest d → test a ≡ Ok b → answer limit (F >>= λ x. settled (test x)) input c ≡ Gave b rest d
+  settled-gave b e h = answer-next limit F (λ x. settled (test x)) input c a rest d e ∙ rw h (answer-done limit b rest d)
+
+  -- one that fails it
+  pub settled-refused : (why : Fault) → answer limit F input c ≡ Gave a rest d → test a ≡ Err why → answer limit (F >>= λ x. settled (test x)) input c ≡ Refused why
+  settled-refused why e h = answer-next limit F (λ x. settled (test x)) input c a rest d e ∙ rw h (answer-refused {A = B} limit why rest d)
+
+module _ {A : Type 0} (size : A → ℕ) (name : IntegerType) (limit : Option ℕ) (F : Format A) (input : List ℕ) (c : ℕ) (a : A) (rest : List ℕ) (d : ℕ) where
+  -- a number other than 0 is given as it is
+  pub not_zero-decodes : answer limit F input c ≡ Gave a rest d → 0 < size a → answer limit (not_zero_by size name F) input c ≡ Gave a rest d
+  not_zero-decodes e h = settled-gave (λ x. not_zero_of name (size x) x) limit F input c a rest d a e (not_zero-passes name (size a) a h)
+
+  -- 0 is refused
+  pub not_zero-refuses : answer limit F input c ≡ Gave a rest d → size a ≡ 0 → answer limit (not_zero_by size name F) input c ≡ Refused (Zero name)
+  not_zero-refuses e h = settled-refused (λ x. not_zero_of name (size x) x) limit F input c a rest d (Zero name) e (zero-fails name (size a) a h)
+
+module _ (limit : Option ℕ) (input : List ℕ) (c b : ℕ) (rest : List ℕ) (d : ℕ) where
+  -- a truth value is given for its byte
+  pub truth-decodes : (v : Bool) → answer limit unsigned_byte input c ≡ Gave b rest d → b ≡ truth_byte v → Decodes (IsTruth v) (answer limit truth input c) rest d
+  truth-decodes v e same = record { meaning = Truth v; answer_is = settled-gave truth_of limit unsigned_byte input c b rest d (Truth v) e (ap truth_of same ∙ truth_byte-passes v); is_given = refl }
+
+  -- a byte above 1 is refused
+  pub truth-refuses : answer limit unsigned_byte input c ≡ Gave b rest d → 1 < b → answer limit truth input c ≡ Refused (InvalidBool b)
+  truth-refuses e h = settled-refused truth_of limit unsigned_byte input c b rest d (InvalidBool b) e (truth-fails b h)
+
 -- a number is given for its meaning
 pub natural-decodes : (limit : Option ℕ) (F : Format ℕ) (input : List ℕ) (c n v : ℕ) (rest : List ℕ) (d : ℕ) → answer limit F input c ≡ Gave n rest d → v ≡ n → Decodes (IsNumber (pos v)) (answer limit (natural F) input c) rest d
 natural-decodes limit F input c n v rest d e same = record { meaning = Number (pos n); answer_is = map-gave (λ k. Number (pos k)) limit F input c n rest d e; is_given = ap (λ k. Number (pos k)) (sym same) }
+
+pub integral-decodes : (limit : Option ℕ) (F : Format ℤ) (input : List ℕ) (c : ℕ) (z v : ℤ) (rest : List ℕ) (d : ℕ) → answer limit F input c ≡ Gave z rest d → v ≡ z → Decodes (IsNumber v) (answer limit (integral F) input c) rest d
+integral-decodes limit F input c z v rest d e same = record { meaning = Number z; answer_is = map-gave Number limit F input c z rest d e; is_given = ap Number (sym same) }
 
 module _ (limit : Option ℕ) (F : Format Meaning) (others : List (Format Meaning)) (input : List ℕ) (c : ℕ) where
   -- the first part of a tuple, and then the others

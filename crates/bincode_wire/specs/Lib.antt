@@ -5,6 +5,9 @@ pub mod Answer
 pub mod AnswerLaws
 pub mod Allowed
 pub mod AllowedLaws
+pub mod SpelledLaws
 pub mod Decoding
 pub mod DecodingLaws
 pub mod Rows
+pub mod CharLaws
+pub mod CharDecodingLaws

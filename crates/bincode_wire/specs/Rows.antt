@@ -12,7 +12,7 @@ use Rattle.bincode_base.specs.Charge.{Charge, Reserve, Release}
 use Rattle.bincode_base.specs.Format.{Format, Took, Failed, done, refused, step, raw, ◌>>=◌, written_as, unsure}
 use Rattle.bincode_base.specs.Integers.{digits, byte, varint, unsigned, signed, unsigned_byte, signed_byte, number_for, shortest}
 use Rattle.bincode_wire.specs.Meaning.{Meaning, Truth, Number, Character, Bytes, Nothing, Choice, listed}
-use Rattle.bincode_wire.specs.Words.{natural, integral, not_zero, truth, optional, either, bound, tuple, array, list, text, without_nul, character, duration}
+use Rattle.bincode_wire.specs.Words.{natural, integral, not_zero, not_zero_integer, truth, optional, either, bound, tuple, array, list, text, without_nul, character, duration}
 
 -- what is computed, and what docs/FORMAT.md expects
 record Row (A : Type 0) : Type 0 where
@@ -61,6 +61,9 @@ i8 = integral signed_byte
 
 abbrev i16 : Setting → Format Meaning
 i16 setting = integral (signed I16 2 setting)
+
+abbrev not_zero_i16 : Setting → Format Meaning
+not_zero_i16 setting = integral (not_zero_integer I16 (signed I16 2 setting))
 
 abbrev i32 : Setting → Format Meaning
 i32 setting = integral (signed I32 4 setting)
@@ -126,6 +129,9 @@ signed-rows : AllHold (
     -- tags that are too wide
     (i16 standard).read (252 ∷ []) gives Failed (InvalidInteger I16 I32) (Charge 2 ∷ []) ∷
     (integral (signed Isize 8 standard)).read (254 ∷ []) gives Failed (InvalidInteger Isize I128) (Charge 8 ∷ []) ∷
+    -- zero, and another number
+    (not_zero_i16 standard).read (0 ∷ []) gives Failed (Zero I16) (Charge 2 ∷ []) ∷
+    (not_zero_i16 standard).read (1 ∷ []) gives Took (Number (negsuc 0)) [] (Charge 2 ∷ []) ∷
     [])
 unfolding done refused raw ◌>>=◌ written_as step digits byte varint signed signed_byte
 signed-rows = refl

@@ -1,5 +1,5 @@
 -- The formats of the types, row by row.
-use Rattle.std.specs.Prelude.{◌≡◌, ℕ, zero, suc, ◌+◌, ◌-◌, ◌*◌, ◌<◌, ◌/◌, ◌%◌, ◌^◌, nat_lt, ◌==◌, if◌then◌else◌, ℤ, pos, true, false, List, [], ◌∷◌, ◌++◌, take, Result, Ok, Err, Option, Some, None, position}
+use Rattle.std.specs.Prelude.{◌≡◌, ℕ, zero, suc, ◌+◌, ◌-◌, ◌*◌, ◌<◌, ◌/◌, ◌%◌, ◌^◌, nat_lt, ◌==◌, if◌then◌else◌, ℤ, pos, unsigned_abs, Bool, true, false, List, [], ◌∷◌, ◌++◌, take, Result, Ok, Err, Option, Some, None, position}
 use Rattle.std.specs.Str.{is_utf8}
 use Rattle.bincode_base.specs.declared.error.IntegerType.{IntegerType}
 use Rattle.bincode_base.specs.declared.error.IntegerType.TheVariants as integers
@@ -18,9 +18,19 @@ natural F = map_format (λ n. Number (pos n)) F
 abbrev pub integral : Format ℤ → Format Meaning
 integral F = map_format Number F
 
--- a number other than 0
+-- a number other than 0, by its size
+abbrev pub not_zero_of : {A : Type 0} → IntegerType → ℕ → A → Result A Fault
+not_zero_of name size a = if size == 0 then Err (Zero name) else Ok a
+
+abbrev pub not_zero_by : {A : Type 0} → (A → ℕ) → IntegerType → Format A → Format A
+not_zero_by size name F = F >>= λ a. settled (not_zero_of name (size a) a)
+
+-- an unsigned number other than 0, and a signed one
 abbrev pub not_zero : IntegerType → Format ℕ → Format ℕ
-not_zero name F = F >>= λ n. settled (if n == 0 then Err (Zero name) else Ok n)
+not_zero name F = not_zero_by (λ n. n) name F
+
+abbrev pub not_zero_integer : IntegerType → Format ℤ → Format ℤ
+not_zero_integer name F = not_zero_by unsigned_abs name F
 
 -- lengths and tags
 abbrev pub len : Setting → Format ℕ
@@ -33,6 +43,10 @@ tag = unsigned integers.U32 4
 
 abbrev pub truth_of : ℕ → Result Meaning Fault
 truth_of b = if b == 0 then Ok (Truth false) else if b == 1 then Ok (Truth true) else Err (InvalidBool b)
+
+-- the byte that is written for it
+abbrev pub truth_byte : Bool → ℕ
+truth_byte v = if v then 1 else 0
 
 abbrev pub truth : Format Meaning
 truth = unsigned_byte >>= λ b. settled (truth_of b)
@@ -112,9 +126,13 @@ four_bytes bytes = take 4 (bytes ++ 0 ∷ 0 ∷ 0 ∷ 0 ∷ [])
 abbrev pub char_of : List ℕ → Result Meaning Fault
 char_of bytes = if is_utf8 bytes then Ok (Character (code_point bytes)) else Err (InvalidChar (four_bytes bytes))
 
+-- the bytes behind the first, and the check of all
+abbrev pub rest_of_char : ℕ → ℕ → Format Meaning
+rest_of_char first width = raw (width - 1) >>= λ bytes. settled (char_of (first ∷ bytes))
+
 abbrev pub behind_char : ℕ → Option ℕ → Format Meaning
 behind_char first None = refused (InvalidChar (four_bytes (first ∷ [])))
-behind_char first (Some width) = charged width (raw (width - 1) >>= λ bytes. settled (char_of (first ∷ bytes)))
+behind_char first (Some width) = charged width (rest_of_char first width)
 
 abbrev pub character : Format Meaning
 character = byte >>= λ first. behind_char first (char_width first)

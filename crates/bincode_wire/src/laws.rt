@@ -3,7 +3,7 @@ ghost use Rattle.std.specs.Prelude.{◌≡◌, true};
 ghost use Rattle.bincode_base.specs.Setting.{Setting};
 ghost use Rattle.bincode_base.specs.declared.error.EncodeError.{EncodeError};
 ghost use Rattle.bincode_wire.specs.Meaning.{Meaning};
-ghost use Rattle.bincode_wire.specs.Allowed.{AllowedWord, OneLength};
+ghost use Rattle.bincode_wire.specs.Allowed.{AllowedWord, NoneShorter, OneLength};
 
 use crate::wire::Wire;
 
@@ -21,4 +21,9 @@ pub trait Exact: Plain + PartialEq {
     ghost one_value: { (v w : Self) (m : Meaning) → Self.valid v → Self.valid w → Self.means v m → Self.means w m → Self.eq v w ≡ true };
 
     ghost comes_back: { (v w : Self) (m : Meaning) → Self.valid v → Self.means v m → Self.given m w → Self.eq v w ≡ true };
+}
+
+/// A plain type whose words are canonical: no word with the meaning of the one that is written is shorter.
+pub trait Canonical: Plain {
+    ghost shortest: { (s : Setting) (v : Self) → Self.valid v → NoneShorter (Self.means v) (Self.format s) };
 }

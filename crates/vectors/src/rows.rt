@@ -1,7 +1,9 @@
 //! The table of cases, and the loop over it.
 ghost use Rattle.std.specs.Prelude.{◌≤◌, length, IfOk};
 
-use crate::case::{Case, Encoding, Setting, Spelling, holds};
+use crate::case::{Answer, Case, Decoding, Encoding, Fault, Refusal, Setting, Spelling, holds};
+use bincode::config::{Endianness, Limit, NoLimit};
+use bincode::error::IntegerType;
 use std::alloc::Global;
 use std::io;
 use std::io::Write;
@@ -14,7 +16,7 @@ pub struct Row {
 }
 
 /// The cases that the program runs.
-pub const TABLE: [Row; 4] = [
+pub const TABLE: [Row; 36] = [
     Row {
         label: "2",
         case: Case::EncodeU32(Encoding {
@@ -24,17 +26,293 @@ pub const TABLE: [Row; 4] = [
         }),
     },
     Row {
+        label: "3a",
+        case: Case::VarintI16(Spelling {
+            endian: Endianness::Little,
+            value: -1,
+            word: &[1],
+        }),
+    },
+    Row {
+        label: "3b",
+        case: Case::VarintsI16(
+            Spelling {
+                endian: Endianness::Little,
+                value: 256,
+                word: &[251, 0, 2],
+            },
+            Spelling {
+                endian: Endianness::Big,
+                value: 256,
+                word: &[251, 2, 0],
+            },
+        ),
+    },
+    Row {
+        label: "3c",
+        case: Case::VarintI64(Spelling {
+            endian: Endianness::Little,
+            value: i64::MIN,
+            word: &[253, 255, 255, 255, 255, 255, 255, 255, 255],
+        }),
+    },
+    Row {
+        label: "3d",
+        case: Case::EncodeI8(Encoding {
+            setting: Setting::Standard,
+            value: -1,
+            word: &[255],
+        }),
+    },
+    Row {
+        label: "3e",
+        case: Case::VarintI128(Spelling {
+            endian: Endianness::Little,
+            value: 11_000_000_000_000_000_000,
+            word: &[254, 0, 0, 152, 98, 112, 179, 79, 49, 1, 0, 0, 0, 0, 0, 0, 0],
+        }),
+    },
+    Row {
+        label: "4a",
+        case: Case::DecodeU16(Decoding {
+            setting: Setting::Standard,
+            limit: NoLimit,
+            input: &[251, 0, 10],
+            answer: Answer::Value(2560, 3),
+        }),
+    },
+    Row {
+        label: "4b",
+        case: Case::DecodeU16(Decoding {
+            setting: Setting::StandardBig,
+            limit: NoLimit,
+            input: &[251, 0, 10],
+            answer: Answer::Value(10, 3),
+        }),
+    },
+    Row {
+        label: "4c",
+        case: Case::EncodeU16(Encoding {
+            setting: Setting::Standard,
+            value: 10,
+            word: &[10],
+        }),
+    },
+    Row {
+        label: "5a",
+        case: Case::VarintU32(Spelling {
+            endian: Endianness::Little,
+            value: 250,
+            word: &[250],
+        }),
+    },
+    Row {
         label: "5b",
-        case: Case::Varint(Spelling {
+        case: Case::VarintU32(Spelling {
+            endian: Endianness::Little,
             value: 251,
             word: &[251, 251, 0],
         }),
     },
     Row {
+        label: "5c",
+        case: Case::VarintU32(Spelling {
+            endian: Endianness::Little,
+            value: 65535,
+            word: &[251, 255, 255],
+        }),
+    },
+    Row {
         label: "5d",
-        case: Case::Varint(Spelling {
+        case: Case::VarintU32(Spelling {
+            endian: Endianness::Little,
             value: 65536,
             word: &[252, 0, 0, 1, 0],
+        }),
+    },
+    Row {
+        label: "5e",
+        case: Case::EncodeU8(Encoding {
+            setting: Setting::Standard,
+            value: 251,
+            word: &[251],
+        }),
+    },
+    Row {
+        label: "5f",
+        case: Case::VarintU128(Spelling {
+            endian: Endianness::Little,
+            value: u128::MAX,
+            word: &[
+                254, 255, 255, 255, 255, 255, 255, 255, 255, 255, 255, 255, 255, 255, 255, 255, 255,
+            ],
+        }),
+    },
+    Row {
+        label: "6a",
+        case: Case::DecodeU16(Decoding {
+            setting: Setting::Standard,
+            limit: NoLimit,
+            input: &[252],
+            answer: Answer::Fault(Fault::InvalidIntegerType {
+                expected: IntegerType::U16,
+                found: IntegerType::U32,
+            }),
+        }),
+    },
+    Row {
+        label: "6b",
+        case: Case::DecodeI16(Decoding {
+            setting: Setting::Standard,
+            limit: NoLimit,
+            input: &[252],
+            answer: Answer::Fault(Fault::InvalidIntegerType {
+                expected: IntegerType::I16,
+                found: IntegerType::I32,
+            }),
+        }),
+    },
+    Row {
+        label: "6c",
+        case: Case::DecodeU64(Decoding {
+            setting: Setting::Standard,
+            limit: NoLimit,
+            input: &[254, 0, 0, 0, 0, 0, 0, 0, 0],
+            answer: Answer::Fault(Fault::InvalidIntegerType {
+                expected: IntegerType::U64,
+                found: IntegerType::U128,
+            }),
+        }),
+    },
+    Row {
+        label: "6d",
+        case: Case::DecodeU64(Decoding {
+            setting: Setting::Standard,
+            limit: NoLimit,
+            input: &[253, 0, 0, 0],
+            answer: Answer::Fault(Fault::UnexpectedEnd { additional: 5 }),
+        }),
+    },
+    Row {
+        label: "6e",
+        case: Case::DecodeU128(Decoding {
+            setting: Setting::Standard,
+            limit: NoLimit,
+            input: &[255, 0, 0, 0, 0, 0, 0, 0, 0, 0, 0, 0, 0, 0, 0, 0, 0],
+            answer: Answer::Fault(Fault::InvalidIntegerType {
+                expected: IntegerType::U128,
+                found: IntegerType::Reserved,
+            }),
+        }),
+    },
+    Row {
+        label: "6f",
+        case: Case::DecodeIsize(Decoding {
+            setting: Setting::Standard,
+            limit: NoLimit,
+            input: &[254],
+            answer: Answer::Fault(Fault::InvalidIntegerType {
+                expected: IntegerType::Isize,
+                found: IntegerType::I128,
+            }),
+        }),
+    },
+    Row {
+        label: "7a",
+        case: Case::DecodeCharWithin0(Decoding {
+            setting: Setting::Standard,
+            limit: Limit,
+            input: &[],
+            answer: Answer::Fault(Fault::UnexpectedEnd { additional: 1 }),
+        }),
+    },
+    Row {
+        label: "7b",
+        case: Case::DecodeCharWithin0(Decoding {
+            setting: Setting::Standard,
+            limit: Limit,
+            input: &[65],
+            answer: Answer::Fault(Fault::LimitExceeded),
+        }),
+    },
+    Row {
+        label: "7c",
+        case: Case::DecodeChar(Decoding {
+            setting: Setting::Standard,
+            limit: NoLimit,
+            input: &[128],
+            answer: Answer::Fault(Fault::InvalidCharEncoding([128, 0, 0, 0])),
+        }),
+    },
+    Row {
+        label: "7d",
+        case: Case::DecodeChar(Decoding {
+            setting: Setting::Standard,
+            limit: NoLimit,
+            input: &[237, 160, 128],
+            answer: Answer::Fault(Fault::InvalidCharEncoding([237, 160, 128, 0])),
+        }),
+    },
+    Row {
+        label: "7e",
+        case: Case::DecodeChar(Decoding {
+            setting: Setting::Standard,
+            limit: NoLimit,
+            input: &[226, 130],
+            answer: Answer::Fault(Fault::UnexpectedEnd { additional: 1 }),
+        }),
+    },
+    Row {
+        label: "7f",
+        case: Case::EncodeChar(Encoding {
+            setting: Setting::Standard,
+            value: '€',
+            word: &[226, 130, 172],
+        }),
+    },
+    Row {
+        label: "7g",
+        case: Case::DecodeU64Within7(Decoding {
+            setting: Setting::Standard,
+            limit: Limit,
+            input: &[],
+            answer: Answer::Fault(Fault::LimitExceeded),
+        }),
+    },
+    Row {
+        label: "7h",
+        case: Case::DecodeU64Within8(Decoding {
+            setting: Setting::Standard,
+            limit: Limit,
+            input: &[],
+            answer: Answer::Fault(Fault::UnexpectedEnd { additional: 1 }),
+        }),
+    },
+    Row {
+        label: "10a",
+        case: Case::DecodePairWithin15(Decoding {
+            setting: Setting::Standard,
+            limit: Limit,
+            input: &[5, 6],
+            answer: Answer::Fault(Fault::LimitExceeded),
+        }),
+    },
+    Row {
+        label: "10b",
+        case: Case::DecodePairWithin16(Decoding {
+            setting: Setting::Standard,
+            limit: Limit,
+            input: &[5, 6],
+            answer: Answer::Value((5, 6), 2),
+        }),
+    },
+    Row {
+        label: "11",
+        case: Case::DecodeU16Within2(Decoding {
+            setting: Setting::Standard,
+            limit: Limit,
+            input: &[251, 0, 1],
+            answer: Answer::Value(256, 3),
         }),
     },
     Row {
@@ -43,6 +321,34 @@ pub const TABLE: [Row; 4] = [
             setting: Setting::Standard,
             value: (1, 300),
             word: &[1, 251, 44, 1],
+        }),
+    },
+    Row {
+        label: "16b",
+        case: Case::RefusePair(Refusal {
+            value: (1, 300),
+            before: &[9, 9, 9],
+            after: &[1, 251, 9],
+        }),
+    },
+    Row {
+        label: "19d",
+        case: Case::DecodeBool(Decoding {
+            setting: Setting::Legacy,
+            limit: NoLimit,
+            input: &[2],
+            answer: Answer::Fault(Fault::InvalidBooleanValue(2)),
+        }),
+    },
+    Row {
+        label: "19e",
+        case: Case::DecodeNonZeroU16(Decoding {
+            setting: Setting::Standard,
+            limit: NoLimit,
+            input: &[0],
+            answer: Answer::Fault(Fault::NonZeroTypeIsZero {
+                non_zero_type: IntegerType::U16,
+            }),
         }),
     },
 ];
@@ -72,30 +378,43 @@ mod tests {
     use super::*;
     use std::test::Fail;
 
+    /// A row that holds, and one that does not.
+    const TWO: [Row; 2] = [
+        Row {
+            label: "right",
+            case: Case::EncodeU16(Encoding {
+                setting: Setting::Standard,
+                value: 10,
+                word: &[10],
+            }),
+        },
+        Row {
+            label: "wrong",
+            case: Case::EncodeU16(Encoding {
+                setting: Setting::Standard,
+                value: 10,
+                word: &[11],
+            }),
+        },
+    ];
+
+    /// What is printed of them.
+    const TEXT: &str = "right ok\nwrong FAIL\nrows 2 failed 1\n";
+
     #[test]
     fn tells_a_wrong_word(rt: HostRuntime) -> Result<(), Fail> {
-        let mut table = TABLE;
-        table[0].case = Case::EncodeU32(Encoding {
-            setting: Setting::LegacyBig,
-            value: 5,
-            word: &[0, 0, 0, 6],
-        });
         let mut out = Vec::new(rt.alloc());
-        let failed = run(rt.alloc(), &table, &mut out)?;
-        assert_eq!(rt; failed, 1);
-        let text = b"2 FAIL\n5b ok\n5d ok\n16a ok\nrows 4 failed 1\n";
-        assert_eq!(rt; out.as_slice(), text.as_slice());
+        assert_eq!(rt; run(rt.alloc(), &TWO, &mut out)?, 1);
+        assert_eq!(rt; out.as_slice(), TEXT.as_bytes());
         Ok(())
     }
 
     #[test]
-    fn fails_where_the_output_does(rt: HostRuntime) -> Result<(), Fail> {
-        let mut bytes = [0u8; 40];
-        assert_eq!(rt; run(rt.alloc(), &TABLE, &mut bytes.as_mut_slice())?, 0);
-        for room in 0..40 {
+    fn fails_where_the_output_does(rt: HostRuntime) {
+        for room in 0..TEXT.len() {
+            let mut bytes = [0u8; 36];
             let mut short = &mut bytes[..room];
-            assert!(rt; run(rt.alloc(), &TABLE, &mut short).is_err(), "room {room}");
+            assert!(rt; run(rt.alloc(), &TWO, &mut short).is_err(), "room {room}");
         }
-        Ok(())
     }
 }

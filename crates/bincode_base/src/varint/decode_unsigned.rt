@@ -1,9 +1,9 @@
 ghost use Rattle.std.specs.Prelude.{◌≡◌, ◌<◌, ◌≤◌, ◌^◌, [], IfOk, IfErr};
 ghost use Rattle.bincode_base.specs.Format.{Took};
-ghost use Rattle.bincode_base.specs.Integers.{varint, unsigned_tag};
+ghost use Rattle.bincode_base.specs.Integers.{varint, unsigned_tag, tags_of};
 ghost use Rattle.bincode_base.specs.Reads.{Misreads};
 ghost use Rattle.bincode_base.specs.declared.error.DecodeError.TheVariants.{InvalidIntegerType};
-ghost use Rattle.bincode_base.specs.declared.error.IntegerType.TheVariants.{U32};
+ghost use Rattle.bincode_base.specs.declared.error.IntegerType.TheVariants.{U16, U32, U64, U128, Usize};
 
 use super::{SINGLE_BYTE_MAX, U16_BYTE, U32_BYTE, U64_BYTE, U128_BYTE};
 use crate::bytes::{read_byte, read_u16, read_u32, read_u64, read_u128};
@@ -13,6 +13,17 @@ use crate::read::Reader;
 
 /// Reads a word of a number, also one that is longer than its shortest spelling. Fails where bytes are missing, and where
 /// the tag is too wide for the type or reserved.
+pub fn varint_decode_u16<R: Reader>(read: &mut R, endian: Endianness) -> Result<u16, DecodeError>
+    ensures ok { IfOk result (λ v. (varint unsigned_tag U16 endian 2).read (R.rest read.old) ≡ Took v (R.rest read.new) []) }
+    ensures err { IfErr result (Misreads R.ended R.device ((varint unsigned_tag U16 endian 2).read (R.rest read.old)) (R.failures read.old) (R.failures read.new) (R.rest read.old) (R.rest read.new)) }
+    ensures count { R.failures read.old ≤ R.failures read.new }
+    ensures place { R.place read.new ≡ R.place read.old }
+{
+    let n = varint_decode(read, endian, IntegerType::U16, 2)?;
+    Ok(n as u16)
+}
+
+/// Reads a word of a `u32`, as `varint_decode_u16` does.
 pub fn varint_decode_u32<R: Reader>(read: &mut R, endian: Endianness) -> Result<u32, DecodeError>
     ensures ok { IfOk result (λ v. (varint unsigned_tag U32 endian 4).read (R.rest read.old) ≡ Took v (R.rest read.new) []) }
     ensures err { IfErr result (Misreads R.ended R.device ((varint unsigned_tag U32 endian 4).read (R.rest read.old)) (R.failures read.old) (R.failures read.new) (R.rest read.old) (R.rest read.new)) }
@@ -23,6 +34,41 @@ pub fn varint_decode_u32<R: Reader>(read: &mut R, endian: Endianness) -> Result<
     Ok(n as u32)
 }
 
+/// Reads a word of a `u64`, as `varint_decode_u16` does.
+pub fn varint_decode_u64<R: Reader>(read: &mut R, endian: Endianness) -> Result<u64, DecodeError>
+    ensures ok { IfOk result (λ v. (varint unsigned_tag U64 endian 8).read (R.rest read.old) ≡ Took v (R.rest read.new) []) }
+    ensures err { IfErr result (Misreads R.ended R.device ((varint unsigned_tag U64 endian 8).read (R.rest read.old)) (R.failures read.old) (R.failures read.new) (R.rest read.old) (R.rest read.new)) }
+    ensures count { R.failures read.old ≤ R.failures read.new }
+    ensures place { R.place read.new ≡ R.place read.old }
+{
+    let n = varint_decode(read, endian, IntegerType::U64, 8)?;
+    Ok(n as u64)
+}
+
+/// Reads a word of a `u128`, as `varint_decode_u16` does.
+pub fn varint_decode_u128<R: Reader>(read: &mut R, endian: Endianness) -> Result<u128, DecodeError>
+    ensures ok { IfOk result (λ v. (varint unsigned_tag U128 endian 16).read (R.rest read.old) ≡ Took v (R.rest read.new) []) }
+    ensures err { IfErr result (Misreads R.ended R.device ((varint unsigned_tag U128 endian 16).read (R.rest read.old)) (R.failures read.old) (R.failures read.new) (R.rest read.old) (R.rest read.new)) }
+    ensures count { R.failures read.old ≤ R.failures read.new }
+    ensures place { R.place read.new ≡ R.place read.old }
+{
+    varint_decode(read, endian, IntegerType::U128, 16)
+}
+
+/// Reads a word of a `usize`, as `varint_decode_u16` does.
+pub fn varint_decode_usize<R: Reader>(
+    read: &mut R,
+    endian: Endianness,
+) -> Result<usize, DecodeError>
+    ensures ok { IfOk result (λ v. (varint unsigned_tag Usize endian 8).read (R.rest read.old) ≡ Took v (R.rest read.new) []) }
+    ensures err { IfErr result (Misreads R.ended R.device ((varint unsigned_tag Usize endian 8).read (R.rest read.old)) (R.failures read.old) (R.failures read.new) (R.rest read.old) (R.rest read.new)) }
+    ensures count { R.failures read.old ≤ R.failures read.new }
+    ensures place { R.place read.new ≡ R.place read.old }
+{
+    let n = varint_decode(read, endian, IntegerType::Usize, 8)?;
+    Ok(n as usize)
+}
+
 /// The same for a number of so many bytes, of which a fault speaks by name.
 #[inline]
 pub(crate) fn varint_decode<R: Reader>(
@@ -31,9 +77,9 @@ pub(crate) fn varint_decode<R: Reader>(
     name: IntegerType,
     width: usize,
 ) -> Result<u128, DecodeError>
-    ensures ok { IfOk result (λ v. (varint unsigned_tag name endian width).read (R.rest read.old) ≡ Took v (R.rest read.new) []) }
+    ensures ok { IfOk result (λ v. (varint (tags_of name) name endian width).read (R.rest read.old) ≡ Took v (R.rest read.new) []) }
     ensures fits { 2 ≤ width → IfOk result (λ v. v < 256 ^ width) }
-    ensures err { IfErr result (Misreads R.ended R.device ((varint unsigned_tag name endian width).read (R.rest read.old)) (R.failures read.old) (R.failures read.new) (R.rest read.old) (R.rest read.new)) }
+    ensures err { IfErr result (Misreads R.ended R.device ((varint (tags_of name) name endian width).read (R.rest read.old)) (R.failures read.old) (R.failures read.new) (R.rest read.old) (R.rest read.new)) }
     ensures count { R.failures read.old ≤ R.failures read.new }
     ensures place { R.place read.new ≡ R.place read.old }
 {
@@ -49,7 +95,17 @@ pub(crate) fn varint_decode<R: Reader>(
 
 /// The error for a tag that is too wide for the type, or reserved.
 fn invalid_tag(expected: IntegerType, tag: u8) -> DecodeError
-    ensures { result ≡ InvalidIntegerType expected (unsigned_tag tag) }
+    ensures { result ≡ InvalidIntegerType expected (tags_of expected tag) }
+{
+    DecodeError::InvalidIntegerType {
+        expected,
+        found: name_of_tag(expected, tag),
+    }
+}
+
+/// The name of the type that a tag stands for: a signed one where a signed type is read.
+fn name_of_tag(expected: IntegerType, tag: u8) -> IntegerType
+    ensures { result ≡ tags_of expected tag }
 {
     let found = match tag {
         U32_BYTE => IntegerType::U32,
@@ -57,5 +113,13 @@ fn invalid_tag(expected: IntegerType, tag: u8) -> DecodeError
         U128_BYTE => IntegerType::U128,
         _ => IntegerType::Reserved,
     };
-    DecodeError::InvalidIntegerType { expected, found }
+    match expected {
+        IntegerType::I8
+        | IntegerType::I16
+        | IntegerType::I32
+        | IntegerType::I64
+        | IntegerType::I128
+        | IntegerType::Isize => found.into_signed(),
+        _ => found,
+    }
 }

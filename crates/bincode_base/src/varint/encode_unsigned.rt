@@ -10,6 +10,19 @@ use crate::write::Writer;
 
 /// Writes the shortest spelling of a number: its tag, then its bytes in the order. Where the writer refuses a piece,
 /// those before it stay written.
+pub fn varint_encode_u16<W: Writer>(
+    writer: &mut W,
+    endian: Endianness,
+    val: u16,
+) -> Result<(), EncodeError>
+    ensures ok { OnOk result (W.adds writer.old (shortest endian val) writer.new) }
+    ensures err { IfErr result (λ e. StopsAmong W.adds W.refuses (shortest_pieces endian val) writer.old e writer.new) }
+    ensures place { W.place writer.new ≡ W.place writer.old }
+{
+    varint_encode_u32(writer, endian, u32::from(val))
+}
+
+/// Writes the shortest spelling of a `u32`, as `varint_encode_u16` does.
 pub fn varint_encode_u32<W: Writer>(
     writer: &mut W,
     endian: Endianness,
@@ -19,7 +32,46 @@ pub fn varint_encode_u32<W: Writer>(
     ensures err { IfErr result (λ e. StopsAmong W.adds W.refuses (shortest_pieces endian val) writer.old e writer.new) }
     ensures place { W.place writer.new ≡ W.place writer.old }
 {
-    varint_encode(writer, endian, u128::from(val))
+    varint_encode_u64(writer, endian, u64::from(val))
+}
+
+/// Writes the shortest spelling of a `u64`, as `varint_encode_u16` does.
+pub fn varint_encode_u64<W: Writer>(
+    writer: &mut W,
+    endian: Endianness,
+    val: u64,
+) -> Result<(), EncodeError>
+    ensures ok { OnOk result (W.adds writer.old (shortest endian val) writer.new) }
+    ensures err { IfErr result (λ e. StopsAmong W.adds W.refuses (shortest_pieces endian val) writer.old e writer.new) }
+    ensures place { W.place writer.new ≡ W.place writer.old }
+{
+    varint_encode_u128(writer, endian, u128::from(val))
+}
+
+/// Writes the shortest spelling of a `u128`, as `varint_encode_u16` does.
+pub fn varint_encode_u128<W: Writer>(
+    writer: &mut W,
+    endian: Endianness,
+    val: u128,
+) -> Result<(), EncodeError>
+    ensures ok { OnOk result (W.adds writer.old (shortest endian val) writer.new) }
+    ensures err { IfErr result (λ e. StopsAmong W.adds W.refuses (shortest_pieces endian val) writer.old e writer.new) }
+    ensures place { W.place writer.new ≡ W.place writer.old }
+{
+    varint_encode(writer, endian, val)
+}
+
+/// Writes the shortest spelling of a `usize`, as `varint_encode_u16` does.
+pub fn varint_encode_usize<W: Writer>(
+    writer: &mut W,
+    endian: Endianness,
+    val: usize,
+) -> Result<(), EncodeError>
+    ensures ok { OnOk result (W.adds writer.old (shortest endian val) writer.new) }
+    ensures err { IfErr result (λ e. StopsAmong W.adds W.refuses (shortest_pieces endian val) writer.old e writer.new) }
+    ensures place { W.place writer.new ≡ W.place writer.old }
+{
+    varint_encode_u64(writer, endian, val as u64)
 }
 
 /// The same for a number of any width.

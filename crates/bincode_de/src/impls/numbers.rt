@@ -1,7 +1,8 @@
 ghost use Rattle.std.specs.Prelude.{◌≡◌, ◌<◌, ◌≤◌, ◌^◌, [], IfOk, IfErr};
-ghost use Rattle.bincode_base.specs.Format.{Took};
+ghost use Rattle.bincode_base.specs.Format.{Took, map_format};
+ghost use Rattle.bincode_base.specs.Number.{from_two_complement, FitsIn};
 ghost use Rattle.bincode_base.specs.Reads.{Misreads};
-ghost use Rattle.bincode_base.specs.Integers.{byte, number_by, unsigned_tag, unsigned, unsigned_byte};
+ghost use Rattle.bincode_base.specs.Integers.{byte, number_by, integer_by, tags_of, unsigned_tag, signed_tag, unsigned, signed, unsigned_byte, signed_byte};
 ghost use Rattle.bincode_base.specs.IntegerLaws.{IsWidth};
 ghost use Rattle.bincode_wire.specs.Answer.{answer, Gave};
 ghost use Rattle.bincode_wire.specs.Decoding.{Stops};
@@ -11,15 +12,16 @@ use crate::decoder::Decoder;
 use bincode_base::bytes::read_byte;
 use bincode_base::config::Config;
 use bincode_base::error::{DecodeError, IntegerType};
-use bincode_base::number::read_number;
+use bincode_base::number::{read_i8, read_number, read_signed};
 
 /// Charges for an unsigned number of so many bytes, and reads it. A fault speaks of it by name.
-fn decode_unsigned<D: Decoder>(
+pub(crate) fn decode_unsigned<D: Decoder>(
     decoder: &mut D,
     name: IntegerType,
     width: usize,
 ) -> Result<u128, DecodeError>
-    requires { IsWidth width }
+    requires width { IsWidth width }
+    requires tags { tags_of name ≡ unsigned_tag }
     ensures ok { IfOk result (λ v. answer D.C.bound (unsigned name width D.C.setting) (D.rest decoder.old) (D.charge decoder.old) ≡ Gave v (D.rest decoder.new) (D.charge decoder.new)) }
     ensures fits { IfOk result (λ v. v < 256 ^ width) }
     ensures err { IfErr result (Stops D.R.ended D.R.device ⊥ (answer D.C.bound (unsigned name width D.C.setting) (D.rest decoder.old) (D.charge decoder.old)) (D.failures decoder.old) (D.failures decoder.new) (D.rest decoder.old) (D.rest decoder.new)) }
@@ -36,9 +38,9 @@ fn read_number_from<D: Decoder>(
     width: usize,
 ) -> Result<u128, DecodeError>
     requires { IsWidth width }
-    ensures ok { IfOk result (λ v. (number_by unsigned_tag name D.C.setting.order width D.C.setting.encoding).read (D.rest decoder.old) ≡ Took v (D.rest decoder.new) []) }
+    ensures ok { IfOk result (λ v. (number_by (tags_of name) name D.C.setting.order width D.C.setting.encoding).read (D.rest decoder.old) ≡ Took v (D.rest decoder.new) []) }
     ensures fits { IfOk result (λ v. v < 256 ^ width) }
-    ensures err { IfErr result (Misreads D.R.ended D.R.device ((number_by unsigned_tag name D.C.setting.order width D.C.setting.encoding).read (D.rest decoder.old)) (D.failures decoder.old) (D.failures decoder.new) (D.rest decoder.old) (D.rest decoder.new)) }
+    ensures err { IfErr result (Misreads D.R.ended D.R.device ((number_by (tags_of name) name D.C.setting.order width D.C.setting.encoding).read (D.rest decoder.old)) (D.failures decoder.old) (D.failures decoder.new) (D.rest decoder.old) (D.rest decoder.new)) }
     ensures count { D.failures decoder.old ≤ D.failures decoder.new }
     ensures charge { D.charge decoder.new ≡ D.charge decoder.old }
     ensures place { D.place decoder.new ≡ D.place decoder.old }
@@ -48,8 +50,44 @@ fn read_number_from<D: Decoder>(
     read_number(decoder.reader(), endian, encoding, name, width)
 }
 
+/// Charges for a signed number of so many bytes, and reads it. A fault speaks of it by name.
+pub(crate) fn decode_signed<D: Decoder>(
+    decoder: &mut D,
+    name: IntegerType,
+    width: usize,
+) -> Result<i128, DecodeError>
+    requires width { IsWidth width }
+    requires tags { tags_of name ≡ signed_tag }
+    ensures ok { IfOk result (λ v. answer D.C.bound (signed name width D.C.setting) (D.rest decoder.old) (D.charge decoder.old) ≡ Gave v (D.rest decoder.new) (D.charge decoder.new)) }
+    ensures fits { IfOk result (λ v. FitsIn width v) }
+    ensures err { IfErr result (Stops D.R.ended D.R.device ⊥ (answer D.C.bound (signed name width D.C.setting) (D.rest decoder.old) (D.charge decoder.old)) (D.failures decoder.old) (D.failures decoder.new) (D.rest decoder.old) (D.rest decoder.new)) }
+    ensures count { D.failures decoder.old ≤ D.failures decoder.new }
+    ensures place { D.place decoder.new ≡ D.place decoder.old }
+{
+    decoder.claim_bytes_read(width)?;
+    read_signed_from(decoder, name, width)
+}
+
+fn read_signed_from<D: Decoder>(
+    decoder: &mut D,
+    name: IntegerType,
+    width: usize,
+) -> Result<i128, DecodeError>
+    requires { IsWidth width }
+    ensures ok { IfOk result (λ v. (map_format (integer_by width D.C.setting.encoding) (number_by (tags_of name) name D.C.setting.order width D.C.setting.encoding)).read (D.rest decoder.old) ≡ Took v (D.rest decoder.new) []) }
+    ensures fits { IfOk result (λ v. FitsIn width v) }
+    ensures err { IfErr result (Misreads D.R.ended D.R.device ((map_format (integer_by width D.C.setting.encoding) (number_by (tags_of name) name D.C.setting.order width D.C.setting.encoding)).read (D.rest decoder.old)) (D.failures decoder.old) (D.failures decoder.new) (D.rest decoder.old) (D.rest decoder.new)) }
+    ensures count { D.failures decoder.old ≤ D.failures decoder.new }
+    ensures charge { D.charge decoder.new ≡ D.charge decoder.old }
+    ensures place { D.place decoder.new ≡ D.place decoder.old }
+{
+    let endian = decoder.config().endianness();
+    let encoding = decoder.config().int_encoding();
+    read_signed(decoder.reader(), endian, encoding, name, width)
+}
+
 /// Charges for a byte, and reads it.
-fn decode_byte<D: Decoder>(decoder: &mut D) -> Result<u8, DecodeError>
+pub(crate) fn decode_byte<D: Decoder>(decoder: &mut D) -> Result<u8, DecodeError>
     ensures ok { IfOk result (λ v. answer D.C.bound unsigned_byte (D.rest decoder.old) (D.charge decoder.old) ≡ Gave v (D.rest decoder.new) (D.charge decoder.new)) }
     ensures err { IfErr result (Stops D.R.ended D.R.device ⊥ (answer D.C.bound unsigned_byte (D.rest decoder.old) (D.charge decoder.old)) (D.failures decoder.old) (D.failures decoder.new) (D.rest decoder.old) (D.rest decoder.new)) }
     ensures count { D.failures decoder.old ≤ D.failures decoder.new }
@@ -59,7 +97,7 @@ fn decode_byte<D: Decoder>(decoder: &mut D) -> Result<u8, DecodeError>
     read_byte_from(decoder)
 }
 
-fn read_byte_from<D: Decoder>(decoder: &mut D) -> Result<u8, DecodeError>
+pub(crate) fn read_byte_from<D: Decoder>(decoder: &mut D) -> Result<u8, DecodeError>
     ensures ok { IfOk result (λ v. byte.read (D.rest decoder.old) ≡ Took v (D.rest decoder.new) []) }
     ensures err { IfErr result (Misreads D.R.ended D.R.device (byte.read (D.rest decoder.old)) (D.failures decoder.old) (D.failures decoder.new) (D.rest decoder.old) (D.rest decoder.new)) }
     ensures count { D.failures decoder.old ≤ D.failures decoder.new }
@@ -69,9 +107,37 @@ fn read_byte_from<D: Decoder>(decoder: &mut D) -> Result<u8, DecodeError>
     read_byte(decoder.reader())
 }
 
+/// Charges for a signed byte, and reads it.
+pub(crate) fn decode_signed_byte<D: Decoder>(decoder: &mut D) -> Result<i8, DecodeError>
+    ensures ok { IfOk result (λ v. answer D.C.bound signed_byte (D.rest decoder.old) (D.charge decoder.old) ≡ Gave v (D.rest decoder.new) (D.charge decoder.new)) }
+    ensures err { IfErr result (Stops D.R.ended D.R.device ⊥ (answer D.C.bound signed_byte (D.rest decoder.old) (D.charge decoder.old)) (D.failures decoder.old) (D.failures decoder.new) (D.rest decoder.old) (D.rest decoder.new)) }
+    ensures count { D.failures decoder.old ≤ D.failures decoder.new }
+    ensures place { D.place decoder.new ≡ D.place decoder.old }
+{
+    decoder.claim_bytes_read(1)?;
+    read_i8_from(decoder)
+}
+
+fn read_i8_from<D: Decoder>(decoder: &mut D) -> Result<i8, DecodeError>
+    ensures ok { IfOk result (λ v. (map_format (from_two_complement 1) byte).read (D.rest decoder.old) ≡ Took v (D.rest decoder.new) []) }
+    ensures err { IfErr result (Misreads D.R.ended D.R.device ((map_format (from_two_complement 1) byte).read (D.rest decoder.old)) (D.failures decoder.old) (D.failures decoder.new) (D.rest decoder.old) (D.rest decoder.new)) }
+    ensures count { D.failures decoder.old ≤ D.failures decoder.new }
+    ensures charge { D.charge decoder.new ≡ D.charge decoder.old }
+    ensures place { D.place decoder.new ≡ D.place decoder.old }
+{
+    read_i8(decoder.reader())
+}
+
 impl<Context: Drop> Decode<Context> for u8 {
     fn decode<D: Decoder<Context = Context>>(decoder: &mut D) -> Result<u8, DecodeError> {
         decode_byte(decoder)
+    }
+}
+
+impl<Context: Drop> Decode<Context> for u16 {
+    fn decode<D: Decoder<Context = Context>>(decoder: &mut D) -> Result<u16, DecodeError> {
+        let n = decode_unsigned(decoder, IntegerType::U16, 2)?;
+        Ok(n as u16)
     }
 }
 
@@ -79,5 +145,65 @@ impl<Context: Drop> Decode<Context> for u32 {
     fn decode<D: Decoder<Context = Context>>(decoder: &mut D) -> Result<u32, DecodeError> {
         let n = decode_unsigned(decoder, IntegerType::U32, 4)?;
         Ok(n as u32)
+    }
+}
+
+impl<Context: Drop> Decode<Context> for u64 {
+    fn decode<D: Decoder<Context = Context>>(decoder: &mut D) -> Result<u64, DecodeError> {
+        let n = decode_unsigned(decoder, IntegerType::U64, 8)?;
+        Ok(n as u64)
+    }
+}
+
+impl<Context: Drop> Decode<Context> for u128 {
+    fn decode<D: Decoder<Context = Context>>(decoder: &mut D) -> Result<u128, DecodeError> {
+        decode_unsigned(decoder, IntegerType::U128, 16)
+    }
+}
+
+impl<Context: Drop> Decode<Context> for usize {
+    fn decode<D: Decoder<Context = Context>>(decoder: &mut D) -> Result<usize, DecodeError> {
+        let n = decode_unsigned(decoder, IntegerType::Usize, 8)?;
+        Ok(n as usize)
+    }
+}
+
+impl<Context: Drop> Decode<Context> for i8 {
+    fn decode<D: Decoder<Context = Context>>(decoder: &mut D) -> Result<i8, DecodeError> {
+        decode_signed_byte(decoder)
+    }
+}
+
+impl<Context: Drop> Decode<Context> for i16 {
+    fn decode<D: Decoder<Context = Context>>(decoder: &mut D) -> Result<i16, DecodeError> {
+        let n = decode_signed(decoder, IntegerType::I16, 2)?;
+        Ok(n as i16)
+    }
+}
+
+impl<Context: Drop> Decode<Context> for i32 {
+    fn decode<D: Decoder<Context = Context>>(decoder: &mut D) -> Result<i32, DecodeError> {
+        let n = decode_signed(decoder, IntegerType::I32, 4)?;
+        Ok(n as i32)
+    }
+}
+
+impl<Context: Drop> Decode<Context> for i64 {
+    fn decode<D: Decoder<Context = Context>>(decoder: &mut D) -> Result<i64, DecodeError> {
+        let n = decode_signed(decoder, IntegerType::I64, 8)?;
+        Ok(n as i64)
+    }
+}
+
+impl<Context: Drop> Decode<Context> for i128 {
+    fn decode<D: Decoder<Context = Context>>(decoder: &mut D) -> Result<i128, DecodeError> {
+        decode_signed(decoder, IntegerType::I128, 16)
+    }
+}
+
+impl<Context: Drop> Decode<Context> for isize {
+    fn decode<D: Decoder<Context = Context>>(decoder: &mut D) -> Result<isize, DecodeError> {
+        let n = decode_signed(decoder, IntegerType::Isize, 8)?;
+        Ok(n as isize)
     }
 }

@@ -4,8 +4,9 @@ ghost use Rattle.bincode_wire.specs.Meaning.{IsThen, IsNothing};
 ghost use Rattle.bincode_wire.specs.Words.{tuple};
 ghost use Rattle.bincode_wire.specs.WordsLaws.{tuple-lawful, tuple-balanced};
 ghost use Rattle.bincode_wire.specs.AllowedLaws.{pair-allows, allowed-pair, both-one_length, same-one_length, then_same, one_same};
+ghost use Rattle.bincode_wire.specs.SpelledLaws.{tuple-none_shorter, one-none_shorter};
 
-use crate::laws::{Exact, Plain};
+use crate::laws::{Canonical, Exact, Plain};
 use crate::wire::Wire;
 
 impl<A: Wire, B: Wire> Wire for (A, B) {
@@ -58,4 +59,8 @@ impl<A: Exact, B: Exact> Exact for (A, B) {
 
     ghost comes_back = { λ v w m h.
         then_same _ _ _ _ _ _ (λ n. A.comes_back v.0 w.0 n h.0) (one_same _ _ _ (λ n. B.comes_back v.1 w.1 n h.1)) m };
+}
+
+impl<A: Canonical, B: Canonical> Canonical for (A, B) {
+    ghost shortest = { λ s v h. tuple-none_shorter _ _ (A.format s) (B.format s ∷ []) (A.shortest s v.0 h.0) (one-none_shorter _ (B.format s) (B.shortest s v.1 h.1)) };
 }

@@ -1,6 +1,7 @@
 use Rattle.std.proofs.lemmas.Result.{IfOk-weaker, IfErr-weaker, err_from_is_err_and}
 use Rattle.bincode_base.specs.Integers.{unsigned}
-use Rattle.bincode_wire.specs.DecodingLaws.{charged-gave, charged-passed, charged-misread}
+use Rattle.bincode_wire.specs.DecodingLaws.{charged-passed}
+use Rattle.bincode_de.proofs.Tagged.{unsigned-gave, unsigned-misread}
 use Rattle.bincode_de.proofs.impls.numbers.decode_unsigned.Goals as goal
 
 pub returns-in_err-claim_bytes_read-clause-err : goal.returns-in_err-claim_bytes_read-clause-err
@@ -11,9 +12,7 @@ returns-in_err-claim_bytes_read-clause-err g c =
     rw (p.1, p.2) (charged-passed _ _ _ _ _ _ _ _ _ _ _ _ _ h.1 h.0 c.claim_bytes_read.ensures.rest)
 
 pub returns-clause-ok : goal.returns-clause-ok
-unfolding unsigned
-returns-clause-ok g c = rw c.read_number_from.ensures.charge (IfOk-weaker c.read_number_from.result _ _ (λ v h. charged-gave _ _ _ _ _ _ _ _ _ c.in_ok-claim_bytes_read.ensures.ok c.claim_bytes_read.ensures.rest h) c.read_number_from.ensures.ok)
+returns-clause-ok g c = rw c.read_number_from.ensures.charge (IfOk-weaker c.read_number_from.result _ _ (λ v h. unsigned-gave _ _ _ _ _ _ _ _ _ v c.requires.tags c.in_ok-claim_bytes_read.ensures.ok c.claim_bytes_read.ensures.rest h) c.read_number_from.ensures.ok)
 
 pub returns-clause-err : goal.returns-clause-err
-unfolding unsigned
-returns-clause-err g c = IfErr-weaker c.read_number_from.result _ _ (λ e h. charged-misread _ _ _ _ _ _ _ _ _ _ _ _ _ _ e c.in_ok-claim_bytes_read.ensures.ok c.claim_bytes_read.ensures.rest c.claim_bytes_read.ensures.failures h) c.read_number_from.ensures.err
+returns-clause-err g c = IfErr-weaker c.read_number_from.result _ _ (λ e h. unsigned-misread _ _ _ _ _ _ _ _ _ _ _ _ _ _ _ e c.requires.tags c.in_ok-claim_bytes_read.ensures.ok c.claim_bytes_read.ensures.rest c.claim_bytes_read.ensures.failures h) c.read_number_from.ensures.err

@@ -1,0 +1,76 @@
+ghost use Rattle.std.specs.Prelude.{◌≡◌, OnOk, IfErr};
+ghost use Rattle.bincode_base.specs.Number.{zigzag};
+ghost use Rattle.bincode_base.specs.Integers.{shortest, shortest_pieces};
+ghost use Rattle.bincode_base.specs.Device.{StopsAmong};
+
+use super::varint_encode;
+use crate::config::Endianness;
+use crate::error::EncodeError;
+use crate::write::Writer;
+use crate::zigzag::zigzag;
+
+/// Writes the shortest spelling of the number of an integer by zigzag. Where the writer refuses a piece, those before it
+/// stay written.
+pub fn varint_encode_i16<W: Writer>(
+    writer: &mut W,
+    endian: Endianness,
+    val: i16,
+) -> Result<(), EncodeError>
+    ensures ok { OnOk result (W.adds writer.old (shortest endian (zigzag val)) writer.new) }
+    ensures err { IfErr result (λ e. StopsAmong W.adds W.refuses (shortest_pieces endian (zigzag val)) writer.old e writer.new) }
+    ensures place { W.place writer.new ≡ W.place writer.old }
+{
+    varint_encode_i32(writer, endian, i32::from(val))
+}
+
+/// Writes the shortest spelling of the number of an `i32`, as `varint_encode_i16` does.
+pub fn varint_encode_i32<W: Writer>(
+    writer: &mut W,
+    endian: Endianness,
+    val: i32,
+) -> Result<(), EncodeError>
+    ensures ok { OnOk result (W.adds writer.old (shortest endian (zigzag val)) writer.new) }
+    ensures err { IfErr result (λ e. StopsAmong W.adds W.refuses (shortest_pieces endian (zigzag val)) writer.old e writer.new) }
+    ensures place { W.place writer.new ≡ W.place writer.old }
+{
+    varint_encode_i64(writer, endian, i64::from(val))
+}
+
+/// Writes the shortest spelling of the number of an `i64`, as `varint_encode_i16` does.
+pub fn varint_encode_i64<W: Writer>(
+    writer: &mut W,
+    endian: Endianness,
+    val: i64,
+) -> Result<(), EncodeError>
+    ensures ok { OnOk result (W.adds writer.old (shortest endian (zigzag val)) writer.new) }
+    ensures err { IfErr result (λ e. StopsAmong W.adds W.refuses (shortest_pieces endian (zigzag val)) writer.old e writer.new) }
+    ensures place { W.place writer.new ≡ W.place writer.old }
+{
+    varint_encode_i128(writer, endian, i128::from(val))
+}
+
+/// Writes the shortest spelling of the number of an `i128`, as `varint_encode_i16` does.
+pub fn varint_encode_i128<W: Writer>(
+    writer: &mut W,
+    endian: Endianness,
+    val: i128,
+) -> Result<(), EncodeError>
+    ensures ok { OnOk result (W.adds writer.old (shortest endian (zigzag val)) writer.new) }
+    ensures err { IfErr result (λ e. StopsAmong W.adds W.refuses (shortest_pieces endian (zigzag val)) writer.old e writer.new) }
+    ensures place { W.place writer.new ≡ W.place writer.old }
+{
+    varint_encode(writer, endian, zigzag(val))
+}
+
+/// Writes the shortest spelling of the number of an `isize`, as `varint_encode_i16` does.
+pub fn varint_encode_isize<W: Writer>(
+    writer: &mut W,
+    endian: Endianness,
+    val: isize,
+) -> Result<(), EncodeError>
+    ensures ok { OnOk result (W.adds writer.old (shortest endian (zigzag val)) writer.new) }
+    ensures err { IfErr result (λ e. StopsAmong W.adds W.refuses (shortest_pieces endian (zigzag val)) writer.old e writer.new) }
+    ensures place { W.place writer.new ≡ W.place writer.old }
+{
+    varint_encode_i64(writer, endian, val as i64)
+}

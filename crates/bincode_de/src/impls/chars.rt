@@ -1,0 +1,37 @@
+ghost use Rattle.std.specs.Prelude.{◌≡◌, ◌≤◌, [], Some, IfOk, IfErr};
+ghost use Rattle.bincode_base.specs.Format.{Took};
+ghost use Rattle.bincode_base.specs.Reads.{Misreads};
+ghost use Rattle.bincode_wire.specs.Meaning.{Character};
+ghost use Rattle.bincode_wire.specs.Words.{char_width, rest_of_char};
+
+use crate::decode::Decode;
+use crate::decoder::Decoder;
+use crate::impls::numbers::read_byte_from;
+use bincode_base::error::DecodeError;
+use bincode_wire::chars::{read_rest_of_char, width_of_char};
+
+fn read_rest_of_char_from<D: Decoder>(
+    decoder: &mut D,
+    first: u8,
+    width: usize,
+) -> Result<char, DecodeError>
+    requires { char_width first ≡ Some width }
+    ensures ok { IfOk result (λ v. (rest_of_char first width).read (D.rest decoder.old) ≡ Took (Character v) (D.rest decoder.new) []) }
+    ensures err { IfErr result (Misreads D.R.ended D.R.device ((rest_of_char first width).read (D.rest decoder.old)) (D.failures decoder.old) (D.failures decoder.new) (D.rest decoder.old) (D.rest decoder.new)) }
+    ensures count { D.failures decoder.old ≤ D.failures decoder.new }
+    ensures charge { D.charge decoder.new ≡ D.charge decoder.old }
+    ensures place { D.place decoder.new ≡ D.place decoder.old }
+{
+    read_rest_of_char(decoder.reader(), first, width)
+}
+
+impl<Context: Drop> Decode<Context> for char {
+    fn decode<D: Decoder<Context = Context>>(decoder: &mut D) -> Result<char, DecodeError> {
+        let first = read_byte_from(decoder)?;
+        let Some(width) = width_of_char(first) else {
+            return Err(DecodeError::InvalidCharEncoding([first, 0, 0, 0]));
+        };
+        decoder.claim_bytes_read(width)?;
+        read_rest_of_char_from(decoder, first, width)
+    }
+}

@@ -1,0 +1,145 @@
+-- Numbers and truth values are spelled: their words have one length, and none is shorter. Tuples are, if their parts are.
+use Rattle.std.specs.Prelude.{◌≡◌, ℕ, ◌<◌, ◌≤◌, ◌^◌, ℤ, pos, unsigned_abs, FitsSigned, Bool, Result, Ok, Err, List, [], ◌∷◌, ◌++◌, length, refl}
+use Rattle.std.specs.List.{All}
+use Rattle.std.specs.Int.{Width, w8}
+use Rattle.std.proofs.Common.{sym, ◌∙◌, ap, subst, arith, append-nil, length-append}
+use Rattle.std.proofs.lemmas.List.Elements.{All-nil, All-cons, All-head, All-tail}
+use Rattle.bincode_base.specs.declared.error.IntegerType.{IntegerType}
+use Rattle.bincode_base.specs.Setting.{Setting}
+use Rattle.bincode_base.specs.Number.{two_complement}
+use Rattle.bincode_base.specs.Fault.{Fault}
+use Rattle.bincode_base.specs.Charge.{Step}
+use Rattle.bincode_base.specs.Format.{Format, done, refused, settled, ◌>>=◌, map_format}
+use Rattle.bincode_base.specs.Laws.{Lawful}
+use Rattle.bincode_base.specs.FormatLaws.{one_word, map-lawful}
+use Rattle.bincode_base.specs.Integers.{number_for, unsigned, signed, unsigned_byte, signed_byte, spelling}
+use Rattle.bincode_base.specs.IntegerLaws.{IsWidth, width_in_bytes, FitsIn-from_signed, unsigned-least, signed-least, unsigned_byte-lawful, signed_byte-lawful}
+use Rattle.bincode_wire.specs.Meaning.{Meaning, Number, Then, IsTruth, IsNumber, IsNothing, IsThen}
+use Rattle.bincode_wire.specs.Words.{natural, integral, not_zero_of, not_zero_by, not_zero, not_zero_integer, truth_byte, truth, tuple}
+use Rattle.bincode_wire.specs.WordsLaws.{not_zero-passed, truth-lawful}
+use Rattle.bincode_wire.specs.Allowed.{AllowedWord, NoneShorter, Spelled}
+use Rattle.bincode_wire.specs.AllowedLaws.{one_natural, allowed-number, unsigned-allows, allowed-unsigned, byte-allows, allowed-byte, signed-allows, allowed-signed, signed_byte-allows, allowed-signed_byte, truth-allows, allowed-truth, not_zero-allows, allowed-not_zero, alone-one_length, same-one_length, allowed-tuple, allowed-nothing}
+
+-- words behind a test of their meanings
+
+module _ {A B : Type 0} (test : A → Result B Fault) (F : Format A) where
+  nothing_read : (r : Result B Fault) (bytes : List ℕ) (b : B) (s : List Step) → (settled r).Word bytes b s → (bytes ≡ []) × (r ≡ Ok b)
+  unfolding done refused
+  nothing_read (Ok c) bytes b s u = (u.0, ap Ok (sym u.1))
+  nothing_read (Err why) bytes b s u = absurd u
+
+  -- a word behind a test is a word
+  pub word-settled : (bytes : List ℕ) (b : B) (s : List Step) → (F >>= λ x. settled (test x)).Word bytes b s → (a : A) × (t : List Step) × (test a ≡ Ok b) × F.Word bytes a t
+  unfolding ◌>>=◌
+  word-settled bytes b s u =
+      let p = nothing_read (test u.head) u.second b u.second_steps u.second_word in
+      let e : bytes ≡ u.first = u.bytes_are ∙ ap (λ z. u.first ++ z) p.0 ∙ append-nil u.first in
+      (u.head, u.first_steps, p.1, subst (λ z. F.Word z u.head u.first_steps) (sym e) u.first_word)
+
+  -- and a word whose meaning passes is one behind the test
+  pub settled-word : (bytes : List ℕ) (a : A) (b : B) (s : List Step) → test a ≡ Ok b → F.Word bytes a s → (F >>= λ x. settled (test x)).Word bytes b s
+  unfolding ◌>>=◌ done
+  settled-word bytes a b s e u =
+      record { first = bytes; second = []; head = a; first_steps = s; second_steps = []; bytes_are = sym (append-nil bytes); steps_are = sym (append-nil s); first_word = u; second_word = rw e (refl, refl, refl) }
+
+-- numbers
+
+-- no word of a number is shorter, if none of its format is
+pub number-none_shorter : {A : Type 0} (integer : A → ℤ) (one : (a b : A) → integer a ≡ integer b → a ≡ b) (F : Format A) (a : A) →
+    ((written bytes : List ℕ) (s : List Step) → All (λ b. b < 256) bytes → F.Written written a → F.Word bytes a s → length written ≤ length bytes) → NoneShorter (IsNumber (integer a)) (map_format (λ k. Number (integer k)) F)
+number-none_shorter integer one F a least written bytes m s w h u e =
+    let p = word-settled (λ k. Ok (Number (integer k))) F bytes m s u in
+    let i : ◌≡◌ {A = Result Meaning Fault} (Ok (Number (integer p.0))) (Ok (Number (integer a))) = p.2 ∙ ap Ok e in
+    let q : p.0 ≡ a = one p.0 a (cc) in
+    least written bytes p.1 h (allowed-number integer one F written a w) (subst (λ z. F.Word bytes z p.1) q p.3)
+
+-- an unsigned number is spelled, and a signed one
+pub unsigned-spelled : (name : IntegerType) (width n : ℕ) (s : Setting) → n < 256 ^ width → Spelled (IsNumber (pos n)) (natural (unsigned name width s))
+unsigned-spelled name width n s h = record {
+  has_word = (spelling s.encoding s.order width n, unsigned-allows name width n s h);
+  one_length = alone-one_length _ (spelling s.encoding s.order width n) (allowed-unsigned name width n s);
+  none_shorter = number-none_shorter pos one_natural (unsigned name width s) n (unsigned-least name width n s);
+}
+
+pub signed-spelled : (name : IntegerType) (w : Width) (z : ℤ) (s : Setting) → IsWidth (width_in_bytes w) → FitsSigned w z → Spelled (IsNumber z) (integral (signed name (width_in_bytes w) s))
+signed-spelled name w z s more h =
+    let width = width_in_bytes w in
+    let bytes = spelling s.encoding s.order width (number_for width s.encoding z) in
+    record {
+      has_word = (bytes, signed-allows name width z s more (FitsIn-from_signed w z h));
+      one_length = alone-one_length _ bytes (allowed-signed name width z s);
+      none_shorter = number-none_shorter (λ k. k) (λ a b e. e) (signed name width s) z (signed-least name width z s);
+    }
+
+not_shorter : (P : Meaning → Type 0) (F : Format Meaning) → Lawful F → ((bytes : List ℕ) → AllowedWord P F bytes → length bytes ≡ 1) → NoneShorter P F
+not_shorter P F f one written [] m s w h u e =
+    let p = f.written_is_word written w.meaning w.is_written in
+    let q : [] ≡ written = (one_word f [] written written [] m w.meaning s p.0 u p.1 (sym (append-nil written))).0 in
+    omega (arith, ap length q)
+not_shorter P F f one written (b ∷ bytes) m s w h u e = omega (arith, one written w)
+
+-- what is always one byte is spelled
+pub one_byte-spelled : (P : Meaning → Type 0) (F : Format Meaning) (b : ℕ) → Lawful F → AllowedWord P F (b ∷ []) → ((bytes : List ℕ) → AllowedWord P F bytes → length bytes ≡ 1) → Spelled P F
+one_byte-spelled P F b f w one = record { has_word = (b ∷ [], w); one_length = λ x y a c. one x a ∙ sym (one y c); none_shorter = not_shorter P F f one }
+
+-- numbers of one byte are, and truth values
+pub byte-spelled : (n : ℕ) → Spelled (IsNumber (pos n)) (natural unsigned_byte)
+byte-spelled n = one_byte-spelled (IsNumber (pos n)) (natural unsigned_byte) n (map-lawful _ unsigned_byte unsigned_byte-lawful) (byte-allows n) (λ bytes a. ap length (allowed-byte n bytes a))
+
+pub signed_byte-spelled : (z : ℤ) → FitsSigned w8 z → Spelled (IsNumber z) (integral signed_byte)
+signed_byte-spelled z h = one_byte-spelled (IsNumber z) (integral signed_byte) (two_complement 1 z) (map-lawful _ signed_byte signed_byte-lawful) (signed_byte-allows z (FitsIn-from_signed w8 z h)) (allowed-signed_byte z)
+
+pub truth-spelled : (v : Bool) → Spelled (IsTruth v) truth
+truth-spelled v = one_byte-spelled (IsTruth v) truth (truth_byte v) truth-lawful (truth-allows v) (λ bytes a. ap length (allowed-truth v bytes a))
+
+module _ {A : Type 0} (integer : A → ℤ) (one : (a b : A) → integer a ≡ integer b → a ≡ b) (size : A → ℕ) (name : IntegerType) (F : Format A) (a : A) where
+  word_not_zero : (bytes : List ℕ) (m : Meaning) (s : List Step) → (map_format (λ k. Number (integer k)) (not_zero_by size name F)).Word bytes m s → (t : List Step) × (map_format (λ k. Number (integer k)) F).Word bytes m t
+  word_not_zero bytes m s u =
+      let p = word-settled (λ k. Ok (Number (integer k))) (not_zero_by size name F) bytes m s u in
+      let q = word-settled (λ x. not_zero_of name (size x) x) F bytes p.0 p.1 p.3 in
+      let e : q.0 ≡ p.0 = not_zero-passed name (size q.0) q.0 p.0 q.2 in
+      (q.1, settled-word (λ k. Ok (Number (integer k))) F bytes p.0 m q.1 p.2 (subst (λ x. F.Word bytes x q.1) e q.3))
+
+  -- a number other than 0 is spelled as the number
+  pub number-not_zero : 0 < size a → Spelled (IsNumber (integer a)) (map_format (λ k. Number (integer k)) F) → Spelled (IsNumber (integer a)) (map_format (λ k. Number (integer k)) (not_zero_by size name F))
+  number-not_zero h p = record {
+    has_word = (p.has_word.0, not_zero-allows integer one size name F p.has_word.0 a h p.has_word.1);
+    one_length = same-one_length _ _ (λ bytes. allowed-not_zero integer one size name F bytes a) p.one_length;
+    none_shorter = λ written bytes m s w b u e. let t = word_not_zero bytes m s u in p.none_shorter written bytes m t.0 (allowed-not_zero integer one size name F written a w) b t.1 e;
+  }
+
+pub not_zero-spelled : (name : IntegerType) (F : Format ℕ) (n : ℕ) → 0 < n → Spelled (IsNumber (pos n)) (natural F) → Spelled (IsNumber (pos n)) (natural (not_zero name F))
+not_zero-spelled = number-not_zero pos one_natural (λ n. n)
+
+pub not_zero_integer-spelled : (name : IntegerType) (F : Format ℤ) (z : ℤ) → 0 < unsigned_abs z → Spelled (IsNumber z) (integral F) → Spelled (IsNumber z) (integral (not_zero_integer name F))
+not_zero_integer-spelled = number-not_zero (λ z. z) (λ a b e. e) unsigned_abs
+
+-- tuples
+
+front_all : (P : ℕ → Type 0) (xs ys : List ℕ) → All P (xs ++ ys) → All P xs
+front_all P [] ys h = All-nil P
+front_all P (x ∷ xs) ys h = All-cons P x xs (All-head P x (xs ++ ys) h) (front_all P xs ys (All-tail P x (xs ++ ys) h))
+
+back_all : (P : ℕ → Type 0) (xs ys : List ℕ) → All P (xs ++ ys) → All P ys
+back_all P [] ys h = h
+back_all P (x ∷ xs) ys h = back_all P xs ys (All-tail P x (xs ++ ys) h)
+
+-- no word of a tuple is shorter, if none of its first part is and none of the others
+pub tuple-none_shorter : (P Q : Meaning → Type 0) (F : Format Meaning) (others : List (Format Meaning)) → NoneShorter P F → NoneShorter Q (tuple others) → NoneShorter (IsThen P Q) (tuple (F ∷ others))
+unfolding tuple ◌>>=◌
+tuple-none_shorter P Q F others f g written bytes m s w h u e =
+    let b = allowed-tuple P Q F others written w in
+    let t = word-settled (λ k. Ok (Then u.head k)) (tuple others) u.second m u.second_steps u.second_word in
+    let i : ◌≡◌ {A = Result Meaning Fault} (Ok (Then u.head t.0)) (Ok (Then e.first e.others)) = t.2 ∙ ap Ok e.meaning_is in
+    let j : e.first ≡ u.head = cc in
+    let k : e.others ≡ t.0 = cc in
+    let a : All (λ x. x < 256) (u.first ++ u.second) = subst (All (λ x. x < 256)) u.bytes_are h in
+    let l : length b.0 ≤ length u.first = f b.0 u.first u.head u.first_steps b.3 (front_all (λ x. x < 256) u.first u.second a) u.first_word (subst P j e.is_first) in
+    let r : length b.1 ≤ length u.second = g b.1 u.second t.0 t.1 b.4 (back_all (λ x. x < 256) u.first u.second a) t.3 (subst Q k e.are_others) in
+    omega (arith, l, r, ap length b.2, length-append b.0 b.1, ap length u.bytes_are, length-append u.first u.second)
+
+pub nothing-none_shorter : NoneShorter IsNothing (tuple [])
+nothing-none_shorter written bytes m s w h u e = omega (arith, ap length (allowed-nothing written w))
+
+pub one-none_shorter : (P : Meaning → Type 0) (F : Format Meaning) → NoneShorter P F → NoneShorter (IsThen P IsNothing) (tuple (F ∷ []))
+one-none_shorter P F f = tuple-none_shorter P IsNothing F [] f nothing-none_shorter
