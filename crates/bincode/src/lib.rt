@@ -15,4 +15,5 @@ pub use bincode_base::{config, error, varint};
 pub use bincode_de::decode::Decode;
 pub use bincode_enc::encode::Encode;
 pub use bincode_wire as model;
+pub use bincode_wire::own::time;
 pub use slice::{decode_from_slice, encode_into_slice};

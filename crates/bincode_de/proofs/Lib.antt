@@ -2,3 +2,7 @@
 pub mod Casts
 pub mod NotZero
 pub mod Tagged
+pub mod Rewritten
+pub mod Spans
+pub mod Twice
+pub mod Unwrapped

@@ -1,13 +1,15 @@
 //! Decoders: a reader with a configuration, a context and a charge.
-ghost use Rattle.std.specs.Prelude.{◌≡◌, ◌≤◌, ◌∷◌, ℕ, List, Option, OnOk, IfErr, refl};
+ghost use Rattle.std.specs.Prelude.{◌≡◌, ◌≤◌, ◌*◌, ◌∷◌, ℕ, List, Option, OnOk, IfErr, refl};
 ghost use Rattle.std.proofs.Common.{ap};
 ghost use Rattle.std.specs.Borrow.{GName, Lends, sem};
 ghost use Rattle.bincode_base.specs.declared.error.DecodeError.TheVariants.{LimitExceeded};
-ghost use Rattle.bincode_wire.specs.Answer.{Claimed, OverClaimed};
+ghost use Rattle.bincode_wire.specs.Answer.{Claimed, OverClaimed, unclaimed};
+ghost use Rattle.bincode_wire.specs.Run.{CanRelease};
 
 use bincode_base::config::Config;
 use bincode_base::error::DecodeError;
 use bincode_base::read::Reader;
+use bincode_wire::wire::Wire;
 use std::alloc::Global;
 
 mod sealed {
@@ -74,6 +76,23 @@ pub trait Decoder: Sealed {
         ensures failures { failures self.new ≡ failures self.old }
         ensures place { place self.new ≡ place self.old };
 
+    /// Charges for a container of `len` elements: `claim_bytes_read` of `len` times the claim size of `T`. A product that
+    /// does not fit 64 bits is above each limit, and then the charge stays.
+    fn claim_container_read<T: Wire>(&mut self, len: usize) -> Result<(), DecodeError>
+        ensures ok { OnOk result (Claimed Self.C.bound (charge self.old) (len * T.claim) (charge self.new)) }
+        ensures err { IfErr result (λ e. (e ≡ LimitExceeded) × OverClaimed Self.C.bound (charge self.old) (len * T.claim) (charge self.new)) }
+        ensures rest { rest self.new ≡ rest self.old }
+        ensures failures { failures self.new ≡ failures self.old }
+        ensures place { place self.new ≡ place self.old };
+
+    /// Takes `n` bytes off the charge, of those that a container claimed. Without a limit nothing is counted.
+    fn unclaim_bytes_read(&mut self, n: usize)
+        requires { CanRelease Self.C.bound (charge self.old) n }
+        ensures charge { charge self.new ≡ unclaimed Self.C.bound (charge self.old) n }
+        ensures rest { rest self.new ≡ rest self.old }
+        ensures failures { failures self.new ≡ failures self.old }
+        ensures place { place self.new ≡ place self.old };
+
     ghost rest_is: { (d : Self) → Self.R.rest (reader_of d) ≡ rest d };
 
     ghost failures_is: { (d : Self) → Self.R.failures (reader_of d) ≡ failures d };
@@ -111,6 +130,33 @@ fn claim(limit: Option<usize>, bytes_read: &mut usize, n: usize) -> Result<(), D
         return Err(DecodeError::LimitExceeded);
     }
     Ok(())
+}
+
+/// Charges for `len` elements of `share` bytes each under a limit.
+fn claim_container(
+    limit: Option<usize>,
+    bytes_read: &mut usize,
+    len: usize,
+    share: usize,
+) -> Result<(), DecodeError>
+    ensures ok { OnOk result (Claimed limit bytes_read.old (len * share) bytes_read.new) }
+    ensures err { IfErr result (λ e. (e ≡ LimitExceeded) × OverClaimed limit bytes_read.old (len * share) bytes_read.new) }
+{
+    match len.checked_mul(share) {
+        Some(n) => claim(limit, bytes_read, n),
+        None if limit.is_none() => Ok(()),
+        None => Err(DecodeError::LimitExceeded),
+    }
+}
+
+/// Takes `n` bytes off the charge under a limit.
+fn unclaim(limit: Option<usize>, bytes_read: &mut usize, n: usize)
+    requires { CanRelease limit bytes_read.old n }
+    ensures { bytes_read.new ≡ unclaimed limit bytes_read.old n }
+{
+    if limit.is_some() {
+        *bytes_read -= n;
+    }
 }
 
 /// A decoder that owns its reader and its context.
@@ -194,6 +240,19 @@ impl<R: Reader, C: Config, Context: Drop> Decoder for DecoderImpl<R, C, Context>
 
     fn claim_bytes_read(&mut self, n: usize) -> Result<(), DecodeError> {
         claim(self.config.limit(), &mut self.bytes_read, n)
+    }
+
+    fn claim_container_read<T: Wire>(&mut self, len: usize) -> Result<(), DecodeError> {
+        claim_container(
+            self.config.limit(),
+            &mut self.bytes_read,
+            len,
+            T::claim_size(),
+        )
+    }
+
+    fn unclaim_bytes_read(&mut self, n: usize) {
+        unclaim(self.config.limit(), &mut self.bytes_read, n);
     }
 
     ghost rest_is = { λ d. refl };
@@ -307,6 +366,19 @@ impl<R: Reader, C: Config, Context: Drop> Decoder for LentDecoder<'_, R, C, Cont
         claim(self.config.limit(), &mut self.bytes_read, n)
     }
 
+    fn claim_container_read<T: Wire>(&mut self, len: usize) -> Result<(), DecodeError> {
+        claim_container(
+            self.config.limit(),
+            &mut self.bytes_read,
+            len,
+            T::claim_size(),
+        )
+    }
+
+    fn unclaim_bytes_read(&mut self, n: usize) {
+        unclaim(self.config.limit(), &mut self.bytes_read, n);
+    }
+
     ghost rest_is = { λ d. refl };
 
     ghost failures_is = { λ d. refl };
@@ -375,6 +447,14 @@ where
 
     fn claim_bytes_read(&mut self, n: usize) -> Result<(), DecodeError> {
         (**self).claim_bytes_read(n)
+    }
+
+    fn claim_container_read<T: Wire>(&mut self, len: usize) -> Result<(), DecodeError> {
+        (**self).claim_container_read::<T>(len)
+    }
+
+    fn unclaim_bytes_read(&mut self, n: usize) {
+        (**self).unclaim_bytes_read(n);
     }
 
     ghost rest_is = { λ d. D.rest_is d.now };

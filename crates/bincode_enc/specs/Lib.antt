@@ -1,2 +1,5 @@
 pub mod Encoding
 pub mod EncodingLaws
+pub mod ChoiceEncoding
+pub mod RunEncoding
+pub mod TupleEncoding

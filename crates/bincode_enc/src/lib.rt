@@ -4,3 +4,4 @@
 pub mod encode;
 pub mod encoder;
 mod impls;
+pub mod run;

@@ -11,3 +11,14 @@ pub mod DecodingLaws
 pub mod Rows
 pub mod CharLaws
 pub mod CharDecodingLaws
+pub mod Spans
+pub mod DurationLaws
+pub mod Cells
+pub mod CellLaws
+pub mod Choices
+pub mod ChoiceLaws
+pub mod ChoiceDecodingLaws
+pub mod Run
+pub mod RunAllowedLaws
+pub mod RunLaws
+pub mod TupleLaws

@@ -12,7 +12,7 @@ use Rattle.bincode_base.specs.Charge.{Charge, Reserve, Release}
 use Rattle.bincode_base.specs.Format.{Format, Took, Failed, done, refused, step, raw, ◌>>=◌, written_as, unsure}
 use Rattle.bincode_base.specs.Integers.{digits, byte, varint, unsigned, signed, unsigned_byte, signed_byte, number_for, shortest}
 use Rattle.bincode_wire.specs.Meaning.{Meaning, Truth, Number, Character, Bytes, Nothing, Choice, listed}
-use Rattle.bincode_wire.specs.Words.{natural, integral, not_zero, not_zero_integer, truth, optional, either, bound, tuple, array, list, text, without_nul, character, duration}
+use Rattle.bincode_wire.specs.Words.{natural, integral, not_zero, not_zero_integer, truth, chosen, optional, either, bound, tuple, array, list, text, without_nul, character, duration}
 
 -- what is computed, and what docs/FORMAT.md expects
 record Row (A : Type 0) : Type 0 where
@@ -171,7 +171,7 @@ whole-rows : AllHold (
     (duration standard).read (253 ∷ 0 ∷ 0 ∷ 0 ∷ 0 ∷ 1 ∷ 0 ∷ 0 ∷ 0 ∷ 251 ∷ 44 ∷ 1 ∷ []) gives Took (listed (number 4294967296 ∷ number 300 ∷ [])) [] (Charge 8 ∷ Charge 4 ∷ []) ∷
     (duration standard).read (253 ∷ replicate 8 255 ++ 252 ∷ 0 ∷ 202 ∷ 154 ∷ 59 ∷ []) gives Failed (InvalidDuration 18446744073709551615 1000000000) (Charge 8 ∷ Charge 4 ∷ []) ∷
     [])
-unfolding done refused raw ◌>>=◌ written_as unsure step digits byte varint unsigned unsigned_byte signed is_utf8 chars encode tuple
+unfolding done refused raw ◌>>=◌ written_as unsure step digits byte varint unsigned unsigned_byte signed is_utf8 chars encode tuple chosen
 whole-rows = refl
 
 -- texts and characters

@@ -57,14 +57,18 @@ part [] last found place = refused (UnexpectedVariant (Between 0 last) found)
 part (F ∷ others) last found zero = map_format (Choice found) F
 part (F ∷ others) last found (suc place) = part others last found place
 
+-- the tag, and then the part that it picks
+unfoldable pub chosen : Format ℕ → List (Format Meaning) → ℕ → Format Meaning
+chosen tags formats last = tags >>= λ found. part formats last found found
+
 abbrev pub optional : Format Meaning → Format Meaning
-optional F = unsigned_byte >>= λ found. part (done Nothing ∷ F ∷ []) 1 found found
+optional F = chosen unsigned_byte (done Nothing ∷ F ∷ []) 1
 
 abbrev pub either : Setting → Format Meaning → Format Meaning → Format Meaning
-either setting F G = tag setting >>= λ found. part (F ∷ G ∷ []) 1 found found
+either setting F G = chosen (tag setting) (F ∷ G ∷ []) 1
 
 abbrev pub bound : Setting → Format Meaning → Format Meaning
-bound setting F = tag setting >>= λ found. part (done Nothing ∷ F ∷ F ∷ []) 2 found found
+bound setting F = chosen (tag setting) (done Nothing ∷ F ∷ F ∷ []) 2
 
 -- parts in order
 unfoldable pub tuple : List (Format Meaning) → Format Meaning

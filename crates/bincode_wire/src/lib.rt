@@ -4,4 +4,5 @@
 pub mod chars;
 pub mod impls;
 pub mod laws;
+pub mod own;
 pub mod wire;

@@ -7,13 +7,15 @@ use bincode::config::{
 use bincode::de::Decode;
 use bincode::enc::Encode;
 use bincode::enc::write::{SliceWriter, Writer};
-use bincode::error::{DecodeError, EncodeError, IntegerType};
+use bincode::error::{AllowedEnumVariants, DecodeError, EncodeError, IntegerType};
+use bincode::time::Duration;
 use bincode::varint::{
     varint_encode_i16, varint_encode_i64, varint_encode_i128, varint_encode_u32, varint_encode_u128,
 };
 use bincode::{decode_from_slice, encode_into_slice};
 use std::alloc::{AllocError, Global};
 use std::num::NonZeroU16;
+use std::ops::Bound;
 
 /// What is run, and what has to come of it.
 #[derive(Clone, Copy)]
@@ -24,6 +26,13 @@ pub enum Case {
     EncodeI8(Encoding<i8>),
     EncodeChar(Encoding<char>),
     EncodePair(Encoding<(u8, u32)>),
+    /// The `Duration` of so many seconds and nanoseconds.
+    EncodeDuration(Encoding<(u64, u32)>),
+    EncodeOption(Encoding<Option<u32>>),
+    EncodeResult(Encoding<Result<u8, u8>>),
+    EncodeBound(Encoding<Bound<u8>>),
+    KeepUnit(Encoding<()>),
+    KeepFive(Encoding<(u8, u32, i128, char, [u8; 4])>),
     RefusePair(Refusal<(u8, u32)>),
     VarintU32(Spelling<u32>),
     VarintU128(Spelling<u128>),
@@ -44,6 +53,10 @@ pub enum Case {
     DecodeBool(Decoding<bool, NoLimit>),
     DecodeChar(Decoding<char, NoLimit>),
     DecodeCharWithin0(Decoding<char, Limit<0>>),
+    DecodeOption(Decoding<Option<u8>, NoLimit>),
+    DecodeBound(Decoding<Bound<u8>, NoLimit>),
+    /// As a `Duration`; the answer has its seconds and nanoseconds.
+    DecodeDuration(Decoding<(u64, u32), NoLimit>),
     DecodePairWithin15(Decoding<(u64, u64), Limit<15>>),
     DecodePairWithin16(Decoding<(u64, u64), Limit<16>>),
 }
@@ -105,6 +118,15 @@ pub enum Fault {
     },
     InvalidCharEncoding([u8; 4]),
     InvalidBooleanValue(u8),
+    /// Of the allowed variants 0 to `max` none was found.
+    UnexpectedVariant {
+        found: u32,
+        max: u32,
+    },
+    InvalidDuration {
+        secs: u64,
+        nanos: u32,
+    },
 }
 
 /// A configuration without a limit.
@@ -125,6 +147,12 @@ pub fn holds(alloc: Global, case: &Case) -> Result<bool, AllocError> {
         Case::EncodeI8(row) => encodes(alloc, row),
         Case::EncodeChar(row) => encodes(alloc, row),
         Case::EncodePair(row) => encodes(alloc, row),
+        Case::EncodeDuration(row) => encodes_duration(alloc, row),
+        Case::EncodeOption(row) => encodes(alloc, row),
+        Case::EncodeResult(row) => encodes(alloc, row),
+        Case::EncodeBound(row) => encodes(alloc, row),
+        Case::KeepUnit(row) => keeps(alloc, row),
+        Case::KeepFive(row) => keeps(alloc, row),
         Case::RefusePair(row) => refuses(alloc, row),
         Case::VarintU32(row) => spells(alloc, row),
         Case::VarintU128(row) => spells(alloc, row),
@@ -144,6 +172,9 @@ pub fn holds(alloc: Global, case: &Case) -> Result<bool, AllocError> {
         Case::DecodeBool(row) => Ok(decodes(alloc, row)),
         Case::DecodeChar(row) => Ok(decodes(alloc, row)),
         Case::DecodeCharWithin0(row) => Ok(decodes(alloc, row)),
+        Case::DecodeOption(row) => Ok(decodes(alloc, row)),
+        Case::DecodeBound(row) => Ok(decodes(alloc, row)),
+        Case::DecodeDuration(row) => Ok(decodes_duration(alloc, row)),
         Case::DecodePairWithin15(row) => Ok(decodes(alloc, row)),
         Case::DecodePairWithin16(row) => Ok(decodes(alloc, row)),
     }
@@ -215,6 +246,34 @@ fn encodes<T: Encode + Copy>(alloc: Global, row: &Encoding<T>) -> Result<bool, A
     Ok(matches!(written, Ok(count) if count == row.word.len()) && slice.as_slice() == row.word)
 }
 
+/// Whether the span of so many seconds and nanoseconds is written as the word.
+fn encodes_duration(alloc: Global, row: &Encoding<(u64, u32)>) -> Result<bool, AllocError> {
+    let (secs, nanos) = row.value;
+    if nanos >= 1_000_000_000 {
+        return Ok(false);
+    }
+    let encoding = Encoding {
+        setting: row.setting,
+        value: Duration::new(secs, nanos),
+        word: row.word,
+    };
+    encodes(alloc, &encoding)
+}
+
+/// Whether the value is written as the word, and the word read as the value.
+fn keeps<T>(alloc: Global, row: &Encoding<T>) -> Result<bool, AllocError>
+where
+    T: Encode + Decode<()> + Copy + PartialEq,
+{
+    let decoding = Decoding {
+        setting: row.setting,
+        limit: NoLimit,
+        input: row.word,
+        answer: Answer::Value(row.value, row.word.len()),
+    };
+    Ok(encodes(alloc, row)? && decodes(alloc, &decoding))
+}
+
 /// Whether the slice is too short for the value, and holds what it should then.
 fn refuses<T: Encode + Copy>(alloc: Global, row: &Refusal<T>) -> Result<bool, AllocError> {
     let mut slice = row.before.to_vec(alloc)?;
@@ -267,6 +326,20 @@ fn decodes_nonzero(alloc: Global, row: &Decoding<u16, NoLimit>) -> bool {
     )
 }
 
+/// Whether decoding the input as a span of time gives the answer.
+fn decodes_duration(alloc: Global, row: &Decoding<(u64, u32), NoLimit>) -> bool {
+    let outcome: Result<(Duration, usize), DecodeError> = decode_under(
+        alloc,
+        row.setting,
+        row.limit,
+        row.input,
+    );
+    answers(
+        outcome.map(|(value, taken)| ((value.as_secs(), value.subsec_nanos()), taken)),
+        &row.answer,
+    )
+}
+
 /// Whether the outcome is the answer.
 fn answers<T: PartialEq + Drop>(
     outcome: Result<(T, usize), DecodeError>,
@@ -301,6 +374,18 @@ fn tells(error: &DecodeError, fault: Fault) -> bool {
             *read == bytes
         }
         (DecodeError::InvalidBooleanValue(read), Fault::InvalidBooleanValue(byte)) => *read == byte,
+        (
+            DecodeError::UnexpectedVariant {
+                type_name: _,
+                allowed: AllowedEnumVariants::Range { min: 0, max: m },
+                found: f,
+            },
+            Fault::UnexpectedVariant { found, max },
+        ) => *f == found && *m == max,
+        (
+            DecodeError::InvalidDuration { secs: s, nanos: n },
+            Fault::InvalidDuration { secs, nanos },
+        ) => { *s == secs && *n == nanos }
         _ => false,
     }
 }

@@ -7,6 +7,7 @@ use bincode::error::IntegerType;
 use std::alloc::Global;
 use std::io;
 use std::io::Write;
+use std::ops::Bound;
 
 /// A case with its label.
 #[derive(Clone, Copy)]
@@ -16,7 +17,15 @@ pub struct Row {
 }
 
 /// The cases that the program runs.
-pub const TABLE: [Row; 36] = [
+pub const TABLE: [Row; 46] = [
+    Row {
+        label: "1",
+        case: Case::KeepFive(Encoding {
+            setting: Setting::Standard,
+            value: (0, 10, 10_000, 'a', [0, 1, 2, 3]),
+            word: &[0, 10, 251, 32, 78, 97, 0, 1, 2, 3],
+        }),
+    },
     Row {
         label: "2",
         case: Case::EncodeU32(Encoding {
@@ -316,6 +325,37 @@ pub const TABLE: [Row; 36] = [
         }),
     },
     Row {
+        label: "14a",
+        case: Case::DecodeDuration(Decoding {
+            setting: Setting::Standard,
+            limit: NoLimit,
+            input: &[252, 255, 255, 255, 255, 252, 44, 203, 154, 59],
+            answer: Answer::Value((4_294_967_296, 300), 10),
+        }),
+    },
+    Row {
+        label: "14b",
+        case: Case::EncodeDuration(Encoding {
+            setting: Setting::Standard,
+            value: (4_294_967_296, 300),
+            word: &[253, 0, 0, 0, 0, 1, 0, 0, 0, 251, 44, 1],
+        }),
+    },
+    Row {
+        label: "14c",
+        case: Case::DecodeDuration(Decoding {
+            setting: Setting::Standard,
+            limit: NoLimit,
+            input: &[
+                253, 255, 255, 255, 255, 255, 255, 255, 255, 252, 0, 202, 154, 59,
+            ],
+            answer: Answer::Fault(Fault::InvalidDuration {
+                secs: 18_446_744_073_709_551_615,
+                nanos: 1_000_000_000,
+            }),
+        }),
+    },
+    Row {
         label: "16a",
         case: Case::EncodePair(Encoding {
             setting: Setting::Standard,
@@ -329,6 +369,31 @@ pub const TABLE: [Row; 36] = [
             value: (1, 300),
             before: &[9, 9, 9],
             after: &[1, 251, 9],
+        }),
+    },
+    Row {
+        label: "19a",
+        case: Case::EncodeOption(Encoding {
+            setting: Setting::Legacy,
+            value: Some(5),
+            word: &[1, 5, 0, 0, 0],
+        }),
+    },
+    Row {
+        label: "19b",
+        case: Case::EncodeResult(Encoding {
+            setting: Setting::Legacy,
+            value: Ok(5),
+            word: &[0, 0, 0, 0, 5],
+        }),
+    },
+    Row {
+        label: "19c",
+        case: Case::DecodeOption(Decoding {
+            setting: Setting::Legacy,
+            limit: NoLimit,
+            input: &[2],
+            answer: Answer::Fault(Fault::UnexpectedVariant { found: 2, max: 1 }),
         }),
     },
     Row {
@@ -349,6 +414,31 @@ pub const TABLE: [Row; 36] = [
             answer: Answer::Fault(Fault::NonZeroTypeIsZero {
                 non_zero_type: IntegerType::U16,
             }),
+        }),
+    },
+    Row {
+        label: "21a",
+        case: Case::KeepUnit(Encoding {
+            setting: Setting::Standard,
+            value: (),
+            word: &[],
+        }),
+    },
+    Row {
+        label: "23a",
+        case: Case::EncodeBound(Encoding {
+            setting: Setting::Standard,
+            value: Bound::Excluded(7),
+            word: &[2, 7],
+        }),
+    },
+    Row {
+        label: "23b",
+        case: Case::DecodeBound(Decoding {
+            setting: Setting::Standard,
+            limit: NoLimit,
+            input: &[3],
+            answer: Answer::Fault(Fault::UnexpectedVariant { found: 3, max: 2 }),
         }),
     },
 ];

@@ -1,0 +1,20 @@
+-- What is written doesn't change what is read.
+use Rattle.std.specs.Prelude.{◌≡◌, ℕ, List, Option, refl}
+use Rattle.bincode_base.specs.Format.{Format, written_as, of_cell}
+use Rattle.bincode_wire.specs.Meaning.{Meaning}
+use Rattle.bincode_wire.specs.Answer.{answer}
+use Rattle.bincode_wire.specs.Decoding.{Decodes}
+use Rattle.bincode_wire.specs.Cells.{IsAny}
+
+pub rewritten-answer : {A : Type 0} (Chosen : List ℕ → A → Type 0) (F : Format A) (limit : Option ℕ) (input : List ℕ) (c : ℕ) → answer limit (written_as Chosen F) input c ≡ answer limit F input c
+unfolding answer written_as
+rewritten-answer Chosen F limit input c = refl
+
+module _ (F : Format Meaning) (limit : Option ℕ) (input : List ℕ) (c : ℕ) where
+  -- a cell is read as what it holds
+  pub cell-answer : answer limit (of_cell F) input c ≡ answer limit F input c
+  cell-answer = rewritten-answer _ F limit input c
+
+  -- and given for any meaning
+  pub cell-decodes : (P : Meaning → Type 0) (rest : List ℕ) (d : ℕ) → Decodes P (answer limit F input c) rest d → Decodes IsAny (answer limit (of_cell F) input c) rest d
+  cell-decodes P rest d h = rw cell-answer (record { meaning = h.meaning; answer_is = h.answer_is; is_given = tt })

@@ -1,0 +1,46 @@
+use Rattle.std.proofs.Common.{◌≡◌, ◌-◌, ◌+◌, ◌++◌, ◌∷◌, [], suc, Some, length, refl, sym, ap, ◌∙◌, arith}
+use Rattle.std.proofs.lemmas.Result.{err_from_is_err_and}
+use Rattle.std.proofs.lemmas.List.{map-append, take_more_set, take_all}
+use Rattle.bincode_wire.specs.RunLaws.{none_read, one_more, one_stops, all_read, one-releases, is_list_push}
+use Rattle.bincode_de.proofs.arrays.decode_slots.Goals as goal
+
+pub loop-index-init : goal.loop-index-init
+loop-index-init g c =
+    let e : length c.args.slots.now - 0 ≡ length c.args.slots.now = omega arith in
+    ([], [], rw e (none_read _ _ _ _ _ _ c.requires), refl, refl, omega arith, refl)
+
+pub unclaim_bytes_read-requires : goal.unclaim_bytes_read-requires
+unclaim_bytes_read-requires g c =
+    let e : length c.args.slots.now - c.loop-index.index ≡ suc (length c.args.slots.now - (c.loop-index.index + 1)) = omega arith in
+    rw c.claim_size.ensures (one-releases _ _ _ (length c.args.slots.now - (c.loop-index.index + 1)) (rw e at c.loop-index.invariant.2.is_reserved))
+
+pub returns-in_err-decode-clause-err : goal.returns-in_err-decode-clause-err
+returns-in_err-decode-clause-err g c =
+    let p = err_from_is_err_and c.from_residual.result c.from_residual.ensures.1 in
+    let e : length c.args.slots.now - c.loop-index.index ≡ suc (length c.args.slots.now - (c.loop-index.index + 1)) = omega arith in
+    let s = rw (c.unclaim_bytes_read.ensures.charge, c.claim_size.ensures, c.unclaim_bytes_read.ensures.rest) at c.in_err-decode.ensures.err in
+    rw (p.1, p.2) (one_stops _ _ _ _ _ _ _ _ _ (length c.args.slots.now - (c.loop-index.index + 1)) _ _ _ _ _ _ _ (omega arith) (rw e at c.loop-index.invariant.2) s)
+
+pub loop-index-preserved : goal.loop-index-preserved
+loop-index-preserved g c =
+    let h = c.loop-index.invariant in
+    let v = c.in_ok-decode.field-0 in
+    let e : length c.args.slots.now - c.loop-index.index ≡ suc (length c.args.slots.now - (c.loop-index.index + 1)) = omega arith in
+    let p = rw (c.unclaim_bytes_read.ensures.charge, c.claim_size.ensures, c.unclaim_bytes_read.ensures.rest) at c.in_ok-decode.ensures.ok in (
+      h.0 ++ p.meaning ∷ [],
+      h.1 ++ v ∷ [],
+      one_more _ _ _ _ _ _ (g.met.T.Wire.lawful _) (g.met.T.Wire.balanced _) (length c.args.slots.now - (c.loop-index.index + 1)) _ _ _ _ _ (rw e at h.2) p.answer_is,
+      is_list_push _ h.1 h.0 v p.meaning h.3 p.is_given,
+      take_more_set _ _ _ (omega arith) ∙ (ap (λ z. z ++ Some v ∷ []) h.4 ∙ sym (map-append Some h.1 (v ∷ []))),
+      omega arith,
+      c.decode.ensures.place ∙ c.unclaim_bytes_read.ensures.place ∙ h.6,
+    )
+
+pub returns-clause-ok : goal.returns-clause-ok
+returns-clause-ok g c =
+    let h = c.loop-index.invariant in
+    let e : length c.args.slots.now - c.loop-index.index ≡ 0 = omega arith in (
+      h.1,
+      sym (take_all c.loop-index.index c.loop-index.slots (omega arith)) ∙ h.4,
+      record { meaning = h.0; answer_is = all_read _ _ _ _ _ _ _ _ (rw e at h.2); is_given = h.3 },
+    )

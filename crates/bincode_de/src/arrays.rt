@@ -1,0 +1,66 @@
+//! Arrays of elements whose room has been reserved.
+ghost use Rattle.std.specs.Prelude.{◌≡◌, ◌≤◌, ◌*◌, ◌⊎◌, List, Option, Some, length, map, OnOk, IfOk, IfErr};
+ghost use Rattle.bincode_base.specs.Format.{elements};
+ghost use Rattle.bincode_slots.specs.Slots.{SlotsFit};
+ghost use Rattle.bincode_wire.specs.Meaning.{listed};
+ghost use Rattle.bincode_wire.specs.Answer.{answer};
+ghost use Rattle.bincode_wire.specs.Decoding.{Decodes, Stops};
+ghost use Rattle.bincode_wire.specs.Run.{IsListOf, CanRelease};
+
+use crate::decode::Decode;
+use crate::decoder::Decoder;
+use bincode_base::error::DecodeError;
+use bincode_slots::{empty_slots, slots_fit, unwrap_all};
+use bincode_wire::wire::Wire;
+
+/// Fills each slot with an element, before which it releases the element's share.
+fn decode_slots<Context: Drop, T: Decode<Context>, D: Decoder<Context = Context>>(
+    decoder: &mut D,
+    slots: &mut [Option<T>],
+) -> Result<(), DecodeError>
+    requires { CanRelease D.C.bound (D.charge decoder.old) (length slots.old * T.claim) }
+    ensures ok { OnOk result ((vs : List T) × (slots.new ≡ map Some vs) × Decodes (λ ms. IsListOf (λ v m. T.given m v) vs (listed ms)) (answer D.C.bound (elements (length slots.old) T.claim (T.format D.C.setting)) (D.rest decoder.old) (D.charge decoder.old)) (D.rest decoder.new) (D.charge decoder.new)) }
+    ensures err { IfErr result (Stops D.R.ended D.R.device T.grows (answer D.C.bound (elements (length slots.old) T.claim (T.format D.C.setting)) (D.rest decoder.old) (D.charge decoder.old)) (D.failures decoder.old) (D.failures decoder.new) (D.rest decoder.old) (D.rest decoder.new)) }
+    ensures count { D.failures decoder.old ≤ D.failures decoder.new }
+    ensures place { D.place decoder.new ≡ D.place decoder.old }
+{
+    for index in 0..slots.len() {
+        decoder.unclaim_bytes_read(T::claim_size());
+        slots[index] = Some(T::decode(decoder)?);
+    }
+    Ok(())
+}
+
+fn decode_into<Context: Drop, T: Decode<Context>, D: Decoder<Context = Context>, const N: usize>(
+    decoder: &mut D,
+    mut slots: [Option<T>; N],
+) -> Result<[T; N], DecodeError>
+    requires { CanRelease D.C.bound (D.charge decoder.old) (N * T.claim) }
+    ensures ok { IfOk result (λ v. Decodes (λ ms. IsListOf (λ x m. T.given m x) v (listed ms)) (answer D.C.bound (elements N T.claim (T.format D.C.setting)) (D.rest decoder.old) (D.charge decoder.old)) (D.rest decoder.new) (D.charge decoder.new)) }
+    ensures err { IfErr result (Stops D.R.ended D.R.device T.grows (answer D.C.bound (elements N T.claim (T.format D.C.setting)) (D.rest decoder.old) (D.charge decoder.old)) (D.failures decoder.old) (D.failures decoder.new) (D.rest decoder.old) (D.rest decoder.new)) }
+    ensures count { D.failures decoder.old ≤ D.failures decoder.new }
+    ensures place { D.place decoder.new ≡ D.place decoder.old }
+{
+    decode_slots(decoder, &mut slots[..])?;
+    Ok(unwrap_all(slots))
+}
+
+/// Reads `N` elements in turn, whose room `claim_container_read` has reserved, and releases each one's share before it.
+/// Fails where an element does, or with `Memory` where `N` slots of `Option<T>` can't exist (`slots_fit`).
+pub fn decode_array<
+    Context: Drop,
+    T: Decode<Context>,
+    D: Decoder<Context = Context>,
+    const N: usize,
+>(decoder: &mut D) -> Result<[T; N], DecodeError>
+    requires { CanRelease D.C.bound (D.charge decoder.old) (N * T.claim) }
+    ensures ok { IfOk result (λ v. Decodes (λ ms. IsListOf (λ x m. T.given m x) v (listed ms)) (answer D.C.bound (elements N T.claim (T.format D.C.setting)) (D.rest decoder.old) (D.charge decoder.old)) (D.rest decoder.new) (D.charge decoder.new)) }
+    ensures err { IfErr result (Stops D.R.ended D.R.device (T.grows ⊎ ¬ (SlotsFit T.row N)) (answer D.C.bound (elements N T.claim (T.format D.C.setting)) (D.rest decoder.old) (D.charge decoder.old)) (D.failures decoder.old) (D.failures decoder.new) (D.rest decoder.old) (D.rest decoder.new)) }
+    ensures count { D.failures decoder.old ≤ D.failures decoder.new }
+    ensures place { D.place decoder.new ≡ D.place decoder.old }
+{
+    if !slots_fit::<T, N>() {
+        return Err(DecodeError::Memory);
+    }
+    decode_into(decoder, empty_slots())
+}

@@ -1,0 +1,11 @@
+use crate::arrays::decode_array;
+use crate::decode::Decode;
+use crate::decoder::Decoder;
+use bincode_base::error::DecodeError;
+
+impl<Context: Drop, T: Decode<Context>, const N: usize> Decode<Context> for [T; N] {
+    fn decode<D: Decoder<Context = Context>>(decoder: &mut D) -> Result<[T; N], DecodeError> {
+        decoder.claim_container_read::<T>(N)?;
+        decode_array(decoder)
+    }
+}

@@ -1,0 +1,18 @@
+use crate::encode::Encode;
+use crate::encoder::Encoder;
+use bincode_base::error::EncodeError;
+use std::ops::{Range, RangeInclusive};
+
+impl<T: Encode> Encode for Range<T> {
+    fn encode<E: Encoder>(&self, encoder: &mut E) -> Result<(), EncodeError> {
+        self.start.encode(encoder)?;
+        self.end.encode(encoder)
+    }
+}
+
+impl<T: Encode> Encode for RangeInclusive<T> {
+    fn encode<E: Encoder>(&self, encoder: &mut E) -> Result<(), EncodeError> {
+        self.start().encode(encoder)?;
+        self.end().encode(encoder)
+    }
+}

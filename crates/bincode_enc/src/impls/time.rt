@@ -1,0 +1,10 @@
+use crate::encode::Encode;
+use crate::encoder::Encoder;
+use bincode_base::error::EncodeError;
+use bincode_wire::own::time::Duration;
+
+impl Encode for Duration {
+    fn encode<E: Encoder>(&self, encoder: &mut E) -> Result<(), EncodeError> {
+        (self.as_secs(), self.subsec_nanos()).encode(encoder)
+    }
+}

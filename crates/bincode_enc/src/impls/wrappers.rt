@@ -1,0 +1,32 @@
+use crate::encode::Encode;
+use crate::encoder::Encoder;
+use bincode_base::error::EncodeError;
+use std::cmp::Reverse;
+use std::marker::PhantomData;
+use std::num::Wrapping;
+
+impl<T: Encode> Encode for Wrapping<T> {
+    fn encode<E: Encoder>(&self, encoder: &mut E) -> Result<(), EncodeError> {
+        let Wrapping(value) = self;
+        value.encode(encoder)
+    }
+}
+
+impl<T: Encode> Encode for Reverse<T> {
+    fn encode<E: Encoder>(&self, encoder: &mut E) -> Result<(), EncodeError> {
+        let Reverse(value) = self;
+        value.encode(encoder)
+    }
+}
+
+impl<T> Encode for PhantomData<T> {
+    fn encode<E: Encoder>(&self, _encoder: &mut E) -> Result<(), EncodeError> {
+        Ok(())
+    }
+}
+
+impl<T: Encode> Encode for &T {
+    fn encode<E: Encoder>(&self, encoder: &mut E) -> Result<(), EncodeError> {
+        (**self).encode(encoder)
+    }
+}

@@ -1,0 +1,11 @@
+-- What a span of time has.
+use Rattle.std.specs.Prelude.{ℕ}
+use Rattle.bincode_wire.specs.declared.own.time.Duration.{Duration}
+
+-- its whole seconds
+abbrev pub secs_of : Duration → ℕ
+secs_of d = d.secs
+
+-- the nanoseconds beyond them
+abbrev pub nanos_of : Duration → ℕ
+nanos_of d = d.nanos

@@ -1,0 +1,68 @@
+ghost use Rattle.std.specs.Prelude.{◌≡◌, ◌*◌, ◌-◌, ◌^◌, ◌⊎◌, min, length};
+ghost use Rattle.std.specs.List.{All};
+ghost use Rattle.std.proofs.lemmas.List.Elements.{All-weaker};
+ghost use Rattle.bincode_slots.specs.Slots.{SlotsFit};
+ghost use Rattle.bincode_wire.specs.Words.{array};
+ghost use Rattle.bincode_wire.specs.WordsLaws.{array-lawful, array-balanced};
+ghost use Rattle.bincode_wire.specs.Run.{IsListOf};
+ghost use Rattle.bincode_wire.specs.RunAllowedLaws.{array-allows, allowed-array, each-has_word, each-one_length, array-none_shorter, run_same};
+ghost use Rattle.bincode_wire.specs.AllowedLaws.{same-one_length};
+
+use crate::laws::{Canonical, Exact, Plain};
+use crate::wire::Wire;
+
+// Memory is refused where the slots that decoding fills can't exist, though the array itself could.
+impl<T: Wire, const N: usize> Wire for [T; N] {
+    ghost format = { λ s. array N T.claim (T.format s) };
+
+    ghost valid = { λ v. (length v ≡ N) × All T.valid v };
+
+    ghost means = { λ v. IsListOf T.means v };
+
+    ghost given = { λ m v. IsListOf (λ x n. T.given n x) v m };
+
+    ghost writable = { λ s v. All (T.writable s) v };
+
+    ghost names = { T.names };
+
+    ghost grows = { T.grows ⊎ ¬ (SlotsFit T.row N) };
+
+    ghost claim = { min (N * T.claim) (2 ^ 64 - 1) };
+
+    fn claim_size() -> usize {
+        N.saturating_mul(T::claim_size())
+    }
+
+    fn tell_valid(&self) {
+        for item in self {
+            item.tell_valid();
+        }
+    }
+
+    ghost lawful = { λ s. array-lawful N T.claim (T.format s) (T.lawful s) };
+
+    ghost balanced = { λ s. array-balanced N T.claim (T.format s) (T.balanced s) };
+
+    ghost has_word = { λ s v h w.
+        let x = each-has_word _ T.valid (T.writable s) v (T.has_word s) h.1 w in
+        (x.0, array-allows T.means T.claim (T.format s) N v x.0 h.0 x.1) };
+}
+
+impl<T: Plain, const N: usize> Plain for [T; N] {
+    ghost one_length = { λ s v h. same-one_length _ _ (λ bytes. allowed-array T.means T.claim (T.format s) N v bytes h.0) (each-one_length _ T.valid v (T.one_length s) h.1) };
+
+    ghost always_writable = { λ s v h. All-weaker T.valid (T.writable s) (T.always_writable s) v h.1 };
+
+    ghost names_none = { T.names_none };
+}
+
+impl<T: Exact, const N: usize> Exact for [T; N] {
+    ghost one_value = { λ v w m h k. run_same T.means T.means T.valid T.valid T.eq T.one_value v w h.1 k.1 m };
+
+    ghost comes_back = { λ v w m h.
+        run_same T.means (λ x n. T.given n x) T.valid (λ x. Unit {0}) T.eq (λ x y n p q. T.comes_back x y n p) v w h.1 (λ k d lt. tt) m };
+}
+
+impl<T: Canonical, const N: usize> Canonical for [T; N] {
+    ghost shortest = { λ s v h. array-none_shorter T.means T.claim (T.format s) T.valid (T.shortest s) N v h.0 h.1 };
+}

@@ -1,0 +1,63 @@
+ghost use Rattle.std.specs.Prelude.{◌≡◌, ◌<◌, ◌^◌, ◌++◌, pos, refl};
+ghost use Rattle.bincode_base.specs.declared.error.IntegerType.TheVariants.{U32, U64};
+ghost use Rattle.bincode_wire.specs.Meaning.{IsNumber, IsThen, IsNothing};
+ghost use Rattle.bincode_wire.specs.Words.{second_in_nanos, duration};
+ghost use Rattle.bincode_wire.specs.Spans.{secs_of, nanos_of};
+ghost use Rattle.bincode_wire.specs.AllowedLaws.{both-one_length, same-one_length, then_same, one_same, same_number};
+ghost use Rattle.bincode_wire.specs.SpelledLaws.{unsigned-spelled};
+ghost use Rattle.bincode_wire.specs.DurationLaws.{duration-lawful, duration-balanced, duration-allows, allowed-duration, nanos_fit};
+
+use crate::laws::{Exact, Plain};
+use crate::own::time::Duration;
+use crate::wire::Wire;
+
+impl Wire for Duration {
+    ghost format = { duration };
+
+    ghost valid = { λ v. (secs_of v < 2 ^ 64) × (nanos_of v < second_in_nanos) };
+
+    ghost means = { λ v. IsThen (IsNumber (pos (secs_of v))) (IsThen (IsNumber (pos (nanos_of v))) IsNothing) };
+
+    ghost given = { λ m v. IsThen (IsNumber (pos (secs_of v))) (IsThen (IsNumber (pos (nanos_of v))) IsNothing) m };
+
+    ghost writable = { λ s v. Unit {0} };
+
+    ghost names = { λ e. ⊥ };
+
+    ghost grows = { ⊥ };
+
+    ghost claim = { 12 };
+
+    fn claim_size() -> usize {
+        12
+    }
+
+    fn tell_valid(&self) {
+        let _secs = self.as_secs();
+        let _nanos = self.subsec_nanos();
+    }
+
+    ghost lawful = { duration-lawful };
+
+    ghost balanced = { duration-balanced };
+
+    ghost has_word = { λ s v h w.
+        let x = (unsigned-spelled U64 8 (secs_of v) s h.0).has_word in
+        let y = (unsigned-spelled U32 4 (nanos_of v) s (nanos_fit (nanos_of v) h.1)).has_word in
+        (x.0 ++ y.0, duration-allows s (secs_of v) (nanos_of v) h.0 h.1 _ (x.0, y.0, refl, x.1, y.1)) };
+}
+
+impl Plain for Duration {
+    ghost one_length = { λ s v h.
+        same-one_length _ _ (allowed-duration s (secs_of v) (nanos_of v)) (both-one_length _ _ (unsigned-spelled U64 8 (secs_of v) s h.0).one_length (unsigned-spelled U32 4 (nanos_of v) s (nanos_fit (nanos_of v) h.1)).one_length) };
+
+    ghost always_writable = { λ s v h. tt };
+
+    ghost names_none = { λ e h. h };
+}
+
+impl Exact for Duration {
+    ghost one_value = { λ v w m h k. then_same _ _ _ _ _ _ (same_number (secs_of v) (secs_of w)) (one_same _ _ _ (same_number (nanos_of v) (nanos_of w))) m };
+
+    ghost comes_back = { λ v w m h. then_same _ _ _ _ _ _ (same_number (secs_of v) (secs_of w)) (one_same _ _ _ (same_number (nanos_of v) (nanos_of w))) m };
+}

@@ -1,0 +1,3 @@
+//! Types of this crate that stand for types of the standard library.
+
+pub mod time;
