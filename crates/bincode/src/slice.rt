@@ -4,7 +4,7 @@ ghost use Rattle.bincode_base.specs.declared.error.EncodeError.TheVariants.{Unex
 ghost use Rattle.bincode_wire.specs.Allowed.{AllowedWord};
 ghost use Rattle.bincode_wire.specs.Answer.{answer};
 ghost use Rattle.bincode_wire.specs.Decoding.{Decodes, Stops};
-ghost use Rattle.bincode_enc.specs.Encoding.{Writes, Halts};
+ghost use Rattle.bincode_enc.specs.Encoding.{Writes, Ready, Halts};
 ghost use Rattle.bincode.specs.Slice.{WordWritten, FrontWritten, FitsExactly, Decoded, FindsWords, TellsFaults, KeepsLimit};
 
 use bincode_base::config::Config;
@@ -29,9 +29,9 @@ pub fn encode_into_slice<E: Encode, C: Config>(
     // No other errors come,
     ensures fault { IfErr result (λ e. (e ≡ UnexpectedEnd) ⊎ E.names e) }
     // the first of them only for want of room,
-    ensures room { FitsExactly (AllowedWord (E.means val) (E.format C.setting)) E.names (length dst.old) result }
+    ensures room { FitsExactly (Ready (E.writable C.setting val) (AllowedWord (E.means val) (E.format C.setting))) E.names (length dst.old) result }
     // and they leave a front of an allowed word.
-    ensures left { IfErr result (FrontWritten (AllowedWord (E.means val) (E.format C.setting)) dst.old dst.new) }
+    ensures left { IfErr result (FrontWritten (Ready (E.writable C.setting val) (AllowedWord (E.means val) (E.format C.setting))) dst.old dst.new) }
 {
     let mut writer = SliceWriter::new(dst);
     encode_with(val, &mut writer, &config)?;
@@ -44,7 +44,7 @@ fn encode_with<E: Encode, W: Writer, C: Config>(
     config: &C,
 ) -> Result<(), EncodeError>
     ensures ok { OnOk result (Writes W.adds (AllowedWord (E.means val) (E.format C.setting)) writer.old writer.new) }
-    ensures err { IfErr result (Halts W.adds W.refuses (AllowedWord (E.means val) (E.format C.setting)) E.names writer.old writer.new) }
+    ensures err { IfErr result (Halts W.adds W.refuses (Ready (E.writable C.setting val) (AllowedWord (E.means val) (E.format C.setting))) E.names writer.old writer.new) }
     ensures place { W.place writer.new ≡ W.place writer.old }
 {
     let mut encoder = LentEncoder::new(writer, config);

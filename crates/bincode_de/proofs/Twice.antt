@@ -7,8 +7,8 @@ use Rattle.bincode_base.specs.Laws.{Lawful}
 use Rattle.bincode_wire.specs.Meaning.{Meaning, IsThen, IsNothing}
 use Rattle.bincode_wire.specs.Words.{tuple}
 use Rattle.bincode_wire.specs.Answer.{Answer, answer}
-use Rattle.bincode_wire.specs.Decoding.{Decodes, Stops, by_fault, by_limit, by_memory, by_failure, by_device}
-use Rattle.bincode_wire.specs.DecodingLaws.{tuple-decodes, tuple-stops_first, tuple-stops_next, one-decodes, one-stops}
+use Rattle.bincode_wire.specs.Decoding.{Decodes, Stops}
+use Rattle.bincode_wire.specs.DecodingLaws.{stops-besides, tuple-decodes, tuple-stops_first, tuple-stops_next, one-decodes, one-stops}
 
 module _ (limit : Option ℕ) (F : Format Meaning) (input : List ℕ) (c : ℕ) where
   -- both are given
@@ -17,11 +17,7 @@ module _ (limit : Option ℕ) (F : Format Meaning) (input : List ℕ) (c : ℕ) 
 
   module _ (ended : ℕ → DecodeError → Type 0) (device : DecodeError → Type 0) (H : Type 0) where
     grown_once : (a : Answer Meaning) (before after : ℕ) (rest : List ℕ) (e : DecodeError) → Stops ended device (H ⊎ H) a before after input rest e → Stops ended device H a before after input rest e
-    grown_once a before after rest e (by_fault why h t k) = by_fault why h t k
-    grown_once a before after rest e (by_limit h t k) = by_limit h t k
-    grown_once a before after rest e (by_memory h t k) = by_memory (elim h [ inl g ↦ g | inr g ↦ g ]) t k
-    grown_once a before after rest e (by_failure h k) = by_failure h k
-    grown_once a before after rest e (by_device h) = by_device h
+    grown_once a before after rest e = stops-besides ended device (H ⊎ H) H (elim [ inl g ↦ g | inr g ↦ g ]) a before after input rest e
 
     -- the first stops
     pub twice-stops_first : (before after : ℕ) (rest : List ℕ) (e : DecodeError) → Stops ended device H (answer limit F input c) before after input rest e → Stops ended device H (answer limit (tuple (F ∷ F ∷ [])) input c) before after input rest e

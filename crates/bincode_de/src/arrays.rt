@@ -31,6 +31,7 @@ fn decode_slots<Context: Drop, T: Decode<Context>, D: Decoder<Context = Context>
     Ok(())
 }
 
+/// Fills the slots, and makes an array of their values.
 fn decode_into<Context: Drop, T: Decode<Context>, D: Decoder<Context = Context>, const N: usize>(
     decoder: &mut D,
     mut slots: [Option<T>; N],

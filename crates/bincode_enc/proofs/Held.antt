@@ -8,7 +8,7 @@ use Rattle.bincode_wire.specs.Meaning.{Meaning}
 use Rattle.bincode_wire.specs.Allowed.{AllowedWord}
 use Rattle.bincode_wire.specs.Cells.{IsAny}
 use Rattle.bincode_wire.specs.CellLaws.{cell-allows}
-use Rattle.bincode_enc.specs.Encoding.{Adds, Refuses, Writes, Begins, IsOwn, Halts, by_writer, by_name}
+use Rattle.bincode_enc.specs.Encoding.{Adds, Refuses, Writes, Ready, Begins, IsOwn, Halts, by_writer, by_name}
 use Rattle.bincode_enc.specs.EncodingLaws.{writes_same}
 
 module _ (F : Format Meaning) (f : Lawful F) (P : Meaning → Type 0) {W : Type 0} (adds : Adds W) where
@@ -16,15 +16,19 @@ module _ (F : Format Meaning) (f : Lawful F) (P : Meaning → Type 0) {W : Type 
   pub held_writes : (before after : W) → Writes adds (AllowedWord P F) before after → Writes adds (AllowedWord IsAny (of_cell F)) before after
   held_writes before after w = writes_same adds _ _ before after (cell-allows F f P) w
 
-  module _ (word : List ℕ) (allowed : AllowedWord P F word) where
-    held_begins : (bytes : List ℕ) → Begins (AllowedWord P F) bytes → Begins (AllowedWord IsAny (of_cell F)) bytes
-    held_begins bytes b some h = let m = b word allowed in (m.0, cell-allows F f P (bytes ++ m.0) m.1)
+  module _ (R S : Type 0) (inner : S → R) (has_word : R → (bytes : List ℕ) × AllowedWord P F bytes) where
+    held_begins : (bytes : List ℕ) → Begins (Ready R (AllowedWord P F)) bytes → Begins (Ready S (AllowedWord IsAny (of_cell F))) bytes
+    held_begins bytes b some h =
+        let r = inner h.is_writable in
+        let w = has_word r in
+        let m = b w.0 (record { is_writable = r; is_allowed = w.1 }) in
+        (m.0, record { is_writable = h.is_writable; is_allowed = cell-allows F f P (bytes ++ m.0) m.1.is_allowed })
 
-    own_or_held : (front : List ℕ) (e : EncodeError) → IsOwn e ⊎ Begins (AllowedWord P F) front → IsOwn e ⊎ Begins (AllowedWord IsAny (of_cell F)) front
+    own_or_held : (front : List ℕ) (e : EncodeError) → IsOwn e ⊎ Begins (Ready R (AllowedWord P F)) front → IsOwn e ⊎ Begins (Ready S (AllowedWord IsAny (of_cell F))) front
     own_or_held front e (inl o) = inl o
     own_or_held front e (inr b) = inr (held_begins front b)
 
     -- a front of its word is one of the cell
-    pub held_halts : (refuses : Refuses W) (N M : EncodeError → Type 0) → ((e : EncodeError) → N e → M e) → (before after : W) (e : EncodeError) → Halts adds refuses (AllowedWord P F) N before after e → Halts adds refuses (AllowedWord IsAny (of_cell F)) M before after e
+    pub held_halts : (refuses : Refuses W) (N M : EncodeError → Type 0) → ((e : EncodeError) → N e → M e) → (before after : W) (e : EncodeError) → Halts adds refuses (Ready R (AllowedWord P F)) N before after e → Halts adds refuses (Ready S (AllowedWord IsAny (of_cell F))) M before after e
     held_halts refuses N M more before after e (by_writer front piece middle h r b) = by_writer front piece middle h r (held_begins (front ++ piece) b)
     held_halts refuses N M more before after e (by_name front h n b) = by_name front h (more e n) (own_or_held front e b)

@@ -17,6 +17,11 @@ pub record Writes {W : Type 0} (adds : Adds W) (Allowed : List ℕ → Type 0) (
   pub is_allowed : Allowed word
   pub added : adds before word after
 
+-- an allowed word of a value that can be written: the inner type of each cell in it has a word
+pub record Ready (Writable : Type 0) (Allowed : List ℕ → Type 0) (bytes : List ℕ) : Type 0 where
+  pub is_writable : Writable
+  pub is_allowed : Allowed bytes
+
 -- these bytes begin an allowed word, where there is one
 abbrev pub Begins : (List ℕ → Type 0) → List ℕ → Type 0
 Begins Allowed bytes = (some : List ℕ) → Allowed some → (more : List ℕ) × Allowed (bytes ++ more)

@@ -18,16 +18,24 @@ use Rattle.bincode_wire.specs.Meaning.{Number, IsNumber}
 use Rattle.bincode_wire.specs.Words.{natural, integral, not_zero_by, not_zero, not_zero_integer}
 use Rattle.bincode_wire.specs.Allowed.{AllowedWord, Both}
 use Rattle.bincode_wire.specs.AllowedLaws.{one_natural, not_zero-allows, allowed-not_zero}
-use Rattle.bincode_enc.specs.Encoding.{Adds, Refuses, Writes, Begins, IsOwn, Halts, by_writer, by_name}
+use Rattle.bincode_enc.specs.Encoding.{Adds, Refuses, Writes, Ready, Begins, IsOwn, Halts, by_writer, by_name}
 
 begins_first : (A B : List ℕ → Type 0) (bytes : List ℕ) → Begins A bytes → Begins (Both A B) bytes
 begins_first A B bytes h some (x, y, e, a, b) = let m = h x a in (m.0 ++ y, (bytes ++ m.0, y, sym (append_assoc bytes m.0 y), m.1, b))
 
-begins_next : (A B : List ℕ → Type 0) (word bytes : List ℕ) → A word → Begins B bytes → Begins (Both A B) (word ++ bytes)
-begins_next A B word bytes a h some (x, y, e, a', b) = let m = h y b in (m.0, (word, bytes ++ m.0, append_assoc word bytes m.0, a, m.1))
+begins_next : (R : Type 0) (A B : List ℕ → Type 0) (word bytes : List ℕ) → A word → Begins B bytes → Begins (Both (Ready R A) B) (word ++ bytes)
+begins_next R A B word bytes a h some (x, y, e, a', b) = let m = h y b in (m.0, (word, bytes ++ m.0, append_assoc word bytes m.0, record { is_writable = a'.is_writable; is_allowed = a }, m.1))
 
 begins_same : (A B : List ℕ → Type 0) → ((bytes : List ℕ) → A bytes → B bytes) → ((bytes : List ℕ) → B bytes → A bytes) → (bytes : List ℕ) → Begins A bytes → Begins B bytes
 begins_same A B to from bytes h some b = let m = h some (from some b) in (m.0, to (bytes ++ m.0) m.1)
+
+-- a word of a value without cells
+pub ready : (A : List ℕ → Type 0) (bytes : List ℕ) → A bytes → Ready (Unit {0}) A bytes
+ready A bytes a = record { is_writable = tt; is_allowed = a }
+
+-- the same words by another name
+pub ready_as : (R : Type 0) (A B : List ℕ → Type 0) → ((bytes : List ℕ) → A bytes → B bytes) → (bytes : List ℕ) → Ready R A bytes → Ready R B bytes
+ready_as R A B to bytes w = record { is_writable = w.is_writable; is_allowed = to bytes w.is_allowed }
 
 own_or : (A B : List ℕ → Type 0) (e : EncodeError) (x y : List ℕ) → (Begins A x → Begins B y) → IsOwn e ⊎ Begins A x → IsOwn e ⊎ Begins B y
 own_or A B e x y f (inl o) = inl o
@@ -56,17 +64,22 @@ module _ {W : Type 0} (adds : Adds W) (refuses : Refuses W) where
   halts_first A B N M before after e (by_writer front piece middle h r b) = by_writer front piece middle h r (begins_first A B (front ++ piece) b)
   halts_first A B N M before after e (by_name front h n b) = by_name front h (inl n) (own_or A (Both A B) e front front (begins_first A B front) b)
 
-  pub halts_next : ((a b c : W) (x y : List ℕ) → adds a x b → adds b y c → adds a (x ++ y) c) → (A B : List ℕ → Type 0) (N M : EncodeError → Type 0) (before between after : W) (e : EncodeError) →
-      Writes adds A before between → Halts adds refuses B M between after e → Halts adds refuses (Both A B) (λ d. N d ⊎ M d) before after e
-  halts_next join A B N M before between after e v (by_writer front piece middle g r b) =
-      by_writer (v.word ++ front) piece middle (join before between middle v.word front v.added g) r (subst (Begins (Both A B)) (sym (append_assoc v.word front piece)) (begins_next A B v.word (front ++ piece) v.is_allowed b))
-  halts_next join A B N M before between after e v (by_name front g n b) =
-      by_name (v.word ++ front) (join before between after v.word front v.added g) (inr n) (own_or B (Both A B) e front (v.word ++ front) (begins_next A B v.word front v.is_allowed) b)
+  pub halts_next : ((a b c : W) (x y : List ℕ) → adds a x b → adds b y c → adds a (x ++ y) c) → (R : Type 0) (A B : List ℕ → Type 0) (N M : EncodeError → Type 0) (before between after : W) (e : EncodeError) →
+      Writes adds A before between → Halts adds refuses B M between after e → Halts adds refuses (Both (Ready R A) B) (λ d. N d ⊎ M d) before after e
+  halts_next join R A B N M before between after e v (by_writer front piece middle g r b) =
+      by_writer (v.word ++ front) piece middle (join before between middle v.word front v.added g) r (subst (Begins (Both (Ready R A) B)) (sym (append_assoc v.word front piece)) (begins_next R A B v.word (front ++ piece) v.is_allowed b))
+  halts_next join R A B N M before between after e v (by_name front g n b) =
+      by_name (v.word ++ front) (join before between after v.word front v.added g) (inr n) (own_or B (Both (Ready R A) B) e front (v.word ++ front) (begins_next R A B v.word front v.is_allowed) b)
 
   -- the same words by another name
   pub halts_same : (A B : List ℕ → Type 0) (N : EncodeError → Type 0) (before after : W) (e : EncodeError) → ((bytes : List ℕ) → A bytes → B bytes) → ((bytes : List ℕ) → B bytes → A bytes) → Halts adds refuses A N before after e → Halts adds refuses B N before after e
   halts_same A B N before after e to from (by_writer front piece middle h r b) = by_writer front piece middle h r (begins_same A B to from (front ++ piece) b)
   halts_same A B N before after e to from (by_name front h n b) = by_name front h n (own_or A B e front front (begins_same A B to from front) b)
+
+  -- an error that more may name
+  pub halts_named : (A : List ℕ → Type 0) (N M : EncodeError → Type 0) (before after : W) (e : EncodeError) → (N e → M e) → Halts adds refuses A N before after e → Halts adds refuses A M before after e
+  halts_named A N M before after e more (by_writer front piece middle h r b) = by_writer front piece middle h r b
+  halts_named A N M before after e more (by_name front h n b) = by_name front h (more n) b
 
   -- one piece that is the whole word
   pub halts_alone : ((w : W) → adds w [] w) → (A : List ℕ → Type 0) (piece : List ℕ) → A piece → (N : EncodeError → Type 0) (before after : W) (e : EncodeError) → refuses before piece e after → Halts adds refuses A N before after e
@@ -89,6 +102,30 @@ module _ {W : Type 0} (adds : Adds W) (refuses : Refuses W) where
       spelled Fixed = append-nil (digits_of order width n)
       spelled Variable = shortest-pieces order n
 
+-- A whole whose words are those of two parts in turn, and that can be written where they can.
+module _ {R S U : Type 0} (pair : R → S → U) (split : U → R × S) {A B C : List ℕ → Type 0} (to : (bytes : List ℕ) → Both A B bytes → C bytes) (from : (bytes : List ℕ) → C bytes → Both A B bytes) where
+  whole_ready : (bytes : List ℕ) → Both (Ready R A) (Ready S B) bytes → Ready U C bytes
+  whole_ready bytes (x, y, e, a, b) = record { is_writable = pair a.is_writable b.is_writable; is_allowed = to bytes (x, y, e, a.is_allowed, b.is_allowed) }
+
+  parts_ready : (bytes : List ℕ) → Ready U C bytes → Both (Ready R A) (Ready S B) bytes
+  parts_ready bytes w =
+      let b = from bytes w.is_allowed in
+      let r = split w.is_writable in
+      (b.0, b.1, b.2, record { is_writable = r.0; is_allowed = b.3 }, record { is_writable = r.1; is_allowed = b.4 })
+
+  module _ {W : Type 0} (adds : Adds W) (refuses : Refuses W) (N M K : EncodeError → Type 0) (e : EncodeError) (more : N e ⊎ M e → K e) where
+    -- where its first part halts, it does
+    pub halts_in_first : (before after : W) → Halts adds refuses (Ready R A) N before after e → Halts adds refuses (Ready U C) K before after e
+    halts_in_first before after h =
+        halts_same adds refuses (Both (Ready R A) (Ready S B)) (Ready U C) K before after e whole_ready parts_ready
+        (halts_named adds refuses (Both (Ready R A) (Ready S B)) (λ d. N d ⊎ M d) K before after e more (halts_first adds refuses (Ready R A) (Ready S B) N M before after e h))
+
+    -- and where the second does
+    pub halts_in_next : ((a b c : W) (x y : List ℕ) → adds a x b → adds b y c → adds a (x ++ y) c) → (before between after : W) → Writes adds A before between → Halts adds refuses (Ready S B) M between after e → Halts adds refuses (Ready U C) K before after e
+    halts_in_next join before between after v h =
+        halts_same adds refuses (Both (Ready R A) (Ready S B)) (Ready U C) K before after e whole_ready parts_ready
+        (halts_named adds refuses (Both (Ready R A) (Ready S B)) (λ d. N d ⊎ M d) K before after e more (halts_next adds refuses join R A (Ready S B) N M before between after e v h))
+
 -- a number other than 0 is written as the number
 
 module _ {A : Type 0} (integer : A → ℤ) (one : (a b : A) → integer a ≡ integer b → a ≡ b) (size : A → ℕ) (name : IntegerType) (F : Format A) {T W : Type 0} (r : Result T EncodeError) (adds : Adds W) (before after : W) (number a : A) where
@@ -98,25 +135,25 @@ module _ {A : Type 0} (integer : A → ℤ) (one : (a b : A) → integer a ≡ i
       on_ok_weaker r (writes_same adds _ _ before after (λ bytes. not_zero-allows integer one size name F bytes a h))
       (subst (λ n. OnOk r (Writes adds (AllowedWord (IsNumber (integer n)) (map_format (λ k. Number (integer k)) F)) before after)) e w)
 
-  halts_tested : (refuses : Refuses W) (N : EncodeError → Type 0) → number ≡ a → 0 < size a → IfErr r (Halts adds refuses (AllowedWord (IsNumber (integer number)) (map_format (λ k. Number (integer k)) F)) N before after) →
-      IfErr r (Halts adds refuses (AllowedWord (IsNumber (integer a)) (map_format (λ k. Number (integer k)) (not_zero_by size name F))) N before after)
-  halts_tested refuses N e h w =
-      IfErr-weaker r _ _ (λ d. halts_same adds refuses _ _ N before after d (λ bytes. not_zero-allows integer one size name F bytes a h) (λ bytes. allowed-not_zero integer one size name F bytes a))
-      (subst (λ n. IfErr r (Halts adds refuses (AllowedWord (IsNumber (integer n)) (map_format (λ k. Number (integer k)) F)) N before after)) e w)
+  halts_tested : (refuses : Refuses W) (N : EncodeError → Type 0) (R : Type 0) → number ≡ a → 0 < size a → IfErr r (Halts adds refuses (Ready R (AllowedWord (IsNumber (integer number)) (map_format (λ k. Number (integer k)) F))) N before after) →
+      IfErr r (Halts adds refuses (Ready R (AllowedWord (IsNumber (integer a)) (map_format (λ k. Number (integer k)) (not_zero_by size name F)))) N before after)
+  halts_tested refuses N R e h w =
+      IfErr-weaker r _ _ (λ d. halts_same adds refuses _ _ N before after d (ready_as R _ _ (λ bytes. not_zero-allows integer one size name F bytes a h)) (ready_as R _ _ (λ bytes. allowed-not_zero integer one size name F bytes a)))
+      (subst (λ n. IfErr r (Halts adds refuses (Ready R (AllowedWord (IsNumber (integer n)) (map_format (λ k. Number (integer k)) F))) N before after)) e w)
 
 module _ (name : IntegerType) (F : Format ℕ) {T W : Type 0} (r : Result T EncodeError) (adds : Adds W) (before after : W) (number n : ℕ) where
   pub writes_not_zero : number ≡ n → 0 < n → OnOk r (Writes adds (AllowedWord (IsNumber (pos number)) (natural F)) before after) → OnOk r (Writes adds (AllowedWord (IsNumber (pos n)) (natural (not_zero name F))) before after)
   writes_not_zero = writes_tested pos one_natural (λ k. k) name F r adds before after number n
 
-  pub halts_not_zero : (refuses : Refuses W) (N : EncodeError → Type 0) → number ≡ n → 0 < n → IfErr r (Halts adds refuses (AllowedWord (IsNumber (pos number)) (natural F)) N before after) → IfErr r (Halts adds refuses (AllowedWord (IsNumber (pos n)) (natural (not_zero name F))) N before after)
+  pub halts_not_zero : (refuses : Refuses W) (N : EncodeError → Type 0) (R : Type 0) → number ≡ n → 0 < n → IfErr r (Halts adds refuses (Ready R (AllowedWord (IsNumber (pos number)) (natural F))) N before after) → IfErr r (Halts adds refuses (Ready R (AllowedWord (IsNumber (pos n)) (natural (not_zero name F)))) N before after)
   halts_not_zero = halts_tested pos one_natural (λ k. k) name F r adds before after number n
 
 module _ (name : IntegerType) (F : Format ℤ) {T W : Type 0} (r : Result T EncodeError) (adds : Adds W) (before after : W) (w : Width) (number z : ℤ) where
   pub writes_not_zero_integer : number ≡ z → FitsSigned w z × (0 < unsigned_abs z) → OnOk r (Writes adds (AllowedWord (IsNumber (to_z w (of_z w number))) (integral F)) before after) → OnOk r (Writes adds (AllowedWord (IsNumber z) (integral (not_zero_integer name F))) before after)
   writes_not_zero_integer e h = writes_tested (λ k. k) (λ a b e. e) unsigned_abs name F r adds before after (to_z w (of_z w number)) z (rw e (to_z-of_z w z h.0)) h.1
 
-  pub halts_not_zero_integer : (refuses : Refuses W) (N : EncodeError → Type 0) → number ≡ z → FitsSigned w z × (0 < unsigned_abs z) → IfErr r (Halts adds refuses (AllowedWord (IsNumber (to_z w (of_z w number))) (integral F)) N before after) → IfErr r (Halts adds refuses (AllowedWord (IsNumber z) (integral (not_zero_integer name F))) N before after)
-  halts_not_zero_integer refuses N e h = halts_tested (λ k. k) (λ a b e. e) unsigned_abs name F r adds before after (to_z w (of_z w number)) z refuses N (rw e (to_z-of_z w z h.0)) h.1
+  pub halts_not_zero_integer : (refuses : Refuses W) (N : EncodeError → Type 0) (R : Type 0) → number ≡ z → FitsSigned w z × (0 < unsigned_abs z) → IfErr r (Halts adds refuses (Ready R (AllowedWord (IsNumber (to_z w (of_z w number))) (integral F))) N before after) → IfErr r (Halts adds refuses (Ready R (AllowedWord (IsNumber z) (integral (not_zero_integer name F)))) N before after)
+  halts_not_zero_integer refuses N R e h = halts_tested (λ k. k) (λ a b e. e) unsigned_abs name F r adds before after (to_z w (of_z w number)) z refuses N R (rw e (to_z-of_z w z h.0)) h.1
 
 -- for the proofs of `impls/nonzero.rt`
 pub ruleset by_not_zero = (writes_not_zero, halts_not_zero, writes_not_zero_integer, halts_not_zero_integer)

@@ -1,16 +1,18 @@
 -- What encoding does passes from the items of a run to the run.
 use Rattle.std.specs.Prelude.{◌≡◌, ◌⊎◌, ℕ, ◌+◌, ◌<◌, ◌≤◌, List, [], ◌∷◌, ◌++◌, length, take, drop, slice_index_or, refl}
+use Rattle.std.specs.List.{All}
 use Rattle.std.proofs.Common.{sym, ◌∙◌, ap, subst, inl, inr, append_assoc, append-nil}
 use Rattle.std.proofs.lemmas.List.{take_more, take_all, take-append-drop}
+use Rattle.std.proofs.lemmas.List.Elements.{All-nil, All-cons, All-head, All-tail}
 use Rattle.bincode_base.specs.declared.error.EncodeError.{EncodeError}
 use Rattle.bincode_base.specs.Format.{Format}
 use Rattle.bincode_wire.specs.Meaning.{Meaning}
 use Rattle.bincode_wire.specs.Words.{array}
-use Rattle.bincode_wire.specs.Allowed.{AllowedWord}
+use Rattle.bincode_wire.specs.Allowed.{AllowedWord, Both}
 use Rattle.bincode_wire.specs.Run.{IsListOf, AllowsEach}
 use Rattle.bincode_wire.specs.RunAllowedLaws.{array-allows, allowed-array, each-join, each-split}
-use Rattle.bincode_enc.specs.Encoding.{Adds, Refuses, Writes, Halts, by_writer, by_name}
-use Rattle.bincode_enc.specs.EncodingLaws.{writes_both, writes_same, halts_first, halts_next, halts_same}
+use Rattle.bincode_enc.specs.Encoding.{Adds, Refuses, Writes, Ready, Halts}
+use Rattle.bincode_enc.specs.EncodingLaws.{writes_both, writes_same, halts_first, halts_next, halts_same, halts_named, ready_as}
 
 -- the items before an index, the item there and those behind it
 around : {A : Type 0} (vs : List A) (i : ℕ) (v : A) → i < length vs → v ≡ slice_index_or vs i v → vs ≡ take i vs ++ v ∷ drop (i + 1) vs
@@ -33,25 +35,49 @@ module _ {W : Type 0} (adds : Adds W) where
   writes_array Means share F n i vs before after e h w =
       writes_same adds _ _ before after (λ bytes. array-allows Means share F n vs bytes e) (subst (λ z. Writes adds (AllowsEach (λ v. AllowedWord (Means v) F) z) before after) (take_all i vs h) w)
 
-module _ {W : Type 0} (adds : Adds W) (refuses : Refuses W) where
-  halts_named : (A : List ℕ → Type 0) (N M : EncodeError → Type 0) (before after : W) (e : EncodeError) → (N e → M e) → Halts adds refuses A N before after e → Halts adds refuses A M before after e
-  halts_named A N M before after e f (by_writer front piece middle h r b) = by_writer front piece middle h r b
-  halts_named A N M before after e f (by_name front h n b) = by_name front h (f n) b
+-- what each value allows, where it can be written
+module _ {A : Type 0} (Writable : A → Type 0) (Allowed : A → List ℕ → Type 0) where
+  abbrev pub ReadyEach : A → List ℕ → Type 0
+  ReadyEach v = Ready (Writable v) (Allowed v)
 
+  ready_each : (vs : List A) (bytes : List ℕ) → Ready (All Writable vs) (AllowsEach Allowed vs) bytes → AllowsEach ReadyEach vs bytes
+  ready_each [] bytes w = w.is_allowed
+  ready_each (v ∷ vs) bytes w =
+      let b = w.is_allowed in
+      (b.0, b.1, b.2, record { is_writable = All-head Writable v vs w.is_writable; is_allowed = b.3 }, ready_each vs b.1 (record { is_writable = All-tail Writable v vs w.is_writable; is_allowed = b.4 }))
+
+  each_ready : (vs : List A) (bytes : List ℕ) → AllowsEach ReadyEach vs bytes → Ready (All Writable vs) (AllowsEach Allowed vs) bytes
+  each_ready [] bytes e = record { is_writable = All-nil Writable; is_allowed = e }
+  each_ready (v ∷ vs) bytes (x, y, e, a, b) =
+      let w = each_ready vs y b in
+      record { is_writable = All-cons Writable v vs a.is_writable w.is_writable; is_allowed = (x, y, e, a.is_allowed, w.is_allowed) }
+
+  -- those before one, that one and those behind it
+  ready_around : (xs ys : List A) (v : A) (bytes : List ℕ) → Both (Ready (All Writable xs) (AllowsEach Allowed xs)) (Both (ReadyEach v) (AllowsEach ReadyEach ys)) bytes → Ready (All Writable (xs ++ v ∷ ys)) (AllowsEach Allowed (xs ++ v ∷ ys)) bytes
+  ready_around xs ys v bytes (x, y, e, a, b) = each_ready (xs ++ v ∷ ys) bytes (each-join ReadyEach xs (v ∷ ys) bytes (x, y, e, ready_each xs x a, b))
+
+  around_ready : (xs ys : List A) (v : A) (bytes : List ℕ) → Ready (All Writable (xs ++ v ∷ ys)) (AllowsEach Allowed (xs ++ v ∷ ys)) bytes → Both (Ready (All Writable xs) (AllowsEach Allowed xs)) (Both (ReadyEach v) (AllowsEach ReadyEach ys)) bytes
+  around_ready xs ys v bytes w =
+      let b = each-split ReadyEach xs (v ∷ ys) bytes (ready_each (xs ++ v ∷ ys) bytes w) in
+      (b.0, b.1, b.2, each_ready xs b.0 b.3, b.4)
+
+module _ {W : Type 0} (adds : Adds W) (refuses : Refuses W) where
   one_of : (N : EncodeError → Type 0) (e : EncodeError) → N e ⊎ (N e ⊎ N e) → N e
   one_of N e (inl h) = h
   one_of N e (inr (inl h)) = h
   one_of N e (inr (inr h)) = h
 
   -- where an item stops, so does the run
-  pub halts_at : ((a b c : W) (x y : List ℕ) → adds a x b → adds b y c → adds a (x ++ y) c) → {A : Type 0} (Allowed : A → List ℕ → Type 0) (N : EncodeError → Type 0) (before between after : W) (vs : List A) (i : ℕ) (v : A) (e : EncodeError) → i < length vs → v ≡ slice_index_or vs i v →
-      Writes adds (AllowsEach Allowed (take i vs)) before between → Halts adds refuses (Allowed v) N between after e → Halts adds refuses (AllowsEach Allowed vs) N before after e
-  halts_at join Allowed N before between after vs i v e h k w u =
-      let first = halts_first adds refuses (Allowed v) (AllowsEach Allowed (drop (i + 1) vs)) N N between after e u in
-      let next = halts_next adds refuses join (AllowsEach Allowed (take i vs)) (AllowsEach Allowed (v ∷ drop (i + 1) vs)) N (λ d. N d ⊎ N d) before between after e w first in
-      let all = halts_same adds refuses _ (AllowsEach Allowed (take i vs ++ v ∷ drop (i + 1) vs)) _ before after e (each-join Allowed (take i vs) (v ∷ drop (i + 1) vs)) (each-split Allowed (take i vs) (v ∷ drop (i + 1) vs)) next in
-      subst (λ z. Halts adds refuses (AllowsEach Allowed z) N before after e) (sym (around vs i v h k)) (halts_named _ _ N before after e (one_of N e) all)
+  pub halts_at : ((a b c : W) (x y : List ℕ) → adds a x b → adds b y c → adds a (x ++ y) c) → {A : Type 0} (Writable : A → Type 0) (Allowed : A → List ℕ → Type 0) (N : EncodeError → Type 0) (before between after : W) (vs : List A) (i : ℕ) (v : A) (e : EncodeError) → i < length vs → v ≡ slice_index_or vs i v →
+      Writes adds (AllowsEach Allowed (take i vs)) before between → Halts adds refuses (Ready (Writable v) (Allowed v)) N between after e → Halts adds refuses (Ready (All Writable vs) (AllowsEach Allowed vs)) N before after e
+  halts_at join Writable Allowed N before between after vs i v e h k w u =
+      let xs = take i vs in
+      let ys = drop (i + 1) vs in
+      let first = halts_first adds refuses (ReadyEach Writable Allowed v) (AllowsEach (ReadyEach Writable Allowed) ys) N N between after e u in
+      let next = halts_next adds refuses join (All Writable xs) (AllowsEach Allowed xs) (Both (ReadyEach Writable Allowed v) (AllowsEach (ReadyEach Writable Allowed) ys)) N (λ d. N d ⊎ N d) before between after e w first in
+      let all = halts_same adds refuses _ (Ready (All Writable (xs ++ v ∷ ys)) (AllowsEach Allowed (xs ++ v ∷ ys))) _ before after e (ready_around Writable Allowed xs ys v) (around_ready Writable Allowed xs ys v) next in
+      subst (λ z. Halts adds refuses (Ready (All Writable z) (AllowsEach Allowed z)) N before after e) (sym (around vs i v h k)) (halts_named adds refuses _ _ N before after e (one_of N e) all)
 
   -- and so does the array
-  pub halts_array : {A : Type 0} (Means : A → Meaning → Type 0) (share : ℕ) (F : Format Meaning) (N : EncodeError → Type 0) (n : ℕ) (vs : List A) (before after : W) (e : EncodeError) → length vs ≡ n → Halts adds refuses (AllowsEach (λ v. AllowedWord (Means v) F) vs) N before after e → Halts adds refuses (AllowedWord (IsListOf Means vs) (array n share F)) N before after e
-  halts_array Means share F N n vs before after e l = halts_same adds refuses _ _ N before after e (λ bytes. array-allows Means share F n vs bytes l) (λ bytes. allowed-array Means share F n vs bytes l)
+  pub halts_array : {A : Type 0} (Means : A → Meaning → Type 0) (share : ℕ) (F : Format Meaning) (R : Type 0) (N : EncodeError → Type 0) (n : ℕ) (vs : List A) (before after : W) (e : EncodeError) → length vs ≡ n → Halts adds refuses (Ready R (AllowsEach (λ v. AllowedWord (Means v) F) vs)) N before after e → Halts adds refuses (Ready R (AllowedWord (IsListOf Means vs) (array n share F))) N before after e
+  halts_array Means share F R N n vs before after e l = halts_same adds refuses _ _ N before after e (ready_as R _ _ (λ bytes. array-allows Means share F n vs bytes l)) (ready_as R _ _ (λ bytes. allowed-array Means share F n vs bytes l))

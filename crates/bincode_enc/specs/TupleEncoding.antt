@@ -7,8 +7,8 @@ use Rattle.bincode_wire.specs.Meaning.{Meaning, IsNothing, IsThen}
 use Rattle.bincode_wire.specs.Words.{tuple}
 use Rattle.bincode_wire.specs.Allowed.{AllowedWord, Both}
 use Rattle.bincode_wire.specs.AllowedLaws.{tuple-allows, allowed-tuple, nothing-allows, allowed-nothing, one-allows, allowed-one}
-use Rattle.bincode_enc.specs.Encoding.{Adds, Refuses, Writes, Halts, by_writer, by_name}
-use Rattle.bincode_enc.specs.EncodingLaws.{writes_both, writes_same, halts_first, halts_next, halts_same}
+use Rattle.bincode_enc.specs.Encoding.{Adds, Refuses, Writes, Ready, Halts}
+use Rattle.bincode_enc.specs.EncodingLaws.{writes_both, writes_same, halts_same, ready_as, halts_in_first, halts_in_next}
 
 -- the words of some parts, and then those of the parts that follow, are the words of all
 record Joins (P : Meaning → Type 0) (fs : List (Format Meaning)) (Q : Meaning → Type 0) (gs : List (Format Meaning)) (R : Meaning → Type 0) (hs : List (Format Meaning)) : Type 0 where
@@ -45,12 +45,6 @@ one_of_all K L M N O e (inl (inr (inr (inl m)))) = inr (inr (inl m))
 one_of_all K L M N O e (inl (inr (inr (inr n)))) = inr (inr (inr (inl n)))
 one_of_all K L M N O e (inr o) = inr (inr (inr (inr o)))
 
-module _ {W : Type 0} (adds : Adds W) (refuses : Refuses W) where
-  -- an error that more may name
-  halts_named : (A : List ℕ → Type 0) (N M : EncodeError → Type 0) (before after : W) (e : EncodeError) → (N e → M e) → Halts adds refuses A N before after e → Halts adds refuses A M before after e
-  halts_named A N M before after e f (by_writer front piece middle h r b) = by_writer front piece middle h r b
-  halts_named A N M before after e f (by_name front h n b) = by_name front h (f n) b
-
 -- a writer whose writes in turn are one write
 abbrev pub Joined : {W : Type 0} → Adds W → Type 0
 Joined {W} adds = (a b c : W) (x y : List ℕ) → adds a x b → adds b y c → adds a (x ++ y) c
@@ -60,8 +54,8 @@ module _ {W : Type 0} {adds : Adds W} {P : Meaning → Type 0} {F : Format Meani
   pub one-writes : Writes adds (AllowedWord P F) before after → Writes adds (AllowedWord (IsThen P IsNothing) (tuple (F ∷ []))) before after
   one-writes = writes_same adds (AllowedWord P F) (AllowedWord (IsThen P IsNothing) (tuple (F ∷ []))) before after (one-allows P F)
 
-  pub one-halts : {refuses : Refuses W} {N : EncodeError → Type 0} {e : EncodeError} → Halts adds refuses (AllowedWord P F) N before after e → Halts adds refuses (AllowedWord (IsThen P IsNothing) (tuple (F ∷ []))) N before after e
-  one-halts {refuses} {N} {e} = halts_same adds refuses (AllowedWord P F) (AllowedWord (IsThen P IsNothing) (tuple (F ∷ []))) N before after e (one-allows P F) (allowed-one P F)
+  pub one-halts : {refuses : Refuses W} {R : Type 0} {N : EncodeError → Type 0} {e : EncodeError} → Halts adds refuses (Ready R (AllowedWord P F)) N before after e → Halts adds refuses (Ready R (AllowedWord (IsThen P IsNothing) (tuple (F ∷ [])))) N before after e
+  one-halts {refuses} {R} {N} {e} = halts_same adds refuses (Ready R (AllowedWord P F)) (Ready R (AllowedWord (IsThen P IsNothing) (tuple (F ∷ [])))) N before after e (ready_as R _ _ (one-allows P F)) (ready_as R _ _ (allowed-one P F))
 
 module _ {W : Type 0} {adds : Adds W} {P Q : Meaning → Type 0} {F : Format Meaning} (others : List (Format Meaning)) {before after : W} where
   -- the first part, and then the others
@@ -70,16 +64,12 @@ module _ {W : Type 0} {adds : Adds W} {P Q : Meaning → Type 0} {F : Format Mea
       writes_same adds (Both (AllowedWord P F) (AllowedWord Q (tuple others))) (AllowedWord (IsThen P Q) (tuple (F ∷ others))) before after (tuple-allows P Q F others)
       (writes_both adds join (AllowedWord P F) (AllowedWord Q (tuple others)) before between after v w)
 
-  module _ {refuses : Refuses W} {N M : EncodeError → Type 0} {e : EncodeError} where
-    pub then-halts_first : Halts adds refuses (AllowedWord P F) N before after e → Halts adds refuses (AllowedWord (IsThen P Q) (tuple (F ∷ others))) (λ d. N d ⊎ M d) before after e
-    then-halts_first h =
-        halts_same adds refuses (Both (AllowedWord P F) (AllowedWord Q (tuple others))) (AllowedWord (IsThen P Q) (tuple (F ∷ others))) (λ d. N d ⊎ M d) before after e (tuple-allows P Q F others) (allowed-tuple P Q F others)
-        (halts_first adds refuses (AllowedWord P F) (AllowedWord Q (tuple others)) N M before after e h)
+  module _ {refuses : Refuses W} {R S : Type 0} {N M : EncodeError → Type 0} {e : EncodeError} where
+    pub then-halts_first : Halts adds refuses (Ready R (AllowedWord P F)) N before after e → Halts adds refuses (Ready (R × S) (AllowedWord (IsThen P Q) (tuple (F ∷ others)))) (λ d. N d ⊎ M d) before after e
+    then-halts_first = halts_in_first {R = R} {S = S} (λ r s. (r, s)) (λ u. u) (tuple-allows P Q F others) (allowed-tuple P Q F others) adds refuses N M _ e (λ n. n) before after
 
-    pub then-halts_next : {between : W} → Joined adds → Writes adds (AllowedWord P F) before between → Halts adds refuses (AllowedWord Q (tuple others)) M between after e → Halts adds refuses (AllowedWord (IsThen P Q) (tuple (F ∷ others))) (λ d. N d ⊎ M d) before after e
-    then-halts_next {between} join v h =
-        halts_same adds refuses (Both (AllowedWord P F) (AllowedWord Q (tuple others))) (AllowedWord (IsThen P Q) (tuple (F ∷ others))) (λ d. N d ⊎ M d) before after e (tuple-allows P Q F others) (allowed-tuple P Q F others)
-        (halts_next adds refuses join (AllowedWord P F) (AllowedWord Q (tuple others)) N M before between after e v h)
+    pub then-halts_next : {between : W} → Joined adds → Writes adds (AllowedWord P F) before between → Halts adds refuses (Ready S (AllowedWord Q (tuple others))) M between after e → Halts adds refuses (Ready (R × S) (AllowedWord (IsThen P Q) (tuple (F ∷ others)))) (λ d. N d ⊎ M d) before after e
+    then-halts_next {between} join = halts_in_next {R = R} {S = S} (λ r s. (r, s)) (λ u. u) (tuple-allows P Q F others) (allowed-tuple P Q F others) adds refuses N M _ e (λ n. n) join before between after
 
 -- the words of a tuple of four parts, and those of one that begins with four
 abbrev OfFour : (P Q R S : Meaning → Type 0) (F G H I : Format Meaning) → List ℕ → Type 0
@@ -96,15 +86,13 @@ module _ {W : Type 0} {adds : Adds W} {P Q R S T : Meaning → Type 0} (F G H I 
       writes_same adds (Both (OfFour P Q R S F G H I) (AllowedWord T (tuple others))) (OfMore P Q R S T F G H I others) before after j.to
       (writes_both adds join (OfFour P Q R S F G H I) (AllowedWord T (tuple others)) before between after v w)
 
-  module _ {refuses : Refuses W} {J K L M N : EncodeError → Type 0} {e : EncodeError} where
-    halts_of_both : Halts adds refuses (Both (OfFour P Q R S F G H I) (AllowedWord T (tuple others))) (λ d. (J d ⊎ (K d ⊎ (L d ⊎ M d))) ⊎ N d) before after e → Halts adds refuses (OfMore P Q R S T F G H I others) (λ d. J d ⊎ (K d ⊎ (L d ⊎ (M d ⊎ N d)))) before after e
-    halts_of_both h =
+  module _ {refuses : Refuses W} {V X Y Z U : Type 0} {J K L M N : EncodeError → Type 0} {e : EncodeError} where
+    pub four-halts_first : Halts adds refuses (Ready (V × (X × (Y × Z))) (OfFour P Q R S F G H I)) (λ d. J d ⊎ (K d ⊎ (L d ⊎ M d))) before after e → Halts adds refuses (Ready (V × (X × (Y × (Z × U)))) (OfMore P Q R S T F G H I others)) (λ d. J d ⊎ (K d ⊎ (L d ⊎ (M d ⊎ N d)))) before after e
+    four-halts_first =
         let j = joins_four P Q R S T F G H I others in
-        halts_named adds refuses (OfMore P Q R S T F G H I others) (λ d. (J d ⊎ (K d ⊎ (L d ⊎ M d))) ⊎ N d) (λ d. J d ⊎ (K d ⊎ (L d ⊎ (M d ⊎ N d)))) before after e (one_of_all J K L M N e)
-        (halts_same adds refuses (Both (OfFour P Q R S F G H I) (AllowedWord T (tuple others))) (OfMore P Q R S T F G H I others) (λ d. (J d ⊎ (K d ⊎ (L d ⊎ M d))) ⊎ N d) before after e j.to j.from h)
+        halts_in_first {R = V × (X × (Y × Z))} {S = U} (λ f u. (f.0, (f.1.0, (f.1.1.0, (f.1.1.1, u))))) (λ w. ((w.0, (w.1.0, (w.1.1.0, w.1.1.1.0))), w.1.1.1.1)) j.to j.from adds refuses (λ d. J d ⊎ (K d ⊎ (L d ⊎ M d))) N _ e (one_of_all J K L M N e) before after
 
-    pub four-halts_first : Halts adds refuses (OfFour P Q R S F G H I) (λ d. J d ⊎ (K d ⊎ (L d ⊎ M d))) before after e → Halts adds refuses (OfMore P Q R S T F G H I others) (λ d. J d ⊎ (K d ⊎ (L d ⊎ (M d ⊎ N d)))) before after e
-    four-halts_first h = halts_of_both (halts_first adds refuses (OfFour P Q R S F G H I) (AllowedWord T (tuple others)) (λ d. J d ⊎ (K d ⊎ (L d ⊎ M d))) N before after e h)
-
-    pub four-halts_next : {between : W} → Joined adds → Writes adds (OfFour P Q R S F G H I) before between → Halts adds refuses (AllowedWord T (tuple others)) N between after e → Halts adds refuses (OfMore P Q R S T F G H I others) (λ d. J d ⊎ (K d ⊎ (L d ⊎ (M d ⊎ N d)))) before after e
-    four-halts_next {between} join v h = halts_of_both (halts_next adds refuses join (OfFour P Q R S F G H I) (AllowedWord T (tuple others)) (λ d. J d ⊎ (K d ⊎ (L d ⊎ M d))) N before between after e v h)
+    pub four-halts_next : {between : W} → Joined adds → Writes adds (OfFour P Q R S F G H I) before between → Halts adds refuses (Ready U (AllowedWord T (tuple others))) N between after e → Halts adds refuses (Ready (V × (X × (Y × (Z × U)))) (OfMore P Q R S T F G H I others)) (λ d. J d ⊎ (K d ⊎ (L d ⊎ (M d ⊎ N d)))) before after e
+    four-halts_next {between} join =
+        let j = joins_four P Q R S T F G H I others in
+        halts_in_next {R = V × (X × (Y × Z))} {S = U} (λ f u. (f.0, (f.1.0, (f.1.1.0, (f.1.1.1, u))))) (λ w. ((w.0, (w.1.0, (w.1.1.0, w.1.1.1.0))), w.1.1.1.1)) j.to j.from adds refuses (λ d. J d ⊎ (K d ⊎ (L d ⊎ M d))) N _ e (one_of_all J K L M N e) join before between after

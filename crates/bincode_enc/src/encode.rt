@@ -1,7 +1,7 @@
 //! What can be encoded.
 ghost use Rattle.std.specs.Prelude.{◌≡◌, OnOk, IfErr};
 ghost use Rattle.bincode_wire.specs.Allowed.{AllowedWord};
-ghost use Rattle.bincode_enc.specs.Encoding.{Writes, Halts};
+ghost use Rattle.bincode_enc.specs.Encoding.{Writes, Ready, Halts};
 
 use crate::encoder::Encoder;
 use bincode_base::error::EncodeError;
@@ -13,6 +13,6 @@ pub trait Encode: Wire {
     /// Then what was written before begins an allowed word, unless the error is one of a user's type.
     fn encode<E: Encoder>(&self, encoder: &mut E) -> Result<(), EncodeError>
         ensures ok { OnOk result (Writes E.W.adds (AllowedWord (Self.means self.now) (Self.format E.C.setting)) (E.writer_of encoder.old) (E.writer_of encoder.new)) }
-        ensures err { IfErr result (Halts E.W.adds E.W.refuses (AllowedWord (Self.means self.now) (Self.format E.C.setting)) Self.names (E.writer_of encoder.old) (E.writer_of encoder.new)) }
+        ensures err { IfErr result (Halts E.W.adds E.W.refuses (Ready (Self.writable E.C.setting self.now) (AllowedWord (Self.means self.now) (Self.format E.C.setting))) Self.names (E.writer_of encoder.old) (E.writer_of encoder.new)) }
         ensures place { E.place encoder.new ≡ E.place encoder.old };
 }

@@ -1,9 +1,10 @@
 //! Runs of values.
 ghost use Rattle.std.specs.Prelude.{◌≡◌, OnOk, IfErr, length};
+ghost use Rattle.std.specs.List.{All};
 ghost use Rattle.bincode_wire.specs.Words.{array};
 ghost use Rattle.bincode_wire.specs.Run.{IsListOf};
 ghost use Rattle.bincode_wire.specs.Allowed.{AllowedWord};
-ghost use Rattle.bincode_enc.specs.Encoding.{Writes, Halts};
+ghost use Rattle.bincode_enc.specs.Encoding.{Writes, Ready, Halts};
 
 use crate::encode::Encode;
 use crate::encoder::Encoder;
@@ -12,7 +13,7 @@ use bincode_base::error::EncodeError;
 /// Writes the items in turn, without a length. Fails where an item does, and then leaves what `Encode::encode` does.
 pub fn encode_run<T: Encode, E: Encoder>(encoder: &mut E, items: &[T]) -> Result<(), EncodeError>
     ensures ok { OnOk result (Writes E.W.adds (AllowedWord (IsListOf T.means items.now) (array (length items.now) T.claim (T.format E.C.setting))) (E.writer_of encoder.old) (E.writer_of encoder.new)) }
-    ensures err { IfErr result (Halts E.W.adds E.W.refuses (AllowedWord (IsListOf T.means items.now) (array (length items.now) T.claim (T.format E.C.setting))) T.names (E.writer_of encoder.old) (E.writer_of encoder.new)) }
+    ensures err { IfErr result (Halts E.W.adds E.W.refuses (Ready (All (T.writable E.C.setting) items.now) (AllowedWord (IsListOf T.means items.now) (array (length items.now) T.claim (T.format E.C.setting)))) T.names (E.writer_of encoder.old) (E.writer_of encoder.new)) }
     ensures place { E.place encoder.new ≡ E.place encoder.old }
 {
     for item in items {

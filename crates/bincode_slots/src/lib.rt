@@ -20,7 +20,7 @@ pub fn slots_fit<T: Drop, const N: usize>() -> bool
 
 /// Empty slots.
 pub fn empty_slots<T, const N: usize>() -> [Option<T>; N]
-    ensures { length result ≡ N }
+    ensures { (i : ℕ) → i < N → slice_index_or result i None ≡ None }
 {
     std::array::from_fn(|_index: usize| None)
 }
@@ -72,6 +72,7 @@ fn fill<T: Drop, E: Drop, I: Iterator<Item = Result<T, E>>>(
     Some(Ok(()))
 }
 
+/// Fills the slots, and makes an array of their values.
 fn collect_by<T: Drop, E: Drop, I: Iterator<Item = Result<T, E>>, const N: usize>(
     mut slots: [Option<T>; N],
     iter: &mut I,

@@ -15,18 +15,26 @@ use Rattle.bincode_base.specs.Integers.{unsigned_byte}
 use Rattle.bincode_wire.specs.Meaning.{Meaning, Truth, Number, Nothing, Then, IsTruth, IsNumber, IsNothing, IsThen}
 use Rattle.bincode_wire.specs.Words.{natural, integral, not_zero_of, not_zero_by, truth_of, truth_byte, truth, tuple}
 use Rattle.bincode_wire.specs.WordsLaws.{not_zero-passes, zero-fails, truth_byte-passes, truth-fails}
-use Rattle.bincode_wire.specs.Answer.{Gave, Refused, PassedLimit, answer, and_then, weighed, gave_at, refused_at, charge_behind, Claimed, OverClaimed}
+use Rattle.bincode_wire.specs.Answer.{Answer, Gave, Refused, PassedLimit, answer, and_then, weighed, gave_at, refused_at, charge_behind, Claimed, OverClaimed}
 use Rattle.bincode_wire.specs.AnswerLaws.{answer-then, answer-took, answer-failed, answer-done, answer-refused, answer-charge, answer-charge_passed}
 use Rattle.bincode_wire.specs.Decoding.{Decodes, Stops, by_fault, by_limit, by_memory, by_failure, by_device}
 
 -- a rise after a step that didn't fall
-rose-then : (a b c : ℕ) → a ≤ b → Rose b c → Rose a c
+pub rose-then : (a b c : ℕ) → a ≤ b → Rose b c → Rose a c
 rose-then a b c h (inl r) = inl (omega arith)
 rose-then a b c h (inr r) = inr r
 
 -- what was taken before, and then more
-takes-then : (rest middle rest' : List ℕ) → Takes rest middle → Takes middle rest' → Takes rest rest'
+pub takes-then : (rest middle rest' : List ℕ) → Takes rest middle → Takes middle rest' → Takes rest rest'
 takes-then rest middle rest' (a, e) (b, f) = (a ++ b, e ∙ ap (λ z. a ++ z) f ∙ sym (append_assoc a b rest'))
+
+-- memory may be refused for more reasons
+pub stops-besides : {A : Type 0} (ended : ℕ → DecodeError → Type 0) (device : DecodeError → Type 0) (H K : Type 0) → (H → K) → (a : Answer A) (before after : ℕ) (rest rest' : List ℕ) (e : DecodeError) → Stops ended device H a before after rest rest' e → Stops ended device K a before after rest rest' e
+stops-besides ended device H K f a before after rest rest' e (by_fault why h t k) = by_fault why h t k
+stops-besides ended device H K f a before after rest rest' e (by_limit h t k) = by_limit h t k
+stops-besides ended device H K f a before after rest rest' e (by_memory h t k) = by_memory (f h) t k
+stops-besides ended device H K f a before after rest rest' e (by_failure h k) = by_failure h k
+stops-besides ended device H K f a before after rest rest' e (by_device h) = by_device h
 
 gave_at-is : {A : Type 0} (a b : A) (r s : List ℕ) (x : Option ℕ) (d : ℕ) → gave_at a r x ≡ Gave b s d → (a ≡ b) × (r ≡ s)
 gave_at-is a b r s (Some c) d e = (cc, cc)

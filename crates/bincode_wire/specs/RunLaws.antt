@@ -1,11 +1,10 @@
 -- What decoding answers to a run, element by element.
 use Rattle.std.specs.Prelude.{◌≡◌, ℕ, suc, ◌+◌, ◌-◌, ◌*◌, ◌≤◌, List, [], ◌∷◌, ◌++◌, Option, Some, None, refl}
-use Rattle.std.proofs.Common.{sym, ◌∙◌, ap, subst, inl, inr, arith, append_assoc, append-nil}
+use Rattle.std.proofs.Common.{sym, ◌∙◌, ap, subst, arith, append_assoc, append-nil}
 use Rattle.bincode_base.specs.declared.error.DecodeError.{DecodeError}
 use Rattle.bincode_base.specs.declared.error.DecodeError.TheVariants.{LimitExceeded}
 use Rattle.bincode_base.specs.Fault.{Fault, End, InvalidInteger, Zero, UnexpectedVariant, Utf8, InvalidChar, InvalidBool, InvalidDuration, NulAt, Other, LengthMismatch, EmptyEnum, OutsideUsize, Tells}
 use Rattle.bincode_base.specs.Charge.{Reserve, Release}
-use Rattle.bincode_base.specs.Device.{Rose, Takes}
 use Rattle.bincode_base.specs.Format.{Format, Reading, Took, Failed, done, step, ◌>>=◌, vague, vague_reading, unsure, map_format, elements, sequence}
 use Rattle.bincode_base.specs.Laws.{Lawful, Balanced}
 use Rattle.bincode_wire.specs.Meaning.{Meaning, Nothing, listed}
@@ -13,7 +12,7 @@ use Rattle.bincode_wire.specs.Words.{array}
 use Rattle.bincode_wire.specs.Answer.{Answer, Gave, Refused, PassedLimit, answer, and_then, weighed, gave_at, refused_at, charge_behind, Claimed, OverClaimed, unclaimed}
 use Rattle.bincode_wire.specs.AnswerLaws.{answer-then, answer-done, answer-release, answer-reserve, answer-reserve_passed, gave-grows}
 use Rattle.bincode_wire.specs.Decoding.{Decodes, Stops, by_fault, by_limit, by_memory, by_failure, by_device}
-use Rattle.bincode_wire.specs.DecodingLaws.{gave-takes, answer-next, map-gave, map-stops}
+use Rattle.bincode_wire.specs.DecodingLaws.{rose-then, takes-then, gave-takes, answer-next, map-gave, map-stops}
 use Rattle.bincode_wire.specs.Run.{IsListOf, CanRelease, behind, ReadSoFar}
 
 -- an answer that doesn't say by how many bytes the input ends too early
@@ -55,15 +54,6 @@ tells-vague ended (Other _) e h = h
 tells-vague ended (LengthMismatch _ _) e h = h
 tells-vague ended EmptyEnum e h = h
 tells-vague ended (OutsideUsize _) e h = h
-
--- what was taken before, and then more
-takes_more : (input rest rest' : List ℕ) → Takes input rest → Takes rest rest' → Takes input rest'
-takes_more input rest rest' (a, e) (b, f) = (a ++ b, e ∙ ap (λ z. a ++ z) f ∙ sym (append_assoc a b rest'))
-
--- a rise after calls that didn't fall
-rose_more : (a b c : ℕ) → a ≤ b → Rose b c → Rose a c
-rose_more a b c h (inl r) = inl (omega arith)
-rose_more a b c h (inr r) = inr r
 
 -- a claim of room that stands, and one that passes the limit
 reserved_answer : (limit : Option ℕ) (c n d : ℕ) (input : List ℕ) → Claimed limit c n d → answer limit (step (Reserve n)) input c ≡ Gave tt input d
@@ -119,16 +109,16 @@ module _ (limit : Option ℕ) (share : ℕ) (F : Format Meaning) where
     one_more f b n rest c m rest' d h e = record {
       is_rest = sym (so_far n rest c (Gave m rest' d) h e ∙ behind_push ms m (answer limit (elements n share F) rest' d));
       is_reserved = still_reserved limit share F f b n rest c m rest' d h.is_reserved e;
-      is_behind = takes_more input rest rest' h.is_behind (gave-takes limit F f rest (unclaimed limit c share) m rest' d e);
+      is_behind = takes-then input rest rest' h.is_behind (gave-takes limit F f rest (unclaimed limit c share) m rest' d e);
     }
 
     -- where an element stops, so does the run
     pub one_stops : (ended : ℕ → DecodeError → Type 0) (device : DecodeError → Type 0) (H : Type 0) (n : ℕ) (rest : List ℕ) (c before between after : ℕ) (rest' : List ℕ) (e : DecodeError) → before ≤ between → ReadSoFar limit share F all input ms (suc n) rest c →
         Stops ended device H (answer limit F rest (unclaimed limit c share)) between after rest rest' e → Stops ended device H all before after input rest' e
-    one_stops ended device H n rest c before between after rest' e le h (by_fault why a t k) = by_fault (vague why) (so_far n rest c (Refused why) h a) (tells-vague ended why e t) (takes_more input rest rest' h.is_behind k)
-    one_stops ended device H n rest c before between after rest' e le h (by_limit a t k) = by_limit (so_far n rest c PassedLimit h a) t (takes_more input rest rest' h.is_behind k)
-    one_stops ended device H n rest c before between after rest' e le h (by_memory g t k) = by_memory g t (takes_more input rest rest' h.is_behind k)
-    one_stops ended device H n rest c before between after rest' e le h (by_failure r k) = by_failure (rose_more before between after le r) (takes_more input rest rest' h.is_behind k)
+    one_stops ended device H n rest c before between after rest' e le h (by_fault why a t k) = by_fault (vague why) (so_far n rest c (Refused why) h a) (tells-vague ended why e t) (takes-then input rest rest' h.is_behind k)
+    one_stops ended device H n rest c before between after rest' e le h (by_limit a t k) = by_limit (so_far n rest c PassedLimit h a) t (takes-then input rest rest' h.is_behind k)
+    one_stops ended device H n rest c before between after rest' e le h (by_memory g t k) = by_memory g t (takes-then input rest rest' h.is_behind k)
+    one_stops ended device H n rest c before between after rest' e le h (by_failure r k) = by_failure (rose-then before between after le r) (takes-then input rest rest' h.is_behind k)
     one_stops ended device H n rest c before between after rest' e le h (by_device g) = by_device g
 
     -- all is read

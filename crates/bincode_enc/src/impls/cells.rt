@@ -2,11 +2,10 @@ use crate::encode::Encode;
 use crate::encoder::Encoder;
 use bincode_base::error::EncodeError;
 use bincode_base::text::ShortText;
-use bincode_wire::laws::Plain;
 use bincode_wire::wire::Wire;
 use std::cell::{Cell, RefCell};
 
-impl<T: Encode + Plain + Copy> Encode for Cell<T> {
+impl<T: Encode + Copy> Encode for Cell<T> {
     fn encode<E: Encoder>(&self, encoder: &mut E) -> Result<(), EncodeError> {
         let value = self.get();
         value.tell_valid();
@@ -14,7 +13,7 @@ impl<T: Encode + Plain + Copy> Encode for Cell<T> {
     }
 }
 
-impl<T: Encode + Plain> Encode for RefCell<T> {
+impl<T: Encode> Encode for RefCell<T> {
     fn encode<E: Encoder>(&self, encoder: &mut E) -> Result<(), EncodeError> {
         let Ok(guard) = self.try_borrow() else {
             return Err(EncodeError::RefCellAlreadyBorrowed {

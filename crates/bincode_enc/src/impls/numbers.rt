@@ -6,7 +6,7 @@ ghost use Rattle.bincode_base.specs.IntegerLaws.{IsWidth};
 ghost use Rattle.bincode_wire.specs.Meaning.{IsNumber};
 ghost use Rattle.bincode_wire.specs.Words.{natural, integral};
 ghost use Rattle.bincode_wire.specs.Allowed.{AllowedWord};
-ghost use Rattle.bincode_enc.specs.Encoding.{Writes, Halts};
+ghost use Rattle.bincode_enc.specs.Encoding.{Writes, Ready, Halts};
 
 use crate::encode::Encode;
 use crate::encoder::{Encoder, write_from};
@@ -20,7 +20,7 @@ fn encode_unsigned<E: Encoder>(encoder: &mut E, width: usize, val: u128) -> Resu
     requires width { IsWidth width }
     requires fits { val < 256 ^ width }
     ensures ok { (name : Name) → OnOk result (Writes E.W.adds (AllowedWord (IsNumber (pos val)) (natural (unsigned name width E.C.setting))) (E.writer_of encoder.old) (E.writer_of encoder.new)) }
-    ensures err { (name : Name) → IfErr result (Halts E.W.adds E.W.refuses (AllowedWord (IsNumber (pos val)) (natural (unsigned name width E.C.setting))) (λ _. ⊥) (E.writer_of encoder.old) (E.writer_of encoder.new)) }
+    ensures err { (name : Name) → IfErr result (Halts E.W.adds E.W.refuses (Ready (Unit {0}) (AllowedWord (IsNumber (pos val)) (natural (unsigned name width E.C.setting)))) (λ _. ⊥) (E.writer_of encoder.old) (E.writer_of encoder.new)) }
     ensures place { E.place encoder.new ≡ E.place encoder.old }
 {
     let endian = encoder.config().endianness();
@@ -33,7 +33,7 @@ fn encode_signed<E: Encoder>(encoder: &mut E, width: usize, val: i128) -> Result
     requires width { IsWidth width }
     requires fits { FitsIn width val }
     ensures ok { (name : Name) → OnOk result (Writes E.W.adds (AllowedWord (IsNumber val) (integral (signed name width E.C.setting))) (E.writer_of encoder.old) (E.writer_of encoder.new)) }
-    ensures err { (name : Name) → IfErr result (Halts E.W.adds E.W.refuses (AllowedWord (IsNumber val) (integral (signed name width E.C.setting))) (λ _. ⊥) (E.writer_of encoder.old) (E.writer_of encoder.new)) }
+    ensures err { (name : Name) → IfErr result (Halts E.W.adds E.W.refuses (Ready (Unit {0}) (AllowedWord (IsNumber val) (integral (signed name width E.C.setting)))) (λ _. ⊥) (E.writer_of encoder.old) (E.writer_of encoder.new)) }
     ensures place { E.place encoder.new ≡ E.place encoder.old }
 {
     let endian = encoder.config().endianness();

@@ -2,7 +2,7 @@ ghost use Rattle.std.specs.Prelude.{◌≡◌, ◌⊎◌, [], ◌∷◌, OnOk, I
 ghost use Rattle.bincode_wire.specs.Meaning.{IsThen, IsNothing};
 ghost use Rattle.bincode_wire.specs.Words.{tuple};
 ghost use Rattle.bincode_wire.specs.Allowed.{AllowedWord};
-ghost use Rattle.bincode_enc.specs.Encoding.{Writes, Halts};
+ghost use Rattle.bincode_enc.specs.Encoding.{Writes, Ready, Halts};
 
 use crate::encode::Encode;
 use crate::encoder::Encoder;
@@ -16,7 +16,7 @@ fn encode_two<A: Encode, B: Encode, Target: Encoder>(
     encoder: &mut Target,
 ) -> Result<(), EncodeError>
     ensures ok { OnOk result (Writes Target.W.adds (AllowedWord (IsThen (A.means first.now) (IsThen (B.means second.now) IsNothing)) (tuple (A.format Target.C.setting ∷ B.format Target.C.setting ∷ []))) (Target.writer_of encoder.old) (Target.writer_of encoder.new)) }
-    ensures err { IfErr result (Halts Target.W.adds Target.W.refuses (AllowedWord (IsThen (A.means first.now) (IsThen (B.means second.now) IsNothing)) (tuple (A.format Target.C.setting ∷ B.format Target.C.setting ∷ []))) (λ e. A.names e ⊎ B.names e) (Target.writer_of encoder.old) (Target.writer_of encoder.new)) }
+    ensures err { IfErr result (Halts Target.W.adds Target.W.refuses (Ready (A.writable Target.C.setting first.now × B.writable Target.C.setting second.now) (AllowedWord (IsThen (A.means first.now) (IsThen (B.means second.now) IsNothing)) (tuple (A.format Target.C.setting ∷ B.format Target.C.setting ∷ [])))) (λ e. A.names e ⊎ B.names e) (Target.writer_of encoder.old) (Target.writer_of encoder.new)) }
     ensures place { Target.place encoder.new ≡ Target.place encoder.old }
 {
     first.encode(encoder)?;
@@ -32,7 +32,7 @@ fn encode_three<A: Encode, B: Encode, C: Encode, Target: Encoder>(
     encoder: &mut Target,
 ) -> Result<(), EncodeError>
     ensures ok { OnOk result (Writes Target.W.adds (AllowedWord (IsThen (A.means first.now) (IsThen (B.means second.now) (IsThen (C.means third.now) IsNothing))) (tuple (A.format Target.C.setting ∷ B.format Target.C.setting ∷ C.format Target.C.setting ∷ []))) (Target.writer_of encoder.old) (Target.writer_of encoder.new)) }
-    ensures err { IfErr result (Halts Target.W.adds Target.W.refuses (AllowedWord (IsThen (A.means first.now) (IsThen (B.means second.now) (IsThen (C.means third.now) IsNothing))) (tuple (A.format Target.C.setting ∷ B.format Target.C.setting ∷ C.format Target.C.setting ∷ []))) (λ e. A.names e ⊎ B.names e ⊎ C.names e) (Target.writer_of encoder.old) (Target.writer_of encoder.new)) }
+    ensures err { IfErr result (Halts Target.W.adds Target.W.refuses (Ready (A.writable Target.C.setting first.now × (B.writable Target.C.setting second.now × C.writable Target.C.setting third.now)) (AllowedWord (IsThen (A.means first.now) (IsThen (B.means second.now) (IsThen (C.means third.now) IsNothing))) (tuple (A.format Target.C.setting ∷ B.format Target.C.setting ∷ C.format Target.C.setting ∷ [])))) (λ e. A.names e ⊎ B.names e ⊎ C.names e) (Target.writer_of encoder.old) (Target.writer_of encoder.new)) }
     ensures place { Target.place encoder.new ≡ Target.place encoder.old }
 {
     first.encode(encoder)?;
@@ -50,7 +50,7 @@ fn encode_four<A: Encode, B: Encode, C: Encode, D: Encode, Target: Encoder>(
     encoder: &mut Target,
 ) -> Result<(), EncodeError>
     ensures ok { OnOk result (Writes Target.W.adds (AllowedWord (IsThen (A.means first.now) (IsThen (B.means second.now) (IsThen (C.means third.now) (IsThen (D.means fourth.now) IsNothing)))) (tuple (A.format Target.C.setting ∷ B.format Target.C.setting ∷ C.format Target.C.setting ∷ D.format Target.C.setting ∷ []))) (Target.writer_of encoder.old) (Target.writer_of encoder.new)) }
-    ensures err { IfErr result (Halts Target.W.adds Target.W.refuses (AllowedWord (IsThen (A.means first.now) (IsThen (B.means second.now) (IsThen (C.means third.now) (IsThen (D.means fourth.now) IsNothing)))) (tuple (A.format Target.C.setting ∷ B.format Target.C.setting ∷ C.format Target.C.setting ∷ D.format Target.C.setting ∷ []))) (λ e. A.names e ⊎ B.names e ⊎ C.names e ⊎ D.names e) (Target.writer_of encoder.old) (Target.writer_of encoder.new)) }
+    ensures err { IfErr result (Halts Target.W.adds Target.W.refuses (Ready (A.writable Target.C.setting first.now × (B.writable Target.C.setting second.now × (C.writable Target.C.setting third.now × D.writable Target.C.setting fourth.now))) (AllowedWord (IsThen (A.means first.now) (IsThen (B.means second.now) (IsThen (C.means third.now) (IsThen (D.means fourth.now) IsNothing)))) (tuple (A.format Target.C.setting ∷ B.format Target.C.setting ∷ C.format Target.C.setting ∷ D.format Target.C.setting ∷ [])))) (λ e. A.names e ⊎ B.names e ⊎ C.names e ⊎ D.names e) (Target.writer_of encoder.old) (Target.writer_of encoder.new)) }
     ensures place { Target.place encoder.new ≡ Target.place encoder.old }
 {
     first.encode(encoder)?;

@@ -11,7 +11,7 @@ ghost use Rattle.bincode_wire.specs.AllowedLaws.{same-one_length};
 use crate::laws::{Canonical, Exact, Plain};
 use crate::wire::Wire;
 
-// Memory is refused where the slots that decoding fills can't exist, though the array itself could.
+// Decoding answers `Memory` where the slots that it fills can't exist, though the array itself could.
 impl<T: Wire, const N: usize> Wire for [T; N] {
     ghost format = { λ s. array N T.claim (T.format s) };
 

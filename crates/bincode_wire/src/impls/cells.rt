@@ -1,7 +1,6 @@
-ghost use Rattle.std.specs.Prelude.{◌⊎◌, ℕ, List};
+ghost use Rattle.std.specs.Prelude.{◌⊎◌};
 ghost use Rattle.bincode_base.specs.Format.{of_cell};
-ghost use Rattle.bincode_wire.specs.Cells.{IsAny, IsBorrowed};
-ghost use Rattle.bincode_wire.specs.Allowed.{AllowedWord};
+ghost use Rattle.bincode_wire.specs.Cells.{IsAny, IsBorrowed, IsHeld};
 ghost use Rattle.bincode_wire.specs.CellLaws.{cell-lawful, cell-balanced};
 
 use crate::wire::Wire;
@@ -16,7 +15,7 @@ impl<T: Wire> Wire for Cell<T> {
 
     ghost given = { λ m v. IsAny m };
 
-    ghost writable = { λ s v. (bytes : List ℕ) × AllowedWord IsAny (of_cell (T.format s)) bytes };
+    ghost writable = { λ s v. IsHeld (T.format s) T.valid (T.writable s) };
 
     ghost names = { T.names };
 
@@ -34,7 +33,7 @@ impl<T: Wire> Wire for Cell<T> {
 
     ghost balanced = { λ s. cell-balanced (T.format s) (T.balanced s) };
 
-    ghost has_word = { λ s v h w. w };
+    ghost has_word = { λ s v h w. w.some_word };
 }
 
 impl<T: Wire> Wire for RefCell<T> {
@@ -46,7 +45,7 @@ impl<T: Wire> Wire for RefCell<T> {
 
     ghost given = { λ m v. IsAny m };
 
-    ghost writable = { λ s v. (bytes : List ℕ) × AllowedWord IsAny (of_cell (T.format s)) bytes };
+    ghost writable = { λ s v. IsHeld (T.format s) T.valid (T.writable s) };
 
     ghost names = { λ e. IsBorrowed e ⊎ T.names e };
 
@@ -64,5 +63,5 @@ impl<T: Wire> Wire for RefCell<T> {
 
     ghost balanced = { λ s. cell-balanced (T.format s) (T.balanced s) };
 
-    ghost has_word = { λ s v h w. w };
+    ghost has_word = { λ s v h w. w.some_word };
 }

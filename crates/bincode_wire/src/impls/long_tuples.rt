@@ -24,8 +24,7 @@ impl<A: Wire, B: Wire, C: Wire, D: Wire, E: Wire, F: Wire, G: Wire, H: Wire, I: 
         (IsThen (λ p. I.given p v.8) IsNothing)))))))) m };
 
     ghost writable = { λ s v.
-        A.writable s v.0 × B.writable s v.1 × C.writable s v.2 × D.writable s v.3 × E.writable s v.4 × F.writable s v.5 × G.writable s v.6 ×
-        H.writable s v.7 × I.writable s v.8 };
+        A.writable s v.0 × (B.writable s v.1 × (C.writable s v.2 × (D.writable s v.3 × (E.writable s v.4 × (F.writable s v.5 × (G.writable s v.6 × (H.writable s v.7 × I.writable s v.8))))))) };
 
     ghost names = { λ e. A.names e ⊎ B.names e ⊎ C.names e ⊎ D.names e ⊎ E.names e ⊎ F.names e ⊎ G.names e ⊎ H.names e ⊎ I.names e };
 
@@ -69,10 +68,10 @@ impl<A: Wire, B: Wire, C: Wire, D: Wire, E: Wire, F: Wire, G: Wire, H: Wire, I: 
         (then-balanced _ (I.balanced s) nothing-balanced)))))))) };
 
     ghost has_word = { λ s v h w.
-        then-has_word _ (A.has_word s v.0 h.0 w.0) (then-has_word _ (B.has_word s v.1 h.1 w.1) (then-has_word _ (C.has_word s v.2 h.2 w.2)
-        (then-has_word _ (D.has_word s v.3 h.3 w.3) (then-has_word _ (E.has_word s v.4 h.4 w.4) (then-has_word _ (F.has_word s v.5 h.5 w.5)
-        (then-has_word _ (G.has_word s v.6 h.6 w.6) (then-has_word _ (H.has_word s v.7 h.7 w.7)
-        (then-has_word _ (I.has_word s v.8 h.8 w.8) nothing-has_word)))))))) };
+        then-has_word _ (A.has_word s v.0 h.0 w.0) (then-has_word _ (B.has_word s v.1 h.1 w.1.0) (then-has_word _ (C.has_word s v.2 h.2 w.1.1.0)
+        (then-has_word _ (D.has_word s v.3 h.3 w.1.1.1.0) (then-has_word _ (E.has_word s v.4 h.4 w.1.1.1.1.0) (then-has_word _ (F.has_word s v.5 h.5 w.1.1.1.1.1.0)
+        (then-has_word _ (G.has_word s v.6 h.6 w.1.1.1.1.1.1.0) (then-has_word _ (H.has_word s v.7 h.7 w.1.1.1.1.1.1.1.0)
+        (then-has_word _ (I.has_word s v.8 h.8 w.1.1.1.1.1.1.1.1) nothing-has_word)))))))) };
 }
 
 impl<A: Plain, B: Plain, C: Plain, D: Plain, E: Plain, F: Plain, G: Plain, H: Plain, I: Plain> Plain
@@ -83,17 +82,8 @@ impl<A: Plain, B: Plain, C: Plain, D: Plain, E: Plain, F: Plain, G: Plain, H: Pl
         (then-one_length _ (G.one_length s v.6 h.6) (then-one_length _ (H.one_length s v.7 h.7)
         (then-one_length _ (I.one_length s v.8 h.8) nothing-one_length)))))))) };
 
-    ghost always_writable = { λ s v h. (
-      A.always_writable s v.0 h.0,
-      B.always_writable s v.1 h.1,
-      C.always_writable s v.2 h.2,
-      D.always_writable s v.3 h.3,
-      E.always_writable s v.4 h.4,
-      F.always_writable s v.5 h.5,
-      G.always_writable s v.6 h.6,
-      H.always_writable s v.7 h.7,
-      I.always_writable s v.8 h.8,
-    ) };
+    ghost always_writable = { λ s v h.
+        (A.always_writable s v.0 h.0, (B.always_writable s v.1 h.1, (C.always_writable s v.2 h.2, (D.always_writable s v.3 h.3, (E.always_writable s v.4 h.4, (F.always_writable s v.5 h.5, (G.always_writable s v.6 h.6, (H.always_writable s v.7 h.7, I.always_writable s v.8 h.8)))))))) };
 
     ghost names_none = { λ e.
         neither (A.names_none e) (neither (B.names_none e) (neither (C.names_none e) (neither (D.names_none e) (neither (E.names_none e)
@@ -154,8 +144,7 @@ impl<A: Wire, B: Wire, C: Wire, D: Wire, E: Wire, F: Wire, G: Wire, H: Wire, I: 
         (IsThen (λ p. I.given p v.8) (IsThen (λ p. J.given p v.9) IsNothing))))))))) m };
 
     ghost writable = { λ s v.
-        A.writable s v.0 × B.writable s v.1 × C.writable s v.2 × D.writable s v.3 × E.writable s v.4 × F.writable s v.5 × G.writable s v.6 ×
-        H.writable s v.7 × I.writable s v.8 × J.writable s v.9 };
+        A.writable s v.0 × (B.writable s v.1 × (C.writable s v.2 × (D.writable s v.3 × (E.writable s v.4 × (F.writable s v.5 × (G.writable s v.6 × (H.writable s v.7 × (I.writable s v.8 × J.writable s v.9)))))))) };
 
     ghost names = { λ e. A.names e ⊎ B.names e ⊎ C.names e ⊎ D.names e ⊎ E.names e ⊎ F.names e ⊎ G.names e ⊎ H.names e ⊎ I.names e ⊎ J.names e };
 
@@ -202,10 +191,10 @@ impl<A: Wire, B: Wire, C: Wire, D: Wire, E: Wire, F: Wire, G: Wire, H: Wire, I: 
         (then-balanced _ (I.balanced s) (then-balanced _ (J.balanced s) nothing-balanced))))))))) };
 
     ghost has_word = { λ s v h w.
-        then-has_word _ (A.has_word s v.0 h.0 w.0) (then-has_word _ (B.has_word s v.1 h.1 w.1) (then-has_word _ (C.has_word s v.2 h.2 w.2)
-        (then-has_word _ (D.has_word s v.3 h.3 w.3) (then-has_word _ (E.has_word s v.4 h.4 w.4) (then-has_word _ (F.has_word s v.5 h.5 w.5)
-        (then-has_word _ (G.has_word s v.6 h.6 w.6) (then-has_word _ (H.has_word s v.7 h.7 w.7) (then-has_word _ (I.has_word s v.8 h.8 w.8)
-        (then-has_word _ (J.has_word s v.9 h.9 w.9) nothing-has_word))))))))) };
+        then-has_word _ (A.has_word s v.0 h.0 w.0) (then-has_word _ (B.has_word s v.1 h.1 w.1.0) (then-has_word _ (C.has_word s v.2 h.2 w.1.1.0)
+        (then-has_word _ (D.has_word s v.3 h.3 w.1.1.1.0) (then-has_word _ (E.has_word s v.4 h.4 w.1.1.1.1.0) (then-has_word _ (F.has_word s v.5 h.5 w.1.1.1.1.1.0)
+        (then-has_word _ (G.has_word s v.6 h.6 w.1.1.1.1.1.1.0) (then-has_word _ (H.has_word s v.7 h.7 w.1.1.1.1.1.1.1.0) (then-has_word _ (I.has_word s v.8 h.8 w.1.1.1.1.1.1.1.1.0)
+        (then-has_word _ (J.has_word s v.9 h.9 w.1.1.1.1.1.1.1.1.1) nothing-has_word))))))))) };
 }
 
 impl<
@@ -226,18 +215,8 @@ impl<
         (then-one_length _ (G.one_length s v.6 h.6) (then-one_length _ (H.one_length s v.7 h.7) (then-one_length _ (I.one_length s v.8 h.8)
         (then-one_length _ (J.one_length s v.9 h.9) nothing-one_length))))))))) };
 
-    ghost always_writable = { λ s v h. (
-      A.always_writable s v.0 h.0,
-      B.always_writable s v.1 h.1,
-      C.always_writable s v.2 h.2,
-      D.always_writable s v.3 h.3,
-      E.always_writable s v.4 h.4,
-      F.always_writable s v.5 h.5,
-      G.always_writable s v.6 h.6,
-      H.always_writable s v.7 h.7,
-      I.always_writable s v.8 h.8,
-      J.always_writable s v.9 h.9,
-    ) };
+    ghost always_writable = { λ s v h.
+        (A.always_writable s v.0 h.0, (B.always_writable s v.1 h.1, (C.always_writable s v.2 h.2, (D.always_writable s v.3 h.3, (E.always_writable s v.4 h.4, (F.always_writable s v.5 h.5, (G.always_writable s v.6 h.6, (H.always_writable s v.7 h.7, (I.always_writable s v.8 h.8, J.always_writable s v.9 h.9))))))))) };
 
     ghost names_none = { λ e.
         neither (A.names_none e) (neither (B.names_none e) (neither (C.names_none e) (neither (D.names_none e) (neither (E.names_none e)
@@ -322,8 +301,7 @@ impl<
         (IsThen (λ p. I.given p v.8) (IsThen (λ p. J.given p v.9) (IsThen (λ p. K.given p v.10) IsNothing)))))))))) m };
 
     ghost writable = { λ s v.
-        A.writable s v.0 × B.writable s v.1 × C.writable s v.2 × D.writable s v.3 × E.writable s v.4 × F.writable s v.5 × G.writable s v.6 ×
-        H.writable s v.7 × I.writable s v.8 × J.writable s v.9 × K.writable s v.10 };
+        A.writable s v.0 × (B.writable s v.1 × (C.writable s v.2 × (D.writable s v.3 × (E.writable s v.4 × (F.writable s v.5 × (G.writable s v.6 × (H.writable s v.7 × (I.writable s v.8 × (J.writable s v.9 × K.writable s v.10))))))))) };
 
     ghost names = { λ e. A.names e ⊎ B.names e ⊎ C.names e ⊎ D.names e ⊎ E.names e ⊎ F.names e ⊎ G.names e ⊎ H.names e ⊎ I.names e ⊎ J.names e ⊎ K.names e };
 
@@ -372,10 +350,10 @@ impl<
         (then-balanced _ (I.balanced s) (then-balanced _ (J.balanced s) (then-balanced _ (K.balanced s) nothing-balanced)))))))))) };
 
     ghost has_word = { λ s v h w.
-        then-has_word _ (A.has_word s v.0 h.0 w.0) (then-has_word _ (B.has_word s v.1 h.1 w.1) (then-has_word _ (C.has_word s v.2 h.2 w.2)
-        (then-has_word _ (D.has_word s v.3 h.3 w.3) (then-has_word _ (E.has_word s v.4 h.4 w.4) (then-has_word _ (F.has_word s v.5 h.5 w.5)
-        (then-has_word _ (G.has_word s v.6 h.6 w.6) (then-has_word _ (H.has_word s v.7 h.7 w.7) (then-has_word _ (I.has_word s v.8 h.8 w.8)
-        (then-has_word _ (J.has_word s v.9 h.9 w.9) (then-has_word _ (K.has_word s v.10 h.10 w.10) nothing-has_word)))))))))) };
+        then-has_word _ (A.has_word s v.0 h.0 w.0) (then-has_word _ (B.has_word s v.1 h.1 w.1.0) (then-has_word _ (C.has_word s v.2 h.2 w.1.1.0)
+        (then-has_word _ (D.has_word s v.3 h.3 w.1.1.1.0) (then-has_word _ (E.has_word s v.4 h.4 w.1.1.1.1.0) (then-has_word _ (F.has_word s v.5 h.5 w.1.1.1.1.1.0)
+        (then-has_word _ (G.has_word s v.6 h.6 w.1.1.1.1.1.1.0) (then-has_word _ (H.has_word s v.7 h.7 w.1.1.1.1.1.1.1.0) (then-has_word _ (I.has_word s v.8 h.8 w.1.1.1.1.1.1.1.1.0)
+        (then-has_word _ (J.has_word s v.9 h.9 w.1.1.1.1.1.1.1.1.1.0) (then-has_word _ (K.has_word s v.10 h.10 w.1.1.1.1.1.1.1.1.1.1) nothing-has_word)))))))))) };
 }
 
 impl<
@@ -397,19 +375,8 @@ impl<
         (then-one_length _ (G.one_length s v.6 h.6) (then-one_length _ (H.one_length s v.7 h.7) (then-one_length _ (I.one_length s v.8 h.8)
         (then-one_length _ (J.one_length s v.9 h.9) (then-one_length _ (K.one_length s v.10 h.10) nothing-one_length)))))))))) };
 
-    ghost always_writable = { λ s v h. (
-      A.always_writable s v.0 h.0,
-      B.always_writable s v.1 h.1,
-      C.always_writable s v.2 h.2,
-      D.always_writable s v.3 h.3,
-      E.always_writable s v.4 h.4,
-      F.always_writable s v.5 h.5,
-      G.always_writable s v.6 h.6,
-      H.always_writable s v.7 h.7,
-      I.always_writable s v.8 h.8,
-      J.always_writable s v.9 h.9,
-      K.always_writable s v.10 h.10,
-    ) };
+    ghost always_writable = { λ s v h.
+        (A.always_writable s v.0 h.0, (B.always_writable s v.1 h.1, (C.always_writable s v.2 h.2, (D.always_writable s v.3 h.3, (E.always_writable s v.4 h.4, (F.always_writable s v.5 h.5, (G.always_writable s v.6 h.6, (H.always_writable s v.7 h.7, (I.always_writable s v.8 h.8, (J.always_writable s v.9 h.9, K.always_writable s v.10 h.10)))))))))) };
 
     ghost names_none = { λ e.
         neither (A.names_none e) (neither (B.names_none e) (neither (C.names_none e) (neither (D.names_none e) (neither (E.names_none e)
@@ -501,8 +468,7 @@ impl<
         (IsThen (λ p. L.given p v.11) IsNothing))))))))))) m };
 
     ghost writable = { λ s v.
-        A.writable s v.0 × B.writable s v.1 × C.writable s v.2 × D.writable s v.3 × E.writable s v.4 × F.writable s v.5 × G.writable s v.6 ×
-        H.writable s v.7 × I.writable s v.8 × J.writable s v.9 × K.writable s v.10 × L.writable s v.11 };
+        A.writable s v.0 × (B.writable s v.1 × (C.writable s v.2 × (D.writable s v.3 × (E.writable s v.4 × (F.writable s v.5 × (G.writable s v.6 × (H.writable s v.7 × (I.writable s v.8 × (J.writable s v.9 × (K.writable s v.10 × L.writable s v.11)))))))))) };
 
     ghost names = { λ e.
         A.names e ⊎ B.names e ⊎ C.names e ⊎ D.names e ⊎ E.names e ⊎ F.names e ⊎ G.names e ⊎ H.names e ⊎ I.names e ⊎ J.names e ⊎ K.names e ⊎
@@ -556,11 +522,11 @@ impl<
         (then-balanced _ (L.balanced s) nothing-balanced))))))))))) };
 
     ghost has_word = { λ s v h w.
-        then-has_word _ (A.has_word s v.0 h.0 w.0) (then-has_word _ (B.has_word s v.1 h.1 w.1) (then-has_word _ (C.has_word s v.2 h.2 w.2)
-        (then-has_word _ (D.has_word s v.3 h.3 w.3) (then-has_word _ (E.has_word s v.4 h.4 w.4) (then-has_word _ (F.has_word s v.5 h.5 w.5)
-        (then-has_word _ (G.has_word s v.6 h.6 w.6) (then-has_word _ (H.has_word s v.7 h.7 w.7) (then-has_word _ (I.has_word s v.8 h.8 w.8)
-        (then-has_word _ (J.has_word s v.9 h.9 w.9) (then-has_word _ (K.has_word s v.10 h.10 w.10)
-        (then-has_word _ (L.has_word s v.11 h.11 w.11) nothing-has_word))))))))))) };
+        then-has_word _ (A.has_word s v.0 h.0 w.0) (then-has_word _ (B.has_word s v.1 h.1 w.1.0) (then-has_word _ (C.has_word s v.2 h.2 w.1.1.0)
+        (then-has_word _ (D.has_word s v.3 h.3 w.1.1.1.0) (then-has_word _ (E.has_word s v.4 h.4 w.1.1.1.1.0) (then-has_word _ (F.has_word s v.5 h.5 w.1.1.1.1.1.0)
+        (then-has_word _ (G.has_word s v.6 h.6 w.1.1.1.1.1.1.0) (then-has_word _ (H.has_word s v.7 h.7 w.1.1.1.1.1.1.1.0) (then-has_word _ (I.has_word s v.8 h.8 w.1.1.1.1.1.1.1.1.0)
+        (then-has_word _ (J.has_word s v.9 h.9 w.1.1.1.1.1.1.1.1.1.0) (then-has_word _ (K.has_word s v.10 h.10 w.1.1.1.1.1.1.1.1.1.1.0)
+        (then-has_word _ (L.has_word s v.11 h.11 w.1.1.1.1.1.1.1.1.1.1.1) nothing-has_word))))))))))) };
 }
 
 impl<
@@ -584,20 +550,8 @@ impl<
         (then-one_length _ (J.one_length s v.9 h.9) (then-one_length _ (K.one_length s v.10 h.10)
         (then-one_length _ (L.one_length s v.11 h.11) nothing-one_length))))))))))) };
 
-    ghost always_writable = { λ s v h. (
-      A.always_writable s v.0 h.0,
-      B.always_writable s v.1 h.1,
-      C.always_writable s v.2 h.2,
-      D.always_writable s v.3 h.3,
-      E.always_writable s v.4 h.4,
-      F.always_writable s v.5 h.5,
-      G.always_writable s v.6 h.6,
-      H.always_writable s v.7 h.7,
-      I.always_writable s v.8 h.8,
-      J.always_writable s v.9 h.9,
-      K.always_writable s v.10 h.10,
-      L.always_writable s v.11 h.11,
-    ) };
+    ghost always_writable = { λ s v h.
+        (A.always_writable s v.0 h.0, (B.always_writable s v.1 h.1, (C.always_writable s v.2 h.2, (D.always_writable s v.3 h.3, (E.always_writable s v.4 h.4, (F.always_writable s v.5 h.5, (G.always_writable s v.6 h.6, (H.always_writable s v.7 h.7, (I.always_writable s v.8 h.8, (J.always_writable s v.9 h.9, (K.always_writable s v.10 h.10, L.always_writable s v.11 h.11))))))))))) };
 
     ghost names_none = { λ e.
         neither (A.names_none e) (neither (B.names_none e) (neither (C.names_none e) (neither (D.names_none e) (neither (E.names_none e)
@@ -698,10 +652,7 @@ impl<
         (IsThen (λ p. M.given p v.1.1.1.1.1.1.1.1.1.1.1.1.0) IsNothing)))))))))))) m };
 
     ghost writable = { λ s v.
-        A.writable s v.0 × B.writable s v.1.0 × C.writable s v.1.1.0 × D.writable s v.1.1.1.0 × E.writable s v.1.1.1.1.0 ×
-        F.writable s v.1.1.1.1.1.0 × G.writable s v.1.1.1.1.1.1.0 × H.writable s v.1.1.1.1.1.1.1.0 × I.writable s v.1.1.1.1.1.1.1.1.0 ×
-        J.writable s v.1.1.1.1.1.1.1.1.1.0 × K.writable s v.1.1.1.1.1.1.1.1.1.1.0 × L.writable s v.1.1.1.1.1.1.1.1.1.1.1.0 ×
-        M.writable s v.1.1.1.1.1.1.1.1.1.1.1.1.0 };
+        A.writable s v.0 × (B.writable s v.1.0 × (C.writable s v.1.1.0 × (D.writable s v.1.1.1.0 × (E.writable s v.1.1.1.1.0 × (F.writable s v.1.1.1.1.1.0 × (G.writable s v.1.1.1.1.1.1.0 × (H.writable s v.1.1.1.1.1.1.1.0 × (I.writable s v.1.1.1.1.1.1.1.1.0 × (J.writable s v.1.1.1.1.1.1.1.1.1.0 × (K.writable s v.1.1.1.1.1.1.1.1.1.1.0 × (L.writable s v.1.1.1.1.1.1.1.1.1.1.1.0 × M.writable s v.1.1.1.1.1.1.1.1.1.1.1.1.0))))))))))) };
 
     ghost names = { λ e.
         A.names e ⊎ B.names e ⊎ C.names e ⊎ D.names e ⊎ E.names e ⊎ F.names e ⊎ G.names e ⊎ H.names e ⊎ I.names e ⊎ J.names e ⊎ K.names e ⊎
@@ -758,13 +709,13 @@ impl<
         (then-balanced _ (M.balanced s) nothing-balanced)))))))))))) };
 
     ghost has_word = { λ s v h w.
-        then-has_word _ (A.has_word s v.0 h.0 w.0) (then-has_word _ (B.has_word s v.1.0 h.1 w.1) (then-has_word _ (C.has_word s v.1.1.0 h.2 w.2)
-        (then-has_word _ (D.has_word s v.1.1.1.0 h.3 w.3) (then-has_word _ (E.has_word s v.1.1.1.1.0 h.4 w.4)
-        (then-has_word _ (F.has_word s v.1.1.1.1.1.0 h.5 w.5) (then-has_word _ (G.has_word s v.1.1.1.1.1.1.0 h.6 w.6)
-        (then-has_word _ (H.has_word s v.1.1.1.1.1.1.1.0 h.7 w.7) (then-has_word _ (I.has_word s v.1.1.1.1.1.1.1.1.0 h.8 w.8)
-        (then-has_word _ (J.has_word s v.1.1.1.1.1.1.1.1.1.0 h.9 w.9) (then-has_word _ (K.has_word s v.1.1.1.1.1.1.1.1.1.1.0 h.10 w.10)
-        (then-has_word _ (L.has_word s v.1.1.1.1.1.1.1.1.1.1.1.0 h.11 w.11)
-        (then-has_word _ (M.has_word s v.1.1.1.1.1.1.1.1.1.1.1.1.0 h.12 w.12) nothing-has_word)))))))))))) };
+        then-has_word _ (A.has_word s v.0 h.0 w.0) (then-has_word _ (B.has_word s v.1.0 h.1 w.1.0) (then-has_word _ (C.has_word s v.1.1.0 h.2 w.1.1.0)
+        (then-has_word _ (D.has_word s v.1.1.1.0 h.3 w.1.1.1.0) (then-has_word _ (E.has_word s v.1.1.1.1.0 h.4 w.1.1.1.1.0)
+        (then-has_word _ (F.has_word s v.1.1.1.1.1.0 h.5 w.1.1.1.1.1.0) (then-has_word _ (G.has_word s v.1.1.1.1.1.1.0 h.6 w.1.1.1.1.1.1.0)
+        (then-has_word _ (H.has_word s v.1.1.1.1.1.1.1.0 h.7 w.1.1.1.1.1.1.1.0) (then-has_word _ (I.has_word s v.1.1.1.1.1.1.1.1.0 h.8 w.1.1.1.1.1.1.1.1.0)
+        (then-has_word _ (J.has_word s v.1.1.1.1.1.1.1.1.1.0 h.9 w.1.1.1.1.1.1.1.1.1.0) (then-has_word _ (K.has_word s v.1.1.1.1.1.1.1.1.1.1.0 h.10 w.1.1.1.1.1.1.1.1.1.1.0)
+        (then-has_word _ (L.has_word s v.1.1.1.1.1.1.1.1.1.1.1.0 h.11 w.1.1.1.1.1.1.1.1.1.1.1.0)
+        (then-has_word _ (M.has_word s v.1.1.1.1.1.1.1.1.1.1.1.1.0 h.12 w.1.1.1.1.1.1.1.1.1.1.1.1) nothing-has_word)))))))))))) };
 }
 
 impl<
@@ -791,21 +742,8 @@ impl<
         (then-one_length _ (L.one_length s v.1.1.1.1.1.1.1.1.1.1.1.0 h.11)
         (then-one_length _ (M.one_length s v.1.1.1.1.1.1.1.1.1.1.1.1.0 h.12) nothing-one_length)))))))))))) };
 
-    ghost always_writable = { λ s v h. (
-      A.always_writable s v.0 h.0,
-      B.always_writable s v.1.0 h.1,
-      C.always_writable s v.1.1.0 h.2,
-      D.always_writable s v.1.1.1.0 h.3,
-      E.always_writable s v.1.1.1.1.0 h.4,
-      F.always_writable s v.1.1.1.1.1.0 h.5,
-      G.always_writable s v.1.1.1.1.1.1.0 h.6,
-      H.always_writable s v.1.1.1.1.1.1.1.0 h.7,
-      I.always_writable s v.1.1.1.1.1.1.1.1.0 h.8,
-      J.always_writable s v.1.1.1.1.1.1.1.1.1.0 h.9,
-      K.always_writable s v.1.1.1.1.1.1.1.1.1.1.0 h.10,
-      L.always_writable s v.1.1.1.1.1.1.1.1.1.1.1.0 h.11,
-      M.always_writable s v.1.1.1.1.1.1.1.1.1.1.1.1.0 h.12,
-    ) };
+    ghost always_writable = { λ s v h.
+        (A.always_writable s v.0 h.0, (B.always_writable s v.1.0 h.1, (C.always_writable s v.1.1.0 h.2, (D.always_writable s v.1.1.1.0 h.3, (E.always_writable s v.1.1.1.1.0 h.4, (F.always_writable s v.1.1.1.1.1.0 h.5, (G.always_writable s v.1.1.1.1.1.1.0 h.6, (H.always_writable s v.1.1.1.1.1.1.1.0 h.7, (I.always_writable s v.1.1.1.1.1.1.1.1.0 h.8, (J.always_writable s v.1.1.1.1.1.1.1.1.1.0 h.9, (K.always_writable s v.1.1.1.1.1.1.1.1.1.1.0 h.10, (L.always_writable s v.1.1.1.1.1.1.1.1.1.1.1.0 h.11, M.always_writable s v.1.1.1.1.1.1.1.1.1.1.1.1.0 h.12)))))))))))) };
 
     ghost names_none = { λ e.
         neither (A.names_none e) (neither (B.names_none e) (neither (C.names_none e) (neither (D.names_none e) (neither (E.names_none e)
@@ -879,10 +817,7 @@ impl<
         (IsThen (λ p. M.given p v.1.1.1.1.1.1.1.1.1.1.1.1.0) (IsThen (λ p. N.given p v.1.1.1.1.1.1.1.1.1.1.1.1.1.0) IsNothing))))))))))))) m };
 
     ghost writable = { λ s v.
-        A.writable s v.0 × B.writable s v.1.0 × C.writable s v.1.1.0 × D.writable s v.1.1.1.0 × E.writable s v.1.1.1.1.0 ×
-        F.writable s v.1.1.1.1.1.0 × G.writable s v.1.1.1.1.1.1.0 × H.writable s v.1.1.1.1.1.1.1.0 × I.writable s v.1.1.1.1.1.1.1.1.0 ×
-        J.writable s v.1.1.1.1.1.1.1.1.1.0 × K.writable s v.1.1.1.1.1.1.1.1.1.1.0 × L.writable s v.1.1.1.1.1.1.1.1.1.1.1.0 ×
-        M.writable s v.1.1.1.1.1.1.1.1.1.1.1.1.0 × N.writable s v.1.1.1.1.1.1.1.1.1.1.1.1.1.0 };
+        A.writable s v.0 × (B.writable s v.1.0 × (C.writable s v.1.1.0 × (D.writable s v.1.1.1.0 × (E.writable s v.1.1.1.1.0 × (F.writable s v.1.1.1.1.1.0 × (G.writable s v.1.1.1.1.1.1.0 × (H.writable s v.1.1.1.1.1.1.1.0 × (I.writable s v.1.1.1.1.1.1.1.1.0 × (J.writable s v.1.1.1.1.1.1.1.1.1.0 × (K.writable s v.1.1.1.1.1.1.1.1.1.1.0 × (L.writable s v.1.1.1.1.1.1.1.1.1.1.1.0 × (M.writable s v.1.1.1.1.1.1.1.1.1.1.1.1.0 × N.writable s v.1.1.1.1.1.1.1.1.1.1.1.1.1.0)))))))))))) };
 
     ghost names = { λ e.
         A.names e ⊎ B.names e ⊎ C.names e ⊎ D.names e ⊎ E.names e ⊎ F.names e ⊎ G.names e ⊎ H.names e ⊎ I.names e ⊎ J.names e ⊎ K.names e ⊎
@@ -942,13 +877,13 @@ impl<
         (then-balanced _ (M.balanced s) (then-balanced _ (N.balanced s) nothing-balanced))))))))))))) };
 
     ghost has_word = { λ s v h w.
-        then-has_word _ (A.has_word s v.0 h.0 w.0) (then-has_word _ (B.has_word s v.1.0 h.1 w.1) (then-has_word _ (C.has_word s v.1.1.0 h.2 w.2)
-        (then-has_word _ (D.has_word s v.1.1.1.0 h.3 w.3) (then-has_word _ (E.has_word s v.1.1.1.1.0 h.4 w.4)
-        (then-has_word _ (F.has_word s v.1.1.1.1.1.0 h.5 w.5) (then-has_word _ (G.has_word s v.1.1.1.1.1.1.0 h.6 w.6)
-        (then-has_word _ (H.has_word s v.1.1.1.1.1.1.1.0 h.7 w.7) (then-has_word _ (I.has_word s v.1.1.1.1.1.1.1.1.0 h.8 w.8)
-        (then-has_word _ (J.has_word s v.1.1.1.1.1.1.1.1.1.0 h.9 w.9) (then-has_word _ (K.has_word s v.1.1.1.1.1.1.1.1.1.1.0 h.10 w.10)
-        (then-has_word _ (L.has_word s v.1.1.1.1.1.1.1.1.1.1.1.0 h.11 w.11) (then-has_word _ (M.has_word s v.1.1.1.1.1.1.1.1.1.1.1.1.0 h.12 w.12)
-        (then-has_word _ (N.has_word s v.1.1.1.1.1.1.1.1.1.1.1.1.1.0 h.13 w.13) nothing-has_word))))))))))))) };
+        then-has_word _ (A.has_word s v.0 h.0 w.0) (then-has_word _ (B.has_word s v.1.0 h.1 w.1.0) (then-has_word _ (C.has_word s v.1.1.0 h.2 w.1.1.0)
+        (then-has_word _ (D.has_word s v.1.1.1.0 h.3 w.1.1.1.0) (then-has_word _ (E.has_word s v.1.1.1.1.0 h.4 w.1.1.1.1.0)
+        (then-has_word _ (F.has_word s v.1.1.1.1.1.0 h.5 w.1.1.1.1.1.0) (then-has_word _ (G.has_word s v.1.1.1.1.1.1.0 h.6 w.1.1.1.1.1.1.0)
+        (then-has_word _ (H.has_word s v.1.1.1.1.1.1.1.0 h.7 w.1.1.1.1.1.1.1.0) (then-has_word _ (I.has_word s v.1.1.1.1.1.1.1.1.0 h.8 w.1.1.1.1.1.1.1.1.0)
+        (then-has_word _ (J.has_word s v.1.1.1.1.1.1.1.1.1.0 h.9 w.1.1.1.1.1.1.1.1.1.0) (then-has_word _ (K.has_word s v.1.1.1.1.1.1.1.1.1.1.0 h.10 w.1.1.1.1.1.1.1.1.1.1.0)
+        (then-has_word _ (L.has_word s v.1.1.1.1.1.1.1.1.1.1.1.0 h.11 w.1.1.1.1.1.1.1.1.1.1.1.0) (then-has_word _ (M.has_word s v.1.1.1.1.1.1.1.1.1.1.1.1.0 h.12 w.1.1.1.1.1.1.1.1.1.1.1.1.0)
+        (then-has_word _ (N.has_word s v.1.1.1.1.1.1.1.1.1.1.1.1.1.0 h.13 w.1.1.1.1.1.1.1.1.1.1.1.1.1) nothing-has_word))))))))))))) };
 }
 
 impl<
@@ -976,22 +911,8 @@ impl<
         (then-one_length _ (L.one_length s v.1.1.1.1.1.1.1.1.1.1.1.0 h.11) (then-one_length _ (M.one_length s v.1.1.1.1.1.1.1.1.1.1.1.1.0 h.12)
         (then-one_length _ (N.one_length s v.1.1.1.1.1.1.1.1.1.1.1.1.1.0 h.13) nothing-one_length))))))))))))) };
 
-    ghost always_writable = { λ s v h. (
-      A.always_writable s v.0 h.0,
-      B.always_writable s v.1.0 h.1,
-      C.always_writable s v.1.1.0 h.2,
-      D.always_writable s v.1.1.1.0 h.3,
-      E.always_writable s v.1.1.1.1.0 h.4,
-      F.always_writable s v.1.1.1.1.1.0 h.5,
-      G.always_writable s v.1.1.1.1.1.1.0 h.6,
-      H.always_writable s v.1.1.1.1.1.1.1.0 h.7,
-      I.always_writable s v.1.1.1.1.1.1.1.1.0 h.8,
-      J.always_writable s v.1.1.1.1.1.1.1.1.1.0 h.9,
-      K.always_writable s v.1.1.1.1.1.1.1.1.1.1.0 h.10,
-      L.always_writable s v.1.1.1.1.1.1.1.1.1.1.1.0 h.11,
-      M.always_writable s v.1.1.1.1.1.1.1.1.1.1.1.1.0 h.12,
-      N.always_writable s v.1.1.1.1.1.1.1.1.1.1.1.1.1.0 h.13,
-    ) };
+    ghost always_writable = { λ s v h.
+        (A.always_writable s v.0 h.0, (B.always_writable s v.1.0 h.1, (C.always_writable s v.1.1.0 h.2, (D.always_writable s v.1.1.1.0 h.3, (E.always_writable s v.1.1.1.1.0 h.4, (F.always_writable s v.1.1.1.1.1.0 h.5, (G.always_writable s v.1.1.1.1.1.1.0 h.6, (H.always_writable s v.1.1.1.1.1.1.1.0 h.7, (I.always_writable s v.1.1.1.1.1.1.1.1.0 h.8, (J.always_writable s v.1.1.1.1.1.1.1.1.1.0 h.9, (K.always_writable s v.1.1.1.1.1.1.1.1.1.1.0 h.10, (L.always_writable s v.1.1.1.1.1.1.1.1.1.1.1.0 h.11, (M.always_writable s v.1.1.1.1.1.1.1.1.1.1.1.1.0 h.12, N.always_writable s v.1.1.1.1.1.1.1.1.1.1.1.1.1.0 h.13))))))))))))) };
 
     ghost names_none = { λ e.
         neither (A.names_none e) (neither (B.names_none e) (neither (C.names_none e) (neither (D.names_none e) (neither (E.names_none e)
@@ -1068,10 +989,7 @@ impl<
         (IsThen (λ p. O.given p v.1.1.1.1.1.1.1.1.1.1.1.1.1.1.0) IsNothing)))))))))))))) m };
 
     ghost writable = { λ s v.
-        A.writable s v.0 × B.writable s v.1.0 × C.writable s v.1.1.0 × D.writable s v.1.1.1.0 × E.writable s v.1.1.1.1.0 ×
-        F.writable s v.1.1.1.1.1.0 × G.writable s v.1.1.1.1.1.1.0 × H.writable s v.1.1.1.1.1.1.1.0 × I.writable s v.1.1.1.1.1.1.1.1.0 ×
-        J.writable s v.1.1.1.1.1.1.1.1.1.0 × K.writable s v.1.1.1.1.1.1.1.1.1.1.0 × L.writable s v.1.1.1.1.1.1.1.1.1.1.1.0 ×
-        M.writable s v.1.1.1.1.1.1.1.1.1.1.1.1.0 × N.writable s v.1.1.1.1.1.1.1.1.1.1.1.1.1.0 × O.writable s v.1.1.1.1.1.1.1.1.1.1.1.1.1.1.0 };
+        A.writable s v.0 × (B.writable s v.1.0 × (C.writable s v.1.1.0 × (D.writable s v.1.1.1.0 × (E.writable s v.1.1.1.1.0 × (F.writable s v.1.1.1.1.1.0 × (G.writable s v.1.1.1.1.1.1.0 × (H.writable s v.1.1.1.1.1.1.1.0 × (I.writable s v.1.1.1.1.1.1.1.1.0 × (J.writable s v.1.1.1.1.1.1.1.1.1.0 × (K.writable s v.1.1.1.1.1.1.1.1.1.1.0 × (L.writable s v.1.1.1.1.1.1.1.1.1.1.1.0 × (M.writable s v.1.1.1.1.1.1.1.1.1.1.1.1.0 × (N.writable s v.1.1.1.1.1.1.1.1.1.1.1.1.1.0 × O.writable s v.1.1.1.1.1.1.1.1.1.1.1.1.1.1.0))))))))))))) };
 
     ghost names = { λ e.
         A.names e ⊎ B.names e ⊎ C.names e ⊎ D.names e ⊎ E.names e ⊎ F.names e ⊎ G.names e ⊎ H.names e ⊎ I.names e ⊎ J.names e ⊎ K.names e ⊎
@@ -1134,14 +1052,14 @@ impl<
         (then-balanced _ (M.balanced s) (then-balanced _ (N.balanced s) (then-balanced _ (O.balanced s) nothing-balanced)))))))))))))) };
 
     ghost has_word = { λ s v h w.
-        then-has_word _ (A.has_word s v.0 h.0 w.0) (then-has_word _ (B.has_word s v.1.0 h.1 w.1) (then-has_word _ (C.has_word s v.1.1.0 h.2 w.2)
-        (then-has_word _ (D.has_word s v.1.1.1.0 h.3 w.3) (then-has_word _ (E.has_word s v.1.1.1.1.0 h.4 w.4)
-        (then-has_word _ (F.has_word s v.1.1.1.1.1.0 h.5 w.5) (then-has_word _ (G.has_word s v.1.1.1.1.1.1.0 h.6 w.6)
-        (then-has_word _ (H.has_word s v.1.1.1.1.1.1.1.0 h.7 w.7) (then-has_word _ (I.has_word s v.1.1.1.1.1.1.1.1.0 h.8 w.8)
-        (then-has_word _ (J.has_word s v.1.1.1.1.1.1.1.1.1.0 h.9 w.9) (then-has_word _ (K.has_word s v.1.1.1.1.1.1.1.1.1.1.0 h.10 w.10)
-        (then-has_word _ (L.has_word s v.1.1.1.1.1.1.1.1.1.1.1.0 h.11 w.11) (then-has_word _ (M.has_word s v.1.1.1.1.1.1.1.1.1.1.1.1.0 h.12 w.12)
-        (then-has_word _ (N.has_word s v.1.1.1.1.1.1.1.1.1.1.1.1.1.0 h.13 w.13)
-        (then-has_word _ (O.has_word s v.1.1.1.1.1.1.1.1.1.1.1.1.1.1.0 h.14 w.14) nothing-has_word)))))))))))))) };
+        then-has_word _ (A.has_word s v.0 h.0 w.0) (then-has_word _ (B.has_word s v.1.0 h.1 w.1.0) (then-has_word _ (C.has_word s v.1.1.0 h.2 w.1.1.0)
+        (then-has_word _ (D.has_word s v.1.1.1.0 h.3 w.1.1.1.0) (then-has_word _ (E.has_word s v.1.1.1.1.0 h.4 w.1.1.1.1.0)
+        (then-has_word _ (F.has_word s v.1.1.1.1.1.0 h.5 w.1.1.1.1.1.0) (then-has_word _ (G.has_word s v.1.1.1.1.1.1.0 h.6 w.1.1.1.1.1.1.0)
+        (then-has_word _ (H.has_word s v.1.1.1.1.1.1.1.0 h.7 w.1.1.1.1.1.1.1.0) (then-has_word _ (I.has_word s v.1.1.1.1.1.1.1.1.0 h.8 w.1.1.1.1.1.1.1.1.0)
+        (then-has_word _ (J.has_word s v.1.1.1.1.1.1.1.1.1.0 h.9 w.1.1.1.1.1.1.1.1.1.0) (then-has_word _ (K.has_word s v.1.1.1.1.1.1.1.1.1.1.0 h.10 w.1.1.1.1.1.1.1.1.1.1.0)
+        (then-has_word _ (L.has_word s v.1.1.1.1.1.1.1.1.1.1.1.0 h.11 w.1.1.1.1.1.1.1.1.1.1.1.0) (then-has_word _ (M.has_word s v.1.1.1.1.1.1.1.1.1.1.1.1.0 h.12 w.1.1.1.1.1.1.1.1.1.1.1.1.0)
+        (then-has_word _ (N.has_word s v.1.1.1.1.1.1.1.1.1.1.1.1.1.0 h.13 w.1.1.1.1.1.1.1.1.1.1.1.1.1.0)
+        (then-has_word _ (O.has_word s v.1.1.1.1.1.1.1.1.1.1.1.1.1.1.0 h.14 w.1.1.1.1.1.1.1.1.1.1.1.1.1.1) nothing-has_word)))))))))))))) };
 }
 
 impl<
@@ -1171,23 +1089,8 @@ impl<
         (then-one_length _ (N.one_length s v.1.1.1.1.1.1.1.1.1.1.1.1.1.0 h.13)
         (then-one_length _ (O.one_length s v.1.1.1.1.1.1.1.1.1.1.1.1.1.1.0 h.14) nothing-one_length)))))))))))))) };
 
-    ghost always_writable = { λ s v h. (
-      A.always_writable s v.0 h.0,
-      B.always_writable s v.1.0 h.1,
-      C.always_writable s v.1.1.0 h.2,
-      D.always_writable s v.1.1.1.0 h.3,
-      E.always_writable s v.1.1.1.1.0 h.4,
-      F.always_writable s v.1.1.1.1.1.0 h.5,
-      G.always_writable s v.1.1.1.1.1.1.0 h.6,
-      H.always_writable s v.1.1.1.1.1.1.1.0 h.7,
-      I.always_writable s v.1.1.1.1.1.1.1.1.0 h.8,
-      J.always_writable s v.1.1.1.1.1.1.1.1.1.0 h.9,
-      K.always_writable s v.1.1.1.1.1.1.1.1.1.1.0 h.10,
-      L.always_writable s v.1.1.1.1.1.1.1.1.1.1.1.0 h.11,
-      M.always_writable s v.1.1.1.1.1.1.1.1.1.1.1.1.0 h.12,
-      N.always_writable s v.1.1.1.1.1.1.1.1.1.1.1.1.1.0 h.13,
-      O.always_writable s v.1.1.1.1.1.1.1.1.1.1.1.1.1.1.0 h.14,
-    ) };
+    ghost always_writable = { λ s v h.
+        (A.always_writable s v.0 h.0, (B.always_writable s v.1.0 h.1, (C.always_writable s v.1.1.0 h.2, (D.always_writable s v.1.1.1.0 h.3, (E.always_writable s v.1.1.1.1.0 h.4, (F.always_writable s v.1.1.1.1.1.0 h.5, (G.always_writable s v.1.1.1.1.1.1.0 h.6, (H.always_writable s v.1.1.1.1.1.1.1.0 h.7, (I.always_writable s v.1.1.1.1.1.1.1.1.0 h.8, (J.always_writable s v.1.1.1.1.1.1.1.1.1.0 h.9, (K.always_writable s v.1.1.1.1.1.1.1.1.1.1.0 h.10, (L.always_writable s v.1.1.1.1.1.1.1.1.1.1.1.0 h.11, (M.always_writable s v.1.1.1.1.1.1.1.1.1.1.1.1.0 h.12, (N.always_writable s v.1.1.1.1.1.1.1.1.1.1.1.1.1.0 h.13, O.always_writable s v.1.1.1.1.1.1.1.1.1.1.1.1.1.1.0 h.14)))))))))))))) };
 
     ghost names_none = { λ e.
         neither (A.names_none e) (neither (B.names_none e) (neither (C.names_none e) (neither (D.names_none e) (neither (E.names_none e)
@@ -1268,11 +1171,7 @@ impl<
         (IsThen (λ p. P.given p v.1.1.1.1.1.1.1.1.1.1.1.1.1.1.1.0) IsNothing))))))))))))))) m };
 
     ghost writable = { λ s v.
-        A.writable s v.0 × B.writable s v.1.0 × C.writable s v.1.1.0 × D.writable s v.1.1.1.0 × E.writable s v.1.1.1.1.0 ×
-        F.writable s v.1.1.1.1.1.0 × G.writable s v.1.1.1.1.1.1.0 × H.writable s v.1.1.1.1.1.1.1.0 × I.writable s v.1.1.1.1.1.1.1.1.0 ×
-        J.writable s v.1.1.1.1.1.1.1.1.1.0 × K.writable s v.1.1.1.1.1.1.1.1.1.1.0 × L.writable s v.1.1.1.1.1.1.1.1.1.1.1.0 ×
-        M.writable s v.1.1.1.1.1.1.1.1.1.1.1.1.0 × N.writable s v.1.1.1.1.1.1.1.1.1.1.1.1.1.0 × O.writable s v.1.1.1.1.1.1.1.1.1.1.1.1.1.1.0 ×
-        P.writable s v.1.1.1.1.1.1.1.1.1.1.1.1.1.1.1.0 };
+        A.writable s v.0 × (B.writable s v.1.0 × (C.writable s v.1.1.0 × (D.writable s v.1.1.1.0 × (E.writable s v.1.1.1.1.0 × (F.writable s v.1.1.1.1.1.0 × (G.writable s v.1.1.1.1.1.1.0 × (H.writable s v.1.1.1.1.1.1.1.0 × (I.writable s v.1.1.1.1.1.1.1.1.0 × (J.writable s v.1.1.1.1.1.1.1.1.1.0 × (K.writable s v.1.1.1.1.1.1.1.1.1.1.0 × (L.writable s v.1.1.1.1.1.1.1.1.1.1.1.0 × (M.writable s v.1.1.1.1.1.1.1.1.1.1.1.1.0 × (N.writable s v.1.1.1.1.1.1.1.1.1.1.1.1.1.0 × (O.writable s v.1.1.1.1.1.1.1.1.1.1.1.1.1.1.0 × P.writable s v.1.1.1.1.1.1.1.1.1.1.1.1.1.1.1.0)))))))))))))) };
 
     ghost names = { λ e.
         A.names e ⊎ B.names e ⊎ C.names e ⊎ D.names e ⊎ E.names e ⊎ F.names e ⊎ G.names e ⊎ H.names e ⊎ I.names e ⊎ J.names e ⊎ K.names e ⊎
@@ -1338,15 +1237,15 @@ impl<
         (then-balanced _ (P.balanced s) nothing-balanced))))))))))))))) };
 
     ghost has_word = { λ s v h w.
-        then-has_word _ (A.has_word s v.0 h.0 w.0) (then-has_word _ (B.has_word s v.1.0 h.1 w.1) (then-has_word _ (C.has_word s v.1.1.0 h.2 w.2)
-        (then-has_word _ (D.has_word s v.1.1.1.0 h.3 w.3) (then-has_word _ (E.has_word s v.1.1.1.1.0 h.4 w.4)
-        (then-has_word _ (F.has_word s v.1.1.1.1.1.0 h.5 w.5) (then-has_word _ (G.has_word s v.1.1.1.1.1.1.0 h.6 w.6)
-        (then-has_word _ (H.has_word s v.1.1.1.1.1.1.1.0 h.7 w.7) (then-has_word _ (I.has_word s v.1.1.1.1.1.1.1.1.0 h.8 w.8)
-        (then-has_word _ (J.has_word s v.1.1.1.1.1.1.1.1.1.0 h.9 w.9) (then-has_word _ (K.has_word s v.1.1.1.1.1.1.1.1.1.1.0 h.10 w.10)
-        (then-has_word _ (L.has_word s v.1.1.1.1.1.1.1.1.1.1.1.0 h.11 w.11) (then-has_word _ (M.has_word s v.1.1.1.1.1.1.1.1.1.1.1.1.0 h.12 w.12)
-        (then-has_word _ (N.has_word s v.1.1.1.1.1.1.1.1.1.1.1.1.1.0 h.13 w.13)
-        (then-has_word _ (O.has_word s v.1.1.1.1.1.1.1.1.1.1.1.1.1.1.0 h.14 w.14)
-        (then-has_word _ (P.has_word s v.1.1.1.1.1.1.1.1.1.1.1.1.1.1.1.0 h.15 w.15) nothing-has_word))))))))))))))) };
+        then-has_word _ (A.has_word s v.0 h.0 w.0) (then-has_word _ (B.has_word s v.1.0 h.1 w.1.0) (then-has_word _ (C.has_word s v.1.1.0 h.2 w.1.1.0)
+        (then-has_word _ (D.has_word s v.1.1.1.0 h.3 w.1.1.1.0) (then-has_word _ (E.has_word s v.1.1.1.1.0 h.4 w.1.1.1.1.0)
+        (then-has_word _ (F.has_word s v.1.1.1.1.1.0 h.5 w.1.1.1.1.1.0) (then-has_word _ (G.has_word s v.1.1.1.1.1.1.0 h.6 w.1.1.1.1.1.1.0)
+        (then-has_word _ (H.has_word s v.1.1.1.1.1.1.1.0 h.7 w.1.1.1.1.1.1.1.0) (then-has_word _ (I.has_word s v.1.1.1.1.1.1.1.1.0 h.8 w.1.1.1.1.1.1.1.1.0)
+        (then-has_word _ (J.has_word s v.1.1.1.1.1.1.1.1.1.0 h.9 w.1.1.1.1.1.1.1.1.1.0) (then-has_word _ (K.has_word s v.1.1.1.1.1.1.1.1.1.1.0 h.10 w.1.1.1.1.1.1.1.1.1.1.0)
+        (then-has_word _ (L.has_word s v.1.1.1.1.1.1.1.1.1.1.1.0 h.11 w.1.1.1.1.1.1.1.1.1.1.1.0) (then-has_word _ (M.has_word s v.1.1.1.1.1.1.1.1.1.1.1.1.0 h.12 w.1.1.1.1.1.1.1.1.1.1.1.1.0)
+        (then-has_word _ (N.has_word s v.1.1.1.1.1.1.1.1.1.1.1.1.1.0 h.13 w.1.1.1.1.1.1.1.1.1.1.1.1.1.0)
+        (then-has_word _ (O.has_word s v.1.1.1.1.1.1.1.1.1.1.1.1.1.1.0 h.14 w.1.1.1.1.1.1.1.1.1.1.1.1.1.1.0)
+        (then-has_word _ (P.has_word s v.1.1.1.1.1.1.1.1.1.1.1.1.1.1.1.0 h.15 w.1.1.1.1.1.1.1.1.1.1.1.1.1.1.1) nothing-has_word))))))))))))))) };
 }
 
 impl<
@@ -1378,24 +1277,8 @@ impl<
         (then-one_length _ (O.one_length s v.1.1.1.1.1.1.1.1.1.1.1.1.1.1.0 h.14)
         (then-one_length _ (P.one_length s v.1.1.1.1.1.1.1.1.1.1.1.1.1.1.1.0 h.15) nothing-one_length))))))))))))))) };
 
-    ghost always_writable = { λ s v h. (
-      A.always_writable s v.0 h.0,
-      B.always_writable s v.1.0 h.1,
-      C.always_writable s v.1.1.0 h.2,
-      D.always_writable s v.1.1.1.0 h.3,
-      E.always_writable s v.1.1.1.1.0 h.4,
-      F.always_writable s v.1.1.1.1.1.0 h.5,
-      G.always_writable s v.1.1.1.1.1.1.0 h.6,
-      H.always_writable s v.1.1.1.1.1.1.1.0 h.7,
-      I.always_writable s v.1.1.1.1.1.1.1.1.0 h.8,
-      J.always_writable s v.1.1.1.1.1.1.1.1.1.0 h.9,
-      K.always_writable s v.1.1.1.1.1.1.1.1.1.1.0 h.10,
-      L.always_writable s v.1.1.1.1.1.1.1.1.1.1.1.0 h.11,
-      M.always_writable s v.1.1.1.1.1.1.1.1.1.1.1.1.0 h.12,
-      N.always_writable s v.1.1.1.1.1.1.1.1.1.1.1.1.1.0 h.13,
-      O.always_writable s v.1.1.1.1.1.1.1.1.1.1.1.1.1.1.0 h.14,
-      P.always_writable s v.1.1.1.1.1.1.1.1.1.1.1.1.1.1.1.0 h.15,
-    ) };
+    ghost always_writable = { λ s v h.
+        (A.always_writable s v.0 h.0, (B.always_writable s v.1.0 h.1, (C.always_writable s v.1.1.0 h.2, (D.always_writable s v.1.1.1.0 h.3, (E.always_writable s v.1.1.1.1.0 h.4, (F.always_writable s v.1.1.1.1.1.0 h.5, (G.always_writable s v.1.1.1.1.1.1.0 h.6, (H.always_writable s v.1.1.1.1.1.1.1.0 h.7, (I.always_writable s v.1.1.1.1.1.1.1.1.0 h.8, (J.always_writable s v.1.1.1.1.1.1.1.1.1.0 h.9, (K.always_writable s v.1.1.1.1.1.1.1.1.1.1.0 h.10, (L.always_writable s v.1.1.1.1.1.1.1.1.1.1.1.0 h.11, (M.always_writable s v.1.1.1.1.1.1.1.1.1.1.1.1.0 h.12, (N.always_writable s v.1.1.1.1.1.1.1.1.1.1.1.1.1.0 h.13, (O.always_writable s v.1.1.1.1.1.1.1.1.1.1.1.1.1.1.0 h.14, P.always_writable s v.1.1.1.1.1.1.1.1.1.1.1.1.1.1.1.0 h.15))))))))))))))) };
 
     ghost names_none = { λ e.
         neither (A.names_none e) (neither (B.names_none e) (neither (C.names_none e) (neither (D.names_none e) (neither (E.names_none e)

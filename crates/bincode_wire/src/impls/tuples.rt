@@ -178,7 +178,8 @@ impl<A: Wire, B: Wire, C: Wire> Wire for (A, B, C) {
 
     ghost given = { λ m v. IsThen (λ p. A.given p v.0) (IsThen (λ p. B.given p v.1) (IsThen (λ p. C.given p v.2) IsNothing)) m };
 
-    ghost writable = { λ s v. A.writable s v.0 × B.writable s v.1 × C.writable s v.2 };
+    ghost writable = { λ s v.
+        A.writable s v.0 × (B.writable s v.1 × C.writable s v.2) };
 
     ghost names = { λ e. A.names e ⊎ B.names e ⊎ C.names e };
 
@@ -201,8 +202,8 @@ impl<A: Wire, B: Wire, C: Wire> Wire for (A, B, C) {
     ghost balanced = { λ s. then-balanced _ (A.balanced s) (then-balanced _ (B.balanced s) (then-balanced _ (C.balanced s) nothing-balanced)) };
 
     ghost has_word = { λ s v h w.
-        then-has_word _ (A.has_word s v.0 h.0 w.0) (then-has_word _ (B.has_word s v.1 h.1 w.1)
-        (then-has_word _ (C.has_word s v.2 h.2 w.2) nothing-has_word)) };
+        then-has_word _ (A.has_word s v.0 h.0 w.0) (then-has_word _ (B.has_word s v.1 h.1 w.1.0)
+        (then-has_word _ (C.has_word s v.2 h.2 w.1.1) nothing-has_word)) };
 }
 
 impl<A: Plain, B: Plain, C: Plain> Plain for (A, B, C) {
@@ -210,7 +211,8 @@ impl<A: Plain, B: Plain, C: Plain> Plain for (A, B, C) {
         then-one_length _ (A.one_length s v.0 h.0) (then-one_length _ (B.one_length s v.1 h.1)
         (then-one_length _ (C.one_length s v.2 h.2) nothing-one_length)) };
 
-    ghost always_writable = { λ s v h. (A.always_writable s v.0 h.0, B.always_writable s v.1 h.1, C.always_writable s v.2 h.2) };
+    ghost always_writable = { λ s v h.
+        (A.always_writable s v.0 h.0, (B.always_writable s v.1 h.1, C.always_writable s v.2 h.2)) };
 
     ghost names_none = { λ e. neither (A.names_none e) (neither (B.names_none e) (C.names_none e)) };
 }
@@ -240,7 +242,8 @@ impl<A: Wire, B: Wire, C: Wire, D: Wire> Wire for (A, B, C, D) {
 
     ghost given = { λ m v. IsThen (λ p. A.given p v.0) (IsThen (λ p. B.given p v.1) (IsThen (λ p. C.given p v.2) (IsThen (λ p. D.given p v.3) IsNothing))) m };
 
-    ghost writable = { λ s v. A.writable s v.0 × B.writable s v.1 × C.writable s v.2 × D.writable s v.3 };
+    ghost writable = { λ s v.
+        A.writable s v.0 × (B.writable s v.1 × (C.writable s v.2 × D.writable s v.3)) };
 
     ghost names = { λ e. A.names e ⊎ B.names e ⊎ C.names e ⊎ D.names e };
 
@@ -271,8 +274,8 @@ impl<A: Wire, B: Wire, C: Wire, D: Wire> Wire for (A, B, C, D) {
         (then-balanced _ (D.balanced s) nothing-balanced))) };
 
     ghost has_word = { λ s v h w.
-        then-has_word _ (A.has_word s v.0 h.0 w.0) (then-has_word _ (B.has_word s v.1 h.1 w.1) (then-has_word _ (C.has_word s v.2 h.2 w.2)
-        (then-has_word _ (D.has_word s v.3 h.3 w.3) nothing-has_word))) };
+        then-has_word _ (A.has_word s v.0 h.0 w.0) (then-has_word _ (B.has_word s v.1 h.1 w.1.0) (then-has_word _ (C.has_word s v.2 h.2 w.1.1.0)
+        (then-has_word _ (D.has_word s v.3 h.3 w.1.1.1) nothing-has_word))) };
 }
 
 impl<A: Plain, B: Plain, C: Plain, D: Plain> Plain for (A, B, C, D) {
@@ -280,7 +283,8 @@ impl<A: Plain, B: Plain, C: Plain, D: Plain> Plain for (A, B, C, D) {
         then-one_length _ (A.one_length s v.0 h.0) (then-one_length _ (B.one_length s v.1 h.1) (then-one_length _ (C.one_length s v.2 h.2)
         (then-one_length _ (D.one_length s v.3 h.3) nothing-one_length))) };
 
-    ghost always_writable = { λ s v h. (A.always_writable s v.0 h.0, B.always_writable s v.1 h.1, C.always_writable s v.2 h.2, D.always_writable s v.3 h.3) };
+    ghost always_writable = { λ s v h.
+        (A.always_writable s v.0 h.0, (B.always_writable s v.1 h.1, (C.always_writable s v.2 h.2, D.always_writable s v.3 h.3))) };
 
     ghost names_none = { λ e. neither (A.names_none e) (neither (B.names_none e) (neither (C.names_none e) (D.names_none e))) };
 }
@@ -312,7 +316,8 @@ impl<A: Wire, B: Wire, C: Wire, D: Wire, E: Wire> Wire for (A, B, C, D, E) {
         IsThen (λ p. A.given p v.0) (IsThen (λ p. B.given p v.1) (IsThen (λ p. C.given p v.2) (IsThen (λ p. D.given p v.3)
         (IsThen (λ p. E.given p v.4) IsNothing)))) m };
 
-    ghost writable = { λ s v. A.writable s v.0 × B.writable s v.1 × C.writable s v.2 × D.writable s v.3 × E.writable s v.4 };
+    ghost writable = { λ s v.
+        A.writable s v.0 × (B.writable s v.1 × (C.writable s v.2 × (D.writable s v.3 × E.writable s v.4))) };
 
     ghost names = { λ e. A.names e ⊎ B.names e ⊎ C.names e ⊎ D.names e ⊎ E.names e };
 
@@ -347,8 +352,8 @@ impl<A: Wire, B: Wire, C: Wire, D: Wire, E: Wire> Wire for (A, B, C, D, E) {
         (then-balanced _ (E.balanced s) nothing-balanced)))) };
 
     ghost has_word = { λ s v h w.
-        then-has_word _ (A.has_word s v.0 h.0 w.0) (then-has_word _ (B.has_word s v.1 h.1 w.1) (then-has_word _ (C.has_word s v.2 h.2 w.2)
-        (then-has_word _ (D.has_word s v.3 h.3 w.3) (then-has_word _ (E.has_word s v.4 h.4 w.4) nothing-has_word)))) };
+        then-has_word _ (A.has_word s v.0 h.0 w.0) (then-has_word _ (B.has_word s v.1 h.1 w.1.0) (then-has_word _ (C.has_word s v.2 h.2 w.1.1.0)
+        (then-has_word _ (D.has_word s v.3 h.3 w.1.1.1.0) (then-has_word _ (E.has_word s v.4 h.4 w.1.1.1.1) nothing-has_word)))) };
 }
 
 impl<A: Plain, B: Plain, C: Plain, D: Plain, E: Plain> Plain for (A, B, C, D, E) {
@@ -356,13 +361,8 @@ impl<A: Plain, B: Plain, C: Plain, D: Plain, E: Plain> Plain for (A, B, C, D, E)
         then-one_length _ (A.one_length s v.0 h.0) (then-one_length _ (B.one_length s v.1 h.1) (then-one_length _ (C.one_length s v.2 h.2)
         (then-one_length _ (D.one_length s v.3 h.3) (then-one_length _ (E.one_length s v.4 h.4) nothing-one_length)))) };
 
-    ghost always_writable = { λ s v h. (
-      A.always_writable s v.0 h.0,
-      B.always_writable s v.1 h.1,
-      C.always_writable s v.2 h.2,
-      D.always_writable s v.3 h.3,
-      E.always_writable s v.4 h.4,
-    ) };
+    ghost always_writable = { λ s v h.
+        (A.always_writable s v.0 h.0, (B.always_writable s v.1 h.1, (C.always_writable s v.2 h.2, (D.always_writable s v.3 h.3, E.always_writable s v.4 h.4)))) };
 
     ghost names_none = { λ e. neither (A.names_none e) (neither (B.names_none e) (neither (C.names_none e) (neither (D.names_none e) (E.names_none e)))) };
 }
@@ -399,7 +399,8 @@ impl<A: Wire, B: Wire, C: Wire, D: Wire, E: Wire, F: Wire> Wire for (A, B, C, D,
         IsThen (λ p. A.given p v.0) (IsThen (λ p. B.given p v.1) (IsThen (λ p. C.given p v.2) (IsThen (λ p. D.given p v.3)
         (IsThen (λ p. E.given p v.4) (IsThen (λ p. F.given p v.5) IsNothing))))) m };
 
-    ghost writable = { λ s v. A.writable s v.0 × B.writable s v.1 × C.writable s v.2 × D.writable s v.3 × E.writable s v.4 × F.writable s v.5 };
+    ghost writable = { λ s v.
+        A.writable s v.0 × (B.writable s v.1 × (C.writable s v.2 × (D.writable s v.3 × (E.writable s v.4 × F.writable s v.5)))) };
 
     ghost names = { λ e. A.names e ⊎ B.names e ⊎ C.names e ⊎ D.names e ⊎ E.names e ⊎ F.names e };
 
@@ -436,9 +437,9 @@ impl<A: Wire, B: Wire, C: Wire, D: Wire, E: Wire, F: Wire> Wire for (A, B, C, D,
         (then-balanced _ (E.balanced s) (then-balanced _ (F.balanced s) nothing-balanced))))) };
 
     ghost has_word = { λ s v h w.
-        then-has_word _ (A.has_word s v.0 h.0 w.0) (then-has_word _ (B.has_word s v.1 h.1 w.1) (then-has_word _ (C.has_word s v.2 h.2 w.2)
-        (then-has_word _ (D.has_word s v.3 h.3 w.3) (then-has_word _ (E.has_word s v.4 h.4 w.4)
-        (then-has_word _ (F.has_word s v.5 h.5 w.5) nothing-has_word))))) };
+        then-has_word _ (A.has_word s v.0 h.0 w.0) (then-has_word _ (B.has_word s v.1 h.1 w.1.0) (then-has_word _ (C.has_word s v.2 h.2 w.1.1.0)
+        (then-has_word _ (D.has_word s v.3 h.3 w.1.1.1.0) (then-has_word _ (E.has_word s v.4 h.4 w.1.1.1.1.0)
+        (then-has_word _ (F.has_word s v.5 h.5 w.1.1.1.1.1) nothing-has_word))))) };
 }
 
 impl<A: Plain, B: Plain, C: Plain, D: Plain, E: Plain, F: Plain> Plain for (A, B, C, D, E, F) {
@@ -447,14 +448,8 @@ impl<A: Plain, B: Plain, C: Plain, D: Plain, E: Plain, F: Plain> Plain for (A, B
         (then-one_length _ (D.one_length s v.3 h.3) (then-one_length _ (E.one_length s v.4 h.4)
         (then-one_length _ (F.one_length s v.5 h.5) nothing-one_length))))) };
 
-    ghost always_writable = { λ s v h. (
-      A.always_writable s v.0 h.0,
-      B.always_writable s v.1 h.1,
-      C.always_writable s v.2 h.2,
-      D.always_writable s v.3 h.3,
-      E.always_writable s v.4 h.4,
-      F.always_writable s v.5 h.5,
-    ) };
+    ghost always_writable = { λ s v h.
+        (A.always_writable s v.0 h.0, (B.always_writable s v.1 h.1, (C.always_writable s v.2 h.2, (D.always_writable s v.3 h.3, (E.always_writable s v.4 h.4, F.always_writable s v.5 h.5))))) };
 
     ghost names_none = { λ e.
         neither (A.names_none e) (neither (B.names_none e) (neither (C.names_none e) (neither (D.names_none e)
@@ -495,7 +490,7 @@ impl<A: Wire, B: Wire, C: Wire, D: Wire, E: Wire, F: Wire, G: Wire> Wire for (A,
         (IsThen (λ p. E.given p v.4) (IsThen (λ p. F.given p v.5) (IsThen (λ p. G.given p v.6) IsNothing)))))) m };
 
     ghost writable = { λ s v.
-        A.writable s v.0 × B.writable s v.1 × C.writable s v.2 × D.writable s v.3 × E.writable s v.4 × F.writable s v.5 × G.writable s v.6 };
+        A.writable s v.0 × (B.writable s v.1 × (C.writable s v.2 × (D.writable s v.3 × (E.writable s v.4 × (F.writable s v.5 × G.writable s v.6))))) };
 
     ghost names = { λ e. A.names e ⊎ B.names e ⊎ C.names e ⊎ D.names e ⊎ E.names e ⊎ F.names e ⊎ G.names e };
 
@@ -534,9 +529,9 @@ impl<A: Wire, B: Wire, C: Wire, D: Wire, E: Wire, F: Wire, G: Wire> Wire for (A,
         (then-balanced _ (E.balanced s) (then-balanced _ (F.balanced s) (then-balanced _ (G.balanced s) nothing-balanced)))))) };
 
     ghost has_word = { λ s v h w.
-        then-has_word _ (A.has_word s v.0 h.0 w.0) (then-has_word _ (B.has_word s v.1 h.1 w.1) (then-has_word _ (C.has_word s v.2 h.2 w.2)
-        (then-has_word _ (D.has_word s v.3 h.3 w.3) (then-has_word _ (E.has_word s v.4 h.4 w.4) (then-has_word _ (F.has_word s v.5 h.5 w.5)
-        (then-has_word _ (G.has_word s v.6 h.6 w.6) nothing-has_word)))))) };
+        then-has_word _ (A.has_word s v.0 h.0 w.0) (then-has_word _ (B.has_word s v.1 h.1 w.1.0) (then-has_word _ (C.has_word s v.2 h.2 w.1.1.0)
+        (then-has_word _ (D.has_word s v.3 h.3 w.1.1.1.0) (then-has_word _ (E.has_word s v.4 h.4 w.1.1.1.1.0) (then-has_word _ (F.has_word s v.5 h.5 w.1.1.1.1.1.0)
+        (then-has_word _ (G.has_word s v.6 h.6 w.1.1.1.1.1.1) nothing-has_word)))))) };
 }
 
 impl<A: Plain, B: Plain, C: Plain, D: Plain, E: Plain, F: Plain, G: Plain> Plain
@@ -546,15 +541,8 @@ impl<A: Plain, B: Plain, C: Plain, D: Plain, E: Plain, F: Plain, G: Plain> Plain
         (then-one_length _ (D.one_length s v.3 h.3) (then-one_length _ (E.one_length s v.4 h.4) (then-one_length _ (F.one_length s v.5 h.5)
         (then-one_length _ (G.one_length s v.6 h.6) nothing-one_length)))))) };
 
-    ghost always_writable = { λ s v h. (
-      A.always_writable s v.0 h.0,
-      B.always_writable s v.1 h.1,
-      C.always_writable s v.2 h.2,
-      D.always_writable s v.3 h.3,
-      E.always_writable s v.4 h.4,
-      F.always_writable s v.5 h.5,
-      G.always_writable s v.6 h.6,
-    ) };
+    ghost always_writable = { λ s v h.
+        (A.always_writable s v.0 h.0, (B.always_writable s v.1 h.1, (C.always_writable s v.2 h.2, (D.always_writable s v.3 h.3, (E.always_writable s v.4 h.4, (F.always_writable s v.5 h.5, G.always_writable s v.6 h.6)))))) };
 
     ghost names_none = { λ e.
         neither (A.names_none e) (neither (B.names_none e) (neither (C.names_none e) (neither (D.names_none e) (neither (E.names_none e)
@@ -606,8 +594,7 @@ impl<A: Wire, B: Wire, C: Wire, D: Wire, E: Wire, F: Wire, G: Wire, H: Wire> Wir
         (IsThen (λ p. E.given p v.4) (IsThen (λ p. F.given p v.5) (IsThen (λ p. G.given p v.6) (IsThen (λ p. H.given p v.7) IsNothing))))))) m };
 
     ghost writable = { λ s v.
-        A.writable s v.0 × B.writable s v.1 × C.writable s v.2 × D.writable s v.3 × E.writable s v.4 × F.writable s v.5 × G.writable s v.6 ×
-        H.writable s v.7 };
+        A.writable s v.0 × (B.writable s v.1 × (C.writable s v.2 × (D.writable s v.3 × (E.writable s v.4 × (F.writable s v.5 × (G.writable s v.6 × H.writable s v.7)))))) };
 
     ghost names = { λ e. A.names e ⊎ B.names e ⊎ C.names e ⊎ D.names e ⊎ E.names e ⊎ F.names e ⊎ G.names e ⊎ H.names e };
 
@@ -649,9 +636,9 @@ impl<A: Wire, B: Wire, C: Wire, D: Wire, E: Wire, F: Wire, G: Wire, H: Wire> Wir
         (then-balanced _ (H.balanced s) nothing-balanced))))))) };
 
     ghost has_word = { λ s v h w.
-        then-has_word _ (A.has_word s v.0 h.0 w.0) (then-has_word _ (B.has_word s v.1 h.1 w.1) (then-has_word _ (C.has_word s v.2 h.2 w.2)
-        (then-has_word _ (D.has_word s v.3 h.3 w.3) (then-has_word _ (E.has_word s v.4 h.4 w.4) (then-has_word _ (F.has_word s v.5 h.5 w.5)
-        (then-has_word _ (G.has_word s v.6 h.6 w.6) (then-has_word _ (H.has_word s v.7 h.7 w.7) nothing-has_word))))))) };
+        then-has_word _ (A.has_word s v.0 h.0 w.0) (then-has_word _ (B.has_word s v.1 h.1 w.1.0) (then-has_word _ (C.has_word s v.2 h.2 w.1.1.0)
+        (then-has_word _ (D.has_word s v.3 h.3 w.1.1.1.0) (then-has_word _ (E.has_word s v.4 h.4 w.1.1.1.1.0) (then-has_word _ (F.has_word s v.5 h.5 w.1.1.1.1.1.0)
+        (then-has_word _ (G.has_word s v.6 h.6 w.1.1.1.1.1.1.0) (then-has_word _ (H.has_word s v.7 h.7 w.1.1.1.1.1.1.1) nothing-has_word))))))) };
 }
 
 impl<A: Plain, B: Plain, C: Plain, D: Plain, E: Plain, F: Plain, G: Plain, H: Plain> Plain
@@ -661,16 +648,8 @@ impl<A: Plain, B: Plain, C: Plain, D: Plain, E: Plain, F: Plain, G: Plain, H: Pl
         (then-one_length _ (D.one_length s v.3 h.3) (then-one_length _ (E.one_length s v.4 h.4) (then-one_length _ (F.one_length s v.5 h.5)
         (then-one_length _ (G.one_length s v.6 h.6) (then-one_length _ (H.one_length s v.7 h.7) nothing-one_length))))))) };
 
-    ghost always_writable = { λ s v h. (
-      A.always_writable s v.0 h.0,
-      B.always_writable s v.1 h.1,
-      C.always_writable s v.2 h.2,
-      D.always_writable s v.3 h.3,
-      E.always_writable s v.4 h.4,
-      F.always_writable s v.5 h.5,
-      G.always_writable s v.6 h.6,
-      H.always_writable s v.7 h.7,
-    ) };
+    ghost always_writable = { λ s v h.
+        (A.always_writable s v.0 h.0, (B.always_writable s v.1 h.1, (C.always_writable s v.2 h.2, (D.always_writable s v.3 h.3, (E.always_writable s v.4 h.4, (F.always_writable s v.5 h.5, (G.always_writable s v.6 h.6, H.always_writable s v.7 h.7))))))) };
 
     ghost names_none = { λ e.
         neither (A.names_none e) (neither (B.names_none e) (neither (C.names_none e) (neither (D.names_none e) (neither (E.names_none e)

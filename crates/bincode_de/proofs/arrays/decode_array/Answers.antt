@@ -1,6 +1,6 @@
 use Rattle.std.proofs.Common.{inl}
 use Rattle.std.proofs.lemmas.Result.{IfErr-weaker}
-use Rattle.bincode_de.proofs.Unwrapped.{stops-besides}
+use Rattle.bincode_wire.specs.DecodingLaws.{stops-besides}
 use Rattle.bincode_de.proofs.arrays.decode_array.Goals as goal
 
 pub returns-clause-err : goal.returns-clause-err

@@ -6,7 +6,7 @@ use Rattle.bincode_enc.proofs.run.encode_run.Goals as goal
 pub returns-in_err-encode-clause-err : goal.returns-in_err-encode-clause-err
 returns-in_err-encode-clause-err g c =
     let p = err_from_is_err_and c.from_residual.result c.from_residual.ensures.1 in
-    rw (p.1, p.2) (halts_array _ _ _ _ _ _ _ _ _ _ _ refl (halts_at _ _ g.met.E.W.Writer.adds_join _ _ _ _ _ c.args.items.now c.loop-item.item-index _ _ (omega arith) c.item-item.is c.loop-item.invariant.0 c.in_err-encode.ensures.err))
+    rw (p.1, p.2) (halts_array _ _ _ _ _ _ _ _ _ _ _ _ refl (halts_at _ _ g.met.E.W.Writer.adds_join (g.T.Wire.writable g.E.C.Config.setting) _ _ _ _ _ c.args.items.now c.loop-item.item-index _ _ (omega arith) c.item-item.is c.loop-item.invariant.0 c.in_err-encode.ensures.err))
 
 pub loop-item-preserved : goal.loop-item-preserved
 loop-item-preserved g c =

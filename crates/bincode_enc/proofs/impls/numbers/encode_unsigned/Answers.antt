@@ -1,6 +1,6 @@
 use Rattle.std.proofs.lemmas.Result.{IfErr-weaker, on_ok_weaker}
 use Rattle.bincode_wire.specs.AllowedLaws.{unsigned-allows}
-use Rattle.bincode_enc.specs.EncodingLaws.{writes_alone, halts_spelled}
+use Rattle.bincode_enc.specs.EncodingLaws.{writes_alone, halts_spelled, ready}
 use Rattle.bincode_enc.proofs.impls.numbers.encode_unsigned.Goals as goal
 
 pub returns-clause-ok : goal.returns-clause-ok
@@ -11,4 +11,4 @@ returns-clause-ok g c =
 pub returns-clause-err : goal.returns-clause-err
 returns-clause-err g c =
     let h = rw (c.int_encoding-encoding.ensures, c.endianness-endian.ensures, c.writer.ensures.value) at c.write_number.ensures.err in
-    λ name. rw (g.met.E.Encoder.put_get c.args.encoder.now c.write_number.new.writer) (IfErr-weaker c.write_number.result _ _ (λ e. halts_spelled _ _ _ g.E.C.Config.setting.encoding g.E.C.Config.setting.order c.args.width c.args.val (unsigned-allows name c.args.width c.args.val g.E.C.Config.setting c.requires.fits) _ _ _ e) h)
+    λ name. rw (g.met.E.Encoder.put_get c.args.encoder.now c.write_number.new.writer) (IfErr-weaker c.write_number.result _ _ (λ e. halts_spelled _ _ _ g.E.C.Config.setting.encoding g.E.C.Config.setting.order c.args.width c.args.val (ready _ _ (unsigned-allows name c.args.width c.args.val g.E.C.Config.setting c.requires.fits)) _ _ _ e) h)

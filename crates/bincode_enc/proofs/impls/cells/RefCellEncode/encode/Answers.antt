@@ -13,5 +13,4 @@ returns-clause-ok g c = on_ok_weaker _ (held_writes _ (g.met.T.Wire.lawful _) _ 
 pub returns-clause-err : goal.returns-clause-err
 returns-clause-err g c =
     let s = g.E.C.Config.setting in
-    let w = g.met.T.Wire.has_word s _ c.tell_valid.ensures (g.met.T.Plain.always_writable s _ c.tell_valid.ensures) in
-    IfErr-weaker c.encode.result _ _ (λ e. held_halts _ (g.met.T.Wire.lawful _) _ _ w.0 w.1 _ _ _ (λ d n. inr n) _ _ e) c.encode.ensures.err
+    IfErr-weaker c.encode.result _ _ (λ e. held_halts _ (g.met.T.Wire.lawful _) _ _ _ _ (λ w. w.each_writable _ c.tell_valid.ensures) (g.met.T.Wire.has_word s _ c.tell_valid.ensures) _ _ _ (λ d n. inr n) _ _ e) c.encode.ensures.err

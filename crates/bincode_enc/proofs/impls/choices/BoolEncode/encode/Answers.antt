@@ -3,7 +3,7 @@ use Rattle.std.specs.Int.{from_bool}
 use Rattle.std.proofs.lemmas.Result.{IfErr-weaker, on_ok_weaker}
 use Rattle.bincode_wire.specs.Words.{truth_byte}
 use Rattle.bincode_wire.specs.AllowedLaws.{truth-allows}
-use Rattle.bincode_enc.specs.EncodingLaws.{writes_alone, halts_alone}
+use Rattle.bincode_enc.specs.EncodingLaws.{writes_alone, halts_alone, ready}
 use Rattle.bincode_enc.proofs.impls.choices.BoolEncode.encode.Goals as goal
 
 as_byte : (v : Bool) → from_bool v ≡ truth_byte v
@@ -18,4 +18,4 @@ returns-clause-ok g c =
 pub returns-clause-err : goal.returns-clause-err
 returns-clause-err g c =
     let h = rw (c.from.ensures, as_byte c.args.self.now) at c.write_from.ensures.err in
-    IfErr-weaker c.write_from.result _ _ (λ e k. halts_alone _ _ g.met.E.W.Writer.adds_none _ _ (truth-allows c.args.self.now) _ _ _ e k) h
+    IfErr-weaker c.write_from.result _ _ (λ e k. halts_alone _ _ g.met.E.W.Writer.adds_none _ _ (ready _ _ (truth-allows c.args.self.now)) _ _ _ e k) h

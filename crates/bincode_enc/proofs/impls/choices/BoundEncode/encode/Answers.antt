@@ -12,21 +12,21 @@ returns-in-Unbounded-clause-err g c = rw c.in-Unbounded.is (alone-halts _ _ _ _ 
 pub returns-in_err-encode-in-Included-clause-err : goal.returns-in_err-encode-in-Included-clause-err
 returns-in_err-encode-in-Included-clause-err g c =
     let p = err_from_is_err_and c.from_residual.result c.from_residual.ensures.1 in
-    rw (p.1, p.2, c.in-Included.is) (choice-halts_tag _ _ _ _ 1 _ refl _ _ _ _ _ _ c.in_err-encode-in-Included.ensures.err)
+    rw (p.1, p.2, c.in-Included.is) (choice-halts_tag _ _ _ _ 1 _ refl _ _ _ _ _ _ _ c.in_err-encode-in-Included.ensures.err)
 
 pub returns-in_ok-encode-in-Included-clause-ok : goal.returns-in_ok-encode-in-Included-clause-ok
 returns-in_ok-encode-in-Included-clause-ok g c = rw c.in-Included.is (choice-writes _ _ _ _ 1 _ refl _ g.met.E.W.Writer.adds_join _ _ _ _ c.in_ok-encode-in-Included.ensures.ok c.encode-in-Included-2.ensures.ok)
 
 pub returns-in_ok-encode-in-Included-clause-err : goal.returns-in_ok-encode-in-Included-clause-err
-returns-in_ok-encode-in-Included-clause-err g c = rw c.in-Included.is (choice-halts_part _ _ _ _ 1 _ refl _ g.met.E.W.Writer.adds_join _ _ _ _ c.in_ok-encode-in-Included.ensures.ok _ _ _ (λ e h. h) c.encode-in-Included-2.ensures.err)
+returns-in_ok-encode-in-Included-clause-err g c = rw c.in-Included.is (choice-halts_part _ _ _ _ 1 _ refl _ g.met.E.W.Writer.adds_join _ _ _ _ c.in_ok-encode-in-Included.ensures.ok _ _ _ _ (λ e h. h) c.encode-in-Included-2.ensures.err)
 
 pub returns-in_err-encode-in-Excluded-clause-err : goal.returns-in_err-encode-in-Excluded-clause-err
 returns-in_err-encode-in-Excluded-clause-err g c =
     let p = err_from_is_err_and c.from_residual-in_err-encode-in-Excluded.result c.from_residual-in_err-encode-in-Excluded.ensures.1 in
-    rw (p.1, p.2, c.in-Excluded.is) (choice-halts_tag _ _ _ _ 2 _ refl _ _ _ _ _ _ c.in_err-encode-in-Excluded.ensures.err)
+    rw (p.1, p.2, c.in-Excluded.is) (choice-halts_tag _ _ _ _ 2 _ refl _ _ _ _ _ _ _ c.in_err-encode-in-Excluded.ensures.err)
 
 pub returns-in_ok-encode-in-Excluded-clause-ok : goal.returns-in_ok-encode-in-Excluded-clause-ok
 returns-in_ok-encode-in-Excluded-clause-ok g c = rw c.in-Excluded.is (choice-writes _ _ _ _ 2 _ refl _ g.met.E.W.Writer.adds_join _ _ _ _ c.in_ok-encode-in-Excluded.ensures.ok c.encode-in-Excluded-2.ensures.ok)
 
 pub returns-in_ok-encode-in-Excluded-clause-err : goal.returns-in_ok-encode-in-Excluded-clause-err
-returns-in_ok-encode-in-Excluded-clause-err g c = rw c.in-Excluded.is (choice-halts_part _ _ _ _ 2 _ refl _ g.met.E.W.Writer.adds_join _ _ _ _ c.in_ok-encode-in-Excluded.ensures.ok _ _ _ (λ e h. h) c.encode-in-Excluded-2.ensures.err)
+returns-in_ok-encode-in-Excluded-clause-err g c = rw c.in-Excluded.is (choice-halts_part _ _ _ _ 2 _ refl _ g.met.E.W.Writer.adds_join _ _ _ _ c.in_ok-encode-in-Excluded.ensures.ok _ _ _ _ (λ e h. h) c.encode-in-Excluded-2.ensures.err)

@@ -12,10 +12,10 @@ returns-in-None-clause-err g c = rw c.in-None.is (alone-halts _ _ _ _ 0 refl _ _
 pub returns-in_err-encode-in-Some-clause-err : goal.returns-in_err-encode-in-Some-clause-err
 returns-in_err-encode-in-Some-clause-err g c =
     let p = err_from_is_err_and c.from_residual.result c.from_residual.ensures.1 in
-    rw (p.1, p.2, c.in-Some.is) (choice-halts_tag _ _ _ _ 1 _ refl _ _ _ _ _ _ c.in_err-encode-in-Some.ensures.err)
+    rw (p.1, p.2, c.in-Some.is) (choice-halts_tag _ _ _ _ 1 _ refl _ _ _ _ _ _ _ c.in_err-encode-in-Some.ensures.err)
 
 pub returns-in_ok-encode-in-Some-clause-ok : goal.returns-in_ok-encode-in-Some-clause-ok
 returns-in_ok-encode-in-Some-clause-ok g c = rw c.in-Some.is (choice-writes _ _ _ _ 1 _ refl _ g.met.E.W.Writer.adds_join _ _ _ _ c.in_ok-encode-in-Some.ensures.ok c.encode-in-Some-2.ensures.ok)
 
 pub returns-in_ok-encode-in-Some-clause-err : goal.returns-in_ok-encode-in-Some-clause-err
-returns-in_ok-encode-in-Some-clause-err g c = rw c.in-Some.is (choice-halts_part _ _ _ _ 1 _ refl _ g.met.E.W.Writer.adds_join _ _ _ _ c.in_ok-encode-in-Some.ensures.ok _ _ _ (λ e h. h) c.encode-in-Some-2.ensures.err)
+returns-in_ok-encode-in-Some-clause-err g c = rw c.in-Some.is (choice-halts_part _ _ _ _ 1 _ refl _ g.met.E.W.Writer.adds_join _ _ _ _ c.in_ok-encode-in-Some.ensures.ok _ _ _ _ (λ e h. h) c.encode-in-Some-2.ensures.err)

@@ -3,7 +3,7 @@ use Rattle.std.proofs.lemmas.Int.{to_z-of_z}
 use Rattle.std.proofs.lemmas.Result.{IfErr-weaker, on_ok_weaker}
 use Rattle.bincode_base.specs.IntegerLaws.{FitsIn-from_signed}
 use Rattle.bincode_wire.specs.AllowedLaws.{signed_byte-allows}
-use Rattle.bincode_enc.specs.EncodingLaws.{writes_alone, halts_alone}
+use Rattle.bincode_enc.specs.EncodingLaws.{writes_alone, halts_alone, ready}
 use Rattle.bincode_enc.proofs.impls.numbers.I8Encode.encode.Goals as goal
 
 pub returns-clause-ok : goal.returns-clause-ok
@@ -14,4 +14,4 @@ returns-clause-ok g c =
 pub returns-clause-err : goal.returns-clause-err
 returns-clause-err g c =
     let h = rw (c.byte_of_i8.ensures, to_z-of_z w8 c.args.self.now c.tell_valid.ensures) at c.write_from.ensures.err in
-    IfErr-weaker c.write_from.result _ _ (λ e k. halts_alone _ _ g.met.E.W.Writer.adds_none _ _ (signed_byte-allows c.args.self.now (FitsIn-from_signed w8 c.args.self.now c.tell_valid.ensures)) _ _ _ e k) h
+    IfErr-weaker c.write_from.result _ _ (λ e k. halts_alone _ _ g.met.E.W.Writer.adds_none _ _ (ready _ _ (signed_byte-allows c.args.self.now (FitsIn-from_signed w8 c.args.self.now c.tell_valid.ensures))) _ _ _ e k) h

@@ -4,8 +4,7 @@ use Rattle.std.proofs.lemmas.Result.{IfErr-weaker, on_ok_weaker}
 use Rattle.bincode_wire.specs.Words.{second_in_nanos}
 use Rattle.bincode_wire.specs.AllowedLaws.{pair-allows, allowed-pair}
 use Rattle.bincode_wire.specs.DurationLaws.{duration-allows, allowed-duration}
-use Rattle.bincode_enc.specs.EncodingLaws.{writes_same, halts_same}
-use Rattle.bincode_enc.proofs.Twice.{halts_named}
+use Rattle.bincode_enc.specs.EncodingLaws.{writes_same, halts_same, halts_named, ready}
 use Rattle.bincode_enc.proofs.impls.time.DurationEncode.encode.Goals as goal
 
 pub returns-clause-ok : goal.returns-clause-ok
@@ -22,6 +21,6 @@ returns-clause-err g c =
     let h = rw (c.as_secs.ensures, c.subsec_nanos.ensures.nanos) at c.encode.ensures.err in
     IfErr-weaker c.encode.result _ _
     (λ e k.
-    halts_same _ _ _ _ _ _ _ e (λ bytes w. duration-allows _ _ _ a b bytes (allowed-pair _ _ _ _ bytes w)) (λ bytes w. pair-allows _ _ _ _ bytes (allowed-duration _ _ _ bytes w))
-    (halts_named _ _ _ _ _ (λ d. elim [ inl n ↦ n | inr n ↦ n ]) _ _ e k))
+    halts_same _ _ _ _ _ _ _ e (λ bytes w. ready _ _ (duration-allows _ _ _ a b bytes (allowed-pair _ _ _ _ bytes w.is_allowed))) (λ bytes w. record { is_writable = (tt, tt); is_allowed = pair-allows _ _ _ _ bytes (allowed-duration _ _ _ bytes w.is_allowed) })
+    (halts_named _ _ _ _ _ _ _ e (elim [ inl n ↦ n | inr n ↦ n ]) k))
     h
