@@ -5,7 +5,7 @@ ghost use Rattle.bincode_slots.specs.Slots.{SlotsFit};
 ghost use Rattle.bincode_wire.specs.Meaning.{listed};
 ghost use Rattle.bincode_wire.specs.Answer.{answer};
 ghost use Rattle.bincode_wire.specs.Decoding.{Decodes, Stops};
-ghost use Rattle.bincode_wire.specs.Run.{IsListOf, CanRelease};
+ghost use Rattle.bincode_wire.specs.Run.{IsListOf, CanRelease, RoomReturned};
 
 use crate::decode::Decode;
 use crate::decoder::Decoder;
@@ -46,7 +46,8 @@ fn decode_into<Context: Drop, T: Decode<Context>, D: Decoder<Context = Context>,
     Ok(unwrap_all(slots))
 }
 
-/// Reads `N` elements in turn, whose room `claim_container_read` has reserved, and releases each one's share before it.
+/// Reads `N` elements in turn, whose room `claim_container_read` has reserved, and releases each one's share before it. So
+/// the charge at the end is that at the start, with the full widths of the elements in place of their room.
 /// Fails where an element does, or with `Memory` where `N` slots of `Option<T>` can't exist (`slots_fit`).
 pub fn decode_array<
     Context: Drop,
@@ -57,6 +58,7 @@ pub fn decode_array<
     requires { CanRelease D.C.bound (D.charge decoder.old) (N * T.claim) }
     ensures ok { IfOk result (λ v. Decodes (λ ms. IsListOf (λ x m. T.given m x) v (listed ms)) (answer D.C.bound (elements N T.claim (T.format D.C.setting)) (D.rest decoder.old) (D.charge decoder.old)) (D.rest decoder.new) (D.charge decoder.new)) }
     ensures err { IfErr result (Stops D.R.ended D.R.device (T.grows ⊎ ¬ (SlotsFit T.row N)) (answer D.C.bound (elements N T.claim (T.format D.C.setting)) (D.rest decoder.old) (D.charge decoder.old)) (D.failures decoder.old) (D.failures decoder.new) (D.rest decoder.old) (D.rest decoder.new)) }
+    ensures charge { IfOk result (λ _. RoomReturned D.C.bound (elements N T.claim (T.format D.C.setting)) (N * T.claim) (D.rest decoder.old) (D.rest decoder.new) (D.charge decoder.old) (D.charge decoder.new)) }
     ensures count { D.failures decoder.old ≤ D.failures decoder.new }
     ensures place { D.place decoder.new ≡ D.place decoder.old }
 {

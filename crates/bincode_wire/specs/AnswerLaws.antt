@@ -5,7 +5,7 @@ use Rattle.std.proofs.lemmas.Bool.{cases_lt, le-leb, lt-leb}
 use Rattle.bincode_base.specs.Fault.{Fault}
 use Rattle.bincode_base.specs.Charge.{Step, Charge, Reserve, Release, full, reserved, released, charge_after, Passes, StaysWithin}
 use Rattle.bincode_base.specs.Format.{Format, Reading, Took, Failed, after_steps, then_read, done, refused, step, ◌>>=◌}
-use Rattle.bincode_base.specs.Laws.{Lawful, BeginsWith, IsBacked, Balanced}
+use Rattle.bincode_base.specs.Laws.{Lawful, BeginsWith, IsBacked, Balanced, Settles, Holds}
 use Rattle.bincode_base.specs.Balance.{balanced-word, balanced-fault}
 use Rattle.bincode_wire.specs.Answer.{Allows, claimed, unclaimed, after_step, on_some, charge_behind, Answer, Gave, Refused, PassedLimit, gave_at, refused_at, weighed, answer, and_then}
 
@@ -344,16 +344,36 @@ module _ {A : Type 0} (F : Format A) (f : Lawful F) (b : Balanced F) (limit : Op
   unfolding answer
   passes-passed input steps charge l s w = weighed_passes input steps charge s (passes-behind limit charge 0 steps (steps_backed input steps s) (omega arith) l w)
 
--- A word is charged its full width.
-pub gave-charge : {A : Type 0} (F : Format A) (f : Lawful F) (b : Balanced F) (limit : ℕ) (input rest : List ℕ) (m : A) (charge after : ℕ) → answer (Some limit) F input charge ≡ Gave m rest after → (steps : List Step) × BeginsWith F input m rest steps × (after ≡ charge + full steps)
+-- A word is charged its full width, and gives back what was held before and is not after.
+pub gave-recharged : {A : Type 0} (F : Format A) (f : Lawful F) (held left : ℕ) (b : Holds held left F) (limit : ℕ) (input rest : List ℕ) (m : A) (charge after : ℕ) → held ≤ charge → answer (Some limit) F input charge ≡ Gave m rest after →
+    (steps : List Step) × BeginsWith F input m rest steps × (after + held ≡ charge + full steps + left)
 unfolding answer
-gave-charge F f b limit input rest m charge after e =
+gave-recharged F f held left b limit input rest m charge after le e =
     let p = gave_by m rest after (Some limit) charge (F.read input) e in
-    let q = f.read_word input rest m p.0 p.1 in
-    let h = balanced-word F q.word m p.0 f b q.is_word in
-    let k : after ≡ charge_after charge p.0 = behind-counted (Some limit) charge 0 p.0 after h.0 (omega arith) p.2 in
-    let r : reserved p.0 ≡ released p.0 = h.1 in
-    (p.0, q, omega arith)
+    let h : Settles held left (Took m rest p.0) = subst (Settles held left) p.1 (b.settles input) in
+    let k : after ≡ charge_after charge p.0 = behind-counted (Some limit) charge held p.0 after h.0 le p.2 in
+    let r : held + reserved p.0 ≡ left + released p.0 = h.1 in
+    (p.0, f.read_word input rest m p.0 p.1, omega arith)
+
+-- Without a limit nothing is counted.
+pub gave-uncounted : {A : Type 0} (F : Format A) (f : Lawful F) (input rest : List ℕ) (m : A) (charge after : ℕ) → answer None F input charge ≡ Gave m rest after → (steps : List Step) × BeginsWith F input m rest steps × (after ≡ charge)
+unfolding answer
+gave-uncounted F f input rest m charge after e =
+    let p = gave_by m rest after None charge (F.read input) e in
+    (p.0, f.read_word input rest m p.0 p.1, uncounted charge p.0 after p.2)
+  where
+    uncounted : (charge : ℕ) (steps : List Step) (after : ℕ) → charge_behind None charge steps ≡ Some after → after ≡ charge
+    uncounted charge [] after e = cc
+    uncounted charge ((Charge n) ∷ steps) after e = uncounted charge steps after e
+    uncounted charge ((Reserve n) ∷ steps) after e = uncounted charge steps after e
+    uncounted charge ((Release n) ∷ steps) after e = uncounted charge steps after e
+
+-- A balanced one is charged its full width.
+pub gave-charge : {A : Type 0} (F : Format A) (f : Lawful F) (b : Balanced F) (limit : ℕ) (input rest : List ℕ) (m : A) (charge after : ℕ) → answer (Some limit) F input charge ≡ Gave m rest after → (steps : List Step) × BeginsWith F input m rest steps × (after ≡ charge + full steps)
+gave-charge F f b limit input rest m charge after e =
+    let p = gave-recharged F f 0 0 b limit input rest m charge after (omega arith) e in
+    let k = p.2 in
+    (p.0, p.1, omega arith)
 
 -- A whole word gives back no more than it claims.
 pub gave-grows : {A : Type 0} (F : Format A) (f : Lawful F) (b : Balanced F) (limit : ℕ) (input rest : List ℕ) (m : A) (charge after : ℕ) → answer (Some limit) F input charge ≡ Gave m rest after → charge ≤ after

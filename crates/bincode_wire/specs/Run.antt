@@ -1,6 +1,8 @@
 -- Runs of values: what they mean, what they allow, and how far a run is read.
-use Rattle.std.specs.Prelude.{◌≡◌, ℕ, ◌*◌, ◌≤◌, List, [], ◌∷◌, ◌++◌, Option, Some, None}
+use Rattle.std.specs.Prelude.{◌≡◌, ℕ, ◌+◌, ◌*◌, ◌≤◌, List, [], ◌∷◌, ◌++◌, Option, Some, None}
+use Rattle.bincode_base.specs.Charge.{Step, full}
 use Rattle.bincode_base.specs.Device.{Takes}
+use Rattle.bincode_base.specs.Laws.{BeginsWith}
 use Rattle.bincode_base.specs.Format.{Format, elements}
 use Rattle.bincode_wire.specs.Meaning.{Meaning, IsNothing, IsThen}
 use Rattle.bincode_wire.specs.Allowed.{Both}
@@ -31,3 +33,15 @@ pub record ReadSoFar (limit : Option ℕ) (share : ℕ) (F : Format Meaning) (al
   pub is_rest : behind ms (answer limit (elements left share F) rest charge) ≡ all
   pub is_reserved : CanRelease limit charge (left * share)
   pub is_behind : Takes input rest
+
+-- the charge behind steps that gave back this room: the full widths stand in its place; without a limit nothing is counted
+abbrev pub Recharged : Option ℕ → ℕ → List Step → ℕ → ℕ → Type 0
+Recharged None room steps before after = after ≡ before
+Recharged (Some limit) room steps before after = after + room ≡ before + full steps
+
+-- a word was read, and the room that was held for it was given back
+pub record RoomReturned {A : Type 0} (limit : Option ℕ) (F : Format A) (room : ℕ) (input rest : List ℕ) (before after : ℕ) : Type 0 where
+  pub meaning : A
+  pub steps : List Step
+  pub begins : BeginsWith F input meaning rest steps
+  pub charge_is : Recharged limit room steps before after

@@ -7,13 +7,15 @@ use Rattle.bincode_base.specs.Fault.{Fault, End, InvalidInteger, Zero, Unexpecte
 use Rattle.bincode_base.specs.Charge.{Reserve, Release}
 use Rattle.bincode_base.specs.Format.{Format, Reading, Took, Failed, done, step, ◌>>=◌, vague, vague_reading, unsure, map_format, elements, sequence}
 use Rattle.bincode_base.specs.Laws.{Lawful, Balanced}
+use Rattle.bincode_base.specs.FormatLaws.{elements-lawful}
+use Rattle.bincode_base.specs.Balance.{elements-holds}
 use Rattle.bincode_wire.specs.Meaning.{Meaning, Nothing, listed}
 use Rattle.bincode_wire.specs.Words.{array}
 use Rattle.bincode_wire.specs.Answer.{Answer, Gave, Refused, PassedLimit, answer, and_then, weighed, gave_at, refused_at, charge_behind, Claimed, OverClaimed, unclaimed}
-use Rattle.bincode_wire.specs.AnswerLaws.{answer-then, answer-done, answer-release, answer-reserve, answer-reserve_passed, gave-grows}
+use Rattle.bincode_wire.specs.AnswerLaws.{answer-then, answer-done, answer-release, answer-reserve, answer-reserve_passed, gave-grows, gave-recharged, gave-uncounted}
 use Rattle.bincode_wire.specs.Decoding.{Decodes, Stops, by_fault, by_limit, by_memory, by_failure, by_device}
 use Rattle.bincode_wire.specs.DecodingLaws.{rose-then, takes-then, gave-takes, answer-next, map-gave, map-stops}
-use Rattle.bincode_wire.specs.Run.{IsListOf, CanRelease, behind, ReadSoFar}
+use Rattle.bincode_wire.specs.Run.{IsListOf, CanRelease, behind, ReadSoFar, RoomReturned}
 
 -- an answer that doesn't say by how many bytes the input ends too early
 
@@ -174,3 +176,13 @@ is_list_push Is (w ∷ vs) (n ∷ ms) v m h k =
     let a : h.first ≡ n = cc in
     let b : h.others ≡ listed ms = cc in
     record { first = n; others = listed (ms ++ m ∷ []); meaning_is = refl; is_first = subst (Is w) a h.is_first; are_others = is_list_push Is vs ms v m (subst (IsListOf Is vs) b h.are_others) k }
+
+-- what is read from a charge that holds the room of a run gives it back
+pub run-returns : {A : Type 0} (limit : Option ℕ) (n share : ℕ) (F : Format A) → Lawful F → Balanced F → (input rest : List ℕ) (ms : List A) (before after : ℕ) → CanRelease limit before (n * share) → answer limit (elements n share F) input before ≡ Gave ms rest after → RoomReturned limit (elements n share F) (n * share) input rest before after
+run-returns None n share F f b input rest ms before after h e =
+    let p = gave-uncounted (elements n share F) (elements-lawful n share F f) input rest ms before after e in
+    record { meaning = ms; steps = p.0; begins = p.1; charge_is = p.2 }
+run-returns (Some limit) n share F f b input rest ms before after h e =
+    let p = gave-recharged (elements n share F) (elements-lawful n share F f) (n * share) 0 (elements-holds n share F b) limit input rest ms before after h e in
+    let k = p.2 in
+    record { meaning = ms; steps = p.0; begins = p.1; charge_is = omega arith }
