@@ -10,7 +10,8 @@ use bincode_wire::wire::Wire;
 /// A type whose values can be written.
 pub trait Encode: Wire {
     /// Writes a word that the value allows. Fails where the writer refuses a piece, or by an error that the type names.
-    /// Then what was written before begins an allowed word, unless the error is one of a user's type.
+    /// Then what was written before begins an allowed word, if the inner type of each cell that the value holds has one, and
+    /// unless the error is one of a user's type.
     fn encode<E: Encoder>(&self, encoder: &mut E) -> Result<(), EncodeError>
         ensures ok { OnOk result (Writes E.W.adds (AllowedWord (Self.means self.now) (Self.format E.C.setting)) (E.writer_of encoder.old) (E.writer_of encoder.new)) }
         ensures err { IfErr result (Halts E.W.adds E.W.refuses (Ready (Self.writable E.C.setting self.now) (AllowedWord (Self.means self.now) (Self.format E.C.setting))) Self.names (E.writer_of encoder.old) (E.writer_of encoder.new)) }

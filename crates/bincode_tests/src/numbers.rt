@@ -6,7 +6,10 @@ use bincode::enc::Encode;
 use bincode::error::DecodeError;
 use bincode::{decode_from_slice, encode_into_slice};
 use std::alloc::Global;
-use std::num::{NonZeroI64, NonZeroU8, NonZeroU16};
+use std::num::{
+    NonZeroI8, NonZeroI16, NonZeroI32, NonZeroI64, NonZeroI128, NonZeroIsize, NonZeroU8,
+    NonZeroU16, NonZeroU32, NonZeroU64, NonZeroU128, NonZeroUsize,
+};
 use std::process::Abort;
 use std::test::Fail;
 
@@ -57,13 +60,81 @@ fn keeps_each_scalar(rt: HostRuntime) -> Result<(), Fail> {
     keeps(&rt, rt.alloc(), little, true, &[1])?;
     keeps(&rt, rt.alloc(), legacy, false, &[0])?;
     keeps(&rt, rt.alloc(), little, 'A', &[65])?;
-    keeps(&rt, rt.alloc(), legacy, '€', &[226, 130, 172])?;
+    keeps(&rt, rt.alloc(), legacy, '€', &[226, 130, 172])
+}
+
+#[test]
+fn keeps_each_unsigned_other_than_zero(rt: HostRuntime) -> Result<(), Fail> {
+    let little = config::standard();
+    let legacy = config::legacy();
+    keeps(
+        &rt,
+        rt.alloc(),
+        legacy,
+        NonZeroU8::new(9).ok_or("zero")?,
+        &[9],
+    )?;
     keeps(
         &rt,
         rt.alloc(),
         little,
         NonZeroU16::new(300).ok_or("zero")?,
         &[251, 44, 1],
+    )?;
+    keeps(
+        &rt,
+        rt.alloc(),
+        legacy,
+        NonZeroU32::new(300).ok_or("zero")?,
+        &[44, 1, 0, 0],
+    )?;
+    keeps(
+        &rt,
+        rt.alloc(),
+        little,
+        NonZeroU64::new(65_536).ok_or("zero")?,
+        &[252, 0, 0, 1, 0],
+    )?;
+    keeps(
+        &rt,
+        rt.alloc(),
+        little,
+        NonZeroU128::new(250).ok_or("zero")?,
+        &[250],
+    )?;
+    keeps(
+        &rt,
+        rt.alloc(),
+        little,
+        NonZeroUsize::new(251).ok_or("zero")?,
+        &[251, 251, 0],
+    )
+}
+
+#[test]
+fn keeps_each_signed_other_than_zero(rt: HostRuntime) -> Result<(), Fail> {
+    let little = config::standard();
+    let legacy = config::legacy();
+    keeps(
+        &rt,
+        rt.alloc(),
+        little,
+        NonZeroI8::new(-1).ok_or("zero")?,
+        &[255],
+    )?;
+    keeps(
+        &rt,
+        rt.alloc(),
+        legacy,
+        NonZeroI16::new(-2).ok_or("zero")?,
+        &[254, 255],
+    )?;
+    keeps(
+        &rt,
+        rt.alloc(),
+        little,
+        NonZeroI32::new(-256).ok_or("zero")?,
+        &[251, 255, 1],
     )?;
     keeps(
         &rt,
@@ -75,9 +146,16 @@ fn keeps_each_scalar(rt: HostRuntime) -> Result<(), Fail> {
     keeps(
         &rt,
         rt.alloc(),
-        legacy,
-        NonZeroU8::new(9).ok_or("zero")?,
-        &[9],
+        little,
+        NonZeroI128::new(-2).ok_or("zero")?,
+        &[3],
+    )?;
+    keeps(
+        &rt,
+        rt.alloc(),
+        little,
+        NonZeroIsize::new(1).ok_or("zero")?,
+        &[2],
     )
 }
 

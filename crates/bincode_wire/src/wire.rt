@@ -21,7 +21,7 @@ pub trait Wire: Drop {
     /// The values that decoding gives for a meaning.
     ghost given: { Meaning → Self → Type 0 };
 
-    /// The inner type of each cell that the value holds has a word.
+    /// The inner type of each cell that the value holds has a word, and each valid value of it can be written.
     ghost writable: { Setting → Self → Type 0 };
 
     /// The errors that encoding may answer beside the writer's.
