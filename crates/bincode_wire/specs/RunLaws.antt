@@ -5,6 +5,7 @@ use Rattle.bincode_base.specs.declared.error.DecodeError.{DecodeError}
 use Rattle.bincode_base.specs.declared.error.DecodeError.TheVariants.{LimitExceeded}
 use Rattle.bincode_base.specs.Fault.{Fault, End, InvalidInteger, Zero, UnexpectedVariant, Utf8, InvalidChar, InvalidBool, InvalidDuration, NulAt, Other, LengthMismatch, EmptyEnum, OutsideUsize, Tells}
 use Rattle.bincode_base.specs.Charge.{Reserve, Release}
+use Rattle.bincode_base.specs.Device.{Takes}
 use Rattle.bincode_base.specs.Format.{Format, Reading, Took, Failed, done, step, ◌>>=◌, vague, vague_reading, unsure, map_format, elements, sequence}
 use Rattle.bincode_base.specs.Laws.{Lawful, Balanced}
 use Rattle.bincode_base.specs.FormatLaws.{elements-lawful}
@@ -15,7 +16,20 @@ use Rattle.bincode_wire.specs.Answer.{Answer, Gave, Refused, PassedLimit, answer
 use Rattle.bincode_wire.specs.AnswerLaws.{answer-then, answer-done, answer-release, answer-reserve, answer-reserve_passed, gave-grows, gave-recharged, gave-uncounted}
 use Rattle.bincode_wire.specs.Decoding.{Decodes, Stops, by_fault, by_limit, by_memory, by_failure, by_device}
 use Rattle.bincode_wire.specs.DecodingLaws.{rose-then, takes-then, gave-takes, answer-next, map-gave, map-stops}
-use Rattle.bincode_wire.specs.Run.{IsListOf, CanRelease, behind, ReadSoFar, RoomReturned}
+use Rattle.bincode_wire.specs.Run.{IsListOf, CanRelease, RoomReturned}
+
+-- how far a run is read
+
+-- these meanings, and then those of the answer
+abbrev pub behind : List Meaning → Answer (List Meaning) → Answer (List Meaning)
+behind ms a = and_then a (λ others rest charge. Gave (ms ++ others) rest charge)
+
+-- With these meanings read and so many elements left, the answer to all is that to the rest of the input behind them;
+-- and the room of those that are left is still reserved.
+pub record ReadSoFar (limit : Option ℕ) (share : ℕ) (F : Format Meaning) (all : Answer (List Meaning)) (input : List ℕ) (ms : List Meaning) (left : ℕ) (rest : List ℕ) (charge : ℕ) : Type 0 where
+  pub is_rest : behind ms (answer limit (elements left share F) rest charge) ≡ all
+  pub is_reserved : CanRelease limit charge (left * share)
+  pub is_behind : Takes input rest
 
 -- an answer that doesn't say by how many bytes the input ends too early
 

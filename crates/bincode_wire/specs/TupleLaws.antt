@@ -1,5 +1,5 @@
 -- What tuples keep, if their parts do: each law by the first part and the others.
-use Rattle.std.specs.Prelude.{◌≡◌, ◌⊎◌, ℕ, ◌-◌, ◌^◌, List, [], ◌∷◌, ◌++◌, min, sum, Bool, true, ◌&&◌, refl}
+use Rattle.std.specs.Prelude.{◌≡◌, ◌⊎◌, ℕ, List, [], ◌∷◌, ◌++◌, Bool, true, ◌&&◌, refl}
 use Rattle.std.proofs.Common.{sym, ◌∙◌, subst, inl, inr}
 use Rattle.bincode_base.specs.Format.{Format, map_format}
 use Rattle.bincode_base.specs.Laws.{Lawful, Balanced}
@@ -11,10 +11,6 @@ use Rattle.bincode_wire.specs.WordsLaws.{tuple-lawful, tuple-balanced}
 use Rattle.bincode_wire.specs.Allowed.{AllowedWord, OneLength, NoneShorter, Both}
 use Rattle.bincode_wire.specs.AllowedLaws.{tuple-allows, allowed-tuple, nothing-allows, allowed-nothing, alone-one_length, both-one_length, same-one_length}
 use Rattle.bincode_wire.specs.SpelledLaws.{tuple-none_shorter}
-
--- what the parts claim, at most the greatest `usize`
-abbrev pub saturated_sum : List ℕ → ℕ
-saturated_sum claims = min (sum claims) (2 ^ 64 - 1)
 
 -- a tuple is lawful
 pub nothing-lawful : Lawful (tuple [])

@@ -1,5 +1,5 @@
 -- The formats of the types, row by row.
-use Rattle.std.specs.Prelude.{◌≡◌, ℕ, zero, suc, ◌+◌, ◌-◌, ◌*◌, ◌<◌, ◌/◌, ◌%◌, ◌^◌, nat_lt, ◌==◌, if◌then◌else◌, ℤ, pos, unsigned_abs, Bool, true, false, List, [], ◌∷◌, ◌++◌, take, Result, Ok, Err, Option, Some, None, position}
+use Rattle.std.specs.Prelude.{◌≡◌, ℕ, zero, suc, ◌+◌, ◌-◌, ◌*◌, ◌<◌, ◌/◌, ◌%◌, ◌^◌, nat_lt, ◌==◌, if◌then◌else◌, ℤ, pos, unsigned_abs, Bool, true, false, List, [], ◌∷◌, ◌++◌, take, min, sum, Result, Ok, Err, Option, Some, None, position}
 use Rattle.std.specs.Str.{is_utf8}
 use Rattle.bincode_base.specs.declared.error.IntegerType.{IntegerType}
 use Rattle.bincode_base.specs.declared.error.IntegerType.TheVariants as integers
@@ -74,6 +74,10 @@ bound setting F = chosen (tag setting) (done Nothing ∷ F ∷ F ∷ []) 2
 unfoldable pub tuple : List (Format Meaning) → Format Meaning
 tuple [] = done Nothing
 tuple (F ∷ others) = F >>= λ m. map_format (Then m) (tuple others)
+
+-- what the parts claim, at most the greatest `usize`
+abbrev pub saturated_sum : List ℕ → ℕ
+saturated_sum claims = min (sum claims) (2 ^ 64 - 1)
 
 -- elements, each with its share of the room
 abbrev pub array : ℕ → ℕ → Format Meaning → Format Meaning

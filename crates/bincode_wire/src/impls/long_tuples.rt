@@ -1,7 +1,7 @@
 ghost use Rattle.std.specs.Prelude.{◌≡◌, ◌⊎◌, [], ◌∷◌, true, refl};
 ghost use Rattle.bincode_wire.specs.Meaning.{IsThen, IsNothing};
-ghost use Rattle.bincode_wire.specs.Words.{tuple};
-ghost use Rattle.bincode_wire.specs.TupleLaws.{saturated_sum, then-lawful, nothing-lawful, then-balanced, nothing-balanced, then-has_word, nothing-has_word, then-one_length, nothing-one_length, then-none_shorter, neither, then-all_same, nothing-all_same};
+ghost use Rattle.bincode_wire.specs.Words.{tuple, saturated_sum};
+ghost use Rattle.bincode_wire.specs.TupleLaws.{then-lawful, nothing-lawful, then-balanced, nothing-balanced, then-has_word, nothing-has_word, then-one_length, nothing-one_length, then-none_shorter, neither, then-all_same, nothing-all_same};
 ghost use Rattle.bincode_wire.specs.SpelledLaws.{nothing-none_shorter};
 
 use crate::impls::tuples::sum_of_claims;

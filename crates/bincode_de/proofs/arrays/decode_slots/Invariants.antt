@@ -2,7 +2,8 @@ use Rattle.std.proofs.Common.{◌≡◌, ◌-◌, ◌≤◌, List, length, map, 
 use Rattle.bincode_base.specs.Format.{elements}
 use Rattle.bincode_wire.specs.Meaning.{Meaning, listed}
 use Rattle.bincode_wire.specs.Answer.{answer}
-use Rattle.bincode_wire.specs.Run.{IsListOf, ReadSoFar}
+use Rattle.bincode_wire.specs.Run.{IsListOf}
+use Rattle.bincode_wire.specs.RunLaws.{ReadSoFar}
 use Rattle.bincode_de.proofs.arrays.decode_slots.Given as goal
 
 abbrev pub invariant-loop-index : goal.invariant-loop-index
