@@ -15,7 +15,7 @@ use Rattle.bincode_wire.specs.Answer.{Gave, Refused, PassedLimit, answer, and_th
 use Rattle.bincode_wire.specs.AnswerLaws.{answer-took, answer-failed, answer-refused, answer-then}
 use Rattle.bincode_wire.specs.Decoding.{Decodes, Stops}
 use Rattle.bincode_wire.specs.Decoding as stops
-use Rattle.bincode_wire.specs.DecodingLaws.{answer-next, claimed-answer, over_claimed-answer, charged-gave, charged-misread, stops-first, stops-next}
+use Rattle.bincode_wire.specs.DecodingLaws.{answer-next, over_claimed-answer, charged-gave, charged-misread, stops-first, stops-next}
 
 module _ (first width : ℕ) (input : List ℕ) where
   -- the bytes behind the first are there, and pass the test
@@ -66,13 +66,6 @@ module _ (limit : Option ℕ) (input middle : List ℕ) (c first : ℕ) (read : 
     -- a claim that stands, and then the bytes behind
     pub character-gave : (middle' rest : List ℕ) (m : Meaning) → Claimed limit c width d → middle' ≡ middle → (rest_of_char first width).read middle' ≡ Took m rest [] → answer limit character input c ≡ Gave m rest d
     character-gave middle' rest m h same r = character-next (Some width) w ∙ charged-gave limit width (rest_of_char first width) middle c d middle' rest m h same r
-
-    -- a claim that stands, and then a fault
-    pub character-refused : (middle' : List ℕ) (why : Fault) → Claimed limit c width d → middle' ≡ middle → (rest_of_char first width).read middle' ≡ Failed why [] → answer limit character input c ≡ Refused why
-    character-refused middle' why h same r =
-        character-next (Some width) w
-        ∙ answer-next limit _ (λ _. rest_of_char first width) middle c tt middle d (claimed-answer limit c width d middle h)
-        ∙ answer-failed limit (rest_of_char first width) middle why d (ap (rest_of_char first width).read (sym same) ∙ r)
 
     -- the character that was read is given
     pub character-decodes : (v : ℕ) (middle' rest : List ℕ) → Claimed limit c width d → middle' ≡ middle → (rest_of_char first width).read middle' ≡ Took (Character v) rest [] → Decodes (IsCharacter v) (answer limit character input c) rest d

@@ -129,10 +129,6 @@ spelled c s = spelled_by c (below_most c (scalar_cases c s)) (cases_lt c 128) (c
 pub is_utf8-encoded : (c : ℕ) → IsScalar c → is_utf8 (encode_utf8 c) ≡ true
 is_utf8-encoded c s = is_utf8-from_IsUtf8 (encode_utf8 c) (IsUtf8-encode c s)
 
--- the first one says how many they are
-pub char_width-encoded : (c : ℕ) → IsScalar c → char_width (slice_index (encode_utf8 c) 0) ≡ Some (length (encode_utf8 c))
-char_width-encoded c s = let p = spelled c s in rw p.bytes_are p.width_is
-
 -- and their digits are its number
 pub code_point-encoded : (c : ℕ) → IsScalar c → code_point (encode_utf8 c) ≡ c
 code_point-encoded c s = let p = spelled c s in ap code_point p.bytes_are ∙ p.code_is
@@ -273,13 +269,6 @@ character-written c s =
     let p = spelled c s in
     let e : char_of (p.first ∷ p.tail) ≡ Ok (Character c) = subst (λ z. char_of z ≡ Ok (Character c)) p.bytes_are (char_of-encoded c s) in
     subst (λ z. character.Written z (Character c)) (sym p.bytes_are) (char_written p.first p.tail (Character c) p.width_is e)
-
--- it is a word of the character, and is charged in full
-pub character-word : (c : ℕ) → IsScalar c → character.Word (encode_utf8 c) (Character c) (Charge (length (encode_utf8 c)) ∷ [])
-character-word c s =
-    let p = character-lawful.written_is_word (encode_utf8 c) (Character c) (character-written c s) in
-    let w = word-character (encode_utf8 c) (Character c) p.0 p.1 in
-    subst (character.Word (encode_utf8 c) (Character c)) w.steps_are p.1
 
 -- a character allows the bytes that std gives for it
 pub character-allows : (c : ℕ) → IsScalar c → AllowedWord (IsCharacter c) character (encode_utf8 c)
