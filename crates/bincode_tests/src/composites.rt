@@ -13,6 +13,7 @@ use std::num::Wrapping;
 use std::ops::Bound;
 use std::process::Abort;
 use std::test::Fail;
+use std::time::Duration as StdDuration;
 
 /// The value is written as the word into a longer slice, whose other bytes stay, and read from it.
 fn keeps<T, C>(rt: &impl Abort, alloc: Global, config: C, value: T, word: &[u8]) -> Result<(), Fail>
@@ -165,6 +166,16 @@ fn keeps_ranges_spans_and_wrappers(rt: HostRuntime) -> Result<(), Fail> {
     assert_eq!(rt; encode_into_slice(&300u32, &mut slice, little)?, 3);
     assert_eq!(rt; slice, [251, 44, 1, 9]);
     Ok(())
+}
+
+#[test]
+fn converts_spans(rt: HostRuntime) {
+    let span = Duration::new(1, 2_500_000_000);
+    assert_eq!(rt; (span.as_secs(), span.subsec_nanos()), (3, 500_000_000));
+    let converted = StdDuration::from(span);
+    assert_eq!(rt; converted, StdDuration::new(3, 500_000_000));
+    assert_eq!(rt; Duration::from(converted), span);
+    assert_eq!(rt; Duration::default(), Duration::new(0, 0));
 }
 
 #[test]

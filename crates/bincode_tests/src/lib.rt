@@ -18,6 +18,8 @@ mod numbers;
 #[cfg(test)]
 mod readers;
 #[cfg(test)]
+mod varints;
+#[cfg(test)]
 mod words;
 #[cfg(test)]
 mod writers;
