@@ -84,3 +84,20 @@ fn keeps_each_byte_in_a_cell(rt: HostRuntime) -> Result<(), Fail> {
     }
     Ok(())
 }
+
+#[test]
+fn keeps_cells_in_cells(rt: HostRuntime) -> Result<(), Fail> {
+    let little = config::standard();
+    let mut slice = [9u8; 5];
+    let cell = RefCell::new((Cell::new(5u8), 300u16));
+    assert_eq!(rt; encode_into_slice(&cell, &mut slice, little)?, 4);
+    assert_eq!(rt; slice, [5, 251, 44, 1, 9]);
+    let (read, taken): (RefCell<(Cell<u8>, u16)>, usize) = decode_from_slice(
+        rt.alloc(),
+        &slice,
+        little,
+    )?;
+    let (inner, number) = read.into_inner();
+    assert_eq!(rt; (inner.get(), number, taken), (5, 300, 4));
+    Ok(())
+}

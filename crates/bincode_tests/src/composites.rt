@@ -55,6 +55,98 @@ fn keeps_tuples(rt: HostRuntime) -> Result<(), Fail> {
     )
 }
 
+#[test]
+fn keeps_tuples_of_each_size(rt: HostRuntime) -> Result<(), Fail> {
+    let little = config::standard();
+    let word = [1, 2, 3, 4, 5, 6, 7, 8, 9, 10, 11];
+    keeps(&rt, rt.alloc(), little, (1u8, 2u8, 3u8, 4u8), &word[..4])?;
+    keeps(
+        &rt,
+        rt.alloc(),
+        little,
+        (1u8, 2u8, 3u8, 4u8, 5u8, 6u8),
+        &word[..6],
+    )?;
+    keeps(
+        &rt,
+        rt.alloc(),
+        little,
+        (1u8, 2u8, 3u8, 4u8, 5u8, 6u8, 7u8),
+        &word[..7],
+    )?;
+    keeps(
+        &rt,
+        rt.alloc(),
+        little,
+        (1u8, 2u8, 3u8, 4u8, 5u8, 6u8, 7u8, 8u8),
+        &word[..8],
+    )?;
+    keeps(
+        &rt,
+        rt.alloc(),
+        little,
+        (1u8, 2u8, 3u8, 4u8, 5u8, 6u8, 7u8, 8u8, 9u8),
+        &word[..9],
+    )?;
+    keeps(
+        &rt,
+        rt.alloc(),
+        little,
+        (1u8, 2u8, 3u8, 4u8, 5u8, 6u8, 7u8, 8u8, 9u8, 10u8),
+        &word[..10],
+    )?;
+    keeps(
+        &rt,
+        rt.alloc(),
+        little,
+        (1u8, 2u8, 3u8, 4u8, 5u8, 6u8, 7u8, 8u8, 9u8, 10u8, 11u8),
+        &word,
+    )
+}
+
+/// Thirteen, fourteen and fifteen bytes as a tuple.
+type Thirteen = (u8, u8, u8, u8, u8, u8, u8, u8, u8, u8, u8, u8, u8);
+
+type Fourteen = (u8, u8, u8, u8, u8, u8, u8, u8, u8, u8, u8, u8, u8, u8);
+
+type Fifteen = (u8, u8, u8, u8, u8, u8, u8, u8, u8, u8, u8, u8, u8, u8, u8);
+
+/// The word of so many bytes, each as large as its place, is read and written again. Tuples of more than twelve parts have no
+/// `==`.
+fn comes_back<T: Encode + Decode<()>>(
+    rt: &impl Abort,
+    alloc: Global,
+    length: usize,
+) -> Result<(), Fail> {
+    let word = [0u8, 1, 2, 3, 4, 5, 6, 7, 8, 9, 10, 11, 12, 13, 14, 15];
+    let (value, taken): (T, usize) = decode_from_slice(alloc, &word, config::standard())?;
+    assert_eq!(rt; taken, length);
+    let mut slice = [99u8; 16];
+    assert_eq!(rt;
+        encode_into_slice(&value, &mut slice, config::standard())?,
+        length
+    );
+    for (place, byte) in slice.iter().enumerate() {
+        let wanted = if place < length { place as u8 } else { 99 };
+        assert_eq!(rt; *byte, wanted);
+    }
+    Ok(())
+}
+
+#[test]
+fn keeps_tuples_without_equality(rt: HostRuntime) -> Result<(), Fail> {
+    comes_back::<Thirteen>(&rt, rt.alloc(), 13)?;
+    comes_back::<Fourteen>(&rt, rt.alloc(), 14)?;
+    comes_back::<Fifteen>(&rt, rt.alloc(), 15)?;
+    let (value, _): (Fifteen, usize) = decode_from_slice(
+        rt.alloc(),
+        &[0, 1, 2, 3, 4, 5, 6, 7, 8, 9, 10, 11, 12, 13, 14],
+        config::standard(),
+    )?;
+    assert_eq!(rt; (value.0, value.7, value.12, value.14), (0, 7, 12, 14));
+    Ok(())
+}
+
 /// Sixteen bytes as a tuple.
 type Sixteen = (
     u8,
