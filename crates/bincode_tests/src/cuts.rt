@@ -6,6 +6,7 @@ use bincode::decode_from_slice;
 use bincode::error::DecodeError;
 use bincode::time::Duration;
 use std::alloc::Global;
+use std::cell::{Cell, RefCell};
 use std::num::NonZeroU16;
 use std::ops::Bound;
 use std::process::Abort;
@@ -103,4 +104,13 @@ fn ends_composites(rt: HostRuntime) {
     ends::<Result<u8, u8>, _>(&rt, rt.alloc(), legacy, &[0, 0, 0, 0, 5]);
     ends::<(), _>(&rt, rt.alloc(), little, &[]);
     ends::<Bound<u8>, _>(&rt, rt.alloc(), little, &[2, 7]);
+}
+
+#[test]
+fn ends_cells(rt: HostRuntime) {
+    let little = config::standard();
+    ends::<Cell<u32>, _>(&rt, rt.alloc(), little, &[5]);
+    ends::<Cell<u32>, _>(&rt, rt.alloc(), little, &[251, 44, 1]);
+    ends::<RefCell<u32>, _>(&rt, rt.alloc(), little, &[5]);
+    ends::<RefCell<u32>, _>(&rt, rt.alloc(), little, &[251, 44, 1]);
 }
