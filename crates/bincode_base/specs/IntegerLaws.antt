@@ -3,8 +3,8 @@ use Rattle.std.specs.Prelude.{◌≡◌, ℕ, zero, suc, ◌+◌, ◌*◌, ◌-�
 use Rattle.std.specs.List.{All}
 use Rattle.std.specs.Int.{Width, w8, w16, w32, w64, w128}
 use Rattle.std.proofs.Common.{sym, ◌∙◌, ap, subst, inl, inr, arith, append-nil}
-use Rattle.std.proofs.Math.Nat.{pow-suc, mod-add-div, div-lt_iff_lt-mul, pow-le-pow_right}
-use Rattle.std.proofs.lemmas.Bool.{le-leb, lt-leb, lt-ltb, le-ltb, cases_lt, leb-true, and_parts}
+use Rattle.std.proofs.Math.Nat.{pow-suc, mod-add-div, div-lt_iff_lt-mul}
+use Rattle.std.proofs.lemmas.Bool.{le-leb, lt-leb, lt-ltb, le-ltb, cases_lt, leb-true}
 use Rattle.std.proofs.lemmas.List.{reverse-reverse, length-reverse, get_or-reverse}
 use Rattle.std.proofs.lemmas.List.Elements.{All-head, All-tail}
 use Rattle.bincode_base.specs.declared.config.Endianness.{Endianness}
@@ -36,15 +36,6 @@ low_first_number-digits : (width n : ℕ) → n < 256 ^ width → low_first_numb
 low_first_number-digits zero n h = omega (arith, h)
 low_first_number-digits (suc width) n h = rw (low_first_number-digits width (n / 256) (fewer width n h)) (mod-add-div n 256)
 
-low_first_digits-number : (bytes : List ℕ) → All (λ b. b < 256) bytes → low_first_digits (length bytes) (low_first_number bytes) ≡ bytes
-low_first_digits-number [] h = refl
-low_first_digits-number (b ∷ bytes) h =
-    let l : b < 256 = All-head (λ b. b < 256) b bytes h in
-    let p : low_first_digits (length bytes) (low_first_number bytes) ≡ bytes = low_first_digits-number bytes (All-tail (λ b. b < 256) b bytes h) in
-    let q : (b + 256 * low_first_number bytes) % 256 ≡ b = omega (arith, l) in
-    let r : (b + 256 * low_first_number bytes) / 256 ≡ low_first_number bytes = omega (arith, l) in
-    rw (q, r, p) refl
-
 low_first_number_below : (bytes : List ℕ) → All (λ b. b < 256) bytes → low_first_number bytes < 256 ^ length bytes
 low_first_number_below [] h = omega arith
 low_first_number_below (b ∷ bytes) h =
@@ -65,15 +56,7 @@ pub number_of-digits_of : (order : Endianness) (width n : ℕ) → n < 256 ^ wid
 number_of-digits_of Little width n h = low_first_number-digits width n h
 number_of-digits_of Big width n h = rw (reverse-reverse (low_first_digits width n)) (low_first_number-digits width n h)
 
--- bytes are the digits of their number
-pub digits_of-number_of : (order : Endianness) (width : ℕ) (bytes : List ℕ) → length bytes ≡ width → All (λ b. b < 256) bytes → digits_of order width (number_of order bytes) ≡ bytes
-digits_of-number_of Little width bytes e h = rw (← e) (low_first_digits-number bytes h)
-digits_of-number_of Big width bytes e h =
-    let l : length (reverse bytes) ≡ width = length-reverse bytes ∙ e in
-    let p : low_first_digits width (low_first_number (reverse bytes)) ≡ reverse bytes = rw (← l) (low_first_digits-number (reverse bytes) (All-reverse (λ b. b < 256) bytes h)) in
-    rw p (reverse-reverse bytes)
-
--- bytes are the digits of a number of so many bytes
+-- bytes are a number of so many bytes
 pub number_of_below : (order : Endianness) (width : ℕ) (bytes : List ℕ) → length bytes ≡ width → All (λ b. b < 256) bytes → number_of order bytes < 256 ^ width
 number_of_below Little width bytes e h = rw (← e) (low_first_number_below bytes h)
 number_of_below Big width bytes e h =
@@ -578,16 +561,6 @@ written-signed_byte z h =
     charged_written 1 (map_format (from_two_complement 1) byte) (two_complement 1 z ∷ []) z
     (subst (λ y. (map_format (from_two_complement 1) byte).Written (two_complement 1 z ∷ []) y) e (map_written (from_two_complement 1) byte (two_complement 1 z ∷ []) (two_complement 1 z) (byte_written (two_complement 1 z))))
 
--- and nothing else that is a byte
-pub signed_byte-written : (bytes : List ℕ) (z : ℤ) → All (λ b. b < 256) bytes → signed_byte.Written bytes z → FitsIn 1 z × (bytes ≡ two_complement 1 z ∷ [])
-unfolding signed_byte
-signed_byte-written bytes z h u =
-    let p = written_map (from_two_complement 1) byte bytes z (written_charged 1 (map_format (from_two_complement 1) byte) bytes z u) in
-    let q : bytes ≡ p.0 ∷ [] = written_byte bytes p.0 p.1 in
-    let l : p.0 < 256 ^ 1 = All-head (λ b. b < 256) p.0 [] (subst (All (λ b. b < 256)) q h) in
-    let e : two_complement 1 z ≡ p.0 = ap (two_complement 1) p.2 ∙ two_complement-from_two_complement 1 p.0 l in
-    (subst (FitsIn 1) (sym p.2) (from_two_complement-fits 1 p.0 l), q ∙ ap (λ b. b ∷ []) (sym e))
-
 -- words, backwards
 
 -- what the first byte says is true
@@ -707,64 +680,6 @@ signed-least name width z setting written bytes s h w u =
     ap (λ y. length (spelling setting.encoding setting.order width (number_for width setting.encoding y))) q.3 ∙ same_length width setting.encoding setting.order q.0 in
     let l : length (spelling setting.encoding setting.order width q.0) ≤ length bytes = spelling-least signed_tag name setting.order width setting.encoding bytes q.0 q.1 h q.2 in
     rw (e, f) l
-
--- the meanings of words
-
--- the width that the first byte says is no wider than the type
-abbrev Within : ℕ → FirstByte → Type 0
-Within width Itself = Unit {0}
-Within width (Before n) = n ≤ width
-Within width TooWide = Unit {0}
-
-within_by : (width : ℕ) (a b c d e : Bool) → 2 ≤ width → (c ≡ true → 4 ≤ width) → (d ≡ true → 8 ≤ width) → (e ≡ true → 16 ≤ width) → Within width (if a then Itself else if b then Before 2 else if c then Before 4 else if d then Before 8 else if e then Before 16 else TooWide)
-within_by width true b c d e h i j k = tt
-within_by width false true c d e h i j k = h
-within_by width false false true d e h i j k = i refl
-within_by width false false false true e h i j k = j refl
-within_by width false false false false true h i j k = k refl
-within_by width false false false false false h i j k = tt
-
-first_byte_within : (width first : ℕ) → IsWidth width → Within width (first_byte width first)
-first_byte_within width first w =
-    within_by width (nat_le first 250) (first == 251) ((first == 252) && nat_le 4 width) ((first == 253) && nat_le 8 width) ((first == 254) && nat_le 16 width) (at_least_2 width w)
-    (λ e. leb-true 4 width (and_parts (first == 252) (nat_le 4 width) e).1) (λ e. leb-true 8 width (and_parts (first == 253) (nat_le 8 width) e).1) (λ e. leb-true 16 width (and_parts (first == 254) (nat_le 16 width) e).1)
-
-below_behind : (order : Endianness) (why : Fault) (width first : ℕ) (said : FirstByte) (tail : List ℕ) (n : ℕ) (s : List Step) → IsWidth width → Tells first said → Within width said → All (λ b. b < 256) tail → (behind order why first said).Word tail n s → n < 256 ^ width
-unfolding done refused
-below_behind order why width first Itself tail n s w t i h u =
-    let l : n ≤ 250 = rw u.1 t in
-    let k : 256 ^ 2 ≤ 256 ^ width = pow-le-pow_right {n = 256} (omega arith) (at_least_2 width w) in
-    omega (arith, l, k)
-below_behind order why width first (Before m) tail n s w t i h u =
-    let p = word_digits order m tail n s u in
-    let l : n < 256 ^ m = rw p.1 (number_of_below order m tail p.0 h) in
-    let k : 256 ^ m ≤ 256 ^ width = pow-le-pow_right {n = 256} (omega arith) i in
-    omega (arith, l, k)
-below_behind order why width first TooWide tail n s w t i h u = absurd u
-
-number_by_below : (tags : ℕ → IntegerType) (name : IntegerType) (order : Endianness) (width : ℕ) (encoding : IntEncoding) (bytes : List ℕ) (n : ℕ) (s : List Step) → IsWidth width → All (λ b. b < 256) bytes → (number_by tags name order width encoding).Word bytes n s → n < 256 ^ width
-number_by_below tags name order width Fixed bytes n s w h u = let p = word_digits order width bytes n s u in rw p.1 (number_of_below order width bytes p.0 h)
-number_by_below tags name order width Variable bytes n s w h u =
-    let p = word_varint tags name order width bytes n s u in
-    let g : All (λ b. b < 256) p.tail = All-tail (λ b. b < 256) p.head p.tail (subst (All (λ b. b < 256)) p.bytes_are h) in
-    below_behind order (InvalidInteger name (tags p.head)) width p.head (first_byte width p.head) p.tail n p.steps w (first_byte_tells width p.head) (first_byte_within width p.head w) g p.tail_word
-
--- a word of bytes means a number of so many bytes
-pub unsigned-below : (name : IntegerType) (width : ℕ) (setting : Setting) (bytes : List ℕ) (n : ℕ) (s : List Step) → IsWidth width → All (λ b. b < 256) bytes → (unsigned name width setting).Word bytes n s → n < 256 ^ width
-unfolding unsigned
-unsigned-below name width setting bytes n s w h u =
-    let p = word_charged width (number_by unsigned_tag name setting.order width setting.encoding) bytes n s u in
-    number_by_below unsigned_tag name setting.order width setting.encoding bytes n p.0 w h p.1
-
--- a word of bytes means an integer of so many bytes
-pub signed-fits : (name : IntegerType) (width : ℕ) (setting : Setting) (bytes : List ℕ) (z : ℤ) (s : List Step) → IsWidth width → All (λ b. b < 256) bytes → (signed name width setting).Word bytes z s → FitsIn width z
-unfolding signed
-signed-fits name width setting bytes z s w h u =
-    let F = number_by signed_tag name setting.order width setting.encoding in
-    let p = word_charged width (map_format (integer_by width setting.encoding) F) bytes z s u in
-    let q = word_map (integer_by width setting.encoding) F bytes z p.0 p.1 in
-    let l : q.0 < 256 ^ width = number_by_below signed_tag name setting.order width setting.encoding bytes q.0 q.1 w h q.2 in
-    subst (FitsIn width) (sym q.3) (integer_by-fits width setting.encoding q.0 l)
 
 -- how many bytes a signed type of Rust has
 abbrev pub width_in_bytes : Width → ℕ

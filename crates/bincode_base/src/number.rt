@@ -14,7 +14,7 @@ use crate::bytes::{
 use crate::config::{Endianness, IntEncoding};
 use crate::error::{DecodeError, EncodeError, IntegerType};
 use crate::read::Reader;
-use crate::varint::{varint_decode, varint_encode};
+use crate::varint::{varint_decode, varint_encode_u128};
 use crate::write::Writer;
 use crate::zigzag::{unzigzag, zigzag};
 
@@ -77,7 +77,7 @@ pub fn write_number<W: Writer>(
     ensures place { W.place writer.new ≡ W.place writer.old }
 {
     match encoding {
-        IntEncoding::Variable => varint_encode(writer, endian, val),
+        IntEncoding::Variable => varint_encode_u128(writer, endian, val),
         IntEncoding::Fixed => write_fixed(writer, endian, width, val),
     }
 }

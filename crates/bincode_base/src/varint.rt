@@ -18,7 +18,6 @@ pub use encode_signed::{
     varint_encode_i16, varint_encode_i32, varint_encode_i64, varint_encode_i128,
     varint_encode_isize,
 };
-pub(crate) use encode_unsigned::varint_encode;
 pub use encode_unsigned::{
     varint_encode_u16, varint_encode_u32, varint_encode_u64, varint_encode_u128,
     varint_encode_usize,

@@ -4,5 +4,4 @@ pub mod NotZero
 pub mod Tagged
 pub mod Rewritten
 pub mod Spans
-pub mod Twice
 pub mod Unwrapped

@@ -1,11 +1,11 @@
 -- A choice is written as its tag, and then its part.
-use Rattle.std.specs.Prelude.{◌≡◌, ℕ, pos, Result, List, ◌++◌, OnOk, IfErr}
+use Rattle.std.specs.Prelude.{◌≡◌, ℕ, pos, Result, List, [], ◌++◌, OnOk, IfErr}
 use Rattle.std.proofs.Common.{inl, inr}
 use Rattle.std.proofs.lemmas.Result.{IfErr-weaker, on_ok_weaker}
 use Rattle.bincode_base.specs.declared.error.EncodeError.{EncodeError}
-use Rattle.bincode_base.specs.Format.{Format, done, map_format}
-use Rattle.bincode_wire.specs.Meaning.{Meaning, Nothing, Choice, IsNumber, IsNothing}
-use Rattle.bincode_wire.specs.Words.{natural, part, chosen}
+use Rattle.bincode_base.specs.Format.{Format, map_format}
+use Rattle.bincode_wire.specs.Meaning.{Meaning, Choice, IsNumber, IsNothing}
+use Rattle.bincode_wire.specs.Words.{natural, tuple, part, chosen}
 use Rattle.bincode_wire.specs.Allowed.{AllowedWord}
 use Rattle.bincode_wire.specs.Choices.{IsChoice}
 use Rattle.bincode_wire.specs.ChoiceLaws.{choice-allows, allowed-choice, alone-allows, allowed-alone}
@@ -14,7 +14,7 @@ use Rattle.bincode_enc.specs.EncodingLaws.{writes_both, writes_same, halts_same,
 
 module _ {W : Type 0} (adds : Adds W) (tags : Format ℕ) (formats : List (Format Meaning)) (last found : ℕ) where
   -- the tag `found` picks no part
-  module _ (at : part formats last found found ≡ map_format (Choice found) (done Nothing)) {T : Type 0} (r : Result T EncodeError) (before after : W) where
+  module _ (at : part formats last found found ≡ map_format (Choice found) (tuple [])) {T : Type 0} (r : Result T EncodeError) (before after : W) where
     pub alone-writes : OnOk r (Writes adds (AllowedWord (IsNumber (pos found)) (natural tags)) before after) → OnOk r (Writes adds (AllowedWord (IsChoice found IsNothing) (chosen tags formats last)) before after)
     alone-writes = on_ok_weaker r (writes_same adds _ _ before after (alone-allows tags formats last found at))
 

@@ -8,12 +8,12 @@ use Rattle.bincode_base.specs.declared.error.DecodeError.TheVariants as errors
 use Rattle.bincode_base.specs.Fault.{Fault, UnexpectedVariant, Between}
 use Rattle.bincode_base.specs.Format.{Format, done, refused, map_format}
 use Rattle.bincode_base.specs.Laws.{Lawful}
-use Rattle.bincode_wire.specs.Meaning.{Meaning, Number, Nothing, Choice, IsNumber, IsNothing}
-use Rattle.bincode_wire.specs.Words.{natural, part, chosen}
+use Rattle.bincode_wire.specs.Meaning.{Meaning, Number, Choice, IsNumber, IsNothing}
+use Rattle.bincode_wire.specs.Words.{natural, tuple, part, chosen}
 use Rattle.bincode_wire.specs.Answer.{Answer, Gave, Refused, PassedLimit, answer, and_then}
 use Rattle.bincode_wire.specs.AnswerLaws.{answer-then, answer-done, answer-refused}
 use Rattle.bincode_wire.specs.Decoding.{Decodes, Stops, by_fault, by_limit, by_memory, by_failure, by_device}
-use Rattle.bincode_wire.specs.DecodingLaws.{gave-takes, answer-next, stops-first, stops-next, map-gave, map-stops}
+use Rattle.bincode_wire.specs.DecodingLaws.{gave-takes, answer-next, stops-first, stops-next, map-gave, map-stops, nothing-decodes}
 use Rattle.bincode_wire.specs.Choices.{IsChoice}
 
 -- what a renamed meaning was before
@@ -98,5 +98,5 @@ module _ (limit : Option ℕ) (tags : Format ℕ) (formats : List (Format Meanin
           (rw picked (map-stops (Choice found) ended device H limit F middle d between after rest e s))
 
     -- the tag picks no part
-    pub alone-decodes : (found : ℕ) → n ≡ found → part formats last found found ≡ map_format (Choice found) (done Nothing) → Decodes (IsChoice found IsNothing) (answer limit (chosen tags formats last) input c) middle d
-    alone-decodes found same at = choice-decodes found same (done Nothing) at IsNothing middle d (record { meaning = Nothing; answer_is = answer-done limit Nothing middle d; is_given = refl })
+    pub alone-decodes : (found : ℕ) → n ≡ found → part formats last found found ≡ map_format (Choice found) (tuple []) → Decodes (IsChoice found IsNothing) (answer limit (chosen tags formats last) input c) middle d
+    alone-decodes found same at = choice-decodes found same (tuple []) at IsNothing middle d (nothing-decodes limit middle d)

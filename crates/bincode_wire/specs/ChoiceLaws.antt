@@ -1,29 +1,26 @@
 -- Choices, by what their tags and their parts do: their formats keep the laws, what they allow, and that they are spelled.
-use Rattle.std.specs.Prelude.{◌≡◌, ℕ, zero, suc, ◌<◌, ◌≤◌, ◌^◌, pos, Bool, true, false, nat_eq, Option, Some, None, IfSome, Result, Ok, Err, MatchResult, List, [], ◌∷◌, ◌++◌, length, refl}
+use Rattle.std.specs.Prelude.{◌≡◌, ℕ, zero, suc, ◌<◌, ◌^◌, pos, Bool, true, false, nat_eq, Option, Some, None, IfSome, Result, Ok, Err, MatchResult, List, [], ◌∷◌, ◌++◌, refl}
 use Rattle.std.specs.declared.ops.Bound.{Bound}
 use Rattle.std.specs.declared.ops.Bound.TheVariants.{Included, Excluded, Unbounded}
 use Rattle.std.specs.Option.{option_eq}
 use Rattle.std.specs.Result.{result_eq}
-use Rattle.std.specs.List.{All}
-use Rattle.std.proofs.Common.{sym, ◌∙◌, ap, subst, arith, append-nil, length-append, eq-eqb}
-use Rattle.std.proofs.Math.Seq.{take-append_seam, drop-append_seam}
-use Rattle.std.proofs.lemmas.List.Elements.{All-take, All-drop}
+use Rattle.std.proofs.Common.{sym, ◌∙◌, ap, subst, arith, append-nil, eq-eqb}
 use Rattle.bincode_base.specs.declared.error.IntegerType.TheVariants.{U32}
 use Rattle.bincode_base.specs.Fault.{Fault}
 use Rattle.bincode_base.specs.Setting.{Setting}
 use Rattle.bincode_base.specs.Charge.{Step}
-use Rattle.bincode_base.specs.Format.{Format, done, refused, ◌>>=◌, map_format}
+use Rattle.bincode_base.specs.Format.{Format, refused, ◌>>=◌, map_format}
 use Rattle.bincode_base.specs.Integers.{unsigned_byte}
 use Rattle.bincode_base.specs.Laws.{Lawful, Balanced}
-use Rattle.bincode_base.specs.FormatLaws.{done-lawful, turn-lawful}
-use Rattle.bincode_base.specs.Balance.{done-holds, turn-holds}
-use Rattle.bincode_base.specs.IntegerLaws.{Four, unsigned-lawful, unsigned-balanced}
-use Rattle.bincode_wire.specs.Meaning.{Meaning, Number, Nothing, Choice, IsNumber, IsNothing}
-use Rattle.bincode_wire.specs.Words.{natural, tag, part, chosen, optional, either, bound}
-use Rattle.bincode_wire.specs.WordsLaws.{AllLawful, AllBalanced, part-lawful, part-balanced}
+use Rattle.bincode_base.specs.FormatLaws.{turn-lawful}
+use Rattle.bincode_base.specs.Balance.{turn-holds}
+use Rattle.bincode_base.specs.IntegerLaws.{Four, unsigned-lawful, unsigned-balanced, unsigned_byte-lawful, unsigned_byte-balanced}
+use Rattle.bincode_wire.specs.Meaning.{Meaning, Number, Choice, IsNumber, IsNothing}
+use Rattle.bincode_wire.specs.Words.{natural, tag, tuple, part, chosen, optional, either, bound}
+use Rattle.bincode_wire.specs.WordsLaws.{AllLawful, AllBalanced, part-lawful, part-balanced, tuple-lawful, tuple-balanced}
 use Rattle.bincode_wire.specs.Allowed.{AllowedWord, Both, OneLength, NoneShorter}
-use Rattle.bincode_wire.specs.AllowedLaws.{map-written, written-map, natural-allows, allowed-natural, same-one_length, alone-one_length, both-one_length}
-use Rattle.bincode_wire.specs.SpelledLaws.{word-settled, settled-word, unsigned-spelled, byte-spelled}
+use Rattle.bincode_wire.specs.AllowedLaws.{map-written, written-map, natural-allows, allowed-natural, nothing-allows, allowed-nothing, same-one_length, alone-one_length, both-one_length}
+use Rattle.bincode_wire.specs.SpelledLaws.{word-settled, settled-word, unsigned-spelled, byte-spelled, nothing-none_shorter, parts-no_longer}
 use Rattle.bincode_wire.specs.Choices.{IsChoice, IsOptional, IsEither, IsBound, IfEnd}
 
 -- a tag and the part that it picks keep the laws
@@ -35,6 +32,12 @@ pub chosen-balanced : (tags : Format ℕ) (formats : List (Format Meaning)) (las
 unfolding chosen
 chosen-balanced tags formats last t h = turn-holds 0 0 0 tags (λ found. part formats last found found) t (λ found. part-balanced formats last found found h)
 
+pub optional-lawful : (F : Format Meaning) → Lawful F → Lawful (optional F)
+optional-lawful F f = chosen-lawful unsigned_byte (tuple [] ∷ F ∷ []) 1 unsigned_byte-lawful (tuple-lawful [] tt, (f, tt))
+
+pub optional-balanced : (F : Format Meaning) → Balanced F → Balanced (optional F)
+optional-balanced F f = chosen-balanced unsigned_byte (tuple [] ∷ F ∷ []) 1 unsigned_byte-balanced (tuple-balanced [] tt, (f, tt))
+
 pub either-lawful : (s : Setting) (F G : Format Meaning) → Lawful F → Lawful G → Lawful (either s F G)
 either-lawful s F G f g = chosen-lawful (tag s) (F ∷ G ∷ []) 1 (unsigned-lawful U32 4 s (Four refl)) (f, (g, tt))
 
@@ -42,10 +45,10 @@ pub either-balanced : (s : Setting) (F G : Format Meaning) → Balanced F → Ba
 either-balanced s F G f g = chosen-balanced (tag s) (F ∷ G ∷ []) 1 (unsigned-balanced U32 4 s) (f, (g, tt))
 
 pub bound-lawful : (s : Setting) (F : Format Meaning) → Lawful F → Lawful (bound s F)
-bound-lawful s F f = chosen-lawful (tag s) (done Nothing ∷ F ∷ F ∷ []) 2 (unsigned-lawful U32 4 s (Four refl)) (done-lawful Nothing, (f, (f, tt)))
+bound-lawful s F f = chosen-lawful (tag s) (tuple [] ∷ F ∷ F ∷ []) 2 (unsigned-lawful U32 4 s (Four refl)) (tuple-lawful [] tt, (f, (f, tt)))
 
 pub bound-balanced : (s : Setting) (F : Format Meaning) → Balanced F → Balanced (bound s F)
-bound-balanced s F f = chosen-balanced (tag s) (done Nothing ∷ F ∷ F ∷ []) 2 (unsigned-balanced U32 4 s) (done-holds 0 Nothing, (f, (f, tt)))
+bound-balanced s F f = chosen-balanced (tag s) (tuple [] ∷ F ∷ F ∷ []) 2 (unsigned-balanced U32 4 s) (tuple-balanced [] tt, (f, (f, tt)))
 
 -- whatever the part, its meaning has the tag
 part-written : (formats : List (Format Meaning)) (last found place : ℕ) (bytes : List ℕ) (m : Meaning) → (part formats last found place).Written bytes m → (n : Meaning) × (m ≡ Choice found n)
@@ -109,36 +112,26 @@ module _ (tags : Format ℕ) (formats : List (Format Meaning)) (last found : ℕ
       let q = word-settled (λ n. Ok (Choice found n)) F u.second m u.second_steps (subst (λ G. G.Word u.second m u.second_steps) at v) in
       let i : ◌≡◌ {A = Result Meaning Fault} (Ok (Choice found q.0)) (Ok (Choice found e.part)) = q.2 ∙ ap Ok e.meaning_is in
       let j : e.part ≡ q.0 = cc in
-      let a : All (λ x. x < 256) (u.first ++ u.second) = subst (All (λ x. x < 256)) u.bytes_are h in
       let x : (natural tags).Word u.first (Number (pos found)) u.first_steps = settled-word (λ n. Ok (Number (pos n))) tags u.first found (Number (pos found)) u.first_steps refl (subst (λ n. tags.Word u.first n u.first_steps) k u.first_word) in
-      let l : length b.0 ≤ length u.first = t b.0 u.first (Number (pos found)) u.first_steps b.3 (subst (All (λ x. x < 256)) (take-append_seam u.first u.second) (All-take (λ x. x < 256) (length u.first) (u.first ++ u.second) a)) x refl in
-      let r : length b.1 ≤ length u.second = f b.1 u.second q.0 q.1 b.4 (subst (All (λ x. x < 256)) (drop-append_seam u.first u.second) (All-drop (λ x. x < 256) (length u.first) (u.first ++ u.second) a)) q.3 (subst P j e.is_part) in
-      omega (arith, l, r, ap length b.2, length-append b.0 b.1, ap length u.bytes_are, length-append u.first u.second)
-
--- a part that is nothing allows the empty word
-nothing-allows : AllowedWord IsNothing (done Nothing) []
-unfolding done
-nothing-allows = record { meaning = Nothing; is_meant = refl; is_written = (refl, refl) }
-
-allowed-nothing : (bytes : List ℕ) → AllowedWord IsNothing (done Nothing) bytes → bytes ≡ []
-unfolding done
-allowed-nothing bytes w = w.is_written.0
+      parts-no_longer written bytes b.0 b.1 u.first u.second b.2 u.bytes_are h
+      (λ below. t b.0 u.first (Number (pos found)) u.first_steps b.3 below x refl)
+      (λ below. f b.1 u.second q.0 q.1 b.4 below q.3 (subst P j e.is_part))
 
 -- the tag `found` picks no part
-module _ (tags : Format ℕ) (formats : List (Format Meaning)) (last found : ℕ) (at : part formats last found found ≡ map_format (Choice found) (done Nothing)) where
+module _ (tags : Format ℕ) (formats : List (Format Meaning)) (last found : ℕ) (at : part formats last found found ≡ map_format (Choice found) (tuple [])) where
   -- such a choice allows what is written for its tag
   pub alone-allows : (bytes : List ℕ) → AllowedWord (IsNumber (pos found)) (natural tags) bytes → AllowedWord (IsChoice found IsNothing) (chosen tags formats last) bytes
-  alone-allows bytes w = choice-allows tags formats last found (done Nothing) at IsNothing bytes (bytes, [], sym (append-nil bytes), w, nothing-allows)
+  alone-allows bytes w = choice-allows tags formats last found (tuple []) at IsNothing bytes (bytes, [], sym (append-nil bytes), w, nothing-allows)
 
   pub allowed-alone : (bytes : List ℕ) → AllowedWord (IsChoice found IsNothing) (chosen tags formats last) bytes → AllowedWord (IsNumber (pos found)) (natural tags) bytes
   allowed-alone bytes w =
-      let b = allowed-choice tags formats last found (done Nothing) at IsNothing bytes w in
+      let b = allowed-choice tags formats last found (tuple []) at IsNothing bytes w in
       let e : bytes ≡ b.0 = b.2 ∙ ap (λ z. b.0 ++ z) (allowed-nothing b.1 b.4) ∙ append-nil b.0 in
       subst (AllowedWord (IsNumber (pos found)) (natural tags)) (sym e) b.3
 
 -- what holds of each choice, if it holds of its part
 pub record OfChoices (R : (Meaning → Type 0) → Format Meaning → Type 0) : Type 1 where
-  pub of_nothing : R IsNothing (done Nothing)
+  pub of_nothing : R IsNothing (tuple [])
   pub of_byte : (n : ℕ) → R (IsNumber (pos n)) (natural unsigned_byte)
   pub of_tag : (n : ℕ) (s : Setting) → n < 2 ^ 32 → R (IsNumber (pos n)) (natural (tag s))
   pub of_choice : (tags : Format ℕ) (formats : List (Format Meaning)) (last found : ℕ) (F : Format Meaning) → part formats last found found ≡ map_format (Choice found) F → (P : Meaning → Type 0) → R (IsNumber (pos found)) (natural tags) → R P F → R (IsChoice found P) (chosen tags formats last)
@@ -162,7 +155,7 @@ one_lengths = record {
 
 pub none_shorters : OfChoices NoneShorter
 none_shorters = record {
-  of_nothing = λ written bytes m s w h u e. omega (arith, ap length (allowed-nothing written w));
+  of_nothing = nothing-none_shorter;
   of_byte = λ n. (byte-spelled n).none_shorter;
   of_tag = λ n s h. (unsigned-spelled U32 4 n s h).none_shorter;
   of_choice = choice-none_shorter;
@@ -171,17 +164,17 @@ none_shorters = record {
 module _ {R : (Meaning → Type 0) → Format Meaning → Type 0} (c : OfChoices R) where
   -- what holds of an `Option`, a `Result` and a `Bound`, if it holds of what is in it
   pub of_optional : {T : Type 0} (V : T → Type 0) (P : T → Meaning → Type 0) (F : Format Meaning) → ((v : T) → V v → R (P v) F) → (v : Option T) → IfSome v V → R (IsOptional P v) (optional F)
-  of_optional V P F f None h = c.of_choice unsigned_byte (done Nothing ∷ F ∷ []) 1 0 (done Nothing) refl IsNothing (c.of_byte 0) c.of_nothing
-  of_optional V P F f (Some v) h = c.of_choice unsigned_byte (done Nothing ∷ F ∷ []) 1 1 F refl (P v) (c.of_byte 1) (f v h)
+  of_optional V P F f None h = c.of_choice unsigned_byte (tuple [] ∷ F ∷ []) 1 0 (tuple []) refl IsNothing (c.of_byte 0) c.of_nothing
+  of_optional V P F f (Some v) h = c.of_choice unsigned_byte (tuple [] ∷ F ∷ []) 1 1 F refl (P v) (c.of_byte 1) (f v h)
 
   pub of_either : {T U : Type 0} (V : T → Type 0) (W : U → Type 0) (P : T → Meaning → Type 0) (Q : U → Meaning → Type 0) (s : Setting) (F G : Format Meaning) → ((v : T) → V v → R (P v) F) → ((w : U) → W w → R (Q w) G) → (v : Result T U) → MatchResult v V W → R (IsEither P Q v) (either s F G)
   of_either V W P Q s F G f g (Ok v) h = c.of_choice (tag s) (F ∷ G ∷ []) 1 0 F refl (P v) (c.of_tag 0 s (omega arith)) (f v h)
   of_either V W P Q s F G f g (Err w) h = c.of_choice (tag s) (F ∷ G ∷ []) 1 1 G refl (Q w) (c.of_tag 1 s (omega arith)) (g w h)
 
   pub of_bound : {T : Type 0} (V : T → Type 0) (P : T → Meaning → Type 0) (s : Setting) (F : Format Meaning) → ((v : T) → V v → R (P v) F) → (v : Bound T) → IfEnd v V → R (IsBound P v) (bound s F)
-  of_bound V P s F f Unbounded h = c.of_choice (tag s) (done Nothing ∷ F ∷ F ∷ []) 2 0 (done Nothing) refl IsNothing (c.of_tag 0 s (omega arith)) c.of_nothing
-  of_bound V P s F f (Included v) h = c.of_choice (tag s) (done Nothing ∷ F ∷ F ∷ []) 2 1 F refl (P v) (c.of_tag 1 s (omega arith)) (f v h)
-  of_bound V P s F f (Excluded v) h = c.of_choice (tag s) (done Nothing ∷ F ∷ F ∷ []) 2 2 F refl (P v) (c.of_tag 2 s (omega arith)) (f v h)
+  of_bound V P s F f Unbounded h = c.of_choice (tag s) (tuple [] ∷ F ∷ F ∷ []) 2 0 (tuple []) refl IsNothing (c.of_tag 0 s (omega arith)) c.of_nothing
+  of_bound V P s F f (Included v) h = c.of_choice (tag s) (tuple [] ∷ F ∷ F ∷ []) 2 1 F refl (P v) (c.of_tag 1 s (omega arith)) (f v h)
+  of_bound V P s F f (Excluded v) h = c.of_choice (tag s) (tuple [] ∷ F ∷ F ∷ []) 2 2 F refl (P v) (c.of_tag 2 s (omega arith)) (f v h)
 
 -- what holds of each value in a choice, and what follows from it
 pub optional-and : {T : Type 0} (V X : T → Type 0) (v : Option T) → IfSome v V → IfSome v X → IfSome v (λ a. V a × X a)

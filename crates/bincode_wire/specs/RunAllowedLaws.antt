@@ -1,10 +1,9 @@
 -- What a run of values allows, by what each value does.
-use Rattle.std.specs.Prelude.{◌≡◌, ℕ, zero, suc, ◌<◌, ◌≤◌, Bool, true, Result, Ok, List, [], ◌∷◌, ◌++◌, length, refl}
+use Rattle.std.specs.Prelude.{◌≡◌, ℕ, ◌<◌, ◌≤◌, Bool, true, Result, Ok, List, [], ◌∷◌, ◌++◌, length, refl}
 use Rattle.std.specs.List.{All}
 use Rattle.std.specs.Cmp.Lexicographic.{pointwise}
-use Rattle.std.proofs.Common.{sym, ◌∙◌, ap, subst, arith, append_assoc, length-append}
-use Rattle.std.proofs.Math.Seq.{take-append_seam, drop-append_seam}
-use Rattle.std.proofs.lemmas.List.Elements.{All-head, All-tail, All-take, All-drop}
+use Rattle.std.proofs.Common.{sym, ◌∙◌, ap, subst, arith, append_assoc}
+use Rattle.std.proofs.lemmas.List.Elements.{All-head, All-tail}
 use Rattle.bincode_base.specs.Fault.{Fault}
 use Rattle.bincode_base.specs.Charge.{Step}
 use Rattle.bincode_base.specs.Format.{Format, done, step, ◌>>=◌, unsure, map_format, elements, sequence}
@@ -12,7 +11,7 @@ use Rattle.bincode_wire.specs.Meaning.{Meaning, Nothing, Then, listed}
 use Rattle.bincode_wire.specs.Words.{array}
 use Rattle.bincode_wire.specs.Allowed.{AllowedWord, OneLength, NoneShorter, Both}
 use Rattle.bincode_wire.specs.AllowedLaws.{map-written, written-map, both-one_length, then_same}
-use Rattle.bincode_wire.specs.SpelledLaws.{word-settled}
+use Rattle.bincode_wire.specs.SpelledLaws.{word-settled, parts-no_longer}
 use Rattle.bincode_wire.specs.Run.{IsListOf, AllowsEach}
 
 -- the words of a run, element by element
@@ -59,51 +58,6 @@ module _ {A : Type 0} (Means : A → Meaning → Type 0) (share : ℕ) (F : Form
       let w : (elements (length vs) share F).Written u.second t.0 = subst (λ k. (elements k share F).Written u.second t.0) (sym e) u.second_written in
       subst (AllowsEach (λ v. AllowedWord (Means v) F) vs) (sym p) (written_each vs u.second t.0 (subst (IsListOf Means vs) t.1 a.is_meant) w)
 
--- a word of an array, and what it means, have as many elements
-
-run_count : {A : Type 0} (Is : A → Meaning → Type 0) (vs : List A) (ms : List Meaning) → IsListOf Is vs (listed ms) → length vs ≡ length ms
-run_count Is [] [] i = refl
-run_count Is [] (m ∷ ms) i = absurd (cc)
-run_count Is (v ∷ vs) [] i = let e = i.meaning_is in absurd (cc)
-run_count Is (v ∷ vs) (m ∷ ms) i =
-    let e = i.meaning_is in
-    let b : i.others ≡ listed ms = cc in
-    ap suc (run_count Is vs ms (subst (IsListOf Is vs) b i.are_others))
-
-module _ (share : ℕ) (F : Format Meaning) where
-  written_count : (n : ℕ) (bytes : List ℕ) (ms : List Meaning) → (elements n share F).Written bytes ms → length ms ≡ n
-  unfolding done step ◌>>=◌
-  written_count zero bytes ms w = ap length w.1
-  written_count (suc n) bytes ms w =
-      let u = w.second_written in
-      let t = written-map (λ others. u.head ∷ others) (elements n share F) u.second ms u.second_written in
-      ap length t.1 ∙ ap suc (written_count n u.second t.0 t.2)
-
-  word_count : (n : ℕ) (bytes : List ℕ) (ms : List Meaning) (s : List Step) → (elements n share F).Word bytes ms s → length ms ≡ n
-  unfolding done step ◌>>=◌
-  word_count zero bytes ms s u = ap length u.1
-  word_count (suc n) bytes ms s u =
-      let w = u.second_word in
-      let t = word-settled (λ others. Ok (w.head ∷ others)) (elements n share F) w.second ms w.second_steps w.second_word in
-      let e : ms ≡ w.head ∷ t.0 = cc t.2 in
-      ap length e ∙ ap suc (word_count n w.second t.0 t.1 t.3)
-
-  pub written-array_count : {A : Type 0} (Is : A → Meaning → Type 0) (n : ℕ) (vs : List A) (bytes : List ℕ) (m : Meaning) → (array n share F).Written bytes m → IsListOf Is vs m → length vs ≡ n
-  unfolding step ◌>>=◌
-  written-array_count Is n vs bytes m w i =
-      let t = written-map listed (sequence n share F) bytes m w in
-      let u = t.2 in
-      run_count Is vs t.0 (subst (IsListOf Is vs) t.1 i) ∙ written_count n u.second t.0 u.second_written
-
-  pub word-array_count : {A : Type 0} (Is : A → Meaning → Type 0) (n : ℕ) (vs : List A) (bytes : List ℕ) (m : Meaning) (s : List Step) → (array n share F).Word bytes m s → IsListOf Is vs m → length vs ≡ n
-  unfolding step ◌>>=◌
-  word-array_count Is n vs bytes m s w i =
-      let t = word-settled (λ ms. Ok (listed ms)) (sequence n share F) bytes m s w in
-      let q : ◌≡◌ {A = Result Meaning Fault} (Ok (listed t.0)) (Ok m) = t.2 in
-      let k : m ≡ listed t.0 = cc in
-      let u = t.3 in
-      run_count Is vs t.0 (subst (IsListOf Is vs) k i) ∙ word_count n u.second t.0 u.second_steps u.second_word
-
 -- a run in two parts
 
 module _ {A : Type 0} (Allowed : A → List ℕ → Type 0) where
@@ -134,12 +88,6 @@ module _ {A : Type 0} (Allowed : A → List ℕ → Type 0) where
   each-one_length P [] f h = none-one_length
   each-one_length P (v ∷ vs) f h = both-one_length (Allowed v) (AllowsEach Allowed vs) (f v (All-head P v vs h)) (each-one_length P vs f (All-tail P v vs h))
 
-front_all : (P : ℕ → Type 0) (xs ys : List ℕ) → All P (xs ++ ys) → All P xs
-front_all P xs ys h = subst (All P) (take-append_seam xs ys) (All-take P (length xs) (xs ++ ys) h)
-
-back_all : (P : ℕ → Type 0) (xs ys : List ℕ) → All P (xs ++ ys) → All P ys
-back_all P xs ys h = subst (All P) (drop-append_seam xs ys) (All-drop P (length xs) (xs ++ ys) h)
-
 -- no word of a run is shorter, if none of an element is
 
 module _ {A : Type 0} (Means : A → Meaning → Type 0) (share : ℕ) (F : Format Meaning) (P : A → Type 0) (least : (v : A) → P v → NoneShorter (Means v) F) where
@@ -155,10 +103,9 @@ module _ {A : Type 0} (Means : A → Meaning → Type 0) (share : ℕ) (F : Form
       let j : i.first ≡ w.head = cc in
       let k : i.others ≡ listed t.0 = cc in
       let p : bytes ≡ w.first ++ w.second = u.bytes_are ∙ ap (λ z. z ++ u.second) u.first_word.0 ∙ w.bytes_are in
-      let both : All (λ b. b < 256) (w.first ++ w.second) = subst (All (λ b. b < 256)) p below in
-      let l : length x ≤ length w.first = least v (All-head P v vs h) x w.first w.head w.first_steps a (front_all (λ b. b < 256) w.first w.second both) w.first_word (subst (Means v) j i.is_first) in
-      let r : length y ≤ length w.second = each_none_shorter vs (All-tail P v vs h) y w.second t.0 t.1 b (back_all (λ b. b < 256) w.first w.second both) t.3 (subst (IsListOf Means vs) k i.are_others) in
-      omega (arith, l, r, ap length e, length-append x y, ap length p, length-append w.first w.second)
+      parts-no_longer written bytes x y w.first w.second e p below
+      (λ bytes_below. least v (All-head P v vs h) x w.first w.head w.first_steps a bytes_below w.first_word (subst (Means v) j i.is_first))
+      (λ bytes_below. each_none_shorter vs (All-tail P v vs h) y w.second t.0 t.1 b bytes_below t.3 (subst (IsListOf Means vs) k i.are_others))
 
   pub array-none_shorter : (n : ℕ) (vs : List A) → length vs ≡ n → All P vs → NoneShorter (IsListOf Means vs) (array n share F)
   unfolding step ◌>>=◌

@@ -170,11 +170,6 @@ module _ (limit : Option ℕ) (share : ℕ) (F : Format Meaning) where
         map-stops listed ended device H limit (sequence n share F) input c before after rest e
         (by_limit (answer-then limit (step (Reserve (n * share))) (λ _. elements n share F) input c ∙ ap (λ o. and_then o (λ _ r after. answer limit (elements n share F) r after)) (over_reserved_answer limit c (n * share) d input h)) k ([], sym same))
 
--- what a claim that stands can give back
-pub claimed-releases : (limit : Option ℕ) (c n d : ℕ) → Claimed limit c n d → CanRelease limit d n
-claimed-releases None c n d h = tt
-claimed-releases (Some limit) c n d h = let e = h.1 in omega arith
-
 -- one share of several
 pub one-releases : (limit : Option ℕ) (c share n : ℕ) → CanRelease limit c (suc n * share) → CanRelease limit c share
 one-releases None c share n h = tt

@@ -3,7 +3,8 @@ use Rattle.std.specs.Prelude.{◌≡◌, ℕ, ◌<◌, ◌≤◌, ◌^◌, ℤ, 
 use Rattle.std.specs.List.{All}
 use Rattle.std.specs.Int.{Width, w8}
 use Rattle.std.proofs.Common.{sym, ◌∙◌, ap, subst, arith, append-nil, length-append}
-use Rattle.std.proofs.lemmas.List.Elements.{All-nil, All-cons, All-head, All-tail}
+use Rattle.std.proofs.Math.Seq.{take-append_seam, drop-append_seam}
+use Rattle.std.proofs.lemmas.List.Elements.{All-take, All-drop}
 use Rattle.bincode_base.specs.declared.error.IntegerType.{IntegerType}
 use Rattle.bincode_base.specs.Setting.{Setting}
 use Rattle.bincode_base.specs.Number.{two_complement}
@@ -116,13 +117,14 @@ not_zero_integer-spelled = number-not_zero (λ z. z) (λ a b e. e) unsigned_abs
 
 -- tuples
 
-front_all : (P : ℕ → Type 0) (xs ys : List ℕ) → All P (xs ++ ys) → All P xs
-front_all P [] ys h = All-nil P
-front_all P (x ∷ xs) ys h = All-cons P x xs (All-head P x (xs ++ ys) h) (front_all P xs ys (All-tail P x (xs ++ ys) h))
-
-back_all : (P : ℕ → Type 0) (xs ys : List ℕ) → All P (xs ++ ys) → All P ys
-back_all P [] ys h = h
-back_all P (x ∷ xs) ys h = back_all P xs ys (All-tail P x (xs ++ ys) h)
+-- bytes in two parts are no fewer, if those of each part are no fewer
+pub parts-no_longer : (written bytes x y v w : List ℕ) → written ≡ x ++ y → bytes ≡ v ++ w → All (λ b. b < 256) bytes →
+    (All (λ b. b < 256) v → length x ≤ length v) → (All (λ b. b < 256) w → length y ≤ length w) → length written ≤ length bytes
+parts-no_longer written bytes x y v w d e h f g =
+    let below : All (λ b. b < 256) (v ++ w) = subst (All (λ b. b < 256)) e h in
+    let l = f (subst (All (λ b. b < 256)) (take-append_seam v w) (All-take (λ b. b < 256) (length v) (v ++ w) below)) in
+    let r = g (subst (All (λ b. b < 256)) (drop-append_seam v w) (All-drop (λ b. b < 256) (length v) (v ++ w) below)) in
+    omega (arith, l, r, ap length d, length-append x y, ap length e, length-append v w)
 
 -- no word of a tuple is shorter, if none of its first part is and none of the others
 pub tuple-none_shorter : (P Q : Meaning → Type 0) (F : Format Meaning) (others : List (Format Meaning)) → NoneShorter P F → NoneShorter Q (tuple others) → NoneShorter (IsThen P Q) (tuple (F ∷ others))
@@ -133,10 +135,9 @@ tuple-none_shorter P Q F others f g written bytes m s w h u e =
     let i : ◌≡◌ {A = Result Meaning Fault} (Ok (Then u.head t.0)) (Ok (Then e.first e.others)) = t.2 ∙ ap Ok e.meaning_is in
     let j : e.first ≡ u.head = cc in
     let k : e.others ≡ t.0 = cc in
-    let a : All (λ x. x < 256) (u.first ++ u.second) = subst (All (λ x. x < 256)) u.bytes_are h in
-    let l : length b.0 ≤ length u.first = f b.0 u.first u.head u.first_steps b.3 (front_all (λ x. x < 256) u.first u.second a) u.first_word (subst P j e.is_first) in
-    let r : length b.1 ≤ length u.second = g b.1 u.second t.0 t.1 b.4 (back_all (λ x. x < 256) u.first u.second a) t.3 (subst Q k e.are_others) in
-    omega (arith, l, r, ap length b.2, length-append b.0 b.1, ap length u.bytes_are, length-append u.first u.second)
+    parts-no_longer written bytes b.0 b.1 u.first u.second b.2 u.bytes_are h
+    (λ below. f b.0 u.first u.head u.first_steps b.3 below u.first_word (subst P j e.is_first))
+    (λ below. g b.1 u.second t.0 t.1 b.4 below t.3 (subst Q k e.are_others))
 
 pub nothing-none_shorter : NoneShorter IsNothing (tuple [])
 nothing-none_shorter written bytes m s w h u e = omega (arith, ap length (allowed-nothing written w))

@@ -39,6 +39,15 @@ len = unsigned integers.U64 8
 abbrev pub tag : Setting → Format ℕ
 tag = unsigned integers.U32 4
 
+-- parts in order
+unfoldable pub tuple : List (Format Meaning) → Format Meaning
+tuple [] = done Nothing
+tuple (F ∷ others) = F >>= λ m. map_format (Then m) (tuple others)
+
+-- what the parts claim, at most the greatest `usize`
+abbrev pub saturated_sum : List ℕ → ℕ
+saturated_sum claims = min (sum claims) (2 ^ 64 - 1)
+
 -- truth values and choices
 
 abbrev pub truth_of : ℕ → Result Meaning Fault
@@ -62,22 +71,13 @@ unfoldable pub chosen : Format ℕ → List (Format Meaning) → ℕ → Format 
 chosen tags formats last = tags >>= λ found. part formats last found found
 
 abbrev pub optional : Format Meaning → Format Meaning
-optional F = chosen unsigned_byte (done Nothing ∷ F ∷ []) 1
+optional F = chosen unsigned_byte (tuple [] ∷ F ∷ []) 1
 
 abbrev pub either : Setting → Format Meaning → Format Meaning → Format Meaning
 either setting F G = chosen (tag setting) (F ∷ G ∷ []) 1
 
 abbrev pub bound : Setting → Format Meaning → Format Meaning
-bound setting F = chosen (tag setting) (done Nothing ∷ F ∷ F ∷ []) 2
-
--- parts in order
-unfoldable pub tuple : List (Format Meaning) → Format Meaning
-tuple [] = done Nothing
-tuple (F ∷ others) = F >>= λ m. map_format (Then m) (tuple others)
-
--- what the parts claim, at most the greatest `usize`
-abbrev pub saturated_sum : List ℕ → ℕ
-saturated_sum claims = min (sum claims) (2 ^ 64 - 1)
+bound setting F = chosen (tag setting) (tuple [] ∷ F ∷ F ∷ []) 2
 
 -- elements, each with its share of the room
 abbrev pub array : ℕ → ℕ → Format Meaning → Format Meaning

@@ -4,14 +4,14 @@ use Rattle.std.proofs.Common.{◌∙◌, ap, arith}
 use Rattle.std.proofs.lemmas.Bool.{eq-eqb, ne_eqb, eqb-true}
 use Rattle.bincode_base.specs.declared.error.IntegerType.{IntegerType}
 use Rattle.bincode_base.specs.Fault.{Fault, Zero, UnexpectedVariant, InvalidBool, Between}
-use Rattle.bincode_base.specs.Format.{Format, done, map_format, sequence}
+use Rattle.bincode_base.specs.Format.{Format, map_format, sequence}
 use Rattle.bincode_base.specs.Laws.{Lawful, Balanced}
 use Rattle.bincode_base.specs.FormatLaws.{done-lawful, refused-lawful, turn-lawful, Settles, test-lawful, map-lawful, sequence-lawful}
 use Rattle.bincode_base.specs.Balance.{done-holds, refused-holds, turn-holds, test-balanced, map-balanced, sequence-balanced}
 use Rattle.bincode_base.specs.IntegerLaws.{unsigned_byte-lawful, unsigned_byte-balanced}
 use Rattle.bincode_base.specs.Integers.{unsigned_byte}
 use Rattle.bincode_wire.specs.Meaning.{Meaning, Truth, Nothing, Then, Choice, listed}
-use Rattle.bincode_wire.specs.Words.{not_zero_of, not_zero_by, truth_of, truth_byte, truth, part, chosen, optional, tuple, array}
+use Rattle.bincode_wire.specs.Words.{not_zero_of, not_zero_by, truth_of, truth_byte, truth, part, tuple, array}
 
 -- what is not 0 passes the test as it is
 module _ {A : Type 0} (name : IntegerType) (size : ℕ) (a : A) where
@@ -93,14 +93,6 @@ pub part-balanced : (formats : List (Format Meaning)) (last found place : ℕ) �
 part-balanced [] last found place h = refused-holds 0 0 (UnexpectedVariant (Between 0 last) found)
 part-balanced (F ∷ others) last found zero h = map-balanced (Choice found) F h.0
 part-balanced (F ∷ others) last found (suc place) h = part-balanced others last found place h.1
-
-pub optional-lawful : (F : Format Meaning) → Lawful F → Lawful (optional F)
-unfolding chosen
-optional-lawful F f = turn-lawful unsigned_byte (λ found. part (done Nothing ∷ F ∷ []) 1 found found) unsigned_byte-lawful (λ found. part-lawful (done Nothing ∷ F ∷ []) 1 found found (done-lawful Nothing, (f, tt)))
-
-pub optional-balanced : (F : Format Meaning) → Balanced F → Balanced (optional F)
-unfolding chosen
-optional-balanced F f = turn-holds 0 0 0 unsigned_byte (λ found. part (done Nothing ∷ F ∷ []) 1 found found) unsigned_byte-balanced (λ found. part-balanced (done Nothing ∷ F ∷ []) 1 found found (done-holds 0 Nothing, (f, tt)))
 
 pub tuple-lawful : (formats : List (Format Meaning)) → AllLawful formats → Lawful (tuple formats)
 unfolding tuple

@@ -3,7 +3,7 @@ ghost use Rattle.bincode_base.specs.Number.{zigzag};
 ghost use Rattle.bincode_base.specs.Integers.{shortest, shortest_pieces};
 ghost use Rattle.bincode_base.specs.Device.{StopsAmong};
 
-use super::varint_encode;
+use super::varint_encode_u128;
 use crate::config::Endianness;
 use crate::error::EncodeError;
 use crate::write::Writer;
@@ -59,7 +59,7 @@ pub fn varint_encode_i128<W: Writer>(
     ensures err { IfErr result (λ e. StopsAmong W.adds W.refuses (shortest_pieces endian (zigzag val)) writer.old e writer.new) }
     ensures place { W.place writer.new ≡ W.place writer.old }
 {
-    varint_encode(writer, endian, zigzag(val))
+    varint_encode_u128(writer, endian, zigzag(val))
 }
 
 /// Writes the shortest spelling of the number of an `isize`, as `varint_encode_i16` does.

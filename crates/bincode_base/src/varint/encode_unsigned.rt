@@ -49,34 +49,8 @@ pub fn varint_encode_u64<W: Writer>(
 }
 
 /// Writes the shortest spelling of a `u128`, as `varint_encode_u16` does.
-pub fn varint_encode_u128<W: Writer>(
-    writer: &mut W,
-    endian: Endianness,
-    val: u128,
-) -> Result<(), EncodeError>
-    ensures ok { OnOk result (W.adds writer.old (shortest endian val) writer.new) }
-    ensures err { IfErr result (λ e. StopsAmong W.adds W.refuses (shortest_pieces endian val) writer.old e writer.new) }
-    ensures place { W.place writer.new ≡ W.place writer.old }
-{
-    varint_encode(writer, endian, val)
-}
-
-/// Writes the shortest spelling of a `usize`, as `varint_encode_u16` does.
-pub fn varint_encode_usize<W: Writer>(
-    writer: &mut W,
-    endian: Endianness,
-    val: usize,
-) -> Result<(), EncodeError>
-    ensures ok { OnOk result (W.adds writer.old (shortest endian val) writer.new) }
-    ensures err { IfErr result (λ e. StopsAmong W.adds W.refuses (shortest_pieces endian val) writer.old e writer.new) }
-    ensures place { W.place writer.new ≡ W.place writer.old }
-{
-    varint_encode_u64(writer, endian, val as u64)
-}
-
-/// The same for a number of any width.
 #[inline]
-pub(crate) fn varint_encode<W: Writer>(
+pub fn varint_encode_u128<W: Writer>(
     writer: &mut W,
     endian: Endianness,
     val: u128,
@@ -96,6 +70,19 @@ pub(crate) fn varint_encode<W: Writer>(
     } else {
         write_tagged(writer, U128_BYTE, &bytes_of_u128(endian, val))
     }
+}
+
+/// Writes the shortest spelling of a `usize`, as `varint_encode_u16` does.
+pub fn varint_encode_usize<W: Writer>(
+    writer: &mut W,
+    endian: Endianness,
+    val: usize,
+) -> Result<(), EncodeError>
+    ensures ok { OnOk result (W.adds writer.old (shortest endian val) writer.new) }
+    ensures err { IfErr result (λ e. StopsAmong W.adds W.refuses (shortest_pieces endian val) writer.old e writer.new) }
+    ensures place { W.place writer.new ≡ W.place writer.old }
+{
+    varint_encode_u64(writer, endian, val as u64)
 }
 
 /// Writes a tag, and then the bytes behind it.

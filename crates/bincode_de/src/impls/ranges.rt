@@ -5,8 +5,7 @@ use std::ops::{Range, RangeInclusive};
 
 impl<Context: Drop, T: Decode<Context>> Decode<Context> for Range<T> {
     fn decode<D: Decoder<Context = Context>>(decoder: &mut D) -> Result<Range<T>, DecodeError> {
-        let start = T::decode(decoder)?;
-        let end = T::decode(decoder)?;
+        let (start, end) = <(T, T)>::decode(decoder)?;
         Ok(start..end)
     }
 }
@@ -15,8 +14,7 @@ impl<Context: Drop, T: Decode<Context>> Decode<Context> for RangeInclusive<T> {
     fn decode<D: Decoder<Context = Context>>(
         decoder: &mut D,
     ) -> Result<RangeInclusive<T>, DecodeError> {
-        let start = T::decode(decoder)?;
-        let end = T::decode(decoder)?;
+        let (start, end) = <(T, T)>::decode(decoder)?;
         Ok(RangeInclusive::new(start, end))
     }
 }

@@ -10,7 +10,8 @@ use crate::decode::Decode;
 use crate::decoder::Decoder;
 use bincode_base::error::DecodeError;
 
-/// The parts of a tuple: its first, with the others.
+/// The parts of a tuple: its first with the others, or its first four with the others, since the prover's cost grows
+/// with how deep they are nested.
 trait DecodeParts<Context: Drop>: Drop + Sized {
     ghost formats: { Setting → List (Format Meaning) };
 
@@ -52,6 +53,30 @@ impl<Context: Drop, A: Decode<Context>, B: DecodeParts<Context>> DecodeParts<Con
         let first = A::decode(decoder)?;
         let others = B::decode_parts(decoder)?;
         Ok((first, others))
+    }
+}
+
+impl<
+    Context: Drop,
+    A: Decode<Context>,
+    B: Decode<Context>,
+    C: Decode<Context>,
+    D: Decode<Context>,
+    Others: DecodeParts<Context>,
+> DecodeParts<Context> for (A, B, C, D, Others) {
+    ghost formats = { λ s. A.format s ∷ B.format s ∷ C.format s ∷ D.format s ∷ Others.formats s };
+
+    ghost given = { λ m v.
+        IsThen (λ p. A.given p v.0) (IsThen (λ p. B.given p v.1) (IsThen (λ p. C.given p v.2) (IsThen (λ p. D.given p v.3) (λ p. Others.given p v.4)))) m };
+
+    ghost grows = { A.grows ⊎ (B.grows ⊎ (C.grows ⊎ (D.grows ⊎ Others.grows))) };
+
+    #[inline]
+    fn decode_parts<Source: Decoder<Context = Context>>(
+        decoder: &mut Source,
+    ) -> Result<Self, DecodeError> {
+        let (a, (b, (c, (d, others)))) = DecodeParts::decode_parts(decoder)?;
+        Ok((a, b, c, d, others))
     }
 }
 
@@ -123,7 +148,7 @@ impl<
     fn decode<Source: Decoder<Context = Context>>(
         decoder: &mut Source,
     ) -> Result<Self, DecodeError> {
-        let (a, (b, (c, (d, (e,))))) = DecodeParts::decode_parts(decoder)?;
+        let (a, b, c, d, (e,)) = DecodeParts::decode_parts(decoder)?;
         Ok((a, b, c, d, e))
     }
 }
@@ -141,7 +166,7 @@ impl<
     fn decode<Source: Decoder<Context = Context>>(
         decoder: &mut Source,
     ) -> Result<Self, DecodeError> {
-        let (a, (b, (c, (d, (e, (f,)))))) = DecodeParts::decode_parts(decoder)?;
+        let (a, b, c, d, (e, (f,))) = DecodeParts::decode_parts(decoder)?;
         Ok((a, b, c, d, e, f))
     }
 }
@@ -160,7 +185,7 @@ impl<
     fn decode<Source: Decoder<Context = Context>>(
         decoder: &mut Source,
     ) -> Result<Self, DecodeError> {
-        let (a, (b, (c, (d, (e, (f, (g,))))))) = DecodeParts::decode_parts(decoder)?;
+        let (a, b, c, d, (e, (f, (g,)))) = DecodeParts::decode_parts(decoder)?;
         Ok((a, b, c, d, e, f, g))
     }
 }
@@ -180,7 +205,7 @@ impl<
     fn decode<Source: Decoder<Context = Context>>(
         decoder: &mut Source,
     ) -> Result<Self, DecodeError> {
-        let (a, (b, (c, (d, (e, (f, (g, (h,)))))))) = DecodeParts::decode_parts(decoder)?;
+        let (a, b, c, d, (e, (f, (g, (h,))))) = DecodeParts::decode_parts(decoder)?;
         Ok((a, b, c, d, e, f, g, h))
     }
 }
@@ -201,7 +226,7 @@ impl<
     fn decode<Source: Decoder<Context = Context>>(
         decoder: &mut Source,
     ) -> Result<Self, DecodeError> {
-        let (a, (b, (c, (d, (e, (f, (g, (h, (i,))))))))) = DecodeParts::decode_parts(decoder)?;
+        let (a, b, c, d, (e, f, g, h, (i,))) = DecodeParts::decode_parts(decoder)?;
         Ok((a, b, c, d, e, f, g, h, i))
     }
 }
@@ -223,7 +248,7 @@ impl<
     fn decode<Source: Decoder<Context = Context>>(
         decoder: &mut Source,
     ) -> Result<Self, DecodeError> {
-        let (a, (b, (c, (d, (e, (f, (g, (h, (i, (j,)))))))))) = DecodeParts::decode_parts(decoder)?;
+        let (a, b, c, d, (e, f, g, h, (i, (j,)))) = DecodeParts::decode_parts(decoder)?;
         Ok((a, b, c, d, e, f, g, h, i, j))
     }
 }
@@ -246,9 +271,7 @@ impl<
     fn decode<Source: Decoder<Context = Context>>(
         decoder: &mut Source,
     ) -> Result<Self, DecodeError> {
-        let (a, (b, (c, (d, (e, (f, (g, (h, (i, (j, (k,))))))))))) = DecodeParts::decode_parts(
-            decoder,
-        )?;
+        let (a, b, c, d, (e, f, g, h, (i, (j, (k,))))) = DecodeParts::decode_parts(decoder)?;
         Ok((a, b, c, d, e, f, g, h, i, j, k))
     }
 }
@@ -272,9 +295,7 @@ impl<
     fn decode<Source: Decoder<Context = Context>>(
         decoder: &mut Source,
     ) -> Result<Self, DecodeError> {
-        let (a, (b, (c, (d, (e, (f, (g, (h, (i, (j, (k, (l,)))))))))))) = DecodeParts::decode_parts(
-            decoder,
-        )?;
+        let (a, b, c, d, (e, f, g, h, (i, (j, (k, (l,)))))) = DecodeParts::decode_parts(decoder)?;
         Ok((a, b, c, d, e, f, g, h, i, j, k, l))
     }
 }
@@ -299,8 +320,7 @@ impl<
     fn decode<Source: Decoder<Context = Context>>(
         decoder: &mut Source,
     ) -> Result<Self, DecodeError> {
-        let (a, (b, (c, (d, (e, (f, (g, (h, (i, (j, (k, (l, (m,))))))))))))) =
-            DecodeParts::decode_parts(decoder)?;
+        let (a, b, c, d, (e, f, g, h, (i, j, k, l, (m,)))) = DecodeParts::decode_parts(decoder)?;
         Ok((a, b, c, d, e, f, g, h, i, j, k, l, m))
     }
 }
@@ -326,8 +346,9 @@ impl<
     fn decode<Source: Decoder<Context = Context>>(
         decoder: &mut Source,
     ) -> Result<Self, DecodeError> {
-        let (a, (b, (c, (d, (e, (f, (g, (h, (i, (j, (k, (l, (m, (n,)))))))))))))) =
-            DecodeParts::decode_parts(decoder)?;
+        let (a, b, c, d, (e, f, g, h, (i, j, k, l, (m, (n,))))) = DecodeParts::decode_parts(
+            decoder,
+        )?;
         Ok((a, b, c, d, e, f, g, h, i, j, k, l, m, n))
     }
 }
@@ -354,8 +375,9 @@ impl<
     fn decode<Source: Decoder<Context = Context>>(
         decoder: &mut Source,
     ) -> Result<Self, DecodeError> {
-        let (a, (b, (c, (d, (e, (f, (g, (h, (i, (j, (k, (l, (m, (n, (o,))))))))))))))) =
-            DecodeParts::decode_parts(decoder)?;
+        let (a, b, c, d, (e, f, g, h, (i, j, k, l, (m, (n, (o,)))))) = DecodeParts::decode_parts(
+            decoder,
+        )?;
         Ok((a, b, c, d, e, f, g, h, i, j, k, l, m, n, o))
     }
 }
@@ -383,7 +405,7 @@ impl<
     fn decode<Source: Decoder<Context = Context>>(
         decoder: &mut Source,
     ) -> Result<Self, DecodeError> {
-        let (a, (b, (c, (d, (e, (f, (g, (h, (i, (j, (k, (l, (m, (n, (o, (p,)))))))))))))))) =
+        let (a, b, c, d, (e, f, g, h, (i, j, k, l, (m, (n, (o, (p,))))))) =
             DecodeParts::decode_parts(decoder)?;
         Ok((a, b, c, d, e, f, g, h, i, j, k, l, m, n, o, p))
     }

@@ -12,83 +12,83 @@ use std::num::{
 impl Encode for NonZeroU8 {
     fn encode<E: Encoder>(&self, encoder: &mut E) -> Result<(), EncodeError> {
         self.tell_valid();
-        self.get().encode(encoder)
+        u8::encode(&self.get(), encoder)
     }
 }
 
 impl Encode for NonZeroU16 {
     fn encode<E: Encoder>(&self, encoder: &mut E) -> Result<(), EncodeError> {
         self.tell_valid();
-        self.get().encode(encoder)
+        u16::encode(&self.get(), encoder)
     }
 }
 
 impl Encode for NonZeroU32 {
     fn encode<E: Encoder>(&self, encoder: &mut E) -> Result<(), EncodeError> {
         self.tell_valid();
-        self.get().encode(encoder)
+        u32::encode(&self.get(), encoder)
     }
 }
 
 impl Encode for NonZeroU64 {
     fn encode<E: Encoder>(&self, encoder: &mut E) -> Result<(), EncodeError> {
         self.tell_valid();
-        self.get().encode(encoder)
+        u64::encode(&self.get(), encoder)
     }
 }
 
 impl Encode for NonZeroU128 {
     fn encode<E: Encoder>(&self, encoder: &mut E) -> Result<(), EncodeError> {
         self.tell_valid();
-        self.get().encode(encoder)
+        u128::encode(&self.get(), encoder)
     }
 }
 
 impl Encode for NonZeroUsize {
     fn encode<E: Encoder>(&self, encoder: &mut E) -> Result<(), EncodeError> {
         self.tell_valid();
-        self.get().encode(encoder)
+        usize::encode(&self.get(), encoder)
     }
 }
 
 impl Encode for NonZeroI8 {
     fn encode<E: Encoder>(&self, encoder: &mut E) -> Result<(), EncodeError> {
         self.tell_valid();
-        self.get().encode(encoder)
+        i8::encode(&self.get(), encoder)
     }
 }
 
 impl Encode for NonZeroI16 {
     fn encode<E: Encoder>(&self, encoder: &mut E) -> Result<(), EncodeError> {
         self.tell_valid();
-        self.get().encode(encoder)
+        i16::encode(&self.get(), encoder)
     }
 }
 
 impl Encode for NonZeroI32 {
     fn encode<E: Encoder>(&self, encoder: &mut E) -> Result<(), EncodeError> {
         self.tell_valid();
-        self.get().encode(encoder)
+        i32::encode(&self.get(), encoder)
     }
 }
 
 impl Encode for NonZeroI64 {
     fn encode<E: Encoder>(&self, encoder: &mut E) -> Result<(), EncodeError> {
         self.tell_valid();
-        self.get().encode(encoder)
+        i64::encode(&self.get(), encoder)
     }
 }
 
 impl Encode for NonZeroI128 {
     fn encode<E: Encoder>(&self, encoder: &mut E) -> Result<(), EncodeError> {
         self.tell_valid();
-        self.get().encode(encoder)
+        i128::encode(&self.get(), encoder)
     }
 }
 
 impl Encode for NonZeroIsize {
     fn encode<E: Encoder>(&self, encoder: &mut E) -> Result<(), EncodeError> {
         self.tell_valid();
-        self.get().encode(encoder)
+        isize::encode(&self.get(), encoder)
     }
 }

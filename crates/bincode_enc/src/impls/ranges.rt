@@ -5,14 +5,12 @@ use std::ops::{Range, RangeInclusive};
 
 impl<T: Encode> Encode for Range<T> {
     fn encode<E: Encoder>(&self, encoder: &mut E) -> Result<(), EncodeError> {
-        self.start.encode(encoder)?;
-        self.end.encode(encoder)
+        (&self.start, &self.end).encode(encoder)
     }
 }
 
 impl<T: Encode> Encode for RangeInclusive<T> {
     fn encode<E: Encoder>(&self, encoder: &mut E) -> Result<(), EncodeError> {
-        self.start().encode(encoder)?;
-        self.end().encode(encoder)
+        (self.start(), self.end()).encode(encoder)
     }
 }

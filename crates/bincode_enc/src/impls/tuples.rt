@@ -1,63 +1,6 @@
-ghost use Rattle.std.specs.Prelude.{◌≡◌, ◌⊎◌, [], ◌∷◌, OnOk, IfErr};
-ghost use Rattle.bincode_wire.specs.Meaning.{IsThen, IsNothing};
-ghost use Rattle.bincode_wire.specs.Words.{tuple};
-ghost use Rattle.bincode_wire.specs.Allowed.{AllowedWord};
-ghost use Rattle.bincode_enc.specs.Encoding.{Writes, Ready, Halts};
-
 use crate::encode::Encode;
 use crate::encoder::Encoder;
 use bincode_base::error::EncodeError;
-
-/// Writes two parts in order.
-#[inline]
-fn encode_two<A: Encode, B: Encode, Target: Encoder>(
-    first: &A,
-    second: &B,
-    encoder: &mut Target,
-) -> Result<(), EncodeError>
-    ensures ok { OnOk result (Writes Target.W.adds (AllowedWord (IsThen (A.means first.now) (IsThen (B.means second.now) IsNothing)) (tuple (A.format Target.C.setting ∷ B.format Target.C.setting ∷ []))) (Target.writer_of encoder.old) (Target.writer_of encoder.new)) }
-    ensures err { IfErr result (Halts Target.W.adds Target.W.refuses (Ready (A.writable Target.C.setting first.now × B.writable Target.C.setting second.now) (AllowedWord (IsThen (A.means first.now) (IsThen (B.means second.now) IsNothing)) (tuple (A.format Target.C.setting ∷ B.format Target.C.setting ∷ [])))) (λ e. A.names e ⊎ B.names e) (Target.writer_of encoder.old) (Target.writer_of encoder.new)) }
-    ensures place { Target.place encoder.new ≡ Target.place encoder.old }
-{
-    first.encode(encoder)?;
-    second.encode(encoder)
-}
-
-/// Writes three parts in order.
-#[inline]
-fn encode_three<A: Encode, B: Encode, C: Encode, Target: Encoder>(
-    first: &A,
-    second: &B,
-    third: &C,
-    encoder: &mut Target,
-) -> Result<(), EncodeError>
-    ensures ok { OnOk result (Writes Target.W.adds (AllowedWord (IsThen (A.means first.now) (IsThen (B.means second.now) (IsThen (C.means third.now) IsNothing))) (tuple (A.format Target.C.setting ∷ B.format Target.C.setting ∷ C.format Target.C.setting ∷ []))) (Target.writer_of encoder.old) (Target.writer_of encoder.new)) }
-    ensures err { IfErr result (Halts Target.W.adds Target.W.refuses (Ready (A.writable Target.C.setting first.now × (B.writable Target.C.setting second.now × C.writable Target.C.setting third.now)) (AllowedWord (IsThen (A.means first.now) (IsThen (B.means second.now) (IsThen (C.means third.now) IsNothing))) (tuple (A.format Target.C.setting ∷ B.format Target.C.setting ∷ C.format Target.C.setting ∷ [])))) (λ e. A.names e ⊎ B.names e ⊎ C.names e) (Target.writer_of encoder.old) (Target.writer_of encoder.new)) }
-    ensures place { Target.place encoder.new ≡ Target.place encoder.old }
-{
-    first.encode(encoder)?;
-    second.encode(encoder)?;
-    third.encode(encoder)
-}
-
-/// Writes four parts in order.
-#[inline]
-fn encode_four<A: Encode, B: Encode, C: Encode, D: Encode, Target: Encoder>(
-    first: &A,
-    second: &B,
-    third: &C,
-    fourth: &D,
-    encoder: &mut Target,
-) -> Result<(), EncodeError>
-    ensures ok { OnOk result (Writes Target.W.adds (AllowedWord (IsThen (A.means first.now) (IsThen (B.means second.now) (IsThen (C.means third.now) (IsThen (D.means fourth.now) IsNothing)))) (tuple (A.format Target.C.setting ∷ B.format Target.C.setting ∷ C.format Target.C.setting ∷ D.format Target.C.setting ∷ []))) (Target.writer_of encoder.old) (Target.writer_of encoder.new)) }
-    ensures err { IfErr result (Halts Target.W.adds Target.W.refuses (Ready (A.writable Target.C.setting first.now × (B.writable Target.C.setting second.now × (C.writable Target.C.setting third.now × D.writable Target.C.setting fourth.now))) (AllowedWord (IsThen (A.means first.now) (IsThen (B.means second.now) (IsThen (C.means third.now) (IsThen (D.means fourth.now) IsNothing)))) (tuple (A.format Target.C.setting ∷ B.format Target.C.setting ∷ C.format Target.C.setting ∷ D.format Target.C.setting ∷ [])))) (λ e. A.names e ⊎ B.names e ⊎ C.names e ⊎ D.names e) (Target.writer_of encoder.old) (Target.writer_of encoder.new)) }
-    ensures place { Target.place encoder.new ≡ Target.place encoder.old }
-{
-    first.encode(encoder)?;
-    second.encode(encoder)?;
-    third.encode(encoder)?;
-    fourth.encode(encoder)
-}
 
 impl Encode for () {
     #[inline]
@@ -69,36 +12,47 @@ impl Encode for () {
 impl<A: Encode> Encode for (A,) {
     #[inline]
     fn encode<Target: Encoder>(&self, encoder: &mut Target) -> Result<(), EncodeError> {
-        self.0.encode(encoder)
+        let (a,) = self;
+        a.encode(encoder)
     }
 }
 
 impl<A: Encode, B: Encode> Encode for (A, B) {
     #[inline]
     fn encode<Target: Encoder>(&self, encoder: &mut Target) -> Result<(), EncodeError> {
-        encode_two(&self.0, &self.1, encoder)
+        let (a, b) = self;
+        a.encode(encoder)?;
+        b.encode(encoder)
     }
 }
 
 impl<A: Encode, B: Encode, C: Encode> Encode for (A, B, C) {
     #[inline]
     fn encode<Target: Encoder>(&self, encoder: &mut Target) -> Result<(), EncodeError> {
-        encode_three(&self.0, &self.1, &self.2, encoder)
+        let (a, b, c) = self;
+        a.encode(encoder)?;
+        b.encode(encoder)?;
+        c.encode(encoder)
     }
 }
 
 impl<A: Encode, B: Encode, C: Encode, D: Encode> Encode for (A, B, C, D) {
     #[inline]
     fn encode<Target: Encoder>(&self, encoder: &mut Target) -> Result<(), EncodeError> {
-        encode_four(&self.0, &self.1, &self.2, &self.3, encoder)
+        let (a, b, c, d) = self;
+        a.encode(encoder)?;
+        b.encode(encoder)?;
+        c.encode(encoder)?;
+        d.encode(encoder)
     }
 }
 
 impl<A: Encode, B: Encode, C: Encode, D: Encode, E: Encode> Encode for (A, B, C, D, E) {
     #[inline]
     fn encode<Target: Encoder>(&self, encoder: &mut Target) -> Result<(), EncodeError> {
-        encode_four(&self.0, &self.1, &self.2, &self.3, encoder)?;
-        self.4.encode(encoder)
+        let (a, b, c, d, e) = self;
+        (a, b, c, d).encode(encoder)?;
+        e.encode(encoder)
     }
 }
 
@@ -106,8 +60,9 @@ impl<A: Encode, B: Encode, C: Encode, D: Encode, E: Encode, F: Encode> Encode
     for (A, B, C, D, E, F) {
     #[inline]
     fn encode<Target: Encoder>(&self, encoder: &mut Target) -> Result<(), EncodeError> {
-        encode_four(&self.0, &self.1, &self.2, &self.3, encoder)?;
-        encode_two(&self.4, &self.5, encoder)
+        let (a, b, c, d, e, f) = self;
+        (a, b, c, d).encode(encoder)?;
+        (e, f).encode(encoder)
     }
 }
 
@@ -115,8 +70,9 @@ impl<A: Encode, B: Encode, C: Encode, D: Encode, E: Encode, F: Encode, G: Encode
     for (A, B, C, D, E, F, G) {
     #[inline]
     fn encode<Target: Encoder>(&self, encoder: &mut Target) -> Result<(), EncodeError> {
-        encode_four(&self.0, &self.1, &self.2, &self.3, encoder)?;
-        encode_three(&self.4, &self.5, &self.6, encoder)
+        let (a, b, c, d, e, f, g) = self;
+        (a, b, c, d).encode(encoder)?;
+        (e, f, g).encode(encoder)
     }
 }
 
@@ -124,8 +80,9 @@ impl<A: Encode, B: Encode, C: Encode, D: Encode, E: Encode, F: Encode, G: Encode
     for (A, B, C, D, E, F, G, H) {
     #[inline]
     fn encode<Target: Encoder>(&self, encoder: &mut Target) -> Result<(), EncodeError> {
-        encode_four(&self.0, &self.1, &self.2, &self.3, encoder)?;
-        encode_four(&self.4, &self.5, &self.6, &self.7, encoder)
+        let (a, b, c, d, e, f, g, h) = self;
+        (a, b, c, d).encode(encoder)?;
+        (e, f, g, h).encode(encoder)
     }
 }
 
@@ -142,9 +99,10 @@ impl<
 > Encode for (A, B, C, D, E, F, G, H, I) {
     #[inline]
     fn encode<Target: Encoder>(&self, encoder: &mut Target) -> Result<(), EncodeError> {
-        encode_four(&self.0, &self.1, &self.2, &self.3, encoder)?;
-        encode_four(&self.4, &self.5, &self.6, &self.7, encoder)?;
-        self.8.encode(encoder)
+        let (a, b, c, d, e, f, g, h, i) = self;
+        (a, b, c, d).encode(encoder)?;
+        (e, f, g, h).encode(encoder)?;
+        i.encode(encoder)
     }
 }
 
@@ -162,9 +120,10 @@ impl<
 > Encode for (A, B, C, D, E, F, G, H, I, J) {
     #[inline]
     fn encode<Target: Encoder>(&self, encoder: &mut Target) -> Result<(), EncodeError> {
-        encode_four(&self.0, &self.1, &self.2, &self.3, encoder)?;
-        encode_four(&self.4, &self.5, &self.6, &self.7, encoder)?;
-        encode_two(&self.8, &self.9, encoder)
+        let (a, b, c, d, e, f, g, h, i, j) = self;
+        (a, b, c, d).encode(encoder)?;
+        (e, f, g, h).encode(encoder)?;
+        (i, j).encode(encoder)
     }
 }
 
@@ -183,9 +142,10 @@ impl<
 > Encode for (A, B, C, D, E, F, G, H, I, J, K) {
     #[inline]
     fn encode<Target: Encoder>(&self, encoder: &mut Target) -> Result<(), EncodeError> {
-        encode_four(&self.0, &self.1, &self.2, &self.3, encoder)?;
-        encode_four(&self.4, &self.5, &self.6, &self.7, encoder)?;
-        encode_three(&self.8, &self.9, &self.10, encoder)
+        let (a, b, c, d, e, f, g, h, i, j, k) = self;
+        (a, b, c, d).encode(encoder)?;
+        (e, f, g, h).encode(encoder)?;
+        (i, j, k).encode(encoder)
     }
 }
 
@@ -205,9 +165,10 @@ impl<
 > Encode for (A, B, C, D, E, F, G, H, I, J, K, L) {
     #[inline]
     fn encode<Target: Encoder>(&self, encoder: &mut Target) -> Result<(), EncodeError> {
-        encode_four(&self.0, &self.1, &self.2, &self.3, encoder)?;
-        encode_four(&self.4, &self.5, &self.6, &self.7, encoder)?;
-        encode_four(&self.8, &self.9, &self.10, &self.11, encoder)
+        let (a, b, c, d, e, f, g, h, i, j, k, l) = self;
+        (a, b, c, d).encode(encoder)?;
+        (e, f, g, h).encode(encoder)?;
+        (i, j, k, l).encode(encoder)
     }
 }
 
@@ -228,10 +189,11 @@ impl<
 > Encode for (A, B, C, D, E, F, G, H, I, J, K, L, M) {
     #[inline]
     fn encode<Target: Encoder>(&self, encoder: &mut Target) -> Result<(), EncodeError> {
-        encode_four(&self.0, &self.1, &self.2, &self.3, encoder)?;
-        encode_four(&self.4, &self.5, &self.6, &self.7, encoder)?;
-        encode_four(&self.8, &self.9, &self.10, &self.11, encoder)?;
-        self.12.encode(encoder)
+        let (a, b, c, d, e, f, g, h, i, j, k, l, m) = self;
+        (a, b, c, d).encode(encoder)?;
+        (e, f, g, h).encode(encoder)?;
+        (i, j, k, l).encode(encoder)?;
+        m.encode(encoder)
     }
 }
 
@@ -253,10 +215,11 @@ impl<
 > Encode for (A, B, C, D, E, F, G, H, I, J, K, L, M, N) {
     #[inline]
     fn encode<Target: Encoder>(&self, encoder: &mut Target) -> Result<(), EncodeError> {
-        encode_four(&self.0, &self.1, &self.2, &self.3, encoder)?;
-        encode_four(&self.4, &self.5, &self.6, &self.7, encoder)?;
-        encode_four(&self.8, &self.9, &self.10, &self.11, encoder)?;
-        encode_two(&self.12, &self.13, encoder)
+        let (a, b, c, d, e, f, g, h, i, j, k, l, m, n) = self;
+        (a, b, c, d).encode(encoder)?;
+        (e, f, g, h).encode(encoder)?;
+        (i, j, k, l).encode(encoder)?;
+        (m, n).encode(encoder)
     }
 }
 
@@ -279,10 +242,11 @@ impl<
 > Encode for (A, B, C, D, E, F, G, H, I, J, K, L, M, N, O) {
     #[inline]
     fn encode<Target: Encoder>(&self, encoder: &mut Target) -> Result<(), EncodeError> {
-        encode_four(&self.0, &self.1, &self.2, &self.3, encoder)?;
-        encode_four(&self.4, &self.5, &self.6, &self.7, encoder)?;
-        encode_four(&self.8, &self.9, &self.10, &self.11, encoder)?;
-        encode_three(&self.12, &self.13, &self.14, encoder)
+        let (a, b, c, d, e, f, g, h, i, j, k, l, m, n, o) = self;
+        (a, b, c, d).encode(encoder)?;
+        (e, f, g, h).encode(encoder)?;
+        (i, j, k, l).encode(encoder)?;
+        (m, n, o).encode(encoder)
     }
 }
 
@@ -306,9 +270,10 @@ impl<
 > Encode for (A, B, C, D, E, F, G, H, I, J, K, L, M, N, O, P) {
     #[inline]
     fn encode<Target: Encoder>(&self, encoder: &mut Target) -> Result<(), EncodeError> {
-        encode_four(&self.0, &self.1, &self.2, &self.3, encoder)?;
-        encode_four(&self.4, &self.5, &self.6, &self.7, encoder)?;
-        encode_four(&self.8, &self.9, &self.10, &self.11, encoder)?;
-        encode_four(&self.12, &self.13, &self.14, &self.15, encoder)
+        let (a, b, c, d, e, f, g, h, i, j, k, l, m, n, o, p) = self;
+        (a, b, c, d).encode(encoder)?;
+        (e, f, g, h).encode(encoder)?;
+        (i, j, k, l).encode(encoder)?;
+        (m, n, o, p).encode(encoder)
     }
 }

@@ -54,7 +54,7 @@ impl<T: Wire> Wire for RefCell<T> {
     ghost claim = { T.claim };
 
     fn claim_size() -> usize {
-        T::claim_size()
+        Cell::<T>::claim_size()
     }
 
     fn tell_valid(&self) {}

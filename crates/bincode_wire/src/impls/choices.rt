@@ -2,9 +2,9 @@ ghost use Rattle.std.specs.Prelude.{◌≡◌, ◌+◌, ◌-◌, ◌^◌, ◌⊎
 ghost use Rattle.std.proofs.Common.{inl, inr};
 ghost use Rattle.bincode_wire.specs.Meaning.{IsTruth};
 ghost use Rattle.bincode_wire.specs.Words.{truth, optional, either, bound};
-ghost use Rattle.bincode_wire.specs.WordsLaws.{truth-lawful, truth-balanced, optional-lawful, optional-balanced};
+ghost use Rattle.bincode_wire.specs.WordsLaws.{truth-lawful, truth-balanced};
 ghost use Rattle.bincode_wire.specs.Choices.{IsOptional, IsEither, IsBound, IfEnd};
-ghost use Rattle.bincode_wire.specs.ChoiceLaws.{either-lawful, either-balanced, bound-lawful, bound-balanced};
+ghost use Rattle.bincode_wire.specs.ChoiceLaws.{optional-lawful, optional-balanced, either-lawful, either-balanced, bound-lawful, bound-balanced};
 ghost use Rattle.bincode_wire.specs.ChoiceLaws.{has_words, one_lengths, none_shorters, of_optional, of_either, of_bound};
 ghost use Rattle.bincode_wire.specs.ChoiceLaws.{optional-and, optional-then, either-and, either-then, bound-and, bound-then};
 ghost use Rattle.bincode_wire.specs.ChoiceLaws.{optional-same, optional-back, either-same, either-back, bound-same, bound-back};

@@ -79,7 +79,7 @@ impl<T: Wire> Wire for Reverse<T> {
     ghost claim = { T.claim };
 
     fn claim_size() -> usize {
-        T::claim_size()
+        Wrapping::<T>::claim_size()
     }
 
     fn tell_valid(&self) {

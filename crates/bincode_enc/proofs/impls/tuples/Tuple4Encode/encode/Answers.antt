@@ -1,6 +1,6 @@
 use Rattle.std.proofs.lemmas.Result.{IfErr-weaker, on_ok_weaker, err_from_is_err_and}
 use Rattle.bincode_enc.specs.TupleEncoding.{one-writes, one-halts, then-writes, then-halts_first, then-halts_next}
-use Rattle.bincode_enc.proofs.impls.tuples.encode_four.Goals as goal
+use Rattle.bincode_enc.proofs.impls.tuples.Tuple4Encode.encode.Goals as goal
 
 pub returns-in_err-encode-clause-err : goal.returns-in_err-encode-clause-err
 returns-in_err-encode-clause-err g c =
