@@ -2,7 +2,7 @@
 ghost use Rattle.std.specs.Prelude.{◌≡◌, ◌<◌, ◌≤◌, ◌^◌, [], IfOk, IfErr, OnOk};
 ghost use Rattle.bincode_base.specs.Format.{Took, map_format};
 ghost use Rattle.bincode_base.specs.Number.{digits_of, two_complement, from_two_complement, FitsIn};
-ghost use Rattle.bincode_base.specs.Integers.{byte, digits, number_by, integer_by, number_for, tags_of, spelling, spelling_pieces};
+ghost use Rattle.bincode_base.specs.Integers.{byte, digits, number_by, integer_by, number_for, tags_of, shortest, shortest_pieces, spelling, spelling_pieces};
 ghost use Rattle.bincode_base.specs.IntegerLaws.{IsWidth};
 ghost use Rattle.bincode_base.specs.Device.{StopsAmong};
 ghost use Rattle.bincode_base.specs.Reads.{Misreads};
@@ -14,7 +14,9 @@ use crate::bytes::{
 use crate::config::{Endianness, IntEncoding};
 use crate::error::{DecodeError, EncodeError, IntegerType};
 use crate::read::Reader;
-use crate::varint::{varint_decode, varint_encode_u128};
+use crate::varint::{
+    varint_decode, varint_encode_u16, varint_encode_u32, varint_encode_u64, varint_encode_u128,
+};
 use crate::write::Writer;
 use crate::zigzag::{unzigzag, zigzag};
 
@@ -77,8 +79,29 @@ pub fn write_number<W: Writer>(
     ensures place { W.place writer.new ≡ W.place writer.old }
 {
     match encoding {
-        IntEncoding::Variable => varint_encode_u128(writer, endian, val),
+        IntEncoding::Variable => write_variable(writer, endian, width, val),
         IntEncoding::Fixed => write_fixed(writer, endian, width, val),
+    }
+}
+
+#[inline]
+fn write_variable<W: Writer>(
+    writer: &mut W,
+    endian: Endianness,
+    width: usize,
+    val: u128,
+) -> Result<(), EncodeError>
+    requires width { IsWidth width }
+    requires fits { val < 256 ^ width }
+    ensures ok { OnOk result (W.adds writer.old (shortest endian val) writer.new) }
+    ensures err { IfErr result (λ e. StopsAmong W.adds W.refuses (shortest_pieces endian val) writer.old e writer.new) }
+    ensures place { W.place writer.new ≡ W.place writer.old }
+{
+    match width {
+        2 => varint_encode_u16(writer, endian, val as u16),
+        4 => varint_encode_u32(writer, endian, val as u32),
+        8 => varint_encode_u64(writer, endian, val as u64),
+        _ => varint_encode_u128(writer, endian, val),
     }
 }
 

@@ -10,6 +10,7 @@ use crate::write::Writer;
 
 /// Writes the shortest spelling of a number: its tag, then its bytes in the order. Where the writer refuses a piece,
 /// those before it stay written.
+#[inline]
 pub fn varint_encode_u16<W: Writer>(
     writer: &mut W,
     endian: Endianness,
@@ -19,10 +20,15 @@ pub fn varint_encode_u16<W: Writer>(
     ensures err { IfErr result (λ e. StopsAmong W.adds W.refuses (shortest_pieces endian val) writer.old e writer.new) }
     ensures place { W.place writer.new ≡ W.place writer.old }
 {
-    varint_encode_u32(writer, endian, u32::from(val))
+    if val <= u16::from(SINGLE_BYTE_MAX) {
+        writer.write(&[val as u8])
+    } else {
+        write_tagged(writer, U16_BYTE, &bytes_of_u16(endian, val))
+    }
 }
 
 /// Writes the shortest spelling of a `u32`, as `varint_encode_u16` does.
+#[inline]
 pub fn varint_encode_u32<W: Writer>(
     writer: &mut W,
     endian: Endianness,
@@ -32,10 +38,17 @@ pub fn varint_encode_u32<W: Writer>(
     ensures err { IfErr result (λ e. StopsAmong W.adds W.refuses (shortest_pieces endian val) writer.old e writer.new) }
     ensures place { W.place writer.new ≡ W.place writer.old }
 {
-    varint_encode_u64(writer, endian, u64::from(val))
+    if val <= u32::from(SINGLE_BYTE_MAX) {
+        writer.write(&[val as u8])
+    } else if val <= u32::from(u16::MAX) {
+        write_tagged(writer, U16_BYTE, &bytes_of_u16(endian, val as u16))
+    } else {
+        write_tagged(writer, U32_BYTE, &bytes_of_u32(endian, val))
+    }
 }
 
 /// Writes the shortest spelling of a `u64`, as `varint_encode_u16` does.
+#[inline]
 pub fn varint_encode_u64<W: Writer>(
     writer: &mut W,
     endian: Endianness,
@@ -45,7 +58,15 @@ pub fn varint_encode_u64<W: Writer>(
     ensures err { IfErr result (λ e. StopsAmong W.adds W.refuses (shortest_pieces endian val) writer.old e writer.new) }
     ensures place { W.place writer.new ≡ W.place writer.old }
 {
-    varint_encode_u128(writer, endian, u128::from(val))
+    if val <= u64::from(SINGLE_BYTE_MAX) {
+        writer.write(&[val as u8])
+    } else if val <= u64::from(u16::MAX) {
+        write_tagged(writer, U16_BYTE, &bytes_of_u16(endian, val as u16))
+    } else if val <= u64::from(u32::MAX) {
+        write_tagged(writer, U32_BYTE, &bytes_of_u32(endian, val as u32))
+    } else {
+        write_tagged(writer, U64_BYTE, &bytes_of_u64(endian, val))
+    }
 }
 
 /// Writes the shortest spelling of a `u128`, as `varint_encode_u16` does.

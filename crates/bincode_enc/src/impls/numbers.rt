@@ -16,6 +16,7 @@ use bincode_base::number::{byte_of_i8, write_number, write_signed};
 use bincode_wire::wire::Wire;
 
 /// Writes an unsigned number of so many bytes, whatever its type's name in faults.
+#[inline]
 fn encode_unsigned<E: Encoder>(encoder: &mut E, width: usize, val: u128) -> Result<(), EncodeError>
     requires width { IsWidth width }
     requires fits { val < 256 ^ width }
@@ -29,6 +30,7 @@ fn encode_unsigned<E: Encoder>(encoder: &mut E, width: usize, val: u128) -> Resu
 }
 
 /// Writes a signed number of so many bytes, whatever its type's name in faults.
+#[inline]
 fn encode_signed<E: Encoder>(encoder: &mut E, width: usize, val: i128) -> Result<(), EncodeError>
     requires width { IsWidth width }
     requires fits { FitsIn width val }
@@ -42,42 +44,49 @@ fn encode_signed<E: Encoder>(encoder: &mut E, width: usize, val: i128) -> Result
 }
 
 impl Encode for u8 {
+    #[inline]
     fn encode<E: Encoder>(&self, encoder: &mut E) -> Result<(), EncodeError> {
         write_from(encoder, &[*self])
     }
 }
 
 impl Encode for u16 {
+    #[inline]
     fn encode<E: Encoder>(&self, encoder: &mut E) -> Result<(), EncodeError> {
         encode_unsigned(encoder, 2, u128::from(*self))
     }
 }
 
 impl Encode for u32 {
+    #[inline]
     fn encode<E: Encoder>(&self, encoder: &mut E) -> Result<(), EncodeError> {
         encode_unsigned(encoder, 4, u128::from(*self))
     }
 }
 
 impl Encode for u64 {
+    #[inline]
     fn encode<E: Encoder>(&self, encoder: &mut E) -> Result<(), EncodeError> {
         encode_unsigned(encoder, 8, u128::from(*self))
     }
 }
 
 impl Encode for u128 {
+    #[inline]
     fn encode<E: Encoder>(&self, encoder: &mut E) -> Result<(), EncodeError> {
         encode_unsigned(encoder, 16, *self)
     }
 }
 
 impl Encode for usize {
+    #[inline]
     fn encode<E: Encoder>(&self, encoder: &mut E) -> Result<(), EncodeError> {
         encode_unsigned(encoder, 8, *self as u128)
     }
 }
 
 impl Encode for i8 {
+    #[inline]
     fn encode<E: Encoder>(&self, encoder: &mut E) -> Result<(), EncodeError> {
         self.tell_valid();
         write_from(encoder, &[byte_of_i8(*self)])
@@ -85,30 +94,35 @@ impl Encode for i8 {
 }
 
 impl Encode for i16 {
+    #[inline]
     fn encode<E: Encoder>(&self, encoder: &mut E) -> Result<(), EncodeError> {
         encode_signed(encoder, 2, i128::from(*self))
     }
 }
 
 impl Encode for i32 {
+    #[inline]
     fn encode<E: Encoder>(&self, encoder: &mut E) -> Result<(), EncodeError> {
         encode_signed(encoder, 4, i128::from(*self))
     }
 }
 
 impl Encode for i64 {
+    #[inline]
     fn encode<E: Encoder>(&self, encoder: &mut E) -> Result<(), EncodeError> {
         encode_signed(encoder, 8, i128::from(*self))
     }
 }
 
 impl Encode for i128 {
+    #[inline]
     fn encode<E: Encoder>(&self, encoder: &mut E) -> Result<(), EncodeError> {
         encode_signed(encoder, 16, *self)
     }
 }
 
 impl Encode for isize {
+    #[inline]
     fn encode<E: Encoder>(&self, encoder: &mut E) -> Result<(), EncodeError> {
         encode_signed(encoder, 8, *self as i128)
     }

@@ -2,15 +2,17 @@ use crate::encode::Encode;
 use crate::encoder::Encoder;
 use bincode_base::error::EncodeError;
 
+// Always inlined: LLVM takes a call behind several `?` for a rare one, and a call hands on a result with room for an error.
+
 impl Encode for () {
-    #[inline]
+    #[inline(always)]
     fn encode<Target: Encoder>(&self, _encoder: &mut Target) -> Result<(), EncodeError> {
         Ok(())
     }
 }
 
 impl<A: Encode> Encode for (A,) {
-    #[inline]
+    #[inline(always)]
     fn encode<Target: Encoder>(&self, encoder: &mut Target) -> Result<(), EncodeError> {
         let (a,) = self;
         a.encode(encoder)
@@ -18,7 +20,7 @@ impl<A: Encode> Encode for (A,) {
 }
 
 impl<A: Encode, B: Encode> Encode for (A, B) {
-    #[inline]
+    #[inline(always)]
     fn encode<Target: Encoder>(&self, encoder: &mut Target) -> Result<(), EncodeError> {
         let (a, b) = self;
         a.encode(encoder)?;
@@ -27,7 +29,7 @@ impl<A: Encode, B: Encode> Encode for (A, B) {
 }
 
 impl<A: Encode, B: Encode, C: Encode> Encode for (A, B, C) {
-    #[inline]
+    #[inline(always)]
     fn encode<Target: Encoder>(&self, encoder: &mut Target) -> Result<(), EncodeError> {
         let (a, b, c) = self;
         a.encode(encoder)?;
@@ -37,7 +39,7 @@ impl<A: Encode, B: Encode, C: Encode> Encode for (A, B, C) {
 }
 
 impl<A: Encode, B: Encode, C: Encode, D: Encode> Encode for (A, B, C, D) {
-    #[inline]
+    #[inline(always)]
     fn encode<Target: Encoder>(&self, encoder: &mut Target) -> Result<(), EncodeError> {
         let (a, b, c, d) = self;
         a.encode(encoder)?;
@@ -48,7 +50,7 @@ impl<A: Encode, B: Encode, C: Encode, D: Encode> Encode for (A, B, C, D) {
 }
 
 impl<A: Encode, B: Encode, C: Encode, D: Encode, E: Encode> Encode for (A, B, C, D, E) {
-    #[inline]
+    #[inline(always)]
     fn encode<Target: Encoder>(&self, encoder: &mut Target) -> Result<(), EncodeError> {
         let (a, b, c, d, e) = self;
         (a, b, c, d).encode(encoder)?;
@@ -58,7 +60,7 @@ impl<A: Encode, B: Encode, C: Encode, D: Encode, E: Encode> Encode for (A, B, C,
 
 impl<A: Encode, B: Encode, C: Encode, D: Encode, E: Encode, F: Encode> Encode
     for (A, B, C, D, E, F) {
-    #[inline]
+    #[inline(always)]
     fn encode<Target: Encoder>(&self, encoder: &mut Target) -> Result<(), EncodeError> {
         let (a, b, c, d, e, f) = self;
         (a, b, c, d).encode(encoder)?;
@@ -68,7 +70,7 @@ impl<A: Encode, B: Encode, C: Encode, D: Encode, E: Encode, F: Encode> Encode
 
 impl<A: Encode, B: Encode, C: Encode, D: Encode, E: Encode, F: Encode, G: Encode> Encode
     for (A, B, C, D, E, F, G) {
-    #[inline]
+    #[inline(always)]
     fn encode<Target: Encoder>(&self, encoder: &mut Target) -> Result<(), EncodeError> {
         let (a, b, c, d, e, f, g) = self;
         (a, b, c, d).encode(encoder)?;
@@ -78,7 +80,7 @@ impl<A: Encode, B: Encode, C: Encode, D: Encode, E: Encode, F: Encode, G: Encode
 
 impl<A: Encode, B: Encode, C: Encode, D: Encode, E: Encode, F: Encode, G: Encode, H: Encode> Encode
     for (A, B, C, D, E, F, G, H) {
-    #[inline]
+    #[inline(always)]
     fn encode<Target: Encoder>(&self, encoder: &mut Target) -> Result<(), EncodeError> {
         let (a, b, c, d, e, f, g, h) = self;
         (a, b, c, d).encode(encoder)?;
@@ -97,7 +99,7 @@ impl<
     H: Encode,
     I: Encode,
 > Encode for (A, B, C, D, E, F, G, H, I) {
-    #[inline]
+    #[inline(always)]
     fn encode<Target: Encoder>(&self, encoder: &mut Target) -> Result<(), EncodeError> {
         let (a, b, c, d, e, f, g, h, i) = self;
         (a, b, c, d).encode(encoder)?;
@@ -118,7 +120,7 @@ impl<
     I: Encode,
     J: Encode,
 > Encode for (A, B, C, D, E, F, G, H, I, J) {
-    #[inline]
+    #[inline(always)]
     fn encode<Target: Encoder>(&self, encoder: &mut Target) -> Result<(), EncodeError> {
         let (a, b, c, d, e, f, g, h, i, j) = self;
         (a, b, c, d).encode(encoder)?;
@@ -140,7 +142,7 @@ impl<
     J: Encode,
     K: Encode,
 > Encode for (A, B, C, D, E, F, G, H, I, J, K) {
-    #[inline]
+    #[inline(always)]
     fn encode<Target: Encoder>(&self, encoder: &mut Target) -> Result<(), EncodeError> {
         let (a, b, c, d, e, f, g, h, i, j, k) = self;
         (a, b, c, d).encode(encoder)?;
@@ -163,7 +165,7 @@ impl<
     K: Encode,
     L: Encode,
 > Encode for (A, B, C, D, E, F, G, H, I, J, K, L) {
-    #[inline]
+    #[inline(always)]
     fn encode<Target: Encoder>(&self, encoder: &mut Target) -> Result<(), EncodeError> {
         let (a, b, c, d, e, f, g, h, i, j, k, l) = self;
         (a, b, c, d).encode(encoder)?;
@@ -187,7 +189,7 @@ impl<
     L: Encode,
     M: Encode,
 > Encode for (A, B, C, D, E, F, G, H, I, J, K, L, M) {
-    #[inline]
+    #[inline(always)]
     fn encode<Target: Encoder>(&self, encoder: &mut Target) -> Result<(), EncodeError> {
         let (a, b, c, d, e, f, g, h, i, j, k, l, m) = self;
         (a, b, c, d).encode(encoder)?;
@@ -213,7 +215,7 @@ impl<
     M: Encode,
     N: Encode,
 > Encode for (A, B, C, D, E, F, G, H, I, J, K, L, M, N) {
-    #[inline]
+    #[inline(always)]
     fn encode<Target: Encoder>(&self, encoder: &mut Target) -> Result<(), EncodeError> {
         let (a, b, c, d, e, f, g, h, i, j, k, l, m, n) = self;
         (a, b, c, d).encode(encoder)?;
@@ -240,7 +242,7 @@ impl<
     N: Encode,
     O: Encode,
 > Encode for (A, B, C, D, E, F, G, H, I, J, K, L, M, N, O) {
-    #[inline]
+    #[inline(always)]
     fn encode<Target: Encoder>(&self, encoder: &mut Target) -> Result<(), EncodeError> {
         let (a, b, c, d, e, f, g, h, i, j, k, l, m, n, o) = self;
         (a, b, c, d).encode(encoder)?;
@@ -268,7 +270,7 @@ impl<
     O: Encode,
     P: Encode,
 > Encode for (A, B, C, D, E, F, G, H, I, J, K, L, M, N, O, P) {
-    #[inline]
+    #[inline(always)]
     fn encode<Target: Encoder>(&self, encoder: &mut Target) -> Result<(), EncodeError> {
         let (a, b, c, d, e, f, g, h, i, j, k, l, m, n, o, p) = self;
         (a, b, c, d).encode(encoder)?;

@@ -6,6 +6,7 @@ use std::marker::PhantomData;
 use std::num::Wrapping;
 
 impl<T: Encode> Encode for Wrapping<T> {
+    #[inline]
     fn encode<E: Encoder>(&self, encoder: &mut E) -> Result<(), EncodeError> {
         let Wrapping(value) = self;
         value.encode(encoder)
@@ -13,6 +14,7 @@ impl<T: Encode> Encode for Wrapping<T> {
 }
 
 impl<T: Encode> Encode for Reverse<T> {
+    #[inline]
     fn encode<E: Encoder>(&self, encoder: &mut E) -> Result<(), EncodeError> {
         let Reverse(value) = self;
         value.encode(encoder)
@@ -20,12 +22,14 @@ impl<T: Encode> Encode for Reverse<T> {
 }
 
 impl<T> Encode for PhantomData<T> {
+    #[inline]
     fn encode<E: Encoder>(&self, _encoder: &mut E) -> Result<(), EncodeError> {
         Ok(())
     }
 }
 
 impl<T: Encode> Encode for &T {
+    #[inline]
     fn encode<E: Encoder>(&self, encoder: &mut E) -> Result<(), EncodeError> {
         (**self).encode(encoder)
     }
