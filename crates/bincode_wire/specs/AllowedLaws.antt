@@ -212,9 +212,3 @@ then_same P P' Q Q' x y f g m p q =
     let a : p.first ≡ q.first = cc in
     let b : p.others ≡ q.others = cc in
     rw (f q.first (subst P a p.is_first) q.is_first, g q.others (subst Q b p.are_others) q.are_others) refl
-
-pub one_same : (Q Q' : Meaning → Type 0) (y : Bool) → ((m : Meaning) → Q m → Q' m → y ≡ true) → (m : Meaning) → IsThen Q IsNothing m → IsThen Q' IsNothing m → y ≡ true
-one_same Q Q' y g m p q =
-    let e : Then p.first p.others ≡ Then q.first q.others = sym p.meaning_is ∙ q.meaning_is in
-    let a : p.first ≡ q.first = cc in
-    g q.first (subst Q a p.is_first) q.is_first

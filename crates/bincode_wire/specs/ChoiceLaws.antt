@@ -17,7 +17,8 @@ use Rattle.bincode_base.specs.Balance.{turn-holds}
 use Rattle.bincode_base.specs.IntegerLaws.{Four, unsigned-lawful, unsigned-balanced, unsigned_byte-lawful, unsigned_byte-balanced}
 use Rattle.bincode_wire.specs.Meaning.{Meaning, Number, Choice, IsNumber, IsNothing}
 use Rattle.bincode_wire.specs.Words.{natural, tag, tuple, part, chosen, optional, either, bound}
-use Rattle.bincode_wire.specs.WordsLaws.{AllLawful, AllBalanced, part-lawful, part-balanced, tuple-lawful, tuple-balanced}
+use Rattle.bincode_wire.specs.WordsLaws.{AllLawful, AllBalanced, part-lawful, part-balanced}
+use Rattle.bincode_wire.specs.TupleLaws.{nothing-lawful, nothing-balanced}
 use Rattle.bincode_wire.specs.Allowed.{AllowedWord, Both, OneLength, NoneShorter}
 use Rattle.bincode_wire.specs.AllowedLaws.{map-written, written-map, natural-allows, allowed-natural, nothing-allows, allowed-nothing, same-one_length, alone-one_length, both-one_length}
 use Rattle.bincode_wire.specs.SpelledLaws.{word-settled, settled-word, unsigned-spelled, byte-spelled, nothing-none_shorter, parts-no_longer}
@@ -33,10 +34,10 @@ unfolding chosen
 chosen-balanced tags formats last t h = turn-holds 0 0 0 tags (λ found. part formats last found found) t (λ found. part-balanced formats last found found h)
 
 pub optional-lawful : (F : Format Meaning) → Lawful F → Lawful (optional F)
-optional-lawful F f = chosen-lawful unsigned_byte (tuple [] ∷ F ∷ []) 1 unsigned_byte-lawful (tuple-lawful [] tt, (f, tt))
+optional-lawful F f = chosen-lawful unsigned_byte (tuple [] ∷ F ∷ []) 1 unsigned_byte-lawful (nothing-lawful, (f, tt))
 
 pub optional-balanced : (F : Format Meaning) → Balanced F → Balanced (optional F)
-optional-balanced F f = chosen-balanced unsigned_byte (tuple [] ∷ F ∷ []) 1 unsigned_byte-balanced (tuple-balanced [] tt, (f, tt))
+optional-balanced F f = chosen-balanced unsigned_byte (tuple [] ∷ F ∷ []) 1 unsigned_byte-balanced (nothing-balanced, (f, tt))
 
 pub either-lawful : (s : Setting) (F G : Format Meaning) → Lawful F → Lawful G → Lawful (either s F G)
 either-lawful s F G f g = chosen-lawful (tag s) (F ∷ G ∷ []) 1 (unsigned-lawful U32 4 s (Four refl)) (f, (g, tt))
@@ -45,10 +46,10 @@ pub either-balanced : (s : Setting) (F G : Format Meaning) → Balanced F → Ba
 either-balanced s F G f g = chosen-balanced (tag s) (F ∷ G ∷ []) 1 (unsigned-balanced U32 4 s) (f, (g, tt))
 
 pub bound-lawful : (s : Setting) (F : Format Meaning) → Lawful F → Lawful (bound s F)
-bound-lawful s F f = chosen-lawful (tag s) (tuple [] ∷ F ∷ F ∷ []) 2 (unsigned-lawful U32 4 s (Four refl)) (tuple-lawful [] tt, (f, (f, tt)))
+bound-lawful s F f = chosen-lawful (tag s) (tuple [] ∷ F ∷ F ∷ []) 2 (unsigned-lawful U32 4 s (Four refl)) (nothing-lawful, (f, (f, tt)))
 
 pub bound-balanced : (s : Setting) (F : Format Meaning) → Balanced F → Balanced (bound s F)
-bound-balanced s F f = chosen-balanced (tag s) (tuple [] ∷ F ∷ F ∷ []) 2 (unsigned-balanced U32 4 s) (tuple-balanced [] tt, (f, (f, tt)))
+bound-balanced s F f = chosen-balanced (tag s) (tuple [] ∷ F ∷ F ∷ []) 2 (unsigned-balanced U32 4 s) (nothing-balanced, (f, (f, tt)))
 
 -- whatever the part, its meaning has the tag
 part-written : (formats : List (Format Meaning)) (last found place : ℕ) (bytes : List ℕ) (m : Meaning) → (part formats last found place).Written bytes m → (n : Meaning) × (m ≡ Choice found n)

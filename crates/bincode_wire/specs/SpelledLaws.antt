@@ -127,9 +127,9 @@ parts-no_longer written bytes x y v w d e h f g =
     omega (arith, l, r, ap length d, length-append x y, ap length e, length-append v w)
 
 -- no word of a tuple is shorter, if none of its first part is and none of the others
-pub tuple-none_shorter : (P Q : Meaning → Type 0) (F : Format Meaning) (others : List (Format Meaning)) → NoneShorter P F → NoneShorter Q (tuple others) → NoneShorter (IsThen P Q) (tuple (F ∷ others))
+pub then-none_shorter : {P Q : Meaning → Type 0} {F : Format Meaning} (others : List (Format Meaning)) → NoneShorter P F → NoneShorter Q (tuple others) → NoneShorter (IsThen P Q) (tuple (F ∷ others))
 unfolding tuple ◌>>=◌
-tuple-none_shorter P Q F others f g written bytes m s w h u e =
+then-none_shorter {P} {Q} {F} others f g written bytes m s w h u e =
     let b = allowed-tuple P Q F others written w in
     let t = word-settled (λ k. Ok (Then u.head k)) (tuple others) u.second m u.second_steps u.second_word in
     let i : ◌≡◌ {A = Result Meaning Fault} (Ok (Then u.head t.0)) (Ok (Then e.first e.others)) = t.2 ∙ ap Ok e.meaning_is in
@@ -141,6 +141,3 @@ tuple-none_shorter P Q F others f g written bytes m s w h u e =
 
 pub nothing-none_shorter : NoneShorter IsNothing (tuple [])
 nothing-none_shorter written bytes m s w h u e = omega (arith, ap length (allowed-nothing written w))
-
-pub one-none_shorter : (P : Meaning → Type 0) (F : Format Meaning) → NoneShorter P F → NoneShorter (IsThen P IsNothing) (tuple (F ∷ []))
-one-none_shorter P F f = tuple-none_shorter P IsNothing F [] f nothing-none_shorter

@@ -3,18 +3,17 @@ use Rattle.std.specs.Prelude.{◌≡◌, ◌⊎◌, ℕ, List, [], ◌∷◌, �
 use Rattle.std.proofs.Common.{sym, ◌∙◌, subst, inl, inr}
 use Rattle.bincode_base.specs.Format.{Format, map_format}
 use Rattle.bincode_base.specs.Laws.{Lawful, Balanced}
-use Rattle.bincode_base.specs.FormatLaws.{turn-lawful, map-lawful}
-use Rattle.bincode_base.specs.Balance.{turn-holds, map-balanced}
-use Rattle.bincode_wire.specs.Meaning.{Meaning, Then, IsNothing, IsThen}
+use Rattle.bincode_base.specs.FormatLaws.{done-lawful, turn-lawful, map-lawful}
+use Rattle.bincode_base.specs.Balance.{done-holds, turn-holds, map-balanced}
+use Rattle.bincode_wire.specs.Meaning.{Meaning, Nothing, Then, IsNothing, IsThen}
 use Rattle.bincode_wire.specs.Words.{tuple}
-use Rattle.bincode_wire.specs.WordsLaws.{tuple-lawful, tuple-balanced}
-use Rattle.bincode_wire.specs.Allowed.{AllowedWord, OneLength, NoneShorter, Both}
+use Rattle.bincode_wire.specs.Allowed.{AllowedWord, OneLength, Both}
 use Rattle.bincode_wire.specs.AllowedLaws.{tuple-allows, allowed-tuple, nothing-allows, allowed-nothing, alone-one_length, both-one_length, same-one_length}
-use Rattle.bincode_wire.specs.SpelledLaws.{tuple-none_shorter}
 
 -- a tuple is lawful
 pub nothing-lawful : Lawful (tuple [])
-nothing-lawful = tuple-lawful [] tt
+unfolding tuple
+nothing-lawful = done-lawful Nothing
 
 pub then-lawful : {F : Format Meaning} (others : List (Format Meaning)) → Lawful F → Lawful (tuple others) → Lawful (tuple (F ∷ others))
 unfolding tuple
@@ -22,7 +21,8 @@ then-lawful {F} others f g = turn-lawful F (λ m. map_format (Then m) (tuple oth
 
 -- and balanced
 pub nothing-balanced : Balanced (tuple [])
-nothing-balanced = tuple-balanced [] tt
+unfolding tuple
+nothing-balanced = done-holds 0 Nothing
 
 pub then-balanced : {F : Format Meaning} (others : List (Format Meaning)) → Balanced F → Balanced (tuple others) → Balanced (tuple (F ∷ others))
 unfolding tuple
@@ -41,10 +41,6 @@ nothing-one_length = alone-one_length (AllowedWord IsNothing (tuple [])) [] allo
 
 pub then-one_length : {P Q : Meaning → Type 0} {F : Format Meaning} (others : List (Format Meaning)) → OneLength (AllowedWord P F) → OneLength (AllowedWord Q (tuple others)) → OneLength (AllowedWord (IsThen P Q) (tuple (F ∷ others)))
 then-one_length {P} {Q} {F} others f g = same-one_length (Both (AllowedWord P F) (AllowedWord Q (tuple others))) (AllowedWord (IsThen P Q) (tuple (F ∷ others))) (allowed-tuple P Q F others) (both-one_length (AllowedWord P F) (AllowedWord Q (tuple others)) f g)
-
--- none is shorter
-pub then-none_shorter : {P Q : Meaning → Type 0} {F : Format Meaning} (others : List (Format Meaning)) → NoneShorter P F → NoneShorter Q (tuple others) → NoneShorter (IsThen P Q) (tuple (F ∷ others))
-then-none_shorter {P} {Q} {F} others f g = tuple-none_shorter P Q F others f g
 
 -- it names no error
 pub neither : {A B : Type 0} → (A → ⊥) → (B → ⊥) → A ⊎ B → ⊥

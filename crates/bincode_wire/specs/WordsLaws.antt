@@ -4,14 +4,14 @@ use Rattle.std.proofs.Common.{◌∙◌, ap, arith}
 use Rattle.std.proofs.lemmas.Bool.{eq-eqb, ne_eqb, eqb-true}
 use Rattle.bincode_base.specs.declared.error.IntegerType.{IntegerType}
 use Rattle.bincode_base.specs.Fault.{Fault, Zero, UnexpectedVariant, InvalidBool, Between}
-use Rattle.bincode_base.specs.Format.{Format, map_format, sequence}
+use Rattle.bincode_base.specs.Format.{Format, sequence}
 use Rattle.bincode_base.specs.Laws.{Lawful, Balanced}
-use Rattle.bincode_base.specs.FormatLaws.{done-lawful, refused-lawful, turn-lawful, Settles, test-lawful, map-lawful, sequence-lawful}
-use Rattle.bincode_base.specs.Balance.{done-holds, refused-holds, turn-holds, test-balanced, map-balanced, sequence-balanced}
+use Rattle.bincode_base.specs.FormatLaws.{refused-lawful, Settles, test-lawful, map-lawful, sequence-lawful}
+use Rattle.bincode_base.specs.Balance.{refused-holds, test-balanced, map-balanced, sequence-balanced}
 use Rattle.bincode_base.specs.IntegerLaws.{unsigned_byte-lawful, unsigned_byte-balanced}
 use Rattle.bincode_base.specs.Integers.{unsigned_byte}
-use Rattle.bincode_wire.specs.Meaning.{Meaning, Truth, Nothing, Then, Choice, listed}
-use Rattle.bincode_wire.specs.Words.{not_zero_of, not_zero_by, truth_of, truth_byte, truth, part, tuple, array}
+use Rattle.bincode_wire.specs.Meaning.{Meaning, Truth, Choice, listed}
+use Rattle.bincode_wire.specs.Words.{not_zero_of, not_zero_by, truth_of, truth_byte, truth, part, array}
 
 -- what is not 0 passes the test as it is
 module _ {A : Type 0} (name : IntegerType) (size : ℕ) (a : A) where
@@ -93,16 +93,6 @@ pub part-balanced : (formats : List (Format Meaning)) (last found place : ℕ) �
 part-balanced [] last found place h = refused-holds 0 0 (UnexpectedVariant (Between 0 last) found)
 part-balanced (F ∷ others) last found zero h = map-balanced (Choice found) F h.0
 part-balanced (F ∷ others) last found (suc place) h = part-balanced others last found place h.1
-
-pub tuple-lawful : (formats : List (Format Meaning)) → AllLawful formats → Lawful (tuple formats)
-unfolding tuple
-tuple-lawful [] h = done-lawful Nothing
-tuple-lawful (F ∷ others) h = turn-lawful F (λ m. map_format (Then m) (tuple others)) h.0 (λ m. map-lawful (Then m) (tuple others) (tuple-lawful others h.1))
-
-pub tuple-balanced : (formats : List (Format Meaning)) → AllBalanced formats → Balanced (tuple formats)
-unfolding tuple
-tuple-balanced [] h = done-holds 0 Nothing
-tuple-balanced (F ∷ others) h = turn-holds 0 0 0 F (λ m. map_format (Then m) (tuple others)) h.0 (λ m. map-balanced (Then m) (tuple others) (tuple-balanced others h.1))
 
 pub array-lawful : (n share : ℕ) (F : Format Meaning) → Lawful F → Lawful (array n share F)
 array-lawful n share F f = map-lawful listed (sequence n share F) (sequence-lawful n share F f)

@@ -1,8 +1,8 @@
 ghost use Rattle.std.specs.Prelude.{◌≡◌, ◌⊎◌, [], ◌∷◌, true, refl};
 ghost use Rattle.bincode_wire.specs.Meaning.{IsThen, IsNothing};
 ghost use Rattle.bincode_wire.specs.Words.{tuple, saturated_sum};
-ghost use Rattle.bincode_wire.specs.TupleLaws.{then-lawful, nothing-lawful, then-balanced, nothing-balanced, then-has_word, nothing-has_word, then-one_length, nothing-one_length, then-none_shorter, neither, then-all_same, nothing-all_same};
-ghost use Rattle.bincode_wire.specs.SpelledLaws.{nothing-none_shorter};
+ghost use Rattle.bincode_wire.specs.TupleLaws.{then-lawful, nothing-lawful, then-balanced, nothing-balanced, then-has_word, nothing-has_word, then-one_length, nothing-one_length, neither, then-all_same, nothing-all_same};
+ghost use Rattle.bincode_wire.specs.SpelledLaws.{then-none_shorter, nothing-none_shorter};
 
 use crate::impls::tuples::sum_of_claims;
 use crate::laws::{Canonical, Exact, Plain};

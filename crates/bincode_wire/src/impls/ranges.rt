@@ -1,10 +1,9 @@
-ghost use Rattle.std.specs.Prelude.{◌≡◌, ◌*◌, ◌-◌, ◌^◌, ◌++◌, [], ◌∷◌, min, false, refl};
+ghost use Rattle.std.specs.Prelude.{◌≡◌, ◌*◌, ◌-◌, ◌^◌, [], ◌∷◌, min, true, false, refl};
 ghost use Rattle.std.specs.Range.{range_inclusive_start, range_inclusive_end, range_inclusive_exhausted};
 ghost use Rattle.bincode_wire.specs.Meaning.{IsThen, IsNothing};
 ghost use Rattle.bincode_wire.specs.Words.{tuple};
-ghost use Rattle.bincode_wire.specs.WordsLaws.{tuple-lawful, tuple-balanced};
-ghost use Rattle.bincode_wire.specs.AllowedLaws.{pair-allows, allowed-pair, both-one_length, same-one_length, then_same, one_same};
-ghost use Rattle.bincode_wire.specs.SpelledLaws.{tuple-none_shorter, one-none_shorter};
+ghost use Rattle.bincode_wire.specs.TupleLaws.{then-lawful, nothing-lawful, then-balanced, nothing-balanced, then-has_word, nothing-has_word, then-one_length, nothing-one_length, then-all_same, nothing-all_same};
+ghost use Rattle.bincode_wire.specs.SpelledLaws.{then-none_shorter, nothing-none_shorter};
 
 use crate::laws::{Canonical, Exact, Plain};
 use crate::wire::Wire;
@@ -36,18 +35,15 @@ impl<T: Wire> Wire for Range<T> {
         self.end.tell_valid();
     }
 
-    ghost lawful = { λ s. tuple-lawful (T.format s ∷ T.format s ∷ []) (T.lawful s, (T.lawful s, tt)) };
+    ghost lawful = { λ s. then-lawful _ (T.lawful s) (then-lawful _ (T.lawful s) nothing-lawful) };
 
-    ghost balanced = { λ s. tuple-balanced (T.format s ∷ T.format s ∷ []) (T.balanced s, (T.balanced s, tt)) };
+    ghost balanced = { λ s. then-balanced _ (T.balanced s) (then-balanced _ (T.balanced s) nothing-balanced) };
 
-    ghost has_word = { λ s v h w.
-        let x = T.has_word s v.start h.0 w.0 in
-        let y = T.has_word s v.end h.1 w.1 in
-        (x.0 ++ y.0, pair-allows _ _ _ _ _ (x.0, y.0, refl, x.1, y.1)) };
+    ghost has_word = { λ s v h w. then-has_word _ (T.has_word s v.start h.0 w.0) (then-has_word _ (T.has_word s v.end h.1 w.1) nothing-has_word) };
 }
 
 impl<T: Plain> Plain for Range<T> {
-    ghost one_length = { λ s v h. same-one_length _ _ (allowed-pair _ _ (T.format s) (T.format s)) (both-one_length _ _ (T.one_length s v.start h.0) (T.one_length s v.end h.1)) };
+    ghost one_length = { λ s v h. then-one_length _ (T.one_length s v.start h.0) (then-one_length _ (T.one_length s v.end h.1) nothing-one_length) };
 
     ghost always_writable = { λ s v h. (T.always_writable s v.start h.0, T.always_writable s v.end h.1) };
 
@@ -56,14 +52,14 @@ impl<T: Plain> Plain for Range<T> {
 
 impl<T: Exact> Exact for Range<T> {
     ghost one_value = { λ v w m h k.
-        then_same _ _ _ _ _ _ (λ n. T.one_value v.start w.start n h.0 k.0) (one_same _ _ _ (λ n. T.one_value v.end w.end n h.1 k.1)) m };
+        then-all_same true (λ p. T.one_value v.start w.start p h.0 k.0) (then-all_same _ (λ p. T.one_value v.end w.end p h.1 k.1) nothing-all_same) refl m };
 
     ghost comes_back = { λ v w m h.
-        then_same _ _ _ _ _ _ (λ n. T.comes_back v.start w.start n h.0) (one_same _ _ _ (λ n. T.comes_back v.end w.end n h.1)) m };
+        then-all_same true (λ p. T.comes_back v.start w.start p h.0) (then-all_same _ (λ p. T.comes_back v.end w.end p h.1) nothing-all_same) refl m };
 }
 
 impl<T: Canonical> Canonical for Range<T> {
-    ghost shortest = { λ s v h. tuple-none_shorter _ _ (T.format s) (T.format s ∷ []) (T.shortest s v.start h.0) (one-none_shorter _ (T.format s) (T.shortest s v.end h.1)) };
+    ghost shortest = { λ s v h. then-none_shorter _ (T.shortest s v.start h.0) (then-none_shorter _ (T.shortest s v.end h.1) nothing-none_shorter) };
 }
 
 impl<T: Wire> Wire for RangeInclusive<T> {
@@ -92,18 +88,15 @@ impl<T: Wire> Wire for RangeInclusive<T> {
         self.end().tell_valid();
     }
 
-    ghost lawful = { λ s. tuple-lawful (T.format s ∷ T.format s ∷ []) (T.lawful s, (T.lawful s, tt)) };
+    ghost lawful = { λ s. then-lawful _ (T.lawful s) (then-lawful _ (T.lawful s) nothing-lawful) };
 
-    ghost balanced = { λ s. tuple-balanced (T.format s ∷ T.format s ∷ []) (T.balanced s, (T.balanced s, tt)) };
+    ghost balanced = { λ s. then-balanced _ (T.balanced s) (then-balanced _ (T.balanced s) nothing-balanced) };
 
-    ghost has_word = { λ s v h w.
-        let x = T.has_word s (range_inclusive_start v) h.0 w.0 in
-        let y = T.has_word s (range_inclusive_end v) h.1 w.1 in
-        (x.0 ++ y.0, pair-allows _ _ _ _ _ (x.0, y.0, refl, x.1, y.1)) };
+    ghost has_word = { λ s v h w. then-has_word _ (T.has_word s (range_inclusive_start v) h.0 w.0) (then-has_word _ (T.has_word s (range_inclusive_end v) h.1 w.1) nothing-has_word) };
 }
 
 impl<T: Plain> Plain for RangeInclusive<T> {
-    ghost one_length = { λ s v h. same-one_length _ _ (allowed-pair _ _ (T.format s) (T.format s)) (both-one_length _ _ (T.one_length s (range_inclusive_start v) h.0) (T.one_length s (range_inclusive_end v) h.1)) };
+    ghost one_length = { λ s v h. then-one_length _ (T.one_length s (range_inclusive_start v) h.0) (then-one_length _ (T.one_length s (range_inclusive_end v) h.1) nothing-one_length) };
 
     ghost always_writable = { λ s v h. (T.always_writable s (range_inclusive_start v) h.0, T.always_writable s (range_inclusive_end v) h.1) };
 
@@ -111,5 +104,5 @@ impl<T: Plain> Plain for RangeInclusive<T> {
 }
 
 impl<T: Canonical> Canonical for RangeInclusive<T> {
-    ghost shortest = { λ s v h. tuple-none_shorter _ _ (T.format s) (T.format s ∷ []) (T.shortest s (range_inclusive_start v) h.0) (one-none_shorter _ (T.format s) (T.shortest s (range_inclusive_end v) h.1)) };
+    ghost shortest = { λ s v h. then-none_shorter _ (T.shortest s (range_inclusive_start v) h.0) (then-none_shorter _ (T.shortest s (range_inclusive_end v) h.1) nothing-none_shorter) };
 }

@@ -1,7 +1,7 @@
 ghost use Rattle.std.specs.Prelude.{[], refl};
 ghost use Rattle.bincode_wire.specs.Meaning.{IsNothing};
 ghost use Rattle.bincode_wire.specs.Words.{tuple};
-ghost use Rattle.bincode_wire.specs.WordsLaws.{tuple-lawful, tuple-balanced};
+ghost use Rattle.bincode_wire.specs.TupleLaws.{nothing-lawful, nothing-balanced};
 ghost use Rattle.bincode_wire.specs.AllowedLaws.{nothing-allows, allowed-nothing, alone-one_length};
 ghost use Rattle.bincode_wire.specs.SpelledLaws.{nothing-none_shorter};
 
@@ -134,9 +134,9 @@ impl<T> Wire for PhantomData<T> {
 
     fn tell_valid(&self) {}
 
-    ghost lawful = { λ s. tuple-lawful [] tt };
+    ghost lawful = { λ s. nothing-lawful };
 
-    ghost balanced = { λ s. tuple-balanced [] tt };
+    ghost balanced = { λ s. nothing-balanced };
 
     ghost has_word = { λ s v h w. ([], nothing-allows) };
 }
