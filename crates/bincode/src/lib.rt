@@ -11,9 +11,12 @@ pub mod de;
 pub mod enc;
 mod slice;
 
-pub use bincode_base::{config, error, varint};
+pub use bincode_base::{config, error, text, varint};
 pub use bincode_de::decode::Decode;
 pub use bincode_enc::encode::Encode;
 pub use bincode_wire as model;
+pub use bincode_wire::laws;
 pub use bincode_wire::own::time;
+pub use bincode_wire::parted::{Parted, SameParts};
+pub use bincode_wire::sums::{NoOther, OneOf, Or};
 pub use slice::{decode_from_slice, encode_into_slice};

@@ -8,7 +8,7 @@ use bincode_base::error::DecodeError;
 use bincode_wire::wire::Wire;
 
 /// A type whose values can be read, in a context.
-pub trait Decode<Context: Drop>: Wire + Sized {
+pub trait Decode<Context: Drop>: Wire + Drop + Sized {
     /// Reads a word and gives a value for its meaning. Fails with the first fault of the input, where the charges pass
     /// the limit, where memory is refused, or where the device fails. Then some front of the input is taken, unless the
     /// error is the device's.

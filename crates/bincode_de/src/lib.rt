@@ -4,4 +4,6 @@
 pub mod arrays;
 pub mod decode;
 pub mod decoder;
+pub mod from_parts;
 mod impls;
+pub mod variants;

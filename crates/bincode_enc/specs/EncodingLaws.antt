@@ -1,8 +1,6 @@
 -- What encoding does passes from parts to wholes.
-use Rattle.std.specs.Prelude.{◌≡◌, ◌⊎◌, ℕ, ◌<◌, ℤ, pos, unsigned_abs, FitsSigned, Result, List, [], ◌∷◌, ◌++◌, OnOk, IfErr, refl}
-use Rattle.std.proofs.Common.{to_z, of_z, sym, ◌∙◌, ap, subst, inl, inr, append_assoc, append-nil}
-use Rattle.std.specs.Int.{Width}
-use Rattle.std.proofs.lemmas.Int.{to_z-of_z}
+use Rattle.std.specs.Prelude.{◌≡◌, ◌⊎◌, ℕ, ◌<◌, ℤ, Result, List, [], ◌∷◌, ◌++◌, OnOk, IfErr, refl}
+use Rattle.std.proofs.Common.{sym, ◌∙◌, ap, subst, inl, inr, append_assoc, append-nil}
 use Rattle.std.proofs.lemmas.Result.{IfErr-weaker, on_ok_weaker}
 use Rattle.bincode_base.specs.declared.error.IntegerType.{IntegerType}
 use Rattle.bincode_base.specs.declared.error.EncodeError.{EncodeError}
@@ -15,9 +13,9 @@ use Rattle.bincode_base.specs.Format.{Format, map_format}
 use Rattle.bincode_base.specs.Integers.{spelling, spelling_pieces}
 use Rattle.bincode_base.specs.IntegerLaws.{shortest-pieces}
 use Rattle.bincode_wire.specs.Meaning.{Number, IsNumber}
-use Rattle.bincode_wire.specs.Words.{natural, integral, not_zero_by, not_zero, not_zero_integer}
+use Rattle.bincode_wire.specs.Words.{not_zero_by}
 use Rattle.bincode_wire.specs.Allowed.{AllowedWord, Both}
-use Rattle.bincode_wire.specs.AllowedLaws.{one_natural, not_zero-allows, allowed-not_zero}
+use Rattle.bincode_wire.specs.AllowedLaws.{not_zero-allows, allowed-not_zero}
 use Rattle.bincode_enc.specs.Encoding.{Adds, Refuses, Writes, Ready, Begins, IsOwn, Halts, by_writer, by_name}
 
 begins_first : (A B : List ℕ → Type 0) (bytes : List ℕ) → Begins A bytes → Begins (Both A B) bytes
@@ -36,6 +34,12 @@ ready A bytes a = record { is_writable = tt; is_allowed = a }
 -- the same words by another name
 pub ready_as : (R : Type 0) (A B : List ℕ → Type 0) → ((bytes : List ℕ) → A bytes → B bytes) → (bytes : List ℕ) → Ready R A bytes → Ready R B bytes
 ready_as R A B to bytes w = record { is_writable = w.is_writable; is_allowed = to bytes w.is_allowed }
+
+-- what begins a word of one value begins one of another, which can be written where that one can
+begins_where : (R S : Type 0) (A : List ℕ → Type 0) → (S → R) → (bytes : List ℕ) → Begins (Ready R A) bytes → Begins (Ready S A) bytes
+begins_where R S A f bytes b some w =
+    let m = b some (record { is_writable = f w.is_writable; is_allowed = w.is_allowed }) in
+    (m.0, record { is_writable = w.is_writable; is_allowed = m.1.is_allowed })
 
 own_or : (A B : List ℕ → Type 0) (e : EncodeError) (x y : List ℕ) → (Begins A x → Begins B y) → IsOwn e ⊎ Begins A x → IsOwn e ⊎ Begins B y
 own_or A B e x y f (inl o) = inl o
@@ -80,6 +84,11 @@ module _ {W : Type 0} (adds : Adds W) (refuses : Refuses W) where
   pub halts_named : (A : List ℕ → Type 0) (N M : EncodeError → Type 0) (before after : W) (e : EncodeError) → (N e → M e) → Halts adds refuses A N before after e → Halts adds refuses A M before after e
   halts_named A N M before after e more (by_writer front piece middle h r b) = by_writer front piece middle h r b
   halts_named A N M before after e more (by_name front h n b) = by_name front h (more n) b
+
+  -- a value that can be written where another can
+  pub halts_where : (R S : Type 0) (A : List ℕ → Type 0) → (S → R) → (N : EncodeError → Type 0) (before after : W) (e : EncodeError) → Halts adds refuses (Ready R A) N before after e → Halts adds refuses (Ready S A) N before after e
+  halts_where R S A f N before after e (by_writer front piece middle h r b) = by_writer front piece middle h r (begins_where R S A f (front ++ piece) b)
+  halts_where R S A f N before after e (by_name front h n b) = by_name front h n (own_or (Ready R A) (Ready S A) e front front (begins_where R S A f front) b)
 
   -- one piece that is the whole word
   pub halts_alone : ((w : W) → adds w [] w) → (A : List ℕ → Type 0) (piece : List ℕ) → A piece → (N : EncodeError → Type 0) (before after : W) (e : EncodeError) → refuses before piece e after → Halts adds refuses A N before after e
@@ -127,33 +136,11 @@ module _ {R S U : Type 0} (pair : R → S → U) (split : U → R × S) {A B C :
         (halts_named adds refuses (Both (Ready R A) (Ready S B)) (λ d. N d ⊎ M d) K before after e more (halts_next adds refuses join R A (Ready S B) N M before between after e v h))
 
 -- a number other than 0 is written as the number
+module _ {A : Type 0} (integer : A → ℤ) (one : (a b : A) → integer a ≡ integer b → a ≡ b) (size : A → ℕ) (name : IntegerType) (F : Format A) {T W : Type 0} (r : Result T EncodeError) (adds : Adds W) (before after : W) (a : A) (h : 0 < size a) where
+  pub writes_not_zero : OnOk r (Writes adds (AllowedWord (IsNumber (integer a)) (map_format (λ k. Number (integer k)) F)) before after) → OnOk r (Writes adds (AllowedWord (IsNumber (integer a)) (map_format (λ k. Number (integer k)) (not_zero_by size name F))) before after)
+  writes_not_zero = on_ok_weaker r (writes_same adds _ _ before after (λ bytes. not_zero-allows integer one size name F bytes a h))
 
-module _ {A : Type 0} (integer : A → ℤ) (one : (a b : A) → integer a ≡ integer b → a ≡ b) (size : A → ℕ) (name : IntegerType) (F : Format A) {T W : Type 0} (r : Result T EncodeError) (adds : Adds W) (before after : W) (number a : A) where
-  writes_tested : number ≡ a → 0 < size a → OnOk r (Writes adds (AllowedWord (IsNumber (integer number)) (map_format (λ k. Number (integer k)) F)) before after) →
-      OnOk r (Writes adds (AllowedWord (IsNumber (integer a)) (map_format (λ k. Number (integer k)) (not_zero_by size name F))) before after)
-  writes_tested e h w =
-      on_ok_weaker r (writes_same adds _ _ before after (λ bytes. not_zero-allows integer one size name F bytes a h))
-      (subst (λ n. OnOk r (Writes adds (AllowedWord (IsNumber (integer n)) (map_format (λ k. Number (integer k)) F)) before after)) e w)
-
-  halts_tested : (refuses : Refuses W) (N : EncodeError → Type 0) (R : Type 0) → number ≡ a → 0 < size a → IfErr r (Halts adds refuses (Ready R (AllowedWord (IsNumber (integer number)) (map_format (λ k. Number (integer k)) F))) N before after) →
+  pub halts_not_zero : (refuses : Refuses W) (N : EncodeError → Type 0) (R : Type 0) → IfErr r (Halts adds refuses (Ready R (AllowedWord (IsNumber (integer a)) (map_format (λ k. Number (integer k)) F))) N before after) →
       IfErr r (Halts adds refuses (Ready R (AllowedWord (IsNumber (integer a)) (map_format (λ k. Number (integer k)) (not_zero_by size name F)))) N before after)
-  halts_tested refuses N R e h w =
+  halts_not_zero refuses N R =
       IfErr-weaker r _ _ (λ d. halts_same adds refuses _ _ N before after d (ready_as R _ _ (λ bytes. not_zero-allows integer one size name F bytes a h)) (ready_as R _ _ (λ bytes. allowed-not_zero integer one size name F bytes a)))
-      (subst (λ n. IfErr r (Halts adds refuses (Ready R (AllowedWord (IsNumber (integer n)) (map_format (λ k. Number (integer k)) F))) N before after)) e w)
-
-module _ (name : IntegerType) (F : Format ℕ) {T W : Type 0} (r : Result T EncodeError) (adds : Adds W) (before after : W) (number n : ℕ) where
-  pub writes_not_zero : number ≡ n → 0 < n → OnOk r (Writes adds (AllowedWord (IsNumber (pos number)) (natural F)) before after) → OnOk r (Writes adds (AllowedWord (IsNumber (pos n)) (natural (not_zero name F))) before after)
-  writes_not_zero = writes_tested pos one_natural (λ k. k) name F r adds before after number n
-
-  pub halts_not_zero : (refuses : Refuses W) (N : EncodeError → Type 0) (R : Type 0) → number ≡ n → 0 < n → IfErr r (Halts adds refuses (Ready R (AllowedWord (IsNumber (pos number)) (natural F))) N before after) → IfErr r (Halts adds refuses (Ready R (AllowedWord (IsNumber (pos n)) (natural (not_zero name F)))) N before after)
-  halts_not_zero = halts_tested pos one_natural (λ k. k) name F r adds before after number n
-
-module _ (name : IntegerType) (F : Format ℤ) {T W : Type 0} (r : Result T EncodeError) (adds : Adds W) (before after : W) (w : Width) (number z : ℤ) where
-  pub writes_not_zero_integer : number ≡ z → FitsSigned w z × (0 < unsigned_abs z) → OnOk r (Writes adds (AllowedWord (IsNumber (to_z w (of_z w number))) (integral F)) before after) → OnOk r (Writes adds (AllowedWord (IsNumber z) (integral (not_zero_integer name F))) before after)
-  writes_not_zero_integer e h = writes_tested (λ k. k) (λ a b e. e) unsigned_abs name F r adds before after (to_z w (of_z w number)) z (rw e (to_z-of_z w z h.0)) h.1
-
-  pub halts_not_zero_integer : (refuses : Refuses W) (N : EncodeError → Type 0) (R : Type 0) → number ≡ z → FitsSigned w z × (0 < unsigned_abs z) → IfErr r (Halts adds refuses (Ready R (AllowedWord (IsNumber (to_z w (of_z w number))) (integral F))) N before after) → IfErr r (Halts adds refuses (Ready R (AllowedWord (IsNumber z) (integral (not_zero_integer name F)))) N before after)
-  halts_not_zero_integer refuses N R e h = halts_tested (λ k. k) (λ a b e. e) unsigned_abs name F r adds before after (to_z w (of_z w number)) z refuses N R (rw e (to_z-of_z w z h.0)) h.1
-
--- for the proofs of `impls/nonzero.rt`
-pub ruleset by_not_zero = (writes_not_zero, halts_not_zero, writes_not_zero_integer, halts_not_zero_integer)

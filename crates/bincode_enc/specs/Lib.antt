@@ -1,5 +1,4 @@
 pub mod Encoding
 pub mod EncodingLaws
-pub mod ChoiceEncoding
 pub mod RunEncoding
 pub mod TupleEncoding

@@ -8,7 +8,11 @@ use bincode_base::error::EncodeError;
 use bincode_wire::wire::Wire;
 
 /// A type whose values can be written.
-pub trait Encode: Wire {
+pub trait Encode: Wire + Drop {
+    /// Says of the value in hand that it is valid.
+    fn tell_valid(&self)
+        ensures { Self.valid self.now };
+
     /// Writes a word that the value allows. Fails where the writer refuses a piece, or by an error that the type names.
     /// Then what was written before begins an allowed word, if the inner type of each cell that the value holds has one, and
     /// unless the error is one of a user's type.

@@ -5,3 +5,4 @@ pub mod encode;
 pub mod encoder;
 mod impls;
 pub mod run;
+pub mod variants;

@@ -11,6 +11,14 @@ pub record AllowedWord (Means : Meaning → Type 0) (F : Format Meaning) (bytes 
   pub is_meant : Means meaning
   pub is_written : F.Written bytes meaning
 
+-- what is written in one format is what is written in the other
+abbrev pub WrittenAlike : Format Meaning → Format Meaning → Type 0
+WrittenAlike F G = ((bytes : List ℕ) (meaning : Meaning) → F.Written bytes meaning → G.Written bytes meaning) × ((bytes : List ℕ) (meaning : Meaning) → G.Written bytes meaning → F.Written bytes meaning)
+
+-- what is meant in one way is what is meant in the other
+abbrev pub SameMeanings : (Meaning → Type 0) → (Meaning → Type 0) → Type 0
+SameMeanings P Q = ((meaning : Meaning) → P meaning → Q meaning) × ((meaning : Meaning) → Q meaning → P meaning)
+
 -- all of these words have one length
 abbrev pub OneLength : (List ℕ → Type 0) → Type 0
 OneLength Allowed = (x y : List ℕ) → Allowed x → Allowed y → length x ≡ length y

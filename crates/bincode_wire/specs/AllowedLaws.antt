@@ -1,5 +1,5 @@
 -- What numbers and wholes allow, by what their parts allow.
-use Rattle.std.specs.Prelude.{◌≡◌, ℕ, ◌+◌, ◌<◌, ◌^◌, ℤ, pos, Result, Ok, Err, List, [], ◌∷◌, ◌++◌, length, refl, nat_eq, Bool, true, ◌&&◌}
+use Rattle.std.specs.Prelude.{◌≡◌, ℕ, ◌+◌, ◌<◌, ◌^◌, ℤ, pos, Result, Ok, Err, List, [], ◌∷◌, ◌++◌, length, refl, nat_eq, Bool, true}
 use Rattle.std.specs.Ordering.{int_eq}
 use Rattle.std.specs.Cmp.{signed_Decides, booleans_Decides}
 use Rattle.std.proofs.Math.Bool.{beq}
@@ -12,7 +12,7 @@ use Rattle.bincode_base.specs.Format.{Format, done, refused, raw, step, settled,
 use Rattle.bincode_base.specs.Integers.{byte, first_of, number_for, unsigned, signed, unsigned_byte, signed_byte, spelling}
 use Rattle.bincode_base.specs.IntegerLaws.{IsWidth, written-unsigned, unsigned-written, written-signed, signed-written, written-unsigned_byte, unsigned_byte-written, written-signed_byte}
 use Rattle.bincode_wire.specs.Meaning.{Meaning, Truth, Number, Nothing, Then, IsTruth, IsNumber, IsNothing, IsThen}
-use Rattle.bincode_wire.specs.Words.{natural, integral, not_zero_of, not_zero_by, truth_of, truth_byte, truth, tuple}
+use Rattle.bincode_wire.specs.Words.{natural, integral, not_zero_of, not_zero_by, truth_of, truth_byte, truth, nothing, first_and}
 use Rattle.bincode_wire.specs.WordsLaws.{not_zero-passes, not_zero-passed, truth_byte-passes, truth_byte-passed}
 use Rattle.bincode_wire.specs.Allowed.{AllowedWord, OneLength, Both}
 
@@ -129,55 +129,55 @@ module _ {A : Type 0} (integer : A → ℤ) (one : (a b : A) → integer a ≡ i
 pub alone-one_length : (Allowed : List ℕ → Type 0) (word : List ℕ) → ((bytes : List ℕ) → Allowed bytes → bytes ≡ word) → OneLength Allowed
 alone-one_length Allowed word only x y a b = ap length (only x a ∙ sym (only y b))
 
-module _ (P Q : Meaning → Type 0) (F : Format Meaning) (others : List (Format Meaning)) where
+module _ (P Q : Meaning → Type 0) (F : Format Meaning) (others : Format Meaning) where
   -- a tuple allows what its first part allows, and then what the others do
-  pub tuple-allows : (bytes : List ℕ) → Both (AllowedWord P F) (AllowedWord Q (tuple others)) bytes → AllowedWord (IsThen P Q) (tuple (F ∷ others)) bytes
-  unfolding tuple ◌>>=◌
+  pub tuple-allows : (bytes : List ℕ) → Both (AllowedWord P F) (AllowedWord Q others) bytes → AllowedWord (IsThen P Q) (first_and F others) bytes
+  unfolding first_and ◌>>=◌
   tuple-allows bytes b = record {
     meaning = Then b.3.meaning b.4.meaning;
     is_meant = record { first = b.3.meaning; others = b.4.meaning; meaning_is = refl; is_first = b.3.is_meant; are_others = b.4.is_meant };
-    is_written = record { first = b.0; second = b.1; head = b.3.meaning; bytes_are = b.2; first_written = b.3.is_written; second_written = map-written (Then b.3.meaning) (tuple others) b.1 b.4.meaning b.4.is_written };
+    is_written = record { first = b.0; second = b.1; head = b.3.meaning; bytes_are = b.2; first_written = b.3.is_written; second_written = map-written (Then b.3.meaning) others b.1 b.4.meaning b.4.is_written };
   }
 
-  pub allowed-tuple : (bytes : List ℕ) → AllowedWord (IsThen P Q) (tuple (F ∷ others)) bytes → Both (AllowedWord P F) (AllowedWord Q (tuple others)) bytes
-  unfolding tuple ◌>>=◌
+  pub allowed-tuple : (bytes : List ℕ) → AllowedWord (IsThen P Q) (first_and F others) bytes → Both (AllowedWord P F) (AllowedWord Q others) bytes
+  unfolding first_and ◌>>=◌
   allowed-tuple bytes w =
       let u = w.is_written in
-      let t = written-map (Then u.head) (tuple others) u.second w.meaning u.second_written in
+      let t = written-map (Then u.head) others u.second w.meaning u.second_written in
       let m = w.is_meant in
       let e : Then m.first m.others ≡ Then u.head t.0 = sym m.meaning_is ∙ t.1 in
       let a : m.first ≡ u.head = cc in
       let b : m.others ≡ t.0 = cc in
       let p : AllowedWord P F u.first = record { meaning = u.head; is_meant = subst P a m.is_first; is_written = u.first_written } in
-      let q : AllowedWord Q (tuple others) u.second = record { meaning = t.0; is_meant = subst Q b m.are_others; is_written = t.2 } in
+      let q : AllowedWord Q others u.second = record { meaning = t.0; is_meant = subst Q b m.are_others; is_written = t.2 } in
       (u.first, u.second, u.bytes_are, p, q)
 
 -- the empty tuple allows the empty word
-pub nothing-allows : AllowedWord IsNothing (tuple []) []
-unfolding tuple done
+pub nothing-allows : AllowedWord IsNothing nothing []
+unfolding nothing done
 nothing-allows = record { meaning = Nothing; is_meant = refl; is_written = (refl, refl) }
 
-pub allowed-nothing : (bytes : List ℕ) → AllowedWord IsNothing (tuple []) bytes → bytes ≡ []
-unfolding tuple done
+pub allowed-nothing : (bytes : List ℕ) → AllowedWord IsNothing nothing bytes → bytes ≡ []
+unfolding nothing done
 allowed-nothing bytes w = w.is_written.0
 
 -- a tuple of one allows what its part does
-pub one-allows : (P : Meaning → Type 0) (F : Format Meaning) (bytes : List ℕ) → AllowedWord P F bytes → AllowedWord (IsThen P IsNothing) (tuple (F ∷ [])) bytes
-one-allows P F bytes w = tuple-allows P IsNothing F [] bytes (bytes, [], sym (append-nil bytes), w, nothing-allows)
+pub one-allows : (P : Meaning → Type 0) (F : Format Meaning) (bytes : List ℕ) → AllowedWord P F bytes → AllowedWord (IsThen P IsNothing) (first_and F nothing) bytes
+one-allows P F bytes w = tuple-allows P IsNothing F nothing bytes (bytes, [], sym (append-nil bytes), w, nothing-allows)
 
-pub allowed-one : (P : Meaning → Type 0) (F : Format Meaning) (bytes : List ℕ) → AllowedWord (IsThen P IsNothing) (tuple (F ∷ [])) bytes → AllowedWord P F bytes
+pub allowed-one : (P : Meaning → Type 0) (F : Format Meaning) (bytes : List ℕ) → AllowedWord (IsThen P IsNothing) (first_and F nothing) bytes → AllowedWord P F bytes
 allowed-one P F bytes w =
-    let b = allowed-tuple P IsNothing F [] bytes w in
+    let b = allowed-tuple P IsNothing F nothing bytes w in
     let e : bytes ≡ b.0 = b.2 ∙ ap (λ z. b.0 ++ z) (allowed-nothing b.1 b.4) ∙ append-nil b.0 in
     subst (AllowedWord P F) (sym e) b.3
 
 module _ (P Q : Meaning → Type 0) (F G : Format Meaning) where
   -- a pair allows what its parts allow in turn
-  pub pair-allows : (bytes : List ℕ) → Both (AllowedWord P F) (AllowedWord Q G) bytes → AllowedWord (IsThen P (IsThen Q IsNothing)) (tuple (F ∷ G ∷ [])) bytes
-  pair-allows bytes b = tuple-allows P (IsThen Q IsNothing) F (G ∷ []) bytes (b.0, b.1, b.2, b.3, one-allows Q G b.1 b.4)
+  pub pair-allows : (bytes : List ℕ) → Both (AllowedWord P F) (AllowedWord Q G) bytes → AllowedWord (IsThen P (IsThen Q IsNothing)) (first_and F (first_and G nothing)) bytes
+  pair-allows bytes b = tuple-allows P (IsThen Q IsNothing) F (first_and G nothing) bytes (b.0, b.1, b.2, b.3, one-allows Q G b.1 b.4)
 
-  pub allowed-pair : (bytes : List ℕ) → AllowedWord (IsThen P (IsThen Q IsNothing)) (tuple (F ∷ G ∷ [])) bytes → Both (AllowedWord P F) (AllowedWord Q G) bytes
-  allowed-pair bytes w = let b = allowed-tuple P (IsThen Q IsNothing) F (G ∷ []) bytes w in (b.0, b.1, b.2, b.3, allowed-one Q G b.1 b.4)
+  pub allowed-pair : (bytes : List ℕ) → AllowedWord (IsThen P (IsThen Q IsNothing)) (first_and F (first_and G nothing)) bytes → Both (AllowedWord P F) (AllowedWord Q G) bytes
+  allowed-pair bytes w = let b = allowed-tuple P (IsThen Q IsNothing) F (first_and G nothing) bytes w in (b.0, b.1, b.2, b.3, allowed-one Q G b.1 b.4)
 
 -- two parts of one length each are a whole of one length
 pub both-one_length : (A B : List ℕ → Type 0) → OneLength A → OneLength B → OneLength (Both A B)
@@ -204,11 +204,3 @@ same_integer v w m a b = let e : Number v ≡ Number w = sym a ∙ b in (signed_
 -- truth values of one meaning are equal
 pub same_truth : (v w : Bool) (m : Meaning) → IsTruth v m → IsTruth w m → beq v w ≡ true
 same_truth v w m a b = let e : Truth v ≡ Truth w = sym a ∙ b in (booleans_Decides v w).1 (cc)
-
--- lists of one meaning are equal if their parts are
-pub then_same : (P P' Q Q' : Meaning → Type 0) (x y : Bool) → ((m : Meaning) → P m → P' m → x ≡ true) → ((m : Meaning) → Q m → Q' m → y ≡ true) → (m : Meaning) → IsThen P Q m → IsThen P' Q' m → (x && y) ≡ true
-then_same P P' Q Q' x y f g m p q =
-    let e : Then p.first p.others ≡ Then q.first q.others = sym p.meaning_is ∙ q.meaning_is in
-    let a : p.first ≡ q.first = cc in
-    let b : p.others ≡ q.others = cc in
-    rw (f q.first (subst P a p.is_first) q.is_first, g q.others (subst Q b p.are_others) q.are_others) refl

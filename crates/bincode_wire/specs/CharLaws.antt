@@ -18,6 +18,8 @@ use Rattle.bincode_base.specs.Integers.{byte, first_of}
 use Rattle.bincode_base.specs.IntegerLaws.{byte-lawful, byte-balanced}
 use Rattle.bincode_wire.specs.Meaning.{Meaning, Character, IsCharacter}
 use Rattle.bincode_wire.specs.Allowed.{AllowedWord, NoneShorter}
+use Rattle.bincode_wire.specs.AllowedLaws.{alone-one_length}
+use Rattle.bincode_wire.specs.Forms.{Form}
 use Rattle.bincode_wire.specs.Words.{char_width, code_point, four_bytes, char_of, rest_of_char, behind_char, character}
 
 -- the laws
@@ -297,6 +299,17 @@ character-none_shorter c written bytes m s w h u e =
     let p = allowed-character c written w in
     let q = character-alone c bytes s (subst (λ z. character.Word bytes z s) e u) in
     omega (arith, ap length (p ∙ sym q))
+
+-- the form of characters
+abbrev pub characters : Form ℕ
+characters = record {
+  format = λ s. character;
+  Bounds = IsScalar;
+  means = IsCharacter;
+  lawful = λ s. character-lawful;
+  balanced = λ s. character-balanced;
+  spelled = λ s c h. record { has_word = (encode_utf8 c, character-allows c h); one_length = alone-one_length _ (encode_utf8 c) (allowed-character c); none_shorter = character-none_shorter c };
+}
 
 -- characters of one meaning are equal
 pub same_character : (v w : ℕ) (m : Meaning) → IsCharacter v m → IsCharacter w m → nat_eq v w ≡ true

@@ -1,10 +1,9 @@
 -- What decoding does passes from parts to wholes.
-use Rattle.std.specs.Prelude.{◌≡◌, ◌⊎◌, ℕ, ◌<◌, ◌≤◌, ℤ, pos, Bool, Result, Ok, Err, List, [], ◌∷◌, ◌++◌, Option, Some, None, refl}
+use Rattle.std.specs.Prelude.{◌≡◌, ◌⊎◌, ℕ, ◌<◌, ◌≤◌, Bool, Result, Ok, Err, List, [], ◌++◌, Option, Some, None, refl}
 use Rattle.std.proofs.Common.{sym, ◌∙◌, ap, subst, inl, inr, arith, append_assoc}
-use Rattle.bincode_base.specs.declared.error.IntegerType.{IntegerType}
 use Rattle.bincode_base.specs.declared.error.DecodeError.{DecodeError}
 use Rattle.bincode_base.specs.declared.error.DecodeError.TheVariants.{LimitExceeded}
-use Rattle.bincode_base.specs.Fault.{Fault, Zero, InvalidBool}
+use Rattle.bincode_base.specs.Fault.{Fault, InvalidBool}
 use Rattle.bincode_base.specs.Charge.{Step, Charge}
 use Rattle.bincode_base.specs.Device.{Rose, Takes}
 use Rattle.bincode_base.specs.Reads as reads
@@ -12,9 +11,9 @@ use Rattle.bincode_base.specs.Reads.{Misreads}
 use Rattle.bincode_base.specs.Format.{Format, Reading, Took, Failed, done, step, ◌>>=◌, settled, map_format, charged}
 use Rattle.bincode_base.specs.Laws.{Lawful}
 use Rattle.bincode_base.specs.Integers.{unsigned_byte}
-use Rattle.bincode_wire.specs.Meaning.{Meaning, Truth, Number, Nothing, Then, IsTruth, IsNumber, IsNothing, IsThen}
-use Rattle.bincode_wire.specs.Words.{natural, integral, not_zero_of, not_zero_by, truth_of, truth_byte, truth, tuple}
-use Rattle.bincode_wire.specs.WordsLaws.{not_zero-passes, zero-fails, truth_byte-passes, truth-fails}
+use Rattle.bincode_wire.specs.Meaning.{Meaning, Truth, Nothing, Then, IsTruth, IsNothing, IsThen}
+use Rattle.bincode_wire.specs.Words.{truth_of, truth_byte, truth, nothing, first_and}
+use Rattle.bincode_wire.specs.WordsLaws.{truth_byte-passes, truth-fails}
 use Rattle.bincode_wire.specs.Answer.{Answer, Gave, Refused, PassedLimit, answer, and_then, weighed, gave_at, refused_at, charge_behind, Claimed, OverClaimed}
 use Rattle.bincode_wire.specs.AnswerLaws.{answer-then, answer-took, answer-failed, answer-done, answer-refused, answer-charge, answer-charge_passed}
 use Rattle.bincode_wire.specs.Decoding.{Decodes, Stops, by_fault, by_limit, by_memory, by_failure, by_device}
@@ -120,15 +119,6 @@ module _ {A B : Type 0} (test : A → Result B Fault) (limit : Option ℕ) (F : 
   pub settled-refused : (why : Fault) → answer limit F input c ≡ Gave a rest d → test a ≡ Err why → answer limit (F >>= λ x. settled (test x)) input c ≡ Refused why
   settled-refused why e h = answer-next limit F (λ x. settled (test x)) input c a rest d e ∙ rw h (answer-refused {A = B} limit why rest d)
 
-module _ {A : Type 0} (size : A → ℕ) (name : IntegerType) (limit : Option ℕ) (F : Format A) (input : List ℕ) (c : ℕ) (a : A) (rest : List ℕ) (d : ℕ) where
-  -- a number other than 0 is given as it is
-  pub not_zero-decodes : answer limit F input c ≡ Gave a rest d → 0 < size a → answer limit (not_zero_by size name F) input c ≡ Gave a rest d
-  not_zero-decodes e h = settled-gave (λ x. not_zero_of name (size x) x) limit F input c a rest d a e (not_zero-passes name (size a) a h)
-
-  -- 0 is refused
-  pub not_zero-refuses : answer limit F input c ≡ Gave a rest d → size a ≡ 0 → answer limit (not_zero_by size name F) input c ≡ Refused (Zero name)
-  not_zero-refuses e h = settled-refused (λ x. not_zero_of name (size x) x) limit F input c a rest d (Zero name) e (zero-fails name (size a) a h)
-
 module _ (limit : Option ℕ) (input : List ℕ) (c b : ℕ) (rest : List ℕ) (d : ℕ) where
   -- a truth value is given for its byte
   pub truth-decodes : (v : Bool) → answer limit unsigned_byte input c ≡ Gave b rest d → b ≡ truth_byte v → Decodes (IsTruth v) (answer limit truth input c) rest d
@@ -138,20 +128,13 @@ module _ (limit : Option ℕ) (input : List ℕ) (c b : ℕ) (rest : List ℕ) (
   pub truth-refuses : answer limit unsigned_byte input c ≡ Gave b rest d → 1 < b → answer limit truth input c ≡ Refused (InvalidBool b)
   truth-refuses e h = settled-refused truth_of limit unsigned_byte input c b rest d (InvalidBool b) e (truth-fails b h)
 
--- a number is given for its meaning
-pub natural-decodes : (limit : Option ℕ) (F : Format ℕ) (input : List ℕ) (c n v : ℕ) (rest : List ℕ) (d : ℕ) → answer limit F input c ≡ Gave n rest d → v ≡ n → Decodes (IsNumber (pos v)) (answer limit (natural F) input c) rest d
-natural-decodes limit F input c n v rest d e same = record { meaning = Number (pos n); answer_is = map-gave (λ k. Number (pos k)) limit F input c n rest d e; is_given = ap (λ k. Number (pos k)) (sym same) }
-
-pub integral-decodes : (limit : Option ℕ) (F : Format ℤ) (input : List ℕ) (c : ℕ) (z v : ℤ) (rest : List ℕ) (d : ℕ) → answer limit F input c ≡ Gave z rest d → v ≡ z → Decodes (IsNumber v) (answer limit (integral F) input c) rest d
-integral-decodes limit F input c z v rest d e same = record { meaning = Number z; answer_is = map-gave Number limit F input c z rest d e; is_given = ap Number (sym same) }
-
-module _ (limit : Option ℕ) (F : Format Meaning) (others : List (Format Meaning)) (input : List ℕ) (c : ℕ) where
+module _ (limit : Option ℕ) (F : Format Meaning) (others : Format Meaning) (input : List ℕ) (c : ℕ) where
   -- the first part of a tuple, and then the others
-  pub tuple-gave : (a b : Meaning) (middle rest : List ℕ) (d after : ℕ) → answer limit F input c ≡ Gave a middle d → answer limit (tuple others) middle d ≡ Gave b rest after → answer limit (tuple (F ∷ others)) input c ≡ Gave (Then a b) rest after
-  unfolding tuple
-  tuple-gave a b middle rest d after e k = answer-next limit F (λ m. map_format (Then m) (tuple others)) input c a middle d e ∙ map-gave (Then a) limit (tuple others) middle d b rest after k
+  pub tuple-gave : (a b : Meaning) (middle rest : List ℕ) (d after : ℕ) → answer limit F input c ≡ Gave a middle d → answer limit others middle d ≡ Gave b rest after → answer limit (first_and F others) input c ≡ Gave (Then a b) rest after
+  unfolding first_and
+  tuple-gave a b middle rest d after e k = answer-next limit F (λ m. map_format (Then m) others) input c a middle d e ∙ map-gave (Then a) limit others middle d b rest after k
 
-  pub tuple-decodes : (P Q : Meaning → Type 0) (middle rest : List ℕ) (d after : ℕ) → Decodes P (answer limit F input c) middle d → Decodes Q (answer limit (tuple others) middle d) rest after → Decodes (IsThen P Q) (answer limit (tuple (F ∷ others)) input c) rest after
+  pub tuple-decodes : (P Q : Meaning → Type 0) (middle rest : List ℕ) (d after : ℕ) → Decodes P (answer limit F input c) middle d → Decodes Q (answer limit others middle d) rest after → Decodes (IsThen P Q) (answer limit (first_and F others) input c) rest after
   tuple-decodes P Q middle rest d after p q = record {
     meaning = Then p.meaning q.meaning;
     answer_is = tuple-gave p.meaning q.meaning middle rest d after p.answer_is q.answer_is;
@@ -159,25 +142,17 @@ module _ (limit : Option ℕ) (F : Format Meaning) (others : List (Format Meanin
   }
 
   module _ (ended : ℕ → DecodeError → Type 0) (device : DecodeError → Type 0) (H K : Type 0) where
-    pub tuple-stops_first : (before after : ℕ) (rest : List ℕ) (e : DecodeError) → Stops ended device H (answer limit F input c) before after input rest e → Stops ended device (H ⊎ K) (answer limit (tuple (F ∷ others)) input c) before after input rest e
-    unfolding tuple
-    tuple-stops_first before after rest e = stops-first ended device H (H ⊎ K) inl limit F (λ m. map_format (Then m) (tuple others)) input c before after rest e
+    pub tuple-stops_first : (before after : ℕ) (rest : List ℕ) (e : DecodeError) → Stops ended device H (answer limit F input c) before after input rest e → Stops ended device (H ⊎ K) (answer limit (first_and F others) input c) before after input rest e
+    unfolding first_and
+    tuple-stops_first before after rest e = stops-first ended device H (H ⊎ K) inl limit F (λ m. map_format (Then m) others) input c before after rest e
 
-    pub tuple-stops_next : Lawful F → (P : Meaning → Type 0) (middle rest : List ℕ) (d before between after : ℕ) (e : DecodeError) → Decodes P (answer limit F input c) middle d → before ≤ between → Stops ended device K (answer limit (tuple others) middle d) between after middle rest e → Stops ended device (H ⊎ K) (answer limit (tuple (F ∷ others)) input c) before after input rest e
-    unfolding tuple
+    pub tuple-stops_next : Lawful F → (P : Meaning → Type 0) (middle rest : List ℕ) (d before between after : ℕ) (e : DecodeError) → Decodes P (answer limit F input c) middle d → before ≤ between → Stops ended device K (answer limit others middle d) between after middle rest e → Stops ended device (H ⊎ K) (answer limit (first_and F others) input c) before after input rest e
+    unfolding first_and
     tuple-stops_next f P middle rest d before between after e p le s =
-        stops-next ended device K (H ⊎ K) inr limit F (λ m. map_format (Then m) (tuple others)) f input c before between after p.meaning middle rest d e p.answer_is le
-        (map-stops (Then p.meaning) ended device K limit (tuple others) middle d between after rest e s)
+        stops-next ended device K (H ⊎ K) inr limit F (λ m. map_format (Then m) others) f input c before between after p.meaning middle rest d e p.answer_is le
+        (map-stops (Then p.meaning) ended device K limit others middle d between after rest e s)
 
 -- the empty tuple
-pub nothing-decodes : (limit : Option ℕ) (input : List ℕ) (c : ℕ) → Decodes IsNothing (answer limit (tuple []) input c) input c
-unfolding tuple
+pub nothing-decodes : (limit : Option ℕ) (input : List ℕ) (c : ℕ) → Decodes IsNothing (answer limit nothing input c) input c
+unfolding nothing
 nothing-decodes limit input c = record { meaning = Nothing; answer_is = answer-done limit Nothing input c; is_given = refl }
-
--- a tuple of one part
-pub one-decodes : (limit : Option ℕ) (F : Format Meaning) (input : List ℕ) (c : ℕ) (P : Meaning → Type 0) (rest : List ℕ) (d : ℕ) → Decodes P (answer limit F input c) rest d → Decodes (IsThen P IsNothing) (answer limit (tuple (F ∷ [])) input c) rest d
-one-decodes limit F input c P rest d p = tuple-decodes limit F [] input c P IsNothing rest rest d d p (nothing-decodes limit rest d)
-
-pub one-stops : (limit : Option ℕ) (F : Format Meaning) (input : List ℕ) (c : ℕ) (ended : ℕ → DecodeError → Type 0) (device : DecodeError → Type 0) (H : Type 0) (before after : ℕ) (rest : List ℕ) (e : DecodeError) → Stops ended device H (answer limit F input c) before after input rest e → Stops ended device H (answer limit (tuple (F ∷ [])) input c) before after input rest e
-unfolding tuple
-one-stops limit F input c ended device H before after rest e = stops-first ended device H H (λ h. h) limit F (λ m. map_format (Then m) (tuple [])) input c before after rest e

@@ -1,6 +1,6 @@
 -- Spans of time keep the laws, and the words that they allow.
-use Rattle.std.specs.Prelude.{◌≡◌, ℕ, ◌+◌, ◌/◌, ◌%◌, ◌<◌, ◌≤◌, ◌^◌, nat_lt, if◌then◌else◌, pos, Bool, true, false, Result, Ok, Err, List, [], ◌∷◌, refl}
-use Rattle.std.proofs.Common.{sym, ◌∙◌, ap, subst, arith}
+use Rattle.std.specs.Prelude.{◌≡◌, ℕ, ◌+◌, ◌/◌, ◌%◌, ◌<◌, ◌≤◌, ◌^◌, nat_lt, nat_eq, if◌then◌else◌, ◌&&◌, pos, Bool, true, false, Result, Ok, Err, List, [], ◌∷◌, refl}
+use Rattle.std.proofs.Common.{sym, ◌∙◌, ap, subst, arith, eq-eqb}
 use Rattle.std.proofs.lemmas.Bool.{lt-ltb, le-ltb}
 use Rattle.bincode_base.specs.declared.error.IntegerType.TheVariants as integers
 use Rattle.bincode_base.specs.Setting.{Setting}
@@ -53,6 +53,14 @@ is_span : (seconds nanos : ℕ) (m : Meaning) → IsSpan seconds nanos m → m �
 is_span seconds nanos m h =
     let k = h.are_others in
     cc (h.meaning_is, h.is_first, k.meaning_is, k.is_first, k.are_others)
+
+-- spans of one meaning are equal
+pub span_same : (a b c d : ℕ) (m : Meaning) → IsSpan a b m → IsSpan c d m → (nat_eq a c && nat_eq b d) ≡ true
+span_same a b c d m p q =
+    let e : span a b ≡ span c d = sym (is_span a b m p) ∙ is_span c d m q in
+    let h : a ≡ c = cc in
+    let k : b ≡ d = cc in
+    rw (eq-eqb a c h, eq-eqb b d k) refl
 
 module _ (seconds nanos : ℕ) where
   -- whole seconds are carried

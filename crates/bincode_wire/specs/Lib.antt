@@ -6,6 +6,7 @@ pub mod AnswerLaws
 pub mod Allowed
 pub mod AllowedLaws
 pub mod SpelledLaws
+pub mod Forms
 pub mod Decoding
 pub mod DecodingLaws
 pub mod Rows
@@ -13,6 +14,7 @@ pub mod CharLaws
 pub mod CharDecodingLaws
 pub mod Spans
 pub mod DurationLaws
+pub mod Promises
 pub mod Cells
 pub mod CellLaws
 pub mod Choices

@@ -7,12 +7,12 @@ use Rattle.bincode_base.specs.declared.config.IntEncoding.TheVariants.{Fixed, Va
 use Rattle.bincode_base.specs.declared.error.IntegerType.TheVariants.{U16, U32, U64, U128, I16, I32, I64, I128, Isize, Reserved}
 use Rattle.bincode_base.specs.Setting.{Setting}
 use Rattle.bincode_base.specs.Number.{digits_of, zigzag}
-use Rattle.bincode_base.specs.Fault.{End, InvalidInteger, Zero, UnexpectedVariant, Between, Utf8, InvalidChar, InvalidBool, InvalidDuration, NulAt}
+use Rattle.bincode_base.specs.Fault.{End, InvalidInteger, Zero, UnexpectedVariant, Between, OneOf, Utf8, InvalidChar, InvalidBool, InvalidDuration, NulAt}
 use Rattle.bincode_base.specs.Charge.{Charge, Reserve, Release}
 use Rattle.bincode_base.specs.Format.{Format, Took, Failed, done, refused, step, raw, ◌>>=◌, written_as, unsure}
 use Rattle.bincode_base.specs.Integers.{digits, byte, varint, unsigned, signed, unsigned_byte, signed_byte, number_for, shortest}
 use Rattle.bincode_wire.specs.Meaning.{Meaning, Truth, Number, Character, Bytes, Nothing, Choice, listed}
-use Rattle.bincode_wire.specs.Words.{natural, integral, not_zero, not_zero_integer, truth, chosen, optional, either, bound, tuple, array, list, text, without_nul, character, duration}
+use Rattle.bincode_wire.specs.Words.{natural, integral, not_zero, not_zero_integer, truth, chosen, tag, nothing, first_and, tuple, array, list, text, without_nul, character, duration}
 
 -- what is computed, and what docs/FORMAT.md expects
 record Row (A : Type 0) : Type 0 where
@@ -73,6 +73,19 @@ i64 setting = integral (signed I64 8 setting)
 
 abbrev i128 : Setting → Format Meaning
 i128 setting = integral (signed I128 16 setting)
+
+-- an `Option`, a `Result`, a `Bound` and a choice of other tags
+abbrev optional : Format Meaning → Format Meaning
+optional F = chosen (λ s. unsigned_byte) ((0, λ s. nothing) ∷ (1, λ s. F) ∷ []) standard
+
+abbrev either : Setting → Format Meaning → Format Meaning → Format Meaning
+either setting F G = chosen tag ((0, λ s. F) ∷ (1, λ s. G) ∷ []) setting
+
+abbrev bound : Setting → Format Meaning → Format Meaning
+bound setting F = chosen tag ((0, λ s. nothing) ∷ (1, λ s. F) ∷ (2, λ s. F) ∷ []) setting
+
+abbrev of_far_tags : Format Meaning → Format Meaning
+of_far_tags F = chosen tag ((1, λ s. nothing) ∷ (5, λ s. F) ∷ (300, λ s. F) ∷ []) standard
 
 -- a number from 0 on
 abbrev number : ℕ → Meaning
@@ -156,6 +169,9 @@ whole-rows : AllHold (
     (either standard u8 u8).read (2 ∷ []) gives Failed (UnexpectedVariant (Between 0 1) 2) (Charge 4 ∷ []) ∷
     (bound standard u8).read (2 ∷ 7 ∷ []) gives Took (Choice 2 (number 7)) [] (Charge 4 ∷ Charge 1 ∷ []) ∷
     (bound standard u8).read (3 ∷ []) gives Failed (UnexpectedVariant (Between 0 2) 3) (Charge 4 ∷ []) ∷
+    (of_far_tags u8).read (5 ∷ 7 ∷ []) gives Took (Choice 5 (number 7)) [] (Charge 4 ∷ Charge 1 ∷ []) ∷
+    (of_far_tags u8).read (251 ∷ 44 ∷ 1 ∷ 7 ∷ []) gives Took (Choice 300 (number 7)) [] (Charge 4 ∷ Charge 1 ∷ []) ∷
+    (of_far_tags u8).read (2 ∷ []) gives Failed (UnexpectedVariant (OneOf (1 ∷ 5 ∷ 300 ∷ [])) 2) (Charge 4 ∷ []) ∷
     -- lists
     (list standard 24 (list standard 1 u8)).read (1 ∷ 2 ∷ 7 ∷ 8 ∷ [])
     gives Took (listed (listed (number 7 ∷ number 8 ∷ []) ∷ [])) [] (Charge 8 ∷ Reserve 24 ∷ Release 24 ∷ Charge 8 ∷ Reserve 2 ∷ Release 1 ∷ Charge 1 ∷ Release 1 ∷ Charge 1 ∷ []) ∷
@@ -171,7 +187,7 @@ whole-rows : AllHold (
     (duration standard).read (253 ∷ 0 ∷ 0 ∷ 0 ∷ 0 ∷ 1 ∷ 0 ∷ 0 ∷ 0 ∷ 251 ∷ 44 ∷ 1 ∷ []) gives Took (listed (number 4294967296 ∷ number 300 ∷ [])) [] (Charge 8 ∷ Charge 4 ∷ []) ∷
     (duration standard).read (253 ∷ replicate 8 255 ++ 252 ∷ 0 ∷ 202 ∷ 154 ∷ 59 ∷ []) gives Failed (InvalidDuration 18446744073709551615 1000000000) (Charge 8 ∷ Charge 4 ∷ []) ∷
     [])
-unfolding done refused raw ◌>>=◌ written_as unsure step digits byte varint unsigned unsigned_byte signed is_utf8 chars encode tuple chosen
+unfolding done refused raw ◌>>=◌ written_as unsure step digits byte varint unsigned unsigned_byte signed is_utf8 chars encode nothing first_and chosen
 whole-rows = refl
 
 -- texts and characters

@@ -10,7 +10,8 @@ use Rattle.bincode_base.specs.Format.{Format, done, step, ◌>>=◌, unsure, map
 use Rattle.bincode_wire.specs.Meaning.{Meaning, Nothing, Then, listed}
 use Rattle.bincode_wire.specs.Words.{array}
 use Rattle.bincode_wire.specs.Allowed.{AllowedWord, OneLength, NoneShorter, Both}
-use Rattle.bincode_wire.specs.AllowedLaws.{map-written, written-map, both-one_length, then_same}
+use Rattle.bincode_wire.specs.AllowedLaws.{map-written, written-map, both-one_length}
+use Rattle.bincode_wire.specs.TupleLaws.{then-same}
 use Rattle.bincode_wire.specs.SpelledLaws.{word-settled, parts-no_longer}
 use Rattle.bincode_wire.specs.Run.{IsListOf, AllowsEach}
 
@@ -126,4 +127,4 @@ run_same Is Is' P Q same f [] [] h k m i j = refl
 run_same Is Is' P Q same f [] (w ∷ ws) h k m i j = let e : Nothing ≡ Then j.first j.others = sym i ∙ j.meaning_is in absurd (cc)
 run_same Is Is' P Q same f (v ∷ vs) [] h k m i j = let e : Nothing ≡ Then i.first i.others = sym j ∙ i.meaning_is in absurd (cc)
 run_same Is Is' P Q same f (v ∷ vs) (w ∷ ws) h k m i j =
-    then_same (Is v) (Is' w) (IsListOf Is vs) (IsListOf Is' ws) (same v w) (pointwise same vs ws) (λ n. f v w n (All-head P v vs h) (All-head Q w ws k)) (run_same Is Is' P Q same f vs ws (All-tail P v vs h) (All-tail Q w ws k)) m i j
+    then-same (λ n. f v w n (All-head P v vs h) (All-head Q w ws k)) (run_same Is Is' P Q same f vs ws (All-tail P v vs h) (All-tail Q w ws k)) m i j

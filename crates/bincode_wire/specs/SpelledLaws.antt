@@ -1,5 +1,5 @@
 -- Numbers and truth values are spelled: their words have one length, and none is shorter. Tuples are, if their parts are.
-use Rattle.std.specs.Prelude.{◌≡◌, ℕ, ◌<◌, ◌≤◌, ◌^◌, ℤ, pos, unsigned_abs, FitsSigned, Bool, Result, Ok, Err, List, [], ◌∷◌, ◌++◌, length, refl}
+use Rattle.std.specs.Prelude.{◌≡◌, ℕ, ◌<◌, ◌≤◌, ◌^◌, ℤ, pos, FitsSigned, Bool, Result, Ok, Err, List, [], ◌∷◌, ◌++◌, length, refl}
 use Rattle.std.specs.List.{All}
 use Rattle.std.specs.Int.{Width, w8}
 use Rattle.std.proofs.Common.{sym, ◌∙◌, ap, subst, arith, append-nil, length-append}
@@ -15,11 +15,11 @@ use Rattle.bincode_base.specs.Laws.{Lawful}
 use Rattle.bincode_base.specs.FormatLaws.{one_word, map-lawful}
 use Rattle.bincode_base.specs.Integers.{number_for, unsigned, signed, unsigned_byte, signed_byte, spelling}
 use Rattle.bincode_base.specs.IntegerLaws.{IsWidth, width_in_bytes, FitsIn-from_signed, unsigned-least, signed-least, unsigned_byte-lawful, signed_byte-lawful}
-use Rattle.bincode_wire.specs.Meaning.{Meaning, Number, Then, IsTruth, IsNumber, IsNothing, IsThen}
-use Rattle.bincode_wire.specs.Words.{natural, integral, not_zero_of, not_zero_by, not_zero, not_zero_integer, truth_byte, truth, tuple}
+use Rattle.bincode_wire.specs.Meaning.{Meaning, Number, IsTruth, IsNumber, IsNothing}
+use Rattle.bincode_wire.specs.Words.{natural, integral, not_zero_of, not_zero_by, truth_byte, truth, nothing}
 use Rattle.bincode_wire.specs.WordsLaws.{not_zero-passed, truth-lawful}
 use Rattle.bincode_wire.specs.Allowed.{AllowedWord, NoneShorter, Spelled}
-use Rattle.bincode_wire.specs.AllowedLaws.{one_natural, allowed-number, unsigned-allows, allowed-unsigned, byte-allows, allowed-byte, signed-allows, allowed-signed, signed_byte-allows, allowed-signed_byte, truth-allows, allowed-truth, not_zero-allows, allowed-not_zero, alone-one_length, same-one_length, allowed-tuple, allowed-nothing}
+use Rattle.bincode_wire.specs.AllowedLaws.{one_natural, allowed-number, unsigned-allows, allowed-unsigned, byte-allows, allowed-byte, signed-allows, allowed-signed, signed_byte-allows, allowed-signed_byte, truth-allows, allowed-truth, not_zero-allows, allowed-not_zero, alone-one_length, same-one_length, allowed-nothing}
 
 -- words behind a test of their meanings
 
@@ -109,12 +109,6 @@ module _ {A : Type 0} (integer : A → ℤ) (one : (a b : A) → integer a ≡ i
     none_shorter = λ written bytes m s w b u e. let t = word_not_zero bytes m s u in p.none_shorter written bytes m t.0 (allowed-not_zero integer one size name F written a w) b t.1 e;
   }
 
-pub not_zero-spelled : (name : IntegerType) (F : Format ℕ) (n : ℕ) → 0 < n → Spelled (IsNumber (pos n)) (natural F) → Spelled (IsNumber (pos n)) (natural (not_zero name F))
-not_zero-spelled = number-not_zero pos one_natural (λ n. n)
-
-pub not_zero_integer-spelled : (name : IntegerType) (F : Format ℤ) (z : ℤ) → 0 < unsigned_abs z → Spelled (IsNumber z) (integral F) → Spelled (IsNumber z) (integral (not_zero_integer name F))
-not_zero_integer-spelled = number-not_zero (λ z. z) (λ a b e. e) unsigned_abs
-
 -- tuples
 
 -- bytes in two parts are no fewer, if those of each part are no fewer
@@ -126,18 +120,5 @@ parts-no_longer written bytes x y v w d e h f g =
     let r = g (subst (All (λ b. b < 256)) (drop-append_seam v w) (All-drop (λ b. b < 256) (length v) (v ++ w) below)) in
     omega (arith, l, r, ap length d, length-append x y, ap length e, length-append v w)
 
--- no word of a tuple is shorter, if none of its first part is and none of the others
-pub then-none_shorter : {P Q : Meaning → Type 0} {F : Format Meaning} (others : List (Format Meaning)) → NoneShorter P F → NoneShorter Q (tuple others) → NoneShorter (IsThen P Q) (tuple (F ∷ others))
-unfolding tuple ◌>>=◌
-then-none_shorter {P} {Q} {F} others f g written bytes m s w h u e =
-    let b = allowed-tuple P Q F others written w in
-    let t = word-settled (λ k. Ok (Then u.head k)) (tuple others) u.second m u.second_steps u.second_word in
-    let i : ◌≡◌ {A = Result Meaning Fault} (Ok (Then u.head t.0)) (Ok (Then e.first e.others)) = t.2 ∙ ap Ok e.meaning_is in
-    let j : e.first ≡ u.head = cc in
-    let k : e.others ≡ t.0 = cc in
-    parts-no_longer written bytes b.0 b.1 u.first u.second b.2 u.bytes_are h
-    (λ below. f b.0 u.first u.head u.first_steps b.3 below u.first_word (subst P j e.is_first))
-    (λ below. g b.1 u.second t.0 t.1 b.4 below t.3 (subst Q k e.are_others))
-
-pub nothing-none_shorter : NoneShorter IsNothing (tuple [])
+pub nothing-none_shorter : NoneShorter IsNothing nothing
 nothing-none_shorter written bytes m s w h u e = omega (arith, ap length (allowed-nothing written w))

@@ -1,10 +1,10 @@
 -- The formats of the types, row by row.
-use Rattle.std.specs.Prelude.{◌≡◌, ℕ, zero, suc, ◌+◌, ◌-◌, ◌*◌, ◌<◌, ◌/◌, ◌%◌, ◌^◌, nat_lt, ◌==◌, if◌then◌else◌, ℤ, pos, unsigned_abs, Bool, true, false, List, [], ◌∷◌, ◌++◌, take, min, sum, Result, Ok, Err, Option, Some, None, position}
+use Rattle.std.specs.Prelude.{◌≡◌, ℕ, ◌+◌, ◌-◌, ◌*◌, ◌<◌, ◌/◌, ◌%◌, ◌^◌, nat_lt, ◌==◌, if◌then◌else◌, ℤ, pos, unsigned_abs, ◌&&◌, Bool, true, false, List, [], ◌∷◌, ◌++◌, take, Result, Ok, Err, Option, Some, None, position}
 use Rattle.std.specs.Str.{is_utf8}
 use Rattle.bincode_base.specs.declared.error.IntegerType.{IntegerType}
 use Rattle.bincode_base.specs.declared.error.IntegerType.TheVariants as integers
 use Rattle.bincode_base.specs.Setting.{Setting}
-use Rattle.bincode_base.specs.Fault.{Fault, Zero, UnexpectedVariant, Utf8, InvalidChar, InvalidBool, InvalidDuration, NulAt, Between}
+use Rattle.bincode_base.specs.Fault.{Fault, Zero, UnexpectedVariant, Utf8, InvalidChar, InvalidBool, InvalidDuration, NulAt, Allowed, Between, OneOf}
 use Rattle.bincode_base.specs.Format.{Format, done, refused, raw, ◌>>=◌, settled, map_format, written_as, charged, sequence}
 use Rattle.bincode_base.specs.Integers.{byte, unsigned, unsigned_byte}
 use Rattle.bincode_wire.specs.Meaning.{Meaning, Truth, Number, Character, Bytes, Nothing, Then, Choice, listed}
@@ -39,14 +39,21 @@ len = unsigned integers.U64 8
 abbrev pub tag : Setting → Format ℕ
 tag = unsigned integers.U32 4
 
--- parts in order
-unfoldable pub tuple : List (Format Meaning) → Format Meaning
-tuple [] = done Nothing
-tuple (F ∷ others) = F >>= λ m. map_format (Then m) (tuple others)
+-- no part, and a first part with the others
+unfoldable pub nothing : Format Meaning
+nothing = done Nothing
 
--- what the parts claim, at most the greatest `usize`
-abbrev pub saturated_sum : List ℕ → ℕ
-saturated_sum claims = min (sum claims) (2 ^ 64 - 1)
+unfoldable pub first_and : Format Meaning → Format Meaning → Format Meaning
+first_and F others = F >>= λ m. map_format (Then m) others
+
+-- four parts with the others
+abbrev pub four_and : Format Meaning → Format Meaning → Format Meaning → Format Meaning → Format Meaning → Format Meaning
+four_and F G H I others = first_and F (first_and G (first_and H (first_and I others)))
+
+-- parts in order
+abbrev pub tuple : List (Format Meaning) → Format Meaning
+tuple [] = nothing
+tuple (F ∷ others) = first_and F (tuple others)
 
 -- truth values and choices
 
@@ -60,24 +67,44 @@ truth_byte v = if v then 1 else 0
 abbrev pub truth : Format Meaning
 truth = unsigned_byte >>= λ b. settled (truth_of b)
 
--- the tag picks the part; `last` is the last tag
-abbrev pub part : List (Format Meaning) → ℕ → ℕ → ℕ → Format Meaning
-part [] last found place = refused (UnexpectedVariant (Between 0 last) found)
-part (F ∷ others) last found zero = map_format (Choice found) F
-part (F ∷ others) last found (suc place) = part others last found place
+-- a variant of a choice: its tag, and what is written for its part
+abbrev pub Variant : Type 1
+Variant = ℕ × (Setting → Format Meaning)
+
+abbrev pub tags_of : List Variant → List ℕ
+tags_of [] = []
+tags_of (variant ∷ others) = variant.0 ∷ tags_of others
+
+-- the tags stand in order, each one above that before it
+abbrev pub in_order : ℕ → List ℕ → Bool
+in_order next [] = true
+in_order next (tag ∷ tags) = (tag == next) && in_order (next + 1) tags
+
+abbrev pub last_of : ℕ → List ℕ → ℕ
+last_of before [] = before
+last_of before (tag ∷ tags) = last_of tag tags
+
+-- how a fault tells the tags: by the last one if they stand in order from 0
+abbrev pub allowed_tags : List ℕ → Allowed
+allowed_tags tags = if in_order 0 tags then Between 0 (last_of 0 tags) else OneOf tags
+
+-- one part where it is picked, and another where not
+abbrev pub if_picked : Bool → Format Meaning → Format Meaning → Format Meaning
+if_picked true F others = F
+if_picked false F others = others
+
+-- the part of the first variant that has the tag
+abbrev pub part : Setting → List Variant → Allowed → ℕ → Format Meaning
+part setting [] allowed found = refused (UnexpectedVariant allowed found)
+part setting (variant ∷ others) allowed found = if_picked (found == variant.0) (map_format (Choice found) (variant.1 setting)) (part setting others allowed found)
+
+-- what follows a tag
+abbrev pub behind_tag : List Variant → Setting → ℕ → Format Meaning
+behind_tag variants setting found = part setting variants (allowed_tags (tags_of variants)) found
 
 -- the tag, and then the part that it picks
-unfoldable pub chosen : Format ℕ → List (Format Meaning) → ℕ → Format Meaning
-chosen tags formats last = tags >>= λ found. part formats last found found
-
-abbrev pub optional : Format Meaning → Format Meaning
-optional F = chosen unsigned_byte (tuple [] ∷ F ∷ []) 1
-
-abbrev pub either : Setting → Format Meaning → Format Meaning → Format Meaning
-either setting F G = chosen (tag setting) (F ∷ G ∷ []) 1
-
-abbrev pub bound : Setting → Format Meaning → Format Meaning
-bound setting F = chosen (tag setting) (tuple [] ∷ F ∷ F ∷ []) 2
+unfoldable pub chosen : (Setting → Format ℕ) → List Variant → Setting → Format Meaning
+chosen tags variants setting = tags setting >>= behind_tag variants setting
 
 -- elements, each with its share of the room
 abbrev pub array : ℕ → ℕ → Format Meaning → Format Meaning

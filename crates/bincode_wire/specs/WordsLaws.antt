@@ -1,17 +1,17 @@
 -- The formats of the types keep the laws, and the balance of their steps.
-use Rattle.std.specs.Prelude.{◌≡◌, ◌<◌, ℕ, zero, suc, ◌==◌, if◌then◌else◌, Bool, true, false, Result, Ok, Err, List, [], ◌∷◌, refl}
+use Rattle.std.specs.Prelude.{◌≡◌, ◌<◌, ℕ, ◌==◌, if◌then◌else◌, Bool, true, false, Result, Ok, Err, refl}
 use Rattle.std.proofs.Common.{◌∙◌, ap, arith}
 use Rattle.std.proofs.lemmas.Bool.{eq-eqb, ne_eqb, eqb-true}
 use Rattle.bincode_base.specs.declared.error.IntegerType.{IntegerType}
-use Rattle.bincode_base.specs.Fault.{Fault, Zero, UnexpectedVariant, InvalidBool, Between}
+use Rattle.bincode_base.specs.Fault.{Fault, Zero, InvalidBool}
 use Rattle.bincode_base.specs.Format.{Format, sequence}
 use Rattle.bincode_base.specs.Laws.{Lawful, Balanced}
-use Rattle.bincode_base.specs.FormatLaws.{refused-lawful, Settles, test-lawful, map-lawful, sequence-lawful}
-use Rattle.bincode_base.specs.Balance.{refused-holds, test-balanced, map-balanced, sequence-balanced}
+use Rattle.bincode_base.specs.FormatLaws.{Settles, test-lawful, map-lawful, sequence-lawful}
+use Rattle.bincode_base.specs.Balance.{test-balanced, map-balanced, sequence-balanced}
 use Rattle.bincode_base.specs.IntegerLaws.{unsigned_byte-lawful, unsigned_byte-balanced}
 use Rattle.bincode_base.specs.Integers.{unsigned_byte}
-use Rattle.bincode_wire.specs.Meaning.{Meaning, Truth, Choice, listed}
-use Rattle.bincode_wire.specs.Words.{not_zero_of, not_zero_by, truth_of, truth_byte, truth, part, array}
+use Rattle.bincode_wire.specs.Meaning.{Meaning, Truth, listed}
+use Rattle.bincode_wire.specs.Words.{not_zero_of, not_zero_by, truth_of, truth_byte, truth, array}
 
 -- what is not 0 passes the test as it is
 module _ {A : Type 0} (name : IntegerType) (size : ℕ) (a : A) where
@@ -73,26 +73,6 @@ truth-lawful = test-lawful unsigned_byte truth_of unsigned_byte-lawful (λ b. tr
 
 pub truth-balanced : Balanced truth
 truth-balanced = test-balanced unsigned_byte truth_of unsigned_byte-balanced
-
--- each of these formats keeps the laws
-abbrev pub AllLawful : List (Format Meaning) → Type 0
-AllLawful [] = Unit {0}
-AllLawful (F ∷ others) = Lawful F × AllLawful others
-
--- each of these formats is balanced
-abbrev pub AllBalanced : List (Format Meaning) → Type 0
-AllBalanced [] = Unit {0}
-AllBalanced (F ∷ others) = Balanced F × AllBalanced others
-
-pub part-lawful : (formats : List (Format Meaning)) (last found place : ℕ) → AllLawful formats → Lawful (part formats last found place)
-part-lawful [] last found place h = refused-lawful (UnexpectedVariant (Between 0 last) found) (λ h. h)
-part-lawful (F ∷ others) last found zero h = map-lawful (Choice found) F h.0
-part-lawful (F ∷ others) last found (suc place) h = part-lawful others last found place h.1
-
-pub part-balanced : (formats : List (Format Meaning)) (last found place : ℕ) → AllBalanced formats → Balanced (part formats last found place)
-part-balanced [] last found place h = refused-holds 0 0 (UnexpectedVariant (Between 0 last) found)
-part-balanced (F ∷ others) last found zero h = map-balanced (Choice found) F h.0
-part-balanced (F ∷ others) last found (suc place) h = part-balanced others last found place h.1
 
 pub array-lawful : (n share : ℕ) (F : Format Meaning) → Lawful F → Lawful (array n share F)
 array-lawful n share F f = map-lawful listed (sequence n share F) (sequence-lawful n share F f)

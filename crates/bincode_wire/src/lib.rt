@@ -5,4 +5,8 @@ pub mod chars;
 pub mod impls;
 pub mod laws;
 pub mod own;
+pub mod parted;
+pub mod rows;
+pub mod scalars;
+pub mod sums;
 pub mod wire;

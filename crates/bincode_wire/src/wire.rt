@@ -7,8 +7,9 @@ ghost use Rattle.bincode_base.specs.declared.error.EncodeError.{EncodeError};
 ghost use Rattle.bincode_wire.specs.Meaning.{Meaning};
 ghost use Rattle.bincode_wire.specs.Allowed.{AllowedWord};
 
-/// What a type says of its words, so that encoding and decoding speak of the same. `Encode` and `Decode` stand on it.
-pub trait Wire: Drop {
+/// What a type says of its words, so that encoding and decoding speak of the same. `Encode` and `Decode` stand on it. A
+/// type that is made of others has it by `Parted`.
+pub trait Wire {
     /// The words, what they mean and cost, and the faults of all other inputs. They depend on the setting alone.
     ghost format: { Setting → Format Meaning };
 
@@ -36,10 +37,6 @@ pub trait Wire: Drop {
     /// How many bytes a container claims for an element. It stands for the size in memory.
     fn claim_size() -> usize
         ensures { result ≡ claim };
-
-    /// Says of the value in hand that it is valid.
-    fn tell_valid(&self)
-        ensures { valid self.now };
 
     /// No word begins another, each has one meaning, and each input has one front that is a word or one fault.
     ghost lawful: { (s : Setting) → Lawful (format s) };

@@ -1,8 +1,12 @@
 use crate::decode::Decode;
 use crate::decoder::Decoder;
+use crate::from_parts::FromParts;
 use crate::impls::numbers::decode_byte;
-use bincode_base::error::{AllowedEnumVariants, DecodeError};
+use crate::variants::Named;
+use bincode_base::error::DecodeError;
 use bincode_base::text::ShortText;
+use bincode_wire::sums::Or;
+use bincode_wire::wire::Wire;
 use std::ops::Bound;
 
 impl<Context: Drop> Decode<Context> for bool {
@@ -15,45 +19,48 @@ impl<Context: Drop> Decode<Context> for bool {
     }
 }
 
-impl<Context: Drop, T: Decode<Context>> Decode<Context> for Option<T> {
-    fn decode<D: Decoder<Context = Context>>(decoder: &mut D) -> Result<Option<T>, DecodeError> {
-        match u8::decode(decoder)? {
-            0 => Ok(None),
-            1 => Ok(Some(T::decode(decoder)?)),
-            found => Err(DecodeError::UnexpectedVariant {
-                found: u32::from(found),
-                type_name: ShortText::new("Option"),
-                allowed: AllowedEnumVariants::Range { min: 0, max: 1 },
-            }),
+impl<T> Named for Option<T> {
+    fn type_name() -> ShortText {
+        ShortText::new("Option")
+    }
+}
+
+impl<T: Wire> FromParts for Option<T> {
+    fn from_parts(parts: Self::Parts) -> Self {
+        match parts.0 {
+            Or::This(()) => None,
+            Or::Other(Or::This(value)) => Some(value),
         }
     }
 }
 
-impl<Context: Drop, T: Decode<Context>, U: Decode<Context>> Decode<Context> for Result<T, U> {
-    fn decode<D: Decoder<Context = Context>>(decoder: &mut D) -> Result<Result<T, U>, DecodeError> {
-        match u32::decode(decoder)? {
-            0 => Ok(Ok(T::decode(decoder)?)),
-            1 => Ok(Err(U::decode(decoder)?)),
-            found => Err(DecodeError::UnexpectedVariant {
-                found,
-                type_name: ShortText::new("Result"),
-                allowed: AllowedEnumVariants::Range { min: 0, max: 1 },
-            }),
+impl<T, U> Named for Result<T, U> {
+    fn type_name() -> ShortText {
+        ShortText::new("Result")
+    }
+}
+
+impl<T: Wire, U: Wire> FromParts for Result<T, U> {
+    fn from_parts(parts: Self::Parts) -> Self {
+        match parts.0 {
+            Or::This(value) => Ok(value),
+            Or::Other(Or::This(value)) => Err(value),
         }
     }
 }
 
-impl<Context: Drop, T: Decode<Context>> Decode<Context> for Bound<T> {
-    fn decode<D: Decoder<Context = Context>>(decoder: &mut D) -> Result<Bound<T>, DecodeError> {
-        match u32::decode(decoder)? {
-            0 => Ok(Bound::Unbounded),
-            1 => Ok(Bound::Included(T::decode(decoder)?)),
-            2 => Ok(Bound::Excluded(T::decode(decoder)?)),
-            found => Err(DecodeError::UnexpectedVariant {
-                found,
-                type_name: ShortText::new("Bound"),
-                allowed: AllowedEnumVariants::Range { min: 0, max: 2 },
-            }),
+impl<T> Named for Bound<T> {
+    fn type_name() -> ShortText {
+        ShortText::new("Bound")
+    }
+}
+
+impl<T: Wire> FromParts for Bound<T> {
+    fn from_parts(parts: Self::Parts) -> Self {
+        match parts.0 {
+            Or::This(()) => Bound::Unbounded,
+            Or::Other(Or::This(value)) => Bound::Included(value),
+            Or::Other(Or::Other(Or::This(value))) => Bound::Excluded(value),
         }
     }
 }

@@ -1,183 +1,121 @@
-ghost use Rattle.std.specs.Prelude.{◌≡◌, ◌<◌, ◌≤◌, ◌^◌, unsigned_abs, IfOk, IfErr};
-ghost use Rattle.bincode_base.specs.declared.error.IntegerType.TheVariants.{U8, I8};
-ghost use Rattle.bincode_base.specs.Integers.{tags_of, unsigned_tag, signed_tag, unsigned, signed, unsigned_byte, signed_byte};
-ghost use Rattle.bincode_base.specs.Number.{FitsIn};
-ghost use Rattle.bincode_base.specs.IntegerLaws.{IsWidth};
-ghost use Rattle.bincode_wire.specs.Words.{not_zero, not_zero_integer};
-ghost use Rattle.bincode_wire.specs.Answer.{answer, Gave};
-ghost use Rattle.bincode_wire.specs.Decoding.{Stops};
+#![tactic(auto, using(crate::proofs::NotZero::by_not_zero))]
+
+ghost use Rattle.std.specs.Prelude.{◌≡◌, ok_or};
+ghost use Rattle.bincode_base.specs.declared.error.DecodeError.TheVariants.{NonZeroTypeIsZero};
 
 use crate::decode::Decode;
 use crate::decoder::Decoder;
-use crate::impls::numbers::{decode_byte, decode_signed, decode_signed_byte, decode_unsigned};
 use bincode_base::error::{DecodeError, IntegerType};
 use std::num::{
     NonZeroI8, NonZeroI16, NonZeroI32, NonZeroI64, NonZeroI128, NonZeroIsize, NonZeroU8,
     NonZeroU16, NonZeroU32, NonZeroU64, NonZeroU128, NonZeroUsize,
 };
 
-/// Decodes an unsigned number of so many bytes, and refuses 0.
-fn decode_not_zero<D: Decoder>(
-    decoder: &mut D,
-    name: IntegerType,
-    width: usize,
-) -> Result<u128, DecodeError>
-    requires width { IsWidth width }
-    requires tags { tags_of name ≡ unsigned_tag }
-    ensures ok { IfOk result (λ v. answer D.C.bound (not_zero name (unsigned name width D.C.setting)) (D.rest decoder.old) (D.charge decoder.old) ≡ Gave v (D.rest decoder.new) (D.charge decoder.new)) }
-    ensures fits { IfOk result (λ v. v < 256 ^ width) }
-    ensures nonzero { IfOk result (λ v. 0 < v) }
-    ensures err { IfErr result (Stops D.R.ended D.R.device ⊥ (answer D.C.bound (not_zero name (unsigned name width D.C.setting)) (D.rest decoder.old) (D.charge decoder.old)) (D.failures decoder.old) (D.failures decoder.new) (D.rest decoder.old) (D.rest decoder.new)) }
-    ensures count { D.failures decoder.old ≤ D.failures decoder.new }
-    ensures place { D.place decoder.new ≡ D.place decoder.old }
+/// The number, unless it was 0. A fault speaks of it by name.
+#[inline]
+fn not_zero<T>(number: Option<T>, name: IntegerType) -> Result<T, DecodeError>
+    ensures { result ≡ ok_or number (NonZeroTypeIsZero name) }
 {
-    let n = decode_unsigned(decoder, name, width)?;
-    if n == 0 {
-        return Err(DecodeError::NonZeroTypeIsZero {
+    match number {
+        Some(number) => Ok(number),
+        None => Err(DecodeError::NonZeroTypeIsZero {
             non_zero_type: name,
-        });
+        }),
     }
-    Ok(n)
-}
-
-/// Decodes a signed number of so many bytes, and refuses 0.
-fn decode_signed_not_zero<D: Decoder>(
-    decoder: &mut D,
-    name: IntegerType,
-    width: usize,
-) -> Result<i128, DecodeError>
-    requires width { IsWidth width }
-    requires tags { tags_of name ≡ signed_tag }
-    ensures ok { IfOk result (λ v. answer D.C.bound (not_zero_integer name (signed name width D.C.setting)) (D.rest decoder.old) (D.charge decoder.old) ≡ Gave v (D.rest decoder.new) (D.charge decoder.new)) }
-    ensures fits { IfOk result (λ v. FitsIn width v) }
-    ensures nonzero { IfOk result (λ v. 0 < unsigned_abs v) }
-    ensures err { IfErr result (Stops D.R.ended D.R.device ⊥ (answer D.C.bound (not_zero_integer name (signed name width D.C.setting)) (D.rest decoder.old) (D.charge decoder.old)) (D.failures decoder.old) (D.failures decoder.new) (D.rest decoder.old) (D.rest decoder.new)) }
-    ensures count { D.failures decoder.old ≤ D.failures decoder.new }
-    ensures place { D.place decoder.new ≡ D.place decoder.old }
-{
-    let n = decode_signed(decoder, name, width)?;
-    if n == 0 {
-        return Err(DecodeError::NonZeroTypeIsZero {
-            non_zero_type: name,
-        });
-    }
-    Ok(n)
-}
-
-/// Decodes a byte, and refuses 0.
-fn decode_byte_not_zero<D: Decoder>(decoder: &mut D) -> Result<u8, DecodeError>
-    ensures ok { IfOk result (λ v. answer D.C.bound (not_zero U8 unsigned_byte) (D.rest decoder.old) (D.charge decoder.old) ≡ Gave v (D.rest decoder.new) (D.charge decoder.new)) }
-    ensures nonzero { IfOk result (λ v. 0 < v) }
-    ensures err { IfErr result (Stops D.R.ended D.R.device ⊥ (answer D.C.bound (not_zero U8 unsigned_byte) (D.rest decoder.old) (D.charge decoder.old)) (D.failures decoder.old) (D.failures decoder.new) (D.rest decoder.old) (D.rest decoder.new)) }
-    ensures count { D.failures decoder.old ≤ D.failures decoder.new }
-    ensures place { D.place decoder.new ≡ D.place decoder.old }
-{
-    let n = decode_byte(decoder)?;
-    if n == 0 {
-        return Err(DecodeError::NonZeroTypeIsZero {
-            non_zero_type: IntegerType::U8,
-        });
-    }
-    Ok(n)
-}
-
-/// Decodes a signed byte, and refuses 0.
-fn decode_signed_byte_not_zero<D: Decoder>(decoder: &mut D) -> Result<i8, DecodeError>
-    ensures ok { IfOk result (λ v. answer D.C.bound (not_zero_integer I8 signed_byte) (D.rest decoder.old) (D.charge decoder.old) ≡ Gave v (D.rest decoder.new) (D.charge decoder.new)) }
-    ensures nonzero { IfOk result (λ v. 0 < unsigned_abs v) }
-    ensures err { IfErr result (Stops D.R.ended D.R.device ⊥ (answer D.C.bound (not_zero_integer I8 signed_byte) (D.rest decoder.old) (D.charge decoder.old)) (D.failures decoder.old) (D.failures decoder.new) (D.rest decoder.old) (D.rest decoder.new)) }
-    ensures count { D.failures decoder.old ≤ D.failures decoder.new }
-    ensures place { D.place decoder.new ≡ D.place decoder.old }
-{
-    let n = decode_signed_byte(decoder)?;
-    if n == 0 {
-        return Err(DecodeError::NonZeroTypeIsZero {
-            non_zero_type: IntegerType::I8,
-        });
-    }
-    Ok(n)
 }
 
 impl<Context: Drop> Decode<Context> for NonZeroU8 {
+    #[inline]
     fn decode<D: Decoder<Context = Context>>(decoder: &mut D) -> Result<NonZeroU8, DecodeError> {
-        let n = decode_byte_not_zero(decoder)?;
-        Ok(NonZeroU8::new(n).unwrap())
+        let n = u8::decode(decoder)?;
+        not_zero(NonZeroU8::new(n), IntegerType::U8)
     }
 }
 
 impl<Context: Drop> Decode<Context> for NonZeroU16 {
+    #[inline]
     fn decode<D: Decoder<Context = Context>>(decoder: &mut D) -> Result<NonZeroU16, DecodeError> {
-        let n = decode_not_zero(decoder, IntegerType::U16, 2)?;
-        Ok(NonZeroU16::new(n as u16).unwrap())
+        let n = u16::decode(decoder)?;
+        not_zero(NonZeroU16::new(n), IntegerType::U16)
     }
 }
 
 impl<Context: Drop> Decode<Context> for NonZeroU32 {
+    #[inline]
     fn decode<D: Decoder<Context = Context>>(decoder: &mut D) -> Result<NonZeroU32, DecodeError> {
-        let n = decode_not_zero(decoder, IntegerType::U32, 4)?;
-        Ok(NonZeroU32::new(n as u32).unwrap())
+        let n = u32::decode(decoder)?;
+        not_zero(NonZeroU32::new(n), IntegerType::U32)
     }
 }
 
 impl<Context: Drop> Decode<Context> for NonZeroU64 {
+    #[inline]
     fn decode<D: Decoder<Context = Context>>(decoder: &mut D) -> Result<NonZeroU64, DecodeError> {
-        let n = decode_not_zero(decoder, IntegerType::U64, 8)?;
-        Ok(NonZeroU64::new(n as u64).unwrap())
+        let n = u64::decode(decoder)?;
+        not_zero(NonZeroU64::new(n), IntegerType::U64)
     }
 }
 
 impl<Context: Drop> Decode<Context> for NonZeroU128 {
+    #[inline]
     fn decode<D: Decoder<Context = Context>>(decoder: &mut D) -> Result<NonZeroU128, DecodeError> {
-        let n = decode_not_zero(decoder, IntegerType::U128, 16)?;
-        Ok(NonZeroU128::new(n).unwrap())
+        let n = u128::decode(decoder)?;
+        not_zero(NonZeroU128::new(n), IntegerType::U128)
     }
 }
 
 impl<Context: Drop> Decode<Context> for NonZeroUsize {
+    #[inline]
     fn decode<D: Decoder<Context = Context>>(decoder: &mut D) -> Result<NonZeroUsize, DecodeError> {
-        let n = decode_not_zero(decoder, IntegerType::Usize, 8)?;
-        Ok(NonZeroUsize::new(n as usize).unwrap())
+        let n = usize::decode(decoder)?;
+        not_zero(NonZeroUsize::new(n), IntegerType::Usize)
     }
 }
 
 impl<Context: Drop> Decode<Context> for NonZeroI8 {
+    #[inline]
     fn decode<D: Decoder<Context = Context>>(decoder: &mut D) -> Result<NonZeroI8, DecodeError> {
-        let n = decode_signed_byte_not_zero(decoder)?;
-        Ok(NonZeroI8::new(n).unwrap())
+        let n = i8::decode(decoder)?;
+        not_zero(NonZeroI8::new(n), IntegerType::I8)
     }
 }
 
 impl<Context: Drop> Decode<Context> for NonZeroI16 {
+    #[inline]
     fn decode<D: Decoder<Context = Context>>(decoder: &mut D) -> Result<NonZeroI16, DecodeError> {
-        let n = decode_signed_not_zero(decoder, IntegerType::I16, 2)?;
-        Ok(NonZeroI16::new(n as i16).unwrap())
+        let n = i16::decode(decoder)?;
+        not_zero(NonZeroI16::new(n), IntegerType::I16)
     }
 }
 
 impl<Context: Drop> Decode<Context> for NonZeroI32 {
+    #[inline]
     fn decode<D: Decoder<Context = Context>>(decoder: &mut D) -> Result<NonZeroI32, DecodeError> {
-        let n = decode_signed_not_zero(decoder, IntegerType::I32, 4)?;
-        Ok(NonZeroI32::new(n as i32).unwrap())
+        let n = i32::decode(decoder)?;
+        not_zero(NonZeroI32::new(n), IntegerType::I32)
     }
 }
 
 impl<Context: Drop> Decode<Context> for NonZeroI64 {
+    #[inline]
     fn decode<D: Decoder<Context = Context>>(decoder: &mut D) -> Result<NonZeroI64, DecodeError> {
-        let n = decode_signed_not_zero(decoder, IntegerType::I64, 8)?;
-        Ok(NonZeroI64::new(n as i64).unwrap())
+        let n = i64::decode(decoder)?;
+        not_zero(NonZeroI64::new(n), IntegerType::I64)
     }
 }
 
 impl<Context: Drop> Decode<Context> for NonZeroI128 {
+    #[inline]
     fn decode<D: Decoder<Context = Context>>(decoder: &mut D) -> Result<NonZeroI128, DecodeError> {
-        let n = decode_signed_not_zero(decoder, IntegerType::I128, 16)?;
-        Ok(NonZeroI128::new(n).unwrap())
+        let n = i128::decode(decoder)?;
+        not_zero(NonZeroI128::new(n), IntegerType::I128)
     }
 }
 
 impl<Context: Drop> Decode<Context> for NonZeroIsize {
+    #[inline]
     fn decode<D: Decoder<Context = Context>>(decoder: &mut D) -> Result<NonZeroIsize, DecodeError> {
-        let n = decode_signed_not_zero(decoder, IntegerType::Isize, 8)?;
-        Ok(NonZeroIsize::new(n as isize).unwrap())
+        let n = isize::decode(decoder)?;
+        not_zero(NonZeroIsize::new(n), IntegerType::Isize)
     }
 }

@@ -1,3 +1,5 @@
+#![tactic(auto, using(crate::proofs::Casts::by_number))]
+
 ghost use Rattle.std.specs.Prelude.{◌≡◌, ◌<◌, ◌≤◌, ◌^◌, [], IfOk, IfErr};
 ghost use Rattle.bincode_base.specs.Format.{Took, map_format};
 ghost use Rattle.bincode_base.specs.Number.{from_two_complement, FitsIn};
@@ -129,12 +131,14 @@ fn read_i8_from<D: Decoder>(decoder: &mut D) -> Result<i8, DecodeError>
 }
 
 impl<Context: Drop> Decode<Context> for u8 {
+    #[inline(always)]
     fn decode<D: Decoder<Context = Context>>(decoder: &mut D) -> Result<u8, DecodeError> {
         decode_byte(decoder)
     }
 }
 
 impl<Context: Drop> Decode<Context> for u16 {
+    #[inline(always)]
     fn decode<D: Decoder<Context = Context>>(decoder: &mut D) -> Result<u16, DecodeError> {
         let n = decode_unsigned(decoder, IntegerType::U16, 2)?;
         Ok(n as u16)
@@ -142,6 +146,7 @@ impl<Context: Drop> Decode<Context> for u16 {
 }
 
 impl<Context: Drop> Decode<Context> for u32 {
+    #[inline(always)]
     fn decode<D: Decoder<Context = Context>>(decoder: &mut D) -> Result<u32, DecodeError> {
         let n = decode_unsigned(decoder, IntegerType::U32, 4)?;
         Ok(n as u32)
@@ -149,6 +154,7 @@ impl<Context: Drop> Decode<Context> for u32 {
 }
 
 impl<Context: Drop> Decode<Context> for u64 {
+    #[inline(always)]
     fn decode<D: Decoder<Context = Context>>(decoder: &mut D) -> Result<u64, DecodeError> {
         let n = decode_unsigned(decoder, IntegerType::U64, 8)?;
         Ok(n as u64)
@@ -156,12 +162,14 @@ impl<Context: Drop> Decode<Context> for u64 {
 }
 
 impl<Context: Drop> Decode<Context> for u128 {
+    #[inline(always)]
     fn decode<D: Decoder<Context = Context>>(decoder: &mut D) -> Result<u128, DecodeError> {
         decode_unsigned(decoder, IntegerType::U128, 16)
     }
 }
 
 impl<Context: Drop> Decode<Context> for usize {
+    #[inline(always)]
     fn decode<D: Decoder<Context = Context>>(decoder: &mut D) -> Result<usize, DecodeError> {
         let n = decode_unsigned(decoder, IntegerType::Usize, 8)?;
         Ok(n as usize)
@@ -169,12 +177,14 @@ impl<Context: Drop> Decode<Context> for usize {
 }
 
 impl<Context: Drop> Decode<Context> for i8 {
+    #[inline(always)]
     fn decode<D: Decoder<Context = Context>>(decoder: &mut D) -> Result<i8, DecodeError> {
         decode_signed_byte(decoder)
     }
 }
 
 impl<Context: Drop> Decode<Context> for i16 {
+    #[inline(always)]
     fn decode<D: Decoder<Context = Context>>(decoder: &mut D) -> Result<i16, DecodeError> {
         let n = decode_signed(decoder, IntegerType::I16, 2)?;
         Ok(n as i16)
@@ -182,6 +192,7 @@ impl<Context: Drop> Decode<Context> for i16 {
 }
 
 impl<Context: Drop> Decode<Context> for i32 {
+    #[inline(always)]
     fn decode<D: Decoder<Context = Context>>(decoder: &mut D) -> Result<i32, DecodeError> {
         let n = decode_signed(decoder, IntegerType::I32, 4)?;
         Ok(n as i32)
@@ -189,6 +200,7 @@ impl<Context: Drop> Decode<Context> for i32 {
 }
 
 impl<Context: Drop> Decode<Context> for i64 {
+    #[inline(always)]
     fn decode<D: Decoder<Context = Context>>(decoder: &mut D) -> Result<i64, DecodeError> {
         let n = decode_signed(decoder, IntegerType::I64, 8)?;
         Ok(n as i64)
@@ -196,12 +208,14 @@ impl<Context: Drop> Decode<Context> for i64 {
 }
 
 impl<Context: Drop> Decode<Context> for i128 {
+    #[inline(always)]
     fn decode<D: Decoder<Context = Context>>(decoder: &mut D) -> Result<i128, DecodeError> {
         decode_signed(decoder, IntegerType::I128, 16)
     }
 }
 
 impl<Context: Drop> Decode<Context> for isize {
+    #[inline(always)]
     fn decode<D: Decoder<Context = Context>>(decoder: &mut D) -> Result<isize, DecodeError> {
         let n = decode_signed(decoder, IntegerType::Isize, 8)?;
         Ok(n as isize)

@@ -1,20 +1,15 @@
-use crate::decode::Decode;
-use crate::decoder::Decoder;
-use bincode_base::error::DecodeError;
+use crate::from_parts::FromParts;
+use bincode_wire::wire::Wire;
 use std::ops::{Range, RangeInclusive};
 
-impl<Context: Drop, T: Decode<Context>> Decode<Context> for Range<T> {
-    fn decode<D: Decoder<Context = Context>>(decoder: &mut D) -> Result<Range<T>, DecodeError> {
-        let (start, end) = <(T, T)>::decode(decoder)?;
-        Ok(start..end)
+impl<T: Wire> FromParts for Range<T> {
+    fn from_parts((start, end): (T, T)) -> Range<T> {
+        start..end
     }
 }
 
-impl<Context: Drop, T: Decode<Context>> Decode<Context> for RangeInclusive<T> {
-    fn decode<D: Decoder<Context = Context>>(
-        decoder: &mut D,
-    ) -> Result<RangeInclusive<T>, DecodeError> {
-        let (start, end) = <(T, T)>::decode(decoder)?;
-        Ok(RangeInclusive::new(start, end))
+impl<T: Wire> FromParts for RangeInclusive<T> {
+    fn from_parts((start, end): (T, T)) -> RangeInclusive<T> {
+        RangeInclusive::new(start, end)
     }
 }

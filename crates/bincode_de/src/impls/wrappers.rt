@@ -1,26 +1,23 @@
-use crate::decode::Decode;
-use crate::decoder::Decoder;
-use bincode_base::error::DecodeError;
+use crate::from_parts::FromParts;
+use bincode_wire::wire::Wire;
 use std::cmp::Reverse;
 use std::marker::PhantomData;
 use std::num::Wrapping;
 
-impl<Context: Drop, T: Decode<Context>> Decode<Context> for Wrapping<T> {
-    fn decode<D: Decoder<Context = Context>>(decoder: &mut D) -> Result<Wrapping<T>, DecodeError> {
-        Ok(Wrapping(T::decode(decoder)?))
+impl<T: Wire> FromParts for Wrapping<T> {
+    fn from_parts(parts: T) -> Wrapping<T> {
+        Wrapping(parts)
     }
 }
 
-impl<Context: Drop, T: Decode<Context>> Decode<Context> for Reverse<T> {
-    fn decode<D: Decoder<Context = Context>>(decoder: &mut D) -> Result<Reverse<T>, DecodeError> {
-        Ok(Reverse(T::decode(decoder)?))
+impl<T: Wire> FromParts for Reverse<T> {
+    fn from_parts(parts: T) -> Reverse<T> {
+        Reverse(parts)
     }
 }
 
-impl<Context: Drop, T> Decode<Context> for PhantomData<T> {
-    fn decode<D: Decoder<Context = Context>>(
-        _decoder: &mut D,
-    ) -> Result<PhantomData<T>, DecodeError> {
-        Ok(PhantomData)
+impl<T> FromParts for PhantomData<T> {
+    fn from_parts(_parts: ()) -> PhantomData<T> {
+        PhantomData
     }
 }

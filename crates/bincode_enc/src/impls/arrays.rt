@@ -4,6 +4,12 @@ use crate::run::encode_run;
 use bincode_base::error::EncodeError;
 
 impl<T: Encode, const N: usize> Encode for [T; N] {
+    fn tell_valid(&self) {
+        for item in self {
+            item.tell_valid();
+        }
+    }
+
     fn encode<E: Encoder>(&self, encoder: &mut E) -> Result<(), EncodeError> {
         encode_run(encoder, self)
     }

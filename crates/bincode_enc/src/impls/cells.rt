@@ -2,10 +2,11 @@ use crate::encode::Encode;
 use crate::encoder::Encoder;
 use bincode_base::error::EncodeError;
 use bincode_base::text::ShortText;
-use bincode_wire::wire::Wire;
 use std::cell::{Cell, RefCell};
 
 impl<T: Encode + Copy> Encode for Cell<T> {
+    fn tell_valid(&self) {}
+
     fn encode<E: Encoder>(&self, encoder: &mut E) -> Result<(), EncodeError> {
         let value = self.get();
         value.tell_valid();
@@ -14,6 +15,8 @@ impl<T: Encode + Copy> Encode for Cell<T> {
 }
 
 impl<T: Encode> Encode for RefCell<T> {
+    fn tell_valid(&self) {}
+
     fn encode<E: Encoder>(&self, encoder: &mut E) -> Result<(), EncodeError> {
         let Ok(guard) = self.try_borrow() else {
             return Err(EncodeError::RefCellAlreadyBorrowed {

@@ -1,53 +1,62 @@
 use crate::encode::Encode;
 use crate::encoder::{Encoder, write_from};
+use crate::variants::encode_variant;
 use bincode_base::error::EncodeError;
 use std::ops::Bound;
 
 impl Encode for bool {
+    fn tell_valid(&self) {}
+
     fn encode<E: Encoder>(&self, encoder: &mut E) -> Result<(), EncodeError> {
         write_from(encoder, &[u8::from(*self)])
     }
 }
 
 impl<T: Encode> Encode for Option<T> {
+    fn tell_valid(&self) {
+        if let Some(value) = self {
+            value.tell_valid();
+        }
+    }
+
     fn encode<E: Encoder>(&self, encoder: &mut E) -> Result<(), EncodeError> {
         match self {
-            None => 0u8.encode(encoder),
-            Some(value) => {
-                1u8.encode(encoder)?;
-                value.encode(encoder)
-            }
+            None => encode_variant(&None::<&T>, 0, &(), encoder),
+            Some(value) => encode_variant(&Some(value), 1, value, encoder),
         }
     }
 }
 
 impl<T: Encode, U: Encode> Encode for Result<T, U> {
+    fn tell_valid(&self) {
+        match self {
+            Ok(value) => value.tell_valid(),
+            Err(value) => value.tell_valid(),
+        }
+    }
+
     fn encode<E: Encoder>(&self, encoder: &mut E) -> Result<(), EncodeError> {
         match self {
-            Ok(value) => {
-                0u32.encode(encoder)?;
-                value.encode(encoder)
-            }
-            Err(value) => {
-                1u32.encode(encoder)?;
-                value.encode(encoder)
-            }
+            Ok(value) => encode_variant(&Ok::<&T, &U>(value), 0, value, encoder),
+            Err(value) => encode_variant(&Err::<&T, &U>(value), 1, value, encoder),
         }
     }
 }
 
 impl<T: Encode> Encode for Bound<T> {
+    fn tell_valid(&self) {
+        match self {
+            Bound::Unbounded => {}
+            Bound::Included(value) => value.tell_valid(),
+            Bound::Excluded(value) => value.tell_valid(),
+        }
+    }
+
     fn encode<E: Encoder>(&self, encoder: &mut E) -> Result<(), EncodeError> {
         match self {
-            Bound::Unbounded => 0u32.encode(encoder),
-            Bound::Included(value) => {
-                1u32.encode(encoder)?;
-                value.encode(encoder)
-            }
-            Bound::Excluded(value) => {
-                2u32.encode(encoder)?;
-                value.encode(encoder)
-            }
+            Bound::Unbounded => encode_variant(&Bound::<&T>::Unbounded, 0, &(), encoder),
+            Bound::Included(value) => encode_variant(&Bound::Included(value), 1, value, encoder),
+            Bound::Excluded(value) => encode_variant(&Bound::Excluded(value), 2, value, encoder),
         }
     }
 }

@@ -1,94 +1,204 @@
-#![tactic(auto, using(crate::specs::EncodingLaws::by_not_zero))]
+ghost use Rattle.std.specs.Prelude.{◌≡◌, ◌<◌, ◌^◌, pos, unsigned_abs, FitsSigned, OnOk, IfErr};
+ghost use Rattle.std.specs.Int.{w8};
+ghost use Rattle.bincode_base.specs.declared.error.IntegerType.{IntegerType as Name};
+ghost use Rattle.bincode_base.specs.declared.error.IntegerType.TheVariants.{U8, I8};
+ghost use Rattle.bincode_base.specs.Integers.{unsigned, signed, unsigned_byte, signed_byte};
+ghost use Rattle.bincode_base.specs.Number.{FitsIn};
+ghost use Rattle.bincode_base.specs.IntegerLaws.{IsWidth};
+ghost use Rattle.bincode_wire.specs.Meaning.{IsNumber};
+ghost use Rattle.bincode_wire.specs.Words.{natural, integral, not_zero, not_zero_integer};
+ghost use Rattle.bincode_wire.specs.Allowed.{AllowedWord};
+ghost use Rattle.bincode_enc.specs.Encoding.{Writes, Ready, Halts};
 
 use crate::encode::Encode;
 use crate::encoder::Encoder;
+use crate::impls::numbers::{encode_signed, encode_unsigned};
 use bincode_base::error::EncodeError;
-use bincode_wire::wire::Wire;
 use std::num::{
     NonZeroI8, NonZeroI16, NonZeroI32, NonZeroI64, NonZeroI128, NonZeroIsize, NonZeroU8,
     NonZeroU16, NonZeroU32, NonZeroU64, NonZeroU128, NonZeroUsize,
 };
 
+/// Writes an unsigned number other than 0, whatever its type's name in faults.
+#[inline]
+fn encode_not_zero<E: Encoder>(encoder: &mut E, width: usize, val: u128) -> Result<(), EncodeError>
+    requires width { IsWidth width }
+    requires fits { val < 256 ^ width }
+    requires nonzero { 0 < val }
+    ensures ok { (name : Name) → OnOk result (Writes E.W.adds (AllowedWord (IsNumber (pos val)) (natural (not_zero name (unsigned name width E.C.setting)))) (E.writer_of encoder.old) (E.writer_of encoder.new)) }
+    ensures err { (name : Name) → IfErr result (Halts E.W.adds E.W.refuses (Ready (Unit {0}) (AllowedWord (IsNumber (pos val)) (natural (not_zero name (unsigned name width E.C.setting))))) (λ _. ⊥) (E.writer_of encoder.old) (E.writer_of encoder.new)) }
+    ensures place { E.place encoder.new ≡ E.place encoder.old }
+{
+    encode_unsigned(encoder, width, val)
+}
+
+/// Writes a signed number other than 0, whatever its type's name in faults.
+#[inline]
+fn encode_signed_not_zero<E: Encoder>(
+    encoder: &mut E,
+    width: usize,
+    val: i128,
+) -> Result<(), EncodeError>
+    requires width { IsWidth width }
+    requires fits { FitsIn width val }
+    requires nonzero { 0 < unsigned_abs val }
+    ensures ok { (name : Name) → OnOk result (Writes E.W.adds (AllowedWord (IsNumber val) (integral (not_zero_integer name (signed name width E.C.setting)))) (E.writer_of encoder.old) (E.writer_of encoder.new)) }
+    ensures err { (name : Name) → IfErr result (Halts E.W.adds E.W.refuses (Ready (Unit {0}) (AllowedWord (IsNumber val) (integral (not_zero_integer name (signed name width E.C.setting))))) (λ _. ⊥) (E.writer_of encoder.old) (E.writer_of encoder.new)) }
+    ensures place { E.place encoder.new ≡ E.place encoder.old }
+{
+    encode_signed(encoder, width, val)
+}
+
+/// Writes a byte other than 0.
+#[inline]
+fn encode_byte_not_zero<E: Encoder>(encoder: &mut E, val: u8) -> Result<(), EncodeError>
+    requires { 0 < val }
+    ensures ok { OnOk result (Writes E.W.adds (AllowedWord (IsNumber (pos val)) (natural (not_zero U8 unsigned_byte))) (E.writer_of encoder.old) (E.writer_of encoder.new)) }
+    ensures err { IfErr result (Halts E.W.adds E.W.refuses (Ready (Unit {0}) (AllowedWord (IsNumber (pos val)) (natural (not_zero U8 unsigned_byte)))) (λ _. ⊥) (E.writer_of encoder.old) (E.writer_of encoder.new)) }
+    ensures place { E.place encoder.new ≡ E.place encoder.old }
+{
+    val.encode(encoder)
+}
+
+/// Writes a signed byte other than 0.
+#[inline]
+fn encode_signed_byte_not_zero<E: Encoder>(encoder: &mut E, val: i8) -> Result<(), EncodeError>
+    requires { 0 < unsigned_abs val }
+    ensures ok { OnOk result (Writes E.W.adds (AllowedWord (IsNumber val) (integral (not_zero_integer I8 signed_byte))) (E.writer_of encoder.old) (E.writer_of encoder.new)) }
+    ensures err { IfErr result (Halts E.W.adds E.W.refuses (Ready (Unit {0}) (AllowedWord (IsNumber val) (integral (not_zero_integer I8 signed_byte)))) (λ _. ⊥) (E.writer_of encoder.old) (E.writer_of encoder.new)) }
+    ensures place { E.place encoder.new ≡ E.place encoder.old }
+{
+    val.encode(encoder)
+}
+
 impl Encode for NonZeroU8 {
+    fn tell_valid(&self) {
+        let _value = self.get();
+    }
+
+    #[inline]
     fn encode<E: Encoder>(&self, encoder: &mut E) -> Result<(), EncodeError> {
-        self.tell_valid();
-        u8::encode(&self.get(), encoder)
+        encode_byte_not_zero(encoder, self.get())
     }
 }
 
 impl Encode for NonZeroU16 {
+    fn tell_valid(&self) {
+        let _value = self.get();
+    }
+
+    #[inline]
     fn encode<E: Encoder>(&self, encoder: &mut E) -> Result<(), EncodeError> {
-        self.tell_valid();
-        u16::encode(&self.get(), encoder)
+        encode_not_zero(encoder, 2, u128::from(self.get()))
     }
 }
 
 impl Encode for NonZeroU32 {
+    fn tell_valid(&self) {
+        let _value = self.get();
+    }
+
+    #[inline]
     fn encode<E: Encoder>(&self, encoder: &mut E) -> Result<(), EncodeError> {
-        self.tell_valid();
-        u32::encode(&self.get(), encoder)
+        encode_not_zero(encoder, 4, u128::from(self.get()))
     }
 }
 
 impl Encode for NonZeroU64 {
+    fn tell_valid(&self) {
+        let _value = self.get();
+    }
+
+    #[inline]
     fn encode<E: Encoder>(&self, encoder: &mut E) -> Result<(), EncodeError> {
-        self.tell_valid();
-        u64::encode(&self.get(), encoder)
+        encode_not_zero(encoder, 8, u128::from(self.get()))
     }
 }
 
 impl Encode for NonZeroU128 {
+    fn tell_valid(&self) {
+        let _value = self.get();
+    }
+
+    #[inline]
     fn encode<E: Encoder>(&self, encoder: &mut E) -> Result<(), EncodeError> {
-        self.tell_valid();
-        u128::encode(&self.get(), encoder)
+        encode_not_zero(encoder, 16, self.get())
     }
 }
 
 impl Encode for NonZeroUsize {
+    fn tell_valid(&self) {
+        let _value = self.get();
+    }
+
+    #[inline]
     fn encode<E: Encoder>(&self, encoder: &mut E) -> Result<(), EncodeError> {
-        self.tell_valid();
-        usize::encode(&self.get(), encoder)
+        encode_not_zero(encoder, 8, self.get() as u128)
     }
 }
 
 impl Encode for NonZeroI8 {
+    fn tell_valid(&self) {
+        let _value = self.get();
+    }
+
+    #[inline]
     fn encode<E: Encoder>(&self, encoder: &mut E) -> Result<(), EncodeError> {
-        self.tell_valid();
-        i8::encode(&self.get(), encoder)
+        encode_signed_byte_not_zero(encoder, self.get())
     }
 }
 
 impl Encode for NonZeroI16 {
+    fn tell_valid(&self) {
+        let _value = self.get();
+    }
+
+    #[inline]
     fn encode<E: Encoder>(&self, encoder: &mut E) -> Result<(), EncodeError> {
-        self.tell_valid();
-        i16::encode(&self.get(), encoder)
+        encode_signed_not_zero(encoder, 2, i128::from(self.get()))
     }
 }
 
 impl Encode for NonZeroI32 {
+    fn tell_valid(&self) {
+        let _value = self.get();
+    }
+
+    #[inline]
     fn encode<E: Encoder>(&self, encoder: &mut E) -> Result<(), EncodeError> {
-        self.tell_valid();
-        i32::encode(&self.get(), encoder)
+        encode_signed_not_zero(encoder, 4, i128::from(self.get()))
     }
 }
 
 impl Encode for NonZeroI64 {
+    fn tell_valid(&self) {
+        let _value = self.get();
+    }
+
+    #[inline]
     fn encode<E: Encoder>(&self, encoder: &mut E) -> Result<(), EncodeError> {
-        self.tell_valid();
-        i64::encode(&self.get(), encoder)
+        encode_signed_not_zero(encoder, 8, i128::from(self.get()))
     }
 }
 
 impl Encode for NonZeroI128 {
+    fn tell_valid(&self) {
+        let _value = self.get();
+    }
+
+    #[inline]
     fn encode<E: Encoder>(&self, encoder: &mut E) -> Result<(), EncodeError> {
-        self.tell_valid();
-        i128::encode(&self.get(), encoder)
+        encode_signed_not_zero(encoder, 16, self.get())
     }
 }
 
 impl Encode for NonZeroIsize {
+    fn tell_valid(&self) {
+        let _value = self.get();
+    }
+
+    #[inline]
     fn encode<E: Encoder>(&self, encoder: &mut E) -> Result<(), EncodeError> {
-        self.tell_valid();
-        isize::encode(&self.get(), encoder)
+        encode_signed_not_zero(encoder, 8, self.get() as i128)
     }
 }

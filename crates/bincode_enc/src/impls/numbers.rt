@@ -13,11 +13,14 @@ use crate::encoder::{Encoder, write_from};
 use bincode_base::config::Config;
 use bincode_base::error::EncodeError;
 use bincode_base::number::{byte_of_i8, write_number, write_signed};
-use bincode_wire::wire::Wire;
 
 /// Writes an unsigned number of so many bytes, whatever its type's name in faults.
 #[inline]
-fn encode_unsigned<E: Encoder>(encoder: &mut E, width: usize, val: u128) -> Result<(), EncodeError>
+pub(crate) fn encode_unsigned<E: Encoder>(
+    encoder: &mut E,
+    width: usize,
+    val: u128,
+) -> Result<(), EncodeError>
     requires width { IsWidth width }
     requires fits { val < 256 ^ width }
     ensures ok { (name : Name) → OnOk result (Writes E.W.adds (AllowedWord (IsNumber (pos val)) (natural (unsigned name width E.C.setting))) (E.writer_of encoder.old) (E.writer_of encoder.new)) }
@@ -31,7 +34,11 @@ fn encode_unsigned<E: Encoder>(encoder: &mut E, width: usize, val: u128) -> Resu
 
 /// Writes a signed number of so many bytes, whatever its type's name in faults.
 #[inline]
-fn encode_signed<E: Encoder>(encoder: &mut E, width: usize, val: i128) -> Result<(), EncodeError>
+pub(crate) fn encode_signed<E: Encoder>(
+    encoder: &mut E,
+    width: usize,
+    val: i128,
+) -> Result<(), EncodeError>
     requires width { IsWidth width }
     requires fits { FitsIn width val }
     ensures ok { (name : Name) → OnOk result (Writes E.W.adds (AllowedWord (IsNumber val) (integral (signed name width E.C.setting))) (E.writer_of encoder.old) (E.writer_of encoder.new)) }
@@ -44,6 +51,10 @@ fn encode_signed<E: Encoder>(encoder: &mut E, width: usize, val: i128) -> Result
 }
 
 impl Encode for u8 {
+    fn tell_valid(&self) {
+        let _value = *self;
+    }
+
     #[inline]
     fn encode<E: Encoder>(&self, encoder: &mut E) -> Result<(), EncodeError> {
         write_from(encoder, &[*self])
@@ -51,6 +62,10 @@ impl Encode for u8 {
 }
 
 impl Encode for u16 {
+    fn tell_valid(&self) {
+        let _value = *self;
+    }
+
     #[inline]
     fn encode<E: Encoder>(&self, encoder: &mut E) -> Result<(), EncodeError> {
         encode_unsigned(encoder, 2, u128::from(*self))
@@ -58,6 +73,10 @@ impl Encode for u16 {
 }
 
 impl Encode for u32 {
+    fn tell_valid(&self) {
+        let _value = *self;
+    }
+
     #[inline]
     fn encode<E: Encoder>(&self, encoder: &mut E) -> Result<(), EncodeError> {
         encode_unsigned(encoder, 4, u128::from(*self))
@@ -65,6 +84,10 @@ impl Encode for u32 {
 }
 
 impl Encode for u64 {
+    fn tell_valid(&self) {
+        let _value = *self;
+    }
+
     #[inline]
     fn encode<E: Encoder>(&self, encoder: &mut E) -> Result<(), EncodeError> {
         encode_unsigned(encoder, 8, u128::from(*self))
@@ -72,6 +95,10 @@ impl Encode for u64 {
 }
 
 impl Encode for u128 {
+    fn tell_valid(&self) {
+        let _value = *self;
+    }
+
     #[inline]
     fn encode<E: Encoder>(&self, encoder: &mut E) -> Result<(), EncodeError> {
         encode_unsigned(encoder, 16, *self)
@@ -79,6 +106,10 @@ impl Encode for u128 {
 }
 
 impl Encode for usize {
+    fn tell_valid(&self) {
+        let _value = *self;
+    }
+
     #[inline]
     fn encode<E: Encoder>(&self, encoder: &mut E) -> Result<(), EncodeError> {
         encode_unsigned(encoder, 8, *self as u128)
@@ -86,6 +117,10 @@ impl Encode for usize {
 }
 
 impl Encode for i8 {
+    fn tell_valid(&self) {
+        let _value = *self;
+    }
+
     #[inline]
     fn encode<E: Encoder>(&self, encoder: &mut E) -> Result<(), EncodeError> {
         self.tell_valid();
@@ -94,6 +129,10 @@ impl Encode for i8 {
 }
 
 impl Encode for i16 {
+    fn tell_valid(&self) {
+        let _value = *self;
+    }
+
     #[inline]
     fn encode<E: Encoder>(&self, encoder: &mut E) -> Result<(), EncodeError> {
         encode_signed(encoder, 2, i128::from(*self))
@@ -101,6 +140,10 @@ impl Encode for i16 {
 }
 
 impl Encode for i32 {
+    fn tell_valid(&self) {
+        let _value = *self;
+    }
+
     #[inline]
     fn encode<E: Encoder>(&self, encoder: &mut E) -> Result<(), EncodeError> {
         encode_signed(encoder, 4, i128::from(*self))
@@ -108,6 +151,10 @@ impl Encode for i32 {
 }
 
 impl Encode for i64 {
+    fn tell_valid(&self) {
+        let _value = *self;
+    }
+
     #[inline]
     fn encode<E: Encoder>(&self, encoder: &mut E) -> Result<(), EncodeError> {
         encode_signed(encoder, 8, i128::from(*self))
@@ -115,6 +162,10 @@ impl Encode for i64 {
 }
 
 impl Encode for i128 {
+    fn tell_valid(&self) {
+        let _value = *self;
+    }
+
     #[inline]
     fn encode<E: Encoder>(&self, encoder: &mut E) -> Result<(), EncodeError> {
         encode_signed(encoder, 16, *self)
@@ -122,6 +173,10 @@ impl Encode for i128 {
 }
 
 impl Encode for isize {
+    fn tell_valid(&self) {
+        let _value = *self;
+    }
+
     #[inline]
     fn encode<E: Encoder>(&self, encoder: &mut E) -> Result<(), EncodeError> {
         encode_signed(encoder, 8, *self as i128)

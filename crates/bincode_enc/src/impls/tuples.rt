@@ -1,90 +1,150 @@
 use crate::encode::Encode;
 use crate::encoder::Encoder;
 use bincode_base::error::EncodeError;
+use bincode_wire::rows::{LongRow, Row};
 
 // Always inlined: LLVM takes a call behind several `?` for a rare one, and a call hands on a result with room for an error.
 
 impl Encode for () {
+    fn tell_valid(&self) {}
+
     #[inline(always)]
-    fn encode<Target: Encoder>(&self, _encoder: &mut Target) -> Result<(), EncodeError> {
+    fn encode<Z: Encoder>(&self, _encoder: &mut Z) -> Result<(), EncodeError> {
         Ok(())
     }
 }
 
-impl<A: Encode> Encode for (A,) {
+impl<A: Encode, Others: Encode> Encode for Row<A, Others> {
+    fn tell_valid(&self) {
+        self.0.tell_valid();
+        self.1.tell_valid();
+    }
+
     #[inline(always)]
-    fn encode<Target: Encoder>(&self, encoder: &mut Target) -> Result<(), EncodeError> {
+    fn encode<Z: Encoder>(&self, encoder: &mut Z) -> Result<(), EncodeError> {
+        self.0.encode(encoder)?;
+        self.1.encode(encoder)
+    }
+}
+
+impl<A: Encode, B: Encode, C: Encode, D: Encode, Others: Encode> Encode
+    for LongRow<A, B, C, D, Others> {
+    fn tell_valid(&self) {
+        let LongRow(a, b, c, d, others) = self;
+        Row(a, Row(b, Row(c, Row(d, others)))).tell_valid();
+    }
+
+    #[inline(always)]
+    fn encode<Z: Encoder>(&self, encoder: &mut Z) -> Result<(), EncodeError> {
+        let LongRow(a, b, c, d, others) = self;
+        Row(a, Row(b, Row(c, Row(d, others)))).encode(encoder)
+    }
+}
+
+impl<A: Encode> Encode for (A,) {
+    fn tell_valid(&self) {
         let (a,) = self;
-        a.encode(encoder)
+        Row(a, ()).tell_valid();
+    }
+
+    #[inline(always)]
+    fn encode<Z: Encoder>(&self, encoder: &mut Z) -> Result<(), EncodeError> {
+        let (a,) = self;
+        Row(a, ()).encode(encoder)
     }
 }
 
 impl<A: Encode, B: Encode> Encode for (A, B) {
-    #[inline(always)]
-    fn encode<Target: Encoder>(&self, encoder: &mut Target) -> Result<(), EncodeError> {
+    fn tell_valid(&self) {
         let (a, b) = self;
-        a.encode(encoder)?;
-        b.encode(encoder)
+        Row(a, Row(b, ())).tell_valid();
+    }
+
+    #[inline(always)]
+    fn encode<Z: Encoder>(&self, encoder: &mut Z) -> Result<(), EncodeError> {
+        let (a, b) = self;
+        Row(a, Row(b, ())).encode(encoder)
     }
 }
 
 impl<A: Encode, B: Encode, C: Encode> Encode for (A, B, C) {
-    #[inline(always)]
-    fn encode<Target: Encoder>(&self, encoder: &mut Target) -> Result<(), EncodeError> {
+    fn tell_valid(&self) {
         let (a, b, c) = self;
-        a.encode(encoder)?;
-        b.encode(encoder)?;
-        c.encode(encoder)
+        Row(a, Row(b, Row(c, ()))).tell_valid();
+    }
+
+    #[inline(always)]
+    fn encode<Z: Encoder>(&self, encoder: &mut Z) -> Result<(), EncodeError> {
+        let (a, b, c) = self;
+        Row(a, Row(b, Row(c, ()))).encode(encoder)
     }
 }
 
 impl<A: Encode, B: Encode, C: Encode, D: Encode> Encode for (A, B, C, D) {
-    #[inline(always)]
-    fn encode<Target: Encoder>(&self, encoder: &mut Target) -> Result<(), EncodeError> {
+    fn tell_valid(&self) {
         let (a, b, c, d) = self;
-        a.encode(encoder)?;
-        b.encode(encoder)?;
-        c.encode(encoder)?;
-        d.encode(encoder)
+        LongRow(a, b, c, d, ()).tell_valid();
+    }
+
+    #[inline(always)]
+    fn encode<Z: Encoder>(&self, encoder: &mut Z) -> Result<(), EncodeError> {
+        let (a, b, c, d) = self;
+        LongRow(a, b, c, d, ()).encode(encoder)
     }
 }
 
 impl<A: Encode, B: Encode, C: Encode, D: Encode, E: Encode> Encode for (A, B, C, D, E) {
-    #[inline(always)]
-    fn encode<Target: Encoder>(&self, encoder: &mut Target) -> Result<(), EncodeError> {
+    fn tell_valid(&self) {
         let (a, b, c, d, e) = self;
-        (a, b, c, d).encode(encoder)?;
-        e.encode(encoder)
+        LongRow(a, b, c, d, Row(e, ())).tell_valid();
+    }
+
+    #[inline(always)]
+    fn encode<Z: Encoder>(&self, encoder: &mut Z) -> Result<(), EncodeError> {
+        let (a, b, c, d, e) = self;
+        LongRow(a, b, c, d, Row(e, ())).encode(encoder)
     }
 }
 
 impl<A: Encode, B: Encode, C: Encode, D: Encode, E: Encode, F: Encode> Encode
     for (A, B, C, D, E, F) {
-    #[inline(always)]
-    fn encode<Target: Encoder>(&self, encoder: &mut Target) -> Result<(), EncodeError> {
+    fn tell_valid(&self) {
         let (a, b, c, d, e, f) = self;
-        (a, b, c, d).encode(encoder)?;
-        (e, f).encode(encoder)
+        LongRow(a, b, c, d, Row(e, Row(f, ()))).tell_valid();
+    }
+
+    #[inline(always)]
+    fn encode<Z: Encoder>(&self, encoder: &mut Z) -> Result<(), EncodeError> {
+        let (a, b, c, d, e, f) = self;
+        LongRow(a, b, c, d, Row(e, Row(f, ()))).encode(encoder)
     }
 }
 
 impl<A: Encode, B: Encode, C: Encode, D: Encode, E: Encode, F: Encode, G: Encode> Encode
     for (A, B, C, D, E, F, G) {
-    #[inline(always)]
-    fn encode<Target: Encoder>(&self, encoder: &mut Target) -> Result<(), EncodeError> {
+    fn tell_valid(&self) {
         let (a, b, c, d, e, f, g) = self;
-        (a, b, c, d).encode(encoder)?;
-        (e, f, g).encode(encoder)
+        LongRow(a, b, c, d, Row(e, Row(f, Row(g, ())))).tell_valid();
+    }
+
+    #[inline(always)]
+    fn encode<Z: Encoder>(&self, encoder: &mut Z) -> Result<(), EncodeError> {
+        let (a, b, c, d, e, f, g) = self;
+        LongRow(a, b, c, d, Row(e, Row(f, Row(g, ())))).encode(encoder)
     }
 }
 
 impl<A: Encode, B: Encode, C: Encode, D: Encode, E: Encode, F: Encode, G: Encode, H: Encode> Encode
     for (A, B, C, D, E, F, G, H) {
-    #[inline(always)]
-    fn encode<Target: Encoder>(&self, encoder: &mut Target) -> Result<(), EncodeError> {
+    fn tell_valid(&self) {
         let (a, b, c, d, e, f, g, h) = self;
-        (a, b, c, d).encode(encoder)?;
-        (e, f, g, h).encode(encoder)
+        LongRow(a, b, c, d, LongRow(e, f, g, h, ())).tell_valid();
+    }
+
+    #[inline(always)]
+    fn encode<Z: Encoder>(&self, encoder: &mut Z) -> Result<(), EncodeError> {
+        let (a, b, c, d, e, f, g, h) = self;
+        LongRow(a, b, c, d, LongRow(e, f, g, h, ())).encode(encoder)
     }
 }
 
@@ -99,12 +159,15 @@ impl<
     H: Encode,
     I: Encode,
 > Encode for (A, B, C, D, E, F, G, H, I) {
-    #[inline(always)]
-    fn encode<Target: Encoder>(&self, encoder: &mut Target) -> Result<(), EncodeError> {
+    fn tell_valid(&self) {
         let (a, b, c, d, e, f, g, h, i) = self;
-        (a, b, c, d).encode(encoder)?;
-        (e, f, g, h).encode(encoder)?;
-        i.encode(encoder)
+        LongRow(a, b, c, d, LongRow(e, f, g, h, Row(i, ()))).tell_valid();
+    }
+
+    #[inline(always)]
+    fn encode<Z: Encoder>(&self, encoder: &mut Z) -> Result<(), EncodeError> {
+        let (a, b, c, d, e, f, g, h, i) = self;
+        LongRow(a, b, c, d, LongRow(e, f, g, h, Row(i, ()))).encode(encoder)
     }
 }
 
@@ -120,12 +183,15 @@ impl<
     I: Encode,
     J: Encode,
 > Encode for (A, B, C, D, E, F, G, H, I, J) {
-    #[inline(always)]
-    fn encode<Target: Encoder>(&self, encoder: &mut Target) -> Result<(), EncodeError> {
+    fn tell_valid(&self) {
         let (a, b, c, d, e, f, g, h, i, j) = self;
-        (a, b, c, d).encode(encoder)?;
-        (e, f, g, h).encode(encoder)?;
-        (i, j).encode(encoder)
+        LongRow(a, b, c, d, LongRow(e, f, g, h, Row(i, Row(j, ())))).tell_valid();
+    }
+
+    #[inline(always)]
+    fn encode<Z: Encoder>(&self, encoder: &mut Z) -> Result<(), EncodeError> {
+        let (a, b, c, d, e, f, g, h, i, j) = self;
+        LongRow(a, b, c, d, LongRow(e, f, g, h, Row(i, Row(j, ())))).encode(encoder)
     }
 }
 
@@ -142,12 +208,15 @@ impl<
     J: Encode,
     K: Encode,
 > Encode for (A, B, C, D, E, F, G, H, I, J, K) {
-    #[inline(always)]
-    fn encode<Target: Encoder>(&self, encoder: &mut Target) -> Result<(), EncodeError> {
+    fn tell_valid(&self) {
         let (a, b, c, d, e, f, g, h, i, j, k) = self;
-        (a, b, c, d).encode(encoder)?;
-        (e, f, g, h).encode(encoder)?;
-        (i, j, k).encode(encoder)
+        LongRow(a, b, c, d, LongRow(e, f, g, h, Row(i, Row(j, Row(k, ()))))).tell_valid();
+    }
+
+    #[inline(always)]
+    fn encode<Z: Encoder>(&self, encoder: &mut Z) -> Result<(), EncodeError> {
+        let (a, b, c, d, e, f, g, h, i, j, k) = self;
+        LongRow(a, b, c, d, LongRow(e, f, g, h, Row(i, Row(j, Row(k, ()))))).encode(encoder)
     }
 }
 
@@ -165,12 +234,15 @@ impl<
     K: Encode,
     L: Encode,
 > Encode for (A, B, C, D, E, F, G, H, I, J, K, L) {
-    #[inline(always)]
-    fn encode<Target: Encoder>(&self, encoder: &mut Target) -> Result<(), EncodeError> {
+    fn tell_valid(&self) {
         let (a, b, c, d, e, f, g, h, i, j, k, l) = self;
-        (a, b, c, d).encode(encoder)?;
-        (e, f, g, h).encode(encoder)?;
-        (i, j, k, l).encode(encoder)
+        LongRow(a, b, c, d, LongRow(e, f, g, h, LongRow(i, j, k, l, ()))).tell_valid();
+    }
+
+    #[inline(always)]
+    fn encode<Z: Encoder>(&self, encoder: &mut Z) -> Result<(), EncodeError> {
+        let (a, b, c, d, e, f, g, h, i, j, k, l) = self;
+        LongRow(a, b, c, d, LongRow(e, f, g, h, LongRow(i, j, k, l, ()))).encode(encoder)
     }
 }
 
@@ -189,13 +261,29 @@ impl<
     L: Encode,
     M: Encode,
 > Encode for (A, B, C, D, E, F, G, H, I, J, K, L, M) {
-    #[inline(always)]
-    fn encode<Target: Encoder>(&self, encoder: &mut Target) -> Result<(), EncodeError> {
+    fn tell_valid(&self) {
         let (a, b, c, d, e, f, g, h, i, j, k, l, m) = self;
-        (a, b, c, d).encode(encoder)?;
-        (e, f, g, h).encode(encoder)?;
-        (i, j, k, l).encode(encoder)?;
-        m.encode(encoder)
+        LongRow(
+            a,
+            b,
+            c,
+            d,
+            LongRow(e, f, g, h, LongRow(i, j, k, l, Row(m, ()))),
+        )
+        .tell_valid();
+    }
+
+    #[inline(always)]
+    fn encode<Z: Encoder>(&self, encoder: &mut Z) -> Result<(), EncodeError> {
+        let (a, b, c, d, e, f, g, h, i, j, k, l, m) = self;
+        LongRow(
+            a,
+            b,
+            c,
+            d,
+            LongRow(e, f, g, h, LongRow(i, j, k, l, Row(m, ()))),
+        )
+        .encode(encoder)
     }
 }
 
@@ -215,13 +303,29 @@ impl<
     M: Encode,
     N: Encode,
 > Encode for (A, B, C, D, E, F, G, H, I, J, K, L, M, N) {
-    #[inline(always)]
-    fn encode<Target: Encoder>(&self, encoder: &mut Target) -> Result<(), EncodeError> {
+    fn tell_valid(&self) {
         let (a, b, c, d, e, f, g, h, i, j, k, l, m, n) = self;
-        (a, b, c, d).encode(encoder)?;
-        (e, f, g, h).encode(encoder)?;
-        (i, j, k, l).encode(encoder)?;
-        (m, n).encode(encoder)
+        LongRow(
+            a,
+            b,
+            c,
+            d,
+            LongRow(e, f, g, h, LongRow(i, j, k, l, Row(m, Row(n, ())))),
+        )
+        .tell_valid();
+    }
+
+    #[inline(always)]
+    fn encode<Z: Encoder>(&self, encoder: &mut Z) -> Result<(), EncodeError> {
+        let (a, b, c, d, e, f, g, h, i, j, k, l, m, n) = self;
+        LongRow(
+            a,
+            b,
+            c,
+            d,
+            LongRow(e, f, g, h, LongRow(i, j, k, l, Row(m, Row(n, ())))),
+        )
+        .encode(encoder)
     }
 }
 
@@ -242,13 +346,29 @@ impl<
     N: Encode,
     O: Encode,
 > Encode for (A, B, C, D, E, F, G, H, I, J, K, L, M, N, O) {
-    #[inline(always)]
-    fn encode<Target: Encoder>(&self, encoder: &mut Target) -> Result<(), EncodeError> {
+    fn tell_valid(&self) {
         let (a, b, c, d, e, f, g, h, i, j, k, l, m, n, o) = self;
-        (a, b, c, d).encode(encoder)?;
-        (e, f, g, h).encode(encoder)?;
-        (i, j, k, l).encode(encoder)?;
-        (m, n, o).encode(encoder)
+        LongRow(
+            a,
+            b,
+            c,
+            d,
+            LongRow(e, f, g, h, LongRow(i, j, k, l, Row(m, Row(n, Row(o, ()))))),
+        )
+        .tell_valid();
+    }
+
+    #[inline(always)]
+    fn encode<Z: Encoder>(&self, encoder: &mut Z) -> Result<(), EncodeError> {
+        let (a, b, c, d, e, f, g, h, i, j, k, l, m, n, o) = self;
+        LongRow(
+            a,
+            b,
+            c,
+            d,
+            LongRow(e, f, g, h, LongRow(i, j, k, l, Row(m, Row(n, Row(o, ()))))),
+        )
+        .encode(encoder)
     }
 }
 
@@ -270,12 +390,28 @@ impl<
     O: Encode,
     P: Encode,
 > Encode for (A, B, C, D, E, F, G, H, I, J, K, L, M, N, O, P) {
-    #[inline(always)]
-    fn encode<Target: Encoder>(&self, encoder: &mut Target) -> Result<(), EncodeError> {
+    fn tell_valid(&self) {
         let (a, b, c, d, e, f, g, h, i, j, k, l, m, n, o, p) = self;
-        (a, b, c, d).encode(encoder)?;
-        (e, f, g, h).encode(encoder)?;
-        (i, j, k, l).encode(encoder)?;
-        (m, n, o, p).encode(encoder)
+        LongRow(
+            a,
+            b,
+            c,
+            d,
+            LongRow(e, f, g, h, LongRow(i, j, k, l, LongRow(m, n, o, p, ()))),
+        )
+        .tell_valid();
+    }
+
+    #[inline(always)]
+    fn encode<Z: Encoder>(&self, encoder: &mut Z) -> Result<(), EncodeError> {
+        let (a, b, c, d, e, f, g, h, i, j, k, l, m, n, o, p) = self;
+        LongRow(
+            a,
+            b,
+            c,
+            d,
+            LongRow(e, f, g, h, LongRow(i, j, k, l, LongRow(m, n, o, p, ()))),
+        )
+        .encode(encoder)
     }
 }

@@ -6,6 +6,10 @@ use std::marker::PhantomData;
 use std::num::Wrapping;
 
 impl<T: Encode> Encode for Wrapping<T> {
+    fn tell_valid(&self) {
+        self.0.tell_valid();
+    }
+
     #[inline]
     fn encode<E: Encoder>(&self, encoder: &mut E) -> Result<(), EncodeError> {
         let Wrapping(value) = self;
@@ -14,6 +18,10 @@ impl<T: Encode> Encode for Wrapping<T> {
 }
 
 impl<T: Encode> Encode for Reverse<T> {
+    fn tell_valid(&self) {
+        self.0.tell_valid();
+    }
+
     #[inline]
     fn encode<E: Encoder>(&self, encoder: &mut E) -> Result<(), EncodeError> {
         let Reverse(value) = self;
@@ -22,13 +30,19 @@ impl<T: Encode> Encode for Reverse<T> {
 }
 
 impl<T> Encode for PhantomData<T> {
+    fn tell_valid(&self) {}
+
     #[inline]
-    fn encode<E: Encoder>(&self, _encoder: &mut E) -> Result<(), EncodeError> {
-        Ok(())
+    fn encode<E: Encoder>(&self, encoder: &mut E) -> Result<(), EncodeError> {
+        ().encode(encoder)
     }
 }
 
 impl<T: Encode> Encode for &T {
+    fn tell_valid(&self) {
+        (**self).tell_valid();
+    }
+
     #[inline]
     fn encode<E: Encoder>(&self, encoder: &mut E) -> Result<(), EncodeError> {
         (**self).encode(encoder)

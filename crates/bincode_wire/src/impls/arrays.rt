@@ -33,12 +33,6 @@ impl<T: Wire, const N: usize> Wire for [T; N] {
         N.saturating_mul(T::claim_size())
     }
 
-    fn tell_valid(&self) {
-        for item in self {
-            item.tell_valid();
-        }
-    }
-
     ghost lawful = { λ s. array-lawful N T.claim (T.format s) (T.lawful s) };
 
     ghost balanced = { λ s. array-balanced N T.claim (T.format s) (T.balanced s) };

@@ -27,8 +27,6 @@ impl<T: Wire> Wire for Cell<T> {
         T::claim_size()
     }
 
-    fn tell_valid(&self) {}
-
     ghost lawful = { λ s. cell-lawful (T.format s) (T.lawful s) };
 
     ghost balanced = { λ s. cell-balanced (T.format s) (T.balanced s) };
@@ -56,8 +54,6 @@ impl<T: Wire> Wire for RefCell<T> {
     fn claim_size() -> usize {
         Cell::<T>::claim_size()
     }
-
-    fn tell_valid(&self) {}
 
     ghost lawful = { λ s. cell-lawful (T.format s) (T.lawful s) };
 

@@ -1,622 +1,255 @@
-ghost use Rattle.std.specs.Prelude.{◌≡◌, ◌<◌, ◌^◌, pos, unsigned_abs, FitsSigned, refl};
-ghost use Rattle.std.specs.Int.{w8, w16, w32, w64, w128};
+ghost use Rattle.std.specs.Prelude.{refl};
+ghost use Rattle.std.specs.Int.{w16, w32, w64, w128};
 ghost use Rattle.std.specs.Int.NonZero.{non_zero_u8_get, non_zero_u16_get, non_zero_u32_get, non_zero_u64_get, non_zero_u128_get, non_zero_usize_get};
 ghost use Rattle.std.specs.Int.NonZero.{non_zero_i8_get, non_zero_i16_get, non_zero_i32_get, non_zero_i64_get, non_zero_i128_get, non_zero_isize_get};
-ghost use Rattle.bincode_base.specs.declared.error.IntegerType.TheVariants.{U8, U16, U32, U64, U128, Usize, I8, I16, I32, I64, I128, Isize};
-ghost use Rattle.bincode_base.specs.Integers.{unsigned, signed, unsigned_byte, signed_byte};
-ghost use Rattle.bincode_base.specs.IntegerLaws.{Two, Four, Eight, Sixteen, unsigned-lawful, unsigned-balanced, signed-lawful, signed-balanced};
-ghost use Rattle.bincode_base.specs.IntegerLaws.{unsigned_byte-lawful, unsigned_byte-balanced, signed_byte-lawful, signed_byte-balanced};
-ghost use Rattle.bincode_base.specs.FormatLaws.{map-lawful};
-ghost use Rattle.bincode_base.specs.Balance.{map-balanced};
-ghost use Rattle.bincode_wire.specs.Meaning.{IsNumber};
-ghost use Rattle.bincode_wire.specs.Words.{natural, integral, not_zero, not_zero_integer};
-ghost use Rattle.bincode_wire.specs.WordsLaws.{not_zero-lawful, not_zero-balanced};
+ghost use Rattle.bincode_base.specs.declared.error.IntegerType.TheVariants.{U16, U32, U64, U128, Usize, I16, I32, I64, I128, Isize};
+ghost use Rattle.bincode_base.specs.IntegerLaws.{Two, Four, Eight, Sixteen};
 ghost use Rattle.bincode_wire.specs.AllowedLaws.{same_number, same_integer};
-ghost use Rattle.bincode_wire.specs.SpelledLaws.{unsigned-spelled, byte-spelled, signed-spelled, signed_byte-spelled, not_zero-spelled, not_zero_integer-spelled};
+ghost use Rattle.bincode_wire.specs.Forms.{bytes_not_zero, unsigned_not_zero, signed_bytes_not_zero, signed_not_zero};
 
-use crate::laws::{Canonical, Exact, Plain};
-use crate::wire::Wire;
+use crate::parted::{Parted, SameParts};
+use crate::scalars::{Alone, Scalar};
 use std::num::{
     NonZeroI8, NonZeroI16, NonZeroI32, NonZeroI64, NonZeroI128, NonZeroIsize, NonZeroU8,
     NonZeroU16, NonZeroU32, NonZeroU64, NonZeroU128, NonZeroUsize,
 };
 
-impl Wire for NonZeroU8 {
-    ghost format = { λ s. natural (not_zero U8 unsigned_byte) };
+impl Scalar for NonZeroU8 {
+    ghost form = { bytes_not_zero non_zero_u8_get };
 
-    ghost valid = { λ v. (non_zero_u8_get v < 2 ^ 8) × (0 < non_zero_u8_get v) };
+    ghost SIZE = { 1 };
 
-    ghost means = { λ v. IsNumber (pos (non_zero_u8_get v)) };
+    const SIZE: usize = size_of::<NonZeroU8>();
 
-    ghost given = { λ m v. IsNumber (pos (non_zero_u8_get v)) m };
-
-    ghost writable = { λ s v. Unit {0} };
-
-    ghost names = { λ e. ⊥ };
-
-    ghost grows = { ⊥ };
-
-    ghost claim = { 1 };
-
-    fn claim_size() -> usize {
-        size_of::<NonZeroU8>()
-    }
-
-    fn tell_valid(&self) {
-        let _value = self.get();
-    }
-
-    ghost lawful = { λ s. map-lawful _ _ (not_zero-lawful _ U8 _ unsigned_byte-lawful) };
-
-    ghost balanced = { λ s. map-balanced _ _ (not_zero-balanced _ U8 _ unsigned_byte-balanced) };
-
-    ghost has_word = { λ s v h w. (not_zero-spelled U8 _ _ h.1 (byte-spelled _)).has_word };
+    ghost same = { λ v w. same_number (non_zero_u8_get v) (non_zero_u8_get w) };
 }
 
-impl Plain for NonZeroU8 {
-    ghost one_length = { λ s v h. (not_zero-spelled U8 _ _ h.1 (byte-spelled _)).one_length };
+impl Parted for NonZeroU8 {
+    type Parts = Alone<NonZeroU8>;
 
-    ghost always_writable = { λ s v h. tt };
-
-    ghost names_none = { λ e h. h };
+    ghost parts = { λ v. record { value = v } };
 }
 
-impl Exact for NonZeroU8 {
-    ghost one_value = { λ v w m h k. same_number _ _ m };
-
-    ghost comes_back = { λ v w m h. same_number _ _ m };
+impl SameParts<Alone<NonZeroU8>> for NonZeroU8 {
+    ghost same_parts = { λ v w e. e };
 }
 
-impl Canonical for NonZeroU8 {
-    ghost shortest = { λ s v h. (not_zero-spelled U8 _ _ h.1 (byte-spelled _)).none_shorter };
+impl Scalar for NonZeroU16 {
+    ghost form = { unsigned_not_zero non_zero_u16_get U16 2 (Two refl) };
+
+    ghost SIZE = { 2 };
+
+    const SIZE: usize = size_of::<NonZeroU16>();
+
+    ghost same = { λ v w. same_number (non_zero_u16_get v) (non_zero_u16_get w) };
 }
 
-impl Wire for NonZeroU16 {
-    ghost format = { λ s. natural (not_zero U16 (unsigned U16 2 s)) };
+impl Parted for NonZeroU16 {
+    type Parts = Alone<NonZeroU16>;
 
-    ghost valid = { λ v. (non_zero_u16_get v < 2 ^ 16) × (0 < non_zero_u16_get v) };
-
-    ghost means = { λ v. IsNumber (pos (non_zero_u16_get v)) };
-
-    ghost given = { λ m v. IsNumber (pos (non_zero_u16_get v)) m };
-
-    ghost writable = { λ s v. Unit {0} };
-
-    ghost names = { λ e. ⊥ };
-
-    ghost grows = { ⊥ };
-
-    ghost claim = { 2 };
-
-    fn claim_size() -> usize {
-        size_of::<NonZeroU16>()
-    }
-
-    fn tell_valid(&self) {
-        let _value = self.get();
-    }
-
-    ghost lawful = { λ s. map-lawful _ _ (not_zero-lawful _ U16 _ (unsigned-lawful U16 2 s (Two refl))) };
-
-    ghost balanced = { λ s. map-balanced _ _ (not_zero-balanced _ U16 _ (unsigned-balanced U16 2 s)) };
-
-    ghost has_word = { λ s v h w. (not_zero-spelled U16 _ _ h.1 (unsigned-spelled U16 2 _ s h.0)).has_word };
+    ghost parts = { λ v. record { value = v } };
 }
 
-impl Plain for NonZeroU16 {
-    ghost one_length = { λ s v h. (not_zero-spelled U16 _ _ h.1 (unsigned-spelled U16 2 _ s h.0)).one_length };
-
-    ghost always_writable = { λ s v h. tt };
-
-    ghost names_none = { λ e h. h };
+impl SameParts<Alone<NonZeroU16>> for NonZeroU16 {
+    ghost same_parts = { λ v w e. e };
 }
 
-impl Exact for NonZeroU16 {
-    ghost one_value = { λ v w m h k. same_number _ _ m };
+impl Scalar for NonZeroU32 {
+    ghost form = { unsigned_not_zero non_zero_u32_get U32 4 (Four refl) };
 
-    ghost comes_back = { λ v w m h. same_number _ _ m };
+    ghost SIZE = { 4 };
+
+    const SIZE: usize = size_of::<NonZeroU32>();
+
+    ghost same = { λ v w. same_number (non_zero_u32_get v) (non_zero_u32_get w) };
 }
 
-impl Canonical for NonZeroU16 {
-    ghost shortest = { λ s v h. (not_zero-spelled U16 _ _ h.1 (unsigned-spelled U16 2 _ s h.0)).none_shorter };
+impl Parted for NonZeroU32 {
+    type Parts = Alone<NonZeroU32>;
+
+    ghost parts = { λ v. record { value = v } };
 }
 
-impl Wire for NonZeroU32 {
-    ghost format = { λ s. natural (not_zero U32 (unsigned U32 4 s)) };
-
-    ghost valid = { λ v. (non_zero_u32_get v < 2 ^ 32) × (0 < non_zero_u32_get v) };
-
-    ghost means = { λ v. IsNumber (pos (non_zero_u32_get v)) };
-
-    ghost given = { λ m v. IsNumber (pos (non_zero_u32_get v)) m };
-
-    ghost writable = { λ s v. Unit {0} };
-
-    ghost names = { λ e. ⊥ };
-
-    ghost grows = { ⊥ };
-
-    ghost claim = { 4 };
-
-    fn claim_size() -> usize {
-        size_of::<NonZeroU32>()
-    }
-
-    fn tell_valid(&self) {
-        let _value = self.get();
-    }
-
-    ghost lawful = { λ s. map-lawful _ _ (not_zero-lawful _ U32 _ (unsigned-lawful U32 4 s (Four refl))) };
-
-    ghost balanced = { λ s. map-balanced _ _ (not_zero-balanced _ U32 _ (unsigned-balanced U32 4 s)) };
-
-    ghost has_word = { λ s v h w. (not_zero-spelled U32 _ _ h.1 (unsigned-spelled U32 4 _ s h.0)).has_word };
+impl SameParts<Alone<NonZeroU32>> for NonZeroU32 {
+    ghost same_parts = { λ v w e. e };
 }
 
-impl Plain for NonZeroU32 {
-    ghost one_length = { λ s v h. (not_zero-spelled U32 _ _ h.1 (unsigned-spelled U32 4 _ s h.0)).one_length };
+impl Scalar for NonZeroU64 {
+    ghost form = { unsigned_not_zero non_zero_u64_get U64 8 (Eight refl) };
 
-    ghost always_writable = { λ s v h. tt };
+    ghost SIZE = { 8 };
 
-    ghost names_none = { λ e h. h };
+    const SIZE: usize = size_of::<NonZeroU64>();
+
+    ghost same = { λ v w. same_number (non_zero_u64_get v) (non_zero_u64_get w) };
 }
 
-impl Exact for NonZeroU32 {
-    ghost one_value = { λ v w m h k. same_number _ _ m };
+impl Parted for NonZeroU64 {
+    type Parts = Alone<NonZeroU64>;
 
-    ghost comes_back = { λ v w m h. same_number _ _ m };
+    ghost parts = { λ v. record { value = v } };
 }
 
-impl Canonical for NonZeroU32 {
-    ghost shortest = { λ s v h. (not_zero-spelled U32 _ _ h.1 (unsigned-spelled U32 4 _ s h.0)).none_shorter };
+impl SameParts<Alone<NonZeroU64>> for NonZeroU64 {
+    ghost same_parts = { λ v w e. e };
 }
 
-impl Wire for NonZeroU64 {
-    ghost format = { λ s. natural (not_zero U64 (unsigned U64 8 s)) };
+impl Scalar for NonZeroU128 {
+    ghost form = { unsigned_not_zero non_zero_u128_get U128 16 (Sixteen refl) };
 
-    ghost valid = { λ v. (non_zero_u64_get v < 2 ^ 64) × (0 < non_zero_u64_get v) };
+    ghost SIZE = { 16 };
 
-    ghost means = { λ v. IsNumber (pos (non_zero_u64_get v)) };
+    const SIZE: usize = size_of::<NonZeroU128>();
 
-    ghost given = { λ m v. IsNumber (pos (non_zero_u64_get v)) m };
-
-    ghost writable = { λ s v. Unit {0} };
-
-    ghost names = { λ e. ⊥ };
-
-    ghost grows = { ⊥ };
-
-    ghost claim = { 8 };
-
-    fn claim_size() -> usize {
-        size_of::<NonZeroU64>()
-    }
-
-    fn tell_valid(&self) {
-        let _value = self.get();
-    }
-
-    ghost lawful = { λ s. map-lawful _ _ (not_zero-lawful _ U64 _ (unsigned-lawful U64 8 s (Eight refl))) };
-
-    ghost balanced = { λ s. map-balanced _ _ (not_zero-balanced _ U64 _ (unsigned-balanced U64 8 s)) };
-
-    ghost has_word = { λ s v h w. (not_zero-spelled U64 _ _ h.1 (unsigned-spelled U64 8 _ s h.0)).has_word };
+    ghost same = { λ v w. same_number (non_zero_u128_get v) (non_zero_u128_get w) };
 }
 
-impl Plain for NonZeroU64 {
-    ghost one_length = { λ s v h. (not_zero-spelled U64 _ _ h.1 (unsigned-spelled U64 8 _ s h.0)).one_length };
+impl Parted for NonZeroU128 {
+    type Parts = Alone<NonZeroU128>;
 
-    ghost always_writable = { λ s v h. tt };
-
-    ghost names_none = { λ e h. h };
+    ghost parts = { λ v. record { value = v } };
 }
 
-impl Exact for NonZeroU64 {
-    ghost one_value = { λ v w m h k. same_number _ _ m };
-
-    ghost comes_back = { λ v w m h. same_number _ _ m };
+impl SameParts<Alone<NonZeroU128>> for NonZeroU128 {
+    ghost same_parts = { λ v w e. e };
 }
 
-impl Canonical for NonZeroU64 {
-    ghost shortest = { λ s v h. (not_zero-spelled U64 _ _ h.1 (unsigned-spelled U64 8 _ s h.0)).none_shorter };
+impl Scalar for NonZeroUsize {
+    ghost form = { unsigned_not_zero non_zero_usize_get Usize 8 (Eight refl) };
+
+    ghost SIZE = { 8 };
+
+    const SIZE: usize = size_of::<NonZeroUsize>();
+
+    ghost same = { λ v w. same_number (non_zero_usize_get v) (non_zero_usize_get w) };
 }
 
-impl Wire for NonZeroU128 {
-    ghost format = { λ s. natural (not_zero U128 (unsigned U128 16 s)) };
+impl Parted for NonZeroUsize {
+    type Parts = Alone<NonZeroUsize>;
 
-    ghost valid = { λ v. (non_zero_u128_get v < 2 ^ 128) × (0 < non_zero_u128_get v) };
-
-    ghost means = { λ v. IsNumber (pos (non_zero_u128_get v)) };
-
-    ghost given = { λ m v. IsNumber (pos (non_zero_u128_get v)) m };
-
-    ghost writable = { λ s v. Unit {0} };
-
-    ghost names = { λ e. ⊥ };
-
-    ghost grows = { ⊥ };
-
-    ghost claim = { 16 };
-
-    fn claim_size() -> usize {
-        size_of::<NonZeroU128>()
-    }
-
-    fn tell_valid(&self) {
-        let _value = self.get();
-    }
-
-    ghost lawful = { λ s. map-lawful _ _ (not_zero-lawful _ U128 _ (unsigned-lawful U128 16 s (Sixteen refl))) };
-
-    ghost balanced = { λ s. map-balanced _ _ (not_zero-balanced _ U128 _ (unsigned-balanced U128 16 s)) };
-
-    ghost has_word = { λ s v h w. (not_zero-spelled U128 _ _ h.1 (unsigned-spelled U128 16 _ s h.0)).has_word };
+    ghost parts = { λ v. record { value = v } };
 }
 
-impl Plain for NonZeroU128 {
-    ghost one_length = { λ s v h. (not_zero-spelled U128 _ _ h.1 (unsigned-spelled U128 16 _ s h.0)).one_length };
-
-    ghost always_writable = { λ s v h. tt };
-
-    ghost names_none = { λ e h. h };
+impl SameParts<Alone<NonZeroUsize>> for NonZeroUsize {
+    ghost same_parts = { λ v w e. e };
 }
 
-impl Exact for NonZeroU128 {
-    ghost one_value = { λ v w m h k. same_number _ _ m };
+impl Scalar for NonZeroI8 {
+    ghost form = { signed_bytes_not_zero non_zero_i8_get };
 
-    ghost comes_back = { λ v w m h. same_number _ _ m };
+    ghost SIZE = { 1 };
+
+    const SIZE: usize = size_of::<NonZeroI8>();
+
+    ghost same = { λ v w. same_integer (non_zero_i8_get v) (non_zero_i8_get w) };
 }
 
-impl Canonical for NonZeroU128 {
-    ghost shortest = { λ s v h. (not_zero-spelled U128 _ _ h.1 (unsigned-spelled U128 16 _ s h.0)).none_shorter };
+impl Parted for NonZeroI8 {
+    type Parts = Alone<NonZeroI8>;
+
+    ghost parts = { λ v. record { value = v } };
 }
 
-impl Wire for NonZeroUsize {
-    ghost format = { λ s. natural (not_zero Usize (unsigned Usize 8 s)) };
-
-    ghost valid = { λ v. (non_zero_usize_get v < 2 ^ 64) × (0 < non_zero_usize_get v) };
-
-    ghost means = { λ v. IsNumber (pos (non_zero_usize_get v)) };
-
-    ghost given = { λ m v. IsNumber (pos (non_zero_usize_get v)) m };
-
-    ghost writable = { λ s v. Unit {0} };
-
-    ghost names = { λ e. ⊥ };
-
-    ghost grows = { ⊥ };
-
-    ghost claim = { 8 };
-
-    fn claim_size() -> usize {
-        size_of::<NonZeroUsize>()
-    }
-
-    fn tell_valid(&self) {
-        let _value = self.get();
-    }
-
-    ghost lawful = { λ s. map-lawful _ _ (not_zero-lawful _ Usize _ (unsigned-lawful Usize 8 s (Eight refl))) };
-
-    ghost balanced = { λ s. map-balanced _ _ (not_zero-balanced _ Usize _ (unsigned-balanced Usize 8 s)) };
-
-    ghost has_word = { λ s v h w. (not_zero-spelled Usize _ _ h.1 (unsigned-spelled Usize 8 _ s h.0)).has_word };
+impl SameParts<Alone<NonZeroI8>> for NonZeroI8 {
+    ghost same_parts = { λ v w e. e };
 }
 
-impl Plain for NonZeroUsize {
-    ghost one_length = { λ s v h. (not_zero-spelled Usize _ _ h.1 (unsigned-spelled Usize 8 _ s h.0)).one_length };
+impl Scalar for NonZeroI16 {
+    ghost form = { signed_not_zero non_zero_i16_get I16 w16 (Two refl) };
 
-    ghost always_writable = { λ s v h. tt };
+    ghost SIZE = { 2 };
 
-    ghost names_none = { λ e h. h };
+    const SIZE: usize = size_of::<NonZeroI16>();
+
+    ghost same = { λ v w. same_integer (non_zero_i16_get v) (non_zero_i16_get w) };
 }
 
-impl Exact for NonZeroUsize {
-    ghost one_value = { λ v w m h k. same_number _ _ m };
+impl Parted for NonZeroI16 {
+    type Parts = Alone<NonZeroI16>;
 
-    ghost comes_back = { λ v w m h. same_number _ _ m };
+    ghost parts = { λ v. record { value = v } };
 }
 
-impl Canonical for NonZeroUsize {
-    ghost shortest = { λ s v h. (not_zero-spelled Usize _ _ h.1 (unsigned-spelled Usize 8 _ s h.0)).none_shorter };
+impl SameParts<Alone<NonZeroI16>> for NonZeroI16 {
+    ghost same_parts = { λ v w e. e };
 }
 
-impl Wire for NonZeroI8 {
-    ghost format = { λ s. integral (not_zero_integer I8 signed_byte) };
+impl Scalar for NonZeroI32 {
+    ghost form = { signed_not_zero non_zero_i32_get I32 w32 (Four refl) };
 
-    ghost valid = { λ v. FitsSigned w8 (non_zero_i8_get v) × (0 < unsigned_abs (non_zero_i8_get v)) };
+    ghost SIZE = { 4 };
 
-    ghost means = { λ v. IsNumber (non_zero_i8_get v) };
+    const SIZE: usize = size_of::<NonZeroI32>();
 
-    ghost given = { λ m v. IsNumber (non_zero_i8_get v) m };
-
-    ghost writable = { λ s v. Unit {0} };
-
-    ghost names = { λ e. ⊥ };
-
-    ghost grows = { ⊥ };
-
-    ghost claim = { 1 };
-
-    fn claim_size() -> usize {
-        size_of::<NonZeroI8>()
-    }
-
-    fn tell_valid(&self) {
-        let _value = self.get();
-    }
-
-    ghost lawful = { λ s. map-lawful _ _ (not_zero-lawful _ I8 _ signed_byte-lawful) };
-
-    ghost balanced = { λ s. map-balanced _ _ (not_zero-balanced _ I8 _ signed_byte-balanced) };
-
-    ghost has_word = { λ s v h w. (not_zero_integer-spelled I8 _ _ h.1 (signed_byte-spelled _ h.0)).has_word };
+    ghost same = { λ v w. same_integer (non_zero_i32_get v) (non_zero_i32_get w) };
 }
 
-impl Plain for NonZeroI8 {
-    ghost one_length = { λ s v h. (not_zero_integer-spelled I8 _ _ h.1 (signed_byte-spelled _ h.0)).one_length };
+impl Parted for NonZeroI32 {
+    type Parts = Alone<NonZeroI32>;
 
-    ghost always_writable = { λ s v h. tt };
-
-    ghost names_none = { λ e h. h };
+    ghost parts = { λ v. record { value = v } };
 }
 
-impl Exact for NonZeroI8 {
-    ghost one_value = { λ v w m h k. same_integer _ _ m };
-
-    ghost comes_back = { λ v w m h. same_integer _ _ m };
+impl SameParts<Alone<NonZeroI32>> for NonZeroI32 {
+    ghost same_parts = { λ v w e. e };
 }
 
-impl Canonical for NonZeroI8 {
-    ghost shortest = { λ s v h. (not_zero_integer-spelled I8 _ _ h.1 (signed_byte-spelled _ h.0)).none_shorter };
+impl Scalar for NonZeroI64 {
+    ghost form = { signed_not_zero non_zero_i64_get I64 w64 (Eight refl) };
+
+    ghost SIZE = { 8 };
+
+    const SIZE: usize = size_of::<NonZeroI64>();
+
+    ghost same = { λ v w. same_integer (non_zero_i64_get v) (non_zero_i64_get w) };
 }
 
-impl Wire for NonZeroI16 {
-    ghost format = { λ s. integral (not_zero_integer I16 (signed I16 2 s)) };
+impl Parted for NonZeroI64 {
+    type Parts = Alone<NonZeroI64>;
 
-    ghost valid = { λ v. FitsSigned w16 (non_zero_i16_get v) × (0 < unsigned_abs (non_zero_i16_get v)) };
-
-    ghost means = { λ v. IsNumber (non_zero_i16_get v) };
-
-    ghost given = { λ m v. IsNumber (non_zero_i16_get v) m };
-
-    ghost writable = { λ s v. Unit {0} };
-
-    ghost names = { λ e. ⊥ };
-
-    ghost grows = { ⊥ };
-
-    ghost claim = { 2 };
-
-    fn claim_size() -> usize {
-        size_of::<NonZeroI16>()
-    }
-
-    fn tell_valid(&self) {
-        let _value = self.get();
-    }
-
-    ghost lawful = { λ s. map-lawful _ _ (not_zero-lawful _ I16 _ (signed-lawful I16 2 s (Two refl))) };
-
-    ghost balanced = { λ s. map-balanced _ _ (not_zero-balanced _ I16 _ (signed-balanced I16 2 s)) };
-
-    ghost has_word = { λ s v h w. (not_zero_integer-spelled I16 _ _ h.1 (signed-spelled I16 w16 _ s (Two refl) h.0)).has_word };
+    ghost parts = { λ v. record { value = v } };
 }
 
-impl Plain for NonZeroI16 {
-    ghost one_length = { λ s v h. (not_zero_integer-spelled I16 _ _ h.1 (signed-spelled I16 w16 _ s (Two refl) h.0)).one_length };
-
-    ghost always_writable = { λ s v h. tt };
-
-    ghost names_none = { λ e h. h };
+impl SameParts<Alone<NonZeroI64>> for NonZeroI64 {
+    ghost same_parts = { λ v w e. e };
 }
 
-impl Exact for NonZeroI16 {
-    ghost one_value = { λ v w m h k. same_integer _ _ m };
+impl Scalar for NonZeroI128 {
+    ghost form = { signed_not_zero non_zero_i128_get I128 w128 (Sixteen refl) };
 
-    ghost comes_back = { λ v w m h. same_integer _ _ m };
+    ghost SIZE = { 16 };
+
+    const SIZE: usize = size_of::<NonZeroI128>();
+
+    ghost same = { λ v w. same_integer (non_zero_i128_get v) (non_zero_i128_get w) };
 }
 
-impl Canonical for NonZeroI16 {
-    ghost shortest = { λ s v h. (not_zero_integer-spelled I16 _ _ h.1 (signed-spelled I16 w16 _ s (Two refl) h.0)).none_shorter };
+impl Parted for NonZeroI128 {
+    type Parts = Alone<NonZeroI128>;
+
+    ghost parts = { λ v. record { value = v } };
 }
 
-impl Wire for NonZeroI32 {
-    ghost format = { λ s. integral (not_zero_integer I32 (signed I32 4 s)) };
-
-    ghost valid = { λ v. FitsSigned w32 (non_zero_i32_get v) × (0 < unsigned_abs (non_zero_i32_get v)) };
-
-    ghost means = { λ v. IsNumber (non_zero_i32_get v) };
-
-    ghost given = { λ m v. IsNumber (non_zero_i32_get v) m };
-
-    ghost writable = { λ s v. Unit {0} };
-
-    ghost names = { λ e. ⊥ };
-
-    ghost grows = { ⊥ };
-
-    ghost claim = { 4 };
-
-    fn claim_size() -> usize {
-        size_of::<NonZeroI32>()
-    }
-
-    fn tell_valid(&self) {
-        let _value = self.get();
-    }
-
-    ghost lawful = { λ s. map-lawful _ _ (not_zero-lawful _ I32 _ (signed-lawful I32 4 s (Four refl))) };
-
-    ghost balanced = { λ s. map-balanced _ _ (not_zero-balanced _ I32 _ (signed-balanced I32 4 s)) };
-
-    ghost has_word = { λ s v h w. (not_zero_integer-spelled I32 _ _ h.1 (signed-spelled I32 w32 _ s (Four refl) h.0)).has_word };
+impl SameParts<Alone<NonZeroI128>> for NonZeroI128 {
+    ghost same_parts = { λ v w e. e };
 }
 
-impl Plain for NonZeroI32 {
-    ghost one_length = { λ s v h. (not_zero_integer-spelled I32 _ _ h.1 (signed-spelled I32 w32 _ s (Four refl) h.0)).one_length };
+impl Scalar for NonZeroIsize {
+    ghost form = { signed_not_zero non_zero_isize_get Isize w64 (Eight refl) };
 
-    ghost always_writable = { λ s v h. tt };
+    ghost SIZE = { 8 };
 
-    ghost names_none = { λ e h. h };
+    const SIZE: usize = size_of::<NonZeroIsize>();
+
+    ghost same = { λ v w. same_integer (non_zero_isize_get v) (non_zero_isize_get w) };
 }
 
-impl Exact for NonZeroI32 {
-    ghost one_value = { λ v w m h k. same_integer _ _ m };
+impl Parted for NonZeroIsize {
+    type Parts = Alone<NonZeroIsize>;
 
-    ghost comes_back = { λ v w m h. same_integer _ _ m };
+    ghost parts = { λ v. record { value = v } };
 }
 
-impl Canonical for NonZeroI32 {
-    ghost shortest = { λ s v h. (not_zero_integer-spelled I32 _ _ h.1 (signed-spelled I32 w32 _ s (Four refl) h.0)).none_shorter };
-}
-
-impl Wire for NonZeroI64 {
-    ghost format = { λ s. integral (not_zero_integer I64 (signed I64 8 s)) };
-
-    ghost valid = { λ v. FitsSigned w64 (non_zero_i64_get v) × (0 < unsigned_abs (non_zero_i64_get v)) };
-
-    ghost means = { λ v. IsNumber (non_zero_i64_get v) };
-
-    ghost given = { λ m v. IsNumber (non_zero_i64_get v) m };
-
-    ghost writable = { λ s v. Unit {0} };
-
-    ghost names = { λ e. ⊥ };
-
-    ghost grows = { ⊥ };
-
-    ghost claim = { 8 };
-
-    fn claim_size() -> usize {
-        size_of::<NonZeroI64>()
-    }
-
-    fn tell_valid(&self) {
-        let _value = self.get();
-    }
-
-    ghost lawful = { λ s. map-lawful _ _ (not_zero-lawful _ I64 _ (signed-lawful I64 8 s (Eight refl))) };
-
-    ghost balanced = { λ s. map-balanced _ _ (not_zero-balanced _ I64 _ (signed-balanced I64 8 s)) };
-
-    ghost has_word = { λ s v h w. (not_zero_integer-spelled I64 _ _ h.1 (signed-spelled I64 w64 _ s (Eight refl) h.0)).has_word };
-}
-
-impl Plain for NonZeroI64 {
-    ghost one_length = { λ s v h. (not_zero_integer-spelled I64 _ _ h.1 (signed-spelled I64 w64 _ s (Eight refl) h.0)).one_length };
-
-    ghost always_writable = { λ s v h. tt };
-
-    ghost names_none = { λ e h. h };
-}
-
-impl Exact for NonZeroI64 {
-    ghost one_value = { λ v w m h k. same_integer _ _ m };
-
-    ghost comes_back = { λ v w m h. same_integer _ _ m };
-}
-
-impl Canonical for NonZeroI64 {
-    ghost shortest = { λ s v h. (not_zero_integer-spelled I64 _ _ h.1 (signed-spelled I64 w64 _ s (Eight refl) h.0)).none_shorter };
-}
-
-impl Wire for NonZeroI128 {
-    ghost format = { λ s. integral (not_zero_integer I128 (signed I128 16 s)) };
-
-    ghost valid = { λ v. FitsSigned w128 (non_zero_i128_get v) × (0 < unsigned_abs (non_zero_i128_get v)) };
-
-    ghost means = { λ v. IsNumber (non_zero_i128_get v) };
-
-    ghost given = { λ m v. IsNumber (non_zero_i128_get v) m };
-
-    ghost writable = { λ s v. Unit {0} };
-
-    ghost names = { λ e. ⊥ };
-
-    ghost grows = { ⊥ };
-
-    ghost claim = { 16 };
-
-    fn claim_size() -> usize {
-        size_of::<NonZeroI128>()
-    }
-
-    fn tell_valid(&self) {
-        let _value = self.get();
-    }
-
-    ghost lawful = { λ s. map-lawful _ _ (not_zero-lawful _ I128 _ (signed-lawful I128 16 s (Sixteen refl))) };
-
-    ghost balanced = { λ s. map-balanced _ _ (not_zero-balanced _ I128 _ (signed-balanced I128 16 s)) };
-
-    ghost has_word = { λ s v h w. (not_zero_integer-spelled I128 _ _ h.1 (signed-spelled I128 w128 _ s (Sixteen refl) h.0)).has_word };
-}
-
-impl Plain for NonZeroI128 {
-    ghost one_length = { λ s v h. (not_zero_integer-spelled I128 _ _ h.1 (signed-spelled I128 w128 _ s (Sixteen refl) h.0)).one_length };
-
-    ghost always_writable = { λ s v h. tt };
-
-    ghost names_none = { λ e h. h };
-}
-
-impl Exact for NonZeroI128 {
-    ghost one_value = { λ v w m h k. same_integer _ _ m };
-
-    ghost comes_back = { λ v w m h. same_integer _ _ m };
-}
-
-impl Canonical for NonZeroI128 {
-    ghost shortest = { λ s v h. (not_zero_integer-spelled I128 _ _ h.1 (signed-spelled I128 w128 _ s (Sixteen refl) h.0)).none_shorter };
-}
-
-impl Wire for NonZeroIsize {
-    ghost format = { λ s. integral (not_zero_integer Isize (signed Isize 8 s)) };
-
-    ghost valid = { λ v. FitsSigned w64 (non_zero_isize_get v) × (0 < unsigned_abs (non_zero_isize_get v)) };
-
-    ghost means = { λ v. IsNumber (non_zero_isize_get v) };
-
-    ghost given = { λ m v. IsNumber (non_zero_isize_get v) m };
-
-    ghost writable = { λ s v. Unit {0} };
-
-    ghost names = { λ e. ⊥ };
-
-    ghost grows = { ⊥ };
-
-    ghost claim = { 8 };
-
-    fn claim_size() -> usize {
-        size_of::<NonZeroIsize>()
-    }
-
-    fn tell_valid(&self) {
-        let _value = self.get();
-    }
-
-    ghost lawful = { λ s. map-lawful _ _ (not_zero-lawful _ Isize _ (signed-lawful Isize 8 s (Eight refl))) };
-
-    ghost balanced = { λ s. map-balanced _ _ (not_zero-balanced _ Isize _ (signed-balanced Isize 8 s)) };
-
-    ghost has_word = { λ s v h w. (not_zero_integer-spelled Isize _ _ h.1 (signed-spelled Isize w64 _ s (Eight refl) h.0)).has_word };
-}
-
-impl Plain for NonZeroIsize {
-    ghost one_length = { λ s v h. (not_zero_integer-spelled Isize _ _ h.1 (signed-spelled Isize w64 _ s (Eight refl) h.0)).one_length };
-
-    ghost always_writable = { λ s v h. tt };
-
-    ghost names_none = { λ e h. h };
-}
-
-impl Exact for NonZeroIsize {
-    ghost one_value = { λ v w m h k. same_integer _ _ m };
-
-    ghost comes_back = { λ v w m h. same_integer _ _ m };
-}
-
-impl Canonical for NonZeroIsize {
-    ghost shortest = { λ s v h. (not_zero_integer-spelled Isize _ _ h.1 (signed-spelled Isize w64 _ s (Eight refl) h.0)).none_shorter };
+impl SameParts<Alone<NonZeroIsize>> for NonZeroIsize {
+    ghost same_parts = { λ v w e. e };
 }

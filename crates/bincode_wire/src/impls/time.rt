@@ -1,12 +1,11 @@
-ghost use Rattle.std.specs.Prelude.{◌≡◌, ◌<◌, ◌^◌, ◌++◌, pos, true, refl};
+ghost use Rattle.std.specs.Prelude.{◌≡◌, ◌<◌, ◌^◌, ◌++◌, pos, refl};
 ghost use Rattle.bincode_base.specs.declared.error.IntegerType.TheVariants.{U32, U64};
 ghost use Rattle.bincode_wire.specs.Meaning.{IsNumber, IsThen, IsNothing};
 ghost use Rattle.bincode_wire.specs.Words.{second_in_nanos, duration};
 ghost use Rattle.bincode_wire.specs.Spans.{secs_of, nanos_of};
-ghost use Rattle.bincode_wire.specs.AllowedLaws.{both-one_length, same-one_length, same_number};
-ghost use Rattle.bincode_wire.specs.TupleLaws.{then-all_same, nothing-all_same};
+ghost use Rattle.bincode_wire.specs.AllowedLaws.{both-one_length, same-one_length};
 ghost use Rattle.bincode_wire.specs.SpelledLaws.{unsigned-spelled};
-ghost use Rattle.bincode_wire.specs.DurationLaws.{duration-lawful, duration-balanced, duration-allows, allowed-duration, nanos_fit};
+ghost use Rattle.bincode_wire.specs.DurationLaws.{duration-lawful, duration-balanced, duration-allows, allowed-duration, nanos_fit, span_same};
 
 use crate::laws::{Exact, Plain};
 use crate::own::time::Duration;
@@ -33,11 +32,6 @@ impl Wire for Duration {
         12
     }
 
-    fn tell_valid(&self) {
-        let _secs = self.as_secs();
-        let _nanos = self.subsec_nanos();
-    }
-
     ghost lawful = { duration-lawful };
 
     ghost balanced = { duration-balanced };
@@ -58,7 +52,7 @@ impl Plain for Duration {
 }
 
 impl Exact for Duration {
-    ghost one_value = { λ v w m h k. then-all_same true (same_number (secs_of v) (secs_of w)) (then-all_same _ (same_number (nanos_of v) (nanos_of w)) nothing-all_same) refl m };
+    ghost one_value = { λ v w m h k. span_same (secs_of v) (nanos_of v) (secs_of w) (nanos_of w) m };
 
-    ghost comes_back = { λ v w m h. then-all_same true (same_number (secs_of v) (secs_of w)) (then-all_same _ (same_number (nanos_of v) (nanos_of w)) nothing-all_same) refl m };
+    ghost comes_back = { λ v w m h. span_same (secs_of v) (nanos_of v) (secs_of w) (nanos_of w) m };
 }

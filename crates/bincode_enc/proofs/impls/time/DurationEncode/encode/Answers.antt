@@ -21,6 +21,6 @@ returns-clause-err g c =
     let h = rw (c.as_secs.ensures, c.subsec_nanos.ensures.nanos) at c.encode.ensures.err in
     IfErr-weaker c.encode.result _ _
     (λ e k.
-    halts_same _ _ _ _ _ _ _ e (λ bytes w. ready _ _ (duration-allows _ _ _ a b bytes (allowed-pair _ _ _ _ bytes w.is_allowed))) (λ bytes w. record { is_writable = (tt, tt); is_allowed = pair-allows _ _ _ _ bytes (allowed-duration _ _ _ bytes w.is_allowed) })
-    (halts_named _ _ _ _ _ _ _ e (elim [ inl n ↦ n | inr n ↦ n ]) k))
+    halts_same _ _ _ _ _ _ _ e (λ bytes w. ready _ _ (duration-allows _ _ _ a b bytes (allowed-pair _ _ _ _ bytes w.is_allowed))) (λ bytes w. record { is_writable = (tt, (tt, tt)); is_allowed = pair-allows _ _ _ _ bytes (allowed-duration _ _ _ bytes w.is_allowed) })
+    (halts_named _ _ _ _ _ _ _ e (elim [ inl n ↦ n | inr m ↦ elim m [ inl n ↦ n | inr n ↦ n ] ]) k))
     h

@@ -1,5 +1,0 @@
-use Rattle.bincode_wire.specs.DecodingLaws.{nothing-decodes}
-use Rattle.bincode_de.proofs.impls.wrappers.PhantomDataDecode.decode.Goals as goal
-
-pub returns-clause-ok : goal.returns-clause-ok
-returns-clause-ok g c = nothing-decodes _ _ _

@@ -1,0 +1,174 @@
+//! Decoding of enums, variant by variant.
+ghost use Rattle.std.specs.Prelude.{◌≡◌, ◌⊎◌, ◌≤◌, ◌++◌, false, OnOk, IfOk, IfErr};
+ghost use Rattle.bincode_base.specs.Fault.{ListsTags};
+ghost use Rattle.bincode_base.specs.declared.error.DecodeError.TheVariants.{UnexpectedVariant, Memory};
+ghost use Rattle.bincode_wire.specs.Words.{tags_of, in_order, last_of, allowed_tags, part};
+ghost use Rattle.bincode_wire.specs.Choices.{IsChoice};
+ghost use Rattle.bincode_wire.specs.Answer.{Gave, answer};
+ghost use Rattle.bincode_wire.specs.Decoding.{Decodes, Stops};
+
+use crate::decode::Decode;
+use crate::decoder::Decoder;
+use crate::impls::numbers::{decode_byte, decode_unsigned};
+use bincode_base::error::{AllowedEnumVariants, DecodeError, IntegerType};
+use bincode_base::text::ShortText;
+use bincode_wire::sums::{NoOther, OneOf, Or, Tag, Variants};
+use bincode_wire::wire::Wire;
+use std::alloc::{AllocError, Global};
+
+/// A type that errors name.
+pub trait Named {
+    fn type_name() -> ShortText;
+}
+
+/// A type of tags that can be read.
+pub trait DecodeTag: Tag {
+    /// Reads a tag.
+    fn decode_tag<D: Decoder>(decoder: &mut D) -> Result<u32, DecodeError>
+        ensures ok { IfOk result (λ v. answer D.C.bound (Self.tags D.C.setting) (D.rest decoder.old) (D.charge decoder.old) ≡ Gave v (D.rest decoder.new) (D.charge decoder.new)) }
+        ensures err { IfErr result (Stops D.R.ended D.R.device ⊥ (answer D.C.bound (Self.tags D.C.setting) (D.rest decoder.old) (D.charge decoder.old)) (D.failures decoder.old) (D.failures decoder.new) (D.rest decoder.old) (D.rest decoder.new)) }
+        ensures count { D.failures decoder.old ≤ D.failures decoder.new }
+        ensures place { D.place decoder.new ≡ D.place decoder.old };
+}
+
+impl DecodeTag for u8 {
+    #[inline]
+    fn decode_tag<D: Decoder>(decoder: &mut D) -> Result<u32, DecodeError> {
+        let tag = decode_byte(decoder)?;
+        Ok(u32::from(tag))
+    }
+}
+
+impl DecodeTag for u32 {
+    #[inline]
+    fn decode_tag<D: Decoder>(decoder: &mut D) -> Result<u32, DecodeError> {
+        let tag = decode_unsigned(decoder, IntegerType::U32, 4)?;
+        Ok(tag as u32)
+    }
+}
+
+/// Variants whose tags an error can list.
+pub trait Listed: Variants {
+    /// Whether the tags stand in order, from `next` on.
+    fn are_in_order(next: u64) -> bool
+        ensures { result ≡ in_order next (tags_of Self.variants) };
+
+    /// The last tag, or the one before where there is none.
+    fn last_tag(before: u32) -> u32
+        ensures { result ≡ last_of before (tags_of Self.variants) };
+
+    /// Adds the tags to a list.
+    fn push_tags(tags: &mut Vec<u32>) -> Result<(), AllocError>
+        ensures { OnOk result (tags.new.items ≡ tags.old.items ++ tags_of Self.variants) };
+}
+
+impl<Of, T: Tag> Listed for NoOther<Of, T> {
+    fn are_in_order(_next: u64) -> bool {
+        true
+    }
+
+    fn last_tag(before: u32) -> u32 {
+        before
+    }
+
+    fn push_tags(_tags: &mut Vec<u32>) -> Result<(), AllocError> {
+        Ok(())
+    }
+}
+
+impl<const TAG: u32, A: Wire, Others: Listed> Listed for Or<TAG, A, Others> {
+    fn are_in_order(next: u64) -> bool {
+        u64::from(TAG) == next && Others::are_in_order(next + 1)
+    }
+
+    fn last_tag(_before: u32) -> u32 {
+        Others::last_tag(TAG)
+    }
+
+    fn push_tags(tags: &mut Vec<u32>) -> Result<(), AllocError> {
+        tags.push(TAG)?;
+        Others::push_tags(tags)
+    }
+}
+
+/// The error of a tag that none of `All` variants has: it takes memory for a list of tags that do not stand in order.
+#[cold]
+fn unexpected<All: Listed>(alloc: Global, found: u32, type_name: ShortText) -> DecodeError
+    ensures { ((listed : _) × (result ≡ UnexpectedVariant found type_name listed) × ListsTags (allowed_tags (tags_of All.variants)) listed) ⊎ ((in_order 0 (tags_of All.variants) ≡ false) × (result ≡ Memory)) }
+{
+    if All::are_in_order(0) {
+        return DecodeError::UnexpectedVariant {
+            found,
+            type_name,
+            allowed: AllowedEnumVariants::Range {
+                min: 0,
+                max: All::last_tag(0),
+            },
+        };
+    }
+    let mut tags = Vec::new(alloc);
+    match All::push_tags(&mut tags) {
+        Ok(()) => DecodeError::UnexpectedVariant {
+            found,
+            type_name,
+            allowed: AllowedEnumVariants::Allowed(tags),
+        },
+        Err(_) => DecodeError::Memory,
+    }
+}
+
+/// Variants whose parts can be read, in a context.
+pub trait DecodeVariants<Context: Drop>: Listed + Drop + Sized {
+    /// Reads what follows a tag, where these are left of `All` variants.
+    fn decode_part<All: Listed, D: Decoder<Context = Context>>(
+        found: u32,
+        decoder: &mut D,
+    ) -> Result<Self, DecodeError>
+        ensures ok { IfOk result (λ v. Decodes (IsChoice found (Self.given v)) (answer D.C.bound (part D.C.setting Self.variants (allowed_tags (tags_of All.variants)) found) (D.rest decoder.old) (D.charge decoder.old)) (D.rest decoder.new) (D.charge decoder.new)) }
+        ensures tag { IfOk result (λ v. (Self.variant v).0 ≡ found) }
+        ensures err { IfErr result (Stops D.R.ended D.R.device ((in_order 0 (tags_of All.variants) ≡ false) ⊎ Self.grows) (answer D.C.bound (part D.C.setting Self.variants (allowed_tags (tags_of All.variants)) found) (D.rest decoder.old) (D.charge decoder.old)) (D.failures decoder.old) (D.failures decoder.new) (D.rest decoder.old) (D.rest decoder.new)) }
+        ensures count { D.failures decoder.old ≤ D.failures decoder.new }
+        ensures place { D.place decoder.new ≡ D.place decoder.old };
+}
+
+impl<Context: Drop, Of: Named, T: Tag> DecodeVariants<Context> for NoOther<Of, T> {
+    #[inline]
+    fn decode_part<All: Listed, D: Decoder<Context = Context>>(
+        found: u32,
+        decoder: &mut D,
+    ) -> Result<Self, DecodeError> {
+        Err(unexpected::<All>(decoder.alloc(), found, Of::type_name()))
+    }
+}
+
+impl<
+    Context: Drop,
+    const TAG: u32,
+    A: Decode<Context>,
+    Others: DecodeVariants<Context>,
+> DecodeVariants<Context> for Or<TAG, A, Others> {
+    #[inline]
+    fn decode_part<All: Listed, D: Decoder<Context = Context>>(
+        found: u32,
+        decoder: &mut D,
+    ) -> Result<Self, DecodeError> {
+        if found == TAG {
+            let this = A::decode(decoder)?;
+            return Ok(Or::This(this));
+        }
+        let other = Others::decode_part::<All, D>(found, decoder)?;
+        Ok(Or::Other(other))
+    }
+}
+
+impl<Context: Drop, Of: DecodeVariants<Context>> Decode<Context> for OneOf<Of>
+where
+    Of::Tag: DecodeTag,
+{
+    #[inline]
+    fn decode<D: Decoder<Context = Context>>(decoder: &mut D) -> Result<Self, DecodeError> {
+        let found = Of::Tag::decode_tag(decoder)?;
+        let of = Of::decode_part::<Of, D>(found, decoder)?;
+        Ok(OneOf(of))
+    }
+}

@@ -1,6 +1,0 @@
-use Rattle.bincode_wire.specs.AllowedLaws.{nothing-allows}
-use Rattle.bincode_enc.specs.EncodingLaws.{writes_alone}
-use Rattle.bincode_enc.proofs.impls.wrappers.PhantomDataEncode.encode.Goals as goal
-
-pub returns-clause-ok : goal.returns-clause-ok
-returns-clause-ok g c = writes_alone _ _ _ _ _ nothing-allows (g.met.E.W.Writer.adds_none _)

@@ -1,0 +1,78 @@
+//! Types that have the words of their parts.
+ghost use Rattle.std.specs.Prelude.{◌≡◌, true};
+ghost use Rattle.bincode_wire.specs.Meaning.{Meaning};
+ghost use Rattle.bincode_wire.specs.Promises.{Promise, no_more};
+
+use crate::laws::{Canonical, Exact, Plain};
+use crate::wire::Wire;
+
+/// A type whose values have the words of their parts: a struct has those of the tuple of its fields. It has `Wire` by
+/// this, and each law trait that the type of its parts has.
+pub trait Parted {
+    /// What is written for a value.
+    type Parts: Wire;
+
+    /// The parts of a value.
+    ghost parts: { Self → Self.Parts };
+
+    /// What decoding promises of a value, by what it promises of its parts.
+    ghost promised: { Self → (of_parts : Type 0) → Promise of_parts } = { λ v of_parts. no_more of_parts };
+}
+
+impl<T: Parted> Wire for T {
+    ghost format = { T.Parts.format };
+
+    ghost valid = { λ v. T.Parts.valid (T.parts v) };
+
+    ghost means = { λ v. T.Parts.means (T.parts v) };
+
+    ghost given = { λ m v. (T.promised v (T.Parts.given m (T.parts v))).Promised };
+
+    ghost writable = { λ s v. T.Parts.writable s (T.parts v) };
+
+    ghost names = { T.Parts.names };
+
+    ghost grows = { T.Parts.grows };
+
+    ghost claim = { T.Parts.claim };
+
+    fn claim_size() -> usize {
+        T::Parts::claim_size()
+    }
+
+    ghost lawful = { T.Parts.lawful };
+
+    ghost balanced = { T.Parts.balanced };
+
+    ghost has_word = { λ s v. T.Parts.has_word s (T.parts v) };
+}
+
+impl<T: Parted> Plain for T
+where
+    T::Parts: Plain,
+{
+    ghost one_length = { λ s v. T.Parts.one_length s (T.parts v) };
+
+    ghost always_writable = { λ s v. T.Parts.always_writable s (T.parts v) };
+
+    ghost names_none = { T.Parts.names_none };
+}
+
+impl<T: Parted> Canonical for T
+where
+    T::Parts: Canonical,
+{
+    ghost shortest = { λ s v. T.Parts.shortest s (T.parts v) };
+}
+
+/// A type whose values are equal where their parts are. It is `Exact`, if the type of its parts is.
+pub trait SameParts<Parts: Wire + PartialEq>: Parted<Parts = Parts> + PartialEq {
+    /// Values with equal parts are equal.
+    ghost same_parts: { (v w : Self) → Parts.eq (Self.parts v) (Self.parts w) ≡ true → Self.eq v w ≡ true };
+}
+
+impl<P: Exact, T: Parted<Parts = P> + SameParts<P>> Exact for T {
+    ghost one_value = { λ v w m h k p q. T.same_parts v w (P.one_value (T.parts v) (T.parts w) m h k p q) };
+
+    ghost comes_back = { λ v w m h p q. T.same_parts v w (P.comes_back (T.parts v) (T.parts w) m h p ((T.promised w (P.given m (T.parts w))).keeps q)) };
+}

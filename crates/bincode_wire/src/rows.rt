@@ -1,0 +1,150 @@
+//! Parts in a row: what tuples are written as.
+ghost use Rattle.std.specs.Prelude.{◌≡◌, ◌⊎◌, ◌+◌, ◌-◌, ◌^◌, min, refl};
+ghost use Rattle.bincode_wire.specs.Meaning.{IsThen, IsFourThen};
+ghost use Rattle.bincode_wire.specs.Words.{first_and, four_and};
+ghost use Rattle.bincode_wire.specs.TupleLaws.{units, then-lawful, then-balanced, then-has_word, then-one_length, then-same, then-none_shorter, neither};
+ghost use Rattle.bincode_wire.specs.TupleLaws.{four-lawful, four-balanced, four-has_word, four-one_length, four-same, four-none_shorter};
+
+use crate::laws::{Canonical, Exact, Plain};
+use crate::parted::{Parted, SameParts};
+use crate::scalars::{Alone, Scalar};
+use crate::wire::Wire;
+
+impl Scalar for () {
+    ghost form = { units };
+
+    ghost SIZE = { 0 };
+
+    const SIZE: usize = 0;
+
+    ghost same = { λ v w m p q. refl };
+}
+
+impl Parted for () {
+    type Parts = Alone<()>;
+
+    ghost parts = { λ v. record { value = v } };
+}
+
+impl SameParts<Alone<()>> for () {
+    ghost same_parts = { λ v w e. e };
+}
+
+/// A part, and the others: a row too, or `()` behind the last. What they claim is a sum, at most the greatest `usize`.
+#[derive(Drop, PartialEq)]
+pub struct Row<A, Others>(pub A, pub Others);
+
+impl<A: Wire, Others: Wire> Wire for Row<A, Others> {
+    ghost format = { λ s. first_and (A.format s) (Others.format s) };
+
+    ghost valid = { λ v. A.valid v.0 × Others.valid v.1 };
+
+    ghost means = { λ v. IsThen (A.means v.0) (Others.means v.1) };
+
+    ghost given = { λ m v. IsThen (λ p. A.given p v.0) (λ p. Others.given p v.1) m };
+
+    ghost writable = { λ s v. A.writable s v.0 × Others.writable s v.1 };
+
+    ghost names = { λ e. A.names e ⊎ Others.names e };
+
+    ghost grows = { A.grows ⊎ Others.grows };
+
+    ghost claim = { min (A.claim + Others.claim) (2 ^ 64 - 1) };
+
+    fn claim_size() -> usize {
+        A::claim_size().saturating_add(Others::claim_size())
+    }
+
+    ghost lawful = { λ s. then-lawful (A.lawful s) (Others.lawful s) };
+
+    ghost balanced = { λ s. then-balanced (A.balanced s) (Others.balanced s) };
+
+    ghost has_word = { λ s v h w. then-has_word (A.has_word s v.0 h.0 w.0) (Others.has_word s v.1 h.1 w.1) };
+}
+
+impl<A: Plain, Others: Plain> Plain for Row<A, Others> {
+    ghost one_length = { λ s v h. then-one_length (A.one_length s v.0 h.0) (Others.one_length s v.1 h.1) };
+
+    ghost always_writable = { λ s v h. (A.always_writable s v.0 h.0, Others.always_writable s v.1 h.1) };
+
+    ghost names_none = { λ e. neither (A.names_none e) (Others.names_none e) };
+}
+
+impl<A: Exact, Others: Exact> Exact for Row<A, Others> {
+    ghost one_value = { λ v w m h k. then-same (λ n. A.one_value v.0 w.0 n h.0 k.0) (λ n. Others.one_value v.1 w.1 n h.1 k.1) m };
+
+    ghost comes_back = { λ v w m h. then-same (λ n. A.comes_back v.0 w.0 n h.0) (λ n. Others.comes_back v.1 w.1 n h.1) m };
+}
+
+impl<A: Canonical, Others: Canonical> Canonical for Row<A, Others> {
+    ghost shortest = { λ s v h. then-none_shorter (A.shortest s v.0 h.0) (Others.shortest s v.1 h.1) };
+}
+
+/// Four parts, and the others.
+#[derive(Drop, PartialEq)]
+pub struct LongRow<A, B, C, D, Others>(pub A, pub B, pub C, pub D, pub Others);
+
+impl<A: Wire, B: Wire, C: Wire, D: Wire, Others: Wire> Wire for LongRow<A, B, C, D, Others> {
+    ghost format = { λ s. four_and (A.format s) (B.format s) (C.format s) (D.format s) (Others.format s) };
+
+    ghost valid = { λ v. A.valid v.0 × (B.valid v.1 × (C.valid v.2 × (D.valid v.3 × Others.valid v.4))) };
+
+    ghost means = { λ v. IsFourThen (A.means v.0) (B.means v.1) (C.means v.2) (D.means v.3) (Others.means v.4) };
+
+    ghost given = { λ m v. IsFourThen (λ p. A.given p v.0) (λ p. B.given p v.1) (λ p. C.given p v.2) (λ p. D.given p v.3) (λ p. Others.given p v.4) m };
+
+    ghost writable = { λ s v. A.writable s v.0 × (B.writable s v.1 × (C.writable s v.2 × (D.writable s v.3 × Others.writable s v.4))) };
+
+    ghost names = { λ e. A.names e ⊎ (B.names e ⊎ (C.names e ⊎ (D.names e ⊎ Others.names e))) };
+
+    ghost grows = { A.grows ⊎ (B.grows ⊎ (C.grows ⊎ (D.grows ⊎ Others.grows))) };
+
+    ghost claim = { ⟦<Row<A, Row<B, Row<C, Row<D, Others>>>> as Wire>⟧.claim };
+
+    fn claim_size() -> usize {
+        Row::<A, Row<B, Row<C, Row<D, Others>>>>::claim_size()
+    }
+
+    ghost lawful = { λ s. four-lawful (A.lawful s) (B.lawful s) (C.lawful s) (D.lawful s) (Others.lawful s) };
+
+    ghost balanced = { λ s. four-balanced (A.balanced s) (B.balanced s) (C.balanced s) (D.balanced s) (Others.balanced s) };
+
+    ghost has_word = { λ s v h w.
+        four-has_word (A.has_word s v.0 h.0 w.0) (B.has_word s v.1 h.1.0 w.1.0) (C.has_word s v.2 h.1.1.0 w.1.1.0)
+        (D.has_word s v.3 h.1.1.1.0 w.1.1.1.0) (Others.has_word s v.4 h.1.1.1.1 w.1.1.1.1) };
+}
+
+impl<A: Plain, B: Plain, C: Plain, D: Plain, Others: Plain> Plain for LongRow<A, B, C, D, Others> {
+    ghost one_length = { λ s v h.
+        four-one_length (A.one_length s v.0 h.0) (B.one_length s v.1 h.1.0) (C.one_length s v.2 h.1.1.0)
+        (D.one_length s v.3 h.1.1.1.0) (Others.one_length s v.4 h.1.1.1.1) };
+
+    ghost always_writable = { λ s v h. (
+      A.always_writable s v.0 h.0,
+      (
+        B.always_writable s v.1 h.1.0,
+        (
+          C.always_writable s v.2 h.1.1.0,
+          (D.always_writable s v.3 h.1.1.1.0, Others.always_writable s v.4 h.1.1.1.1),
+        ),
+      ),
+    ) };
+
+    ghost names_none = { λ e. neither (A.names_none e) (neither (B.names_none e) (neither (C.names_none e) (neither (D.names_none e) (Others.names_none e)))) };
+}
+
+impl<A: Exact, B: Exact, C: Exact, D: Exact, Others: Exact> Exact for LongRow<A, B, C, D, Others> {
+    ghost one_value = { λ v w m h k.
+        four-same (λ n. A.one_value v.0 w.0 n h.0 k.0) (λ n. B.one_value v.1 w.1 n h.1.0 k.1.0) (λ n. C.one_value v.2 w.2 n h.1.1.0 k.1.1.0)
+        (λ n. D.one_value v.3 w.3 n h.1.1.1.0 k.1.1.1.0) (λ n. Others.one_value v.4 w.4 n h.1.1.1.1 k.1.1.1.1) m };
+
+    ghost comes_back = { λ v w m h.
+        four-same (λ n. A.comes_back v.0 w.0 n h.0) (λ n. B.comes_back v.1 w.1 n h.1.0) (λ n. C.comes_back v.2 w.2 n h.1.1.0)
+        (λ n. D.comes_back v.3 w.3 n h.1.1.1.0) (λ n. Others.comes_back v.4 w.4 n h.1.1.1.1) m };
+}
+
+impl<A: Canonical, B: Canonical, C: Canonical, D: Canonical, Others: Canonical> Canonical
+    for LongRow<A, B, C, D, Others> {
+    ghost shortest = { λ s v h.
+        four-none_shorter (A.shortest s v.0 h.0) (B.shortest s v.1 h.1.0) (C.shortest s v.2 h.1.1.0) (D.shortest s v.3 h.1.1.1.0) (Others.shortest s v.4 h.1.1.1.1) };
+}

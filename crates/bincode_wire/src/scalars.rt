@@ -1,0 +1,73 @@
+//! Types of one word each that is written: numbers, truth values and characters.
+ghost use Rattle.std.specs.Prelude.{◌≡◌, ℕ, true};
+ghost use Rattle.bincode_wire.specs.Meaning.{Meaning};
+ghost use Rattle.bincode_wire.specs.Forms.{Form};
+
+use crate::laws::{Canonical, Exact, Plain};
+use crate::wire::Wire;
+
+/// A type whose values are written in one way each, and are equal if they mean the same.
+pub trait Scalar: PartialEq {
+    /// Its words and what they mean, what each value keeps, and that its words are the shortest.
+    ghost form: { Form Self };
+
+    /// Its size in memory, which a container claims for it.
+    ghost SIZE: { ℕ };
+
+    const SIZE: usize;
+
+    /// Values of one meaning are equal.
+    ghost same: { (v w : Self) (m : Meaning) → form.means v m → form.means w m → Self.eq v w ≡ true };
+}
+
+/// A value that is written by itself. It stands in proofs alone.
+#[derive(Drop, PartialEq)]
+pub struct Alone<T> {
+    pub value: T,
+}
+
+impl<T: Scalar> Wire for Alone<T> {
+    ghost format = { T.form.format };
+
+    ghost valid = { λ v. T.form.Bounds v.value };
+
+    ghost means = { λ v. T.form.means v.value };
+
+    ghost given = { λ m v. T.form.means v.value m };
+
+    ghost writable = { λ s v. Unit {0} };
+
+    ghost names = { λ e. ⊥ };
+
+    ghost grows = { ⊥ };
+
+    ghost claim = { T.SIZE };
+
+    fn claim_size() -> usize {
+        T::SIZE
+    }
+
+    ghost lawful = { T.form.lawful };
+
+    ghost balanced = { T.form.balanced };
+
+    ghost has_word = { λ s v h w. (T.form.spelled s v.value h).has_word };
+}
+
+impl<T: Scalar> Plain for Alone<T> {
+    ghost one_length = { λ s v h. (T.form.spelled s v.value h).one_length };
+
+    ghost always_writable = { λ s v h. tt };
+
+    ghost names_none = { λ e h. h };
+}
+
+impl<T: Scalar> Canonical for Alone<T> {
+    ghost shortest = { λ s v h. (T.form.spelled s v.value h).none_shorter };
+}
+
+impl<T: Scalar> Exact for Alone<T> {
+    ghost one_value = { λ v w m h k. T.same v.value w.value m };
+
+    ghost comes_back = { λ v w m h. T.same v.value w.value m };
+}

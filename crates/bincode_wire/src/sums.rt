@@ -1,0 +1,319 @@
+//! One of several variants: what enums are written as.
+ghost use Rattle.std.specs.Prelude.{◌≡◌, ◌⊎◌, ◌<◌, ◌+◌, ◌-◌, ◌^◌, ◌==◌, min, max, pos, ℕ, Bool, true, false, List, [], ◌∷◌, refl};
+ghost use Rattle.std.proofs.Common.{sym, ◌∙◌};
+ghost use Rattle.bincode_base.specs.Setting.{Setting};
+ghost use Rattle.bincode_base.specs.Format.{Format, map_format};
+ghost use Rattle.bincode_base.specs.Integers.{unsigned_byte};
+ghost use Rattle.bincode_base.specs.IntegerLaws.{Four};
+ghost use Rattle.bincode_base.specs.Fault.{Allowed};
+ghost use Rattle.bincode_base.specs.declared.error.IntegerType.TheVariants.{U32};
+ghost use Rattle.bincode_base.specs.declared.error.EncodeError.{EncodeError};
+ghost use Rattle.bincode_wire.specs.Meaning.{Meaning, Choice, IsNumber};
+ghost use Rattle.bincode_wire.specs.Words.{natural, tag, Variant, tags_of, in_order, part, chosen};
+ghost use Rattle.bincode_wire.specs.Forms.{Numerals, byte-numerals, unsigned-numerals};
+ghost use Rattle.bincode_wire.specs.Allowed.{AllowedWord, NoneShorter, OneLength};
+ghost use Rattle.bincode_wire.specs.Choices.{IsChoice};
+ghost use Rattle.bincode_wire.specs.ChoiceLaws.{AllLawful, AllBalanced, part-here, part-there, same-alike, chosen-lawful, chosen-balanced, choice-has_word, choice-one_length, choice-none_shorter, choice-same, tags-differ};
+ghost use Rattle.bincode_wire.specs.TupleLaws.{neither};
+
+use crate::laws::{Canonical, Exact, Plain};
+use crate::wire::Wire;
+use std::convert::Infallible;
+use std::marker::PhantomData;
+
+/// A type of the tags of an enum.
+pub trait Tag: Wire {
+    /// The words of a tag, as a number.
+    ghost tags: { Setting → Format ℕ };
+
+    /// The tags that it can hold.
+    ghost Fits: { ℕ → Type 0 };
+
+    ghost numerals: { Numerals Fits pos tags };
+}
+
+impl Tag for u8 {
+    ghost tags = { λ s. unsigned_byte };
+
+    ghost Fits = { λ n. n < 2 ^ 8 };
+
+    ghost numerals = { byte-numerals };
+}
+
+impl Tag for u32 {
+    ghost tags = { tag };
+
+    ghost Fits = { λ n. n < 2 ^ 32 };
+
+    ghost numerals = { unsigned-numerals U32 4 (Four refl) };
+}
+
+/// The variants of an enum: one by its tag and its part, and the others, or none.
+pub trait Variants {
+    /// The type of their tags.
+    type Tag: Tag;
+
+    /// The tag of each, and what is written for its part.
+    ghost variants: { List Variant };
+
+    /// The tag of a value, and what is written for its part.
+    ghost variant: { Self → Variant };
+
+    /// Its part is valid, and it is the first with its tag.
+    ghost valid: { Self → Type 0 };
+
+    /// Its tag picks it.
+    ghost picked: { (s : Setting) (allowed : Allowed) (v : Self) → valid v → part s variants allowed (variant v).0 ≡ map_format (Choice (variant v).0) ((variant v).1 s) };
+
+    ghost means: { Self → Meaning → Type 0 };
+
+    ghost given: { Self → Meaning → Type 0 };
+
+    ghost writable: { Self → Setting → Type 0 };
+
+    ghost names: { EncodeError → Type 0 };
+
+    ghost grows: { Type 0 };
+
+    ghost claim: { ℕ };
+
+    /// What the widest part claims.
+    fn claim_size() -> usize
+        ensures { result ≡ claim };
+
+    ghost lawful: { (s : Setting) → AllLawful s variants };
+
+    ghost balanced: { (s : Setting) → AllBalanced s variants };
+
+    ghost has_word: { (s : Setting) (v : Self) → valid v → writable v s → (bytes : List ℕ) × AllowedWord (means v) ((variant v).1 s) bytes };
+}
+
+/// Variants without cells.
+pub trait PlainVariants: Variants {
+    ghost one_length: { (s : Setting) (v : Self) → Self.valid v → OneLength (AllowedWord (Self.means v) ((Self.variant v).1 s)) };
+
+    ghost always_writable: { (s : Setting) (v : Self) → Self.valid v → Self.writable v s };
+
+    ghost names_none: { (e : EncodeError) → Self.names e → ⊥ };
+}
+
+/// Variants whose words keep all of their parts.
+pub trait ExactVariants: PlainVariants + PartialEq {
+    ghost one_value: { (v w : Self) (m : Meaning) → Self.valid v → Self.valid w → (Self.variant v).0 ≡ (Self.variant w).0 → Self.means v m → Self.means w m → Self.eq v w ≡ true };
+
+    ghost comes_back: { (v w : Self) (m : Meaning) → Self.valid v → (Self.variant v).0 ≡ (Self.variant w).0 → Self.means v m → Self.given w m → Self.eq v w ≡ true };
+}
+
+/// Variants whose words are canonical.
+pub trait CanonicalVariants: PlainVariants {
+    ghost shortest: { (s : Setting) (v : Self) → Self.valid v → NoneShorter (Self.means v) ((Self.variant v).1 s) };
+}
+
+/// No variant: the end of those of the enum `Of`, with tags of type `T`. It has no values.
+pub type NoOther<Of, T = u32> = (Infallible, PhantomData<(Of, T)>);
+
+impl<Of, T: Tag> Variants for NoOther<Of, T> {
+    type Tag = T;
+
+    ghost variants = { [] };
+
+    ghost variant = { λ v. (0, λ s. T.format s) };
+
+    ghost valid = { λ v. ⊥ };
+
+    ghost picked = { λ s allowed v h. absurd h };
+
+    ghost means = { λ v m. ⊥ };
+
+    ghost given = { λ v m. ⊥ };
+
+    ghost writable = { λ v s. ⊥ };
+
+    ghost names = { λ e. ⊥ };
+
+    ghost grows = { ⊥ };
+
+    ghost claim = { 0 };
+
+    fn claim_size() -> usize {
+        0
+    }
+
+    ghost lawful = { λ s. tt };
+
+    ghost balanced = { λ s. tt };
+
+    ghost has_word = { λ s v h w. absurd h };
+}
+
+impl<Of, T: Tag> PlainVariants for NoOther<Of, T> {
+    ghost one_length = { λ s v h. absurd h };
+
+    ghost always_writable = { λ s v h. absurd h };
+
+    ghost names_none = { λ e h. h };
+}
+
+impl<Of, T: Tag> ExactVariants for NoOther<Of, T> {
+    ghost one_value = { λ v w m h. absurd h };
+
+    ghost comes_back = { λ v w m h. absurd h };
+}
+
+impl<Of, T: Tag> CanonicalVariants for NoOther<Of, T> {
+    ghost shortest = { λ s v h. absurd h };
+}
+
+/// The variant with this tag, by its part, or one of the others.
+#[derive(Drop, PartialEq)]
+pub enum Or<const TAG: u32, A, Others> {
+    This(A),
+    Other(Others),
+}
+
+impl<const TAG: u32, A: Wire, Others: Variants> Variants for Or<TAG, A, Others> {
+    ghost use Rattle.bincode_wire.specs.declared.sums.Or.TheVariants.{This, Other};
+
+    type Tag = Others::Tag;
+
+    ghost variants = { (TAG, A.format) ∷ Others.variants };
+
+    ghost variant = { elim [ This a ↦ (TAG, A.format) | Other o ↦ Others.variant o ] };
+
+    ghost valid = { elim [ This a ↦ A.valid a | Other o ↦ (((Others.variant o).0 == TAG) ≡ false) × Others.valid o ] };
+
+    ghost picked = { λ s allowed. elim [
+      | This a ↦ λ h. part-here s allowed TAG A.format Others.variants
+      | Other o ↦ λ h. part-there s allowed (Others.variant o).0 TAG A.format Others.variants h.0 ∙ Others.picked s allowed o h.1
+    ] };
+
+    ghost means = { elim [ This a ↦ A.means a | Other o ↦ Others.means o ] };
+
+    ghost given = { elim [ This a ↦ λ m. A.given m a | Other o ↦ λ m. (((Others.variant o).0 == TAG) ≡ false) × Others.given o m ] };
+
+    ghost writable = { elim [ This a ↦ λ s. A.writable s a | Other o ↦ Others.writable o ] };
+
+    ghost names = { λ e. A.names e ⊎ Others.names e };
+
+    ghost grows = { A.grows ⊎ Others.grows };
+
+    ghost claim = { max A.claim Others.claim };
+
+    fn claim_size() -> usize {
+        A::claim_size().max(Others::claim_size())
+    }
+
+    ghost lawful = { λ s. (A.lawful s, Others.lawful s) };
+
+    ghost balanced = { λ s. (A.balanced s, Others.balanced s) };
+
+    ghost has_word = { λ s. elim [ This a ↦ A.has_word s a | Other o ↦ λ h w. Others.has_word s o h.1 w ] };
+}
+
+impl<const TAG: u32, A: Plain, Others: PlainVariants> PlainVariants for Or<TAG, A, Others> {
+    ghost use Rattle.bincode_wire.specs.declared.sums.Or.TheVariants.{This, Other};
+
+    ghost one_length = { λ s. elim [ This a ↦ A.one_length s a | Other o ↦ λ h. Others.one_length s o h.1 ] };
+
+    ghost always_writable = { λ s. elim [ This a ↦ A.always_writable s a | Other o ↦ λ h. Others.always_writable s o h.1 ] };
+
+    ghost names_none = { λ e. neither (A.names_none e) (Others.names_none e) };
+}
+
+impl<const TAG: u32, A: Exact, Others: ExactVariants> ExactVariants for Or<TAG, A, Others> {
+    ghost use Rattle.bincode_wire.specs.declared.sums.Or.TheVariants.{This, Other};
+
+    ghost one_value = { elim [
+      | This a ↦ elim [
+        | This b ↦ λ m h k e. A.one_value a b m h k
+        | Other o ↦ λ m h k e. absurd (tags-differ TAG (Others.variant o).0 k.0 e)
+      ]
+      | Other p ↦ elim [
+        | This b ↦ λ m h k e. absurd (tags-differ TAG (Others.variant p).0 h.0 (sym e))
+        | Other o ↦ λ m h k. Others.one_value p o m h.1 k.1
+      ]
+    ] };
+
+    ghost comes_back = { elim [
+      | This a ↦ elim [
+        | This b ↦ λ m h e. A.comes_back a b m h
+        | Other o ↦ λ m h e p q. absurd (tags-differ TAG (Others.variant o).0 q.0 e)
+      ]
+      | Other p ↦ elim [
+        | This b ↦ λ m h e. absurd (tags-differ TAG (Others.variant p).0 h.0 (sym e))
+        | Other o ↦ λ m h e r q. Others.comes_back p o m h.1 e r q.1
+      ]
+    ] };
+}
+
+impl<const TAG: u32, A: Canonical, Others: CanonicalVariants> CanonicalVariants
+    for Or<TAG, A, Others> {
+    ghost use Rattle.bincode_wire.specs.declared.sums.Or.TheVariants.{This, Other};
+
+    ghost shortest = { λ s. elim [ This a ↦ A.shortest s a | Other o ↦ λ h. Others.shortest s o h.1 ] };
+}
+
+/// What an enum is written as: the tag of a variant, and then its part.
+#[derive(Drop, PartialEq)]
+pub struct OneOf<Of>(pub Of);
+
+impl<Of: Variants> Wire for OneOf<Of> {
+    ghost format = { chosen Of.Tag.tags Of.variants };
+
+    ghost valid = { λ v. Of.Tag.Fits (Of.variant v.0).0 × Of.valid v.0 };
+
+    ghost means = { λ v. IsChoice (Of.variant v.0).0 (Of.means v.0) };
+
+    ghost given = { λ m v. IsChoice (Of.variant v.0).0 (Of.given v.0) m };
+
+    ghost writable = { λ s v. Of.writable v.0 s };
+
+    ghost names = { Of.names };
+
+    ghost grows = { (in_order 0 (tags_of Of.variants) ≡ false) ⊎ Of.grows };
+
+    ghost claim = { min (Of.Tag.claim + Of.claim) (2 ^ 64 - 1) };
+
+    fn claim_size() -> usize {
+        Of::Tag::claim_size().saturating_add(Of::claim_size())
+    }
+
+    ghost lawful = { λ s. chosen-lawful Of.Tag.tags Of.variants s (Of.Tag.numerals.lawful s) (Of.lawful s) };
+
+    ghost balanced = { λ s. chosen-balanced Of.Tag.tags Of.variants s (Of.Tag.numerals.balanced s) (Of.balanced s) };
+
+    ghost has_word = { λ s v h w. choice-has_word Of.Tag.tags Of.variants s _ _ (same-alike (Of.picked s _ v.0 h.1)) (Of.means v.0) (Of.Tag.numerals.spelled s _ h.0).has_word (Of.has_word s v.0 h.1 w) };
+}
+
+/// What enums are written as: `OneOf` some variants.
+pub trait Choice: Wire {
+    /// The type of the tags.
+    type Tag: Tag;
+
+    /// The variants.
+    ghost variants: { List Variant };
+}
+
+impl<Of: Variants> Choice for OneOf<Of> {
+    type Tag = Of::Tag;
+
+    ghost variants = { Of.variants };
+}
+
+impl<Of: PlainVariants> Plain for OneOf<Of> {
+    ghost one_length = { λ s v h. choice-one_length Of.Tag.tags Of.variants s _ _ (same-alike (Of.picked s _ v.0 h.1)) (Of.means v.0) (Of.Tag.numerals.spelled s _ h.0).one_length (Of.one_length s v.0 h.1) };
+
+    ghost always_writable = { λ s v h. Of.always_writable s v.0 h.1 };
+
+    ghost names_none = { Of.names_none };
+}
+
+impl<Of: ExactVariants> Exact for OneOf<Of> {
+    ghost one_value = { λ v w m h k. choice-same (λ n e p q. Of.one_value v.0 w.0 n h.1 k.1 e p q) m };
+
+    ghost comes_back = { λ v w m h. choice-same (λ n e p q. Of.comes_back v.0 w.0 n h.1 e p q) m };
+}
+
+impl<Of: CanonicalVariants> Canonical for OneOf<Of> {
+    ghost shortest = { λ s v h. choice-none_shorter Of.Tag.tags Of.variants s _ _ (Of.picked s _ v.0 h.1) (Of.means v.0) (Of.Tag.numerals.spelled s _ h.0).none_shorter (Of.shortest s v.0 h.1) };
+}
