@@ -5,7 +5,7 @@ use Rattle.bincode_base.specs.declared.error.DecodeError.{DecodeError}
 use Rattle.bincode_base.specs.declared.error.DecodeError.TheVariants.{UnexpectedEnd, LimitExceeded}
 use Rattle.bincode_base.specs.Fault.{Fault}
 use Rattle.bincode_base.specs.Charge.{Step, Passes, StaysWithin}
-use Rattle.bincode_base.specs.Device.{Rose}
+use Rattle.bincode_base.specs.Device.{no_device}
 use Rattle.bincode_base.specs.Format.{Format}
 use Rattle.bincode_base.specs.Laws.{Lawful, Balanced}
 use Rattle.bincode_wire.specs.Meaning.{Meaning}
@@ -16,16 +16,12 @@ use Rattle.bincode.specs.Slice.{Decoded, TellsOfSlice, IsRefused}
 
 -- why decoding from a slice stops
 abbrev pub SliceStops : Type 0 → Answer Meaning → List ℕ → List ℕ → DecodeError → Type 0
-SliceStops Grows a input rest e = Stops (λ missing d. d ≡ UnexpectedEnd missing) (λ d. ⊥) Grows a 0 0 input rest e
+SliceStops Grows a input rest e = Stops (λ missing d. d ≡ UnexpectedEnd missing) no_device Grows a 0 0 input rest e
 
 -- each limit allows nothing
 from_nothing : (limit : Option ℕ) → Allows limit 0
 from_nothing None = tt
 from_nothing (Some limit) = omega arith
-
-never_rose : Rose 0 0 → ⊥
-never_rose (inl h) = omega arith
-never_rose (inr h) = omega arith
 
 module _ (F : Format Meaning) (f : Lawful F) (b : Balanced F) (limit : Option ℕ) (Grows : Type 0) (input rest : List ℕ) (e : DecodeError) where
   gives : (word more : List ℕ) (m : Meaning) (s : List Step) → input ≡ word ++ more → F.Word word m s → StaysWithin limit 0 s → answer limit F input 0 ≡ Gave m more (counted_after limit 0 s)
@@ -36,7 +32,7 @@ module _ (F : Format Meaning) (f : Lawful F) (b : Balanced F) (limit : Option �
   stopped-word (by_fault why h t k) word more m s i w within = let g = gives word more m s i w within in absurd (cc)
   stopped-word (by_limit h t k) word more m s i w within = let g = gives word more m s i w within in absurd (cc)
   stopped-word (by_memory g t k) word more m s i w within = (g, t)
-  stopped-word (by_failure h k) word more m s i w within = absurd (never_rose h)
+  stopped-word (by_failure h r k) word more m s i w within = absurd h
   stopped-word (by_device h) word more m s i w within = absurd h
 
   -- where a fault within the limit is there, the error tells it
@@ -47,7 +43,7 @@ module _ (F : Format Meaning) (f : Lawful F) (b : Balanced F) (limit : Option �
       inl (subst (λ z. TellsOfSlice z e) q t)
   stopped-fault (by_limit h t k) why s u within = let g : answer limit F input 0 ≡ Refused why = fault-refused F f b limit input why s 0 u within in absurd (cc)
   stopped-fault (by_memory g t k) why s u within = inr (g, t)
-  stopped-fault (by_failure h k) why s u within = absurd (never_rose h)
+  stopped-fault (by_failure h r k) why s u within = absurd h
   stopped-fault (by_device h) why s u within = absurd h
 
   -- where the steps pass the limit, the error says so
@@ -55,7 +51,7 @@ module _ (F : Format Meaning) (f : Lawful F) (b : Balanced F) (limit : Option �
   stopped-limit (by_fault why h t k) s u p = let g : answer limit F input 0 ≡ PassedLimit = passes-passed F f b limit input s 0 (from_nothing limit) u p in absurd (cc)
   stopped-limit (by_limit h t k) s u p = inl t
   stopped-limit (by_memory g t k) s u p = inr (g, t)
-  stopped-limit (by_failure h k) s u p = absurd (never_rose h)
+  stopped-limit (by_failure h r k) s u p = absurd h
   stopped-limit (by_device h) s u p = absurd h
 
 module _ (F : Format Meaning) (f : Lawful F) (b : Balanced F) (limit : Option ℕ) (input rest : List ℕ) (charge : ℕ) (Given : Meaning → Type 0) (d : Decodes Given (answer limit F input 0) rest charge) where

@@ -1,5 +1,6 @@
 //! Decoders, and what they read from.
 
+pub use bincode_base::io_read::{IoReader, LentIoReader};
 pub use bincode_base::read;
 pub use bincode_de::arrays::decode_array;
 pub use bincode_de::decode::Decode;

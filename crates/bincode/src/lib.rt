@@ -19,4 +19,5 @@ pub use bincode_wire::laws;
 pub use bincode_wire::own::time;
 pub use bincode_wire::parted::{Parted, SameParts};
 pub use bincode_wire::sums::{NoOther, OneOf, Or};
+pub use bincode_wire::wire::Wire;
 pub use slice::{decode_from_slice, encode_into_slice};

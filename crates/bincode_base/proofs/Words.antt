@@ -15,7 +15,7 @@ use Rattle.bincode_base.specs.Format.{Format, Reading, Took, Failed, after_steps
 use Rattle.bincode_base.specs.FormatLaws.{raw-lawful}
 use Rattle.bincode_base.specs.IntegerLaws.{byte-lawful}
 use Rattle.bincode_base.specs.Integers.{byte, digits, first_of, varint, first_byte, Itself, Before, TooWide, behind}
-use Rattle.bincode_base.specs.Device.{FallsShort, Rose, Takes, StopsAmong}
+use Rattle.bincode_base.specs.Device.{DeviceErrors, FallsShort, Rose, Takes, StopsAmong}
 use Rattle.bincode_base.specs.Reads.{Misreads, by_fault, by_device, by_failure}
 
 -- so many bytes are there
@@ -59,18 +59,18 @@ unfolding ◌>>=◌
 map-failed f F input why e = rw e refl
 
 -- why a read of so many bytes failed
-pub raw-misreads : (ended : ℕ → DecodeError → Type 0) (device : DecodeError → Type 0) (rest rest' : List ℕ) (n before after : ℕ) (e : DecodeError) →
-    FallsShort ended rest n e ⊎ (device e ⊎ Rose before after) → device e ⊎ Takes rest rest' → Misreads ended device ((raw n).read rest) before after rest rest' e
+pub raw-misreads : (ended : ℕ → DecodeError → Type 0) (device : DeviceErrors) (rest rest' : List ℕ) (n before after : ℕ) (e : DecodeError) →
+    FallsShort ended rest n e ⊎ (device.uncounted e ⊎ (device.counted e × Rose before after)) → device.uncounted e ⊎ Takes rest rest' → Misreads ended device ((raw n).read rest) before after rest rest' e
 raw-misreads ended device rest rest' n before after e why (inl d) = by_device d
 raw-misreads ended device rest rest' n before after e (inl h) (inr t) = by_fault (End (Some (n - length rest))) (raw-short rest n h.0) h.1 t
 raw-misreads ended device rest rest' n before after e (inr (inl h)) (inr t) = by_device h
-raw-misreads ended device rest rest' n before after e (inr (inr h)) (inr t) = by_failure h t
+raw-misreads ended device rest rest' n before after e (inr (inr h)) (inr t) = by_failure h.0 h.1 t
 
 -- the fault of a part is that of the whole
-pub misreads-more : {A B : Type 0} (ended : ℕ → DecodeError → Type 0) (device : DecodeError → Type 0) (part : Reading A) (whole : Reading B) (before after : ℕ) (rest rest' : List ℕ) (e : DecodeError) →
+pub misreads-more : {A B : Type 0} (ended : ℕ → DecodeError → Type 0) (device : DeviceErrors) (part : Reading A) (whole : Reading B) (before after : ℕ) (rest rest' : List ℕ) (e : DecodeError) →
     ((why : Fault) → part ≡ Failed why [] → whole ≡ Failed why []) → Misreads ended device part before after rest rest' e → Misreads ended device whole before after rest rest' e
 misreads-more ended device part whole before after rest rest' e same (by_fault why h t k) = by_fault why (same why h) t k
-misreads-more ended device part whole before after rest rest' e same (by_failure h k) = by_failure h k
+misreads-more ended device part whole before after rest rest' e same (by_failure d h k) = by_failure d h k
 misreads-more ended device part whole before after rest rest' e same (by_device h) = by_device h
 
 -- what was taken before, and then more
@@ -104,7 +104,7 @@ module _ (tags : ℕ → IntegerType) (name : IntegerType) (order : Endianness) 
   pub varint-digits : (first k : ℕ) → byte.read input ≡ Took first rest [] → first_byte width first ≡ Before k → (varint tags name order width).read input ≡ (digits order k).read rest
   varint-digits first k e row = varint-then first e ∙ rw row refl
 
-  module _ (ended : ℕ → DecodeError → Type 0) (device : DecodeError → Type 0) where
+  module _ (ended : ℕ → DecodeError → Type 0) (device : DeviceErrors) where
     -- a tag that is too wide
     pub varint-too_wide : (first before after : ℕ) (e : DecodeError) → byte.read input ≡ Took first rest [] → first_byte width first ≡ TooWide → e ≡ InvalidIntegerType name (tags first) → Misreads ended device ((varint tags name order width).read input) before after input rest e
     unfolding refused
@@ -118,9 +118,9 @@ module _ (tags : ℕ → IntegerType) (name : IntegerType) (order : Endianness) 
     varint-misreads first k before between after rest' e b row le (by_fault why h t f) =
         let p = byte-lawful.read_word input rest first [] b in
         by_fault why (varint-digits first k b row ∙ h) t (takes-then input rest rest' (p.word, p.input_is) f)
-    varint-misreads first k before between after rest' e b row le (by_failure h f) =
+    varint-misreads first k before between after rest' e b row le (by_failure d h f) =
         let p = byte-lawful.read_word input rest first [] b in
-        by_failure (rose-then before between after le h) (takes-then input rest rest' (p.word, p.input_is) f)
+        by_failure d (rose-then before between after le h) (takes-then input rest rest' (p.word, p.input_is) f)
     varint-misreads first k before between after rest' e b row le (by_device h) = by_device h
 
 -- what a first byte says

@@ -1,10 +1,26 @@
 -- What readers and writers do and leave.
 use Rattle.std.specs.Prelude.{◌≡◌, ◌-◌, ◌^◌, ◌<◌, ◌⊎◌, ℕ, List, [], ◌∷◌, ◌++◌, length, Option, Some, None}
 use Rattle.std.specs.Borrow.{GName}
+use Rattle.std.specs.declared.io.Error.{Error}
 use Rattle.bincode_base.specs.declared.error.DecodeError.{DecodeError}
+use Rattle.bincode_base.specs.declared.error.DecodeError.TheVariants.{UnexpectedEnd, Io}
 use Rattle.bincode_base.specs.declared.error.EncodeError.{EncodeError}
 
--- a count of failures rose, or stands at its last value
+-- the errors by which a device of a reader fails: those at which its count of failures rises, and those that it does
+-- not count, which may come at any call
+pub record DeviceErrors : Type 1 where
+  pub counted : DecodeError → Type 0
+  pub uncounted : DecodeError → Type 0
+
+-- a reader without a device
+abbrev pub no_device : DeviceErrors
+no_device = record { counted = λ _. ⊥; uncounted = λ _. ⊥ }
+
+-- the error that tells that so many bytes are missing
+abbrev pub IsEndError : ℕ → DecodeError → Type 0
+IsEndError missing e = (e ≡ UnexpectedEnd missing) ⊎ ((inner : Error) × (e ≡ Io inner missing))
+
+-- a count of failures rose; one that stands at its last value is taken for one that rose
 abbrev pub Rose : ℕ → ℕ → Type 0
 Rose before after = (before < after) ⊎ (after ≡ 2 ^ 64 - 1)
 
@@ -12,9 +28,9 @@ Rose before after = (before < after) ⊎ (after ≡ 2 ^ 64 - 1)
 abbrev pub Takes : List ℕ → List ℕ → Type 0
 Takes before after = (front : List ℕ) × (before ≡ front ++ after)
 
--- a call left the rest, the failures and the references as they were
-abbrev pub Unmoved : List ℕ → List ℕ → ℕ → ℕ → List GName → List GName → Type 0
-Unmoved rest rest' failures failures' place place' = (rest' ≡ rest) × (failures' ≡ failures) × (place' ≡ place)
+-- a call left the failures and the references as they were, and the rest where it is told
+abbrev pub Unmoved : Type 0 → Type 0 → List ℕ → List ℕ → ℕ → ℕ → List GName → List GName → Type 0
+Unmoved told told' rest rest' failures failures' place place' = (told → told' × (rest' ≡ rest)) × (failures' ≡ failures) × (place' ≡ place)
 
 -- a read of so many bytes has too few: what it answers where so many are missing is `ended`
 abbrev pub FallsShort : (ℕ → DecodeError → Type 0) → List ℕ → ℕ → DecodeError → Type 0

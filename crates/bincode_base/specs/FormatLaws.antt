@@ -1,13 +1,14 @@
 -- Each way to make a format keeps the laws, so every format of `Words` does.
-use Rattle.std.specs.Prelude.{Some, ◌≡◌, ℕ, zero, suc, ◌*◌, ◌-◌, ◌<◌, ◌≤◌, ◌⊎◌, List, [], ◌∷◌, ◌++◌, length, take, drop, refl, Result, Ok, Err, replicate}
-use Rattle.std.proofs.Common.{sym, ◌∙◌, ap, subst, inl, inr, append_assoc, arith, append-nil}
+use Rattle.std.specs.Prelude.{Some, ◌≡◌, ℕ, zero, suc, ◌*◌, ◌-◌, ◌<◌, ◌≤◌, ◌⊎◌, List, [], ◌∷◌, ◌++◌, length, take, drop, refl, Result, Ok, Err, replicate, All}
+use Rattle.std.proofs.Common.{sym, ◌∙◌, ap, subst, inl, inr, append_assoc, arith, append-nil, lit<}
 use Rattle.std.proofs.Math.Seq.{take-append_seam, drop-append_seam}
+use Rattle.std.proofs.lemmas.List.Elements.{All-nil, All-append, All-replicate}
 use Rattle.std.proofs.lemmas.Bool.{cases_lt, le-ltb, lt-ltb}
 use Rattle.std.proofs.lemmas.List.{append_cancel_right, take-append-drop, length-append, length-take, length-replicate}
 use Rattle.bincode_base.specs.Fault.{Fault, End, IsEnd, InvalidInteger, Zero, UnexpectedVariant, Utf8, InvalidChar, InvalidBool, InvalidDuration, NulAt, Other, LengthMismatch, EmptyEnum, OutsideUsize}
 use Rattle.bincode_base.specs.Charge.{Step, Charge, Reserve, Release}
 use Rattle.bincode_base.specs.Format.{Format, Reading, Took, Failed, after_steps, then_read, done, refused, raw, step, ◌>>=◌, InTurn, WrittenInTurn, FaultsLater, vague, vague_reading, unsure, written_as, settled, map_format, charged, elements, sequence}
-use Rattle.bincode_base.specs.Laws.{Begun, BeginsWith, steps_of, IsAnswered, Lawful}
+use Rattle.bincode_base.specs.Laws.{Begun, BeginsWith, steps_of, IsAnswered, Mended, Lawful}
 
 -- what follows for every format
 
@@ -144,10 +145,10 @@ raw_read_fault n input fault s (inl h) e =
 raw_read_fault n input fault s (inr h) e =
     let p : ◌≡◌ {A = Reading (List ℕ)} (Took (take n input) (drop n input) []) (Failed fault s) = sym (raw_enough n input h) ∙ e in absurd (cc)
 
-raw_mended : (n : ℕ) (input : List ℕ) → length input < n → IsAnswered ((raw n).read (input ++ replicate (n - length input) 0))
+raw_mended : (n : ℕ) (input : List ℕ) → length input < n → Mended (raw n).read input
 raw_mended n input h =
     let k : n ≤ length (input ++ replicate (n - length input) 0) = simp (length-append, length-replicate) (omega (arith, h)) in
-    rw (raw_enough n (input ++ replicate (n - length input) 0) k) tt
+    record { more = replicate (n - length input) 0; are_bytes = All-replicate (λ b. b < 256) (n - length input) 0 (lit< tt); answered = rw (raw_enough n (input ++ replicate (n - length input) 0) k) tt }
 
 pub raw-lawful : (n : ℕ) → Lawful (raw n)
 unfolding raw
@@ -158,7 +159,7 @@ raw-lawful n = record {
   read_fault = λ input fault s e. raw_read_fault n input fault s (cases_lt (length input) n) e;
   stays = λ input more fault s other e. absurd (other (subst IsEnd (sym (raw_read_fault n input fault s (cases_lt (length input) n) e).1) tt));
   begun = λ input more fault s h e. (steps_of ((raw n).read (input ++ more)), rw (raw_read_fault n input fault s (cases_lt (length input) n) e).2 refl);
-  mended = λ input fault s h e. (replicate (n - length input) 0, raw_mended n input (raw_read_fault n input fault s (cases_lt (length input) n) e).0);
+  mended = λ input fault s h e. raw_mended n input (raw_read_fault n input fault s (cases_lt (length input) n) e).0;
   written_is_word = λ word m w. ([], (w.0, w.1, refl));
 }
 
@@ -255,29 +256,29 @@ module _ {A B : Type 0} (F : Format A) (G : A → Format B) (f : Lawful F) (g : 
       rw (first_stands input more b.middle b.head b.first_steps b.first_is, b.steps_are) (begun_after b.first_steps b.second_steps ((G b.head).read (b.middle ++ more)) p)
 
   -- where the second is mended, so is the whole
-  later_mended : (input middle : List ℕ) (head : A) (s : List Step) → F.read input ≡ Took head middle s → (more : List ℕ) × IsAnswered ((G head).read (middle ++ more)) → (more : List ℕ) × IsAnswered ((F >>= G).read (input ++ more))
+  later_mended : (input middle : List ℕ) (head : A) (s : List Step) → F.read input ≡ Took head middle s → Mended (G head).read middle → Mended (F >>= G).read input
   unfolding ◌>>=◌
-  later_mended input middle head s e h = (h.0, rw (first_stands input h.0 middle head s e) (answered_after s ((G head).read (middle ++ h.0)) h.1))
+  later_mended input middle head s e h = record { more = h.more; are_bytes = h.are_bytes; answered = rw (first_stands input h.more middle head s e) (answered_after s ((G head).read (middle ++ h.more)) h.answered) }
 
-  failed_mended : (head : A) (middle : List ℕ) (why : Fault) (t : List Step) → IsEnd why ⊎ ¬ (IsEnd why) → (G head).read middle ≡ Failed why t → (more : List ℕ) × IsAnswered ((G head).read (middle ++ more))
+  failed_mended : (head : A) (middle : List ℕ) (why : Fault) (t : List Step) → IsEnd why ⊎ ¬ (IsEnd why) → (G head).read middle ≡ Failed why t → Mended (G head).read middle
   failed_mended head middle why t (inl h) e = (g head).mended middle why t h e
-  failed_mended head middle why t (inr h) e = ([], rw (append-nil middle) (rw e h))
+  failed_mended head middle why t (inr h) e = record { more = []; are_bytes = All-nil (λ b. b < 256); answered = rw (append-nil middle) (rw e h) }
 
   -- an input that is answered wants no more bytes, and one that ends too early is mended
-  second_mended : (head : A) (middle : List ℕ) (r : Reading B) → (G head).read middle ≡ r → (more : List ℕ) × IsAnswered ((G head).read (middle ++ more))
-  second_mended head middle (Took m rest t) e = ([], rw (append-nil middle) (rw e tt))
+  second_mended : (head : A) (middle : List ℕ) (r : Reading B) → (G head).read middle ≡ r → Mended (G head).read middle
+  second_mended head middle (Took m rest t) e = record { more = []; are_bytes = All-nil (λ b. b < 256); answered = rw (append-nil middle) (rw e tt) }
   second_mended head middle (Failed why t) e = failed_mended head middle why t (end_or_other why) e
 
-  first_mended : (input more : List ℕ) (r : Reading A) → F.read (input ++ more) ≡ r → IsAnswered r → (rest : List ℕ) × IsAnswered ((F >>= G).read (input ++ rest))
+  first_mended : (input more : List ℕ) → All (λ b. b < 256) more → (r : Reading A) → F.read (input ++ more) ≡ r → IsAnswered r → Mended (F >>= G).read input
   unfolding ◌>>=◌
-  first_mended input more (Took head middle t) e h =
+  first_mended input more small (Took head middle t) e h =
       let p = later_mended (input ++ more) middle head t e (second_mended head middle ((G head).read middle) refl) in
-      (more ++ p.0, subst (λ z. IsAnswered ((F >>= G).read z)) (append_assoc input more p.0) p.1)
-  first_mended input more (Failed why t) e h = (more, rw e h)
+      record { more = more ++ p.more; are_bytes = All-append (λ b. b < 256) more p.more small p.are_bytes; answered = subst (λ z. IsAnswered ((F >>= G).read z)) (append_assoc input more p.more) p.answered }
+  first_mended input more small (Failed why t) e h = record { more = more; are_bytes = small; answered = rw e h }
 
-  turn_mended : (input : List ℕ) (fault : Fault) (s : List Step) → IsEnd fault → (F.read input ≡ Failed fault s) ⊎ FailedLater (F.read input) (λ head rest. (G head).read rest) fault s → (more : List ℕ) × IsAnswered ((F >>= G).read (input ++ more))
+  turn_mended : (input : List ℕ) (fault : Fault) (s : List Step) → IsEnd fault → (F.read input ≡ Failed fault s) ⊎ FailedLater (F.read input) (λ head rest. (G head).read rest) fault s → Mended (F >>= G).read input
   unfolding ◌>>=◌
-  turn_mended input fault s end (inl h) = let p = f.mended input fault s end h in first_mended input p.0 (F.read (input ++ p.0)) refl p.1
+  turn_mended input fault s end (inl h) = let p = f.mended input fault s end h in first_mended input p.more p.are_bytes (F.read (input ++ p.more)) refl p.answered
   turn_mended input fault s end (inr b) = later_mended input b.middle b.head b.first_steps b.first_is ((g b.head).mended b.middle fault b.second_steps end b.second_is)
 
   turn_written : (word : List ℕ) (m : B) → WrittenInTurn F G word m → (s : List Step) × InTurn F G word m s
@@ -382,7 +383,7 @@ unsure-lawful F f = record {
   mended = λ input fault s end e.
       let p = failed_vaguely (F.read input) fault s e in
       let q = f.mended input p.0 s (vague_end p.0 (subst IsEnd p.2 end)) p.1 in
-      (q.0, answered_vaguely (F.read (input ++ q.0)) q.1);
+      record { more = q.more; are_bytes = q.are_bytes; answered = answered_vaguely (F.read (input ++ q.more)) q.answered };
   written_is_word = f.written_is_word;
 }
 

@@ -6,7 +6,7 @@ use Rattle.std.proofs.Common.{sym, ◌∙◌, ap, subst, inl, inr, arith, append
 use Rattle.std.proofs.Math.Nat.{pow-suc, mod-add-div, div-lt_iff_lt-mul}
 use Rattle.std.proofs.lemmas.Bool.{le-leb, lt-leb, lt-ltb, le-ltb, cases_lt, leb-true}
 use Rattle.std.proofs.lemmas.List.{reverse-reverse, length-reverse, get_or-reverse}
-use Rattle.std.proofs.lemmas.List.Elements.{All-head, All-tail}
+use Rattle.std.proofs.lemmas.List.Elements.{All-nil, All-cons, All-head, All-tail}
 use Rattle.bincode_base.specs.declared.config.Endianness.{Endianness}
 use Rattle.bincode_base.specs.declared.config.Endianness.TheVariants.{Little, Big}
 use Rattle.bincode_base.specs.declared.config.IntEncoding.{IntEncoding}
@@ -50,6 +50,15 @@ All-reverse P xs h = λ k d l. let m : k < length xs = omega (arith, l, length-r
 pub length-digits_of : (order : Endianness) (width n : ℕ) → length (digits_of order width n) ≡ width
 length-digits_of Little width n = length-low_first_digits width n
 length-digits_of Big width n = length-reverse (low_first_digits width n) ∙ length-low_first_digits width n
+
+-- digits are bytes
+low_first_digits-are_bytes : (width n : ℕ) → All (λ b. b < 256) (low_first_digits width n)
+low_first_digits-are_bytes zero n = All-nil (λ b. b < 256)
+low_first_digits-are_bytes (suc width) n = All-cons (λ b. b < 256) (n % 256) (low_first_digits width (n / 256)) (omega arith) (low_first_digits-are_bytes width (n / 256))
+
+pub digits_of-are_bytes : (order : Endianness) (width n : ℕ) → All (λ b. b < 256) (digits_of order width n)
+digits_of-are_bytes Little width n = low_first_digits-are_bytes width n
+digits_of-are_bytes Big width n = All-reverse (λ b. b < 256) (low_first_digits width n) (low_first_digits-are_bytes width n)
 
 -- a number of `width` bytes is the number of its digits
 pub number_of-digits_of : (order : Endianness) (width n : ℕ) → n < 256 ^ width → number_of order (digits_of order width n) ≡ n
@@ -256,6 +265,21 @@ pieces_by order n (InSixteen h) = let e = shortest_17 order n h in ap joined e.1
 -- the pieces of the shortest spelling are the spelling
 pub shortest-pieces : (order : Endianness) (n : ℕ) → joined (shortest_pieces order n) ≡ shortest order n
 shortest-pieces order n = pieces_by order n (size_of n)
+
+-- a spelling is bytes
+tagged-are_bytes : (order : Endianness) (tag width n : ℕ) → tag < 256 → All (λ b. b < 256) (tag ∷ digits_of order width n)
+tagged-are_bytes order tag width n h = All-cons (λ b. b < 256) tag (digits_of order width n) h (digits_of-are_bytes order width n)
+
+shortest-are_bytes : (order : Endianness) (n : ℕ) → Size n → All (λ b. b < 256) (shortest order n)
+shortest-are_bytes order n (Small h) = rw (shortest_1 order n h).0 (All-cons (λ b. b < 256) n [] (omega (arith, h)) (All-nil (λ b. b < 256)))
+shortest-are_bytes order n (InTwo h k) = rw (shortest_3 order n h k).0 (tagged-are_bytes order 251 2 n (omega arith))
+shortest-are_bytes order n (InFour h k) = rw (shortest_5 order n h k).0 (tagged-are_bytes order 252 4 n (omega arith))
+shortest-are_bytes order n (InEight h k) = rw (shortest_9 order n h k).0 (tagged-are_bytes order 253 8 n (omega arith))
+shortest-are_bytes order n (InSixteen h) = rw (shortest_17 order n h).0 (tagged-are_bytes order 254 16 n (omega arith))
+
+pub spelling-are_bytes : (encoding : IntEncoding) (order : Endianness) (width n : ℕ) → All (λ b. b < 256) (spelling encoding order width n)
+spelling-are_bytes Fixed order width n = digits_of-are_bytes order width n
+spelling-are_bytes Variable order width n = shortest-are_bytes order n (size_of n)
 
 module _ (tags : ℕ → IntegerType) (name : IntegerType) (order : Endianness) (width n : ℕ) (w : IsWidth width) (h : n < 256 ^ width) where
   shortest_by : Size n → (varint tags name order width).Word (shortest order n) n []

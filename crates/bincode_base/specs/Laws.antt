@@ -1,5 +1,5 @@
 -- What the format of every type keeps.
-use Rattle.std.specs.Prelude.{◌≡◌, ℕ, ◌+◌, ◌≤◌, List, ◌++◌}
+use Rattle.std.specs.Prelude.{◌≡◌, ℕ, ◌+◌, ◌<◌, ◌≤◌, List, ◌++◌, All}
 use Rattle.bincode_base.specs.Fault.{Fault, IsEnd}
 use Rattle.bincode_base.specs.Charge.{Step, reserved, released}
 use Rattle.bincode_base.specs.Format.{Format, Reading, Took, Failed}
@@ -18,6 +18,12 @@ abbrev pub IsAnswered : {A : Type 0} → Reading A → Type 0
 IsAnswered (Took _ _ _) = Unit {0}
 IsAnswered (Failed fault _) = ¬ (IsEnd fault)
 
+-- bytes that let an input be answered that ended too early
+pub record Mended {A : Type 0} (read : List ℕ → Reading A) (input : List ℕ) : Type 0 where
+  pub more : List ℕ
+  pub are_bytes : All (λ b. b < 256) more
+  pub answered : IsAnswered (read (input ++ more))
+
 -- a front of the input is a word with this meaning, and the rest follows it
 pub record BeginsWith {A : Type 0} (F : Format A) (input : List ℕ) (meaning : A) (rest : List ℕ) (steps : List Step) : Type 0 where
   pub word : List ℕ
@@ -34,7 +40,7 @@ pub record Lawful {A : Type 0} (F : Format A) : Type 0 where
   pub read_fault : (input : List ℕ) (fault : Fault) (s : List Step) → F.read input ≡ Failed fault s → F.Faults input fault s
   pub stays : (input more : List ℕ) (fault : Fault) (s : List Step) → ¬ (IsEnd fault) → F.read input ≡ Failed fault s → F.read (input ++ more) ≡ Failed fault s
   pub begun : (input more : List ℕ) (fault : Fault) (s : List Step) → IsEnd fault → F.read input ≡ Failed fault s → Begun s (steps_of (F.read (input ++ more)))
-  pub mended : (input : List ℕ) (fault : Fault) (s : List Step) → IsEnd fault → F.read input ≡ Failed fault s → (more : List ℕ) × IsAnswered (F.read (input ++ more))
+  pub mended : (input : List ℕ) (fault : Fault) (s : List Step) → IsEnd fault → F.read input ≡ Failed fault s → Mended F.read input
   pub written_is_word : (word : List ℕ) (m : A) → F.Written word m → (s : List Step) × F.Word word m s
 
 -- no front of the steps releases more than was held before and reserved since

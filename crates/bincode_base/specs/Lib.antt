@@ -13,3 +13,4 @@ pub mod Reads
 pub mod Put
 pub mod Slices
 pub mod Text
+pub mod Stream

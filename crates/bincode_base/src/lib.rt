@@ -4,6 +4,7 @@
 pub mod bytes;
 pub mod config;
 pub mod error;
+pub mod io_read;
 pub mod number;
 pub mod read;
 pub mod text;

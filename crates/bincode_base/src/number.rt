@@ -30,10 +30,11 @@ pub fn read_number<R: Reader>(
     width: usize,
 ) -> Result<u128, DecodeError>
     requires { IsWidth width }
-    ensures ok { IfOk result (λ v. (number_by (tags_of name) name endian width encoding).read (R.rest read.old) ≡ Took v (R.rest read.new) []) }
+    ensures ok { R.told read.old → IfOk result (λ v. (number_by (tags_of name) name endian width encoding).read (R.rest read.old) ≡ Took v (R.rest read.new) []) }
     ensures fits { IfOk result (λ v. v < 256 ^ width) }
-    ensures err { IfErr result (Misreads R.ended R.device ((number_by (tags_of name) name endian width encoding).read (R.rest read.old)) (R.failures read.old) (R.failures read.new) (R.rest read.old) (R.rest read.new)) }
+    ensures err { R.told read.old → IfErr result (Misreads R.ended R.device ((number_by (tags_of name) name endian width encoding).read (R.rest read.old)) (R.failures read.old) (R.failures read.new) (R.rest read.old) (R.rest read.new)) }
     ensures count { R.failures read.old ≤ R.failures read.new }
+    ensures told { R.told read.old → R.told read.new }
     ensures place { R.place read.new ≡ R.place read.old }
 {
     match encoding {
@@ -49,10 +50,11 @@ fn read_fixed<R: Reader>(
     width: usize,
 ) -> Result<u128, DecodeError>
     requires { IsWidth width }
-    ensures ok { IfOk result (λ v. (digits endian width).read (R.rest read.old) ≡ Took v (R.rest read.new) []) }
+    ensures ok { R.told read.old → IfOk result (λ v. (digits endian width).read (R.rest read.old) ≡ Took v (R.rest read.new) []) }
     ensures fits { IfOk result (λ v. v < 256 ^ width) }
-    ensures err { IfErr result (Misreads R.ended R.device ((digits endian width).read (R.rest read.old)) (R.failures read.old) (R.failures read.new) (R.rest read.old) (R.rest read.new)) }
+    ensures err { R.told read.old → IfErr result (Misreads R.ended R.device ((digits endian width).read (R.rest read.old)) (R.failures read.old) (R.failures read.new) (R.rest read.old) (R.rest read.new)) }
     ensures count { R.failures read.old ≤ R.failures read.new }
+    ensures told { R.told read.old → R.told read.new }
     ensures place { R.place read.new ≡ R.place read.old }
 {
     match width {
@@ -137,10 +139,11 @@ pub fn read_signed<R: Reader>(
     width: usize,
 ) -> Result<i128, DecodeError>
     requires { IsWidth width }
-    ensures ok { IfOk result (λ v. (map_format (integer_by width encoding) (number_by (tags_of name) name endian width encoding)).read (R.rest read.old) ≡ Took v (R.rest read.new) []) }
+    ensures ok { R.told read.old → IfOk result (λ v. (map_format (integer_by width encoding) (number_by (tags_of name) name endian width encoding)).read (R.rest read.old) ≡ Took v (R.rest read.new) []) }
     ensures fits { IfOk result (λ v. FitsIn width v) }
-    ensures err { IfErr result (Misreads R.ended R.device ((map_format (integer_by width encoding) (number_by (tags_of name) name endian width encoding)).read (R.rest read.old)) (R.failures read.old) (R.failures read.new) (R.rest read.old) (R.rest read.new)) }
+    ensures err { R.told read.old → IfErr result (Misreads R.ended R.device ((map_format (integer_by width encoding) (number_by (tags_of name) name endian width encoding)).read (R.rest read.old)) (R.failures read.old) (R.failures read.new) (R.rest read.old) (R.rest read.new)) }
     ensures count { R.failures read.old ≤ R.failures read.new }
+    ensures told { R.told read.old → R.told read.new }
     ensures place { R.place read.new ≡ R.place read.old }
 {
     let n = read_number(read, endian, encoding, name, width)?;
@@ -204,9 +207,10 @@ fn number_of_integer(encoding: IntEncoding, width: usize, val: i128) -> u128
 
 /// Reads a signed byte.
 pub fn read_i8<R: Reader>(read: &mut R) -> Result<i8, DecodeError>
-    ensures ok { IfOk result (λ v. (map_format (from_two_complement 1) byte).read (R.rest read.old) ≡ Took v (R.rest read.new) []) }
-    ensures err { IfErr result (Misreads R.ended R.device ((map_format (from_two_complement 1) byte).read (R.rest read.old)) (R.failures read.old) (R.failures read.new) (R.rest read.old) (R.rest read.new)) }
+    ensures ok { R.told read.old → IfOk result (λ v. (map_format (from_two_complement 1) byte).read (R.rest read.old) ≡ Took v (R.rest read.new) []) }
+    ensures err { R.told read.old → IfErr result (Misreads R.ended R.device ((map_format (from_two_complement 1) byte).read (R.rest read.old)) (R.failures read.old) (R.failures read.new) (R.rest read.old) (R.rest read.new)) }
     ensures count { R.failures read.old ≤ R.failures read.new }
+    ensures told { R.told read.old → R.told read.new }
     ensures place { R.place read.new ≡ R.place read.old }
 {
     let n = read_byte(read)?;

@@ -1,8 +1,9 @@
 //! Readers.
-ghost use Rattle.std.specs.Prelude.{◌≡◌, ◌-◌, ◌<◌, ◌≤◌, ◌⊎◌, ◌↔◌, ℕ, List, [], ◌∷◌, ◌++◌, length, drop, take, OnOk, OnErr, IfErr, IfSome, IsSome, IsErr, IfOk};
+ghost use Rattle.std.specs.Prelude.{◌≡◌, ◌-◌, ◌<◌, ◌≤◌, ◌⊎◌, ◌↔◌, ℕ, List, [], ◌∷◌, ◌++◌, length, drop, take, ⊤, OnOk, OnErr, IfErr, IfSome, IsSome, IsErr, IfOk};
+ghost use Rattle.std.proofs.Common.{le_refl, inl};
 ghost use Rattle.std.specs.Borrow.{GName, sem};
 ghost use Rattle.std.specs.Io.BufRead.{Rests};
-ghost use Rattle.bincode_base.specs.Device.{FallsShort, Rose, Takes, Unmoved};
+ghost use Rattle.bincode_base.specs.Device.{DeviceErrors, no_device, IsEndError, FallsShort, Rose, Takes, Unmoved};
 ghost use Rattle.bincode_base.specs.declared.error.DecodeError.{DecodeError};
 ghost use Rattle.bincode_base.specs.declared.error.DecodeError.TheVariants.{UnexpectedEnd};
 
@@ -10,50 +11,60 @@ use crate::error::DecodeError;
 
 /// A source of bytes, which are taken in order.
 pub trait Reader: Drop {
+    /// That it tells the bytes that are left. What is said of `rest` is said where it does.
+    ghost told: { Self → Type 0 };
+
     /// The bytes that are left.
     ghost rest: { Self → List ℕ };
 
-    /// How many of them a peek may show.
+    /// How many of them a peek shows.
     ghost shown: { Self → ℕ };
 
-    /// How often the device failed.
+    /// How often the device failed by an error that it counts. A count that stands at its last value, 2^64 - 1, is taken
+    /// for one that rose.
     ghost failures: { Self → ℕ };
 
     /// The error of a read that asks for so many bytes more than are left.
     ghost ended: { ℕ → DecodeError → Type 0 };
 
-    /// An error that may come at any call.
-    ghost device: { DecodeError → Type 0 };
+    /// The errors by which the device fails.
+    ghost device: { DeviceErrors };
 
     /// The references that it reads through. No call changes them.
     ghost place: { Self → List GName };
 
     /// Fills all of `bytes` with the next bytes. Fails where too few are left, or where the device fails; then some
-    /// front of them is taken, unless the error is the device's.
+    /// front of them is taken, unless the error is one that the device does not count.
     fn read(&mut self, bytes: &mut [u8]) -> Result<(), DecodeError>
-        ensures next { OnOk result (rest self.old ≡ bytes.new ++ rest self.new) }
-        ensures why { IfErr result (λ e. FallsShort ended (rest self.old) (length bytes.old) e
-            ⊎ (device e ⊎ Rose (failures self.old) (failures self.new))) }
-        ensures left { IfErr result (λ e. device e ⊎ Takes (rest self.old) (rest self.new)) }
+        ensures next { told self.old → OnOk result (rest self.old ≡ bytes.new ++ rest self.new) }
+        ensures why { told self.old → IfErr result (λ e. FallsShort ended (rest self.old) (length bytes.old) e
+            ⊎ (device.uncounted e ⊎ (device.counted e × Rose (failures self.old) (failures self.new)))) }
+        ensures left { told self.old → IfErr result (λ e. device.uncounted e ⊎ Takes (rest self.old) (rest self.new)) }
         ensures count { failures self.old ≤ failures self.new }
+        ensures told { told self.old → told self.new }
         ensures place { place self.new ≡ place self.old };
 
-    /// The next `n` bytes, if the reader shows so many. Takes none.
+    /// The next `n` bytes. Of at least one it answers exactly where the reader shows so many. Takes none.
     fn peek_read(&mut self, n: usize) -> Option<&[u8]>
-        ensures next { IfSome result (λ s. (length s.now ≡ n) × (s.now ≡ take n (rest self.old))) }
+        ensures next { IfSome result (λ s. (length s.now ≡ n) × (told self.old → s.now ≡ take n (rest self.old))) }
+        ensures shows { 0 < n → IsSome result ↔ (n ≤ shown self.old) }
         ensures* stays { sem 𝓛 (Rests Self.row self.entry (λ after.
-            Unmoved (rest self.old) (rest after) (failures self.old) (failures after) (place self.old) (place after)
-            × IfSome result (λ _. n ≤ shown after))) }
-    {
-        None
-    }
+            Unmoved (told self.old) (told after) (rest self.old) (rest after) (failures self.old) (failures after) (place self.old) (place after)
+            × IfSome result (λ _. n ≤ shown after))) };
 
     /// Takes `n` bytes that a peek showed.
     fn consume(&mut self, n: usize)
         requires { n ≤ shown self.old }
-        ensures taken { rest self.new ≡ drop n (rest self.old) }
+        ensures taken { told self.old → rest self.new ≡ drop n (rest self.old) }
         ensures count { failures self.new ≡ failures self.old }
+        ensures told { told self.old → told self.new }
         ensures place { place self.new ≡ place self.old };
+
+    /// It shows no more than is left.
+    ghost shown_left: { (r : Self) → told r → shown r ≤ length (rest r) };
+
+    /// Where bytes are missing it answers `UnexpectedEnd` or `Io`, with how many.
+    ghost ended_is: { (missing : ℕ) (e : DecodeError) → ended missing e → IsEndError missing e };
 }
 
 /// A reader of a slice.
@@ -90,6 +101,8 @@ impl Reader for SliceReader<'_> {
     ghost use Rattle.bincode_base.specs.contracts.read.SliceReader.{the_row};
     ghost use mir.Syntax.{named};
 
+    ghost told = { λ _. ⊤ };
+
     ghost rest = { left_of };
 
     ghost shown = { λ r. length (left_of r) };
@@ -98,7 +111,7 @@ impl Reader for SliceReader<'_> {
 
     ghost ended = { λ missing e. e ≡ UnexpectedEnd missing };
 
-    ghost device = { λ _. ⊥ };
+    ghost device = { no_device };
 
     ghost place = { λ _. [] };
 
@@ -125,7 +138,7 @@ impl Reader for SliceReader<'_> {
         ensures next { IfSome result (λ s. (length s.now ≡ n) × (s.now ≡ take n (left_of self.old))) }
         ensures shows { IsSome result ↔ (n ≤ length (left_of self.old)) }
         ensures* stays { sem 𝓛 (Rests (the_row (record { mir = named 1; lft = [] })) self.entry (λ after.
-            Unmoved (left_of self.old) (left_of after) 0 0 [] []
+            Unmoved ⊤ ⊤ (left_of self.old) (left_of after) 0 0 [] []
             × IfSome result (λ _. n ≤ length (left_of after)))) }
     {
         self.slice.get(..n)
@@ -134,9 +147,15 @@ impl Reader for SliceReader<'_> {
     fn consume(&mut self, n: usize) {
         self.slice = &self.slice[n..];
     }
+
+    ghost shown_left = { λ r _. le_refl (length (left_of r)) };
+
+    ghost ended_is = { λ missing e h. inl h };
 }
 
 impl<R: Reader> Reader for &mut R {
+    ghost told = { λ r. R.told r.now };
+
     ghost rest = { λ r. R.rest r.now };
 
     ghost shown = { λ r. R.shown r.now };
@@ -160,4 +179,8 @@ impl<R: Reader> Reader for &mut R {
     fn consume(&mut self, n: usize) {
         (**self).consume(n)
     }
+
+    ghost shown_left = { λ r. R.shown_left r.now };
+
+    ghost ended_is = { R.ended_is };
 }

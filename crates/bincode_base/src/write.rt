@@ -1,7 +1,7 @@
 //! Writers.
 ghost use Rattle.std.specs.Prelude.{◌≡◌, ◌+◌, ◌-◌, ◌<◌, ◌≤◌, ◌⊎◌, ℕ, List, [], ◌∷◌, ◌++◌, length, Option, Some, OnOk, IfErr};
 ghost use Rattle.std.specs.Borrow.{GName};
-ghost use Rattle.std.proofs.Common.{rules, sym, ◌∙◌, ap, arith};
+ghost use Rattle.std.proofs.Common.{rules, sym, ◌∙◌, ap, arith, le_refl};
 ghost use Rattle.std.proofs.lemmas.Grind.{common_steps};
 ghost use Rattle.bincode_base.specs.Device.{Rose, TooLong};
 ghost use Rattle.bincode_base.specs.Put.{put, put_none, put_join};
@@ -21,7 +21,7 @@ pub trait Writer: Drop {
     /// How many bytes it can still take, if that is limited.
     ghost room: { Self → Option ℕ };
 
-    /// How often the device failed.
+    /// How often the device failed. A count that stands at its last value, 2^64 - 1, is taken for one that rose.
     ghost failures: { Self → ℕ };
 
     /// An error that may come at any call.
@@ -34,6 +34,7 @@ pub trait Writer: Drop {
     fn write(&mut self, bytes: &[u8]) -> Result<(), EncodeError>
         ensures ok { OnOk result (adds self.old bytes.now self.new) }
         ensures err { IfErr result (λ e. refuses self.old bytes.now e self.new) }
+        ensures count { failures self.old ≤ failures self.new }
         ensures place { place self.new ≡ place self.old };
 
     /// The empty piece changes nothing.
@@ -41,6 +42,12 @@ pub trait Writer: Drop {
 
     /// Two pieces in turn are their join.
     ghost adds_join: { (a b c : Self) (x y : List ℕ) → adds a x b → adds b y c → adds a (x ++ y) c };
+
+    /// A write that succeeds takes nothing off the count of failures,
+    ghost adds_count: { (a b : Self) (piece : List ℕ) → adds a piece b → failures a ≤ failures b };
+
+    /// nor does one that fails.
+    ghost refuses_count: { (a b : Self) (piece : List ℕ) (e : EncodeError) → refuses a piece e b → failures a ≤ failures b };
 
     /// Why a write fails.
     ghost refuses_why: { (a b : Self) (piece : List ℕ) (e : EncodeError) → refuses a piece e b →
@@ -123,6 +130,10 @@ impl Writer for SliceWriter<'_> {
       q.1 ∙ ap (put b.written y) p.1 ∙ ap (λ k. put k y (put a.written x a.slice.now)) p.0 ∙ put_join a.written x y a.slice.now a.within,
     ) };
 
+    ghost adds_count = { λ a b piece h. le_refl 0 };
+
+    ghost refuses_count = { λ a b piece e h. le_refl 0 };
+
     ghost refuses_why = { λ a b piece e h. Prim.search rules };
 }
 
@@ -146,6 +157,10 @@ impl<W: Writer> Writer for &mut W {
     ghost adds_none = { λ w. W.adds_none w.now };
 
     ghost adds_join = { λ a b c x y p q. W.adds_join a.now b.now c.now x y p q };
+
+    ghost adds_count = { λ a b piece h. W.adds_count a.now b.now piece h };
+
+    ghost refuses_count = { λ a b piece e h. W.refuses_count a.now b.now piece e h };
 
     ghost refuses_why = { λ a b piece e h. W.refuses_why a.now b.now piece e h };
 }

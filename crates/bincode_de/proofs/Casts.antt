@@ -5,6 +5,7 @@ use Rattle.std.proofs.Common.{◌∙◌, ap, arith}
 use Rattle.std.proofs.lemmas.Int.{to_z-of_z}
 use Rattle.std.proofs.lemmas.Result.{IfErr-weaker}
 use Rattle.bincode_base.specs.declared.error.DecodeError.{DecodeError}
+use Rattle.bincode_base.specs.Device.{DeviceErrors}
 use Rattle.bincode_base.specs.Format.{Format, map_format, done}
 use Rattle.bincode_base.specs.Number.{FitsIn}
 use Rattle.bincode_base.specs.IntegerLaws.{width_in_bytes}
@@ -46,7 +47,7 @@ module _ {A B : Type 0} (f : A → B) (limit : Option ℕ) (F : Format A) (input
       each PassedLimit = refl
 
   -- where the number stops
-  pub mapped_stops : {T : Type 0} (ended : ℕ → DecodeError → Type 0) (device : DecodeError → Type 0) (H : Type 0) (before after : ℕ) (rest : List ℕ) (r : Result T DecodeError) →
+  pub mapped_stops : {T : Type 0} (ended : ℕ → DecodeError → Type 0) (device : DeviceErrors) (H : Type 0) (before after : ℕ) (rest : List ℕ) (r : Result T DecodeError) →
       IfErr r (Stops ended device H (answer limit F input c) before after input rest) → IfErr r (Stops ended device H (answer limit (map_format f F) input c) before after input rest)
   mapped_stops ended device H before after rest r h = IfErr-weaker r _ _ (λ e k. map-stops f ended device H limit F input c before after rest e k) h
 

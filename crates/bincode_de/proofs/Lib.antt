@@ -5,3 +5,4 @@ pub mod Tagged
 pub mod Rewritten
 pub mod Spans
 pub mod Unwrapped
+pub mod Runs

@@ -5,7 +5,7 @@ use Rattle.std.proofs.lemmas.Result.{IfErr-weaker}
 use Rattle.bincode_base.specs.declared.error.IntegerType.{IntegerType}
 use Rattle.bincode_base.specs.declared.error.DecodeError.{DecodeError}
 use Rattle.bincode_base.specs.declared.error.DecodeError.TheVariants.{NonZeroTypeIsZero}
-use Rattle.bincode_base.specs.Device.{Takes}
+use Rattle.bincode_base.specs.Device.{DeviceErrors, Takes}
 use Rattle.bincode_base.specs.Fault.{Zero}
 use Rattle.bincode_base.specs.Format.{Format, settled, map_format}
 use Rattle.bincode_base.specs.Laws.{Lawful}
@@ -42,12 +42,12 @@ GaveZero (Gave m r d) rest = (size_of m ≡ 0) × (r ≡ rest)
 GaveZero (Refused why) rest = ⊥
 GaveZero PassedLimit rest = ⊥
 
-module _ (name : IntegerType) (ended : ℕ → DecodeError → Type 0) (device : DecodeError → Type 0) (H : Type 0) (before after : ℕ) (input rest : List ℕ) (e : DecodeError) where
+module _ (name : IntegerType) (ended : ℕ → DecodeError → Type 0) (device : DeviceErrors) (H : Type 0) (before after : ℕ) (input rest : List ℕ) (e : DecodeError) where
   tested_stop : (a : Answer Meaning) → Stops ended device H a before after input rest e → Stops ended device H (tested name a) before after input rest e
   tested_stop a (by_fault why h t k) = by_fault why (ap (tested name) h) t k
   tested_stop a (by_limit h t k) = by_limit (ap (tested name) h) t k
   tested_stop a (by_memory h t k) = by_memory h t k
-  tested_stop a (by_failure h k) = by_failure h k
+  tested_stop a (by_failure d h k) = by_failure d h k
   tested_stop a (by_device h) = by_device h
 
   zero_stop : (limit : Option ℕ) (F : Format Meaning) (c : ℕ) → Lawful F → (a : Answer Meaning) → answer limit F input c ≡ a → GaveZero a rest → e ≡ NonZeroTypeIsZero name → Stops ended device H (tested name a) before after input rest e
@@ -80,7 +80,7 @@ module _ {A : Type 0} (f : A → Meaning) (size : A → ℕ) (name : IntegerType
   pub gave_tested : SameSize → IsGave (answer limit (map_format f F) input c) → answer limit (map_format f (not_zero_by size name F)) input c ≡ tested name (answer limit (map_format f F) input c)
   gave_tested same h = by_size same
 
-  module _ {T : Type 0} (ended : ℕ → DecodeError → Type 0) (device : DecodeError → Type 0) (H : Type 0) (before after : ℕ) (rest : List ℕ) (r : Result T DecodeError) where
+  module _ {T : Type 0} (ended : ℕ → DecodeError → Type 0) (device : DeviceErrors) (H : Type 0) (before after : ℕ) (rest : List ℕ) (r : Result T DecodeError) where
     -- where the number stops
     pub tested_stops : SameSize → IfErr r (Stops ended device H (answer limit (map_format f F) input c) before after input rest) → IfErr r (Stops ended device H (answer limit (map_format f (not_zero_by size name F)) input c) before after input rest)
     tested_stops same h = rw (by_size same) (IfErr-weaker r _ _ (λ e. tested_stop name ended device H before after input rest e (answer limit (map_format f F) input c)) h)

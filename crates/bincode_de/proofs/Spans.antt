@@ -2,6 +2,7 @@
 use Rattle.std.specs.Prelude.{◌≡◌, ℕ, ◌+◌, ◌/◌, ◌%◌, ◌<◌, ◌≤◌, ◌^◌, List, Option}
 use Rattle.std.proofs.Common.{◌∙◌, refl}
 use Rattle.bincode_base.specs.declared.error.IntegerType.TheVariants as integers
+use Rattle.bincode_base.specs.Device.{DeviceErrors}
 use Rattle.bincode_base.specs.declared.error.DecodeError.{DecodeError}
 use Rattle.bincode_base.specs.declared.error.DecodeError.TheVariants as errors
 use Rattle.bincode_base.specs.Setting.{Setting}
@@ -35,7 +36,7 @@ module _ (limit : Option ℕ) (s : Setting) (input : List ℕ) (c : ℕ) where
     }
 
     -- too many seconds are refused
-    pub span-overflows : (ended : ℕ → DecodeError → Type 0) (device : DecodeError → Type 0) (H : Type 0) (before last : ℕ) → 2 ^ 64 ≤ seconds + nanos / second_in_nanos →
+    pub span-overflows : (ended : ℕ → DecodeError → Type 0) (device : DeviceErrors) (H : Type 0) (before last : ℕ) → 2 ^ 64 ≤ seconds + nanos / second_in_nanos →
         Stops ended device H (answer limit (duration s) input c) before last input rest (errors.InvalidDuration seconds nanos)
     span-overflows ended device H before last h =
         by_fault (InvalidDuration seconds nanos)
@@ -43,7 +44,7 @@ module _ (limit : Option ℕ) (s : Setting) (input : List ℕ) (c : ℕ) where
         refl
         (gave-takes limit (seconds_and_nanos s) (parts-lawful s) input c (seconds, nanos) rest after parts_gave)
 
-  module _ (ended : ℕ → DecodeError → Type 0) (device : DecodeError → Type 0) (H : Type 0) (before after : ℕ) (rest : List ℕ) (e : DecodeError) where
+  module _ (ended : ℕ → DecodeError → Type 0) (device : DeviceErrors) (H : Type 0) (before after : ℕ) (rest : List ℕ) (e : DecodeError) where
     parts_stop : Stops ended device H (answer limit (seconds_and_nanos s) input c) before after input rest e → Stops ended device H (answer limit (duration s) input c) before after input rest e
     parts_stop h = rw in_parts (stops-first ended device H H (λ k. k) limit (seconds_and_nanos s) (λ parts. settled (duration_of parts.0 parts.1)) input c before after rest e h)
 

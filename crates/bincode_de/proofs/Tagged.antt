@@ -2,6 +2,7 @@
 use Rattle.std.specs.Prelude.{◌≡◌, ℕ, ℤ, List, [], Option}
 use Rattle.std.proofs.Common.{subst}
 use Rattle.bincode_base.specs.declared.error.IntegerType.{IntegerType}
+use Rattle.bincode_base.specs.Device.{DeviceErrors}
 use Rattle.bincode_base.specs.declared.error.DecodeError.{DecodeError}
 use Rattle.bincode_base.specs.Setting.{Setting}
 use Rattle.bincode_base.specs.Format.{Took, map_format}
@@ -20,7 +21,7 @@ module _ (limit : Option ℕ) (name : IntegerType) (width : ℕ) (s : Setting) (
   unfolding signed
   signed-gave z tags h same r = charged-gave limit width (map_format (integer_by width s.encoding) (number_by signed_tag name s.order width s.encoding)) input c d middle rest z h same (subst (λ t. (map_format (integer_by width s.encoding) (number_by t name s.order width s.encoding)).read middle ≡ Took z rest []) tags r)
 
-  module _ (ended : ℕ → DecodeError → Type 0) (device : DecodeError → Type 0) (H : Type 0) (before between after : ℕ) (e : DecodeError) where
+  module _ (ended : ℕ → DecodeError → Type 0) (device : DeviceErrors) (H : Type 0) (before between after : ℕ) (e : DecodeError) where
     pub unsigned-misread : tags_of name ≡ unsigned_tag → Claimed limit c width d → middle ≡ input → between ≡ before → Misreads ended device ((number_by (tags_of name) name s.order width s.encoding).read middle) between after middle rest e → Stops ended device H (answer limit (unsigned name width s) input c) before after input rest e
     unfolding unsigned
     unsigned-misread tags h same count r = charged-misread limit width (number_by unsigned_tag name s.order width s.encoding) input c ended device H d before between after middle rest e h same count (subst (λ t. Misreads ended device ((number_by t name s.order width s.encoding).read middle) between after middle rest e) tags r)

@@ -5,7 +5,7 @@ ghost use Rattle.bincode_slots.specs.Slots.{SlotsFit};
 ghost use Rattle.bincode_wire.specs.Meaning.{listed};
 ghost use Rattle.bincode_wire.specs.Answer.{answer};
 ghost use Rattle.bincode_wire.specs.Decoding.{Decodes, Stops};
-ghost use Rattle.bincode_wire.specs.Run.{IsListOf, CanRelease, RoomReturned};
+ghost use Rattle.bincode_wire.specs.Run.{IsListOf, CanRelease, Held, RoomReturned};
 
 use crate::decode::Decode;
 use crate::decoder::Decoder;
@@ -19,9 +19,12 @@ fn decode_slots<Context: Drop, T: Decode<Context>, D: Decoder<Context = Context>
     slots: &mut [Option<T>],
 ) -> Result<(), DecodeError>
     requires { CanRelease D.C.bound (D.charge decoder.old) (length slots.old * T.claim) }
-    ensures ok { OnOk result ((vs : List T) × (slots.new ≡ map Some vs) × Decodes (λ ms. IsListOf (λ v m. T.given m v) vs (listed ms)) (answer D.C.bound (elements (length slots.old) T.claim (T.format D.C.setting)) (D.rest decoder.old) (D.charge decoder.old)) (D.rest decoder.new) (D.charge decoder.new)) }
-    ensures err { IfErr result (Stops D.R.ended D.R.device T.grows (answer D.C.bound (elements (length slots.old) T.claim (T.format D.C.setting)) (D.rest decoder.old) (D.charge decoder.old)) (D.failures decoder.old) (D.failures decoder.new) (D.rest decoder.old) (D.rest decoder.new)) }
+    ensures filled { OnOk result ((vs : List T) × (slots.new ≡ map Some vs)) }
+    ensures ok { D.told decoder.old → OnOk result ((vs : List T) × (slots.new ≡ map Some vs) × Decodes (λ ms. IsListOf (λ v m. T.given m v) vs (listed ms)) (answer D.C.bound (elements (length slots.old) T.claim (T.format D.C.setting)) (D.rest decoder.old) (D.charge decoder.old)) (D.rest decoder.new) (D.charge decoder.new)) }
+    ensures err { D.told decoder.old → IfErr result (Stops D.R.ended D.R.device T.grows (answer D.C.bound (elements (length slots.old) T.claim (T.format D.C.setting)) (D.rest decoder.old) (D.charge decoder.old)) (D.failures decoder.old) (D.failures decoder.new) (D.rest decoder.old) (D.rest decoder.new)) }
     ensures count { D.failures decoder.old ≤ D.failures decoder.new }
+    ensures told { D.told decoder.old → D.told decoder.new }
+    ensures held { Held D.C.bound (length slots.old * T.claim) (D.charge decoder.old) (D.charge decoder.new) }
     ensures place { D.place decoder.new ≡ D.place decoder.old }
 {
     for index in 0..slots.len() {
@@ -37,9 +40,11 @@ fn decode_into<Context: Drop, T: Decode<Context>, D: Decoder<Context = Context>,
     mut slots: [Option<T>; N],
 ) -> Result<[T; N], DecodeError>
     requires { CanRelease D.C.bound (D.charge decoder.old) (N * T.claim) }
-    ensures ok { IfOk result (λ v. Decodes (λ ms. IsListOf (λ x m. T.given m x) v (listed ms)) (answer D.C.bound (elements N T.claim (T.format D.C.setting)) (D.rest decoder.old) (D.charge decoder.old)) (D.rest decoder.new) (D.charge decoder.new)) }
-    ensures err { IfErr result (Stops D.R.ended D.R.device T.grows (answer D.C.bound (elements N T.claim (T.format D.C.setting)) (D.rest decoder.old) (D.charge decoder.old)) (D.failures decoder.old) (D.failures decoder.new) (D.rest decoder.old) (D.rest decoder.new)) }
+    ensures ok { D.told decoder.old → IfOk result (λ v. Decodes (λ ms. IsListOf (λ x m. T.given m x) v (listed ms)) (answer D.C.bound (elements N T.claim (T.format D.C.setting)) (D.rest decoder.old) (D.charge decoder.old)) (D.rest decoder.new) (D.charge decoder.new)) }
+    ensures err { D.told decoder.old → IfErr result (Stops D.R.ended D.R.device T.grows (answer D.C.bound (elements N T.claim (T.format D.C.setting)) (D.rest decoder.old) (D.charge decoder.old)) (D.failures decoder.old) (D.failures decoder.new) (D.rest decoder.old) (D.rest decoder.new)) }
     ensures count { D.failures decoder.old ≤ D.failures decoder.new }
+    ensures told { D.told decoder.old → D.told decoder.new }
+    ensures held { Held D.C.bound (N * T.claim) (D.charge decoder.old) (D.charge decoder.new) }
     ensures place { D.place decoder.new ≡ D.place decoder.old }
 {
     decode_slots(decoder, &mut slots[..])?;
@@ -56,10 +61,12 @@ pub fn decode_array<
     const N: usize,
 >(decoder: &mut D) -> Result<[T; N], DecodeError>
     requires { CanRelease D.C.bound (D.charge decoder.old) (N * T.claim) }
-    ensures ok { IfOk result (λ v. Decodes (λ ms. IsListOf (λ x m. T.given m x) v (listed ms)) (answer D.C.bound (elements N T.claim (T.format D.C.setting)) (D.rest decoder.old) (D.charge decoder.old)) (D.rest decoder.new) (D.charge decoder.new)) }
-    ensures err { IfErr result (Stops D.R.ended D.R.device (T.grows ⊎ ¬ (SlotsFit T.row N)) (answer D.C.bound (elements N T.claim (T.format D.C.setting)) (D.rest decoder.old) (D.charge decoder.old)) (D.failures decoder.old) (D.failures decoder.new) (D.rest decoder.old) (D.rest decoder.new)) }
-    ensures charge { IfOk result (λ _. RoomReturned D.C.bound (elements N T.claim (T.format D.C.setting)) (N * T.claim) (D.rest decoder.old) (D.rest decoder.new) (D.charge decoder.old) (D.charge decoder.new)) }
+    ensures ok { D.told decoder.old → IfOk result (λ v. Decodes (λ ms. IsListOf (λ x m. T.given m x) v (listed ms)) (answer D.C.bound (elements N T.claim (T.format D.C.setting)) (D.rest decoder.old) (D.charge decoder.old)) (D.rest decoder.new) (D.charge decoder.new)) }
+    ensures err { D.told decoder.old → IfErr result (Stops D.R.ended D.R.device (T.grows ⊎ ¬ (SlotsFit T.row N)) (answer D.C.bound (elements N T.claim (T.format D.C.setting)) (D.rest decoder.old) (D.charge decoder.old)) (D.failures decoder.old) (D.failures decoder.new) (D.rest decoder.old) (D.rest decoder.new)) }
+    ensures charge { D.told decoder.old → IfOk result (λ _. RoomReturned D.C.bound (elements N T.claim (T.format D.C.setting)) (N * T.claim) (D.rest decoder.old) (D.rest decoder.new) (D.charge decoder.old) (D.charge decoder.new)) }
     ensures count { D.failures decoder.old ≤ D.failures decoder.new }
+    ensures told { D.told decoder.old → D.told decoder.new }
+    ensures held { Held D.C.bound (N * T.claim) (D.charge decoder.old) (D.charge decoder.new) }
     ensures place { D.place decoder.new ≡ D.place decoder.old }
 {
     if !slots_fit::<T, N>() {

@@ -27,6 +27,9 @@ pub trait Decoder: Sealed {
 
     type Context: Drop;
 
+    /// That its reader tells the bytes that are left. What is said of `rest` is said where it does.
+    ghost told: { Self → Type 0 };
+
     /// The bytes that are left.
     ghost rest: { Self → List ℕ };
 
@@ -74,6 +77,9 @@ pub trait Decoder: Sealed {
         ensures err { IfErr result (λ e. (e ≡ LimitExceeded) × OverClaimed Self.C.bound (charge self.old) n (charge self.new)) }
         ensures rest { rest self.new ≡ rest self.old }
         ensures failures { failures self.new ≡ failures self.old }
+        ensures told { told self.old → told self.new }
+        ensures reader { reader_of self.new ≡ reader_of self.old }
+        ensures context { context_of self.new ≡ context_of self.old }
         ensures place { place self.new ≡ place self.old };
 
     /// Charges for a container of `len` elements: `claim_bytes_read` of `len` times the claim size of `T`. A product that
@@ -83,6 +89,9 @@ pub trait Decoder: Sealed {
         ensures err { IfErr result (λ e. (e ≡ LimitExceeded) × OverClaimed Self.C.bound (charge self.old) (len * T.claim) (charge self.new)) }
         ensures rest { rest self.new ≡ rest self.old }
         ensures failures { failures self.new ≡ failures self.old }
+        ensures told { told self.old → told self.new }
+        ensures reader { reader_of self.new ≡ reader_of self.old }
+        ensures context { context_of self.new ≡ context_of self.old }
         ensures place { place self.new ≡ place self.old };
 
     /// Takes `n` bytes off the charge, of those that a container claimed. Without a limit nothing is counted.
@@ -91,11 +100,30 @@ pub trait Decoder: Sealed {
         ensures charge { charge self.new ≡ unclaimed Self.C.bound (charge self.old) n }
         ensures rest { rest self.new ≡ rest self.old }
         ensures failures { failures self.new ≡ failures self.old }
+        ensures told { told self.old → told self.new }
+        ensures reader { reader_of self.new ≡ reader_of self.old }
+        ensures context { context_of self.new ≡ context_of self.old }
         ensures place { place self.new ≡ place self.old };
+
+    /// A reader that was put is the reader, and a context beside it stays,
+    ghost reader_put: { (d : Self) (r : Self.R) → reader_of (put_reader d r) ≡ r };
+
+    ghost reader_kept: { (d : Self) (x : Self.Context) → reader_of (put_context d x) ≡ reader_of d };
+
+    /// and so it is with a context.
+    ghost context_put: { (d : Self) (x : Self.Context) → context_of (put_context d x) ≡ x };
+
+    ghost context_kept: { (d : Self) (r : Self.R) → context_of (put_reader d r) ≡ context_of d };
+
+    /// What the reader tells and counts is what the decoder does.
+    ghost reader_told: { (d : Self) → told d → Self.R.told (reader_of d) };
 
     ghost rest_is: { (d : Self) → Self.R.rest (reader_of d) ≡ rest d };
 
     ghost failures_is: { (d : Self) → Self.R.failures (reader_of d) ≡ failures d };
+
+    /// Another reader changes what is read, and not the charge,
+    ghost put_told: { (d : Self) (r : Self.R) → Self.R.told r → told (put_reader d r) };
 
     ghost put_rest: { (d : Self) (r : Self.R) → rest (put_reader d r) ≡ Self.R.rest r };
 
@@ -104,6 +132,9 @@ pub trait Decoder: Sealed {
     ghost put_charge: { (d : Self) (r : Self.R) → charge (put_reader d r) ≡ charge d };
 
     ghost put_place: { (d : Self) (r : Self.R) → Self.R.place r ≡ Self.R.place (reader_of d) → place (put_reader d r) ≡ place d };
+
+    /// and another context neither.
+    ghost context_told: { (d : Self) (x : Self.Context) → told d → told (put_context d x) };
 
     ghost context_rest: { (d : Self) (x : Self.Context) → rest (put_context d x) ≡ rest d };
 
@@ -206,6 +237,8 @@ impl<R: Reader, C: Config, Context: Drop> Decoder for DecoderImpl<R, C, Context>
 
     type Context = Context;
 
+    ghost told = { λ d. R.told d.reader };
+
     ghost rest = { λ d. R.rest d.reader };
 
     ghost failures = { λ d. R.failures d.reader };
@@ -255,9 +288,21 @@ impl<R: Reader, C: Config, Context: Drop> Decoder for DecoderImpl<R, C, Context>
         unclaim(self.config.limit(), &mut self.bytes_read, n);
     }
 
+    ghost reader_put = { λ d r. refl };
+
+    ghost reader_kept = { λ d x. refl };
+
+    ghost context_put = { λ d x. refl };
+
+    ghost context_kept = { λ d r. refl };
+
+    ghost reader_told = { λ d h. h };
+
     ghost rest_is = { λ d. refl };
 
     ghost failures_is = { λ d. refl };
+
+    ghost put_told = { λ d r h. h };
 
     ghost put_rest = { λ d r. refl };
 
@@ -266,6 +311,8 @@ impl<R: Reader, C: Config, Context: Drop> Decoder for DecoderImpl<R, C, Context>
     ghost put_charge = { λ d r. refl };
 
     ghost put_place = { λ d r h. h };
+
+    ghost context_told = { λ d x h. h };
 
     ghost context_rest = { λ d x. refl };
 
@@ -309,6 +356,7 @@ impl<'a, R: Reader, C: Config, Context: Drop> LentDecoder<'a, R, C, Context> {
     ) -> LentDecoder<'a, R, C, Context>
         ensures place { ⟦<LentDecoder<'a, R, C, Context> as Decoder>⟧.place result ≡ reader.entry.ghost_name ∷ R.place reader.old }
         ensures reader { ⟦<LentDecoder<'a, R, C, Context> as Decoder>⟧.reader_of result ≡ reader.old }
+        ensures context { ⟦<LentDecoder<'a, R, C, Context> as Decoder>⟧.context_of result ≡ context.old }
         ensures charge { ⟦<LentDecoder<'a, R, C, Context> as Decoder>⟧.charge result ≡ 0 }
     {
         LentDecoder {
@@ -329,6 +377,8 @@ impl<R: Reader, C: Config, Context: Drop> Decoder for LentDecoder<'_, R, C, Cont
     type C = C;
 
     type Context = Context;
+
+    ghost told = { λ d. R.told d.reader.now };
 
     ghost rest = { λ d. R.rest d.reader.now };
 
@@ -379,9 +429,21 @@ impl<R: Reader, C: Config, Context: Drop> Decoder for LentDecoder<'_, R, C, Cont
         unclaim(self.config.limit(), &mut self.bytes_read, n);
     }
 
+    ghost reader_put = { λ d r. refl };
+
+    ghost reader_kept = { λ d x. refl };
+
+    ghost context_put = { λ d x. refl };
+
+    ghost context_kept = { λ d r. refl };
+
+    ghost reader_told = { λ d h. h };
+
     ghost rest_is = { λ d. refl };
 
     ghost failures_is = { λ d. refl };
+
+    ghost put_told = { λ d r h. h };
 
     ghost put_rest = { λ d r. refl };
 
@@ -390,6 +452,8 @@ impl<R: Reader, C: Config, Context: Drop> Decoder for LentDecoder<'_, R, C, Cont
     ghost put_charge = { λ d r. refl };
 
     ghost put_place = { λ d r h. ap (λ z. d.reader.ghost_name ∷ z) h };
+
+    ghost context_told = { λ d x h. h };
 
     ghost context_rest = { λ d x. refl };
 
@@ -412,6 +476,8 @@ where
     type C = D::C;
 
     type Context = D::Context;
+
+    ghost told = { λ d. D.told d.now };
 
     ghost rest = { λ d. D.rest d.now };
 
@@ -457,9 +523,21 @@ where
         (**self).unclaim_bytes_read(n);
     }
 
+    ghost reader_put = { λ d r. D.reader_put d.now r };
+
+    ghost reader_kept = { λ d x. D.reader_kept d.now x };
+
+    ghost context_put = { λ d x. D.context_put d.now x };
+
+    ghost context_kept = { λ d r. D.context_kept d.now r };
+
+    ghost reader_told = { λ d. D.reader_told d.now };
+
     ghost rest_is = { λ d. D.rest_is d.now };
 
     ghost failures_is = { λ d. D.failures_is d.now };
+
+    ghost put_told = { λ d r. D.put_told d.now r };
 
     ghost put_rest = { λ d r. D.put_rest d.now r };
 
@@ -468,6 +546,8 @@ where
     ghost put_charge = { λ d r. D.put_charge d.now r };
 
     ghost put_place = { λ d r h. ap (λ z. d.ghost_name ∷ z) (D.put_place d.now r h) };
+
+    ghost context_told = { λ d x. D.context_told d.now x };
 
     ghost context_rest = { λ d x. D.context_rest d.now x };
 

@@ -5,7 +5,7 @@ use Rattle.bincode_base.specs.declared.error.EncodeError.{EncodeError}
 use Rattle.bincode_base.specs.Format.{Format, of_cell}
 use Rattle.bincode_base.specs.Laws.{Lawful}
 use Rattle.bincode_wire.specs.Meaning.{Meaning}
-use Rattle.bincode_wire.specs.Allowed.{AllowedWord}
+use Rattle.bincode_wire.specs.Allowed.{AllowedWord, SomeWord}
 use Rattle.bincode_wire.specs.Cells.{IsAny}
 use Rattle.bincode_wire.specs.CellLaws.{cell-allows}
 use Rattle.bincode_enc.specs.Encoding.{Adds, Refuses, Writes, Ready, Begins, IsOwn, Halts, by_writer, by_name}
@@ -16,12 +16,12 @@ module _ (F : Format Meaning) (f : Lawful F) (P : Meaning → Type 0) {W : Type 
   pub held_writes : (before after : W) → Writes adds (AllowedWord P F) before after → Writes adds (AllowedWord IsAny (of_cell F)) before after
   held_writes before after w = writes_same adds _ _ before after (cell-allows F f P) w
 
-  module _ (R S : Type 0) (inner : S → R) (has_word : R → (bytes : List ℕ) × AllowedWord P F bytes) where
+  module _ (R S : Type 0) (inner : S → R) (has_word : R → SomeWord (AllowedWord P F)) where
     held_begins : (bytes : List ℕ) → Begins (Ready R (AllowedWord P F)) bytes → Begins (Ready S (AllowedWord IsAny (of_cell F))) bytes
     held_begins bytes b some h =
         let r = inner h.is_writable in
         let w = has_word r in
-        let m = b w.0 (record { is_writable = r; is_allowed = w.1 }) in
+        let m = b w.bytes (record { is_writable = r; is_allowed = w.is_allowed }) in
         (m.0, record { is_writable = h.is_writable; is_allowed = cell-allows F f P (bytes ++ m.0) m.1.is_allowed })
 
     own_or_held : (front : List ℕ) (e : EncodeError) → IsOwn e ⊎ Begins (Ready R (AllowedWord P F)) front → IsOwn e ⊎ Begins (Ready S (AllowedWord IsAny (of_cell F))) front

@@ -2,7 +2,7 @@
 #![tactic(auto)]
 
 pub mod encode;
+pub mod encode_parts;
 pub mod encoder;
 mod impls;
-pub mod run;
 pub mod variants;

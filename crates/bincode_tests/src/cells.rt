@@ -1,50 +1,95 @@
 //! Cells, of which no contract says what they hold.
 
-use bincode::error::EncodeError;
+use bincode::de::Decode;
+use bincode::enc::Encode;
+use bincode::error::{DecodeError, EncodeError};
 use bincode::{config, decode_from_slice, encode_into_slice};
+use std::alloc::Global;
 use std::cell::{Cell, RefCell};
-use std::test::Fail;
+use std::process::Abort;
 
-#[test]
-fn keeps_what_a_cell_holds(rt: HostRuntime) -> Result<(), Fail> {
-    let little = config::standard();
-    let mut slice = [9u8; 4];
-    let cell = Cell::new(5u32);
-    assert_eq!(rt; encode_into_slice(&cell, &mut slice, little)?, 1);
-    assert_eq!(rt; slice, [5, 9, 9, 9]);
-    cell.set(300);
-    assert_eq!(rt; encode_into_slice(&cell, &mut slice, little)?, 3);
-    assert_eq!(rt; slice, [251, 44, 1, 9]);
-    let (read, taken): (Cell<u32>, usize) = decode_from_slice(rt.alloc(), &[5, 9], little)?;
-    assert_eq!(rt; (read.get(), taken), (5, 1));
-    let (read, taken): (Cell<u32>, usize) = decode_from_slice(rt.alloc(), &slice, little)?;
-    assert_eq!(rt; (read.get(), taken), (300, 3));
-    Ok(())
+/// The cell is written as the word.
+fn is_written<T: Encode>(rt: &impl Abort, cell: &T, word: &[u8]) {
+    let mut slice = [9u8; 8];
+    let written = encode_into_slice(cell, &mut slice, config::standard());
+    assert!(rt;
+        matches!(written, Ok(count) if count == word.len()),
+        "{word:?}"
+    );
+    assert!(rt; slice.starts_with(word), "{word:?}");
+    assert!(rt;
+        slice.iter().skip(word.len()).all(|byte| *byte == 9),
+        "{word:?}"
+    );
+}
+
+/// What is read from all of the word, if it is one.
+fn read_whole<T: Decode<()>>(alloc: Global, word: &[u8]) -> Option<T> {
+    let outcome: Result<(T, usize), DecodeError> = decode_from_slice(
+        alloc,
+        word,
+        config::standard(),
+    );
+    match outcome {
+        Ok((value, taken)) if taken == word.len() => Some(value),
+        _ => None,
+    }
+}
+
+/// Of a value whose word is `[5]`, and another whose word is `[251, 44, 1]`.
+fn keeps_cells_of<T>(rt: &impl Abort, alloc: Global, five: T, large: T)
+where
+    T: Encode + Decode<()> + Copy + PartialEq,
+{
+    let cell = Cell::new(five);
+    is_written(rt, &cell, &[5]);
+    cell.set(large);
+    is_written(rt, &cell, &[251, 44, 1]);
+    let read: Option<Cell<T>> = read_whole(alloc, &[5]);
+    assert!(rt; matches!(read, Some(cell) if cell.get() == five));
+    let read: Option<Cell<T>> = read_whole(alloc, &[251, 44, 1]);
+    assert!(rt; matches!(read, Some(cell) if cell.get() == large));
+}
+
+/// The same of cells that can be borrowed.
+fn keeps_unborrowed_cells_of<T>(rt: &impl Abort, alloc: Global, five: T, large: T)
+where
+    T: Encode + Decode<()> + Copy + PartialEq,
+{
+    let cell = RefCell::new(five);
+    is_written(rt, &cell, &[5]);
+    assert!(rt; cell.try_replace(large).is_ok());
+    is_written(rt, &cell, &[251, 44, 1]);
+    holds(rt, alloc, &[5], five);
+    holds(rt, alloc, &[251, 44, 1], large);
+}
+
+/// The word is read as a cell that holds the value.
+fn holds<T>(rt: &impl Abort, alloc: Global, word: &[u8], value: T)
+where
+    T: Decode<()> + PartialEq,
+{
+    let read: Option<RefCell<T>> = read_whole(alloc, word);
+    match read {
+        Some(cell) => assert!(rt; cell.into_inner() == value),
+        None => assert!(rt; false, "{word:?}"),
+    }
 }
 
 #[test]
-fn keeps_what_an_unborrowed_cell_holds(rt: HostRuntime) -> Result<(), Fail> {
-    let little = config::standard();
-    let mut slice = [9u8; 4];
-    let cell = RefCell::new(5u32);
-    assert_eq!(rt; encode_into_slice(&cell, &mut slice, little)?, 1);
-    assert_eq!(rt; slice, [5, 9, 9, 9]);
-    assert!(rt; cell.try_replace(300).is_ok());
-    assert_eq!(rt; encode_into_slice(&cell, &mut slice, little)?, 3);
-    assert_eq!(rt; slice, [251, 44, 1, 9]);
-    let (read, taken): (RefCell<u32>, usize) = decode_from_slice(rt.alloc(), &[5, 9], little)?;
-    assert_eq!(rt; (read.into_inner(), taken), (5, 1));
-    let (read, taken): (RefCell<u32>, usize) = decode_from_slice(rt.alloc(), &slice, little)?;
-    assert_eq!(rt; (read.into_inner(), taken), (300, 3));
-    Ok(())
+fn keeps_what_a_cell_holds(rt: HostRuntime) {
+    let alloc = rt.alloc();
+    keeps_cells_of(&rt, alloc, 5u32, 300);
+    keeps_unborrowed_cells_of(&rt, alloc, 5u32, 300);
 }
 
-#[test]
-fn refuses_a_cell_that_is_borrowed_for_writing(rt: HostRuntime) -> Result<(), Fail> {
+/// Of a value whose word is `[251, 44, 1]`.
+fn refuses_a_borrowed_cell_of<T: Encode>(rt: &impl Abort, large: T) {
     let mut slice = [9u8; 3];
-    let cell = RefCell::new(300u32);
+    let cell = RefCell::new(large);
     let Ok(borrowed) = cell.try_borrow_mut() else {
-        return Err("borrowed already".into());
+        assert!(rt; false);
+        return;
     };
     let outcome = encode_into_slice(&cell, &mut slice, config::standard());
     assert!(rt;
@@ -53,51 +98,77 @@ fn refuses_a_cell_that_is_borrowed_for_writing(rt: HostRuntime) -> Result<(), Fa
             Err(EncodeError::RefCellAlreadyBorrowed { type_name: _ })
         )
     );
-    assert_eq!(rt; slice, [9, 9, 9]);
+    assert!(rt; slice == [9, 9, 9]);
     drop(borrowed);
-    assert_eq!(rt;
-        encode_into_slice(&cell, &mut slice, config::standard())?,
-        3
-    );
-    assert_eq!(rt; slice, [251, 44, 1]);
-    Ok(())
+    is_written(rt, &cell, &[251, 44, 1]);
 }
 
-#[test]
-fn keeps_each_byte_in_a_cell(rt: HostRuntime) -> Result<(), Fail> {
-    let little = config::standard();
-    for byte in 0..=255u8 {
-        let mut slice = [0u8; 1];
-        assert_eq!(rt; encode_into_slice(Cell::new(byte), &mut slice, little)?, 1);
-        assert_eq!(rt; slice, [byte]);
-        let (read, taken): (Cell<u8>, usize) = decode_from_slice(rt.alloc(), &slice, little)?;
-        assert_eq!(rt; (read.get(), taken), (byte, 1));
+/// A cell that is borrowed for reading is written. Then it is borrowed no more, and can be borrowed for writing.
+fn writes_a_lent_cell_of<T: Encode>(rt: &impl Abort, large: T) {
+    let cell = RefCell::new(large);
+    let Ok(borrowed) = cell.try_borrow() else {
+        assert!(rt; false);
+        return;
+    };
+    is_written(rt, &cell, &[251, 44, 1]);
+    assert!(rt; cell.try_borrow_mut().is_err());
+    drop(borrowed);
+    assert!(rt; cell.try_borrow_mut().is_ok());
+    is_written(rt, &cell, &[251, 44, 1]);
+    assert!(rt; cell.try_borrow_mut().is_ok());
+}
 
-        let mut slice = [0u8; 1];
-        assert_eq!(rt;
-            encode_into_slice(RefCell::new(byte), &mut slice, little)?,
-            1
-        );
-        assert_eq!(rt; slice, [byte]);
-        let (read, taken): (RefCell<u8>, usize) = decode_from_slice(rt.alloc(), &slice, little)?;
-        assert_eq!(rt; (read.into_inner(), taken), (byte, 1));
+/// A cell that was read is not borrowed.
+fn reads_an_unborrowed_cell_of<T: Decode<()>>(rt: &impl Abort, alloc: Global) {
+    let read: Option<RefCell<T>> = read_whole(alloc, &[251, 44, 1]);
+    match read {
+        Some(cell) => assert!(rt; cell.try_borrow_mut().is_ok()),
+        None => assert!(rt; false),
     }
-    Ok(())
 }
 
 #[test]
-fn keeps_cells_in_cells(rt: HostRuntime) -> Result<(), Fail> {
-    let little = config::standard();
-    let mut slice = [9u8; 5];
-    let cell = RefCell::new((Cell::new(5u8), 300u16));
-    assert_eq!(rt; encode_into_slice(&cell, &mut slice, little)?, 4);
-    assert_eq!(rt; slice, [5, 251, 44, 1, 9]);
-    let (read, taken): (RefCell<(Cell<u8>, u16)>, usize) = decode_from_slice(
-        rt.alloc(),
-        &slice,
-        little,
-    )?;
-    let (inner, number) = read.into_inner();
-    assert_eq!(rt; (inner.get(), number, taken), (5, 300, 4));
-    Ok(())
+fn refuses_a_cell_that_is_borrowed_for_writing(rt: HostRuntime) {
+    refuses_a_borrowed_cell_of(&rt, 300u32);
+}
+
+#[test]
+fn writes_a_cell_that_is_borrowed_for_reading(rt: HostRuntime) {
+    writes_a_lent_cell_of(&rt, 300u32);
+    reads_an_unborrowed_cell_of::<u32>(&rt, rt.alloc());
+}
+
+#[test]
+fn keeps_each_byte_in_a_cell(rt: HostRuntime) {
+    let alloc = rt.alloc();
+    for byte in 0..=255u8 {
+        is_written(&rt, &Cell::new(byte), &[byte]);
+        let read: Option<Cell<u8>> = read_whole(alloc, &[byte]);
+        assert!(rt; matches!(read, Some(cell) if cell.get() == byte), "{byte}");
+        is_written(&rt, &RefCell::new(byte), &[byte]);
+        holds(&rt, alloc, &[byte], byte);
+    }
+}
+
+/// Of values whose words are `[5]` and `[251, 44, 1]`.
+fn keeps_cells_in_cells_of<T, U>(rt: &impl Abort, alloc: Global, five: T, large: U)
+where
+    T: Encode + Decode<()> + Copy + PartialEq,
+    U: Encode + Decode<()> + Copy + PartialEq,
+{
+    let cell = RefCell::new((Cell::new(five), large));
+    is_written(rt, &cell, &[5, 251, 44, 1]);
+    let read: Option<RefCell<(Cell<T>, U)>> = read_whole(alloc, &[5, 251, 44, 1]);
+    let Some(outer) = read else {
+        assert!(rt; false);
+        return;
+    };
+    let (inner, number) = outer.into_inner();
+    assert!(rt; inner.get() == five);
+    assert!(rt; number == large);
+}
+
+#[test]
+fn keeps_cells_in_cells(rt: HostRuntime) {
+    keeps_cells_in_cells_of(&rt, rt.alloc(), 5u8, 300u16);
 }

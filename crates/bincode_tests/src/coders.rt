@@ -4,79 +4,109 @@ use bincode::config;
 use bincode::de::read::SliceReader;
 use bincode::de::{Decode, Decoder, DecoderImpl, decode_array};
 use bincode::enc::write::SliceWriter;
-use bincode::enc::{Encode, EncoderImpl, encode_run};
+use bincode::enc::{Encode, EncoderImpl};
 use bincode::error::DecodeError;
-use std::test::Fail;
+use std::process::Abort;
 
 #[test]
-fn encodes_in_turn(rt: HostRuntime) -> Result<(), Fail> {
+fn encodes_in_turn(rt: HostRuntime) {
     let mut slice = [9u8; 5];
     let mut encoder = EncoderImpl::new(SliceWriter::new(&mut slice), config::standard());
-    300u32.encode(&mut encoder)?;
-    7u8.encode(&mut &mut encoder)?;
+    assert!(rt; 300u32.encode(&mut encoder).is_ok());
+    assert!(rt; 7u8.encode(&mut &mut encoder).is_ok());
     let writer = encoder.into_writer();
-    assert_eq!(rt; writer.bytes_written(), 4);
+    assert!(rt; writer.bytes_written() == 4);
     drop(writer);
-    assert_eq!(rt; slice, [251, 44, 1, 7, 9]);
-    Ok(())
+    assert!(rt; slice == [251, 44, 1, 7, 9]);
 }
 
 #[test]
-fn decodes_and_claims(rt: HostRuntime) -> Result<(), Fail> {
+fn encodes_a_run(rt: HostRuntime) {
+    let mut slice = [9u8; 5];
+    let mut encoder = EncoderImpl::new(SliceWriter::new(&mut slice), config::standard());
+    assert!(rt; u16::encode_run(&[300, 7], &mut encoder).is_ok());
+    let writer = encoder.into_writer();
+    assert!(rt; writer.bytes_written() == 4);
+    drop(writer);
+    assert!(rt; slice == [251, 44, 1, 7, 9]);
+}
+
+/// Two numbers behind their room, under a limit of 10 bytes; then two bytes, of which one is there.
+fn reads_runs<D: Decoder<Context = ()>>(rt: &impl Abort, decoder: &mut D) {
+    assert!(rt; decoder.claim_container_read::<u32>(2).is_ok());
+    let Ok(pair) = u32::decode_vec(decoder, 2) else {
+        assert!(rt; false);
+        return;
+    };
+    assert!(rt; pair.as_slice() == [300, 7].as_slice());
+    assert!(rt; decoder.claim_container_read::<u8>(2).is_ok());
+    let outcome = u8::decode_vec(decoder, 2);
+    assert!(rt; matches!(outcome, Err(DecodeError::UnexpectedEnd { .. })));
+}
+
+#[test]
+fn decodes_a_run(rt: HostRuntime) {
     let ten = config::standard().with_limit::<10>();
+    let reader = SliceReader::new(&[251, 44, 1, 7, 9]);
+    reads_runs(&rt, &mut DecoderImpl::new(rt.alloc(), reader, ten, ()));
+}
+
+#[test]
+fn decodes_in_turn(rt: HostRuntime) {
     let reader = SliceReader::new(&[251, 44, 1, 7]);
-    let mut decoder = DecoderImpl::new(rt.alloc(), reader, ten, ());
-    assert_eq!(rt; u32::decode(&mut decoder)?, 300);
-    assert_eq!(rt; u8::decode(&mut &mut decoder)?, 7);
-    decoder.claim_bytes_read(5)?;
-    let outcome = decoder.claim_bytes_read(1);
-    assert!(rt; matches!(outcome, Err(DecodeError::LimitExceeded)));
-
-    let mut decoder = DecoderImpl::new(rt.alloc(), SliceReader::new(&[]), ten, ());
-    decoder.claim_bytes_read(6)?;
-    let outcome = decoder.claim_bytes_read(5);
-    assert!(rt; matches!(outcome, Err(DecodeError::LimitExceeded)));
-
-    let free = config::standard();
-    let mut decoder = DecoderImpl::new(rt.alloc(), SliceReader::new(&[]), free, ());
-    for _ in 0..2 {
-        decoder.claim_bytes_read(usize::MAX)?;
-    }
-    Ok(())
+    let mut decoder = DecoderImpl::new(rt.alloc(), reader, config::standard(), ());
+    assert!(rt; matches!(u32::decode(&mut decoder), Ok(300)));
+    assert!(rt; matches!(u8::decode(&mut &mut decoder), Ok(7)));
 }
 
-#[test]
-fn encodes_a_run(rt: HostRuntime) -> Result<(), Fail> {
-    let mut slice = [9u8; 5];
-    let mut encoder = EncoderImpl::new(SliceWriter::new(&mut slice), config::standard());
-    encode_run(&mut encoder, &[300u16, 7])?;
-    let writer = encoder.into_writer();
-    assert_eq!(rt; writer.bytes_written(), 4);
-    drop(writer);
-    assert_eq!(rt; slice, [251, 44, 1, 7, 9]);
-    Ok(())
+/// Under a limit of 10 bytes, of which 5 are claimed by what is read.
+fn claims_up_to_ten<D: Decoder<Context = ()>>(rt: &impl Abort, decoder: &mut D) {
+    assert!(rt; matches!(u32::decode(decoder), Ok(300)));
+    assert!(rt; matches!(u8::decode(decoder), Ok(7)));
+    assert!(rt; decoder.claim_bytes_read(5).is_ok());
+    assert!(rt; matches!(decoder.claim_bytes_read(1), Err(DecodeError::LimitExceeded)));
 }
 
-#[test]
-fn claims_and_releases_containers(rt: HostRuntime) -> Result<(), Fail> {
-    let ten = config::standard().with_limit::<10>();
-    let mut decoder = DecoderImpl::new(rt.alloc(), SliceReader::new(&[1, 2, 3]), ten, ());
-    decoder.claim_container_read::<u16>(5)?;
+/// Of containers, before three bytes.
+fn claims_containers_up_to_ten<D: Decoder<Context = ()>>(rt: &impl Abort, decoder: &mut D) {
+    assert!(rt; decoder.claim_container_read::<u16>(5).is_ok());
     decoder.unclaim_bytes_read(4);
-    decoder.claim_bytes_read(4)?;
-    let pair: [u8; 2] = decode_array(&mut decoder)?;
-    assert_eq!(rt; pair, [1, 2]);
+    assert!(rt; decoder.claim_bytes_read(4).is_ok());
+    let pair: Result<[u8; 2], DecodeError> = decode_array(decoder);
+    assert!(rt; matches!(pair, Ok(read) if read == [1, 2]));
     let outcome = decoder.claim_container_read::<u8>(1);
     assert!(rt; matches!(outcome, Err(DecodeError::LimitExceeded)));
+}
 
-    let mut decoder = DecoderImpl::new(rt.alloc(), SliceReader::new(&[]), ten, ());
+/// Of more than a limit allows, and then of all of it.
+fn refuses_more_than_ten<D: Decoder>(rt: &impl Abort, decoder: &mut D) {
     let outcome = decoder.claim_container_read::<u64>(usize::MAX);
     assert!(rt; matches!(outcome, Err(DecodeError::LimitExceeded)));
-    decoder.claim_bytes_read(10)?;
+    assert!(rt; decoder.claim_bytes_read(10).is_ok());
+    assert!(rt; matches!(decoder.claim_bytes_read(1), Err(DecodeError::LimitExceeded)));
+}
 
-    let free = config::standard();
-    let mut decoder = DecoderImpl::new(rt.alloc(), SliceReader::new(&[]), free, ());
-    decoder.claim_container_read::<u64>(usize::MAX)?;
+/// Without a limit.
+fn claims_without_end<D: Decoder>(rt: &impl Abort, decoder: &mut D) {
+    assert!(rt; decoder.claim_bytes_read(usize::MAX).is_ok());
+    assert!(rt; decoder.claim_bytes_read(usize::MAX).is_ok());
+    assert!(rt; decoder.claim_container_read::<u64>(usize::MAX).is_ok());
     decoder.unclaim_bytes_read(1);
-    Ok(())
+}
+
+#[test]
+fn claims_and_releases(rt: HostRuntime) {
+    let alloc = rt.alloc();
+    let ten = config::standard().with_limit::<10>();
+    let reader = SliceReader::new(&[251, 44, 1, 7]);
+    claims_up_to_ten(&rt, &mut DecoderImpl::new(alloc, reader, ten, ()));
+    let reader = SliceReader::new(&[1, 2, 3]);
+    claims_containers_up_to_ten(&rt, &mut DecoderImpl::new(alloc, reader, ten, ()));
+    let reader = SliceReader::new(&[]);
+    refuses_more_than_ten(&rt, &mut DecoderImpl::new(alloc, reader, ten, ()));
+    let reader = SliceReader::new(&[]);
+    claims_without_end(
+        &rt,
+        &mut DecoderImpl::new(alloc, reader, config::standard(), ()),
+    );
 }

@@ -1,8 +1,14 @@
-//! Faults of decoding, with their fields.
+//! Faults of decoding, with their fields, and what is read after them.
 
+use bincode::de::read::SliceReader;
+use bincode::de::{Decode, Decoder, DecoderImpl};
 use bincode::error::{DecodeError, EncodeError, IntegerType};
+use bincode::time::Duration;
 use bincode::{config, decode_from_slice};
 use std::alloc::{AllocError, Global};
+use std::num::{NonZeroI32, NonZeroU16};
+use std::ops::Bound;
+use std::process::Abort;
 use std::test::Fail;
 
 fn read_number(alloc: Global, bytes: &[u8]) -> Result<(u32, usize), DecodeError> {
@@ -21,7 +27,7 @@ fn names_a_wrong_tag(rt: HostRuntime) {
             Err(DecodeError::InvalidIntegerType { expected, found }) => Some((expected, found)),
             _ => None,
         };
-        assert_eq!(rt; fault, Some((IntegerType::U32, want)), "at {tag}");
+        assert!(rt; fault == Some((IntegerType::U32, want)), "at {tag}");
     }
 }
 
@@ -41,6 +47,57 @@ fn counts_the_missing_bytes(rt: HostRuntime) {
         config::legacy(),
     );
     assert!(rt; matches!(fixed, Err(DecodeError::UnexpectedEnd { additional: 1 })));
+}
+
+/// The input has a fault, and 77 right behind what is read of it: a second decode from the same decoder gives that.
+fn goes_on_behind<T: Decode<()>>(rt: &impl Abort, alloc: Global, input: &[u8]) {
+    let reader = SliceReader::new(input);
+    let mut decoder = DecoderImpl::new(alloc, reader, config::standard(), ());
+    assert!(rt; fails_before::<T, _>(&mut decoder), "{input:?}");
+}
+
+/// Whether decoding a value fails, and then decoding a byte from the same decoder gives 77.
+fn fails_before<T: Decode<()>, D: Decoder<Context = ()>>(decoder: &mut D) -> bool {
+    let outcome: Result<T, DecodeError> = T::decode(decoder);
+    outcome.is_err() && matches!(u8::decode(decoder), Ok(77))
+}
+
+#[test]
+fn goes_on_behind_a_wrong_number(rt: HostRuntime) {
+    let alloc = rt.alloc();
+    goes_on_behind::<u16>(&rt, alloc, &[252, 77]);
+    goes_on_behind::<u32>(&rt, alloc, &[253, 77]);
+    goes_on_behind::<u64>(&rt, alloc, &[254, 77]);
+    goes_on_behind::<u128>(&rt, alloc, &[255, 77]);
+    goes_on_behind::<i16>(&rt, alloc, &[252, 77]);
+    goes_on_behind::<isize>(&rt, alloc, &[254, 77]);
+    goes_on_behind::<NonZeroU16>(&rt, alloc, &[0, 77]);
+    goes_on_behind::<NonZeroU16>(&rt, alloc, &[251, 0, 0, 77]);
+    goes_on_behind::<NonZeroI32>(&rt, alloc, &[252, 0, 0, 0, 0, 77]);
+}
+
+#[test]
+fn goes_on_behind_a_wrong_choice(rt: HostRuntime) {
+    let alloc = rt.alloc();
+    goes_on_behind::<Option<u32>>(&rt, alloc, &[2, 77]);
+    goes_on_behind::<Result<u8, u8>>(&rt, alloc, &[2, 77]);
+    goes_on_behind::<Result<u8, u8>>(&rt, alloc, &[251, 44, 1, 77]);
+    goes_on_behind::<Bound<u32>>(&rt, alloc, &[3, 77]);
+}
+
+#[test]
+fn goes_on_behind_another_fault(rt: HostRuntime) {
+    let alloc = rt.alloc();
+    goes_on_behind::<bool>(&rt, alloc, &[2, 77]);
+    goes_on_behind::<char>(&rt, alloc, &[128, 77]);
+    goes_on_behind::<char>(&rt, alloc, &[237, 160, 128, 77]);
+    goes_on_behind::<Duration>(
+        &rt,
+        alloc,
+        &[
+            253, 255, 255, 255, 255, 255, 255, 255, 255, 252, 0, 202, 154, 59, 77,
+        ],
+    );
 }
 
 #[test]

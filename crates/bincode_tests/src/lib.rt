@@ -1,14 +1,20 @@
 //! Tests of the library through its public calls. Expected values come from the description of the format.
 #![tactic(auto)]
 
+pub mod callers;
 #[cfg(test)]
 mod cells;
+#[cfg(test)]
+mod checks;
+#[cfg(test)]
+mod claims;
 #[cfg(test)]
 mod coders;
 #[cfg(test)]
 mod composites;
 #[cfg(test)]
 mod configurations;
+pub mod cut;
 #[cfg(test)]
 mod cuts;
 #[cfg(test)]
@@ -17,6 +23,7 @@ mod faults;
 mod numbers;
 #[cfg(test)]
 mod readers;
+pub mod rows;
 #[cfg(test)]
 mod varints;
 #[cfg(test)]

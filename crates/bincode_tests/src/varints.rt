@@ -10,7 +10,6 @@ use bincode::varint::{
     varint_encode_i64, varint_encode_i128, varint_encode_isize, varint_encode_u16,
     varint_encode_u32, varint_encode_u64, varint_encode_u128, varint_encode_usize,
 };
-use std::test::Fail;
 
 /// 300, 65536, 10, 7 and 251.
 const UNSIGNED: [u8; 13] = [251, 44, 1, 252, 0, 0, 1, 0, 10, 7, 251, 251, 0];
@@ -21,53 +20,49 @@ const SIGNED: [u8; 17] = [
 ];
 
 #[test]
-fn writes_each_unsigned_type(rt: HostRuntime) -> Result<(), Fail> {
+fn writes_each_unsigned_type(rt: HostRuntime) {
     let mut slice = [9u8; 13];
     let mut writer = SliceWriter::new(&mut slice);
-    varint_encode_u16(&mut writer, Little, 300)?;
-    varint_encode_u32(&mut writer, Little, 65_536)?;
-    varint_encode_u64(&mut writer, Little, 10)?;
-    varint_encode_u128(&mut writer, Little, 7)?;
-    varint_encode_usize(&mut writer, Little, 251)?;
+    assert!(rt; varint_encode_u16(&mut writer, Little, 300).is_ok());
+    assert!(rt; varint_encode_u32(&mut writer, Little, 65_536).is_ok());
+    assert!(rt; varint_encode_u64(&mut writer, Little, 10).is_ok());
+    assert!(rt; varint_encode_u128(&mut writer, Little, 7).is_ok());
+    assert!(rt; varint_encode_usize(&mut writer, Little, 251).is_ok());
     drop(writer);
-    assert_eq!(rt; slice, UNSIGNED);
-    Ok(())
+    assert!(rt; slice == UNSIGNED);
 }
 
 #[test]
-fn reads_each_unsigned_type(rt: HostRuntime) -> Result<(), Fail> {
+fn reads_each_unsigned_type(rt: HostRuntime) {
     let mut reader = SliceReader::new(&UNSIGNED);
-    assert_eq!(rt; varint_decode_u16(&mut reader, Little)?, 300);
-    assert_eq!(rt; varint_decode_u32(&mut reader, Little)?, 65_536);
-    assert_eq!(rt; varint_decode_u64(&mut reader, Little)?, 10);
-    assert_eq!(rt; varint_decode_u128(&mut reader, Little)?, 7);
-    assert_eq!(rt; varint_decode_usize(&mut reader, Little)?, 251);
-    assert_eq!(rt; reader.bytes_left(), 0);
-    Ok(())
+    assert!(rt; matches!(varint_decode_u16(&mut reader, Little), Ok(300)));
+    assert!(rt; matches!(varint_decode_u32(&mut reader, Little), Ok(65_536)));
+    assert!(rt; matches!(varint_decode_u64(&mut reader, Little), Ok(10)));
+    assert!(rt; matches!(varint_decode_u128(&mut reader, Little), Ok(7)));
+    assert!(rt; matches!(varint_decode_usize(&mut reader, Little), Ok(251)));
+    assert!(rt; reader.bytes_left() == 0);
 }
 
 #[test]
-fn writes_each_signed_type(rt: HostRuntime) -> Result<(), Fail> {
+fn writes_each_signed_type(rt: HostRuntime) {
     let mut slice = [9u8; 17];
     let mut writer = SliceWriter::new(&mut slice);
-    varint_encode_i16(&mut writer, Little, -1)?;
-    varint_encode_i32(&mut writer, Little, 40_000)?;
-    varint_encode_i64(&mut writer, Little, 3_000_000_000)?;
-    varint_encode_i128(&mut writer, Little, -1)?;
-    varint_encode_isize(&mut writer, Little, -2)?;
+    assert!(rt; varint_encode_i16(&mut writer, Little, -1).is_ok());
+    assert!(rt; varint_encode_i32(&mut writer, Little, 40_000).is_ok());
+    assert!(rt; varint_encode_i64(&mut writer, Little, 3_000_000_000).is_ok());
+    assert!(rt; varint_encode_i128(&mut writer, Little, -1).is_ok());
+    assert!(rt; varint_encode_isize(&mut writer, Little, -2).is_ok());
     drop(writer);
-    assert_eq!(rt; slice, SIGNED);
-    Ok(())
+    assert!(rt; slice == SIGNED);
 }
 
 #[test]
-fn reads_each_signed_type(rt: HostRuntime) -> Result<(), Fail> {
+fn reads_each_signed_type(rt: HostRuntime) {
     let mut reader = SliceReader::new(&SIGNED);
-    assert_eq!(rt; varint_decode_i16(&mut reader, Little)?, -1);
-    assert_eq!(rt; varint_decode_i32(&mut reader, Little)?, 40_000);
-    assert_eq!(rt; varint_decode_i64(&mut reader, Little)?, 3_000_000_000);
-    assert_eq!(rt; varint_decode_i128(&mut reader, Little)?, -1);
-    assert_eq!(rt; varint_decode_isize(&mut reader, Little)?, -2);
-    assert_eq!(rt; reader.bytes_left(), 0);
-    Ok(())
+    assert!(rt; matches!(varint_decode_i16(&mut reader, Little), Ok(-1)));
+    assert!(rt; matches!(varint_decode_i32(&mut reader, Little), Ok(40_000)));
+    assert!(rt; matches!(varint_decode_i64(&mut reader, Little), Ok(3_000_000_000)));
+    assert!(rt; matches!(varint_decode_i128(&mut reader, Little), Ok(-1)));
+    assert!(rt; matches!(varint_decode_isize(&mut reader, Little), Ok(-2)));
+    assert!(rt; reader.bytes_left() == 0);
 }

@@ -1,43 +1,52 @@
-//! Writing into a slice.
+//! Writing into slices, and over a line that is cut.
 
-use bincode::config::Endianness;
+use crate::cut::CutWriter;
+use bincode::config::{self, Endianness};
 use bincode::enc::write::{SliceWriter, Writer};
+use bincode::enc::{Encode, Encoder, EncoderImpl};
 use bincode::error::EncodeError;
 use bincode::varint::varint_encode_u32;
-use std::test::Fail;
 
 #[test]
-fn writes_variable_integers(rt: HostRuntime) -> Result<(), Fail> {
+fn writes_variable_integers(rt: HostRuntime) {
     let mut slice = [9u8; 9];
     let mut writer = SliceWriter::new(&mut slice);
-    varint_encode_u32(&mut writer, Endianness::Little, 251)?;
-    varint_encode_u32(&mut writer, Endianness::Big, 65536)?;
-    assert_eq!(rt; writer.bytes_written(), 8);
+    assert!(rt; varint_encode_u32(&mut writer, Endianness::Little, 251).is_ok());
+    assert!(rt; varint_encode_u32(&mut writer, Endianness::Big, 65536).is_ok());
+    assert!(rt; writer.bytes_written() == 8);
     drop(writer);
-    assert_eq!(rt; slice, [251, 251, 0, 252, 0, 1, 0, 0, 9]);
-    Ok(())
+    assert!(rt; slice == [251, 251, 0, 252, 0, 1, 0, 0, 9]);
 }
 
 #[test]
-fn writes_at_the_front(rt: HostRuntime) -> Result<(), Fail> {
+fn writes_at_the_front(rt: HostRuntime) {
     let mut slice = [0u8; 100];
     let mut writer = SliceWriter::new(&mut slice);
-    writer.write(&[1, 2, 3, 4, 5])?;
-    assert_eq!(rt; writer.bytes_written(), 5);
+    assert!(rt; writer.write(&[1, 2, 3, 4, 5]).is_ok());
+    assert!(rt; writer.bytes_written() == 5);
     drop(writer);
-    assert_eq!(rt; &slice[..6], [1, 2, 3, 4, 5, 0].as_slice());
-    Ok(())
+    assert!(rt; slice.starts_with(&[1, 2, 3, 4, 5, 0]));
 }
 
 #[test]
-fn refuses_a_piece_whole(rt: HostRuntime) -> Result<(), Fail> {
+fn refuses_a_piece_whole(rt: HostRuntime) {
     let mut slice = [0u8; 3];
     let mut writer = SliceWriter::new(&mut slice);
-    writer.write(&[1])?;
+    assert!(rt; writer.write(&[1]).is_ok());
     assert!(rt; matches!(writer.write(&[2, 3, 4]), Err(EncodeError::UnexpectedEnd)));
-    assert_eq!(rt; writer.bytes_written(), 1);
-    writer.write(&[5, 6])?;
+    assert!(rt; writer.bytes_written() == 1);
+    assert!(rt; writer.write(&[5, 6]).is_ok());
     drop(writer);
-    assert_eq!(rt; slice, [1, 5, 6]);
-    Ok(())
+    assert!(rt; slice == [1, 5, 6]);
+}
+
+#[test]
+fn answers_the_error_of_a_cut_line(rt: HostRuntime) {
+    let mut encoder = EncoderImpl::new(CutWriter::new(2), config::standard());
+    assert!(rt; 7u8.encode(&mut encoder).is_ok());
+    assert!(rt; matches!(300u16.encode(&mut encoder), Err(EncodeError::Other(_))));
+    assert!(rt; matches!(9u8.encode(&mut encoder), Err(EncodeError::Other(_))));
+    let writer = encoder.writer();
+    assert!(rt; writer.sent() == 2);
+    assert!(rt; writer.failures() == 2);
 }

@@ -14,7 +14,7 @@ use Rattle.bincode_base.specs.IntegerLaws.{IsWidth, written-unsigned, unsigned-w
 use Rattle.bincode_wire.specs.Meaning.{Meaning, Truth, Number, Nothing, Then, IsTruth, IsNumber, IsNothing, IsThen}
 use Rattle.bincode_wire.specs.Words.{natural, integral, not_zero_of, not_zero_by, truth_of, truth_byte, truth, nothing, first_and}
 use Rattle.bincode_wire.specs.WordsLaws.{not_zero-passes, not_zero-passed, truth_byte-passes, truth_byte-passed}
-use Rattle.bincode_wire.specs.Allowed.{AllowedWord, OneLength, Both}
+use Rattle.bincode_wire.specs.Allowed.{AllowedWord, OneLength, NoneShorter, Both}
 
 -- a written word whose meaning passes a test is one behind the test, and back
 module _ {A B : Type 0} (test : A → Result B Fault) (F : Format A) where
@@ -124,6 +124,14 @@ module _ {A : Type 0} (integer : A → ℤ) (one : (a b : A) → integer a ≡ i
   allowed-not_zero bytes a w =
       let p = written-settled (λ x. not_zero_of name (size x) x) F bytes a (allowed-number integer one (not_zero_by size name F) bytes a w) in
       number-allows integer one F bytes a (subst (λ x. F.Written bytes x) (not_zero-passed name (size p.0) p.0 a p.1) p.2)
+
+-- what is meant in more ways allows more
+pub more-allowed : {P Q : Meaning → Type 0} {F : Format Meaning} → ((m : Meaning) → P m → Q m) → (bytes : List ℕ) → AllowedWord P F bytes → AllowedWord Q F bytes
+more-allowed more bytes w = record { meaning = w.meaning; is_meant = more w.meaning w.is_meant; is_written = w.is_written }
+
+-- of fewer meanings none is shorter either
+pub fewer-none_shorter : {P Q P' Q' : Meaning → Type 0} {F : Format Meaning} → ((m : Meaning) → P m → P' m) → ((m : Meaning) → Q m → Q' m) → NoneShorter P' Q' F → NoneShorter P Q F
+fewer-none_shorter p q least written bytes m s w h u e = least written bytes m s (more-allowed p written w) h u (q m e)
 
 -- one word has one length
 pub alone-one_length : (Allowed : List ℕ → Type 0) (word : List ℕ) → ((bytes : List ℕ) → Allowed bytes → bytes ≡ word) → OneLength Allowed

@@ -1,5 +1,5 @@
 -- What decoding answers, by a format, a limit, and the charge at the start.
-use Rattle.std.specs.Prelude.{◌≡◌, ℕ, ◌+◌, ◌-◌, ◌<◌, ◌≤◌, ◌^◌, nat_le, nat_lt, if◌then◌else◌, List, [], ◌∷◌, Option, Some, None}
+use Rattle.std.specs.Prelude.{◌≡◌, ℕ, ◌+◌, ◌-◌, ◌<◌, ◌≤◌, ◌⊎◌, ◌^◌, nat_le, nat_lt, if◌then◌else◌, List, [], ◌∷◌, Option, Some, None}
 use Rattle.bincode_base.specs.Fault.{Fault}
 use Rattle.bincode_base.specs.Charge.{Step, Charge, Reserve, Release}
 use Rattle.bincode_base.specs.Format.{Format, Reading, Took, Failed}
@@ -18,6 +18,10 @@ Claimed (Some limit) before n after = (before + n ≤ limit) × (after ≡ befor
 abbrev pub OverClaimed : Option ℕ → ℕ → ℕ → ℕ → Type 0
 OverClaimed None before n after = ⊥
 OverClaimed (Some limit) before n after = (limit < before + n) × (after ≡ (if nat_lt (before + n) (2 ^ 64) then before + n else before))
+
+-- A claim of n bytes was made: it stands or passes the limit, and no byte was given back.
+abbrev pub Charges : Option ℕ → ℕ → ℕ → ℕ → Type 0
+Charges limit before n after = Claimed limit before n after ⊎ OverClaimed limit before n after
 
 -- the charge after a claim, if the limit allows it; without a limit nothing is counted
 abbrev pub claimed : Option ℕ → ℕ → ℕ → Option ℕ

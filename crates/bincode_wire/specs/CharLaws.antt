@@ -1,8 +1,10 @@
 -- The format of a character keeps the laws, and its words are the bytes that std gives for it.
 use Rattle.std.specs.Prelude.{◌≡◌, ℕ, zero, suc, ◌+◌, ◌-◌, ◌/◌, ◌%◌, ◌<◌, ◌≤◌, ◌⊎◌, nat_lt, nat_eq, Bool, true, false, if◌then◌else◌, List, [], ◌∷◌, ◌++◌, length, take, drop, slice_index, refl, Result, Ok, Err, Option, Some, None, MatchOption}
+use Rattle.std.specs.List.{All}
 use Rattle.std.specs.Char.{encode_utf8, IsScalar}
 use Rattle.std.specs.Str.{is_utf8, IsUtf8, all_scalars, encode_utf8_all}
 use Rattle.std.proofs.Common.{sym, ◌∙◌, ap, subst, inl, inr, arith, append-nil, length-append, eq-eqb}
+use Rattle.std.proofs.lemmas.List.Elements.{All-nil, All-cons}
 use Rattle.std.proofs.lemmas.Bool.{cases_lt, lt-ltb, le-ltb, and_parts}
 use Rattle.std.proofs.lemmas.Str.{IsUtf8-encode, is_utf8-from_IsUtf8, IsUtf8-from_is_utf8, encode_same}
 use Rattle.std.proofs.lemmas.List.{length-take-le}
@@ -17,7 +19,8 @@ use Rattle.bincode_base.specs.Balance.{refused-holds, raw-holds, turn-holds, tes
 use Rattle.bincode_base.specs.Integers.{byte, first_of}
 use Rattle.bincode_base.specs.IntegerLaws.{byte-lawful, byte-balanced}
 use Rattle.bincode_wire.specs.Meaning.{Meaning, Character, IsCharacter}
-use Rattle.bincode_wire.specs.Allowed.{AllowedWord, NoneShorter}
+use Rattle.bincode_wire.specs.Allowed.{AllowedWord, SomeWord, NoneShorter}
+use Rattle.bincode_wire.specs.CellLaws.{cell-has_word}
 use Rattle.bincode_wire.specs.AllowedLaws.{alone-one_length}
 use Rattle.bincode_wire.specs.Forms.{Form}
 use Rattle.bincode_wire.specs.Words.{char_width, code_point, four_bytes, char_of, rest_of_char, behind_char, character}
@@ -76,10 +79,17 @@ pub record Spelled (c : ℕ) : Type 0 where
   pub bytes_are : encode_utf8 c ≡ first ∷ tail
   pub width_is : char_width first ≡ Some (length (first ∷ tail))
   pub code_is : code_point (first ∷ tail) ≡ c
+  pub are_bytes : All (λ b. b < 256) (first ∷ tail)
+
+last_byte : (c : ℕ) → All (λ b. b < 256) ((128 + c % 64) ∷ [])
+last_byte c = All-cons (λ b. b < 256) (128 + c % 64) [] (omega arith) (All-nil (λ b. b < 256))
+
+last_bytes : (c : ℕ) → All (λ b. b < 256) ((128 + c / 64 % 64) ∷ (128 + c % 64) ∷ [])
+last_bytes c = All-cons (λ b. b < 256) (128 + c / 64 % 64) ((128 + c % 64) ∷ []) (omega arith) (last_byte c)
 
 spelled_1 : (c : ℕ) → c < 128 → Spelled c
 unfolding encode
-spelled_1 c h = record { first = c; tail = []; bytes_are = rw (lt-ltb c 128 h) refl; width_is = width_1 c h; code_is = refl }
+spelled_1 c h = record { first = c; tail = []; bytes_are = rw (lt-ltb c 128 h) refl; width_is = width_1 c h; code_is = refl; are_bytes = All-cons (λ b. b < 256) c [] (omega (arith, h)) (All-nil (λ b. b < 256)) }
 
 spelled_2 : (c : ℕ) → 128 ≤ c → c < 2048 → Spelled c
 unfolding encode
@@ -89,6 +99,7 @@ spelled_2 c h k = record {
   bytes_are = rw (le-ltb c 128 h, lt-ltb c 2048 k) refl;
   width_is = width_2 (192 + c / 64) (omega arith) (omega arith);
   code_is = omega arith;
+  are_bytes = All-cons (λ b. b < 256) (192 + c / 64) ((128 + c % 64) ∷ []) (omega arith) (last_byte c);
 }
 
 spelled_3 : (c : ℕ) → 2048 ≤ c → c < 65536 → Spelled c
@@ -99,6 +110,7 @@ spelled_3 c h k = record {
   bytes_are = rw (le-ltb c 128 (omega arith), le-ltb c 2048 h, lt-ltb c 65536 k) refl;
   width_is = width_3 (224 + c / 4096) (omega arith) (omega arith);
   code_is = omega arith;
+  are_bytes = All-cons (λ b. b < 256) (224 + c / 4096) ((128 + c / 64 % 64) ∷ (128 + c % 64) ∷ []) (omega arith) (last_bytes c);
 }
 
 spelled_4 : (c : ℕ) → 65536 ≤ c → c < 1114112 → Spelled c
@@ -109,6 +121,7 @@ spelled_4 c h k = record {
   bytes_are = rw (le-ltb c 128 (omega arith), le-ltb c 2048 (omega arith), le-ltb c 65536 h) refl;
   width_is = width_4 (240 + c / 262144) (omega arith) (omega arith);
   code_is = omega arith;
+  are_bytes = All-cons (λ b. b < 256) (240 + c / 262144) ((128 + c / 4096 % 64) ∷ (128 + c / 64 % 64) ∷ (128 + c % 64) ∷ []) (omega arith) (All-cons (λ b. b < 256) (128 + c / 4096 % 64) ((128 + c / 64 % 64) ∷ (128 + c % 64) ∷ []) (omega arith) (last_bytes c));
 }
 
 spelled_by : (c : ℕ) → c < 1114112 → (c < 128) ⊎ (128 ≤ c) → (c < 2048) ⊎ (2048 ≤ c) → (c < 65536) ⊎ (65536 ≤ c) → Spelled c
@@ -294,11 +307,15 @@ character-alone c bytes s u =
     p.bytes_are ∙ ap encode_utf8 (sym q)
 
 -- no word of a character is shorter than the one that is written for it
-pub character-none_shorter : (c : ℕ) → NoneShorter (IsCharacter c) character
+pub character-none_shorter : (c : ℕ) → NoneShorter (IsCharacter c) (IsCharacter c) character
 character-none_shorter c written bytes m s w h u e =
     let p = allowed-character c written w in
     let q = character-alone c bytes s (subst (λ z. character.Word bytes z s) e u) in
     omega (arith, ap length (p ∙ sym q))
+
+-- it has a word of bytes
+pub character-has_word : (c : ℕ) → IsScalar c → SomeWord (AllowedWord (IsCharacter c) character)
+character-has_word c h = record { bytes = encode_utf8 c; are_bytes = let p = spelled c h in rw p.bytes_are p.are_bytes; is_allowed = character-allows c h }
 
 -- the form of characters
 abbrev pub characters : Form ℕ
@@ -308,7 +325,9 @@ characters = record {
   means = IsCharacter;
   lawful = λ s. character-lawful;
   balanced = λ s. character-balanced;
-  spelled = λ s c h. record { has_word = (encode_utf8 c, character-allows c h); one_length = alone-one_length _ (encode_utf8 c) (allowed-character c); none_shorter = character-none_shorter c };
+  spelled = λ s c h. record { has_word = character-has_word c h; one_length = alone-one_length _ (encode_utf8 c) (allowed-character c); none_shorter = character-none_shorter c };
+  one_meaning = λ v w m n h k l. l ∙ sym k ∙ h;
+  some_word = λ s. cell-has_word character character-lawful _ (character-has_word 65 refl);
 }
 
 -- characters of one meaning are equal

@@ -1,7 +1,8 @@
 -- Choices, by what their tags and their parts do: their formats keep the laws, what they allow, and that they are spelled.
-use Rattle.std.specs.Prelude.{◌≡◌, ℕ, pos, Bool, true, false, ◌==◌, Result, Ok, List, [], ◌∷◌, ◌++◌, refl}
+use Rattle.std.specs.Prelude.{◌≡◌, ℕ, ◌<◌, pos, Bool, true, false, ◌==◌, Result, Ok, List, [], ◌∷◌, ◌++◌, refl}
 use Rattle.std.proofs.Common.{sym, ◌∙◌, ap, subst}
 use Rattle.std.proofs.lemmas.Bool.{eq-eqb}
+use Rattle.std.proofs.lemmas.List.Elements.{All-append}
 use Rattle.bincode_base.specs.Fault.{Fault, UnexpectedVariant, Allowed}
 use Rattle.bincode_base.specs.Setting.{Setting}
 use Rattle.bincode_base.specs.Charge.{Step}
@@ -11,9 +12,11 @@ use Rattle.bincode_base.specs.FormatLaws.{refused-lawful, turn-lawful, map-lawfu
 use Rattle.bincode_base.specs.Balance.{refused-holds, turn-holds, map-balanced}
 use Rattle.bincode_wire.specs.Meaning.{Meaning, Number, Choice, IsNumber}
 use Rattle.bincode_wire.specs.Words.{natural, Variant, if_picked, part, behind_tag, chosen}
-use Rattle.bincode_wire.specs.Allowed.{AllowedWord, Both, WrittenAlike, OneLength, NoneShorter}
+use Rattle.bincode_wire.specs.Allowed.{AllowedWord, SomeWord, Both, WrittenAlike, OneLength, NoneShorter, Shortest}
 use Rattle.bincode_wire.specs.AllowedLaws.{map-written, written-map, natural-allows, allowed-natural, same-one_length, both-one_length}
 use Rattle.bincode_wire.specs.SpelledLaws.{word-settled, settled-word, parts-no_longer}
+use Rattle.bincode_wire.specs.Cells.{HasWord}
+use Rattle.bincode_wire.specs.CellLaws.{held-word, word-held}
 use Rattle.bincode_wire.specs.Choices.{IsChoice}
 
 -- what holds of each part holds of the one that is picked
@@ -109,17 +112,21 @@ module _ (tags : Setting → Format ℕ) (variants : List Variant) (s : Setting)
         (u.first, u.second, u.bytes_are, natural-allows (tags s) u.first found (subst (λ k. (tags s).Written u.first k) h u.first_written), a)
 
     -- it has a word, if its tag and its part have
-    pub choice-has_word : (bytes : List ℕ) × AllowedWord (IsNumber (pos found)) (natural (tags s)) bytes → (bytes : List ℕ) × AllowedWord P F bytes → (bytes : List ℕ) × AllowedWord (IsChoice found P) (chosen tags variants s) bytes
-    choice-has_word t p = (t.0 ++ p.0, choice-allows (t.0 ++ p.0) (t.0, p.0, refl, t.1, p.1))
+    pub choice-has_word : SomeWord (AllowedWord (IsNumber (pos found)) (natural (tags s))) → SomeWord (AllowedWord P F) → SomeWord (AllowedWord (IsChoice found P) (chosen tags variants s))
+    choice-has_word t p = record {
+      bytes = t.bytes ++ p.bytes;
+      are_bytes = All-append (λ b. b < 256) t.bytes p.bytes t.are_bytes p.are_bytes;
+      is_allowed = choice-allows (t.bytes ++ p.bytes) (t.bytes, p.bytes, refl, t.is_allowed, p.is_allowed);
+    }
 
     -- its words have one length, if those of the tag and of the part have
     pub choice-one_length : OneLength (AllowedWord (IsNumber (pos found)) (natural (tags s))) → OneLength (AllowedWord P F) → OneLength (AllowedWord (IsChoice found P) (chosen tags variants s))
     choice-one_length t p = same-one_length _ _ allowed-choice (both-one_length _ _ t p)
 
   -- the tag `found` picks the format F
-  module _ (found : ℕ) (F : Format Meaning) (at : behind_tag variants s found ≡ map_format (Choice found) F) (P : Meaning → Type 0) where
+  module _ (found : ℕ) (F : Format Meaning) (at : behind_tag variants s found ≡ map_format (Choice found) F) (P P' : Meaning → Type 0) where
     -- no word of it is shorter, if none of the tag is and none of the part
-    pub choice-none_shorter : NoneShorter (IsNumber (pos found)) (natural (tags s)) → NoneShorter P F → NoneShorter (IsChoice found P) (chosen tags variants s)
+    choice-none_shorter : NoneShorter (IsNumber (pos found)) (IsNumber (pos found)) (natural (tags s)) → NoneShorter P P' F → NoneShorter (IsChoice found P) (IsChoice found P') (chosen tags variants s)
     unfolding chosen ◌>>=◌
     choice-none_shorter t f written bytes m steps w h u e =
         let b = allowed-choice found F (same-alike at) P written w in
@@ -133,7 +140,42 @@ module _ (tags : Setting → Format ℕ) (variants : List Variant) (s : Setting)
         let x : (natural (tags s)).Word u.first (Number (pos found)) u.first_steps = settled-word (λ n. Ok (Number (pos n))) (tags s) u.first found (Number (pos found)) u.first_steps refl (subst (λ n. (tags s).Word u.first n u.first_steps) k u.first_word) in
         parts-no_longer written bytes b.0 b.1 u.first u.second b.2 u.bytes_are h
         (λ below. t b.0 u.first (Number (pos found)) u.first_steps b.3 below x refl)
-        (λ below. f b.1 u.second q.0 q.1 b.4 below q.3 (subst P j e.is_part))
+        (λ below. f b.1 u.second q.0 q.1 b.4 below q.3 (subst P' j e.is_part))
+
+  -- and none that decodes to the same
+  module _ (found other : ℕ) (F : Format Meaning) (at : behind_tag variants s found ≡ map_format (Choice found) F) (P P' : Meaning → Type 0) where
+    pub choice-shortest : NoneShorter (IsNumber (pos found)) (IsNumber (pos found)) (natural (tags s)) → (found ≡ other → Shortest P P' F) → Shortest (IsChoice found P) (IsChoice other P') (chosen tags variants s)
+    choice-shortest t f written bytes m steps w h u e =
+        let p = w.is_meant.0 in
+        let q = w.is_meant.1 in
+        let c : Choice found p.part ≡ Choice other q.part = sym p.meaning_is ∙ q.meaning_is in
+        let k : found ≡ other = cc in
+        let j : q.part ≡ p.part = cc in
+        let x : AllowedWord (IsChoice found (λ n. P n × P' n)) (chosen tags variants s) written = record {
+          meaning = w.meaning;
+          is_meant = record { part = p.part; meaning_is = p.meaning_is; is_part = (p.is_part, subst P' j q.is_part) };
+          is_written = w.is_written;
+        } in
+        choice-none_shorter found F at (λ n. P n × P' n) P' t (f k) written bytes m steps x h u (subst (λ z. IsChoice z P' m) (sym k) e)
+
+  -- it has a word, if the tag and the part that it picks have
+  pub choice-some_word : (found : ℕ) (F : Format Meaning) → behind_tag variants s found ≡ map_format (Choice found) F → Lawful (tags s) → SomeWord (AllowedWord (IsNumber (pos found)) (natural (tags s))) → HasWord F → HasWord (chosen tags variants s)
+  unfolding chosen ◌>>=◌
+  choice-some_word found F at f t x =
+      let a = f.written_is_word t.bytes found (allowed-natural (tags s) t.bytes found t.is_allowed) in
+      let b = held-word F x in
+      let c : (behind_tag variants s found).Word x.bytes (Choice found b.0) b.1 = subst (λ G. G.Word x.bytes (Choice found b.0) b.1) (sym at) (settled-word (λ n. Ok (Choice found n)) F x.bytes b.0 (Choice found b.0) b.1 refl b.2) in
+      word-held (chosen tags variants s) (t.bytes ++ x.bytes) (Choice found b.0) (a.0 ++ b.1) (All-append (λ b. b < 256) t.bytes x.bytes t.are_bytes x.are_bytes) (record {
+        first = t.bytes;
+        second = x.bytes;
+        head = found;
+        first_steps = a.0;
+        second_steps = b.1;
+        bytes_are = refl;
+        steps_are = refl;
+        first_word = a.1;
+        second_word = c;
+      })
 
 -- choices of one meaning have one tag, and are equal if their parts are
 pub choice-same : {P Q : Meaning → Type 0} {first second : ℕ} {equal : Bool} → ((n : Meaning) → first ≡ second → P n → Q n → equal ≡ true) → (m : Meaning) → IsChoice first P m → IsChoice second Q m → equal ≡ true

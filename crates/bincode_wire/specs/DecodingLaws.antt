@@ -5,7 +5,7 @@ use Rattle.bincode_base.specs.declared.error.DecodeError.{DecodeError}
 use Rattle.bincode_base.specs.declared.error.DecodeError.TheVariants.{LimitExceeded}
 use Rattle.bincode_base.specs.Fault.{Fault, InvalidBool}
 use Rattle.bincode_base.specs.Charge.{Step, Charge}
-use Rattle.bincode_base.specs.Device.{Rose, Takes}
+use Rattle.bincode_base.specs.Device.{DeviceErrors, Rose, Takes}
 use Rattle.bincode_base.specs.Reads as reads
 use Rattle.bincode_base.specs.Reads.{Misreads}
 use Rattle.bincode_base.specs.Format.{Format, Reading, Took, Failed, done, step, ◌>>=◌, settled, map_format, charged}
@@ -28,11 +28,11 @@ pub takes-then : (rest middle rest' : List ℕ) → Takes rest middle → Takes 
 takes-then rest middle rest' (a, e) (b, f) = (a ++ b, e ∙ ap (λ z. a ++ z) f ∙ sym (append_assoc a b rest'))
 
 -- memory may be refused for more reasons
-pub stops-besides : {A : Type 0} (ended : ℕ → DecodeError → Type 0) (device : DecodeError → Type 0) (H K : Type 0) → (H → K) → (a : Answer A) (before after : ℕ) (rest rest' : List ℕ) (e : DecodeError) → Stops ended device H a before after rest rest' e → Stops ended device K a before after rest rest' e
+pub stops-besides : {A : Type 0} (ended : ℕ → DecodeError → Type 0) (device : DeviceErrors) (H K : Type 0) → (H → K) → (a : Answer A) (before after : ℕ) (rest rest' : List ℕ) (e : DecodeError) → Stops ended device H a before after rest rest' e → Stops ended device K a before after rest rest' e
 stops-besides ended device H K f a before after rest rest' e (by_fault why h t k) = by_fault why h t k
 stops-besides ended device H K f a before after rest rest' e (by_limit h t k) = by_limit h t k
 stops-besides ended device H K f a before after rest rest' e (by_memory h t k) = by_memory (f h) t k
-stops-besides ended device H K f a before after rest rest' e (by_failure h k) = by_failure h k
+stops-besides ended device H K f a before after rest rest' e (by_failure d h k) = by_failure d h k
 stops-besides ended device H K f a before after rest rest' e (by_device h) = by_device h
 
 gave_at-is : {A : Type 0} (a b : A) (r s : List ℕ) (x : Option ℕ) (d : ℕ) → gave_at a r x ≡ Gave b s d → (a ≡ b) × (r ≡ s)
@@ -59,13 +59,13 @@ gave-takes limit F f input c a rest d e =
 pub answer-next : {A B : Type 0} (limit : Option ℕ) (F : Format A) (G : A → Format B) (input : List ℕ) (c : ℕ) (a : A) (rest : List ℕ) (d : ℕ) → answer limit F input c ≡ Gave a rest d → answer limit (F >>= G) input c ≡ answer limit (G a) rest d
 answer-next limit F G input c a rest d e = answer-then limit F G input c ∙ ap (λ o. and_then o (λ b r after. answer limit (G b) r after)) e
 
-module _ {A B : Type 0} (ended : ℕ → DecodeError → Type 0) (device : DecodeError → Type 0) (H K : Type 0) (grow : H → K) (limit : Option ℕ) (F : Format A) (G : A → Format B) where
+module _ {A B : Type 0} (ended : ℕ → DecodeError → Type 0) (device : DeviceErrors) (H K : Type 0) (grow : H → K) (limit : Option ℕ) (F : Format A) (G : A → Format B) where
   -- where the first part stops, so does the whole
   pub stops-first : (input : List ℕ) (c before after : ℕ) (rest' : List ℕ) (e : DecodeError) → Stops ended device H (answer limit F input c) before after input rest' e → Stops ended device K (answer limit (F >>= G) input c) before after input rest' e
   stops-first input c before after rest' e (by_fault why h t k) = by_fault why (answer-then limit F G input c ∙ ap (λ o. and_then o (λ b r d. answer limit (G b) r d)) h) t k
   stops-first input c before after rest' e (by_limit h t k) = by_limit (answer-then limit F G input c ∙ ap (λ o. and_then o (λ b r d. answer limit (G b) r d)) h) t k
   stops-first input c before after rest' e (by_memory h t k) = by_memory (grow h) t k
-  stops-first input c before after rest' e (by_failure h k) = by_failure h k
+  stops-first input c before after rest' e (by_failure d h k) = by_failure d h k
   stops-first input c before after rest' e (by_device h) = by_device h
 
   -- where what follows stops, so does the whole
@@ -74,7 +74,7 @@ module _ {A B : Type 0} (ended : ℕ → DecodeError → Type 0) (device : Decod
   stops-next f input c before between after a rest rest' d e g le (by_fault why h t k) = by_fault why (answer-next limit F G input c a rest d g ∙ h) t (takes-then input rest rest' (gave-takes limit F f input c a rest d g) k)
   stops-next f input c before between after a rest rest' d e g le (by_limit h t k) = by_limit (answer-next limit F G input c a rest d g ∙ h) t (takes-then input rest rest' (gave-takes limit F f input c a rest d g) k)
   stops-next f input c before between after a rest rest' d e g le (by_memory h t k) = by_memory (grow h) t (takes-then input rest rest' (gave-takes limit F f input c a rest d g) k)
-  stops-next f input c before between after a rest rest' d e g le (by_failure h k) = by_failure (rose-then before between after le h) (takes-then input rest rest' (gave-takes limit F f input c a rest d g) k)
+  stops-next f input c before between after a rest rest' d e g le (by_failure x h k) = by_failure x (rose-then before between after le h) (takes-then input rest rest' (gave-takes limit F f input c a rest d g) k)
   stops-next f input c before between after a rest rest' d e g le (by_device h) = by_device h
 
 -- a claim that stands, and one that passes the limit
@@ -91,7 +91,7 @@ module _ {A : Type 0} (limit : Option ℕ) (n : ℕ) (F : Format A) (input : Lis
   pub charged-gave : (d : ℕ) (middle rest : List ℕ) (a : A) → Claimed limit c n d → middle ≡ input → F.read middle ≡ Took a rest [] → answer limit (charged n F) input c ≡ Gave a rest d
   charged-gave d middle rest a h same r = answer-next limit (step (Charge n)) (λ _. F) input c tt input d (claimed-answer limit c n d input h) ∙ answer-took limit F input rest a d (ap F.read (sym same) ∙ r)
 
-  module _ (ended : ℕ → DecodeError → Type 0) (device : DecodeError → Type 0) (H : Type 0) where
+  module _ (ended : ℕ → DecodeError → Type 0) (device : DeviceErrors) (H : Type 0) where
     -- a charge that passes the limit
     pub charged-passed : (d before after : ℕ) (rest : List ℕ) (e : DecodeError) → OverClaimed limit c n d → e ≡ LimitExceeded → rest ≡ input → Stops ended device H (answer limit (charged n F) input c) before after input rest e
     charged-passed d before after rest e h k same = by_limit (answer-then limit (step (Charge n)) (λ _. F) input c ∙ ap (λ o. and_then o (λ _ r after. answer limit F r after)) (over_claimed-answer limit c n d input h)) k ([], sym same)
@@ -100,14 +100,14 @@ module _ {A : Type 0} (limit : Option ℕ) (n : ℕ) (F : Format A) (input : Lis
     pub charged-misread : (d before between after : ℕ) (middle rest : List ℕ) (e : DecodeError) → Claimed limit c n d → middle ≡ input → between ≡ before → Misreads ended device (F.read middle) between after middle rest e → Stops ended device H (answer limit (charged n F) input c) before after input rest e
     charged-misread d before between after middle rest e h same count (reads.by_fault why r t k) =
         by_fault why (answer-next limit (step (Charge n)) (λ _. F) input c tt input d (claimed-answer limit c n d input h) ∙ answer-failed limit F input why d (ap F.read (sym same) ∙ r)) t (subst (λ z. Takes z rest) same k)
-    charged-misread d before between after middle rest e h same count (reads.by_failure r k) = by_failure (subst (λ z. Rose z after) count r) (subst (λ z. Takes z rest) same k)
+    charged-misread d before between after middle rest e h same count (reads.by_failure x r k) = by_failure x (subst (λ z. Rose z after) count r) (subst (λ z. Takes z rest) same k)
     charged-misread d before between after middle rest e h same count (reads.by_device k) = by_device k
 
 -- meanings renamed
 pub map-gave : {A B : Type 0} (f : A → B) (limit : Option ℕ) (F : Format A) (input : List ℕ) (c : ℕ) (a : A) (rest : List ℕ) (d : ℕ) → answer limit F input c ≡ Gave a rest d → answer limit (map_format f F) input c ≡ Gave (f a) rest d
 map-gave f limit F input c a rest d e = answer-next limit F (λ z. done (f z)) input c a rest d e ∙ answer-done limit (f a) rest d
 
-pub map-stops : {A B : Type 0} (f : A → B) (ended : ℕ → DecodeError → Type 0) (device : DecodeError → Type 0) (H : Type 0) (limit : Option ℕ) (F : Format A) (input : List ℕ) (c before after : ℕ) (rest : List ℕ) (e : DecodeError) → Stops ended device H (answer limit F input c) before after input rest e → Stops ended device H (answer limit (map_format f F) input c) before after input rest e
+pub map-stops : {A B : Type 0} (f : A → B) (ended : ℕ → DecodeError → Type 0) (device : DeviceErrors) (H : Type 0) (limit : Option ℕ) (F : Format A) (input : List ℕ) (c before after : ℕ) (rest : List ℕ) (e : DecodeError) → Stops ended device H (answer limit F input c) before after input rest e → Stops ended device H (answer limit (map_format f F) input c) before after input rest e
 map-stops f ended device H limit F input c before after rest e = stops-first ended device H H (λ h. h) limit F (λ z. done (f z)) input c before after rest e
 
 module _ {A B : Type 0} (test : A → Result B Fault) (limit : Option ℕ) (F : Format A) (input : List ℕ) (c : ℕ) (a : A) (rest : List ℕ) (d : ℕ) where
@@ -141,7 +141,7 @@ module _ (limit : Option ℕ) (F : Format Meaning) (others : Format Meaning) (in
     is_given = record { first = p.meaning; others = q.meaning; meaning_is = refl; is_first = p.is_given; are_others = q.is_given };
   }
 
-  module _ (ended : ℕ → DecodeError → Type 0) (device : DecodeError → Type 0) (H K : Type 0) where
+  module _ (ended : ℕ → DecodeError → Type 0) (device : DeviceErrors) (H K : Type 0) where
     pub tuple-stops_first : (before after : ℕ) (rest : List ℕ) (e : DecodeError) → Stops ended device H (answer limit F input c) before after input rest e → Stops ended device (H ⊎ K) (answer limit (first_and F others) input c) before after input rest e
     unfolding first_and
     tuple-stops_first before after rest e = stops-first ended device H (H ⊎ K) inl limit F (λ m. map_format (Then m) others) input c before after rest e

@@ -1,7 +1,8 @@
 -- Spans of time keep the laws, and the words that they allow.
-use Rattle.std.specs.Prelude.{◌≡◌, ℕ, ◌+◌, ◌/◌, ◌%◌, ◌<◌, ◌≤◌, ◌^◌, nat_lt, nat_eq, if◌then◌else◌, ◌&&◌, pos, Bool, true, false, Result, Ok, Err, List, [], ◌∷◌, refl}
+use Rattle.std.specs.Prelude.{◌≡◌, ℕ, ◌+◌, ◌*◌, ◌/◌, ◌%◌, ◌<◌, ◌≤◌, ◌^◌, nat_lt, nat_eq, if◌then◌else◌, pos, Bool, true, false, Result, Ok, Err, List, [], ◌∷◌, ◌++◌, refl}
 use Rattle.std.proofs.Common.{sym, ◌∙◌, ap, subst, arith, eq-eqb}
 use Rattle.std.proofs.lemmas.Bool.{lt-ltb, le-ltb}
+use Rattle.std.proofs.lemmas.List.Elements.{All-append}
 use Rattle.bincode_base.specs.declared.error.IntegerType.TheVariants as integers
 use Rattle.bincode_base.specs.Setting.{Setting}
 use Rattle.bincode_base.specs.Fault.{Fault, InvalidDuration}
@@ -13,9 +14,11 @@ use Rattle.bincode_base.specs.Integers.{unsigned}
 use Rattle.bincode_base.specs.IntegerLaws.{Four, Eight, unsigned-lawful, unsigned-balanced}
 use Rattle.bincode_wire.specs.Meaning.{Meaning, Number, listed, IsNumber, IsThen, IsNothing}
 use Rattle.bincode_wire.specs.Words.{natural, second_in_nanos, duration_of, seconds_and_nanos, duration}
-use Rattle.bincode_wire.specs.Allowed.{AllowedWord, Both}
+use Rattle.bincode_wire.specs.Allowed.{AllowedWord, SomeWord, Both}
+use Rattle.bincode_wire.specs.Cells.{HasWord}
+use Rattle.bincode_wire.specs.CellLaws.{cell-has_word}
 use Rattle.bincode_wire.specs.AllowedLaws.{map-written, written-map, natural-allows, allowed-natural}
-use Rattle.bincode_wire.specs.SpelledLaws.{settled-word}
+use Rattle.bincode_wire.specs.SpelledLaws.{settled-word, unsigned-spelled}
 
 settles_by : (seconds nanos : ℕ) (m : Meaning) (fits : Bool) → Settles {A = Meaning} (if fits then Ok m else Err (InvalidDuration seconds nanos))
 settles_by seconds nanos m true = tt
@@ -55,12 +58,12 @@ is_span seconds nanos m h =
     cc (h.meaning_is, h.is_first, k.meaning_is, k.is_first, k.are_others)
 
 -- spans of one meaning are equal
-pub span_same : (a b c d : ℕ) (m : Meaning) → IsSpan a b m → IsSpan c d m → (nat_eq a c && nat_eq b d) ≡ true
+pub span_same : (a b c d : ℕ) (m : Meaning) → IsSpan a b m → IsSpan c d m → nat_eq (a * second_in_nanos + b) (c * second_in_nanos + d) ≡ true
 span_same a b c d m p q =
     let e : span a b ≡ span c d = sym (is_span a b m p) ∙ is_span c d m q in
     let h : a ≡ c = cc in
     let k : b ≡ d = cc in
-    rw (eq-eqb a c h, eq-eqb b d k) refl
+    eq-eqb (a * second_in_nanos + b) (c * second_in_nanos + d) (rw (h, k) refl)
 
 module _ (seconds nanos : ℕ) where
   -- whole seconds are carried
@@ -121,3 +124,17 @@ module _ (s : Setting) (seconds nanos : ℕ) where
 -- less than a second of nanoseconds fits four bytes
 pub nanos_fit : (nanos : ℕ) → nanos < second_in_nanos → nanos < 256 ^ 4
 nanos_fit nanos h = omega (arith, h)
+
+-- a span has a word of bytes
+pub duration-has_word : (s : Setting) (seconds nanos : ℕ) → seconds < 2 ^ 64 → nanos < second_in_nanos → SomeWord (AllowedWord (IsSpan seconds nanos) (duration s))
+duration-has_word s seconds nanos h k =
+    let x = (unsigned-spelled integers.U64 8 seconds s h).has_word in
+    let y = (unsigned-spelled integers.U32 4 nanos s (nanos_fit nanos k)).has_word in
+    record {
+      bytes = x.bytes ++ y.bytes;
+      are_bytes = All-append (λ b. b < 256) x.bytes y.bytes x.are_bytes y.are_bytes;
+      is_allowed = duration-allows s seconds nanos h k (x.bytes ++ y.bytes) (x.bytes, y.bytes, refl, x.is_allowed, y.is_allowed);
+    }
+
+pub duration-some_word : (s : Setting) → HasWord (duration s)
+duration-some_word s = cell-has_word (duration s) (duration-lawful s) (IsSpan 0 0) (duration-has_word s 0 0 (omega arith) (omega arith))

@@ -9,7 +9,6 @@ pub mod SpelledLaws
 pub mod Forms
 pub mod Decoding
 pub mod DecodingLaws
-pub mod Rows
 pub mod CharLaws
 pub mod CharDecodingLaws
 pub mod Spans

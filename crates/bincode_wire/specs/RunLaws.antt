@@ -5,7 +5,7 @@ use Rattle.bincode_base.specs.declared.error.DecodeError.{DecodeError}
 use Rattle.bincode_base.specs.declared.error.DecodeError.TheVariants.{LimitExceeded}
 use Rattle.bincode_base.specs.Fault.{Fault, End, InvalidInteger, Zero, UnexpectedVariant, Utf8, InvalidChar, InvalidBool, InvalidDuration, NulAt, Other, LengthMismatch, EmptyEnum, OutsideUsize, Tells}
 use Rattle.bincode_base.specs.Charge.{Reserve, Release}
-use Rattle.bincode_base.specs.Device.{Takes}
+use Rattle.bincode_base.specs.Device.{DeviceErrors, Takes}
 use Rattle.bincode_base.specs.Format.{Format, Reading, Took, Failed, done, step, ◌>>=◌, vague, vague_reading, unsure, map_format, elements, sequence}
 use Rattle.bincode_base.specs.Laws.{Lawful, Balanced}
 use Rattle.bincode_base.specs.FormatLaws.{elements-lawful}
@@ -16,7 +16,7 @@ use Rattle.bincode_wire.specs.Answer.{Answer, Gave, Refused, PassedLimit, answer
 use Rattle.bincode_wire.specs.AnswerLaws.{answer-then, answer-done, answer-release, answer-reserve, answer-reserve_passed, gave-grows, gave-recharged, gave-uncounted}
 use Rattle.bincode_wire.specs.Decoding.{Decodes, Stops, by_fault, by_limit, by_memory, by_failure, by_device}
 use Rattle.bincode_wire.specs.DecodingLaws.{rose-then, takes-then, gave-takes, answer-next, map-gave, map-stops}
-use Rattle.bincode_wire.specs.Run.{IsListOf, CanRelease, RoomReturned}
+use Rattle.bincode_wire.specs.Run.{IsListOf, CanRelease, Held, RoomReturned}
 
 -- how far a run is read
 
@@ -129,12 +129,12 @@ module _ (limit : Option ℕ) (share : ℕ) (F : Format Meaning) where
     }
 
     -- where an element stops, so does the run
-    pub one_stops : (ended : ℕ → DecodeError → Type 0) (device : DecodeError → Type 0) (H : Type 0) (n : ℕ) (rest : List ℕ) (c before between after : ℕ) (rest' : List ℕ) (e : DecodeError) → before ≤ between → ReadSoFar limit share F all input ms (suc n) rest c →
+    pub one_stops : (ended : ℕ → DecodeError → Type 0) (device : DeviceErrors) (H : Type 0) (n : ℕ) (rest : List ℕ) (c before between after : ℕ) (rest' : List ℕ) (e : DecodeError) → before ≤ between → ReadSoFar limit share F all input ms (suc n) rest c →
         Stops ended device H (answer limit F rest (unclaimed limit c share)) between after rest rest' e → Stops ended device H all before after input rest' e
     one_stops ended device H n rest c before between after rest' e le h (by_fault why a t k) = by_fault (vague why) (so_far n rest c (Refused why) h a) (tells-vague ended why e t) (takes-then input rest rest' h.is_behind k)
     one_stops ended device H n rest c before between after rest' e le h (by_limit a t k) = by_limit (so_far n rest c PassedLimit h a) t (takes-then input rest rest' h.is_behind k)
     one_stops ended device H n rest c before between after rest' e le h (by_memory g t k) = by_memory g t (takes-then input rest rest' h.is_behind k)
-    one_stops ended device H n rest c before between after rest' e le h (by_failure r k) = by_failure (rose-then before between after le r) (takes-then input rest rest' h.is_behind k)
+    one_stops ended device H n rest c before between after rest' e le h (by_failure d r k) = by_failure d (rose-then before between after le r) (takes-then input rest rest' h.is_behind k)
     one_stops ended device H n rest c before between after rest' e le h (by_device g) = by_device g
 
     -- all is read
@@ -159,13 +159,13 @@ module _ (limit : Option ℕ) (share : ℕ) (F : Format Meaning) where
       is_given = p.is_given;
     }
 
-    pub array-stops : (ended : ℕ → DecodeError → Type 0) (device : DecodeError → Type 0) (H : Type 0) (before after : ℕ) (rest : List ℕ) (e : DecodeError) → Claimed limit c (n * share) d → Stops ended device H (answer limit (elements n share F) input d) before after input rest e → Stops ended device H (answer limit (array n share F) input c) before after input rest e
+    pub array-stops : (ended : ℕ → DecodeError → Type 0) (device : DeviceErrors) (H : Type 0) (before after : ℕ) (rest : List ℕ) (e : DecodeError) → Claimed limit c (n * share) d → Stops ended device H (answer limit (elements n share F) input d) before after input rest e → Stops ended device H (answer limit (array n share F) input c) before after input rest e
     array-stops ended device H before after rest e h s =
         map-stops listed ended device H limit (sequence n share F) input c before after rest e
         (subst (λ a. Stops ended device H a before after input rest e) (sym (answer-next limit (step (Reserve (n * share))) (λ _. elements n share F) input c tt input d (reserved_answer limit c (n * share) d input h))) s)
 
     -- whose claim passes the limit
-    pub array-passed : (ended : ℕ → DecodeError → Type 0) (device : DecodeError → Type 0) (H : Type 0) (before after : ℕ) (rest : List ℕ) (e : DecodeError) → OverClaimed limit c (n * share) d → e ≡ LimitExceeded → rest ≡ input → Stops ended device H (answer limit (array n share F) input c) before after input rest e
+    pub array-passed : (ended : ℕ → DecodeError → Type 0) (device : DeviceErrors) (H : Type 0) (before after : ℕ) (rest : List ℕ) (e : DecodeError) → OverClaimed limit c (n * share) d → e ≡ LimitExceeded → rest ≡ input → Stops ended device H (answer limit (array n share F) input c) before after input rest e
     array-passed ended device H before after rest e h k same =
         map-stops listed ended device H limit (sequence n share F) input c before after rest e
         (by_limit (answer-then limit (step (Reserve (n * share))) (λ _. elements n share F) input c ∙ ap (λ o. and_then o (λ _ r after. answer limit (elements n share F) r after)) (over_reserved_answer limit c (n * share) d input h)) k ([], sym same))
@@ -174,6 +174,20 @@ module _ (limit : Option ℕ) (share : ℕ) (F : Format Meaning) where
 pub one-releases : (limit : Option ℕ) (c share n : ℕ) → CanRelease limit c (suc n * share) → CanRelease limit c share
 one-releases None c share n h = tt
 one-releases (Some limit) c share n h = let k : suc n * share ≡ n * share + share = omega arith in omega arith
+
+-- what is left can be released after one share was, and while no more is
+pub others-release : (limit : Option ℕ) (c share n d : ℕ) → CanRelease limit c (suc n * share) → unclaimed limit c share ≤ d → CanRelease limit d (n * share)
+others-release None c share n d h le = tt
+others-release (Some limit) c share n d h le = let k : suc n * share ≡ n * share + share = omega arith in omega arith
+
+-- nothing was released; one share more was
+pub held-none : (limit : Option ℕ) (share start : ℕ) → Held limit (0 * share) start start
+held-none None share start = omega arith
+held-none (Some limit) share start = omega arith
+
+pub held-more : (limit : Option ℕ) (share n start c d : ℕ) → Held limit (n * share) start c → unclaimed limit c share ≤ d → Held limit ((n + 1) * share) start d
+held-more None share n start c d h le = omega arith
+held-more (Some limit) share n start c d h le = let k : (n + 1) * share ≡ n * share + share = omega arith in omega arith
 
 -- one value more
 pub is_list_push : {A : Type 0} (Is : A → Meaning → Type 0) (vs : List A) (ms : List Meaning) (v : A) (m : Meaning) → IsListOf Is vs (listed ms) → Is v m → IsListOf Is (vs ++ v ∷ []) (listed (ms ++ m ∷ []))

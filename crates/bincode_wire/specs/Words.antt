@@ -5,7 +5,7 @@ use Rattle.bincode_base.specs.declared.error.IntegerType.{IntegerType}
 use Rattle.bincode_base.specs.declared.error.IntegerType.TheVariants as integers
 use Rattle.bincode_base.specs.Setting.{Setting}
 use Rattle.bincode_base.specs.Fault.{Fault, Zero, UnexpectedVariant, Utf8, InvalidChar, InvalidBool, InvalidDuration, NulAt, Allowed, Between, OneOf}
-use Rattle.bincode_base.specs.Format.{Format, done, refused, raw, ◌>>=◌, settled, map_format, written_as, charged, sequence}
+use Rattle.bincode_base.specs.Format.{Format, done, refused, raw, ◌>>=◌, unsure, settled, map_format, written_as, charged, sequence}
 use Rattle.bincode_base.specs.Integers.{byte, unsigned, unsigned_byte}
 use Rattle.bincode_wire.specs.Meaning.{Meaning, Truth, Number, Character, Bytes, Nothing, Then, Choice, listed}
 
@@ -113,9 +113,9 @@ array n share F = map_format listed (sequence n share F)
 abbrev pub list : Setting → ℕ → Format Meaning → Format Meaning
 list setting share F = len setting >>= λ n. array n share F
 
--- bytes behind their length
+-- bytes behind their length, which may be read in pieces, so that the end of the input is vague
 abbrev pub counted : Setting → Format (List ℕ)
-counted setting = len setting >>= λ n. charged n (raw n)
+counted setting = len setting >>= λ n. charged n (unsure (raw n))
 
 abbrev pub text_of : List ℕ → Result Meaning Fault
 text_of bytes = if is_utf8 bytes then Ok (Bytes bytes) else Err Utf8

@@ -3,15 +3,25 @@ ghost use Rattle.std.specs.Prelude.{◌≡◌, true};
 ghost use Rattle.bincode_base.specs.Setting.{Setting};
 ghost use Rattle.bincode_base.specs.declared.error.EncodeError.{EncodeError};
 ghost use Rattle.bincode_wire.specs.Meaning.{Meaning};
-ghost use Rattle.bincode_wire.specs.Allowed.{AllowedWord, NoneShorter, OneLength};
+ghost use Rattle.bincode_wire.specs.Allowed.{AllowedWord, Shortest, OneLength};
+ghost use Rattle.bincode_wire.specs.Cells.{HasWord};
 
 use crate::wire::Wire;
 
-/// A type without cells: the words that a value allows have one length, and encoding answers no error but the writer's.
-pub trait Plain: Wire {
-    ghost one_length: { (s : Setting) (v : Self) → Self.valid v → OneLength (AllowedWord (Self.means v) (Self.format s)) };
+/// A type that has some word in every setting.
+pub trait Inhabited: Wire {
+    ghost some_word: { (s : Setting) → HasWord (Self.format s) };
+}
 
+/// A type whose every valid value can be written in every setting: one without cells, and a cell of such a type that has
+/// some word.
+pub trait Writable: Wire {
     ghost always_writable: { (s : Setting) (v : Self) → Self.valid v → Self.writable s v };
+}
+
+/// A type without cells: the words that a value allows have one length, and encoding answers no error but the writer's.
+pub trait Plain: Writable {
+    ghost one_length: { (s : Setting) (v : Self) → Self.valid v → OneLength (AllowedWord (Self.means v) (Self.format s)) };
 
     ghost names_none: { (e : EncodeError) → Self.names e → ⊥ };
 }
@@ -23,7 +33,7 @@ pub trait Exact: Plain + PartialEq {
     ghost comes_back: { (v w : Self) (m : Meaning) → Self.valid v → Self.means v m → Self.given m w → Self.eq v w ≡ true };
 }
 
-/// A plain type whose words are canonical: no word with the meaning of the one that is written is shorter.
+/// A plain type whose words are canonical: of all words that decode to what the written one decodes to, none is shorter.
 pub trait Canonical: Plain {
-    ghost shortest: { (s : Setting) (v : Self) → Self.valid v → NoneShorter (Self.means v) (Self.format s) };
+    ghost shortest: { (s : Setting) (v w : Self) → Self.valid v → Shortest (Self.means v) (λ m. Self.given m w) (Self.format s) };
 }

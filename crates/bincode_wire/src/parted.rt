@@ -2,8 +2,9 @@
 ghost use Rattle.std.specs.Prelude.{◌≡◌, true};
 ghost use Rattle.bincode_wire.specs.Meaning.{Meaning};
 ghost use Rattle.bincode_wire.specs.Promises.{Promise, no_more};
+ghost use Rattle.bincode_wire.specs.AllowedLaws.{fewer-none_shorter};
 
-use crate::laws::{Canonical, Exact, Plain};
+use crate::laws::{Canonical, Exact, Inhabited, Plain, Writable};
 use crate::wire::Wire;
 
 /// A type whose values have the words of their parts: a struct has those of the tuple of its fields. It has `Wire` by
@@ -45,6 +46,22 @@ impl<T: Parted> Wire for T {
     ghost balanced = { T.Parts.balanced };
 
     ghost has_word = { λ s v. T.Parts.has_word s (T.parts v) };
+
+    ghost names_own = { T.Parts.names_own };
+}
+
+impl<T: Parted> Inhabited for T
+where
+    T::Parts: Inhabited,
+{
+    ghost some_word = { T.Parts.some_word };
+}
+
+impl<T: Parted> Writable for T
+where
+    T::Parts: Writable,
+{
+    ghost always_writable = { λ s v. T.Parts.always_writable s (T.parts v) };
 }
 
 impl<T: Parted> Plain for T
@@ -53,8 +70,6 @@ where
 {
     ghost one_length = { λ s v. T.Parts.one_length s (T.parts v) };
 
-    ghost always_writable = { λ s v. T.Parts.always_writable s (T.parts v) };
-
     ghost names_none = { T.Parts.names_none };
 }
 
@@ -62,7 +77,9 @@ impl<T: Parted> Canonical for T
 where
     T::Parts: Canonical,
 {
-    ghost shortest = { λ s v. T.Parts.shortest s (T.parts v) };
+    ghost shortest = { λ s v w h.
+        fewer-none_shorter (λ m p. (p.0, (T.promised w (T.Parts.given m (T.parts w))).keeps p.1)) (λ m p. (T.promised w (T.Parts.given m (T.parts w))).keeps p)
+        (T.Parts.shortest s (T.parts v) (T.parts w) h) };
 }
 
 /// A type whose values are equal where their parts are. It is `Exact`, if the type of its parts is.

@@ -2,10 +2,10 @@
 ghost use Rattle.std.specs.Prelude.{◌≡◌, ◌⊎◌, ◌+◌, ◌-◌, ◌^◌, min, refl};
 ghost use Rattle.bincode_wire.specs.Meaning.{IsThen, IsFourThen};
 ghost use Rattle.bincode_wire.specs.Words.{first_and, four_and};
-ghost use Rattle.bincode_wire.specs.TupleLaws.{units, then-lawful, then-balanced, then-has_word, then-one_length, then-same, then-none_shorter, neither};
-ghost use Rattle.bincode_wire.specs.TupleLaws.{four-lawful, four-balanced, four-has_word, four-one_length, four-same, four-none_shorter};
+ghost use Rattle.bincode_wire.specs.TupleLaws.{units, then-some_word, then-lawful, then-balanced, then-has_word, then-one_length, then-same, then-shortest, either};
+ghost use Rattle.bincode_wire.specs.TupleLaws.{four-lawful, four-balanced, four-has_word, four-one_length, four-same, four-shortest};
 
-use crate::laws::{Canonical, Exact, Plain};
+use crate::laws::{Canonical, Exact, Inhabited, Plain, Writable};
 use crate::parted::{Parted, SameParts};
 use crate::scalars::{Alone, Scalar};
 use crate::wire::Wire;
@@ -60,14 +60,22 @@ impl<A: Wire, Others: Wire> Wire for Row<A, Others> {
     ghost balanced = { λ s. then-balanced (A.balanced s) (Others.balanced s) };
 
     ghost has_word = { λ s v h w. then-has_word (A.has_word s v.0 h.0 w.0) (Others.has_word s v.1 h.1 w.1) };
+
+    ghost names_own = { λ e. either (A.names_own e) (Others.names_own e) };
+}
+
+impl<A: Inhabited, Others: Inhabited> Inhabited for Row<A, Others> {
+    ghost some_word = { λ s. then-some_word _ _ (A.some_word s) (Others.some_word s) };
+}
+
+impl<A: Writable, Others: Writable> Writable for Row<A, Others> {
+    ghost always_writable = { λ s v h. (A.always_writable s v.0 h.0, Others.always_writable s v.1 h.1) };
 }
 
 impl<A: Plain, Others: Plain> Plain for Row<A, Others> {
     ghost one_length = { λ s v h. then-one_length (A.one_length s v.0 h.0) (Others.one_length s v.1 h.1) };
 
-    ghost always_writable = { λ s v h. (A.always_writable s v.0 h.0, Others.always_writable s v.1 h.1) };
-
-    ghost names_none = { λ e. neither (A.names_none e) (Others.names_none e) };
+    ghost names_none = { λ e. either (A.names_none e) (Others.names_none e) };
 }
 
 impl<A: Exact, Others: Exact> Exact for Row<A, Others> {
@@ -77,7 +85,7 @@ impl<A: Exact, Others: Exact> Exact for Row<A, Others> {
 }
 
 impl<A: Canonical, Others: Canonical> Canonical for Row<A, Others> {
-    ghost shortest = { λ s v h. then-none_shorter (A.shortest s v.0 h.0) (Others.shortest s v.1 h.1) };
+    ghost shortest = { λ s v w h. then-shortest (A.shortest s v.0 w.0 h.0) (Others.shortest s v.1 w.1 h.1) };
 }
 
 /// Four parts, and the others.
@@ -112,13 +120,17 @@ impl<A: Wire, B: Wire, C: Wire, D: Wire, Others: Wire> Wire for LongRow<A, B, C,
     ghost has_word = { λ s v h w.
         four-has_word (A.has_word s v.0 h.0 w.0) (B.has_word s v.1 h.1.0 w.1.0) (C.has_word s v.2 h.1.1.0 w.1.1.0)
         (D.has_word s v.3 h.1.1.1.0 w.1.1.1.0) (Others.has_word s v.4 h.1.1.1.1 w.1.1.1.1) };
+
+    ghost names_own = { λ e. either (A.names_own e) (either (B.names_own e) (either (C.names_own e) (either (D.names_own e) (Others.names_own e)))) };
 }
 
-impl<A: Plain, B: Plain, C: Plain, D: Plain, Others: Plain> Plain for LongRow<A, B, C, D, Others> {
-    ghost one_length = { λ s v h.
-        four-one_length (A.one_length s v.0 h.0) (B.one_length s v.1 h.1.0) (C.one_length s v.2 h.1.1.0)
-        (D.one_length s v.3 h.1.1.1.0) (Others.one_length s v.4 h.1.1.1.1) };
+impl<A: Inhabited, B: Inhabited, C: Inhabited, D: Inhabited, Others: Inhabited> Inhabited
+    for LongRow<A, B, C, D, Others> {
+    ghost some_word = { λ s. then-some_word _ _ (A.some_word s) (then-some_word _ _ (B.some_word s) (then-some_word _ _ (C.some_word s) (then-some_word _ _ (D.some_word s) (Others.some_word s)))) };
+}
 
+impl<A: Writable, B: Writable, C: Writable, D: Writable, Others: Writable> Writable
+    for LongRow<A, B, C, D, Others> {
     ghost always_writable = { λ s v h. (
       A.always_writable s v.0 h.0,
       (
@@ -129,8 +141,14 @@ impl<A: Plain, B: Plain, C: Plain, D: Plain, Others: Plain> Plain for LongRow<A,
         ),
       ),
     ) };
+}
 
-    ghost names_none = { λ e. neither (A.names_none e) (neither (B.names_none e) (neither (C.names_none e) (neither (D.names_none e) (Others.names_none e)))) };
+impl<A: Plain, B: Plain, C: Plain, D: Plain, Others: Plain> Plain for LongRow<A, B, C, D, Others> {
+    ghost one_length = { λ s v h.
+        four-one_length (A.one_length s v.0 h.0) (B.one_length s v.1 h.1.0) (C.one_length s v.2 h.1.1.0)
+        (D.one_length s v.3 h.1.1.1.0) (Others.one_length s v.4 h.1.1.1.1) };
+
+    ghost names_none = { λ e. either (A.names_none e) (either (B.names_none e) (either (C.names_none e) (either (D.names_none e) (Others.names_none e)))) };
 }
 
 impl<A: Exact, B: Exact, C: Exact, D: Exact, Others: Exact> Exact for LongRow<A, B, C, D, Others> {
@@ -145,6 +163,6 @@ impl<A: Exact, B: Exact, C: Exact, D: Exact, Others: Exact> Exact for LongRow<A,
 
 impl<A: Canonical, B: Canonical, C: Canonical, D: Canonical, Others: Canonical> Canonical
     for LongRow<A, B, C, D, Others> {
-    ghost shortest = { λ s v h.
-        four-none_shorter (A.shortest s v.0 h.0) (B.shortest s v.1 h.1.0) (C.shortest s v.2 h.1.1.0) (D.shortest s v.3 h.1.1.1.0) (Others.shortest s v.4 h.1.1.1.1) };
+    ghost shortest = { λ s v w h.
+        four-shortest (A.shortest s v.0 w.0 h.0) (B.shortest s v.1 w.1 h.1.0) (C.shortest s v.2 w.2 h.1.1.0) (D.shortest s v.3 w.3 h.1.1.1.0) (Others.shortest s v.4 w.4 h.1.1.1.1) };
 }

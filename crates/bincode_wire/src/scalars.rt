@@ -1,9 +1,10 @@
 //! Types of one word each that is written: numbers, truth values and characters.
 ghost use Rattle.std.specs.Prelude.{◌≡◌, ℕ, true};
 ghost use Rattle.bincode_wire.specs.Meaning.{Meaning};
+ghost use Rattle.bincode_wire.specs.AllowedLaws.{more-allowed};
 ghost use Rattle.bincode_wire.specs.Forms.{Form};
 
-use crate::laws::{Canonical, Exact, Plain};
+use crate::laws::{Canonical, Exact, Inhabited, Plain, Writable};
 use crate::wire::Wire;
 
 /// A type whose values are written in one way each, and are equal if they mean the same.
@@ -52,18 +53,26 @@ impl<T: Scalar> Wire for Alone<T> {
     ghost balanced = { T.form.balanced };
 
     ghost has_word = { λ s v h w. (T.form.spelled s v.value h).has_word };
+
+    ghost names_own = { λ e h. absurd h };
+}
+
+impl<T: Scalar> Inhabited for Alone<T> {
+    ghost some_word = { T.form.some_word };
+}
+
+impl<T: Scalar> Writable for Alone<T> {
+    ghost always_writable = { λ s v h. tt };
 }
 
 impl<T: Scalar> Plain for Alone<T> {
     ghost one_length = { λ s v h. (T.form.spelled s v.value h).one_length };
 
-    ghost always_writable = { λ s v h. tt };
-
     ghost names_none = { λ e h. h };
 }
 
 impl<T: Scalar> Canonical for Alone<T> {
-    ghost shortest = { λ s v h. (T.form.spelled s v.value h).none_shorter };
+    ghost shortest = { λ s v w h written bytes m steps a b u g. (T.form.spelled s v.value h).none_shorter written bytes m steps (more-allowed (λ n p. p.0) written a) b u (T.form.one_meaning v.value w.value a.meaning m a.is_meant.0 a.is_meant.1 g) };
 }
 
 impl<T: Scalar> Exact for Alone<T> {

@@ -1,6 +1,6 @@
 //! One of several variants: what enums are written as.
 ghost use Rattle.std.specs.Prelude.{◌≡◌, ◌⊎◌, ◌<◌, ◌+◌, ◌-◌, ◌^◌, ◌==◌, min, max, pos, ℕ, Bool, true, false, List, [], ◌∷◌, refl};
-ghost use Rattle.std.proofs.Common.{sym, ◌∙◌};
+ghost use Rattle.std.proofs.Common.{sym, ◌∙◌, arith};
 ghost use Rattle.bincode_base.specs.Setting.{Setting};
 ghost use Rattle.bincode_base.specs.Format.{Format, map_format};
 ghost use Rattle.bincode_base.specs.Integers.{unsigned_byte};
@@ -9,14 +9,15 @@ ghost use Rattle.bincode_base.specs.Fault.{Allowed};
 ghost use Rattle.bincode_base.specs.declared.error.IntegerType.TheVariants.{U32};
 ghost use Rattle.bincode_base.specs.declared.error.EncodeError.{EncodeError};
 ghost use Rattle.bincode_wire.specs.Meaning.{Meaning, Choice, IsNumber};
-ghost use Rattle.bincode_wire.specs.Words.{natural, tag, Variant, tags_of, in_order, part, chosen};
+ghost use Rattle.bincode_wire.specs.Words.{natural, tag, Variant, tags_of, allowed_tags, in_order, part, chosen};
 ghost use Rattle.bincode_wire.specs.Forms.{Numerals, byte-numerals, unsigned-numerals};
-ghost use Rattle.bincode_wire.specs.Allowed.{AllowedWord, NoneShorter, OneLength};
+ghost use Rattle.bincode_wire.specs.Allowed.{AllowedWord, SomeWord, MayName, Shortest, OneLength};
+ghost use Rattle.bincode_wire.specs.AllowedLaws.{fewer-none_shorter};
 ghost use Rattle.bincode_wire.specs.Choices.{IsChoice};
-ghost use Rattle.bincode_wire.specs.ChoiceLaws.{AllLawful, AllBalanced, part-here, part-there, same-alike, chosen-lawful, chosen-balanced, choice-has_word, choice-one_length, choice-none_shorter, choice-same, tags-differ};
-ghost use Rattle.bincode_wire.specs.TupleLaws.{neither};
+ghost use Rattle.bincode_wire.specs.ChoiceLaws.{AllLawful, AllBalanced, part-here, part-there, same-alike, chosen-lawful, chosen-balanced, choice-has_word, choice-one_length, choice-shortest, choice-some_word, choice-same, tags-differ};
+ghost use Rattle.bincode_wire.specs.TupleLaws.{either};
 
-use crate::laws::{Canonical, Exact, Plain};
+use crate::laws::{Canonical, Exact, Inhabited, Plain, Writable};
 use crate::wire::Wire;
 use std::convert::Infallible;
 use std::marker::PhantomData;
@@ -30,6 +31,8 @@ pub trait Tag: Wire {
     ghost Fits: { ℕ → Type 0 };
 
     ghost numerals: { Numerals Fits pos tags };
+
+    ghost zero_fits: { Fits 0 };
 }
 
 impl Tag for u8 {
@@ -38,6 +41,8 @@ impl Tag for u8 {
     ghost Fits = { λ n. n < 2 ^ 8 };
 
     ghost numerals = { byte-numerals };
+
+    ghost zero_fits = { omega arith };
 }
 
 impl Tag for u32 {
@@ -46,6 +51,8 @@ impl Tag for u32 {
     ghost Fits = { λ n. n < 2 ^ 32 };
 
     ghost numerals = { unsigned-numerals U32 4 (Four refl) };
+
+    ghost zero_fits = { omega arith };
 }
 
 /// The variants of an enum: one by its tag and its part, and the others, or none.
@@ -85,14 +92,19 @@ pub trait Variants {
 
     ghost balanced: { (s : Setting) → AllBalanced s variants };
 
-    ghost has_word: { (s : Setting) (v : Self) → valid v → writable v s → (bytes : List ℕ) × AllowedWord (means v) ((variant v).1 s) bytes };
+    ghost has_word: { (s : Setting) (v : Self) → valid v → writable v s → SomeWord (AllowedWord (means v) ((variant v).1 s)) };
+
+    ghost names_own: { (e : EncodeError) → names e → MayName e };
+}
+
+/// Variants whose every valid value can be written in every setting.
+pub trait WritableVariants: Variants {
+    ghost always_writable: { (s : Setting) (v : Self) → Self.valid v → Self.writable v s };
 }
 
 /// Variants without cells.
-pub trait PlainVariants: Variants {
+pub trait PlainVariants: WritableVariants {
     ghost one_length: { (s : Setting) (v : Self) → Self.valid v → OneLength (AllowedWord (Self.means v) ((Self.variant v).1 s)) };
-
-    ghost always_writable: { (s : Setting) (v : Self) → Self.valid v → Self.writable v s };
 
     ghost names_none: { (e : EncodeError) → Self.names e → ⊥ };
 }
@@ -106,7 +118,7 @@ pub trait ExactVariants: PlainVariants + PartialEq {
 
 /// Variants whose words are canonical.
 pub trait CanonicalVariants: PlainVariants {
-    ghost shortest: { (s : Setting) (v : Self) → Self.valid v → NoneShorter (Self.means v) ((Self.variant v).1 s) };
+    ghost shortest: { (s : Setting) (v w : Self) → Self.valid v → (Self.variant v).0 ≡ (Self.variant w).0 → Shortest (Self.means v) (Self.given w) ((Self.variant v).1 s) };
 }
 
 /// No variant: the end of those of the enum `Of`, with tags of type `T`. It has no values.
@@ -144,12 +156,16 @@ impl<Of, T: Tag> Variants for NoOther<Of, T> {
     ghost balanced = { λ s. tt };
 
     ghost has_word = { λ s v h w. absurd h };
+
+    ghost names_own = { λ e h. absurd h };
+}
+
+impl<Of, T: Tag> WritableVariants for NoOther<Of, T> {
+    ghost always_writable = { λ s v h. absurd h };
 }
 
 impl<Of, T: Tag> PlainVariants for NoOther<Of, T> {
     ghost one_length = { λ s v h. absurd h };
-
-    ghost always_writable = { λ s v h. absurd h };
 
     ghost names_none = { λ e h. h };
 }
@@ -161,7 +177,7 @@ impl<Of, T: Tag> ExactVariants for NoOther<Of, T> {
 }
 
 impl<Of, T: Tag> CanonicalVariants for NoOther<Of, T> {
-    ghost shortest = { λ s v h. absurd h };
+    ghost shortest = { λ s v w h. absurd h };
 }
 
 /// The variant with this tag, by its part, or one of the others.
@@ -208,6 +224,15 @@ impl<const TAG: u32, A: Wire, Others: Variants> Variants for Or<TAG, A, Others> 
     ghost balanced = { λ s. (A.balanced s, Others.balanced s) };
 
     ghost has_word = { λ s. elim [ This a ↦ A.has_word s a | Other o ↦ λ h w. Others.has_word s o h.1 w ] };
+
+    ghost names_own = { λ e. either (A.names_own e) (Others.names_own e) };
+}
+
+impl<const TAG: u32, A: Writable, Others: WritableVariants> WritableVariants
+    for Or<TAG, A, Others> {
+    ghost use Rattle.bincode_wire.specs.declared.sums.Or.TheVariants.{This, Other};
+
+    ghost always_writable = { λ s. elim [ This a ↦ A.always_writable s a | Other o ↦ λ h. Others.always_writable s o h.1 ] };
 }
 
 impl<const TAG: u32, A: Plain, Others: PlainVariants> PlainVariants for Or<TAG, A, Others> {
@@ -215,9 +240,7 @@ impl<const TAG: u32, A: Plain, Others: PlainVariants> PlainVariants for Or<TAG, 
 
     ghost one_length = { λ s. elim [ This a ↦ A.one_length s a | Other o ↦ λ h. Others.one_length s o h.1 ] };
 
-    ghost always_writable = { λ s. elim [ This a ↦ A.always_writable s a | Other o ↦ λ h. Others.always_writable s o h.1 ] };
-
-    ghost names_none = { λ e. neither (A.names_none e) (Others.names_none e) };
+    ghost names_none = { λ e. either (A.names_none e) (Others.names_none e) };
 }
 
 impl<const TAG: u32, A: Exact, Others: ExactVariants> ExactVariants for Or<TAG, A, Others> {
@@ -250,7 +273,16 @@ impl<const TAG: u32, A: Canonical, Others: CanonicalVariants> CanonicalVariants
     for Or<TAG, A, Others> {
     ghost use Rattle.bincode_wire.specs.declared.sums.Or.TheVariants.{This, Other};
 
-    ghost shortest = { λ s. elim [ This a ↦ A.shortest s a | Other o ↦ λ h. Others.shortest s o h.1 ] };
+    ghost shortest = { λ s. elim [
+      | This a ↦ elim [
+        | This b ↦ λ h e. A.shortest s a b h
+        | Other o ↦ λ h e written bytes m steps w. absurd (tags-differ TAG (Others.variant o).0 w.is_meant.1.0 e)
+      ]
+      | Other p ↦ elim [
+        | This b ↦ λ h e. absurd (tags-differ TAG (Others.variant p).0 h.0 (sym e))
+        | Other o ↦ λ h e. fewer-none_shorter (λ m p. (p.0, p.1.1)) (λ m p. p.1) (Others.shortest s p o h.1 e)
+      ]
+    ] };
 }
 
 /// What an enum is written as: the tag of a variant, and then its part.
@@ -283,6 +315,17 @@ impl<Of: Variants> Wire for OneOf<Of> {
     ghost balanced = { λ s. chosen-balanced Of.Tag.tags Of.variants s (Of.Tag.numerals.balanced s) (Of.balanced s) };
 
     ghost has_word = { λ s v h w. choice-has_word Of.Tag.tags Of.variants s _ _ (same-alike (Of.picked s _ v.0 h.1)) (Of.means v.0) (Of.Tag.numerals.spelled s _ h.0).has_word (Of.has_word s v.0 h.1 w) };
+
+    ghost names_own = { Of.names_own };
+}
+
+// An enum whose first tag is 0 has some word, if its first part has.
+impl<A: Inhabited, Others: Variants> Inhabited for OneOf<Or<0, A, Others>> {
+    ghost some_word = { λ s. choice-some_word Others.Tag.tags ((0, A.format) ∷ Others.variants) s 0 (A.format s) (part-here s (allowed_tags (tags_of ((0, A.format) ∷ Others.variants))) 0 A.format Others.variants) (Others.Tag.numerals.lawful s) (Others.Tag.numerals.spelled s 0 Others.Tag.zero_fits).has_word (A.some_word s) };
+}
+
+impl<Of: WritableVariants> Writable for OneOf<Of> {
+    ghost always_writable = { λ s v h. Of.always_writable s v.0 h.1 };
 }
 
 /// What enums are written as: `OneOf` some variants.
@@ -303,8 +346,6 @@ impl<Of: Variants> Choice for OneOf<Of> {
 impl<Of: PlainVariants> Plain for OneOf<Of> {
     ghost one_length = { λ s v h. choice-one_length Of.Tag.tags Of.variants s _ _ (same-alike (Of.picked s _ v.0 h.1)) (Of.means v.0) (Of.Tag.numerals.spelled s _ h.0).one_length (Of.one_length s v.0 h.1) };
 
-    ghost always_writable = { λ s v h. Of.always_writable s v.0 h.1 };
-
     ghost names_none = { Of.names_none };
 }
 
@@ -315,5 +356,5 @@ impl<Of: ExactVariants> Exact for OneOf<Of> {
 }
 
 impl<Of: CanonicalVariants> Canonical for OneOf<Of> {
-    ghost shortest = { λ s v h. choice-none_shorter Of.Tag.tags Of.variants s _ _ (Of.picked s _ v.0 h.1) (Of.means v.0) (Of.Tag.numerals.spelled s _ h.0).none_shorter (Of.shortest s v.0 h.1) };
+    ghost shortest = { λ s v w h. choice-shortest Of.Tag.tags Of.variants s _ _ _ (Of.picked s _ v.0 h.1) (Of.means v.0) (Of.given w.0) (Of.Tag.numerals.spelled s _ h.0).none_shorter (Of.shortest s v.0 w.0 h.1) };
 }

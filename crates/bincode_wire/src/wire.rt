@@ -1,11 +1,11 @@
 //! The trait of all types that have words.
-ghost use Rattle.std.specs.Prelude.{◌≡◌, ℕ, List};
+ghost use Rattle.std.specs.Prelude.{◌≡◌, ℕ};
 ghost use Rattle.bincode_base.specs.Setting.{Setting};
 ghost use Rattle.bincode_base.specs.Format.{Format};
 ghost use Rattle.bincode_base.specs.Laws.{Lawful, Balanced};
 ghost use Rattle.bincode_base.specs.declared.error.EncodeError.{EncodeError};
 ghost use Rattle.bincode_wire.specs.Meaning.{Meaning};
-ghost use Rattle.bincode_wire.specs.Allowed.{AllowedWord};
+ghost use Rattle.bincode_wire.specs.Allowed.{AllowedWord, SomeWord, MayName};
 
 /// What a type says of its words, so that encoding and decoding speak of the same. `Encode` and `Decode` stand on it. A
 /// type that is made of others has it by `Parted`.
@@ -44,6 +44,9 @@ pub trait Wire {
     /// What the steps of a word reserve they release.
     ghost balanced: { (s : Setting) → Balanced (format s) };
 
-    /// Each valid value allows a word.
-    ghost has_word: { (s : Setting) (v : Self) → valid v → writable s v → (bytes : List ℕ) × AllowedWord (means v) (format s) bytes };
+    /// Each valid value that can be written allows a word of bytes.
+    ghost has_word: { (s : Setting) (v : Self) → valid v → writable s v → SomeWord (AllowedWord (means v) (format s)) };
+
+    /// No error that a writer has is named.
+    ghost names_own: { (e : EncodeError) → names e → MayName e };
 }

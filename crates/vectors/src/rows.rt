@@ -17,7 +17,7 @@ pub struct Row {
 }
 
 /// The cases that the program runs.
-pub const TABLE: [Row; 46] = [
+pub static TABLE: [Row; 46] = [
     Row {
         label: "1",
         case: Case::KeepFive(Encoding {

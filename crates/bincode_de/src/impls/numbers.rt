@@ -6,7 +6,7 @@ ghost use Rattle.bincode_base.specs.Number.{from_two_complement, FitsIn};
 ghost use Rattle.bincode_base.specs.Reads.{Misreads};
 ghost use Rattle.bincode_base.specs.Integers.{byte, number_by, integer_by, tags_of, unsigned_tag, signed_tag, unsigned, signed, unsigned_byte, signed_byte};
 ghost use Rattle.bincode_base.specs.IntegerLaws.{IsWidth};
-ghost use Rattle.bincode_wire.specs.Answer.{answer, Gave};
+ghost use Rattle.bincode_wire.specs.Answer.{answer, Gave, Charges};
 ghost use Rattle.bincode_wire.specs.Decoding.{Stops};
 
 use crate::decode::Decode;
@@ -16,7 +16,7 @@ use bincode_base::config::Config;
 use bincode_base::error::{DecodeError, IntegerType};
 use bincode_base::number::{read_i8, read_number, read_signed};
 
-/// Charges for an unsigned number of so many bytes, and reads it. A fault speaks of it by name.
+/// Charges for an unsigned number of so many bytes, and reads it. A fault speaks of it by name, and leaves the charge.
 pub(crate) fn decode_unsigned<D: Decoder>(
     decoder: &mut D,
     name: IntegerType,
@@ -24,10 +24,12 @@ pub(crate) fn decode_unsigned<D: Decoder>(
 ) -> Result<u128, DecodeError>
     requires width { IsWidth width }
     requires tags { tags_of name ≡ unsigned_tag }
-    ensures ok { IfOk result (λ v. answer D.C.bound (unsigned name width D.C.setting) (D.rest decoder.old) (D.charge decoder.old) ≡ Gave v (D.rest decoder.new) (D.charge decoder.new)) }
+    ensures ok { D.told decoder.old → IfOk result (λ v. answer D.C.bound (unsigned name width D.C.setting) (D.rest decoder.old) (D.charge decoder.old) ≡ Gave v (D.rest decoder.new) (D.charge decoder.new)) }
     ensures fits { IfOk result (λ v. v < 256 ^ width) }
-    ensures err { IfErr result (Stops D.R.ended D.R.device ⊥ (answer D.C.bound (unsigned name width D.C.setting) (D.rest decoder.old) (D.charge decoder.old)) (D.failures decoder.old) (D.failures decoder.new) (D.rest decoder.old) (D.rest decoder.new)) }
+    ensures err { D.told decoder.old → IfErr result (Stops D.R.ended D.R.device ⊥ (answer D.C.bound (unsigned name width D.C.setting) (D.rest decoder.old) (D.charge decoder.old)) (D.failures decoder.old) (D.failures decoder.new) (D.rest decoder.old) (D.rest decoder.new)) }
     ensures count { D.failures decoder.old ≤ D.failures decoder.new }
+    ensures told { D.told decoder.old → D.told decoder.new }
+    ensures charge { Charges D.C.bound (D.charge decoder.old) width (D.charge decoder.new) }
     ensures place { D.place decoder.new ≡ D.place decoder.old }
 {
     decoder.claim_bytes_read(width)?;
@@ -40,10 +42,11 @@ fn read_number_from<D: Decoder>(
     width: usize,
 ) -> Result<u128, DecodeError>
     requires { IsWidth width }
-    ensures ok { IfOk result (λ v. (number_by (tags_of name) name D.C.setting.order width D.C.setting.encoding).read (D.rest decoder.old) ≡ Took v (D.rest decoder.new) []) }
+    ensures ok { D.told decoder.old → IfOk result (λ v. (number_by (tags_of name) name D.C.setting.order width D.C.setting.encoding).read (D.rest decoder.old) ≡ Took v (D.rest decoder.new) []) }
     ensures fits { IfOk result (λ v. v < 256 ^ width) }
-    ensures err { IfErr result (Misreads D.R.ended D.R.device ((number_by (tags_of name) name D.C.setting.order width D.C.setting.encoding).read (D.rest decoder.old)) (D.failures decoder.old) (D.failures decoder.new) (D.rest decoder.old) (D.rest decoder.new)) }
+    ensures err { D.told decoder.old → IfErr result (Misreads D.R.ended D.R.device ((number_by (tags_of name) name D.C.setting.order width D.C.setting.encoding).read (D.rest decoder.old)) (D.failures decoder.old) (D.failures decoder.new) (D.rest decoder.old) (D.rest decoder.new)) }
     ensures count { D.failures decoder.old ≤ D.failures decoder.new }
+    ensures told { D.told decoder.old → D.told decoder.new }
     ensures charge { D.charge decoder.new ≡ D.charge decoder.old }
     ensures place { D.place decoder.new ≡ D.place decoder.old }
 {
@@ -52,7 +55,7 @@ fn read_number_from<D: Decoder>(
     read_number(decoder.reader(), endian, encoding, name, width)
 }
 
-/// Charges for a signed number of so many bytes, and reads it. A fault speaks of it by name.
+/// Charges for a signed number of so many bytes, and reads it. A fault speaks of it by name, and leaves the charge.
 pub(crate) fn decode_signed<D: Decoder>(
     decoder: &mut D,
     name: IntegerType,
@@ -60,10 +63,12 @@ pub(crate) fn decode_signed<D: Decoder>(
 ) -> Result<i128, DecodeError>
     requires width { IsWidth width }
     requires tags { tags_of name ≡ signed_tag }
-    ensures ok { IfOk result (λ v. answer D.C.bound (signed name width D.C.setting) (D.rest decoder.old) (D.charge decoder.old) ≡ Gave v (D.rest decoder.new) (D.charge decoder.new)) }
+    ensures ok { D.told decoder.old → IfOk result (λ v. answer D.C.bound (signed name width D.C.setting) (D.rest decoder.old) (D.charge decoder.old) ≡ Gave v (D.rest decoder.new) (D.charge decoder.new)) }
     ensures fits { IfOk result (λ v. FitsIn width v) }
-    ensures err { IfErr result (Stops D.R.ended D.R.device ⊥ (answer D.C.bound (signed name width D.C.setting) (D.rest decoder.old) (D.charge decoder.old)) (D.failures decoder.old) (D.failures decoder.new) (D.rest decoder.old) (D.rest decoder.new)) }
+    ensures err { D.told decoder.old → IfErr result (Stops D.R.ended D.R.device ⊥ (answer D.C.bound (signed name width D.C.setting) (D.rest decoder.old) (D.charge decoder.old)) (D.failures decoder.old) (D.failures decoder.new) (D.rest decoder.old) (D.rest decoder.new)) }
     ensures count { D.failures decoder.old ≤ D.failures decoder.new }
+    ensures told { D.told decoder.old → D.told decoder.new }
+    ensures charge { Charges D.C.bound (D.charge decoder.old) width (D.charge decoder.new) }
     ensures place { D.place decoder.new ≡ D.place decoder.old }
 {
     decoder.claim_bytes_read(width)?;
@@ -76,10 +81,11 @@ fn read_signed_from<D: Decoder>(
     width: usize,
 ) -> Result<i128, DecodeError>
     requires { IsWidth width }
-    ensures ok { IfOk result (λ v. (map_format (integer_by width D.C.setting.encoding) (number_by (tags_of name) name D.C.setting.order width D.C.setting.encoding)).read (D.rest decoder.old) ≡ Took v (D.rest decoder.new) []) }
+    ensures ok { D.told decoder.old → IfOk result (λ v. (map_format (integer_by width D.C.setting.encoding) (number_by (tags_of name) name D.C.setting.order width D.C.setting.encoding)).read (D.rest decoder.old) ≡ Took v (D.rest decoder.new) []) }
     ensures fits { IfOk result (λ v. FitsIn width v) }
-    ensures err { IfErr result (Misreads D.R.ended D.R.device ((map_format (integer_by width D.C.setting.encoding) (number_by (tags_of name) name D.C.setting.order width D.C.setting.encoding)).read (D.rest decoder.old)) (D.failures decoder.old) (D.failures decoder.new) (D.rest decoder.old) (D.rest decoder.new)) }
+    ensures err { D.told decoder.old → IfErr result (Misreads D.R.ended D.R.device ((map_format (integer_by width D.C.setting.encoding) (number_by (tags_of name) name D.C.setting.order width D.C.setting.encoding)).read (D.rest decoder.old)) (D.failures decoder.old) (D.failures decoder.new) (D.rest decoder.old) (D.rest decoder.new)) }
     ensures count { D.failures decoder.old ≤ D.failures decoder.new }
+    ensures told { D.told decoder.old → D.told decoder.new }
     ensures charge { D.charge decoder.new ≡ D.charge decoder.old }
     ensures place { D.place decoder.new ≡ D.place decoder.old }
 {
@@ -88,11 +94,13 @@ fn read_signed_from<D: Decoder>(
     read_signed(decoder.reader(), endian, encoding, name, width)
 }
 
-/// Charges for a byte, and reads it.
+/// Charges for a byte, and reads it. A fault leaves the charge.
 pub(crate) fn decode_byte<D: Decoder>(decoder: &mut D) -> Result<u8, DecodeError>
-    ensures ok { IfOk result (λ v. answer D.C.bound unsigned_byte (D.rest decoder.old) (D.charge decoder.old) ≡ Gave v (D.rest decoder.new) (D.charge decoder.new)) }
-    ensures err { IfErr result (Stops D.R.ended D.R.device ⊥ (answer D.C.bound unsigned_byte (D.rest decoder.old) (D.charge decoder.old)) (D.failures decoder.old) (D.failures decoder.new) (D.rest decoder.old) (D.rest decoder.new)) }
+    ensures ok { D.told decoder.old → IfOk result (λ v. answer D.C.bound unsigned_byte (D.rest decoder.old) (D.charge decoder.old) ≡ Gave v (D.rest decoder.new) (D.charge decoder.new)) }
+    ensures err { D.told decoder.old → IfErr result (Stops D.R.ended D.R.device ⊥ (answer D.C.bound unsigned_byte (D.rest decoder.old) (D.charge decoder.old)) (D.failures decoder.old) (D.failures decoder.new) (D.rest decoder.old) (D.rest decoder.new)) }
     ensures count { D.failures decoder.old ≤ D.failures decoder.new }
+    ensures told { D.told decoder.old → D.told decoder.new }
+    ensures charge { Charges D.C.bound (D.charge decoder.old) 1 (D.charge decoder.new) }
     ensures place { D.place decoder.new ≡ D.place decoder.old }
 {
     decoder.claim_bytes_read(1)?;
@@ -100,20 +108,23 @@ pub(crate) fn decode_byte<D: Decoder>(decoder: &mut D) -> Result<u8, DecodeError
 }
 
 pub(crate) fn read_byte_from<D: Decoder>(decoder: &mut D) -> Result<u8, DecodeError>
-    ensures ok { IfOk result (λ v. byte.read (D.rest decoder.old) ≡ Took v (D.rest decoder.new) []) }
-    ensures err { IfErr result (Misreads D.R.ended D.R.device (byte.read (D.rest decoder.old)) (D.failures decoder.old) (D.failures decoder.new) (D.rest decoder.old) (D.rest decoder.new)) }
+    ensures ok { D.told decoder.old → IfOk result (λ v. byte.read (D.rest decoder.old) ≡ Took v (D.rest decoder.new) []) }
+    ensures err { D.told decoder.old → IfErr result (Misreads D.R.ended D.R.device (byte.read (D.rest decoder.old)) (D.failures decoder.old) (D.failures decoder.new) (D.rest decoder.old) (D.rest decoder.new)) }
     ensures count { D.failures decoder.old ≤ D.failures decoder.new }
+    ensures told { D.told decoder.old → D.told decoder.new }
     ensures charge { D.charge decoder.new ≡ D.charge decoder.old }
     ensures place { D.place decoder.new ≡ D.place decoder.old }
 {
     read_byte(decoder.reader())
 }
 
-/// Charges for a signed byte, and reads it.
+/// Charges for a signed byte, and reads it. A fault leaves the charge.
 pub(crate) fn decode_signed_byte<D: Decoder>(decoder: &mut D) -> Result<i8, DecodeError>
-    ensures ok { IfOk result (λ v. answer D.C.bound signed_byte (D.rest decoder.old) (D.charge decoder.old) ≡ Gave v (D.rest decoder.new) (D.charge decoder.new)) }
-    ensures err { IfErr result (Stops D.R.ended D.R.device ⊥ (answer D.C.bound signed_byte (D.rest decoder.old) (D.charge decoder.old)) (D.failures decoder.old) (D.failures decoder.new) (D.rest decoder.old) (D.rest decoder.new)) }
+    ensures ok { D.told decoder.old → IfOk result (λ v. answer D.C.bound signed_byte (D.rest decoder.old) (D.charge decoder.old) ≡ Gave v (D.rest decoder.new) (D.charge decoder.new)) }
+    ensures err { D.told decoder.old → IfErr result (Stops D.R.ended D.R.device ⊥ (answer D.C.bound signed_byte (D.rest decoder.old) (D.charge decoder.old)) (D.failures decoder.old) (D.failures decoder.new) (D.rest decoder.old) (D.rest decoder.new)) }
     ensures count { D.failures decoder.old ≤ D.failures decoder.new }
+    ensures told { D.told decoder.old → D.told decoder.new }
+    ensures charge { Charges D.C.bound (D.charge decoder.old) 1 (D.charge decoder.new) }
     ensures place { D.place decoder.new ≡ D.place decoder.old }
 {
     decoder.claim_bytes_read(1)?;
@@ -121,9 +132,10 @@ pub(crate) fn decode_signed_byte<D: Decoder>(decoder: &mut D) -> Result<i8, Deco
 }
 
 fn read_i8_from<D: Decoder>(decoder: &mut D) -> Result<i8, DecodeError>
-    ensures ok { IfOk result (λ v. (map_format (from_two_complement 1) byte).read (D.rest decoder.old) ≡ Took v (D.rest decoder.new) []) }
-    ensures err { IfErr result (Misreads D.R.ended D.R.device ((map_format (from_two_complement 1) byte).read (D.rest decoder.old)) (D.failures decoder.old) (D.failures decoder.new) (D.rest decoder.old) (D.rest decoder.new)) }
+    ensures ok { D.told decoder.old → IfOk result (λ v. (map_format (from_two_complement 1) byte).read (D.rest decoder.old) ≡ Took v (D.rest decoder.new) []) }
+    ensures err { D.told decoder.old → IfErr result (Misreads D.R.ended D.R.device ((map_format (from_two_complement 1) byte).read (D.rest decoder.old)) (D.failures decoder.old) (D.failures decoder.new) (D.rest decoder.old) (D.rest decoder.new)) }
     ensures count { D.failures decoder.old ≤ D.failures decoder.new }
+    ensures told { D.told decoder.old → D.told decoder.new }
     ensures charge { D.charge decoder.new ≡ D.charge decoder.old }
     ensures place { D.place decoder.new ≡ D.place decoder.old }
 {

@@ -1,6 +1,5 @@
 use crate::encode::Encode;
 use crate::encoder::Encoder;
-use crate::run::encode_run;
 use bincode_base::error::EncodeError;
 
 impl<T: Encode, const N: usize> Encode for [T; N] {
@@ -11,6 +10,6 @@ impl<T: Encode, const N: usize> Encode for [T; N] {
     }
 
     fn encode<E: Encoder>(&self, encoder: &mut E) -> Result<(), EncodeError> {
-        encode_run(encoder, self)
+        T::encode_run(self, encoder)
     }
 }

@@ -1,4 +1,5 @@
 use crate::encode::Encode;
+use crate::encode_parts::EncodeParts;
 use crate::encoder::{Encoder, write_from};
 use crate::variants::encode_variant;
 use bincode_base::error::EncodeError;
@@ -12,14 +13,14 @@ impl Encode for bool {
     }
 }
 
-impl<T: Encode> Encode for Option<T> {
-    fn tell_valid(&self) {
+impl<T: Encode> EncodeParts for Option<T> {
+    fn tell_valid_parts(&self) {
         if let Some(value) = self {
             value.tell_valid();
         }
     }
 
-    fn encode<E: Encoder>(&self, encoder: &mut E) -> Result<(), EncodeError> {
+    fn encode_parts<E: Encoder>(&self, encoder: &mut E) -> Result<(), EncodeError> {
         match self {
             None => encode_variant(&None::<&T>, 0, &(), encoder),
             Some(value) => encode_variant(&Some(value), 1, value, encoder),
@@ -27,15 +28,15 @@ impl<T: Encode> Encode for Option<T> {
     }
 }
 
-impl<T: Encode, U: Encode> Encode for Result<T, U> {
-    fn tell_valid(&self) {
+impl<T: Encode, U: Encode> EncodeParts for Result<T, U> {
+    fn tell_valid_parts(&self) {
         match self {
             Ok(value) => value.tell_valid(),
             Err(value) => value.tell_valid(),
         }
     }
 
-    fn encode<E: Encoder>(&self, encoder: &mut E) -> Result<(), EncodeError> {
+    fn encode_parts<E: Encoder>(&self, encoder: &mut E) -> Result<(), EncodeError> {
         match self {
             Ok(value) => encode_variant(&Ok::<&T, &U>(value), 0, value, encoder),
             Err(value) => encode_variant(&Err::<&T, &U>(value), 1, value, encoder),
@@ -43,8 +44,8 @@ impl<T: Encode, U: Encode> Encode for Result<T, U> {
     }
 }
 
-impl<T: Encode> Encode for Bound<T> {
-    fn tell_valid(&self) {
+impl<T: Encode> EncodeParts for Bound<T> {
+    fn tell_valid_parts(&self) {
         match self {
             Bound::Unbounded => {}
             Bound::Included(value) => value.tell_valid(),
@@ -52,7 +53,7 @@ impl<T: Encode> Encode for Bound<T> {
         }
     }
 
-    fn encode<E: Encoder>(&self, encoder: &mut E) -> Result<(), EncodeError> {
+    fn encode_parts<E: Encoder>(&self, encoder: &mut E) -> Result<(), EncodeError> {
         match self {
             Bound::Unbounded => encode_variant(&Bound::<&T>::Unbounded, 0, &(), encoder),
             Bound::Included(value) => encode_variant(&Bound::Included(value), 1, value, encoder),

@@ -11,6 +11,7 @@ ghost use Rattle.bincode_wire.specs.Allowed.{AllowedWord};
 ghost use Rattle.bincode_enc.specs.Encoding.{Writes, Ready, Halts};
 
 use crate::encode::Encode;
+use crate::encode_parts::EncodeParts;
 use crate::encoder::Encoder;
 use crate::impls::numbers::{encode_signed, encode_unsigned};
 use bincode_base::error::EncodeError;
@@ -71,134 +72,134 @@ fn encode_signed_byte_not_zero<E: Encoder>(encoder: &mut E, val: i8) -> Result<(
     val.encode(encoder)
 }
 
-impl Encode for NonZeroU8 {
-    fn tell_valid(&self) {
+impl EncodeParts for NonZeroU8 {
+    fn tell_valid_parts(&self) {
         let _value = self.get();
     }
 
     #[inline]
-    fn encode<E: Encoder>(&self, encoder: &mut E) -> Result<(), EncodeError> {
+    fn encode_parts<E: Encoder>(&self, encoder: &mut E) -> Result<(), EncodeError> {
         encode_byte_not_zero(encoder, self.get())
     }
 }
 
-impl Encode for NonZeroU16 {
-    fn tell_valid(&self) {
+impl EncodeParts for NonZeroU16 {
+    fn tell_valid_parts(&self) {
         let _value = self.get();
     }
 
     #[inline]
-    fn encode<E: Encoder>(&self, encoder: &mut E) -> Result<(), EncodeError> {
+    fn encode_parts<E: Encoder>(&self, encoder: &mut E) -> Result<(), EncodeError> {
         encode_not_zero(encoder, 2, u128::from(self.get()))
     }
 }
 
-impl Encode for NonZeroU32 {
-    fn tell_valid(&self) {
+impl EncodeParts for NonZeroU32 {
+    fn tell_valid_parts(&self) {
         let _value = self.get();
     }
 
     #[inline]
-    fn encode<E: Encoder>(&self, encoder: &mut E) -> Result<(), EncodeError> {
+    fn encode_parts<E: Encoder>(&self, encoder: &mut E) -> Result<(), EncodeError> {
         encode_not_zero(encoder, 4, u128::from(self.get()))
     }
 }
 
-impl Encode for NonZeroU64 {
-    fn tell_valid(&self) {
+impl EncodeParts for NonZeroU64 {
+    fn tell_valid_parts(&self) {
         let _value = self.get();
     }
 
     #[inline]
-    fn encode<E: Encoder>(&self, encoder: &mut E) -> Result<(), EncodeError> {
+    fn encode_parts<E: Encoder>(&self, encoder: &mut E) -> Result<(), EncodeError> {
         encode_not_zero(encoder, 8, u128::from(self.get()))
     }
 }
 
-impl Encode for NonZeroU128 {
-    fn tell_valid(&self) {
+impl EncodeParts for NonZeroU128 {
+    fn tell_valid_parts(&self) {
         let _value = self.get();
     }
 
     #[inline]
-    fn encode<E: Encoder>(&self, encoder: &mut E) -> Result<(), EncodeError> {
+    fn encode_parts<E: Encoder>(&self, encoder: &mut E) -> Result<(), EncodeError> {
         encode_not_zero(encoder, 16, self.get())
     }
 }
 
-impl Encode for NonZeroUsize {
-    fn tell_valid(&self) {
+impl EncodeParts for NonZeroUsize {
+    fn tell_valid_parts(&self) {
         let _value = self.get();
     }
 
     #[inline]
-    fn encode<E: Encoder>(&self, encoder: &mut E) -> Result<(), EncodeError> {
+    fn encode_parts<E: Encoder>(&self, encoder: &mut E) -> Result<(), EncodeError> {
         encode_not_zero(encoder, 8, self.get() as u128)
     }
 }
 
-impl Encode for NonZeroI8 {
-    fn tell_valid(&self) {
+impl EncodeParts for NonZeroI8 {
+    fn tell_valid_parts(&self) {
         let _value = self.get();
     }
 
     #[inline]
-    fn encode<E: Encoder>(&self, encoder: &mut E) -> Result<(), EncodeError> {
+    fn encode_parts<E: Encoder>(&self, encoder: &mut E) -> Result<(), EncodeError> {
         encode_signed_byte_not_zero(encoder, self.get())
     }
 }
 
-impl Encode for NonZeroI16 {
-    fn tell_valid(&self) {
+impl EncodeParts for NonZeroI16 {
+    fn tell_valid_parts(&self) {
         let _value = self.get();
     }
 
     #[inline]
-    fn encode<E: Encoder>(&self, encoder: &mut E) -> Result<(), EncodeError> {
+    fn encode_parts<E: Encoder>(&self, encoder: &mut E) -> Result<(), EncodeError> {
         encode_signed_not_zero(encoder, 2, i128::from(self.get()))
     }
 }
 
-impl Encode for NonZeroI32 {
-    fn tell_valid(&self) {
+impl EncodeParts for NonZeroI32 {
+    fn tell_valid_parts(&self) {
         let _value = self.get();
     }
 
     #[inline]
-    fn encode<E: Encoder>(&self, encoder: &mut E) -> Result<(), EncodeError> {
+    fn encode_parts<E: Encoder>(&self, encoder: &mut E) -> Result<(), EncodeError> {
         encode_signed_not_zero(encoder, 4, i128::from(self.get()))
     }
 }
 
-impl Encode for NonZeroI64 {
-    fn tell_valid(&self) {
+impl EncodeParts for NonZeroI64 {
+    fn tell_valid_parts(&self) {
         let _value = self.get();
     }
 
     #[inline]
-    fn encode<E: Encoder>(&self, encoder: &mut E) -> Result<(), EncodeError> {
+    fn encode_parts<E: Encoder>(&self, encoder: &mut E) -> Result<(), EncodeError> {
         encode_signed_not_zero(encoder, 8, i128::from(self.get()))
     }
 }
 
-impl Encode for NonZeroI128 {
-    fn tell_valid(&self) {
+impl EncodeParts for NonZeroI128 {
+    fn tell_valid_parts(&self) {
         let _value = self.get();
     }
 
     #[inline]
-    fn encode<E: Encoder>(&self, encoder: &mut E) -> Result<(), EncodeError> {
+    fn encode_parts<E: Encoder>(&self, encoder: &mut E) -> Result<(), EncodeError> {
         encode_signed_not_zero(encoder, 16, self.get())
     }
 }
 
-impl Encode for NonZeroIsize {
-    fn tell_valid(&self) {
+impl EncodeParts for NonZeroIsize {
+    fn tell_valid_parts(&self) {
         let _value = self.get();
     }
 
     #[inline]
-    fn encode<E: Encoder>(&self, encoder: &mut E) -> Result<(), EncodeError> {
+    fn encode_parts<E: Encoder>(&self, encoder: &mut E) -> Result<(), EncodeError> {
         encode_signed_not_zero(encoder, 8, self.get() as i128)
     }
 }

@@ -1,4 +1,5 @@
 use crate::encode::Encode;
+use crate::encode_parts::EncodeParts;
 use crate::encoder::Encoder;
 use bincode_base::error::EncodeError;
 use bincode_wire::rows::{LongRow, Row};
@@ -41,108 +42,136 @@ impl<A: Encode, B: Encode, C: Encode, D: Encode, Others: Encode> Encode
     }
 }
 
-impl<A: Encode> Encode for (A,) {
-    fn tell_valid(&self) {
-        let (a,) = self;
-        Row(a, ()).tell_valid();
+impl<A: Encode> EncodeParts for (A,) {
+    fn tell_valid_parts(&self) {
+        self.0.tell_valid();
     }
 
     #[inline(always)]
-    fn encode<Z: Encoder>(&self, encoder: &mut Z) -> Result<(), EncodeError> {
+    fn encode_parts<Z: Encoder>(&self, encoder: &mut Z) -> Result<(), EncodeError> {
         let (a,) = self;
         Row(a, ()).encode(encoder)
     }
 }
 
-impl<A: Encode, B: Encode> Encode for (A, B) {
-    fn tell_valid(&self) {
-        let (a, b) = self;
-        Row(a, Row(b, ())).tell_valid();
+impl<A: Encode, B: Encode> EncodeParts for (A, B) {
+    fn tell_valid_parts(&self) {
+        self.0.tell_valid();
+        self.1.tell_valid();
     }
 
     #[inline(always)]
-    fn encode<Z: Encoder>(&self, encoder: &mut Z) -> Result<(), EncodeError> {
+    fn encode_parts<Z: Encoder>(&self, encoder: &mut Z) -> Result<(), EncodeError> {
         let (a, b) = self;
         Row(a, Row(b, ())).encode(encoder)
     }
 }
 
-impl<A: Encode, B: Encode, C: Encode> Encode for (A, B, C) {
-    fn tell_valid(&self) {
-        let (a, b, c) = self;
-        Row(a, Row(b, Row(c, ()))).tell_valid();
+impl<A: Encode, B: Encode, C: Encode> EncodeParts for (A, B, C) {
+    fn tell_valid_parts(&self) {
+        self.0.tell_valid();
+        self.1.tell_valid();
+        self.2.tell_valid();
     }
 
     #[inline(always)]
-    fn encode<Z: Encoder>(&self, encoder: &mut Z) -> Result<(), EncodeError> {
+    fn encode_parts<Z: Encoder>(&self, encoder: &mut Z) -> Result<(), EncodeError> {
         let (a, b, c) = self;
         Row(a, Row(b, Row(c, ()))).encode(encoder)
     }
 }
 
-impl<A: Encode, B: Encode, C: Encode, D: Encode> Encode for (A, B, C, D) {
-    fn tell_valid(&self) {
-        let (a, b, c, d) = self;
-        LongRow(a, b, c, d, ()).tell_valid();
+impl<A: Encode, B: Encode, C: Encode, D: Encode> EncodeParts for (A, B, C, D) {
+    fn tell_valid_parts(&self) {
+        self.0.tell_valid();
+        self.1.tell_valid();
+        self.2.tell_valid();
+        self.3.tell_valid();
     }
 
     #[inline(always)]
-    fn encode<Z: Encoder>(&self, encoder: &mut Z) -> Result<(), EncodeError> {
+    fn encode_parts<Z: Encoder>(&self, encoder: &mut Z) -> Result<(), EncodeError> {
         let (a, b, c, d) = self;
         LongRow(a, b, c, d, ()).encode(encoder)
     }
 }
 
-impl<A: Encode, B: Encode, C: Encode, D: Encode, E: Encode> Encode for (A, B, C, D, E) {
-    fn tell_valid(&self) {
-        let (a, b, c, d, e) = self;
-        LongRow(a, b, c, d, Row(e, ())).tell_valid();
+impl<A: Encode, B: Encode, C: Encode, D: Encode, E: Encode> EncodeParts for (A, B, C, D, E) {
+    fn tell_valid_parts(&self) {
+        self.0.tell_valid();
+        self.1.tell_valid();
+        self.2.tell_valid();
+        self.3.tell_valid();
+        self.4.tell_valid();
     }
 
     #[inline(always)]
-    fn encode<Z: Encoder>(&self, encoder: &mut Z) -> Result<(), EncodeError> {
+    fn encode_parts<Z: Encoder>(&self, encoder: &mut Z) -> Result<(), EncodeError> {
         let (a, b, c, d, e) = self;
         LongRow(a, b, c, d, Row(e, ())).encode(encoder)
     }
 }
 
-impl<A: Encode, B: Encode, C: Encode, D: Encode, E: Encode, F: Encode> Encode
+impl<A: Encode, B: Encode, C: Encode, D: Encode, E: Encode, F: Encode> EncodeParts
     for (A, B, C, D, E, F) {
-    fn tell_valid(&self) {
-        let (a, b, c, d, e, f) = self;
-        LongRow(a, b, c, d, Row(e, Row(f, ()))).tell_valid();
+    fn tell_valid_parts(&self) {
+        self.0.tell_valid();
+        self.1.tell_valid();
+        self.2.tell_valid();
+        self.3.tell_valid();
+        self.4.tell_valid();
+        self.5.tell_valid();
     }
 
     #[inline(always)]
-    fn encode<Z: Encoder>(&self, encoder: &mut Z) -> Result<(), EncodeError> {
+    fn encode_parts<Z: Encoder>(&self, encoder: &mut Z) -> Result<(), EncodeError> {
         let (a, b, c, d, e, f) = self;
         LongRow(a, b, c, d, Row(e, Row(f, ()))).encode(encoder)
     }
 }
 
-impl<A: Encode, B: Encode, C: Encode, D: Encode, E: Encode, F: Encode, G: Encode> Encode
+impl<A: Encode, B: Encode, C: Encode, D: Encode, E: Encode, F: Encode, G: Encode> EncodeParts
     for (A, B, C, D, E, F, G) {
-    fn tell_valid(&self) {
-        let (a, b, c, d, e, f, g) = self;
-        LongRow(a, b, c, d, Row(e, Row(f, Row(g, ())))).tell_valid();
+    fn tell_valid_parts(&self) {
+        self.0.tell_valid();
+        self.1.tell_valid();
+        self.2.tell_valid();
+        self.3.tell_valid();
+        self.4.tell_valid();
+        self.5.tell_valid();
+        self.6.tell_valid();
     }
 
     #[inline(always)]
-    fn encode<Z: Encoder>(&self, encoder: &mut Z) -> Result<(), EncodeError> {
+    fn encode_parts<Z: Encoder>(&self, encoder: &mut Z) -> Result<(), EncodeError> {
         let (a, b, c, d, e, f, g) = self;
         LongRow(a, b, c, d, Row(e, Row(f, Row(g, ())))).encode(encoder)
     }
 }
 
-impl<A: Encode, B: Encode, C: Encode, D: Encode, E: Encode, F: Encode, G: Encode, H: Encode> Encode
-    for (A, B, C, D, E, F, G, H) {
-    fn tell_valid(&self) {
-        let (a, b, c, d, e, f, g, h) = self;
-        LongRow(a, b, c, d, LongRow(e, f, g, h, ())).tell_valid();
+impl<
+    A: Encode,
+    B: Encode,
+    C: Encode,
+    D: Encode,
+    E: Encode,
+    F: Encode,
+    G: Encode,
+    H: Encode,
+> EncodeParts for (A, B, C, D, E, F, G, H) {
+    fn tell_valid_parts(&self) {
+        self.0.tell_valid();
+        self.1.tell_valid();
+        self.2.tell_valid();
+        self.3.tell_valid();
+        self.4.tell_valid();
+        self.5.tell_valid();
+        self.6.tell_valid();
+        self.7.tell_valid();
     }
 
     #[inline(always)]
-    fn encode<Z: Encoder>(&self, encoder: &mut Z) -> Result<(), EncodeError> {
+    fn encode_parts<Z: Encoder>(&self, encoder: &mut Z) -> Result<(), EncodeError> {
         let (a, b, c, d, e, f, g, h) = self;
         LongRow(a, b, c, d, LongRow(e, f, g, h, ())).encode(encoder)
     }
@@ -158,14 +187,21 @@ impl<
     G: Encode,
     H: Encode,
     I: Encode,
-> Encode for (A, B, C, D, E, F, G, H, I) {
-    fn tell_valid(&self) {
-        let (a, b, c, d, e, f, g, h, i) = self;
-        LongRow(a, b, c, d, LongRow(e, f, g, h, Row(i, ()))).tell_valid();
+> EncodeParts for (A, B, C, D, E, F, G, H, I) {
+    fn tell_valid_parts(&self) {
+        self.0.tell_valid();
+        self.1.tell_valid();
+        self.2.tell_valid();
+        self.3.tell_valid();
+        self.4.tell_valid();
+        self.5.tell_valid();
+        self.6.tell_valid();
+        self.7.tell_valid();
+        self.8.tell_valid();
     }
 
     #[inline(always)]
-    fn encode<Z: Encoder>(&self, encoder: &mut Z) -> Result<(), EncodeError> {
+    fn encode_parts<Z: Encoder>(&self, encoder: &mut Z) -> Result<(), EncodeError> {
         let (a, b, c, d, e, f, g, h, i) = self;
         LongRow(a, b, c, d, LongRow(e, f, g, h, Row(i, ()))).encode(encoder)
     }
@@ -182,14 +218,22 @@ impl<
     H: Encode,
     I: Encode,
     J: Encode,
-> Encode for (A, B, C, D, E, F, G, H, I, J) {
-    fn tell_valid(&self) {
-        let (a, b, c, d, e, f, g, h, i, j) = self;
-        LongRow(a, b, c, d, LongRow(e, f, g, h, Row(i, Row(j, ())))).tell_valid();
+> EncodeParts for (A, B, C, D, E, F, G, H, I, J) {
+    fn tell_valid_parts(&self) {
+        self.0.tell_valid();
+        self.1.tell_valid();
+        self.2.tell_valid();
+        self.3.tell_valid();
+        self.4.tell_valid();
+        self.5.tell_valid();
+        self.6.tell_valid();
+        self.7.tell_valid();
+        self.8.tell_valid();
+        self.9.tell_valid();
     }
 
     #[inline(always)]
-    fn encode<Z: Encoder>(&self, encoder: &mut Z) -> Result<(), EncodeError> {
+    fn encode_parts<Z: Encoder>(&self, encoder: &mut Z) -> Result<(), EncodeError> {
         let (a, b, c, d, e, f, g, h, i, j) = self;
         LongRow(a, b, c, d, LongRow(e, f, g, h, Row(i, Row(j, ())))).encode(encoder)
     }
@@ -207,14 +251,23 @@ impl<
     I: Encode,
     J: Encode,
     K: Encode,
-> Encode for (A, B, C, D, E, F, G, H, I, J, K) {
-    fn tell_valid(&self) {
-        let (a, b, c, d, e, f, g, h, i, j, k) = self;
-        LongRow(a, b, c, d, LongRow(e, f, g, h, Row(i, Row(j, Row(k, ()))))).tell_valid();
+> EncodeParts for (A, B, C, D, E, F, G, H, I, J, K) {
+    fn tell_valid_parts(&self) {
+        self.0.tell_valid();
+        self.1.tell_valid();
+        self.2.tell_valid();
+        self.3.tell_valid();
+        self.4.tell_valid();
+        self.5.tell_valid();
+        self.6.tell_valid();
+        self.7.tell_valid();
+        self.8.tell_valid();
+        self.9.tell_valid();
+        self.10.tell_valid();
     }
 
     #[inline(always)]
-    fn encode<Z: Encoder>(&self, encoder: &mut Z) -> Result<(), EncodeError> {
+    fn encode_parts<Z: Encoder>(&self, encoder: &mut Z) -> Result<(), EncodeError> {
         let (a, b, c, d, e, f, g, h, i, j, k) = self;
         LongRow(a, b, c, d, LongRow(e, f, g, h, Row(i, Row(j, Row(k, ()))))).encode(encoder)
     }
@@ -233,14 +286,24 @@ impl<
     J: Encode,
     K: Encode,
     L: Encode,
-> Encode for (A, B, C, D, E, F, G, H, I, J, K, L) {
-    fn tell_valid(&self) {
-        let (a, b, c, d, e, f, g, h, i, j, k, l) = self;
-        LongRow(a, b, c, d, LongRow(e, f, g, h, LongRow(i, j, k, l, ()))).tell_valid();
+> EncodeParts for (A, B, C, D, E, F, G, H, I, J, K, L) {
+    fn tell_valid_parts(&self) {
+        self.0.tell_valid();
+        self.1.tell_valid();
+        self.2.tell_valid();
+        self.3.tell_valid();
+        self.4.tell_valid();
+        self.5.tell_valid();
+        self.6.tell_valid();
+        self.7.tell_valid();
+        self.8.tell_valid();
+        self.9.tell_valid();
+        self.10.tell_valid();
+        self.11.tell_valid();
     }
 
     #[inline(always)]
-    fn encode<Z: Encoder>(&self, encoder: &mut Z) -> Result<(), EncodeError> {
+    fn encode_parts<Z: Encoder>(&self, encoder: &mut Z) -> Result<(), EncodeError> {
         let (a, b, c, d, e, f, g, h, i, j, k, l) = self;
         LongRow(a, b, c, d, LongRow(e, f, g, h, LongRow(i, j, k, l, ()))).encode(encoder)
     }
@@ -260,21 +323,25 @@ impl<
     K: Encode,
     L: Encode,
     M: Encode,
-> Encode for (A, B, C, D, E, F, G, H, I, J, K, L, M) {
-    fn tell_valid(&self) {
-        let (a, b, c, d, e, f, g, h, i, j, k, l, m) = self;
-        LongRow(
-            a,
-            b,
-            c,
-            d,
-            LongRow(e, f, g, h, LongRow(i, j, k, l, Row(m, ()))),
-        )
-        .tell_valid();
+> EncodeParts for (A, B, C, D, E, F, G, H, I, J, K, L, M) {
+    fn tell_valid_parts(&self) {
+        self.0.tell_valid();
+        self.1.tell_valid();
+        self.2.tell_valid();
+        self.3.tell_valid();
+        self.4.tell_valid();
+        self.5.tell_valid();
+        self.6.tell_valid();
+        self.7.tell_valid();
+        self.8.tell_valid();
+        self.9.tell_valid();
+        self.10.tell_valid();
+        self.11.tell_valid();
+        self.12.tell_valid();
     }
 
     #[inline(always)]
-    fn encode<Z: Encoder>(&self, encoder: &mut Z) -> Result<(), EncodeError> {
+    fn encode_parts<Z: Encoder>(&self, encoder: &mut Z) -> Result<(), EncodeError> {
         let (a, b, c, d, e, f, g, h, i, j, k, l, m) = self;
         LongRow(
             a,
@@ -302,21 +369,26 @@ impl<
     L: Encode,
     M: Encode,
     N: Encode,
-> Encode for (A, B, C, D, E, F, G, H, I, J, K, L, M, N) {
-    fn tell_valid(&self) {
-        let (a, b, c, d, e, f, g, h, i, j, k, l, m, n) = self;
-        LongRow(
-            a,
-            b,
-            c,
-            d,
-            LongRow(e, f, g, h, LongRow(i, j, k, l, Row(m, Row(n, ())))),
-        )
-        .tell_valid();
+> EncodeParts for (A, B, C, D, E, F, G, H, I, J, K, L, M, N) {
+    fn tell_valid_parts(&self) {
+        self.0.tell_valid();
+        self.1.tell_valid();
+        self.2.tell_valid();
+        self.3.tell_valid();
+        self.4.tell_valid();
+        self.5.tell_valid();
+        self.6.tell_valid();
+        self.7.tell_valid();
+        self.8.tell_valid();
+        self.9.tell_valid();
+        self.10.tell_valid();
+        self.11.tell_valid();
+        self.12.tell_valid();
+        self.13.tell_valid();
     }
 
     #[inline(always)]
-    fn encode<Z: Encoder>(&self, encoder: &mut Z) -> Result<(), EncodeError> {
+    fn encode_parts<Z: Encoder>(&self, encoder: &mut Z) -> Result<(), EncodeError> {
         let (a, b, c, d, e, f, g, h, i, j, k, l, m, n) = self;
         LongRow(
             a,
@@ -345,21 +417,27 @@ impl<
     M: Encode,
     N: Encode,
     O: Encode,
-> Encode for (A, B, C, D, E, F, G, H, I, J, K, L, M, N, O) {
-    fn tell_valid(&self) {
-        let (a, b, c, d, e, f, g, h, i, j, k, l, m, n, o) = self;
-        LongRow(
-            a,
-            b,
-            c,
-            d,
-            LongRow(e, f, g, h, LongRow(i, j, k, l, Row(m, Row(n, Row(o, ()))))),
-        )
-        .tell_valid();
+> EncodeParts for (A, B, C, D, E, F, G, H, I, J, K, L, M, N, O) {
+    fn tell_valid_parts(&self) {
+        self.0.tell_valid();
+        self.1.tell_valid();
+        self.2.tell_valid();
+        self.3.tell_valid();
+        self.4.tell_valid();
+        self.5.tell_valid();
+        self.6.tell_valid();
+        self.7.tell_valid();
+        self.8.tell_valid();
+        self.9.tell_valid();
+        self.10.tell_valid();
+        self.11.tell_valid();
+        self.12.tell_valid();
+        self.13.tell_valid();
+        self.14.tell_valid();
     }
 
     #[inline(always)]
-    fn encode<Z: Encoder>(&self, encoder: &mut Z) -> Result<(), EncodeError> {
+    fn encode_parts<Z: Encoder>(&self, encoder: &mut Z) -> Result<(), EncodeError> {
         let (a, b, c, d, e, f, g, h, i, j, k, l, m, n, o) = self;
         LongRow(
             a,
@@ -389,21 +467,28 @@ impl<
     N: Encode,
     O: Encode,
     P: Encode,
-> Encode for (A, B, C, D, E, F, G, H, I, J, K, L, M, N, O, P) {
-    fn tell_valid(&self) {
-        let (a, b, c, d, e, f, g, h, i, j, k, l, m, n, o, p) = self;
-        LongRow(
-            a,
-            b,
-            c,
-            d,
-            LongRow(e, f, g, h, LongRow(i, j, k, l, LongRow(m, n, o, p, ()))),
-        )
-        .tell_valid();
+> EncodeParts for (A, B, C, D, E, F, G, H, I, J, K, L, M, N, O, P) {
+    fn tell_valid_parts(&self) {
+        self.0.tell_valid();
+        self.1.tell_valid();
+        self.2.tell_valid();
+        self.3.tell_valid();
+        self.4.tell_valid();
+        self.5.tell_valid();
+        self.6.tell_valid();
+        self.7.tell_valid();
+        self.8.tell_valid();
+        self.9.tell_valid();
+        self.10.tell_valid();
+        self.11.tell_valid();
+        self.12.tell_valid();
+        self.13.tell_valid();
+        self.14.tell_valid();
+        self.15.tell_valid();
     }
 
     #[inline(always)]
-    fn encode<Z: Encoder>(&self, encoder: &mut Z) -> Result<(), EncodeError> {
+    fn encode_parts<Z: Encoder>(&self, encoder: &mut Z) -> Result<(), EncodeError> {
         let (a, b, c, d, e, f, g, h, i, j, k, l, m, n, o, p) = self;
         LongRow(
             a,

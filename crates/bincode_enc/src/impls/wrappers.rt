@@ -1,50 +1,51 @@
 use crate::encode::Encode;
+use crate::encode_parts::EncodeParts;
 use crate::encoder::Encoder;
 use bincode_base::error::EncodeError;
 use std::cmp::Reverse;
 use std::marker::PhantomData;
 use std::num::Wrapping;
 
-impl<T: Encode> Encode for Wrapping<T> {
-    fn tell_valid(&self) {
+impl<T: Encode> EncodeParts for Wrapping<T> {
+    fn tell_valid_parts(&self) {
         self.0.tell_valid();
     }
 
     #[inline]
-    fn encode<E: Encoder>(&self, encoder: &mut E) -> Result<(), EncodeError> {
+    fn encode_parts<E: Encoder>(&self, encoder: &mut E) -> Result<(), EncodeError> {
         let Wrapping(value) = self;
         value.encode(encoder)
     }
 }
 
-impl<T: Encode> Encode for Reverse<T> {
-    fn tell_valid(&self) {
+impl<T: Encode> EncodeParts for Reverse<T> {
+    fn tell_valid_parts(&self) {
         self.0.tell_valid();
     }
 
     #[inline]
-    fn encode<E: Encoder>(&self, encoder: &mut E) -> Result<(), EncodeError> {
+    fn encode_parts<E: Encoder>(&self, encoder: &mut E) -> Result<(), EncodeError> {
         let Reverse(value) = self;
         value.encode(encoder)
     }
 }
 
-impl<T> Encode for PhantomData<T> {
-    fn tell_valid(&self) {}
+impl<T> EncodeParts for PhantomData<T> {
+    fn tell_valid_parts(&self) {}
 
     #[inline]
-    fn encode<E: Encoder>(&self, encoder: &mut E) -> Result<(), EncodeError> {
+    fn encode_parts<E: Encoder>(&self, encoder: &mut E) -> Result<(), EncodeError> {
         ().encode(encoder)
     }
 }
 
-impl<T: Encode> Encode for &T {
-    fn tell_valid(&self) {
+impl<T: Encode> EncodeParts for &T {
+    fn tell_valid_parts(&self) {
         (**self).tell_valid();
     }
 
     #[inline]
-    fn encode<E: Encoder>(&self, encoder: &mut E) -> Result<(), EncodeError> {
+    fn encode_parts<E: Encoder>(&self, encoder: &mut E) -> Result<(), EncodeError> {
         (**self).encode(encoder)
     }
 }

@@ -5,10 +5,10 @@ ghost use Rattle.bincode_slots.specs.Slots.{SlotsFit};
 ghost use Rattle.bincode_wire.specs.Words.{array};
 ghost use Rattle.bincode_wire.specs.WordsLaws.{array-lawful, array-balanced};
 ghost use Rattle.bincode_wire.specs.Run.{IsListOf};
-ghost use Rattle.bincode_wire.specs.RunAllowedLaws.{array-allows, allowed-array, each-has_word, each-one_length, array-none_shorter, run_same};
+ghost use Rattle.bincode_wire.specs.RunAllowedLaws.{array-allows, allowed-array, array-some_word, each-has_word, each-one_length, array-shortest, run_same};
 ghost use Rattle.bincode_wire.specs.AllowedLaws.{same-one_length};
 
-use crate::laws::{Canonical, Exact, Plain};
+use crate::laws::{Canonical, Exact, Inhabited, Plain, Writable};
 use crate::wire::Wire;
 
 // Decoding answers `Memory` where the slots that it fills can't exist, though the array itself could.
@@ -39,13 +39,21 @@ impl<T: Wire, const N: usize> Wire for [T; N] {
 
     ghost has_word = { λ s v h w.
         let x = each-has_word _ T.valid (T.writable s) v (T.has_word s) h.1 w in
-        (x.0, array-allows T.means T.claim (T.format s) N v x.0 h.0 x.1) };
+        record { bytes = x.bytes; are_bytes = x.are_bytes; is_allowed = array-allows T.means T.claim (T.format s) N v x.bytes h.0 x.is_allowed } };
+
+    ghost names_own = { T.names_own };
+}
+
+impl<T: Inhabited, const N: usize> Inhabited for [T; N] {
+    ghost some_word = { λ s. array-some_word T.claim (T.format s) (T.some_word s) N };
+}
+
+impl<T: Writable, const N: usize> Writable for [T; N] {
+    ghost always_writable = { λ s v h. All-weaker T.valid (T.writable s) (T.always_writable s) v h.1 };
 }
 
 impl<T: Plain, const N: usize> Plain for [T; N] {
     ghost one_length = { λ s v h. same-one_length _ _ (λ bytes. allowed-array T.means T.claim (T.format s) N v bytes h.0) (each-one_length _ T.valid v (T.one_length s) h.1) };
-
-    ghost always_writable = { λ s v h. All-weaker T.valid (T.writable s) (T.always_writable s) v h.1 };
 
     ghost names_none = { T.names_none };
 }
@@ -58,5 +66,5 @@ impl<T: Exact, const N: usize> Exact for [T; N] {
 }
 
 impl<T: Canonical, const N: usize> Canonical for [T; N] {
-    ghost shortest = { λ s v h. array-none_shorter T.means T.claim (T.format s) T.valid (T.shortest s) N v h.0 h.1 };
+    ghost shortest = { λ s v w h. array-shortest T.means (λ x n. T.given n x) T.claim (T.format s) T.valid (T.shortest s) N v w h.0 h.1 };
 }

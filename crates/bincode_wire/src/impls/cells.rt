@@ -1,8 +1,11 @@
 ghost use Rattle.std.specs.Prelude.{◌⊎◌};
 ghost use Rattle.bincode_base.specs.Format.{of_cell};
 ghost use Rattle.bincode_wire.specs.Cells.{IsAny, IsBorrowed, IsHeld};
-ghost use Rattle.bincode_wire.specs.CellLaws.{cell-lawful, cell-balanced};
+ghost use Rattle.bincode_wire.specs.Allowed.{MayName};
+ghost use Rattle.bincode_wire.specs.CellLaws.{cell-lawful, cell-balanced, cell-some_word, borrowed-named};
+ghost use Rattle.bincode_wire.specs.TupleLaws.{either};
 
+use crate::laws::{Inhabited, Writable};
 use crate::wire::Wire;
 use std::cell::{Cell, RefCell};
 
@@ -32,6 +35,16 @@ impl<T: Wire> Wire for Cell<T> {
     ghost balanced = { λ s. cell-balanced (T.format s) (T.balanced s) };
 
     ghost has_word = { λ s v h w. w.some_word };
+
+    ghost names_own = { T.names_own };
+}
+
+impl<T: Inhabited> Inhabited for Cell<T> {
+    ghost some_word = { λ s. cell-some_word (T.format s) (T.some_word s) };
+}
+
+impl<T: Writable + Inhabited> Writable for Cell<T> {
+    ghost always_writable = { λ s v h. record { some_word = T.some_word s; each_writable = T.always_writable s } };
 }
 
 impl<T: Wire> Wire for RefCell<T> {
@@ -60,4 +73,14 @@ impl<T: Wire> Wire for RefCell<T> {
     ghost balanced = { λ s. cell-balanced (T.format s) (T.balanced s) };
 
     ghost has_word = { λ s v h w. w.some_word };
+
+    ghost names_own = { λ e. either (borrowed-named e) (T.names_own e) };
+}
+
+impl<T: Inhabited> Inhabited for RefCell<T> {
+    ghost some_word = { λ s. cell-some_word (T.format s) (T.some_word s) };
+}
+
+impl<T: Writable + Inhabited> Writable for RefCell<T> {
+    ghost always_writable = { λ s v h. record { some_word = T.some_word s; each_writable = T.always_writable s } };
 }

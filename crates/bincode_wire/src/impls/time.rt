@@ -5,9 +5,9 @@ ghost use Rattle.bincode_wire.specs.Words.{second_in_nanos, duration};
 ghost use Rattle.bincode_wire.specs.Spans.{secs_of, nanos_of};
 ghost use Rattle.bincode_wire.specs.AllowedLaws.{both-one_length, same-one_length};
 ghost use Rattle.bincode_wire.specs.SpelledLaws.{unsigned-spelled};
-ghost use Rattle.bincode_wire.specs.DurationLaws.{duration-lawful, duration-balanced, duration-allows, allowed-duration, nanos_fit, span_same};
+ghost use Rattle.bincode_wire.specs.DurationLaws.{duration-lawful, duration-balanced, duration-some_word, duration-has_word, allowed-duration, nanos_fit, span_same};
 
-use crate::laws::{Exact, Plain};
+use crate::laws::{Exact, Inhabited, Plain, Writable};
 use crate::own::time::Duration;
 use crate::wire::Wire;
 
@@ -36,17 +36,22 @@ impl Wire for Duration {
 
     ghost balanced = { duration-balanced };
 
-    ghost has_word = { λ s v h w.
-        let x = (unsigned-spelled U64 8 (secs_of v) s h.0).has_word in
-        let y = (unsigned-spelled U32 4 (nanos_of v) s (nanos_fit (nanos_of v) h.1)).has_word in
-        (x.0 ++ y.0, duration-allows s (secs_of v) (nanos_of v) h.0 h.1 _ (x.0, y.0, refl, x.1, y.1)) };
+    ghost has_word = { λ s v h w. duration-has_word s (secs_of v) (nanos_of v) h.0 h.1 };
+
+    ghost names_own = { λ e h. absurd h };
+}
+
+impl Inhabited for Duration {
+    ghost some_word = { λ s. duration-some_word s };
+}
+
+impl Writable for Duration {
+    ghost always_writable = { λ s v h. tt };
 }
 
 impl Plain for Duration {
     ghost one_length = { λ s v h.
         same-one_length _ _ (allowed-duration s (secs_of v) (nanos_of v)) (both-one_length _ _ (unsigned-spelled U64 8 (secs_of v) s h.0).one_length (unsigned-spelled U32 4 (nanos_of v) s (nanos_fit (nanos_of v) h.1)).one_length) };
-
-    ghost always_writable = { λ s v h. tt };
 
     ghost names_none = { λ e h. h };
 }

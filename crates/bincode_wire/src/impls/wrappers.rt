@@ -1,4 +1,4 @@
-use crate::laws::{Canonical, Exact, Plain};
+use crate::laws::{Canonical, Exact, Inhabited, Plain, Writable};
 use crate::parted::{Parted, SameParts};
 use crate::wire::Wire;
 use std::cmp::Reverse;
@@ -69,12 +69,20 @@ impl<T: Wire> Wire for Pointed<T> {
     ghost balanced = { T.balanced };
 
     ghost has_word = { λ s v. T.has_word s v.to };
+
+    ghost names_own = { T.names_own };
+}
+
+impl<T: Inhabited> Inhabited for Pointed<T> {
+    ghost some_word = { T.some_word };
+}
+
+impl<T: Writable> Writable for Pointed<T> {
+    ghost always_writable = { λ s v. T.always_writable s v.to };
 }
 
 impl<T: Plain> Plain for Pointed<T> {
     ghost one_length = { λ s v. T.one_length s v.to };
-
-    ghost always_writable = { λ s v. T.always_writable s v.to };
 
     ghost names_none = { T.names_none };
 }
@@ -86,7 +94,7 @@ impl<T: Exact> Exact for Pointed<T> {
 }
 
 impl<T: Canonical> Canonical for Pointed<T> {
-    ghost shortest = { λ s v. T.shortest s v.to };
+    ghost shortest = { λ s v w. T.shortest s v.to w.to };
 }
 
 impl<T: Wire> Parted for &T {

@@ -7,7 +7,7 @@ mod methods;
 ///
 /// It stands for the standard library's `Duration`, of which no contract knows that its nanoseconds are less than a
 /// second; each converts into the other.
-#[derive(Clone, Copy, Debug, PartialEq, Eq, PartialOrd, Ord, Hash)]
+#[derive(Clone, Copy, Debug)]
 pub struct Duration {
     secs: u64,
     nanos: u32,

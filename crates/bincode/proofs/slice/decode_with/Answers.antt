@@ -3,7 +3,7 @@ use Rattle.std.proofs.lemmas.Result.{IfOk-weaker}
 use Rattle.bincode.proofs.slice.decode_with.Goals as goal
 
 pub returns-clause-ok : goal.returns-clause-ok
-returns-clause-ok g c =
+returns-clause-ok g c = λ known.
     let same : c.reader-1.given.0 ≡ c.decode.new.decoder.reader.now = search rules in
     let h = rw (c.new-decoder.ensures.reader, c.new-decoder.ensures.charge, ← same) at c.decode.ensures.ok in
-    IfOk-weaker c.decode.result _ _ (λ v d. (_, d)) h
+    IfOk-weaker c.decode.result _ _ (λ v d. (_, d)) (h known)

@@ -3,9 +3,9 @@ use Rattle.bincode_base.proofs.Words.{digits-took, digits-failed, misreads-more}
 use Rattle.bincode_base.proofs.bytes.read_u128.Goals as goal
 
 pub returns-in_err-bytes-clause-err : goal.returns-in_err-bytes-clause-err
-returns-in_err-bytes-clause-err g c =
+returns-in_err-bytes-clause-err g c = λ known.
     let p = err_from_is_err_and c.from_residual.result c.from_residual.ensures.1 in
-    rw (p.1, p.2) (misreads-more _ _ _ _ _ _ _ _ _ (digits-failed _ _ _) c.in_err-bytes.ensures.err)
+    rw (p.1, p.2) (misreads-more _ _ _ _ _ _ _ _ _ (digits-failed _ _ _) (c.in_err-bytes.ensures.err known))
 
 pub returns-clause-ok : goal.returns-clause-ok
-returns-clause-ok g c = rw c.u128_of_bytes.ensures (digits-took _ _ _ _ _ c.in_ok-bytes.ensures.ok)
+returns-clause-ok g c = λ known. rw c.u128_of_bytes.ensures (digits-took _ _ _ _ _ (c.in_ok-bytes.ensures.ok known))

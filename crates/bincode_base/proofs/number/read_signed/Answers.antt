@@ -7,11 +7,11 @@ use Rattle.bincode_base.proofs.Words.{map-took, map-failed, misreads-more}
 use Rattle.bincode_base.proofs.number.read_signed.Goals as goal
 
 pub returns-in_err-n-clause-err : goal.returns-in_err-n-clause-err
-returns-in_err-n-clause-err g c =
+returns-in_err-n-clause-err g c = λ known.
     let p = err_from_is_err_and c.from_residual.result c.from_residual.ensures.1 in
-    rw (p.1, p.2) (misreads-more _ _ _ _ _ _ _ _ _ (map-failed _ _ _) c.in_err-n.ensures.err)
+    rw (p.1, p.2) (misreads-more _ _ _ _ _ _ _ _ _ (map-failed _ _ _) (c.in_err-n.ensures.err known))
 
 pub returns-clause-ok : goal.returns-clause-ok
-returns-clause-ok g c =
+returns-clause-ok g c = λ known.
     let fits : FitsSigned w128 c.integer_of.result = search rules in
-    map-took _ _ _ _ _ _ (to_z-of_z w128 c.integer_of.result fits ∙ c.integer_of.ensures) c.in_ok-n.ensures.ok
+    map-took _ _ _ _ _ _ (to_z-of_z w128 c.integer_of.result fits ∙ c.integer_of.ensures) (c.in_ok-n.ensures.ok known)

@@ -5,7 +5,7 @@ use Rattle.bincode_wire.specs.Decoding.{by_fault, by_memory}
 use Rattle.bincode_de.proofs.variants.NoOtherDecodeVariants.decode_part.Goals as goal
 
 pub returns-clause-err : goal.returns-clause-err
-returns-clause-err g c = elim c.unexpected.ensures [
+returns-clause-err g c = λ known. elim c.unexpected.ensures [
   | inl t ↦ by_fault _ (answer-refused _ _ _ _) (_, t.0, t.1, t.2) ([], refl)
   | inr m ↦ by_memory (inl m.0) m.1 ([], refl)
 ]
