@@ -1,7 +1,7 @@
 //! A struct of a user's own.
 
 use bincode::de::FromParts;
-use bincode::enc::{Encode, Encoder};
+use bincode::enc::{Encode, EncodeParts, Encoder};
 use bincode::error::EncodeError;
 use bincode::{Parted, SameParts};
 
@@ -28,12 +28,12 @@ impl SameParts<Parts> for Message {
     ghost same_parts = { λ v w e. Prim.search rules };
 }
 
-impl Encode for Message {
-    fn tell_valid(&self) {
+impl EncodeParts for Message {
+    fn tell_valid_parts(&self) {
         (self.kind, self.id, self.place, self.reply).tell_valid();
     }
 
-    fn encode<E: Encoder>(&self, encoder: &mut E) -> Result<(), EncodeError> {
+    fn encode_parts<E: Encoder>(&self, encoder: &mut E) -> Result<(), EncodeError> {
         (self.kind, self.id, self.place, self.reply).encode(encoder)
     }
 }

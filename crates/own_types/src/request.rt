@@ -1,7 +1,7 @@
 //! An enum of a user's own.
 
 use bincode::de::{FromParts, Named};
-use bincode::enc::{Encode, Encoder, encode_variant};
+use bincode::enc::{Encode, EncodeParts, Encoder, encode_variant};
 use bincode::error::EncodeError;
 use bincode::text::ShortText;
 use bincode::{NoOther, OneOf, Or, Parted};
@@ -27,8 +27,8 @@ impl Parted for Request {
     ] };
 }
 
-impl Encode for Request {
-    fn tell_valid(&self) {
+impl EncodeParts for Request {
+    fn tell_valid_parts(&self) {
         match self {
             Request::Ping => {}
             Request::Get { key } => (key,).tell_valid(),
@@ -36,7 +36,7 @@ impl Encode for Request {
         }
     }
 
-    fn encode<E: Encoder>(&self, encoder: &mut E) -> Result<(), EncodeError> {
+    fn encode_parts<E: Encoder>(&self, encoder: &mut E) -> Result<(), EncodeError> {
         match self {
             Request::Ping => encode_variant(self, 0, &(), encoder),
             Request::Get { key } => encode_variant(self, 1, &(key,), encoder),
