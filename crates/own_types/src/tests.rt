@@ -1,3 +1,4 @@
+//! What comes of a user's own types, written and read.
 use crate::message::Message;
 use crate::request::Request;
 use bincode::de::Decode;

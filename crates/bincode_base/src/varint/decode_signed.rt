@@ -1,3 +1,4 @@
+//! Signed numbers, read by zigzag.
 ghost use Rattle.std.specs.Prelude.{◌≡◌, ◌≤◌, [], IfOk, IfErr};
 ghost use Rattle.bincode_base.specs.Number.{unzigzag, FitsIn};
 ghost use Rattle.bincode_base.specs.Format.{Took, map_format};

@@ -1,3 +1,4 @@
+//! Signed numbers, written by zigzag.
 ghost use Rattle.std.specs.Prelude.{◌≡◌, OnOk, IfErr};
 ghost use Rattle.bincode_base.specs.Number.{zigzag};
 ghost use Rattle.bincode_base.specs.Integers.{shortest, shortest_pieces};

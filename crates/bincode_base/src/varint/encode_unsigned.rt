@@ -1,3 +1,4 @@
+//! Unsigned numbers, written in their shortest spelling.
 ghost use Rattle.std.specs.Prelude.{◌≡◌, [], ◌∷◌, OnOk, IfErr};
 ghost use Rattle.bincode_base.specs.Integers.{shortest, shortest_pieces};
 ghost use Rattle.bincode_base.specs.Device.{StopsAmong};

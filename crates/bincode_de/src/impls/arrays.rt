@@ -1,3 +1,4 @@
+//! Decoding of arrays.
 use crate::arrays::decode_array;
 use crate::decode::Decode;
 use crate::decoder::Decoder;

@@ -1,3 +1,4 @@
+//! Decoding of cells.
 use crate::decode::Decode;
 use crate::decoder::Decoder;
 use bincode_base::error::DecodeError;

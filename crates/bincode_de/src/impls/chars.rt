@@ -1,3 +1,4 @@
+//! Decoding of characters.
 ghost use Rattle.std.specs.Prelude.{◌≡◌, ◌≤◌, [], Some, IfOk, IfErr};
 ghost use Rattle.bincode_base.specs.Format.{Took, charged};
 ghost use Rattle.bincode_base.specs.Reads.{Misreads};

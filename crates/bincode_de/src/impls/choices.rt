@@ -1,3 +1,4 @@
+//! Decoding of truth values, `Option`, `Result` and `Bound`.
 ghost use Rattle.std.specs.Prelude.{◌≡◌, ◌≤◌, IfOk, IfErr};
 ghost use Rattle.bincode_wire.specs.Meaning.{IsTruth};
 ghost use Rattle.bincode_wire.specs.Words.{truth};

@@ -1,3 +1,4 @@
+//! Decoding of integers other than 0.
 #![tactic(auto, using(crate::proofs::NotZero::by_not_zero))]
 
 ghost use Rattle.std.specs.Prelude.{◌≡◌, ok_or};

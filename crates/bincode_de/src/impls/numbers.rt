@@ -1,3 +1,4 @@
+//! Decoding of integers.
 #![tactic(auto, using(crate::proofs::Casts::by_number))]
 
 ghost use Rattle.std.specs.Prelude.{◌≡◌, ◌<◌, ◌≤◌, ◌^◌, [], IfOk, IfErr};

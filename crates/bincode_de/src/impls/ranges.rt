@@ -1,3 +1,4 @@
+//! Decoding of ranges.
 use crate::from_parts::FromParts;
 use bincode_wire::wire::Wire;
 use std::ops::{Range, RangeInclusive};

@@ -1,3 +1,4 @@
+//! Decoding of spans of time.
 use crate::decode::Decode;
 use crate::decoder::Decoder;
 use crate::impls::numbers::decode_unsigned;

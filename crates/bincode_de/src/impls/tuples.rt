@@ -1,3 +1,4 @@
+//! Decoding of tuples.
 use crate::decode::Decode;
 use crate::decoder::Decoder;
 use crate::from_parts::FromParts;

@@ -1,3 +1,4 @@
+//! Decoding of wrappers.
 use crate::from_parts::FromParts;
 use bincode_wire::wire::Wire;
 use std::cmp::Reverse;

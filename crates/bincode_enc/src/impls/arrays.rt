@@ -1,3 +1,4 @@
+//! Encoding of arrays.
 use crate::encode::Encode;
 use crate::encoder::Encoder;
 use bincode_base::error::EncodeError;

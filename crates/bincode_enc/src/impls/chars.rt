@@ -1,3 +1,4 @@
+//! Encoding of characters.
 use crate::encode::Encode;
 use crate::encoder::{Encoder, write_from};
 use bincode_base::error::EncodeError;

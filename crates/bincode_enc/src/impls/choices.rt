@@ -1,3 +1,4 @@
+//! Encoding of truth values, `Option`, `Result` and `Bound`.
 use crate::encode::Encode;
 use crate::encode_parts::EncodeParts;
 use crate::encoder::{Encoder, write_from};

@@ -1,3 +1,4 @@
+//! Encoding of integers other than 0.
 ghost use Rattle.std.specs.Prelude.{◌≡◌, ◌<◌, ◌^◌, pos, unsigned_abs, FitsSigned, OnOk, IfErr};
 ghost use Rattle.std.specs.Int.{w8};
 ghost use Rattle.bincode_base.specs.declared.error.IntegerType.{IntegerType as Name};

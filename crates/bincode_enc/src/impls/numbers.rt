@@ -1,3 +1,4 @@
+//! Encoding of integers.
 ghost use Rattle.std.specs.Prelude.{◌≡◌, ◌<◌, ◌^◌, pos, OnOk, IfErr};
 ghost use Rattle.bincode_base.specs.declared.error.IntegerType.{IntegerType as Name};
 ghost use Rattle.bincode_base.specs.Integers.{unsigned, signed};

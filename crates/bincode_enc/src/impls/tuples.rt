@@ -1,3 +1,4 @@
+//! Encoding of tuples.
 use crate::encode::Encode;
 use crate::encode_parts::EncodeParts;
 use crate::encoder::Encoder;

@@ -1,3 +1,4 @@
+//! Encoding of wrappers and references.
 use crate::encode::Encode;
 use crate::encode_parts::EncodeParts;
 use crate::encoder::Encoder;

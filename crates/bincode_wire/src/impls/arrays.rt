@@ -1,3 +1,4 @@
+//! The words of arrays.
 ghost use Rattle.std.specs.Prelude.{◌≡◌, ◌*◌, ◌-◌, ◌^◌, ◌⊎◌, min, length};
 ghost use Rattle.std.specs.List.{All};
 ghost use Rattle.std.proofs.lemmas.List.Elements.{All-weaker};

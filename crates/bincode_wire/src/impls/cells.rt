@@ -1,3 +1,4 @@
+//! The words of cells.
 ghost use Rattle.std.specs.Prelude.{◌⊎◌};
 ghost use Rattle.bincode_base.specs.Format.{of_cell};
 ghost use Rattle.bincode_wire.specs.Cells.{IsAny, IsBorrowed, IsHeld};

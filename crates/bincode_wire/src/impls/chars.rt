@@ -1,3 +1,4 @@
+//! The words of characters.
 ghost use Rattle.bincode_wire.specs.CharLaws.{characters, same_character};
 
 use crate::parted::{Parted, SameParts};

@@ -1,3 +1,4 @@
+//! The words of truth values, `Option`, `Result` and `Bound`.
 ghost use Rattle.std.specs.Prelude.{refl};
 ghost use Rattle.bincode_wire.specs.AllowedLaws.{same_truth};
 ghost use Rattle.bincode_wire.specs.Forms.{truths};

@@ -1,3 +1,4 @@
+//! The words of spans of time.
 ghost use Rattle.std.specs.Prelude.{◌≡◌, ◌<◌, ◌^◌, ◌++◌, pos, refl};
 ghost use Rattle.bincode_base.specs.declared.error.IntegerType.TheVariants.{U32, U64};
 ghost use Rattle.bincode_wire.specs.Meaning.{IsNumber, IsThen, IsNothing};

@@ -1,3 +1,4 @@
+//! The words of tuples.
 ghost use Rattle.std.proofs.Common.{rules};
 
 use crate::laws::Exact;

@@ -1,3 +1,4 @@
+//! The words of wrappers and references.
 use crate::laws::{Canonical, Exact, Inhabited, Plain, Writable};
 use crate::parted::{Parted, SameParts};
 use crate::wire::Wire;
