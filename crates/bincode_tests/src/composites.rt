@@ -223,6 +223,13 @@ fn reserves_for_arrays(rt: HostRuntime) {
     assert!(rt; matches!(refused, Err(DecodeError::LimitExceeded)));
     let read = within::<[u16; 2], 4>(alloc, &[5, 6]);
     assert!(rt; matches!(read, Ok((_, 2))));
+    keeps_under(
+        &rt,
+        alloc,
+        config::standard().with_limit::<4>(),
+        [5u16, 6],
+        &[5, 6],
+    );
 }
 
 /// Two choices claim 10 bytes, which the limit has to allow before the first is read.
