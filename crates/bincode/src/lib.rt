@@ -14,7 +14,6 @@ mod slice;
 pub use bincode_base::{config, error, text, varint};
 pub use bincode_de::decode::Decode;
 pub use bincode_enc::encode::Encode;
-pub use bincode_wire as model;
 pub use bincode_wire::laws;
 pub use bincode_wire::own::time;
 pub use bincode_wire::parted::{Parted, SameParts};

@@ -1,2 +1,3 @@
 pub mod StdBytes
+pub mod Shown
 pub mod Words

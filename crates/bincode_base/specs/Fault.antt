@@ -1,14 +1,12 @@
 -- The faults of an input, by what is claimed of them, and the errors that tell them.
-use Rattle.std.specs.Prelude.{◌≡◌, ℕ, List, Option, Some, None, string_bytes}
+use Rattle.std.specs.Prelude.{◌≡◌, ℕ, List, Option, Some, None, Box, string_bytes}
 use Rattle.std.specs.declared.string.String.{String}
 use Rattle.std.specs.declared.vec.Vec.{Vec}
 use Rattle.std.specs.declared.alloc.Global.{Global}
 use Rattle.std.specs.declared.str.Utf8Error.{Utf8Error}
-use Rattle.bincode_base.specs.declared.text.ShortText.{ShortText}
+use Rattle.bincode_base.specs.declared.text.Text.{Text}
 use Rattle.bincode_base.specs.declared.error.IntegerType.{IntegerType}
 use Rattle.bincode_base.specs.declared.error.IntegerType.TheVariants.{U8, U16, U32, U64, U128, Usize, I8, I16, I32, I64, I128, Isize}
-use Rattle.bincode_base.specs.declared.error.AllowedEnumVariants.{AllowedEnumVariants}
-use Rattle.bincode_base.specs.declared.error.AllowedEnumVariants.TheVariants.{Range, Allowed as Tags}
 use Rattle.bincode_base.specs.declared.error.DecodeError.{DecodeError}
 use Rattle.bincode_base.specs.declared.error.DecodeError.TheVariants as errors
 use Rattle.bincode_base.specs.Text.{text_bytes}
@@ -50,15 +48,15 @@ IsEnd (LengthMismatch _ _) = ⊥
 IsEnd EmptyEnum = ⊥
 IsEnd (OutsideUsize _) = ⊥
 
--- these are the tags that a fault lists
-abbrev pub ListsTags : Allowed → AllowedEnumVariants → Type 0
-ListsTags (Between min max) listed = listed ≡ Range min max
-ListsTags (OneOf tags) listed = (v : Vec ℕ Global) × (listed ≡ Tags v) × (v.items ≡ tags)
+-- a type of this name has no variant of this tag, and has these
+abbrev pub TellsTag : Text 10 → Allowed → ℕ → DecodeError → Type 0
+TellsTag name (Between min max) found e = e ≡ errors.UnexpectedVariant name found min max
+TellsTag name (OneOf tags) found e = (listed : Box (Vec ℕ Global) Global) × (e ≡ errors.UnlistedVariant name found listed) × (listed.value.items ≡ tags)
 
 -- an error of a user's type, with this text
 pub data IsOther (text : List ℕ) (e : DecodeError) : Type 0 where
-  short : (t : ShortText) → e ≡ errors.Other t → text_bytes t ≡ text → IsOther text e
-  long : (t : String Global) → e ≡ errors.OtherString t → string_bytes t ≡ text → IsOther text e
+  short : (t : Text 22) → e ≡ errors.Other t → text_bytes t ≡ text → IsOther text e
+  long : (t : Box (String Global) Global) → e ≡ errors.OtherString t → string_bytes t.value ≡ text → IsOther text e
 
 -- The error that tells a fault. What a reader answers where so many bytes are missing is `ended`.
 abbrev pub Tells : (ℕ → DecodeError → Type 0) → Fault → DecodeError → Type 0
@@ -66,7 +64,7 @@ Tells ended (End (Some missing)) e = ended missing e
 Tells ended (End None) e = (missing : ℕ) × ended missing e
 Tells ended (InvalidInteger expected found) e = e ≡ errors.InvalidIntegerType expected found
 Tells ended (Zero name) e = e ≡ errors.NonZeroTypeIsZero name
-Tells ended (UnexpectedVariant allowed found) e = (name : ShortText) × (listed : AllowedEnumVariants) × (e ≡ errors.UnexpectedVariant found name listed) × ListsTags allowed listed
+Tells ended (UnexpectedVariant allowed found) e = (name : Text 10) × TellsTag name allowed found e
 Tells ended Utf8 e = (inner : Utf8Error) × (e ≡ errors.Utf8 inner)
 Tells ended (InvalidChar bytes) e = e ≡ errors.InvalidCharEncoding bytes
 Tells ended (InvalidBool byte) e = e ≡ errors.InvalidBooleanValue byte
@@ -74,7 +72,7 @@ Tells ended (InvalidDuration seconds nanos) e = e ≡ errors.InvalidDuration sec
 Tells ended (NulAt place) e = e ≡ errors.CStringNulError place
 Tells ended (Other text) e = IsOther text e
 Tells ended (LengthMismatch required found) e = e ≡ errors.ArrayLengthMismatch required found
-Tells ended EmptyEnum e = (name : ShortText) × (e ≡ errors.EmptyEnum name)
+Tells ended EmptyEnum e = (name : Text 22) × (e ≡ errors.EmptyEnum name)
 Tells ended (OutsideUsize n) e = e ≡ errors.OutsideUsizeRange n
 
 -- the name of the signed type of the same width

@@ -1,12 +1,12 @@
 -- What a slice reader has left, and what a slice writer has written.
-use Rattle.std.specs.Prelude.{ℕ, List}
+use Rattle.std.specs.Prelude.{ℕ, List, drop}
 use Rattle.std.specs.Borrow.{GName}
 use Rattle.bincode_base.specs.declared.read.SliceReader.{SliceReader}
 use Rattle.bincode_base.specs.declared.write.SliceWriter.{SliceWriter}
 
 -- the bytes that are left
 abbrev pub left_of : SliceReader → List ℕ
-left_of r = r.slice.now
+left_of r = drop r.taken r.slice.now
 
 -- all bytes of the slice
 abbrev pub bytes_of : SliceWriter → List ℕ

@@ -1,8 +1,9 @@
 -- What a stream of `std::io` tells of the bytes that are left, and what its reader answers.
-use Rattle.std.specs.Prelude.{◌≡◌, ℕ, List, [], Option, Some, None, ⊤}
+use Rattle.std.specs.Prelude.{◌≡◌, ◌⊎◌, Box, ℕ, List, [], Option, Some, None, ⊤}
+use Rattle.std.specs.declared.alloc.Global.{Global}
 use Rattle.std.specs.declared.io.Error.{Error}
 use Rattle.bincode_base.specs.declared.error.DecodeError.{DecodeError}
-use Rattle.bincode_base.specs.declared.error.DecodeError.TheVariants.{Io}
+use Rattle.bincode_base.specs.declared.error.DecodeError.TheVariants.{Io, Memory}
 use Rattle.bincode_base.specs.Device.{DeviceErrors}
 use Rattle.bincode_base.specs.declared.io_read.IoReader.{IoReader}
 use Rattle.bincode_base.specs.declared.io_read.LentIoReader.{LentIoReader}
@@ -27,12 +28,16 @@ lent_stream r = r.stream.now
 
 -- an error of the stream, or of its end
 abbrev pub IsIo : DecodeError → Type 0
-IsIo e = (inner : Error) × (additional : ℕ) × (e ≡ Io inner additional)
+IsIo e = (inner : Box Error Global) × (additional : ℕ) × (e ≡ Io inner additional)
+
+-- such an error, or the memory to tell it was refused
+abbrev pub FailsStream : DecodeError → Type 0
+FailsStream e = IsIo e ⊎ (e ≡ Memory)
 
 -- it may come at any call, and is not counted
 abbrev pub stream_errors : DeviceErrors
-stream_errors = record { counted = λ _. ⊥; uncounted = IsIo }
+stream_errors = record { counted = λ _. ⊥; uncounted = FailsStream }
 
 -- the stream ended with so many bytes missing
 abbrev pub EndsShort : ℕ → DecodeError → Type 0
-EndsShort missing e = (inner : Error) × (e ≡ Io inner missing)
+EndsShort missing e = (inner : Box Error Global) × (e ≡ Io inner missing)

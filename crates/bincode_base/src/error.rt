@@ -2,8 +2,9 @@
 ghost use Rattle.std.specs.Prelude.{◌≡◌};
 ghost use Rattle.bincode_base.specs.Fault.{signed_name, signed_error};
 
-use crate::text::ShortText;
+use crate::text::{ShortText, TypeName};
 use std::error::Error;
+use std::mem::size_of;
 use std::str::Utf8Error;
 use std::{fmt, io};
 
@@ -25,7 +26,7 @@ pub enum EncodeError {
     /// A std writer failed.
     Io {
         /// What it answered.
-        inner: io::Error,
+        inner: Box<io::Error>,
         /// How many bytes were written before.
         index: usize,
     },
@@ -36,7 +37,7 @@ pub enum EncodeError {
     /// Another cause, by a short text: for users' types.
     Other(ShortText),
     /// Another cause, by a text: for users' types.
-    OtherString(String),
+    OtherString(Box<String>),
 }
 
 /// Why bytes could not be decoded.
@@ -61,14 +62,25 @@ pub enum DecodeError {
         /// The type of the number.
         non_zero_type: IntegerType,
     },
-    /// A tag that no variant has.
+    /// A tag that no variant has, where theirs are all from `min` to `max`, with both.
     UnexpectedVariant {
+        /// The type that was read.
+        type_name: TypeName,
         /// The tag.
         found: u32,
+        /// The first tag of a variant.
+        min: u32,
+        /// The last tag of a variant.
+        max: u32,
+    },
+    /// A tag that no variant has, where theirs are listed.
+    UnlistedVariant {
         /// The type that was read.
-        type_name: ShortText,
+        type_name: TypeName,
+        /// The tag.
+        found: u32,
         /// The tags that its variants have.
-        allowed: AllowedEnumVariants,
+        allowed: Box<Vec<u32>>,
     },
     /// The bytes of a text are no UTF-8.
     Utf8 {
@@ -108,7 +120,7 @@ pub enum DecodeError {
     /// A std reader failed or ended where more bytes were expected.
     Io {
         /// What it answered.
-        inner: io::Error,
+        inner: Box<io::Error>,
         /// By how many bytes the read fell short.
         additional: usize,
     },
@@ -117,17 +129,13 @@ pub enum DecodeError {
     /// Another cause, by a short text: for users' types.
     Other(ShortText),
     /// Another cause, by a text: for users' types.
-    OtherString(String),
+    OtherString(Box<String>),
 }
 
-/// The tags that the variants of an enum have.
-#[derive(Debug, Drop, PartialEq, Eq)]
-pub enum AllowedEnumVariants {
-    /// All from `min` to `max`, with both.
-    Range { min: u32, max: u32 },
-    /// Each of these.
-    Allowed(Vec<u32>),
-}
+// A result stays in memory wherever a call is not inlined, and an error is its largest part.
+const _: () = prove!(size_of::<EncodeError>() <= 24);
+
+const _: () = prove!(size_of::<DecodeError>() <= 24);
 
 /// The integer types by name.
 #[derive(Clone, Copy, Debug, PartialEq, Eq)]

@@ -3,10 +3,11 @@ ghost use Rattle.std.specs.Prelude.{◌≡◌, ◌<◌, ◌≤◌, List, ℕ, []
 ghost use Rattle.std.proofs.Common.{zero-le, inr};
 ghost use Rattle.std.specs.Io.{ReadsAtMost};
 ghost use Rattle.std.specs.Io.KnownBytes.{Consumes, IsAtEnd, Keeps};
-ghost use Rattle.bincode_base.specs.Stream.{TellsBytes, known, EndsShort, IsIo, stream_errors};
+ghost use Rattle.bincode_base.specs.Stream.{TellsBytes, known, EndsShort, FailsStream, stream_errors};
 
 use crate::error::DecodeError;
 use crate::read::Reader;
+use std::alloc::Global;
 use std::io;
 use std::io::{ErrorKind, Read};
 
@@ -26,54 +27,63 @@ fn read_some<R: Read>(stream: &mut R, bytes: &mut [u8]) -> io::Result<usize>
     stream.read(bytes)
 }
 
-/// Fills all of `bytes` from a stream. Fails with `Io` where the stream fails or ends before; the stream is then behind
-/// what it gave, which is lost.
-fn fill<R: Read>(stream: &mut R, bytes: &mut [u8]) -> Result<(), DecodeError>
+/// The error of a stream that failed with so many bytes missing: `Io`, or `Memory` where none is left to hold its cause.
+#[cold]
+fn failure(alloc: Global, cause: io::Error, additional: usize) -> DecodeError
+    ensures { FailsStream result }
+{
+    match Box::new(alloc, cause) {
+        Ok(inner) => DecodeError::Io { inner, additional },
+        Err(_) => DecodeError::Memory,
+    }
+}
+
+/// Fills all of `bytes` from a stream. Fails with `Io` where the stream fails or ends before, or with `Memory` where its
+/// error finds none; the stream is then behind what it gave, which is lost.
+fn fill<R: Read>(alloc: Global, stream: &mut R, bytes: &mut [u8]) -> Result<(), DecodeError>
     ensures ok { OnOk result (Consumes (R.remaining stream.old) (R.remaining stream.new) bytes.new) }
-    ensures err { IfErr result IsIo }
+    ensures err { IfErr result FailsStream }
     ensures told { TellsBytes (R.remaining stream.old) → TellsBytes (R.remaining stream.new) }
 {
     let mut at = 0;
     while at < bytes.len() {
         match read_some(stream, &mut bytes[at..]) {
             Ok(0) => {
-                return Err(DecodeError::Io {
-                    inner: io::Error::from(ErrorKind::UnexpectedEof),
-                    additional: bytes.len() - at,
-                });
+                let cause = io::Error::from(ErrorKind::UnexpectedEof);
+                return Err(failure(alloc, cause, bytes.len() - at));
             }
             Ok(n) => at += n,
-            Err(e) => {
-                return Err(DecodeError::Io {
-                    inner: e,
-                    additional: bytes.len() - at,
-                });
-            }
+            Err(cause) => return Err(failure(alloc, cause, bytes.len() - at)),
         }
     }
     Ok(())
 }
 
-/// A reader of a stream. It shows nothing, and fails with `Io`, also where the stream ends. A stream that does not tell its
-/// bytes, as a file or the standard input, is read alike, but nothing is promised of the bytes.
+/// A reader of a stream. It shows nothing, and fails with `Io`, also where the stream ends, or with `Memory` where its
+/// error finds none. A stream that does not tell its bytes, as a file or the standard input, is read alike, but nothing is
+/// promised of the bytes.
 pub struct IoReader<R> {
     stream: R,
+    alloc: Global,
 }
 
 impl<R: Drop> Drop for IoReader<R> {
     fn drop(self) {
-        let IoReader { stream: _ } = self;
+        let IoReader {
+            stream: _,
+            alloc: _,
+        } = self;
     }
 }
 
 impl<R: Read> IoReader<R> {
     ghost use Rattle.bincode_base.specs.Stream.{stream_of};
 
-    /// A reader of this stream.
-    pub fn new(stream: R) -> IoReader<R>
+    /// A reader of this stream, whose errors are held on the heap.
+    pub fn new(alloc: Global, stream: R) -> IoReader<R>
         ensures { stream_of result ≡ stream }
     {
-        IoReader { stream }
+        IoReader { stream, alloc }
     }
 }
 
@@ -95,7 +105,7 @@ impl<R: Read + Drop> Reader for IoReader<R> {
     ghost place = { λ _. [] };
 
     fn read(&mut self, bytes: &mut [u8]) -> Result<(), DecodeError> {
-        fill(&mut self.stream, bytes)
+        fill(self.alloc, &mut self.stream, bytes)
     }
 
     fn peek_read(&mut self, _n: usize) -> Option<&[u8]> {
@@ -112,25 +122,29 @@ impl<R: Read + Drop> Reader for IoReader<R> {
 /// A reader of a stream that is lent: `IoReader`, whose stream is known to its lender afterwards.
 pub struct LentIoReader<'a, R> {
     stream: &'a mut R,
+    alloc: Global,
 }
 
 impl<R> Drop for LentIoReader<'_, R> {
     fn drop(self)
         ensures { self.exit.0.now ≡ self.entry.stream.now }
     {
-        let LentIoReader { stream: _ } = self;
+        let LentIoReader {
+            stream: _,
+            alloc: _,
+        } = self;
     }
 }
 
 impl<'a, R: Read> LentIoReader<'a, R> {
     ghost use Rattle.bincode_base.specs.Stream.{lent_stream};
 
-    /// A reader of this stream.
-    pub fn new(stream: &'a mut R) -> LentIoReader<'a, R>
+    /// A reader of this stream, whose errors are held on the heap.
+    pub fn new(alloc: Global, stream: &'a mut R) -> LentIoReader<'a, R>
         ensures place { ⟦<LentIoReader<'a, R> as Reader>⟧.place result ≡ stream.entry.ghost_name ∷ [] }
         ensures stream { lent_stream result ≡ stream.old }
     {
-        LentIoReader { stream }
+        LentIoReader { stream, alloc }
     }
 }
 
@@ -152,7 +166,7 @@ impl<R: Read> Reader for LentIoReader<'_, R> {
     ghost place = { λ r. r.stream.ghost_name ∷ [] };
 
     fn read(&mut self, bytes: &mut [u8]) -> Result<(), DecodeError> {
-        fill(self.stream, bytes)
+        fill(self.alloc, self.stream, bytes)
     }
 
     fn peek_read(&mut self, _n: usize) -> Option<&[u8]> {

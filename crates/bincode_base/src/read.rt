@@ -67,14 +67,16 @@ pub trait Reader: Drop {
     ghost ended_is: { (missing : ℕ) (e : DecodeError) → ended missing e → IsEndError missing e };
 }
 
-/// A reader of a slice.
+/// A reader of a slice, which it keeps whole: it counts what it took.
 pub struct SliceReader<'s> {
     slice: &'s [u8],
+    taken: usize,
+    ghost within: { taken ≤ length slice.now },
 }
 
 impl Drop for SliceReader<'_> {
     fn drop(self) {
-        let SliceReader { slice: _ } = self;
+        let SliceReader { slice: _, taken: _ } = self;
     }
 }
 
@@ -85,14 +87,17 @@ impl<'s> SliceReader<'s> {
     pub fn new(bytes: &'s [u8]) -> SliceReader<'s>
         ensures { left_of result ≡ bytes.now }
     {
-        SliceReader { slice: bytes }
+        SliceReader {
+            slice: bytes,
+            taken: 0,
+        }
     }
 
     /// How many bytes are left.
     pub fn bytes_left(&self) -> usize
         ensures { result ≡ length (left_of self.now) }
     {
-        self.slice.len()
+        self.slice.len() - self.taken
     }
 }
 
@@ -121,15 +126,14 @@ impl Reader for SliceReader<'_> {
         ensures why { IfErr result (λ e. FallsShort (λ missing d. d ≡ UnexpectedEnd missing) (left_of self.old) (length bytes.old) e) }
         ensures left { OnErr result (left_of self.new ≡ left_of self.old) }
     {
-        let left = self.slice.len();
-        if left < bytes.len() {
+        let left = &self.slice[self.taken..];
+        if left.len() < bytes.len() {
             return Err(DecodeError::UnexpectedEnd {
-                additional: bytes.len() - left,
+                additional: bytes.len() - left.len(),
             });
         }
-        let (front, rest) = self.slice.split_at(bytes.len());
-        bytes.copy_from_slice(front);
-        self.slice = rest;
+        bytes.copy_from_slice(&left[..bytes.len()]);
+        self.taken += bytes.len();
         Ok(())
     }
 
@@ -141,11 +145,11 @@ impl Reader for SliceReader<'_> {
             Unmoved ⊤ ⊤ (left_of self.old) (left_of after) 0 0 [] []
             × IfSome result (λ _. n ≤ length (left_of after)))) }
     {
-        self.slice.get(..n)
+        self.slice[self.taken..].get(..n)
     }
 
     fn consume(&mut self, n: usize) {
-        self.slice = &self.slice[n..];
+        self.taken += n;
     }
 
     ghost shown_left = { λ r _. le_refl (length (left_of r)) };

@@ -5,4 +5,5 @@ pub mod Tagged
 pub mod Rewritten
 pub mod Spans
 pub mod Unwrapped
-pub mod Runs
+pub mod Rooms
+pub mod Bytes

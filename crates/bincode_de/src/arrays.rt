@@ -9,6 +9,7 @@ ghost use Rattle.bincode_wire.specs.Run.{IsListOf, CanRelease, Held, RoomReturne
 
 use crate::decode::Decode;
 use crate::decoder::Decoder;
+use crate::runs::{blank_array, decode_run};
 use bincode_base::error::DecodeError;
 use bincode_slots::{empty_slots, slots_fit, unwrap_all};
 use bincode_wire::wire::Wire;
@@ -51,6 +52,28 @@ fn decode_into<Context: Drop, T: Decode<Context>, D: Decoder<Context = Context>,
     Ok(unwrap_all(slots))
 }
 
+/// Reads the elements over blank ones.
+#[inline]
+fn decode_over_blanks<
+    Context: Drop,
+    T: Decode<Context>,
+    D: Decoder<Context = Context>,
+    const N: usize,
+>(decoder: &mut D) -> Result<[T; N], DecodeError>
+    requires blank { T.has_blank }
+    requires room { CanRelease D.C.bound (D.charge decoder.old) (N * T.claim) }
+    ensures ok { D.told decoder.old → IfOk result (λ v. Decodes (λ ms. IsListOf (λ x m. T.given m x) v (listed ms)) (answer D.C.bound (elements N T.claim (T.format D.C.setting)) (D.rest decoder.old) (D.charge decoder.old)) (D.rest decoder.new) (D.charge decoder.new)) }
+    ensures err { D.told decoder.old → IfErr result (Stops D.R.ended D.R.device T.grows (answer D.C.bound (elements N T.claim (T.format D.C.setting)) (D.rest decoder.old) (D.charge decoder.old)) (D.failures decoder.old) (D.failures decoder.new) (D.rest decoder.old) (D.rest decoder.new)) }
+    ensures count { D.failures decoder.old ≤ D.failures decoder.new }
+    ensures told { D.told decoder.old → D.told decoder.new }
+    ensures held { Held D.C.bound (N * T.claim) (D.charge decoder.old) (D.charge decoder.new) }
+    ensures place { D.place decoder.new ≡ D.place decoder.old }
+{
+    let mut values = blank_array::<Context, T, N>();
+    decode_run(decoder, &mut values[..])?;
+    Ok(values)
+}
+
 /// Reads `N` elements in turn, whose room `claim_container_read` has reserved, and releases each one's share before it. So
 /// the charge at the end is that at the start, with the full widths of the elements in place of their room.
 /// Fails where an element does, or with `Memory` where `N` slots of `Option<T>` can't exist (`slots_fit`).
@@ -69,6 +92,9 @@ pub fn decode_array<
     ensures held { Held D.C.bound (N * T.claim) (D.charge decoder.old) (D.charge decoder.new) }
     ensures place { D.place decoder.new ≡ D.place decoder.old }
 {
+    if T::blank().is_some() {
+        return decode_over_blanks(decoder);
+    }
     if !slots_fit::<T, N>() {
         return Err(DecodeError::Memory);
     }

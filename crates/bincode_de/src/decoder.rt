@@ -3,7 +3,8 @@ ghost use Rattle.std.specs.Prelude.{◌≡◌, ◌≤◌, ◌*◌, ◌∷◌, �
 ghost use Rattle.std.proofs.Common.{ap};
 ghost use Rattle.std.specs.Borrow.{GName, Lends, sem};
 ghost use Rattle.bincode_base.specs.declared.error.DecodeError.TheVariants.{LimitExceeded};
-ghost use Rattle.bincode_wire.specs.Answer.{Claimed, OverClaimed, unclaimed};
+ghost use Rattle.std.specs.Bool.{MatchBool};
+ghost use Rattle.bincode_wire.specs.Answer.{Allows, Claimed, OverClaimed, unclaimed};
 ghost use Rattle.bincode_wire.specs.Run.{CanRelease};
 
 use bincode_base::config::Config;
@@ -94,6 +95,10 @@ pub trait Decoder: Sealed {
         ensures context { context_of self.new ≡ context_of self.old }
         ensures place { place self.new ≡ place self.old };
 
+    /// Whether the charge is within the limit. After a claim that passed it, it may not be.
+    fn is_within_limit(&self) -> bool
+        ensures { MatchBool result (Allows Self.C.bound (charge self.now)) (¬ (Allows Self.C.bound (charge self.now))) };
+
     /// Takes `n` bytes off the charge, of those that a container claimed. Without a limit nothing is counted.
     fn unclaim_bytes_read(&mut self, n: usize)
         requires { CanRelease Self.C.bound (charge self.old) n }
@@ -177,6 +182,17 @@ fn claim_container(
         Some(n) => claim(limit, bytes_read, n),
         None if limit.is_none() => Ok(()),
         None => Err(DecodeError::LimitExceeded),
+    }
+}
+
+/// Whether the charge is within the limit.
+#[inline]
+fn is_within(limit: Option<usize>, bytes_read: usize) -> bool
+    ensures { MatchBool result (Allows limit bytes_read) (¬ (Allows limit bytes_read)) }
+{
+    match limit {
+        Some(limit) => bytes_read <= limit,
+        None => true,
     }
 }
 
@@ -282,6 +298,10 @@ impl<R: Reader, C: Config, Context: Drop> Decoder for DecoderImpl<R, C, Context>
             len,
             T::claim_size(),
         )
+    }
+
+    fn is_within_limit(&self) -> bool {
+        is_within(self.config.limit(), self.bytes_read)
     }
 
     fn unclaim_bytes_read(&mut self, n: usize) {
@@ -425,6 +445,10 @@ impl<R: Reader, C: Config, Context: Drop> Decoder for LentDecoder<'_, R, C, Cont
         )
     }
 
+    fn is_within_limit(&self) -> bool {
+        is_within(self.config.limit(), self.bytes_read)
+    }
+
     fn unclaim_bytes_read(&mut self, n: usize) {
         unclaim(self.config.limit(), &mut self.bytes_read, n);
     }
@@ -517,6 +541,10 @@ where
 
     fn claim_container_read<T: Wire>(&mut self, len: usize) -> Result<(), DecodeError> {
         (**self).claim_container_read::<T>(len)
+    }
+
+    fn is_within_limit(&self) -> bool {
+        (**self).is_within_limit()
     }
 
     fn unclaim_bytes_read(&mut self, n: usize) {

@@ -6,4 +6,5 @@ pub mod decode;
 pub mod decoder;
 pub mod from_parts;
 mod impls;
+pub mod runs;
 pub mod variants;

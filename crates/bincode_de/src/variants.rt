@@ -1,7 +1,7 @@
 //! Decoding of enums, variant by variant.
 ghost use Rattle.std.specs.Prelude.{◌≡◌, ◌⊎◌, ◌≤◌, ◌++◌, false, OnOk, IfOk, IfErr};
-ghost use Rattle.bincode_base.specs.Fault.{ListsTags};
-ghost use Rattle.bincode_base.specs.declared.error.DecodeError.TheVariants.{UnexpectedVariant, Memory};
+ghost use Rattle.bincode_base.specs.Fault.{TellsTag};
+ghost use Rattle.bincode_base.specs.declared.error.DecodeError.TheVariants.{Memory};
 ghost use Rattle.bincode_wire.specs.Words.{tags_of, in_order, last_of, allowed_tags, part};
 ghost use Rattle.bincode_wire.specs.Choices.{IsChoice};
 ghost use Rattle.bincode_wire.specs.Answer.{Gave, answer};
@@ -10,15 +10,15 @@ ghost use Rattle.bincode_wire.specs.Decoding.{Decodes, Stops};
 use crate::decode::Decode;
 use crate::decoder::Decoder;
 use crate::impls::numbers::{decode_byte, decode_unsigned};
-use bincode_base::error::{AllowedEnumVariants, DecodeError, IntegerType};
-use bincode_base::text::ShortText;
+use bincode_base::error::{DecodeError, IntegerType};
+use bincode_base::text::TypeName;
 use bincode_wire::sums::{NoOther, OneOf, Or, Tag, Variants};
 use bincode_wire::wire::Wire;
 use std::alloc::{AllocError, Global};
 
 /// A type that errors name.
 pub trait Named {
-    fn type_name() -> ShortText;
+    fn type_name() -> TypeName;
 }
 
 /// A type of tags that can be read.
@@ -93,30 +93,40 @@ impl<const TAG: u32, A: Wire, Others: Listed> Listed for Or<TAG, A, Others> {
     }
 }
 
-/// The error of a tag that none of `All` variants has: it takes memory for a list of tags that do not stand in order.
+/// The error of a tag that none of a type's `All` variants has: it takes memory for a list of tags that do not stand in
+/// order.
 #[cold]
-fn unexpected<All: Listed>(alloc: Global, found: u32, type_name: ShortText) -> DecodeError
-    ensures { ((listed : _) × (result ≡ UnexpectedVariant found type_name listed) × ListsTags (allowed_tags (tags_of All.variants)) listed) ⊎ ((in_order 0 (tags_of All.variants) ≡ false) × (result ≡ Memory)) }
+#[inline(never)]
+fn unexpected<Of: Named, All: Listed>(alloc: Global, found: u32) -> DecodeError
+    ensures { ((name : _) × TellsTag name (allowed_tags (tags_of All.variants)) found result) ⊎ ((in_order 0 (tags_of All.variants) ≡ false) × (result ≡ Memory)) }
 {
+    let type_name = Of::type_name();
     if All::are_in_order(0) {
         return DecodeError::UnexpectedVariant {
-            found,
             type_name,
-            allowed: AllowedEnumVariants::Range {
-                min: 0,
-                max: All::last_tag(0),
-            },
+            found,
+            min: 0,
+            max: All::last_tag(0),
         };
     }
-    let mut tags = Vec::new(alloc);
-    match All::push_tags(&mut tags) {
-        Ok(()) => DecodeError::UnexpectedVariant {
-            found,
+    match all_tags::<All>(alloc) {
+        Ok(allowed) => DecodeError::UnlistedVariant {
             type_name,
-            allowed: AllowedEnumVariants::Allowed(tags),
+            found,
+            allowed,
         },
         Err(_) => DecodeError::Memory,
     }
+}
+
+/// The list of the tags, on the heap.
+fn all_tags<All: Listed>(alloc: Global) -> Result<Box<Vec<u32>>, AllocError>
+    ensures { IfOk result (λ tags. tags.value.items ≡ tags_of All.variants) }
+{
+    let mut tags = Vec::new(alloc);
+    All::push_tags(&mut tags)?;
+    let boxed = Box::new(alloc, tags)?;
+    Ok(boxed)
 }
 
 /// Variants whose parts can be read, in a context.
@@ -141,7 +151,7 @@ impl<Context: Drop, Of: Named, T: Tag> DecodeVariants<Context> for NoOther<Of, T
         found: u32,
         decoder: &mut D,
     ) -> Result<Self, DecodeError> {
-        Err(unexpected::<All>(decoder.alloc(), found, Of::type_name()))
+        Err(unexpected::<Of, All>(decoder.alloc(), found))
     }
 }
 
@@ -174,5 +184,10 @@ where
         let found = Of::Tag::decode_tag(decoder)?;
         let of = Of::decode_part::<Of, D>(found, decoder)?;
         Ok(OneOf(of))
+    }
+
+    #[inline(always)]
+    fn blank() -> Option<Self> {
+        None
     }
 }

@@ -1,6 +1,7 @@
 //! What can be encoded.
-ghost use Rattle.std.specs.Prelude.{◌≡◌, OnOk, IfErr, length};
+ghost use Rattle.std.specs.Prelude.{◌≡◌, OnOk, IfErr, IfSome, length};
 ghost use Rattle.std.specs.List.{All};
+ghost use Rattle.bincode_base.specs.Setting.{Setting};
 ghost use Rattle.bincode_wire.specs.Words.{array};
 ghost use Rattle.bincode_wire.specs.Run.{IsListOf};
 ghost use Rattle.bincode_wire.specs.Allowed.{AllowedWord};
@@ -24,18 +25,13 @@ pub trait Encode: Wire + Drop {
         ensures err { IfErr result (Halts E.W.adds E.W.refuses (Ready (Self.writable E.C.setting self.now) (AllowedWord (Self.means self.now) (Self.format E.C.setting))) Self.names (E.writer_of encoder.old) (E.writer_of encoder.new)) }
         ensures place { E.place encoder.new ≡ E.place encoder.old };
 
-    /// Writes the items in turn, without a length. A type may write them otherwise, as long as the bytes are the same.
-    /// Fails where an item does, and then leaves what `encode` does: what was written before begins a word of the run.
-    fn encode_run<E: Encoder>(items: &[Self], encoder: &mut E) -> Result<(), EncodeError>
+    /// The bytes of a run of values, if the type's values are the bytes of their words: `encode_run` writes them in one
+    /// piece. Each other type answers `None`.
+    fn as_bytes(_items: &[Self]) -> Option<&[u8]>
     where
         Self: Sized,
-        ensures ok { OnOk result (Writes E.W.adds (AllowedWord (IsListOf Self.means items.now) (array (length items.now) Self.claim (Self.format E.C.setting))) (E.writer_of encoder.old) (E.writer_of encoder.new)) }
-        ensures err { IfErr result (Halts E.W.adds E.W.refuses (Ready (All (Self.writable E.C.setting) items.now) (AllowedWord (IsListOf Self.means items.now) (array (length items.now) Self.claim (Self.format E.C.setting)))) Self.names (E.writer_of encoder.old) (E.writer_of encoder.new)) }
-        ensures place { E.place encoder.new ≡ E.place encoder.old }
+        ensures { IfSome result (λ bytes. (s : Setting) → Ready (All (Self.writable s) _items.now) (AllowedWord (IsListOf Self.means _items.now) (array (length _items.now) Self.claim (Self.format s))) bytes.now) }
     {
-        for item in items {
-            item.encode(encoder)?;
-        }
-        Ok(())
+        None
     }
 }

@@ -9,7 +9,7 @@ use bincode_base::error::EncodeError;
 use bincode_wire::parted::Parted;
 
 /// A type whose values are written by their parts. It has `Encode` by this, and so have most types here that are made of
-/// others. An enum with type parameters has to go this way: `Encode::encode_run` of the enum itself would ask that the sum of
+/// others. An enum with type parameters has to go this way: `Encode::as_bytes` of the enum itself would ask that the sum of
 /// its variants takes less than 2^63 bytes, of which nothing is known for a parameter.
 pub trait EncodeParts: Parted + Drop {
     /// Says of the value in hand that its parts are valid.

@@ -5,4 +5,5 @@ pub mod encode;
 pub mod encode_parts;
 pub mod encoder;
 mod impls;
+pub mod runs;
 pub mod variants;

@@ -3,7 +3,7 @@ use Rattle.std.specs.Prelude.{◌≡◌, ◌⊎◌, ℕ, List, refl, Option, Som
 use Rattle.std.proofs.Common.{inl, inr}
 use Rattle.bincode_base.specs.declared.error.DecodeError.{DecodeError}
 use Rattle.bincode_base.specs.declared.error.DecodeError.TheVariants.{LimitExceeded, Memory}
-use Rattle.bincode_base.specs.Fault.{Fault, End, InvalidInteger, Zero, UnexpectedVariant, Utf8, InvalidChar, InvalidBool, InvalidDuration, NulAt, Other, LengthMismatch, EmptyEnum, OutsideUsize, short, long}
+use Rattle.bincode_base.specs.Fault.{Fault, End, InvalidInteger, Zero, UnexpectedVariant, Utf8, InvalidChar, InvalidBool, InvalidDuration, NulAt, Other, LengthMismatch, EmptyEnum, OutsideUsize, short, long, Between, OneOf}
 use Rattle.bincode_base.specs.Format.{Format}
 use Rattle.bincode_base.specs.Laws.{Lawful, Balanced}
 use Rattle.bincode_wire.specs.Meaning.{Meaning}
@@ -17,7 +17,8 @@ tells_none (End (Some missing)) e i h = cc
 tells_none (End None) e i h = let k = h.1 in cc
 tells_none (InvalidInteger expected found) e i h = cc
 tells_none (Zero name) e i h = cc
-tells_none (UnexpectedVariant allowed found) e i h = let k = h.2 in cc
+tells_none (UnexpectedVariant (Between min max) found) e i h = let k = h.1 in cc
+tells_none (UnexpectedVariant (OneOf tags) found) e i h = let k = h.1.1 in cc
 tells_none Utf8 e i h = let k = h.1 in cc
 tells_none (InvalidChar bytes) e i h = cc
 tells_none (InvalidBool byte) e i h = cc

@@ -63,160 +63,6 @@ pub fn read_number<C: Config>(
     read(alloc, src, config)
 }
 
-/// Reads a number other than 0, which takes no memory.
-pub fn read_number_other_than_zero<C: Config>(
-    alloc: Global,
-    src: &[u8],
-    config: C,
-) -> Result<(NonZeroU16, usize), DecodeError>
-    ensures { IfErr result (λ e. ¬ (e ≡ Memory)) }
-{
-    read(alloc, src, config)
-}
-
-/// Reads a truth value, which takes no memory.
-pub fn read_truth<C: Config>(
-    alloc: Global,
-    src: &[u8],
-    config: C,
-) -> Result<(bool, usize), DecodeError>
-    ensures { IfErr result (λ e. ¬ (e ≡ Memory)) }
-{
-    read(alloc, src, config)
-}
-
-/// Reads a character, which takes no memory.
-pub fn read_character<C: Config>(
-    alloc: Global,
-    src: &[u8],
-    config: C,
-) -> Result<(char, usize), DecodeError>
-    ensures { IfErr result (λ e. ¬ (e ≡ Memory)) }
-{
-    read(alloc, src, config)
-}
-
-/// Reads a tuple, which takes no memory.
-pub fn read_pair<C: Config>(
-    alloc: Global,
-    src: &[u8],
-    config: C,
-) -> Result<((u8, u32), usize), DecodeError>
-    ensures { IfErr result (λ e. ¬ (e ≡ Memory)) }
-{
-    read(alloc, src, config)
-}
-
-/// Reads an array whose slots fit, which takes no memory.
-pub fn read_array<C: Config>(
-    alloc: Global,
-    src: &[u8],
-    config: C,
-) -> Result<([u8; 4], usize), DecodeError>
-    ensures { IfErr result (λ e. ¬ (e ≡ Memory)) }
-{
-    read(alloc, src, config)
-}
-
-/// Reads a choice of one part or none, which takes no memory.
-pub fn read_option<C: Config>(
-    alloc: Global,
-    src: &[u8],
-    config: C,
-) -> Result<(Option<u32>, usize), DecodeError>
-    ensures { IfErr result (λ e. ¬ (e ≡ Memory)) }
-{
-    read(alloc, src, config)
-}
-
-/// Reads a choice of two parts, which takes no memory.
-pub fn read_result<C: Config>(
-    alloc: Global,
-    src: &[u8],
-    config: C,
-) -> Result<(Result<u8, u16>, usize), DecodeError>
-    ensures { IfErr result (λ e. ¬ (e ≡ Memory)) }
-{
-    read(alloc, src, config)
-}
-
-/// Reads a bound, which takes no memory.
-pub fn read_bound<C: Config>(
-    alloc: Global,
-    src: &[u8],
-    config: C,
-) -> Result<(Bound<u8>, usize), DecodeError>
-    ensures { IfErr result (λ e. ¬ (e ≡ Memory)) }
-{
-    read(alloc, src, config)
-}
-
-/// Reads a range, which takes no memory.
-pub fn read_range<C: Config>(
-    alloc: Global,
-    src: &[u8],
-    config: C,
-) -> Result<(Range<u16>, usize), DecodeError>
-    ensures { IfErr result (λ e. ¬ (e ≡ Memory)) }
-{
-    read(alloc, src, config)
-}
-
-/// Reads a range with its end, which takes no memory.
-pub fn read_inclusive_range<C: Config>(
-    alloc: Global,
-    src: &[u8],
-    config: C,
-) -> Result<(RangeInclusive<u16>, usize), DecodeError>
-    ensures { IfErr result (λ e. ¬ (e ≡ Memory)) }
-{
-    read(alloc, src, config)
-}
-
-/// Reads a number that wraps, which takes no memory.
-pub fn read_wrapping<C: Config>(
-    alloc: Global,
-    src: &[u8],
-    config: C,
-) -> Result<(Wrapping<u32>, usize), DecodeError>
-    ensures { IfErr result (λ e. ¬ (e ≡ Memory)) }
-{
-    read(alloc, src, config)
-}
-
-/// Reads a value in reverse order, which takes no memory.
-pub fn read_reverse<C: Config>(
-    alloc: Global,
-    src: &[u8],
-    config: C,
-) -> Result<(Reverse<u32>, usize), DecodeError>
-    ensures { IfErr result (λ e. ¬ (e ≡ Memory)) }
-{
-    read(alloc, src, config)
-}
-
-/// Reads nothing, which takes no memory.
-pub fn read_nothing<C: Config>(
-    alloc: Global,
-    src: &[u8],
-    config: C,
-) -> Result<(PhantomData<u8>, usize), DecodeError>
-    ensures { IfErr result (λ e. ¬ (e ≡ Memory)) }
-{
-    read(alloc, src, config)
-}
-
-/// Reads a span of time, which takes no memory.
-pub fn read_span<C: Config>(
-    alloc: Global,
-    src: &[u8],
-    config: C,
-) -> Result<(Duration, usize), DecodeError>
-    ensures { IfErr result (λ e. ¬ (e ≡ Memory)) }
-{
-    read(alloc, src, config)
-}
-
 /// Reads a cell, which takes no memory.
 pub fn read_cell<C: Config>(
     alloc: Global,
@@ -228,16 +74,27 @@ pub fn read_cell<C: Config>(
     read(alloc, src, config)
 }
 
-/// Reads a cell that can be borrowed, which takes no memory.
-pub fn read_ref_cell<C: Config>(
-    alloc: Global,
-    src: &[u8],
-    config: C,
-) -> Result<(RefCell<u32>, usize), DecodeError>
-    ensures { IfErr result (λ e. ¬ (e ≡ Memory)) }
-{
-    read(alloc, src, config)
-}
+/// Types of each family that take no memory, so that `read` is never refused some at them.
+pub fn types_without_memory()
+    ensures number { ⟦<u64 as Wire>⟧.grows → ⊥ }
+    ensures number_other_than_zero { ⟦<NonZeroU16 as Wire>⟧.grows → ⊥ }
+    ensures truth { ⟦<bool as Wire>⟧.grows → ⊥ }
+    ensures character { ⟦<char as Wire>⟧.grows → ⊥ }
+    ensures pair { ⟦<(u8, u32) as Wire>⟧.grows → ⊥ }
+    // its slots fit
+    ensures array { ⟦<[u8; 4] as Wire>⟧.grows → ⊥ }
+    ensures option { ⟦<Option<u32> as Wire>⟧.grows → ⊥ }
+    ensures outcome { ⟦<Result<u8, u16> as Wire>⟧.grows → ⊥ }
+    ensures bound { ⟦<Bound<u8> as Wire>⟧.grows → ⊥ }
+    ensures range { ⟦<Range<u16> as Wire>⟧.grows → ⊥ }
+    ensures inclusive_range { ⟦<RangeInclusive<u16> as Wire>⟧.grows → ⊥ }
+    ensures wrapping { ⟦<Wrapping<u32> as Wire>⟧.grows → ⊥ }
+    ensures reverse { ⟦<Reverse<u32> as Wire>⟧.grows → ⊥ }
+    ensures nothing { ⟦<PhantomData<u8> as Wire>⟧.grows → ⊥ }
+    ensures span { ⟦<Duration as Wire>⟧.grows → ⊥ }
+    ensures cell { ⟦<Cell<u32> as Wire>⟧.grows → ⊥ }
+    ensures ref_cell { ⟦<RefCell<u32> as Wire>⟧.grows → ⊥ }
+{}
 
 /// Writes a value of a type whose every valid value can be written. After a failure a front of an allowed word stands in the
 /// slice.

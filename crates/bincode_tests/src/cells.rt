@@ -1,40 +1,13 @@
 //! Cells, of which no contract says what they hold.
 
+use crate::checks::{is_written, read_front};
 use bincode::de::Decode;
 use bincode::enc::Encode;
-use bincode::error::{DecodeError, EncodeError};
-use bincode::{config, decode_from_slice, encode_into_slice};
+use bincode::error::EncodeError;
+use bincode::{config, encode_into_slice};
 use std::alloc::Global;
 use std::cell::{Cell, RefCell};
 use std::process::Abort;
-
-/// The cell is written as the word.
-fn is_written<T: Encode>(rt: &impl Abort, cell: &T, word: &[u8]) {
-    let mut slice = [9u8; 8];
-    let written = encode_into_slice(cell, &mut slice, config::standard());
-    assert!(rt;
-        matches!(written, Ok(count) if count == word.len()),
-        "{word:?}"
-    );
-    assert!(rt; slice.starts_with(word), "{word:?}");
-    assert!(rt;
-        slice.iter().skip(word.len()).all(|byte| *byte == 9),
-        "{word:?}"
-    );
-}
-
-/// What is read from all of the word, if it is one.
-fn read_whole<T: Decode<()>>(alloc: Global, word: &[u8]) -> Option<T> {
-    let outcome: Result<(T, usize), DecodeError> = decode_from_slice(
-        alloc,
-        word,
-        config::standard(),
-    );
-    match outcome {
-        Ok((value, taken)) if taken == word.len() => Some(value),
-        _ => None,
-    }
-}
 
 /// Of a value whose word is `[5]`, and another whose word is `[251, 44, 1]`.
 fn keeps_cells_of<T>(rt: &impl Abort, alloc: Global, five: T, large: T)
@@ -45,9 +18,9 @@ where
     is_written(rt, &cell, &[5]);
     cell.set(large);
     is_written(rt, &cell, &[251, 44, 1]);
-    let read: Option<Cell<T>> = read_whole(alloc, &[5]);
+    let read: Option<Cell<T>> = read_front(alloc, &[5], 1);
     assert!(rt; matches!(read, Some(cell) if cell.get() == five));
-    let read: Option<Cell<T>> = read_whole(alloc, &[251, 44, 1]);
+    let read: Option<Cell<T>> = read_front(alloc, &[251, 44, 1], 3);
     assert!(rt; matches!(read, Some(cell) if cell.get() == large));
 }
 
@@ -69,7 +42,7 @@ fn holds<T>(rt: &impl Abort, alloc: Global, word: &[u8], value: T)
 where
     T: Decode<()> + PartialEq,
 {
-    let read: Option<RefCell<T>> = read_whole(alloc, word);
+    let read: Option<RefCell<T>> = read_front(alloc, word, word.len());
     match read {
         Some(cell) => assert!(rt; cell.into_inner() == value),
         None => assert!(rt; false, "{word:?}"),
@@ -120,7 +93,7 @@ fn writes_a_lent_cell_of<T: Encode>(rt: &impl Abort, large: T) {
 
 /// A cell that was read is not borrowed.
 fn reads_an_unborrowed_cell_of<T: Decode<()>>(rt: &impl Abort, alloc: Global) {
-    let read: Option<RefCell<T>> = read_whole(alloc, &[251, 44, 1]);
+    let read: Option<RefCell<T>> = read_front(alloc, &[251, 44, 1], 3);
     match read {
         Some(cell) => assert!(rt; cell.try_borrow_mut().is_ok()),
         None => assert!(rt; false),
@@ -143,7 +116,7 @@ fn keeps_each_byte_in_a_cell(rt: HostRuntime) {
     let alloc = rt.alloc();
     for byte in 0..=255u8 {
         is_written(&rt, &Cell::new(byte), &[byte]);
-        let read: Option<Cell<u8>> = read_whole(alloc, &[byte]);
+        let read: Option<Cell<u8>> = read_front(alloc, &[byte], 1);
         assert!(rt; matches!(read, Some(cell) if cell.get() == byte), "{byte}");
         is_written(&rt, &RefCell::new(byte), &[byte]);
         holds(&rt, alloc, &[byte], byte);
@@ -158,7 +131,7 @@ where
 {
     let cell = RefCell::new((Cell::new(five), large));
     is_written(rt, &cell, &[5, 251, 44, 1]);
-    let read: Option<RefCell<(Cell<T>, U)>> = read_whole(alloc, &[5, 251, 44, 1]);
+    let read: Option<RefCell<(Cell<T>, U)>> = read_front(alloc, &[5, 251, 44, 1], 4);
     let Some(outer) = read else {
         assert!(rt; false);
         return;

@@ -1,6 +1,6 @@
 //! How much a container claims for an element of each type.
 
-use bincode::model::wire::Wire;
+use bincode::Wire;
 use bincode::time::Duration;
 use std::cell::{Cell, RefCell};
 use std::cmp::Reverse;

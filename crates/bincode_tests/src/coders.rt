@@ -2,18 +2,23 @@
 
 use bincode::config;
 use bincode::de::read::SliceReader;
-use bincode::de::{Decode, Decoder, DecoderImpl, decode_array};
+use bincode::de::{Decode, Decoder, DecoderImpl, decode_array, decode_vec};
 use bincode::enc::write::SliceWriter;
-use bincode::enc::{Encode, EncoderImpl};
+use bincode::enc::{Encode, Encoder, EncoderImpl, encode_run};
 use bincode::error::DecodeError;
 use std::process::Abort;
+
+/// Two numbers are written, the second by a reference to the encoder's own.
+fn writes_two_numbers<E: Encoder>(rt: &impl Abort, mut encoder: &mut E) {
+    assert!(rt; 300u32.encode(encoder).is_ok());
+    assert!(rt; 7u8.encode(&mut encoder).is_ok());
+}
 
 #[test]
 fn encodes_in_turn(rt: HostRuntime) {
     let mut slice = [9u8; 5];
     let mut encoder = EncoderImpl::new(SliceWriter::new(&mut slice), config::standard());
-    assert!(rt; 300u32.encode(&mut encoder).is_ok());
-    assert!(rt; 7u8.encode(&mut &mut encoder).is_ok());
+    writes_two_numbers(&rt, &mut encoder);
     let writer = encoder.into_writer();
     assert!(rt; writer.bytes_written() == 4);
     drop(writer);
@@ -24,7 +29,7 @@ fn encodes_in_turn(rt: HostRuntime) {
 fn encodes_a_run(rt: HostRuntime) {
     let mut slice = [9u8; 5];
     let mut encoder = EncoderImpl::new(SliceWriter::new(&mut slice), config::standard());
-    assert!(rt; u16::encode_run(&[300, 7], &mut encoder).is_ok());
+    assert!(rt; encode_run(&[300u16, 7], &mut encoder).is_ok());
     let writer = encoder.into_writer();
     assert!(rt; writer.bytes_written() == 4);
     drop(writer);
@@ -34,13 +39,14 @@ fn encodes_a_run(rt: HostRuntime) {
 /// Two numbers behind their room, under a limit of 10 bytes; then two bytes, of which one is there.
 fn reads_runs<D: Decoder<Context = ()>>(rt: &impl Abort, decoder: &mut D) {
     assert!(rt; decoder.claim_container_read::<u32>(2).is_ok());
-    let Ok(pair) = u32::decode_vec(decoder, 2) else {
+    let pair: Result<Vec<u32>, DecodeError> = decode_vec(decoder, 2);
+    let Ok(pair) = pair else {
         assert!(rt; false);
         return;
     };
     assert!(rt; pair.as_slice() == [300, 7].as_slice());
     assert!(rt; decoder.claim_container_read::<u8>(2).is_ok());
-    let outcome = u8::decode_vec(decoder, 2);
+    let outcome: Result<Vec<u8>, DecodeError> = decode_vec(decoder, 2);
     assert!(rt; matches!(outcome, Err(DecodeError::UnexpectedEnd { .. })));
 }
 
@@ -51,12 +57,19 @@ fn decodes_a_run(rt: HostRuntime) {
     reads_runs(&rt, &mut DecoderImpl::new(rt.alloc(), reader, ten, ()));
 }
 
+/// Two numbers are read, the second by a reference to the decoder's own.
+fn reads_two_numbers<D: Decoder<Context = ()>>(rt: &impl Abort, mut decoder: &mut D) {
+    assert!(rt; matches!(u32::decode(decoder), Ok(300)));
+    assert!(rt; matches!(u8::decode(&mut decoder), Ok(7)));
+}
+
 #[test]
 fn decodes_in_turn(rt: HostRuntime) {
     let reader = SliceReader::new(&[251, 44, 1, 7]);
-    let mut decoder = DecoderImpl::new(rt.alloc(), reader, config::standard(), ());
-    assert!(rt; matches!(u32::decode(&mut decoder), Ok(300)));
-    assert!(rt; matches!(u8::decode(&mut &mut decoder), Ok(7)));
+    reads_two_numbers(
+        &rt,
+        &mut DecoderImpl::new(rt.alloc(), reader, config::standard(), ()),
+    );
 }
 
 /// Under a limit of 10 bytes, of which 5 are claimed by what is read.

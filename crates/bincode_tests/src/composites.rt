@@ -1,16 +1,19 @@
 //! Tuples, arrays, choices, ranges, spans of time and wrappers.
 
-use crate::checks::{keeps, keeps_under, reads};
+use crate::checks::Setting::{Legacy, Standard};
+use crate::checks::Wanted::{Ends, GoesOn, Keeps};
+use crate::checks::{Row, ends, hold, is_written, keeps, keeps_under, read_front, reads};
 use bincode::de::{Decode, collect_into_array};
 use bincode::enc::Encode;
 use bincode::error::DecodeError;
 use bincode::time::Duration;
-use bincode::{config, decode_from_slice, encode_into_slice};
+use bincode::{config, decode_from_slice};
 use std::alloc::Global;
+use std::cell::{Cell, RefCell};
 use std::cmp::Reverse;
 use std::marker::PhantomData;
 use std::num::Wrapping;
-use std::ops::Bound;
+use std::ops::{Bound, Range};
 use std::process::Abort;
 use std::time::Duration as StdDuration;
 
@@ -50,62 +53,50 @@ where
     );
 }
 
+/// Each row of pairs holds.
+fn pairs_hold<A, B>(rt: &impl Abort, alloc: Global, rows: &[Row<(A, B)>])
+where
+    A: Encode + Decode<()> + Copy + PartialEq,
+    B: Encode + Decode<()> + Copy + PartialEq,
+{
+    hold(rt, alloc, rows);
+}
+
 #[test]
 fn keeps_tuples(rt: HostRuntime) {
     let alloc = rt.alloc();
-    keeps(&rt, alloc, (1u8, 300u32), &[1, 251, 44, 1]);
+    pairs_hold::<u8, u32>(&rt, alloc, &[(Standard, &[1, 251, 44, 1], Keeps((1, 300)))]);
+    pairs_hold::<u32, u32>(&rt, alloc, &[(Standard, &[10, 251, 44, 1], Ends)]);
+    hold::<()>(&rt, alloc, &[(Standard, &[], Ends)]);
+}
+
+#[test]
+fn keeps_tuples_of_each_length(rt: HostRuntime) {
+    let alloc = rt.alloc();
     keeps_tuples_of(&rt, alloc, [0u8, 1, 2, 3, 4, 5]);
     keeps_longer_tuples_of(&rt, alloc, [0u8, 1, 2, 3, 4, 5, 6, 7, 8, 9, 10, 11]);
 }
 
-/// Of the types of the parts of five.
-fn keeps_five_of<A, B, C, D>(
-    rt: &impl Abort,
-    alloc: Global,
-    value: (A, B, C, D, [A; 4]),
-    word: &[u8],
-)
+/// Each row of such tuples of five parts holds.
+fn fives_hold<A, B, C, D>(rt: &impl Abort, alloc: Global, rows: &[Row<(A, B, C, D, [A; 4])>])
 where
     A: Encode + Decode<()> + Copy + PartialEq,
     B: Encode + Decode<()> + Copy + PartialEq,
     C: Encode + Decode<()> + Copy + PartialEq,
     D: Encode + Decode<()> + Copy + PartialEq,
 {
-    keeps(rt, alloc, value, word);
+    hold(rt, alloc, rows);
 }
 
 #[test]
 fn keeps_five_parts(rt: HostRuntime) {
-    keeps_five_of(
+    let value = (0u8, 10u32, 10_000i128, 'a', [0u8, 1, 2, 3]);
+    let word = &[0, 10, 251, 32, 78, 97, 0, 1, 2, 3];
+    fives_hold(
         &rt,
         rt.alloc(),
-        (0u8, 10u32, 10_000i128, 'a', [0u8, 1, 2, 3]),
-        &[0, 10, 251, 32, 78, 97, 0, 1, 2, 3],
+        &[(Standard, word, Keeps(value)), (Standard, word, Ends)],
     );
-}
-
-/// The value is written as so many places. Tuples of more than twelve parts have no `==`.
-fn is_written<T: Encode>(rt: &impl Abort, value: T, length: usize) {
-    let mut slice = [99u8; 16];
-    let written = encode_into_slice(value, &mut slice, config::standard());
-    assert!(rt; matches!(written, Ok(count) if count == length), "{length}");
-    for (place, byte) in slice.iter().enumerate() {
-        let wanted = if place < length { place as u8 } else { 99 };
-        assert!(rt; *byte == wanted, "{place} of {length}");
-    }
-}
-
-/// What is read from the places, if it has this length.
-fn read_places<T: Decode<()>>(alloc: Global, length: usize) -> Option<T> {
-    let outcome: Result<(T, usize), DecodeError> = decode_from_slice(
-        alloc,
-        &PLACES,
-        config::standard(),
-    );
-    match outcome {
-        Ok((value, taken)) if taken == length => Some(value),
-        _ => None,
-    }
 }
 
 type Thirteen<T> = (T, T, T, T, T, T, T, T, T, T, T, T, T);
@@ -116,12 +107,12 @@ type Fifteen<T> = (T, T, T, T, T, T, T, T, T, T, T, T, T, T, T);
 
 type Sixteen<T> = (T, T, T, T, T, T, T, T, T, T, T, T, T, T, T, T);
 
-/// Of values whose words are the places.
+/// Of values whose words are the places. Tuples of more than twelve parts have no `==`.
 fn keeps_thirteen_of<T>(rt: &impl Abort, alloc: Global, parts: [T; 13])
 where
     T: Encode + Decode<()> + Copy + PartialEq,
 {
-    let Some(v) = read_places::<Thirteen<T>>(alloc, 13) else {
+    let Some(v) = read_front::<Thirteen<T>>(alloc, &PLACES, 13) else {
         assert!(rt; false);
         return;
     };
@@ -130,14 +121,14 @@ where
             v.0, v.1, v.2, v.3, v.4, v.5, v.6, v.7, v.8, v.9, v.10, v.11, v.12
         ] == parts
     );
-    is_written(rt, v, 13);
+    is_written(rt, v, &PLACES[..13]);
 }
 
 fn keeps_fourteen_of<T>(rt: &impl Abort, alloc: Global, parts: [T; 14])
 where
     T: Encode + Decode<()> + Copy + PartialEq,
 {
-    let Some(v) = read_places::<Fourteen<T>>(alloc, 14) else {
+    let Some(v) = read_front::<Fourteen<T>>(alloc, &PLACES, 14) else {
         assert!(rt; false);
         return;
     };
@@ -146,14 +137,14 @@ where
             v.0, v.1, v.2, v.3, v.4, v.5, v.6, v.7, v.8, v.9, v.10, v.11, v.12, v.13
         ] == parts
     );
-    is_written(rt, v, 14);
+    is_written(rt, v, &PLACES[..14]);
 }
 
 fn keeps_fifteen_of<T>(rt: &impl Abort, alloc: Global, parts: [T; 15])
 where
     T: Encode + Decode<()> + Copy + PartialEq,
 {
-    let Some(v) = read_places::<Fifteen<T>>(alloc, 15) else {
+    let Some(v) = read_front::<Fifteen<T>>(alloc, &PLACES, 15) else {
         assert!(rt; false);
         return;
     };
@@ -162,14 +153,14 @@ where
             v.0, v.1, v.2, v.3, v.4, v.5, v.6, v.7, v.8, v.9, v.10, v.11, v.12, v.13, v.14
         ] == parts
     );
-    is_written(rt, v, 15);
+    is_written(rt, v, &PLACES[..15]);
 }
 
 fn keeps_sixteen_of<T>(rt: &impl Abort, alloc: Global, parts: [T; 16])
 where
     T: Encode + Decode<()> + Copy + PartialEq,
 {
-    let Some(v) = read_places::<Sixteen<T>>(alloc, 16) else {
+    let Some(v) = read_front::<Sixteen<T>>(alloc, &PLACES, 16) else {
         assert!(rt; false);
         return;
     };
@@ -178,7 +169,7 @@ where
             v.0, v.1, v.2, v.3, v.4, v.5, v.6, v.7, v.8, v.9, v.10, v.11, v.12, v.13, v.14, v.15,
         ] == parts
     );
-    is_written(rt, v, 16);
+    is_written(rt, v, &PLACES);
 }
 
 #[test]
@@ -198,12 +189,13 @@ fn keeps_tuples_without_equality(rt: HostRuntime) {
 fn keeps_arrays(rt: HostRuntime) {
     let alloc = rt.alloc();
     keeps(&rt, alloc, [5u16, 300], &[5, 251, 44, 1]);
-    keeps_under(&rt, alloc, config::legacy(), [1u8, 2, 3], &[1, 2, 3]);
+    ends::<[u16; 2]>(&rt, alloc, &[10, 251, 44, 1]);
+    keeps_under(&rt, alloc, config::legacy(), &[1u8, 2, 3], &[1, 2, 3]);
     keeps_under(
         &rt,
         alloc,
         config::standard().with_limit::<0>(),
-        [0u8; 0],
+        &[0u8; 0],
         &[],
     );
 }
@@ -223,70 +215,84 @@ fn reserves_for_arrays(rt: HostRuntime) {
     assert!(rt; matches!(refused, Err(DecodeError::LimitExceeded)));
     let read = within::<[u16; 2], 4>(alloc, &[5, 6]);
     assert!(rt; matches!(read, Ok((_, 2))));
-    keeps_under(
-        &rt,
-        alloc,
-        config::standard().with_limit::<4>(),
-        [5u16, 6],
-        &[5, 6],
-    );
+    let four = config::standard().with_limit::<4>();
+    keeps_under(&rt, alloc, four, &[5u16, 6], &[5, 6]);
+}
+
+/// Under a limit of 9 bytes the input is refused, and under one of 10 its end is found.
+fn claims_ten<T: Decode<()>>(rt: &impl Abort, alloc: Global, input: &[u8]) {
+    let refused = within::<T, 9>(alloc, input);
+    assert!(rt; matches!(refused, Err(DecodeError::LimitExceeded)));
+    let ended = within::<T, 10>(alloc, input);
+    assert!(rt; matches!(ended, Err(DecodeError::UnexpectedEnd { additional: _ })));
 }
 
 /// Two choices claim 10 bytes, which the limit has to allow before the first is read.
 #[test]
 fn reserves_for_the_choices_of_an_array(rt: HostRuntime) {
-    let alloc = rt.alloc();
-    let refused = within::<[Result<u8, u8>; 2], 9>(alloc, &[1, 1]);
-    assert!(rt; matches!(refused, Err(DecodeError::LimitExceeded)));
-    let ended = within::<[Result<u8, u8>; 2], 10>(alloc, &[1, 1]);
-    assert!(rt; matches!(ended, Err(DecodeError::UnexpectedEnd { additional: _ })));
+    claims_ten::<[Result<u8, u8>; 2]>(&rt, rt.alloc(), &[1, 1]);
 }
 
-/// Each of two values of a type is written as its word, and read from it.
-fn keeps_both<T>(
-    rt: &impl Abort,
-    alloc: Global,
-    one: T,
-    word_of_one: &[u8],
-    other: T,
-    word_of_other: &[u8],
-)
-where
-    T: Encode + Decode<()> + PartialEq,
-{
-    keeps(rt, alloc, one, word_of_one);
-    keeps(rt, alloc, other, word_of_other);
+static OPTIONS: [Row<Option<u16>>; 3] = [
+    (Standard, &[0], Keeps(None)),
+    (Standard, &[1, 7], Keeps(Some(7))),
+    (Standard, &[1, 251, 44, 1], Ends),
+];
+
+static FIXED_OPTIONS: [Row<Option<u32>>; 3] = [
+    (Legacy, &[1, 5, 0, 0, 0], Keeps(Some(5))),
+    (Legacy, &[1, 5, 0, 0, 0], Ends),
+    (Standard, &[2, 77], GoesOn),
+];
+
+#[test]
+fn keeps_options(rt: HostRuntime) {
+    let alloc = rt.alloc();
+    hold(&rt, alloc, &OPTIONS);
+    hold(&rt, alloc, &FIXED_OPTIONS);
+}
+
+static RESULTS: [Row<Result<(), u8>>; 2] = [
+    (Standard, &[0], Keeps(Ok(()))),
+    (Standard, &[1, 7], Keeps(Err(7))),
+];
+
+static RESULTS_OF_NUMBERS: [Row<Result<u8, u8>>; 4] = [
+    (Legacy, &[0, 0, 0, 0, 5], Keeps(Ok(5))),
+    (Legacy, &[0, 0, 0, 0, 5], Ends),
+    (Standard, &[2, 77], GoesOn),
+    (Standard, &[251, 44, 1, 77], GoesOn),
+];
+
+#[test]
+fn keeps_results(rt: HostRuntime) {
+    let alloc = rt.alloc();
+    hold(&rt, alloc, &RESULTS);
+    hold(&rt, alloc, &RESULTS_OF_NUMBERS);
 }
 
 #[test]
-fn keeps_choices(rt: HostRuntime) {
-    let alloc = rt.alloc();
-    keeps_both(&rt, alloc, None, &[0], Some(7u8), &[1, 7]);
-    keeps_both(&rt, alloc, Ok(()), &[0], Err(7u8), &[1, 7]);
-    keeps_both(
-        &rt,
-        alloc,
-        Bound::Included(7u8),
-        &[1, 7],
-        Bound::Excluded(7),
-        &[2, 7],
-    );
-    keeps(&rt, alloc, Bound::<u8>::Unbounded, &[0]);
+fn ends_results(rt: HostRuntime) {
+    ends::<Result<u16, u8>>(&rt, rt.alloc(), &[0, 251, 44, 1]);
+}
+
+static BOUNDS: [Row<Bound<u16>>; 5] = [
+    (Standard, &[1, 7], Keeps(Bound::Included(7))),
+    (Standard, &[2, 7], Keeps(Bound::Excluded(7))),
+    (Standard, &[0], Keeps(Bound::Unbounded)),
+    (Standard, &[2, 251, 44, 1], Ends),
+    (Standard, &[3, 77], GoesOn),
+];
+
+#[test]
+fn keeps_bounds(rt: HostRuntime) {
+    hold(&rt, rt.alloc(), &BOUNDS);
 }
 
 #[test]
-fn keeps_fixed_and_nested_choices(rt: HostRuntime) {
-    let alloc = rt.alloc();
-    keeps_under(&rt, alloc, config::legacy(), Some(5u32), &[1, 5, 0, 0, 0]);
-    keeps_under(
-        &rt,
-        alloc,
-        config::legacy(),
-        Ok::<u8, ()>(5),
-        &[0, 0, 0, 0, 5],
-    );
+fn reads_nested_choices(rt: HostRuntime) {
     let nested: (Option<u8>, (u8, Bound<u16>)) = (None, (5, Bound::Unbounded));
-    reads(&rt, alloc, &[0, 5, 0, 1, 251, 44, 1], nested, 3);
+    reads(&rt, rt.alloc(), &[0, 5, 0, 1, 251, 44, 1], &nested, 3);
 }
 
 /// Of a value whose word is `[1]`, and another whose word is `[251, 44, 1]`.
@@ -299,17 +305,45 @@ where
     keeps(rt, alloc, Wrapping(large), &[251, 44, 1]);
     keeps(rt, alloc, Reverse(large), &[251, 44, 1]);
     keeps(rt, alloc, PhantomData::<T>, &[]);
-    let mut slice = [9u8; 4];
-    let written = encode_into_slice(&large, &mut slice, config::standard());
-    assert!(rt; matches!(written, Ok(3)));
-    assert!(rt; slice == [251, 44, 1, 9]);
+    is_written(rt, &large, &[251, 44, 1]);
+}
+
+/// Of a type of parts whose word is `[251, 44, 1]`.
+fn ends_wrappers_of<T: Decode<()> + Copy>(rt: &impl Abort, alloc: Global) {
+    ends::<Range<T>>(rt, alloc, &[251, 44, 1, 251, 44, 1]);
+    ends::<Cell<T>>(rt, alloc, &[251, 44, 1]);
+    ends::<RefCell<T>>(rt, alloc, &[251, 44, 1]);
 }
 
 #[test]
-fn keeps_ranges_spans_and_wrappers(rt: HostRuntime) {
+fn keeps_ranges_and_wrappers(rt: HostRuntime) {
     let alloc = rt.alloc();
     keeps_wrappers_of(&rt, alloc, 1u16, 300);
-    keeps(&rt, alloc, Duration::new(4, 300), &[4, 251, 44, 1]);
+    ends_wrappers_of::<u32>(&rt, alloc);
+}
+
+#[test]
+fn keeps_spans(rt: HostRuntime) {
+    hold(
+        &rt,
+        rt.alloc(),
+        &[
+            (Standard, &[4, 251, 44, 1], Keeps(Duration::new(4, 300))),
+            (
+                Standard,
+                &[252, 255, 255, 255, 255, 252, 44, 203, 154, 59],
+                Ends,
+            ),
+            (Standard, &[253, 0, 0, 0, 0, 1, 0, 0, 0, 251, 44, 1], Ends),
+            (
+                Standard,
+                &[
+                    253, 255, 255, 255, 255, 255, 255, 255, 255, 252, 0, 202, 154, 59, 77,
+                ],
+                GoesOn,
+            ),
+        ],
+    );
 }
 
 #[test]

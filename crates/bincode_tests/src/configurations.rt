@@ -18,7 +18,7 @@ fn has<C: Config>(
     assert!(rt; config.endianness() == parts.0, "{word:?}");
     assert!(rt; config.int_encoding() == parts.1, "{word:?}");
     assert!(rt; config.limit() == parts.2, "{word:?}");
-    keeps_under(rt, alloc, config, 300u32, word);
+    keeps_under(rt, alloc, config, &300u32, word);
 }
 
 #[test]

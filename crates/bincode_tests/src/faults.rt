@@ -1,14 +1,11 @@
-//! Faults of decoding, with their fields, and what is read after them.
+//! Faults of decoding, with their fields.
 
-use bincode::de::read::SliceReader;
-use bincode::de::{Decode, Decoder, DecoderImpl};
+use bincode::de::Named;
 use bincode::error::{DecodeError, EncodeError, IntegerType};
-use bincode::time::Duration;
-use bincode::{config, decode_from_slice};
+use bincode::text::{ShortText, TypeName};
+use bincode::{NoOther, OneOf, Or, config, decode_from_slice};
 use std::alloc::{AllocError, Global};
-use std::num::{NonZeroI32, NonZeroU16};
-use std::ops::Bound;
-use std::process::Abort;
+use std::mem::size_of;
 use std::test::Fail;
 
 fn read_number(alloc: Global, bytes: &[u8]) -> Result<(u32, usize), DecodeError> {
@@ -49,55 +46,65 @@ fn counts_the_missing_bytes(rt: HostRuntime) {
     assert!(rt; matches!(fixed, Err(DecodeError::UnexpectedEnd { additional: 1 })));
 }
 
-/// The input has a fault, and 77 right behind what is read of it: a second decode from the same decoder gives that.
-fn goes_on_behind<T: Decode<()>>(rt: &impl Abort, alloc: Global, input: &[u8]) {
-    let reader = SliceReader::new(input);
-    let mut decoder = DecoderImpl::new(alloc, reader, config::standard(), ());
-    assert!(rt; fails_before::<T, _>(&mut decoder), "{input:?}");
+/// A name for a sum whose tags do not stand in order.
+struct Sparse;
+
+impl Named for Sparse {
+    fn type_name() -> TypeName {
+        TypeName::new("SparseRequest")
+    }
 }
 
-/// Whether decoding a value fails, and then decoding a byte from the same decoder gives 77.
-fn fails_before<T: Decode<()>, D: Decoder<Context = ()>>(decoder: &mut D) -> bool {
-    let outcome: Result<T, DecodeError> = T::decode(decoder);
-    outcome.is_err() && matches!(u8::decode(decoder), Ok(77))
-}
+type SparseParts = OneOf<Or<1, (), Or<5, u8, Or<300, u8, NoOther<Sparse>>>>>;
 
 #[test]
-fn goes_on_behind_a_wrong_number(rt: HostRuntime) {
-    let alloc = rt.alloc();
-    goes_on_behind::<u16>(&rt, alloc, &[252, 77]);
-    goes_on_behind::<u32>(&rt, alloc, &[253, 77]);
-    goes_on_behind::<u64>(&rt, alloc, &[254, 77]);
-    goes_on_behind::<u128>(&rt, alloc, &[255, 77]);
-    goes_on_behind::<i16>(&rt, alloc, &[252, 77]);
-    goes_on_behind::<isize>(&rt, alloc, &[254, 77]);
-    goes_on_behind::<NonZeroU16>(&rt, alloc, &[0, 77]);
-    goes_on_behind::<NonZeroU16>(&rt, alloc, &[251, 0, 0, 77]);
-    goes_on_behind::<NonZeroI32>(&rt, alloc, &[252, 0, 0, 0, 0, 77]);
-}
-
-#[test]
-fn goes_on_behind_a_wrong_choice(rt: HostRuntime) {
-    let alloc = rt.alloc();
-    goes_on_behind::<Option<u32>>(&rt, alloc, &[2, 77]);
-    goes_on_behind::<Result<u8, u8>>(&rt, alloc, &[2, 77]);
-    goes_on_behind::<Result<u8, u8>>(&rt, alloc, &[251, 44, 1, 77]);
-    goes_on_behind::<Bound<u32>>(&rt, alloc, &[3, 77]);
-}
-
-#[test]
-fn goes_on_behind_another_fault(rt: HostRuntime) {
-    let alloc = rt.alloc();
-    goes_on_behind::<bool>(&rt, alloc, &[2, 77]);
-    goes_on_behind::<char>(&rt, alloc, &[128, 77]);
-    goes_on_behind::<char>(&rt, alloc, &[237, 160, 128, 77]);
-    goes_on_behind::<Duration>(
-        &rt,
-        alloc,
-        &[
-            253, 255, 255, 255, 255, 255, 255, 255, 255, 252, 0, 202, 154, 59, 77,
-        ],
+fn lists_tags_that_do_not_stand_in_order(rt: HostRuntime) {
+    let read: Result<(SparseParts, usize), DecodeError> = decode_from_slice(
+        rt.alloc(),
+        &[2],
+        config::standard(),
     );
+    let Err(
+        DecodeError::UnlistedVariant {
+            type_name,
+            found,
+            allowed,
+        },
+    ) = read
+    else {
+        assert!(rt; false);
+        return;
+    };
+    assert!(rt; type_name.as_str() == "SparseRequ");
+    assert!(rt; found == 2);
+    assert!(rt; allowed.as_slice() == [1, 5, 300].as_slice());
+}
+
+#[test]
+fn keeps_short_texts(rt: HostRuntime) {
+    assert!(rt; ShortText::new("").as_str() == "");
+    assert!(rt; ShortText::new("a text of 22 bytes ...").as_str() == "a text of 22 bytes ...");
+    assert!(rt; ShortText::new("a text with 23 bytes ..").as_str() == "a text with 23 bytes .");
+    assert!(rt; TypeName::new("123456789\u{e9}").as_str() == "123456789");
+}
+
+#[test]
+fn errors_are_small(rt: HostRuntime) {
+    assert!(rt; size_of::<EncodeError>() <= 24);
+    assert!(rt; size_of::<DecodeError>() <= 24);
+}
+
+#[test]
+fn prints_a_name(rt: HostRuntime) -> Result<(), Fail> {
+    let fault = DecodeError::UnexpectedVariant {
+        type_name: TypeName::new("Option"),
+        found: 2,
+        min: 0,
+        max: 1,
+    };
+    let shown: Result<String, AllocError> = format!(in rt.alloc(); "{fault}");
+    assert!(rt; shown?.as_str().contains("type_name: \"Option\", found: 2"));
+    Ok(())
 }
 
 #[test]

@@ -16,14 +16,14 @@ mod composites;
 mod configurations;
 pub mod cut;
 #[cfg(test)]
-mod cuts;
-#[cfg(test)]
 mod faults;
 #[cfg(test)]
 mod numbers;
 #[cfg(test)]
 mod readers;
 pub mod rows;
+#[cfg(test)]
+mod runs;
 #[cfg(test)]
 mod varints;
 #[cfg(test)]

@@ -1,6 +1,8 @@
 //! Numbers, truth values and characters beyond the worked rows of the program.
 
-use crate::checks::{keeps, keeps_under, reads, reads_under};
+use crate::checks::Setting::{Legacy, LegacyBig, Standard, StandardBig, Within2};
+use crate::checks::Wanted::{Ends, GoesOn, Keeps, Reads};
+use crate::checks::{Row, Setting, hold, holds};
 use bincode::de::Decode;
 use bincode::enc::Encode;
 use bincode::error::DecodeError;
@@ -12,134 +14,276 @@ use std::num::{
 };
 use std::process::Abort;
 
+static U8: [Row<u8>; 2] = [(Standard, &[255], Keeps(255)), (Standard, &[251], Ends)];
+
+static U16: [Row<u16>; 7] = [
+    (Standard, &[251, 44, 1], Keeps(300)),
+    (Standard, &[251, 255, 255], Keeps(65_535)),
+    (Standard, &[10], Ends),
+    (Standard, &[251, 0, 10], Ends),
+    (StandardBig, &[251, 0, 10], Ends),
+    (Within2, &[251, 0, 1], Ends),
+    (Standard, &[252, 77], GoesOn),
+];
+
+static U32: [Row<u32>; 12] = [
+    (LegacyBig, &[0, 0, 0, 5], Keeps(5)),
+    (Standard, &[251, 251, 0], Keeps(251)),
+    (Standard, &[252, 0, 0, 1, 0], Keeps(65_536)),
+    (StandardBig, &[252, 0, 1, 0, 0], Keeps(65_536)),
+    (Standard, &[252, 5, 0, 0, 0, 8], Reads(5, 5)),
+    (Standard, &[251, 10, 0, 8], Reads(10, 3)),
+    (Standard, &[250], Ends),
+    (Standard, &[251, 251, 0], Ends),
+    (Standard, &[251, 255, 255], Ends),
+    (Standard, &[252, 0, 0, 1, 0], Ends),
+    (LegacyBig, &[0, 0, 0, 5], Ends),
+    (Standard, &[253, 77], GoesOn),
+];
+
+static U64: [Row<u64>; 5] = [
+    (Standard, &[10], Keeps(10)),
+    (Legacy, &[10, 0, 0, 0, 0, 0, 0, 0], Keeps(10)),
+    (
+        Standard,
+        &[253, 0, 0, 0, 0, 0, 0, 0, 10],
+        Reads(720_575_940_379_279_360, 9),
+    ),
+    (StandardBig, &[253, 0, 0, 0, 0, 0, 0, 0, 10], Reads(10, 9)),
+    (Standard, &[254, 77], GoesOn),
+];
+
+static USIZE: [Row<usize>; 1] = [(Standard, &[251, 251, 0], Keeps(251))];
+
+static U128: [Row<u128>; 4] = [
+    (Standard, &[7], Keeps(7)),
+    (
+        Standard,
+        &[254, 0, 0, 0, 0, 0, 0, 0, 0, 0, 0, 0, 0, 0, 0, 0, 10],
+        Reads(13_292_279_957_849_158_729_038_070_602_803_445_760, 17),
+    ),
+    (
+        Standard,
+        &[
+            254, 255, 255, 255, 255, 255, 255, 255, 255, 255, 255, 255, 255, 255, 255, 255, 255,
+        ],
+        Ends,
+    ),
+    (Standard, &[255, 77], GoesOn),
+];
+
 #[test]
-fn keeps_each_number(rt: HostRuntime) {
+fn keeps_short_unsigned_numbers(rt: HostRuntime) {
     let alloc = rt.alloc();
-    keeps(&rt, alloc, 255u8, &[255]);
-    keeps(&rt, alloc, 300u16, &[251, 44, 1]);
-    keeps(&rt, alloc, 65_535u16, &[251, 255, 255]);
-    keeps(&rt, alloc, 10u64, &[10]);
-    keeps(&rt, alloc, 251usize, &[251, 251, 0]);
-    keeps(&rt, alloc, 7u128, &[7]);
-    keeps(&rt, alloc, -1i8, &[255]);
-    keeps(&rt, alloc, i16::MAX, &[251, 254, 255]);
-    keeps(&rt, alloc, 40_000i32, &[252, 128, 56, 1, 0]);
-    keeps(
-        &rt,
-        alloc,
-        3_000_000_000i64,
+    hold(&rt, alloc, &U8);
+    hold(&rt, alloc, &U16);
+}
+
+#[test]
+fn keeps_unsigned_numbers(rt: HostRuntime) {
+    let alloc = rt.alloc();
+    hold(&rt, alloc, &U32);
+    hold(&rt, alloc, &U64);
+}
+
+#[test]
+fn keeps_long_unsigned_numbers(rt: HostRuntime) {
+    let alloc = rt.alloc();
+    hold(&rt, alloc, &USIZE);
+    hold(&rt, alloc, &U128);
+}
+
+static I8: [Row<i8>; 2] = [(Standard, &[255], Keeps(-1)), (Standard, &[255], Ends)];
+
+static I16: [Row<i16>; 9] = [
+    (Standard, &[251, 254, 255], Keeps(i16::MAX)),
+    (Legacy, &[254, 255], Keeps(-2)),
+    (Standard, &[1, 9], Reads(-1, 1)),
+    (Standard, &[3, 9], Reads(-2, 1)),
+    (Legacy, &[254, 255, 9], Reads(-2, 2)),
+    (Standard, &[1], Ends),
+    (Standard, &[251, 0, 2], Ends),
+    (StandardBig, &[251, 2, 0], Ends),
+    (Standard, &[252, 77], GoesOn),
+];
+
+static I32: [Row<i32>; 4] = [
+    (Standard, &[252, 128, 56, 1, 0], Keeps(40_000)),
+    (StandardBig, &[252, 0, 1, 56, 128], Keeps(40_000)),
+    (Standard, &[251, 255, 1, 9], Reads(-256, 3)),
+    (Legacy, &[255, 255, 255, 255, 9], Reads(-1, 4)),
+];
+
+static I64: [Row<i64>; 3] = [
+    (
+        Standard,
         &[253, 0, 188, 160, 101, 1, 0, 0, 0],
-    );
-    keeps(&rt, alloc, -2isize, &[3]);
-    keeps(&rt, alloc, -1i128, &[1]);
-    keeps(&rt, alloc, true, &[1]);
-    keeps(&rt, alloc, 'A', &[65]);
+        Keeps(3_000_000_000),
+    ),
+    (
+        Standard,
+        &[253, 255, 255, 255, 255, 255, 255, 255, 255],
+        Reads(i64::MIN, 9),
+    ),
+    (
+        Standard,
+        &[253, 255, 255, 255, 255, 255, 255, 255, 255],
+        Ends,
+    ),
+];
+
+static ISIZE: [Row<isize>; 2] = [(Standard, &[3], Keeps(-2)), (Standard, &[254, 77], GoesOn)];
+
+static I128: [Row<i128>; 2] = [
+    (Standard, &[1], Keeps(-1)),
+    (
+        Standard,
+        &[254, 0, 0, 152, 98, 112, 179, 79, 49, 1, 0, 0, 0, 0, 0, 0, 0],
+        Ends,
+    ),
+];
+
+#[test]
+fn keeps_short_signed_numbers(rt: HostRuntime) {
+    let alloc = rt.alloc();
+    hold(&rt, alloc, &I8);
+    hold(&rt, alloc, &I16);
 }
 
 #[test]
-fn keeps_numbers_under_other_configurations(rt: HostRuntime) {
+fn keeps_signed_numbers(rt: HostRuntime) {
     let alloc = rt.alloc();
-    let big = config::standard().with_big_endian();
-    keeps_under(&rt, alloc, big, 65_536u32, &[252, 0, 1, 0, 0]);
-    keeps_under(&rt, alloc, big, 40_000i32, &[252, 0, 1, 56, 128]);
-    let legacy = config::legacy();
-    keeps_under(&rt, alloc, legacy, 10u64, &[10, 0, 0, 0, 0, 0, 0, 0]);
-    keeps_under(&rt, alloc, legacy, -2i16, &[254, 255]);
-    keeps_under(&rt, alloc, legacy, false, &[0]);
-    keeps_under(&rt, alloc, legacy, '€', &[226, 130, 172]);
-}
-
-/// There is such a number, and it is written as the word and read from it.
-fn keeps_some<T>(rt: &impl Abort, alloc: Global, value: Option<T>, word: &[u8])
-where
-    T: Encode + Decode<()> + PartialEq,
-{
-    match value {
-        Some(number) => keeps(rt, alloc, number, word),
-        None => assert!(rt; false, "{word:?}"),
-    }
-}
-
-/// The same under fixed integers.
-fn keeps_some_fixed<T>(rt: &impl Abort, alloc: Global, value: Option<T>, word: &[u8])
-where
-    T: Encode + Decode<()> + PartialEq,
-{
-    match value {
-        Some(number) => keeps_under(rt, alloc, config::legacy(), number, word),
-        None => assert!(rt; false, "{word:?}"),
-    }
+    hold(&rt, alloc, &I32);
+    hold(&rt, alloc, &I64);
 }
 
 #[test]
-fn keeps_fixed_numbers_other_than_zero(rt: HostRuntime) {
+fn keeps_long_signed_numbers(rt: HostRuntime) {
     let alloc = rt.alloc();
-    keeps_some_fixed(&rt, alloc, NonZeroU8::new(9), &[9]);
-    keeps_some_fixed(&rt, alloc, NonZeroU32::new(300), &[44, 1, 0, 0]);
-    keeps_some_fixed(&rt, alloc, NonZeroI16::new(-2), &[254, 255]);
+    hold(&rt, alloc, &ISIZE);
+    hold(&rt, alloc, &I128);
 }
+
+static TRUTHS: [Row<bool>; 4] = [
+    (Standard, &[1], Keeps(true)),
+    (Legacy, &[0], Keeps(false)),
+    (Standard, &[1], Ends),
+    (Standard, &[2, 77], GoesOn),
+];
+
+static CHARACTERS: [Row<char>; 5] = [
+    (Standard, &[65], Keeps('A')),
+    (Legacy, &[226, 130, 172], Keeps('€')),
+    (Standard, &[226, 130, 172], Ends),
+    (Standard, &[128, 77], GoesOn),
+    (Standard, &[237, 160, 128, 77], GoesOn),
+];
+
+#[test]
+fn keeps_truth_values_and_characters(rt: HostRuntime) {
+    let alloc = rt.alloc();
+    hold(&rt, alloc, &TRUTHS);
+    hold(&rt, alloc, &CHARACTERS);
+}
+
+/// There is such a number, and it is written as the word under each configuration, and read from it. The other rows of
+/// its type hold too.
+fn keeps_some<T>(
+    rt: &impl Abort,
+    alloc: Global,
+    value: Option<T>,
+    words: &[(Setting, &'static [u8])],
+    others: &[Row<T>],
+)
+where
+    T: Encode + Decode<()> + Copy + PartialEq,
+{
+    let Some(number) = value else {
+        assert!(rt; false);
+        return;
+    };
+    for (setting, word) in words {
+        holds(rt, alloc, *setting, word, &Keeps(number));
+    }
+    hold(rt, alloc, others);
+}
+
+const NON_ZERO_U16: [Row<NonZeroU16>; 3] = [
+    (Standard, &[251, 44, 1], Ends),
+    (Standard, &[0, 77], GoesOn),
+    (Standard, &[251, 0, 0, 77], GoesOn),
+];
 
 #[test]
 fn keeps_each_unsigned_other_than_zero(rt: HostRuntime) {
     let alloc = rt.alloc();
-    keeps_some(&rt, alloc, NonZeroU8::new(9), &[9]);
-    keeps_some(&rt, alloc, NonZeroU16::new(300), &[251, 44, 1]);
-    keeps_some(&rt, alloc, NonZeroU32::new(300), &[251, 44, 1]);
-    keeps_some(&rt, alloc, NonZeroU64::new(65_536), &[252, 0, 0, 1, 0]);
-    keeps_some(&rt, alloc, NonZeroU128::new(250), &[250]);
-    keeps_some(&rt, alloc, NonZeroUsize::new(251), &[251, 251, 0]);
+    keeps_some(
+        &rt,
+        alloc,
+        NonZeroU8::new(9),
+        &[(Standard, &[9]), (Legacy, &[9])],
+        &[],
+    );
+    keeps_some(
+        &rt,
+        alloc,
+        NonZeroU16::new(300),
+        &[(Standard, &[251, 44, 1])],
+        &NON_ZERO_U16,
+    );
+    keeps_some(
+        &rt,
+        alloc,
+        NonZeroU32::new(300),
+        &[(Standard, &[251, 44, 1]), (Legacy, &[44, 1, 0, 0])],
+        &[],
+    );
+    keeps_some(
+        &rt,
+        alloc,
+        NonZeroU64::new(65_536),
+        &[(Standard, &[252, 0, 0, 1, 0])],
+        &[],
+    );
+    keeps_some(
+        &rt,
+        alloc,
+        NonZeroU128::new(250),
+        &[(Standard, &[250])],
+        &[],
+    );
+    keeps_some(
+        &rt,
+        alloc,
+        NonZeroUsize::new(251),
+        &[(Standard, &[251, 251, 0])],
+        &[],
+    );
 }
+
+const NON_ZERO_I32: [Row<NonZeroI32>; 1] = [(Standard, &[252, 0, 0, 0, 0, 77], GoesOn)];
 
 #[test]
 fn keeps_each_signed_other_than_zero(rt: HostRuntime) {
     let alloc = rt.alloc();
-    keeps_some(&rt, alloc, NonZeroI8::new(-1), &[255]);
-    keeps_some(&rt, alloc, NonZeroI16::new(-2), &[3]);
-    keeps_some(&rt, alloc, NonZeroI32::new(-256), &[251, 255, 1]);
-    keeps_some(&rt, alloc, NonZeroI64::new(-1), &[1]);
-    keeps_some(&rt, alloc, NonZeroI128::new(-2), &[3]);
-    keeps_some(&rt, alloc, NonZeroIsize::new(1), &[2]);
-}
-
-#[test]
-fn reads_wide_numbers(rt: HostRuntime) {
-    let alloc = rt.alloc();
-    let wide = [253, 0, 0, 0, 0, 0, 0, 0, 10];
-    reads(&rt, alloc, &wide, 720_575_940_379_279_360u64, 9);
-    let big = config::standard().with_big_endian();
-    reads_under(&rt, alloc, big, &wide, &10u64, 9);
-    let wider = [254, 0, 0, 0, 0, 0, 0, 0, 0, 0, 0, 0, 0, 0, 0, 0, 10];
-    reads(
+    keeps_some(&rt, alloc, NonZeroI8::new(-1), &[(Standard, &[255])], &[]);
+    keeps_some(
         &rt,
         alloc,
-        &wider,
-        13_292_279_957_849_158_729_038_070_602_803_445_760u128,
-        17,
+        NonZeroI16::new(-2),
+        &[(Standard, &[3]), (Legacy, &[254, 255])],
+        &[],
     );
-}
-
-#[test]
-fn reads_negative_numbers(rt: HostRuntime) {
-    let alloc = rt.alloc();
-    reads(&rt, alloc, &[1, 9], -1i16, 1);
-    reads(&rt, alloc, &[3, 9], -2i16, 1);
-    reads(
+    keeps_some(
         &rt,
         alloc,
-        &[253, 255, 255, 255, 255, 255, 255, 255, 255],
-        i64::MIN,
-        9,
+        NonZeroI32::new(-256),
+        &[(Standard, &[251, 255, 1])],
+        &NON_ZERO_I32,
     );
-    reads(&rt, alloc, &[251, 255, 1, 9], -256i32, 3);
-    reads_under(
-        &rt,
-        alloc,
-        config::legacy(),
-        &[255, 255, 255, 255, 9],
-        &-1i32,
-        4,
-    );
-    reads_under(&rt, alloc, config::legacy(), &[254, 255, 9], &-2i16, 2);
+    keeps_some(&rt, alloc, NonZeroI64::new(-1), &[(Standard, &[1])], &[]);
+    keeps_some(&rt, alloc, NonZeroI128::new(-2), &[(Standard, &[3])], &[]);
+    keeps_some(&rt, alloc, NonZeroIsize::new(1), &[(Standard, &[2])], &[]);
 }
 
 /// How long a word of a number of this width is that begins with a byte, if there is one.

@@ -6,6 +6,7 @@ use bincode::de::read::{Reader, SliceReader};
 use bincode::de::{Decode, Decoder, DecoderImpl, IoReader, LentIoReader};
 use bincode::error::DecodeError;
 use bincode::varint::varint_decode_u32;
+use std::process::Abort;
 
 #[test]
 fn reads_variable_integers(rt: HostRuntime) {
@@ -15,13 +16,15 @@ fn reads_variable_integers(rt: HostRuntime) {
     assert!(rt; reader.bytes_left() == 1);
 }
 
-#[test]
-fn shows_and_takes(rt: HostRuntime) {
-    let mut reader = SliceReader::new(&[1, 2, 3]);
+/// Of 1, 2 and 3 the first two are shown, and taken.
+fn shows_and_takes_two<R: Reader>(rt: &impl Abort, reader: &mut R) {
     assert!(rt; reader.peek_read(4).is_none());
     assert!(rt; matches!(reader.peek_read(2), Some([1, 2])));
     reader.consume(2);
-    assert!(rt; reader.bytes_left() == 1);
+}
+
+/// Of one byte more is not read, and then the byte is.
+fn reads_the_last<R: Reader>(rt: &impl Abort, reader: &mut R) {
     let mut pair = [9u8; 2];
     let short = reader.read(&mut pair);
     assert!(rt; matches!(short, Err(DecodeError::UnexpectedEnd { additional: 1 })));
@@ -31,18 +34,22 @@ fn shows_and_takes(rt: HostRuntime) {
 }
 
 #[test]
-fn reads_a_stream(rt: HostRuntime) {
-    let bytes = [251, 44, 1, 7, 0];
-    let reader = IoReader::new(&bytes[..]);
-    let mut decoder = DecoderImpl::new(rt.alloc(), reader, config::standard(), ());
-    assert!(rt; matches!(u16::decode(&mut decoder), Ok(300)));
-    assert!(rt; matches!(u8::decode(&mut decoder), Ok(7)));
-    let ended = u32::decode(&mut DecoderImpl::new(
-        rt.alloc(),
-        decoder.reader(),
-        config::legacy(),
-        (),
-    ));
+fn shows_and_takes(rt: HostRuntime) {
+    let mut reader = SliceReader::new(&[1, 2, 3]);
+    shows_and_takes_two(&rt, &mut reader);
+    assert!(rt; reader.bytes_left() == 1);
+    reads_the_last(&rt, &mut reader);
+}
+
+/// A number of two bytes and one of one are read.
+fn reads_two_numbers<D: Decoder<Context = ()>>(rt: &impl Abort, decoder: &mut D) {
+    assert!(rt; matches!(u16::decode(decoder), Ok(300)));
+    assert!(rt; matches!(u8::decode(decoder), Ok(7)));
+}
+
+/// Of a fixed number three bytes are missing, and the stream's error says so.
+fn misses_three_bytes<D: Decoder<Context = ()>>(rt: &impl Abort, decoder: &mut D) {
+    let ended = u32::decode(decoder);
     assert!(rt;
         matches!(
             ended,
@@ -55,22 +62,40 @@ fn reads_a_stream(rt: HostRuntime) {
 }
 
 #[test]
+fn reads_a_stream(rt: HostRuntime) {
+    let bytes = [251, 44, 1, 7, 0];
+    let reader = IoReader::new(rt.alloc(), &bytes[..]);
+    let mut decoder = DecoderImpl::new(rt.alloc(), reader, config::standard(), ());
+    reads_two_numbers(&rt, &mut decoder);
+    let mut rest = DecoderImpl::new(rt.alloc(), decoder.reader(), config::legacy(), ());
+    misses_three_bytes(&rt, &mut rest);
+}
+
+/// A number is read, and nothing is shown of what follows.
+fn reads_one_and_shows_nothing<R: Reader>(rt: &impl Abort, reader: &mut R) {
+    assert!(rt; matches!(varint_decode_u32(reader, Endianness::Little), Ok(251)));
+    assert!(rt; reader.peek_read(1).is_none());
+}
+
+#[test]
 fn leaves_a_lent_stream_behind_a_word(rt: HostRuntime) {
     let bytes = [251, 251, 0, 7, 9];
     let mut stream = &bytes[..];
-    let mut reader = LentIoReader::new(&mut stream);
-    assert!(rt; matches!(varint_decode_u32(&mut reader, Endianness::Little), Ok(251)));
-    assert!(rt; reader.peek_read(1).is_none());
-    drop(reader);
+    reads_one_and_shows_nothing(&rt, &mut LentIoReader::new(rt.alloc(), &mut stream));
     assert!(rt; stream == [7, 9].as_slice());
+}
+
+/// The first number is read, and each after it answers the error of the line.
+fn fails_behind_the_first<D: Decoder<Context = ()>>(rt: &impl Abort, decoder: &mut D) {
+    assert!(rt; matches!(u8::decode(decoder), Ok(7)));
+    assert!(rt; matches!(u16::decode(decoder), Err(DecodeError::Other(_))));
+    assert!(rt; matches!(u8::decode(decoder), Err(DecodeError::Other(_))));
 }
 
 #[test]
 fn answers_the_error_of_a_cut_line(rt: HostRuntime) {
     let reader = CutReader::new(&[7, 251, 44, 1, 9], 2);
     let mut decoder = DecoderImpl::new(rt.alloc(), reader, config::standard(), ());
-    assert!(rt; matches!(u8::decode(&mut decoder), Ok(7)));
-    assert!(rt; matches!(u16::decode(&mut decoder), Err(DecodeError::Other(_))));
-    assert!(rt; matches!(u8::decode(&mut decoder), Err(DecodeError::Other(_))));
+    fails_behind_the_first(&rt, &mut decoder);
     assert!(rt; decoder.reader().failures() == 2);
 }

@@ -1,9 +1,8 @@
 //! Worked rows of the types' own formats: what each `impl` says of its words is what the description of the format expects.
 ghost use Rattle.bincode_tests.specs.Rows.{UnsignedRows, SignedRows, WholeRows, CharacterRows, ChoiceRows, DurationRows, ListRows, TextRows, UnsignedWords, SignedWords, ZigzagRows};
 
-use bincode::model::wire::Wire;
 use bincode::time::Duration;
-use bincode::{NoOther, OneOf, Or};
+use bincode::{NoOther, OneOf, Or, Wire};
 use std::num::{NonZeroI16, NonZeroU16};
 use std::ops::Bound;
 

@@ -6,6 +6,7 @@ use bincode::enc::write::{SliceWriter, Writer};
 use bincode::enc::{Encode, Encoder, EncoderImpl};
 use bincode::error::EncodeError;
 use bincode::varint::varint_encode_u32;
+use std::process::Abort;
 
 #[test]
 fn writes_variable_integers(rt: HostRuntime) {
@@ -40,12 +41,17 @@ fn refuses_a_piece_whole(rt: HostRuntime) {
     assert!(rt; slice == [1, 5, 6]);
 }
 
+/// The first number is written, and each after it answers the error of the line.
+fn fails_behind_the_first<E: Encoder>(rt: &impl Abort, encoder: &mut E) {
+    assert!(rt; 7u8.encode(encoder).is_ok());
+    assert!(rt; matches!(300u16.encode(encoder), Err(EncodeError::Other(_))));
+    assert!(rt; matches!(9u8.encode(encoder), Err(EncodeError::Other(_))));
+}
+
 #[test]
 fn answers_the_error_of_a_cut_line(rt: HostRuntime) {
     let mut encoder = EncoderImpl::new(CutWriter::new(2), config::standard());
-    assert!(rt; 7u8.encode(&mut encoder).is_ok());
-    assert!(rt; matches!(300u16.encode(&mut encoder), Err(EncodeError::Other(_))));
-    assert!(rt; matches!(9u8.encode(&mut encoder), Err(EncodeError::Other(_))));
+    fails_behind_the_first(&rt, &mut encoder);
     let writer = encoder.writer();
     assert!(rt; writer.sent() == 2);
     assert!(rt; writer.failures() == 2);

@@ -1,6 +1,6 @@
 -- What is said of cells: no contract says what one holds.
 use Rattle.std.specs.Prelude.{◌≡◌}
-use Rattle.bincode_base.specs.declared.text.ShortText.{ShortText}
+use Rattle.bincode_base.specs.declared.text.Text.{Text}
 use Rattle.bincode_base.specs.declared.error.EncodeError.{EncodeError}
 use Rattle.bincode_base.specs.declared.error.EncodeError.TheVariants.{RefCellAlreadyBorrowed}
 use Rattle.bincode_base.specs.Format.{Format, of_cell}
@@ -13,7 +13,7 @@ IsAny m = Unit {0}
 
 -- a cell is borrowed for writing
 abbrev pub IsBorrowed : EncodeError → Type 0
-IsBorrowed e = (name : ShortText) × (e ≡ RefCellAlreadyBorrowed name)
+IsBorrowed e = (name : Text 22) × (e ≡ RefCellAlreadyBorrowed name)
 
 -- a cell of this format has some word
 abbrev pub HasWord : Format Meaning → Type 0

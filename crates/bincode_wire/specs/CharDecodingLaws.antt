@@ -1,6 +1,6 @@
 -- What decoding a character answers, by its first byte, the claim and the bytes behind.
-use Rattle.std.specs.Prelude.{◌≡◌, ℕ, ◌-◌, ◌≤◌, List, [], ◌∷◌, Option, Some, None, Ok, Err, refl}
-use Rattle.std.proofs.Common.{sym, ◌∙◌, ap, subst}
+use Rattle.std.specs.Prelude.{◌≡◌, ℕ, ◌-◌, ◌≤◌, List, [], ◌∷◌, length, slice_index, Option, Some, None, Result, Ok, Err, IfOk, IfErr, refl}
+use Rattle.std.proofs.Common.{sym, ◌∙◌, ap, subst, arith}
 use Rattle.bincode_base.specs.Device.{DeviceErrors}
 use Rattle.bincode_base.specs.declared.error.DecodeError.{DecodeError}
 use Rattle.bincode_base.specs.declared.error.DecodeError.TheVariants.{InvalidCharEncoding}
@@ -12,6 +12,7 @@ use Rattle.bincode_base.specs.Integers.{byte}
 use Rattle.bincode_base.specs.IntegerLaws.{byte-lawful}
 use Rattle.bincode_wire.specs.Meaning.{Meaning, Character, IsCharacter}
 use Rattle.bincode_wire.specs.Words.{char_width, char_of, four_bytes, rest_of_char, behind_char, character}
+use Rattle.bincode_wire.specs.CharLaws.{Spells, char_of-alone}
 use Rattle.bincode_wire.specs.Answer.{Gave, Refused, answer}
 use Rattle.bincode_wire.specs.AnswerLaws.{answer-took, answer-failed, answer-refused}
 use Rattle.bincode_wire.specs.Decoding.{Decodes, Stops}
@@ -46,6 +47,57 @@ module _ (first width : ℕ) (input : List ℕ) where
     rest_of_char-refused bytes r h t =
         let p = (raw-lawful (width - 1)).read_word input rest bytes [] r in
         by_fault (InvalidChar (four_bytes (first ∷ bytes))) (rest_of_char-invalid bytes rest (InvalidChar (four_bytes (first ∷ bytes))) r h) t (p.word, p.input_is)
+
+long_1 : (bytes : List ℕ) → length bytes ≡ 1 → bytes ≡ slice_index bytes 0 ∷ []
+long_1 [] e = absurd (omega arith)
+long_1 (a ∷ []) e = refl
+long_1 (a ∷ b ∷ bytes) e = absurd (omega arith)
+
+long_2 : (bytes : List ℕ) → length bytes ≡ 2 → bytes ≡ slice_index bytes 0 ∷ slice_index bytes 1 ∷ []
+long_2 (a ∷ b ∷ []) e = refl
+long_2 [] e = absurd (omega arith)
+long_2 (a ∷ []) e = absurd (omega arith)
+long_2 (a ∷ b ∷ c ∷ bytes) e = absurd (omega arith)
+
+long_3 : (bytes : List ℕ) → length bytes ≡ 3 → bytes ≡ slice_index bytes 0 ∷ slice_index bytes 1 ∷ slice_index bytes 2 ∷ []
+long_3 (a ∷ b ∷ c ∷ []) e = refl
+long_3 [] e = absurd (omega arith)
+long_3 (a ∷ []) e = absurd (omega arith)
+long_3 (a ∷ b ∷ []) e = absurd (omega arith)
+long_3 (a ∷ b ∷ c ∷ d ∷ bytes) e = absurd (omega arith)
+
+-- the bytes that were read, one by one
+module _ (input bytes rest : List ℕ) where
+  pub raw-took_1 : (raw 1).read input ≡ Took bytes rest [] → bytes ≡ slice_index bytes 0 ∷ []
+  unfolding raw
+  raw-took_1 r = let u = (raw-lawful 1).read_word input rest bytes [] r in long_1 bytes (rw u.is_word.1 u.is_word.0)
+
+  pub raw-took_2 : (raw 2).read input ≡ Took bytes rest [] → bytes ≡ slice_index bytes 0 ∷ slice_index bytes 1 ∷ []
+  unfolding raw
+  raw-took_2 r = let u = (raw-lawful 2).read_word input rest bytes [] r in long_2 bytes (rw u.is_word.1 u.is_word.0)
+
+  pub raw-took_3 : (raw 3).read input ≡ Took bytes rest [] → bytes ≡ slice_index bytes 0 ∷ slice_index bytes 1 ∷ slice_index bytes 2 ∷ []
+  unfolding raw
+  raw-took_3 r = let u = (raw-lawful 3).read_word input rest bytes [] r in long_3 bytes (rw u.is_word.1 u.is_word.0)
+
+-- bytes behind the first that were read, with the character that was found for all of them
+module _ (first width : ℕ) (input bytes rest tail : List ℕ) (found : Option ℕ) (read : (raw (width - 1)).read input ≡ Took bytes rest []) (bytes_are : bytes ≡ tail) (spells : Spells (first ∷ tail) found) where
+  pub rest_of_char-found : (r : Result ℕ DecodeError) → IfOk r (λ c. found ≡ Some c) → IfOk r (λ c. (rest_of_char first width).read input ≡ Took (Character c) rest [])
+  rest_of_char-found (Ok c) e = rest_of_char-took first width input tail rest (Character c) (rw (← bytes_are) read) (rw e at spells)
+  rest_of_char-found (Err e) h = tt
+
+  pub rest_of_char-not_found : (ended : ℕ → DecodeError → Type 0) (device : DeviceErrors) (before after : ℕ) (r : Result ℕ DecodeError) → IfErr r (λ e. (found ≡ None) × (e ≡ InvalidCharEncoding (four_bytes (first ∷ tail)))) →
+      IfErr r (Misreads ended device ((rest_of_char first width).read input) before after input rest)
+  rest_of_char-not_found ended device before after (Ok c) h = tt
+  rest_of_char-not_found ended device before after (Err e) h = rest_of_char-refused first width input ended device before after rest e tail (rw (← bytes_are) read) (rw h.0 at spells) h.1
+
+-- a byte alone is its character
+pub rest_of_char-alone : (first width : ℕ) (input : List ℕ) → char_width first ≡ Some width → width ≤ 1 → (rest_of_char first width).read input ≡ Took (Character first) input []
+unfolding raw
+rest_of_char-alone first width input w h =
+    let l : width - 1 ≡ 0 = omega arith in
+    let r : (raw (width - 1)).read input ≡ Took [] input [] = rw l ((raw-lawful 0).word_read [] input [] [] (refl, refl, refl)) in
+    rest_of_char-took first width input [] input (Character first) r (char_of-alone first width w h)
 
 module _ (limit : Option ℕ) (input middle : List ℕ) (c first : ℕ) (read : byte.read input ≡ Took first middle []) where
   -- the answer is that behind the first byte

@@ -1,15 +1,15 @@
 -- The format of a character keeps the laws, and its words are the bytes that std gives for it.
-use Rattle.std.specs.Prelude.{◌≡◌, ℕ, zero, suc, ◌+◌, ◌-◌, ◌/◌, ◌%◌, ◌<◌, ◌≤◌, ◌⊎◌, nat_lt, nat_eq, Bool, true, false, if◌then◌else◌, List, [], ◌∷◌, ◌++◌, length, take, drop, slice_index, refl, Result, Ok, Err, Option, Some, None, MatchOption}
+use Rattle.std.specs.Prelude.{◌≡◌, ℕ, ◌+◌, ◌-◌, ◌/◌, ◌%◌, ◌<◌, ◌≤◌, ◌⊎◌, nat_lt, nat_eq, Bool, true, false, not, if◌then◌else◌, List, [], ◌∷◌, ◌++◌, length, refl, Result, Ok, Err, Option, Some, None, MatchOption, SomeIff}
 use Rattle.std.specs.List.{All}
 use Rattle.std.specs.Char.{encode_utf8, IsScalar}
-use Rattle.std.specs.Str.{is_utf8, IsUtf8, all_scalars, encode_utf8_all}
+use Rattle.std.specs.Str.{is_utf8, all_scalars, encode_utf8_all}
 use Rattle.std.proofs.Common.{sym, ◌∙◌, ap, subst, inl, inr, arith, append-nil, length-append, eq-eqb}
 use Rattle.std.proofs.lemmas.List.Elements.{All-nil, All-cons}
-use Rattle.std.proofs.lemmas.Bool.{cases_lt, lt-ltb, le-ltb, and_parts}
-use Rattle.std.proofs.lemmas.Str.{IsUtf8-encode, is_utf8-from_IsUtf8, IsUtf8-from_is_utf8, encode_same}
-use Rattle.std.proofs.lemmas.List.{length-take-le}
-use Rattle.std.proofs.Math.Seq.{take-append_seam}
-use lib.Utf8.{encode, scalar, scalar_cases}
+use Rattle.std.proofs.lemmas.Bool.{cases_lt, lt-ltb, ltb-true, le-ltb, and_parts, not-false, false_from_ne_true}
+use Rattle.std.proofs.lemmas.Str.{IsUtf8-encode, is_utf8-from_IsUtf8, IsUtf8-from_is_utf8}
+use Rattle.std.proofs.Math.Logic.{⊎_elim}
+use lib.Pointwise.{pointwise, bytes_decides}
+use lib.Utf8.{encode, scalar, scalar_cases, low_scalar}
 use Rattle.bincode_base.specs.Fault.{Fault, InvalidChar}
 use Rattle.bincode_base.specs.Charge.{Step, Charge}
 use Rattle.bincode_base.specs.Format.{done, refused, raw, step, ◌>>=◌, settled}
@@ -72,6 +72,33 @@ width_3 first h k = rw (le-ltb first 128 (omega arith), le-ltb first 194 (omega 
 width_4 : (first : ℕ) → 240 ≤ first → first < 245 → char_width first ≡ Some 4
 width_4 first h k = rw (le-ltb first 128 (omega arith), le-ltb first 194 (omega arith), le-ltb first 224 (omega arith), le-ltb first 240 h, lt-ltb first 245 k) refl
 
+-- the bytes that std gives
+pub encoded_1 : (c : ℕ) → c < 128 → encode_utf8 c ≡ c ∷ []
+unfolding encode
+encoded_1 c h = rw (lt-ltb c 128 h) refl
+
+pub encoded_2 : (c : ℕ) → 128 ≤ c → c < 2048 → encode_utf8 c ≡ (192 + c / 64) ∷ (128 + c % 64) ∷ []
+unfolding encode
+encoded_2 c h k = rw (le-ltb c 128 h, lt-ltb c 2048 k) refl
+
+pub encoded_3 : (c : ℕ) → 2048 ≤ c → c < 65536 → encode_utf8 c ≡ (224 + c / 4096) ∷ (128 + c / 64 % 64) ∷ (128 + c % 64) ∷ []
+unfolding encode
+encoded_3 c h k = rw (le-ltb c 128 (omega arith), le-ltb c 2048 h, lt-ltb c 65536 k) refl
+
+pub encoded_4 : (c : ℕ) → 65536 ≤ c → encode_utf8 c ≡ (240 + c / 262144) ∷ (128 + c / 4096 % 64) ∷ (128 + c / 64 % 64) ∷ (128 + c % 64) ∷ []
+unfolding encode
+encoded_4 c h = rw (le-ltb c 128 (omega arith), le-ltb c 2048 (omega arith), le-ltb c 65536 h) refl
+
+-- and how many they are at most, below what takes one more
+pub length-encoded_1 : (c : ℕ) → c < 128 → length (encode_utf8 c) ≤ 1
+length-encoded_1 c h = omega (arith, ap length (encoded_1 c h))
+
+pub length-encoded_2 : (c : ℕ) → c < 2048 → length (encode_utf8 c) ≤ 2
+length-encoded_2 c h = ⊎_elim (λ k. omega (arith, length-encoded_1 c k)) (λ k. omega (arith, ap length (encoded_2 c k h))) (cases_lt c 128)
+
+pub length-encoded_3 : (c : ℕ) → c < 65536 → length (encode_utf8 c) ≤ 3
+length-encoded_3 c h = ⊎_elim (λ k. omega (arith, length-encoded_2 c k)) (λ k. omega (arith, ap length (encoded_3 c k h))) (cases_lt c 2048)
+
 -- the bytes of a character have the width that the first one says, and its number
 pub record Spelled (c : ℕ) : Type 0 where
   pub first : ℕ
@@ -88,37 +115,33 @@ last_bytes : (c : ℕ) → All (λ b. b < 256) ((128 + c / 64 % 64) ∷ (128 + c
 last_bytes c = All-cons (λ b. b < 256) (128 + c / 64 % 64) ((128 + c % 64) ∷ []) (omega arith) (last_byte c)
 
 spelled_1 : (c : ℕ) → c < 128 → Spelled c
-unfolding encode
-spelled_1 c h = record { first = c; tail = []; bytes_are = rw (lt-ltb c 128 h) refl; width_is = width_1 c h; code_is = refl; are_bytes = All-cons (λ b. b < 256) c [] (omega (arith, h)) (All-nil (λ b. b < 256)) }
+spelled_1 c h = record { first = c; tail = []; bytes_are = encoded_1 c h; width_is = width_1 c h; code_is = refl; are_bytes = All-cons (λ b. b < 256) c [] (omega (arith, h)) (All-nil (λ b. b < 256)) }
 
 spelled_2 : (c : ℕ) → 128 ≤ c → c < 2048 → Spelled c
-unfolding encode
 spelled_2 c h k = record {
   first = 192 + c / 64;
   tail = (128 + c % 64) ∷ [];
-  bytes_are = rw (le-ltb c 128 h, lt-ltb c 2048 k) refl;
+  bytes_are = encoded_2 c h k;
   width_is = width_2 (192 + c / 64) (omega arith) (omega arith);
   code_is = omega arith;
   are_bytes = All-cons (λ b. b < 256) (192 + c / 64) ((128 + c % 64) ∷ []) (omega arith) (last_byte c);
 }
 
 spelled_3 : (c : ℕ) → 2048 ≤ c → c < 65536 → Spelled c
-unfolding encode
 spelled_3 c h k = record {
   first = 224 + c / 4096;
   tail = (128 + c / 64 % 64) ∷ (128 + c % 64) ∷ [];
-  bytes_are = rw (le-ltb c 128 (omega arith), le-ltb c 2048 h, lt-ltb c 65536 k) refl;
+  bytes_are = encoded_3 c h k;
   width_is = width_3 (224 + c / 4096) (omega arith) (omega arith);
   code_is = omega arith;
   are_bytes = All-cons (λ b. b < 256) (224 + c / 4096) ((128 + c / 64 % 64) ∷ (128 + c % 64) ∷ []) (omega arith) (last_bytes c);
 }
 
 spelled_4 : (c : ℕ) → 65536 ≤ c → c < 1114112 → Spelled c
-unfolding encode
 spelled_4 c h k = record {
   first = 240 + c / 262144;
   tail = (128 + c / 4096 % 64) ∷ (128 + c / 64 % 64) ∷ (128 + c % 64) ∷ [];
-  bytes_are = rw (le-ltb c 128 (omega arith), le-ltb c 2048 (omega arith), le-ltb c 65536 h) refl;
+  bytes_are = encoded_4 c h;
   width_is = width_4 (240 + c / 262144) (omega arith) (omega arith);
   code_is = omega arith;
   are_bytes = All-cons (λ b. b < 256) (240 + c / 262144) ((128 + c / 4096 % 64) ∷ (128 + c / 64 % 64) ∷ (128 + c % 64) ∷ []) (omega arith) (All-cons (λ b. b < 256) (128 + c / 4096 % 64) ((128 + c / 64 % 64) ∷ (128 + c % 64) ∷ []) (omega arith) (last_bytes c));
@@ -337,57 +360,55 @@ same_character v w m a b =
     let q : v ≡ w = cc in
     eq-eqb v w q
 
+width_1_by : (a b c d e : Bool) (width : ℕ) → (if a then Some 1 else if b then None else if c then Some 2 else if d then Some 3 else if e then Some 4 else None) ≡ Some width → width ≤ 1 → a ≡ true
+width_1_by true b c d e width h l = refl
+width_1_by false true c d e width h l = absurd (cc)
+width_1_by false false true d e width h l = let k : 2 ≡ width = cc in absurd (omega arith)
+width_1_by false false false true e width h l = let k : 3 ≡ width = cc in absurd (omega arith)
+width_1_by false false false false true width h l = let k : 4 ≡ width = cc in absurd (omega arith)
+width_1_by false false false false false width h l = absurd (cc)
+
+-- a byte below 128, and no other, is a character by itself
+pub char_of-low : (first : ℕ) → first < 128 → char_of (first ∷ []) ≡ Ok (Character first)
+char_of-low first h = subst (λ z. char_of z ≡ Ok (Character first)) (encoded_1 first h) (char_of-encoded first (low_scalar first (omega arith)))
+
+pub char_of-alone : (first width : ℕ) → char_width first ≡ Some width → width ≤ 1 → char_of (first ∷ []) ≡ Ok (Character first)
+char_of-alone first width w l = char_of-low first (ltb-true first 128 (width_1_by (nat_lt first 128) (nat_lt first 194) (nat_lt first 224) (nat_lt first 240) (nat_lt first 245) width w l))
+
 -- bytes in hand
 
-false_by : (x : Bool) → ¬ (x ≡ true) → x ≡ false
-false_by true other = absurd (other refl)
-false_by false other = refl
+-- the character that was found is what the bytes spell, or they spell none
+abbrev pub Spells : List ℕ → Option ℕ → Type 0
+Spells bytes found = MatchOption found (char_of bytes ≡ Err (InvalidChar (four_bytes bytes))) (λ c. char_of bytes ≡ Ok (Character c))
 
--- bytes that are no text fail the test
-pub char_of-not_utf8 : (bytes : List ℕ) → ¬ (IsUtf8 bytes) → char_of bytes ≡ Err (InvalidChar (four_bytes bytes))
-char_of-not_utf8 bytes other = rw (false_by (is_utf8 bytes) (λ e. other (IsUtf8-from_is_utf8 bytes e))) refl
+module _ (first : ℕ) (tail : List ℕ) (w : char_width first ≡ Some (length (first ∷ tail))) (n : ℕ) (code_is : code_point (first ∷ tail) ≡ n) where
+  -- bytes whose digits are no character's number, or are not how it is written, spell none
+  pub spells-none : (IsScalar n → first ∷ tail ≡ encode_utf8 n → ⊥) → Spells (first ∷ tail) None
+  spells-none other =
+      let no = λ (e : is_utf8 (first ∷ tail) ≡ true).
+      let t : char_of (first ∷ tail) ≡ Ok (Character (code_point (first ∷ tail))) = rw e refl in
+      let q = char_of-one first tail w (Character (code_point (first ∷ tail))) t in
+      let m : Character (code_point (first ∷ tail)) ≡ Character q.code = q.meaning_is in
+      let k : q.code ≡ n = cc in
+      other (subst IsScalar k q.is_scalar) (q.bytes_are ∙ ap encode_utf8 k) in
+      rw (false_from_ne_true (is_utf8 (first ∷ tail)) no) refl
 
-first_of_some : (bytes : List ℕ) → char_width (slice_index bytes 0) ≡ Some (length bytes) → (first : ℕ) × (tail : List ℕ) × (bytes ≡ first ∷ tail) × (char_width first ≡ Some (length (first ∷ tail)))
-first_of_some [] w =
-    let e : ◌≡◌ {A = Option ℕ} (Some 1) (Some 0) = w in
-    let k : ◌≡◌ {A = ℕ} 1 0 = cc in
-    absurd (omega arith)
-first_of_some (b ∷ bytes) w = (b, bytes, refl, w)
+  -- nor do those of another length,
+  pub spells-longer : (k : ℕ) → length (encode_utf8 n) ≤ k → k < length (first ∷ tail) → Spells (first ∷ tail) None
+  spells-longer k h l = spells-none (λ s e. let m : length (first ∷ tail) ≡ length (encode_utf8 n) = ap length e in omega arith)
 
--- a text of the width that its first byte says is the character that it begins with
-pub char_of-spells : (bytes rest : List ℕ) (c : ℕ) → char_width (slice_index bytes 0) ≡ Some (length bytes) → IsUtf8 bytes → bytes ≡ encode_utf8 c ++ rest → char_of bytes ≡ Ok (Character c)
-char_of-spells bytes rest c w u e =
-    let p = first_of_some bytes w in
-    let t : char_of bytes ≡ Ok (Character (code_point bytes)) = rw (is_utf8-from_IsUtf8 bytes u) refl in
-    let q = char_of-one p.0 p.1 p.3 (Character (code_point bytes)) (ap char_of (sym p.2) ∙ t) in
-    let s : encode_utf8 q.code ++ [] ≡ encode_utf8 c ++ rest = append-nil (encode_utf8 q.code) ∙ sym q.bytes_are ∙ sym p.2 ∙ e in
-    t ∙ ap Ok (q.meaning_is ∙ ap Character (encode_same q.code c [] rest s).0)
+  -- with other bytes,
+  pub spells-other : (xs : List ℕ) → xs ≡ encode_utf8 n → true ≡ not (pointwise nat_eq xs (first ∷ tail)) → Spells (first ∷ tail) None
+  spells-other xs e differ = spells-none (λ s h. let p = rw ((bytes_decides xs (first ∷ tail)).1 (e ∙ sym h)) at differ in cc)
 
--- the front that the first byte asks for has its width
-pub front-width : (bytes : List ℕ) (width : ℕ) → char_width (slice_index bytes 0) ≡ Some width → width ≤ length bytes → char_width (slice_index (take width bytes) 0) ≡ Some (length (take width bytes))
-front-width bytes zero w l = let b = char_width-bounds (slice_index bytes 0) 0 w in absurd (omega (arith, b.0))
-front-width [] (suc width) w l = absurd (omega arith)
-front-width (b ∷ bytes) (suc width) w l = w ∙ ap Some (sym (length-take-le (suc width) (b ∷ bytes) l))
+  -- or with a number past that of every character
+  pub spells-past : 1114112 ≤ n → Spells (first ∷ tail) None
+  spells-past h = spells-none (λ s e. let m = below_most n (scalar_cases n s) in omega arith)
 
--- the bytes read, and then zeros
-pub four_bytes-padded : (first : ℕ) (tail : List ℕ) (n : ℕ) → length tail ≡ n → n ≤ 3 → four_bytes (first ∷ tail) ≡ first ∷ (tail ++ drop n (0 ∷ 0 ∷ 0 ∷ []))
-four_bytes-padded first [] n e l = rw (← e) refl
-four_bytes-padded first (a ∷ []) n e l = rw (← e) refl
-four_bytes-padded first (a ∷ b ∷ []) n e l = rw (← e) refl
-four_bytes-padded first (a ∷ b ∷ c ∷ []) n e l = rw (← e) refl
-four_bytes-padded first (a ∷ b ∷ c ∷ d ∷ tail) n e l = absurd (omega arith)
+  spells-by : (found : Option ℕ) → first ∷ tail ≡ encode_utf8 n → SomeIff found (IsScalar n) n → Spells (first ∷ tail) found
+  spells-by None e other = spells-none (λ s h. other s)
+  spells-by (Some c) e h = subst (λ z. char_of z ≡ Ok (Character c)) (sym e) (char_of-encoded n h.0 ∙ ap (λ z. Ok (Character z)) (sym h.1))
 
--- the first character of the front that the first byte asks for is all of it
-pub char_of-front : (found : Option ℕ) (width : ℕ) (bytes more : List ℕ) (P : Type 0) → char_width (slice_index bytes 0) ≡ Some width → width ≤ length bytes → IsUtf8 (take width bytes) → MatchOption found ((length (take width bytes) ≡ 0) × P) (λ c. take width bytes ≡ encode_utf8 c ++ more) →
-    MatchOption found (char_of (take width bytes) ≡ Err (InvalidChar (four_bytes (take width bytes)))) (λ c. char_of (take width bytes) ≡ Ok (Character c))
-char_of-front None width bytes more P w l u h =
-    let b = char_width-bounds (slice_index bytes 0) width w in
-    let e = length-take-le width bytes l in
-    absurd (omega (arith, b.0, h.0, e))
-char_of-front (Some c) width bytes more P w l u h = char_of-spells (take width bytes) more c (front-width bytes width w l) u h
-
--- the front behind a first byte
-pub front-behind : (first width : ℕ) (tail others : List ℕ) → 1 ≤ width → length tail ≡ width - 1 → take width (first ∷ (tail ++ others)) ≡ first ∷ tail
-front-behind first width tail others h e =
-    let k : width ≡ length (first ∷ tail) = omega (arith, h, e) in
-    rw k (take-append_seam (first ∷ tail) others)
+  -- those that are how the number is written spell it where it is a character's
+  pub spells-found : (found : Option ℕ) (xs : List ℕ) → xs ≡ encode_utf8 n → false ≡ not (pointwise nat_eq xs (first ∷ tail)) → SomeIff found (IsScalar n) n → Spells (first ∷ tail) found
+  spells-found found xs e same = spells-by found (sym ((bytes_decides xs (first ∷ tail)).0 (not-false _ (sym same))) ∙ e)

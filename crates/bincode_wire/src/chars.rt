@@ -1,15 +1,20 @@
 //! The bytes of characters.
-ghost use Rattle.std.specs.Prelude.{◌≡◌, ◌≤◌, ◌∷◌, ◌++◌, [], take, length, slice_index, Ok, Err, Some, MatchOption, IfOk, IfErr};
-ghost use Rattle.bincode_base.specs.Fault.{InvalidChar};
+ghost use Rattle.std.specs.Prelude.{◌≡◌, ◌<◌, ◌≤◌, ◌∷◌, [], Some, None, IfOk, IfErr};
+ghost use Rattle.std.specs.Char.{encode_utf8};
 ghost use Rattle.bincode_base.specs.Format.{Took};
 ghost use Rattle.bincode_base.specs.Reads.{Misreads};
 ghost use Rattle.bincode_wire.specs.Meaning.{Character};
-ghost use Rattle.bincode_wire.specs.Words.{char_width, char_of, four_bytes, rest_of_char};
+ghost use Rattle.bincode_wire.specs.Words.{char_width, rest_of_char};
+ghost use Rattle.bincode_wire.specs.CharLaws.{Spells};
 
+use bincode_base::bytes::read_array;
 use bincode_base::error::DecodeError;
 use bincode_base::read::Reader;
 
+// Always inlined, as the decoding of numbers is: a call hands on a result with room for an error.
+
 /// How many bytes a character has, by its first byte.
+#[inline(always)]
 pub fn width_of_char(first: u8) -> Option<usize>
     ensures { result ≡ char_width first }
 {
@@ -28,18 +33,102 @@ pub fn width_of_char(first: u8) -> Option<usize>
     }
 }
 
-/// The character that these bytes spell, which are as many as the first one says.
-pub fn char_from_bytes(bytes: [u8; 4], width: usize) -> Option<char>
-    requires { char_width (slice_index bytes 0) ≡ Some width }
-    ensures { MatchOption result (char_of (take width bytes) ≡ Err (InvalidChar (four_bytes (take width bytes)))) (λ c. char_of (take width bytes) ≡ Ok (Character c)) }
+/// The two bytes of a character, by its number.
+#[inline(always)]
+pub fn two_bytes_of_char(code: u32) -> [u8; 2]
+    requires least { 128 ≤ code }
+    requires most { code < 2048 }
+    ensures { result ≡ encode_utf8 code }
 {
-    match std::str::from_utf8(&bytes[..width]) {
-        Ok(text) => text.chars().next(),
-        Err(_) => None,
+    [192 + (code / 64) as u8, 128 + (code % 64) as u8]
+}
+
+/// The three bytes of a character, by its number.
+#[inline(always)]
+pub fn three_bytes_of_char(code: u32) -> [u8; 3]
+    requires least { 2048 ≤ code }
+    requires most { code < 65536 }
+    ensures { result ≡ encode_utf8 code }
+{
+    [
+        224 + (code / 4096) as u8,
+        128 + (code / 64 % 64) as u8,
+        128 + (code % 64) as u8,
+    ]
+}
+
+/// The four bytes of a character, by its number.
+#[inline(always)]
+pub fn four_bytes_of_char(code: u32) -> [u8; 4]
+    requires least { 65536 ≤ code }
+    requires most { code < 1114112 }
+    ensures { result ≡ encode_utf8 code }
+{
+    [
+        240 + (code / 262144) as u8,
+        128 + (code / 4096 % 64) as u8,
+        128 + (code / 64 % 64) as u8,
+        128 + (code % 64) as u8,
+    ]
+}
+
+// The digits of the bytes give a number. They spell it if it is a character's and is written as they are.
+
+#[inline(always)]
+fn char_of_two(first: u8, second: u8) -> Option<char>
+    requires { char_width first ≡ Some 2 }
+    ensures { Spells (first ∷ second ∷ []) result }
+{
+    let code = u32::from(first % 32) * 64 + u32::from(second % 64);
+    if code < 128 || two_bytes_of_char(code) != [first, second] {
+        return None;
+    }
+    char::from_u32(code)
+}
+
+#[inline(always)]
+fn char_of_three(first: u8, second: u8, third: u8) -> Option<char>
+    requires { char_width first ≡ Some 3 }
+    ensures { Spells (first ∷ second ∷ third ∷ []) result }
+{
+    let code = (u32::from(first % 16) * 64 + u32::from(second % 64)) * 64 + u32::from(third % 64);
+    if code < 2048 || three_bytes_of_char(code) != [first, second, third] {
+        return None;
+    }
+    char::from_u32(code)
+}
+
+#[inline(always)]
+fn char_of_four(first: u8, second: u8, third: u8, fourth: u8) -> Option<char>
+    requires { char_width first ≡ Some 4 }
+    ensures { Spells (first ∷ second ∷ third ∷ fourth ∷ []) result }
+{
+    let code = ((u32::from(first % 8) * 64 + u32::from(second % 64)) * 64 + u32::from(third % 64))
+        * 64
+        + u32::from(fourth % 64);
+    if code < 65536
+        || code >= 1114112
+        || four_bytes_of_char(code) != [first, second, third, fourth]
+    {
+        return None;
+    }
+    char::from_u32(code)
+}
+
+/// The character that was found, or the fault of the bytes that spell none.
+#[inline(always)]
+fn char_or_fault(found: Option<char>, bytes: [u8; 4]) -> Result<char, DecodeError>
+    ensures ok { IfOk result (λ c. found ≡ Some c) }
+    ensures err { IfErr result (λ e. (found ≡ None) × (e ≡ DecodeError.InvalidCharEncoding bytes)) }
+{
+    match found {
+        Some(c) => Ok(c),
+        None => Err(DecodeError::InvalidCharEncoding(bytes)),
     }
 }
 
 /// Reads the bytes behind the first one of a character.
+#[inline(always)]
 pub fn read_rest_of_char<R: Reader>(
     read: &mut R,
     first: u8,
@@ -52,10 +141,25 @@ pub fn read_rest_of_char<R: Reader>(
     ensures told { R.told read.old → R.told read.new }
     ensures place { R.place read.new ≡ R.place read.old }
 {
-    let mut bytes = [first, 0, 0, 0];
-    read.read(&mut bytes[1..width])?;
-    match char_from_bytes(bytes, width) {
-        Some(c) => Ok(c),
-        None => Err(DecodeError::InvalidCharEncoding(bytes)),
+    match width {
+        2 => {
+            let [second] = read_array::<R, 1>(read)?;
+            char_or_fault(char_of_two(first, second), [first, second, 0, 0])
+        }
+        3 => {
+            let [second, third] = read_array::<R, 2>(read)?;
+            char_or_fault(
+                char_of_three(first, second, third),
+                [first, second, third, 0],
+            )
+        }
+        4 => {
+            let [second, third, fourth] = read_array::<R, 3>(read)?;
+            char_or_fault(
+                char_of_four(first, second, third, fourth),
+                [first, second, third, fourth],
+            )
+        }
+        _ => Ok(char::from(first)),
     }
 }

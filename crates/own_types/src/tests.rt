@@ -3,7 +3,7 @@ use crate::message::Message;
 use crate::request::Request;
 use bincode::de::Decode;
 use bincode::enc::Encode;
-use bincode::error::{AllowedEnumVariants, DecodeError};
+use bincode::error::DecodeError;
 use bincode::{config, decode_from_slice, encode_into_slice};
 use std::alloc::Global;
 use std::process::Abort;
@@ -36,9 +36,10 @@ fn names_a_tag_that_no_variant_has(rt: HostRuntime) {
     );
     let Err(
         DecodeError::UnexpectedVariant {
-            found,
             type_name,
-            allowed: AllowedEnumVariants::Range { min, max },
+            found,
+            min,
+            max,
         },
     ) = read
     else {

@@ -7,7 +7,7 @@ use bincode::config::{
 use bincode::de::Decode;
 use bincode::enc::Encode;
 use bincode::enc::write::{SliceWriter, Writer};
-use bincode::error::{AllowedEnumVariants, DecodeError, EncodeError, IntegerType};
+use bincode::error::{DecodeError, EncodeError, IntegerType};
 use bincode::time::Duration;
 use bincode::varint::{
     varint_encode_i16, varint_encode_i64, varint_encode_i128, varint_encode_u32, varint_encode_u128,
@@ -377,8 +377,9 @@ fn tells(error: &DecodeError, fault: Fault) -> bool {
         (
             DecodeError::UnexpectedVariant {
                 type_name: _,
-                allowed: AllowedEnumVariants::Range { min: 0, max: m },
                 found: f,
+                min: 0,
+                max: m,
             },
             Fault::UnexpectedVariant { found, max },
         ) => *f == found && *m == max,

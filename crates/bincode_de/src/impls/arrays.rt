@@ -9,4 +9,9 @@ impl<Context: Drop, T: Decode<Context>, const N: usize> Decode<Context> for [T; 
         decoder.claim_container_read::<T>(N)?;
         decode_array(decoder)
     }
+
+    #[inline(always)]
+    fn blank() -> Option<Self> {
+        None
+    }
 }

@@ -1,5 +1,5 @@
 //! Decoding of characters.
-ghost use Rattle.std.specs.Prelude.{◌≡◌, ◌≤◌, [], Some, IfOk, IfErr};
+ghost use Rattle.std.specs.Prelude.{◌≡◌, ◌≤◌, [], Some, IfOk, IfErr, ⊤};
 ghost use Rattle.bincode_base.specs.Format.{Took, charged};
 ghost use Rattle.bincode_base.specs.Reads.{Misreads};
 ghost use Rattle.bincode_wire.specs.Meaning.{Character};
@@ -13,6 +13,9 @@ use crate::impls::numbers::read_byte_from;
 use bincode_base::error::DecodeError;
 use bincode_wire::chars::{read_rest_of_char, width_of_char};
 
+// Always inlined, as numbers are: a call hands on a result with room for an error.
+
+#[inline(always)]
 fn read_rest_of_char_from<D: Decoder>(
     decoder: &mut D,
     first: u8,
@@ -30,6 +33,7 @@ fn read_rest_of_char_from<D: Decoder>(
 }
 
 /// Charges for a character of so many bytes, and reads those behind the first. A fault leaves the charge.
+#[inline(always)]
 fn decode_rest_of_char<D: Decoder>(
     decoder: &mut D,
     first: u8,
@@ -48,11 +52,19 @@ fn decode_rest_of_char<D: Decoder>(
 }
 
 impl<Context: Drop> Decode<Context> for char {
+    ghost has_blank = { ⊤ };
+
+    #[inline(always)]
     fn decode<D: Decoder<Context = Context>>(decoder: &mut D) -> Result<char, DecodeError> {
         let first = read_byte_from(decoder)?;
         let Some(width) = width_of_char(first) else {
             return Err(DecodeError::InvalidCharEncoding([first, 0, 0, 0]));
         };
         decode_rest_of_char(decoder, first, width)
+    }
+
+    #[inline(always)]
+    fn blank() -> Option<Self> {
+        Some('\0')
     }
 }

@@ -1,5 +1,5 @@
 //! Decoding of truth values, `Option`, `Result` and `Bound`.
-ghost use Rattle.std.specs.Prelude.{◌≡◌, ◌≤◌, IfOk, IfErr};
+ghost use Rattle.std.specs.Prelude.{◌≡◌, ◌≤◌, IfOk, IfErr, ⊤};
 ghost use Rattle.bincode_wire.specs.Meaning.{IsTruth};
 ghost use Rattle.bincode_wire.specs.Words.{truth};
 ghost use Rattle.bincode_wire.specs.Answer.{answer, Charges};
@@ -11,7 +11,7 @@ use crate::from_parts::FromParts;
 use crate::impls::numbers::decode_byte;
 use crate::variants::Named;
 use bincode_base::error::DecodeError;
-use bincode_base::text::ShortText;
+use bincode_base::text::TypeName;
 use bincode_wire::sums::Or;
 use bincode_wire::wire::Wire;
 use std::ops::Bound;
@@ -33,14 +33,21 @@ fn decode_truth<D: Decoder>(decoder: &mut D) -> Result<bool, DecodeError>
 }
 
 impl<Context: Drop> Decode<Context> for bool {
+    ghost has_blank = { ⊤ };
+
     fn decode<D: Decoder<Context = Context>>(decoder: &mut D) -> Result<bool, DecodeError> {
         decode_truth(decoder)
+    }
+
+    #[inline(always)]
+    fn blank() -> Option<Self> {
+        Some(false)
     }
 }
 
 impl<T> Named for Option<T> {
-    fn type_name() -> ShortText {
-        ShortText::new("Option")
+    fn type_name() -> TypeName {
+        TypeName::new("Option")
     }
 }
 
@@ -54,8 +61,8 @@ impl<T: Wire> FromParts for Option<T> {
 }
 
 impl<T, U> Named for Result<T, U> {
-    fn type_name() -> ShortText {
-        ShortText::new("Result")
+    fn type_name() -> TypeName {
+        TypeName::new("Result")
     }
 }
 
@@ -69,8 +76,8 @@ impl<T: Wire, U: Wire> FromParts for Result<T, U> {
 }
 
 impl<T> Named for Bound<T> {
-    fn type_name() -> ShortText {
-        ShortText::new("Bound")
+    fn type_name() -> TypeName {
+        TypeName::new("Bound")
     }
 }
 

@@ -31,6 +31,11 @@ impl<Context: Drop> Decode<Context> for NonZeroU8 {
         let n = u8::decode(decoder)?;
         not_zero(NonZeroU8::new(n), IntegerType::U8)
     }
+
+    #[inline(always)]
+    fn blank() -> Option<Self> {
+        None
+    }
 }
 
 impl<Context: Drop> Decode<Context> for NonZeroU16 {
@@ -38,6 +43,11 @@ impl<Context: Drop> Decode<Context> for NonZeroU16 {
     fn decode<D: Decoder<Context = Context>>(decoder: &mut D) -> Result<NonZeroU16, DecodeError> {
         let n = u16::decode(decoder)?;
         not_zero(NonZeroU16::new(n), IntegerType::U16)
+    }
+
+    #[inline(always)]
+    fn blank() -> Option<Self> {
+        None
     }
 }
 
@@ -47,6 +57,11 @@ impl<Context: Drop> Decode<Context> for NonZeroU32 {
         let n = u32::decode(decoder)?;
         not_zero(NonZeroU32::new(n), IntegerType::U32)
     }
+
+    #[inline(always)]
+    fn blank() -> Option<Self> {
+        None
+    }
 }
 
 impl<Context: Drop> Decode<Context> for NonZeroU64 {
@@ -54,6 +69,11 @@ impl<Context: Drop> Decode<Context> for NonZeroU64 {
     fn decode<D: Decoder<Context = Context>>(decoder: &mut D) -> Result<NonZeroU64, DecodeError> {
         let n = u64::decode(decoder)?;
         not_zero(NonZeroU64::new(n), IntegerType::U64)
+    }
+
+    #[inline(always)]
+    fn blank() -> Option<Self> {
+        None
     }
 }
 
@@ -63,6 +83,11 @@ impl<Context: Drop> Decode<Context> for NonZeroU128 {
         let n = u128::decode(decoder)?;
         not_zero(NonZeroU128::new(n), IntegerType::U128)
     }
+
+    #[inline(always)]
+    fn blank() -> Option<Self> {
+        None
+    }
 }
 
 impl<Context: Drop> Decode<Context> for NonZeroUsize {
@@ -70,6 +95,11 @@ impl<Context: Drop> Decode<Context> for NonZeroUsize {
     fn decode<D: Decoder<Context = Context>>(decoder: &mut D) -> Result<NonZeroUsize, DecodeError> {
         let n = usize::decode(decoder)?;
         not_zero(NonZeroUsize::new(n), IntegerType::Usize)
+    }
+
+    #[inline(always)]
+    fn blank() -> Option<Self> {
+        None
     }
 }
 
@@ -79,6 +109,11 @@ impl<Context: Drop> Decode<Context> for NonZeroI8 {
         let n = i8::decode(decoder)?;
         not_zero(NonZeroI8::new(n), IntegerType::I8)
     }
+
+    #[inline(always)]
+    fn blank() -> Option<Self> {
+        None
+    }
 }
 
 impl<Context: Drop> Decode<Context> for NonZeroI16 {
@@ -86,6 +121,11 @@ impl<Context: Drop> Decode<Context> for NonZeroI16 {
     fn decode<D: Decoder<Context = Context>>(decoder: &mut D) -> Result<NonZeroI16, DecodeError> {
         let n = i16::decode(decoder)?;
         not_zero(NonZeroI16::new(n), IntegerType::I16)
+    }
+
+    #[inline(always)]
+    fn blank() -> Option<Self> {
+        None
     }
 }
 
@@ -95,6 +135,11 @@ impl<Context: Drop> Decode<Context> for NonZeroI32 {
         let n = i32::decode(decoder)?;
         not_zero(NonZeroI32::new(n), IntegerType::I32)
     }
+
+    #[inline(always)]
+    fn blank() -> Option<Self> {
+        None
+    }
 }
 
 impl<Context: Drop> Decode<Context> for NonZeroI64 {
@@ -102,6 +147,11 @@ impl<Context: Drop> Decode<Context> for NonZeroI64 {
     fn decode<D: Decoder<Context = Context>>(decoder: &mut D) -> Result<NonZeroI64, DecodeError> {
         let n = i64::decode(decoder)?;
         not_zero(NonZeroI64::new(n), IntegerType::I64)
+    }
+
+    #[inline(always)]
+    fn blank() -> Option<Self> {
+        None
     }
 }
 
@@ -111,6 +161,11 @@ impl<Context: Drop> Decode<Context> for NonZeroI128 {
         let n = i128::decode(decoder)?;
         not_zero(NonZeroI128::new(n), IntegerType::I128)
     }
+
+    #[inline(always)]
+    fn blank() -> Option<Self> {
+        None
+    }
 }
 
 impl<Context: Drop> Decode<Context> for NonZeroIsize {
@@ -118,5 +173,10 @@ impl<Context: Drop> Decode<Context> for NonZeroIsize {
     fn decode<D: Decoder<Context = Context>>(decoder: &mut D) -> Result<NonZeroIsize, DecodeError> {
         let n = isize::decode(decoder)?;
         not_zero(NonZeroIsize::new(n), IntegerType::Isize)
+    }
+
+    #[inline(always)]
+    fn blank() -> Option<Self> {
+        None
     }
 }

@@ -14,4 +14,9 @@ impl<Context: Drop> Decode<Context> for Duration {
         }
         Ok(Duration::new(secs, nanos))
     }
+
+    #[inline(always)]
+    fn blank() -> Option<Self> {
+        None
+    }
 }

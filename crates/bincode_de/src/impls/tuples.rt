@@ -1,4 +1,6 @@
 //! Decoding of tuples.
+ghost use Rattle.std.specs.Prelude.{⊤};
+
 use crate::decode::Decode;
 use crate::decoder::Decoder;
 use crate::from_parts::FromParts;
@@ -7,9 +9,16 @@ use bincode_wire::rows::{LongRow, Row};
 use bincode_wire::wire::Wire;
 
 impl<Context: Drop> Decode<Context> for () {
+    ghost has_blank = { ⊤ };
+
     #[inline]
     fn decode<D: Decoder<Context = Context>>(_decoder: &mut D) -> Result<(), DecodeError> {
         Ok(())
+    }
+
+    #[inline(always)]
+    fn blank() -> Option<Self> {
+        Some(())
     }
 }
 
@@ -20,6 +29,11 @@ impl<Context: Drop, A: Decode<Context>, Others: Decode<Context>> Decode<Context>
         let first = A::decode(decoder)?;
         let others = Others::decode(decoder)?;
         Ok(Row(first, others))
+    }
+
+    #[inline(always)]
+    fn blank() -> Option<Self> {
+        None
     }
 }
 
@@ -35,6 +49,11 @@ impl<
     fn decode<Z: Decoder<Context = Context>>(decoder: &mut Z) -> Result<Self, DecodeError> {
         let Row(a, Row(b, Row(c, Row(d, others)))) = Decode::decode(decoder)?;
         Ok(LongRow(a, b, c, d, others))
+    }
+
+    #[inline(always)]
+    fn blank() -> Option<Self> {
+        None
     }
 }
 

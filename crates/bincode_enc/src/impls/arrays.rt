@@ -1,6 +1,7 @@
 //! Encoding of arrays.
 use crate::encode::Encode;
 use crate::encoder::Encoder;
+use crate::runs::encode_run;
 use bincode_base::error::EncodeError;
 
 impl<T: Encode, const N: usize> Encode for [T; N] {
@@ -11,6 +12,6 @@ impl<T: Encode, const N: usize> Encode for [T; N] {
     }
 
     fn encode<E: Encoder>(&self, encoder: &mut E) -> Result<(), EncodeError> {
-        T::encode_run(self, encoder)
+        encode_run(self, encoder)
     }
 }

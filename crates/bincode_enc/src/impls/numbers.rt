@@ -60,6 +60,11 @@ impl Encode for u8 {
     fn encode<E: Encoder>(&self, encoder: &mut E) -> Result<(), EncodeError> {
         write_from(encoder, &[*self])
     }
+
+    #[inline]
+    fn as_bytes(items: &[u8]) -> Option<&[u8]> {
+        Some(items)
+    }
 }
 
 impl Encode for u16 {

@@ -12,7 +12,7 @@ impl<T: Encode> EncodeParts for Wrapping<T> {
         self.0.tell_valid();
     }
 
-    #[inline]
+    #[inline(always)]
     fn encode_parts<E: Encoder>(&self, encoder: &mut E) -> Result<(), EncodeError> {
         let Wrapping(value) = self;
         value.encode(encoder)
@@ -24,7 +24,7 @@ impl<T: Encode> EncodeParts for Reverse<T> {
         self.0.tell_valid();
     }
 
-    #[inline]
+    #[inline(always)]
     fn encode_parts<E: Encoder>(&self, encoder: &mut E) -> Result<(), EncodeError> {
         let Reverse(value) = self;
         value.encode(encoder)
@@ -34,7 +34,7 @@ impl<T: Encode> EncodeParts for Reverse<T> {
 impl<T> EncodeParts for PhantomData<T> {
     fn tell_valid_parts(&self) {}
 
-    #[inline]
+    #[inline(always)]
     fn encode_parts<E: Encoder>(&self, encoder: &mut E) -> Result<(), EncodeError> {
         ().encode(encoder)
     }
@@ -45,7 +45,7 @@ impl<T: Encode> EncodeParts for &T {
         (**self).tell_valid();
     }
 
-    #[inline]
+    #[inline(always)]
     fn encode_parts<E: Encoder>(&self, encoder: &mut E) -> Result<(), EncodeError> {
         (**self).encode(encoder)
     }

@@ -6,6 +6,6 @@ use Rattle.bincode_de.proofs.variants.NoOtherDecodeVariants.decode_part.Goals as
 
 pub returns-clause-err : goal.returns-clause-err
 returns-clause-err g c = λ known. elim c.unexpected.ensures [
-  | inl t ↦ by_fault _ (answer-refused _ _ _ _) (_, t.0, t.1, t.2) ([], refl)
+  | inl t ↦ by_fault _ (answer-refused _ _ _ _) t ([], refl)
   | inr m ↦ by_memory (inl m.0) m.1 ([], refl)
 ]

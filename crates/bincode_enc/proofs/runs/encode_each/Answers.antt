@@ -1,0 +1,16 @@
+use Rattle.std.proofs.Common.{◌∙◌, refl, arith}
+use Rattle.std.proofs.lemmas.Result.{err_from_is_err_and}
+use Rattle.bincode_enc.specs.RunEncoding.{writes_more, writes_array, halts_at, halts_array}
+use Rattle.bincode_enc.proofs.runs.encode_each.Goals as goal
+
+pub returns-in_err-encode-clause-err : goal.returns-in_err-encode-clause-err
+returns-in_err-encode-clause-err g c =
+    let p = err_from_is_err_and c.from_residual.result c.from_residual.ensures.1 in
+    rw (p.1, p.2) (halts_array _ _ _ _ _ _ _ _ _ _ _ _ refl (halts_at _ _ g.met.E.W.Writer.adds_join (g.T.Wire.writable g.E.C.Config.setting) _ _ _ _ _ c.args.items.now c.loop-item.item-index _ _ (omega arith) c.item-item.is c.loop-item.invariant.0 c.in_err-encode.ensures.err))
+
+pub loop-item-preserved : goal.loop-item-preserved
+loop-item-preserved g c =
+    (writes_more _ g.met.E.W.Writer.adds_join _ _ _ _ c.args.items.now c.loop-item.item-index _ (omega arith) c.item-item.is c.loop-item.invariant.0 c.in_ok-encode.ensures.ok, c.encode.ensures.place ∙ c.loop-item.invariant.1)
+
+pub returns-clause-ok : goal.returns-clause-ok
+returns-clause-ok g c = writes_array _ _ _ _ _ c.loop-item.item-index _ _ _ refl (omega arith) c.loop-item.invariant.0
