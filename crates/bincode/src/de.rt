@@ -3,7 +3,7 @@
 pub use bincode_base::io_read::{IoReader, LentIoReader};
 pub use bincode_base::read;
 pub use bincode_de::arrays::decode_array;
-pub use bincode_de::decode::Decode;
+pub use bincode_de::decode::{ArrayOf, Decode};
 pub use bincode_de::decoder::{Decoder, DecoderImpl};
 pub use bincode_de::from_parts::FromParts;
 pub use bincode_de::runs::{decode_run, decode_vec};

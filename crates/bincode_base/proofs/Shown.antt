@@ -1,5 +1,5 @@
 -- What a text shows, by what was put into it.
-use Rattle.std.specs.Prelude.{◌≡◌, ℕ, ◌+◌, ◌-◌, ◌<◌, ◌≤◌, ◌⊎◌, true, false, List, [], ◌++◌, length, take, drop, min, cond, MatchResult, IsUtf8, Result, Ok, Err, refl}
+use Rattle.std.specs.Prelude.{◌≡◌, ℕ, ◌-◌, ◌<◌, ◌≤◌, ◌⊎◌, true, false, List, [], ◌++◌, length, take, drop, min, cond, MatchResult, IsUtf8, Result, Ok, Err, refl}
 use Rattle.std.proofs.Common.{arith, inl, inr, sym, ap, subst, ◌∙◌, take_at, take_all, take-append-drop, Bor, Bool, ltb, ltb→lt, nltb→le, T, not}
 use Rattle.std.specs.Str.{is_utf8, IsCharBoundary}
 use Rattle.std.proofs.lemmas.Str.{is_utf8-from_IsUtf8, IsUtf8-from_is_utf8, IsCharBoundary-end}

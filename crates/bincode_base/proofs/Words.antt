@@ -1,7 +1,10 @@
 -- Reading and writing the words of numbers, part by part.
-use Rattle.std.specs.Prelude.{◌≡◌, ◌⊎◌, ℕ, ◌-◌, ◌<◌, ◌≤◌, ◌^◌, ◌==◌, ◌&&◌, ◌≢◌, nat_le, true, false, List, [], ◌∷◌, ◌++◌, length, Some, refl, slice_index}
+use Rattle.std.specs.Prelude.{◌≡◌, ◌⊎◌, ℕ, ℤ, FitsSigned, Result, IfErr, ◌-◌, ◌<◌, ◌≤◌, ◌^◌, ◌==◌, ◌&&◌, ◌≢◌, nat_le, true, false, List, [], ◌∷◌, ◌++◌, length, Some, refl, slice_index}
 use Rattle.std.proofs.Common.{sym, ◌∙◌, inl, inr, ap, arith, append-nil, append_assoc}
 use Rattle.std.proofs.Math.Nat.{pow-le-pow_right}
+use Rattle.std.specs.Int.{Width}
+use Rattle.std.proofs.lemmas.Int.{to_z-of_z}
+use Rattle.std.proofs.lemmas.Result.{IfErr-weaker}
 use Rattle.std.proofs.lemmas.Bool.{le-leb, lt-leb}
 use Rattle.std.proofs.lemmas.Bool.Decides.{nat_tests}
 use Rattle.bincode_base.specs.declared.config.Endianness.{Endianness}
@@ -9,13 +12,16 @@ use Rattle.bincode_base.specs.declared.error.IntegerType.{IntegerType}
 use Rattle.bincode_base.specs.declared.error.EncodeError.{EncodeError}
 use Rattle.bincode_base.specs.declared.error.DecodeError.{DecodeError}
 use Rattle.bincode_base.specs.declared.error.DecodeError.TheVariants.{InvalidIntegerType}
-use Rattle.bincode_base.specs.Number.{number_of}
+use Rattle.bincode_base.specs.Number.{number_of, digits_of, two_complement}
 use Rattle.bincode_base.specs.Fault.{Fault, End, InvalidInteger}
 use Rattle.bincode_base.specs.Format.{Format, Reading, Took, Failed, after_steps, raw, done, refused, ◌>>=◌, written_as, map_format}
 use Rattle.bincode_base.specs.FormatLaws.{raw-lawful}
 use Rattle.bincode_base.specs.IntegerLaws.{byte-lawful}
-use Rattle.bincode_base.specs.Integers.{byte, digits, first_of, varint, first_byte, Itself, Before, TooWide, behind}
+use Rattle.bincode_base.specs.declared.config.IntEncoding.{IntEncoding}
+use Rattle.bincode_base.specs.declared.config.IntEncoding.TheVariants.{Fixed}
+use Rattle.bincode_base.specs.Integers.{spelling_pieces, number_for, byte, digits, first_of, varint, first_byte, Itself, Before, TooWide, behind}
 use Rattle.bincode_base.specs.Device.{DeviceErrors, FallsShort, Rose, Takes, StopsAmong}
+use mir.Val.{to_z, of_z}
 use Rattle.bincode_base.specs.Reads.{Misreads, by_fault, by_device, by_failure}
 
 -- so many bytes are there
@@ -151,3 +157,25 @@ module _ {W : Type 0} (adds : W → List ℕ → W → Type 0) (refuses : W → 
   -- the writer refused the second piece
   pub stops-second : (first piece : List ℕ) (others : List (List ℕ)) (before middle after : W) (e : EncodeError) → adds before first middle → refuses middle piece e after → StopsAmong adds refuses (first ∷ piece ∷ others) before e after
   stops-second first piece others before middle after e h k = record { written = first ∷ []; piece = piece; others = others; pieces_are = refl; middle = middle; added = rw (append-nil first) h; refused = k }
+
+-- an integer that is read by its number
+module _ {A B : Type 0} (f : A → B) (F : Format A) where
+  pub mapped_misreads : {T : Type 0} (ended : ℕ → DecodeError → Type 0) (device : DeviceErrors) (before after : ℕ) (input rest : List ℕ) (r : Result T DecodeError) →
+      IfErr r (Misreads ended device (F.read input) before after input rest) → IfErr r (Misreads ended device ((map_format f F).read input) before after input rest)
+  mapped_misreads ended device before after input rest r h = IfErr-weaker r _ _ (λ e k. misreads-more ended device _ _ before after input rest e (map-failed f F input) k) h
+
+pub signed_took : (w : Width) (f : ℕ → ℤ) (F : Format ℕ) (input rest : List ℕ) (n : ℕ) (z : ℤ) → FitsSigned w z → z ≡ f n → F.read input ≡ Took n rest [] → (map_format f F).read input ≡ Took (to_z w (of_z w z)) rest []
+signed_took w f F input rest n z fits e h = map-took f F input rest n _ (to_z-of_z w z fits ∙ e) h
+
+-- a fixed number is one piece
+module _ {W : Type 0} (adds : W → List ℕ → W → Type 0) (refuses : W → List ℕ → EncodeError → W → Type 0) (none : (w : W) → adds w [] w) {T : Type 0} (r : Result T EncodeError) (piece : List ℕ) (before after : W) (order : Endianness) (width : ℕ) (encoding : IntEncoding) (e : encoding ≡ Fixed) where
+  pub fixed_refused : (n : ℕ) → piece ≡ digits_of order width n → IfErr r (λ e. refuses before piece e after) → IfErr r (λ e. StopsAmong adds refuses (spelling_pieces encoding order width n) before e after)
+  fixed_refused n p h = rw e (IfErr-weaker r _ _ (λ d k. rw (sym p) (stops-first adds refuses none piece [] before after d k)) h)
+
+  pub fixed_signed_refused : (w : Width) (z : ℤ) → FitsSigned w z → piece ≡ digits_of order width (two_complement width (to_z w (of_z w z))) → IfErr r (λ e. refuses before piece e after) → IfErr r (λ e. StopsAmong adds refuses (spelling_pieces encoding order width (number_for width encoding z)) before e after)
+  fixed_signed_refused w z fits p h =
+      let q = p ∙ ap (λ y. digits_of order width (two_complement width y)) (to_z-of_z w z fits) in
+      rw e (IfErr-weaker r _ _ (λ d k. rw (sym q) (stops-first adds refuses none piece [] before after d k)) h)
+
+-- for the proofs of numbers
+pub ruleset by_number = (mapped_misreads, signed_took, fixed_refused, fixed_signed_refused)

@@ -8,6 +8,7 @@ pub mod FormatLaws
 pub mod Balance
 pub mod Integers
 pub mod IntegerLaws
+pub mod Spellings
 pub mod Device
 pub mod Reads
 pub mod Put

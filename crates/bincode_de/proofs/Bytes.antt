@@ -1,18 +1,16 @@
 -- Bytes that are read at once, in place of one by one.
-use Rattle.std.specs.Prelude.{◌≡◌, ◌⊎◌, ℕ, zero, suc, ◌+◌, ◌-◌, ◌*◌, ◌<◌, ◌≤◌, pos, List, [], ◌∷◌, ◌++◌, length, map, nat_lt, Option, Some, None, false, Result, Ok, Err, IfErr, refl}
+use Rattle.std.specs.Prelude.{◌≡◌, ◌⊎◌, ℕ, suc, ◌+◌, ◌-◌, ◌*◌, ◌<◌, pos, List, [], ◌∷◌, ◌++◌, length, map, nat_lt, Option, Some, None, false, Result, Ok, Err, IfErr, refl}
 use Rattle.std.proofs.Common.{sym, ◌∙◌, ap, subst, inl, inr, arith, append_assoc, append-nil}
 use Rattle.std.proofs.lemmas.Bool.{le-ltb, le-leb}
 use Rattle.bincode_base.specs.declared.error.DecodeError.{DecodeError}
-use Rattle.bincode_base.specs.Fault.{Fault, End}
-use Rattle.bincode_base.specs.Charge.{Step, Charge, Release}
+use Rattle.bincode_base.specs.Fault.{End}
 use Rattle.bincode_base.specs.Device.{DeviceErrors, Rose, Takes, FallsShort}
-use Rattle.bincode_base.specs.Format.{Format, done, raw, step, ◌>>=◌, unsure, map_format, elements}
-use Rattle.bincode_base.specs.Laws.{Lawful, Balanced}
+use Rattle.bincode_base.specs.Format.{done, raw, step, ◌>>=◌, unsure, elements}
 use Rattle.bincode_base.specs.FormatLaws.{map-lawful}
 use Rattle.bincode_base.specs.Balance.{map-balanced}
 use Rattle.bincode_base.specs.Integers.{byte, unsigned_byte}
 use Rattle.bincode_base.specs.IntegerLaws.{unsigned_byte-lawful, unsigned_byte-balanced}
-use Rattle.bincode_wire.specs.Meaning.{Meaning, Number, Nothing, IsNumber, listed}
+use Rattle.bincode_wire.specs.Meaning.{Meaning, Number, IsNumber, listed}
 use Rattle.bincode_wire.specs.Words.{natural}
 use Rattle.bincode_wire.specs.Answer.{Answer, Allows, Gave, Refused, answer, unclaimed}
 use Rattle.bincode_wire.specs.Decoding.{Decodes, Stops, by_fault, by_failure, by_device}

@@ -1,15 +1,13 @@
 //! Arrays of elements whose room has been reserved.
-ghost use Rattle.std.specs.Prelude.{◌≡◌, ◌≤◌, ◌*◌, ◌⊎◌, List, Option, Some, length, map, OnOk, IfOk, IfErr};
+ghost use Rattle.std.specs.Prelude.{◌≡◌, ◌*◌, ◌⊎◌, List, Option, Some, length, map, OnOk, IfOk};
 ghost use Rattle.bincode_base.specs.Format.{elements};
 ghost use Rattle.bincode_slots.specs.Slots.{SlotsFit};
-ghost use Rattle.bincode_wire.specs.Meaning.{listed};
-ghost use Rattle.bincode_wire.specs.Answer.{answer};
-ghost use Rattle.bincode_wire.specs.Decoding.{Decodes, Stops};
-ghost use Rattle.bincode_wire.specs.Run.{IsListOf, CanRelease, Held, RoomReturned};
+ghost use Rattle.bincode_wire.specs.Run.{CanRelease, RoomReturned};
+ghost use Rattle.bincode_de.specs.Runs.{RunRead};
 
 use crate::decode::Decode;
 use crate::decoder::Decoder;
-use crate::runs::{blank_array, decode_run};
+use crate::runs::{decode_next, decode_run};
 use bincode_base::error::DecodeError;
 use bincode_slots::{empty_slots, slots_fit, unwrap_all};
 use bincode_wire::wire::Wire;
@@ -20,17 +18,10 @@ fn decode_slots<Context: Drop, T: Decode<Context>, D: Decoder<Context = Context>
     slots: &mut [Option<T>],
 ) -> Result<(), DecodeError>
     requires { CanRelease D.C.bound (D.charge decoder.old) (length slots.old * T.claim) }
-    ensures filled { OnOk result ((vs : List T) × (slots.new ≡ map Some vs)) }
-    ensures ok { D.told decoder.old → OnOk result ((vs : List T) × (slots.new ≡ map Some vs) × Decodes (λ ms. IsListOf (λ v m. T.given m v) vs (listed ms)) (answer D.C.bound (elements (length slots.old) T.claim (T.format D.C.setting)) (D.rest decoder.old) (D.charge decoder.old)) (D.rest decoder.new) (D.charge decoder.new)) }
-    ensures err { D.told decoder.old → IfErr result (Stops D.R.ended D.R.device T.grows (answer D.C.bound (elements (length slots.old) T.claim (T.format D.C.setting)) (D.rest decoder.old) (D.charge decoder.old)) (D.failures decoder.old) (D.failures decoder.new) (D.rest decoder.old) (D.rest decoder.new)) }
-    ensures count { D.failures decoder.old ≤ D.failures decoder.new }
-    ensures told { D.told decoder.old → D.told decoder.new }
-    ensures held { Held D.C.bound (length slots.old * T.claim) (D.charge decoder.old) (D.charge decoder.new) }
-    ensures place { D.place decoder.new ≡ D.place decoder.old }
+    ensures { (vs : List T) × OnOk result (slots.new ≡ map Some vs) × RunRead D.told D.rest D.charge D.failures D.place D.C.bound D.R.ended D.R.device T.grows T.claim (T.format D.C.setting) T.given (length slots.old) (λ _. vs) result decoder.old decoder.new }
 {
     for index in 0..slots.len() {
-        decoder.unclaim_bytes_read(T::claim_size());
-        slots[index] = Some(T::decode(decoder)?);
+        slots[index] = Some(decode_next(decoder)?);
     }
     Ok(())
 }
@@ -41,35 +32,21 @@ fn decode_into<Context: Drop, T: Decode<Context>, D: Decoder<Context = Context>,
     mut slots: [Option<T>; N],
 ) -> Result<[T; N], DecodeError>
     requires { CanRelease D.C.bound (D.charge decoder.old) (N * T.claim) }
-    ensures ok { D.told decoder.old → IfOk result (λ v. Decodes (λ ms. IsListOf (λ x m. T.given m x) v (listed ms)) (answer D.C.bound (elements N T.claim (T.format D.C.setting)) (D.rest decoder.old) (D.charge decoder.old)) (D.rest decoder.new) (D.charge decoder.new)) }
-    ensures err { D.told decoder.old → IfErr result (Stops D.R.ended D.R.device T.grows (answer D.C.bound (elements N T.claim (T.format D.C.setting)) (D.rest decoder.old) (D.charge decoder.old)) (D.failures decoder.old) (D.failures decoder.new) (D.rest decoder.old) (D.rest decoder.new)) }
-    ensures count { D.failures decoder.old ≤ D.failures decoder.new }
-    ensures told { D.told decoder.old → D.told decoder.new }
-    ensures held { Held D.C.bound (N * T.claim) (D.charge decoder.old) (D.charge decoder.new) }
-    ensures place { D.place decoder.new ≡ D.place decoder.old }
+    ensures { RunRead D.told D.rest D.charge D.failures D.place D.C.bound D.R.ended D.R.device T.grows T.claim (T.format D.C.setting) T.given N (λ v. v) result decoder.old decoder.new }
 {
     decode_slots(decoder, &mut slots[..])?;
     Ok(unwrap_all(slots))
 }
 
-/// Reads the elements over blank ones.
+/// Reads the elements over those of an array.
 #[inline]
-fn decode_over_blanks<
-    Context: Drop,
-    T: Decode<Context>,
-    D: Decoder<Context = Context>,
-    const N: usize,
->(decoder: &mut D) -> Result<[T; N], DecodeError>
-    requires blank { T.has_blank }
-    requires room { CanRelease D.C.bound (D.charge decoder.old) (N * T.claim) }
-    ensures ok { D.told decoder.old → IfOk result (λ v. Decodes (λ ms. IsListOf (λ x m. T.given m x) v (listed ms)) (answer D.C.bound (elements N T.claim (T.format D.C.setting)) (D.rest decoder.old) (D.charge decoder.old)) (D.rest decoder.new) (D.charge decoder.new)) }
-    ensures err { D.told decoder.old → IfErr result (Stops D.R.ended D.R.device T.grows (answer D.C.bound (elements N T.claim (T.format D.C.setting)) (D.rest decoder.old) (D.charge decoder.old)) (D.failures decoder.old) (D.failures decoder.new) (D.rest decoder.old) (D.rest decoder.new)) }
-    ensures count { D.failures decoder.old ≤ D.failures decoder.new }
-    ensures told { D.told decoder.old → D.told decoder.new }
-    ensures held { Held D.C.bound (N * T.claim) (D.charge decoder.old) (D.charge decoder.new) }
-    ensures place { D.place decoder.new ≡ D.place decoder.old }
+fn decode_over<Context: Drop, T: Decode<Context>, D: Decoder<Context = Context>, const N: usize>(
+    decoder: &mut D,
+    mut values: [T; N],
+) -> Result<[T; N], DecodeError>
+    requires { CanRelease D.C.bound (D.charge decoder.old) (N * T.claim) }
+    ensures { RunRead D.told D.rest D.charge D.failures D.place D.C.bound D.R.ended D.R.device T.grows T.claim (T.format D.C.setting) T.given N (λ v. v) result decoder.old decoder.new }
 {
-    let mut values = blank_array::<Context, T, N>();
     decode_run(decoder, &mut values[..])?;
     Ok(values)
 }
@@ -84,16 +61,11 @@ pub fn decode_array<
     const N: usize,
 >(decoder: &mut D) -> Result<[T; N], DecodeError>
     requires { CanRelease D.C.bound (D.charge decoder.old) (N * T.claim) }
-    ensures ok { D.told decoder.old → IfOk result (λ v. Decodes (λ ms. IsListOf (λ x m. T.given m x) v (listed ms)) (answer D.C.bound (elements N T.claim (T.format D.C.setting)) (D.rest decoder.old) (D.charge decoder.old)) (D.rest decoder.new) (D.charge decoder.new)) }
-    ensures err { D.told decoder.old → IfErr result (Stops D.R.ended D.R.device (T.grows ⊎ ¬ (SlotsFit T.row N)) (answer D.C.bound (elements N T.claim (T.format D.C.setting)) (D.rest decoder.old) (D.charge decoder.old)) (D.failures decoder.old) (D.failures decoder.new) (D.rest decoder.old) (D.rest decoder.new)) }
+    ensures read { RunRead D.told D.rest D.charge D.failures D.place D.C.bound D.R.ended D.R.device (T.grows ⊎ ¬ (SlotsFit T.row N)) T.claim (T.format D.C.setting) T.given N (λ v. v) result decoder.old decoder.new }
     ensures charge { D.told decoder.old → IfOk result (λ _. RoomReturned D.C.bound (elements N T.claim (T.format D.C.setting)) (N * T.claim) (D.rest decoder.old) (D.rest decoder.new) (D.charge decoder.old) (D.charge decoder.new)) }
-    ensures count { D.failures decoder.old ≤ D.failures decoder.new }
-    ensures told { D.told decoder.old → D.told decoder.new }
-    ensures held { Held D.C.bound (N * T.claim) (D.charge decoder.old) (D.charge decoder.new) }
-    ensures place { D.place decoder.new ≡ D.place decoder.old }
 {
-    if T::blank().is_some() {
-        return decode_over_blanks(decoder);
+    if let Some(values) = T::blank_array::<[T; N]>() {
+        return decode_over(decoder, values);
     }
     if !slots_fit::<T, N>() {
         return Err(DecodeError::Memory);

@@ -19,19 +19,9 @@ impl<Context: Drop, T: FromParts + Drop> Decode<Context> for T
 where
     T::Parts: Decode<Context>,
 {
-    ghost has_blank = { T.Parts.has_blank };
-
     #[inline]
     fn decode<D: Decoder<Context = Context>>(decoder: &mut D) -> Result<T, DecodeError> {
         let parts = T::Parts::decode(decoder)?;
         Ok(T::from_parts(parts))
-    }
-
-    #[inline]
-    fn blank() -> Option<T> {
-        match T::Parts::blank() {
-            Some(parts) => Some(T::from_parts(parts)),
-            None => None,
-        }
     }
 }

@@ -1,11 +1,8 @@
 //! Runs of values whose room has been reserved, without a length.
-ghost use Rattle.std.specs.Prelude.{◌≡◌, ◌≤◌, ◌*◌, length, OnOk, IfOk, IfErr};
+ghost use Rattle.std.specs.Prelude.{◌≡◌, ◌*◌, length, IfOk, IfSome, IfErr};
 ghost use Rattle.bincode_base.specs.declared.error.DecodeError.TheVariants.{Memory};
-ghost use Rattle.bincode_base.specs.Format.{elements};
-ghost use Rattle.bincode_wire.specs.Meaning.{listed};
-ghost use Rattle.bincode_wire.specs.Answer.{answer};
-ghost use Rattle.bincode_wire.specs.Decoding.{Decodes, Stops};
-ghost use Rattle.bincode_wire.specs.Run.{IsListOf, CanRelease, Held};
+ghost use Rattle.bincode_wire.specs.Run.{CanRelease};
+ghost use Rattle.bincode_de.specs.Runs.{RunRead, ValueRead};
 
 use crate::decode::Decode;
 use crate::decoder::Decoder;
@@ -22,12 +19,7 @@ pub fn decode_run<Context: Drop, T: Decode<Context>, D: Decoder<Context = Contex
     values: &mut [T],
 ) -> Result<(), DecodeError>
     requires { CanRelease D.C.bound (D.charge decoder.old) (length values.old * T.claim) }
-    ensures ok { D.told decoder.old → OnOk result (Decodes (λ ms. IsListOf (λ x m. T.given m x) values.new (listed ms)) (answer D.C.bound (elements (length values.old) T.claim (T.format D.C.setting)) (D.rest decoder.old) (D.charge decoder.old)) (D.rest decoder.new) (D.charge decoder.new)) }
-    ensures err { D.told decoder.old → IfErr result (Stops D.R.ended D.R.device T.grows (answer D.C.bound (elements (length values.old) T.claim (T.format D.C.setting)) (D.rest decoder.old) (D.charge decoder.old)) (D.failures decoder.old) (D.failures decoder.new) (D.rest decoder.old) (D.rest decoder.new)) }
-    ensures count { D.failures decoder.old ≤ D.failures decoder.new }
-    ensures told { D.told decoder.old → D.told decoder.new }
-    ensures held { Held D.C.bound (length values.old * T.claim) (D.charge decoder.old) (D.charge decoder.new) }
-    ensures place { D.place decoder.new ≡ D.place decoder.old }
+    ensures { RunRead D.told D.rest D.charge D.failures D.place D.C.bound D.R.ended D.R.device T.grows T.claim (T.format D.C.setting) T.given (length values.old) (λ _. values.new) result decoder.old decoder.new }
 {
     if !decoder.is_within_limit() {
         return decode_each(decoder, values);
@@ -45,18 +37,24 @@ fn decode_each<Context: Drop, T: Decode<Context>, D: Decoder<Context = Context>>
     values: &mut [T],
 ) -> Result<(), DecodeError>
     requires { CanRelease D.C.bound (D.charge decoder.old) (length values.old * T.claim) }
-    ensures ok { D.told decoder.old → OnOk result (Decodes (λ ms. IsListOf (λ x m. T.given m x) values.new (listed ms)) (answer D.C.bound (elements (length values.old) T.claim (T.format D.C.setting)) (D.rest decoder.old) (D.charge decoder.old)) (D.rest decoder.new) (D.charge decoder.new)) }
-    ensures err { D.told decoder.old → IfErr result (Stops D.R.ended D.R.device T.grows (answer D.C.bound (elements (length values.old) T.claim (T.format D.C.setting)) (D.rest decoder.old) (D.charge decoder.old)) (D.failures decoder.old) (D.failures decoder.new) (D.rest decoder.old) (D.rest decoder.new)) }
-    ensures count { D.failures decoder.old ≤ D.failures decoder.new }
-    ensures told { D.told decoder.old → D.told decoder.new }
-    ensures held { Held D.C.bound (length values.old * T.claim) (D.charge decoder.old) (D.charge decoder.new) }
-    ensures place { D.place decoder.new ≡ D.place decoder.old }
+    ensures { RunRead D.told D.rest D.charge D.failures D.place D.C.bound D.R.ended D.R.device T.grows T.claim (T.format D.C.setting) T.given (length values.old) (λ _. values.new) result decoder.old decoder.new }
 {
     for index in 0..values.len() {
-        decoder.unclaim_bytes_read(T::claim_size());
-        values[index] = T::decode(decoder)?;
+        values[index] = decode_next(decoder)?;
     }
     Ok(())
+}
+
+/// Releases the share of one value, of the room that is reserved, and reads it.
+#[inline(always)]
+pub(crate) fn decode_next<Context: Drop, T: Decode<Context>, D: Decoder<Context = Context>>(
+    decoder: &mut D,
+) -> Result<T, DecodeError>
+    requires { CanRelease D.C.bound (D.charge decoder.old) T.claim }
+    ensures { ValueRead D.told D.rest D.charge D.failures D.place D.C.bound D.R.ended D.R.device T.grows T.claim (T.format D.C.setting) T.given result decoder.old decoder.new }
+{
+    decoder.unclaim_bytes_read(T::claim_size());
+    T::decode(decoder)
 }
 
 /// Reads `len` values, as `decode_run` does. Fails where a value does, or with `Memory` where the room for the values is
@@ -66,82 +64,53 @@ pub fn decode_vec<Context: Drop, T: Decode<Context>, D: Decoder<Context = Contex
     len: usize,
 ) -> Result<Vec<T>, DecodeError>
     requires { CanRelease D.C.bound (D.charge decoder.old) (len * T.claim) }
-    ensures ok { D.told decoder.old → IfOk result (λ v. Decodes (λ ms. IsListOf (λ x m. T.given m x) v.items (listed ms)) (answer D.C.bound (elements len T.claim (T.format D.C.setting)) (D.rest decoder.old) (D.charge decoder.old)) (D.rest decoder.new) (D.charge decoder.new)) }
-    ensures err { D.told decoder.old → IfErr result (Stops D.R.ended D.R.device (Unit {0}) (answer D.C.bound (elements len T.claim (T.format D.C.setting)) (D.rest decoder.old) (D.charge decoder.old)) (D.failures decoder.old) (D.failures decoder.new) (D.rest decoder.old) (D.rest decoder.new)) }
     ensures length { IfOk result (λ v. length v.items ≡ len) }
-    ensures count { D.failures decoder.old ≤ D.failures decoder.new }
-    ensures told { D.told decoder.old → D.told decoder.new }
-    ensures held { Held D.C.bound (len * T.claim) (D.charge decoder.old) (D.charge decoder.new) }
-    ensures place { D.place decoder.new ≡ D.place decoder.old }
+    ensures read { RunRead D.told D.rest D.charge D.failures D.place D.C.bound D.R.ended D.R.device (Unit {0}) T.claim (T.format D.C.setting) T.given len (λ v. v.items) result decoder.old decoder.new }
 {
-    if T::blank().is_none() {
+    let Some(mut values) = blank_values::<Context, T>(decoder.alloc(), len)? else {
         return decode_by_pushes(decoder, len);
-    }
-    let mut values = blank_values::<Context, T>(decoder.alloc(), len)?;
+    };
     decode_run(decoder, &mut values)?;
     Ok(values)
 }
 
-/// The same for a type without a blank value.
+/// The same for a type without blank values.
 fn decode_by_pushes<Context: Drop, T: Decode<Context>, D: Decoder<Context = Context>>(
     decoder: &mut D,
     len: usize,
 ) -> Result<Vec<T>, DecodeError>
     requires { CanRelease D.C.bound (D.charge decoder.old) (len * T.claim) }
-    ensures ok { D.told decoder.old → IfOk result (λ v. Decodes (λ ms. IsListOf (λ x m. T.given m x) v.items (listed ms)) (answer D.C.bound (elements len T.claim (T.format D.C.setting)) (D.rest decoder.old) (D.charge decoder.old)) (D.rest decoder.new) (D.charge decoder.new)) }
-    ensures err { D.told decoder.old → IfErr result (Stops D.R.ended D.R.device (Unit {0}) (answer D.C.bound (elements len T.claim (T.format D.C.setting)) (D.rest decoder.old) (D.charge decoder.old)) (D.failures decoder.old) (D.failures decoder.new) (D.rest decoder.old) (D.rest decoder.new)) }
     ensures length { IfOk result (λ v. length v.items ≡ len) }
-    ensures count { D.failures decoder.old ≤ D.failures decoder.new }
-    ensures told { D.told decoder.old → D.told decoder.new }
-    ensures held { Held D.C.bound (len * T.claim) (D.charge decoder.old) (D.charge decoder.new) }
-    ensures place { D.place decoder.new ≡ D.place decoder.old }
+    ensures read { RunRead D.told D.rest D.charge D.failures D.place D.C.bound D.R.ended D.R.device (Unit {0}) T.claim (T.format D.C.setting) T.given len (λ v. v.items) result decoder.old decoder.new }
 {
     let Ok(mut values) = Vec::with_capacity(decoder.alloc(), len) else {
         return Err(DecodeError::Memory);
     };
     for _ in 0..len {
-        decoder.unclaim_bytes_read(T::claim_size());
-        values.push_reserved(T::decode(decoder)?);
+        values.push_reserved(decode_next(decoder)?);
     }
     Ok(values)
 }
 
-/// So many blank values. Fails with `Memory` where the room for them is refused.
+/// So many values to read over, if the type has such at hand. Fails with `Memory` where the room for them is refused.
 fn blank_values<Context: Drop, T: Decode<Context>>(
     alloc: Global,
     len: usize,
-) -> Result<Vec<T>, DecodeError>
-    requires { T.has_blank }
-    ensures length { IfOk result (λ v. length v.items ≡ len) }
+) -> Result<Option<Vec<T>>, DecodeError>
+    ensures length { IfOk result (λ blank. IfSome blank (λ v. length v.items ≡ len)) }
     ensures err { IfErr result (λ e. e ≡ Memory) }
 {
+    if T::blank_array::<[T; 0]>().is_none() {
+        return Ok(None);
+    }
     let Ok(mut values) = Vec::with_capacity(alloc, len) else {
         return Err(DecodeError::Memory);
     };
     for _ in 0..len {
-        values.push_reserved(blank_value::<Context, T>());
+        let Some([blank]) = T::blank_array::<[T; 1]>() else {
+            return Ok(None);
+        };
+        values.push_reserved(blank);
     }
-    Ok(values)
-}
-
-/// A blank array.
-pub(crate) fn blank_array<Context: Drop, T: Decode<Context>, const N: usize>() -> [T; N]
-    requires { T.has_blank }
-{
-    std::array::from_fn(
-        |_index: usize| -> T
-            requires { T.has_blank }
-        { blank_value::<Context, T>() },
-    )
-}
-
-/// A blank value.
-#[inline]
-fn blank_value<Context: Drop, T: Decode<Context>>() -> T
-    requires { T.has_blank }
-{
-    match T::blank() {
-        Some(value) => value,
-        None => unreachable!(),
-    }
+    Ok(Some(values))
 }

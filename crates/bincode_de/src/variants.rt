@@ -9,8 +9,8 @@ ghost use Rattle.bincode_wire.specs.Decoding.{Decodes, Stops};
 
 use crate::decode::Decode;
 use crate::decoder::Decoder;
-use crate::impls::numbers::{decode_byte, decode_unsigned};
-use bincode_base::error::{DecodeError, IntegerType};
+use crate::impls::numbers::{decode_byte, decode_integer};
+use bincode_base::error::DecodeError;
 use bincode_base::text::TypeName;
 use bincode_wire::sums::{NoOther, OneOf, Or, Tag, Variants};
 use bincode_wire::wire::Wire;
@@ -44,8 +44,7 @@ impl DecodeTag for u8 {
 impl DecodeTag for u32 {
     #[inline]
     fn decode_tag<D: Decoder>(decoder: &mut D) -> Result<u32, DecodeError> {
-        let tag = decode_unsigned(decoder, IntegerType::U32, 4)?;
-        Ok(tag as u32)
+        decode_integer(decoder)
     }
 }
 
@@ -184,10 +183,5 @@ where
         let found = Of::Tag::decode_tag(decoder)?;
         let of = Of::decode_part::<Of, D>(found, decoder)?;
         Ok(OneOf(of))
-    }
-
-    #[inline(always)]
-    fn blank() -> Option<Self> {
-        None
     }
 }

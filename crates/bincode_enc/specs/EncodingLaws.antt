@@ -4,14 +4,8 @@ use Rattle.std.proofs.Common.{sym, ◌∙◌, ap, subst, inl, inr, append_assoc,
 use Rattle.std.proofs.lemmas.Result.{IfErr-weaker, on_ok_weaker}
 use Rattle.bincode_base.specs.declared.error.IntegerType.{IntegerType}
 use Rattle.bincode_base.specs.declared.error.EncodeError.{EncodeError}
-use Rattle.bincode_base.specs.declared.config.Endianness.{Endianness}
-use Rattle.bincode_base.specs.declared.config.IntEncoding.{IntEncoding}
-use Rattle.bincode_base.specs.declared.config.IntEncoding.TheVariants.{Fixed, Variable}
 use Rattle.bincode_base.specs.Device.{StopsAmong, joined}
-use Rattle.bincode_base.specs.Number.{digits_of}
 use Rattle.bincode_base.specs.Format.{Format, map_format}
-use Rattle.bincode_base.specs.Integers.{spelling, spelling_pieces}
-use Rattle.bincode_base.specs.IntegerLaws.{shortest-pieces}
 use Rattle.bincode_wire.specs.Meaning.{Number, IsNumber}
 use Rattle.bincode_wire.specs.Words.{not_zero_by}
 use Rattle.bincode_wire.specs.Allowed.{AllowedWord, Both}
@@ -102,14 +96,6 @@ module _ {W : Type 0} (adds : Adds W) (refuses : Refuses W) where
       joined-append : (x y : List (List ℕ)) → joined (x ++ y) ≡ joined x ++ joined y
       joined-append [] y = refl
       joined-append (p ∷ x) y = ap (λ z. p ++ z) (joined-append x y) ∙ sym (append_assoc p (joined x) (joined y))
-
-  -- the pieces of a number
-  pub halts_spelled : (A : List ℕ → Type 0) (encoding : IntEncoding) (order : Endianness) (width n : ℕ) → A (spelling encoding order width n) → (N : EncodeError → Type 0) (before after : W) (e : EncodeError) → StopsAmong adds refuses (spelling_pieces encoding order width n) before e after → Halts adds refuses A N before after e
-  halts_spelled A encoding order width n a = halts_among A (spelling_pieces encoding order width n) (subst A (sym (spelled encoding)) a)
-    where
-      spelled : (encoding : IntEncoding) → joined (spelling_pieces encoding order width n) ≡ spelling encoding order width n
-      spelled Fixed = append-nil (digits_of order width n)
-      spelled Variable = shortest-pieces order n
 
 -- A whole whose words are those of two parts in turn, and that can be written where they can.
 module _ {R S U : Type 0} (pair : R → S → U) (split : U → R × S) {A B C : List ℕ → Type 0} (to : (bytes : List ℕ) → Both A B bytes → C bytes) (from : (bytes : List ℕ) → C bytes → Both A B bytes) where

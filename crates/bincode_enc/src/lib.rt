@@ -5,5 +5,6 @@ pub mod encode;
 pub mod encode_parts;
 pub mod encoder;
 mod impls;
+mod rows;
 pub mod runs;
 pub mod variants;

@@ -4,7 +4,7 @@ ghost use Rattle.bincode_base.specs.Number.{zigzag};
 ghost use Rattle.bincode_base.specs.Integers.{shortest, shortest_pieces};
 ghost use Rattle.bincode_base.specs.Device.{StopsAmong};
 
-use super::varint_encode_u128;
+use super::{varint_encode_u16, varint_encode_u32, varint_encode_u64, varint_encode_u128};
 use crate::config::Endianness;
 use crate::error::EncodeError;
 use crate::write::Writer;
@@ -12,6 +12,7 @@ use crate::zigzag::zigzag;
 
 /// Writes the shortest spelling of the number of an integer by zigzag. Where the writer refuses a piece, those before it
 /// stay written.
+#[inline(always)]
 pub fn varint_encode_i16<W: Writer>(
     writer: &mut W,
     endian: Endianness,
@@ -21,10 +22,11 @@ pub fn varint_encode_i16<W: Writer>(
     ensures err { IfErr result (λ e. StopsAmong W.adds W.refuses (shortest_pieces endian (zigzag val)) writer.old e writer.new) }
     ensures place { W.place writer.new ≡ W.place writer.old }
 {
-    varint_encode_i32(writer, endian, i32::from(val))
+    varint_encode_u16(writer, endian, zigzag(i128::from(val)) as u16)
 }
 
 /// Writes the shortest spelling of the number of an `i32`, as `varint_encode_i16` does.
+#[inline(always)]
 pub fn varint_encode_i32<W: Writer>(
     writer: &mut W,
     endian: Endianness,
@@ -34,10 +36,11 @@ pub fn varint_encode_i32<W: Writer>(
     ensures err { IfErr result (λ e. StopsAmong W.adds W.refuses (shortest_pieces endian (zigzag val)) writer.old e writer.new) }
     ensures place { W.place writer.new ≡ W.place writer.old }
 {
-    varint_encode_i64(writer, endian, i64::from(val))
+    varint_encode_u32(writer, endian, zigzag(i128::from(val)) as u32)
 }
 
 /// Writes the shortest spelling of the number of an `i64`, as `varint_encode_i16` does.
+#[inline(always)]
 pub fn varint_encode_i64<W: Writer>(
     writer: &mut W,
     endian: Endianness,
@@ -47,10 +50,11 @@ pub fn varint_encode_i64<W: Writer>(
     ensures err { IfErr result (λ e. StopsAmong W.adds W.refuses (shortest_pieces endian (zigzag val)) writer.old e writer.new) }
     ensures place { W.place writer.new ≡ W.place writer.old }
 {
-    varint_encode_i128(writer, endian, i128::from(val))
+    varint_encode_u64(writer, endian, zigzag(i128::from(val)) as u64)
 }
 
 /// Writes the shortest spelling of the number of an `i128`, as `varint_encode_i16` does.
+#[inline(always)]
 pub fn varint_encode_i128<W: Writer>(
     writer: &mut W,
     endian: Endianness,
@@ -64,6 +68,7 @@ pub fn varint_encode_i128<W: Writer>(
 }
 
 /// Writes the shortest spelling of the number of an `isize`, as `varint_encode_i16` does.
+#[inline(always)]
 pub fn varint_encode_isize<W: Writer>(
     writer: &mut W,
     endian: Endianness,
@@ -73,5 +78,5 @@ pub fn varint_encode_isize<W: Writer>(
     ensures err { IfErr result (λ e. StopsAmong W.adds W.refuses (shortest_pieces endian (zigzag val)) writer.old e writer.new) }
     ensures place { W.place writer.new ≡ W.place writer.old }
 {
-    varint_encode_i64(writer, endian, val as i64)
+    varint_encode_u64(writer, endian, zigzag(val as i128) as u64)
 }

@@ -11,7 +11,7 @@ use crate::write::Writer;
 
 /// Writes the shortest spelling of a number: its tag, then its bytes in the order. Where the writer refuses a piece,
 /// those before it stay written.
-#[inline]
+#[inline(always)]
 pub fn varint_encode_u16<W: Writer>(
     writer: &mut W,
     endian: Endianness,
@@ -29,7 +29,7 @@ pub fn varint_encode_u16<W: Writer>(
 }
 
 /// Writes the shortest spelling of a `u32`, as `varint_encode_u16` does.
-#[inline]
+#[inline(always)]
 pub fn varint_encode_u32<W: Writer>(
     writer: &mut W,
     endian: Endianness,
@@ -49,7 +49,7 @@ pub fn varint_encode_u32<W: Writer>(
 }
 
 /// Writes the shortest spelling of a `u64`, as `varint_encode_u16` does.
-#[inline]
+#[inline(always)]
 pub fn varint_encode_u64<W: Writer>(
     writer: &mut W,
     endian: Endianness,
@@ -71,7 +71,7 @@ pub fn varint_encode_u64<W: Writer>(
 }
 
 /// Writes the shortest spelling of a `u128`, as `varint_encode_u16` does.
-#[inline]
+#[inline(always)]
 pub fn varint_encode_u128<W: Writer>(
     writer: &mut W,
     endian: Endianness,
@@ -108,7 +108,7 @@ pub fn varint_encode_usize<W: Writer>(
 }
 
 /// Writes a tag, and then the bytes behind it.
-#[inline]
+#[inline(always)]
 fn write_tagged<W: Writer>(writer: &mut W, tag: u8, bytes: &[u8]) -> Result<(), EncodeError>
     ensures ok { OnOk result (W.adds writer.old (tag ∷ bytes.now) writer.new) }
     ensures err { IfErr result (λ e. StopsAmong W.adds W.refuses ((tag ∷ []) ∷ bytes.now ∷ []) writer.old e writer.new) }

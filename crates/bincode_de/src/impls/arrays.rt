@@ -1,6 +1,6 @@
 //! Decoding of arrays.
 use crate::arrays::decode_array;
-use crate::decode::Decode;
+use crate::decode::{ArrayOf, Decode};
 use crate::decoder::Decoder;
 use bincode_base::error::DecodeError;
 
@@ -10,8 +10,9 @@ impl<Context: Drop, T: Decode<Context>, const N: usize> Decode<Context> for [T; 
         decode_array(decoder)
     }
 
+    // Written out, since the provided one isn't proved for arrays of any size.
     #[inline(always)]
-    fn blank() -> Option<Self> {
+    fn blank_array<A: ArrayOf<Self>>() -> Option<A> {
         None
     }
 }

@@ -8,20 +8,10 @@ impl<Context: Drop, T: Decode<Context>> Decode<Context> for Cell<T> {
     fn decode<D: Decoder<Context = Context>>(decoder: &mut D) -> Result<Cell<T>, DecodeError> {
         Ok(Cell::new(T::decode(decoder)?))
     }
-
-    #[inline(always)]
-    fn blank() -> Option<Self> {
-        None
-    }
 }
 
 impl<Context: Drop, T: Decode<Context>> Decode<Context> for RefCell<T> {
     fn decode<D: Decoder<Context = Context>>(decoder: &mut D) -> Result<RefCell<T>, DecodeError> {
         Ok(RefCell::new(T::decode(decoder)?))
-    }
-
-    #[inline(always)]
-    fn blank() -> Option<Self> {
-        None
     }
 }

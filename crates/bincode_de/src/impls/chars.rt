@@ -1,5 +1,5 @@
 //! Decoding of characters.
-ghost use Rattle.std.specs.Prelude.{◌≡◌, ◌≤◌, [], Some, IfOk, IfErr, ⊤};
+ghost use Rattle.std.specs.Prelude.{◌≡◌, ◌≤◌, [], Some, IfOk, IfErr};
 ghost use Rattle.bincode_base.specs.Format.{Took, charged};
 ghost use Rattle.bincode_base.specs.Reads.{Misreads};
 ghost use Rattle.bincode_wire.specs.Meaning.{Character};
@@ -7,7 +7,7 @@ ghost use Rattle.bincode_wire.specs.Words.{char_width, rest_of_char};
 ghost use Rattle.bincode_wire.specs.Answer.{answer, Gave, Charges};
 ghost use Rattle.bincode_wire.specs.Decoding.{Stops};
 
-use crate::decode::Decode;
+use crate::decode::{ArrayOf, Decode};
 use crate::decoder::Decoder;
 use crate::impls::numbers::read_byte_from;
 use bincode_base::error::DecodeError;
@@ -52,8 +52,6 @@ fn decode_rest_of_char<D: Decoder>(
 }
 
 impl<Context: Drop> Decode<Context> for char {
-    ghost has_blank = { ⊤ };
-
     #[inline(always)]
     fn decode<D: Decoder<Context = Context>>(decoder: &mut D) -> Result<char, DecodeError> {
         let first = read_byte_from(decoder)?;
@@ -64,7 +62,7 @@ impl<Context: Drop> Decode<Context> for char {
     }
 
     #[inline(always)]
-    fn blank() -> Option<Self> {
-        Some('\0')
+    fn blank_array<A: ArrayOf<Self>>() -> Option<A> {
+        Some(A::of_defaults())
     }
 }

@@ -1,11 +1,11 @@
 //! Decoding of truth values, `Option`, `Result` and `Bound`.
-ghost use Rattle.std.specs.Prelude.{◌≡◌, ◌≤◌, IfOk, IfErr, ⊤};
+ghost use Rattle.std.specs.Prelude.{◌≡◌, ◌≤◌, IfOk, IfErr};
 ghost use Rattle.bincode_wire.specs.Meaning.{IsTruth};
 ghost use Rattle.bincode_wire.specs.Words.{truth};
 ghost use Rattle.bincode_wire.specs.Answer.{answer, Charges};
 ghost use Rattle.bincode_wire.specs.Decoding.{Decodes, Stops};
 
-use crate::decode::Decode;
+use crate::decode::{ArrayOf, Decode};
 use crate::decoder::Decoder;
 use crate::from_parts::FromParts;
 use crate::impls::numbers::decode_byte;
@@ -33,15 +33,13 @@ fn decode_truth<D: Decoder>(decoder: &mut D) -> Result<bool, DecodeError>
 }
 
 impl<Context: Drop> Decode<Context> for bool {
-    ghost has_blank = { ⊤ };
-
     fn decode<D: Decoder<Context = Context>>(decoder: &mut D) -> Result<bool, DecodeError> {
         decode_truth(decoder)
     }
 
     #[inline(always)]
-    fn blank() -> Option<Self> {
-        Some(false)
+    fn blank_array<A: ArrayOf<Self>>() -> Option<A> {
+        Some(A::of_defaults())
     }
 }
 

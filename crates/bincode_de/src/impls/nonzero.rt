@@ -31,11 +31,6 @@ impl<Context: Drop> Decode<Context> for NonZeroU8 {
         let n = u8::decode(decoder)?;
         not_zero(NonZeroU8::new(n), IntegerType::U8)
     }
-
-    #[inline(always)]
-    fn blank() -> Option<Self> {
-        None
-    }
 }
 
 impl<Context: Drop> Decode<Context> for NonZeroU16 {
@@ -43,11 +38,6 @@ impl<Context: Drop> Decode<Context> for NonZeroU16 {
     fn decode<D: Decoder<Context = Context>>(decoder: &mut D) -> Result<NonZeroU16, DecodeError> {
         let n = u16::decode(decoder)?;
         not_zero(NonZeroU16::new(n), IntegerType::U16)
-    }
-
-    #[inline(always)]
-    fn blank() -> Option<Self> {
-        None
     }
 }
 
@@ -57,11 +47,6 @@ impl<Context: Drop> Decode<Context> for NonZeroU32 {
         let n = u32::decode(decoder)?;
         not_zero(NonZeroU32::new(n), IntegerType::U32)
     }
-
-    #[inline(always)]
-    fn blank() -> Option<Self> {
-        None
-    }
 }
 
 impl<Context: Drop> Decode<Context> for NonZeroU64 {
@@ -69,11 +54,6 @@ impl<Context: Drop> Decode<Context> for NonZeroU64 {
     fn decode<D: Decoder<Context = Context>>(decoder: &mut D) -> Result<NonZeroU64, DecodeError> {
         let n = u64::decode(decoder)?;
         not_zero(NonZeroU64::new(n), IntegerType::U64)
-    }
-
-    #[inline(always)]
-    fn blank() -> Option<Self> {
-        None
     }
 }
 
@@ -83,11 +63,6 @@ impl<Context: Drop> Decode<Context> for NonZeroU128 {
         let n = u128::decode(decoder)?;
         not_zero(NonZeroU128::new(n), IntegerType::U128)
     }
-
-    #[inline(always)]
-    fn blank() -> Option<Self> {
-        None
-    }
 }
 
 impl<Context: Drop> Decode<Context> for NonZeroUsize {
@@ -95,11 +70,6 @@ impl<Context: Drop> Decode<Context> for NonZeroUsize {
     fn decode<D: Decoder<Context = Context>>(decoder: &mut D) -> Result<NonZeroUsize, DecodeError> {
         let n = usize::decode(decoder)?;
         not_zero(NonZeroUsize::new(n), IntegerType::Usize)
-    }
-
-    #[inline(always)]
-    fn blank() -> Option<Self> {
-        None
     }
 }
 
@@ -109,11 +79,6 @@ impl<Context: Drop> Decode<Context> for NonZeroI8 {
         let n = i8::decode(decoder)?;
         not_zero(NonZeroI8::new(n), IntegerType::I8)
     }
-
-    #[inline(always)]
-    fn blank() -> Option<Self> {
-        None
-    }
 }
 
 impl<Context: Drop> Decode<Context> for NonZeroI16 {
@@ -121,11 +86,6 @@ impl<Context: Drop> Decode<Context> for NonZeroI16 {
     fn decode<D: Decoder<Context = Context>>(decoder: &mut D) -> Result<NonZeroI16, DecodeError> {
         let n = i16::decode(decoder)?;
         not_zero(NonZeroI16::new(n), IntegerType::I16)
-    }
-
-    #[inline(always)]
-    fn blank() -> Option<Self> {
-        None
     }
 }
 
@@ -135,11 +95,6 @@ impl<Context: Drop> Decode<Context> for NonZeroI32 {
         let n = i32::decode(decoder)?;
         not_zero(NonZeroI32::new(n), IntegerType::I32)
     }
-
-    #[inline(always)]
-    fn blank() -> Option<Self> {
-        None
-    }
 }
 
 impl<Context: Drop> Decode<Context> for NonZeroI64 {
@@ -147,11 +102,6 @@ impl<Context: Drop> Decode<Context> for NonZeroI64 {
     fn decode<D: Decoder<Context = Context>>(decoder: &mut D) -> Result<NonZeroI64, DecodeError> {
         let n = i64::decode(decoder)?;
         not_zero(NonZeroI64::new(n), IntegerType::I64)
-    }
-
-    #[inline(always)]
-    fn blank() -> Option<Self> {
-        None
     }
 }
 
@@ -161,11 +111,6 @@ impl<Context: Drop> Decode<Context> for NonZeroI128 {
         let n = i128::decode(decoder)?;
         not_zero(NonZeroI128::new(n), IntegerType::I128)
     }
-
-    #[inline(always)]
-    fn blank() -> Option<Self> {
-        None
-    }
 }
 
 impl<Context: Drop> Decode<Context> for NonZeroIsize {
@@ -173,10 +118,5 @@ impl<Context: Drop> Decode<Context> for NonZeroIsize {
     fn decode<D: Decoder<Context = Context>>(decoder: &mut D) -> Result<NonZeroIsize, DecodeError> {
         let n = isize::decode(decoder)?;
         not_zero(NonZeroIsize::new(n), IntegerType::Isize)
-    }
-
-    #[inline(always)]
-    fn blank() -> Option<Self> {
-        None
     }
 }

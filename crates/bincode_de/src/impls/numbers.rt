@@ -1,53 +1,46 @@
 //! Decoding of integers.
 #![tactic(auto, using(crate::proofs::Casts::by_number))]
 
-ghost use Rattle.std.specs.Prelude.{◌≡◌, ◌<◌, ◌≤◌, ◌^◌, ◌⊎◌, [], ◌++◌, ⊤, length, OnOk, IfOk, IfErr};
+ghost use Rattle.std.specs.Prelude.{◌≡◌, ◌<◌, ◌≤◌, ◌⊎◌, [], ◌++◌, length, OnOk, IfOk, IfErr};
 ghost use Rattle.bincode_base.specs.Device.{FallsShort, Rose, Takes};
 ghost use Rattle.bincode_base.specs.Format.{Took, map_format};
-ghost use Rattle.bincode_base.specs.Number.{from_two_complement, FitsIn};
+ghost use Rattle.bincode_base.specs.Number.{from_two_complement};
 ghost use Rattle.bincode_base.specs.Reads.{Misreads};
-ghost use Rattle.bincode_base.specs.Integers.{byte, number_by, integer_by, tags_of, unsigned_tag, signed_tag, unsigned, signed, unsigned_byte, signed_byte};
-ghost use Rattle.bincode_base.specs.IntegerLaws.{IsWidth};
+ghost use Rattle.bincode_base.specs.Integers.{byte, unsigned_byte, signed_byte};
 ghost use Rattle.bincode_wire.specs.Answer.{answer, Gave, Charges};
 ghost use Rattle.bincode_wire.specs.Decoding.{Stops};
 
-use crate::decode::Decode;
+use crate::decode::{ArrayOf, Decode};
 use crate::decoder::Decoder;
-use bincode_base::bytes::read_byte;
+use bincode_base::bytes::{read_byte, read_i8};
 use bincode_base::config::Config;
-use bincode_base::error::{DecodeError, IntegerType};
-use bincode_base::number::{read_i8, read_number, read_signed};
+use bincode_base::error::DecodeError;
+use bincode_base::number::Integer;
 use bincode_base::read::Reader;
+use bincode_wire::wire::Wire;
 
-/// Charges for an unsigned number of so many bytes, and reads it. A fault speaks of it by name, and leaves the charge.
-pub(crate) fn decode_unsigned<D: Decoder>(
+/// Charges for all bytes of an integer, and reads it as the configuration says. Fails where the charge passes the limit, and
+/// where `Integer::read` does. A fault leaves the charge.
+#[inline(always)]
+pub(crate) fn decode_integer<T: Integer + Wire, D: Decoder>(
     decoder: &mut D,
-    name: IntegerType,
-    width: usize,
-) -> Result<u128, DecodeError>
-    requires width { IsWidth width }
-    requires tags { tags_of name ≡ unsigned_tag }
-    ensures ok { D.told decoder.old → IfOk result (λ v. answer D.C.bound (unsigned name width D.C.setting) (D.rest decoder.old) (D.charge decoder.old) ≡ Gave v (D.rest decoder.new) (D.charge decoder.new)) }
-    ensures fits { IfOk result (λ v. v < 256 ^ width) }
-    ensures err { D.told decoder.old → IfErr result (Stops D.R.ended D.R.device ⊥ (answer D.C.bound (unsigned name width D.C.setting) (D.rest decoder.old) (D.charge decoder.old)) (D.failures decoder.old) (D.failures decoder.new) (D.rest decoder.old) (D.rest decoder.new)) }
+) -> Result<T, DecodeError>
+    requires { T.claim ≡ T.width }
+    ensures ok { D.told decoder.old → IfOk result (λ v. answer D.C.bound (T.spelling.words D.C.setting) (D.rest decoder.old) (D.charge decoder.old) ≡ Gave v (D.rest decoder.new) (D.charge decoder.new)) }
+    ensures err { D.told decoder.old → IfErr result (Stops D.R.ended D.R.device ⊥ (answer D.C.bound (T.spelling.words D.C.setting) (D.rest decoder.old) (D.charge decoder.old)) (D.failures decoder.old) (D.failures decoder.new) (D.rest decoder.old) (D.rest decoder.new)) }
     ensures count { D.failures decoder.old ≤ D.failures decoder.new }
     ensures told { D.told decoder.old → D.told decoder.new }
-    ensures charge { Charges D.C.bound (D.charge decoder.old) width (D.charge decoder.new) }
+    ensures charge { Charges D.C.bound (D.charge decoder.old) T.width (D.charge decoder.new) }
     ensures place { D.place decoder.new ≡ D.place decoder.old }
 {
-    decoder.claim_bytes_read(width)?;
-    read_number_from(decoder, name, width)
+    decoder.claim_bytes_read(T::claim_size())?;
+    read_integer_from(decoder)
 }
 
-fn read_number_from<D: Decoder>(
-    decoder: &mut D,
-    name: IntegerType,
-    width: usize,
-) -> Result<u128, DecodeError>
-    requires { IsWidth width }
-    ensures ok { D.told decoder.old → IfOk result (λ v. (number_by (tags_of name) name D.C.setting.order width D.C.setting.encoding).read (D.rest decoder.old) ≡ Took v (D.rest decoder.new) []) }
-    ensures fits { IfOk result (λ v. v < 256 ^ width) }
-    ensures err { D.told decoder.old → IfErr result (Misreads D.R.ended D.R.device ((number_by (tags_of name) name D.C.setting.order width D.C.setting.encoding).read (D.rest decoder.old)) (D.failures decoder.old) (D.failures decoder.new) (D.rest decoder.old) (D.rest decoder.new)) }
+#[inline(always)]
+fn read_integer_from<T: Integer, D: Decoder>(decoder: &mut D) -> Result<T, DecodeError>
+    ensures ok { D.told decoder.old → IfOk result (λ v. (T.spelling.read_by D.C.setting.order D.C.setting.encoding).read (D.rest decoder.old) ≡ Took v (D.rest decoder.new) []) }
+    ensures err { D.told decoder.old → IfErr result (Misreads D.R.ended D.R.device ((T.spelling.read_by D.C.setting.order D.C.setting.encoding).read (D.rest decoder.old)) (D.failures decoder.old) (D.failures decoder.new) (D.rest decoder.old) (D.rest decoder.new)) }
     ensures count { D.failures decoder.old ≤ D.failures decoder.new }
     ensures told { D.told decoder.old → D.told decoder.new }
     ensures charge { D.charge decoder.new ≡ D.charge decoder.old }
@@ -55,46 +48,7 @@ fn read_number_from<D: Decoder>(
 {
     let endian = decoder.config().endianness();
     let encoding = decoder.config().int_encoding();
-    read_number(decoder.reader(), endian, encoding, name, width)
-}
-
-/// Charges for a signed number of so many bytes, and reads it. A fault speaks of it by name, and leaves the charge.
-pub(crate) fn decode_signed<D: Decoder>(
-    decoder: &mut D,
-    name: IntegerType,
-    width: usize,
-) -> Result<i128, DecodeError>
-    requires width { IsWidth width }
-    requires tags { tags_of name ≡ signed_tag }
-    ensures ok { D.told decoder.old → IfOk result (λ v. answer D.C.bound (signed name width D.C.setting) (D.rest decoder.old) (D.charge decoder.old) ≡ Gave v (D.rest decoder.new) (D.charge decoder.new)) }
-    ensures fits { IfOk result (λ v. FitsIn width v) }
-    ensures err { D.told decoder.old → IfErr result (Stops D.R.ended D.R.device ⊥ (answer D.C.bound (signed name width D.C.setting) (D.rest decoder.old) (D.charge decoder.old)) (D.failures decoder.old) (D.failures decoder.new) (D.rest decoder.old) (D.rest decoder.new)) }
-    ensures count { D.failures decoder.old ≤ D.failures decoder.new }
-    ensures told { D.told decoder.old → D.told decoder.new }
-    ensures charge { Charges D.C.bound (D.charge decoder.old) width (D.charge decoder.new) }
-    ensures place { D.place decoder.new ≡ D.place decoder.old }
-{
-    decoder.claim_bytes_read(width)?;
-    read_signed_from(decoder, name, width)
-}
-
-fn read_signed_from<D: Decoder>(
-    decoder: &mut D,
-    name: IntegerType,
-    width: usize,
-) -> Result<i128, DecodeError>
-    requires { IsWidth width }
-    ensures ok { D.told decoder.old → IfOk result (λ v. (map_format (integer_by width D.C.setting.encoding) (number_by (tags_of name) name D.C.setting.order width D.C.setting.encoding)).read (D.rest decoder.old) ≡ Took v (D.rest decoder.new) []) }
-    ensures fits { IfOk result (λ v. FitsIn width v) }
-    ensures err { D.told decoder.old → IfErr result (Misreads D.R.ended D.R.device ((map_format (integer_by width D.C.setting.encoding) (number_by (tags_of name) name D.C.setting.order width D.C.setting.encoding)).read (D.rest decoder.old)) (D.failures decoder.old) (D.failures decoder.new) (D.rest decoder.old) (D.rest decoder.new)) }
-    ensures count { D.failures decoder.old ≤ D.failures decoder.new }
-    ensures told { D.told decoder.old → D.told decoder.new }
-    ensures charge { D.charge decoder.new ≡ D.charge decoder.old }
-    ensures place { D.place decoder.new ≡ D.place decoder.old }
-{
-    let endian = decoder.config().endianness();
-    let encoding = decoder.config().int_encoding();
-    read_signed(decoder.reader(), endian, encoding, name, width)
+    T::read(decoder.reader(), endian, encoding)
 }
 
 /// Charges for a byte, and reads it. A fault leaves the charge.
@@ -146,16 +100,14 @@ fn read_i8_from<D: Decoder>(decoder: &mut D) -> Result<i8, DecodeError>
 }
 
 impl<Context: Drop> Decode<Context> for u8 {
-    ghost has_blank = { ⊤ };
-
     #[inline(always)]
     fn decode<D: Decoder<Context = Context>>(decoder: &mut D) -> Result<u8, DecodeError> {
         decode_byte(decoder)
     }
 
     #[inline(always)]
-    fn blank() -> Option<u8> {
-        Some(0)
+    fn blank_array<A: ArrayOf<Self>>() -> Option<A> {
+        Some(A::of_defaults())
     }
 
     #[inline(always)]
@@ -182,163 +134,133 @@ pub(crate) fn read_from<D: Decoder>(decoder: &mut D, bytes: &mut [u8]) -> Result
 }
 
 impl<Context: Drop> Decode<Context> for u16 {
-    ghost has_blank = { ⊤ };
-
     #[inline(always)]
     fn decode<D: Decoder<Context = Context>>(decoder: &mut D) -> Result<u16, DecodeError> {
-        let n = decode_unsigned(decoder, IntegerType::U16, 2)?;
-        Ok(n as u16)
+        decode_integer(decoder)
     }
 
     #[inline(always)]
-    fn blank() -> Option<u16> {
-        Some(0)
+    fn blank_array<A: ArrayOf<Self>>() -> Option<A> {
+        Some(A::of_defaults())
     }
 }
 
 impl<Context: Drop> Decode<Context> for u32 {
-    ghost has_blank = { ⊤ };
-
     #[inline(always)]
     fn decode<D: Decoder<Context = Context>>(decoder: &mut D) -> Result<u32, DecodeError> {
-        let n = decode_unsigned(decoder, IntegerType::U32, 4)?;
-        Ok(n as u32)
+        decode_integer(decoder)
     }
 
     #[inline(always)]
-    fn blank() -> Option<u32> {
-        Some(0)
+    fn blank_array<A: ArrayOf<Self>>() -> Option<A> {
+        Some(A::of_defaults())
     }
 }
 
 impl<Context: Drop> Decode<Context> for u64 {
-    ghost has_blank = { ⊤ };
-
     #[inline(always)]
     fn decode<D: Decoder<Context = Context>>(decoder: &mut D) -> Result<u64, DecodeError> {
-        let n = decode_unsigned(decoder, IntegerType::U64, 8)?;
-        Ok(n as u64)
+        decode_integer(decoder)
     }
 
     #[inline(always)]
-    fn blank() -> Option<u64> {
-        Some(0)
+    fn blank_array<A: ArrayOf<Self>>() -> Option<A> {
+        Some(A::of_defaults())
     }
 }
 
 impl<Context: Drop> Decode<Context> for u128 {
-    ghost has_blank = { ⊤ };
-
     #[inline(always)]
     fn decode<D: Decoder<Context = Context>>(decoder: &mut D) -> Result<u128, DecodeError> {
-        decode_unsigned(decoder, IntegerType::U128, 16)
+        decode_integer(decoder)
     }
 
     #[inline(always)]
-    fn blank() -> Option<u128> {
-        Some(0)
+    fn blank_array<A: ArrayOf<Self>>() -> Option<A> {
+        Some(A::of_defaults())
     }
 }
 
 impl<Context: Drop> Decode<Context> for usize {
-    ghost has_blank = { ⊤ };
-
     #[inline(always)]
     fn decode<D: Decoder<Context = Context>>(decoder: &mut D) -> Result<usize, DecodeError> {
-        let n = decode_unsigned(decoder, IntegerType::Usize, 8)?;
-        Ok(n as usize)
+        decode_integer(decoder)
     }
 
     #[inline(always)]
-    fn blank() -> Option<usize> {
-        Some(0)
+    fn blank_array<A: ArrayOf<Self>>() -> Option<A> {
+        Some(A::of_defaults())
     }
 }
 
 impl<Context: Drop> Decode<Context> for i8 {
-    ghost has_blank = { ⊤ };
-
     #[inline(always)]
     fn decode<D: Decoder<Context = Context>>(decoder: &mut D) -> Result<i8, DecodeError> {
         decode_signed_byte(decoder)
     }
 
     #[inline(always)]
-    fn blank() -> Option<i8> {
-        Some(0)
+    fn blank_array<A: ArrayOf<Self>>() -> Option<A> {
+        Some(A::of_defaults())
     }
 }
 
 impl<Context: Drop> Decode<Context> for i16 {
-    ghost has_blank = { ⊤ };
-
     #[inline(always)]
     fn decode<D: Decoder<Context = Context>>(decoder: &mut D) -> Result<i16, DecodeError> {
-        let n = decode_signed(decoder, IntegerType::I16, 2)?;
-        Ok(n as i16)
+        decode_integer(decoder)
     }
 
     #[inline(always)]
-    fn blank() -> Option<i16> {
-        Some(0)
+    fn blank_array<A: ArrayOf<Self>>() -> Option<A> {
+        Some(A::of_defaults())
     }
 }
 
 impl<Context: Drop> Decode<Context> for i32 {
-    ghost has_blank = { ⊤ };
-
     #[inline(always)]
     fn decode<D: Decoder<Context = Context>>(decoder: &mut D) -> Result<i32, DecodeError> {
-        let n = decode_signed(decoder, IntegerType::I32, 4)?;
-        Ok(n as i32)
+        decode_integer(decoder)
     }
 
     #[inline(always)]
-    fn blank() -> Option<i32> {
-        Some(0)
+    fn blank_array<A: ArrayOf<Self>>() -> Option<A> {
+        Some(A::of_defaults())
     }
 }
 
 impl<Context: Drop> Decode<Context> for i64 {
-    ghost has_blank = { ⊤ };
-
     #[inline(always)]
     fn decode<D: Decoder<Context = Context>>(decoder: &mut D) -> Result<i64, DecodeError> {
-        let n = decode_signed(decoder, IntegerType::I64, 8)?;
-        Ok(n as i64)
+        decode_integer(decoder)
     }
 
     #[inline(always)]
-    fn blank() -> Option<i64> {
-        Some(0)
+    fn blank_array<A: ArrayOf<Self>>() -> Option<A> {
+        Some(A::of_defaults())
     }
 }
 
 impl<Context: Drop> Decode<Context> for i128 {
-    ghost has_blank = { ⊤ };
-
     #[inline(always)]
     fn decode<D: Decoder<Context = Context>>(decoder: &mut D) -> Result<i128, DecodeError> {
-        decode_signed(decoder, IntegerType::I128, 16)
+        decode_integer(decoder)
     }
 
     #[inline(always)]
-    fn blank() -> Option<i128> {
-        Some(0)
+    fn blank_array<A: ArrayOf<Self>>() -> Option<A> {
+        Some(A::of_defaults())
     }
 }
 
 impl<Context: Drop> Decode<Context> for isize {
-    ghost has_blank = { ⊤ };
-
     #[inline(always)]
     fn decode<D: Decoder<Context = Context>>(decoder: &mut D) -> Result<isize, DecodeError> {
-        let n = decode_signed(decoder, IntegerType::Isize, 8)?;
-        Ok(n as isize)
+        decode_integer(decoder)
     }
 
     #[inline(always)]
-    fn blank() -> Option<isize> {
-        Some(0)
+    fn blank_array<A: ArrayOf<Self>>() -> Option<A> {
+        Some(A::of_defaults())
     }
 }

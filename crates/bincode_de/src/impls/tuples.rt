@@ -1,7 +1,5 @@
 //! Decoding of tuples.
-ghost use Rattle.std.specs.Prelude.{⊤};
-
-use crate::decode::Decode;
+use crate::decode::{ArrayOf, Decode};
 use crate::decoder::Decoder;
 use crate::from_parts::FromParts;
 use bincode_base::error::DecodeError;
@@ -9,16 +7,14 @@ use bincode_wire::rows::{LongRow, Row};
 use bincode_wire::wire::Wire;
 
 impl<Context: Drop> Decode<Context> for () {
-    ghost has_blank = { ⊤ };
-
     #[inline]
     fn decode<D: Decoder<Context = Context>>(_decoder: &mut D) -> Result<(), DecodeError> {
         Ok(())
     }
 
     #[inline(always)]
-    fn blank() -> Option<Self> {
-        Some(())
+    fn blank_array<A: ArrayOf<Self>>() -> Option<A> {
+        Some(A::of_defaults())
     }
 }
 
@@ -29,11 +25,6 @@ impl<Context: Drop, A: Decode<Context>, Others: Decode<Context>> Decode<Context>
         let first = A::decode(decoder)?;
         let others = Others::decode(decoder)?;
         Ok(Row(first, others))
-    }
-
-    #[inline(always)]
-    fn blank() -> Option<Self> {
-        None
     }
 }
 
@@ -49,11 +40,6 @@ impl<
     fn decode<Z: Decoder<Context = Context>>(decoder: &mut Z) -> Result<Self, DecodeError> {
         let Row(a, Row(b, Row(c, Row(d, others)))) = Decode::decode(decoder)?;
         Ok(LongRow(a, b, c, d, others))
-    }
-
-    #[inline(always)]
-    fn blank() -> Option<Self> {
-        None
     }
 }
 

@@ -1,54 +1,34 @@
 //! Encoding of integers other than 0.
-ghost use Rattle.std.specs.Prelude.{◌≡◌, ◌<◌, ◌^◌, pos, unsigned_abs, FitsSigned, OnOk, IfErr};
-ghost use Rattle.std.specs.Int.{w8};
-ghost use Rattle.bincode_base.specs.declared.error.IntegerType.{IntegerType as Name};
+ghost use Rattle.std.specs.Prelude.{◌≡◌, ◌<◌, pos, unsigned_abs, OnOk, IfErr};
 ghost use Rattle.bincode_base.specs.declared.error.IntegerType.TheVariants.{U8, I8};
-ghost use Rattle.bincode_base.specs.Integers.{unsigned, signed, unsigned_byte, signed_byte};
-ghost use Rattle.bincode_base.specs.Number.{FitsIn};
-ghost use Rattle.bincode_base.specs.IntegerLaws.{IsWidth};
-ghost use Rattle.bincode_wire.specs.Meaning.{IsNumber};
-ghost use Rattle.bincode_wire.specs.Words.{natural, integral, not_zero, not_zero_integer};
+ghost use Rattle.bincode_base.specs.Format.{map_format};
+ghost use Rattle.bincode_base.specs.Integers.{unsigned_byte, signed_byte};
+ghost use Rattle.bincode_wire.specs.Meaning.{Number, IsNumber};
+ghost use Rattle.bincode_wire.specs.Words.{natural, integral, not_zero, not_zero_integer, not_zero_by};
 ghost use Rattle.bincode_wire.specs.Allowed.{AllowedWord};
 ghost use Rattle.bincode_enc.specs.Encoding.{Writes, Ready, Halts};
 
 use crate::encode::Encode;
 use crate::encode_parts::EncodeParts;
 use crate::encoder::Encoder;
-use crate::impls::numbers::{encode_signed, encode_unsigned};
+use crate::impls::numbers::encode_integer;
 use bincode_base::error::EncodeError;
+use bincode_base::number::Integer;
 use std::num::{
     NonZeroI8, NonZeroI16, NonZeroI32, NonZeroI64, NonZeroI128, NonZeroIsize, NonZeroU8,
     NonZeroU16, NonZeroU32, NonZeroU64, NonZeroU128, NonZeroUsize,
 };
 
-/// Writes an unsigned number other than 0, whatever its type's name in faults.
+/// Writes an integer other than 0.
 #[inline]
-fn encode_not_zero<E: Encoder>(encoder: &mut E, width: usize, val: u128) -> Result<(), EncodeError>
-    requires width { IsWidth width }
-    requires fits { val < 256 ^ width }
-    requires nonzero { 0 < val }
-    ensures ok { (name : Name) → OnOk result (Writes E.W.adds (AllowedWord (IsNumber (pos val)) (natural (not_zero name (unsigned name width E.C.setting)))) (E.writer_of encoder.old) (E.writer_of encoder.new)) }
-    ensures err { (name : Name) → IfErr result (Halts E.W.adds E.W.refuses (Ready (Unit {0}) (AllowedWord (IsNumber (pos val)) (natural (not_zero name (unsigned name width E.C.setting))))) (λ _. ⊥) (E.writer_of encoder.old) (E.writer_of encoder.new)) }
+fn encode_not_zero<T: Integer, E: Encoder>(encoder: &mut E, val: T) -> Result<(), EncodeError>
+    requires fits { T.spelling.Fits val }
+    requires nonzero { 0 < T.spelling.size val }
+    ensures ok { OnOk result (Writes E.W.adds (AllowedWord (IsNumber (T.spelling.integer val)) (map_format (λ k. Number (T.spelling.integer k)) (not_zero_by T.spelling.size T.spelling.name (T.spelling.words E.C.setting)))) (E.writer_of encoder.old) (E.writer_of encoder.new)) }
+    ensures err { IfErr result (Halts E.W.adds E.W.refuses (Ready (Unit {0}) (AllowedWord (IsNumber (T.spelling.integer val)) (map_format (λ k. Number (T.spelling.integer k)) (not_zero_by T.spelling.size T.spelling.name (T.spelling.words E.C.setting))))) (λ _. ⊥) (E.writer_of encoder.old) (E.writer_of encoder.new)) }
     ensures place { E.place encoder.new ≡ E.place encoder.old }
 {
-    encode_unsigned(encoder, width, val)
-}
-
-/// Writes a signed number other than 0, whatever its type's name in faults.
-#[inline]
-fn encode_signed_not_zero<E: Encoder>(
-    encoder: &mut E,
-    width: usize,
-    val: i128,
-) -> Result<(), EncodeError>
-    requires width { IsWidth width }
-    requires fits { FitsIn width val }
-    requires nonzero { 0 < unsigned_abs val }
-    ensures ok { (name : Name) → OnOk result (Writes E.W.adds (AllowedWord (IsNumber val) (integral (not_zero_integer name (signed name width E.C.setting)))) (E.writer_of encoder.old) (E.writer_of encoder.new)) }
-    ensures err { (name : Name) → IfErr result (Halts E.W.adds E.W.refuses (Ready (Unit {0}) (AllowedWord (IsNumber val) (integral (not_zero_integer name (signed name width E.C.setting))))) (λ _. ⊥) (E.writer_of encoder.old) (E.writer_of encoder.new)) }
-    ensures place { E.place encoder.new ≡ E.place encoder.old }
-{
-    encode_signed(encoder, width, val)
+    encode_integer(encoder, val)
 }
 
 /// Writes a byte other than 0.
@@ -91,7 +71,7 @@ impl EncodeParts for NonZeroU16 {
 
     #[inline]
     fn encode_parts<E: Encoder>(&self, encoder: &mut E) -> Result<(), EncodeError> {
-        encode_not_zero(encoder, 2, u128::from(self.get()))
+        encode_not_zero(encoder, self.get())
     }
 }
 
@@ -102,7 +82,7 @@ impl EncodeParts for NonZeroU32 {
 
     #[inline]
     fn encode_parts<E: Encoder>(&self, encoder: &mut E) -> Result<(), EncodeError> {
-        encode_not_zero(encoder, 4, u128::from(self.get()))
+        encode_not_zero(encoder, self.get())
     }
 }
 
@@ -113,7 +93,7 @@ impl EncodeParts for NonZeroU64 {
 
     #[inline]
     fn encode_parts<E: Encoder>(&self, encoder: &mut E) -> Result<(), EncodeError> {
-        encode_not_zero(encoder, 8, u128::from(self.get()))
+        encode_not_zero(encoder, self.get())
     }
 }
 
@@ -124,7 +104,7 @@ impl EncodeParts for NonZeroU128 {
 
     #[inline]
     fn encode_parts<E: Encoder>(&self, encoder: &mut E) -> Result<(), EncodeError> {
-        encode_not_zero(encoder, 16, self.get())
+        encode_not_zero(encoder, self.get())
     }
 }
 
@@ -135,7 +115,7 @@ impl EncodeParts for NonZeroUsize {
 
     #[inline]
     fn encode_parts<E: Encoder>(&self, encoder: &mut E) -> Result<(), EncodeError> {
-        encode_not_zero(encoder, 8, self.get() as u128)
+        encode_not_zero(encoder, self.get())
     }
 }
 
@@ -157,7 +137,7 @@ impl EncodeParts for NonZeroI16 {
 
     #[inline]
     fn encode_parts<E: Encoder>(&self, encoder: &mut E) -> Result<(), EncodeError> {
-        encode_signed_not_zero(encoder, 2, i128::from(self.get()))
+        encode_not_zero(encoder, self.get())
     }
 }
 
@@ -168,7 +148,7 @@ impl EncodeParts for NonZeroI32 {
 
     #[inline]
     fn encode_parts<E: Encoder>(&self, encoder: &mut E) -> Result<(), EncodeError> {
-        encode_signed_not_zero(encoder, 4, i128::from(self.get()))
+        encode_not_zero(encoder, self.get())
     }
 }
 
@@ -179,7 +159,7 @@ impl EncodeParts for NonZeroI64 {
 
     #[inline]
     fn encode_parts<E: Encoder>(&self, encoder: &mut E) -> Result<(), EncodeError> {
-        encode_signed_not_zero(encoder, 8, i128::from(self.get()))
+        encode_not_zero(encoder, self.get())
     }
 }
 
@@ -190,7 +170,7 @@ impl EncodeParts for NonZeroI128 {
 
     #[inline]
     fn encode_parts<E: Encoder>(&self, encoder: &mut E) -> Result<(), EncodeError> {
-        encode_signed_not_zero(encoder, 16, self.get())
+        encode_not_zero(encoder, self.get())
     }
 }
 
@@ -201,6 +181,6 @@ impl EncodeParts for NonZeroIsize {
 
     #[inline]
     fn encode_parts<E: Encoder>(&self, encoder: &mut E) -> Result<(), EncodeError> {
-        encode_signed_not_zero(encoder, 8, self.get() as i128)
+        encode_not_zero(encoder, self.get())
     }
 }

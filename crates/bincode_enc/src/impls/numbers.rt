@@ -1,54 +1,31 @@
 //! Encoding of integers.
-ghost use Rattle.std.specs.Prelude.{◌≡◌, ◌<◌, ◌^◌, pos, OnOk, IfErr};
-ghost use Rattle.bincode_base.specs.declared.error.IntegerType.{IntegerType as Name};
-ghost use Rattle.bincode_base.specs.Integers.{unsigned, signed};
-ghost use Rattle.bincode_base.specs.Number.{FitsIn};
-ghost use Rattle.bincode_base.specs.IntegerLaws.{IsWidth};
-ghost use Rattle.bincode_wire.specs.Meaning.{IsNumber};
-ghost use Rattle.bincode_wire.specs.Words.{natural, integral};
+ghost use Rattle.std.specs.Prelude.{◌≡◌, OnOk, IfErr};
+ghost use Rattle.bincode_base.specs.Format.{map_format};
+ghost use Rattle.bincode_wire.specs.Meaning.{Number, IsNumber};
 ghost use Rattle.bincode_wire.specs.Allowed.{AllowedWord};
 ghost use Rattle.bincode_enc.specs.Encoding.{Writes, Ready, Halts};
 
 use crate::encode::Encode;
 use crate::encoder::{Encoder, write_from};
+use bincode_base::bytes::byte_of_i8;
 use bincode_base::config::Config;
 use bincode_base::error::EncodeError;
-use bincode_base::number::{byte_of_i8, write_number, write_signed};
+use bincode_base::number::Integer;
 
-/// Writes an unsigned number of so many bytes, whatever its type's name in faults.
-#[inline]
-pub(crate) fn encode_unsigned<E: Encoder>(
+/// Writes an integer as the configuration says. Fails where the writer refuses a piece; those before it stay written.
+#[inline(always)]
+pub(crate) fn encode_integer<T: Integer, E: Encoder>(
     encoder: &mut E,
-    width: usize,
-    val: u128,
+    val: T,
 ) -> Result<(), EncodeError>
-    requires width { IsWidth width }
-    requires fits { val < 256 ^ width }
-    ensures ok { (name : Name) → OnOk result (Writes E.W.adds (AllowedWord (IsNumber (pos val)) (natural (unsigned name width E.C.setting))) (E.writer_of encoder.old) (E.writer_of encoder.new)) }
-    ensures err { (name : Name) → IfErr result (Halts E.W.adds E.W.refuses (Ready (Unit {0}) (AllowedWord (IsNumber (pos val)) (natural (unsigned name width E.C.setting)))) (λ _. ⊥) (E.writer_of encoder.old) (E.writer_of encoder.new)) }
+    requires fits { T.spelling.Fits val }
+    ensures ok { OnOk result (Writes E.W.adds (AllowedWord (IsNumber (T.spelling.integer val)) (map_format (λ k. Number (T.spelling.integer k)) (T.spelling.words E.C.setting))) (E.writer_of encoder.old) (E.writer_of encoder.new)) }
+    ensures err { IfErr result (Halts E.W.adds E.W.refuses (Ready (Unit {0}) (AllowedWord (IsNumber (T.spelling.integer val)) (map_format (λ k. Number (T.spelling.integer k)) (T.spelling.words E.C.setting)))) (λ _. ⊥) (E.writer_of encoder.old) (E.writer_of encoder.new)) }
     ensures place { E.place encoder.new ≡ E.place encoder.old }
 {
     let endian = encoder.config().endianness();
     let encoding = encoder.config().int_encoding();
-    write_number(encoder.writer(), endian, encoding, width, val)
-}
-
-/// Writes a signed number of so many bytes, whatever its type's name in faults.
-#[inline]
-pub(crate) fn encode_signed<E: Encoder>(
-    encoder: &mut E,
-    width: usize,
-    val: i128,
-) -> Result<(), EncodeError>
-    requires width { IsWidth width }
-    requires fits { FitsIn width val }
-    ensures ok { (name : Name) → OnOk result (Writes E.W.adds (AllowedWord (IsNumber val) (integral (signed name width E.C.setting))) (E.writer_of encoder.old) (E.writer_of encoder.new)) }
-    ensures err { (name : Name) → IfErr result (Halts E.W.adds E.W.refuses (Ready (Unit {0}) (AllowedWord (IsNumber val) (integral (signed name width E.C.setting)))) (λ _. ⊥) (E.writer_of encoder.old) (E.writer_of encoder.new)) }
-    ensures place { E.place encoder.new ≡ E.place encoder.old }
-{
-    let endian = encoder.config().endianness();
-    let encoding = encoder.config().int_encoding();
-    write_signed(encoder.writer(), endian, encoding, width, val)
+    val.write(encoder.writer(), endian, encoding)
 }
 
 impl Encode for u8 {
@@ -56,7 +33,7 @@ impl Encode for u8 {
         let _value = *self;
     }
 
-    #[inline]
+    #[inline(always)]
     fn encode<E: Encoder>(&self, encoder: &mut E) -> Result<(), EncodeError> {
         write_from(encoder, &[*self])
     }
@@ -72,9 +49,9 @@ impl Encode for u16 {
         let _value = *self;
     }
 
-    #[inline]
+    #[inline(always)]
     fn encode<E: Encoder>(&self, encoder: &mut E) -> Result<(), EncodeError> {
-        encode_unsigned(encoder, 2, u128::from(*self))
+        encode_integer(encoder, *self)
     }
 }
 
@@ -83,9 +60,9 @@ impl Encode for u32 {
         let _value = *self;
     }
 
-    #[inline]
+    #[inline(always)]
     fn encode<E: Encoder>(&self, encoder: &mut E) -> Result<(), EncodeError> {
-        encode_unsigned(encoder, 4, u128::from(*self))
+        encode_integer(encoder, *self)
     }
 }
 
@@ -94,9 +71,9 @@ impl Encode for u64 {
         let _value = *self;
     }
 
-    #[inline]
+    #[inline(always)]
     fn encode<E: Encoder>(&self, encoder: &mut E) -> Result<(), EncodeError> {
-        encode_unsigned(encoder, 8, u128::from(*self))
+        encode_integer(encoder, *self)
     }
 }
 
@@ -105,9 +82,9 @@ impl Encode for u128 {
         let _value = *self;
     }
 
-    #[inline]
+    #[inline(always)]
     fn encode<E: Encoder>(&self, encoder: &mut E) -> Result<(), EncodeError> {
-        encode_unsigned(encoder, 16, *self)
+        encode_integer(encoder, *self)
     }
 }
 
@@ -116,9 +93,9 @@ impl Encode for usize {
         let _value = *self;
     }
 
-    #[inline]
+    #[inline(always)]
     fn encode<E: Encoder>(&self, encoder: &mut E) -> Result<(), EncodeError> {
-        encode_unsigned(encoder, 8, *self as u128)
+        encode_integer(encoder, *self)
     }
 }
 
@@ -127,7 +104,7 @@ impl Encode for i8 {
         let _value = *self;
     }
 
-    #[inline]
+    #[inline(always)]
     fn encode<E: Encoder>(&self, encoder: &mut E) -> Result<(), EncodeError> {
         self.tell_valid();
         write_from(encoder, &[byte_of_i8(*self)])
@@ -139,9 +116,9 @@ impl Encode for i16 {
         let _value = *self;
     }
 
-    #[inline]
+    #[inline(always)]
     fn encode<E: Encoder>(&self, encoder: &mut E) -> Result<(), EncodeError> {
-        encode_signed(encoder, 2, i128::from(*self))
+        encode_integer(encoder, *self)
     }
 }
 
@@ -150,9 +127,9 @@ impl Encode for i32 {
         let _value = *self;
     }
 
-    #[inline]
+    #[inline(always)]
     fn encode<E: Encoder>(&self, encoder: &mut E) -> Result<(), EncodeError> {
-        encode_signed(encoder, 4, i128::from(*self))
+        encode_integer(encoder, *self)
     }
 }
 
@@ -161,9 +138,9 @@ impl Encode for i64 {
         let _value = *self;
     }
 
-    #[inline]
+    #[inline(always)]
     fn encode<E: Encoder>(&self, encoder: &mut E) -> Result<(), EncodeError> {
-        encode_signed(encoder, 8, i128::from(*self))
+        encode_integer(encoder, *self)
     }
 }
 
@@ -172,9 +149,9 @@ impl Encode for i128 {
         let _value = *self;
     }
 
-    #[inline]
+    #[inline(always)]
     fn encode<E: Encoder>(&self, encoder: &mut E) -> Result<(), EncodeError> {
-        encode_signed(encoder, 16, *self)
+        encode_integer(encoder, *self)
     }
 }
 
@@ -183,8 +160,8 @@ impl Encode for isize {
         let _value = *self;
     }
 
-    #[inline]
+    #[inline(always)]
     fn encode<E: Encoder>(&self, encoder: &mut E) -> Result<(), EncodeError> {
-        encode_signed(encoder, 8, *self as i128)
+        encode_integer(encoder, *self)
     }
 }

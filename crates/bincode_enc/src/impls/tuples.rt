@@ -2,8 +2,8 @@
 use crate::encode::Encode;
 use crate::encode_parts::EncodeParts;
 use crate::encoder::Encoder;
+use crate::rows::{EncodeRow, LentRow, LongLentRow};
 use bincode_base::error::EncodeError;
-use bincode_wire::rows::{LongRow, Row};
 
 // Always inlined: LLVM takes a call behind several `?` for a rare one, and a call hands on a result with room for an error.
 
@@ -16,31 +16,17 @@ impl Encode for () {
     }
 }
 
-impl<A: Encode, Others: Encode> Encode for Row<A, Others> {
-    fn tell_valid(&self) {
-        self.0.tell_valid();
-        self.1.tell_valid();
-    }
-
-    #[inline(always)]
-    fn encode<Z: Encoder>(&self, encoder: &mut Z) -> Result<(), EncodeError> {
-        self.0.encode(encoder)?;
-        self.1.encode(encoder)
-    }
-}
-
-impl<A: Encode, B: Encode, C: Encode, D: Encode, Others: Encode> Encode
-    for LongRow<A, B, C, D, Others> {
-    fn tell_valid(&self) {
-        let LongRow(a, b, c, d, others) = self;
-        Row(a, Row(b, Row(c, Row(d, others)))).tell_valid();
-    }
-
-    #[inline(always)]
-    fn encode<Z: Encoder>(&self, encoder: &mut Z) -> Result<(), EncodeError> {
-        let LongRow(a, b, c, d, others) = self;
-        Row(a, Row(b, Row(c, Row(d, others)))).encode(encoder)
-    }
+/// Says of four values in hand that they are valid.
+fn tell_four_valid<A: Encode, B: Encode, C: Encode, D: Encode>(a: &A, b: &B, c: &C, d: &D)
+    ensures first { A.valid a.now }
+    ensures second { B.valid b.now }
+    ensures third { C.valid c.now }
+    ensures fourth { D.valid d.now }
+{
+    a.tell_valid();
+    b.tell_valid();
+    c.tell_valid();
+    d.tell_valid();
 }
 
 impl<A: Encode> EncodeParts for (A,) {
@@ -51,7 +37,7 @@ impl<A: Encode> EncodeParts for (A,) {
     #[inline(always)]
     fn encode_parts<Z: Encoder>(&self, encoder: &mut Z) -> Result<(), EncodeError> {
         let (a,) = self;
-        Row(a, ()).encode(encoder)
+        LentRow(a, ()).encode_row(encoder)
     }
 }
 
@@ -64,7 +50,7 @@ impl<A: Encode, B: Encode> EncodeParts for (A, B) {
     #[inline(always)]
     fn encode_parts<Z: Encoder>(&self, encoder: &mut Z) -> Result<(), EncodeError> {
         let (a, b) = self;
-        Row(a, Row(b, ())).encode(encoder)
+        LentRow(a, LentRow(b, ())).encode_row(encoder)
     }
 }
 
@@ -78,7 +64,7 @@ impl<A: Encode, B: Encode, C: Encode> EncodeParts for (A, B, C) {
     #[inline(always)]
     fn encode_parts<Z: Encoder>(&self, encoder: &mut Z) -> Result<(), EncodeError> {
         let (a, b, c) = self;
-        Row(a, Row(b, Row(c, ()))).encode(encoder)
+        LentRow(a, LentRow(b, LentRow(c, ()))).encode_row(encoder)
     }
 }
 
@@ -93,7 +79,7 @@ impl<A: Encode, B: Encode, C: Encode, D: Encode> EncodeParts for (A, B, C, D) {
     #[inline(always)]
     fn encode_parts<Z: Encoder>(&self, encoder: &mut Z) -> Result<(), EncodeError> {
         let (a, b, c, d) = self;
-        LongRow(a, b, c, d, ()).encode(encoder)
+        LongLentRow(a, b, c, d, ()).encode_row(encoder)
     }
 }
 
@@ -109,7 +95,7 @@ impl<A: Encode, B: Encode, C: Encode, D: Encode, E: Encode> EncodeParts for (A, 
     #[inline(always)]
     fn encode_parts<Z: Encoder>(&self, encoder: &mut Z) -> Result<(), EncodeError> {
         let (a, b, c, d, e) = self;
-        LongRow(a, b, c, d, Row(e, ())).encode(encoder)
+        LongLentRow(a, b, c, d, LentRow(e, ())).encode_row(encoder)
     }
 }
 
@@ -127,7 +113,7 @@ impl<A: Encode, B: Encode, C: Encode, D: Encode, E: Encode, F: Encode> EncodePar
     #[inline(always)]
     fn encode_parts<Z: Encoder>(&self, encoder: &mut Z) -> Result<(), EncodeError> {
         let (a, b, c, d, e, f) = self;
-        LongRow(a, b, c, d, Row(e, Row(f, ()))).encode(encoder)
+        LongLentRow(a, b, c, d, LentRow(e, LentRow(f, ()))).encode_row(encoder)
     }
 }
 
@@ -146,7 +132,7 @@ impl<A: Encode, B: Encode, C: Encode, D: Encode, E: Encode, F: Encode, G: Encode
     #[inline(always)]
     fn encode_parts<Z: Encoder>(&self, encoder: &mut Z) -> Result<(), EncodeError> {
         let (a, b, c, d, e, f, g) = self;
-        LongRow(a, b, c, d, Row(e, Row(f, Row(g, ())))).encode(encoder)
+        LongLentRow(a, b, c, d, LentRow(e, LentRow(f, LentRow(g, ())))).encode_row(encoder)
     }
 }
 
@@ -161,20 +147,14 @@ impl<
     H: Encode,
 > EncodeParts for (A, B, C, D, E, F, G, H) {
     fn tell_valid_parts(&self) {
-        self.0.tell_valid();
-        self.1.tell_valid();
-        self.2.tell_valid();
-        self.3.tell_valid();
-        self.4.tell_valid();
-        self.5.tell_valid();
-        self.6.tell_valid();
-        self.7.tell_valid();
+        tell_four_valid(&self.0, &self.1, &self.2, &self.3);
+        tell_four_valid(&self.4, &self.5, &self.6, &self.7);
     }
 
     #[inline(always)]
     fn encode_parts<Z: Encoder>(&self, encoder: &mut Z) -> Result<(), EncodeError> {
         let (a, b, c, d, e, f, g, h) = self;
-        LongRow(a, b, c, d, LongRow(e, f, g, h, ())).encode(encoder)
+        LongLentRow(a, b, c, d, LongLentRow(e, f, g, h, ())).encode_row(encoder)
     }
 }
 
@@ -190,21 +170,15 @@ impl<
     I: Encode,
 > EncodeParts for (A, B, C, D, E, F, G, H, I) {
     fn tell_valid_parts(&self) {
-        self.0.tell_valid();
-        self.1.tell_valid();
-        self.2.tell_valid();
-        self.3.tell_valid();
-        self.4.tell_valid();
-        self.5.tell_valid();
-        self.6.tell_valid();
-        self.7.tell_valid();
+        tell_four_valid(&self.0, &self.1, &self.2, &self.3);
+        tell_four_valid(&self.4, &self.5, &self.6, &self.7);
         self.8.tell_valid();
     }
 
     #[inline(always)]
     fn encode_parts<Z: Encoder>(&self, encoder: &mut Z) -> Result<(), EncodeError> {
         let (a, b, c, d, e, f, g, h, i) = self;
-        LongRow(a, b, c, d, LongRow(e, f, g, h, Row(i, ()))).encode(encoder)
+        LongLentRow(a, b, c, d, LongLentRow(e, f, g, h, LentRow(i, ()))).encode_row(encoder)
     }
 }
 
@@ -221,14 +195,8 @@ impl<
     J: Encode,
 > EncodeParts for (A, B, C, D, E, F, G, H, I, J) {
     fn tell_valid_parts(&self) {
-        self.0.tell_valid();
-        self.1.tell_valid();
-        self.2.tell_valid();
-        self.3.tell_valid();
-        self.4.tell_valid();
-        self.5.tell_valid();
-        self.6.tell_valid();
-        self.7.tell_valid();
+        tell_four_valid(&self.0, &self.1, &self.2, &self.3);
+        tell_four_valid(&self.4, &self.5, &self.6, &self.7);
         self.8.tell_valid();
         self.9.tell_valid();
     }
@@ -236,7 +204,14 @@ impl<
     #[inline(always)]
     fn encode_parts<Z: Encoder>(&self, encoder: &mut Z) -> Result<(), EncodeError> {
         let (a, b, c, d, e, f, g, h, i, j) = self;
-        LongRow(a, b, c, d, LongRow(e, f, g, h, Row(i, Row(j, ())))).encode(encoder)
+        LongLentRow(
+            a,
+            b,
+            c,
+            d,
+            LongLentRow(e, f, g, h, LentRow(i, LentRow(j, ()))),
+        )
+        .encode_row(encoder)
     }
 }
 
@@ -254,14 +229,8 @@ impl<
     K: Encode,
 > EncodeParts for (A, B, C, D, E, F, G, H, I, J, K) {
     fn tell_valid_parts(&self) {
-        self.0.tell_valid();
-        self.1.tell_valid();
-        self.2.tell_valid();
-        self.3.tell_valid();
-        self.4.tell_valid();
-        self.5.tell_valid();
-        self.6.tell_valid();
-        self.7.tell_valid();
+        tell_four_valid(&self.0, &self.1, &self.2, &self.3);
+        tell_four_valid(&self.4, &self.5, &self.6, &self.7);
         self.8.tell_valid();
         self.9.tell_valid();
         self.10.tell_valid();
@@ -270,7 +239,14 @@ impl<
     #[inline(always)]
     fn encode_parts<Z: Encoder>(&self, encoder: &mut Z) -> Result<(), EncodeError> {
         let (a, b, c, d, e, f, g, h, i, j, k) = self;
-        LongRow(a, b, c, d, LongRow(e, f, g, h, Row(i, Row(j, Row(k, ()))))).encode(encoder)
+        LongLentRow(
+            a,
+            b,
+            c,
+            d,
+            LongLentRow(e, f, g, h, LentRow(i, LentRow(j, LentRow(k, ())))),
+        )
+        .encode_row(encoder)
     }
 }
 
@@ -289,24 +265,22 @@ impl<
     L: Encode,
 > EncodeParts for (A, B, C, D, E, F, G, H, I, J, K, L) {
     fn tell_valid_parts(&self) {
-        self.0.tell_valid();
-        self.1.tell_valid();
-        self.2.tell_valid();
-        self.3.tell_valid();
-        self.4.tell_valid();
-        self.5.tell_valid();
-        self.6.tell_valid();
-        self.7.tell_valid();
-        self.8.tell_valid();
-        self.9.tell_valid();
-        self.10.tell_valid();
-        self.11.tell_valid();
+        tell_four_valid(&self.0, &self.1, &self.2, &self.3);
+        tell_four_valid(&self.4, &self.5, &self.6, &self.7);
+        tell_four_valid(&self.8, &self.9, &self.10, &self.11);
     }
 
     #[inline(always)]
     fn encode_parts<Z: Encoder>(&self, encoder: &mut Z) -> Result<(), EncodeError> {
         let (a, b, c, d, e, f, g, h, i, j, k, l) = self;
-        LongRow(a, b, c, d, LongRow(e, f, g, h, LongRow(i, j, k, l, ()))).encode(encoder)
+        LongLentRow(
+            a,
+            b,
+            c,
+            d,
+            LongLentRow(e, f, g, h, LongLentRow(i, j, k, l, ())),
+        )
+        .encode_row(encoder)
     }
 }
 
@@ -326,32 +300,23 @@ impl<
     M: Encode,
 > EncodeParts for (A, B, C, D, E, F, G, H, I, J, K, L, M) {
     fn tell_valid_parts(&self) {
-        self.0.tell_valid();
-        self.1.tell_valid();
-        self.2.tell_valid();
-        self.3.tell_valid();
-        self.4.tell_valid();
-        self.5.tell_valid();
-        self.6.tell_valid();
-        self.7.tell_valid();
-        self.8.tell_valid();
-        self.9.tell_valid();
-        self.10.tell_valid();
-        self.11.tell_valid();
+        tell_four_valid(&self.0, &self.1, &self.2, &self.3);
+        tell_four_valid(&self.4, &self.5, &self.6, &self.7);
+        tell_four_valid(&self.8, &self.9, &self.10, &self.11);
         self.12.tell_valid();
     }
 
     #[inline(always)]
     fn encode_parts<Z: Encoder>(&self, encoder: &mut Z) -> Result<(), EncodeError> {
         let (a, b, c, d, e, f, g, h, i, j, k, l, m) = self;
-        LongRow(
+        LongLentRow(
             a,
             b,
             c,
             d,
-            LongRow(e, f, g, h, LongRow(i, j, k, l, Row(m, ()))),
+            LongLentRow(e, f, g, h, LongLentRow(i, j, k, l, LentRow(m, ()))),
         )
-        .encode(encoder)
+        .encode_row(encoder)
     }
 }
 
@@ -372,18 +337,9 @@ impl<
     N: Encode,
 > EncodeParts for (A, B, C, D, E, F, G, H, I, J, K, L, M, N) {
     fn tell_valid_parts(&self) {
-        self.0.tell_valid();
-        self.1.tell_valid();
-        self.2.tell_valid();
-        self.3.tell_valid();
-        self.4.tell_valid();
-        self.5.tell_valid();
-        self.6.tell_valid();
-        self.7.tell_valid();
-        self.8.tell_valid();
-        self.9.tell_valid();
-        self.10.tell_valid();
-        self.11.tell_valid();
+        tell_four_valid(&self.0, &self.1, &self.2, &self.3);
+        tell_four_valid(&self.4, &self.5, &self.6, &self.7);
+        tell_four_valid(&self.8, &self.9, &self.10, &self.11);
         self.12.tell_valid();
         self.13.tell_valid();
     }
@@ -391,14 +347,20 @@ impl<
     #[inline(always)]
     fn encode_parts<Z: Encoder>(&self, encoder: &mut Z) -> Result<(), EncodeError> {
         let (a, b, c, d, e, f, g, h, i, j, k, l, m, n) = self;
-        LongRow(
+        LongLentRow(
             a,
             b,
             c,
             d,
-            LongRow(e, f, g, h, LongRow(i, j, k, l, Row(m, Row(n, ())))),
+            LongLentRow(
+                e,
+                f,
+                g,
+                h,
+                LongLentRow(i, j, k, l, LentRow(m, LentRow(n, ()))),
+            ),
         )
-        .encode(encoder)
+        .encode_row(encoder)
     }
 }
 
@@ -420,18 +382,9 @@ impl<
     O: Encode,
 > EncodeParts for (A, B, C, D, E, F, G, H, I, J, K, L, M, N, O) {
     fn tell_valid_parts(&self) {
-        self.0.tell_valid();
-        self.1.tell_valid();
-        self.2.tell_valid();
-        self.3.tell_valid();
-        self.4.tell_valid();
-        self.5.tell_valid();
-        self.6.tell_valid();
-        self.7.tell_valid();
-        self.8.tell_valid();
-        self.9.tell_valid();
-        self.10.tell_valid();
-        self.11.tell_valid();
+        tell_four_valid(&self.0, &self.1, &self.2, &self.3);
+        tell_four_valid(&self.4, &self.5, &self.6, &self.7);
+        tell_four_valid(&self.8, &self.9, &self.10, &self.11);
         self.12.tell_valid();
         self.13.tell_valid();
         self.14.tell_valid();
@@ -440,14 +393,20 @@ impl<
     #[inline(always)]
     fn encode_parts<Z: Encoder>(&self, encoder: &mut Z) -> Result<(), EncodeError> {
         let (a, b, c, d, e, f, g, h, i, j, k, l, m, n, o) = self;
-        LongRow(
+        LongLentRow(
             a,
             b,
             c,
             d,
-            LongRow(e, f, g, h, LongRow(i, j, k, l, Row(m, Row(n, Row(o, ()))))),
+            LongLentRow(
+                e,
+                f,
+                g,
+                h,
+                LongLentRow(i, j, k, l, LentRow(m, LentRow(n, LentRow(o, ())))),
+            ),
         )
-        .encode(encoder)
+        .encode_row(encoder)
     }
 }
 
@@ -470,34 +429,28 @@ impl<
     P: Encode,
 > EncodeParts for (A, B, C, D, E, F, G, H, I, J, K, L, M, N, O, P) {
     fn tell_valid_parts(&self) {
-        self.0.tell_valid();
-        self.1.tell_valid();
-        self.2.tell_valid();
-        self.3.tell_valid();
-        self.4.tell_valid();
-        self.5.tell_valid();
-        self.6.tell_valid();
-        self.7.tell_valid();
-        self.8.tell_valid();
-        self.9.tell_valid();
-        self.10.tell_valid();
-        self.11.tell_valid();
-        self.12.tell_valid();
-        self.13.tell_valid();
-        self.14.tell_valid();
-        self.15.tell_valid();
+        tell_four_valid(&self.0, &self.1, &self.2, &self.3);
+        tell_four_valid(&self.4, &self.5, &self.6, &self.7);
+        tell_four_valid(&self.8, &self.9, &self.10, &self.11);
+        tell_four_valid(&self.12, &self.13, &self.14, &self.15);
     }
 
     #[inline(always)]
     fn encode_parts<Z: Encoder>(&self, encoder: &mut Z) -> Result<(), EncodeError> {
         let (a, b, c, d, e, f, g, h, i, j, k, l, m, n, o, p) = self;
-        LongRow(
+        LongLentRow(
             a,
             b,
             c,
             d,
-            LongRow(e, f, g, h, LongRow(i, j, k, l, LongRow(m, n, o, p, ()))),
+            LongLentRow(
+                e,
+                f,
+                g,
+                h,
+                LongLentRow(i, j, k, l, LongLentRow(m, n, o, p, ())),
+            ),
         )
-        .encode(encoder)
+        .encode_row(encoder)
     }
 }

@@ -1,68 +1,30 @@
-use Rattle.std.proofs.Common.{◌≡◌, ◌-◌, ◌+◌, ◌++◌, ◌∷◌, [], suc, Some, length, refl, sym, ap, ◌∙◌, arith}
+use Rattle.std.proofs.Common.{◌++◌, ◌∷◌, [], Some, refl, sym, ap, ◌∙◌, arith}
 use Rattle.std.proofs.lemmas.Result.{err_from_is_err_and}
 use Rattle.std.proofs.lemmas.List.{map-append, take_more_set, take_all}
-use Rattle.bincode_wire.specs.RunLaws.{none_read, one_more, one_stops, all_read, one-releases, others-release, held-none, held-more, is_list_push}
+use Rattle.bincode_de.proofs.Reading.{none-so_far, next-releases, next-so_far, stops-so_far, all-so_far}
 use Rattle.bincode_de.proofs.arrays.decode_slots.Goals as goal
 
 pub loop-index-init : goal.loop-index-init
-loop-index-init g c =
-    let e : length c.args.slots.now - 0 ≡ length c.args.slots.now = omega arith in
-    ([], refl, (λ known. (known, [], rw e (none_read _ _ _ _ _ _ c.requires), refl)), rw e c.requires, held-none _ _ _, omega arith, refl)
+loop-index-init g c = ([], refl, none-so_far _ _ _ _ _ _ _ _ _ _ _ c.requires)
 
-pub unclaim_bytes_read-requires : goal.unclaim_bytes_read-requires
-unclaim_bytes_read-requires g c =
-    let e : length c.args.slots.now - c.loop-index.index ≡ suc (length c.args.slots.now - (c.loop-index.index + 1)) = omega arith in
-    rw c.claim_size.ensures (one-releases _ _ _ (length c.args.slots.now - (c.loop-index.index + 1)) (rw e at c.loop-index.invariant.3))
+pub decode_next-requires : goal.decode_next-requires
+decode_next-requires g c = next-releases _ _ _ _ _ _ _ _ _ _ _ _ _ _ c.loop-index.invariant.2 (omega arith)
 
-pub returns-in_err-decode-clause-err : goal.returns-in_err-decode-clause-err
-returns-in_err-decode-clause-err g c = λ known.
+pub returns-in_err-decode_next : goal.returns-in_err-decode_next
+returns-in_err-decode_next g c =
     let p = err_from_is_err_and c.from_residual.result c.from_residual.ensures.1 in
-    let h = c.loop-index.invariant.2 known in
-    let e : length c.args.slots.now - c.loop-index.index ≡ suc (length c.args.slots.now - (c.loop-index.index + 1)) = omega arith in
-    let s = rw (c.unclaim_bytes_read.ensures.charge, c.claim_size.ensures, c.unclaim_bytes_read.ensures.rest) at (c.in_err-decode.ensures.err (c.unclaim_bytes_read.ensures.told h.0)) in
-    rw (p.1, p.2) (one_stops _ _ _ _ _ _ _ _ _ (length c.args.slots.now - (c.loop-index.index + 1)) _ _ _ _ _ _ _ (omega arith) (rw e at h.2) s)
+    rw (p.1, p.2) ([], tt, stops-so_far _ _ _ _ _ _ _ _ _ _ _ _ _ _ c.loop-index.invariant.2 (omega arith) _ _ _ _ _ (λ k. k) _ _ c.in_err-decode_next.ensures)
 
 pub loop-index-preserved : goal.loop-index-preserved
 loop-index-preserved g c =
     let h = c.loop-index.invariant in
-    let v = c.in_ok-decode.field-0 in
-    let e : length c.args.slots.now - c.loop-index.index ≡ suc (length c.args.slots.now - (c.loop-index.index + 1)) = omega arith in
-    let held = rw (c.unclaim_bytes_read.ensures.charge, c.claim_size.ensures) at c.in_ok-decode.ensures.held in (
+    let v = c.in_ok-decode_next.field-0 in (
       h.0 ++ v ∷ [],
       take_more_set _ _ _ (omega arith) ∙ (ap (λ z. z ++ Some v ∷ []) h.1 ∙ sym (map-append Some h.0 (v ∷ []))),
-      (λ known.
-          let k = h.2 known in
-          let p = rw (c.unclaim_bytes_read.ensures.charge, c.claim_size.ensures, c.unclaim_bytes_read.ensures.rest) at (c.in_ok-decode.ensures.ok (c.unclaim_bytes_read.ensures.told k.0)) in (
-            c.in_ok-decode.ensures.told (c.unclaim_bytes_read.ensures.told k.0),
-            k.1 ++ p.meaning ∷ [],
-            one_more _ _ _ _ _ _ (g.met.T.Wire.lawful _) (g.met.T.Wire.balanced _) (length c.args.slots.now - (c.loop-index.index + 1)) _ _ _ _ _ (rw e at k.2) p.answer_is,
-            is_list_push _ h.0 k.1 v p.meaning k.3 p.is_given,
-          )),
-      others-release _ _ _ (length c.args.slots.now - (c.loop-index.index + 1)) _ (rw e at h.3) held,
-      held-more _ _ _ _ _ _ h.4 held,
-      omega arith,
-      c.decode.ensures.place ∙ c.unclaim_bytes_read.ensures.place ∙ h.6,
+      next-so_far _ _ _ _ _ _ _ _ _ _ _ _ _ _ h.2 (omega arith) _ _ _ _ (g.met.T.Wire.lawful _) (g.met.T.Wire.balanced _) _ _ refl c.in_ok-decode_next.ensures,
     )
 
-pub returns-clause-filled : goal.returns-clause-filled
-returns-clause-filled g c =
+pub returns : goal.returns
+returns g c =
     let h = c.loop-index.invariant in
-    (h.0, sym (take_all c.loop-index.index c.loop-index.slots (omega arith)) ∙ h.1)
-
-pub returns-clause-ok : goal.returns-clause-ok
-returns-clause-ok g c = λ known.
-    let h = c.loop-index.invariant in
-    let k = h.2 known in
-    let e : length c.args.slots.now - c.loop-index.index ≡ 0 = omega arith in (
-      h.0,
-      sym (take_all c.loop-index.index c.loop-index.slots (omega arith)) ∙ h.1,
-      record { meaning = k.1; answer_is = all_read _ _ _ _ _ _ _ _ (rw e at k.2); is_given = k.3 },
-    )
-
-pub returns-clause-told : goal.returns-clause-told
-returns-clause-told g c = λ known. (c.loop-index.invariant.2 known).0
-
-pub returns-clause-held : goal.returns-clause-held
-returns-clause-held g c =
-    let e : c.loop-index.index ≡ length c.args.slots.now = omega arith in
-    rw e at c.loop-index.invariant.4
+    (h.0, sym (take_all c.loop-index.index c.loop-index.slots (omega arith)) ∙ h.1, all-so_far _ _ _ _ _ _ _ _ _ _ _ _ _ _ h.2 _ _ _ _ _ (omega arith) refl)

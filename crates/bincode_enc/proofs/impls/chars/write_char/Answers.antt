@@ -1,4 +1,3 @@
-use Rattle.std.proofs.Common.{sym}
 use Rattle.std.proofs.lemmas.Result.{IfErr-weaker, on_ok_weaker}
 use Rattle.bincode_wire.specs.Meaning.{IsCharacter}
 use Rattle.bincode_wire.specs.Words.{character}

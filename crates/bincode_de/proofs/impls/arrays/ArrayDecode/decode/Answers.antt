@@ -10,10 +10,10 @@ returns-in_err-claim_container_read-clause-err g c = λ known.
 
 pub returns-clause-ok : goal.returns-clause-ok
 returns-clause-ok g c = λ known.
-    let h = rw c.claim_container_read.ensures.rest at (c.decode_array.ensures.ok (c.claim_container_read.ensures.told known)) in
+    let h = rw c.claim_container_read.ensures.rest at (c.decode_array.ensures.read.ok (c.claim_container_read.ensures.told known)) in
     IfOk-weaker c.decode_array.result _ _ (λ v. array-decodes _ _ _ _ _ _ _ _ _ _ c.in_ok-claim_container_read.ensures.ok) h
 
 pub returns-clause-err : goal.returns-clause-err
 returns-clause-err g c = λ known.
-    let h = rw (c.claim_container_read.ensures.rest, c.claim_container_read.ensures.failures) at (c.decode_array.ensures.err (c.claim_container_read.ensures.told known)) in
+    let h = rw (c.claim_container_read.ensures.rest, c.claim_container_read.ensures.failures) at (c.decode_array.ensures.read.err (c.claim_container_read.ensures.told known)) in
     IfErr-weaker c.decode_array.result _ _ (λ e. array-stops _ _ _ _ _ _ _ _ _ _ _ _ _ e c.in_ok-claim_container_read.ensures.ok) h

@@ -18,10 +18,10 @@ returns-in_err-nanos-clause-err g c = λ known.
 
 pub returns-then-is_none-clause-err : goal.returns-then-is_none-clause-err
 returns-then-is_none-clause-err g c = λ known.
-    let h : 2 ^ 64 ≤ c.in_ok-secs.field-0 + c.in_ok-nanos.field-0 / second_in_nanos = search rules in
+    let h : 2 ^ 64 ≤ c.in_ok-secs.secs + c.in_ok-nanos.nanos / second_in_nanos = search rules in
     span-overflows _ _ _ _ _ _ _ _ _ _ (c.in_ok-secs.ensures.ok known) (c.in_ok-nanos.ensures.ok (c.in_ok-secs.ensures.told known)) _ _ _ _ _ h
 
 pub returns-clause-ok : goal.returns-clause-ok
 returns-clause-ok g c = λ known.
-    let h : c.in_ok-secs.field-0 + c.in_ok-nanos.field-0 / second_in_nanos < 2 ^ 64 = search rules in
+    let h : c.in_ok-secs.secs + c.in_ok-nanos.nanos / second_in_nanos < 2 ^ 64 = search rules in
     span-decodes _ _ _ _ _ _ _ _ _ _ (c.in_ok-secs.ensures.ok known) (c.in_ok-nanos.ensures.ok (c.in_ok-secs.ensures.told known)) _ _ h c.new.ensures.secs c.new.ensures.nanos

@@ -1,0 +1,81 @@
+//! Parts in a row by reference: what tuples are encoded as.
+ghost use Rattle.std.specs.Prelude.{◌≡◌, OnOk, IfErr};
+ghost use Rattle.bincode_wire.specs.Allowed.{AllowedWord};
+ghost use Rattle.bincode_enc.specs.Encoding.{Writes, Ready, Halts};
+
+use crate::encode::Encode;
+use crate::encoder::Encoder;
+use bincode_base::error::EncodeError;
+use bincode_wire::rows::{LongRow, Row};
+use bincode_wire::wire::Wire;
+
+/// Parts that were lent in a row. A row is no `Encode` itself: the proof for a tuple would then show of the reference to
+/// each part all that `Encode` stands on, which takes long.
+pub trait EncodeRow: Drop {
+    /// The row of the parts themselves.
+    type Parts: Wire;
+
+    /// The parts that were lent.
+    ghost lent: { Self → Self.Parts };
+
+    /// Writes a word of the parts. It does, fails and leaves what `Encode::encode` does.
+    fn encode_row<E: Encoder>(&self, encoder: &mut E) -> Result<(), EncodeError>
+        ensures ok { OnOk result (Writes E.W.adds (AllowedWord (Self.Parts.means (Self.lent self.now)) (Self.Parts.format E.C.setting)) (E.writer_of encoder.old) (E.writer_of encoder.new)) }
+        ensures err { IfErr result (Halts E.W.adds E.W.refuses (Ready (Self.Parts.writable E.C.setting (Self.lent self.now)) (AllowedWord (Self.Parts.means (Self.lent self.now)) (Self.Parts.format E.C.setting))) Self.Parts.names (E.writer_of encoder.old) (E.writer_of encoder.new)) }
+        ensures place { E.place encoder.new ≡ E.place encoder.old };
+}
+
+// Always inlined: LLVM takes a call behind several `?` for a rare one, and a call hands on a result with room for an error.
+
+impl EncodeRow for () {
+    type Parts = ();
+
+    ghost lent = { λ v. v };
+
+    #[inline(always)]
+    fn encode_row<E: Encoder>(&self, encoder: &mut E) -> Result<(), EncodeError> {
+        self.encode(encoder)
+    }
+}
+
+/// A part, and the others: a row too, or `()` behind the last.
+#[derive(Drop)]
+pub struct LentRow<'a, A, Others>(pub &'a A, pub Others);
+
+impl<'a, A: Encode, Others: EncodeRow> EncodeRow for LentRow<'a, A, Others> {
+    type Parts = Row<A, Others::Parts>;
+
+    ghost lent = { λ v. record { 0 = v.0.now; 1 = Others.lent v.1 } };
+
+    #[inline(always)]
+    fn encode_row<E: Encoder>(&self, encoder: &mut E) -> Result<(), EncodeError> {
+        self.0.encode(encoder)?;
+        self.1.encode_row(encoder)
+    }
+}
+
+/// Four parts, and the others.
+#[derive(Drop)]
+pub struct LongLentRow<'a, A, B, C, D, Others>(
+    pub &'a A,
+    pub &'a B,
+    pub &'a C,
+    pub &'a D,
+    pub Others,
+);
+
+impl<'a, A: Encode, B: Encode, C: Encode, D: Encode, Others: EncodeRow> EncodeRow
+    for LongLentRow<'a, A, B, C, D, Others> {
+    type Parts = LongRow<A, B, C, D, Others::Parts>;
+
+    ghost lent = { λ v. record { 0 = v.0.now; 1 = v.1.now; 2 = v.2.now; 3 = v.3.now; 4 = Others.lent v.4 } };
+
+    #[inline(always)]
+    fn encode_row<E: Encoder>(&self, encoder: &mut E) -> Result<(), EncodeError> {
+        self.0.encode(encoder)?;
+        self.1.encode(encoder)?;
+        self.2.encode(encoder)?;
+        self.3.encode(encoder)?;
+        self.4.encode_row(encoder)
+    }
+}
