@@ -1,5 +1,5 @@
 -- What a slice holds where a value could not be written.
-use Rattle.std.specs.Prelude.{◌≡◌, ◌⊎◌, ◌+◌, ◌-◌, ◌≤◌, ◌<◌, ◌++◌, ℕ, List, length, drop, refl, Result, Err}
+use Rattle.std.specs.Prelude.{◌≡◌, ◌⊎◌, ◌+◌, ◌-◌, ◌≤◌, ◌<◌, ◌++◌, ℕ, List, length, drop, refl, Result, Ok, Err}
 use Rattle.std.proofs.Common.{◌∙◌, ap, subst, inl, inr, arith, append_assoc, length-append, length-drop}
 use Rattle.bincode_base.specs.Put.{put}
 use Rattle.bincode_base.specs.Slices.{bytes_of, count_of}
@@ -7,8 +7,8 @@ use Rattle.bincode_base.specs.declared.write.SliceWriter.{SliceWriter}
 use Rattle.bincode_base.specs.declared.error.EncodeError.{EncodeError}
 use Rattle.bincode_base.specs.declared.error.EncodeError.TheVariants.{UnexpectedEnd}
 use Rattle.bincode_wire.specs.Allowed.{OneLength}
-use Rattle.bincode_enc.specs.Encoding.{Begins, Halts, by_writer, by_name}
-use Rattle.bincode.specs.Slice.{Fills, FrontWritten, FitsExactly}
+use Rattle.bincode_enc.specs.Encoding.{Ready, Writes, Begins, Halts, by_writer, by_name}
+use Rattle.bincode.specs.Slice.{Fills, WordWritten, FrontWritten, FitsExactly}
 
 -- what a slice writer adds, and why it refuses a piece
 abbrev pub Added : SliceWriter → List ℕ → SliceWriter → Type 0
@@ -42,6 +42,30 @@ module _ (A : List ℕ → Type 0) (N : EncodeError → Type 0) (old new : List 
       let both : length (front ++ piece) ≡ length front + length piece = length-append front piece in
       inr (front ++ piece, b, omega arith)
   halted-short (by_name front h n b) = inl n
+
+-- the type names the error, or the writer refused a piece
+pub halted-why : (A : List ℕ → Type 0) (N : EncodeError → Type 0) (before after : SliceWriter) (e : EncodeError) → Halts Added Refused A N before after e → (e ≡ UnexpectedEnd) ⊎ N e
+halted-why A N before after e (by_writer front piece middle h r b) = inl r.0
+halted-why A N before after e (by_name front h n b) = inr n
+
+module _ (A : List ℕ → Type 0) (before after : SliceWriter) (count : count_of before ≡ 0) (w : Writes Added A before after) where
+  -- what was counted is the length of the word
+  word-counted : count_of after ≡ length w.word
+  word-counted = let h = w.added.0 in omega arith
+
+  -- a word that was added stands in the slice
+  pub word-written : (old new : List ℕ) (n : ℕ) → n ≡ count_of after → bytes_of before ≡ old → new ≡ bytes_of after → WordWritten A n old new
+  word-written old new n size start end = record { word = w.word; is_allowed = w.is_allowed; count = size ∙ word-counted; fills = end ∙ filled old w.word before after start count w.added }
+
+  -- and each word of its length is within the room
+  pub word-fits : (Writable : Type 0) (N : EncodeError → Type 0) (room n : ℕ) → count_of after ≤ room → FitsExactly (Ready Writable A) N room (Ok n)
+  word-fits Writable N room n le = record {
+    short = tt;
+    exact = λ one none word a.
+        let same : length word ≡ length w.word = one word w.word a (record { is_writable = a.is_writable; is_allowed = w.is_allowed }) in
+        let long = word-counted in
+        (λ h. omega arith, λ fits. refl);
+  }
 
 -- a refusal is one for want of room
 pub short-fits : (A : List ℕ → Type 0) (N : EncodeError → Type 0) (room : ℕ) (result : Result ℕ EncodeError) (e : EncodeError) → result ≡ Err e → N e ⊎ ((front : List ℕ) × Begins A front × (room < length front)) → FitsExactly A N room result

@@ -1,5 +1,5 @@
 -- What a stopped encoding leaves of a value that can be written: for callers with types that have the law `Writable`.
-use Rattle.std.specs.Prelude.{◌⊎◌, ℕ, List, ◌++◌}
+use Rattle.std.specs.Prelude.{◌⊎◌, ℕ, List}
 use Rattle.std.proofs.Common.{inl, inr}
 use Rattle.bincode_base.specs.declared.error.EncodeError.{EncodeError}
 use Rattle.bincode_enc.specs.Encoding.{Ready, Begins, IsOwn}

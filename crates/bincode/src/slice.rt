@@ -12,7 +12,7 @@ use bincode_base::error::{DecodeError, EncodeError};
 use bincode_base::read::{Reader, SliceReader};
 use bincode_base::write::{SliceWriter, Writer};
 use bincode_de::decode::Decode;
-use bincode_de::decoder::LentDecoder;
+use bincode_decoder::decoder::LentDecoder;
 use bincode_enc::encode::Encode;
 use bincode_enc::encoder::LentEncoder;
 use std::alloc::Global;

@@ -1,3 +1,5 @@
 pub mod StdBytes
 pub mod Shown
+pub mod Slices
+pub mod Streams
 pub mod Words

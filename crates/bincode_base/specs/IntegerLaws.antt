@@ -223,7 +223,7 @@ module _ (order : Endianness) (n : ℕ) where
   pub shortest_1 : n ≤ 250 → (shortest order n ≡ n ∷ []) × (shortest_pieces order n ≡ (n ∷ []) ∷ [])
   shortest_1 h = let a : nat_le n 250 ≡ true = le-leb n 250 h in (rw a refl, rw a refl)
 
-  shortest_3 : 250 < n → n < 65536 → (shortest order n ≡ 251 ∷ digits_of order 2 n) × (shortest_pieces order n ≡ (251 ∷ []) ∷ digits_of order 2 n ∷ [])
+  pub shortest_3 : 250 < n → n < 65536 → (shortest order n ≡ 251 ∷ digits_of order 2 n) × (shortest_pieces order n ≡ (251 ∷ []) ∷ digits_of order 2 n ∷ [])
   shortest_3 h k =
       let a : nat_le n 250 ≡ false = lt-leb n 250 h in
       let b : nat_lt n 65536 ≡ true = lt-ltb n 65536 k in

@@ -6,9 +6,9 @@ ghost use Rattle.bincode_wire.specs.Run.{CanRelease, RoomReturned};
 ghost use Rattle.bincode_de.specs.Runs.{RunRead};
 
 use crate::decode::Decode;
-use crate::decoder::Decoder;
 use crate::runs::{decode_next, decode_run};
 use bincode_base::error::DecodeError;
+use bincode_decoder::decoder::Decoder;
 use bincode_slots::{empty_slots, slots_fit, unwrap_all};
 use bincode_wire::wire::Wire;
 

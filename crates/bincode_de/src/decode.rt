@@ -5,8 +5,8 @@ ghost use Rattle.bincode_wire.specs.Decoding.{Decodes, Stops};
 ghost use Rattle.bincode_wire.specs.Run.{CanRelease};
 ghost use Rattle.bincode_de.specs.Runs.{RunRead};
 
-use crate::decoder::Decoder;
 use bincode_base::error::DecodeError;
+use bincode_decoder::decoder::Decoder;
 use bincode_wire::wire::Wire;
 
 /// A type whose values can be read, in a context.

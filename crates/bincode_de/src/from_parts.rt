@@ -3,8 +3,8 @@ ghost use Rattle.std.specs.Prelude.{◌≡◌};
 ghost use Rattle.bincode_wire.specs.Meaning.{Meaning};
 
 use crate::decode::Decode;
-use crate::decoder::Decoder;
 use bincode_base::error::DecodeError;
+use bincode_decoder::decoder::Decoder;
 use bincode_wire::parted::Parted;
 
 /// A type whose values are made of their parts. It has `Decode` by this, where the type of the parts has.

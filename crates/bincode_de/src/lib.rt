@@ -3,7 +3,6 @@
 
 pub mod arrays;
 pub mod decode;
-pub mod decoder;
 pub mod from_parts;
 mod impls;
 pub mod runs;

@@ -5,8 +5,8 @@ ghost use Rattle.bincode_wire.specs.Run.{CanRelease};
 ghost use Rattle.bincode_de.specs.Runs.{RunRead, ValueRead};
 
 use crate::decode::Decode;
-use crate::decoder::Decoder;
 use bincode_base::error::DecodeError;
+use bincode_decoder::decoder::Decoder;
 use std::alloc::Global;
 
 /// Reads as many values as `values` has, over them, whose room `claim_container_read` has reserved: each one's share is

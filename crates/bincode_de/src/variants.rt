@@ -8,10 +8,10 @@ ghost use Rattle.bincode_wire.specs.Answer.{Gave, answer};
 ghost use Rattle.bincode_wire.specs.Decoding.{Decodes, Stops};
 
 use crate::decode::Decode;
-use crate::decoder::Decoder;
-use crate::impls::numbers::{decode_byte, decode_integer};
 use bincode_base::error::DecodeError;
 use bincode_base::text::TypeName;
+use bincode_decoder::decoder::Decoder;
+use bincode_decoder::integers::{decode_byte, decode_integer};
 use bincode_wire::sums::{NoOther, OneOf, Or, Tag, Variants};
 use bincode_wire::wire::Wire;
 use std::alloc::{AllocError, Global};

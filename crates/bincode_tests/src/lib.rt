@@ -20,10 +20,14 @@ mod faults;
 #[cfg(test)]
 mod numbers;
 #[cfg(test)]
+mod own;
+#[cfg(test)]
 mod readers;
 pub mod rows;
 #[cfg(test)]
 mod runs;
+#[cfg(test)]
+mod tables;
 #[cfg(test)]
 mod varints;
 #[cfg(test)]

@@ -3,5 +3,3 @@
 
 pub mod message;
 pub mod request;
-#[cfg(test)]
-mod tests;

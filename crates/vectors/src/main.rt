@@ -1,12 +1,9 @@
-//! Runs a table of worked cases of the format, and prints which of them hold.
+//! Runs the worked rows of the format, and prints which of them hold.
 #![tactic(auto)]
 
-mod case;
-mod rows;
-
 use anyhow::ensure;
-use rows::TABLE;
 use std::io;
+use worked_rows::rows::{self, TABLE};
 
 fn main(rt: HostRuntime) -> anyhow::Result<()> {
     let failed = rows::run(rt.alloc(), &TABLE, &mut io::writer(&rt))?;

@@ -1,8 +1,8 @@
 //! Decoding of arrays.
 use crate::arrays::decode_array;
 use crate::decode::{ArrayOf, Decode};
-use crate::decoder::Decoder;
 use bincode_base::error::DecodeError;
+use bincode_decoder::decoder::Decoder;
 
 impl<Context: Drop, T: Decode<Context>, const N: usize> Decode<Context> for [T; N] {
     fn decode<D: Decoder<Context = Context>>(decoder: &mut D) -> Result<[T; N], DecodeError> {

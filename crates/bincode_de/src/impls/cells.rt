@@ -1,7 +1,7 @@
 //! Decoding of cells.
 use crate::decode::Decode;
-use crate::decoder::Decoder;
 use bincode_base::error::DecodeError;
+use bincode_decoder::decoder::Decoder;
 use std::cell::{Cell, RefCell};
 
 impl<Context: Drop, T: Decode<Context>> Decode<Context> for Cell<T> {

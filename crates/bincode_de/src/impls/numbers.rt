@@ -1,103 +1,10 @@
 //! Decoding of integers.
 #![tactic(auto, using(crate::proofs::Casts::by_number))]
 
-ghost use Rattle.std.specs.Prelude.{◌≡◌, ◌<◌, ◌≤◌, ◌⊎◌, [], ◌++◌, length, OnOk, IfOk, IfErr};
-ghost use Rattle.bincode_base.specs.Device.{FallsShort, Rose, Takes};
-ghost use Rattle.bincode_base.specs.Format.{Took, map_format};
-ghost use Rattle.bincode_base.specs.Number.{from_two_complement};
-ghost use Rattle.bincode_base.specs.Reads.{Misreads};
-ghost use Rattle.bincode_base.specs.Integers.{byte, unsigned_byte, signed_byte};
-ghost use Rattle.bincode_wire.specs.Answer.{answer, Gave, Charges};
-ghost use Rattle.bincode_wire.specs.Decoding.{Stops};
-
 use crate::decode::{ArrayOf, Decode};
-use crate::decoder::Decoder;
-use bincode_base::bytes::{read_byte, read_i8};
-use bincode_base::config::Config;
 use bincode_base::error::DecodeError;
-use bincode_base::number::Integer;
-use bincode_base::read::Reader;
-use bincode_wire::wire::Wire;
-
-/// Charges for all bytes of an integer, and reads it as the configuration says. Fails where the charge passes the limit, and
-/// where `Integer::read` does. A fault leaves the charge.
-#[inline(always)]
-pub(crate) fn decode_integer<T: Integer + Wire, D: Decoder>(
-    decoder: &mut D,
-) -> Result<T, DecodeError>
-    requires { T.claim ≡ T.width }
-    ensures ok { D.told decoder.old → IfOk result (λ v. answer D.C.bound (T.spelling.words D.C.setting) (D.rest decoder.old) (D.charge decoder.old) ≡ Gave v (D.rest decoder.new) (D.charge decoder.new)) }
-    ensures err { D.told decoder.old → IfErr result (Stops D.R.ended D.R.device ⊥ (answer D.C.bound (T.spelling.words D.C.setting) (D.rest decoder.old) (D.charge decoder.old)) (D.failures decoder.old) (D.failures decoder.new) (D.rest decoder.old) (D.rest decoder.new)) }
-    ensures count { D.failures decoder.old ≤ D.failures decoder.new }
-    ensures told { D.told decoder.old → D.told decoder.new }
-    ensures charge { Charges D.C.bound (D.charge decoder.old) T.width (D.charge decoder.new) }
-    ensures place { D.place decoder.new ≡ D.place decoder.old }
-{
-    decoder.claim_bytes_read(T::claim_size())?;
-    read_integer_from(decoder)
-}
-
-#[inline(always)]
-fn read_integer_from<T: Integer, D: Decoder>(decoder: &mut D) -> Result<T, DecodeError>
-    ensures ok { D.told decoder.old → IfOk result (λ v. (T.spelling.read_by D.C.setting.order D.C.setting.encoding).read (D.rest decoder.old) ≡ Took v (D.rest decoder.new) []) }
-    ensures err { D.told decoder.old → IfErr result (Misreads D.R.ended D.R.device ((T.spelling.read_by D.C.setting.order D.C.setting.encoding).read (D.rest decoder.old)) (D.failures decoder.old) (D.failures decoder.new) (D.rest decoder.old) (D.rest decoder.new)) }
-    ensures count { D.failures decoder.old ≤ D.failures decoder.new }
-    ensures told { D.told decoder.old → D.told decoder.new }
-    ensures charge { D.charge decoder.new ≡ D.charge decoder.old }
-    ensures place { D.place decoder.new ≡ D.place decoder.old }
-{
-    let endian = decoder.config().endianness();
-    let encoding = decoder.config().int_encoding();
-    T::read(decoder.reader(), endian, encoding)
-}
-
-/// Charges for a byte, and reads it. A fault leaves the charge.
-pub(crate) fn decode_byte<D: Decoder>(decoder: &mut D) -> Result<u8, DecodeError>
-    ensures ok { D.told decoder.old → IfOk result (λ v. answer D.C.bound unsigned_byte (D.rest decoder.old) (D.charge decoder.old) ≡ Gave v (D.rest decoder.new) (D.charge decoder.new)) }
-    ensures err { D.told decoder.old → IfErr result (Stops D.R.ended D.R.device ⊥ (answer D.C.bound unsigned_byte (D.rest decoder.old) (D.charge decoder.old)) (D.failures decoder.old) (D.failures decoder.new) (D.rest decoder.old) (D.rest decoder.new)) }
-    ensures count { D.failures decoder.old ≤ D.failures decoder.new }
-    ensures told { D.told decoder.old → D.told decoder.new }
-    ensures charge { Charges D.C.bound (D.charge decoder.old) 1 (D.charge decoder.new) }
-    ensures place { D.place decoder.new ≡ D.place decoder.old }
-{
-    decoder.claim_bytes_read(1)?;
-    read_byte_from(decoder)
-}
-
-pub(crate) fn read_byte_from<D: Decoder>(decoder: &mut D) -> Result<u8, DecodeError>
-    ensures ok { D.told decoder.old → IfOk result (λ v. byte.read (D.rest decoder.old) ≡ Took v (D.rest decoder.new) []) }
-    ensures err { D.told decoder.old → IfErr result (Misreads D.R.ended D.R.device (byte.read (D.rest decoder.old)) (D.failures decoder.old) (D.failures decoder.new) (D.rest decoder.old) (D.rest decoder.new)) }
-    ensures count { D.failures decoder.old ≤ D.failures decoder.new }
-    ensures told { D.told decoder.old → D.told decoder.new }
-    ensures charge { D.charge decoder.new ≡ D.charge decoder.old }
-    ensures place { D.place decoder.new ≡ D.place decoder.old }
-{
-    read_byte(decoder.reader())
-}
-
-/// Charges for a signed byte, and reads it. A fault leaves the charge.
-pub(crate) fn decode_signed_byte<D: Decoder>(decoder: &mut D) -> Result<i8, DecodeError>
-    ensures ok { D.told decoder.old → IfOk result (λ v. answer D.C.bound signed_byte (D.rest decoder.old) (D.charge decoder.old) ≡ Gave v (D.rest decoder.new) (D.charge decoder.new)) }
-    ensures err { D.told decoder.old → IfErr result (Stops D.R.ended D.R.device ⊥ (answer D.C.bound signed_byte (D.rest decoder.old) (D.charge decoder.old)) (D.failures decoder.old) (D.failures decoder.new) (D.rest decoder.old) (D.rest decoder.new)) }
-    ensures count { D.failures decoder.old ≤ D.failures decoder.new }
-    ensures told { D.told decoder.old → D.told decoder.new }
-    ensures charge { Charges D.C.bound (D.charge decoder.old) 1 (D.charge decoder.new) }
-    ensures place { D.place decoder.new ≡ D.place decoder.old }
-{
-    decoder.claim_bytes_read(1)?;
-    read_i8_from(decoder)
-}
-
-fn read_i8_from<D: Decoder>(decoder: &mut D) -> Result<i8, DecodeError>
-    ensures ok { D.told decoder.old → IfOk result (λ v. (map_format (from_two_complement 1) byte).read (D.rest decoder.old) ≡ Took v (D.rest decoder.new) []) }
-    ensures err { D.told decoder.old → IfErr result (Misreads D.R.ended D.R.device ((map_format (from_two_complement 1) byte).read (D.rest decoder.old)) (D.failures decoder.old) (D.failures decoder.new) (D.rest decoder.old) (D.rest decoder.new)) }
-    ensures count { D.failures decoder.old ≤ D.failures decoder.new }
-    ensures told { D.told decoder.old → D.told decoder.new }
-    ensures charge { D.charge decoder.new ≡ D.charge decoder.old }
-    ensures place { D.place decoder.new ≡ D.place decoder.old }
-{
-    read_i8(decoder.reader())
-}
+use bincode_decoder::decoder::Decoder;
+use bincode_decoder::integers::{decode_byte, decode_integer, decode_signed_byte, read_from};
 
 impl<Context: Drop> Decode<Context> for u8 {
     #[inline(always)]
@@ -117,20 +24,6 @@ impl<Context: Drop> Decode<Context> for u8 {
     ) -> Option<Result<(), DecodeError>> {
         Some(read_from(decoder, values))
     }
-}
-
-/// Fills all of `bytes` with the next bytes.
-pub(crate) fn read_from<D: Decoder>(decoder: &mut D, bytes: &mut [u8]) -> Result<(), DecodeError>
-    ensures next { D.told decoder.old → OnOk result (D.rest decoder.old ≡ bytes.new ++ D.rest decoder.new) }
-    ensures why { D.told decoder.old → IfErr result (λ e. FallsShort D.R.ended (D.rest decoder.old) (length bytes.old) e ⊎ (D.R.device.uncounted e ⊎ (D.R.device.counted e × Rose (D.failures decoder.old) (D.failures decoder.new)))) }
-    ensures left { D.told decoder.old → IfErr result (λ e. D.R.device.uncounted e ⊎ Takes (D.rest decoder.old) (D.rest decoder.new)) }
-    ensures length { length bytes.new ≡ length bytes.old }
-    ensures count { D.failures decoder.old ≤ D.failures decoder.new }
-    ensures told { D.told decoder.old → D.told decoder.new }
-    ensures charge { D.charge decoder.new ≡ D.charge decoder.old }
-    ensures place { D.place decoder.new ≡ D.place decoder.old }
-{
-    decoder.reader().read(bytes)
 }
 
 impl<Context: Drop> Decode<Context> for u16 {

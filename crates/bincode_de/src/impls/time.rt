@@ -1,8 +1,8 @@
 //! Decoding of spans of time.
 use crate::decode::Decode;
-use crate::decoder::Decoder;
-use crate::impls::numbers::decode_integer;
 use bincode_base::error::DecodeError;
+use bincode_decoder::decoder::Decoder;
+use bincode_decoder::integers::decode_integer;
 use bincode_wire::own::time::Duration;
 
 impl<Context: Drop> Decode<Context> for Duration {

@@ -1,8 +1,8 @@
 //! Decoding of tuples.
 use crate::decode::{ArrayOf, Decode};
-use crate::decoder::Decoder;
 use crate::from_parts::FromParts;
 use bincode_base::error::DecodeError;
+use bincode_decoder::decoder::Decoder;
 use bincode_wire::rows::{LongRow, Row};
 use bincode_wire::wire::Wire;
 

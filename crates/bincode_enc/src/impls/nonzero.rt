@@ -1,10 +1,8 @@
 //! Encoding of integers other than 0.
-ghost use Rattle.std.specs.Prelude.{◌≡◌, ◌<◌, pos, unsigned_abs, OnOk, IfErr};
-ghost use Rattle.bincode_base.specs.declared.error.IntegerType.TheVariants.{U8, I8};
+ghost use Rattle.std.specs.Prelude.{◌≡◌, ◌<◌, OnOk, IfErr};
 ghost use Rattle.bincode_base.specs.Format.{map_format};
-ghost use Rattle.bincode_base.specs.Integers.{unsigned_byte, signed_byte};
 ghost use Rattle.bincode_wire.specs.Meaning.{Number, IsNumber};
-ghost use Rattle.bincode_wire.specs.Words.{natural, integral, not_zero, not_zero_integer, not_zero_by};
+ghost use Rattle.bincode_wire.specs.Words.{not_zero_by};
 ghost use Rattle.bincode_wire.specs.Allowed.{AllowedWord};
 ghost use Rattle.bincode_enc.specs.Encoding.{Writes, Ready, Halts};
 
@@ -31,28 +29,6 @@ fn encode_not_zero<T: Integer, E: Encoder>(encoder: &mut E, val: T) -> Result<()
     encode_integer(encoder, val)
 }
 
-/// Writes a byte other than 0.
-#[inline]
-fn encode_byte_not_zero<E: Encoder>(encoder: &mut E, val: u8) -> Result<(), EncodeError>
-    requires { 0 < val }
-    ensures ok { OnOk result (Writes E.W.adds (AllowedWord (IsNumber (pos val)) (natural (not_zero U8 unsigned_byte))) (E.writer_of encoder.old) (E.writer_of encoder.new)) }
-    ensures err { IfErr result (Halts E.W.adds E.W.refuses (Ready (Unit {0}) (AllowedWord (IsNumber (pos val)) (natural (not_zero U8 unsigned_byte)))) (λ _. ⊥) (E.writer_of encoder.old) (E.writer_of encoder.new)) }
-    ensures place { E.place encoder.new ≡ E.place encoder.old }
-{
-    val.encode(encoder)
-}
-
-/// Writes a signed byte other than 0.
-#[inline]
-fn encode_signed_byte_not_zero<E: Encoder>(encoder: &mut E, val: i8) -> Result<(), EncodeError>
-    requires { 0 < unsigned_abs val }
-    ensures ok { OnOk result (Writes E.W.adds (AllowedWord (IsNumber val) (integral (not_zero_integer I8 signed_byte))) (E.writer_of encoder.old) (E.writer_of encoder.new)) }
-    ensures err { IfErr result (Halts E.W.adds E.W.refuses (Ready (Unit {0}) (AllowedWord (IsNumber val) (integral (not_zero_integer I8 signed_byte)))) (λ _. ⊥) (E.writer_of encoder.old) (E.writer_of encoder.new)) }
-    ensures place { E.place encoder.new ≡ E.place encoder.old }
-{
-    val.encode(encoder)
-}
-
 impl EncodeParts for NonZeroU8 {
     fn tell_valid_parts(&self) {
         let _value = self.get();
@@ -60,7 +36,7 @@ impl EncodeParts for NonZeroU8 {
 
     #[inline]
     fn encode_parts<E: Encoder>(&self, encoder: &mut E) -> Result<(), EncodeError> {
-        encode_byte_not_zero(encoder, self.get())
+        self.get().encode(encoder)
     }
 }
 
@@ -126,7 +102,7 @@ impl EncodeParts for NonZeroI8 {
 
     #[inline]
     fn encode_parts<E: Encoder>(&self, encoder: &mut E) -> Result<(), EncodeError> {
-        encode_signed_byte_not_zero(encoder, self.get())
+        self.get().encode(encoder)
     }
 }
 

@@ -1,4 +1,4 @@
-use Rattle.std.proofs.Common.{rules, map, Some, ◌∙◌}
+use Rattle.std.proofs.Common.{arith, rules, map, Some, ◌∙◌}
 use Rattle.bincode_slots.proofs.Taken.{all_filled, same_values}
 use Rattle.bincode_slots.proofs.collect_by.Goals as goal
 
@@ -10,3 +10,6 @@ returns-in-Some-Ok g c =
     let f = rw c.in-Some-Ok.field-0-is at c.in-Some-Ok.ensures in
     let e = same_values c.unwrap_all.result f.0 (◌∙◌ {c = map Some f.0} c.unwrap_all.ensures f.1) in
     (search rules, rw e f.2)
+
+pub returns-in-Some-Err : goal.returns-in-Some-Err
+returns-in-Some-Err g c = let f = rw c.in-Some-Err.field-0-is at c.in-Some-Err.ensures in (f.0, omega (arith, f.1, c.fill.auto.slots), f.2)

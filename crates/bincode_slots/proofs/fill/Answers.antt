@@ -1,7 +1,15 @@
-use Rattle.std.proofs.Common.{◌++◌, ◌∷◌, [], Some, sym, ap, ◌∙◌, arith}
+use Rattle.std.proofs.Common.{◌++◌, ◌∷◌, [], Some, refl, sym, ap, ◌∙◌, arith}
 use Rattle.std.proofs.lemmas.List.{length_push, length-set, map-append, take_more_set}
 use Rattle.bincode_slots.proofs.Collected.{yields_more}
 use Rattle.bincode_slots.proofs.fill.Goals as goal
+
+pub loop-index-init : goal.loop-index-init
+loop-index-init g c = ([], refl, refl, refl, refl, c.requires)
+
+pub returns-in-Some-Err : goal.returns-in-Some-Err
+returns-in-Some-Err g c =
+    let h = c.loop-index.invariant in
+    (h.0, omega (arith, h.1, h.2, c.loop-index-test.true), (c.loop-index.iter, h.4, rw c.in-Some-Err.field-0-is at c.in-Some-Err.ensures.steps))
 
 pub loop-index-preserved : goal.loop-index-preserved
 loop-index-preserved g c =

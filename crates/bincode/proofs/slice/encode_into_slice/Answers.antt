@@ -1,7 +1,12 @@
 use Rattle.std.proofs.Common.{rules, []}
 use Rattle.std.proofs.lemmas.Result.{err_from_is_err_and}
-use Rattle.bincode.proofs.Filled.{halted-left, halted-short, short-fits}
+use Rattle.bincode.proofs.Filled.{halted-left, halted-short, halted-why, short-fits, word-written, word-fits}
 use Rattle.bincode.proofs.slice.encode_into_slice.Goals as goal
+
+pub returns-in_err-encode_with-clause-fault : goal.returns-in_err-encode_with-clause-fault
+returns-in_err-encode_with-clause-fault g c =
+    let p = err_from_is_err_and c.from_residual.result c.from_residual.ensures.1 in
+    rw (p.1, p.2) (halted-why _ _ _ _ _ c.in_err-encode_with.ensures.err)
 
 pub returns-in_err-encode_with-clause-room : goal.returns-in_err-encode_with-clause-room
 returns-in_err-encode_with-clause-room g c =
@@ -12,3 +17,9 @@ pub returns-in_err-encode_with-clause-left : goal.returns-in_err-encode_with-cla
 returns-in_err-encode_with-clause-left g c =
     let p = err_from_is_err_and c.from_residual.result c.from_residual.ensures.1 in
     rw (p.1, p.2) (halted-left _ _ _ _ c.new-writer.result c.encode_with.new.writer _ c.new-writer.ensures.bytes c.new-writer.ensures.start (search rules) c.in_err-encode_with.ensures.err)
+
+pub returns-clause-word : goal.returns-clause-word
+returns-clause-word g c = word-written _ c.new-writer.result c.encode_with.new.writer c.new-writer.ensures.start c.in_ok-encode_with.ensures.ok _ _ _ c.bytes_written.ensures c.new-writer.ensures.bytes (search rules)
+
+pub returns-clause-room : goal.returns-clause-room
+returns-clause-room g c = word-fits _ c.new-writer.result c.encode_with.new.writer c.new-writer.ensures.start c.in_ok-encode_with.ensures.ok _ _ _ _ (search rules)

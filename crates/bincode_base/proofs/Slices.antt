@@ -1,0 +1,29 @@
+-- What reads and writes of a slice give and leave.
+use Rattle.std.specs.Prelude.{◌≡◌, ℕ, ◌+◌, ◌-◌, ◌<◌, ◌≤◌, ◌⊎◌, List, ◌++◌, length, take, drop, Option, Some, None, IsSome, IfSome}
+use Rattle.std.proofs.Common.{sym, ◌∙◌, ap, arith, Bor}
+use Rattle.std.specs.Option.{MatchOption}
+use Rattle.std.proofs.lemmas.List.{take-append-drop, drop-drop}
+use borrow.Rule.Slice.PartMut.{put_mid}
+use Rattle.bincode_base.specs.Put.{put}
+
+-- what was taken, and then what stands behind it
+pub taken-first : (s bytes : List ℕ) (at : ℕ) → bytes ≡ take (length bytes) (drop at s) →
+    drop at s ≡ bytes ++ drop (at + length bytes) s
+taken-first s bytes at is =
+    sym (take-append-drop (length bytes) (drop at s))
+    ∙ ap (λ l. l ++ drop (length bytes) (drop at s)) (sym is)
+    ∙ ap (λ l. bytes ++ l) (drop-drop (length bytes) at s)
+
+-- what `get(..n)` answers
+pub front-given : (n : ℕ) (s : List ℕ) (r : Option (Bor (List ℕ))) →
+    MatchOption r ((n < 0) ⊎ (length s < n)) (λ x. (0 ≤ n) × (n ≤ length s) × (x.now ≡ take (n - 0) s) × (length x.now + 0 ≡ n)) →
+    IfSome r (λ x. n ≤ length s) × IfSome r (λ x. (length x.now ≡ n) × (x.now ≡ take n s)) × (IsSome r → n ≤ length s)
+front-given n s None h = (tt, tt, λ some. absurd (cc))
+front-given n s (Some x) h = let same : n - 0 ≡ n = omega arith in (h.1, (omega (arith, h.3), rw same at h.2), λ some. h.1)
+
+-- a copy into the middle
+pub copied : (at room : ℕ) (s part piece : List ℕ) → part ≡ piece → room ≡ length piece →
+    put_mid at room s part ≡ put at piece s
+copied at room s part piece is e =
+    ap (λ l. take at s ++ (l ++ drop room (drop at s))) is
+    ∙ ap (λ l. take at s ++ (piece ++ l)) (drop-drop room at s ∙ ap (λ n. drop (at + n) s) e)

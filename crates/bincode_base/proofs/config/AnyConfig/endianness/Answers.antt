@@ -1,0 +1,4 @@
+use Rattle.bincode_base.proofs.config.AnyConfig.endianness.Goals as goal
+
+pub returns : goal.returns
+returns g c = cc

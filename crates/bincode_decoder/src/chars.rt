@@ -1,0 +1,50 @@
+//! Characters behind their first byte, read through any decoder.
+ghost use Rattle.std.specs.Prelude.{◌≡◌, ◌≤◌, [], Some, IfOk, IfErr};
+ghost use Rattle.bincode_base.specs.Format.{Took, charged};
+ghost use Rattle.bincode_base.specs.Reads.{Misreads};
+ghost use Rattle.bincode_wire.specs.Meaning.{Character};
+ghost use Rattle.bincode_wire.specs.Words.{char_width, rest_of_char};
+ghost use Rattle.bincode_wire.specs.Answer.{answer, Gave, Charges};
+ghost use Rattle.bincode_wire.specs.Decoding.{Stops};
+
+use crate::decoder::Decoder;
+use bincode_base::error::DecodeError;
+use bincode_wire::chars::read_rest_of_char;
+
+// Always inlined, as numbers are: a call hands on a result with room for an error.
+
+#[inline(always)]
+fn read_rest_of_char_from<D: Decoder>(
+    decoder: &mut D,
+    first: u8,
+    width: usize,
+) -> Result<char, DecodeError>
+    requires { char_width first ≡ Some width }
+    ensures ok { D.told decoder.old → IfOk result (λ v. (rest_of_char first width).read (D.rest decoder.old) ≡ Took (Character v) (D.rest decoder.new) []) }
+    ensures err { D.told decoder.old → IfErr result (Misreads D.R.ended D.R.device ((rest_of_char first width).read (D.rest decoder.old)) (D.failures decoder.old) (D.failures decoder.new) (D.rest decoder.old) (D.rest decoder.new)) }
+    ensures count { D.failures decoder.old ≤ D.failures decoder.new }
+    ensures told { D.told decoder.old → D.told decoder.new }
+    ensures charge { D.charge decoder.new ≡ D.charge decoder.old }
+    ensures place { D.place decoder.new ≡ D.place decoder.old }
+{
+    read_rest_of_char(decoder.reader(), first, width)
+}
+
+/// Charges for a character of so many bytes, and reads those behind the first. A fault leaves the charge.
+#[inline(always)]
+pub fn decode_rest_of_char<D: Decoder>(
+    decoder: &mut D,
+    first: u8,
+    width: usize,
+) -> Result<char, DecodeError>
+    requires { char_width first ≡ Some width }
+    ensures ok { D.told decoder.old → IfOk result (λ v. answer D.C.bound (charged width (rest_of_char first width)) (D.rest decoder.old) (D.charge decoder.old) ≡ Gave (Character v) (D.rest decoder.new) (D.charge decoder.new)) }
+    ensures err { D.told decoder.old → IfErr result (Stops D.R.ended D.R.device ⊥ (answer D.C.bound (charged width (rest_of_char first width)) (D.rest decoder.old) (D.charge decoder.old)) (D.failures decoder.old) (D.failures decoder.new) (D.rest decoder.old) (D.rest decoder.new)) }
+    ensures count { D.failures decoder.old ≤ D.failures decoder.new }
+    ensures told { D.told decoder.old → D.told decoder.new }
+    ensures charge { Charges D.C.bound (D.charge decoder.old) width (D.charge decoder.new) }
+    ensures place { D.place decoder.new ≡ D.place decoder.old }
+{
+    decoder.claim_bytes_read(width)?;
+    read_rest_of_char_from(decoder, first, width)
+}
