@@ -11,6 +11,7 @@ ghost use Rattle.bincode_base.specs.declared.config.Endianness.TheVariants.{Litt
 ghost use Rattle.bincode_base.specs.declared.config.IntEncoding.{IntEncoding};
 ghost use Rattle.bincode_base.specs.declared.config.IntEncoding.TheVariants.{Fixed, Variable};
 
+use std::fmt;
 use std::marker::PhantomData;
 
 /// The order of the bytes of a number.
@@ -32,7 +33,7 @@ pub enum IntEncoding {
 }
 
 /// A configuration, made by [`standard`] or [`legacy`] and changed part by part by its methods.
-#[derive(Clone, Copy, Debug, Default)]
+#[derive(Clone, Copy)]
 pub struct Configuration<E = LittleEndian, I = Varint, L = NoLimit> {
     endian: PhantomData<E>,
     int_encoding: PhantomData<I>,
@@ -89,6 +90,29 @@ impl<E, I, L> Configuration<E, I, L> {
     }
 }
 
+impl<E, I, L> Default for Configuration<E, I, L> {
+    fn default() -> Configuration<E, I, L> {
+        generate()
+    }
+}
+
+impl<E, I, L> fmt::Debug for Configuration<E, I, L>
+where
+    E: InternalEndianConfig,
+    I: InternalIntEncodingConfig,
+    L: InternalLimitConfig,
+{
+    fn fmt<W: fmt::Write>(&self, f: &mut fmt::Formatter<W>) -> fmt::Result {
+        write!(
+            f,
+            "Configuration {{ endian: {:?}, int_encoding: {:?}, limit: {:?} }}",
+            E::ENDIAN,
+            I::INT_ENCODING,
+            L::LIMIT
+        )
+    }
+}
+
 /// What the library asks of a configuration. Every `Copy` type with the three parts is one.
 pub trait Config: InternalEndianConfig
     + InternalIntEncodingConfig
@@ -135,27 +159,27 @@ impl<
 }
 
 /// The highest byte of a number first.
-#[derive(Clone, Copy, Debug, Default)]
+#[derive(Clone, Copy)]
 pub struct BigEndian;
 
 /// The lowest byte of a number first.
-#[derive(Clone, Copy, Debug, Default)]
+#[derive(Clone, Copy)]
 pub struct LittleEndian;
 
 /// Fixed integers.
-#[derive(Clone, Copy, Debug, Default)]
+#[derive(Clone, Copy)]
 pub struct Fixint;
 
 /// Variable integers.
-#[derive(Clone, Copy, Debug, Default)]
+#[derive(Clone, Copy)]
 pub struct Varint;
 
 /// No limit.
-#[derive(Clone, Copy, Debug, Default)]
+#[derive(Clone, Copy)]
 pub struct NoLimit;
 
 /// A limit of `N` bytes.
-#[derive(Clone, Copy, Debug, Default)]
+#[derive(Clone, Copy)]
 pub struct Limit<const N: usize>;
 
 /// A type that stands for a byte order.

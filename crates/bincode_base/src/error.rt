@@ -138,7 +138,7 @@ const _: () = prove!(size_of::<EncodeError>() <= 24);
 const _: () = prove!(size_of::<DecodeError>() <= 24);
 
 /// The integer types by name.
-#[derive(Clone, Copy, Debug, PartialEq, Eq)]
+#[derive(Clone, Copy, PartialEq, Eq)]
 pub enum IntegerType {
     U8,
     U16,
@@ -172,6 +172,31 @@ impl IntegerType {
             IntegerType::Usize => IntegerType::Isize,
             other => other,
         }
+    }
+
+    /// Its name, as it stands here.
+    fn name(self) -> &'static str {
+        match self {
+            IntegerType::U8 => "U8",
+            IntegerType::U16 => "U16",
+            IntegerType::U32 => "U32",
+            IntegerType::U64 => "U64",
+            IntegerType::U128 => "U128",
+            IntegerType::Usize => "Usize",
+            IntegerType::I8 => "I8",
+            IntegerType::I16 => "I16",
+            IntegerType::I32 => "I32",
+            IntegerType::I64 => "I64",
+            IntegerType::I128 => "I128",
+            IntegerType::Isize => "Isize",
+            IntegerType::Reserved => "Reserved",
+        }
+    }
+}
+
+impl fmt::Debug for IntegerType {
+    fn fmt<W: fmt::Write>(&self, f: &mut fmt::Formatter<W>) -> fmt::Result {
+        f.write_str(self.name())
     }
 }
 

@@ -134,14 +134,6 @@ pub fn read_front<T: Decode<()>>(alloc: Global, input: &[u8], length: usize) -> 
     }
 }
 
-/// The input is read as the value, under the standard configuration, with this length.
-pub fn reads<T>(rt: &impl Abort, alloc: Global, input: &[u8], value: &T, length: usize)
-where
-    T: Decode<()> + PartialEq,
-{
-    reads_under(rt, alloc, config::standard(), input, value, length);
-}
-
 /// The input is read as the value, with this length.
 fn reads_under<T, C>(
     rt: &impl Abort,

@@ -1,7 +1,6 @@
 //! Tests of the library through its public calls. Expected values come from the description of the format.
 #![tactic(auto)]
 
-pub mod callers;
 #[cfg(test)]
 mod cells;
 #[cfg(test)]
@@ -14,7 +13,6 @@ mod coders;
 mod composites;
 #[cfg(test)]
 mod configurations;
-pub mod cut;
 #[cfg(test)]
 mod faults;
 #[cfg(test)]
@@ -23,7 +21,6 @@ mod numbers;
 mod own;
 #[cfg(test)]
 mod readers;
-pub mod rows;
 #[cfg(test)]
 mod runs;
 #[cfg(test)]

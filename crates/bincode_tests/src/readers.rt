@@ -1,11 +1,11 @@
 //! Reading from slices, from streams, and over a line that is cut.
 
-use crate::cut::CutReader;
 use bincode::config::{self, Endianness};
 use bincode::de::read::{Reader, SliceReader};
 use bincode::de::{Decode, Decoder, DecoderImpl, IoReader, LentIoReader};
 use bincode::error::DecodeError;
 use bincode::varint::varint_decode_u32;
+use callers::cut::CutReader;
 use std::process::Abort;
 
 #[test]

@@ -1,11 +1,11 @@
 //! Writing into slices, and over a line that is cut.
 
-use crate::cut::CutWriter;
 use bincode::config::{self, Endianness};
 use bincode::enc::write::{SliceWriter, Writer};
 use bincode::enc::{Encode, Encoder, EncoderImpl};
 use bincode::error::EncodeError;
 use bincode::varint::varint_encode_u32;
+use callers::cut::CutWriter;
 use std::process::Abort;
 
 #[test]

@@ -364,7 +364,7 @@ fn spells<T: VarintNumber>(alloc: Global, row: &Spelling<T>) -> Result<bool, All
 fn decodes<T, L>(alloc: Global, row: &Decoding<T, L>) -> bool
 where
     T: Decode<()> + PartialEq,
-    L: InternalLimitConfig + Copy + Default,
+    L: InternalLimitConfig + Copy,
 {
     answers(
         decode_under(alloc, row.setting, row.limit, row.input),
@@ -478,7 +478,7 @@ fn decode_under<T, L>(
 ) -> Result<(T, usize), DecodeError>
 where
     T: Decode<()>,
-    L: InternalLimitConfig + Copy + Default,
+    L: InternalLimitConfig + Copy,
 {
     let standard = Configuration::<LittleEndian, Varint, L>::default();
     let legacy = Configuration::<LittleEndian, Fixint, L>::default();

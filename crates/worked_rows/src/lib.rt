@@ -1,5 +1,6 @@
-//! Worked rows of the format, and the loop that runs them.
+//! Worked rows of the format: of the formats that types name, and of the two calls, with the loop that runs them.
 #![tactic(auto)]
 
 pub mod case;
+pub mod formats;
 pub mod rows;

@@ -1,7 +1,0 @@
-use Rattle.bincode_tests.proofs.Refusals.{no_memory}
-use Rattle.bincode_tests.proofs.callers.read.Goals as goal
-
-pub returns : goal.returns
-returns g c = record {
-  memory = λ none. no_memory _ (g.met.D.Wire.lawful _) (g.met.D.Wire.balanced _) _ _ _ none _ c.decode_from_slice.ensures.found c.decode_from_slice.ensures.fault c.decode_from_slice.ensures.limit;
-}

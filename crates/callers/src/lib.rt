@@ -1,0 +1,5 @@
+//! What a user writes beside types: callers that rest on the contracts of the two calls, and devices that may fail.
+#![tactic(auto)]
+
+pub mod calls;
+pub mod cut;
