@@ -1,18 +1,10 @@
 -- What reads and writes of a slice give and leave.
 use Rattle.std.specs.Prelude.{◌≡◌, ℕ, ◌+◌, ◌-◌, ◌<◌, ◌≤◌, ◌⊎◌, List, ◌++◌, length, take, drop, Option, Some, None, IsSome, IfSome}
-use Rattle.std.proofs.Common.{sym, ◌∙◌, ap, arith, Bor}
+use Rattle.std.proofs.Common.{◌∙◌, ap, arith, Bor}
 use Rattle.std.specs.Option.{MatchOption}
-use Rattle.std.proofs.lemmas.List.{take-append-drop, drop-drop}
+use Rattle.std.proofs.lemmas.List.{drop-drop}
 use borrow.Rule.Slice.PartMut.{put_mid}
 use Rattle.bincode_base.specs.Put.{put}
-
--- what was taken, and then what stands behind it
-pub taken-first : (s bytes : List ℕ) (at : ℕ) → bytes ≡ take (length bytes) (drop at s) →
-    drop at s ≡ bytes ++ drop (at + length bytes) s
-taken-first s bytes at is =
-    sym (take-append-drop (length bytes) (drop at s))
-    ∙ ap (λ l. l ++ drop (length bytes) (drop at s)) (sym is)
-    ∙ ap (λ l. bytes ++ l) (drop-drop (length bytes) at s)
 
 -- what `get(..n)` answers
 pub front-given : (n : ℕ) (s : List ℕ) (r : Option (Bor (List ℕ))) →

@@ -126,14 +126,16 @@ impl Reader for SliceReader<'_> {
         ensures why { IfErr result (λ e. FallsShort (λ missing d. d ≡ UnexpectedEnd missing) (left_of self.old) (length bytes.old) e) }
         ensures left { OnErr result (left_of self.new ≡ left_of self.old) }
     {
-        let left = &self.slice[self.taken..];
-        if left.len() < bytes.len() {
+        // What was taken is compared with the last place where so many bytes stand, so that LLVM sees one length tested
+        // by several reads.
+        if self.slice.len() < bytes.len() || self.slice.len() - bytes.len() < self.taken {
             return Err(DecodeError::UnexpectedEnd {
-                additional: bytes.len() - left.len(),
+                additional: bytes.len() - self.bytes_left(),
             });
         }
-        bytes.copy_from_slice(&left[..bytes.len()]);
-        self.taken += bytes.len();
+        let end = self.taken + bytes.len();
+        bytes.copy_from_slice(&self.slice[self.taken..end]);
+        self.taken = end;
         Ok(())
     }
 
