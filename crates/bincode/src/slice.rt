@@ -5,7 +5,8 @@ ghost use Rattle.bincode_wire.specs.Allowed.{AllowedWord};
 ghost use Rattle.bincode_wire.specs.Answer.{answer};
 ghost use Rattle.bincode_wire.specs.Decoding.{Decodes, Stops};
 ghost use Rattle.bincode_enc.specs.Encoding.{Writes, Ready, Halts};
-ghost use Rattle.bincode.specs.Slice.{WordWritten, FrontWritten, FitsExactly, Decoded, FindsWords, TellsFaults, KeepsLimit};
+ghost use Rattle.bincode.specs.Slice.{WordWritten, FrontWritten, FitsExactly, Decoded, FindsWords, TellsFaults};
+ghost use Rattle.bincode.specs.Slice.{KeepsLimit};
 
 use bincode_base::config::Config;
 use bincode_base::error::{DecodeError, EncodeError};
@@ -29,9 +30,11 @@ pub fn encode_into_slice<E: Encode, C: Config>(
     // No other errors come,
     ensures fault { IfErr result (λ e. (e ≡ UnexpectedEnd) ⊎ E.names e) }
     // the first of them only for want of room,
-    ensures room { FitsExactly (Ready (E.writable C.setting val) (AllowedWord (E.means val) (E.format C.setting))) E.names (length dst.old) result }
+    ensures room { FitsExactly (Ready (E.writable C.setting val) (AllowedWord (E.means val) (E.format C.setting)))
+        E.names (length dst.old) result }
     // and they leave a front of an allowed word.
-    ensures left { IfErr result (FrontWritten (Ready (E.writable C.setting val) (AllowedWord (E.means val) (E.format C.setting))) dst.old dst.new) }
+    ensures left { IfErr result (FrontWritten (Ready (E.writable C.setting val)
+        (AllowedWord (E.means val) (E.format C.setting))) dst.old dst.new) }
 {
     let mut writer = SliceWriter::new(dst);
     encode_with(val, &mut writer, &config)?;
@@ -44,16 +47,17 @@ fn encode_with<E: Encode, W: Writer, C: Config>(
     config: &C,
 ) -> Result<(), EncodeError>
     ensures ok { OnOk result (Writes W.adds (AllowedWord (E.means val) (E.format C.setting)) writer.old writer.new) }
-    ensures err { IfErr result (Halts W.adds W.refuses (Ready (E.writable C.setting val) (AllowedWord (E.means val) (E.format C.setting))) E.names writer.old writer.new) }
+    ensures err { IfErr result (Halts W.adds W.refuses (Ready (E.writable C.setting val)
+        (AllowedWord (E.means val) (E.format C.setting))) E.names writer.old writer.new) }
     ensures place { W.place writer.new ≡ W.place writer.old }
 {
     let mut encoder = LentEncoder::new(writer, config);
     val.encode(&mut encoder)
 }
 
-/// Reads a value from the front of a slice, and answers how many bytes its word has. The bytes after them decide nothing.
-/// Fails with the first fault of the bytes, with `LimitExceeded` where the charges pass the limit, and with `Memory` where
-/// decoding takes memory and is refused some.
+/// Reads a value from the front of a slice, and answers how many bytes its word has. The bytes after them decide
+/// nothing. Fails with the first fault of the bytes, with `LimitExceeded` where the charges pass the limit, and with
+/// `Memory` where decoding takes memory and is refused some.
 pub fn decode_from_slice<D: Decode<()>, C: Config>(
     alloc: Global,
     src: &[u8],
@@ -80,8 +84,12 @@ fn decode_with<Context: Drop, D: Decode<Context>, R: Reader, C: Config>(
     config: &C,
     context: &mut Context,
 ) -> Result<D, DecodeError>
-    ensures ok { R.told reader.old → IfOk result (λ v. (charge : ℕ) × Decodes (λ m. D.given m v) (answer C.bound (D.format C.setting) (R.rest reader.old) 0) (R.rest reader.new) charge) }
-    ensures err { R.told reader.old → IfErr result (Stops R.ended R.device D.grows (answer C.bound (D.format C.setting) (R.rest reader.old) 0) (R.failures reader.old) (R.failures reader.new) (R.rest reader.old) (R.rest reader.new)) }
+    ensures ok { R.told reader.old → IfOk result (λ v. (charge : ℕ)
+        × Decodes (λ m. D.given m v) (answer C.bound (D.format C.setting) (R.rest reader.old) 0)
+        (R.rest reader.new) charge) }
+    ensures err { R.told reader.old → IfErr result (Stops R.ended R.device D.grows
+        (answer C.bound (D.format C.setting) (R.rest reader.old) 0) (R.failures reader.old) (R.failures reader.new)
+        (R.rest reader.old) (R.rest reader.new)) }
     ensures count { R.failures reader.old ≤ R.failures reader.new }
     ensures told { R.told reader.old → R.told reader.new }
     ensures place { R.place reader.new ≡ R.place reader.old }

@@ -27,7 +27,8 @@ fn read_some<R: Read>(stream: &mut R, bytes: &mut [u8]) -> io::Result<usize>
     stream.read(bytes)
 }
 
-/// The error of a stream that failed with so many bytes missing: `Io`, or `Memory` where none is left to hold its cause.
+/// The error of a stream that failed with so many bytes missing: `Io`, or `Memory` where none is left to hold its
+/// cause.
 #[cold]
 fn failure(alloc: Global, cause: io::Error, additional: usize) -> DecodeError
     ensures { FailsStream result }
@@ -38,8 +39,8 @@ fn failure(alloc: Global, cause: io::Error, additional: usize) -> DecodeError
     }
 }
 
-/// Fills all of `bytes` from a stream. Fails with `Io` where the stream fails or ends before, or with `Memory` where its
-/// error finds none; the stream is then behind what it gave, which is lost.
+/// Fills all of `bytes` from a stream. Fails with `Io` where the stream fails or ends before, or with `Memory` where
+/// its error finds none; the stream is then behind what it gave, which is lost.
 fn fill<R: Read>(alloc: Global, stream: &mut R, bytes: &mut [u8]) -> Result<(), DecodeError>
     ensures ok { OnOk result (Consumes (R.remaining stream.old) (R.remaining stream.new) bytes.new) }
     ensures err { IfErr result FailsStream }
@@ -60,8 +61,8 @@ fn fill<R: Read>(alloc: Global, stream: &mut R, bytes: &mut [u8]) -> Result<(), 
 }
 
 /// A reader of a stream. It shows nothing, and fails with `Io`, also where the stream ends, or with `Memory` where its
-/// error finds none. A stream that does not tell its bytes, as a file or the standard input, is read alike, but nothing is
-/// promised of the bytes.
+/// error finds none. A stream that does not tell its bytes, as a file or the standard input, is read alike, but nothing
+/// is promised of the bytes.
 pub struct IoReader<R> {
     stream: R,
     alloc: Global,

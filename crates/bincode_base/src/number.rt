@@ -2,7 +2,8 @@
 #![tactic(auto, using(crate::proofs::Words::by_number))]
 
 ghost use Rattle.std.specs.Prelude.{◌≡◌, ◌≤◌, ℕ, [], IfOk, IfErr, OnOk, refl};
-ghost use Rattle.bincode_base.specs.declared.error.IntegerType.TheVariants.{U16, U32, U64, U128, Usize, I16, I32, I64, I128, Isize};
+ghost use Rattle.bincode_base.specs.declared.error.IntegerType.TheVariants.{U16, U32, U64, U128, Usize, I16, I32, I64};
+ghost use Rattle.bincode_base.specs.declared.error.IntegerType.TheVariants.{I128, Isize};
 ghost use Rattle.bincode_base.specs.Format.{Took};
 ghost use Rattle.bincode_base.specs.IntegerLaws.{Two, Four, Eight, Sixteen};
 ghost use Rattle.bincode_base.specs.Spellings.{Spelling, unsigned_spelling, signed_spelling};
@@ -34,16 +35,19 @@ pub trait Integer: Drop + Sized {
     /// Its words, and which of them is written.
     ghost spelling: { Spelling width Self };
 
-    /// Reads a word: also a varint that is longer than its shortest spelling. Fails where bytes are missing, where the tag
-    /// of a varint is too wide for the type or reserved, and where the device fails. Then some front of the bytes is taken,
-    /// unless the error is one that the device does not count.
+    /// Reads a word: also a varint that is longer than its shortest spelling. Fails where bytes are missing, where the
+    /// tag of a varint is too wide for the type or reserved, and where the device fails. Then some front of the bytes
+    /// is taken, unless the error is one that the device does not count.
     fn read<R: Reader>(
         read: &mut R,
         endian: Endianness,
         encoding: IntEncoding,
     ) -> Result<Self, DecodeError>
-        ensures ok { R.told read.old → IfOk result (λ v. (spelling.read_by endian encoding).read (R.rest read.old) ≡ Took v (R.rest read.new) []) }
-        ensures err { R.told read.old → IfErr result (Misreads R.ended R.device ((spelling.read_by endian encoding).read (R.rest read.old)) (R.failures read.old) (R.failures read.new) (R.rest read.old) (R.rest read.new)) }
+        ensures ok { R.told read.old → IfOk result (λ v. (spelling.read_by endian encoding).read (R.rest read.old)
+            ≡ Took v (R.rest read.new) []) }
+        ensures err { R.told read.old → IfErr result (Misreads R.ended R.device
+            ((spelling.read_by endian encoding).read (R.rest read.old)) (R.failures read.old) (R.failures read.new)
+            (R.rest read.old) (R.rest read.new)) }
         ensures count { R.failures read.old ≤ R.failures read.new }
         ensures told { R.told read.old → R.told read.new }
         ensures place { R.place read.new ≡ R.place read.old };
@@ -57,7 +61,8 @@ pub trait Integer: Drop + Sized {
         encoding: IntEncoding,
     ) -> Result<(), EncodeError>
         ensures ok { OnOk result (W.adds writer.old (spelling.written endian encoding self) writer.new) }
-        ensures err { IfErr result (λ e. StopsAmong W.adds W.refuses (spelling.pieces endian encoding self) writer.old e writer.new) }
+        ensures err { IfErr result (λ e. StopsAmong W.adds W.refuses
+            (spelling.pieces endian encoding self) writer.old e writer.new) }
         ensures place { W.place writer.new ≡ W.place writer.old };
 }
 

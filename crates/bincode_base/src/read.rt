@@ -1,5 +1,6 @@
 //! Readers.
-ghost use Rattle.std.specs.Prelude.{◌≡◌, ◌-◌, ◌<◌, ◌≤◌, ◌⊎◌, ◌↔◌, ℕ, List, [], ◌∷◌, ◌++◌, length, drop, take, ⊤, OnOk, OnErr, IfErr, IfSome, IsSome, IsErr, IfOk};
+ghost use Rattle.std.specs.Prelude.{◌≡◌, ◌-◌, ◌<◌, ◌≤◌, ◌⊎◌, ◌↔◌, ℕ, List, [], ◌∷◌, ◌++◌, length, drop, take, ⊤, OnOk};
+ghost use Rattle.std.specs.Prelude.{OnErr, IfErr, IfSome, IsSome, IsErr, IfOk};
 ghost use Rattle.std.proofs.Common.{le_refl, inl};
 ghost use Rattle.std.specs.Borrow.{GName, sem};
 ghost use Rattle.std.specs.Io.BufRead.{Rests};
@@ -20,8 +21,8 @@ pub trait Reader: Drop {
     /// How many of them a peek shows.
     ghost shown: { Self → ℕ };
 
-    /// How often the device failed by an error that it counts. A count that stands at its last value, 2^64 - 1, is taken
-    /// for one that rose.
+    /// How often the device failed by an error that it counts. A count that stands at its last value, 2^64 - 1, is
+    /// taken for one that rose.
     ghost failures: { Self → ℕ };
 
     /// The error of a read that asks for so many bytes more than are left.
@@ -49,7 +50,8 @@ pub trait Reader: Drop {
         ensures next { IfSome result (λ s. (length s.now ≡ n) × (told self.old → s.now ≡ take n (rest self.old))) }
         ensures shows { 0 < n → IsSome result ↔ (n ≤ shown self.old) }
         ensures* stays { sem 𝓛 (Rests Self.row self.entry (λ after.
-            Unmoved (told self.old) (told after) (rest self.old) (rest after) (failures self.old) (failures after) (place self.old) (place after)
+            Unmoved (told self.old) (told after) (rest self.old) (rest after) (failures self.old) (failures after)
+            (place self.old) (place after)
             × IfSome result (λ _. n ≤ shown after))) };
 
     /// Takes `n` bytes that a peek showed.
@@ -123,7 +125,8 @@ impl Reader for SliceReader<'_> {
     /// Fails exactly where too few bytes are left, and then takes none.
     fn read(&mut self, bytes: &mut [u8]) -> Result<(), DecodeError>
         ensures next { OnOk result (left_of self.old ≡ bytes.new ++ left_of self.new) }
-        ensures why { IfErr result (λ e. FallsShort (λ missing d. d ≡ UnexpectedEnd missing) (left_of self.old) (length bytes.old) e) }
+        ensures why { IfErr result (λ e. FallsShort (λ missing d. d ≡ UnexpectedEnd missing) (left_of self.old)
+            (length bytes.old) e) }
         ensures left { OnErr result (left_of self.new ≡ left_of self.old) }
     {
         // What was taken is compared with the last place where so many bytes stand, so that LLVM sees one length tested

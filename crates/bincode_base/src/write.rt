@@ -1,5 +1,6 @@
 //! Writers.
-ghost use Rattle.std.specs.Prelude.{◌≡◌, ◌+◌, ◌-◌, ◌<◌, ◌≤◌, ◌⊎◌, ℕ, List, [], ◌∷◌, ◌++◌, length, Option, Some, OnOk, IfErr};
+ghost use Rattle.std.specs.Prelude.{◌≡◌, ◌+◌, ◌-◌, ◌<◌, ◌≤◌, ◌⊎◌, ℕ, List, [], ◌∷◌, ◌++◌, length, Option, Some, OnOk};
+ghost use Rattle.std.specs.Prelude.{IfErr};
 ghost use Rattle.std.specs.Borrow.{GName};
 ghost use Rattle.std.proofs.Common.{rules, sym, ◌∙◌, ap, arith, le_refl};
 ghost use Rattle.std.proofs.lemmas.Grind.{common_steps};
@@ -47,7 +48,8 @@ pub trait Writer: Drop {
     ghost adds_count: { (a b : Self) (piece : List ℕ) → adds a piece b → failures a ≤ failures b };
 
     /// nor does one that fails.
-    ghost refuses_count: { (a b : Self) (piece : List ℕ) (e : EncodeError) → refuses a piece e b → failures a ≤ failures b };
+    ghost refuses_count: { (a b : Self) (piece : List ℕ) (e : EncodeError) → refuses a piece e b → failures a
+        ≤ failures b };
 
     /// Why a write fails.
     ghost refuses_why: { (a b : Self) (piece : List ℕ) (e : EncodeError) → refuses a piece e b →
@@ -100,9 +102,11 @@ impl<'s> SliceWriter<'s> {
 impl Writer for SliceWriter<'_> {
     ghost use Rattle.bincode_base.specs.Slices.{bytes_of, count_of, loan_of};
 
-    ghost adds = { λ a piece b. (count_of b ≡ count_of a + length piece) × (bytes_of b ≡ put (count_of a) piece (bytes_of a)) };
+    ghost adds = { λ a piece b. (count_of b ≡ count_of a + length piece)
+        × (bytes_of b ≡ put (count_of a) piece (bytes_of a)) };
 
-    ghost refuses = { λ a piece e b. (e ≡ UnexpectedEnd) × (length (bytes_of a) - count_of a < length piece) × (b ≡ a) };
+    ghost refuses = { λ a piece e b. (e ≡ UnexpectedEnd) × (length (bytes_of a) - count_of a < length piece)
+        × (b ≡ a) };
 
     ghost room = { λ w. Some (length (bytes_of w) - count_of w) };
 
@@ -127,7 +131,8 @@ impl Writer for SliceWriter<'_> {
 
     ghost adds_join = { λ a b c x y p q. (
       Prim.grind (arith, common_steps),
-      q.1 ∙ ap (put b.written y) p.1 ∙ ap (λ k. put k y (put a.written x a.slice.now)) p.0 ∙ put_join a.written x y a.slice.now a.within,
+      q.1 ∙ ap (put b.written y) p.1 ∙ ap (λ k. put k y (put a.written x a.slice.now)) p.0
+          ∙ put_join a.written x y a.slice.now a.within,
     ) };
 
     ghost adds_count = { λ a b piece h. le_refl 0 };

@@ -1,8 +1,8 @@
 -- What the proofs of this crate share.
-pub mod Casts
+pub mod NumberMeanings
 pub mod NotZero
-pub mod Rewritten
-pub mod Spans
+pub mod CellAnswers
+pub mod DurationAnswers
 pub mod Rooms
 pub mod Bytes
 pub mod Reading

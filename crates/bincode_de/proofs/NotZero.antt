@@ -17,7 +17,7 @@ use Rattle.bincode_wire.specs.Answer.{Answer, answer, Gave, Refused, PassedLimit
 use Rattle.bincode_wire.specs.AnswerLaws.{answer-then, answer-done, answer-refused}
 use Rattle.bincode_wire.specs.Decoding.{Stops, by_fault, by_limit, by_memory, by_failure, by_device}
 use Rattle.bincode_wire.specs.DecodingLaws.{gave-takes}
-use Rattle.bincode_de.proofs.Casts.{renamed, mapped}
+use Rattle.bincode_de.proofs.NumberMeanings.{renamed, mapped}
 
 -- the size of a number, by its meaning
 abbrev pub size_of : Meaning → ℕ

@@ -15,8 +15,12 @@ pub trait Decode<Context: Drop>: Wire + Drop + Sized {
     /// the limit, where memory is refused, or where the device fails. Then some front of the input is taken, unless the
     /// error is one that the device does not count. Nothing that was charged before is given back.
     fn decode<D: Decoder<Context = Context>>(decoder: &mut D) -> Result<Self, DecodeError>
-        ensures ok { D.told decoder.old → IfOk result (λ v. Decodes (λ m. Self.given m v) (answer D.C.bound (Self.format D.C.setting) (D.rest decoder.old) (D.charge decoder.old)) (D.rest decoder.new) (D.charge decoder.new)) }
-        ensures err { D.told decoder.old → IfErr result (Stops D.R.ended D.R.device Self.grows (answer D.C.bound (Self.format D.C.setting) (D.rest decoder.old) (D.charge decoder.old)) (D.failures decoder.old) (D.failures decoder.new) (D.rest decoder.old) (D.rest decoder.new)) }
+        ensures ok { D.told decoder.old → IfOk result (λ v. Decodes (λ m. Self.given m v)
+            (answer D.C.bound (Self.format D.C.setting) (D.rest decoder.old) (D.charge decoder.old))
+            (D.rest decoder.new) (D.charge decoder.new)) }
+        ensures err { D.told decoder.old → IfErr result (Stops D.R.ended D.R.device Self.grows
+            (answer D.C.bound (Self.format D.C.setting) (D.rest decoder.old) (D.charge decoder.old))
+            (D.failures decoder.old) (D.failures decoder.new) (D.rest decoder.old) (D.rest decoder.new)) }
         ensures count { D.failures decoder.old ≤ D.failures decoder.new }
         ensures told { D.told decoder.old → D.told decoder.new }
         ensures held { D.charge decoder.old ≤ D.charge decoder.new }
@@ -29,8 +33,9 @@ pub trait Decode<Context: Drop>: Wire + Drop + Sized {
         None
     }
 
-    /// Reads as many values as `values` has, over them and in one piece, if the type's values are the bytes of its words.
-    /// `decode_run` calls it, with a charge within the limit. Each other type answers `None`, and nothing is read.
+    /// Reads as many values as `values` has, over them and in one piece, if the type's values are the bytes of its
+    /// words. `decode_run` calls it, with a charge within the limit. Each other type answers `None`, and nothing is
+    /// read.
     #[inline(always)]
     fn decode_at_once<D: Decoder<Context = Context>>(
         decoder: &mut D,
@@ -39,7 +44,9 @@ pub trait Decode<Context: Drop>: Wire + Drop + Sized {
         requires room { CanRelease D.C.bound (D.charge decoder.old) (length values.old * Self.claim) }
         requires allowed { Allows D.C.bound (D.charge decoder.old) }
         ensures none { IfNone result (decoder.new ≡ decoder.old) }
-        ensures some { IfSome result (λ r. RunRead D.told D.rest D.charge D.failures D.place D.C.bound D.R.ended D.R.device Self.grows Self.claim (Self.format D.C.setting) Self.given (length values.old) (λ _. values.new) r decoder.old decoder.new) }
+        ensures some { IfSome result (λ r. RunRead D.told D.rest D.charge D.failures D.place D.C.bound D.R.ended
+            D.R.device Self.grows Self.claim (Self.format D.C.setting) Self.given (length values.old)
+            (λ _. values.new) r decoder.old decoder.new) }
     {
         let _ = &*decoder;
         let _ = &*values;

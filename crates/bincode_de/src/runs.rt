@@ -11,15 +11,16 @@ use std::alloc::Global;
 
 /// Reads as many values as `values` has, over them, whose room `claim_container_read` has reserved: each one's share is
 /// released before it is read. A type may read them otherwise (`Decode::decode_at_once`), with the same answer. Fails
-/// where a value does. Then some front of the input is taken, unless the error is one that the device does not count, and
-/// no more than the room of the values is given back; what `values` has then is not said.
+/// where a value does. Then some front of the input is taken, unless the error is one that the device does not count,
+/// and no more than the room of the values is given back; what `values` has then is not said.
 #[inline]
 pub fn decode_run<Context: Drop, T: Decode<Context>, D: Decoder<Context = Context>>(
     decoder: &mut D,
     values: &mut [T],
 ) -> Result<(), DecodeError>
     requires { CanRelease D.C.bound (D.charge decoder.old) (length values.old * T.claim) }
-    ensures { RunRead D.told D.rest D.charge D.failures D.place D.C.bound D.R.ended D.R.device T.grows T.claim (T.format D.C.setting) T.given (length values.old) (λ _. values.new) result decoder.old decoder.new }
+    ensures { RunRead D.told D.rest D.charge D.failures D.place D.C.bound D.R.ended D.R.device T.grows T.claim
+        (T.format D.C.setting) T.given (length values.old) (λ _. values.new) result decoder.old decoder.new }
 {
     if !decoder.is_within_limit() {
         return decode_each(decoder, values);
@@ -37,7 +38,8 @@ fn decode_each<Context: Drop, T: Decode<Context>, D: Decoder<Context = Context>>
     values: &mut [T],
 ) -> Result<(), DecodeError>
     requires { CanRelease D.C.bound (D.charge decoder.old) (length values.old * T.claim) }
-    ensures { RunRead D.told D.rest D.charge D.failures D.place D.C.bound D.R.ended D.R.device T.grows T.claim (T.format D.C.setting) T.given (length values.old) (λ _. values.new) result decoder.old decoder.new }
+    ensures { RunRead D.told D.rest D.charge D.failures D.place D.C.bound D.R.ended D.R.device T.grows T.claim
+        (T.format D.C.setting) T.given (length values.old) (λ _. values.new) result decoder.old decoder.new }
 {
     for index in 0..values.len() {
         values[index] = decode_next(decoder)?;
@@ -51,21 +53,23 @@ pub(crate) fn decode_next<Context: Drop, T: Decode<Context>, D: Decoder<Context 
     decoder: &mut D,
 ) -> Result<T, DecodeError>
     requires { CanRelease D.C.bound (D.charge decoder.old) T.claim }
-    ensures { ValueRead D.told D.rest D.charge D.failures D.place D.C.bound D.R.ended D.R.device T.grows T.claim (T.format D.C.setting) T.given result decoder.old decoder.new }
+    ensures { ValueRead D.told D.rest D.charge D.failures D.place D.C.bound D.R.ended D.R.device T.grows T.claim
+        (T.format D.C.setting) T.given result decoder.old decoder.new }
 {
     decoder.unclaim_bytes_read(T::claim_size());
     T::decode(decoder)
 }
 
-/// Reads `len` values, as `decode_run` does. Fails where a value does, or with `Memory` where the room for the values is
-/// refused.
+/// Reads `len` values, as `decode_run` does. Fails where a value does, or with `Memory` where the room for the values
+/// is refused.
 pub fn decode_vec<Context: Drop, T: Decode<Context>, D: Decoder<Context = Context>>(
     decoder: &mut D,
     len: usize,
 ) -> Result<Vec<T>, DecodeError>
     requires { CanRelease D.C.bound (D.charge decoder.old) (len * T.claim) }
     ensures length { IfOk result (λ v. length v.items ≡ len) }
-    ensures read { RunRead D.told D.rest D.charge D.failures D.place D.C.bound D.R.ended D.R.device (Unit {0}) T.claim (T.format D.C.setting) T.given len (λ v. v.items) result decoder.old decoder.new }
+    ensures read { RunRead D.told D.rest D.charge D.failures D.place D.C.bound D.R.ended D.R.device (Unit {0}) T.claim
+        (T.format D.C.setting) T.given len (λ v. v.items) result decoder.old decoder.new }
 {
     let Some(mut values) = blank_values::<Context, T>(decoder.alloc(), len)? else {
         return decode_by_pushes(decoder, len);
@@ -81,7 +85,8 @@ fn decode_by_pushes<Context: Drop, T: Decode<Context>, D: Decoder<Context = Cont
 ) -> Result<Vec<T>, DecodeError>
     requires { CanRelease D.C.bound (D.charge decoder.old) (len * T.claim) }
     ensures length { IfOk result (λ v. length v.items ≡ len) }
-    ensures read { RunRead D.told D.rest D.charge D.failures D.place D.C.bound D.R.ended D.R.device (Unit {0}) T.claim (T.format D.C.setting) T.given len (λ v. v.items) result decoder.old decoder.new }
+    ensures read { RunRead D.told D.rest D.charge D.failures D.place D.C.bound D.R.ended D.R.device (Unit {0}) T.claim
+        (T.format D.C.setting) T.given len (λ v. v.items) result decoder.old decoder.new }
 {
     let Ok(mut values) = Vec::with_capacity(decoder.alloc(), len) else {
         return Err(DecodeError::Memory);

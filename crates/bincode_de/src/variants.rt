@@ -25,8 +25,11 @@ pub trait Named {
 pub trait DecodeTag: Tag {
     /// Reads a tag.
     fn decode_tag<D: Decoder>(decoder: &mut D) -> Result<u32, DecodeError>
-        ensures ok { D.told decoder.old → IfOk result (λ v. answer D.C.bound (Self.tags D.C.setting) (D.rest decoder.old) (D.charge decoder.old) ≡ Gave v (D.rest decoder.new) (D.charge decoder.new)) }
-        ensures err { D.told decoder.old → IfErr result (Stops D.R.ended D.R.device ⊥ (answer D.C.bound (Self.tags D.C.setting) (D.rest decoder.old) (D.charge decoder.old)) (D.failures decoder.old) (D.failures decoder.new) (D.rest decoder.old) (D.rest decoder.new)) }
+        ensures ok { D.told decoder.old → IfOk result (λ v. answer D.C.bound (Self.tags D.C.setting)
+            (D.rest decoder.old) (D.charge decoder.old) ≡ Gave v (D.rest decoder.new) (D.charge decoder.new)) }
+        ensures err { D.told decoder.old → IfErr result (Stops D.R.ended D.R.device ⊥
+            (answer D.C.bound (Self.tags D.C.setting) (D.rest decoder.old) (D.charge decoder.old))
+            (D.failures decoder.old) (D.failures decoder.new) (D.rest decoder.old) (D.rest decoder.new)) }
         ensures count { D.failures decoder.old ≤ D.failures decoder.new }
         ensures told { D.told decoder.old → D.told decoder.new }
         ensures held { D.charge decoder.old ≤ D.charge decoder.new }
@@ -97,7 +100,8 @@ impl<const TAG: u32, A: Wire, Others: Listed> Listed for Or<TAG, A, Others> {
 #[cold]
 #[inline(never)]
 fn unexpected<Of: Named, All: Listed>(alloc: Global, found: u32) -> DecodeError
-    ensures { ((name : _) × TellsTag name (allowed_tags (tags_of All.variants)) found result) ⊎ ((in_order 0 (tags_of All.variants) ≡ false) × (result ≡ Memory)) }
+    ensures { ((name : _) × TellsTag name (allowed_tags (tags_of All.variants)) found result)
+        ⊎ ((in_order 0 (tags_of All.variants) ≡ false) × (result ≡ Memory)) }
 {
     let type_name = Of::type_name();
     if All::are_in_order(0) {
@@ -135,9 +139,15 @@ pub trait DecodeVariants<Context: Drop>: Listed + Drop + Sized {
         found: u32,
         decoder: &mut D,
     ) -> Result<Self, DecodeError>
-        ensures ok { D.told decoder.old → IfOk result (λ v. Decodes (IsChoice found (Self.given v)) (answer D.C.bound (part D.C.setting Self.variants (allowed_tags (tags_of All.variants)) found) (D.rest decoder.old) (D.charge decoder.old)) (D.rest decoder.new) (D.charge decoder.new)) }
+        ensures ok { D.told decoder.old → IfOk result (λ v. Decodes (IsChoice found (Self.given v))
+            (answer D.C.bound (part D.C.setting Self.variants (allowed_tags (tags_of All.variants)) found)
+            (D.rest decoder.old) (D.charge decoder.old)) (D.rest decoder.new) (D.charge decoder.new)) }
         ensures tag { IfOk result (λ v. (Self.variant v).0 ≡ found) }
-        ensures err { D.told decoder.old → IfErr result (Stops D.R.ended D.R.device ((in_order 0 (tags_of All.variants) ≡ false) ⊎ Self.grows) (answer D.C.bound (part D.C.setting Self.variants (allowed_tags (tags_of All.variants)) found) (D.rest decoder.old) (D.charge decoder.old)) (D.failures decoder.old) (D.failures decoder.new) (D.rest decoder.old) (D.rest decoder.new)) }
+        ensures err { D.told decoder.old → IfErr result (Stops D.R.ended D.R.device
+            ((in_order 0 (tags_of All.variants) ≡ false) ⊎ Self.grows)
+            (answer D.C.bound (part D.C.setting Self.variants (allowed_tags (tags_of All.variants)) found)
+            (D.rest decoder.old) (D.charge decoder.old)) (D.failures decoder.old) (D.failures decoder.new)
+            (D.rest decoder.old) (D.rest decoder.new)) }
         ensures count { D.failures decoder.old ≤ D.failures decoder.new }
         ensures told { D.told decoder.old → D.told decoder.new }
         ensures held { D.charge decoder.old ≤ D.charge decoder.new }

@@ -20,8 +20,11 @@ fn read_rest_of_char_from<D: Decoder>(
     width: usize,
 ) -> Result<char, DecodeError>
     requires { char_width first ≡ Some width }
-    ensures ok { D.told decoder.old → IfOk result (λ v. (rest_of_char first width).read (D.rest decoder.old) ≡ Took (Character v) (D.rest decoder.new) []) }
-    ensures err { D.told decoder.old → IfErr result (Misreads D.R.ended D.R.device ((rest_of_char first width).read (D.rest decoder.old)) (D.failures decoder.old) (D.failures decoder.new) (D.rest decoder.old) (D.rest decoder.new)) }
+    ensures ok { D.told decoder.old → IfOk result (λ v. (rest_of_char first width).read (D.rest decoder.old)
+        ≡ Took (Character v) (D.rest decoder.new) []) }
+    ensures err { D.told decoder.old → IfErr result (Misreads D.R.ended D.R.device
+        ((rest_of_char first width).read (D.rest decoder.old)) (D.failures decoder.old) (D.failures decoder.new)
+        (D.rest decoder.old) (D.rest decoder.new)) }
     ensures count { D.failures decoder.old ≤ D.failures decoder.new }
     ensures told { D.told decoder.old → D.told decoder.new }
     ensures charge { D.charge decoder.new ≡ D.charge decoder.old }
@@ -38,8 +41,11 @@ pub fn decode_rest_of_char<D: Decoder>(
     width: usize,
 ) -> Result<char, DecodeError>
     requires { char_width first ≡ Some width }
-    ensures ok { D.told decoder.old → IfOk result (λ v. answer D.C.bound (charged width (rest_of_char first width)) (D.rest decoder.old) (D.charge decoder.old) ≡ Gave (Character v) (D.rest decoder.new) (D.charge decoder.new)) }
-    ensures err { D.told decoder.old → IfErr result (Stops D.R.ended D.R.device ⊥ (answer D.C.bound (charged width (rest_of_char first width)) (D.rest decoder.old) (D.charge decoder.old)) (D.failures decoder.old) (D.failures decoder.new) (D.rest decoder.old) (D.rest decoder.new)) }
+    ensures ok { D.told decoder.old → IfOk result (λ v. answer D.C.bound (charged width (rest_of_char first width))
+        (D.rest decoder.old) (D.charge decoder.old) ≡ Gave (Character v) (D.rest decoder.new) (D.charge decoder.new)) }
+    ensures err { D.told decoder.old → IfErr result (Stops D.R.ended D.R.device ⊥
+        (answer D.C.bound (charged width (rest_of_char first width)) (D.rest decoder.old) (D.charge decoder.old))
+        (D.failures decoder.old) (D.failures decoder.new) (D.rest decoder.old) (D.rest decoder.new)) }
     ensures count { D.failures decoder.old ≤ D.failures decoder.new }
     ensures told { D.told decoder.old → D.told decoder.new }
     ensures charge { Charges D.C.bound (D.charge decoder.old) width (D.charge decoder.new) }

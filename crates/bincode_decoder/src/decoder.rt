@@ -71,11 +71,12 @@ pub trait Decoder: Sealed {
     /// Gives the allocator of what is decoded.
     fn alloc(&self) -> Global;
 
-    /// Charges `n` bytes. Without a limit nothing is counted. Fails with `LimitExceeded` where the raised charge is above
-    /// the limit: the raised charge is kept if it fits 64 bits, else the charge stays.
+    /// Charges `n` bytes. Without a limit nothing is counted. Fails with `LimitExceeded` where the raised charge is
+    /// above the limit: the raised charge is kept if it fits 64 bits, else the charge stays.
     fn claim_bytes_read(&mut self, n: usize) -> Result<(), DecodeError>
         ensures ok { OnOk result (Claimed Self.C.bound (charge self.old) n (charge self.new)) }
-        ensures err { IfErr result (λ e. (e ≡ LimitExceeded) × OverClaimed Self.C.bound (charge self.old) n (charge self.new)) }
+        ensures err { IfErr result (λ e. (e ≡ LimitExceeded)
+            × OverClaimed Self.C.bound (charge self.old) n (charge self.new)) }
         ensures rest { rest self.new ≡ rest self.old }
         ensures failures { failures self.new ≡ failures self.old }
         ensures told { told self.old → told self.new }
@@ -83,11 +84,12 @@ pub trait Decoder: Sealed {
         ensures context { context_of self.new ≡ context_of self.old }
         ensures place { place self.new ≡ place self.old };
 
-    /// Charges for a container of `len` elements: `claim_bytes_read` of `len` times the claim size of `T`. A product that
-    /// does not fit 64 bits is above each limit, and then the charge stays.
+    /// Charges for a container of `len` elements: `claim_bytes_read` of `len` times the claim size of `T`. A product
+    /// that does not fit 64 bits is above each limit, and then the charge stays.
     fn claim_container_read<T: Wire>(&mut self, len: usize) -> Result<(), DecodeError>
         ensures ok { OnOk result (Claimed Self.C.bound (charge self.old) (len * T.claim) (charge self.new)) }
-        ensures err { IfErr result (λ e. (e ≡ LimitExceeded) × OverClaimed Self.C.bound (charge self.old) (len * T.claim) (charge self.new)) }
+        ensures err { IfErr result (λ e. (e ≡ LimitExceeded)
+            × OverClaimed Self.C.bound (charge self.old) (len * T.claim) (charge self.new)) }
         ensures rest { rest self.new ≡ rest self.old }
         ensures failures { failures self.new ≡ failures self.old }
         ensures told { told self.old → told self.new }
@@ -97,7 +99,8 @@ pub trait Decoder: Sealed {
 
     /// Whether the charge is within the limit. After a claim that passed it, it may not be.
     fn is_within_limit(&self) -> bool
-        ensures { MatchBool result (Allows Self.C.bound (charge self.now)) (¬ (Allows Self.C.bound (charge self.now))) };
+        ensures { MatchBool result (Allows Self.C.bound (charge self.now))
+            (¬ (Allows Self.C.bound (charge self.now))) };
 
     /// Takes `n` bytes off the charge, of those that a container claimed. Without a limit nothing is counted.
     fn unclaim_bytes_read(&mut self, n: usize)
@@ -136,7 +139,8 @@ pub trait Decoder: Sealed {
 
     ghost put_charge: { (d : Self) (r : Self.R) → charge (put_reader d r) ≡ charge d };
 
-    ghost put_place: { (d : Self) (r : Self.R) → Self.R.place r ≡ Self.R.place (reader_of d) → place (put_reader d r) ≡ place d };
+    ghost put_place: { (d : Self) (r : Self.R) → Self.R.place r ≡ Self.R.place (reader_of d) → place (put_reader d r)
+        ≡ place d };
 
     /// and another context neither.
     ghost context_told: { (d : Self) (x : Self.Context) → told d → told (put_context d x) };
@@ -176,7 +180,8 @@ fn claim_container(
     share: usize,
 ) -> Result<(), DecodeError>
     ensures ok { OnOk result (Claimed limit bytes_read.old (len * share) bytes_read.new) }
-    ensures err { IfErr result (λ e. (e ≡ LimitExceeded) × OverClaimed limit bytes_read.old (len * share) bytes_read.new) }
+    ensures err { IfErr result (λ e. (e ≡ LimitExceeded) × OverClaimed limit bytes_read.old
+        (len * share) bytes_read.new) }
 {
     match len.checked_mul(share) {
         Some(n) => claim(limit, bytes_read, n),
@@ -374,7 +379,8 @@ impl<'a, R: Reader, C: Config, Context: Drop> LentDecoder<'a, R, C, Context> {
         config: &'a C,
         context: &'a mut Context,
     ) -> LentDecoder<'a, R, C, Context>
-        ensures place { ⟦<LentDecoder<'a, R, C, Context> as Decoder>⟧.place result ≡ reader.entry.ghost_name ∷ R.place reader.old }
+        ensures place { ⟦<LentDecoder<'a, R, C, Context> as Decoder>⟧.place result
+            ≡ reader.entry.ghost_name ∷ R.place reader.old }
         ensures reader { ⟦<LentDecoder<'a, R, C, Context> as Decoder>⟧.reader_of result ≡ reader.old }
         ensures context { ⟦<LentDecoder<'a, R, C, Context> as Decoder>⟧.context_of result ≡ context.old }
         ensures charge { ⟦<LentDecoder<'a, R, C, Context> as Decoder>⟧.charge result ≡ 0 }

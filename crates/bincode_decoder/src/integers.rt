@@ -16,13 +16,16 @@ use bincode_base::number::Integer;
 use bincode_base::read::Reader;
 use bincode_wire::wire::Wire;
 
-/// Charges for all bytes of an integer, and reads it as the configuration says. Fails where the charge passes the limit, and
-/// where `Integer::read` does. A fault leaves the charge.
+/// Charges for all bytes of an integer, and reads it as the configuration says. Fails where the charge passes the
+/// limit, and where `Integer::read` does. A fault leaves the charge.
 #[inline(always)]
 pub fn decode_integer<T: Integer + Wire, D: Decoder>(decoder: &mut D) -> Result<T, DecodeError>
     requires { T.claim ≡ T.width }
-    ensures ok { D.told decoder.old → IfOk result (λ v. answer D.C.bound (T.spelling.words D.C.setting) (D.rest decoder.old) (D.charge decoder.old) ≡ Gave v (D.rest decoder.new) (D.charge decoder.new)) }
-    ensures err { D.told decoder.old → IfErr result (Stops D.R.ended D.R.device ⊥ (answer D.C.bound (T.spelling.words D.C.setting) (D.rest decoder.old) (D.charge decoder.old)) (D.failures decoder.old) (D.failures decoder.new) (D.rest decoder.old) (D.rest decoder.new)) }
+    ensures ok { D.told decoder.old → IfOk result (λ v. answer D.C.bound (T.spelling.words D.C.setting)
+        (D.rest decoder.old) (D.charge decoder.old) ≡ Gave v (D.rest decoder.new) (D.charge decoder.new)) }
+    ensures err { D.told decoder.old → IfErr result (Stops D.R.ended D.R.device ⊥
+        (answer D.C.bound (T.spelling.words D.C.setting) (D.rest decoder.old) (D.charge decoder.old))
+        (D.failures decoder.old) (D.failures decoder.new) (D.rest decoder.old) (D.rest decoder.new)) }
     ensures count { D.failures decoder.old ≤ D.failures decoder.new }
     ensures told { D.told decoder.old → D.told decoder.new }
     ensures charge { Charges D.C.bound (D.charge decoder.old) T.width (D.charge decoder.new) }
@@ -34,8 +37,11 @@ pub fn decode_integer<T: Integer + Wire, D: Decoder>(decoder: &mut D) -> Result<
 
 #[inline(always)]
 fn read_integer_from<T: Integer, D: Decoder>(decoder: &mut D) -> Result<T, DecodeError>
-    ensures ok { D.told decoder.old → IfOk result (λ v. (T.spelling.read_by D.C.setting.order D.C.setting.encoding).read (D.rest decoder.old) ≡ Took v (D.rest decoder.new) []) }
-    ensures err { D.told decoder.old → IfErr result (Misreads D.R.ended D.R.device ((T.spelling.read_by D.C.setting.order D.C.setting.encoding).read (D.rest decoder.old)) (D.failures decoder.old) (D.failures decoder.new) (D.rest decoder.old) (D.rest decoder.new)) }
+    ensures ok { D.told decoder.old → IfOk result (λ v. (T.spelling.read_by D.C.setting.order D.C.setting.encoding).read
+        (D.rest decoder.old) ≡ Took v (D.rest decoder.new) []) }
+    ensures err { D.told decoder.old → IfErr result (Misreads D.R.ended D.R.device
+        ((T.spelling.read_by D.C.setting.order D.C.setting.encoding).read (D.rest decoder.old)) (D.failures decoder.old)
+        (D.failures decoder.new) (D.rest decoder.old) (D.rest decoder.new)) }
     ensures count { D.failures decoder.old ≤ D.failures decoder.new }
     ensures told { D.told decoder.old → D.told decoder.new }
     ensures charge { D.charge decoder.new ≡ D.charge decoder.old }
@@ -48,8 +54,11 @@ fn read_integer_from<T: Integer, D: Decoder>(decoder: &mut D) -> Result<T, Decod
 
 /// Charges for a byte, and reads it. A fault leaves the charge.
 pub fn decode_byte<D: Decoder>(decoder: &mut D) -> Result<u8, DecodeError>
-    ensures ok { D.told decoder.old → IfOk result (λ v. answer D.C.bound unsigned_byte (D.rest decoder.old) (D.charge decoder.old) ≡ Gave v (D.rest decoder.new) (D.charge decoder.new)) }
-    ensures err { D.told decoder.old → IfErr result (Stops D.R.ended D.R.device ⊥ (answer D.C.bound unsigned_byte (D.rest decoder.old) (D.charge decoder.old)) (D.failures decoder.old) (D.failures decoder.new) (D.rest decoder.old) (D.rest decoder.new)) }
+    ensures ok { D.told decoder.old → IfOk result (λ v. answer D.C.bound unsigned_byte (D.rest decoder.old)
+        (D.charge decoder.old) ≡ Gave v (D.rest decoder.new) (D.charge decoder.new)) }
+    ensures err { D.told decoder.old → IfErr result (Stops D.R.ended D.R.device ⊥
+        (answer D.C.bound unsigned_byte (D.rest decoder.old) (D.charge decoder.old)) (D.failures decoder.old)
+        (D.failures decoder.new) (D.rest decoder.old) (D.rest decoder.new)) }
     ensures count { D.failures decoder.old ≤ D.failures decoder.new }
     ensures told { D.told decoder.old → D.told decoder.new }
     ensures charge { Charges D.C.bound (D.charge decoder.old) 1 (D.charge decoder.new) }
@@ -60,8 +69,10 @@ pub fn decode_byte<D: Decoder>(decoder: &mut D) -> Result<u8, DecodeError>
 }
 
 pub fn read_byte_from<D: Decoder>(decoder: &mut D) -> Result<u8, DecodeError>
-    ensures ok { D.told decoder.old → IfOk result (λ v. byte.read (D.rest decoder.old) ≡ Took v (D.rest decoder.new) []) }
-    ensures err { D.told decoder.old → IfErr result (Misreads D.R.ended D.R.device (byte.read (D.rest decoder.old)) (D.failures decoder.old) (D.failures decoder.new) (D.rest decoder.old) (D.rest decoder.new)) }
+    ensures ok { D.told decoder.old → IfOk result (λ v. byte.read (D.rest decoder.old)
+        ≡ Took v (D.rest decoder.new) []) }
+    ensures err { D.told decoder.old → IfErr result (Misreads D.R.ended D.R.device (byte.read (D.rest decoder.old))
+        (D.failures decoder.old) (D.failures decoder.new) (D.rest decoder.old) (D.rest decoder.new)) }
     ensures count { D.failures decoder.old ≤ D.failures decoder.new }
     ensures told { D.told decoder.old → D.told decoder.new }
     ensures charge { D.charge decoder.new ≡ D.charge decoder.old }
@@ -72,8 +83,11 @@ pub fn read_byte_from<D: Decoder>(decoder: &mut D) -> Result<u8, DecodeError>
 
 /// Charges for a signed byte, and reads it. A fault leaves the charge.
 pub fn decode_signed_byte<D: Decoder>(decoder: &mut D) -> Result<i8, DecodeError>
-    ensures ok { D.told decoder.old → IfOk result (λ v. answer D.C.bound signed_byte (D.rest decoder.old) (D.charge decoder.old) ≡ Gave v (D.rest decoder.new) (D.charge decoder.new)) }
-    ensures err { D.told decoder.old → IfErr result (Stops D.R.ended D.R.device ⊥ (answer D.C.bound signed_byte (D.rest decoder.old) (D.charge decoder.old)) (D.failures decoder.old) (D.failures decoder.new) (D.rest decoder.old) (D.rest decoder.new)) }
+    ensures ok { D.told decoder.old → IfOk result (λ v. answer D.C.bound signed_byte (D.rest decoder.old)
+        (D.charge decoder.old) ≡ Gave v (D.rest decoder.new) (D.charge decoder.new)) }
+    ensures err { D.told decoder.old → IfErr result (Stops D.R.ended D.R.device ⊥
+        (answer D.C.bound signed_byte (D.rest decoder.old) (D.charge decoder.old)) (D.failures decoder.old)
+        (D.failures decoder.new) (D.rest decoder.old) (D.rest decoder.new)) }
     ensures count { D.failures decoder.old ≤ D.failures decoder.new }
     ensures told { D.told decoder.old → D.told decoder.new }
     ensures charge { Charges D.C.bound (D.charge decoder.old) 1 (D.charge decoder.new) }
@@ -84,8 +98,11 @@ pub fn decode_signed_byte<D: Decoder>(decoder: &mut D) -> Result<i8, DecodeError
 }
 
 fn read_i8_from<D: Decoder>(decoder: &mut D) -> Result<i8, DecodeError>
-    ensures ok { D.told decoder.old → IfOk result (λ v. (map_format (from_two_complement 1) byte).read (D.rest decoder.old) ≡ Took v (D.rest decoder.new) []) }
-    ensures err { D.told decoder.old → IfErr result (Misreads D.R.ended D.R.device ((map_format (from_two_complement 1) byte).read (D.rest decoder.old)) (D.failures decoder.old) (D.failures decoder.new) (D.rest decoder.old) (D.rest decoder.new)) }
+    ensures ok { D.told decoder.old → IfOk result (λ v. (map_format (from_two_complement 1) byte).read
+        (D.rest decoder.old) ≡ Took v (D.rest decoder.new) []) }
+    ensures err { D.told decoder.old → IfErr result (Misreads D.R.ended D.R.device
+        ((map_format (from_two_complement 1) byte).read (D.rest decoder.old)) (D.failures decoder.old)
+        (D.failures decoder.new) (D.rest decoder.old) (D.rest decoder.new)) }
     ensures count { D.failures decoder.old ≤ D.failures decoder.new }
     ensures told { D.told decoder.old → D.told decoder.new }
     ensures charge { D.charge decoder.new ≡ D.charge decoder.old }
@@ -97,8 +114,10 @@ fn read_i8_from<D: Decoder>(decoder: &mut D) -> Result<i8, DecodeError>
 /// Fills all of `bytes` with the next bytes.
 pub fn read_from<D: Decoder>(decoder: &mut D, bytes: &mut [u8]) -> Result<(), DecodeError>
     ensures next { D.told decoder.old → OnOk result (D.rest decoder.old ≡ bytes.new ++ D.rest decoder.new) }
-    ensures why { D.told decoder.old → IfErr result (λ e. FallsShort D.R.ended (D.rest decoder.old) (length bytes.old) e ⊎ (D.R.device.uncounted e ⊎ (D.R.device.counted e × Rose (D.failures decoder.old) (D.failures decoder.new)))) }
-    ensures left { D.told decoder.old → IfErr result (λ e. D.R.device.uncounted e ⊎ Takes (D.rest decoder.old) (D.rest decoder.new)) }
+    ensures why { D.told decoder.old → IfErr result (λ e. FallsShort D.R.ended (D.rest decoder.old) (length bytes.old) e
+        ⊎ (D.R.device.uncounted e ⊎ (D.R.device.counted e × Rose (D.failures decoder.old) (D.failures decoder.new)))) }
+    ensures left { D.told decoder.old → IfErr result (λ e. D.R.device.uncounted e
+        ⊎ Takes (D.rest decoder.old) (D.rest decoder.new)) }
     ensures length { length bytes.new ≡ length bytes.old }
     ensures count { D.failures decoder.old ≤ D.failures decoder.new }
     ensures told { D.told decoder.old → D.told decoder.new }

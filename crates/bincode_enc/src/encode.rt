@@ -18,11 +18,14 @@ pub trait Encode: Wire + Drop {
         ensures { Self.valid self.now };
 
     /// Writes a word that the value allows. Fails where the writer refuses a piece, or by an error that the type names.
-    /// Then what was written before begins an allowed word, if the inner type of each cell that the value holds has one, and
-    /// unless the error is one of a user's type.
+    /// Then what was written before begins an allowed word, if the inner type of each cell that the value holds has
+    /// one, and unless the error is one of a user's type.
     fn encode<E: Encoder>(&self, encoder: &mut E) -> Result<(), EncodeError>
-        ensures ok { OnOk result (Writes E.W.adds (AllowedWord (Self.means self.now) (Self.format E.C.setting)) (E.writer_of encoder.old) (E.writer_of encoder.new)) }
-        ensures err { IfErr result (Halts E.W.adds E.W.refuses (Ready (Self.writable E.C.setting self.now) (AllowedWord (Self.means self.now) (Self.format E.C.setting))) Self.names (E.writer_of encoder.old) (E.writer_of encoder.new)) }
+        ensures ok { OnOk result (Writes E.W.adds (AllowedWord (Self.means self.now) (Self.format E.C.setting))
+            (E.writer_of encoder.old) (E.writer_of encoder.new)) }
+        ensures err { IfErr result (Halts E.W.adds E.W.refuses
+            (Ready (Self.writable E.C.setting self.now) (AllowedWord (Self.means self.now) (Self.format E.C.setting)))
+            Self.names (E.writer_of encoder.old) (E.writer_of encoder.new)) }
         ensures place { E.place encoder.new ≡ E.place encoder.old };
 
     /// The bytes of a run of values, if the type's values are the bytes of their words: `encode_run` writes them in one
@@ -30,7 +33,9 @@ pub trait Encode: Wire + Drop {
     fn as_bytes(_items: &[Self]) -> Option<&[u8]>
     where
         Self: Sized,
-        ensures { IfSome result (λ bytes. (s : Setting) → Ready (All (Self.writable s) _items.now) (AllowedWord (IsListOf Self.means _items.now) (array (length _items.now) Self.claim (Self.format s))) bytes.now) }
+        ensures { IfSome result (λ bytes. (s : Setting) → Ready (All (Self.writable s) _items.now)
+            (AllowedWord (IsListOf Self.means _items.now) (array (length _items.now) Self.claim (Self.format s)))
+            bytes.now) }
     {
         None
     }

@@ -8,9 +8,9 @@ use crate::encoder::Encoder;
 use bincode_base::error::EncodeError;
 use bincode_wire::parted::Parted;
 
-/// A type whose values are written by their parts. It has `Encode` by this, and so have most types here that are made of
-/// others. An enum with type parameters has to go this way: `Encode::as_bytes` of the enum itself would ask that the sum of
-/// its variants takes less than 2^63 bytes, of which nothing is known for a parameter.
+/// A type whose values are written by their parts. It has `Encode` by this, and so have most types here that are made
+/// of others. An enum with type parameters has to go this way: `Encode::as_bytes` of the enum itself would ask that the
+/// sum of its variants takes less than 2^63 bytes, of which nothing is known for a parameter.
 pub trait EncodeParts: Parted + Drop {
     /// Says of the value in hand that its parts are valid.
     fn tell_valid_parts(&self)
@@ -18,8 +18,12 @@ pub trait EncodeParts: Parted + Drop {
 
     /// Writes a word of the parts. It does, fails and leaves what `Encode::encode` does.
     fn encode_parts<E: Encoder>(&self, encoder: &mut E) -> Result<(), EncodeError>
-        ensures ok { OnOk result (Writes E.W.adds (AllowedWord (Self.Parts.means (Self.parts self.now)) (Self.Parts.format E.C.setting)) (E.writer_of encoder.old) (E.writer_of encoder.new)) }
-        ensures err { IfErr result (Halts E.W.adds E.W.refuses (Ready (Self.Parts.writable E.C.setting (Self.parts self.now)) (AllowedWord (Self.Parts.means (Self.parts self.now)) (Self.Parts.format E.C.setting))) Self.Parts.names (E.writer_of encoder.old) (E.writer_of encoder.new)) }
+        ensures ok { OnOk result (Writes E.W.adds (AllowedWord (Self.Parts.means (Self.parts self.now))
+            (Self.Parts.format E.C.setting)) (E.writer_of encoder.old) (E.writer_of encoder.new)) }
+        ensures err { IfErr result (Halts E.W.adds E.W.refuses
+            (Ready (Self.Parts.writable E.C.setting (Self.parts self.now))
+            (AllowedWord (Self.Parts.means (Self.parts self.now)) (Self.Parts.format E.C.setting))) Self.Parts.names
+            (E.writer_of encoder.old) (E.writer_of encoder.new)) }
         ensures place { E.place encoder.new ≡ E.place encoder.old };
 }
 

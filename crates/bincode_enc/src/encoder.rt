@@ -39,7 +39,8 @@ pub trait Encoder: Sealed {
 
     ghost put_get: { (e : Self) (w : Self.W) → writer_of (put_writer e w) ≡ w };
 
-    ghost put_place: { (e : Self) (w : Self.W) → Self.W.place w ≡ Self.W.place (writer_of e) → place (put_writer e w) ≡ place e };
+    ghost put_place: { (e : Self) (w : Self.W) → Self.W.place w ≡ Self.W.place (writer_of e) → place (put_writer e w)
+        ≡ place e };
 }
 
 /// An encoder that owns its writer.
@@ -120,7 +121,8 @@ impl<W, C> Drop for LentEncoder<'_, W, C> {
 impl<'a, W: Writer, C: Config> LentEncoder<'a, W, C> {
     /// An encoder into this writer.
     pub fn new(writer: &'a mut W, config: &'a C) -> LentEncoder<'a, W, C>
-        ensures place { ⟦<LentEncoder<'a, W, C> as Encoder>⟧.place result ≡ writer.entry.ghost_name ∷ W.place writer.old }
+        ensures place { ⟦<LentEncoder<'a, W, C> as Encoder>⟧.place result
+            ≡ writer.entry.ghost_name ∷ W.place writer.old }
         ensures writer { ⟦<LentEncoder<'a, W, C> as Encoder>⟧.writer_of result ≡ writer.old }
     {
         LentEncoder { writer, config }

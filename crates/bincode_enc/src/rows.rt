@@ -9,8 +9,8 @@ use bincode_base::error::EncodeError;
 use bincode_wire::rows::{LongRow, Row};
 use bincode_wire::wire::Wire;
 
-/// Parts that were lent in a row. A row is no `Encode` itself: the proof for a tuple would then show of the reference to
-/// each part all that `Encode` stands on, which takes long.
+/// Parts that were lent in a row. A row is no `Encode` itself: the proof for a tuple would then show of the reference
+/// to each part all that `Encode` stands on, which takes long.
 pub trait EncodeRow: Drop {
     /// The row of the parts themselves.
     type Parts: Wire;
@@ -20,12 +20,17 @@ pub trait EncodeRow: Drop {
 
     /// Writes a word of the parts. It does, fails and leaves what `Encode::encode` does.
     fn encode_row<E: Encoder>(&self, encoder: &mut E) -> Result<(), EncodeError>
-        ensures ok { OnOk result (Writes E.W.adds (AllowedWord (Self.Parts.means (Self.lent self.now)) (Self.Parts.format E.C.setting)) (E.writer_of encoder.old) (E.writer_of encoder.new)) }
-        ensures err { IfErr result (Halts E.W.adds E.W.refuses (Ready (Self.Parts.writable E.C.setting (Self.lent self.now)) (AllowedWord (Self.Parts.means (Self.lent self.now)) (Self.Parts.format E.C.setting))) Self.Parts.names (E.writer_of encoder.old) (E.writer_of encoder.new)) }
+        ensures ok { OnOk result (Writes E.W.adds (AllowedWord (Self.Parts.means (Self.lent self.now))
+            (Self.Parts.format E.C.setting)) (E.writer_of encoder.old) (E.writer_of encoder.new)) }
+        ensures err { IfErr result (Halts E.W.adds E.W.refuses
+            (Ready (Self.Parts.writable E.C.setting (Self.lent self.now))
+            (AllowedWord (Self.Parts.means (Self.lent self.now)) (Self.Parts.format E.C.setting))) Self.Parts.names
+            (E.writer_of encoder.old) (E.writer_of encoder.new)) }
         ensures place { E.place encoder.new ≡ E.place encoder.old };
 }
 
-// Always inlined: LLVM takes a call behind several `?` for a rare one, and a call hands on a result with room for an error.
+// Always inlined: LLVM takes a call behind several `?` for a rare one, and a call hands on a result with room for an
+// error.
 
 impl EncodeRow for () {
     type Parts = ();

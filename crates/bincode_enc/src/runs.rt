@@ -14,8 +14,13 @@ use bincode_base::error::EncodeError;
 /// where an item does, and then leaves what `Encode::encode` does: what was written before begins a word of the run.
 #[inline]
 pub fn encode_run<T: Encode, E: Encoder>(items: &[T], encoder: &mut E) -> Result<(), EncodeError>
-    ensures ok { OnOk result (Writes E.W.adds (AllowedWord (IsListOf T.means items.now) (array (length items.now) T.claim (T.format E.C.setting))) (E.writer_of encoder.old) (E.writer_of encoder.new)) }
-    ensures err { IfErr result (Halts E.W.adds E.W.refuses (Ready (All (T.writable E.C.setting) items.now) (AllowedWord (IsListOf T.means items.now) (array (length items.now) T.claim (T.format E.C.setting)))) T.names (E.writer_of encoder.old) (E.writer_of encoder.new)) }
+    ensures ok { OnOk result (Writes E.W.adds (AllowedWord (IsListOf T.means items.now)
+        (array (length items.now) T.claim (T.format E.C.setting)))
+        (E.writer_of encoder.old) (E.writer_of encoder.new)) }
+    ensures err { IfErr result (Halts E.W.adds E.W.refuses
+        (Ready (All (T.writable E.C.setting) items.now) (AllowedWord (IsListOf T.means items.now)
+        (array (length items.now) T.claim (T.format E.C.setting)))) T.names (E.writer_of encoder.old)
+        (E.writer_of encoder.new)) }
     ensures place { E.place encoder.new ≡ E.place encoder.old }
 {
     if let Some(bytes) = T::as_bytes(items) {
@@ -27,8 +32,13 @@ pub fn encode_run<T: Encode, E: Encoder>(items: &[T], encoder: &mut E) -> Result
 /// The same, one by one.
 #[inline]
 fn encode_each<T: Encode, E: Encoder>(items: &[T], encoder: &mut E) -> Result<(), EncodeError>
-    ensures ok { OnOk result (Writes E.W.adds (AllowedWord (IsListOf T.means items.now) (array (length items.now) T.claim (T.format E.C.setting))) (E.writer_of encoder.old) (E.writer_of encoder.new)) }
-    ensures err { IfErr result (Halts E.W.adds E.W.refuses (Ready (All (T.writable E.C.setting) items.now) (AllowedWord (IsListOf T.means items.now) (array (length items.now) T.claim (T.format E.C.setting)))) T.names (E.writer_of encoder.old) (E.writer_of encoder.new)) }
+    ensures ok { OnOk result (Writes E.W.adds (AllowedWord (IsListOf T.means items.now)
+        (array (length items.now) T.claim (T.format E.C.setting)))
+        (E.writer_of encoder.old) (E.writer_of encoder.new)) }
+    ensures err { IfErr result (Halts E.W.adds E.W.refuses
+        (Ready (All (T.writable E.C.setting) items.now) (AllowedWord (IsListOf T.means items.now)
+        (array (length items.now) T.claim (T.format E.C.setting)))) T.names (E.writer_of encoder.old)
+        (E.writer_of encoder.new)) }
     ensures place { E.place encoder.new ≡ E.place encoder.old }
 {
     for item in items {

@@ -19,8 +19,11 @@ pub trait EncodeTag: Tag {
     /// Writes a tag.
     fn encode_tag<E: Encoder>(tag: u32, encoder: &mut E) -> Result<(), EncodeError>
         requires { Self.Fits tag }
-        ensures ok { OnOk result (Writes E.W.adds (AllowedWord (IsNumber (pos tag)) (natural (Self.tags E.C.setting))) (E.writer_of encoder.old) (E.writer_of encoder.new)) }
-        ensures err { IfErr result (Halts E.W.adds E.W.refuses (Ready (Unit {0}) (AllowedWord (IsNumber (pos tag)) (natural (Self.tags E.C.setting)))) (λ _. ⊥) (E.writer_of encoder.old) (E.writer_of encoder.new)) }
+        ensures ok { OnOk result (Writes E.W.adds (AllowedWord (IsNumber (pos tag)) (natural (Self.tags E.C.setting)))
+            (E.writer_of encoder.old) (E.writer_of encoder.new)) }
+        ensures err { IfErr result (Halts E.W.adds E.W.refuses
+            (Ready (Unit {0}) (AllowedWord (IsNumber (pos tag)) (natural (Self.tags E.C.setting)))) (λ _. ⊥)
+            (E.writer_of encoder.old) (E.writer_of encoder.new)) }
         ensures place { E.place encoder.new ≡ E.place encoder.old };
 }
 
@@ -38,8 +41,8 @@ impl EncodeTag for u32 {
     }
 }
 
-/// Writes the value of an enum: the tag of its variant, and then the part. Of an enum with type parameters the value has
-/// references to what they stand for, since its parts have to have a known size.
+/// Writes the value of an enum: the tag of its variant, and then the part. Of an enum with type parameters the value
+/// has references to what they stand for, since its parts have to have a known size.
 #[inline(always)]
 pub fn encode_variant<T: Parted, A: Encode, E: Encoder>(
     value: &T,
@@ -51,12 +54,17 @@ where
     T::Parts: Choice,
     <T::Parts as Choice>::Tag: EncodeTag,
     requires fits { T.Parts.Tag.Fits tag }
-    requires picks { WrittenAlike (map_format (Choice tag) (A.format E.C.setting)) (behind_tag T.Parts.variants E.C.setting tag) }
+    requires picks { WrittenAlike (map_format (Choice tag) (A.format E.C.setting))
+        (behind_tag T.Parts.variants E.C.setting tag) }
     requires names { (e : EncodeError) → A.names e → T.Parts.names e }
     requires means { SameMeanings (IsChoice tag (A.means part.now)) (T.Parts.means (T.parts value.now)) }
     requires writable { T.Parts.writable E.C.setting (T.parts value.now) → A.writable E.C.setting part.now }
-    ensures ok { OnOk result (Writes E.W.adds (AllowedWord (T.Parts.means (T.parts value.now)) (chosen T.Parts.Tag.tags T.Parts.variants E.C.setting)) (E.writer_of encoder.old) (E.writer_of encoder.new)) }
-    ensures err { IfErr result (Halts E.W.adds E.W.refuses (Ready (T.Parts.writable E.C.setting (T.parts value.now)) (AllowedWord (T.Parts.means (T.parts value.now)) (chosen T.Parts.Tag.tags T.Parts.variants E.C.setting))) T.Parts.names (E.writer_of encoder.old) (E.writer_of encoder.new)) }
+    ensures ok { OnOk result (Writes E.W.adds (AllowedWord (T.Parts.means (T.parts value.now))
+        (chosen T.Parts.Tag.tags T.Parts.variants E.C.setting)) (E.writer_of encoder.old) (E.writer_of encoder.new)) }
+    ensures err { IfErr result (Halts E.W.adds E.W.refuses
+        (Ready (T.Parts.writable E.C.setting (T.parts value.now))
+        (AllowedWord (T.Parts.means (T.parts value.now)) (chosen T.Parts.Tag.tags T.Parts.variants E.C.setting)))
+        T.Parts.names (E.writer_of encoder.old) (E.writer_of encoder.new)) }
     ensures place { E.place encoder.new ≡ E.place encoder.old }
 {
     <T::Parts as Choice>::Tag::encode_tag(tag, encoder)?;

@@ -22,7 +22,8 @@ pub enum Setting {
 /// What comes of some bytes.
 #[derive(Drop)]
 pub enum Wanted<T> {
-    /// They are the value's word: it is written as them into a longer slice, whose other bytes stay, and read from them.
+    /// They are the value's word: it is written as them into a longer slice, whose other bytes stay, and read from
+    /// them.
     Keeps(T),
     /// They are read as the value, with this length.
     Reads(T, usize),

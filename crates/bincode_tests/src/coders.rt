@@ -72,7 +72,8 @@ fn decodes_in_turn(rt: HostRuntime) {
     );
 }
 
-/// Under a limit of 10 bytes, before two bytes: containers are claimed up to it, and what is released can be claimed again.
+/// Under a limit of 10 bytes, before two bytes: containers are claimed up to it, and what is released can be claimed
+/// again.
 fn claims_up_to_ten<D: Decoder<Context = ()>>(rt: &impl Abort, decoder: &mut D) {
     assert!(rt; decoder.claim_container_read::<u16>(5).is_ok());
     decoder.unclaim_bytes_read(4);

@@ -11,7 +11,7 @@ pub mod Decoding
 pub mod DecodingLaws
 pub mod CharLaws
 pub mod CharDecodingLaws
-pub mod Spans
+pub mod Durations
 pub mod DurationLaws
 pub mod Promises
 pub mod Cells

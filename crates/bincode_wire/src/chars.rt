@@ -135,8 +135,11 @@ pub fn read_rest_of_char<R: Reader>(
     width: usize,
 ) -> Result<char, DecodeError>
     requires { char_width first ≡ Some width }
-    ensures ok { R.told read.old → IfOk result (λ c. (rest_of_char first width).read (R.rest read.old) ≡ Took (Character c) (R.rest read.new) []) }
-    ensures err { R.told read.old → IfErr result (Misreads R.ended R.device ((rest_of_char first width).read (R.rest read.old)) (R.failures read.old) (R.failures read.new) (R.rest read.old) (R.rest read.new)) }
+    ensures ok { R.told read.old → IfOk result (λ c. (rest_of_char first width).read (R.rest read.old)
+        ≡ Took (Character c) (R.rest read.new) []) }
+    ensures err { R.told read.old → IfErr result (Misreads R.ended R.device
+        ((rest_of_char first width).read (R.rest read.old)) (R.failures read.old) (R.failures read.new)
+        (R.rest read.old) (R.rest read.new)) }
     ensures count { R.failures read.old ≤ R.failures read.new }
     ensures told { R.told read.old → R.told read.new }
     ensures place { R.place read.new ≡ R.place read.old }

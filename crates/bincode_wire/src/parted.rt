@@ -78,7 +78,8 @@ where
     T::Parts: Canonical,
 {
     ghost shortest = { λ s v w h.
-        fewer-none_shorter (λ m p. (p.0, (T.promised w (T.Parts.given m (T.parts w))).keeps p.1)) (λ m p. (T.promised w (T.Parts.given m (T.parts w))).keeps p)
+        fewer-none_shorter (λ m p. (p.0, (T.promised w (T.Parts.given m (T.parts w))).keeps p.1))
+        (λ m p. (T.promised w (T.Parts.given m (T.parts w))).keeps p)
         (T.Parts.shortest s (T.parts v) (T.parts w) h) };
 }
 
@@ -91,5 +92,6 @@ pub trait SameParts<Parts: Wire + PartialEq>: Parted<Parts = Parts> + PartialEq 
 impl<P: Exact, T: Parted<Parts = P> + SameParts<P>> Exact for T {
     ghost one_value = { λ v w m h k p q. T.same_parts v w (P.one_value (T.parts v) (T.parts w) m h k p q) };
 
-    ghost comes_back = { λ v w m h p q. T.same_parts v w (P.comes_back (T.parts v) (T.parts w) m h p ((T.promised w (P.given m (T.parts w))).keeps q)) };
+    ghost comes_back = { λ v w m h p q. T.same_parts v w (P.comes_back (T.parts v) (T.parts w) m h p
+        ((T.promised w (P.given m (T.parts w))).keeps q)) };
 }

@@ -2,8 +2,10 @@
 ghost use Rattle.std.specs.Prelude.{◌≡◌, ◌⊎◌, ◌+◌, ◌-◌, ◌^◌, min, refl};
 ghost use Rattle.bincode_wire.specs.Meaning.{IsThen, IsFourThen};
 ghost use Rattle.bincode_wire.specs.Words.{first_and, four_and};
-ghost use Rattle.bincode_wire.specs.TupleLaws.{units, then-some_word, then-lawful, then-balanced, then-has_word, then-one_length, then-same, then-shortest, either};
-ghost use Rattle.bincode_wire.specs.TupleLaws.{four-lawful, four-balanced, four-has_word, four-one_length, four-same, four-shortest};
+ghost use Rattle.bincode_wire.specs.TupleLaws.{units, then-some_word, then-lawful, then-balanced, then-has_word};
+ghost use Rattle.bincode_wire.specs.TupleLaws.{then-one_length, then-same, then-shortest, either};
+ghost use Rattle.bincode_wire.specs.TupleLaws.{four-lawful, four-balanced, four-has_word, four-one_length, four-same};
+ghost use Rattle.bincode_wire.specs.TupleLaws.{four-shortest};
 
 use crate::laws::{Canonical, Exact, Inhabited, Plain, Writable};
 use crate::parted::{Parted, SameParts};
@@ -79,9 +81,11 @@ impl<A: Plain, Others: Plain> Plain for Row<A, Others> {
 }
 
 impl<A: Exact, Others: Exact> Exact for Row<A, Others> {
-    ghost one_value = { λ v w m h k. then-same (λ n. A.one_value v.0 w.0 n h.0 k.0) (λ n. Others.one_value v.1 w.1 n h.1 k.1) m };
+    ghost one_value = { λ v w m h k. then-same (λ n. A.one_value v.0 w.0 n h.0 k.0)
+        (λ n. Others.one_value v.1 w.1 n h.1 k.1) m };
 
-    ghost comes_back = { λ v w m h. then-same (λ n. A.comes_back v.0 w.0 n h.0) (λ n. Others.comes_back v.1 w.1 n h.1) m };
+    ghost comes_back = { λ v w m h. then-same (λ n. A.comes_back v.0 w.0 n h.0)
+        (λ n. Others.comes_back v.1 w.1 n h.1) m };
 }
 
 impl<A: Canonical, Others: Canonical> Canonical for Row<A, Others> {
@@ -99,9 +103,11 @@ impl<A: Wire, B: Wire, C: Wire, D: Wire, Others: Wire> Wire for LongRow<A, B, C,
 
     ghost means = { λ v. IsFourThen (A.means v.0) (B.means v.1) (C.means v.2) (D.means v.3) (Others.means v.4) };
 
-    ghost given = { λ m v. IsFourThen (λ p. A.given p v.0) (λ p. B.given p v.1) (λ p. C.given p v.2) (λ p. D.given p v.3) (λ p. Others.given p v.4) m };
+    ghost given = { λ m v. IsFourThen (λ p. A.given p v.0) (λ p. B.given p v.1) (λ p. C.given p v.2)
+        (λ p. D.given p v.3) (λ p. Others.given p v.4) m };
 
-    ghost writable = { λ s v. A.writable s v.0 × (B.writable s v.1 × (C.writable s v.2 × (D.writable s v.3 × Others.writable s v.4))) };
+    ghost writable = { λ s v. A.writable s v.0 × (B.writable s v.1
+        × (C.writable s v.2 × (D.writable s v.3 × Others.writable s v.4))) };
 
     ghost names = { λ e. A.names e ⊎ (B.names e ⊎ (C.names e ⊎ (D.names e ⊎ Others.names e))) };
 
@@ -115,18 +121,22 @@ impl<A: Wire, B: Wire, C: Wire, D: Wire, Others: Wire> Wire for LongRow<A, B, C,
 
     ghost lawful = { λ s. four-lawful (A.lawful s) (B.lawful s) (C.lawful s) (D.lawful s) (Others.lawful s) };
 
-    ghost balanced = { λ s. four-balanced (A.balanced s) (B.balanced s) (C.balanced s) (D.balanced s) (Others.balanced s) };
+    ghost balanced = { λ s. four-balanced (A.balanced s) (B.balanced s) (C.balanced s) (D.balanced s)
+        (Others.balanced s) };
 
     ghost has_word = { λ s v h w.
         four-has_word (A.has_word s v.0 h.0 w.0) (B.has_word s v.1 h.1.0 w.1.0) (C.has_word s v.2 h.1.1.0 w.1.1.0)
         (D.has_word s v.3 h.1.1.1.0 w.1.1.1.0) (Others.has_word s v.4 h.1.1.1.1 w.1.1.1.1) };
 
-    ghost names_own = { λ e. either (A.names_own e) (either (B.names_own e) (either (C.names_own e) (either (D.names_own e) (Others.names_own e)))) };
+    ghost names_own = { λ e. either (A.names_own e) (either (B.names_own e)
+        (either (C.names_own e) (either (D.names_own e) (Others.names_own e)))) };
 }
 
 impl<A: Inhabited, B: Inhabited, C: Inhabited, D: Inhabited, Others: Inhabited> Inhabited
     for LongRow<A, B, C, D, Others> {
-    ghost some_word = { λ s. then-some_word _ _ (A.some_word s) (then-some_word _ _ (B.some_word s) (then-some_word _ _ (C.some_word s) (then-some_word _ _ (D.some_word s) (Others.some_word s)))) };
+    ghost some_word = { λ s. then-some_word _ _ (A.some_word s)
+        (then-some_word _ _ (B.some_word s) (then-some_word _ _ (C.some_word s)
+        (then-some_word _ _ (D.some_word s) (Others.some_word s)))) };
 }
 
 impl<A: Writable, B: Writable, C: Writable, D: Writable, Others: Writable> Writable
@@ -148,21 +158,25 @@ impl<A: Plain, B: Plain, C: Plain, D: Plain, Others: Plain> Plain for LongRow<A,
         four-one_length (A.one_length s v.0 h.0) (B.one_length s v.1 h.1.0) (C.one_length s v.2 h.1.1.0)
         (D.one_length s v.3 h.1.1.1.0) (Others.one_length s v.4 h.1.1.1.1) };
 
-    ghost names_none = { λ e. either (A.names_none e) (either (B.names_none e) (either (C.names_none e) (either (D.names_none e) (Others.names_none e)))) };
+    ghost names_none = { λ e. either (A.names_none e) (either (B.names_none e)
+        (either (C.names_none e) (either (D.names_none e) (Others.names_none e)))) };
 }
 
 impl<A: Exact, B: Exact, C: Exact, D: Exact, Others: Exact> Exact for LongRow<A, B, C, D, Others> {
     ghost one_value = { λ v w m h k.
-        four-same (λ n. A.one_value v.0 w.0 n h.0 k.0) (λ n. B.one_value v.1 w.1 n h.1.0 k.1.0) (λ n. C.one_value v.2 w.2 n h.1.1.0 k.1.1.0)
+        four-same (λ n. A.one_value v.0 w.0 n h.0 k.0) (λ n. B.one_value v.1 w.1 n h.1.0 k.1.0)
+        (λ n. C.one_value v.2 w.2 n h.1.1.0 k.1.1.0)
         (λ n. D.one_value v.3 w.3 n h.1.1.1.0 k.1.1.1.0) (λ n. Others.one_value v.4 w.4 n h.1.1.1.1 k.1.1.1.1) m };
 
     ghost comes_back = { λ v w m h.
-        four-same (λ n. A.comes_back v.0 w.0 n h.0) (λ n. B.comes_back v.1 w.1 n h.1.0) (λ n. C.comes_back v.2 w.2 n h.1.1.0)
+        four-same (λ n. A.comes_back v.0 w.0 n h.0) (λ n. B.comes_back v.1 w.1 n h.1.0)
+        (λ n. C.comes_back v.2 w.2 n h.1.1.0)
         (λ n. D.comes_back v.3 w.3 n h.1.1.1.0) (λ n. Others.comes_back v.4 w.4 n h.1.1.1.1) m };
 }
 
 impl<A: Canonical, B: Canonical, C: Canonical, D: Canonical, Others: Canonical> Canonical
     for LongRow<A, B, C, D, Others> {
     ghost shortest = { λ s v w h.
-        four-shortest (A.shortest s v.0 w.0 h.0) (B.shortest s v.1 w.1 h.1.0) (C.shortest s v.2 w.2 h.1.1.0) (D.shortest s v.3 w.3 h.1.1.1.0) (Others.shortest s v.4 w.4 h.1.1.1.1) };
+        four-shortest (A.shortest s v.0 w.0 h.0) (B.shortest s v.1 w.1 h.1.0) (C.shortest s v.2 w.2 h.1.1.0)
+        (D.shortest s v.3 w.3 h.1.1.1.0) (Others.shortest s v.4 w.4 h.1.1.1.1) };
 }

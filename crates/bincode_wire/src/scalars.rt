@@ -72,7 +72,9 @@ impl<T: Scalar> Plain for Alone<T> {
 }
 
 impl<T: Scalar> Canonical for Alone<T> {
-    ghost shortest = { λ s v w h written bytes m steps a b u g. (T.form.spelled s v.value h).none_shorter written bytes m steps (more-allowed (λ n p. p.0) written a) b u (T.form.one_meaning v.value w.value a.meaning m a.is_meant.0 a.is_meant.1 g) };
+    ghost shortest = { λ s v w h written bytes m steps a b u g.
+        (T.form.spelled s v.value h).none_shorter written bytes m steps (more-allowed (λ n p. p.0) written a) b u
+        (T.form.one_meaning v.value w.value a.meaning m a.is_meant.0 a.is_meant.1 g) };
 }
 
 impl<T: Scalar> Exact for Alone<T> {

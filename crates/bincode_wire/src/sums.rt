@@ -1,5 +1,6 @@
 //! One of several variants: what enums are written as.
-ghost use Rattle.std.specs.Prelude.{◌≡◌, ◌⊎◌, ◌<◌, ◌+◌, ◌-◌, ◌^◌, ◌==◌, min, max, pos, ℕ, Bool, true, false, List, [], ◌∷◌, refl};
+ghost use Rattle.std.specs.Prelude.{◌≡◌, ◌⊎◌, ◌<◌, ◌+◌, ◌-◌, ◌^◌, ◌==◌, min, max, pos, ℕ, Bool, true, false, List, []};
+ghost use Rattle.std.specs.Prelude.{◌∷◌, refl};
 ghost use Rattle.std.proofs.Common.{sym, ◌∙◌, arith};
 ghost use Rattle.bincode_base.specs.Setting.{Setting};
 ghost use Rattle.bincode_base.specs.Format.{Format, map_format};
@@ -14,7 +15,9 @@ ghost use Rattle.bincode_wire.specs.Forms.{Numerals, byte-numerals, unsigned-num
 ghost use Rattle.bincode_wire.specs.Allowed.{AllowedWord, SomeWord, MayName, Shortest, OneLength};
 ghost use Rattle.bincode_wire.specs.AllowedLaws.{fewer-none_shorter};
 ghost use Rattle.bincode_wire.specs.Choices.{IsChoice};
-ghost use Rattle.bincode_wire.specs.ChoiceLaws.{AllLawful, AllBalanced, part-here, part-there, same-alike, chosen-lawful, chosen-balanced, choice-has_word, choice-one_length, choice-shortest, choice-some_word, choice-same, tags-differ};
+ghost use Rattle.bincode_wire.specs.ChoiceLaws.{AllLawful, AllBalanced, part-here, part-there, same-alike};
+ghost use Rattle.bincode_wire.specs.ChoiceLaws.{chosen-lawful, chosen-balanced, choice-has_word, choice-one_length};
+ghost use Rattle.bincode_wire.specs.ChoiceLaws.{choice-shortest, choice-some_word, choice-same, tags-differ};
 ghost use Rattle.bincode_wire.specs.TupleLaws.{either};
 
 use crate::laws::{Canonical, Exact, Inhabited, Plain, Writable};
@@ -70,7 +73,8 @@ pub trait Variants {
     ghost valid: { Self → Type 0 };
 
     /// Its tag picks it.
-    ghost picked: { (s : Setting) (allowed : Allowed) (v : Self) → valid v → part s variants allowed (variant v).0 ≡ map_format (Choice (variant v).0) ((variant v).1 s) };
+    ghost picked: { (s : Setting) (allowed : Allowed) (v : Self) → valid v → part s variants allowed (variant v).0
+        ≡ map_format (Choice (variant v).0) ((variant v).1 s) };
 
     ghost means: { Self → Meaning → Type 0 };
 
@@ -92,7 +96,8 @@ pub trait Variants {
 
     ghost balanced: { (s : Setting) → AllBalanced s variants };
 
-    ghost has_word: { (s : Setting) (v : Self) → valid v → writable v s → SomeWord (AllowedWord (means v) ((variant v).1 s)) };
+    ghost has_word: { (s : Setting) (v : Self) → valid v → writable v s
+        → SomeWord (AllowedWord (means v) ((variant v).1 s)) };
 
     ghost names_own: { (e : EncodeError) → names e → MayName e };
 }
@@ -104,21 +109,25 @@ pub trait WritableVariants: Variants {
 
 /// Variants without cells.
 pub trait PlainVariants: WritableVariants {
-    ghost one_length: { (s : Setting) (v : Self) → Self.valid v → OneLength (AllowedWord (Self.means v) ((Self.variant v).1 s)) };
+    ghost one_length: { (s : Setting) (v : Self) → Self.valid v
+        → OneLength (AllowedWord (Self.means v) ((Self.variant v).1 s)) };
 
     ghost names_none: { (e : EncodeError) → Self.names e → ⊥ };
 }
 
 /// Variants whose words keep all of their parts.
 pub trait ExactVariants: PlainVariants + PartialEq {
-    ghost one_value: { (v w : Self) (m : Meaning) → Self.valid v → Self.valid w → (Self.variant v).0 ≡ (Self.variant w).0 → Self.means v m → Self.means w m → Self.eq v w ≡ true };
+    ghost one_value: { (v w : Self) (m : Meaning) → Self.valid v → Self.valid w → (Self.variant v).0
+        ≡ (Self.variant w).0 → Self.means v m → Self.means w m → Self.eq v w ≡ true };
 
-    ghost comes_back: { (v w : Self) (m : Meaning) → Self.valid v → (Self.variant v).0 ≡ (Self.variant w).0 → Self.means v m → Self.given w m → Self.eq v w ≡ true };
+    ghost comes_back: { (v w : Self) (m : Meaning) → Self.valid v → (Self.variant v).0 ≡ (Self.variant w).0
+        → Self.means v m → Self.given w m → Self.eq v w ≡ true };
 }
 
 /// Variants whose words are canonical.
 pub trait CanonicalVariants: PlainVariants {
-    ghost shortest: { (s : Setting) (v w : Self) → Self.valid v → (Self.variant v).0 ≡ (Self.variant w).0 → Shortest (Self.means v) (Self.given w) ((Self.variant v).1 s) };
+    ghost shortest: { (s : Setting) (v w : Self) → Self.valid v → (Self.variant v).0 ≡ (Self.variant w).0
+        → Shortest (Self.means v) (Self.given w) ((Self.variant v).1 s) };
 }
 
 /// No variant: the end of those of the enum `Of`, with tags of type `T`. It has no values.
@@ -200,12 +209,16 @@ impl<const TAG: u32, A: Wire, Others: Variants> Variants for Or<TAG, A, Others> 
 
     ghost picked = { λ s allowed. elim [
       | This a ↦ λ h. part-here s allowed TAG A.format Others.variants
-      | Other o ↦ λ h. part-there s allowed (Others.variant o).0 TAG A.format Others.variants h.0 ∙ Others.picked s allowed o h.1
+      | Other o ↦ λ h. part-there s allowed (Others.variant o).0 TAG A.format Others.variants h.0
+          ∙ Others.picked s allowed o h.1
     ] };
 
     ghost means = { elim [ This a ↦ A.means a | Other o ↦ Others.means o ] };
 
-    ghost given = { elim [ This a ↦ λ m. A.given m a | Other o ↦ λ m. (((Others.variant o).0 == TAG) ≡ false) × Others.given o m ] };
+    ghost given = { elim [
+      | This a ↦ λ m. A.given m a
+      | Other o ↦ λ m. (((Others.variant o).0 == TAG) ≡ false) × Others.given o m
+    ] };
 
     ghost writable = { elim [ This a ↦ λ s. A.writable s a | Other o ↦ Others.writable o ] };
 
@@ -232,7 +245,10 @@ impl<const TAG: u32, A: Writable, Others: WritableVariants> WritableVariants
     for Or<TAG, A, Others> {
     ghost use Rattle.bincode_wire.specs.declared.sums.Or.TheVariants.{This, Other};
 
-    ghost always_writable = { λ s. elim [ This a ↦ A.always_writable s a | Other o ↦ λ h. Others.always_writable s o h.1 ] };
+    ghost always_writable = { λ s. elim [
+      | This a ↦ A.always_writable s a
+      | Other o ↦ λ h. Others.always_writable s o h.1
+    ] };
 }
 
 impl<const TAG: u32, A: Plain, Others: PlainVariants> PlainVariants for Or<TAG, A, Others> {
@@ -314,14 +330,18 @@ impl<Of: Variants> Wire for OneOf<Of> {
 
     ghost balanced = { λ s. chosen-balanced Of.Tag.tags Of.variants s (Of.Tag.numerals.balanced s) (Of.balanced s) };
 
-    ghost has_word = { λ s v h w. choice-has_word Of.Tag.tags Of.variants s _ _ (same-alike (Of.picked s _ v.0 h.1)) (Of.means v.0) (Of.Tag.numerals.spelled s _ h.0).has_word (Of.has_word s v.0 h.1 w) };
+    ghost has_word = { λ s v h w. choice-has_word Of.Tag.tags Of.variants s _ _ (same-alike (Of.picked s _ v.0 h.1))
+        (Of.means v.0) (Of.Tag.numerals.spelled s _ h.0).has_word (Of.has_word s v.0 h.1 w) };
 
     ghost names_own = { Of.names_own };
 }
 
 // An enum whose first tag is 0 has some word, if its first part has.
 impl<A: Inhabited, Others: Variants> Inhabited for OneOf<Or<0, A, Others>> {
-    ghost some_word = { λ s. choice-some_word Others.Tag.tags ((0, A.format) ∷ Others.variants) s 0 (A.format s) (part-here s (allowed_tags (tags_of ((0, A.format) ∷ Others.variants))) 0 A.format Others.variants) (Others.Tag.numerals.lawful s) (Others.Tag.numerals.spelled s 0 Others.Tag.zero_fits).has_word (A.some_word s) };
+    ghost some_word = { λ s. choice-some_word Others.Tag.tags ((0, A.format) ∷ Others.variants) s 0 (A.format s)
+        (part-here s (allowed_tags (tags_of ((0, A.format) ∷ Others.variants))) 0 A.format Others.variants)
+        (Others.Tag.numerals.lawful s) (Others.Tag.numerals.spelled s 0 Others.Tag.zero_fits).has_word
+        (A.some_word s) };
 }
 
 impl<Of: WritableVariants> Writable for OneOf<Of> {
@@ -344,7 +364,8 @@ impl<Of: Variants> Choice for OneOf<Of> {
 }
 
 impl<Of: PlainVariants> Plain for OneOf<Of> {
-    ghost one_length = { λ s v h. choice-one_length Of.Tag.tags Of.variants s _ _ (same-alike (Of.picked s _ v.0 h.1)) (Of.means v.0) (Of.Tag.numerals.spelled s _ h.0).one_length (Of.one_length s v.0 h.1) };
+    ghost one_length = { λ s v h. choice-one_length Of.Tag.tags Of.variants s _ _ (same-alike (Of.picked s _ v.0 h.1))
+        (Of.means v.0) (Of.Tag.numerals.spelled s _ h.0).one_length (Of.one_length s v.0 h.1) };
 
     ghost names_none = { Of.names_none };
 }
@@ -356,5 +377,6 @@ impl<Of: ExactVariants> Exact for OneOf<Of> {
 }
 
 impl<Of: CanonicalVariants> Canonical for OneOf<Of> {
-    ghost shortest = { λ s v w h. choice-shortest Of.Tag.tags Of.variants s _ _ _ (Of.picked s _ v.0 h.1) (Of.means v.0) (Of.given w.0) (Of.Tag.numerals.spelled s _ h.0).none_shorter (Of.shortest s v.0 w.0 h.1) };
+    ghost shortest = { λ s v w h. choice-shortest Of.Tag.tags Of.variants s _ _ _ (Of.picked s _ v.0 h.1) (Of.means v.0)
+        (Of.given w.0) (Of.Tag.numerals.spelled s _ h.0).none_shorter (Of.shortest s v.0 w.0 h.1) };
 }

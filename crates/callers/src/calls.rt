@@ -36,15 +36,16 @@ pub struct RoundTrip<T> {
     pub read: Result<(T, usize), DecodeError>,
 }
 
-/// Writes a value into the front of a slice, and reads it back from there, with the bytes behind it. Without a limit an equal
-/// value is read, of as many bytes, unless memory is refused.
+/// Writes a value into the front of a slice, and reads it back from there, with the bytes behind it. Without a limit an
+/// equal value is read, of as many bytes, unless memory is refused.
 pub fn round_trip<T: Encode + Decode<()> + Exact, C: Config>(
     alloc: Global,
     value: &T,
     slice: &mut [u8],
     config: C,
 ) -> Result<RoundTrip<T>, EncodeError>
-    ensures { C.bound ≡ None → IfOk result (λ trip. MatchResult trip.read (λ x. (T.eq value.now x.0 ≡ true) × (x.1 ≡ trip.written)) (IsRefused T.grows)) }
+    ensures { C.bound ≡ None → IfOk result (λ trip. MatchResult trip.read
+        (λ x. (T.eq value.now x.0 ≡ true) × (x.1 ≡ trip.written)) (IsRefused T.grows)) }
 {
     value.tell_valid();
     let written = encode_into_slice(value, slice, config)?;
@@ -96,8 +97,8 @@ pub fn types_without_memory()
     ensures ref_cell { ⟦<RefCell<u32> as Wire>⟧.grows → ⊥ }
 {}
 
-/// Writes a value of a type whose every valid value can be written. After a failure a front of an allowed word stands in the
-/// slice.
+/// Writes a value of a type whose every valid value can be written. After a failure a front of an allowed word stands
+/// in the slice.
 pub fn write<T: Encode + Writable, C: Config>(
     value: &T,
     slice: &mut [u8],
@@ -115,7 +116,8 @@ pub fn write_cell<C: Config>(
     slice: &mut [u8],
     config: C,
 ) -> Result<usize, EncodeError>
-    ensures { IfErr result (FrontWritten (AllowedWord (⟦<Cell<u8> as Wire>⟧.means value.now) (⟦<Cell<u8> as Wire>⟧.format C.setting)) slice.old slice.new) }
+    ensures { IfErr result (FrontWritten (AllowedWord (⟦<Cell<u8> as Wire>⟧.means value.now)
+        (⟦<Cell<u8> as Wire>⟧.format C.setting)) slice.old slice.new) }
 {
     write(value, slice, config)
 }

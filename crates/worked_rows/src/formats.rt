@@ -1,5 +1,7 @@
-//! Worked rows of the types' own formats: what each `impl` says of its words is what the description of the format expects.
-ghost use Rattle.worked_rows.specs.Formats.{UnsignedRows, SignedRows, WholeRows, CharacterRows, ChoiceRows, DurationRows, ListRows, TextRows, UnsignedWords, SignedWords, ZigzagRows};
+//! Worked rows of the types' own formats: what each `impl` says of its words is what the description of the format
+//! expects.
+ghost use Rattle.worked_rows.specs.Formats.{UnsignedRows, SignedRows, WholeRows, CharacterRows, ChoiceRows};
+ghost use Rattle.worked_rows.specs.Formats.{DurationRows, ListRows, TextRows, UnsignedWords, SignedWords, ZigzagRows};
 
 use bincode::time::Duration;
 use bincode::{NoOther, OneOf, Or, Wire};
@@ -8,17 +10,20 @@ use std::ops::Bound;
 
 /// What unsigned numbers are read from.
 pub fn unsigned_rows()
-    ensures { UnsignedRows ⟦<u8 as Wire>⟧.format ⟦<u16 as Wire>⟧.format ⟦<u32 as Wire>⟧.format ⟦<u64 as Wire>⟧.format ⟦<u128 as Wire>⟧.format ⟦<NonZeroU16 as Wire>⟧.format }
+    ensures { UnsignedRows ⟦<u8 as Wire>⟧.format ⟦<u16 as Wire>⟧.format ⟦<u32 as Wire>⟧.format ⟦<u64 as Wire>⟧.format
+        ⟦<u128 as Wire>⟧.format ⟦<NonZeroU16 as Wire>⟧.format }
 {}
 
 /// What signed numbers are read from.
 pub fn signed_rows()
-    ensures { SignedRows ⟦<i8 as Wire>⟧.format ⟦<i16 as Wire>⟧.format ⟦<i32 as Wire>⟧.format ⟦<i64 as Wire>⟧.format ⟦<i128 as Wire>⟧.format ⟦<isize as Wire>⟧.format ⟦<NonZeroI16 as Wire>⟧.format }
+    ensures { SignedRows ⟦<i8 as Wire>⟧.format ⟦<i16 as Wire>⟧.format ⟦<i32 as Wire>⟧.format ⟦<i64 as Wire>⟧.format
+        ⟦<i128 as Wire>⟧.format ⟦<isize as Wire>⟧.format ⟦<NonZeroI16 as Wire>⟧.format }
 {}
 
 /// What truth values, tuples and arrays are read from.
 pub fn whole_rows()
-    ensures { WholeRows ⟦<bool as Wire>⟧.format ⟦<() as Wire>⟧.format ⟦<(u8, u32) as Wire>⟧.format ⟦<(u8, u32, i128, char, [u8; 4]) as Wire>⟧.format ⟦<[u16; 2] as Wire>⟧.format }
+    ensures { WholeRows ⟦<bool as Wire>⟧.format ⟦<() as Wire>⟧.format ⟦<(u8, u32) as Wire>⟧.format
+        ⟦<(u8, u32, i128, char, [u8; 4]) as Wire>⟧.format ⟦<[u16; 2] as Wire>⟧.format }
 {}
 
 /// What characters are read from.
@@ -31,7 +36,9 @@ pub type Far = OneOf<Or<1, (), Or<5, u8, Or<300, u8, NoOther<()>>>>>;
 
 /// What choices are read from.
 pub fn choice_rows()
-    ensures { ChoiceRows ⟦<Option<u8> as Wire>⟧.format ⟦<Option<u32> as Wire>⟧.format ⟦<Option<bool> as Wire>⟧.format ⟦<Result<u8, u8> as Wire>⟧.format ⟦<Result<(), u8> as Wire>⟧.format ⟦<Bound<u8> as Wire>⟧.format ⟦<Far as Wire>⟧.format }
+    ensures { ChoiceRows ⟦<Option<u8> as Wire>⟧.format ⟦<Option<u32> as Wire>⟧.format ⟦<Option<bool> as Wire>⟧.format
+        ⟦<Result<u8, u8> as Wire>⟧.format ⟦<Result<(), u8> as Wire>⟧.format
+        ⟦<Bound<u8> as Wire>⟧.format ⟦<Far as Wire>⟧.format }
 {}
 
 /// What spans of time are read from.
@@ -41,7 +48,8 @@ pub fn duration_rows()
 
 /// What lists of such are read from.
 pub fn list_rows()
-    ensures { ListRows ⟦<u8 as Wire>⟧.format ⟦<u16 as Wire>⟧.format ⟦<u32 as Wire>⟧.format ⟦<() as Wire>⟧.format ⟦<Option<u8> as Wire>⟧.format }
+    ensures { ListRows ⟦<u8 as Wire>⟧.format ⟦<u16 as Wire>⟧.format ⟦<u32 as Wire>⟧.format ⟦<() as Wire>⟧.format
+        ⟦<Option<u8> as Wire>⟧.format }
 {}
 
 /// What texts are read from.
@@ -56,7 +64,8 @@ pub fn unsigned_words()
 
 /// What signed numbers are written as.
 pub fn signed_words()
-    ensures { SignedWords ⟦<i8 as Wire>⟧.format ⟦<i16 as Wire>⟧.format ⟦<i32 as Wire>⟧.format ⟦<i64 as Wire>⟧.format ⟦<i128 as Wire>⟧.format }
+    ensures { SignedWords ⟦<i8 as Wire>⟧.format ⟦<i16 as Wire>⟧.format ⟦<i32 as Wire>⟧.format ⟦<i64 as Wire>⟧.format
+        ⟦<i128 as Wire>⟧.format }
 {}
 
 /// The numbers that stand for integers.

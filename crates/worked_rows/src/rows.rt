@@ -446,8 +446,8 @@ pub static TABLE: [Row; 46] = [
     },
 ];
 
-/// Runs the cases of a table in turn. Writes a line for each, whether it holds, and a last line with their number and how
-/// many failed, and answers the latter.
+/// Runs the cases of a table in turn. Writes a line for each, whether it holds, and a last line with their number and
+/// how many failed, and answers the latter.
 pub fn run<W: Write>(alloc: Global, table: &[Row], out: &mut W) -> io::Result<usize>
     ensures { IfOk result (λ failed. failed ≤ length table.now) }
 {

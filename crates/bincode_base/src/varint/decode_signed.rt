@@ -15,8 +15,11 @@ use crate::zigzag::unzigzag;
 /// Reads a word of the number of an integer by zigzag. Fails where bytes are missing, and where the tag is too wide for
 /// the type or reserved.
 pub fn varint_decode_i16<R: Reader>(read: &mut R, endian: Endianness) -> Result<i16, DecodeError>
-    ensures ok { R.told read.old → IfOk result (λ v. (map_format unzigzag (varint signed_tag I16 endian 2)).read (R.rest read.old) ≡ Took v (R.rest read.new) []) }
-    ensures err { R.told read.old → IfErr result (Misreads R.ended R.device ((map_format unzigzag (varint signed_tag I16 endian 2)).read (R.rest read.old)) (R.failures read.old) (R.failures read.new) (R.rest read.old) (R.rest read.new)) }
+    ensures ok { R.told read.old → IfOk result (λ v. (map_format unzigzag (varint signed_tag I16 endian 2)).read
+        (R.rest read.old) ≡ Took v (R.rest read.new) []) }
+    ensures err { R.told read.old → IfErr result (Misreads R.ended R.device
+        ((map_format unzigzag (varint signed_tag I16 endian 2)).read (R.rest read.old)) (R.failures read.old)
+        (R.failures read.new) (R.rest read.old) (R.rest read.new)) }
     ensures count { R.failures read.old ≤ R.failures read.new }
     ensures told { R.told read.old → R.told read.new }
     ensures place { R.place read.new ≡ R.place read.old }
@@ -27,8 +30,11 @@ pub fn varint_decode_i16<R: Reader>(read: &mut R, endian: Endianness) -> Result<
 
 /// Reads a word of an `i32`, as `varint_decode_i16` does.
 pub fn varint_decode_i32<R: Reader>(read: &mut R, endian: Endianness) -> Result<i32, DecodeError>
-    ensures ok { R.told read.old → IfOk result (λ v. (map_format unzigzag (varint signed_tag I32 endian 4)).read (R.rest read.old) ≡ Took v (R.rest read.new) []) }
-    ensures err { R.told read.old → IfErr result (Misreads R.ended R.device ((map_format unzigzag (varint signed_tag I32 endian 4)).read (R.rest read.old)) (R.failures read.old) (R.failures read.new) (R.rest read.old) (R.rest read.new)) }
+    ensures ok { R.told read.old → IfOk result (λ v. (map_format unzigzag (varint signed_tag I32 endian 4)).read
+        (R.rest read.old) ≡ Took v (R.rest read.new) []) }
+    ensures err { R.told read.old → IfErr result (Misreads R.ended R.device
+        ((map_format unzigzag (varint signed_tag I32 endian 4)).read (R.rest read.old)) (R.failures read.old)
+        (R.failures read.new) (R.rest read.old) (R.rest read.new)) }
     ensures count { R.failures read.old ≤ R.failures read.new }
     ensures told { R.told read.old → R.told read.new }
     ensures place { R.place read.new ≡ R.place read.old }
@@ -39,8 +45,11 @@ pub fn varint_decode_i32<R: Reader>(read: &mut R, endian: Endianness) -> Result<
 
 /// Reads a word of an `i64`, as `varint_decode_i16` does.
 pub fn varint_decode_i64<R: Reader>(read: &mut R, endian: Endianness) -> Result<i64, DecodeError>
-    ensures ok { R.told read.old → IfOk result (λ v. (map_format unzigzag (varint signed_tag I64 endian 8)).read (R.rest read.old) ≡ Took v (R.rest read.new) []) }
-    ensures err { R.told read.old → IfErr result (Misreads R.ended R.device ((map_format unzigzag (varint signed_tag I64 endian 8)).read (R.rest read.old)) (R.failures read.old) (R.failures read.new) (R.rest read.old) (R.rest read.new)) }
+    ensures ok { R.told read.old → IfOk result (λ v. (map_format unzigzag (varint signed_tag I64 endian 8)).read
+        (R.rest read.old) ≡ Took v (R.rest read.new) []) }
+    ensures err { R.told read.old → IfErr result (Misreads R.ended R.device
+        ((map_format unzigzag (varint signed_tag I64 endian 8)).read (R.rest read.old)) (R.failures read.old)
+        (R.failures read.new) (R.rest read.old) (R.rest read.new)) }
     ensures count { R.failures read.old ≤ R.failures read.new }
     ensures told { R.told read.old → R.told read.new }
     ensures place { R.place read.new ≡ R.place read.old }
@@ -51,8 +60,11 @@ pub fn varint_decode_i64<R: Reader>(read: &mut R, endian: Endianness) -> Result<
 
 /// Reads a word of an `i128`, as `varint_decode_i16` does.
 pub fn varint_decode_i128<R: Reader>(read: &mut R, endian: Endianness) -> Result<i128, DecodeError>
-    ensures ok { R.told read.old → IfOk result (λ v. (map_format unzigzag (varint signed_tag I128 endian 16)).read (R.rest read.old) ≡ Took v (R.rest read.new) []) }
-    ensures err { R.told read.old → IfErr result (Misreads R.ended R.device ((map_format unzigzag (varint signed_tag I128 endian 16)).read (R.rest read.old)) (R.failures read.old) (R.failures read.new) (R.rest read.old) (R.rest read.new)) }
+    ensures ok { R.told read.old → IfOk result (λ v. (map_format unzigzag (varint signed_tag I128 endian 16)).read
+        (R.rest read.old) ≡ Took v (R.rest read.new) []) }
+    ensures err { R.told read.old → IfErr result (Misreads R.ended R.device
+        ((map_format unzigzag (varint signed_tag I128 endian 16)).read (R.rest read.old)) (R.failures read.old)
+        (R.failures read.new) (R.rest read.old) (R.rest read.new)) }
     ensures count { R.failures read.old ≤ R.failures read.new }
     ensures told { R.told read.old → R.told read.new }
     ensures place { R.place read.new ≡ R.place read.old }
@@ -65,8 +77,11 @@ pub fn varint_decode_isize<R: Reader>(
     read: &mut R,
     endian: Endianness,
 ) -> Result<isize, DecodeError>
-    ensures ok { R.told read.old → IfOk result (λ v. (map_format unzigzag (varint signed_tag Isize endian 8)).read (R.rest read.old) ≡ Took v (R.rest read.new) []) }
-    ensures err { R.told read.old → IfErr result (Misreads R.ended R.device ((map_format unzigzag (varint signed_tag Isize endian 8)).read (R.rest read.old)) (R.failures read.old) (R.failures read.new) (R.rest read.old) (R.rest read.new)) }
+    ensures ok { R.told read.old → IfOk result (λ v. (map_format unzigzag (varint signed_tag Isize endian 8)).read
+        (R.rest read.old) ≡ Took v (R.rest read.new) []) }
+    ensures err { R.told read.old → IfErr result (Misreads R.ended R.device
+        ((map_format unzigzag (varint signed_tag Isize endian 8)).read (R.rest read.old)) (R.failures read.old)
+        (R.failures read.new) (R.rest read.old) (R.rest read.new)) }
     ensures count { R.failures read.old ≤ R.failures read.new }
     ensures told { R.told read.old → R.told read.new }
     ensures place { R.place read.new ≡ R.place read.old }
@@ -83,9 +98,12 @@ fn varint_decode_signed<R: Reader>(
     name: IntegerType,
     width: usize,
 ) -> Result<i128, DecodeError>
-    ensures ok { R.told read.old → IfOk result (λ v. (map_format unzigzag (varint (tags_of name) name endian width)).read (R.rest read.old) ≡ Took v (R.rest read.new) []) }
+    ensures ok { R.told read.old → IfOk result (λ v. (map_format unzigzag
+        (varint (tags_of name) name endian width)).read (R.rest read.old) ≡ Took v (R.rest read.new) []) }
     ensures fits { 2 ≤ width → IfOk result (λ v. FitsIn width v) }
-    ensures err { R.told read.old → IfErr result (Misreads R.ended R.device ((map_format unzigzag (varint (tags_of name) name endian width)).read (R.rest read.old)) (R.failures read.old) (R.failures read.new) (R.rest read.old) (R.rest read.new)) }
+    ensures err { R.told read.old → IfErr result (Misreads R.ended R.device
+        ((map_format unzigzag (varint (tags_of name) name endian width)).read (R.rest read.old)) (R.failures read.old)
+        (R.failures read.new) (R.rest read.old) (R.rest read.new)) }
     ensures count { R.failures read.old ≤ R.failures read.new }
     ensures told { R.told read.old → R.told read.new }
     ensures place { R.place read.new ≡ R.place read.old }

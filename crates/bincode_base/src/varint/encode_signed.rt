@@ -10,8 +10,8 @@ use crate::error::EncodeError;
 use crate::write::Writer;
 use crate::zigzag::zigzag;
 
-/// Writes the shortest spelling of the number of an integer by zigzag. Where the writer refuses a piece, those before it
-/// stay written.
+/// Writes the shortest spelling of the number of an integer by zigzag. Where the writer refuses a piece, those before
+/// it stay written.
 #[inline(always)]
 pub fn varint_encode_i16<W: Writer>(
     writer: &mut W,
@@ -19,7 +19,8 @@ pub fn varint_encode_i16<W: Writer>(
     val: i16,
 ) -> Result<(), EncodeError>
     ensures ok { OnOk result (W.adds writer.old (shortest endian (zigzag val)) writer.new) }
-    ensures err { IfErr result (λ e. StopsAmong W.adds W.refuses (shortest_pieces endian (zigzag val)) writer.old e writer.new) }
+    ensures err { IfErr result (λ e. StopsAmong W.adds W.refuses
+        (shortest_pieces endian (zigzag val)) writer.old e writer.new) }
     ensures place { W.place writer.new ≡ W.place writer.old }
 {
     varint_encode_u16(writer, endian, zigzag(i128::from(val)) as u16)
@@ -33,7 +34,8 @@ pub fn varint_encode_i32<W: Writer>(
     val: i32,
 ) -> Result<(), EncodeError>
     ensures ok { OnOk result (W.adds writer.old (shortest endian (zigzag val)) writer.new) }
-    ensures err { IfErr result (λ e. StopsAmong W.adds W.refuses (shortest_pieces endian (zigzag val)) writer.old e writer.new) }
+    ensures err { IfErr result (λ e. StopsAmong W.adds W.refuses
+        (shortest_pieces endian (zigzag val)) writer.old e writer.new) }
     ensures place { W.place writer.new ≡ W.place writer.old }
 {
     varint_encode_u32(writer, endian, zigzag(i128::from(val)) as u32)
@@ -47,7 +49,8 @@ pub fn varint_encode_i64<W: Writer>(
     val: i64,
 ) -> Result<(), EncodeError>
     ensures ok { OnOk result (W.adds writer.old (shortest endian (zigzag val)) writer.new) }
-    ensures err { IfErr result (λ e. StopsAmong W.adds W.refuses (shortest_pieces endian (zigzag val)) writer.old e writer.new) }
+    ensures err { IfErr result (λ e. StopsAmong W.adds W.refuses
+        (shortest_pieces endian (zigzag val)) writer.old e writer.new) }
     ensures place { W.place writer.new ≡ W.place writer.old }
 {
     varint_encode_u64(writer, endian, zigzag(i128::from(val)) as u64)
@@ -61,7 +64,8 @@ pub fn varint_encode_i128<W: Writer>(
     val: i128,
 ) -> Result<(), EncodeError>
     ensures ok { OnOk result (W.adds writer.old (shortest endian (zigzag val)) writer.new) }
-    ensures err { IfErr result (λ e. StopsAmong W.adds W.refuses (shortest_pieces endian (zigzag val)) writer.old e writer.new) }
+    ensures err { IfErr result (λ e. StopsAmong W.adds W.refuses
+        (shortest_pieces endian (zigzag val)) writer.old e writer.new) }
     ensures place { W.place writer.new ≡ W.place writer.old }
 {
     varint_encode_u128(writer, endian, zigzag(val))
@@ -75,7 +79,8 @@ pub fn varint_encode_isize<W: Writer>(
     val: isize,
 ) -> Result<(), EncodeError>
     ensures ok { OnOk result (W.adds writer.old (shortest endian (zigzag val)) writer.new) }
-    ensures err { IfErr result (λ e. StopsAmong W.adds W.refuses (shortest_pieces endian (zigzag val)) writer.old e writer.new) }
+    ensures err { IfErr result (λ e. StopsAmong W.adds W.refuses
+        (shortest_pieces endian (zigzag val)) writer.old e writer.new) }
     ensures place { W.place writer.new ≡ W.place writer.old }
 {
     varint_encode_u64(writer, endian, zigzag(val as i128) as u64)

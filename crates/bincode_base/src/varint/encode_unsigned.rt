@@ -111,7 +111,8 @@ pub fn varint_encode_usize<W: Writer>(
 #[inline(always)]
 fn write_tagged<W: Writer>(writer: &mut W, tag: u8, bytes: &[u8]) -> Result<(), EncodeError>
     ensures ok { OnOk result (W.adds writer.old (tag ∷ bytes.now) writer.new) }
-    ensures err { IfErr result (λ e. StopsAmong W.adds W.refuses ((tag ∷ []) ∷ bytes.now ∷ []) writer.old e writer.new) }
+    ensures err { IfErr result (λ e. StopsAmong W.adds W.refuses ((tag ∷ []) ∷ bytes.now ∷ [])
+        writer.old e writer.new) }
     ensures place { W.place writer.new ≡ W.place writer.old }
 {
     writer.write(&[tag])?;

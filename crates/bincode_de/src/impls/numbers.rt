@@ -1,5 +1,5 @@
 //! Decoding of integers.
-#![tactic(auto, using(crate::proofs::Casts::by_number))]
+#![tactic(auto, using(crate::proofs::NumberMeanings::by_number))]
 
 use crate::decode::{ArrayOf, Decode};
 use bincode_base::error::DecodeError;

@@ -17,8 +17,10 @@ use bincode_wire::chars::{four_bytes_of_char, three_bytes_of_char, two_bytes_of_
 fn write_char<E: Encoder>(encoder: &mut E, code: u32, bytes: &[u8]) -> Result<(), EncodeError>
     requires scalar { IsScalar code }
     requires bytes { bytes.now ≡ encode_utf8 code }
-    ensures ok { OnOk result (Writes E.W.adds (AllowedWord (IsCharacter code) character) (E.writer_of encoder.old) (E.writer_of encoder.new)) }
-    ensures err { IfErr result (Halts E.W.adds E.W.refuses (Ready (Unit {0}) (AllowedWord (IsCharacter code) character)) (λ _. ⊥) (E.writer_of encoder.old) (E.writer_of encoder.new)) }
+    ensures ok { OnOk result (Writes E.W.adds (AllowedWord (IsCharacter code) character) (E.writer_of encoder.old)
+        (E.writer_of encoder.new)) }
+    ensures err { IfErr result (Halts E.W.adds E.W.refuses (Ready (Unit {0}) (AllowedWord (IsCharacter code) character))
+        (λ _. ⊥) (E.writer_of encoder.old) (E.writer_of encoder.new)) }
     ensures place { E.place encoder.new ≡ E.place encoder.old }
 {
     write_from(encoder, bytes)

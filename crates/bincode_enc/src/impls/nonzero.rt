@@ -22,8 +22,13 @@ use std::num::{
 fn encode_not_zero<T: Integer, E: Encoder>(encoder: &mut E, val: T) -> Result<(), EncodeError>
     requires fits { T.spelling.Fits val }
     requires nonzero { 0 < T.spelling.size val }
-    ensures ok { OnOk result (Writes E.W.adds (AllowedWord (IsNumber (T.spelling.integer val)) (map_format (λ k. Number (T.spelling.integer k)) (not_zero_by T.spelling.size T.spelling.name (T.spelling.words E.C.setting)))) (E.writer_of encoder.old) (E.writer_of encoder.new)) }
-    ensures err { IfErr result (Halts E.W.adds E.W.refuses (Ready (Unit {0}) (AllowedWord (IsNumber (T.spelling.integer val)) (map_format (λ k. Number (T.spelling.integer k)) (not_zero_by T.spelling.size T.spelling.name (T.spelling.words E.C.setting))))) (λ _. ⊥) (E.writer_of encoder.old) (E.writer_of encoder.new)) }
+    ensures ok { OnOk result (Writes E.W.adds (AllowedWord (IsNumber (T.spelling.integer val))
+        (map_format (λ k. Number (T.spelling.integer k)) (not_zero_by T.spelling.size T.spelling.name
+        (T.spelling.words E.C.setting)))) (E.writer_of encoder.old) (E.writer_of encoder.new)) }
+    ensures err { IfErr result (Halts E.W.adds E.W.refuses
+        (Ready (Unit {0}) (AllowedWord (IsNumber (T.spelling.integer val))
+        (map_format (λ k. Number (T.spelling.integer k)) (not_zero_by T.spelling.size T.spelling.name
+        (T.spelling.words E.C.setting))))) (λ _. ⊥) (E.writer_of encoder.old) (E.writer_of encoder.new)) }
     ensures place { E.place encoder.new ≡ E.place encoder.old }
 {
     encode_integer(encoder, val)

@@ -19,8 +19,13 @@ pub(crate) fn encode_integer<T: Integer, E: Encoder>(
     val: T,
 ) -> Result<(), EncodeError>
     requires fits { T.spelling.Fits val }
-    ensures ok { OnOk result (Writes E.W.adds (AllowedWord (IsNumber (T.spelling.integer val)) (map_format (λ k. Number (T.spelling.integer k)) (T.spelling.words E.C.setting))) (E.writer_of encoder.old) (E.writer_of encoder.new)) }
-    ensures err { IfErr result (Halts E.W.adds E.W.refuses (Ready (Unit {0}) (AllowedWord (IsNumber (T.spelling.integer val)) (map_format (λ k. Number (T.spelling.integer k)) (T.spelling.words E.C.setting)))) (λ _. ⊥) (E.writer_of encoder.old) (E.writer_of encoder.new)) }
+    ensures ok { OnOk result (Writes E.W.adds (AllowedWord (IsNumber (T.spelling.integer val))
+        (map_format (λ k. Number (T.spelling.integer k)) (T.spelling.words E.C.setting))) (E.writer_of encoder.old)
+        (E.writer_of encoder.new)) }
+    ensures err { IfErr result (Halts E.W.adds E.W.refuses
+        (Ready (Unit {0}) (AllowedWord (IsNumber (T.spelling.integer val))
+        (map_format (λ k. Number (T.spelling.integer k)) (T.spelling.words E.C.setting)))) (λ _. ⊥)
+        (E.writer_of encoder.old) (E.writer_of encoder.new)) }
     ensures place { E.place encoder.new ≡ E.place encoder.old }
 {
     let endian = encoder.config().endianness();

@@ -5,7 +5,8 @@ use crate::encoder::Encoder;
 use crate::rows::{EncodeRow, LentRow, LongLentRow};
 use bincode_base::error::EncodeError;
 
-// Always inlined: LLVM takes a call behind several `?` for a rare one, and a call hands on a result with room for an error.
+// Always inlined: LLVM takes a call behind several `?` for a rare one, and a call hands on a result with room for an
+// error.
 
 impl Encode for () {
     fn tell_valid(&self) {}

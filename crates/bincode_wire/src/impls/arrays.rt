@@ -6,7 +6,8 @@ ghost use Rattle.bincode_slots.specs.Slots.{SlotsFit};
 ghost use Rattle.bincode_wire.specs.Words.{array};
 ghost use Rattle.bincode_wire.specs.WordsLaws.{array-lawful, array-balanced};
 ghost use Rattle.bincode_wire.specs.Run.{IsListOf};
-ghost use Rattle.bincode_wire.specs.RunAllowedLaws.{array-allows, allowed-array, array-some_word, each-has_word, each-one_length, array-shortest, run_same};
+ghost use Rattle.bincode_wire.specs.RunAllowedLaws.{array-allows, allowed-array, array-some_word, each-has_word};
+ghost use Rattle.bincode_wire.specs.RunAllowedLaws.{each-one_length, array-shortest, run_same};
 ghost use Rattle.bincode_wire.specs.AllowedLaws.{same-one_length};
 
 use crate::laws::{Canonical, Exact, Inhabited, Plain, Writable};
@@ -40,7 +41,12 @@ impl<T: Wire, const N: usize> Wire for [T; N] {
 
     ghost has_word = { λ s v h w.
         let x = each-has_word _ T.valid (T.writable s) v (T.has_word s) h.1 w in
-        record { bytes = x.bytes; are_bytes = x.are_bytes; is_allowed = array-allows T.means T.claim (T.format s) N v x.bytes h.0 x.is_allowed } };
+        record {
+          bytes = x.bytes;
+          are_bytes = x.are_bytes;
+          is_allowed = array-allows T.means T.claim
+              (T.format s) N v x.bytes h.0 x.is_allowed;
+        } };
 
     ghost names_own = { T.names_own };
 }
@@ -54,7 +60,8 @@ impl<T: Writable, const N: usize> Writable for [T; N] {
 }
 
 impl<T: Plain, const N: usize> Plain for [T; N] {
-    ghost one_length = { λ s v h. same-one_length _ _ (λ bytes. allowed-array T.means T.claim (T.format s) N v bytes h.0) (each-one_length _ T.valid v (T.one_length s) h.1) };
+    ghost one_length = { λ s v h. same-one_length _ _ (λ bytes. allowed-array T.means T.claim
+        (T.format s) N v bytes h.0) (each-one_length _ T.valid v (T.one_length s) h.1) };
 
     ghost names_none = { T.names_none };
 }
@@ -63,9 +70,11 @@ impl<T: Exact, const N: usize> Exact for [T; N] {
     ghost one_value = { λ v w m h k. run_same T.means T.means T.valid T.valid T.eq T.one_value v w h.1 k.1 m };
 
     ghost comes_back = { λ v w m h.
-        run_same T.means (λ x n. T.given n x) T.valid (λ x. Unit {0}) T.eq (λ x y n p q. T.comes_back x y n p) v w h.1 (λ k d lt. tt) m };
+        run_same T.means (λ x n. T.given n x) T.valid (λ x. Unit {0}) T.eq (λ x y n p q. T.comes_back x y n p) v w h.1
+        (λ k d lt. tt) m };
 }
 
 impl<T: Canonical, const N: usize> Canonical for [T; N] {
-    ghost shortest = { λ s v w h. array-shortest T.means (λ x n. T.given n x) T.claim (T.format s) T.valid (T.shortest s) N v w h.0 h.1 };
+    ghost shortest = { λ s v w h. array-shortest T.means (λ x n. T.given n x) T.claim (T.format s) T.valid
+        (T.shortest s) N v w h.0 h.1 };
 }

@@ -44,7 +44,10 @@ impl<T: Wire> Parted for Option<T> {
 impl<T: Exact> SameParts<OptionParts<T>> for Option<T> {
     ghost use Rattle.std.specs.Prelude.{Some, None};
 
-    ghost same_parts = { elim [ None ↦ elim [ None ↦ λ e. e | Some w ↦ λ e. e ] | Some v ↦ elim [ None ↦ λ e. e | Some w ↦ λ e. e ] ] };
+    ghost same_parts = { elim [
+      | None ↦ elim [ None ↦ λ e. e | Some w ↦ λ e. e ]
+      | Some v ↦ elim [ None ↦ λ e. e | Some w ↦ λ e. e ]
+    ] };
 }
 
 type ResultParts<T, U> = OneOf<Or<0, T, Or<1, U, NoOther<Result<T, U>>>>>;
@@ -61,7 +64,10 @@ impl<T: Wire, U: Wire> Parted for Result<T, U> {
 impl<T: Exact, U: Exact> SameParts<ResultParts<T, U>> for Result<T, U> {
     ghost use Rattle.std.specs.Prelude.{Ok, Err};
 
-    ghost same_parts = { elim [ Ok v ↦ elim [ Ok w ↦ λ e. e | Err w ↦ λ e. e ] | Err v ↦ elim [ Ok w ↦ λ e. e | Err w ↦ λ e. e ] ] };
+    ghost same_parts = { elim [
+      | Ok v ↦ elim [ Ok w ↦ λ e. e | Err w ↦ λ e. e ]
+      | Err v ↦ elim [ Ok w ↦ λ e. e | Err w ↦ λ e. e ]
+    ] };
 }
 
 type BoundParts<T> = OneOf<Or<0, (), Or<1, T, Or<2, T, NoOther<Bound<T>>>>>>;

@@ -1,7 +1,8 @@
 //! The words of integers.
 ghost use Rattle.std.specs.Prelude.{refl};
 ghost use Rattle.std.specs.Int.{w16, w32, w64, w128};
-ghost use Rattle.bincode_base.specs.declared.error.IntegerType.TheVariants.{U16, U32, U64, U128, Usize, I16, I32, I64, I128, Isize};
+ghost use Rattle.bincode_base.specs.declared.error.IntegerType.TheVariants.{U16, U32, U64, U128, Usize, I16, I32, I64};
+ghost use Rattle.bincode_base.specs.declared.error.IntegerType.TheVariants.{I128, Isize};
 ghost use Rattle.bincode_base.specs.IntegerLaws.{Two, Four, Eight, Sixteen};
 ghost use Rattle.bincode_wire.specs.AllowedLaws.{same_number, same_integer};
 ghost use Rattle.bincode_wire.specs.Forms.{bytes, unsigned_numbers, signed_bytes, signed_numbers};

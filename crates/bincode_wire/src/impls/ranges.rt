@@ -23,5 +23,8 @@ impl<T: Wire> Parted for RangeInclusive<T> {
     ghost parts = { λ v. (range_inclusive_start v, range_inclusive_end v) };
 
     // What is decoded is not exhausted.
-    ghost promised = { λ v of_parts. record { Promised = (range_inclusive_exhausted v ≡ false) × of_parts; keeps = λ h. h.1 } };
+    ghost promised = { λ v of_parts. record {
+      Promised = (range_inclusive_exhausted v ≡ false) × of_parts;
+      keeps = λ h. h.1;
+    } };
 }

@@ -3,10 +3,11 @@ ghost use Rattle.std.specs.Prelude.{◌≡◌, ◌<◌, ◌^◌, ◌++◌, pos, 
 ghost use Rattle.bincode_base.specs.declared.error.IntegerType.TheVariants.{U32, U64};
 ghost use Rattle.bincode_wire.specs.Meaning.{IsNumber, IsThen, IsNothing};
 ghost use Rattle.bincode_wire.specs.Words.{second_in_nanos, duration};
-ghost use Rattle.bincode_wire.specs.Spans.{secs_of, nanos_of};
+ghost use Rattle.bincode_wire.specs.Durations.{secs_of, nanos_of};
 ghost use Rattle.bincode_wire.specs.AllowedLaws.{both-one_length, same-one_length};
 ghost use Rattle.bincode_wire.specs.SpelledLaws.{unsigned-spelled};
-ghost use Rattle.bincode_wire.specs.DurationLaws.{duration-lawful, duration-balanced, duration-some_word, duration-has_word, allowed-duration, nanos_fit, span_same};
+ghost use Rattle.bincode_wire.specs.DurationLaws.{duration-lawful, duration-balanced, duration-some_word};
+ghost use Rattle.bincode_wire.specs.DurationLaws.{duration-has_word, allowed-duration, nanos_fit, span_same};
 
 use crate::laws::{Exact, Inhabited, Plain, Writable};
 use crate::own::time::Duration;
@@ -52,7 +53,9 @@ impl Writable for Duration {
 
 impl Plain for Duration {
     ghost one_length = { λ s v h.
-        same-one_length _ _ (allowed-duration s (secs_of v) (nanos_of v)) (both-one_length _ _ (unsigned-spelled U64 8 (secs_of v) s h.0).one_length (unsigned-spelled U32 4 (nanos_of v) s (nanos_fit (nanos_of v) h.1)).one_length) };
+        same-one_length _ _ (allowed-duration s (secs_of v) (nanos_of v))
+        (both-one_length _ _ (unsigned-spelled U64 8 (secs_of v) s h.0).one_length
+        (unsigned-spelled U32 4 (nanos_of v) s (nanos_fit (nanos_of v) h.1)).one_length) };
 
     ghost names_none = { λ e h. h };
 }

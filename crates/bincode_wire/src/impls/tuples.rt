@@ -39,28 +39,52 @@ impl<A: Wire, B: Wire, C: Wire, D: Wire, E: Wire> Parted for (A, B, C, D, E) {
 impl<A: Wire, B: Wire, C: Wire, D: Wire, E: Wire, F: Wire> Parted for (A, B, C, D, E, F) {
     type Parts = LongRow<A, B, C, D, Row<E, Row<F, ()>>>;
 
-    ghost parts = { λ v. record { 0 = v.0; 1 = v.1; 2 = v.2; 3 = v.3; 4 = record { 0 = v.4; 1 = record { 0 = v.5; 1 = tt } } } };
+    ghost parts = { λ v. record {
+      0 = v.0;
+      1 = v.1;
+      2 = v.2;
+      3 = v.3;
+      4 = record { 0 = v.4; 1 = record { 0 = v.5; 1 = tt } };
+    } };
 }
 
 impl<A: Wire, B: Wire, C: Wire, D: Wire, E: Wire, F: Wire, G: Wire> Parted
     for (A, B, C, D, E, F, G) {
     type Parts = LongRow<A, B, C, D, Row<E, Row<F, Row<G, ()>>>>;
 
-    ghost parts = { λ v. record { 0 = v.0; 1 = v.1; 2 = v.2; 3 = v.3; 4 = record { 0 = v.4; 1 = record { 0 = v.5; 1 = record { 0 = v.6; 1 = tt } } } } };
+    ghost parts = { λ v. record {
+      0 = v.0;
+      1 = v.1;
+      2 = v.2;
+      3 = v.3;
+      4 = record { 0 = v.4; 1 = record { 0 = v.5; 1 = record { 0 = v.6; 1 = tt } } };
+    } };
 }
 
 impl<A: Wire, B: Wire, C: Wire, D: Wire, E: Wire, F: Wire, G: Wire, H: Wire> Parted
     for (A, B, C, D, E, F, G, H) {
     type Parts = LongRow<A, B, C, D, LongRow<E, F, G, H, ()>>;
 
-    ghost parts = { λ v. record { 0 = v.0; 1 = v.1; 2 = v.2; 3 = v.3; 4 = record { 0 = v.4; 1 = v.5; 2 = v.6; 3 = v.7; 4 = tt } } };
+    ghost parts = { λ v. record {
+      0 = v.0;
+      1 = v.1;
+      2 = v.2;
+      3 = v.3;
+      4 = record { 0 = v.4; 1 = v.5; 2 = v.6; 3 = v.7; 4 = tt };
+    } };
 }
 
 impl<A: Wire, B: Wire, C: Wire, D: Wire, E: Wire, F: Wire, G: Wire, H: Wire, I: Wire> Parted
     for (A, B, C, D, E, F, G, H, I) {
     type Parts = LongRow<A, B, C, D, LongRow<E, F, G, H, Row<I, ()>>>;
 
-    ghost parts = { λ v. record { 0 = v.0; 1 = v.1; 2 = v.2; 3 = v.3; 4 = record { 0 = v.4; 1 = v.5; 2 = v.6; 3 = v.7; 4 = record { 0 = v.8; 1 = tt } } } };
+    ghost parts = { λ v. record {
+      0 = v.0;
+      1 = v.1;
+      2 = v.2;
+      3 = v.3;
+      4 = record { 0 = v.4; 1 = v.5; 2 = v.6; 3 = v.7; 4 = record { 0 = v.8; 1 = tt } };
+    } };
 }
 
 impl<A, B, C, D, E, F, G, H, I, J> Parted for (A, B, C, D, E, F, G, H, I, J)
@@ -69,7 +93,13 @@ where
 {
     type Parts = LongRow<A, B, C, D, LongRow<E, F, G, H, Row<I, Row<J, ()>>>>;
 
-    ghost parts = { λ v. record { 0 = v.0; 1 = v.1; 2 = v.2; 3 = v.3; 4 = record { 0 = v.4; 1 = v.5; 2 = v.6; 3 = v.7; 4 = record { 0 = v.8; 1 = record { 0 = v.9; 1 = tt } } } } };
+    ghost parts = { λ v. record {
+      0 = v.0;
+      1 = v.1;
+      2 = v.2;
+      3 = v.3;
+      4 = record { 0 = v.4; 1 = v.5; 2 = v.6; 3 = v.7; 4 = record { 0 = v.8; 1 = record { 0 = v.9; 1 = tt } } };
+    } };
 }
 
 impl<A, B, C, D, E, F, G, H, I, J, K> Parted for (A, B, C, D, E, F, G, H, I, J, K)
@@ -78,7 +108,22 @@ where
 {
     type Parts = LongRow<A, B, C, D, LongRow<E, F, G, H, Row<I, Row<J, Row<K, ()>>>>>;
 
-    ghost parts = { λ v. record { 0 = v.0; 1 = v.1; 2 = v.2; 3 = v.3; 4 = record { 0 = v.4; 1 = v.5; 2 = v.6; 3 = v.7; 4 = record { 0 = v.8; 1 = record { 0 = v.9; 1 = record { 0 = v.10; 1 = tt } } } } } };
+    ghost parts = { λ v. record {
+      0 = v.0;
+      1 = v.1;
+      2 = v.2;
+      3 = v.3;
+      4 = record {
+        0 = v.4;
+        1 = v.5;
+        2 = v.6;
+        3 = v.7;
+        4 = record {
+          0 = v.8;
+          1 = record { 0 = v.9; 1 = record { 0 = v.10; 1 = tt } };
+        };
+      };
+    } };
 }
 
 impl<A, B, C, D, E, F, G, H, I, J, K, L> Parted for (A, B, C, D, E, F, G, H, I, J, K, L)
@@ -87,7 +132,13 @@ where
 {
     type Parts = LongRow<A, B, C, D, LongRow<E, F, G, H, LongRow<I, J, K, L, ()>>>;
 
-    ghost parts = { λ v. record { 0 = v.0; 1 = v.1; 2 = v.2; 3 = v.3; 4 = record { 0 = v.4; 1 = v.5; 2 = v.6; 3 = v.7; 4 = record { 0 = v.8; 1 = v.9; 2 = v.10; 3 = v.11; 4 = tt } } } };
+    ghost parts = { λ v. record {
+      0 = v.0;
+      1 = v.1;
+      2 = v.2;
+      3 = v.3;
+      4 = record { 0 = v.4; 1 = v.5; 2 = v.6; 3 = v.7; 4 = record { 0 = v.8; 1 = v.9; 2 = v.10; 3 = v.11; 4 = tt } };
+    } };
 }
 
 impl<A, B, C, D, E, F, G, H, I, J, K, L, M> Parted for (A, B, C, D, E, F, G, H, I, J, K, L, M)
@@ -96,7 +147,26 @@ where
 {
     type Parts = LongRow<A, B, C, D, LongRow<E, F, G, H, LongRow<I, J, K, L, Row<M, ()>>>>;
 
-    ghost parts = { λ v. record { 0 = v.0; 1 = v.1.0; 2 = v.1.1.0; 3 = v.1.1.1.0; 4 = record { 0 = v.1.1.1.1.0; 1 = v.1.1.1.1.1.0; 2 = v.1.1.1.1.1.1.0; 3 = v.1.1.1.1.1.1.1.0; 4 = record { 0 = v.1.1.1.1.1.1.1.1.0; 1 = v.1.1.1.1.1.1.1.1.1.0; 2 = v.1.1.1.1.1.1.1.1.1.1.0; 3 = v.1.1.1.1.1.1.1.1.1.1.1.0; 4 = record { 0 = v.1.1.1.1.1.1.1.1.1.1.1.1.0; 1 = tt } } } } };
+    ghost parts = { λ v. record {
+      0 = v.0;
+      1 = v.1.0;
+      2 = v.1.1.0;
+      3 = v.1.1.1.0;
+      4 = record {
+        0 = v.1.1.1.1.0;
+        1 = v.1.1.1.1.1.0;
+        2 = v.1.1.1.1.1.1.0;
+        3 = v.1.1.1.1.1.1.1.0;
+        4 = record {
+          0 = v.1.1.1.1.1.1.1.1.0;
+          1 = v.1.1.1.1.1.1.1.1.1.0;
+          2 = v.1.1.1.1.1.1.1.1.1.1.0;
+          3
+              = v.1.1.1.1.1.1.1.1.1.1.1.0;
+          4 = record { 0 = v.1.1.1.1.1.1.1.1.1.1.1.1.0; 1 = tt };
+        };
+      };
+    } };
 }
 
 impl<A, B, C, D, E, F, G, H, I, J, K, L, M, N> Parted for (A, B, C, D, E, F, G, H, I, J, K, L, M, N)
@@ -105,7 +175,29 @@ where
 {
     type Parts = LongRow<A, B, C, D, LongRow<E, F, G, H, LongRow<I, J, K, L, Row<M, Row<N, ()>>>>>;
 
-    ghost parts = { λ v. record { 0 = v.0; 1 = v.1.0; 2 = v.1.1.0; 3 = v.1.1.1.0; 4 = record { 0 = v.1.1.1.1.0; 1 = v.1.1.1.1.1.0; 2 = v.1.1.1.1.1.1.0; 3 = v.1.1.1.1.1.1.1.0; 4 = record { 0 = v.1.1.1.1.1.1.1.1.0; 1 = v.1.1.1.1.1.1.1.1.1.0; 2 = v.1.1.1.1.1.1.1.1.1.1.0; 3 = v.1.1.1.1.1.1.1.1.1.1.1.0; 4 = record { 0 = v.1.1.1.1.1.1.1.1.1.1.1.1.0; 1 = record { 0 = v.1.1.1.1.1.1.1.1.1.1.1.1.1.0; 1 = tt } } } } } };
+    ghost parts = { λ v. record {
+      0 = v.0;
+      1 = v.1.0;
+      2 = v.1.1.0;
+      3 = v.1.1.1.0;
+      4 = record {
+        0 = v.1.1.1.1.0;
+        1 = v.1.1.1.1.1.0;
+        2 = v.1.1.1.1.1.1.0;
+        3 = v.1.1.1.1.1.1.1.0;
+        4 = record {
+          0 = v.1.1.1.1.1.1.1.1.0;
+          1 = v.1.1.1.1.1.1.1.1.1.0;
+          2 = v.1.1.1.1.1.1.1.1.1.1.0;
+          3
+              = v.1.1.1.1.1.1.1.1.1.1.1.0;
+          4 = record {
+            0 = v.1.1.1.1.1.1.1.1.1.1.1.1.0;
+            1 = record { 0 = v.1.1.1.1.1.1.1.1.1.1.1.1.1.0; 1 = tt };
+          };
+        };
+      };
+    } };
 }
 
 impl<A, B, C, D, E, F, G, H, I, J, K, L, M, N, O> Parted
@@ -121,7 +213,30 @@ where
         LongRow<E, F, G, H, LongRow<I, J, K, L, Row<M, Row<N, Row<O, ()>>>>>,
     >;
 
-    ghost parts = { λ v. record { 0 = v.0; 1 = v.1.0; 2 = v.1.1.0; 3 = v.1.1.1.0; 4 = record { 0 = v.1.1.1.1.0; 1 = v.1.1.1.1.1.0; 2 = v.1.1.1.1.1.1.0; 3 = v.1.1.1.1.1.1.1.0; 4 = record { 0 = v.1.1.1.1.1.1.1.1.0; 1 = v.1.1.1.1.1.1.1.1.1.0; 2 = v.1.1.1.1.1.1.1.1.1.1.0; 3 = v.1.1.1.1.1.1.1.1.1.1.1.0; 4 = record { 0 = v.1.1.1.1.1.1.1.1.1.1.1.1.0; 1 = record { 0 = v.1.1.1.1.1.1.1.1.1.1.1.1.1.0; 1 = record { 0 = v.1.1.1.1.1.1.1.1.1.1.1.1.1.1.0; 1 = tt } } } } } } };
+    ghost parts = { λ v. record {
+      0 = v.0;
+      1 = v.1.0;
+      2 = v.1.1.0;
+      3 = v.1.1.1.0;
+      4 = record {
+        0 = v.1.1.1.1.0;
+        1 = v.1.1.1.1.1.0;
+        2 = v.1.1.1.1.1.1.0;
+        3 = v.1.1.1.1.1.1.1.0;
+        4 = record {
+          0 = v.1.1.1.1.1.1.1.1.0;
+          1 = v.1.1.1.1.1.1.1.1.1.0;
+          2 = v.1.1.1.1.1.1.1.1.1.1.0;
+          3
+              = v.1.1.1.1.1.1.1.1.1.1.1.0;
+          4 = record {
+            0 = v.1.1.1.1.1.1.1.1.1.1.1.1.0;
+            1 = record
+                { 0 = v.1.1.1.1.1.1.1.1.1.1.1.1.1.0; 1 = record { 0 = v.1.1.1.1.1.1.1.1.1.1.1.1.1.1.0; 1 = tt } };
+          };
+        };
+      };
+    } };
 }
 
 impl<A, B, C, D, E, F, G, H, I, J, K, L, M, N, O, P> Parted
@@ -137,7 +252,33 @@ where
         LongRow<E, F, G, H, LongRow<I, J, K, L, LongRow<M, N, O, P, ()>>>,
     >;
 
-    ghost parts = { λ v. record { 0 = v.0; 1 = v.1.0; 2 = v.1.1.0; 3 = v.1.1.1.0; 4 = record { 0 = v.1.1.1.1.0; 1 = v.1.1.1.1.1.0; 2 = v.1.1.1.1.1.1.0; 3 = v.1.1.1.1.1.1.1.0; 4 = record { 0 = v.1.1.1.1.1.1.1.1.0; 1 = v.1.1.1.1.1.1.1.1.1.0; 2 = v.1.1.1.1.1.1.1.1.1.1.0; 3 = v.1.1.1.1.1.1.1.1.1.1.1.0; 4 = record { 0 = v.1.1.1.1.1.1.1.1.1.1.1.1.0; 1 = v.1.1.1.1.1.1.1.1.1.1.1.1.1.0; 2 = v.1.1.1.1.1.1.1.1.1.1.1.1.1.1.0; 3 = v.1.1.1.1.1.1.1.1.1.1.1.1.1.1.1.0; 4 = tt } } } } };
+    ghost parts = { λ v. record {
+      0 = v.0;
+      1 = v.1.0;
+      2 = v.1.1.0;
+      3 = v.1.1.1.0;
+      4 = record {
+        0 = v.1.1.1.1.0;
+        1 = v.1.1.1.1.1.0;
+        2 = v.1.1.1.1.1.1.0;
+        3 = v.1.1.1.1.1.1.1.0;
+        4 = record {
+          0 = v.1.1.1.1.1.1.1.1.0;
+          1 = v.1.1.1.1.1.1.1.1.1.0;
+          2 = v.1.1.1.1.1.1.1.1.1.1.0;
+          3
+              = v.1.1.1.1.1.1.1.1.1.1.1.0;
+          4 = record {
+            0 = v.1.1.1.1.1.1.1.1.1.1.1.1.0;
+            1 = v.1.1.1.1.1.1.1.1.1.1.1.1.1.0;
+            2
+                = v.1.1.1.1.1.1.1.1.1.1.1.1.1.1.0;
+            3 = v.1.1.1.1.1.1.1.1.1.1.1.1.1.1.1.0;
+            4 = tt;
+          };
+        };
+      };
+    } };
 }
 
 impl<A: Exact> SameParts<Row<A, ()>> for (A,) {

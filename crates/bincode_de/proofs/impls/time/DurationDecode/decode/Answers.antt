@@ -2,7 +2,7 @@ use Rattle.std.specs.Prelude.{◌+◌, ◌/◌, ◌<◌, ◌≤◌, ◌^◌}
 use Rattle.std.proofs.Common.{rules}
 use Rattle.std.proofs.lemmas.Result.{err_from_is_err_and}
 use Rattle.bincode_wire.specs.Words.{second_in_nanos}
-use Rattle.bincode_de.proofs.Spans.{span-decodes, span-overflows, span-stops_first, span-stops_next}
+use Rattle.bincode_de.proofs.DurationAnswers.{span-decodes, span-overflows, span-stops_first, span-stops_next}
 use Rattle.bincode_de.proofs.impls.time.DurationDecode.decode.Goals as goal
 
 pub returns-in_err-secs-clause-err : goal.returns-in_err-secs-clause-err

@@ -1,5 +1,5 @@
 use Rattle.std.proofs.lemmas.Result.{IfErr-weaker, on_ok_weaker}
-use Rattle.bincode_enc.proofs.Held.{held_writes, held_halts}
+use Rattle.bincode_enc.proofs.CellWords.{held_writes, held_halts}
 use Rattle.bincode_enc.proofs.impls.cells.CellEncode.encode.Goals as goal
 
 pub returns-clause-ok : goal.returns-clause-ok

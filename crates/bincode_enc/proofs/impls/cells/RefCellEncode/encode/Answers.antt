@@ -1,7 +1,7 @@
 use Rattle.std.proofs.Common.{refl, inl, inr}
 use Rattle.std.proofs.lemmas.Result.{IfErr-weaker, on_ok_weaker}
 use Rattle.bincode_enc.specs.Encoding.{by_name}
-use Rattle.bincode_enc.proofs.Held.{held_writes, held_halts}
+use Rattle.bincode_enc.proofs.CellWords.{held_writes, held_halts}
 use Rattle.bincode_enc.proofs.impls.cells.RefCellEncode.encode.Goals as goal
 
 pub returns-in_default-clause-err : goal.returns-in_default-clause-err
