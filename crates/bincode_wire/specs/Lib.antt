@@ -23,3 +23,4 @@ pub mod Run
 pub mod RunAllowedLaws
 pub mod RunLaws
 pub mod TupleLaws
+pub mod Rows

@@ -1,4 +1,5 @@
 //! The words of tuples.
+ghost use Rattle.bincode_wire.specs.Rows.{row, four};
 ghost use Rattle.std.proofs.Common.{rules};
 
 use crate::laws::Exact;
@@ -9,82 +10,58 @@ use crate::wire::Wire;
 impl<A: Wire> Parted for (A,) {
     type Parts = Row<A, ()>;
 
-    ghost parts = { λ v. record { 0 = v.0; 1 = tt } };
+    ghost parts = { λ v. row v.0 tt };
 }
 
 impl<A: Wire, B: Wire> Parted for (A, B) {
     type Parts = Row<A, Row<B, ()>>;
 
-    ghost parts = { λ v. record { 0 = v.0; 1 = record { 0 = v.1; 1 = tt } } };
+    ghost parts = { λ v. row v.0 (row v.1 tt) };
 }
 
 impl<A: Wire, B: Wire, C: Wire> Parted for (A, B, C) {
     type Parts = Row<A, Row<B, Row<C, ()>>>;
 
-    ghost parts = { λ v. record { 0 = v.0; 1 = record { 0 = v.1; 1 = record { 0 = v.2; 1 = tt } } } };
+    ghost parts = { λ v. row v.0 (row v.1 (row v.2 tt)) };
 }
 
 impl<A: Wire, B: Wire, C: Wire, D: Wire> Parted for (A, B, C, D) {
     type Parts = LongRow<A, B, C, D, ()>;
 
-    ghost parts = { λ v. record { 0 = v.0; 1 = v.1; 2 = v.2; 3 = v.3; 4 = tt } };
+    ghost parts = { λ v. four v.0 v.1 v.2 v.3 tt };
 }
 
 impl<A: Wire, B: Wire, C: Wire, D: Wire, E: Wire> Parted for (A, B, C, D, E) {
     type Parts = LongRow<A, B, C, D, Row<E, ()>>;
 
-    ghost parts = { λ v. record { 0 = v.0; 1 = v.1; 2 = v.2; 3 = v.3; 4 = record { 0 = v.4; 1 = tt } } };
+    ghost parts = { λ v. four v.0 v.1 v.2 v.3 (row v.4 tt) };
 }
 
 impl<A: Wire, B: Wire, C: Wire, D: Wire, E: Wire, F: Wire> Parted for (A, B, C, D, E, F) {
     type Parts = LongRow<A, B, C, D, Row<E, Row<F, ()>>>;
 
-    ghost parts = { λ v. record {
-      0 = v.0;
-      1 = v.1;
-      2 = v.2;
-      3 = v.3;
-      4 = record { 0 = v.4; 1 = record { 0 = v.5; 1 = tt } };
-    } };
+    ghost parts = { λ v. four v.0 v.1 v.2 v.3 (row v.4 (row v.5 tt)) };
 }
 
 impl<A: Wire, B: Wire, C: Wire, D: Wire, E: Wire, F: Wire, G: Wire> Parted
     for (A, B, C, D, E, F, G) {
     type Parts = LongRow<A, B, C, D, Row<E, Row<F, Row<G, ()>>>>;
 
-    ghost parts = { λ v. record {
-      0 = v.0;
-      1 = v.1;
-      2 = v.2;
-      3 = v.3;
-      4 = record { 0 = v.4; 1 = record { 0 = v.5; 1 = record { 0 = v.6; 1 = tt } } };
-    } };
+    ghost parts = { λ v. four v.0 v.1 v.2 v.3 (row v.4 (row v.5 (row v.6 tt))) };
 }
 
 impl<A: Wire, B: Wire, C: Wire, D: Wire, E: Wire, F: Wire, G: Wire, H: Wire> Parted
     for (A, B, C, D, E, F, G, H) {
     type Parts = LongRow<A, B, C, D, LongRow<E, F, G, H, ()>>;
 
-    ghost parts = { λ v. record {
-      0 = v.0;
-      1 = v.1;
-      2 = v.2;
-      3 = v.3;
-      4 = record { 0 = v.4; 1 = v.5; 2 = v.6; 3 = v.7; 4 = tt };
-    } };
+    ghost parts = { λ v. four v.0 v.1 v.2 v.3 (four v.4 v.5 v.6 v.7 tt) };
 }
 
 impl<A: Wire, B: Wire, C: Wire, D: Wire, E: Wire, F: Wire, G: Wire, H: Wire, I: Wire> Parted
     for (A, B, C, D, E, F, G, H, I) {
     type Parts = LongRow<A, B, C, D, LongRow<E, F, G, H, Row<I, ()>>>;
 
-    ghost parts = { λ v. record {
-      0 = v.0;
-      1 = v.1;
-      2 = v.2;
-      3 = v.3;
-      4 = record { 0 = v.4; 1 = v.5; 2 = v.6; 3 = v.7; 4 = record { 0 = v.8; 1 = tt } };
-    } };
+    ghost parts = { λ v. four v.0 v.1 v.2 v.3 (four v.4 v.5 v.6 v.7 (row v.8 tt)) };
 }
 
 impl<A, B, C, D, E, F, G, H, I, J> Parted for (A, B, C, D, E, F, G, H, I, J)
@@ -93,13 +70,7 @@ where
 {
     type Parts = LongRow<A, B, C, D, LongRow<E, F, G, H, Row<I, Row<J, ()>>>>;
 
-    ghost parts = { λ v. record {
-      0 = v.0;
-      1 = v.1;
-      2 = v.2;
-      3 = v.3;
-      4 = record { 0 = v.4; 1 = v.5; 2 = v.6; 3 = v.7; 4 = record { 0 = v.8; 1 = record { 0 = v.9; 1 = tt } } };
-    } };
+    ghost parts = { λ v. four v.0 v.1 v.2 v.3 (four v.4 v.5 v.6 v.7 (row v.8 (row v.9 tt))) };
 }
 
 impl<A, B, C, D, E, F, G, H, I, J, K> Parted for (A, B, C, D, E, F, G, H, I, J, K)
@@ -108,22 +79,7 @@ where
 {
     type Parts = LongRow<A, B, C, D, LongRow<E, F, G, H, Row<I, Row<J, Row<K, ()>>>>>;
 
-    ghost parts = { λ v. record {
-      0 = v.0;
-      1 = v.1;
-      2 = v.2;
-      3 = v.3;
-      4 = record {
-        0 = v.4;
-        1 = v.5;
-        2 = v.6;
-        3 = v.7;
-        4 = record {
-          0 = v.8;
-          1 = record { 0 = v.9; 1 = record { 0 = v.10; 1 = tt } };
-        };
-      };
-    } };
+    ghost parts = { λ v. four v.0 v.1 v.2 v.3 (four v.4 v.5 v.6 v.7 (row v.8 (row v.9 (row v.10 tt)))) };
 }
 
 impl<A, B, C, D, E, F, G, H, I, J, K, L> Parted for (A, B, C, D, E, F, G, H, I, J, K, L)
@@ -132,13 +88,7 @@ where
 {
     type Parts = LongRow<A, B, C, D, LongRow<E, F, G, H, LongRow<I, J, K, L, ()>>>;
 
-    ghost parts = { λ v. record {
-      0 = v.0;
-      1 = v.1;
-      2 = v.2;
-      3 = v.3;
-      4 = record { 0 = v.4; 1 = v.5; 2 = v.6; 3 = v.7; 4 = record { 0 = v.8; 1 = v.9; 2 = v.10; 3 = v.11; 4 = tt } };
-    } };
+    ghost parts = { λ v. four v.0 v.1 v.2 v.3 (four v.4 v.5 v.6 v.7 (four v.8 v.9 v.10 v.11 tt)) };
 }
 
 impl<A, B, C, D, E, F, G, H, I, J, K, L, M> Parted for (A, B, C, D, E, F, G, H, I, J, K, L, M)
@@ -147,26 +97,10 @@ where
 {
     type Parts = LongRow<A, B, C, D, LongRow<E, F, G, H, LongRow<I, J, K, L, Row<M, ()>>>>;
 
-    ghost parts = { λ v. record {
-      0 = v.0;
-      1 = v.1.0;
-      2 = v.1.1.0;
-      3 = v.1.1.1.0;
-      4 = record {
-        0 = v.1.1.1.1.0;
-        1 = v.1.1.1.1.1.0;
-        2 = v.1.1.1.1.1.1.0;
-        3 = v.1.1.1.1.1.1.1.0;
-        4 = record {
-          0 = v.1.1.1.1.1.1.1.1.0;
-          1 = v.1.1.1.1.1.1.1.1.1.0;
-          2 = v.1.1.1.1.1.1.1.1.1.1.0;
-          3
-              = v.1.1.1.1.1.1.1.1.1.1.1.0;
-          4 = record { 0 = v.1.1.1.1.1.1.1.1.1.1.1.1.0; 1 = tt };
-        };
-      };
-    } };
+    ghost parts = { λ v. four v.0 v.1.0 v.1.1.0 v.1.1.1.0 (
+        four v.1.1.1.1.0 v.1.1.1.1.1.0 v.1.1.1.1.1.1.0 v.1.1.1.1.1.1.1.0 (
+        four v.1.1.1.1.1.1.1.1.0 v.1.1.1.1.1.1.1.1.1.0 v.1.1.1.1.1.1.1.1.1.1.0 v.1.1.1.1.1.1.1.1.1.1.1.0 (
+        row v.1.1.1.1.1.1.1.1.1.1.1.1.0 tt))) };
 }
 
 impl<A, B, C, D, E, F, G, H, I, J, K, L, M, N> Parted for (A, B, C, D, E, F, G, H, I, J, K, L, M, N)
@@ -175,29 +109,10 @@ where
 {
     type Parts = LongRow<A, B, C, D, LongRow<E, F, G, H, LongRow<I, J, K, L, Row<M, Row<N, ()>>>>>;
 
-    ghost parts = { λ v. record {
-      0 = v.0;
-      1 = v.1.0;
-      2 = v.1.1.0;
-      3 = v.1.1.1.0;
-      4 = record {
-        0 = v.1.1.1.1.0;
-        1 = v.1.1.1.1.1.0;
-        2 = v.1.1.1.1.1.1.0;
-        3 = v.1.1.1.1.1.1.1.0;
-        4 = record {
-          0 = v.1.1.1.1.1.1.1.1.0;
-          1 = v.1.1.1.1.1.1.1.1.1.0;
-          2 = v.1.1.1.1.1.1.1.1.1.1.0;
-          3
-              = v.1.1.1.1.1.1.1.1.1.1.1.0;
-          4 = record {
-            0 = v.1.1.1.1.1.1.1.1.1.1.1.1.0;
-            1 = record { 0 = v.1.1.1.1.1.1.1.1.1.1.1.1.1.0; 1 = tt };
-          };
-        };
-      };
-    } };
+    ghost parts = { λ v. four v.0 v.1.0 v.1.1.0 v.1.1.1.0 (
+        four v.1.1.1.1.0 v.1.1.1.1.1.0 v.1.1.1.1.1.1.0 v.1.1.1.1.1.1.1.0 (
+        four v.1.1.1.1.1.1.1.1.0 v.1.1.1.1.1.1.1.1.1.0 v.1.1.1.1.1.1.1.1.1.1.0 v.1.1.1.1.1.1.1.1.1.1.1.0 (
+        row v.1.1.1.1.1.1.1.1.1.1.1.1.0 (row v.1.1.1.1.1.1.1.1.1.1.1.1.1.0 tt)))) };
 }
 
 impl<A, B, C, D, E, F, G, H, I, J, K, L, M, N, O> Parted
@@ -213,30 +128,11 @@ where
         LongRow<E, F, G, H, LongRow<I, J, K, L, Row<M, Row<N, Row<O, ()>>>>>,
     >;
 
-    ghost parts = { λ v. record {
-      0 = v.0;
-      1 = v.1.0;
-      2 = v.1.1.0;
-      3 = v.1.1.1.0;
-      4 = record {
-        0 = v.1.1.1.1.0;
-        1 = v.1.1.1.1.1.0;
-        2 = v.1.1.1.1.1.1.0;
-        3 = v.1.1.1.1.1.1.1.0;
-        4 = record {
-          0 = v.1.1.1.1.1.1.1.1.0;
-          1 = v.1.1.1.1.1.1.1.1.1.0;
-          2 = v.1.1.1.1.1.1.1.1.1.1.0;
-          3
-              = v.1.1.1.1.1.1.1.1.1.1.1.0;
-          4 = record {
-            0 = v.1.1.1.1.1.1.1.1.1.1.1.1.0;
-            1 = record
-                { 0 = v.1.1.1.1.1.1.1.1.1.1.1.1.1.0; 1 = record { 0 = v.1.1.1.1.1.1.1.1.1.1.1.1.1.1.0; 1 = tt } };
-          };
-        };
-      };
-    } };
+    ghost parts = { λ v. four v.0 v.1.0 v.1.1.0 v.1.1.1.0 (
+        four v.1.1.1.1.0 v.1.1.1.1.1.0 v.1.1.1.1.1.1.0 v.1.1.1.1.1.1.1.0 (
+        four v.1.1.1.1.1.1.1.1.0 v.1.1.1.1.1.1.1.1.1.0 v.1.1.1.1.1.1.1.1.1.1.0 v.1.1.1.1.1.1.1.1.1.1.1.0 (
+        row v.1.1.1.1.1.1.1.1.1.1.1.1.0 (row v.1.1.1.1.1.1.1.1.1.1.1.1.1.0 (
+        row v.1.1.1.1.1.1.1.1.1.1.1.1.1.1.0 tt))))) };
 }
 
 impl<A, B, C, D, E, F, G, H, I, J, K, L, M, N, O, P> Parted
@@ -252,33 +148,11 @@ where
         LongRow<E, F, G, H, LongRow<I, J, K, L, LongRow<M, N, O, P, ()>>>,
     >;
 
-    ghost parts = { λ v. record {
-      0 = v.0;
-      1 = v.1.0;
-      2 = v.1.1.0;
-      3 = v.1.1.1.0;
-      4 = record {
-        0 = v.1.1.1.1.0;
-        1 = v.1.1.1.1.1.0;
-        2 = v.1.1.1.1.1.1.0;
-        3 = v.1.1.1.1.1.1.1.0;
-        4 = record {
-          0 = v.1.1.1.1.1.1.1.1.0;
-          1 = v.1.1.1.1.1.1.1.1.1.0;
-          2 = v.1.1.1.1.1.1.1.1.1.1.0;
-          3
-              = v.1.1.1.1.1.1.1.1.1.1.1.0;
-          4 = record {
-            0 = v.1.1.1.1.1.1.1.1.1.1.1.1.0;
-            1 = v.1.1.1.1.1.1.1.1.1.1.1.1.1.0;
-            2
-                = v.1.1.1.1.1.1.1.1.1.1.1.1.1.1.0;
-            3 = v.1.1.1.1.1.1.1.1.1.1.1.1.1.1.1.0;
-            4 = tt;
-          };
-        };
-      };
-    } };
+    ghost parts = { λ v. four v.0 v.1.0 v.1.1.0 v.1.1.1.0 (
+        four v.1.1.1.1.0 v.1.1.1.1.1.0 v.1.1.1.1.1.1.0 v.1.1.1.1.1.1.1.0 (
+        four v.1.1.1.1.1.1.1.1.0 v.1.1.1.1.1.1.1.1.1.0 v.1.1.1.1.1.1.1.1.1.1.0 v.1.1.1.1.1.1.1.1.1.1.1.0 (
+        four v.1.1.1.1.1.1.1.1.1.1.1.1.0 v.1.1.1.1.1.1.1.1.1.1.1.1.1.0 v.1.1.1.1.1.1.1.1.1.1.1.1.1.1.0
+        v.1.1.1.1.1.1.1.1.1.1.1.1.1.1.1.0 tt))) };
 }
 
 impl<A: Exact> SameParts<Row<A, ()>> for (A,) {
