@@ -4,8 +4,9 @@ use crate::checks::keeps_under;
 use bincode::config::{self, Config, Endianness, IntEncoding};
 use bincode::decode_from_slice;
 use bincode::error::DecodeError;
-use std::alloc::Global;
+use std::alloc::{AllocError, Global};
 use std::process::Abort;
+use std::test::Fail;
 
 /// The configuration has these parts, and 300 is written as the word.
 fn has<C: Config>(
@@ -71,4 +72,16 @@ fn limits_what_is_claimed(rt: HostRuntime) {
     assert!(rt; matches!(reads_five(alloc, three), Err(DecodeError::LimitExceeded)));
     assert!(rt; matches!(reads_five(alloc, three.with_limit::<4>()), Ok((5, 1))));
     assert!(rt; matches!(reads_five(alloc, three.with_no_limit()), Ok((5, 1))));
+}
+
+#[test]
+fn prints_its_parts(rt: HostRuntime) -> Result<(), Fail> {
+    let shown: Result<String, AllocError> = format!(in rt.alloc();
+        "{:?}",
+        config::legacy().with_limit::<7>()
+    );
+    assert!(rt;
+        shown?.as_str() == "Configuration { endian: Little, int_encoding: Fixed, limit: Some(7) }"
+    );
+    Ok(())
 }

@@ -107,6 +107,32 @@ fn prints_a_name(rt: HostRuntime) -> Result<(), Fail> {
     Ok(())
 }
 
+/// The integer types, as they are printed.
+const NAMES: [(IntegerType, &str); 13] = [
+    (IntegerType::U8, "U8"),
+    (IntegerType::U16, "U16"),
+    (IntegerType::U32, "U32"),
+    (IntegerType::U64, "U64"),
+    (IntegerType::U128, "U128"),
+    (IntegerType::Usize, "Usize"),
+    (IntegerType::I8, "I8"),
+    (IntegerType::I16, "I16"),
+    (IntegerType::I32, "I32"),
+    (IntegerType::I64, "I64"),
+    (IntegerType::I128, "I128"),
+    (IntegerType::Isize, "Isize"),
+    (IntegerType::Reserved, "Reserved"),
+];
+
+#[test]
+fn prints_integer_types(rt: HostRuntime) -> Result<(), Fail> {
+    for (kind, name) in NAMES {
+        let shown: Result<String, AllocError> = format!(in rt.alloc(); "{kind:?}");
+        assert!(rt; shown?.as_str() == name, "{name}");
+    }
+    Ok(())
+}
+
 #[test]
 fn prints_errors(rt: HostRuntime) -> Result<(), Fail> {
     let alloc = rt.alloc();
@@ -115,7 +141,11 @@ fn prints_errors(rt: HostRuntime) -> Result<(), Fail> {
         found: IntegerType::U64,
     };
     let shown: Result<String, AllocError> = format!(in alloc; "{fault} {fault:?}");
-    assert!(rt; shown?.as_str().contains("InvalidIntegerType"));
+    assert!(rt;
+        shown?
+            .as_str()
+            .contains("InvalidIntegerType { expected: U32, found: U64 }")
+    );
     let refusal = EncodeError::UnexpectedEnd;
     let shown: Result<String, AllocError> = format!(in alloc; "{refusal} {refusal:?}");
     assert!(rt; shown?.as_str().contains("UnexpectedEnd"));
