@@ -1,5 +1,6 @@
 //! Readers of the streams of `std::io`.
-ghost use Rattle.std.specs.Prelude.{◌≡◌, ◌<◌, ◌≤◌, List, ℕ, [], ◌∷◌, length, take, IsSome, OnOk, IfOk, IfErr, OnErr};
+ghost use Rattle.std.specs.Prelude.{◌≡◌, ◌<◌, ◌≤◌, List, ℕ, [], ◌∷◌, length, take, IsSome};
+ghost use Rattle.std.specs.Prelude.{OnOk, IfOk, IfErr, OnErr};
 ghost use Rattle.std.proofs.Common.{zero-le, inr};
 ghost use Rattle.std.specs.Io.{ReadsAtMost};
 ghost use Rattle.std.specs.Io.KnownBytes.{Consumes, IsAtEnd, Keeps};

@@ -1,5 +1,6 @@
 //! Readers.
-ghost use Rattle.std.specs.Prelude.{◌≡◌, ◌-◌, ◌<◌, ◌≤◌, ◌⊎◌, ◌↔◌, ℕ, List, [], ◌∷◌, ◌++◌, length, drop, take, ⊤, OnOk};
+ghost use Rattle.std.specs.Prelude.{◌≡◌, ◌-◌, ◌<◌, ◌≤◌, ◌⊎◌, ◌↔◌, ℕ, List, []};
+ghost use Rattle.std.specs.Prelude.{◌∷◌, ◌++◌, length, drop, take, ⊤, OnOk};
 ghost use Rattle.std.specs.Prelude.{OnErr, IfErr, IfSome, IsSome, IsErr, IfOk};
 ghost use Rattle.std.proofs.Common.{le_refl, inl};
 ghost use Rattle.std.specs.Borrow.{GName, sem};
@@ -40,14 +41,16 @@ pub trait Reader: Drop {
         ensures next { told self.old → OnOk result (rest self.old ≡ bytes.new ++ rest self.new) }
         ensures why { told self.old → IfErr result (λ e. FallsShort ended (rest self.old) (length bytes.old) e
             ⊎ (device.uncounted e ⊎ (device.counted e × Rose (failures self.old) (failures self.new)))) }
-        ensures left { told self.old → IfErr result (λ e. device.uncounted e ⊎ Takes (rest self.old) (rest self.new)) }
+        ensures left { told self.old → IfErr result (λ e. device.uncounted e
+            ⊎ Takes (rest self.old) (rest self.new)) }
         ensures count { failures self.old ≤ failures self.new }
         ensures told { told self.old → told self.new }
         ensures place { place self.new ≡ place self.old };
 
     /// The next `n` bytes. Of at least one it answers exactly where the reader shows so many. Takes none.
     fn peek_read(&mut self, n: usize) -> Option<&[u8]>
-        ensures next { IfSome result (λ s. (length s.now ≡ n) × (told self.old → s.now ≡ take n (rest self.old))) }
+        ensures next { IfSome result (λ s. (length s.now ≡ n)
+            × (told self.old → s.now ≡ take n (rest self.old))) }
         ensures shows { 0 < n → IsSome result ↔ (n ≤ shown self.old) }
         ensures* stays { sem 𝓛 (Rests Self.row self.entry (λ after.
             Unmoved (told self.old) (told after) (rest self.old) (rest after) (failures self.old) (failures after)

@@ -42,7 +42,8 @@ pub fn decode_rest_of_char<D: Decoder>(
 ) -> Result<char, DecodeError>
     requires { char_width first ≡ Some width }
     ensures ok { D.told decoder.old → IfOk result (λ v. answer D.C.bound (charged width (rest_of_char first width))
-        (D.rest decoder.old) (D.charge decoder.old) ≡ Gave (Character v) (D.rest decoder.new) (D.charge decoder.new)) }
+        (D.rest decoder.old) (D.charge decoder.old)
+        ≡ Gave (Character v) (D.rest decoder.new) (D.charge decoder.new)) }
     ensures err { D.told decoder.old → IfErr result (Stops D.R.ended D.R.device ⊥
         (answer D.C.bound (charged width (rest_of_char first width)) (D.rest decoder.old) (D.charge decoder.old))
         (D.failures decoder.old) (D.failures decoder.new) (D.rest decoder.old) (D.rest decoder.new)) }

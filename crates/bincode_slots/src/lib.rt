@@ -1,7 +1,8 @@
 //! Arrays made item by item, without memory: slots that are filled in turn and then unwrapped.
 #![tactic(auto)]
 
-ghost use Rattle.std.specs.Prelude.{◌≡◌, ℕ, ◌<◌, IfSome, IsSome, Option, Some, None, List, length, map, slice_index_or};
+ghost use Rattle.std.specs.Prelude.{◌≡◌, ℕ, ◌<◌, IfSome, IsSome, Option, Some, None, List, length, map};
+ghost use Rattle.std.specs.Prelude.{slice_index_or};
 ghost use Rattle.std.specs.Prelude.{slice_set};
 ghost use Rattle.std.specs.Bool.{MatchBool};
 ghost use Rattle.bincode_slots.specs.Slots.{SlotsFit, Collects, Fills};

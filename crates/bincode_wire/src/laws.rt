@@ -30,10 +30,12 @@ pub trait Plain: Writable {
 /// A plain type whose words keep all of a value: two values with one meaning are equal, and decoding gives an equal
 /// one.
 pub trait Exact: Plain + PartialEq {
-    ghost one_value: { (v w : Self) (m : Meaning) → Self.valid v → Self.valid w → Self.means v m → Self.means w m
+    ghost one_value: { (v w : Self) (m : Meaning) → Self.valid v → Self.valid w → Self.means v m
+        → Self.means w m
         → Self.eq v w ≡ true };
 
-    ghost comes_back: { (v w : Self) (m : Meaning) → Self.valid v → Self.means v m → Self.given m w → Self.eq v w
+    ghost comes_back: { (v w : Self) (m : Meaning) → Self.valid v → Self.means v m → Self.given m w
+        → Self.eq v w
         ≡ true };
 }
 

@@ -45,7 +45,8 @@ pub trait Wire {
     ghost balanced: { (s : Setting) → Balanced (format s) };
 
     /// Each valid value that can be written allows a word of bytes.
-    ghost has_word: { (s : Setting) (v : Self) → valid v → writable s v → SomeWord (AllowedWord (means v) (format s)) };
+    ghost has_word: { (s : Setting) (v : Self) → valid v → writable s v
+        → SomeWord (AllowedWord (means v) (format s)) };
 
     /// No error that a writer has is named.
     ghost names_own: { (e : EncodeError) → names e → MayName e };

@@ -18,7 +18,8 @@ pub fn varint_encode_u16<W: Writer>(
     val: u16,
 ) -> Result<(), EncodeError>
     ensures ok { OnOk result (W.adds writer.old (shortest endian val) writer.new) }
-    ensures err { IfErr result (λ e. StopsAmong W.adds W.refuses (shortest_pieces endian val) writer.old e writer.new) }
+    ensures err { IfErr result (λ e. StopsAmong W.adds W.refuses (shortest_pieces endian val)
+        writer.old e writer.new) }
     ensures place { W.place writer.new ≡ W.place writer.old }
 {
     if val <= u16::from(SINGLE_BYTE_MAX) {
@@ -36,7 +37,8 @@ pub fn varint_encode_u32<W: Writer>(
     val: u32,
 ) -> Result<(), EncodeError>
     ensures ok { OnOk result (W.adds writer.old (shortest endian val) writer.new) }
-    ensures err { IfErr result (λ e. StopsAmong W.adds W.refuses (shortest_pieces endian val) writer.old e writer.new) }
+    ensures err { IfErr result (λ e. StopsAmong W.adds W.refuses (shortest_pieces endian val)
+        writer.old e writer.new) }
     ensures place { W.place writer.new ≡ W.place writer.old }
 {
     if val <= u32::from(SINGLE_BYTE_MAX) {
@@ -56,7 +58,8 @@ pub fn varint_encode_u64<W: Writer>(
     val: u64,
 ) -> Result<(), EncodeError>
     ensures ok { OnOk result (W.adds writer.old (shortest endian val) writer.new) }
-    ensures err { IfErr result (λ e. StopsAmong W.adds W.refuses (shortest_pieces endian val) writer.old e writer.new) }
+    ensures err { IfErr result (λ e. StopsAmong W.adds W.refuses (shortest_pieces endian val)
+        writer.old e writer.new) }
     ensures place { W.place writer.new ≡ W.place writer.old }
 {
     if val <= u64::from(SINGLE_BYTE_MAX) {
@@ -78,7 +81,8 @@ pub fn varint_encode_u128<W: Writer>(
     val: u128,
 ) -> Result<(), EncodeError>
     ensures ok { OnOk result (W.adds writer.old (shortest endian val) writer.new) }
-    ensures err { IfErr result (λ e. StopsAmong W.adds W.refuses (shortest_pieces endian val) writer.old e writer.new) }
+    ensures err { IfErr result (λ e. StopsAmong W.adds W.refuses (shortest_pieces endian val)
+        writer.old e writer.new) }
     ensures place { W.place writer.new ≡ W.place writer.old }
 {
     if val <= u128::from(SINGLE_BYTE_MAX) {
@@ -101,7 +105,8 @@ pub fn varint_encode_usize<W: Writer>(
     val: usize,
 ) -> Result<(), EncodeError>
     ensures ok { OnOk result (W.adds writer.old (shortest endian val) writer.new) }
-    ensures err { IfErr result (λ e. StopsAmong W.adds W.refuses (shortest_pieces endian val) writer.old e writer.new) }
+    ensures err { IfErr result (λ e. StopsAmong W.adds W.refuses (shortest_pieces endian val)
+        writer.old e writer.new) }
     ensures place { W.place writer.new ≡ W.place writer.old }
 {
     varint_encode_u64(writer, endian, val as u64)

@@ -70,7 +70,8 @@ impl<T: Exact, const N: usize> Exact for [T; N] {
     ghost one_value = { λ v w m h k. run_same T.means T.means T.valid T.valid T.eq T.one_value v w h.1 k.1 m };
 
     ghost comes_back = { λ v w m h.
-        run_same T.means (λ x n. T.given n x) T.valid (λ x. Unit {0}) T.eq (λ x y n p q. T.comes_back x y n p) v w h.1
+        run_same T.means (λ x n. T.given n x) T.valid (λ x. Unit {0}) T.eq
+        (λ x y n p q. T.comes_back x y n p) v w h.1
         (λ k d lt. tt) m };
 }
 
