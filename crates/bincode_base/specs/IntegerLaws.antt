@@ -1,19 +1,16 @@
--- Digits give their number back, and the formats of numbers keep the laws.
-use Rattle.std.specs.Prelude.{◌≡◌, ℕ, zero, suc, ◌+◌, ◌*◌, ◌-◌, ◌/◌, ◌%◌, ◌^◌, ◌<◌, ◌≤◌, ◌⊎◌, Bool, true, false, ◌==◌, if◌then◌else◌, ◌&&◌, nat_lt, nat_le, ℤ, pos, negsuc, FitsSigned, List, [], ◌∷◌, ◌++◌, length, reverse, refl}
+-- The formats of numbers keep the laws.
+use Rattle.std.specs.Prelude.{◌≡◌, ℕ, suc, ◌+◌, ◌-◌, ◌^◌, ◌<◌, ◌≤◌, ◌⊎◌, Bool, true, false, ◌==◌, if◌then◌else◌, ◌&&◌, nat_lt, nat_le, ℤ, pos, negsuc, FitsSigned, List, [], ◌∷◌, ◌++◌, length, refl}
 use Rattle.std.specs.List.{All}
 use Rattle.std.specs.Int.{Width, w8, w16, w32, w64, w128}
 use Rattle.std.proofs.Common.{sym, ◌∙◌, ap, subst, inl, inr, arith, append-nil}
-use Rattle.std.proofs.Math.Nat.{pow-suc, mod-add-div, div-lt_iff_lt-mul}
 use Rattle.std.proofs.lemmas.Bool.{le-leb, lt-leb, lt-ltb, le-ltb, cases_lt, leb-true}
-use Rattle.std.proofs.lemmas.List.{reverse-reverse, length-reverse, get_or-reverse}
-use Rattle.std.proofs.lemmas.List.Elements.{All-nil, All-cons, All-head, All-tail}
+use Rattle.std.proofs.lemmas.List.Elements.{All-nil, All-cons, All-tail}
 use Rattle.bincode_base.specs.declared.config.Endianness.{Endianness}
-use Rattle.bincode_base.specs.declared.config.Endianness.TheVariants.{Little, Big}
 use Rattle.bincode_base.specs.declared.config.IntEncoding.{IntEncoding}
 use Rattle.bincode_base.specs.declared.config.IntEncoding.TheVariants.{Fixed, Variable}
 use Rattle.bincode_base.specs.declared.error.IntegerType.{IntegerType}
 use Rattle.bincode_base.specs.Setting.{Setting}
-use Rattle.bincode_base.specs.Number.{low_first_number, low_first_digits, number_of, digits_of, zigzag, unzigzag, FitsIn, two_complement, from_two_complement}
+use Rattle.bincode_base.specs.Number.{number_of, digits_of, FitsIn, two_complement, from_two_complement}
 use Rattle.bincode_base.specs.Fault.{Fault, IsEnd, InvalidInteger}
 use Rattle.bincode_base.specs.Charge.{Step}
 use Rattle.bincode_base.specs.Format.{Format, done, refused, raw, step, ◌>>=◌, written_as, map_format, charged}
@@ -22,55 +19,8 @@ use Rattle.bincode_base.specs.FormatLaws.{done-lawful, refused-lawful, raw-lawfu
 use Rattle.bincode_base.specs.Balance.{done-holds, refused-holds, raw-holds, turn-holds, rewritten-holds, map-balanced, charged-balanced}
 use Rattle.bincode_base.specs.Device.{joined}
 use Rattle.bincode_base.specs.Integers.{digits, first_of, byte, FirstByte, Itself, Before, TooWide, first_byte, behind, unsigned_tag, signed_tag, shortest, shortest_pieces, varint, number_by, unsigned, integer_by, number_for, signed, unsigned_byte, signed_byte, spelling}
-
--- digits and numbers
-
-length-low_first_digits : (width n : ℕ) → length (low_first_digits width n) ≡ width
-length-low_first_digits zero n = refl
-length-low_first_digits (suc width) n = ap suc (length-low_first_digits width (n / 256))
-
-fewer : (width n : ℕ) → n < 256 ^ suc width → n / 256 < 256 ^ width
-fewer width n h = (div-lt_iff_lt-mul {k = 256} (omega arith)).1 (rw pow-suc at h)
-
-low_first_number-digits : (width n : ℕ) → n < 256 ^ width → low_first_number (low_first_digits width n) ≡ n
-low_first_number-digits zero n h = omega (arith, h)
-low_first_number-digits (suc width) n h = rw (low_first_number-digits width (n / 256) (fewer width n h)) (mod-add-div n 256)
-
-low_first_number_below : (bytes : List ℕ) → All (λ b. b < 256) bytes → low_first_number bytes < 256 ^ length bytes
-low_first_number_below [] h = omega arith
-low_first_number_below (b ∷ bytes) h =
-    let l : b < 256 = All-head (λ b. b < 256) b bytes h in
-    let p : low_first_number bytes < 256 ^ length bytes = low_first_number_below bytes (All-tail (λ b. b < 256) b bytes h) in
-    rw pow-suc (omega (arith, l, p))
-
-All-reverse : (P : ℕ → Type 0) (xs : List ℕ) → All P xs → All P (reverse xs)
-All-reverse P xs h = λ k d l. let m : k < length xs = omega (arith, l, length-reverse xs) in rw (get_or-reverse xs k d m) (h (length xs - 1 - k) d (omega (arith, m)))
-
--- a number has as many digits as are asked for
-pub length-digits_of : (order : Endianness) (width n : ℕ) → length (digits_of order width n) ≡ width
-length-digits_of Little width n = length-low_first_digits width n
-length-digits_of Big width n = length-reverse (low_first_digits width n) ∙ length-low_first_digits width n
-
--- digits are bytes
-low_first_digits-are_bytes : (width n : ℕ) → All (λ b. b < 256) (low_first_digits width n)
-low_first_digits-are_bytes zero n = All-nil (λ b. b < 256)
-low_first_digits-are_bytes (suc width) n = All-cons (λ b. b < 256) (n % 256) (low_first_digits width (n / 256)) (omega arith) (low_first_digits-are_bytes width (n / 256))
-
-pub digits_of-are_bytes : (order : Endianness) (width n : ℕ) → All (λ b. b < 256) (digits_of order width n)
-digits_of-are_bytes Little width n = low_first_digits-are_bytes width n
-digits_of-are_bytes Big width n = All-reverse (λ b. b < 256) (low_first_digits width n) (low_first_digits-are_bytes width n)
-
--- a number of `width` bytes is the number of its digits
-pub number_of-digits_of : (order : Endianness) (width n : ℕ) → n < 256 ^ width → number_of order (digits_of order width n) ≡ n
-number_of-digits_of Little width n h = low_first_number-digits width n h
-number_of-digits_of Big width n h = rw (reverse-reverse (low_first_digits width n)) (low_first_number-digits width n h)
-
--- bytes are a number of so many bytes
-pub number_of_below : (order : Endianness) (width : ℕ) (bytes : List ℕ) → length bytes ≡ width → All (λ b. b < 256) bytes → number_of order bytes < 256 ^ width
-number_of_below Little width bytes e h = rw (← e) (low_first_number_below bytes h)
-number_of_below Big width bytes e h =
-    let l : length (reverse bytes) ≡ width = length-reverse bytes ∙ e in
-    rw (← l) (low_first_number_below (reverse bytes) (All-reverse (λ b. b < 256) bytes h))
+use Rattle.bincode_base.specs.DigitLaws.{length-digits_of, digits_of-are_bytes, number_of-digits_of, number_of_below}
+use Rattle.bincode_base.specs.SignedLaws.{unzigzag-zigzag, from_two_complement-two_complement, integer_by-number_for, number_for-integer_by, number_for-fits, integer_by-fits}
 
 -- the width of a number of more than one byte
 pub data IsWidth (width : ℕ) : Type 0 where
@@ -447,105 +397,6 @@ unsigned_byte-balanced = charged-balanced 1 byte byte-balanced
 pub signed_byte-balanced : Balanced signed_byte
 unfolding signed_byte
 signed_byte-balanced = charged-balanced 1 (map_format (from_two_complement 1) byte) (map-balanced (from_two_complement 1) byte byte-balanced)
-
--- signed numbers
-
-half_of : (width : ℕ) → 0 < width → (half : ℕ) × (256 ^ width ≡ 2 * half)
-half_of zero h = absurd (omega (arith, h))
-half_of (suc width) h = (256 ^ width * 128, rw pow-suc (omega arith))
-
--- an integer is that of its number
-pub zigzag-unzigzag : (z : ℤ) → unzigzag (zigzag z) ≡ z
-zigzag-unzigzag (pos n) =
-    let a : nat_lt 0 (2 * n % 2) ≡ false = le-ltb 0 (2 * n % 2) (omega arith) in
-    let b : 2 * n / 2 ≡ n = omega arith in
-    rw (a, b) refl
-zigzag-unzigzag (negsuc n) =
-    let a : nat_lt 0 ((2 * n + 1) % 2) ≡ true = lt-ltb 0 ((2 * n + 1) % 2) (omega arith) in
-    let b : (2 * n + 1) / 2 ≡ n = omega arith in
-    rw (a, b) refl
-
-unzigzag_odd : (n : ℕ) → 0 < n % 2 → unzigzag n ≡ negsuc (n / 2)
-unzigzag_odd n h = rw (lt-ltb 0 (n % 2) h) refl
-
-unzigzag_even : (n : ℕ) → n % 2 ≤ 0 → unzigzag n ≡ pos (n / 2)
-unzigzag_even n h = rw (le-ltb 0 (n % 2) h) refl
-
-zigzag_by : (n : ℕ) → (0 < n % 2) ⊎ (n % 2 ≤ 0) → zigzag (unzigzag n) ≡ n
-zigzag_by n (inl h) = ap zigzag (unzigzag_odd n h) ∙ omega (arith, h)
-zigzag_by n (inr h) = ap zigzag (unzigzag_even n h) ∙ omega (arith, h)
-
--- a number is that of its integer
-pub unzigzag-zigzag : (n : ℕ) → zigzag (unzigzag n) ≡ n
-unzigzag-zigzag n = zigzag_by n (cases_lt 0 (n % 2))
-
--- an integer of so many bytes has a number of so many
-pub zigzag-fits : (width : ℕ) (z : ℤ) → 0 < width → FitsIn width z → zigzag z < 256 ^ width
-zigzag-fits width (pos n) w h = h
-zigzag-fits width (negsuc n) w h = let p = half_of width w in omega (arith, p.1, h)
-
-unzigzag_fits_by : (width n : ℕ) → n < 256 ^ width → (0 < n % 2) ⊎ (n % 2 ≤ 0) → FitsIn width (unzigzag n)
-unzigzag_fits_by width n h (inl k) = rw (unzigzag_odd n k) (let l : 2 * (n / 2) < 256 ^ width = omega (arith, h) in l)
-unzigzag_fits_by width n h (inr k) = rw (unzigzag_even n k) (let l : 2 * (n / 2) < 256 ^ width = omega (arith, h) in l)
-
--- and the other way round
-pub unzigzag-fits : (width n : ℕ) → n < 256 ^ width → FitsIn width (unzigzag n)
-unzigzag-fits width n h = unzigzag_fits_by width n h (cases_lt 0 (n % 2))
-
-low_half : (width n : ℕ) → 2 * n < 256 ^ width → from_two_complement width n ≡ pos n
-low_half width n h = rw (lt-ltb (2 * n) (256 ^ width) h) refl
-
-high_half : (width n : ℕ) → 256 ^ width ≤ 2 * n → from_two_complement width n ≡ negsuc (256 ^ width - n - 1)
-high_half width n h = rw (le-ltb (2 * n) (256 ^ width) h) refl
-
--- an integer is that of its two's complement
-pub from_two_complement-two_complement : (width : ℕ) (z : ℤ) → 0 < width → FitsIn width z → from_two_complement width (two_complement width z) ≡ z
-from_two_complement-two_complement width (pos n) w h = low_half width n h
-from_two_complement-two_complement width (negsuc n) w h =
-    let p = half_of width w in
-    let l : 256 ^ width ≤ 2 * (256 ^ width - (n + 1)) = omega (arith, p.1, h) in
-    let e : 256 ^ width - (256 ^ width - (n + 1)) - 1 ≡ n = omega (arith, p.1, h) in
-    high_half width (256 ^ width - (n + 1)) l ∙ ap negsuc e
-
--- a two's complement has so many bytes
-pub two_complement-fits : (width : ℕ) (z : ℤ) → FitsIn width z → two_complement width z < 256 ^ width
-two_complement-fits width (pos n) h = omega (arith, h)
-two_complement-fits width (negsuc n) h = omega (arith, h)
-
-two_complement_by : (width n : ℕ) → n < 256 ^ width → (2 * n < 256 ^ width) ⊎ (256 ^ width ≤ 2 * n) → (two_complement width (from_two_complement width n) ≡ n) × FitsIn width (from_two_complement width n)
-two_complement_by width n h (inl k) = (ap (two_complement width) (low_half width n k), rw (low_half width n k) k)
-two_complement_by width n h (inr k) =
-    let l : 2 * (256 ^ width - n - 1) < 256 ^ width = omega (arith, h, k) in
-    let e : 256 ^ width - (256 ^ width - n - 1 + 1) ≡ n = omega (arith, h, k) in
-    (ap (two_complement width) (high_half width n k) ∙ e, rw (high_half width n k) l)
-
--- a number of so many bytes is the two's complement of its integer
-pub two_complement-from_two_complement : (width n : ℕ) → n < 256 ^ width → two_complement width (from_two_complement width n) ≡ n
-two_complement-from_two_complement width n h = (two_complement_by width n h (cases_lt (2 * n) (256 ^ width))).0
-
--- and the integer has so many bytes
-pub from_two_complement-fits : (width n : ℕ) → n < 256 ^ width → FitsIn width (from_two_complement width n)
-from_two_complement-fits width n h = (two_complement_by width n h (cases_lt (2 * n) (256 ^ width))).1
-
--- an integer is that of its number, in either encoding
-pub integer_by-number_for : (width : ℕ) (encoding : IntEncoding) (z : ℤ) → 0 < width → FitsIn width z → integer_by width encoding (number_for width encoding z) ≡ z
-integer_by-number_for width Fixed z w h = from_two_complement-two_complement width z w h
-integer_by-number_for width Variable z w h = zigzag-unzigzag z
-
--- a number is that of its integer, in either encoding
-pub number_for-integer_by : (width : ℕ) (encoding : IntEncoding) (n : ℕ) → n < 256 ^ width → number_for width encoding (integer_by width encoding n) ≡ n
-number_for-integer_by width Fixed n h = two_complement-from_two_complement width n h
-number_for-integer_by width Variable n h = unzigzag-zigzag n
-
--- an integer of so many bytes has a number of so many, in either encoding
-pub number_for-fits : (width : ℕ) (encoding : IntEncoding) (z : ℤ) → 0 < width → FitsIn width z → number_for width encoding z < 256 ^ width
-number_for-fits width Fixed z w h = two_complement-fits width z h
-number_for-fits width Variable z w h = zigzag-fits width z w h
-
--- and the other way round
-pub integer_by-fits : (width : ℕ) (encoding : IntEncoding) (n : ℕ) → n < 256 ^ width → FitsIn width (integer_by width encoding n)
-integer_by-fits width Fixed n h = from_two_complement-fits width n h
-integer_by-fits width Variable n h = unzigzag-fits width n h
 
 -- a width is not 0
 pub width-positive : (width : ℕ) → IsWidth width → 0 < width

@@ -7,6 +7,8 @@ pub mod Laws
 pub mod FormatLaws
 pub mod Balance
 pub mod Integers
+pub mod DigitLaws
+pub mod SignedLaws
 pub mod IntegerLaws
 pub mod Spellings
 pub mod Device

@@ -1,7 +1,7 @@
 //! Readers.
 ghost use Rattle.std.specs.Prelude.{◌≡◌, ◌-◌, ◌<◌, ◌≤◌, ◌⊎◌, ◌↔◌, ℕ, List, []};
-ghost use Rattle.std.specs.Prelude.{◌∷◌, ◌++◌, length, drop, take, ⊤, OnOk};
-ghost use Rattle.std.specs.Prelude.{OnErr, IfErr, IfSome, IsSome, IsErr, IfOk};
+ghost use Rattle.std.specs.Prelude.{◌∷◌, ◌++◌, length, drop, take, ⊤, OnOk, OnErr, IfErr, IfSome, IsSome};
+ghost use Rattle.std.specs.Prelude.{IsErr, IfOk};
 ghost use Rattle.std.proofs.Common.{le_refl, inl};
 ghost use Rattle.std.specs.Borrow.{GName, sem};
 ghost use Rattle.std.specs.Io.BufRead.{Rests};

@@ -1,7 +1,6 @@
 //! Writers.
 ghost use Rattle.std.specs.Prelude.{◌≡◌, ◌+◌, ◌-◌, ◌<◌, ◌≤◌, ◌⊎◌, ℕ, List, []};
-ghost use Rattle.std.specs.Prelude.{◌∷◌, ◌++◌, length, Option, Some, OnOk};
-ghost use Rattle.std.specs.Prelude.{IfErr};
+ghost use Rattle.std.specs.Prelude.{◌∷◌, ◌++◌, length, Option, Some, OnOk, IfErr};
 ghost use Rattle.std.specs.Borrow.{GName};
 ghost use Rattle.std.proofs.Common.{rules, sym, ◌∙◌, ap, arith, le_refl};
 ghost use Rattle.std.proofs.lemmas.Grind.{common_steps};

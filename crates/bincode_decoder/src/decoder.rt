@@ -140,8 +140,7 @@ pub trait Decoder: Sealed {
     ghost put_charge: { (d : Self) (r : Self.R) → charge (put_reader d r) ≡ charge d };
 
     ghost put_place: { (d : Self) (r : Self.R) → Self.R.place r ≡ Self.R.place (reader_of d)
-        → place (put_reader d r)
-        ≡ place d };
+        → place (put_reader d r) ≡ place d };
 
     /// and another context neither.
     ghost context_told: { (d : Self) (x : Self.Context) → told d → told (put_context d x) };

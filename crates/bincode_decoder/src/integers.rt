@@ -38,8 +38,8 @@ pub fn decode_integer<T: Integer + Wire, D: Decoder>(decoder: &mut D) -> Result<
 #[inline(always)]
 fn read_integer_from<T: Integer, D: Decoder>(decoder: &mut D) -> Result<T, DecodeError>
     ensures ok { D.told decoder.old → IfOk result (λ v.
-        (T.spelling.read_by D.C.setting.order D.C.setting.encoding).read
-        (D.rest decoder.old) ≡ Took v (D.rest decoder.new) []) }
+        (T.spelling.read_by D.C.setting.order D.C.setting.encoding).read (D.rest decoder.old)
+        ≡ Took v (D.rest decoder.new) []) }
     ensures err { D.told decoder.old → IfErr result (Misreads D.R.ended D.R.device
         ((T.spelling.read_by D.C.setting.order D.C.setting.encoding).read (D.rest decoder.old)) (D.failures decoder.old)
         (D.failures decoder.new) (D.rest decoder.old) (D.rest decoder.new)) }
@@ -117,8 +117,8 @@ pub fn read_from<D: Decoder>(decoder: &mut D, bytes: &mut [u8]) -> Result<(), De
     ensures next { D.told decoder.old → OnOk result (D.rest decoder.old ≡ bytes.new ++ D.rest decoder.new) }
     ensures why { D.told decoder.old → IfErr result
         (λ e. FallsShort D.R.ended (D.rest decoder.old) (length bytes.old) e
-        ⊎ (D.R.device.uncounted e ⊎ (D.R.device.counted e
-        × Rose (D.failures decoder.old) (D.failures decoder.new)))) }
+        ⊎ (D.R.device.uncounted e
+        ⊎ (D.R.device.counted e × Rose (D.failures decoder.old) (D.failures decoder.new)))) }
     ensures left { D.told decoder.old → IfErr result (λ e. D.R.device.uncounted e
         ⊎ Takes (D.rest decoder.old) (D.rest decoder.new)) }
     ensures length { length bytes.new ≡ length bytes.old }

@@ -40,8 +40,7 @@ pub trait Encoder: Sealed {
     ghost put_get: { (e : Self) (w : Self.W) → writer_of (put_writer e w) ≡ w };
 
     ghost put_place: { (e : Self) (w : Self.W) → Self.W.place w ≡ Self.W.place (writer_of e)
-        → place (put_writer e w)
-        ≡ place e };
+        → place (put_writer e w) ≡ place e };
 }
 
 /// An encoder that owns its writer.

@@ -14,7 +14,8 @@ use Rattle.bincode_base.specs.Format.{Format, done, refused, settled, ◌>>=◌,
 use Rattle.bincode_base.specs.Laws.{Lawful}
 use Rattle.bincode_base.specs.FormatLaws.{one_word, map-lawful}
 use Rattle.bincode_base.specs.Integers.{number_for, unsigned, signed, unsigned_byte, signed_byte, spelling}
-use Rattle.bincode_base.specs.IntegerLaws.{IsWidth, width_in_bytes, FitsIn-from_signed, two_complement-fits, spelling-are_bytes, unsigned-least, signed-least, unsigned_byte-lawful, signed_byte-lawful}
+use Rattle.bincode_base.specs.SignedLaws.{two_complement-fits}
+use Rattle.bincode_base.specs.IntegerLaws.{IsWidth, width_in_bytes, FitsIn-from_signed, spelling-are_bytes, unsigned-least, signed-least, unsigned_byte-lawful, signed_byte-lawful}
 use Rattle.bincode_wire.specs.Meaning.{Meaning, Number, IsTruth, IsNumber, IsNothing}
 use Rattle.bincode_wire.specs.Words.{natural, integral, not_zero_of, not_zero_by, truth_byte, truth, nothing}
 use Rattle.bincode_wire.specs.WordsLaws.{not_zero-passed, truth-lawful}

@@ -31,12 +31,10 @@ pub trait Plain: Writable {
 /// one.
 pub trait Exact: Plain + PartialEq {
     ghost one_value: { (v w : Self) (m : Meaning) → Self.valid v → Self.valid w → Self.means v m
-        → Self.means w m
-        → Self.eq v w ≡ true };
+        → Self.means w m → Self.eq v w ≡ true };
 
     ghost comes_back: { (v w : Self) (m : Meaning) → Self.valid v → Self.means v m → Self.given m w
-        → Self.eq v w
-        ≡ true };
+        → Self.eq v w ≡ true };
 }
 
 /// A plain type whose words are canonical: of all words that decode to what the written one decodes to, none is

@@ -3,9 +3,8 @@ ghost use Rattle.std.specs.Prelude.{◌≡◌, ◌⊎◌, ◌+◌, ◌-◌, ◌^
 ghost use Rattle.bincode_wire.specs.Meaning.{IsThen, IsFourThen};
 ghost use Rattle.bincode_wire.specs.Words.{first_and, four_and};
 ghost use Rattle.bincode_wire.specs.TupleLaws.{units, then-some_word, then-lawful, then-balanced, then-has_word};
-ghost use Rattle.bincode_wire.specs.TupleLaws.{then-one_length, then-same, then-shortest, either};
-ghost use Rattle.bincode_wire.specs.TupleLaws.{four-lawful, four-balanced, four-has_word, four-one_length, four-same};
-ghost use Rattle.bincode_wire.specs.TupleLaws.{four-shortest};
+ghost use Rattle.bincode_wire.specs.TupleLaws.{then-one_length, then-same, then-shortest, either, four-lawful};
+ghost use Rattle.bincode_wire.specs.TupleLaws.{four-balanced, four-has_word, four-one_length, four-same, four-shortest};
 
 use crate::laws::{Canonical, Exact, Inhabited, Plain, Writable};
 use crate::parted::{Parted, SameParts};

@@ -1,7 +1,6 @@
 //! One of several variants: what enums are written as.
 ghost use Rattle.std.specs.Prelude.{◌≡◌, ◌⊎◌, ◌<◌, ◌+◌, ◌-◌, ◌^◌, ◌==◌, min, max, pos};
-ghost use Rattle.std.specs.Prelude.{ℕ, Bool, true, false, List, []};
-ghost use Rattle.std.specs.Prelude.{◌∷◌, refl};
+ghost use Rattle.std.specs.Prelude.{ℕ, Bool, true, false, List, [], ◌∷◌, refl};
 ghost use Rattle.std.proofs.Common.{sym, ◌∙◌, arith};
 ghost use Rattle.bincode_base.specs.Setting.{Setting};
 ghost use Rattle.bincode_base.specs.Format.{Format, map_format};
@@ -208,8 +207,7 @@ impl<const TAG: u32, A: Wire, Others: Variants> Variants for Or<TAG, A, Others> 
 
     ghost valid = { elim [
       | This a ↦ A.valid a
-      | Other o ↦ (((Others.variant o).0 == TAG) ≡ false)
-          × Others.valid o
+      | Other o ↦ (((Others.variant o).0 == TAG) ≡ false) × Others.valid o
     ] };
 
     ghost picked = { λ s allowed. elim [
@@ -383,6 +381,5 @@ impl<Of: ExactVariants> Exact for OneOf<Of> {
 
 impl<Of: CanonicalVariants> Canonical for OneOf<Of> {
     ghost shortest = { λ s v w h. choice-shortest Of.Tag.tags Of.variants s _ _ _ (Of.picked s _ v.0 h.1)
-        (Of.means v.0)
-        (Of.given w.0) (Of.Tag.numerals.spelled s _ h.0).none_shorter (Of.shortest s v.0 w.0 h.1) };
+        (Of.means v.0) (Of.given w.0) (Of.Tag.numerals.spelled s _ h.0).none_shorter (Of.shortest s v.0 w.0 h.1) };
 }

@@ -11,15 +11,14 @@ use std::ops::Bound;
 /// What unsigned numbers are read from.
 pub fn unsigned_rows()
     ensures { UnsignedRows ⟦<u8 as Wire>⟧.format ⟦<u16 as Wire>⟧.format ⟦<u32 as Wire>⟧.format
-        ⟦<u64 as Wire>⟧.format
-        ⟦<u128 as Wire>⟧.format ⟦<NonZeroU16 as Wire>⟧.format }
+        ⟦<u64 as Wire>⟧.format ⟦<u128 as Wire>⟧.format ⟦<NonZeroU16 as Wire>⟧.format }
 {}
 
 /// What signed numbers are read from.
 pub fn signed_rows()
     ensures { SignedRows ⟦<i8 as Wire>⟧.format ⟦<i16 as Wire>⟧.format ⟦<i32 as Wire>⟧.format
-        ⟦<i64 as Wire>⟧.format
-        ⟦<i128 as Wire>⟧.format ⟦<isize as Wire>⟧.format ⟦<NonZeroI16 as Wire>⟧.format }
+        ⟦<i64 as Wire>⟧.format ⟦<i128 as Wire>⟧.format ⟦<isize as Wire>⟧.format
+        ⟦<NonZeroI16 as Wire>⟧.format }
 {}
 
 /// What truth values, tuples and arrays are read from.
@@ -39,8 +38,7 @@ pub type Far = OneOf<Or<1, (), Or<5, u8, Or<300, u8, NoOther<()>>>>>;
 /// What choices are read from.
 pub fn choice_rows()
     ensures { ChoiceRows ⟦<Option<u8> as Wire>⟧.format ⟦<Option<u32> as Wire>⟧.format
-        ⟦<Option<bool> as Wire>⟧.format
-        ⟦<Result<u8, u8> as Wire>⟧.format ⟦<Result<(), u8> as Wire>⟧.format
+        ⟦<Option<bool> as Wire>⟧.format ⟦<Result<u8, u8> as Wire>⟧.format ⟦<Result<(), u8> as Wire>⟧.format
         ⟦<Bound<u8> as Wire>⟧.format ⟦<Far as Wire>⟧.format }
 {}
 
@@ -52,8 +50,7 @@ pub fn duration_rows()
 /// What lists of such are read from.
 pub fn list_rows()
     ensures { ListRows ⟦<u8 as Wire>⟧.format ⟦<u16 as Wire>⟧.format ⟦<u32 as Wire>⟧.format
-        ⟦<() as Wire>⟧.format
-        ⟦<Option<u8> as Wire>⟧.format }
+        ⟦<() as Wire>⟧.format ⟦<Option<u8> as Wire>⟧.format }
 {}
 
 /// What texts are read from.
@@ -69,8 +66,7 @@ pub fn unsigned_words()
 /// What signed numbers are written as.
 pub fn signed_words()
     ensures { SignedWords ⟦<i8 as Wire>⟧.format ⟦<i16 as Wire>⟧.format ⟦<i32 as Wire>⟧.format
-        ⟦<i64 as Wire>⟧.format
-        ⟦<i128 as Wire>⟧.format }
+        ⟦<i64 as Wire>⟧.format ⟦<i128 as Wire>⟧.format }
 {}
 
 /// The numbers that stand for integers.

@@ -2,9 +2,8 @@
 ghost use Rattle.std.specs.Prelude.{refl};
 ghost use Rattle.std.specs.Int.{w16, w32, w64, w128};
 ghost use Rattle.std.specs.Int.NonZero.{non_zero_u8_get, non_zero_u16_get, non_zero_u32_get, non_zero_u64_get};
-ghost use Rattle.std.specs.Int.NonZero.{non_zero_u128_get, non_zero_usize_get};
-ghost use Rattle.std.specs.Int.NonZero.{non_zero_i8_get, non_zero_i16_get, non_zero_i32_get, non_zero_i64_get};
-ghost use Rattle.std.specs.Int.NonZero.{non_zero_i128_get, non_zero_isize_get};
+ghost use Rattle.std.specs.Int.NonZero.{non_zero_u128_get, non_zero_usize_get, non_zero_i8_get, non_zero_i16_get};
+ghost use Rattle.std.specs.Int.NonZero.{non_zero_i32_get, non_zero_i64_get, non_zero_i128_get, non_zero_isize_get};
 ghost use Rattle.bincode_base.specs.declared.error.IntegerType.TheVariants.{U16, U32, U64, U128, Usize, I16, I32, I64};
 ghost use Rattle.bincode_base.specs.declared.error.IntegerType.TheVariants.{I128, Isize};
 ghost use Rattle.bincode_base.specs.IntegerLaws.{Two, Four, Eight, Sixteen};

@@ -5,7 +5,7 @@ use Rattle.std.proofs.lemmas.Int.{to_z-of_z}
 use lib.Signed.{lt_z}
 use mir.Val.{of_z, SFits}
 use Rattle.bincode_base.specs.Number.{zigzag, unzigzag}
-use Rattle.bincode_base.specs.IntegerLaws.{zigzag-fits, zigzag-unzigzag}
+use Rattle.bincode_base.specs.SignedLaws.{zigzag-fits, zigzag-unzigzag}
 use Rattle.bincode_base.proofs.zigzag.zigzag.Goals as goal
 
 negative : (val : ℤ) (bits : ℕ) → SFits w128 val → lt_z val (pos 0) ≡ true → bits ≡ of_z w128 val →
