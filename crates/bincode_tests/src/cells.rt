@@ -9,6 +9,34 @@ use std::alloc::Global;
 use std::cell::{Cell, RefCell};
 use std::process::Abort;
 
+/// Of a value whose word is `[5]`, and another whose word is `[251, 44, 1]`.
+fn keeps_cells_of<T>(rt: &impl Abort, alloc: Global, five: T, large: T)
+where
+    T: Encode + Decode<()> + Copy + PartialEq,
+{
+    let cell = Cell::new(five);
+    is_written(rt, &cell, &[5]);
+    cell.set(large);
+    is_written(rt, &cell, &[251, 44, 1]);
+    let read: Option<Cell<T>> = read_front(alloc, &[5], 1);
+    assert!(rt; matches!(read, Some(cell) if cell.get() == five));
+    let read: Option<Cell<T>> = read_front(alloc, &[251, 44, 1], 3);
+    assert!(rt; matches!(read, Some(cell) if cell.get() == large));
+}
+
+/// The same of cells that can be borrowed.
+fn keeps_unborrowed_cells_of<T>(rt: &impl Abort, alloc: Global, five: T, large: T)
+where
+    T: Encode + Decode<()> + Copy + PartialEq,
+{
+    let cell = RefCell::new(five);
+    is_written(rt, &cell, &[5]);
+    assert!(rt; cell.try_replace(large).is_ok());
+    is_written(rt, &cell, &[251, 44, 1]);
+    holds(rt, alloc, &[5], five);
+    holds(rt, alloc, &[251, 44, 1], large);
+}
+
 /// The word is read as a cell that holds the value.
 fn holds<T>(rt: &impl Abort, alloc: Global, word: &[u8], value: T)
 where
@@ -19,6 +47,13 @@ where
         Some(cell) => assert!(rt; cell.into_inner() == value),
         None => assert!(rt; false, "{word:?}"),
     }
+}
+
+#[test]
+fn keeps_what_a_cell_holds(rt: HostRuntime) {
+    let alloc = rt.alloc();
+    keeps_cells_of(&rt, alloc, 5u32, 300);
+    keeps_unborrowed_cells_of(&rt, alloc, 5u32, 300);
 }
 
 /// Of a value whose word is `[251, 44, 1]`.
@@ -86,4 +121,27 @@ fn keeps_each_byte_in_a_cell(rt: HostRuntime) {
         is_written(&rt, &RefCell::new(byte), &[byte]);
         holds(&rt, alloc, &[byte], byte);
     }
+}
+
+/// Of values whose words are `[5]` and `[251, 44, 1]`.
+fn keeps_cells_in_cells_of<T, U>(rt: &impl Abort, alloc: Global, five: T, large: U)
+where
+    T: Encode + Decode<()> + Copy + PartialEq,
+    U: Encode + Decode<()> + Copy + PartialEq,
+{
+    let cell = RefCell::new((Cell::new(five), large));
+    is_written(rt, &cell, &[5, 251, 44, 1]);
+    let read: Option<RefCell<(Cell<T>, U)>> = read_front(alloc, &[5, 251, 44, 1], 4);
+    let Some(outer) = read else {
+        assert!(rt; false);
+        return;
+    };
+    let (inner, number) = outer.into_inner();
+    assert!(rt; inner.get() == five);
+    assert!(rt; number == large);
+}
+
+#[test]
+fn keeps_cells_in_cells(rt: HostRuntime) {
+    keeps_cells_in_cells_of(&rt, rt.alloc(), 5u8, 300u16);
 }

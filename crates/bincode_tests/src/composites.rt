@@ -20,41 +20,37 @@ use std::time::Duration as StdDuration;
 /// Numbers, each as large as its place.
 const PLACES: [u8; 16] = [0, 1, 2, 3, 4, 5, 6, 7, 8, 9, 10, 11, 12, 13, 14, 15];
 
-/// Of values whose words are the places. Pairs and tuples of five parts have rows of their own.
+/// Of values whose words are the places.
 fn keeps_tuples_of<T>(rt: &impl Abort, alloc: Global, parts: [T; 6])
 where
     T: Encode + Decode<()> + Copy + PartialEq,
 {
     let [a, b, c, d, e, f] = parts;
     keeps(rt, alloc, (a,), &[0]);
+    keeps(rt, alloc, (a, b), &[0, 1]);
     keeps(rt, alloc, (a, b, c), &[0, 1, 2]);
     keeps(rt, alloc, (a, b, c, d), &[0, 1, 2, 3]);
+    keeps(rt, alloc, (a, b, c, d, e), &[0, 1, 2, 3, 4]);
     keeps(rt, alloc, (a, b, c, d, e, f), &[0, 1, 2, 3, 4, 5]);
 }
 
-/// The word is read as a value, which is written as the word.
-fn comes_back<T: Encode + Decode<()>>(rt: &impl Abort, alloc: Global, word: &[u8]) {
-    match read_front::<T>(alloc, word, word.len()) {
-        Some(value) => is_written(rt, value, word),
-        None => assert!(rt; false, "{word:?}"),
-    }
-}
-
-/// Of values whose words are the places, in longer tuples.
-fn longer_tuples_come_back<T: Encode + Decode<()>>(rt: &impl Abort, alloc: Global) {
-    comes_back::<(T, T, T, T, T, T, T)>(rt, alloc, &PLACES[..7]);
-    comes_back::<(T, T, T, T, T, T, T, T)>(rt, alloc, &PLACES[..8]);
-    comes_back::<(T, T, T, T, T, T, T, T, T)>(rt, alloc, &PLACES[..9]);
-    comes_back::<(T, T, T, T, T, T, T, T, T, T)>(rt, alloc, &PLACES[..10]);
-    comes_back::<(T, T, T, T, T, T, T, T, T, T, T)>(rt, alloc, &PLACES[..11]);
-}
-
-/// Of such values, in tuples of 12 to 15 parts.
-fn long_tuples_come_back<T: Encode + Decode<()>>(rt: &impl Abort, alloc: Global) {
-    comes_back::<(T, T, T, T, T, T, T, T, T, T, T, T)>(rt, alloc, &PLACES[..12]);
-    comes_back::<(T, T, T, T, T, T, T, T, T, T, T, T, T)>(rt, alloc, &PLACES[..13]);
-    comes_back::<(T, T, T, T, T, T, T, T, T, T, T, T, T, T)>(rt, alloc, &PLACES[..14]);
-    comes_back::<(T, T, T, T, T, T, T, T, T, T, T, T, T, T, T)>(rt, alloc, &PLACES[..15]);
+/// Of such values, in longer tuples.
+fn keeps_longer_tuples_of<T>(rt: &impl Abort, alloc: Global, parts: [T; 12])
+where
+    T: Encode + Decode<()> + Copy + PartialEq,
+{
+    let [a, b, c, d, e, f, g, h, i, j, k, l] = parts;
+    keeps(rt, alloc, (a, b, c, d, e, f, g), &PLACES[..7]);
+    keeps(rt, alloc, (a, b, c, d, e, f, g, h), &PLACES[..8]);
+    keeps(rt, alloc, (a, b, c, d, e, f, g, h, i), &PLACES[..9]);
+    keeps(rt, alloc, (a, b, c, d, e, f, g, h, i, j), &PLACES[..10]);
+    keeps(rt, alloc, (a, b, c, d, e, f, g, h, i, j, k), &PLACES[..11]);
+    keeps(
+        rt,
+        alloc,
+        (a, b, c, d, e, f, g, h, i, j, k, l),
+        &PLACES[..12],
+    );
 }
 
 /// Each row of pairs holds.
@@ -78,14 +74,66 @@ fn keeps_tuples(rt: HostRuntime) {
 fn keeps_tuples_of_each_length(rt: HostRuntime) {
     let alloc = rt.alloc();
     keeps_tuples_of(&rt, alloc, [0u8, 1, 2, 3, 4, 5]);
-    longer_tuples_come_back::<u8>(&rt, alloc);
-    long_tuples_come_back::<u8>(&rt, alloc);
-    keeps_sixteen_of(&rt, alloc, PLACES);
+    keeps_longer_tuples_of(&rt, alloc, [0u8, 1, 2, 3, 4, 5, 6, 7, 8, 9, 10, 11]);
 }
+
+type Thirteen<T> = (T, T, T, T, T, T, T, T, T, T, T, T, T);
+
+type Fourteen<T> = (T, T, T, T, T, T, T, T, T, T, T, T, T, T);
+
+type Fifteen<T> = (T, T, T, T, T, T, T, T, T, T, T, T, T, T, T);
 
 type Sixteen<T> = (T, T, T, T, T, T, T, T, T, T, T, T, T, T, T, T);
 
 /// Of values whose words are the places. Tuples of more than twelve parts have no `==`.
+fn keeps_thirteen_of<T>(rt: &impl Abort, alloc: Global, parts: [T; 13])
+where
+    T: Encode + Decode<()> + Copy + PartialEq,
+{
+    let Some(v) = read_front::<Thirteen<T>>(alloc, &PLACES, 13) else {
+        assert!(rt; false);
+        return;
+    };
+    assert!(rt;
+        [
+            v.0, v.1, v.2, v.3, v.4, v.5, v.6, v.7, v.8, v.9, v.10, v.11, v.12
+        ] == parts
+    );
+    is_written(rt, v, &PLACES[..13]);
+}
+
+fn keeps_fourteen_of<T>(rt: &impl Abort, alloc: Global, parts: [T; 14])
+where
+    T: Encode + Decode<()> + Copy + PartialEq,
+{
+    let Some(v) = read_front::<Fourteen<T>>(alloc, &PLACES, 14) else {
+        assert!(rt; false);
+        return;
+    };
+    assert!(rt;
+        [
+            v.0, v.1, v.2, v.3, v.4, v.5, v.6, v.7, v.8, v.9, v.10, v.11, v.12, v.13
+        ] == parts
+    );
+    is_written(rt, v, &PLACES[..14]);
+}
+
+fn keeps_fifteen_of<T>(rt: &impl Abort, alloc: Global, parts: [T; 15])
+where
+    T: Encode + Decode<()> + Copy + PartialEq,
+{
+    let Some(v) = read_front::<Fifteen<T>>(alloc, &PLACES, 15) else {
+        assert!(rt; false);
+        return;
+    };
+    assert!(rt;
+        [
+            v.0, v.1, v.2, v.3, v.4, v.5, v.6, v.7, v.8, v.9, v.10, v.11, v.12, v.13, v.14
+        ] == parts
+    );
+    is_written(rt, v, &PLACES[..15]);
+}
+
 fn keeps_sixteen_of<T>(rt: &impl Abort, alloc: Global, parts: [T; 16])
 where
     T: Encode + Decode<()> + Copy + PartialEq,
@@ -100,6 +148,19 @@ where
         ] == parts
     );
     is_written(rt, v, &PLACES);
+}
+
+#[test]
+fn keeps_tuples_without_equality(rt: HostRuntime) {
+    let alloc = rt.alloc();
+    keeps_thirteen_of(&rt, alloc, [0u8, 1, 2, 3, 4, 5, 6, 7, 8, 9, 10, 11, 12]);
+    keeps_fourteen_of(&rt, alloc, [0u8, 1, 2, 3, 4, 5, 6, 7, 8, 9, 10, 11, 12, 13]);
+    keeps_fifteen_of(
+        &rt,
+        alloc,
+        [0u8, 1, 2, 3, 4, 5, 6, 7, 8, 9, 10, 11, 12, 13, 14],
+    );
+    keeps_sixteen_of(&rt, alloc, PLACES);
 }
 
 #[test]
