@@ -6,6 +6,7 @@ ghost use Rattle.bincode_base.specs.declared.error.DecodeError.TheVariants.{Limi
 ghost use Rattle.std.specs.Bool.{MatchBool};
 ghost use Rattle.bincode_wire.specs.Answer.{Allows, Claimed, OverClaimed, unclaimed};
 ghost use Rattle.bincode_wire.specs.Run.{CanRelease};
+ghost use Rattle.bincode_decoder.specs.Claims.{OnlyCharged};
 
 use bincode_base::config::Config;
 use bincode_base::error::DecodeError;
@@ -77,12 +78,7 @@ pub trait Decoder: Sealed {
         ensures ok { OnOk result (Claimed Self.C.bound (charge self.old) n (charge self.new)) }
         ensures err { IfErr result (λ e. (e ≡ LimitExceeded)
             × OverClaimed Self.C.bound (charge self.old) n (charge self.new)) }
-        ensures rest { rest self.new ≡ rest self.old }
-        ensures failures { failures self.new ≡ failures self.old }
-        ensures told { told self.old → told self.new }
-        ensures reader { reader_of self.new ≡ reader_of self.old }
-        ensures context { context_of self.new ≡ context_of self.old }
-        ensures place { place self.new ≡ place self.old };
+        ensures kept { OnlyCharged told rest failures reader_of context_of place self.old self.new };
 
     /// Charges for a container of `len` elements: `claim_bytes_read` of `len` times the claim size of `T`. A product
     /// that does not fit 64 bits is above each limit, and then the charge stays.
@@ -90,12 +86,7 @@ pub trait Decoder: Sealed {
         ensures ok { OnOk result (Claimed Self.C.bound (charge self.old) (len * T.claim) (charge self.new)) }
         ensures err { IfErr result (λ e. (e ≡ LimitExceeded)
             × OverClaimed Self.C.bound (charge self.old) (len * T.claim) (charge self.new)) }
-        ensures rest { rest self.new ≡ rest self.old }
-        ensures failures { failures self.new ≡ failures self.old }
-        ensures told { told self.old → told self.new }
-        ensures reader { reader_of self.new ≡ reader_of self.old }
-        ensures context { context_of self.new ≡ context_of self.old }
-        ensures place { place self.new ≡ place self.old };
+        ensures kept { OnlyCharged told rest failures reader_of context_of place self.old self.new };
 
     /// Whether the charge is within the limit. After a claim that passed it, it may not be.
     fn is_within_limit(&self) -> bool
@@ -106,12 +97,7 @@ pub trait Decoder: Sealed {
     fn unclaim_bytes_read(&mut self, n: usize)
         requires { CanRelease Self.C.bound (charge self.old) n }
         ensures charge { charge self.new ≡ unclaimed Self.C.bound (charge self.old) n }
-        ensures rest { rest self.new ≡ rest self.old }
-        ensures failures { failures self.new ≡ failures self.old }
-        ensures told { told self.old → told self.new }
-        ensures reader { reader_of self.new ≡ reader_of self.old }
-        ensures context { context_of self.new ≡ context_of self.old }
-        ensures place { place self.new ≡ place self.old };
+        ensures kept { OnlyCharged told rest failures reader_of context_of place self.old self.new };
 
     /// A reader that was put is the reader, and a context beside it stays,
     ghost reader_put: { (d : Self) (r : Self.R) → reader_of (put_reader d r) ≡ r };

@@ -1,0 +1,2 @@
+-- What a decoder promises.
+pub mod Claims
