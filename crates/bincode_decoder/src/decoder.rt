@@ -1,12 +1,11 @@
 //! Decoders: a reader with a configuration, a context and a charge.
-ghost use Rattle.std.specs.Prelude.{◌≡◌, ◌≤◌, ◌*◌, ◌∷◌, ℕ, List, Option, OnOk, IfErr, refl};
+ghost use Rattle.std.specs.Prelude.{◌≡◌, ◌*◌, ◌∷◌, ℕ, List, refl};
 ghost use Rattle.std.proofs.Common.{ap};
 ghost use Rattle.std.specs.Borrow.{GName, Lends, sem};
-ghost use Rattle.bincode_base.specs.declared.error.DecodeError.TheVariants.{LimitExceeded};
 ghost use Rattle.std.specs.Bool.{MatchBool};
-ghost use Rattle.bincode_wire.specs.Answer.{Allows, Claimed, OverClaimed, unclaimed};
+ghost use Rattle.bincode_wire.specs.Answer.{Allows, unclaimed};
 ghost use Rattle.bincode_wire.specs.Run.{CanRelease};
-ghost use Rattle.bincode_decoder.specs.Claims.{OnlyCharged};
+ghost use Rattle.bincode_decoder.specs.Claims.{Claims, OnlyCharged};
 
 use bincode_base::config::Config;
 use bincode_base::error::DecodeError;
@@ -75,17 +74,7 @@ pub trait Decoder: Sealed {
     /// Charges `n` bytes. Without a limit nothing is counted. Fails with `LimitExceeded` where the raised charge is
     /// above the limit: the raised charge is kept if it fits 64 bits, else the charge stays.
     fn claim_bytes_read(&mut self, n: usize) -> Result<(), DecodeError>
-        ensures ok { OnOk result (Claimed Self.C.bound (charge self.old) n (charge self.new)) }
-        ensures err { IfErr result (λ e. (e ≡ LimitExceeded)
-            × OverClaimed Self.C.bound (charge self.old) n (charge self.new)) }
-        ensures kept { OnlyCharged told rest failures reader_of context_of place self.old self.new };
-
-    /// Charges for a container of `len` elements: `claim_bytes_read` of `len` times the claim size of `T`. A product
-    /// that does not fit 64 bits is above each limit, and then the charge stays.
-    fn claim_container_read<T: Wire>(&mut self, len: usize) -> Result<(), DecodeError>
-        ensures ok { OnOk result (Claimed Self.C.bound (charge self.old) (len * T.claim) (charge self.new)) }
-        ensures err { IfErr result (λ e. (e ≡ LimitExceeded)
-            × OverClaimed Self.C.bound (charge self.old) (len * T.claim) (charge self.new)) }
+        ensures claimed { Claims Self.C.bound (charge self.old) n (charge self.new) result }
         ensures kept { OnlyCharged told rest failures reader_of context_of place self.old self.new };
 
     /// Whether the charge is within the limit. After a claim that passed it, it may not be.
@@ -140,10 +129,33 @@ pub trait Decoder: Sealed {
     ghost context_place: { (d : Self) (x : Self.Context) → place (put_context d x) ≡ place d };
 }
 
+/// Claims for containers, by every decoder.
+pub trait ClaimContainer: Decoder {
+    /// Charges for a container of `len` elements: `claim_bytes_read` of `len` times the claim size of `T`. A product
+    /// that does not fit 64 bits is above each limit, and then the charge stays.
+    fn claim_container_read<T: Wire>(&mut self, len: usize) -> Result<(), DecodeError>
+        ensures claimed { Claims Self.C.bound (Self.charge self.old) (len * T.claim) (Self.charge self.new) result }
+        ensures kept { OnlyCharged Self.told Self.rest Self.failures Self.reader_of Self.context_of Self.place
+            self.old self.new };
+}
+
+// The bound says again what `Decoder` says of `C`: with it the limit of a claim is known to be that of the decoder.
+impl<D: Decoder> ClaimContainer for D
+where
+    D::C: Config,
+{
+    fn claim_container_read<T: Wire>(&mut self, len: usize) -> Result<(), DecodeError> {
+        match len.checked_mul(T::claim_size()) {
+            Some(n) => self.claim_bytes_read(n),
+            None if self.config().limit().is_none() => Ok(()),
+            None => Err(DecodeError::LimitExceeded),
+        }
+    }
+}
+
 /// Charges `n` bytes under a limit.
 fn claim(limit: Option<usize>, bytes_read: &mut usize, n: usize) -> Result<(), DecodeError>
-    ensures ok { OnOk result (Claimed limit bytes_read.old n bytes_read.new) }
-    ensures err { IfErr result (λ e. (e ≡ LimitExceeded) × OverClaimed limit bytes_read.old n bytes_read.new) }
+    ensures { Claims limit bytes_read.old n bytes_read.new result }
 {
     let Some(limit) = limit else {
         return Ok(());
@@ -156,24 +168,6 @@ fn claim(limit: Option<usize>, bytes_read: &mut usize, n: usize) -> Result<(), D
         return Err(DecodeError::LimitExceeded);
     }
     Ok(())
-}
-
-/// Charges for `len` elements of `share` bytes each under a limit.
-fn claim_container(
-    limit: Option<usize>,
-    bytes_read: &mut usize,
-    len: usize,
-    share: usize,
-) -> Result<(), DecodeError>
-    ensures ok { OnOk result (Claimed limit bytes_read.old (len * share) bytes_read.new) }
-    ensures err { IfErr result (λ e. (e ≡ LimitExceeded) × OverClaimed limit bytes_read.old
-        (len * share) bytes_read.new) }
-{
-    match len.checked_mul(share) {
-        Some(n) => claim(limit, bytes_read, n),
-        None if limit.is_none() => Ok(()),
-        None => Err(DecodeError::LimitExceeded),
-    }
 }
 
 /// Whether the charge is within the limit.
@@ -280,15 +274,6 @@ impl<R: Reader, C: Config, Context: Drop> Decoder for DecoderImpl<R, C, Context>
 
     fn claim_bytes_read(&mut self, n: usize) -> Result<(), DecodeError> {
         claim(self.config.limit(), &mut self.bytes_read, n)
-    }
-
-    fn claim_container_read<T: Wire>(&mut self, len: usize) -> Result<(), DecodeError> {
-        claim_container(
-            self.config.limit(),
-            &mut self.bytes_read,
-            len,
-            T::claim_size(),
-        )
     }
 
     fn is_within_limit(&self) -> bool {
@@ -428,15 +413,6 @@ impl<R: Reader, C: Config, Context: Drop> Decoder for LentDecoder<'_, R, C, Cont
         claim(self.config.limit(), &mut self.bytes_read, n)
     }
 
-    fn claim_container_read<T: Wire>(&mut self, len: usize) -> Result<(), DecodeError> {
-        claim_container(
-            self.config.limit(),
-            &mut self.bytes_read,
-            len,
-            T::claim_size(),
-        )
-    }
-
     fn is_within_limit(&self) -> bool {
         is_within(self.config.limit(), self.bytes_read)
     }
@@ -529,10 +505,6 @@ where
 
     fn claim_bytes_read(&mut self, n: usize) -> Result<(), DecodeError> {
         (**self).claim_bytes_read(n)
-    }
-
-    fn claim_container_read<T: Wire>(&mut self, len: usize) -> Result<(), DecodeError> {
-        (**self).claim_container_read::<T>(len)
     }
 
     fn is_within_limit(&self) -> bool {

@@ -2,7 +2,7 @@
 
 use bincode::config;
 use bincode::de::read::SliceReader;
-use bincode::de::{Decode, Decoder, DecoderImpl, decode_array, decode_vec};
+use bincode::de::{ClaimContainer, Decode, Decoder, DecoderImpl, decode_array, decode_vec};
 use bincode::enc::write::SliceWriter;
 use bincode::enc::{Encode, Encoder, EncoderImpl, encode_run};
 use bincode::error::DecodeError;

@@ -1,7 +1,7 @@
 //! Arrays of bytes, which are written and read in one piece, beside arrays that are not.
 
 use bincode::de::read::SliceReader;
-use bincode::de::{Decoder, DecoderImpl, decode_run};
+use bincode::de::{ClaimContainer, Decoder, DecoderImpl, decode_run};
 use bincode::error::{DecodeError, EncodeError};
 use bincode::{config, decode_from_slice, encode_into_slice};
 use std::process::Abort;

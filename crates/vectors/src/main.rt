@@ -3,10 +3,10 @@
 
 use anyhow::ensure;
 use std::io;
-use worked_rows::rows::{self, TABLE};
+use worked_rows::rows;
 
 fn main(rt: HostRuntime) -> anyhow::Result<()> {
-    let failed = rows::run(rt.alloc(), &TABLE, &mut io::writer(&rt))?;
+    let failed = rows::run(rt.alloc(), rows::table(), &mut io::writer(&rt))?;
     ensure!(failed == 0, "{failed} rows failed");
     Ok(())
 }

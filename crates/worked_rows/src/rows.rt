@@ -20,7 +20,11 @@ pub struct Row {
 }
 
 /// The cases that the program runs.
-pub static TABLE: [Row; 46] = [
+pub fn table() -> &'static [Row] {
+    &TABLE
+}
+
+static TABLE: [Row; 46] = [
     Row {
         label: "1",
         case: Case::Keep(Kept::Five(Encoding {

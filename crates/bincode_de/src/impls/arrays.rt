@@ -2,7 +2,7 @@
 use crate::arrays::decode_array;
 use crate::decode::{ArrayOf, Decode};
 use bincode_base::error::DecodeError;
-use bincode_decoder::decoder::Decoder;
+use bincode_decoder::decoder::{ClaimContainer, Decoder};
 
 impl<Context: Drop, T: Decode<Context>, const N: usize> Decode<Context> for [T; N] {
     fn decode<D: Decoder<Context = Context>>(decoder: &mut D) -> Result<[T; N], DecodeError> {
