@@ -7,7 +7,7 @@ use Rattle.bincode_base.specs.declared.write.SliceWriter.{SliceWriter}
 use Rattle.bincode_base.specs.declared.error.EncodeError.{EncodeError}
 use Rattle.bincode_base.specs.declared.error.EncodeError.TheVariants.{UnexpectedEnd}
 use Rattle.bincode_wire.specs.Allowed.{OneLength}
-use Rattle.bincode_enc.specs.Encoding.{Ready, Writes, Begins, Halts, by_writer, by_name}
+use Rattle.bincode_encoder.specs.Encoding.{Ready, Writes, Begins, Halts, by_writer, by_name}
 use Rattle.bincode.specs.Slice.{Fills, WordWritten, FrontWritten, FitsExactly}
 
 -- what a slice writer adds, and why it refuses a piece

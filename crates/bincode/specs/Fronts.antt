@@ -2,7 +2,7 @@
 use Rattle.std.specs.Prelude.{◌⊎◌, ℕ, List}
 use Rattle.std.proofs.Common.{inl, inr}
 use Rattle.bincode_base.specs.declared.error.EncodeError.{EncodeError}
-use Rattle.bincode_enc.specs.Encoding.{Ready, Begins, IsOwn}
+use Rattle.bincode_encoder.specs.Encoding.{Ready, Begins, IsOwn}
 use Rattle.bincode.specs.Slice.{FrontWritten}
 
 module _ (Writable : Type 0) (Allowed : List ℕ → Type 0) (w : Writable) where

@@ -9,7 +9,7 @@ use Rattle.bincode_base.specs.Format.{Format}
 use Rattle.bincode_wire.specs.Meaning.{Meaning}
 use Rattle.bincode_wire.specs.Allowed.{OneLength}
 use Rattle.bincode_wire.specs.AnswerLaws.{StepsOf}
-use Rattle.bincode_enc.specs.Encoding.{Begins, IsOwn}
+use Rattle.bincode_encoder.specs.Encoding.{Begins, IsOwn}
 
 -- these bytes stand at the front of the slice, and those after them stay
 abbrev pub Fills : List ℕ → List ℕ → List ℕ → Type 0

@@ -3,6 +3,6 @@
 pub use bincode_base::write;
 pub use bincode_enc::encode::Encode;
 pub use bincode_enc::encode_parts::EncodeParts;
-pub use bincode_enc::encoder::{Encoder, EncoderImpl};
 pub use bincode_enc::runs::encode_run;
 pub use bincode_enc::variants::encode_variant;
+pub use bincode_encoder::encoder::{Encoder, EncoderImpl};

@@ -4,7 +4,7 @@ ghost use Rattle.bincode_base.specs.declared.error.EncodeError.TheVariants.{Unex
 ghost use Rattle.bincode_wire.specs.Allowed.{AllowedWord};
 ghost use Rattle.bincode_wire.specs.Answer.{answer};
 ghost use Rattle.bincode_wire.specs.Decoding.{Decodes, Stops};
-ghost use Rattle.bincode_enc.specs.Encoding.{Writes, Ready, Halts};
+ghost use Rattle.bincode_encoder.specs.Encoding.{Writes, Ready, Halts};
 ghost use Rattle.bincode.specs.Slice.{WordWritten, FrontWritten, FitsExactly, Decoded, FindsWords, TellsFaults};
 ghost use Rattle.bincode.specs.Slice.{KeepsLimit};
 
@@ -15,7 +15,7 @@ use bincode_base::write::{SliceWriter, Writer};
 use bincode_de::decode::Decode;
 use bincode_decoder::decoder::LentDecoder;
 use bincode_enc::encode::Encode;
-use bincode_enc::encoder::LentEncoder;
+use bincode_encoder::encoder::LentEncoder;
 use std::alloc::Global;
 
 /// Writes a value into the front of a slice, and answers how many bytes it took. Fails with `UnexpectedEnd` where the

@@ -11,8 +11,8 @@ use Rattle.bincode_wire.specs.Answer.{answer}
 use Rattle.bincode_wire.specs.DecodingLaws.{stops-besides}
 use Rattle.bincode_wire.specs.Run.{IsListOf, CanRelease, Held}
 use Rattle.bincode_wire.specs.RunLaws.{ReadSoFar, none_read, one_more, one_stops, all_read, one-releases, others-release, held-none, held-more, is_list_push}
-use Rattle.bincode_de.specs.Runs.{RunRead, ValueRead}
-use Rattle.bincode_de.proofs.Rooms.{held-within}
+use Rattle.bincode_decoder.specs.Runs.{RunRead, ValueRead}
+use Rattle.bincode_decoder.proofs.Rooms.{held-within}
 
 -- of a run of so many values these were read, and the room of the others is still reserved
 pub record RunSoFar {D T : Type 0} (told : D → Type 0) (rest : D → List ℕ) (charge failures : D → ℕ) (place : D → List GName) (limit : Option ℕ) (claim : ℕ) (format : Format Meaning) (given : Meaning → T → Type 0) (count read : ℕ) (vs : List T) (old now : D) : Type 0 where

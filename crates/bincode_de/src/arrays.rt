@@ -3,7 +3,7 @@ ghost use Rattle.std.specs.Prelude.{◌≡◌, ◌*◌, ◌⊎◌, List, Option,
 ghost use Rattle.bincode_base.specs.Format.{elements};
 ghost use Rattle.bincode_slots.specs.Slots.{SlotsFit};
 ghost use Rattle.bincode_wire.specs.Run.{CanRelease, RoomReturned};
-ghost use Rattle.bincode_de.specs.Runs.{RunRead};
+ghost use Rattle.bincode_decoder.specs.Runs.{RunRead};
 
 use crate::decode::Decode;
 use crate::runs::{decode_next, decode_run};

@@ -3,7 +3,7 @@ ghost use Rattle.std.specs.Prelude.{◌≡◌, ◌≤◌, ◌*◌, length, IfSom
 ghost use Rattle.bincode_wire.specs.Answer.{Allows, answer};
 ghost use Rattle.bincode_wire.specs.Decoding.{Decodes, Stops};
 ghost use Rattle.bincode_wire.specs.Run.{CanRelease};
-ghost use Rattle.bincode_de.specs.Runs.{RunRead};
+ghost use Rattle.bincode_decoder.specs.Runs.{RunRead};
 
 use bincode_base::error::DecodeError;
 use bincode_decoder::decoder::Decoder;

@@ -2,7 +2,7 @@
 ghost use Rattle.std.specs.Prelude.{◌≡◌, ◌*◌, length, IfOk, IfSome, IfErr};
 ghost use Rattle.bincode_base.specs.declared.error.DecodeError.TheVariants.{Memory};
 ghost use Rattle.bincode_wire.specs.Run.{CanRelease};
-ghost use Rattle.bincode_de.specs.Runs.{RunRead, ValueRead};
+ghost use Rattle.bincode_decoder.specs.Runs.{RunRead, ValueRead};
 
 use crate::decode::Decode;
 use bincode_base::error::DecodeError;

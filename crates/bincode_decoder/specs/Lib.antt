@@ -1,2 +1,3 @@
--- What a decoder promises.
+-- What a decoder promises, and the reading of runs.
 pub mod Claims
+pub mod Runs

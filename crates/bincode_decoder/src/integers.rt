@@ -1,5 +1,6 @@
 //! Integers and bytes, read through any decoder.
-ghost use Rattle.std.specs.Prelude.{◌≡◌, ◌<◌, ◌≤◌, ◌⊎◌, [], ◌++◌, length, OnOk, IfOk, IfErr};
+ghost use Rattle.std.specs.Prelude.{◌≡◌, ◌<◌, ◌≤◌, ◌⊎◌, [], ◌++◌, length, ok_or, OnOk, IfOk, IfErr};
+ghost use Rattle.bincode_base.specs.declared.error.DecodeError.TheVariants.{NonZeroTypeIsZero};
 ghost use Rattle.bincode_base.specs.Device.{FallsShort, Rose, Takes};
 ghost use Rattle.bincode_base.specs.Format.{Took, map_format};
 ghost use Rattle.bincode_base.specs.Number.{from_two_complement};
@@ -11,7 +12,7 @@ ghost use Rattle.bincode_wire.specs.Decoding.{Stops};
 use crate::decoder::Decoder;
 use bincode_base::bytes::{read_byte, read_i8};
 use bincode_base::config::Config;
-use bincode_base::error::DecodeError;
+use bincode_base::error::{DecodeError, IntegerType};
 use bincode_base::number::Integer;
 use bincode_base::read::Reader;
 use bincode_wire::wire::Wire;
@@ -128,4 +129,17 @@ pub fn read_from<D: Decoder>(decoder: &mut D, bytes: &mut [u8]) -> Result<(), De
     ensures place { D.place decoder.new ≡ D.place decoder.old }
 {
     decoder.reader().read(bytes)
+}
+
+/// The number, unless it was 0. A fault speaks of it by name.
+#[inline]
+pub fn not_zero<T>(number: Option<T>, name: IntegerType) -> Result<T, DecodeError>
+    ensures { result ≡ ok_or number (NonZeroTypeIsZero name) }
+{
+    match number {
+        Some(number) => Ok(number),
+        None => Err(DecodeError::NonZeroTypeIsZero {
+            non_zero_type: name,
+        }),
+    }
 }

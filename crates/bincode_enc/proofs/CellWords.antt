@@ -8,8 +8,8 @@ use Rattle.bincode_wire.specs.Meaning.{Meaning}
 use Rattle.bincode_wire.specs.Allowed.{AllowedWord, SomeWord}
 use Rattle.bincode_wire.specs.Cells.{IsAny}
 use Rattle.bincode_wire.specs.CellLaws.{cell-allows}
-use Rattle.bincode_enc.specs.Encoding.{Adds, Refuses, Writes, Ready, Begins, IsOwn, Halts, by_writer, by_name}
-use Rattle.bincode_enc.specs.EncodingLaws.{writes_same}
+use Rattle.bincode_encoder.specs.Encoding.{Adds, Refuses, Writes, Ready, Begins, IsOwn, Halts, by_writer, by_name}
+use Rattle.bincode_encoder.specs.EncodingLaws.{writes_same}
 
 module _ (F : Format Meaning) (f : Lawful F) (P : Meaning → Type 0) {W : Type 0} (adds : Adds W) where
   -- its word is one of the cell

@@ -1,4 +1,2 @@
-pub mod Encoding
-pub mod EncodingLaws
 pub mod RunEncoding
 pub mod TupleEncoding

@@ -11,8 +11,8 @@ use Rattle.bincode_wire.specs.Words.{array}
 use Rattle.bincode_wire.specs.Allowed.{AllowedWord, Both}
 use Rattle.bincode_wire.specs.Run.{IsListOf, AllowsEach}
 use Rattle.bincode_wire.specs.RunAllowedLaws.{array-allows, allowed-array, each-join, each-split}
-use Rattle.bincode_enc.specs.Encoding.{Adds, Refuses, Writes, Ready, Halts}
-use Rattle.bincode_enc.specs.EncodingLaws.{writes_both, writes_same, halts_first, halts_next, halts_same, halts_named, ready_as}
+use Rattle.bincode_encoder.specs.Encoding.{Adds, Refuses, Writes, Ready, Halts}
+use Rattle.bincode_encoder.specs.EncodingLaws.{writes_both, writes_same, halts_first, halts_next, halts_same, halts_named, ready_as}
 
 -- the items before an index, the item there and those behind it
 around : {A : Type 0} (vs : List A) (i : ℕ) (v : A) → i < length vs → v ≡ slice_index_or vs i v → vs ≡ take i vs ++ v ∷ drop (i + 1) vs

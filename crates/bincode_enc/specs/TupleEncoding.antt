@@ -6,8 +6,8 @@ use Rattle.bincode_wire.specs.Meaning.{Meaning, IsThen}
 use Rattle.bincode_wire.specs.Words.{first_and}
 use Rattle.bincode_wire.specs.Allowed.{AllowedWord, Both}
 use Rattle.bincode_wire.specs.AllowedLaws.{tuple-allows, allowed-tuple}
-use Rattle.bincode_enc.specs.Encoding.{Adds, Refuses, Writes, Ready, Halts}
-use Rattle.bincode_enc.specs.EncodingLaws.{writes_both, writes_same, halts_in_first, halts_in_next}
+use Rattle.bincode_encoder.specs.Encoding.{Adds, Refuses, Writes, Ready, Halts}
+use Rattle.bincode_encoder.specs.EncodingLaws.{writes_both, writes_same, halts_in_first, halts_in_next}
 
 -- a writer whose writes in turn are one write
 abbrev pub Joined : {W : Type 0} → Adds W → Type 0

@@ -5,10 +5,10 @@ ghost use Rattle.bincode_base.specs.Setting.{Setting};
 ghost use Rattle.bincode_wire.specs.Words.{array};
 ghost use Rattle.bincode_wire.specs.Run.{IsListOf};
 ghost use Rattle.bincode_wire.specs.Allowed.{AllowedWord};
-ghost use Rattle.bincode_enc.specs.Encoding.{Writes, Ready, Halts};
+ghost use Rattle.bincode_encoder.specs.Encoding.{Writes, Ready, Halts};
 
-use crate::encoder::Encoder;
 use bincode_base::error::EncodeError;
+use bincode_encoder::encoder::Encoder;
 use bincode_wire::wire::Wire;
 
 /// A type whose values can be written.

@@ -1,11 +1,11 @@
 //! Types that are encoded by their parts.
 ghost use Rattle.std.specs.Prelude.{◌≡◌, OnOk, IfErr};
 ghost use Rattle.bincode_wire.specs.Allowed.{AllowedWord};
-ghost use Rattle.bincode_enc.specs.Encoding.{Writes, Ready, Halts};
+ghost use Rattle.bincode_encoder.specs.Encoding.{Writes, Ready, Halts};
 
 use crate::encode::Encode;
-use crate::encoder::Encoder;
 use bincode_base::error::EncodeError;
+use bincode_encoder::encoder::Encoder;
 use bincode_wire::parted::Parted;
 
 /// A type whose values are written by their parts. It has `Encode` by this, and so have most types here that are made

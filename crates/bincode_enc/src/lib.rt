@@ -3,7 +3,6 @@
 
 pub mod encode;
 pub mod encode_parts;
-pub mod encoder;
 mod impls;
 mod rows;
 pub mod runs;

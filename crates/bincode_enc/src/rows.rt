@@ -1,11 +1,11 @@
 //! Parts in a row by reference: what tuples are encoded as.
 ghost use Rattle.std.specs.Prelude.{◌≡◌, OnOk, IfErr};
 ghost use Rattle.bincode_wire.specs.Allowed.{AllowedWord};
-ghost use Rattle.bincode_enc.specs.Encoding.{Writes, Ready, Halts};
+ghost use Rattle.bincode_encoder.specs.Encoding.{Writes, Ready, Halts};
 
 use crate::encode::Encode;
-use crate::encoder::Encoder;
 use bincode_base::error::EncodeError;
+use bincode_encoder::encoder::Encoder;
 use bincode_wire::rows::{LongRow, Row};
 use bincode_wire::wire::Wire;
 

@@ -4,11 +4,11 @@ ghost use Rattle.std.specs.List.{All};
 ghost use Rattle.bincode_wire.specs.Words.{array};
 ghost use Rattle.bincode_wire.specs.Run.{IsListOf};
 ghost use Rattle.bincode_wire.specs.Allowed.{AllowedWord};
-ghost use Rattle.bincode_enc.specs.Encoding.{Writes, Ready, Halts};
+ghost use Rattle.bincode_encoder.specs.Encoding.{Writes, Ready, Halts};
 
 use crate::encode::Encode;
-use crate::encoder::{Encoder, write_from};
 use bincode_base::error::EncodeError;
+use bincode_encoder::encoder::{Encoder, write_from};
 
 /// Writes the items in turn, without a length: in one piece, if the type's values are the bytes of their words. Fails
 /// where an item does, and then leaves what `Encode::encode` does: what was written before begins a word of the run.

@@ -6,11 +6,11 @@ ghost use Rattle.bincode_wire.specs.Meaning.{Choice, IsNumber};
 ghost use Rattle.bincode_wire.specs.Words.{natural, behind_tag, chosen};
 ghost use Rattle.bincode_wire.specs.Choices.{IsChoice};
 ghost use Rattle.bincode_wire.specs.Allowed.{AllowedWord, WrittenAlike, SameMeanings};
-ghost use Rattle.bincode_enc.specs.Encoding.{Writes, Ready, Halts};
+ghost use Rattle.bincode_encoder.specs.Encoding.{Writes, Ready, Halts};
 
 use crate::encode::Encode;
-use crate::encoder::Encoder;
 use bincode_base::error::EncodeError;
+use bincode_encoder::encoder::Encoder;
 use bincode_wire::parted::Parted;
 use bincode_wire::sums::{Choice, Tag};
 

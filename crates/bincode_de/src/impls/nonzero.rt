@@ -1,29 +1,14 @@
 //! Decoding of integers other than 0.
 #![tactic(auto, using(crate::proofs::NotZero::by_not_zero))]
 
-ghost use Rattle.std.specs.Prelude.{◌≡◌, ok_or};
-ghost use Rattle.bincode_base.specs.declared.error.DecodeError.TheVariants.{NonZeroTypeIsZero};
-
 use crate::decode::Decode;
 use bincode_base::error::{DecodeError, IntegerType};
 use bincode_decoder::decoder::Decoder;
+use bincode_decoder::integers::not_zero;
 use std::num::{
     NonZeroI8, NonZeroI16, NonZeroI32, NonZeroI64, NonZeroI128, NonZeroIsize, NonZeroU8,
     NonZeroU16, NonZeroU32, NonZeroU64, NonZeroU128, NonZeroUsize,
 };
-
-/// The number, unless it was 0. A fault speaks of it by name.
-#[inline]
-fn not_zero<T>(number: Option<T>, name: IntegerType) -> Result<T, DecodeError>
-    ensures { result ≡ ok_or number (NonZeroTypeIsZero name) }
-{
-    match number {
-        Some(number) => Ok(number),
-        None => Err(DecodeError::NonZeroTypeIsZero {
-            non_zero_type: name,
-        }),
-    }
-}
 
 impl<Context: Drop> Decode<Context> for NonZeroU8 {
     #[inline]

@@ -3,8 +3,9 @@
 
 use crate::decode::{ArrayOf, Decode};
 use bincode_base::error::DecodeError;
+use bincode_decoder::bytes::decode_bytes;
 use bincode_decoder::decoder::Decoder;
-use bincode_decoder::integers::{decode_byte, decode_integer, decode_signed_byte, read_from};
+use bincode_decoder::integers::{decode_byte, decode_integer, decode_signed_byte};
 
 impl<Context: Drop> Decode<Context> for u8 {
     #[inline(always)]
@@ -22,7 +23,7 @@ impl<Context: Drop> Decode<Context> for u8 {
         decoder: &mut D,
         values: &mut [u8],
     ) -> Option<Result<(), DecodeError>> {
-        Some(read_from(decoder, values))
+        Some(decode_bytes(decoder, values))
     }
 }
 

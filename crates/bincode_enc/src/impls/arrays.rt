@@ -1,8 +1,8 @@
 //! Encoding of arrays.
 use crate::encode::Encode;
-use crate::encoder::Encoder;
 use crate::runs::encode_run;
 use bincode_base::error::EncodeError;
+use bincode_encoder::encoder::Encoder;
 
 impl<T: Encode, const N: usize> Encode for [T; N] {
     fn tell_valid(&self) {

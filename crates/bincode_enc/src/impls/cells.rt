@@ -1,7 +1,7 @@
 //! Encoding of cells.
 use crate::encode::Encode;
-use crate::encoder::Encoder;
 use bincode_base::error::EncodeError;
+use bincode_encoder::encoder::Encoder;
 use bincode_base::text::ShortText;
 use std::cell::{Cell, RefCell};
 

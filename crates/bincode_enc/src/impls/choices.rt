@@ -1,16 +1,17 @@
 //! Encoding of truth values, `Option`, `Result` and `Bound`.
 use crate::encode::Encode;
 use crate::encode_parts::EncodeParts;
-use crate::encoder::{Encoder, write_from};
 use crate::variants::encode_variant;
 use bincode_base::error::EncodeError;
+use bincode_encoder::encoder::Encoder;
+use bincode_encoder::truth::encode_truth;
 use std::ops::Bound;
 
 impl Encode for bool {
     fn tell_valid(&self) {}
 
     fn encode<E: Encoder>(&self, encoder: &mut E) -> Result<(), EncodeError> {
-        write_from(encoder, &[u8::from(*self)])
+        encode_truth(encoder, *self)
     }
 }
 

@@ -4,14 +4,14 @@ ghost use Rattle.bincode_base.specs.Format.{map_format};
 ghost use Rattle.bincode_wire.specs.Meaning.{Number, IsNumber};
 ghost use Rattle.bincode_wire.specs.Words.{not_zero_by};
 ghost use Rattle.bincode_wire.specs.Allowed.{AllowedWord};
-ghost use Rattle.bincode_enc.specs.Encoding.{Writes, Ready, Halts};
+ghost use Rattle.bincode_encoder.specs.Encoding.{Writes, Ready, Halts};
 
 use crate::encode::Encode;
 use crate::encode_parts::EncodeParts;
-use crate::encoder::Encoder;
-use crate::impls::numbers::encode_integer;
 use bincode_base::error::EncodeError;
 use bincode_base::number::Integer;
+use bincode_encoder::encoder::Encoder;
+use bincode_encoder::integers::encode_integer;
 use std::num::{
     NonZeroI8, NonZeroI16, NonZeroI32, NonZeroI64, NonZeroI128, NonZeroIsize, NonZeroU8,
     NonZeroU16, NonZeroU32, NonZeroU64, NonZeroU128, NonZeroUsize,

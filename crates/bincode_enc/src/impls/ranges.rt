@@ -1,8 +1,8 @@
 //! Encoding of ranges.
 use crate::encode::Encode;
 use crate::encode_parts::EncodeParts;
-use crate::encoder::Encoder;
 use bincode_base::error::EncodeError;
+use bincode_encoder::encoder::Encoder;
 use std::ops::{Range, RangeInclusive};
 
 impl<T: Encode> EncodeParts for Range<T> {

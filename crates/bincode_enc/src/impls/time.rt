@@ -1,7 +1,7 @@
 //! Encoding of spans of time.
 use crate::encode::Encode;
-use crate::encoder::Encoder;
 use bincode_base::error::EncodeError;
+use bincode_encoder::encoder::Encoder;
 use bincode_wire::own::time::Duration;
 
 impl Encode for Duration {

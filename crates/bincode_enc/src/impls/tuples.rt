@@ -1,9 +1,9 @@
 //! Encoding of tuples.
 use crate::encode::Encode;
 use crate::encode_parts::EncodeParts;
-use crate::encoder::Encoder;
 use crate::rows::{EncodeRow, LentRow, LongLentRow};
 use bincode_base::error::EncodeError;
+use bincode_encoder::encoder::Encoder;
 
 // Always inlined: LLVM takes a call behind several `?` for a rare one, and a call hands on a result with room for an
 // error.

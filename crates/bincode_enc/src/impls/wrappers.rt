@@ -1,8 +1,8 @@
 //! Encoding of wrappers and references.
 use crate::encode::Encode;
 use crate::encode_parts::EncodeParts;
-use crate::encoder::Encoder;
 use bincode_base::error::EncodeError;
+use bincode_encoder::encoder::Encoder;
 use std::cmp::Reverse;
 use std::marker::PhantomData;
 use std::num::Wrapping;

@@ -1,5 +1,5 @@
 use Rattle.std.proofs.lemmas.Result.{IfErr-weaker, on_ok_weaker}
-use Rattle.bincode_enc.specs.EncodingLaws.{writes_alone, halts_alone}
+use Rattle.bincode_encoder.specs.EncodingLaws.{writes_alone, halts_alone}
 use Rattle.bincode_enc.proofs.runs.encode_run.Goals as goal
 
 pub returns-in-Some-clause-ok : goal.returns-in-Some-clause-ok

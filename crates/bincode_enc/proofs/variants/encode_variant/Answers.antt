@@ -5,7 +5,7 @@ use Rattle.bincode_base.specs.Format.{Format}
 use Rattle.bincode_wire.specs.Meaning.{Meaning}
 use Rattle.bincode_wire.specs.Allowed.{AllowedWord, SameMeanings}
 use Rattle.bincode_wire.specs.ChoiceLaws.{choice-allows, allowed-choice}
-use Rattle.bincode_enc.specs.EncodingLaws.{writes_both, writes_same, halts_same, halts_in_first, halts_in_next, halts_where, ready_as}
+use Rattle.bincode_encoder.specs.EncodingLaws.{writes_both, writes_same, halts_same, halts_in_first, halts_in_next, halts_where, ready_as}
 use Rattle.bincode_enc.proofs.variants.encode_variant.Goals as goal
 
 -- the same meanings allow the same words

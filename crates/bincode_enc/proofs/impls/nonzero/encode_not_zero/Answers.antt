@@ -1,4 +1,4 @@
-use Rattle.bincode_enc.specs.EncodingLaws.{writes_not_zero, halts_not_zero}
+use Rattle.bincode_encoder.specs.EncodingLaws.{writes_not_zero, halts_not_zero}
 use Rattle.bincode_enc.proofs.impls.nonzero.encode_not_zero.Goals as goal
 
 pub returns-clause-ok : goal.returns-clause-ok

@@ -1,6 +1,6 @@
 use Rattle.std.proofs.Common.{refl, inl, inr}
 use Rattle.std.proofs.lemmas.Result.{IfErr-weaker, on_ok_weaker}
-use Rattle.bincode_enc.specs.Encoding.{by_name}
+use Rattle.bincode_encoder.specs.Encoding.{by_name}
 use Rattle.bincode_enc.proofs.CellWords.{held_writes, held_halts}
 use Rattle.bincode_enc.proofs.impls.cells.RefCellEncode.encode.Goals as goal
 

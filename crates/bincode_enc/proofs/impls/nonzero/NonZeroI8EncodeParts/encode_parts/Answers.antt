@@ -2,7 +2,7 @@ use Rattle.std.specs.Prelude.{◌<◌, unsigned_abs, FitsSigned}
 use Rattle.std.specs.Int.{w8}
 use Rattle.std.proofs.Common.{rules}
 use Rattle.std.proofs.lemmas.Int.{to_z-of_z}
-use Rattle.bincode_enc.specs.EncodingLaws.{writes_not_zero, halts_not_zero}
+use Rattle.bincode_encoder.specs.EncodingLaws.{writes_not_zero, halts_not_zero}
 use Rattle.bincode_enc.proofs.impls.nonzero.NonZeroI8EncodeParts.encode_parts.Goals as goal
 
 pub returns-clause-ok : goal.returns-clause-ok

@@ -1,6 +1,6 @@
 use Rattle.std.specs.Prelude.{pos}
 use Rattle.bincode_wire.specs.AllowedLaws.{one_natural}
-use Rattle.bincode_enc.specs.EncodingLaws.{writes_not_zero, halts_not_zero}
+use Rattle.bincode_encoder.specs.EncodingLaws.{writes_not_zero, halts_not_zero}
 use Rattle.bincode_enc.proofs.impls.nonzero.NonZeroU8EncodeParts.encode_parts.Goals as goal
 
 pub returns-clause-ok : goal.returns-clause-ok

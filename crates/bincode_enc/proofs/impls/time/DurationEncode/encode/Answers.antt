@@ -4,7 +4,7 @@ use Rattle.std.proofs.lemmas.Result.{IfErr-weaker, on_ok_weaker}
 use Rattle.bincode_wire.specs.Words.{second_in_nanos}
 use Rattle.bincode_wire.specs.AllowedLaws.{pair-allows, allowed-pair}
 use Rattle.bincode_wire.specs.DurationLaws.{duration-allows, allowed-duration}
-use Rattle.bincode_enc.specs.EncodingLaws.{writes_same, halts_same, halts_named, ready}
+use Rattle.bincode_encoder.specs.EncodingLaws.{writes_same, halts_same, halts_named, ready}
 use Rattle.bincode_enc.proofs.impls.time.DurationEncode.encode.Goals as goal
 
 pub returns-clause-ok : goal.returns-clause-ok

@@ -1,5 +1,5 @@
 use Rattle.bincode_wire.specs.AllowedLaws.{nothing-allows}
-use Rattle.bincode_enc.specs.EncodingLaws.{writes_alone}
+use Rattle.bincode_encoder.specs.EncodingLaws.{writes_alone}
 use Rattle.bincode_enc.proofs.impls.tuples.UnitEncode.encode.Goals as goal
 
 pub returns-clause-ok : goal.returns-clause-ok

@@ -1,0 +1,26 @@
+//! Runs of bytes, read at once through any decoder.
+ghost use Rattle.std.specs.Prelude.{◌*◌, pos, length};
+ghost use Rattle.bincode_base.specs.Integers.{unsigned_byte};
+ghost use Rattle.bincode_wire.specs.Meaning.{IsNumber};
+ghost use Rattle.bincode_wire.specs.Words.{natural};
+ghost use Rattle.bincode_wire.specs.Answer.{Allows};
+ghost use Rattle.bincode_wire.specs.Run.{CanRelease};
+ghost use Rattle.bincode_decoder.specs.Runs.{RunRead};
+
+use crate::decoder::Decoder;
+use crate::integers::read_from;
+use bincode_base::error::DecodeError;
+
+/// Fills `values` with the next bytes, whose room `claim_container_read` has reserved, by one read. It is called with a
+/// charge within the limit, and then has the answer of reading one by one, each one's share released before it. Fails
+/// where the reader does.
+#[inline(always)]
+pub fn decode_bytes<D: Decoder>(decoder: &mut D, values: &mut [u8]) -> Result<(), DecodeError>
+    requires room { CanRelease D.C.bound (D.charge decoder.old) (length values.old * 1) }
+    requires allowed { Allows D.C.bound (D.charge decoder.old) }
+    ensures { RunRead D.told D.rest D.charge D.failures D.place D.C.bound D.R.ended D.R.device ⊥ 1
+        (natural unsigned_byte) (λ m n. IsNumber (pos n) m) (length values.old) (λ _. values.new) result
+        decoder.old decoder.new }
+{
+    read_from(decoder, values)
+}

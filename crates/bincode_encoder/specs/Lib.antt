@@ -1,0 +1,3 @@
+-- What encoding does and leaves.
+pub mod Encoding
+pub mod EncodingLaws

@@ -1,0 +1,48 @@
+//! Characters, written through any encoder.
+ghost use Rattle.std.specs.Prelude.{◌≡◌, OnOk, IfErr};
+ghost use Rattle.std.specs.Char.{encode_utf8, IsScalar};
+ghost use Rattle.bincode_wire.specs.Meaning.{IsCharacter};
+ghost use Rattle.bincode_wire.specs.Words.{character};
+ghost use Rattle.bincode_wire.specs.Allowed.{AllowedWord};
+ghost use Rattle.bincode_encoder.specs.Encoding.{Writes, Ready, Halts};
+
+use crate::encoder::{Encoder, write_from};
+use bincode_base::error::EncodeError;
+use bincode_wire::chars::{four_bytes_of_char, three_bytes_of_char, two_bytes_of_char};
+
+// Each number of bytes has its write: one of a length that the compiler knows is a store.
+
+#[inline(always)]
+fn write_char<E: Encoder>(encoder: &mut E, code: u32, bytes: &[u8]) -> Result<(), EncodeError>
+    requires scalar { IsScalar code }
+    requires bytes { bytes.now ≡ encode_utf8 code }
+    ensures ok { OnOk result (Writes E.W.adds (AllowedWord (IsCharacter code) character) (E.writer_of encoder.old)
+        (E.writer_of encoder.new)) }
+    ensures err { IfErr result (Halts E.W.adds E.W.refuses (Ready (Unit {0}) (AllowedWord (IsCharacter code) character))
+        (λ _. ⊥) (E.writer_of encoder.old) (E.writer_of encoder.new)) }
+    ensures place { E.place encoder.new ≡ E.place encoder.old }
+{
+    write_from(encoder, bytes)
+}
+
+/// Writes a character as UTF-8. Fails where the writer refuses its bytes.
+#[inline(always)]
+pub fn encode_char<E: Encoder>(encoder: &mut E, val: char) -> Result<(), EncodeError>
+    ensures ok { OnOk result (Writes E.W.adds (AllowedWord (IsCharacter val) character) (E.writer_of encoder.old)
+        (E.writer_of encoder.new)) }
+    ensures err { IfErr result (Halts E.W.adds E.W.refuses (Ready (Unit {0}) (AllowedWord (IsCharacter val) character))
+        (λ _. ⊥) (E.writer_of encoder.old) (E.writer_of encoder.new)) }
+    ensures place { E.place encoder.new ≡ E.place encoder.old }
+{
+    let code = u32::from(val);
+    if code < 128 {
+        return write_char(encoder, code, &[code as u8]);
+    }
+    if code < 2048 {
+        return write_char(encoder, code, &two_bytes_of_char(code));
+    }
+    if code < 65536 {
+        return write_char(encoder, code, &three_bytes_of_char(code));
+    }
+    write_char(encoder, code, &four_bytes_of_char(code))
+}

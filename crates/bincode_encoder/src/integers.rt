@@ -1,0 +1,60 @@
+//! Integers and bytes, written through any encoder.
+ghost use Rattle.std.specs.Prelude.{◌≡◌, pos, FitsSigned, OnOk, IfErr};
+ghost use Rattle.std.specs.Int.{w8};
+ghost use Rattle.bincode_base.specs.Format.{map_format};
+ghost use Rattle.bincode_base.specs.Integers.{unsigned_byte, signed_byte};
+ghost use Rattle.bincode_wire.specs.Meaning.{Number, IsNumber};
+ghost use Rattle.bincode_wire.specs.Words.{natural, integral};
+ghost use Rattle.bincode_wire.specs.Allowed.{AllowedWord};
+ghost use Rattle.bincode_encoder.specs.Encoding.{Writes, Ready, Halts};
+
+use crate::encoder::{Encoder, write_from};
+use bincode_base::bytes::byte_of_i8;
+use bincode_base::config::Config;
+use bincode_base::error::EncodeError;
+use bincode_base::number::Integer;
+
+/// Writes an integer as the configuration says. Fails where the writer refuses a piece; those before it stay written.
+#[inline(always)]
+pub fn encode_integer<T: Integer, E: Encoder>(encoder: &mut E, val: T) -> Result<(), EncodeError>
+    requires fits { T.spelling.Fits val }
+    ensures ok { OnOk result (Writes E.W.adds (AllowedWord (IsNumber (T.spelling.integer val))
+        (map_format (λ k. Number (T.spelling.integer k)) (T.spelling.words E.C.setting))) (E.writer_of encoder.old)
+        (E.writer_of encoder.new)) }
+    ensures err { IfErr result (Halts E.W.adds E.W.refuses
+        (Ready (Unit {0}) (AllowedWord (IsNumber (T.spelling.integer val))
+        (map_format (λ k. Number (T.spelling.integer k)) (T.spelling.words E.C.setting)))) (λ _. ⊥)
+        (E.writer_of encoder.old) (E.writer_of encoder.new)) }
+    ensures place { E.place encoder.new ≡ E.place encoder.old }
+{
+    let endian = encoder.config().endianness();
+    let encoding = encoder.config().int_encoding();
+    val.write(encoder.writer(), endian, encoding)
+}
+
+/// Writes a byte as it is. Fails where the writer refuses it.
+#[inline(always)]
+pub fn encode_byte<E: Encoder>(encoder: &mut E, val: u8) -> Result<(), EncodeError>
+    ensures ok { OnOk result (Writes E.W.adds (AllowedWord (IsNumber (pos val)) (natural unsigned_byte))
+        (E.writer_of encoder.old) (E.writer_of encoder.new)) }
+    ensures err { IfErr result (Halts E.W.adds E.W.refuses
+        (Ready (Unit {0}) (AllowedWord (IsNumber (pos val)) (natural unsigned_byte))) (λ _. ⊥)
+        (E.writer_of encoder.old) (E.writer_of encoder.new)) }
+    ensures place { E.place encoder.new ≡ E.place encoder.old }
+{
+    write_from(encoder, &[val])
+}
+
+/// Writes a signed byte by its two's complement. Fails where the writer refuses it.
+#[inline(always)]
+pub fn encode_signed_byte<E: Encoder>(encoder: &mut E, val: i8) -> Result<(), EncodeError>
+    requires { FitsSigned w8 val }
+    ensures ok { OnOk result (Writes E.W.adds (AllowedWord (IsNumber val) (integral signed_byte))
+        (E.writer_of encoder.old) (E.writer_of encoder.new)) }
+    ensures err { IfErr result (Halts E.W.adds E.W.refuses
+        (Ready (Unit {0}) (AllowedWord (IsNumber val) (integral signed_byte))) (λ _. ⊥)
+        (E.writer_of encoder.old) (E.writer_of encoder.new)) }
+    ensures place { E.place encoder.new ≡ E.place encoder.old }
+{
+    write_from(encoder, &[byte_of_i8(val)])
+}
