@@ -6,6 +6,6 @@ pub use bincode_de::arrays::decode_array;
 pub use bincode_de::decode::{ArrayOf, Decode};
 pub use bincode_de::from_parts::FromParts;
 pub use bincode_de::runs::{decode_run, decode_vec};
-pub use bincode_de::variants::Named;
 pub use bincode_decoder::decoder::{ClaimContainer, Decoder, DecoderImpl};
+pub use bincode_decoder::tags::Named;
 pub use bincode_slots::{collect_into_array, slots_fit};

@@ -2,9 +2,7 @@
 
 use crate::decode::{ArrayOf, Decode};
 use crate::from_parts::FromParts;
-use crate::variants::Named;
 use bincode_base::error::DecodeError;
-use bincode_base::text::TypeName;
 use bincode_decoder::decoder::Decoder;
 use bincode_decoder::truth::decode_truth;
 use bincode_wire::sums::Or;
@@ -22,12 +20,6 @@ impl<Context: Drop> Decode<Context> for bool {
     }
 }
 
-impl<T> Named for Option<T> {
-    fn type_name() -> TypeName {
-        TypeName::new("Option")
-    }
-}
-
 impl<T: Wire> FromParts for Option<T> {
     fn from_parts(parts: Self::Parts) -> Self {
         match parts.0 {
@@ -37,24 +29,12 @@ impl<T: Wire> FromParts for Option<T> {
     }
 }
 
-impl<T, U> Named for Result<T, U> {
-    fn type_name() -> TypeName {
-        TypeName::new("Result")
-    }
-}
-
 impl<T: Wire, U: Wire> FromParts for Result<T, U> {
     fn from_parts(parts: Self::Parts) -> Self {
         match parts.0 {
             Or::This(value) => Ok(value),
             Or::Other(Or::This(value)) => Err(value),
         }
-    }
-}
-
-impl<T> Named for Bound<T> {
-    fn type_name() -> TypeName {
-        TypeName::new("Bound")
     }
 }
 

@@ -1,8 +1,8 @@
 //! Encoding of cells.
 use crate::encode::Encode;
 use bincode_base::error::EncodeError;
-use bincode_encoder::encoder::Encoder;
 use bincode_base::text::ShortText;
+use bincode_encoder::encoder::Encoder;
 use std::cell::{Cell, RefCell};
 
 impl<T: Encode + Copy> Encode for Cell<T> {

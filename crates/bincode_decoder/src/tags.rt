@@ -1,0 +1,150 @@
+//! Tags of enums, read through any decoder, and the error of one that no variant has.
+ghost use Rattle.std.specs.Prelude.{◌≡◌, ◌⊎◌, ◌≤◌, ◌++◌, false, OnOk, IfOk, IfErr};
+ghost use Rattle.bincode_base.specs.Fault.{TellsTag};
+ghost use Rattle.bincode_base.specs.declared.error.DecodeError.TheVariants.{Memory};
+ghost use Rattle.bincode_wire.specs.Words.{tags_of, in_order, last_of, allowed_tags};
+ghost use Rattle.bincode_wire.specs.Answer.{Gave, answer};
+ghost use Rattle.bincode_wire.specs.Decoding.{Stops};
+
+use crate::decoder::Decoder;
+use crate::integers::{decode_byte, decode_integer};
+use bincode_base::error::DecodeError;
+use bincode_base::text::TypeName;
+use bincode_wire::sums::{NoOther, Or, Tag, Variants};
+use bincode_wire::wire::Wire;
+use std::alloc::{AllocError, Global};
+use std::ops::Bound;
+
+/// A type that errors name.
+pub trait Named {
+    fn type_name() -> TypeName;
+}
+
+impl<T> Named for Option<T> {
+    fn type_name() -> TypeName {
+        TypeName::new("Option")
+    }
+}
+
+impl<T, U> Named for Result<T, U> {
+    fn type_name() -> TypeName {
+        TypeName::new("Result")
+    }
+}
+
+impl<T> Named for Bound<T> {
+    fn type_name() -> TypeName {
+        TypeName::new("Bound")
+    }
+}
+
+/// A type of tags that can be read.
+pub trait DecodeTag: Tag {
+    /// Reads a tag.
+    fn decode_tag<D: Decoder>(decoder: &mut D) -> Result<u32, DecodeError>
+        ensures ok { D.told decoder.old → IfOk result (λ v. answer D.C.bound (Self.tags D.C.setting)
+            (D.rest decoder.old) (D.charge decoder.old) ≡ Gave v (D.rest decoder.new) (D.charge decoder.new)) }
+        ensures err { D.told decoder.old → IfErr result (Stops D.R.ended D.R.device ⊥
+            (answer D.C.bound (Self.tags D.C.setting) (D.rest decoder.old) (D.charge decoder.old))
+            (D.failures decoder.old) (D.failures decoder.new) (D.rest decoder.old) (D.rest decoder.new)) }
+        ensures count { D.failures decoder.old ≤ D.failures decoder.new }
+        ensures told { D.told decoder.old → D.told decoder.new }
+        ensures held { D.charge decoder.old ≤ D.charge decoder.new }
+        ensures place { D.place decoder.new ≡ D.place decoder.old };
+}
+
+impl DecodeTag for u8 {
+    #[inline]
+    fn decode_tag<D: Decoder>(decoder: &mut D) -> Result<u32, DecodeError> {
+        let tag = decode_byte(decoder)?;
+        Ok(u32::from(tag))
+    }
+}
+
+impl DecodeTag for u32 {
+    #[inline]
+    fn decode_tag<D: Decoder>(decoder: &mut D) -> Result<u32, DecodeError> {
+        decode_integer(decoder)
+    }
+}
+
+/// Variants whose tags an error can list.
+pub trait Listed: Variants {
+    /// Whether the tags stand in order, from `next` on.
+    fn are_in_order(next: u64) -> bool
+        ensures { result ≡ in_order next (tags_of Self.variants) };
+
+    /// The last tag, or the one before where there is none.
+    fn last_tag(before: u32) -> u32
+        ensures { result ≡ last_of before (tags_of Self.variants) };
+
+    /// Adds the tags to a list.
+    fn push_tags(tags: &mut Vec<u32>) -> Result<(), AllocError>
+        ensures { OnOk result (tags.new.items ≡ tags.old.items ++ tags_of Self.variants) };
+}
+
+impl<Of, T: Tag> Listed for NoOther<Of, T> {
+    fn are_in_order(_next: u64) -> bool {
+        true
+    }
+
+    fn last_tag(before: u32) -> u32 {
+        before
+    }
+
+    fn push_tags(_tags: &mut Vec<u32>) -> Result<(), AllocError> {
+        Ok(())
+    }
+}
+
+impl<const TAG: u32, A: Wire, Others: Listed> Listed for Or<TAG, A, Others> {
+    fn are_in_order(next: u64) -> bool {
+        u64::from(TAG) == next && Others::are_in_order(next + 1)
+    }
+
+    fn last_tag(_before: u32) -> u32 {
+        Others::last_tag(TAG)
+    }
+
+    fn push_tags(tags: &mut Vec<u32>) -> Result<(), AllocError> {
+        tags.push(TAG)?;
+        Others::push_tags(tags)
+    }
+}
+
+/// The error of a tag that none of a type's `All` variants has: it takes memory for a list of tags that do not stand in
+/// order.
+#[cold]
+#[inline(never)]
+pub fn unexpected<Of: Named, All: Listed>(alloc: Global, found: u32) -> DecodeError
+    ensures { ((name : _) × TellsTag name (allowed_tags (tags_of All.variants)) found result)
+        ⊎ ((in_order 0 (tags_of All.variants) ≡ false) × (result ≡ Memory)) }
+{
+    let type_name = Of::type_name();
+    if All::are_in_order(0) {
+        return DecodeError::UnexpectedVariant {
+            type_name,
+            found,
+            min: 0,
+            max: All::last_tag(0),
+        };
+    }
+    match all_tags::<All>(alloc) {
+        Ok(allowed) => DecodeError::UnlistedVariant {
+            type_name,
+            found,
+            allowed,
+        },
+        Err(_) => DecodeError::Memory,
+    }
+}
+
+/// The list of the tags, on the heap.
+fn all_tags<All: Listed>(alloc: Global) -> Result<Box<Vec<u32>>, AllocError>
+    ensures { IfOk result (λ tags. tags.value.items ≡ tags_of All.variants) }
+{
+    let mut tags = Vec::new(alloc);
+    All::push_tags(&mut tags)?;
+    let boxed = Box::new(alloc, tags)?;
+    Ok(boxed)
+}
