@@ -11,9 +11,9 @@ use crate::integers::decode_integer;
 use bincode_base::error::DecodeError;
 use bincode_wire::own::time::Duration;
 
-/// Charges for the seconds and reads them, and then for the nanoseconds, of which whole seconds are carried. Fails where
-/// one of the numbers does, or with `InvalidDuration`, which has both as they were read, where the seconds pass 64 bits.
-/// A fault leaves the charge.
+/// Charges for the seconds and reads them, and then for the nanoseconds, of which whole seconds are carried. Fails
+/// where one of the numbers does, or with `InvalidDuration`, which has both as they were read, where the seconds pass
+/// 64 bits. A fault leaves the charge.
 pub fn decode_duration<D: Decoder>(decoder: &mut D) -> Result<Duration, DecodeError>
     ensures ok { D.told decoder.old → IfOk result (λ v. Decodes
         (IsThen (IsNumber (pos (secs_of v))) (IsThen (IsNumber (pos (nanos_of v))) IsNothing))
