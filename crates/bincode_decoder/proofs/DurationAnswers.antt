@@ -15,7 +15,7 @@ use Rattle.bincode_wire.specs.DurationLaws.{IsSpan, span, span_is, carries, over
 use Rattle.bincode_wire.specs.Answer.{Gave, answer}
 use Rattle.bincode_wire.specs.Decoding.{Decodes, Stops, by_fault}
 use Rattle.bincode_wire.specs.DecodingLaws.{answer-next, map-gave, map-stops, settled-gave, settled-refused, gave-takes, stops-first, stops-next}
-use Rattle.bincode_decoder.proofs.CellAnswers.{rewritten-answer}
+use Rattle.bincode_decoder.proofs.WrittenAs.{rewritten-answer}
 
 module _ (limit : Option ℕ) (s : Setting) (input : List ℕ) (c : ℕ) where
   in_parts : answer limit (duration s) input c ≡ answer limit (seconds_and_nanos s >>= λ parts. settled (duration_of parts.0 parts.1)) input c

@@ -1,5 +1,5 @@
 -- What the proofs of this crate share, and those of crates above it.
-pub mod CellAnswers
+pub mod WrittenAs
 pub mod DurationAnswers
 pub mod Rooms
 pub mod BytesAtOnce

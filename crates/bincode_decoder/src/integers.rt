@@ -1,5 +1,6 @@
 //! Integers and bytes, read through any decoder.
-ghost use Rattle.std.specs.Prelude.{◌≡◌, ◌<◌, ◌≤◌, ◌⊎◌, [], ◌++◌, length, ok_or, OnOk, IfOk, IfErr};
+ghost use Rattle.std.specs.Prelude.{◌≡◌, ◌<◌, ◌≤◌, ◌⊎◌, [], ◌++◌, length};
+ghost use Rattle.std.specs.Prelude.{ok_or, OnOk, IfOk, IfErr};
 ghost use Rattle.bincode_base.specs.declared.error.DecodeError.TheVariants.{NonZeroTypeIsZero};
 ghost use Rattle.bincode_base.specs.Device.{FallsShort, Rose, Takes};
 ghost use Rattle.bincode_base.specs.Format.{Took, map_format};

@@ -1,5 +1,5 @@
 use Rattle.std.proofs.lemmas.Result.{err_from_is_err_and}
-use Rattle.bincode_decoder.proofs.CellAnswers.{cell-answer, cell-decodes}
+use Rattle.bincode_de.proofs.CellAnswers.{cell-answer, cell-decodes}
 use Rattle.bincode_de.proofs.impls.cells.CellDecode.decode.Goals as goal
 
 pub returns-in_err-decode-clause-err : goal.returns-in_err-decode-clause-err

@@ -1,14 +1,11 @@
--- What is written doesn't change what is read.
-use Rattle.std.specs.Prelude.{◌≡◌, ℕ, List, Option, refl}
-use Rattle.bincode_base.specs.Format.{Format, written_as, of_cell}
+-- What a cell holds is read for the cell.
+use Rattle.std.specs.Prelude.{◌≡◌, ℕ, List, Option}
+use Rattle.bincode_base.specs.Format.{Format, of_cell}
 use Rattle.bincode_wire.specs.Meaning.{Meaning}
 use Rattle.bincode_wire.specs.Answer.{answer}
 use Rattle.bincode_wire.specs.Decoding.{Decodes}
 use Rattle.bincode_wire.specs.Cells.{IsAny}
-
-pub rewritten-answer : {A : Type 0} (Chosen : List ℕ → A → Type 0) (F : Format A) (limit : Option ℕ) (input : List ℕ) (c : ℕ) → answer limit (written_as Chosen F) input c ≡ answer limit F input c
-unfolding answer written_as
-rewritten-answer Chosen F limit input c = refl
+use Rattle.bincode_decoder.proofs.WrittenAs.{rewritten-answer}
 
 module _ (F : Format Meaning) (limit : Option ℕ) (input : List ℕ) (c : ℕ) where
   -- a cell is read as what it holds
