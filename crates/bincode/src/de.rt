@@ -2,10 +2,10 @@
 
 pub use bincode_base::io_read::{IoReader, LentIoReader};
 pub use bincode_base::read;
-pub use bincode_de::arrays::decode_array;
-pub use bincode_de::decode::{ArrayOf, Decode};
+pub use bincode_de::decode::Decode;
 pub use bincode_de::from_parts::FromParts;
-pub use bincode_de::runs::{decode_run, decode_vec};
+pub use bincode_de::runs::{decode_array, decode_run, decode_vec};
 pub use bincode_decoder::decoder::{ClaimContainer, Decoder, DecoderImpl};
 pub use bincode_decoder::tags::Named;
 pub use bincode_slots::{collect_into_array, slots_fit};
+pub use bincode_values::values::ArrayOf;

@@ -1,23 +1,31 @@
 -- Numbers other than 0 are decoded as numbers, and 0 is refused.
-use Rattle.std.specs.Prelude.{◌≡◌, ◌==◌, if◌then◌else◌, ℕ, unsigned_abs, Bool, true, false, Result, Ok, Err, IfErr, List, Option, refl}
-use Rattle.std.proofs.Common.{sym, ◌∙◌, ap, subst}
-use Rattle.std.proofs.lemmas.Result.{IfErr-weaker}
+use Rattle.std.specs.Prelude.{◌≡◌, ◌<◌, ◌==◌, if◌then◌else◌, ℕ, unsigned_abs, Bool, true, false, Result, Ok, Err, List, Option, Some, None, refl}
+use Rattle.std.specs.Borrow.{GName}
+use Rattle.std.specs.Option.{MatchOption, ok_or}
+use Rattle.std.proofs.Common.{sym, ◌∙◌, ap, subst, arith}
+use Rattle.std.proofs.lemmas.Bool.{ne_eqb}
 use Rattle.bincode_base.specs.declared.error.IntegerType.{IntegerType}
 use Rattle.bincode_base.specs.declared.error.DecodeError.{DecodeError}
 use Rattle.bincode_base.specs.declared.error.DecodeError.TheVariants.{NonZeroTypeIsZero}
 use Rattle.bincode_base.specs.Device.{DeviceErrors, Takes}
 use Rattle.bincode_base.specs.Fault.{Zero}
-use Rattle.bincode_base.specs.Format.{Format, settled, map_format}
+use Rattle.bincode_base.specs.Format.{Format, settled, done, map_format}
 use Rattle.bincode_base.specs.Laws.{Lawful}
 use Rattle.bincode_base.specs.FormatLaws.{map-lawful}
-use Rattle.bincode_base.specs.IntegerLaws.{Two, Four, Eight, Sixteen, unsigned-lawful, signed-lawful, unsigned_byte-lawful, signed_byte-lawful}
 use Rattle.bincode_wire.specs.Meaning.{Meaning, Number}
 use Rattle.bincode_wire.specs.Words.{not_zero_of, not_zero_by}
 use Rattle.bincode_wire.specs.Answer.{Answer, answer, Gave, Refused, PassedLimit, and_then}
 use Rattle.bincode_wire.specs.AnswerLaws.{answer-then, answer-done, answer-refused}
 use Rattle.bincode_wire.specs.Decoding.{Stops, by_fault, by_limit, by_memory, by_failure, by_device}
 use Rattle.bincode_wire.specs.DecodingLaws.{gave-takes}
-use Rattle.bincode_de.proofs.NumberMeanings.{renamed, mapped}
+use Rattle.bincode_decoder.specs.Runs.{Reads}
+use Rattle.bincode_decoder.proofs.ReadAnswers.{read-as}
+
+-- an answer with its meaning renamed
+abbrev renamed : {A B : Type 0} → (A → B) → Answer A → Answer B
+renamed f (Gave a r d) = Gave (f a) r d
+renamed f (Refused why) = Refused why
+renamed f PassedLimit = PassedLimit
 
 -- the size of a number, by its meaning
 abbrev pub size_of : Meaning → ℕ
@@ -25,69 +33,78 @@ size_of (Number z) = unsigned_abs z
 size_of m = 1
 
 -- the answer where 0 is refused, by that where it is not
-abbrev pub tested : IntegerType → Answer Meaning → Answer Meaning
+abbrev tested : IntegerType → Answer Meaning → Answer Meaning
 tested name (Gave m r d) = if size_of m == 0 then Refused (Zero name) else Gave m r d
 tested name (Refused why) = Refused why
 tested name PassedLimit = PassedLimit
 
--- something was given
-abbrev pub IsGave : Answer Meaning → Type 0
-IsGave (Gave m r d) = Unit {0}
-IsGave (Refused why) = ⊥
-IsGave PassedLimit = ⊥
+tested_stop : (name : IntegerType) (ended : ℕ → DecodeError → Type 0) (device : DeviceErrors) (H : Type 0) (before after : ℕ) (input rest : List ℕ) (e : DecodeError) (a : Answer Meaning) → Stops ended device H a before after input rest e → Stops ended device H (tested name a) before after input rest e
+tested_stop name ended device H before after input rest e a (by_fault why h t k) = by_fault why (ap (tested name) h) t k
+tested_stop name ended device H before after input rest e a (by_limit h t k) = by_limit (ap (tested name) h) t k
+tested_stop name ended device H before after input rest e a (by_memory h t k) = by_memory h t k
+tested_stop name ended device H before after input rest e a (by_failure d h k) = by_failure d h k
+tested_stop name ended device H before after input rest e a (by_device h) = by_device h
 
--- 0 was given, with this rest
-abbrev pub GaveZero : Answer Meaning → List ℕ → Type 0
-GaveZero (Gave m r d) rest = (size_of m ≡ 0) × (r ≡ rest)
-GaveZero (Refused why) rest = ⊥
-GaveZero PassedLimit rest = ⊥
+module _ {A : Type 0} (f : A → Meaning) (size : A → ℕ) (name : IntegerType) (same : (a : A) → size_of (f a) ≡ size a) where
+  module _ (limit : Option ℕ) (F : Format A) (input : List ℕ) (c : ℕ) where
+    mapped : {B : Type 0} (G : Format A) (h : A → B) → answer limit (map_format h G) input c ≡ renamed h (answer limit G input c)
+    mapped G h = answer-then limit G (λ z. done (h z)) input c ∙ each (answer limit G input c)
+      where
+        each : (a : Answer A) → and_then a (λ z r d. answer limit (done (h z)) r d) ≡ renamed h a
+        each (Gave a r d) = answer-done limit (h a) r d
+        each (Refused why) = refl
+        each PassedLimit = refl
 
-module _ (name : IntegerType) (ended : ℕ → DecodeError → Type 0) (device : DeviceErrors) (H : Type 0) (before after : ℕ) (input rest : List ℕ) (e : DecodeError) where
-  tested_stop : (a : Answer Meaning) → Stops ended device H a before after input rest e → Stops ended device H (tested name a) before after input rest e
-  tested_stop a (by_fault why h t k) = by_fault why (ap (tested name) h) t k
-  tested_stop a (by_limit h t k) = by_limit (ap (tested name) h) t k
-  tested_stop a (by_memory h t k) = by_memory h t k
-  tested_stop a (by_failure d h k) = by_failure d h k
-  tested_stop a (by_device h) = by_device h
+    by_size : answer limit (map_format f (not_zero_by size name F)) input c ≡ tested name (answer limit (map_format f F) input c)
+    by_size =
+        mapped (not_zero_by size name F) f
+        ∙ ap (renamed f) (answer-then limit F (λ a. settled (not_zero_of name (size a) a)) input c)
+        ∙ each (answer limit F input c)
+        ∙ ap (tested name) (sym (mapped F f))
+      where
+        chosen : (a : A) (r : List ℕ) (d : ℕ) (zero : Bool) → renamed f (answer limit (settled (if zero then Err (Zero name) else Ok a)) r d) ≡ (if zero then Refused (Zero name) else Gave (f a) r d)
+        chosen a r d true = ap (renamed f) (answer-refused limit (Zero name) r d)
+        chosen a r d false = ap (renamed f) (answer-done limit a r d)
 
-  zero_stop : (limit : Option ℕ) (F : Format Meaning) (c : ℕ) → Lawful F → (a : Answer Meaning) → answer limit F input c ≡ a → GaveZero a rest → e ≡ NonZeroTypeIsZero name → Stops ended device H (tested name a) before after input rest e
-  zero_stop limit F c f (Gave m r d) same h t = by_fault (Zero name) (rw (h.0) refl) t (subst (Takes input) h.1 (gave-takes limit F f input c m r d same))
-  zero_stop limit F c f (Refused why) same h t = absurd h
-  zero_stop limit F c f PassedLimit same h t = absurd h
+        each : (a : Answer A) → renamed f (and_then a (λ v r d. answer limit (settled (not_zero_of name (size v) v)) r d)) ≡ tested name (renamed f a)
+        each (Gave a r d) = rw (same a) (chosen a r d (size a == 0))
+        each (Refused why) = refl
+        each PassedLimit = refl
 
-module _ {A : Type 0} (f : A → Meaning) (size : A → ℕ) (name : IntegerType) (limit : Option ℕ) (F : Format A) (input : List ℕ) (c : ℕ) where
-  -- numbers have their sizes by their meanings too
-  abbrev SameSize : Type 0
-  SameSize = (a : A) → size_of (f a) ≡ size a
+    -- 0 was read
+    was_zero : (m : Meaning) (rest : List ℕ) (d : ℕ) → answer limit (map_format f F) input c ≡ Gave m rest d → size_of m ≡ 0 → answer limit (map_format f (not_zero_by size name F)) input c ≡ Refused (Zero name)
+    was_zero m rest d e z = by_size ∙ ap (tested name) e ∙ rw z refl
 
-  by_size : SameSize → answer limit (map_format f (not_zero_by size name F)) input c ≡ tested name (answer limit (map_format f F) input c)
-  by_size same =
-      mapped f limit (not_zero_by size name F) input c
-      ∙ ap (renamed f) (answer-then limit F (λ a. settled (not_zero_of name (size a) a)) input c)
-      ∙ each (answer limit F input c)
-      ∙ ap (tested name) (sym (mapped f limit F input c))
-    where
-      chosen : (a : A) (r : List ℕ) (d : ℕ) (zero : Bool) → renamed f (answer limit (settled (if zero then Err (Zero name) else Ok a)) r d) ≡ (if zero then Refused (Zero name) else Gave (f a) r d)
-      chosen a r d true = ap (renamed f) (answer-refused limit (Zero name) r d)
-      chosen a r d false = ap (renamed f) (answer-done limit a r d)
+    -- another number was
+    was_number : (m : Meaning) (rest : List ℕ) (d : ℕ) → answer limit (map_format f F) input c ≡ Gave m rest d → 0 < size_of m → answer limit (map_format f (not_zero_by size name F)) input c ≡ Gave m rest d
+    was_number m rest d e p = by_size ∙ ap (tested name) e ∙ rw (ne_eqb (size_of m) 0 (λ z. omega (arith, z, p))) refl
 
-      each : (a : Answer A) → renamed f (and_then a (λ v r d. answer limit (settled (not_zero_of name (size v) v)) r d)) ≡ tested name (renamed f a)
-      each (Gave a r d) = rw (same a) (chosen a r d (size a == 0))
-      each (Refused why) = refl
-      each PassedLimit = refl
+  module _ {D T : Type 0} {told : D → Type 0} {rest : D → List ℕ} {charge failures : D → ℕ} {place : D → List GName} {limit : Option ℕ} {ended : ℕ → DecodeError → Type 0} {device : DeviceErrors} (F : Format A) {given : Meaning → A → Type 0} {other : Meaning → T → Type 0} {start : ℕ} {old new : D} where
+    -- where the number stops, so does the number other than 0
+    pub stops-too : (e : DecodeError) → Reads told rest charge failures place limit ended device ⊥ (map_format f F) given start (Err e) old new → Reads told rest charge failures place limit ended device ⊥ (map_format f (not_zero_by size name F)) other start (Err e) old new
+    stops-too e read = read-as (λ known. tt) (λ known. rw (by_size limit F (rest old) start) (tested_stop name ended device ⊥ (failures old) (failures new) (rest old) (rest new) e (answer limit (map_format f F) (rest old) start) (read.err known))) read
 
-  -- where a number was given; elsewhere it is not rewritten
-  pub gave_tested : SameSize → IsGave (answer limit (map_format f F) input c) → answer limit (map_format f (not_zero_by size name F)) input c ≡ tested name (answer limit (map_format f F) input c)
-  gave_tested same h = by_size same
-
-  module _ {T : Type 0} (ended : ℕ → DecodeError → Type 0) (device : DeviceErrors) (H : Type 0) (before after : ℕ) (rest : List ℕ) (r : Result T DecodeError) where
-    -- where the number stops
-    pub tested_stops : SameSize → IfErr r (Stops ended device H (answer limit (map_format f F) input c) before after input rest) → IfErr r (Stops ended device H (answer limit (map_format f (not_zero_by size name F)) input c) before after input rest)
-    tested_stops same h = rw (by_size same) (IfErr-weaker r _ _ (λ e. tested_stop name ended device H before after input rest e (answer limit (map_format f F) input c)) h)
-
-    -- at 0
-    pub zero_stops : Lawful F → SameSize → IfErr r (λ e. (e ≡ NonZeroTypeIsZero name) × GaveZero (answer limit (map_format f F) input c) rest) → IfErr r (Stops ended device H (answer limit (map_format f (not_zero_by size name F)) input c) before after input rest)
-    zero_stops l same h = rw (by_size same) (IfErr-weaker r _ _ (λ e k. zero_stop name ended device H before after input rest e limit (map_format f F) c (map-lawful f F l) (answer limit (map_format f F) input c) refl k.1 k.0) h)
-
--- for the proofs of `impls/nonzero.rt`
-pub ruleset by_not_zero = (gave_tested, tested_stops, zero_stops, unsigned-lawful, signed-lawful, unsigned_byte-lawful, signed_byte-lawful, Two, Four, Eight, Sixteen)
+    -- and a number is tested
+    pub read-tested : (get : T → A) (zero n k : A) (number : Option T) (r : Result T DecodeError) → size zero ≡ 0 → Lawful F → ((x : T) → 0 < size (get x)) → ((m : Meaning) → given m n → m ≡ f n) → ((x : T) (m : Meaning) → m ≡ f (get x) → other m x) →
+        k ≡ n → MatchOption number (k ≡ zero) (λ x. get x ≡ k) → r ≡ ok_or number (NonZeroTypeIsZero name) → Reads told rest charge failures place limit ended device ⊥ (map_format f F) given start (Ok n) old new →
+        Reads told rest charge failures place limit ended device ⊥ (map_format f (not_zero_by size name F)) other start r old new
+    read-tested get zero n k (Some x) r z l above is gives same_number made result read =
+        rw result
+        (read-as
+        (λ known.
+        let d = read.ok known in
+        let e : d.meaning ≡ f n = is d.meaning d.is_given in
+        let e' : size_of d.meaning ≡ size (get x) = ap size_of e ∙ same n ∙ ap size (sym (made ∙ same_number)) in
+        let p = above x in
+        record { meaning = d.meaning; answer_is = was_number limit F (rest old) start d.meaning (rest new) (charge new) d.answer_is (omega (arith, e', p)); is_given = gives x d.meaning (e ∙ ap f (sym (made ∙ same_number))) })
+        (λ known. tt)
+        read)
+    read-tested get zero n k None r z l above is gives same_number made result read =
+        rw result
+        (read-as
+        (λ known. tt)
+        (λ known.
+        let d = read.ok known in
+        let e' : size_of d.meaning ≡ 0 = ap size_of (is d.meaning d.is_given) ∙ same n ∙ ap size (sym same_number ∙ made) ∙ z in
+        by_fault (Zero name) (was_zero limit F (rest old) start d.meaning (rest new) (charge new) d.answer_is e') refl (gave-takes limit (map_format f F) (map-lawful f F l) (rest old) start d.meaning (rest new) (charge new) d.answer_is))
+        read)

@@ -1,12 +1,12 @@
 //! What can be decoded.
-ghost use Rattle.std.specs.Prelude.{◌≡◌, ◌≤◌, ◌*◌, length, IfSome, IfNone, IfOk, IfErr};
-ghost use Rattle.bincode_wire.specs.Answer.{Allows, answer};
-ghost use Rattle.bincode_wire.specs.Decoding.{Decodes, Stops};
+ghost use Rattle.std.specs.Prelude.{◌≡◌, ◌*◌, length, IfSome, IfNone};
+ghost use Rattle.bincode_wire.specs.Answer.{Allows};
 ghost use Rattle.bincode_wire.specs.Run.{CanRelease};
-ghost use Rattle.bincode_decoder.specs.Runs.{RunRead};
+ghost use Rattle.bincode_decoder.specs.Runs.{Reads, RunRead};
 
 use bincode_base::error::DecodeError;
 use bincode_decoder::decoder::Decoder;
+use bincode_values::values::ArrayOf;
 use bincode_wire::wire::Wire;
 
 /// A type whose values can be read, in a context.
@@ -15,16 +15,8 @@ pub trait Decode<Context: Drop>: Wire + Drop + Sized {
     /// the limit, where memory is refused, or where the device fails. Then some front of the input is taken, unless the
     /// error is one that the device does not count. Nothing that was charged before is given back.
     fn decode<D: Decoder<Context = Context>>(decoder: &mut D) -> Result<Self, DecodeError>
-        ensures ok { D.told decoder.old → IfOk result (λ v. Decodes (λ m. Self.given m v)
-            (answer D.C.bound (Self.format D.C.setting) (D.rest decoder.old) (D.charge decoder.old))
-            (D.rest decoder.new) (D.charge decoder.new)) }
-        ensures err { D.told decoder.old → IfErr result (Stops D.R.ended D.R.device Self.grows
-            (answer D.C.bound (Self.format D.C.setting) (D.rest decoder.old) (D.charge decoder.old))
-            (D.failures decoder.old) (D.failures decoder.new) (D.rest decoder.old) (D.rest decoder.new)) }
-        ensures count { D.failures decoder.old ≤ D.failures decoder.new }
-        ensures told { D.told decoder.old → D.told decoder.new }
-        ensures held { D.charge decoder.old ≤ D.charge decoder.new }
-        ensures place { D.place decoder.new ≡ D.place decoder.old };
+        ensures { Reads D.told D.rest D.charge D.failures D.place D.C.bound D.R.ended D.R.device Self.grows
+            (Self.format D.C.setting) Self.given (D.charge decoder.old) result decoder.old decoder.new };
 
     /// An array to read values over, whatever it holds, if the type has one at hand: numbers have zeros. With `None` an
     /// array is made of slots, which takes longer.
@@ -51,23 +43,5 @@ pub trait Decode<Context: Drop>: Wire + Drop + Sized {
         let _ = &*decoder;
         let _ = &*values;
         None
-    }
-}
-
-/// An array of a type's values.
-pub trait ArrayOf<T> {
-    /// The array in which each place has the default value.
-    fn of_defaults() -> Self
-    where
-        T: Default;
-}
-
-impl<T, const N: usize> ArrayOf<T> for [T; N] {
-    #[inline(always)]
-    fn of_defaults() -> [T; N]
-    where
-        T: Default,
-    {
-        std::array::from_fn(|_index: usize| T::default())
     }
 }

@@ -1,7 +1,6 @@
 //! Decoding.
 #![tactic(auto)]
 
-pub mod arrays;
 pub mod decode;
 pub mod from_parts;
 mod impls;

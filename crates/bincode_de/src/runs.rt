@@ -1,13 +1,41 @@
-//! Runs of values whose room has been reserved, without a length.
-ghost use Rattle.std.specs.Prelude.{◌≡◌, ◌*◌, length, IfOk, IfSome, IfErr};
-ghost use Rattle.bincode_base.specs.declared.error.DecodeError.TheVariants.{Memory};
-ghost use Rattle.bincode_wire.specs.Run.{CanRelease};
-ghost use Rattle.bincode_decoder.specs.Runs.{RunRead, ValueRead};
+//! Runs and arrays of values whose room has been reserved, without a length.
+ghost use Rattle.std.specs.Prelude.{◌≡◌, ◌*◌, ◌⊎◌, length, IfOk};
+ghost use Rattle.bincode_base.specs.Format.{elements};
+ghost use Rattle.bincode_slots.specs.Slots.{SlotsFit};
+ghost use Rattle.bincode_wire.specs.Run.{CanRelease, RoomReturned};
+ghost use Rattle.bincode_decoder.specs.Runs.{RunRead};
 
 use crate::decode::Decode;
 use bincode_base::error::DecodeError;
 use bincode_decoder::decoder::Decoder;
-use std::alloc::Global;
+use bincode_values::values::{ArrayOf, ReadValues};
+use bincode_values::{arrays, runs};
+use std::marker::PhantomData;
+
+/// Reads values by their `Decode`.
+struct ByDecode<T>(PhantomData<T>);
+
+impl<Context: Drop, T: Decode<Context>> ReadValues<Context> for ByDecode<T> {
+    type Value = T;
+
+    #[inline(always)]
+    fn read_value<D: Decoder<Context = Context>>(decoder: &mut D) -> Result<T, DecodeError> {
+        T::decode(decoder)
+    }
+
+    #[inline(always)]
+    fn blank_array<A: ArrayOf<T>>() -> Option<A> {
+        T::blank_array()
+    }
+
+    #[inline(always)]
+    fn read_at_once<D: Decoder<Context = Context>>(
+        decoder: &mut D,
+        values: &mut [T],
+    ) -> Option<Result<(), DecodeError>> {
+        T::decode_at_once(decoder, values)
+    }
+}
 
 /// Reads as many values as `values` has, over them, whose room `claim_container_read` has reserved: each one's share is
 /// released before it is read. A type may read them otherwise (`Decode::decode_at_once`), with the same answer. Fails
@@ -22,42 +50,7 @@ pub fn decode_run<Context: Drop, T: Decode<Context>, D: Decoder<Context = Contex
     ensures { RunRead D.told D.rest D.charge D.failures D.place D.C.bound D.R.ended D.R.device T.grows T.claim
         (T.format D.C.setting) T.given (length values.old) (λ _. values.new) result decoder.old decoder.new }
 {
-    if !decoder.is_within_limit() {
-        return decode_each(decoder, values);
-    }
-    if let Some(outcome) = T::decode_at_once(decoder, values) {
-        return outcome;
-    }
-    decode_each(decoder, values)
-}
-
-/// The same, one by one.
-#[inline]
-fn decode_each<Context: Drop, T: Decode<Context>, D: Decoder<Context = Context>>(
-    decoder: &mut D,
-    values: &mut [T],
-) -> Result<(), DecodeError>
-    requires { CanRelease D.C.bound (D.charge decoder.old) (length values.old * T.claim) }
-    ensures { RunRead D.told D.rest D.charge D.failures D.place D.C.bound D.R.ended D.R.device T.grows T.claim
-        (T.format D.C.setting) T.given (length values.old) (λ _. values.new) result decoder.old decoder.new }
-{
-    for index in 0..values.len() {
-        values[index] = decode_next(decoder)?;
-    }
-    Ok(())
-}
-
-/// Releases the share of one value, of the room that is reserved, and reads it.
-#[inline(always)]
-pub(crate) fn decode_next<Context: Drop, T: Decode<Context>, D: Decoder<Context = Context>>(
-    decoder: &mut D,
-) -> Result<T, DecodeError>
-    requires { CanRelease D.C.bound (D.charge decoder.old) T.claim }
-    ensures { ValueRead D.told D.rest D.charge D.failures D.place D.C.bound D.R.ended D.R.device T.grows T.claim
-        (T.format D.C.setting) T.given result decoder.old decoder.new }
-{
-    decoder.unclaim_bytes_read(T::claim_size());
-    T::decode(decoder)
+    runs::decode_run::<Context, ByDecode<T>, D>(decoder, values)
 }
 
 /// Reads `len` values, as `decode_run` does. Fails where a value does, or with `Memory` where the room for the values
@@ -71,51 +64,25 @@ pub fn decode_vec<Context: Drop, T: Decode<Context>, D: Decoder<Context = Contex
     ensures read { RunRead D.told D.rest D.charge D.failures D.place D.C.bound D.R.ended D.R.device (Unit {0}) T.claim
         (T.format D.C.setting) T.given len (λ v. v.items) result decoder.old decoder.new }
 {
-    let Some(mut values) = blank_values::<Context, T>(decoder.alloc(), len)? else {
-        return decode_by_pushes(decoder, len);
-    };
-    decode_run(decoder, &mut values)?;
-    Ok(values)
+    runs::decode_vec::<Context, ByDecode<T>, D>(decoder, len)
 }
 
-/// The same for a type without blank values.
-fn decode_by_pushes<Context: Drop, T: Decode<Context>, D: Decoder<Context = Context>>(
-    decoder: &mut D,
-    len: usize,
-) -> Result<Vec<T>, DecodeError>
-    requires { CanRelease D.C.bound (D.charge decoder.old) (len * T.claim) }
-    ensures length { IfOk result (λ v. length v.items ≡ len) }
-    ensures read { RunRead D.told D.rest D.charge D.failures D.place D.C.bound D.R.ended D.R.device (Unit {0}) T.claim
-        (T.format D.C.setting) T.given len (λ v. v.items) result decoder.old decoder.new }
+/// Reads `N` elements in turn, whose room `claim_container_read` has reserved, and releases each one's share before it.
+/// So the charge at the end is that at the start, with the full widths of the elements in place of their room. Fails
+/// where an element does, or with `Memory` where `N` slots of `Option<T>` can't exist (`slots_fit`).
+pub fn decode_array<
+    Context: Drop,
+    T: Decode<Context>,
+    D: Decoder<Context = Context>,
+    const N: usize,
+>(decoder: &mut D) -> Result<[T; N], DecodeError>
+    requires { CanRelease D.C.bound (D.charge decoder.old) (N * T.claim) }
+    ensures read { RunRead D.told D.rest D.charge D.failures D.place D.C.bound D.R.ended D.R.device
+        (T.grows ⊎ ¬ (SlotsFit T.row N)) T.claim (T.format D.C.setting) T.given N
+        (λ v. v) result decoder.old decoder.new }
+    ensures charge { D.told decoder.old → IfOk result (λ _. RoomReturned D.C.bound
+        (elements N T.claim (T.format D.C.setting)) (N * T.claim) (D.rest decoder.old) (D.rest decoder.new)
+        (D.charge decoder.old) (D.charge decoder.new)) }
 {
-    let Ok(mut values) = Vec::with_capacity(decoder.alloc(), len) else {
-        return Err(DecodeError::Memory);
-    };
-    for _ in 0..len {
-        values.push_reserved(decode_next(decoder)?);
-    }
-    Ok(values)
-}
-
-/// So many values to read over, if the type has such at hand. Fails with `Memory` where the room for them is refused.
-fn blank_values<Context: Drop, T: Decode<Context>>(
-    alloc: Global,
-    len: usize,
-) -> Result<Option<Vec<T>>, DecodeError>
-    ensures length { IfOk result (λ blank. IfSome blank (λ v. length v.items ≡ len)) }
-    ensures err { IfErr result (λ e. e ≡ Memory) }
-{
-    if T::blank_array::<[T; 0]>().is_none() {
-        return Ok(None);
-    }
-    let Ok(mut values) = Vec::with_capacity(alloc, len) else {
-        return Err(DecodeError::Memory);
-    };
-    for _ in 0..len {
-        let Some([blank]) = T::blank_array::<[T; 1]>() else {
-            return Ok(None);
-        };
-        values.push_reserved(blank);
-    }
-    Ok(Some(values))
+    arrays::decode_array::<Context, ByDecode<T>, D, N>(decoder)
 }

@@ -1,14 +1,13 @@
 //! Decoding of enums, variant by variant.
-ghost use Rattle.std.specs.Prelude.{◌≡◌, ◌⊎◌, ◌≤◌, false, IfOk, IfErr};
+ghost use Rattle.std.specs.Prelude.{◌≡◌, ◌⊎◌, false, IfOk};
 ghost use Rattle.bincode_wire.specs.Words.{tags_of, in_order, allowed_tags, part};
 ghost use Rattle.bincode_wire.specs.Choices.{IsChoice};
-ghost use Rattle.bincode_wire.specs.Answer.{answer};
-ghost use Rattle.bincode_wire.specs.Decoding.{Decodes, Stops};
+ghost use Rattle.bincode_decoder.specs.Runs.{Reads};
 
 use crate::decode::Decode;
 use bincode_base::error::DecodeError;
 use bincode_decoder::decoder::Decoder;
-use bincode_decoder::tags::{DecodeTag, Listed, Named, unexpected};
+use bincode_decoder::tags::{DecodeTag, Listed, Named, unexpected_tag};
 use bincode_wire::sums::{NoOther, OneOf, Or, Tag};
 use bincode_wire::wire::Wire;
 
@@ -19,19 +18,11 @@ pub trait DecodeVariants<Context: Drop>: Listed + Drop + Sized {
         found: u32,
         decoder: &mut D,
     ) -> Result<Self, DecodeError>
-        ensures ok { D.told decoder.old → IfOk result (λ v. Decodes (IsChoice found (Self.given v))
-            (answer D.C.bound (part D.C.setting Self.variants (allowed_tags (tags_of All.variants)) found)
-            (D.rest decoder.old) (D.charge decoder.old)) (D.rest decoder.new) (D.charge decoder.new)) }
-        ensures tag { IfOk result (λ v. (Self.variant v).0 ≡ found) }
-        ensures err { D.told decoder.old → IfErr result (Stops D.R.ended D.R.device
+        ensures reads { Reads D.told D.rest D.charge D.failures D.place D.C.bound D.R.ended D.R.device
             ((in_order 0 (tags_of All.variants) ≡ false) ⊎ Self.grows)
-            (answer D.C.bound (part D.C.setting Self.variants (allowed_tags (tags_of All.variants)) found)
-            (D.rest decoder.old) (D.charge decoder.old)) (D.failures decoder.old) (D.failures decoder.new)
-            (D.rest decoder.old) (D.rest decoder.new)) }
-        ensures count { D.failures decoder.old ≤ D.failures decoder.new }
-        ensures told { D.told decoder.old → D.told decoder.new }
-        ensures held { D.charge decoder.old ≤ D.charge decoder.new }
-        ensures place { D.place decoder.new ≡ D.place decoder.old };
+            (part D.C.setting Self.variants (allowed_tags (tags_of All.variants)) found)
+            (λ m v. IsChoice found (Self.given v) m) (D.charge decoder.old) result decoder.old decoder.new }
+        ensures tag { IfOk result (λ v. (Self.variant v).0 ≡ found) };
 }
 
 impl<Context: Drop, Of: Named, T: Tag> DecodeVariants<Context> for NoOther<Of, T> {
@@ -40,7 +31,7 @@ impl<Context: Drop, Of: Named, T: Tag> DecodeVariants<Context> for NoOther<Of, T
         found: u32,
         decoder: &mut D,
     ) -> Result<Self, DecodeError> {
-        Err(unexpected::<Of, All>(decoder.alloc(), found))
+        Err(unexpected_tag::<Of, All, D>(decoder, found))
     }
 }
 

@@ -3,3 +3,4 @@ pub mod WrittenAs
 pub mod DurationAnswers
 pub mod Rooms
 pub mod BytesAtOnce
+pub mod ReadAnswers

@@ -4,8 +4,8 @@ ghost use Rattle.bincode_base.specs.Format.{Took, charged};
 ghost use Rattle.bincode_base.specs.Reads.{Misreads};
 ghost use Rattle.bincode_wire.specs.Meaning.{Character};
 ghost use Rattle.bincode_wire.specs.Words.{char_width, rest_of_char};
-ghost use Rattle.bincode_wire.specs.Answer.{answer, Gave, Charges};
-ghost use Rattle.bincode_wire.specs.Decoding.{Stops};
+ghost use Rattle.bincode_wire.specs.Answer.{Charges};
+ghost use Rattle.bincode_decoder.specs.Runs.{Reads};
 
 use crate::decoder::Decoder;
 use bincode_base::error::DecodeError;
@@ -41,16 +41,10 @@ pub fn decode_rest_of_char<D: Decoder>(
     width: usize,
 ) -> Result<char, DecodeError>
     requires { char_width first ≡ Some width }
-    ensures ok { D.told decoder.old → IfOk result (λ v. answer D.C.bound (charged width (rest_of_char first width))
-        (D.rest decoder.old) (D.charge decoder.old)
-        ≡ Gave (Character v) (D.rest decoder.new) (D.charge decoder.new)) }
-    ensures err { D.told decoder.old → IfErr result (Stops D.R.ended D.R.device ⊥
-        (answer D.C.bound (charged width (rest_of_char first width)) (D.rest decoder.old) (D.charge decoder.old))
-        (D.failures decoder.old) (D.failures decoder.new) (D.rest decoder.old) (D.rest decoder.new)) }
-    ensures count { D.failures decoder.old ≤ D.failures decoder.new }
-    ensures told { D.told decoder.old → D.told decoder.new }
+    ensures reads { Reads D.told D.rest D.charge D.failures D.place D.C.bound D.R.ended D.R.device ⊥
+        (charged width (rest_of_char first width)) (λ m v. m ≡ Character v) (D.charge decoder.old) result
+        decoder.old decoder.new }
     ensures charge { Charges D.C.bound (D.charge decoder.old) width (D.charge decoder.new) }
-    ensures place { D.place decoder.new ≡ D.place decoder.old }
 {
     decoder.claim_bytes_read(width)?;
     read_rest_of_char_from(decoder, first, width)

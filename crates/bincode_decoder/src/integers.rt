@@ -1,5 +1,5 @@
 //! Integers and bytes, read through any decoder.
-ghost use Rattle.std.specs.Prelude.{◌≡◌, ◌<◌, ◌≤◌, ◌⊎◌, [], ◌++◌, length};
+ghost use Rattle.std.specs.Prelude.{◌≡◌, ◌<◌, ◌≤◌, ◌⊎◌, [], ◌++◌, length, pos};
 ghost use Rattle.std.specs.Prelude.{ok_or, OnOk, IfOk, IfErr};
 ghost use Rattle.bincode_base.specs.declared.error.DecodeError.TheVariants.{NonZeroTypeIsZero};
 ghost use Rattle.bincode_base.specs.Device.{FallsShort, Rose, Takes};
@@ -7,8 +7,9 @@ ghost use Rattle.bincode_base.specs.Format.{Took, map_format};
 ghost use Rattle.bincode_base.specs.Number.{from_two_complement};
 ghost use Rattle.bincode_base.specs.Reads.{Misreads};
 ghost use Rattle.bincode_base.specs.Integers.{byte, unsigned_byte, signed_byte};
-ghost use Rattle.bincode_wire.specs.Answer.{answer, Gave, Charges};
-ghost use Rattle.bincode_wire.specs.Decoding.{Stops};
+ghost use Rattle.bincode_wire.specs.Meaning.{Number, IsNumber};
+ghost use Rattle.bincode_wire.specs.Answer.{Charges};
+ghost use Rattle.bincode_decoder.specs.Runs.{Reads};
 
 use crate::decoder::Decoder;
 use bincode_base::bytes::{read_byte, read_i8};
@@ -23,15 +24,12 @@ use bincode_wire::wire::Wire;
 #[inline(always)]
 pub fn decode_integer<T: Integer + Wire, D: Decoder>(decoder: &mut D) -> Result<T, DecodeError>
     requires { T.claim ≡ T.width }
-    ensures ok { D.told decoder.old → IfOk result (λ v. answer D.C.bound (T.spelling.words D.C.setting)
-        (D.rest decoder.old) (D.charge decoder.old) ≡ Gave v (D.rest decoder.new) (D.charge decoder.new)) }
-    ensures err { D.told decoder.old → IfErr result (Stops D.R.ended D.R.device ⊥
-        (answer D.C.bound (T.spelling.words D.C.setting) (D.rest decoder.old) (D.charge decoder.old))
-        (D.failures decoder.old) (D.failures decoder.new) (D.rest decoder.old) (D.rest decoder.new)) }
-    ensures count { D.failures decoder.old ≤ D.failures decoder.new }
-    ensures told { D.told decoder.old → D.told decoder.new }
+    ensures reads { Reads D.told D.rest D.charge D.failures D.place D.C.bound D.R.ended D.R.device ⊥
+        (T.spelling.words D.C.setting) (λ n v. n ≡ v) (D.charge decoder.old) result decoder.old decoder.new }
+    ensures means { Reads D.told D.rest D.charge D.failures D.place D.C.bound D.R.ended D.R.device ⊥
+        (map_format (λ k. Number (T.spelling.integer k)) (T.spelling.words D.C.setting))
+        (λ m v. IsNumber (T.spelling.integer v) m) (D.charge decoder.old) result decoder.old decoder.new }
     ensures charge { Charges D.C.bound (D.charge decoder.old) T.width (D.charge decoder.new) }
-    ensures place { D.place decoder.new ≡ D.place decoder.old }
 {
     decoder.claim_bytes_read(T::claim_size())?;
     read_integer_from(decoder)
@@ -57,15 +55,12 @@ fn read_integer_from<T: Integer, D: Decoder>(decoder: &mut D) -> Result<T, Decod
 
 /// Charges for a byte, and reads it. A fault leaves the charge.
 pub fn decode_byte<D: Decoder>(decoder: &mut D) -> Result<u8, DecodeError>
-    ensures ok { D.told decoder.old → IfOk result (λ v. answer D.C.bound unsigned_byte (D.rest decoder.old)
-        (D.charge decoder.old) ≡ Gave v (D.rest decoder.new) (D.charge decoder.new)) }
-    ensures err { D.told decoder.old → IfErr result (Stops D.R.ended D.R.device ⊥
-        (answer D.C.bound unsigned_byte (D.rest decoder.old) (D.charge decoder.old)) (D.failures decoder.old)
-        (D.failures decoder.new) (D.rest decoder.old) (D.rest decoder.new)) }
-    ensures count { D.failures decoder.old ≤ D.failures decoder.new }
-    ensures told { D.told decoder.old → D.told decoder.new }
+    ensures reads { Reads D.told D.rest D.charge D.failures D.place D.C.bound D.R.ended D.R.device ⊥ unsigned_byte
+        (λ n v. n ≡ v) (D.charge decoder.old) result decoder.old decoder.new }
+    ensures means { Reads D.told D.rest D.charge D.failures D.place D.C.bound D.R.ended D.R.device ⊥
+        (map_format (λ k. Number (pos k)) unsigned_byte)
+        (λ m v. IsNumber (pos v) m) (D.charge decoder.old) result decoder.old decoder.new }
     ensures charge { Charges D.C.bound (D.charge decoder.old) 1 (D.charge decoder.new) }
-    ensures place { D.place decoder.new ≡ D.place decoder.old }
 {
     decoder.claim_bytes_read(1)?;
     read_byte_from(decoder)
@@ -86,15 +81,12 @@ pub fn read_byte_from<D: Decoder>(decoder: &mut D) -> Result<u8, DecodeError>
 
 /// Charges for a signed byte, and reads it. A fault leaves the charge.
 pub fn decode_signed_byte<D: Decoder>(decoder: &mut D) -> Result<i8, DecodeError>
-    ensures ok { D.told decoder.old → IfOk result (λ v. answer D.C.bound signed_byte (D.rest decoder.old)
-        (D.charge decoder.old) ≡ Gave v (D.rest decoder.new) (D.charge decoder.new)) }
-    ensures err { D.told decoder.old → IfErr result (Stops D.R.ended D.R.device ⊥
-        (answer D.C.bound signed_byte (D.rest decoder.old) (D.charge decoder.old)) (D.failures decoder.old)
-        (D.failures decoder.new) (D.rest decoder.old) (D.rest decoder.new)) }
-    ensures count { D.failures decoder.old ≤ D.failures decoder.new }
-    ensures told { D.told decoder.old → D.told decoder.new }
+    ensures reads { Reads D.told D.rest D.charge D.failures D.place D.C.bound D.R.ended D.R.device ⊥ signed_byte
+        (λ n v. n ≡ v) (D.charge decoder.old) result decoder.old decoder.new }
+    ensures means { Reads D.told D.rest D.charge D.failures D.place D.C.bound D.R.ended D.R.device ⊥
+        (map_format (λ k. Number k) signed_byte)
+        (λ m v. IsNumber v m) (D.charge decoder.old) result decoder.old decoder.new }
     ensures charge { Charges D.C.bound (D.charge decoder.old) 1 (D.charge decoder.new) }
-    ensures place { D.place decoder.new ≡ D.place decoder.old }
 {
     decoder.claim_bytes_read(1)?;
     read_i8_from(decoder)

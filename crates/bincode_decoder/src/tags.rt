@@ -1,10 +1,9 @@
 //! Tags of enums, read through any decoder, and the error of one that no variant has.
-ghost use Rattle.std.specs.Prelude.{◌≡◌, ◌⊎◌, ◌≤◌, ◌++◌, false, OnOk, IfOk, IfErr};
+ghost use Rattle.std.specs.Prelude.{◌≡◌, ◌⊎◌, ◌++◌, false, OnOk, IfOk};
 ghost use Rattle.bincode_base.specs.Fault.{TellsTag};
 ghost use Rattle.bincode_base.specs.declared.error.DecodeError.TheVariants.{Memory};
 ghost use Rattle.bincode_wire.specs.Words.{tags_of, in_order, last_of, allowed_tags};
-ghost use Rattle.bincode_wire.specs.Answer.{Gave, answer};
-ghost use Rattle.bincode_wire.specs.Decoding.{Stops};
+ghost use Rattle.bincode_decoder.specs.Runs.{Reads};
 
 use crate::decoder::Decoder;
 use crate::integers::{decode_byte, decode_integer};
@@ -42,15 +41,8 @@ impl<T> Named for Bound<T> {
 pub trait DecodeTag: Tag {
     /// Reads a tag.
     fn decode_tag<D: Decoder>(decoder: &mut D) -> Result<u32, DecodeError>
-        ensures ok { D.told decoder.old → IfOk result (λ v. answer D.C.bound (Self.tags D.C.setting)
-            (D.rest decoder.old) (D.charge decoder.old) ≡ Gave v (D.rest decoder.new) (D.charge decoder.new)) }
-        ensures err { D.told decoder.old → IfErr result (Stops D.R.ended D.R.device ⊥
-            (answer D.C.bound (Self.tags D.C.setting) (D.rest decoder.old) (D.charge decoder.old))
-            (D.failures decoder.old) (D.failures decoder.new) (D.rest decoder.old) (D.rest decoder.new)) }
-        ensures count { D.failures decoder.old ≤ D.failures decoder.new }
-        ensures told { D.told decoder.old → D.told decoder.new }
-        ensures held { D.charge decoder.old ≤ D.charge decoder.new }
-        ensures place { D.place decoder.new ≡ D.place decoder.old };
+        ensures { Reads D.told D.rest D.charge D.failures D.place D.C.bound D.R.ended D.R.device ⊥
+            (Self.tags D.C.setting) (λ n v. n ≡ v) (D.charge decoder.old) result decoder.old decoder.new };
 }
 
 impl DecodeTag for u8 {
@@ -112,11 +104,19 @@ impl<const TAG: u32, A: Wire, Others: Listed> Listed for Or<TAG, A, Others> {
     }
 }
 
-/// The error of a tag that none of a type's `All` variants has: it takes memory for a list of tags that do not stand in
-/// order.
+/// The error of a tag that was read and that none of a type's `All` variants has.
+#[inline(always)]
+pub fn unexpected_tag<Of: Named, All: Listed, D: Decoder>(decoder: &D, found: u32) -> DecodeError
+    ensures { ((name : _) × TellsTag name (allowed_tags (tags_of All.variants)) found result)
+        ⊎ ((in_order 0 (tags_of All.variants) ≡ false) × (result ≡ Memory)) }
+{
+    unexpected::<Of, All>(decoder.alloc(), found)
+}
+
+/// The same: it takes memory for a list of tags that do not stand in order.
 #[cold]
 #[inline(never)]
-pub fn unexpected<Of: Named, All: Listed>(alloc: Global, found: u32) -> DecodeError
+fn unexpected<Of: Named, All: Listed>(alloc: Global, found: u32) -> DecodeError
     ensures { ((name : _) × TellsTag name (allowed_tags (tags_of All.variants)) found result)
         ⊎ ((in_order 0 (tags_of All.variants) ≡ false) × (result ≡ Memory)) }
 {

@@ -9,4 +9,5 @@ pub mod parted;
 pub mod rows;
 pub mod scalars;
 pub mod sums;
+pub mod wholes;
 pub mod wire;

@@ -1,8 +1,9 @@
 //! Decoding of arrays.
-use crate::arrays::decode_array;
-use crate::decode::{ArrayOf, Decode};
+use crate::decode::Decode;
+use crate::runs::decode_array;
 use bincode_base::error::DecodeError;
 use bincode_decoder::decoder::{ClaimContainer, Decoder};
+use bincode_values::values::ArrayOf;
 
 impl<Context: Drop, T: Decode<Context>, const N: usize> Decode<Context> for [T; N] {
     fn decode<D: Decoder<Context = Context>>(decoder: &mut D) -> Result<[T; N], DecodeError> {

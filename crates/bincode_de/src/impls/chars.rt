@@ -1,10 +1,11 @@
 //! Decoding of characters.
 
-use crate::decode::{ArrayOf, Decode};
+use crate::decode::Decode;
 use bincode_base::error::DecodeError;
 use bincode_decoder::chars::decode_rest_of_char;
 use bincode_decoder::decoder::Decoder;
 use bincode_decoder::integers::read_byte_from;
+use bincode_values::values::ArrayOf;
 use bincode_wire::chars::width_of_char;
 
 impl<Context: Drop> Decode<Context> for char {

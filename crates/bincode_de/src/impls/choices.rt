@@ -1,11 +1,13 @@
 //! Decoding of truth values, `Option`, `Result` and `Bound`.
 
-use crate::decode::{ArrayOf, Decode};
+use crate::decode::Decode;
 use crate::from_parts::FromParts;
 use bincode_base::error::DecodeError;
 use bincode_decoder::decoder::Decoder;
 use bincode_decoder::truth::decode_truth;
+use bincode_values::values::ArrayOf;
 use bincode_wire::sums::Or;
+use bincode_wire::wholes::bound_from_parts;
 use bincode_wire::wire::Wire;
 use std::ops::Bound;
 
@@ -40,10 +42,6 @@ impl<T: Wire, U: Wire> FromParts for Result<T, U> {
 
 impl<T: Wire> FromParts for Bound<T> {
     fn from_parts(parts: Self::Parts) -> Self {
-        match parts.0 {
-            Or::This(()) => Bound::Unbounded,
-            Or::Other(Or::This(value)) => Bound::Included(value),
-            Or::Other(Or::Other(Or::This(value))) => Bound::Excluded(value),
-        }
+        bound_from_parts(parts)
     }
 }

@@ -1,5 +1,4 @@
 //! Decoding of integers other than 0.
-#![tactic(auto, using(crate::proofs::NotZero::by_not_zero))]
 
 use crate::decode::Decode;
 use bincode_base::error::{DecodeError, IntegerType};

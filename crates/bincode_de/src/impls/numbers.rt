@@ -1,11 +1,11 @@
 //! Decoding of integers.
-#![tactic(auto, using(crate::proofs::NumberMeanings::by_number))]
 
-use crate::decode::{ArrayOf, Decode};
+use crate::decode::Decode;
 use bincode_base::error::DecodeError;
 use bincode_decoder::bytes::decode_bytes;
 use bincode_decoder::decoder::Decoder;
 use bincode_decoder::integers::{decode_byte, decode_integer, decode_signed_byte};
+use bincode_values::values::ArrayOf;
 
 impl<Context: Drop> Decode<Context> for u8 {
     #[inline(always)]

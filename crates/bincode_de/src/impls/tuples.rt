@@ -1,8 +1,9 @@
 //! Decoding of tuples.
-use crate::decode::{ArrayOf, Decode};
+use crate::decode::Decode;
 use crate::from_parts::FromParts;
 use bincode_base::error::DecodeError;
 use bincode_decoder::decoder::Decoder;
+use bincode_values::values::ArrayOf;
 use bincode_wire::rows::{LongRow, Row};
 use bincode_wire::wire::Wire;
 

@@ -1,19 +1,27 @@
-use Rattle.std.proofs.lemmas.Result.{IfOk-weaker, IfErr-weaker, err_from_is_err_and}
+use Rattle.std.proofs.Common.{refl}
+use Rattle.std.proofs.lemmas.Result.{err_from_is_err_and}
 use Rattle.bincode_base.specs.Integers.{signed_byte}
-use Rattle.bincode_wire.specs.DecodingLaws.{charged-gave, charged-passed, charged-misread}
+use Rattle.bincode_wire.specs.Meaning.{Number}
+use Rattle.bincode_wire.specs.DecodingLaws.{charged-passed}
+use Rattle.bincode_decoder.proofs.ReadAnswers.{claim-passed, charged-reads, number-reads}
 use Rattle.bincode_decoder.proofs.integers.decode_signed_byte.Goals as goal
 
-pub returns-in_err-claim_bytes_read-clause-err : goal.returns-in_err-claim_bytes_read-clause-err
+pub returns-in_err-claim_bytes_read-clause-reads : goal.returns-in_err-claim_bytes_read-clause-reads
 unfolding signed_byte
-returns-in_err-claim_bytes_read-clause-err g c = λ known.
+returns-in_err-claim_bytes_read-clause-reads g c =
     let p = err_from_is_err_and c.from_residual.result c.from_residual.ensures.1 in
     let h = c.in_err-claim_bytes_read.ensures.claimed.err in
-    rw (p.1, p.2) (charged-passed _ _ _ _ _ _ _ _ _ _ _ _ _ h.1 h.0 c.claim_bytes_read.ensures.kept.same_rest)
+    let kept = c.claim_bytes_read.ensures.kept in
+    rw (p.1, p.2) (claim-passed kept _ h.1 (charged-passed _ _ _ _ _ _ _ _ _ _ _ _ _ h.1 h.0 kept.same_rest))
 
-pub returns-clause-ok : goal.returns-clause-ok
+pub returns-clause-reads : goal.returns-clause-reads
 unfolding signed_byte
-returns-clause-ok g c = λ known. rw c.read_i8_from.ensures.charge (IfOk-weaker c.read_i8_from.result _ _ (λ v h. charged-gave _ _ _ _ _ _ _ _ _ c.in_ok-claim_bytes_read.ensures.claimed.ok c.claim_bytes_read.ensures.kept.same_rest h) (c.read_i8_from.ensures.ok (c.claim_bytes_read.ensures.kept.tells known)))
+returns-clause-reads g c =
+    let read = c.read_i8_from.ensures in
+    (charged-reads c.claim_bytes_read.ensures.kept _ _ (λ v. v) c.in_ok-claim_bytes_read.ensures.claimed.ok read.ok read.err read.count read.told read.charge read.place)
 
-pub returns-clause-err : goal.returns-clause-err
-unfolding signed_byte
-returns-clause-err g c = λ known. IfErr-weaker c.read_i8_from.result _ _ (λ e h. charged-misread _ _ _ _ _ _ _ _ _ _ _ _ _ _ e c.in_ok-claim_bytes_read.ensures.claimed.ok c.claim_bytes_read.ensures.kept.same_rest c.claim_bytes_read.ensures.kept.same_failures h) (c.read_i8_from.ensures.err (c.claim_bytes_read.ensures.kept.tells known))
+pub returns-in_err-claim_bytes_read-clause-means : goal.returns-in_err-claim_bytes_read-clause-means
+returns-in_err-claim_bytes_read-clause-means g c = number-reads Number (λ v. refl) (returns-in_err-claim_bytes_read-clause-reads g c)
+
+pub returns-clause-means : goal.returns-clause-means
+returns-clause-means g c = number-reads Number (λ v. refl) (returns-clause-reads g c)

@@ -1,5 +1,6 @@
+use Rattle.std.proofs.Common.{refl, arith}
 use Rattle.bincode_wire.specs.DecodingLaws.{nothing-decodes}
 use Rattle.bincode_de.proofs.impls.tuples.UnitDecode.decode.Goals as goal
 
-pub returns-clause-ok : goal.returns-clause-ok
-returns-clause-ok g c = λ known. nothing-decodes _ _ _
+pub returns : goal.returns
+returns g c = record { ok = λ known. nothing-decodes _ _ _; err = λ known. tt; counted = omega arith; tells = λ known. known; held = omega arith; same_place = refl }

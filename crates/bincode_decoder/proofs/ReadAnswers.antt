@@ -1,0 +1,76 @@
+-- What was read, by what was read for it.
+use Rattle.std.specs.Prelude.{◌≡◌, ℕ, ◌≤◌, List, [], Option, Result, Err, IfOk, IfErr, refl}
+use Rattle.std.specs.Borrow.{GName}
+use Rattle.std.proofs.Common.{◌∙◌, ap, arith}
+use Rattle.std.proofs.lemmas.Result.{IfOk-weaker, IfErr-weaker}
+use Rattle.bincode_base.specs.declared.error.DecodeError.{DecodeError}
+use Rattle.bincode_base.specs.Device.{DeviceErrors}
+use Rattle.bincode_base.specs.Format.{Format, Took, charged, map_format}
+use Rattle.bincode_base.specs.Reads.{Misreads}
+use Rattle.bincode_wire.specs.Answer.{Answer, answer, Gave, Claimed, OverClaimed}
+use Rattle.bincode_wire.specs.Decoding.{Decodes, Stops}
+use Rattle.bincode_wire.specs.DecodingLaws.{charged-gave, charged-misread, map-gave, map-stops}
+use Rattle.bincode_decoder.specs.Claims.{OnlyCharged}
+use Rattle.bincode_decoder.specs.Runs.{Reads}
+use Rattle.bincode_decoder.proofs.Rooms.{claimed-grows, over-grows}
+
+module _ {D A B T U : Type 0} {told : D → Type 0} {rest : D → List ℕ} {charge failures : D → ℕ} {place : D → List GName} {limit : Option ℕ} {ended : ℕ → DecodeError → Type 0} {device : DeviceErrors} {G H : Type 0} {F : Format A} {given : A → T → Type 0} {charged : ℕ} {r : Result T DecodeError} {old new : D} where
+  module _ {whole : Format B} {other : B → U → Type 0} {q : Result U DecodeError} where
+    -- what was read is read for something else
+    pub read-as : (told old → IfOk q (λ v. Decodes (λ m. other m v) (answer limit whole (rest old) charged) (rest new) (charge new))) → (told old → IfErr q (Stops ended device H (answer limit whole (rest old) charged) (failures old) (failures new) (rest old) (rest new))) →
+        Reads told rest charge failures place limit ended device G F given charged r old new → Reads told rest charge failures place limit ended device H whole other charged q old new
+    read-as h k read = record { ok = h; err = k; counted = read.counted; tells = read.tells; held = read.held; same_place = read.same_place }
+
+    -- and what is read behind it with it
+    pub read-behind : {K C V : Type 0} {S : Format C} {next : C → V → Type 0} {p : Result V DecodeError} {end : D} → (told old → IfOk q (λ v. Decodes (λ m. other m v) (answer limit whole (rest old) charged) (rest end) (charge end))) → (told old → IfErr q (Stops ended device H (answer limit whole (rest old) charged) (failures old) (failures end) (rest old) (rest end))) →
+        Reads told rest charge failures place limit ended device G F given charged r old new → Reads told rest charge failures place limit ended device K S next (charge new) p new end → Reads told rest charge failures place limit ended device H whole other charged q old end
+    read-behind h k first second = record {
+      ok = h;
+      err = k;
+      counted = let a = first.counted in let b = second.counted in omega (arith, a, b);
+      tells = λ known. second.tells (first.tells known);
+      held = let a = first.held in let b = second.held in omega (arith, a, b);
+      same_place = second.same_place ∙ first.same_place;
+    }
+
+-- what is made of a value that was read is given for its meaning
+pub made-of : {A : Type 0} {P Q : A → Type 0} {a : Answer A} {rest : List ℕ} {c : ℕ} → ((m : A) → P m → Q m) → Decodes P a rest c → Decodes Q a rest c
+made-of h d = record { meaning = d.meaning; answer_is = d.answer_is; is_given = h d.meaning d.is_given }
+
+-- the one value of an answer
+pub exactly : {A : Type 0} {a : Answer A} {v : A} {rest : List ℕ} {c : ℕ} → Decodes (λ n. n ≡ v) a rest c → a ≡ Gave v rest c
+exactly {rest = rest} {c = c} d = d.answer_is ∙ ap (λ n. Gave n rest c) d.is_given
+
+module _ {D R C : Type 0} {told : D → Type 0} {rest : D → List ℕ} {charge failures : D → ℕ} {reader_of : D → R} {context_of : D → C} {place : D → List GName} {limit : Option ℕ} {ended : ℕ → DecodeError → Type 0} {device : DeviceErrors} {old now : D} (kept : OnlyCharged told rest failures reader_of context_of place old now) where
+  -- a claim that passes the limit
+  pub claim-passed : {A T G : Type 0} {F : Format A} {given : A → T → Type 0} {e : DecodeError} (n : ℕ) → OverClaimed limit (charge old) n (charge now) → Stops ended device G (answer limit F (rest old) (charge old)) (failures old) (failures now) (rest old) (rest now) e →
+      Reads told rest charge failures place limit ended device G F given (charge old) (Err e) old now
+  claim-passed n over stops = record {
+    ok = λ known. tt;
+    err = λ known. stops;
+    counted = let e = kept.same_failures in omega (arith, e);
+    tells = kept.tells;
+    held = over-grows limit (charge old) n (charge now) over;
+    same_place = kept.same_place;
+  }
+
+  -- one that stands, and what is read behind it
+  pub charged-reads : {A T : Type 0} {r : Result T DecodeError} {new : D} (n : ℕ) (F : Format A) (mean : T → A) → Claimed limit (charge old) n (charge now) → (told now → IfOk r (λ v. F.read (rest now) ≡ Took (mean v) (rest new) [])) → (told now → IfErr r (Misreads ended device (F.read (rest now)) (failures now) (failures new) (rest now) (rest new))) →
+      failures now ≤ failures new → (told now → told new) → charge new ≡ charge now → place new ≡ place now → Reads told rest charge failures place limit ended device ⊥ (charged n F) (λ a v. a ≡ mean v) (charge old) r old new
+  charged-reads {r = r} {new = new} n F mean claim ok err count tells still same = record {
+    ok = λ known. IfOk-weaker r _ _ (λ v h. record { meaning = mean v; answer_is = rw still (charged-gave limit n F (rest old) (charge old) (charge now) (rest now) (rest new) (mean v) claim kept.same_rest h); is_given = refl }) (ok (kept.tells known));
+    err = λ known. IfErr-weaker r _ _ (λ e h. charged-misread limit n F (rest old) (charge old) ended device ⊥ (charge now) (failures old) (failures now) (failures new) (rest now) (rest new) e claim kept.same_rest kept.same_failures h) (err (kept.tells known));
+    counted = let e = kept.same_failures in omega (arith, e, count);
+    tells = λ known. tells (kept.tells known);
+    held = rw still (claimed-grows limit (charge old) n (charge now) claim);
+    same_place = same ∙ kept.same_place;
+  }
+
+-- a number that was read is its meaning read
+pub number-reads : {D A B : Type 0} {told : D → Type 0} {rest : D → List ℕ} {charge failures : D → ℕ} {place : D → List GName} {limit : Option ℕ} {ended : ℕ → DecodeError → Type 0} {device : DeviceErrors} {F : Format A} {given : B → A → Type 0} {start : ℕ} {r : Result A DecodeError} {old new : D} (f : A → B) → ((v : A) → given (f v) v) →
+    Reads told rest charge failures place limit ended device ⊥ F (λ n v. n ≡ v) start r old new → Reads told rest charge failures place limit ended device ⊥ (map_format f F) given start r old new
+number-reads {limit = limit} {F = F} {r = r} f g read =
+    read-as
+    (λ known. IfOk-weaker r _ _ (λ v h. record { meaning = f v; answer_is = map-gave f limit F _ _ v _ _ (exactly h); is_given = g v }) (read.ok known))
+    (λ known. IfErr-weaker r _ _ (λ e k. map-stops f _ _ ⊥ limit F _ _ _ _ _ e k) (read.err known))
+    read

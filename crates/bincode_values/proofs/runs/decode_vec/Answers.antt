@@ -1,0 +1,10 @@
+use Rattle.std.proofs.Common.{◌≡◌, length, ap, ◌∙◌}
+use Rattle.std.proofs.lemmas.Result.{err_from_is_err_and}
+use Rattle.bincode_values.proofs.Reading.{read-besides}
+use Rattle.bincode_values.proofs.runs.decode_vec.Goals as goal
+
+pub returns-in_err-decode_run-clause-read : goal.returns-in_err-decode_run-clause-read
+returns-in_err-decode_run-clause-read g c =
+    let p = err_from_is_err_and c.from_residual-in_err-decode_run.result c.from_residual-in_err-decode_run.ensures.1 in
+    let k : length c.deref_mut.result.now ≡ c.args.len = ap length c.deref_mut.ensures.value ∙ (rw c.in-Some.is at c.in_ok-values.ensures.length) in
+    rw (p.1, p.2) (read-besides _ _ _ _ _ _ _ _ _ _ _ _ _ _ _ _ _ _ _ _ k (λ _. tt) c.in_err-decode_run.ensures)

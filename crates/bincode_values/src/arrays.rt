@@ -1,0 +1,87 @@
+//! Arrays of elements whose room has been reserved.
+ghost use Rattle.std.specs.Prelude.{◌≡◌, ◌*◌, ◌⊎◌, List, Option, Some, length, map, OnOk, IfOk};
+ghost use Rattle.bincode_base.specs.Format.{elements};
+ghost use Rattle.bincode_slots.specs.Slots.{SlotsFit};
+ghost use Rattle.bincode_wire.specs.Run.{CanRelease, RoomReturned};
+ghost use Rattle.bincode_decoder.specs.Runs.{RunRead};
+
+use crate::runs::{decode_next, decode_run};
+use crate::values::ReadValues;
+use bincode_base::error::DecodeError;
+use bincode_decoder::decoder::Decoder;
+use bincode_slots::{empty_slots, slots_fit, unwrap_all};
+use bincode_wire::wire::Wire;
+
+/// Fills each slot with an element, before which it releases the element's share.
+fn decode_slots<Context: Drop, V: ReadValues<Context>, D: Decoder<Context = Context>>(
+    decoder: &mut D,
+    slots: &mut [Option<V::Value>],
+) -> Result<(), DecodeError>
+    requires { CanRelease D.C.bound (D.charge decoder.old) (length slots.old * V.Value.claim) }
+    ensures { (vs : List V.Value) × OnOk result (slots.new ≡ map Some vs)
+        × RunRead D.told D.rest D.charge D.failures D.place D.C.bound D.R.ended D.R.device V.Value.grows
+        V.Value.claim (V.Value.format D.C.setting) V.Value.given (length slots.old) (λ _. vs) result
+        decoder.old decoder.new }
+{
+    for index in 0..slots.len() {
+        slots[index] = Some(decode_next::<Context, V, D>(decoder)?);
+    }
+    Ok(())
+}
+
+/// Fills the slots, and makes an array of their values.
+fn decode_into<
+    Context: Drop,
+    V: ReadValues<Context>,
+    D: Decoder<Context = Context>,
+    const N: usize,
+>(decoder: &mut D, mut slots: [Option<V::Value>; N]) -> Result<[V::Value; N], DecodeError>
+    requires { CanRelease D.C.bound (D.charge decoder.old) (N * V.Value.claim) }
+    ensures { RunRead D.told D.rest D.charge D.failures D.place D.C.bound D.R.ended D.R.device V.Value.grows
+        V.Value.claim (V.Value.format D.C.setting) V.Value.given N (λ v. v) result decoder.old decoder.new }
+{
+    decode_slots::<Context, V, D>(decoder, &mut slots[..])?;
+    Ok(unwrap_all(slots))
+}
+
+/// Reads the elements over those of an array.
+#[inline]
+fn decode_over<
+    Context: Drop,
+    V: ReadValues<Context>,
+    D: Decoder<Context = Context>,
+    const N: usize,
+>(decoder: &mut D, mut values: [V::Value; N]) -> Result<[V::Value; N], DecodeError>
+    requires { CanRelease D.C.bound (D.charge decoder.old) (N * V.Value.claim) }
+    ensures { RunRead D.told D.rest D.charge D.failures D.place D.C.bound D.R.ended D.R.device V.Value.grows
+        V.Value.claim (V.Value.format D.C.setting) V.Value.given N (λ v. v) result decoder.old decoder.new }
+{
+    decode_run::<Context, V, D>(decoder, &mut values[..])?;
+    Ok(values)
+}
+
+/// Reads `N` elements in turn, whose room `claim_container_read` has reserved, and releases each one's share before it.
+/// So the charge at the end is that at the start, with the full widths of the elements in place of their room. Fails
+/// where an element does, or with `Memory` where `N` slots of `Option<V::Value>` can't exist (`slots_fit`).
+pub fn decode_array<
+    Context: Drop,
+    V: ReadValues<Context>,
+    D: Decoder<Context = Context>,
+    const N: usize,
+>(decoder: &mut D) -> Result<[V::Value; N], DecodeError>
+    requires { CanRelease D.C.bound (D.charge decoder.old) (N * V.Value.claim) }
+    ensures read { RunRead D.told D.rest D.charge D.failures D.place D.C.bound D.R.ended D.R.device
+        (V.Value.grows ⊎ ¬ (SlotsFit V.Value.row N)) V.Value.claim (V.Value.format D.C.setting) V.Value.given N
+        (λ v. v) result decoder.old decoder.new }
+    ensures charge { D.told decoder.old → IfOk result (λ _. RoomReturned D.C.bound
+        (elements N V.Value.claim (V.Value.format D.C.setting)) (N * V.Value.claim)
+        (D.rest decoder.old) (D.rest decoder.new) (D.charge decoder.old) (D.charge decoder.new)) }
+{
+    if let Some(values) = V::blank_array::<[V::Value; N]>() {
+        return decode_over::<Context, V, D, N>(decoder, values);
+    }
+    if !slots_fit::<V::Value, N>() {
+        return Err(DecodeError::Memory);
+    }
+    decode_into::<Context, V, D, N>(decoder, empty_slots())
+}

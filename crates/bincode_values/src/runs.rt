@@ -1,0 +1,126 @@
+//! Runs of values whose room has been reserved, without a length.
+ghost use Rattle.std.specs.Prelude.{◌≡◌, ◌*◌, length, IfOk, IfSome, IfErr};
+ghost use Rattle.bincode_base.specs.declared.error.DecodeError.TheVariants.{Memory};
+ghost use Rattle.bincode_wire.specs.Answer.{unclaimed};
+ghost use Rattle.bincode_wire.specs.Run.{CanRelease};
+ghost use Rattle.bincode_decoder.specs.Runs.{Reads, RunRead};
+
+use crate::values::ReadValues;
+use bincode_base::error::DecodeError;
+use bincode_decoder::decoder::Decoder;
+use bincode_wire::wire::Wire;
+use std::alloc::Global;
+
+/// Reads as many values as `values` has, over them, whose room `claim_container_read` has reserved: each one's share is
+/// released before it is read. A type may read them otherwise (`ReadValues::read_at_once`), with the same answer. Fails
+/// where a value does. Then some front of the input is taken, unless the error is one that the device does not count,
+/// and no more than the room of the values is given back; what `values` has then is not said.
+#[inline]
+pub fn decode_run<Context: Drop, V: ReadValues<Context>, D: Decoder<Context = Context>>(
+    decoder: &mut D,
+    values: &mut [V::Value],
+) -> Result<(), DecodeError>
+    requires { CanRelease D.C.bound (D.charge decoder.old) (length values.old * V.Value.claim) }
+    ensures { RunRead D.told D.rest D.charge D.failures D.place D.C.bound D.R.ended D.R.device V.Value.grows
+        V.Value.claim (V.Value.format D.C.setting) V.Value.given (length values.old) (λ _. values.new) result
+        decoder.old decoder.new }
+{
+    if !decoder.is_within_limit() {
+        return decode_each::<Context, V, D>(decoder, values);
+    }
+    if let Some(outcome) = V::read_at_once(decoder, values) {
+        return outcome;
+    }
+    decode_each::<Context, V, D>(decoder, values)
+}
+
+/// The same, one by one.
+#[inline]
+fn decode_each<Context: Drop, V: ReadValues<Context>, D: Decoder<Context = Context>>(
+    decoder: &mut D,
+    values: &mut [V::Value],
+) -> Result<(), DecodeError>
+    requires { CanRelease D.C.bound (D.charge decoder.old) (length values.old * V.Value.claim) }
+    ensures { RunRead D.told D.rest D.charge D.failures D.place D.C.bound D.R.ended D.R.device V.Value.grows
+        V.Value.claim (V.Value.format D.C.setting) V.Value.given (length values.old) (λ _. values.new) result
+        decoder.old decoder.new }
+{
+    for index in 0..values.len() {
+        values[index] = decode_next::<Context, V, D>(decoder)?;
+    }
+    Ok(())
+}
+
+/// Releases the share of one value, of the room that is reserved, and reads it.
+#[inline(always)]
+pub(crate) fn decode_next<Context: Drop, V: ReadValues<Context>, D: Decoder<Context = Context>>(
+    decoder: &mut D,
+) -> Result<V::Value, DecodeError>
+    requires { CanRelease D.C.bound (D.charge decoder.old) V.Value.claim }
+    ensures { Reads D.told D.rest D.charge D.failures D.place D.C.bound D.R.ended D.R.device V.Value.grows
+        (V.Value.format D.C.setting) V.Value.given (unclaimed D.C.bound (D.charge decoder.old) V.Value.claim) result
+        decoder.old decoder.new }
+{
+    decoder.unclaim_bytes_read(V::Value::claim_size());
+    V::read_value(decoder)
+}
+
+/// Reads `len` values, as `decode_run` does. Fails where a value does, or with `Memory` where the room for the values
+/// is refused.
+pub fn decode_vec<Context: Drop, V: ReadValues<Context>, D: Decoder<Context = Context>>(
+    decoder: &mut D,
+    len: usize,
+) -> Result<Vec<V::Value>, DecodeError>
+    requires { CanRelease D.C.bound (D.charge decoder.old) (len * V.Value.claim) }
+    ensures length { IfOk result (λ v. length v.items ≡ len) }
+    ensures read { RunRead D.told D.rest D.charge D.failures D.place D.C.bound D.R.ended D.R.device (Unit {0})
+        V.Value.claim (V.Value.format D.C.setting) V.Value.given len (λ v. v.items) result decoder.old decoder.new }
+{
+    let Some(mut values) = blank_values::<Context, V>(decoder.alloc(), len)? else {
+        return decode_by_pushes::<Context, V, D>(decoder, len);
+    };
+    decode_run::<Context, V, D>(decoder, &mut values)?;
+    Ok(values)
+}
+
+/// The same for a type without blank values.
+fn decode_by_pushes<Context: Drop, V: ReadValues<Context>, D: Decoder<Context = Context>>(
+    decoder: &mut D,
+    len: usize,
+) -> Result<Vec<V::Value>, DecodeError>
+    requires { CanRelease D.C.bound (D.charge decoder.old) (len * V.Value.claim) }
+    ensures length { IfOk result (λ v. length v.items ≡ len) }
+    ensures read { RunRead D.told D.rest D.charge D.failures D.place D.C.bound D.R.ended D.R.device (Unit {0})
+        V.Value.claim (V.Value.format D.C.setting) V.Value.given len (λ v. v.items) result decoder.old decoder.new }
+{
+    let Ok(mut values) = Vec::with_capacity(decoder.alloc(), len) else {
+        return Err(DecodeError::Memory);
+    };
+    for _ in 0..len {
+        values.push_reserved(decode_next::<Context, V, D>(decoder)?);
+    }
+    Ok(values)
+}
+
+/// So many values to read over, if the type has such at hand. Fails with `Memory` where the room for them is refused.
+fn blank_values<Context: Drop, V: ReadValues<Context>>(
+    alloc: Global,
+    len: usize,
+) -> Result<Option<Vec<V::Value>>, DecodeError>
+    ensures length { IfOk result (λ blank. IfSome blank (λ v. length v.items ≡ len)) }
+    ensures err { IfErr result (λ e. e ≡ Memory) }
+{
+    if V::blank_array::<[V::Value; 0]>().is_none() {
+        return Ok(None);
+    }
+    let Ok(mut values) = Vec::with_capacity(alloc, len) else {
+        return Err(DecodeError::Memory);
+    };
+    for _ in 0..len {
+        let Some([blank]) = V::blank_array::<[V::Value; 1]>() else {
+            return Ok(None);
+        };
+        values.push_reserved(blank);
+    }
+    Ok(Some(values))
+}

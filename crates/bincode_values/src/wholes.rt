@@ -1,0 +1,42 @@
+//! Values that are made of their parts.
+ghost use Rattle.std.specs.Prelude.{◌≡◌};
+ghost use Rattle.bincode_wire.specs.Meaning.{Meaning};
+ghost use Rattle.bincode_decoder.specs.Runs.{Reads};
+
+use bincode_base::error::DecodeError;
+use bincode_decoder::decoder::Decoder;
+use bincode_wire::parted::Parted;
+
+/// A way to read the parts of a type's values, in a context, and to make values of them.
+pub trait MakeWhole<Context: Drop> {
+    /// What is made.
+    type Whole: Parted + Drop;
+
+    /// Reads the parts. It does, fails and leaves what `Decode::decode` does.
+    fn read_parts<D: Decoder<Context = Context>>(
+        decoder: &mut D,
+    ) -> Result<<Self::Whole as Parted>::Parts, DecodeError>
+        ensures { Reads D.told D.rest D.charge D.failures D.place D.C.bound D.R.ended D.R.device
+            Self.Whole.Parts.grows (Self.Whole.Parts.format D.C.setting) Self.Whole.Parts.given
+            (D.charge decoder.old) result decoder.old decoder.new };
+
+    /// The value with these parts.
+    fn make(parts: <Self::Whole as Parted>::Parts) -> Self::Whole
+        ensures parts { Self.Whole.parts result ≡ parts }
+        ensures promise { (m : Meaning) → Self.Whole.Parts.given m parts
+            → (Self.Whole.promised result (Self.Whole.Parts.given m parts)).Promised };
+}
+
+/// Reads the parts of a value, and makes it. Fails where a part does.
+#[inline(always)]
+pub fn decode_whole<Context: Drop, W: MakeWhole<Context>, D: Decoder<Context = Context>>(
+    decoder: &mut D,
+) -> Result<W::Whole, DecodeError>
+    ensures { Reads D.told D.rest D.charge D.failures D.place D.C.bound D.R.ended D.R.device
+        W.Whole.Parts.grows (W.Whole.Parts.format D.C.setting)
+        (λ m v. (W.Whole.promised v (W.Whole.Parts.given m (W.Whole.parts v))).Promised) (D.charge decoder.old) result
+        decoder.old decoder.new }
+{
+    let parts = W::read_parts(decoder)?;
+    Ok(W::make(parts))
+}
