@@ -2,12 +2,12 @@
 use Rattle.std.specs.Prelude.{◌≡◌, ◌<◌, ◌==◌, if◌then◌else◌, ℕ, unsigned_abs, Bool, true, false, Result, Ok, Err, List, Option, Some, None, refl}
 use Rattle.std.specs.Borrow.{GName}
 use Rattle.std.specs.Option.{MatchOption, ok_or}
-use Rattle.std.proofs.Common.{sym, ◌∙◌, ap, subst, arith}
+use Rattle.std.proofs.Common.{sym, ◌∙◌, ap, arith}
 use Rattle.std.proofs.lemmas.Bool.{ne_eqb}
 use Rattle.bincode_base.specs.declared.error.IntegerType.{IntegerType}
 use Rattle.bincode_base.specs.declared.error.DecodeError.{DecodeError}
 use Rattle.bincode_base.specs.declared.error.DecodeError.TheVariants.{NonZeroTypeIsZero}
-use Rattle.bincode_base.specs.Device.{DeviceErrors, Takes}
+use Rattle.bincode_base.specs.Device.{DeviceErrors}
 use Rattle.bincode_base.specs.Fault.{Zero}
 use Rattle.bincode_base.specs.Format.{Format, settled, done, map_format}
 use Rattle.bincode_base.specs.Laws.{Lawful}

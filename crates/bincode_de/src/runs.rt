@@ -55,6 +55,7 @@ pub fn decode_run<Context: Drop, T: Decode<Context>, D: Decoder<Context = Contex
 
 /// Reads `len` values, as `decode_run` does. Fails where a value does, or with `Memory` where the room for the values
 /// is refused.
+#[inline]
 pub fn decode_vec<Context: Drop, T: Decode<Context>, D: Decoder<Context = Context>>(
     decoder: &mut D,
     len: usize,
@@ -70,6 +71,7 @@ pub fn decode_vec<Context: Drop, T: Decode<Context>, D: Decoder<Context = Contex
 /// Reads `N` elements in turn, whose room `claim_container_read` has reserved, and releases each one's share before it.
 /// So the charge at the end is that at the start, with the full widths of the elements in place of their room. Fails
 /// where an element does, or with `Memory` where `N` slots of `Option<T>` can't exist (`slots_fit`).
+#[inline]
 pub fn decode_array<
     Context: Drop,
     T: Decode<Context>,

@@ -32,6 +32,8 @@ pub trait MakeWhole<Context: Drop> {
 pub fn decode_whole<Context: Drop, W: MakeWhole<Context>, D: Decoder<Context = Context>>(
     decoder: &mut D,
 ) -> Result<W::Whole, DecodeError>
+where
+    <W::Whole as Parted>::Parts: Drop,
     ensures { Reads D.told D.rest D.charge D.failures D.place D.C.bound D.R.ended D.R.device
         W.Whole.Parts.grows (W.Whole.Parts.format D.C.setting)
         (λ m v. (W.Whole.promised v (W.Whole.Parts.given m (W.Whole.parts v))).Promised) (D.charge decoder.old) result
