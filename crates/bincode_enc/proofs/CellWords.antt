@@ -1,6 +1,8 @@
 -- What a cell holds is written for the cell.
-use Rattle.std.specs.Prelude.{◌⊎◌, ℕ, List, ◌++◌}
+use Rattle.std.specs.Prelude.{◌⊎◌, ℕ, List, ◌++◌, Result}
+use Rattle.std.specs.Borrow.{GName}
 use Rattle.std.proofs.Common.{inl, inr}
+use Rattle.std.proofs.lemmas.Result.{IfErr-weaker, on_ok_weaker}
 use Rattle.bincode_base.specs.declared.error.EncodeError.{EncodeError}
 use Rattle.bincode_base.specs.Format.{Format, of_cell}
 use Rattle.bincode_base.specs.Laws.{Lawful}
@@ -8,12 +10,12 @@ use Rattle.bincode_wire.specs.Meaning.{Meaning}
 use Rattle.bincode_wire.specs.Allowed.{AllowedWord, SomeWord}
 use Rattle.bincode_wire.specs.Cells.{IsAny}
 use Rattle.bincode_wire.specs.CellLaws.{cell-allows}
-use Rattle.bincode_encoder.specs.Encoding.{Adds, Refuses, Writes, Ready, Begins, IsOwn, Halts, by_writer, by_name}
+use Rattle.bincode_encoder.specs.Encoding.{Adds, Refuses, Writes, Ready, Begins, IsOwn, Halts, Encodes, by_writer, by_name}
 use Rattle.bincode_encoder.specs.EncodingLaws.{writes_same}
 
 module _ (F : Format Meaning) (f : Lawful F) (P : Meaning → Type 0) {W : Type 0} (adds : Adds W) where
   -- its word is one of the cell
-  pub held_writes : (before after : W) → Writes adds (AllowedWord P F) before after → Writes adds (AllowedWord IsAny (of_cell F)) before after
+  held_writes : (before after : W) → Writes adds (AllowedWord P F) before after → Writes adds (AllowedWord IsAny (of_cell F)) before after
   held_writes before after w = writes_same adds _ _ before after (cell-allows F f P) w
 
   module _ (R S : Type 0) (inner : S → R) (has_word : R → SomeWord (AllowedWord P F)) where
@@ -29,6 +31,15 @@ module _ (F : Format Meaning) (f : Lawful F) (P : Meaning → Type 0) {W : Type 
     own_or_held front e (inr b) = inr (held_begins front b)
 
     -- a front of its word is one of the cell
-    pub held_halts : (refuses : Refuses W) (N M : EncodeError → Type 0) → ((e : EncodeError) → N e → M e) → (before after : W) (e : EncodeError) → Halts adds refuses (Ready R (AllowedWord P F)) N before after e → Halts adds refuses (Ready S (AllowedWord IsAny (of_cell F))) M before after e
+    held_halts : (refuses : Refuses W) (N M : EncodeError → Type 0) → ((e : EncodeError) → N e → M e) → (before after : W) (e : EncodeError) → Halts adds refuses (Ready R (AllowedWord P F)) N before after e → Halts adds refuses (Ready S (AllowedWord IsAny (of_cell F))) M before after e
     held_halts refuses N M more before after e (by_writer front piece middle h r b) = by_writer front piece middle h r (held_begins (front ++ piece) b)
     held_halts refuses N M more before after e (by_name front h n b) = by_name front h (more e n) (own_or_held front e b)
+
+-- what was written for what a cell holds was written for the cell
+pub held-encodes : {F : Format Meaning} (f : Lawful F) {P : Meaning → Type 0} {R S : Type 0} (inner : S → R) (has_word : R → SomeWord (AllowedWord P F)) {E W T : Type 0} {adds : Adds W} {refuses : Refuses W} {writer_of : E → W} {place : E → List GName} {N M : EncodeError → Type 0} (more : (e : EncodeError) → N e → M e) {r : Result T EncodeError} {old new : E} →
+    Encodes adds refuses writer_of place R (AllowedWord P F) N r old new → Encodes adds refuses writer_of place S (AllowedWord IsAny (of_cell F)) M r old new
+held-encodes {F} f {P} {R} {S} inner has_word {adds = adds} {refuses = refuses} {N = N} {M = M} more {r} w = record {
+  ok = on_ok_weaker r (held_writes F f P adds _ _) w.ok;
+  err = IfErr-weaker r _ _ (held_halts F f P adds R S inner has_word refuses N M more _ _) w.err;
+  same_place = w.same_place;
+}

@@ -1,11 +1,11 @@
 //! What can be encoded.
-ghost use Rattle.std.specs.Prelude.{◌≡◌, OnOk, IfErr, IfSome, length};
+ghost use Rattle.std.specs.Prelude.{IfSome, length};
 ghost use Rattle.std.specs.List.{All};
 ghost use Rattle.bincode_base.specs.Setting.{Setting};
 ghost use Rattle.bincode_wire.specs.Words.{array};
 ghost use Rattle.bincode_wire.specs.Run.{IsListOf};
 ghost use Rattle.bincode_wire.specs.Allowed.{AllowedWord};
-ghost use Rattle.bincode_encoder.specs.Encoding.{Writes, Ready, Halts};
+ghost use Rattle.bincode_encoder.specs.Encoding.{Ready, Encodes};
 
 use bincode_base::error::EncodeError;
 use bincode_encoder::encoder::Encoder;
@@ -21,12 +21,9 @@ pub trait Encode: Wire + Drop {
     /// Then what was written before begins an allowed word, if the inner type of each cell that the value holds has
     /// one, and unless the error is one of a user's type.
     fn encode<E: Encoder>(&self, encoder: &mut E) -> Result<(), EncodeError>
-        ensures ok { OnOk result (Writes E.W.adds (AllowedWord (Self.means self.now) (Self.format E.C.setting))
-            (E.writer_of encoder.old) (E.writer_of encoder.new)) }
-        ensures err { IfErr result (Halts E.W.adds E.W.refuses
-            (Ready (Self.writable E.C.setting self.now) (AllowedWord (Self.means self.now) (Self.format E.C.setting)))
-            Self.names (E.writer_of encoder.old) (E.writer_of encoder.new)) }
-        ensures place { E.place encoder.new ≡ E.place encoder.old };
+        ensures { Encodes E.W.adds E.W.refuses E.writer_of E.place (Self.writable E.C.setting self.now)
+            (AllowedWord (Self.means self.now) (Self.format E.C.setting)) Self.names result encoder.old
+            encoder.new };
 
     /// The bytes of a run of values, if the type's values are the bytes of their words: `encode_run` writes them in one
     /// piece. Each other type answers `None`.

@@ -1,7 +1,6 @@
 //! Types that are encoded by their parts.
-ghost use Rattle.std.specs.Prelude.{◌≡◌, OnOk, IfErr};
 ghost use Rattle.bincode_wire.specs.Allowed.{AllowedWord};
-ghost use Rattle.bincode_encoder.specs.Encoding.{Writes, Ready, Halts};
+ghost use Rattle.bincode_encoder.specs.Encoding.{Encodes};
 
 use crate::encode::Encode;
 use bincode_base::error::EncodeError;
@@ -18,13 +17,10 @@ pub trait EncodeParts: Parted + Drop {
 
     /// Writes a word of the parts. It does, fails and leaves what `Encode::encode` does.
     fn encode_parts<E: Encoder>(&self, encoder: &mut E) -> Result<(), EncodeError>
-        ensures ok { OnOk result (Writes E.W.adds (AllowedWord (Self.Parts.means (Self.parts self.now))
-            (Self.Parts.format E.C.setting)) (E.writer_of encoder.old) (E.writer_of encoder.new)) }
-        ensures err { IfErr result (Halts E.W.adds E.W.refuses
-            (Ready (Self.Parts.writable E.C.setting (Self.parts self.now))
-            (AllowedWord (Self.Parts.means (Self.parts self.now)) (Self.Parts.format E.C.setting))) Self.Parts.names
-            (E.writer_of encoder.old) (E.writer_of encoder.new)) }
-        ensures place { E.place encoder.new ≡ E.place encoder.old };
+        ensures { Encodes E.W.adds E.W.refuses E.writer_of E.place
+            (Self.Parts.writable E.C.setting (Self.parts self.now))
+            (AllowedWord (Self.Parts.means (Self.parts self.now)) (Self.Parts.format E.C.setting))
+            Self.Parts.names result encoder.old encoder.new };
 }
 
 impl<T: EncodeParts> Encode for T {

@@ -1,7 +1,6 @@
 //! Parts in a row by reference: what tuples are encoded as.
-ghost use Rattle.std.specs.Prelude.{◌≡◌, OnOk, IfErr};
 ghost use Rattle.bincode_wire.specs.Allowed.{AllowedWord};
-ghost use Rattle.bincode_encoder.specs.Encoding.{Writes, Ready, Halts};
+ghost use Rattle.bincode_encoder.specs.Encoding.{Encodes};
 
 use crate::encode::Encode;
 use bincode_base::error::EncodeError;
@@ -20,13 +19,10 @@ pub trait EncodeRow: Drop {
 
     /// Writes a word of the parts. It does, fails and leaves what `Encode::encode` does.
     fn encode_row<E: Encoder>(&self, encoder: &mut E) -> Result<(), EncodeError>
-        ensures ok { OnOk result (Writes E.W.adds (AllowedWord (Self.Parts.means (Self.lent self.now))
-            (Self.Parts.format E.C.setting)) (E.writer_of encoder.old) (E.writer_of encoder.new)) }
-        ensures err { IfErr result (Halts E.W.adds E.W.refuses
-            (Ready (Self.Parts.writable E.C.setting (Self.lent self.now))
-            (AllowedWord (Self.Parts.means (Self.lent self.now)) (Self.Parts.format E.C.setting))) Self.Parts.names
-            (E.writer_of encoder.old) (E.writer_of encoder.new)) }
-        ensures place { E.place encoder.new ≡ E.place encoder.old };
+        ensures { Encodes E.W.adds E.W.refuses E.writer_of E.place
+            (Self.Parts.writable E.C.setting (Self.lent self.now))
+            (AllowedWord (Self.Parts.means (Self.lent self.now)) (Self.Parts.format E.C.setting)) Self.Parts.names
+            result encoder.old encoder.new };
 }
 
 // Always inlined: LLVM takes a call behind several `?` for a rare one, and a call hands on a result with room for an

@@ -1,12 +1,12 @@
 //! Encoding of enums, variant by variant.
-ghost use Rattle.std.specs.Prelude.{◌≡◌, pos, OnOk, IfErr};
+ghost use Rattle.std.specs.Prelude.{pos};
 ghost use Rattle.bincode_base.specs.Format.{map_format};
 ghost use Rattle.bincode_base.specs.declared.error.EncodeError.{EncodeError};
 ghost use Rattle.bincode_wire.specs.Meaning.{Choice, IsNumber};
 ghost use Rattle.bincode_wire.specs.Words.{natural, behind_tag, chosen};
 ghost use Rattle.bincode_wire.specs.Choices.{IsChoice};
 ghost use Rattle.bincode_wire.specs.Allowed.{AllowedWord, WrittenAlike, SameMeanings};
-ghost use Rattle.bincode_encoder.specs.Encoding.{Writes, Ready, Halts};
+ghost use Rattle.bincode_encoder.specs.Encoding.{Encodes};
 
 use crate::encode::Encode;
 use bincode_base::error::EncodeError;
@@ -19,12 +19,9 @@ pub trait EncodeTag: Tag {
     /// Writes a tag.
     fn encode_tag<E: Encoder>(tag: u32, encoder: &mut E) -> Result<(), EncodeError>
         requires { Self.Fits tag }
-        ensures ok { OnOk result (Writes E.W.adds (AllowedWord (IsNumber (pos tag)) (natural (Self.tags E.C.setting)))
-            (E.writer_of encoder.old) (E.writer_of encoder.new)) }
-        ensures err { IfErr result (Halts E.W.adds E.W.refuses
-            (Ready (Unit {0}) (AllowedWord (IsNumber (pos tag)) (natural (Self.tags E.C.setting)))) (λ _. ⊥)
-            (E.writer_of encoder.old) (E.writer_of encoder.new)) }
-        ensures place { E.place encoder.new ≡ E.place encoder.old };
+        ensures { Encodes E.W.adds E.W.refuses E.writer_of E.place (Unit {0})
+            (AllowedWord (IsNumber (pos tag)) (natural (Self.tags E.C.setting))) (λ _. ⊥) result encoder.old
+            encoder.new };
 }
 
 impl EncodeTag for u8 {
@@ -59,13 +56,9 @@ where
     requires names { (e : EncodeError) → A.names e → T.Parts.names e }
     requires means { SameMeanings (IsChoice tag (A.means part.now)) (T.Parts.means (T.parts value.now)) }
     requires writable { T.Parts.writable E.C.setting (T.parts value.now) → A.writable E.C.setting part.now }
-    ensures ok { OnOk result (Writes E.W.adds (AllowedWord (T.Parts.means (T.parts value.now))
-        (chosen T.Parts.Tag.tags T.Parts.variants E.C.setting)) (E.writer_of encoder.old) (E.writer_of encoder.new)) }
-    ensures err { IfErr result (Halts E.W.adds E.W.refuses
-        (Ready (T.Parts.writable E.C.setting (T.parts value.now))
-        (AllowedWord (T.Parts.means (T.parts value.now)) (chosen T.Parts.Tag.tags T.Parts.variants E.C.setting)))
-        T.Parts.names (E.writer_of encoder.old) (E.writer_of encoder.new)) }
-    ensures place { E.place encoder.new ≡ E.place encoder.old }
+    ensures { Encodes E.W.adds E.W.refuses E.writer_of E.place (T.Parts.writable E.C.setting (T.parts value.now))
+        (AllowedWord (T.Parts.means (T.parts value.now)) (chosen T.Parts.Tag.tags T.Parts.variants E.C.setting))
+        T.Parts.names result encoder.old encoder.new }
 {
     <T::Parts as Choice>::Tag::encode_tag(tag, encoder)?;
     part.encode(encoder)

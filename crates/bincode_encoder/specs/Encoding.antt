@@ -1,5 +1,6 @@
 -- What encoding does and leaves.
-use Rattle.std.specs.Prelude.{◌⊎◌, ℕ, List, ◌++◌}
+use Rattle.std.specs.Prelude.{◌≡◌, ◌⊎◌, ℕ, List, ◌++◌, Result, OnOk, IfErr}
+use Rattle.std.specs.Borrow.{GName}
 use Rattle.bincode_base.specs.declared.error.EncodeError.{EncodeError}
 use Rattle.bincode_base.specs.declared.error.EncodeError.TheVariants as errors
 
@@ -42,3 +43,10 @@ IsOwn (errors.Memory) = ⊥
 pub data Halts {W : Type 0} (adds : Adds W) (refuses : Refuses W) (Allowed : List ℕ → Type 0) (Names : EncodeError → Type 0) (before after : W) (e : EncodeError) : Type 0 where
   by_writer : (front piece : List ℕ) (middle : W) → adds before front middle → refuses middle piece e after → Begins Allowed (front ++ piece) → Halts adds refuses Allowed Names before after e
   by_name : (front : List ℕ) → adds before front after → Names e → IsOwn e ⊎ Begins Allowed front → Halts adds refuses Allowed Names before after e
+
+-- An encoder, which was at `old` and is at `new`, wrote a value: an allowed word was added, or the error tells why it
+-- halts. It writes through the same references.
+pub record Encodes {E W T : Type 0} (adds : Adds W) (refuses : Refuses W) (writer_of : E → W) (place : E → List GName) (Writable : Type 0) (Allowed : List ℕ → Type 0) (Names : EncodeError → Type 0) (result : Result T EncodeError) (old new : E) : Type 0 where
+  pub ok : OnOk result (Writes adds Allowed (writer_of old) (writer_of new))
+  pub err : IfErr result (Halts adds refuses (Ready Writable Allowed) Names (writer_of old) (writer_of new))
+  pub same_place : place new ≡ place old

@@ -1,15 +1,9 @@
 -- What encoding does passes from parts to wholes.
-use Rattle.std.specs.Prelude.{◌≡◌, ◌⊎◌, ℕ, ◌<◌, ℤ, Result, List, [], ◌∷◌, ◌++◌, OnOk, IfErr, refl}
+use Rattle.std.specs.Prelude.{◌≡◌, ◌⊎◌, ℕ, List, [], ◌∷◌, ◌++◌, refl}
 use Rattle.std.proofs.Common.{sym, ◌∙◌, ap, subst, inl, inr, append_assoc, append-nil}
-use Rattle.std.proofs.lemmas.Result.{IfErr-weaker, on_ok_weaker}
-use Rattle.bincode_base.specs.declared.error.IntegerType.{IntegerType}
 use Rattle.bincode_base.specs.declared.error.EncodeError.{EncodeError}
 use Rattle.bincode_base.specs.Device.{StopsAmong, joined}
-use Rattle.bincode_base.specs.Format.{Format, map_format}
-use Rattle.bincode_wire.specs.Meaning.{Number, IsNumber}
-use Rattle.bincode_wire.specs.Words.{not_zero_by}
-use Rattle.bincode_wire.specs.Allowed.{AllowedWord, Both}
-use Rattle.bincode_wire.specs.AllowedLaws.{not_zero-allows, allowed-not_zero}
+use Rattle.bincode_wire.specs.Allowed.{Both}
 use Rattle.bincode_encoder.specs.Encoding.{Adds, Refuses, Writes, Ready, Begins, IsOwn, Halts, by_writer, by_name}
 
 begins_first : (A B : List ℕ → Type 0) (bytes : List ℕ) → Begins A bytes → Begins (Both A B) bytes
@@ -120,13 +114,3 @@ module _ {R S U : Type 0} (pair : R → S → U) (split : U → R × S) {A B C :
     halts_in_next join before between after v h =
         halts_same adds refuses (Both (Ready R A) (Ready S B)) (Ready U C) K before after e whole_ready parts_ready
         (halts_named adds refuses (Both (Ready R A) (Ready S B)) (λ d. N d ⊎ M d) K before after e more (halts_next adds refuses join R A (Ready S B) N M before between after e v h))
-
--- a number other than 0 is written as the number
-module _ {A : Type 0} (integer : A → ℤ) (one : (a b : A) → integer a ≡ integer b → a ≡ b) (size : A → ℕ) (name : IntegerType) (F : Format A) {T W : Type 0} (r : Result T EncodeError) (adds : Adds W) (before after : W) (a : A) (h : 0 < size a) where
-  pub writes_not_zero : OnOk r (Writes adds (AllowedWord (IsNumber (integer a)) (map_format (λ k. Number (integer k)) F)) before after) → OnOk r (Writes adds (AllowedWord (IsNumber (integer a)) (map_format (λ k. Number (integer k)) (not_zero_by size name F))) before after)
-  writes_not_zero = on_ok_weaker r (writes_same adds _ _ before after (λ bytes. not_zero-allows integer one size name F bytes a h))
-
-  pub halts_not_zero : (refuses : Refuses W) (N : EncodeError → Type 0) (R : Type 0) → IfErr r (Halts adds refuses (Ready R (AllowedWord (IsNumber (integer a)) (map_format (λ k. Number (integer k)) F))) N before after) →
-      IfErr r (Halts adds refuses (Ready R (AllowedWord (IsNumber (integer a)) (map_format (λ k. Number (integer k)) (not_zero_by size name F)))) N before after)
-  halts_not_zero refuses N R =
-      IfErr-weaker r _ _ (λ d. halts_same adds refuses _ _ N before after d (ready_as R _ _ (λ bytes. not_zero-allows integer one size name F bytes a h)) (ready_as R _ _ (λ bytes. allowed-not_zero integer one size name F bytes a)))

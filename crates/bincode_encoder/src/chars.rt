@@ -1,10 +1,10 @@
 //! Characters, written through any encoder.
-ghost use Rattle.std.specs.Prelude.{◌≡◌, OnOk, IfErr};
+ghost use Rattle.std.specs.Prelude.{◌≡◌};
 ghost use Rattle.std.specs.Char.{encode_utf8, IsScalar};
 ghost use Rattle.bincode_wire.specs.Meaning.{IsCharacter};
 ghost use Rattle.bincode_wire.specs.Words.{character};
 ghost use Rattle.bincode_wire.specs.Allowed.{AllowedWord};
-ghost use Rattle.bincode_encoder.specs.Encoding.{Writes, Ready, Halts};
+ghost use Rattle.bincode_encoder.specs.Encoding.{Encodes};
 
 use crate::encoder::{Encoder, write_from};
 use bincode_base::error::EncodeError;
@@ -16,11 +16,8 @@ use bincode_wire::chars::{four_bytes_of_char, three_bytes_of_char, two_bytes_of_
 fn write_char<E: Encoder>(encoder: &mut E, code: u32, bytes: &[u8]) -> Result<(), EncodeError>
     requires scalar { IsScalar code }
     requires bytes { bytes.now ≡ encode_utf8 code }
-    ensures ok { OnOk result (Writes E.W.adds (AllowedWord (IsCharacter code) character) (E.writer_of encoder.old)
-        (E.writer_of encoder.new)) }
-    ensures err { IfErr result (Halts E.W.adds E.W.refuses (Ready (Unit {0}) (AllowedWord (IsCharacter code) character))
-        (λ _. ⊥) (E.writer_of encoder.old) (E.writer_of encoder.new)) }
-    ensures place { E.place encoder.new ≡ E.place encoder.old }
+    ensures { Encodes E.W.adds E.W.refuses E.writer_of E.place (Unit {0})
+        (AllowedWord (IsCharacter code) character) (λ _. ⊥) result encoder.old encoder.new }
 {
     write_from(encoder, bytes)
 }
@@ -28,11 +25,8 @@ fn write_char<E: Encoder>(encoder: &mut E, code: u32, bytes: &[u8]) -> Result<()
 /// Writes a character as UTF-8. Fails where the writer refuses its bytes.
 #[inline(always)]
 pub fn encode_char<E: Encoder>(encoder: &mut E, val: char) -> Result<(), EncodeError>
-    ensures ok { OnOk result (Writes E.W.adds (AllowedWord (IsCharacter val) character) (E.writer_of encoder.old)
-        (E.writer_of encoder.new)) }
-    ensures err { IfErr result (Halts E.W.adds E.W.refuses (Ready (Unit {0}) (AllowedWord (IsCharacter val) character))
-        (λ _. ⊥) (E.writer_of encoder.old) (E.writer_of encoder.new)) }
-    ensures place { E.place encoder.new ≡ E.place encoder.old }
+    ensures { Encodes E.W.adds E.W.refuses E.writer_of E.place (Unit {0})
+        (AllowedWord (IsCharacter val) character) (λ _. ⊥) result encoder.old encoder.new }
 {
     let code = u32::from(val);
     if code < 128 {

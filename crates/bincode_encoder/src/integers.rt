@@ -1,12 +1,12 @@
 //! Integers and bytes, written through any encoder.
-ghost use Rattle.std.specs.Prelude.{◌≡◌, pos, FitsSigned, OnOk, IfErr};
+ghost use Rattle.std.specs.Prelude.{pos, FitsSigned};
 ghost use Rattle.std.specs.Int.{w8};
 ghost use Rattle.bincode_base.specs.Format.{map_format};
 ghost use Rattle.bincode_base.specs.Integers.{unsigned_byte, signed_byte};
 ghost use Rattle.bincode_wire.specs.Meaning.{Number, IsNumber};
 ghost use Rattle.bincode_wire.specs.Words.{natural, integral};
 ghost use Rattle.bincode_wire.specs.Allowed.{AllowedWord};
-ghost use Rattle.bincode_encoder.specs.Encoding.{Writes, Ready, Halts};
+ghost use Rattle.bincode_encoder.specs.Encoding.{Encodes};
 
 use crate::encoder::{Encoder, write_from};
 use bincode_base::bytes::byte_of_i8;
@@ -18,14 +18,10 @@ use bincode_base::number::Integer;
 #[inline(always)]
 pub fn encode_integer<T: Integer, E: Encoder>(encoder: &mut E, val: T) -> Result<(), EncodeError>
     requires fits { T.spelling.Fits val }
-    ensures ok { OnOk result (Writes E.W.adds (AllowedWord (IsNumber (T.spelling.integer val))
-        (map_format (λ k. Number (T.spelling.integer k)) (T.spelling.words E.C.setting))) (E.writer_of encoder.old)
-        (E.writer_of encoder.new)) }
-    ensures err { IfErr result (Halts E.W.adds E.W.refuses
-        (Ready (Unit {0}) (AllowedWord (IsNumber (T.spelling.integer val))
-        (map_format (λ k. Number (T.spelling.integer k)) (T.spelling.words E.C.setting)))) (λ _. ⊥)
-        (E.writer_of encoder.old) (E.writer_of encoder.new)) }
-    ensures place { E.place encoder.new ≡ E.place encoder.old }
+    ensures { Encodes E.W.adds E.W.refuses E.writer_of E.place (Unit {0})
+        (AllowedWord (IsNumber (T.spelling.integer val))
+        (map_format (λ k. Number (T.spelling.integer k)) (T.spelling.words E.C.setting)))
+        (λ _. ⊥) result encoder.old encoder.new }
 {
     let endian = encoder.config().endianness();
     let encoding = encoder.config().int_encoding();
@@ -35,12 +31,8 @@ pub fn encode_integer<T: Integer, E: Encoder>(encoder: &mut E, val: T) -> Result
 /// Writes a byte as it is. Fails where the writer refuses it.
 #[inline(always)]
 pub fn encode_byte<E: Encoder>(encoder: &mut E, val: u8) -> Result<(), EncodeError>
-    ensures ok { OnOk result (Writes E.W.adds (AllowedWord (IsNumber (pos val)) (natural unsigned_byte))
-        (E.writer_of encoder.old) (E.writer_of encoder.new)) }
-    ensures err { IfErr result (Halts E.W.adds E.W.refuses
-        (Ready (Unit {0}) (AllowedWord (IsNumber (pos val)) (natural unsigned_byte))) (λ _. ⊥)
-        (E.writer_of encoder.old) (E.writer_of encoder.new)) }
-    ensures place { E.place encoder.new ≡ E.place encoder.old }
+    ensures { Encodes E.W.adds E.W.refuses E.writer_of E.place (Unit {0})
+        (AllowedWord (IsNumber (pos val)) (natural unsigned_byte)) (λ _. ⊥) result encoder.old encoder.new }
 {
     write_from(encoder, &[val])
 }
@@ -49,12 +41,8 @@ pub fn encode_byte<E: Encoder>(encoder: &mut E, val: u8) -> Result<(), EncodeErr
 #[inline(always)]
 pub fn encode_signed_byte<E: Encoder>(encoder: &mut E, val: i8) -> Result<(), EncodeError>
     requires { FitsSigned w8 val }
-    ensures ok { OnOk result (Writes E.W.adds (AllowedWord (IsNumber val) (integral signed_byte))
-        (E.writer_of encoder.old) (E.writer_of encoder.new)) }
-    ensures err { IfErr result (Halts E.W.adds E.W.refuses
-        (Ready (Unit {0}) (AllowedWord (IsNumber val) (integral signed_byte))) (λ _. ⊥)
-        (E.writer_of encoder.old) (E.writer_of encoder.new)) }
-    ensures place { E.place encoder.new ≡ E.place encoder.old }
+    ensures { Encodes E.W.adds E.W.refuses E.writer_of E.place (Unit {0})
+        (AllowedWord (IsNumber val) (integral signed_byte)) (λ _. ⊥) result encoder.old encoder.new }
 {
     write_from(encoder, &[byte_of_i8(val)])
 }

@@ -1,10 +1,10 @@
 //! Encoding of integers other than 0.
-ghost use Rattle.std.specs.Prelude.{◌≡◌, ◌<◌, OnOk, IfErr};
+ghost use Rattle.std.specs.Prelude.{◌<◌};
 ghost use Rattle.bincode_base.specs.Format.{map_format};
 ghost use Rattle.bincode_wire.specs.Meaning.{Number, IsNumber};
 ghost use Rattle.bincode_wire.specs.Words.{not_zero_by};
 ghost use Rattle.bincode_wire.specs.Allowed.{AllowedWord};
-ghost use Rattle.bincode_encoder.specs.Encoding.{Writes, Ready, Halts};
+ghost use Rattle.bincode_encoder.specs.Encoding.{Encodes};
 
 use crate::encode::Encode;
 use crate::encode_parts::EncodeParts;
@@ -22,14 +22,10 @@ use std::num::{
 fn encode_not_zero<T: Integer, E: Encoder>(encoder: &mut E, val: T) -> Result<(), EncodeError>
     requires fits { T.spelling.Fits val }
     requires nonzero { 0 < T.spelling.size val }
-    ensures ok { OnOk result (Writes E.W.adds (AllowedWord (IsNumber (T.spelling.integer val))
-        (map_format (λ k. Number (T.spelling.integer k)) (not_zero_by T.spelling.size T.spelling.name
-        (T.spelling.words E.C.setting)))) (E.writer_of encoder.old) (E.writer_of encoder.new)) }
-    ensures err { IfErr result (Halts E.W.adds E.W.refuses
-        (Ready (Unit {0}) (AllowedWord (IsNumber (T.spelling.integer val))
-        (map_format (λ k. Number (T.spelling.integer k)) (not_zero_by T.spelling.size T.spelling.name
-        (T.spelling.words E.C.setting))))) (λ _. ⊥) (E.writer_of encoder.old) (E.writer_of encoder.new)) }
-    ensures place { E.place encoder.new ≡ E.place encoder.old }
+    ensures { Encodes E.W.adds E.W.refuses E.writer_of E.place (Unit {0})
+        (AllowedWord (IsNumber (T.spelling.integer val)) (map_format (λ k. Number (T.spelling.integer k))
+        (not_zero_by T.spelling.size T.spelling.name (T.spelling.words E.C.setting))))
+        (λ _. ⊥) result encoder.old encoder.new }
 {
     encode_integer(encoder, val)
 }

@@ -1,14 +1,11 @@
-use Rattle.std.proofs.lemmas.Result.{IfErr-weaker, on_ok_weaker, err_from_is_err_and}
-use Rattle.bincode_enc.specs.TupleEncoding.{then-writes, then-halts_first, then-halts_next}
+use Rattle.std.proofs.lemmas.Result.{err_from_is_err_and}
+use Rattle.bincode_enc.specs.TupleEncoding.{tuple-encodes, tuple-halts}
 use Rattle.bincode_enc.proofs.rows.LentRowEncodeRow.encode_row.Goals as goal
 
-pub returns-in_err-encode-clause-err : goal.returns-in_err-encode-clause-err
-returns-in_err-encode-clause-err g c =
+pub returns-in_err-encode : goal.returns-in_err-encode
+returns-in_err-encode g c =
     let p = err_from_is_err_and c.from_residual.result c.from_residual.ensures.1 in
-    rw (p.1, p.2) (then-halts_first _ c.in_err-encode.ensures.err)
+    rw (p.1, p.2) (tuple-halts _ c.in_err-encode.ensures)
 
-pub returns-clause-ok : goal.returns-clause-ok
-returns-clause-ok g c = on_ok_weaker c.encode_row.result (λ h. then-writes _ g.met.E.W.Writer.adds_join c.in_ok-encode.ensures.ok h) c.encode_row.ensures.ok
-
-pub returns-clause-err : goal.returns-clause-err
-returns-clause-err g c = IfErr-weaker c.encode_row.result _ _ (λ e h. then-halts_next _ g.met.E.W.Writer.adds_join c.in_ok-encode.ensures.ok h) c.encode_row.ensures.err
+pub returns : goal.returns
+returns g c = tuple-encodes _ g.met.E.W.Writer.adds_join c.in_ok-encode.ensures c.encode_row.ensures

@@ -1,55 +1,43 @@
-use Rattle.std.proofs.lemmas.Result.{IfErr-weaker, on_ok_weaker, err_from_is_err_and}
-use Rattle.bincode_enc.specs.TupleEncoding.{then-writes, then-halts_first, then-halts_next}
+use Rattle.std.proofs.lemmas.Result.{err_from_is_err_and}
+use Rattle.bincode_enc.specs.TupleEncoding.{tuple-encodes, tuple-halts}
 use Rattle.bincode_enc.proofs.rows.LongLentRowEncodeRow.encode_row.Goals as goal
 
-pub returns-in_err-encode-clause-err : goal.returns-in_err-encode-clause-err
-returns-in_err-encode-clause-err g c =
+pub returns-in_err-encode : goal.returns-in_err-encode
+returns-in_err-encode g c =
     let p = err_from_is_err_and c.from_residual.result c.from_residual.ensures.1 in
-    rw (p.1, p.2) (then-halts_first _ c.in_err-encode.ensures.err)
+    rw (p.1, p.2) (tuple-halts _ c.in_err-encode.ensures)
 
-pub returns-in_err-encode-2-clause-err : goal.returns-in_err-encode-2-clause-err
-returns-in_err-encode-2-clause-err g c =
+pub returns-in_err-encode-2 : goal.returns-in_err-encode-2
+returns-in_err-encode-2 g c =
     let p = err_from_is_err_and c.from_residual-in_err-encode-2.result c.from_residual-in_err-encode-2.ensures.1 in
     let join = g.met.E.W.Writer.adds_join in
     rw (p.1, p.2)
-    (then-halts_next _ join c.in_ok-encode.ensures.ok
-    (then-halts_first _ c.in_err-encode-2.ensures.err))
+    (tuple-encodes _ join c.in_ok-encode.ensures
+    (tuple-halts _ c.in_err-encode-2.ensures))
 
-pub returns-in_err-encode-3-clause-err : goal.returns-in_err-encode-3-clause-err
-returns-in_err-encode-3-clause-err g c =
+pub returns-in_err-encode-3 : goal.returns-in_err-encode-3
+returns-in_err-encode-3 g c =
     let p = err_from_is_err_and c.from_residual-in_err-encode-3.result c.from_residual-in_err-encode-3.ensures.1 in
     let join = g.met.E.W.Writer.adds_join in
     rw (p.1, p.2)
-    (then-halts_next _ join c.in_ok-encode.ensures.ok
-    (then-halts_next _ join c.in_ok-encode-2.ensures.ok
-    (then-halts_first _ c.in_err-encode-3.ensures.err)))
+    (tuple-encodes _ join c.in_ok-encode.ensures
+    (tuple-encodes _ join c.in_ok-encode-2.ensures
+    (tuple-halts _ c.in_err-encode-3.ensures)))
 
-pub returns-in_err-encode-4-clause-err : goal.returns-in_err-encode-4-clause-err
-returns-in_err-encode-4-clause-err g c =
+pub returns-in_err-encode-4 : goal.returns-in_err-encode-4
+returns-in_err-encode-4 g c =
     let p = err_from_is_err_and c.from_residual-in_err-encode-4.result c.from_residual-in_err-encode-4.ensures.1 in
     let join = g.met.E.W.Writer.adds_join in
     rw (p.1, p.2)
-    (then-halts_next _ join c.in_ok-encode.ensures.ok
-    (then-halts_next _ join c.in_ok-encode-2.ensures.ok
-    (then-halts_next _ join c.in_ok-encode-3.ensures.ok
-    (then-halts_first _ c.in_err-encode-4.ensures.err))))
+    (tuple-encodes _ join c.in_ok-encode.ensures
+    (tuple-encodes _ join c.in_ok-encode-2.ensures
+    (tuple-encodes _ join c.in_ok-encode-3.ensures
+    (tuple-halts _ c.in_err-encode-4.ensures))))
 
-pub returns-clause-ok : goal.returns-clause-ok
-returns-clause-ok g c =
+pub returns : goal.returns
+returns g c =
     let join = g.met.E.W.Writer.adds_join in
-    on_ok_weaker c.encode_row.result
-    (λ h.
-    then-writes _ join c.in_ok-encode.ensures.ok
-    (then-writes _ join c.in_ok-encode-2.ensures.ok
-    (then-writes _ join c.in_ok-encode-3.ensures.ok
-    (then-writes _ join c.in_ok-encode-4.ensures.ok h)))) c.encode_row.ensures.ok
-
-pub returns-clause-err : goal.returns-clause-err
-returns-clause-err g c =
-    let join = g.met.E.W.Writer.adds_join in
-    IfErr-weaker c.encode_row.result _ _
-    (λ e h.
-    then-halts_next _ join c.in_ok-encode.ensures.ok
-    (then-halts_next _ join c.in_ok-encode-2.ensures.ok
-    (then-halts_next _ join c.in_ok-encode-3.ensures.ok
-    (then-halts_next _ join c.in_ok-encode-4.ensures.ok h)))) c.encode_row.ensures.err
+    tuple-encodes _ join c.in_ok-encode.ensures
+    (tuple-encodes _ join c.in_ok-encode-2.ensures
+    (tuple-encodes _ join c.in_ok-encode-3.ensures
+    (tuple-encodes _ join c.in_ok-encode-4.ensures c.encode_row.ensures)))

@@ -1,11 +1,7 @@
-use Rattle.std.proofs.lemmas.Result.{IfErr-weaker, on_ok_weaker}
-use Rattle.bincode_enc.proofs.CellWords.{held_writes, held_halts}
+use Rattle.bincode_enc.proofs.CellWords.{held-encodes}
 use Rattle.bincode_enc.proofs.impls.cells.CellEncode.encode.Goals as goal
 
-pub returns-clause-ok : goal.returns-clause-ok
-returns-clause-ok g c = on_ok_weaker _ (held_writes _ (g.met.T.Wire.lawful _) _ _ _ _) c.encode.ensures.ok
-
-pub returns-clause-err : goal.returns-clause-err
-returns-clause-err g c =
-    let s = g.E.C.Config.setting in
-    IfErr-weaker c.encode.result _ _ (λ e. held_halts _ (g.met.T.Wire.lawful _) _ _ _ _ (λ w. w.each_writable _ c.tell_valid.ensures) (g.met.T.Wire.has_word s _ c.tell_valid.ensures) _ _ _ (λ d n. n) _ _ e) c.encode.ensures.err
+pub returns : goal.returns
+returns g c =
+    let valid = c.tell_valid.ensures in
+    held-encodes (g.met.T.Wire.lawful _) (λ w. w.each_writable _ valid) (g.met.T.Wire.has_word _ _ valid) (λ e n. n) c.encode.ensures

@@ -1,7 +1,7 @@
 use Rattle.bincode_enc.proofs.impls.choices.OptionEncodeParts.encode_parts.Goals as goal
 
-pub returns-in-None-clause-err : goal.returns-in-None-clause-err
-returns-in-None-clause-err g c = rw c.in-None.is c.encode_variant.ensures.err
+pub returns-in-None : goal.returns-in-None
+returns-in-None g c = rw c.in-None.is c.encode_variant.ensures
 
-pub returns-in-Some-clause-err : goal.returns-in-Some-clause-err
-returns-in-Some-clause-err g c = rw c.in-Some.is c.encode_variant-in-Some.ensures.err
+pub returns-in-Some : goal.returns-in-Some
+returns-in-Some g c = rw c.in-Some.is c.encode_variant-in-Some.ensures

@@ -1,0 +1,2 @@
+-- What the proofs of this crate share, and those of crates above it.
+pub mod EncodingAnswers
