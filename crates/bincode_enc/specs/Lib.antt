@@ -1,2 +1,1 @@
-pub mod RunEncoding
 pub mod TupleEncoding

@@ -8,7 +8,32 @@ ghost use Rattle.bincode_encoder.specs.Encoding.{Encodes};
 
 use crate::encode::Encode;
 use bincode_base::error::EncodeError;
-use bincode_encoder::encoder::{Encoder, write_from};
+use bincode_encoder::encoder::Encoder;
+use bincode_encoder::runs;
+use bincode_encoder::runs::WriteValues;
+use std::marker::PhantomData;
+
+/// Writes values by their `Encode`.
+pub(crate) struct ByEncode<T>(PhantomData<T>);
+
+impl<T: Encode> WriteValues for ByEncode<T> {
+    type Value = T;
+
+    #[inline(always)]
+    fn tell_valid(value: &T) {
+        value.tell_valid();
+    }
+
+    #[inline(always)]
+    fn write_value<E: Encoder>(value: &T, encoder: &mut E) -> Result<(), EncodeError> {
+        value.encode(encoder)
+    }
+
+    #[inline(always)]
+    fn as_bytes(items: &[T]) -> Option<&[u8]> {
+        T::as_bytes(items)
+    }
+}
 
 /// Writes the items in turn, without a length: in one piece, if the type's values are the bytes of their words. Fails
 /// where an item does, and then leaves what `Encode::encode` does: what was written before begins a word of the run.
@@ -18,21 +43,5 @@ pub fn encode_run<T: Encode, E: Encoder>(items: &[T], encoder: &mut E) -> Result
         (AllowedWord (IsListOf T.means items.now) (array (length items.now) T.claim (T.format E.C.setting)))
         T.names result encoder.old encoder.new }
 {
-    if let Some(bytes) = T::as_bytes(items) {
-        return write_from(encoder, bytes);
-    }
-    encode_each(items, encoder)
-}
-
-/// The same, one by one.
-#[inline]
-fn encode_each<T: Encode, E: Encoder>(items: &[T], encoder: &mut E) -> Result<(), EncodeError>
-    ensures { Encodes E.W.adds E.W.refuses E.writer_of E.place (All (T.writable E.C.setting) items.now)
-        (AllowedWord (IsListOf T.means items.now) (array (length items.now) T.claim (T.format E.C.setting)))
-        T.names result encoder.old encoder.new }
-{
-    for item in items {
-        item.encode(encoder)?;
-    }
-    Ok(())
+    runs::encode_run::<ByEncode<T>, E>(items, encoder)
 }

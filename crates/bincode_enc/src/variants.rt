@@ -1,42 +1,20 @@
 //! Encoding of enums, variant by variant.
-ghost use Rattle.std.specs.Prelude.{pos};
 ghost use Rattle.bincode_base.specs.Format.{map_format};
 ghost use Rattle.bincode_base.specs.declared.error.EncodeError.{EncodeError};
-ghost use Rattle.bincode_wire.specs.Meaning.{Choice, IsNumber};
-ghost use Rattle.bincode_wire.specs.Words.{natural, behind_tag, chosen};
+ghost use Rattle.bincode_wire.specs.Meaning.{Choice};
+ghost use Rattle.bincode_wire.specs.Words.{behind_tag, chosen};
 ghost use Rattle.bincode_wire.specs.Choices.{IsChoice};
 ghost use Rattle.bincode_wire.specs.Allowed.{AllowedWord, WrittenAlike, SameMeanings};
 ghost use Rattle.bincode_encoder.specs.Encoding.{Encodes};
 
 use crate::encode::Encode;
+use crate::runs::ByEncode;
 use bincode_base::error::EncodeError;
 use bincode_encoder::encoder::Encoder;
+use bincode_encoder::variants;
+use bincode_encoder::variants::EncodeTag;
 use bincode_wire::parted::Parted;
-use bincode_wire::sums::{Choice, Tag};
-
-/// A type of tags that can be written.
-pub trait EncodeTag: Tag {
-    /// Writes a tag.
-    fn encode_tag<E: Encoder>(tag: u32, encoder: &mut E) -> Result<(), EncodeError>
-        requires { Self.Fits tag }
-        ensures { Encodes E.W.adds E.W.refuses E.writer_of E.place (Unit {0})
-            (AllowedWord (IsNumber (pos tag)) (natural (Self.tags E.C.setting))) (λ _. ⊥) result encoder.old
-            encoder.new };
-}
-
-impl EncodeTag for u8 {
-    #[inline]
-    fn encode_tag<E: Encoder>(tag: u32, encoder: &mut E) -> Result<(), EncodeError> {
-        (tag as u8).encode(encoder)
-    }
-}
-
-impl EncodeTag for u32 {
-    #[inline]
-    fn encode_tag<E: Encoder>(tag: u32, encoder: &mut E) -> Result<(), EncodeError> {
-        tag.encode(encoder)
-    }
-}
+use bincode_wire::sums::Choice;
 
 /// Writes the value of an enum: the tag of its variant, and then the part. Of an enum with type parameters the value
 /// has references to what they stand for, since its parts have to have a known size.
@@ -60,6 +38,5 @@ where
         (AllowedWord (T.Parts.means (T.parts value.now)) (chosen T.Parts.Tag.tags T.Parts.variants E.C.setting))
         T.Parts.names result encoder.old encoder.new }
 {
-    <T::Parts as Choice>::Tag::encode_tag(tag, encoder)?;
-    part.encode(encoder)
+    variants::encode_variant::<T, ByEncode<A>, E>(value, tag, part, encoder)
 }

@@ -1,12 +1,14 @@
 //! Integers and bytes, written through any encoder.
-ghost use Rattle.std.specs.Prelude.{pos, FitsSigned};
+ghost use Rattle.std.specs.Prelude.{pos, FitsSigned, length};
+ghost use Rattle.std.specs.List.{All};
 ghost use Rattle.std.specs.Int.{w8};
 ghost use Rattle.bincode_base.specs.Format.{map_format};
 ghost use Rattle.bincode_base.specs.Integers.{unsigned_byte, signed_byte};
 ghost use Rattle.bincode_wire.specs.Meaning.{Number, IsNumber};
-ghost use Rattle.bincode_wire.specs.Words.{natural, integral};
+ghost use Rattle.bincode_wire.specs.Words.{natural, integral, array};
+ghost use Rattle.bincode_wire.specs.Run.{IsListOf};
 ghost use Rattle.bincode_wire.specs.Allowed.{AllowedWord};
-ghost use Rattle.bincode_encoder.specs.Encoding.{Encodes};
+ghost use Rattle.bincode_encoder.specs.Encoding.{Ready, Encodes};
 
 use crate::encoder::{Encoder, write_from};
 use bincode_base::bytes::byte_of_i8;
@@ -45,4 +47,13 @@ pub fn encode_signed_byte<E: Encoder>(encoder: &mut E, val: i8) -> Result<(), En
         (AllowedWord (IsNumber val) (integral signed_byte)) (λ _. ⊥) result encoder.old encoder.new }
 {
     write_from(encoder, &[byte_of_i8(val)])
+}
+
+/// The words of bytes in turn: the bytes themselves.
+#[inline(always)]
+pub fn words_of_bytes(values: &[u8]) -> &[u8]
+    ensures { Ready (All (λ _. Unit {0}) values.now) (AllowedWord (IsListOf (λ v. IsNumber (pos v)) values.now)
+        (array (length values.now) 1 (natural unsigned_byte))) result.now }
+{
+    values
 }

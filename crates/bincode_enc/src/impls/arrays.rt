@@ -1,14 +1,13 @@
 //! Encoding of arrays.
 use crate::encode::Encode;
-use crate::runs::encode_run;
+use crate::runs::{ByEncode, encode_run};
 use bincode_base::error::EncodeError;
 use bincode_encoder::encoder::Encoder;
+use bincode_encoder::runs::tell_each_valid;
 
 impl<T: Encode, const N: usize> Encode for [T; N] {
     fn tell_valid(&self) {
-        for item in self {
-            item.tell_valid();
-        }
+        tell_each_valid::<ByEncode<T>>(self);
     }
 
     fn encode<E: Encoder>(&self, encoder: &mut E) -> Result<(), EncodeError> {

@@ -1,7 +1,7 @@
 //! Encoding of cells.
 use crate::encode::Encode;
 use bincode_base::error::EncodeError;
-use bincode_base::text::ShortText;
+use bincode_encoder::cells::borrowed_cell;
 use bincode_encoder::encoder::Encoder;
 use std::cell::{Cell, RefCell};
 
@@ -20,9 +20,7 @@ impl<T: Encode> Encode for RefCell<T> {
 
     fn encode<E: Encoder>(&self, encoder: &mut E) -> Result<(), EncodeError> {
         let Ok(guard) = self.try_borrow() else {
-            return Err(EncodeError::RefCellAlreadyBorrowed {
-                type_name: ShortText::new("RefCell"),
-            });
+            return Err(borrowed_cell());
         };
         let value = &*guard;
         value.tell_valid();

@@ -2,7 +2,7 @@
 use crate::encode::Encode;
 use bincode_base::error::EncodeError;
 use bincode_encoder::encoder::Encoder;
-use bincode_encoder::integers::{encode_byte, encode_integer, encode_signed_byte};
+use bincode_encoder::integers::{encode_byte, encode_integer, encode_signed_byte, words_of_bytes};
 
 impl Encode for u8 {
     fn tell_valid(&self) {
@@ -16,7 +16,7 @@ impl Encode for u8 {
 
     #[inline]
     fn as_bytes(items: &[u8]) -> Option<&[u8]> {
-        Some(items)
+        Some(words_of_bytes(items))
     }
 }
 

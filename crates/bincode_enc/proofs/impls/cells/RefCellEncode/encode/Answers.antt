@@ -6,7 +6,7 @@ use Rattle.bincode_enc.proofs.impls.cells.RefCellEncode.encode.Goals as goal
 pub returns-in_default : goal.returns-in_default
 returns-in_default g c = record {
   ok = tt;
-  err = by_name _ (g.met.E.W.Writer.adds_none _) (inl (c.new.result, refl)) (inr (λ some h. (some, h)));
+  err = by_name _ (g.met.E.W.Writer.adds_none _) (inl c.borrowed_cell.ensures) (inr (λ some h. (some, h)));
   same_place = refl;
 }
 

@@ -2,9 +2,9 @@ use Rattle.std.proofs.Common.{◌≡◌, take}
 use Rattle.bincode_wire.specs.Allowed.{AllowedWord}
 use Rattle.bincode_wire.specs.Run.{AllowsEach}
 use Rattle.bincode_encoder.specs.Encoding.{Writes}
-use Rattle.bincode_enc.proofs.runs.encode_each.Given as goal
+use Rattle.bincode_encoder.proofs.runs.encode_each.Given as goal
 
 abbrev pub invariant-loop-item : goal.invariant-loop-item
 invariant-loop-item g l =
-    Writes g.E.W.Writer.adds (AllowsEach (λ v. AllowedWord (g.T.Wire.means v) (g.T.Wire.format g.E.C.Config.setting)) (take l.item-index l.items)) (g.E.Encoder.writer_of l.fn.encoder) (g.E.Encoder.writer_of l.encoder)
+    Writes g.E.W.Writer.adds (AllowsEach (λ v. AllowedWord (g.V.Value.Wire.means v) (g.V.Value.Wire.format g.E.C.Config.setting)) (take l.item-index l.items)) (g.E.Encoder.writer_of l.fn.encoder) (g.E.Encoder.writer_of l.encoder)
     × (g.E.Encoder.place l.encoder ≡ g.E.Encoder.place l.fn.encoder)

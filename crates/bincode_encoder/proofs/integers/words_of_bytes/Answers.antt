@@ -8,7 +8,7 @@ use Rattle.bincode_wire.specs.Allowed.{AllowedWord}
 use Rattle.bincode_wire.specs.AllowedLaws.{byte-allows}
 use Rattle.bincode_wire.specs.Run.{IsListOf, AllowsEach}
 use Rattle.bincode_wire.specs.RunAllowedLaws.{array-allows}
-use Rattle.bincode_enc.proofs.impls.numbers.U8Encode.as_bytes.Goals as goal
+use Rattle.bincode_encoder.proofs.integers.words_of_bytes.Goals as goal
 
 each-allows : (bytes : List ℕ) → AllowsEach (λ v. AllowedWord (IsNumber (pos v)) (natural unsigned_byte)) bytes bytes
 each-allows [] = refl
@@ -22,4 +22,4 @@ all-ready [] = All-nil (λ v. Unit {0})
 all-ready (b ∷ bytes) = All-cons (λ v. Unit {0}) b bytes tt (all-ready bytes)
 
 pub returns : goal.returns
-returns c = λ s. record { is_writable = all-ready c.args.items.now; is_allowed = run-allows c.args.items.now }
+returns c = record { is_writable = all-ready c.args.values.now; is_allowed = run-allows c.args.values.now }

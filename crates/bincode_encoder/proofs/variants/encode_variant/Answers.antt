@@ -6,7 +6,7 @@ use Rattle.bincode_wire.specs.Meaning.{Meaning}
 use Rattle.bincode_wire.specs.Allowed.{AllowedWord, SameMeanings}
 use Rattle.bincode_wire.specs.ChoiceLaws.{choice-allows, allowed-choice}
 use Rattle.bincode_encoder.proofs.EncodingAnswers.{encodes-as, first-halts, next-encodes}
-use Rattle.bincode_enc.proofs.variants.encode_variant.Goals as goal
+use Rattle.bincode_encoder.proofs.variants.encode_variant.Goals as goal
 
 -- the same meanings allow the same words
 allows-as : {P Q : Meaning → Type 0} {F : Format Meaning} → SameMeanings P Q → (bytes : List ℕ) → AllowedWord P F bytes → AllowedWord Q F bytes
@@ -21,10 +21,10 @@ returns-in_err-encode_tag g c =
     let alike = c.requires.picks in
     rw (p.1, p.2)
     (encodes-as (allows-as c.requires.means) (allows-back c.requires.means) c.requires.writable (λ e n. n)
-    (first-halts {R = Unit {0}} (λ _ r. r) (λ r. (tt, r)) (choice-allows _ _ _ _ _ alike _) (allowed-choice _ _ _ _ _ alike _) {M = g.A.Wire.names} (λ e. elim [ inl k ↦ absurd k | inr k ↦ c.requires.names e k ]) c.in_err-encode_tag.ensures))
+    (first-halts {R = Unit {0}} (λ _ r. r) (λ r. (tt, r)) (choice-allows _ _ _ _ _ alike _) (allowed-choice _ _ _ _ _ alike _) {M = g.V.Value.Wire.names} (λ e. elim [ inl k ↦ absurd k | inr k ↦ c.requires.names e k ]) c.in_err-encode_tag.ensures))
 
 pub returns : goal.returns
 returns g c =
     let alike = c.requires.picks in
     encodes-as (allows-as c.requires.means) (allows-back c.requires.means) c.requires.writable (λ e n. n)
-    (next-encodes {R = Unit {0}} (λ _ r. r) (λ r. (tt, r)) (choice-allows _ _ _ _ _ alike _) (allowed-choice _ _ _ _ _ alike _) (λ e. elim [ inl k ↦ absurd k | inr k ↦ c.requires.names e k ]) g.met.E.W.Writer.adds_join c.in_ok-encode_tag.ensures c.encode.ensures)
+    (next-encodes {R = Unit {0}} (λ _ r. r) (λ r. (tt, r)) (choice-allows _ _ _ _ _ alike _) (allowed-choice _ _ _ _ _ alike _) (λ e. elim [ inl k ↦ absurd k | inr k ↦ c.requires.names e k ]) g.met.E.W.Writer.adds_join c.in_ok-encode_tag.ensures c.write_value.ensures)

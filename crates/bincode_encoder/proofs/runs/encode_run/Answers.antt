@@ -1,5 +1,5 @@
 use Rattle.bincode_encoder.proofs.EncodingAnswers.{piece-encodes}
-use Rattle.bincode_enc.proofs.runs.encode_run.Goals as goal
+use Rattle.bincode_encoder.proofs.runs.encode_run.Goals as goal
 
 pub returns-in-Some : goal.returns-in-Some
 returns-in-Some g c =

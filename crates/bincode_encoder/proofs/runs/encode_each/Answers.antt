@@ -1,0 +1,25 @@
+use Rattle.std.proofs.Common.{◌∙◌, refl, arith}
+use Rattle.std.proofs.lemmas.Result.{err_from_is_err_and}
+use Rattle.bincode_encoder.proofs.RunAnswers.{writes_more, writes_array, halts_at, halts_array}
+use Rattle.bincode_encoder.proofs.runs.encode_each.Goals as goal
+
+pub returns-in_err-write_value : goal.returns-in_err-write_value
+returns-in_err-write_value g c =
+    let p = err_from_is_err_and c.from_residual.result c.from_residual.ensures.1 in
+    let halted = c.in_err-write_value.ensures in
+    rw (p.1, p.2) (record {
+      ok = tt;
+      err = halts_array _ _ _ _ _ _ _ _ _ _ _ _ refl (halts_at _ _ g.met.E.W.Writer.adds_join (g.V.Value.Wire.writable g.E.C.Config.setting) _ _ _ _ _ c.args.items.now c.loop-item.item-index _ _ (omega arith) c.item-item.is c.loop-item.invariant.0 halted.err);
+      same_place = halted.same_place ∙ c.loop-item.invariant.1;
+    })
+
+pub loop-item-preserved : goal.loop-item-preserved
+loop-item-preserved g c =
+    (writes_more _ g.met.E.W.Writer.adds_join _ _ _ _ c.args.items.now c.loop-item.item-index _ (omega arith) c.item-item.is c.loop-item.invariant.0 c.in_ok-write_value.ensures.ok, c.write_value.ensures.same_place ∙ c.loop-item.invariant.1)
+
+pub returns : goal.returns
+returns g c = record {
+  ok = writes_array _ _ _ _ _ c.loop-item.item-index _ _ _ refl (omega arith) c.loop-item.invariant.0;
+  err = tt;
+  same_place = c.loop-item.invariant.1;
+}

@@ -1,0 +1,14 @@
+//! The error of a cell that cannot be read.
+ghost use Rattle.bincode_wire.specs.Cells.{IsBorrowed};
+
+use bincode_base::error::EncodeError;
+use bincode_base::text::ShortText;
+
+/// The error of a cell that is borrowed for writing.
+pub fn borrowed_cell() -> EncodeError
+    ensures { IsBorrowed result }
+{
+    EncodeError::RefCellAlreadyBorrowed {
+        type_name: ShortText::new("RefCell"),
+    }
+}

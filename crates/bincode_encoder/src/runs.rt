@@ -1,0 +1,78 @@
+//! Runs of values, without a length, by a way to write one.
+ghost use Rattle.std.specs.Prelude.{IfSome, length};
+ghost use Rattle.std.specs.List.{All};
+ghost use Rattle.bincode_base.specs.Setting.{Setting};
+ghost use Rattle.bincode_wire.specs.Words.{array};
+ghost use Rattle.bincode_wire.specs.Run.{IsListOf};
+ghost use Rattle.bincode_wire.specs.Allowed.{AllowedWord};
+ghost use Rattle.bincode_encoder.specs.Encoding.{Ready, Encodes};
+
+use crate::encoder::{Encoder, write_from};
+use bincode_base::error::EncodeError;
+use bincode_wire::wire::Wire;
+
+/// A way to write the values of a type.
+pub trait WriteValues {
+    /// What is written.
+    type Value: Wire;
+
+    /// Says of a value in hand that it is valid.
+    fn tell_valid(value: &Self::Value)
+        ensures { Self.Value.valid value.now };
+
+    /// Writes a word that the value allows. It does, fails and leaves what `Encode::encode` does.
+    fn write_value<E: Encoder>(value: &Self::Value, encoder: &mut E) -> Result<(), EncodeError>
+        ensures { Encodes E.W.adds E.W.refuses E.writer_of E.place (Self.Value.writable E.C.setting value.now)
+            (AllowedWord (Self.Value.means value.now) (Self.Value.format E.C.setting)) Self.Value.names result
+            encoder.old encoder.new };
+
+    /// The bytes of a run of values, if the values are the bytes of their words.
+    fn as_bytes(items: &[Self::Value]) -> Option<&[u8]>
+        ensures { IfSome result (λ bytes. (s : Setting) → Ready (All (Self.Value.writable s) items.now)
+            (AllowedWord (IsListOf Self.Value.means items.now)
+            (array (length items.now) Self.Value.claim (Self.Value.format s))) bytes.now) };
+}
+
+/// Says of each of the values in hand that it is valid.
+pub fn tell_each_valid<V: WriteValues>(items: &[V::Value])
+    ensures { All V.Value.valid items.now }
+{
+    for value in items {
+        V::tell_valid(value);
+    }
+}
+
+/// Writes the items in turn, without a length: in one piece, if they are the bytes of their words. Fails where an item
+/// does, and then leaves what `Encode::encode` does: what was written before begins a word of the run.
+#[inline]
+pub fn encode_run<V: WriteValues, E: Encoder>(
+    items: &[V::Value],
+    encoder: &mut E,
+) -> Result<(), EncodeError>
+    ensures { Encodes E.W.adds E.W.refuses E.writer_of E.place (All (V.Value.writable E.C.setting) items.now)
+        (AllowedWord (IsListOf V.Value.means items.now)
+        (array (length items.now) V.Value.claim (V.Value.format E.C.setting)))
+        V.Value.names result encoder.old encoder.new }
+{
+    if let Some(bytes) = V::as_bytes(items) {
+        return write_from(encoder, bytes);
+    }
+    encode_each::<V, E>(items, encoder)
+}
+
+/// The same, one by one.
+#[inline]
+fn encode_each<V: WriteValues, E: Encoder>(
+    items: &[V::Value],
+    encoder: &mut E,
+) -> Result<(), EncodeError>
+    ensures { Encodes E.W.adds E.W.refuses E.writer_of E.place (All (V.Value.writable E.C.setting) items.now)
+        (AllowedWord (IsListOf V.Value.means items.now)
+        (array (length items.now) V.Value.claim (V.Value.format E.C.setting)))
+        V.Value.names result encoder.old encoder.new }
+{
+    for item in items {
+        V::write_value(item, encoder)?;
+    }
+    Ok(())
+}

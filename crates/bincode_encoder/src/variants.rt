@@ -1,0 +1,66 @@
+//! Values of enums, written variant by variant: a tag, and a part by a way to write it.
+ghost use Rattle.std.specs.Prelude.{pos};
+ghost use Rattle.bincode_base.specs.Format.{map_format};
+ghost use Rattle.bincode_base.specs.declared.error.EncodeError.{EncodeError};
+ghost use Rattle.bincode_wire.specs.Meaning.{Choice, IsNumber};
+ghost use Rattle.bincode_wire.specs.Words.{natural, behind_tag, chosen};
+ghost use Rattle.bincode_wire.specs.Choices.{IsChoice};
+ghost use Rattle.bincode_wire.specs.Allowed.{AllowedWord, WrittenAlike, SameMeanings};
+ghost use Rattle.bincode_encoder.specs.Encoding.{Encodes};
+
+use crate::encoder::Encoder;
+use crate::integers::{encode_byte, encode_integer};
+use crate::runs::WriteValues;
+use bincode_base::error::EncodeError;
+use bincode_wire::parted::Parted;
+use bincode_wire::sums::{Choice, Tag};
+
+/// A type of tags that can be written.
+pub trait EncodeTag: Tag {
+    /// Writes a tag.
+    fn encode_tag<E: Encoder>(tag: u32, encoder: &mut E) -> Result<(), EncodeError>
+        requires { Self.Fits tag }
+        ensures { Encodes E.W.adds E.W.refuses E.writer_of E.place (Unit {0})
+            (AllowedWord (IsNumber (pos tag)) (natural (Self.tags E.C.setting))) (λ _. ⊥) result encoder.old
+            encoder.new };
+}
+
+impl EncodeTag for u8 {
+    #[inline]
+    fn encode_tag<E: Encoder>(tag: u32, encoder: &mut E) -> Result<(), EncodeError> {
+        encode_byte(encoder, tag as u8)
+    }
+}
+
+impl EncodeTag for u32 {
+    #[inline]
+    fn encode_tag<E: Encoder>(tag: u32, encoder: &mut E) -> Result<(), EncodeError> {
+        encode_integer(encoder, tag)
+    }
+}
+
+/// Writes the value of an enum: the tag of its variant, and then the part. Of an enum with type parameters the value
+/// has references to what they stand for, since its parts have to have a known size.
+#[inline(always)]
+pub fn encode_variant<T: Parted, V: WriteValues, E: Encoder>(
+    value: &T,
+    tag: u32,
+    part: &V::Value,
+    encoder: &mut E,
+) -> Result<(), EncodeError>
+where
+    T::Parts: Choice,
+    <T::Parts as Choice>::Tag: EncodeTag,
+    requires fits { T.Parts.Tag.Fits tag }
+    requires picks { WrittenAlike (map_format (Choice tag) (V.Value.format E.C.setting))
+        (behind_tag T.Parts.variants E.C.setting tag) }
+    requires names { (e : EncodeError) → V.Value.names e → T.Parts.names e }
+    requires means { SameMeanings (IsChoice tag (V.Value.means part.now)) (T.Parts.means (T.parts value.now)) }
+    requires writable { T.Parts.writable E.C.setting (T.parts value.now) → V.Value.writable E.C.setting part.now }
+    ensures { Encodes E.W.adds E.W.refuses E.writer_of E.place (T.Parts.writable E.C.setting (T.parts value.now))
+        (AllowedWord (T.Parts.means (T.parts value.now)) (chosen T.Parts.Tag.tags T.Parts.variants E.C.setting))
+        T.Parts.names result encoder.old encoder.new }
+{
+    <T::Parts as Choice>::Tag::encode_tag(tag, encoder)?;
+    V::write_value(part, encoder)
+}
