@@ -3,3 +3,4 @@ pub mod Shown
 pub mod Slices
 pub mod Streams
 pub mod Words
+pub mod WordAnswers

@@ -8,7 +8,6 @@ use Rattle.std.proofs.lemmas.List.Elements.{All-nil, All-cons, All-head, All-tai
 use Rattle.bincode_base.specs.declared.config.Endianness.{Endianness}
 use Rattle.bincode_base.specs.declared.config.Endianness.TheVariants.{Little, Big}
 use Rattle.bincode_base.specs.Number.{low_first_number, low_first_digits, number_of, digits_of}
-use Rattle.bincode_base.specs.Integers.{digits}
 
 length-low_first_digits : (width n : ℕ) → length (low_first_digits width n) ≡ width
 length-low_first_digits zero n = refl

@@ -1,5 +1,5 @@
 -- The formats of numbers keep the laws.
-use Rattle.std.specs.Prelude.{◌≡◌, ℕ, suc, ◌+◌, ◌-◌, ◌^◌, ◌<◌, ◌≤◌, ◌⊎◌, Bool, true, false, ◌==◌, if◌then◌else◌, ◌&&◌, nat_lt, nat_le, ℤ, pos, negsuc, FitsSigned, List, [], ◌∷◌, ◌++◌, length, refl}
+use Rattle.std.specs.Prelude.{◌≡◌, ℕ, suc, ◌^◌, ◌<◌, ◌≤◌, ◌⊎◌, Bool, true, false, ◌==◌, if◌then◌else◌, ◌&&◌, nat_lt, nat_le, ℤ, pos, negsuc, FitsSigned, List, [], ◌∷◌, ◌++◌, length, refl}
 use Rattle.std.specs.List.{All}
 use Rattle.std.specs.Int.{Width, w8, w16, w32, w64, w128}
 use Rattle.std.proofs.Common.{sym, ◌∙◌, ap, subst, inl, inr, arith, append-nil}

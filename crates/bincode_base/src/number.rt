@@ -1,14 +1,13 @@
 //! Integers of 2, 4, 8 or 16 bytes, in either encoding.
 #![tactic(auto, using(crate::proofs::Words::by_number))]
 
-ghost use Rattle.std.specs.Prelude.{◌≡◌, ◌≤◌, ℕ, [], IfOk, IfErr, OnOk, refl};
+ghost use Rattle.std.specs.Prelude.{◌≡◌, ℕ, IfErr, OnOk, refl};
 ghost use Rattle.bincode_base.specs.declared.error.IntegerType.TheVariants.{U16, U32, U64, U128, Usize, I16, I32, I64};
 ghost use Rattle.bincode_base.specs.declared.error.IntegerType.TheVariants.{I128, Isize};
-ghost use Rattle.bincode_base.specs.Format.{Took};
 ghost use Rattle.bincode_base.specs.IntegerLaws.{Two, Four, Eight, Sixteen};
 ghost use Rattle.bincode_base.specs.Spellings.{Spelling, unsigned_spelling, signed_spelling};
 ghost use Rattle.bincode_base.specs.Device.{StopsAmong};
-ghost use Rattle.bincode_base.specs.Reads.{Misreads};
+ghost use Rattle.bincode_base.specs.Reads.{ReadsWord};
 
 use crate::bytes::{
     bytes_of_i16, bytes_of_i32, bytes_of_i64, bytes_of_i128, bytes_of_u16, bytes_of_u32,
@@ -43,14 +42,8 @@ pub trait Integer: Drop + Sized {
         endian: Endianness,
         encoding: IntEncoding,
     ) -> Result<Self, DecodeError>
-        ensures ok { R.told read.old → IfOk result (λ v. (spelling.read_by endian encoding).read (R.rest read.old)
-            ≡ Took v (R.rest read.new) []) }
-        ensures err { R.told read.old → IfErr result (Misreads R.ended R.device
-            ((spelling.read_by endian encoding).read (R.rest read.old)) (R.failures read.old) (R.failures read.new)
-            (R.rest read.old) (R.rest read.new)) }
-        ensures count { R.failures read.old ≤ R.failures read.new }
-        ensures told { R.told read.old → R.told read.new }
-        ensures place { R.place read.new ≡ R.place read.old };
+        ensures { ReadsWord R.told R.rest R.failures R.place R.ended R.device (spelling.read_by endian encoding)
+            (λ v. v) result read.old read.new };
 
     /// Writes its word: a varint by its tag and then its bytes, all its bytes in one piece. Where the writer refuses a
     /// piece, those before it stay written.

@@ -1,12 +1,12 @@
 -- What was read, by what was read for it.
-use Rattle.std.specs.Prelude.{◌≡◌, ℕ, ◌≤◌, List, [], Option, Result, Err, IfOk, IfErr, refl}
+use Rattle.std.specs.Prelude.{◌≡◌, ℕ, List, Option, Result, Err, IfOk, IfErr, refl}
 use Rattle.std.specs.Borrow.{GName}
 use Rattle.std.proofs.Common.{◌∙◌, ap, arith}
 use Rattle.std.proofs.lemmas.Result.{IfOk-weaker, IfErr-weaker}
 use Rattle.bincode_base.specs.declared.error.DecodeError.{DecodeError}
 use Rattle.bincode_base.specs.Device.{DeviceErrors}
-use Rattle.bincode_base.specs.Format.{Format, Took, charged, map_format}
-use Rattle.bincode_base.specs.Reads.{Misreads}
+use Rattle.bincode_base.specs.Format.{Format, charged, map_format}
+use Rattle.bincode_base.specs.Reads.{ReadsWord}
 use Rattle.bincode_wire.specs.Answer.{Answer, answer, Gave, Claimed, OverClaimed}
 use Rattle.bincode_wire.specs.Decoding.{Decodes, Stops}
 use Rattle.bincode_wire.specs.DecodingLaws.{charged-gave, charged-misread, map-gave, map-stops}
@@ -55,15 +55,15 @@ module _ {D R C : Type 0} {told : D → Type 0} {rest : D → List ℕ} {charge 
   }
 
   -- one that stands, and what is read behind it
-  pub charged-reads : {A T : Type 0} {r : Result T DecodeError} {new : D} (n : ℕ) (F : Format A) (mean : T → A) → Claimed limit (charge old) n (charge now) → (told now → IfOk r (λ v. F.read (rest now) ≡ Took (mean v) (rest new) [])) → (told now → IfErr r (Misreads ended device (F.read (rest now)) (failures now) (failures new) (rest now) (rest new))) →
-      failures now ≤ failures new → (told now → told new) → charge new ≡ charge now → place new ≡ place now → Reads told rest charge failures place limit ended device ⊥ (charged n F) (λ a v. a ≡ mean v) (charge old) r old new
-  charged-reads {r = r} {new = new} n F mean claim ok err count tells still same = record {
-    ok = λ known. IfOk-weaker r _ _ (λ v h. record { meaning = mean v; answer_is = rw still (charged-gave limit n F (rest old) (charge old) (charge now) (rest now) (rest new) (mean v) claim kept.same_rest h); is_given = refl }) (ok (kept.tells known));
-    err = λ known. IfErr-weaker r _ _ (λ e h. charged-misread limit n F (rest old) (charge old) ended device ⊥ (charge now) (failures old) (failures now) (failures new) (rest now) (rest new) e claim kept.same_rest kept.same_failures h) (err (kept.tells known));
-    counted = let e = kept.same_failures in omega (arith, e, count);
-    tells = λ known. tells (kept.tells known);
+  pub charged-reads : {A T : Type 0} {F : Format A} {mean : T → A} {r : Result T DecodeError} {new : D} (n : ℕ) → Claimed limit (charge old) n (charge now) → ReadsWord told rest failures place ended device F mean r now new → charge new ≡ charge now →
+      Reads told rest charge failures place limit ended device ⊥ (charged n F) (λ a v. a ≡ mean v) (charge old) r old new
+  charged-reads {F = F} {mean = mean} {r = r} {new = new} n claim read still = record {
+    ok = λ known. IfOk-weaker r _ _ (λ v h. record { meaning = mean v; answer_is = rw still (charged-gave limit n F (rest old) (charge old) (charge now) (rest now) (rest new) (mean v) claim kept.same_rest h); is_given = refl }) (read.ok (kept.tells known));
+    err = λ known. IfErr-weaker r _ _ (λ e h. charged-misread limit n F (rest old) (charge old) ended device ⊥ (charge now) (failures old) (failures now) (failures new) (rest now) (rest new) e claim kept.same_rest kept.same_failures h) (read.err (kept.tells known));
+    counted = let e = kept.same_failures in let count = read.counted in omega (arith, e, count);
+    tells = λ known. read.tells (kept.tells known);
     held = rw still (claimed-grows limit (charge old) n (charge now) claim);
-    same_place = same ∙ kept.same_place;
+    same_place = read.same_place ∙ kept.same_place;
   }
 
 -- a number that was read is its meaning read

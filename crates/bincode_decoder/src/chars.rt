@@ -1,7 +1,7 @@
 //! Characters behind their first byte, read through any decoder.
 ghost use Rattle.std.specs.Prelude.{◌≡◌, ◌≤◌, [], Some, IfOk, IfErr};
-ghost use Rattle.bincode_base.specs.Format.{Took, charged};
-ghost use Rattle.bincode_base.specs.Reads.{Misreads};
+ghost use Rattle.bincode_base.specs.Format.{charged};
+ghost use Rattle.bincode_base.specs.Reads.{ReadsWord};
 ghost use Rattle.bincode_wire.specs.Meaning.{Character};
 ghost use Rattle.bincode_wire.specs.Words.{char_width, rest_of_char};
 ghost use Rattle.bincode_wire.specs.Answer.{Charges};
@@ -20,15 +20,9 @@ fn read_rest_of_char_from<D: Decoder>(
     width: usize,
 ) -> Result<char, DecodeError>
     requires { char_width first ≡ Some width }
-    ensures ok { D.told decoder.old → IfOk result (λ v. (rest_of_char first width).read (D.rest decoder.old)
-        ≡ Took (Character v) (D.rest decoder.new) []) }
-    ensures err { D.told decoder.old → IfErr result (Misreads D.R.ended D.R.device
-        ((rest_of_char first width).read (D.rest decoder.old)) (D.failures decoder.old) (D.failures decoder.new)
-        (D.rest decoder.old) (D.rest decoder.new)) }
-    ensures count { D.failures decoder.old ≤ D.failures decoder.new }
-    ensures told { D.told decoder.old → D.told decoder.new }
+    ensures word { ReadsWord D.told D.rest D.failures D.place D.R.ended D.R.device (rest_of_char first width)
+        Character result decoder.old decoder.new }
     ensures charge { D.charge decoder.new ≡ D.charge decoder.old }
-    ensures place { D.place decoder.new ≡ D.place decoder.old }
 {
     read_rest_of_char(decoder.reader(), first, width)
 }

@@ -3,9 +3,9 @@ ghost use Rattle.std.specs.Prelude.{◌≡◌, ◌<◌, ◌≤◌, ◌⊎◌, []
 ghost use Rattle.std.specs.Prelude.{ok_or, OnOk, IfOk, IfErr};
 ghost use Rattle.bincode_base.specs.declared.error.DecodeError.TheVariants.{NonZeroTypeIsZero};
 ghost use Rattle.bincode_base.specs.Device.{FallsShort, Rose, Takes};
-ghost use Rattle.bincode_base.specs.Format.{Took, map_format};
+ghost use Rattle.bincode_base.specs.Format.{map_format};
 ghost use Rattle.bincode_base.specs.Number.{from_two_complement};
-ghost use Rattle.bincode_base.specs.Reads.{Misreads};
+ghost use Rattle.bincode_base.specs.Reads.{ReadsWord};
 ghost use Rattle.bincode_base.specs.Integers.{byte, unsigned_byte, signed_byte};
 ghost use Rattle.bincode_wire.specs.Meaning.{Number, IsNumber};
 ghost use Rattle.bincode_wire.specs.Answer.{Charges};
@@ -37,16 +37,9 @@ pub fn decode_integer<T: Integer + Wire, D: Decoder>(decoder: &mut D) -> Result<
 
 #[inline(always)]
 fn read_integer_from<T: Integer, D: Decoder>(decoder: &mut D) -> Result<T, DecodeError>
-    ensures ok { D.told decoder.old → IfOk result (λ v.
-        (T.spelling.read_by D.C.setting.order D.C.setting.encoding).read (D.rest decoder.old)
-        ≡ Took v (D.rest decoder.new) []) }
-    ensures err { D.told decoder.old → IfErr result (Misreads D.R.ended D.R.device
-        ((T.spelling.read_by D.C.setting.order D.C.setting.encoding).read (D.rest decoder.old)) (D.failures decoder.old)
-        (D.failures decoder.new) (D.rest decoder.old) (D.rest decoder.new)) }
-    ensures count { D.failures decoder.old ≤ D.failures decoder.new }
-    ensures told { D.told decoder.old → D.told decoder.new }
+    ensures word { ReadsWord D.told D.rest D.failures D.place D.R.ended D.R.device
+        (T.spelling.read_by D.C.setting.order D.C.setting.encoding) (λ v. v) result decoder.old decoder.new }
     ensures charge { D.charge decoder.new ≡ D.charge decoder.old }
-    ensures place { D.place decoder.new ≡ D.place decoder.old }
 {
     let endian = decoder.config().endianness();
     let encoding = decoder.config().int_encoding();
@@ -67,14 +60,9 @@ pub fn decode_byte<D: Decoder>(decoder: &mut D) -> Result<u8, DecodeError>
 }
 
 pub fn read_byte_from<D: Decoder>(decoder: &mut D) -> Result<u8, DecodeError>
-    ensures ok { D.told decoder.old → IfOk result (λ v. byte.read (D.rest decoder.old)
-        ≡ Took v (D.rest decoder.new) []) }
-    ensures err { D.told decoder.old → IfErr result (Misreads D.R.ended D.R.device (byte.read (D.rest decoder.old))
-        (D.failures decoder.old) (D.failures decoder.new) (D.rest decoder.old) (D.rest decoder.new)) }
-    ensures count { D.failures decoder.old ≤ D.failures decoder.new }
-    ensures told { D.told decoder.old → D.told decoder.new }
+    ensures word { ReadsWord D.told D.rest D.failures D.place D.R.ended D.R.device byte (λ v. v) result
+        decoder.old decoder.new }
     ensures charge { D.charge decoder.new ≡ D.charge decoder.old }
-    ensures place { D.place decoder.new ≡ D.place decoder.old }
 {
     read_byte(decoder.reader())
 }
@@ -93,15 +81,9 @@ pub fn decode_signed_byte<D: Decoder>(decoder: &mut D) -> Result<i8, DecodeError
 }
 
 fn read_i8_from<D: Decoder>(decoder: &mut D) -> Result<i8, DecodeError>
-    ensures ok { D.told decoder.old → IfOk result (λ v. (map_format (from_two_complement 1) byte).read
-        (D.rest decoder.old) ≡ Took v (D.rest decoder.new) []) }
-    ensures err { D.told decoder.old → IfErr result (Misreads D.R.ended D.R.device
-        ((map_format (from_two_complement 1) byte).read (D.rest decoder.old)) (D.failures decoder.old)
-        (D.failures decoder.new) (D.rest decoder.old) (D.rest decoder.new)) }
-    ensures count { D.failures decoder.old ≤ D.failures decoder.new }
-    ensures told { D.told decoder.old → D.told decoder.new }
+    ensures word { ReadsWord D.told D.rest D.failures D.place D.R.ended D.R.device
+        (map_format (from_two_complement 1) byte) (λ v. v) result decoder.old decoder.new }
     ensures charge { D.charge decoder.new ≡ D.charge decoder.old }
-    ensures place { D.place decoder.new ≡ D.place decoder.old }
 {
     read_i8(decoder.reader())
 }

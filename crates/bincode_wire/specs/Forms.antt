@@ -1,5 +1,5 @@
 -- The forms of scalars: numbers, truth values and characters.
-use Rattle.std.specs.Prelude.{◌≡◌, ℕ, ◌<◌, ◌^◌, ℤ, pos, unsigned_abs, FitsSigned, Bool, true, refl}
+use Rattle.std.specs.Prelude.{◌≡◌, ℕ, ◌<◌, ◌^◌, ℤ, pos, unsigned_abs, FitsSigned, Bool, true}
 use Rattle.std.specs.Int.{Width, w8, w16, w32, w64, w128}
 use Rattle.std.proofs.Common.{sym, ◌∙◌, arith}
 use Rattle.bincode_base.specs.declared.error.IntegerType.{IntegerType}

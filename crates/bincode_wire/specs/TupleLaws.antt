@@ -1,5 +1,5 @@
 -- What tuples keep, if their parts do: each law by the first part and the others.
-use Rattle.std.specs.Prelude.{◌≡◌, ◌⊎◌, ℕ, ◌<◌, List, [], ◌++◌, Bool, true, ◌&&◌, Result, Ok, refl}
+use Rattle.std.specs.Prelude.{◌≡◌, ◌⊎◌, ◌<◌, [], ◌++◌, Bool, true, ◌&&◌, Result, Ok, refl}
 use Rattle.std.proofs.Common.{sym, ◌∙◌, ap, subst, inl, inr}
 use Rattle.std.proofs.lemmas.List.Elements.{All-nil, All-append}
 use Rattle.bincode_base.specs.Fault.{Fault}

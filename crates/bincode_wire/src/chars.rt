@@ -1,8 +1,7 @@
 //! The bytes of characters.
 ghost use Rattle.std.specs.Prelude.{◌≡◌, ◌<◌, ◌≤◌, ◌∷◌, [], Some, None, IfOk, IfErr};
 ghost use Rattle.std.specs.Char.{encode_utf8};
-ghost use Rattle.bincode_base.specs.Format.{Took};
-ghost use Rattle.bincode_base.specs.Reads.{Misreads};
+ghost use Rattle.bincode_base.specs.Reads.{ReadsWord};
 ghost use Rattle.bincode_wire.specs.Meaning.{Character};
 ghost use Rattle.bincode_wire.specs.Words.{char_width, rest_of_char};
 ghost use Rattle.bincode_wire.specs.CharLaws.{Spells};
@@ -135,14 +134,8 @@ pub fn read_rest_of_char<R: Reader>(
     width: usize,
 ) -> Result<char, DecodeError>
     requires { char_width first ≡ Some width }
-    ensures ok { R.told read.old → IfOk result (λ c. (rest_of_char first width).read (R.rest read.old)
-        ≡ Took (Character c) (R.rest read.new) []) }
-    ensures err { R.told read.old → IfErr result (Misreads R.ended R.device
-        ((rest_of_char first width).read (R.rest read.old)) (R.failures read.old) (R.failures read.new)
-        (R.rest read.old) (R.rest read.new)) }
-    ensures count { R.failures read.old ≤ R.failures read.new }
-    ensures told { R.told read.old → R.told read.new }
-    ensures place { R.place read.new ≡ R.place read.old }
+    ensures { ReadsWord R.told R.rest R.failures R.place R.ended R.device (rest_of_char first width) Character
+        result read.old read.new }
 {
     match width {
         2 => {

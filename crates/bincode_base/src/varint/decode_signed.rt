@@ -1,9 +1,9 @@
 //! Signed numbers, read by zigzag.
-ghost use Rattle.std.specs.Prelude.{◌≡◌, ◌≤◌, [], IfOk, IfErr};
+ghost use Rattle.std.specs.Prelude.{◌≤◌, IfOk};
 ghost use Rattle.bincode_base.specs.Number.{unzigzag, FitsIn};
-ghost use Rattle.bincode_base.specs.Format.{Took, map_format};
+ghost use Rattle.bincode_base.specs.Format.{map_format};
 ghost use Rattle.bincode_base.specs.Integers.{varint, signed_tag, tags_of};
-ghost use Rattle.bincode_base.specs.Reads.{Misreads};
+ghost use Rattle.bincode_base.specs.Reads.{ReadsWord};
 ghost use Rattle.bincode_base.specs.declared.error.IntegerType.TheVariants.{I16, I32, I64, I128, Isize};
 
 use super::varint_decode;
@@ -15,14 +15,8 @@ use crate::zigzag::unzigzag;
 /// Reads a word of the number of an integer by zigzag. Fails where bytes are missing, and where the tag is too wide for
 /// the type or reserved.
 pub fn varint_decode_i16<R: Reader>(read: &mut R, endian: Endianness) -> Result<i16, DecodeError>
-    ensures ok { R.told read.old → IfOk result (λ v. (map_format unzigzag (varint signed_tag I16 endian 2)).read
-        (R.rest read.old) ≡ Took v (R.rest read.new) []) }
-    ensures err { R.told read.old → IfErr result (Misreads R.ended R.device
-        ((map_format unzigzag (varint signed_tag I16 endian 2)).read (R.rest read.old)) (R.failures read.old)
-        (R.failures read.new) (R.rest read.old) (R.rest read.new)) }
-    ensures count { R.failures read.old ≤ R.failures read.new }
-    ensures told { R.told read.old → R.told read.new }
-    ensures place { R.place read.new ≡ R.place read.old }
+    ensures { ReadsWord R.told R.rest R.failures R.place R.ended R.device
+        (map_format unzigzag (varint signed_tag I16 endian 2)) (λ v. v) result read.old read.new }
 {
     let z = varint_decode_signed(read, endian, IntegerType::I16, 2)?;
     Ok(z as i16)
@@ -30,14 +24,8 @@ pub fn varint_decode_i16<R: Reader>(read: &mut R, endian: Endianness) -> Result<
 
 /// Reads a word of an `i32`, as `varint_decode_i16` does.
 pub fn varint_decode_i32<R: Reader>(read: &mut R, endian: Endianness) -> Result<i32, DecodeError>
-    ensures ok { R.told read.old → IfOk result (λ v. (map_format unzigzag (varint signed_tag I32 endian 4)).read
-        (R.rest read.old) ≡ Took v (R.rest read.new) []) }
-    ensures err { R.told read.old → IfErr result (Misreads R.ended R.device
-        ((map_format unzigzag (varint signed_tag I32 endian 4)).read (R.rest read.old)) (R.failures read.old)
-        (R.failures read.new) (R.rest read.old) (R.rest read.new)) }
-    ensures count { R.failures read.old ≤ R.failures read.new }
-    ensures told { R.told read.old → R.told read.new }
-    ensures place { R.place read.new ≡ R.place read.old }
+    ensures { ReadsWord R.told R.rest R.failures R.place R.ended R.device
+        (map_format unzigzag (varint signed_tag I32 endian 4)) (λ v. v) result read.old read.new }
 {
     let z = varint_decode_signed(read, endian, IntegerType::I32, 4)?;
     Ok(z as i32)
@@ -45,14 +33,8 @@ pub fn varint_decode_i32<R: Reader>(read: &mut R, endian: Endianness) -> Result<
 
 /// Reads a word of an `i64`, as `varint_decode_i16` does.
 pub fn varint_decode_i64<R: Reader>(read: &mut R, endian: Endianness) -> Result<i64, DecodeError>
-    ensures ok { R.told read.old → IfOk result (λ v. (map_format unzigzag (varint signed_tag I64 endian 8)).read
-        (R.rest read.old) ≡ Took v (R.rest read.new) []) }
-    ensures err { R.told read.old → IfErr result (Misreads R.ended R.device
-        ((map_format unzigzag (varint signed_tag I64 endian 8)).read (R.rest read.old)) (R.failures read.old)
-        (R.failures read.new) (R.rest read.old) (R.rest read.new)) }
-    ensures count { R.failures read.old ≤ R.failures read.new }
-    ensures told { R.told read.old → R.told read.new }
-    ensures place { R.place read.new ≡ R.place read.old }
+    ensures { ReadsWord R.told R.rest R.failures R.place R.ended R.device
+        (map_format unzigzag (varint signed_tag I64 endian 8)) (λ v. v) result read.old read.new }
 {
     let z = varint_decode_signed(read, endian, IntegerType::I64, 8)?;
     Ok(z as i64)
@@ -60,14 +42,8 @@ pub fn varint_decode_i64<R: Reader>(read: &mut R, endian: Endianness) -> Result<
 
 /// Reads a word of an `i128`, as `varint_decode_i16` does.
 pub fn varint_decode_i128<R: Reader>(read: &mut R, endian: Endianness) -> Result<i128, DecodeError>
-    ensures ok { R.told read.old → IfOk result (λ v. (map_format unzigzag (varint signed_tag I128 endian 16)).read
-        (R.rest read.old) ≡ Took v (R.rest read.new) []) }
-    ensures err { R.told read.old → IfErr result (Misreads R.ended R.device
-        ((map_format unzigzag (varint signed_tag I128 endian 16)).read (R.rest read.old)) (R.failures read.old)
-        (R.failures read.new) (R.rest read.old) (R.rest read.new)) }
-    ensures count { R.failures read.old ≤ R.failures read.new }
-    ensures told { R.told read.old → R.told read.new }
-    ensures place { R.place read.new ≡ R.place read.old }
+    ensures { ReadsWord R.told R.rest R.failures R.place R.ended R.device
+        (map_format unzigzag (varint signed_tag I128 endian 16)) (λ v. v) result read.old read.new }
 {
     varint_decode_signed(read, endian, IntegerType::I128, 16)
 }
@@ -77,14 +53,8 @@ pub fn varint_decode_isize<R: Reader>(
     read: &mut R,
     endian: Endianness,
 ) -> Result<isize, DecodeError>
-    ensures ok { R.told read.old → IfOk result (λ v. (map_format unzigzag (varint signed_tag Isize endian 8)).read
-        (R.rest read.old) ≡ Took v (R.rest read.new) []) }
-    ensures err { R.told read.old → IfErr result (Misreads R.ended R.device
-        ((map_format unzigzag (varint signed_tag Isize endian 8)).read (R.rest read.old)) (R.failures read.old)
-        (R.failures read.new) (R.rest read.old) (R.rest read.new)) }
-    ensures count { R.failures read.old ≤ R.failures read.new }
-    ensures told { R.told read.old → R.told read.new }
-    ensures place { R.place read.new ≡ R.place read.old }
+    ensures { ReadsWord R.told R.rest R.failures R.place R.ended R.device
+        (map_format unzigzag (varint signed_tag Isize endian 8)) (λ v. v) result read.old read.new }
 {
     let z = varint_decode_signed(read, endian, IntegerType::Isize, 8)?;
     Ok(z as isize)
@@ -98,15 +68,9 @@ fn varint_decode_signed<R: Reader>(
     name: IntegerType,
     width: usize,
 ) -> Result<i128, DecodeError>
-    ensures ok { R.told read.old → IfOk result (λ v. (map_format unzigzag
-        (varint (tags_of name) name endian width)).read (R.rest read.old) ≡ Took v (R.rest read.new) []) }
+    ensures word { ReadsWord R.told R.rest R.failures R.place R.ended R.device
+        (map_format unzigzag (varint (tags_of name) name endian width)) (λ v. v) result read.old read.new }
     ensures fits { 2 ≤ width → IfOk result (λ v. FitsIn width v) }
-    ensures err { R.told read.old → IfErr result (Misreads R.ended R.device
-        ((map_format unzigzag (varint (tags_of name) name endian width)).read (R.rest read.old)) (R.failures read.old)
-        (R.failures read.new) (R.rest read.old) (R.rest read.new)) }
-    ensures count { R.failures read.old ≤ R.failures read.new }
-    ensures told { R.told read.old → R.told read.new }
-    ensures place { R.place read.new ≡ R.place read.old }
 {
     let n = varint_decode(read, endian, name, width)?;
     Ok(unzigzag(n))

@@ -1,5 +1,4 @@
 use Rattle.std.proofs.lemmas.Result.{err_from_is_err_and}
-use Rattle.bincode_wire.specs.Meaning.{Character}
 use Rattle.bincode_wire.specs.DecodingLaws.{charged-passed}
 use Rattle.bincode_decoder.proofs.ReadAnswers.{claim-passed, charged-reads}
 use Rattle.bincode_decoder.proofs.chars.decode_rest_of_char.Goals as goal
@@ -14,4 +13,4 @@ returns-in_err-claim_bytes_read-clause-reads g c =
 pub returns-clause-reads : goal.returns-clause-reads
 returns-clause-reads g c =
     let read = c.read_rest_of_char_from.ensures in
-    (charged-reads c.claim_bytes_read.ensures.kept _ _ Character c.in_ok-claim_bytes_read.ensures.claimed.ok read.ok read.err read.count read.told read.charge read.place)
+    charged-reads c.claim_bytes_read.ensures.kept _ c.in_ok-claim_bytes_read.ensures.claimed.ok read.word read.charge

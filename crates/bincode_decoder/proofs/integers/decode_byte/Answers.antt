@@ -18,7 +18,7 @@ pub returns-clause-reads : goal.returns-clause-reads
 unfolding unsigned_byte
 returns-clause-reads g c =
     let read = c.read_byte_from.ensures in
-    (charged-reads c.claim_bytes_read.ensures.kept _ _ (λ v. v) c.in_ok-claim_bytes_read.ensures.claimed.ok read.ok read.err read.count read.told read.charge read.place)
+    charged-reads c.claim_bytes_read.ensures.kept _ c.in_ok-claim_bytes_read.ensures.claimed.ok read.word read.charge
 
 pub returns-in_err-claim_bytes_read-clause-means : goal.returns-in_err-claim_bytes_read-clause-means
 returns-in_err-claim_bytes_read-clause-means g c = number-reads (λ k. Number (pos k)) (λ v. refl) (returns-in_err-claim_bytes_read-clause-reads g c)

@@ -16,7 +16,7 @@ pub returns-clause-reads : goal.returns-clause-reads
 returns-clause-reads g c =
     let read = c.read_integer_from.ensures in
     let h = rw (c.claim_size.ensures, c.requires) at c.in_ok-claim_bytes_read.ensures.claimed.ok in
-    rw (g.T.Integer.spelling.charged_first g.D.C.Config.setting) (charged-reads c.claim_bytes_read.ensures.kept _ _ (λ v. v) h read.ok read.err read.count read.told read.charge read.place)
+    rw (g.T.Integer.spelling.charged_first g.D.C.Config.setting) (charged-reads c.claim_bytes_read.ensures.kept _ h read.word read.charge)
 
 pub returns-in_err-claim_bytes_read-clause-means : goal.returns-in_err-claim_bytes_read-clause-means
 returns-in_err-claim_bytes_read-clause-means g c = number-reads (λ k. Number (g.T.Integer.spelling.integer k)) (λ v. refl) (returns-in_err-claim_bytes_read-clause-reads g c)

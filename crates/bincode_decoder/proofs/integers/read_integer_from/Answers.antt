@@ -1,8 +1,9 @@
-use Rattle.std.proofs.Common.{rules}
+use Rattle.bincode_base.proofs.WordAnswers.{lent-word}
 use Rattle.bincode_decoder.proofs.integers.read_integer_from.Goals as goal
 
-pub returns-clause-ok : goal.returns-clause-ok
-returns-clause-ok g c = search rules
-
-pub returns-clause-err : goal.returns-clause-err
-returns-clause-err g c = search rules
+pub returns-clause-word : goal.returns-clause-word
+returns-clause-word g c =
+    let d = c.args.decoder.now in
+    let new = c.read.new.read in
+    let lent = g.met.D.Decoder in
+    lent-word (lent.reader_told d) (lent.rest_is d) (lent.failures_is d) (lent.put_told d new) (lent.put_rest d new) (lent.put_failures d new) (lent.put_place d new) (rw (c.reader.ensures.value, c.endianness-endian.ensures, c.int_encoding-encoding.ensures) at c.read.ensures)
