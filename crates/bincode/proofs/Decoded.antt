@@ -28,7 +28,8 @@ module _ (F : Format Meaning) (f : Lawful F) (b : Balanced F) (limit : Option �
   gives word more m s i w within = rw i (word-gave F f b limit word more m s 0 w within)
 
   -- where a word within the limit is there, only memory can be wanting
-  pub stopped-word : SliceStops Grows (answer limit F input 0) input rest e → (word more : List ℕ) (m : Meaning) (s : List Step) → input ≡ word ++ more → F.Word word m s → StaysWithin limit 0 s → IsRefused Grows e
+  pub stopped-word : SliceStops Grows (answer limit F input 0) input rest e → (word more : List ℕ) (m : Meaning) (s : List Step) →
+      input ≡ word ++ more → F.Word word m s → StaysWithin limit 0 s → IsRefused Grows e
   stopped-word (by_fault why h t k) word more m s i w within = let g = gives word more m s i w within in absurd (cc)
   stopped-word (by_limit h t k) word more m s i w within = let g = gives word more m s i w within in absurd (cc)
   stopped-word (by_memory g t k) word more m s i w within = (g, t)
@@ -54,7 +55,8 @@ module _ (F : Format Meaning) (f : Lawful F) (b : Balanced F) (limit : Option �
   stopped-limit (by_failure h r k) s u p = absurd h
   stopped-limit (by_device h) s u p = absurd h
 
-module _ (F : Format Meaning) (f : Lawful F) (b : Balanced F) (limit : Option ℕ) (input rest : List ℕ) (charge : ℕ) (Given : Meaning → Type 0) (d : Decodes Given (answer limit F input 0) rest charge) where
+module _ (F : Format Meaning) (f : Lawful F) (b : Balanced F) (limit : Option ℕ) (input rest : List ℕ) (charge : ℕ) (Given : Meaning → Type 0)
+    (d : Decodes Given (answer limit F input 0) rest charge) where
   -- what was given is a word within the limit
   pub decoded-word : (n left : ℕ) → left ≡ length rest → n ≡ length input - left → Decoded F limit input Given n
   decoded-word n left l k =

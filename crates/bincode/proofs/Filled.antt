@@ -29,13 +29,18 @@ own_or_front A front piece b some a = let m = b some a in (piece ++ m.0, subst A
 module _ (A : List ℕ → Type 0) (N : EncodeError → Type 0) (old new : List ℕ) (before after : SliceWriter) (e : EncodeError) (start : bytes_of before ≡ old) (count : count_of before ≡ 0) where
   -- some front stands in the slice
   pub halted-left : new ≡ bytes_of after → Halts Added Refused A N before after e → FrontWritten A old new e
-  halted-left end (by_writer front piece middle h r b) = record { front = front; fills = end ∙ ap bytes_of r.2 ∙ filled old front before middle start count h; begins = inr (own_or_front A front piece b) }
+  halted-left end (by_writer front piece middle h r b) = record {
+    front = front;
+    fills = end ∙ ap bytes_of r.2 ∙ filled old front before middle start count h;
+    begins = inr (own_or_front A front piece b);
+  }
   halted-left end (by_name front h n b) = record { front = front; fills = end ∙ filled old front before after start count h; begins = b }
 
   -- the type names the error, or the room was too small
   pub halted-short : Halts Added Refused A N before after e → N e ⊎ ((front : List ℕ) × Begins A front × (length old < length front))
   halted-short (by_writer front piece middle h r b) =
-      let size : length (bytes_of middle) ≡ length front + length (drop (length front) old) = ap length (filled old front before middle start count h) ∙ length-append front (drop (length front) old) in
+      let size : length (bytes_of middle) ≡ length front + length (drop (length front) old) =
+      ap length (filled old front before middle start count h) ∙ length-append front (drop (length front) old) in
       let left : length (drop (length front) old) ≡ length old - length front = length-drop (length front) old in
       let at : count_of middle ≡ length front = let g = h.0 in omega arith in
       let room = r.1 in
@@ -68,13 +73,15 @@ module _ (A : List ℕ → Type 0) (before after : SliceWriter) (count : count_o
   }
 
 -- a refusal is one for want of room
-pub short-fits : (A : List ℕ → Type 0) (N : EncodeError → Type 0) (room : ℕ) (result : Result ℕ EncodeError) (e : EncodeError) → result ≡ Err e → N e ⊎ ((front : List ℕ) × Begins A front × (room < length front)) → FitsExactly A N room result
+pub short-fits : (A : List ℕ → Type 0) (N : EncodeError → Type 0) (room : ℕ) (result : Result ℕ EncodeError) (e : EncodeError) → result ≡ Err e →
+    N e ⊎ ((front : List ℕ) × Begins A front × (room < length front)) → FitsExactly A N room result
 short-fits A N room result e is short = rw is (record {
   short = short;
   exact = λ one none word a. (λ h. absurd (cc), λ fits. absurd (too_short A N room e one none word a fits short));
 })
   where
-    too_short : (A : List ℕ → Type 0) (N : EncodeError → Type 0) (room : ℕ) (e : EncodeError) → OneLength A → ((d : EncodeError) → ¬ (N d)) → (word : List ℕ) → A word → length word ≤ room → N e ⊎ ((front : List ℕ) × Begins A front × (room < length front)) → ⊥
+    too_short : (A : List ℕ → Type 0) (N : EncodeError → Type 0) (room : ℕ) (e : EncodeError) → OneLength A → ((d : EncodeError) → ¬ (N d)) →
+        (word : List ℕ) → A word → length word ≤ room → N e ⊎ ((front : List ℕ) × Begins A front × (room < length front)) → ⊥
     too_short A N room e one none word a fits (inl n) = none e n
     too_short A N room e one none word a fits (inr s) =
         let m = s.1 word a in

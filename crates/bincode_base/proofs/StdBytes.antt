@@ -94,7 +94,8 @@ from_high_first-std (suc k) (b ∷ bytes) e =
     last : byte_worth (suc k - 0) b + low_first_number (reverse bytes) ≡ low_first_number (reverse (b ∷ bytes))
     last =
         let n : length (reverse bytes) ≡ suc k = length-reverse bytes ∙ omega arith in
-        let s : low_first_number (reverse (b ∷ bytes)) ≡ low_first_number (reverse bytes) + b * 256 ^ length (reverse bytes) = ap low_first_number (reverse-append (b ∷ []) bytes) ∙ number-snoc (reverse bytes) b in
+        let s : low_first_number (reverse (b ∷ bytes)) ≡ low_first_number (reverse bytes) + b * 256 ^ length (reverse bytes) =
+        ap low_first_number (reverse-append (b ∷ []) bytes) ∙ number-snoc (reverse bytes) b in
         let z : suc k - 0 ≡ suc k = omega arith in
         let w : byte_worth (suc k - 0) b ≡ b * 256 ^ suc k = ap (λ i. byte_worth i b) z in
         let t : b * 256 ^ length (reverse bytes) ≡ b * 256 ^ suc k = ap (λ z. b * 256 ^ z) n in

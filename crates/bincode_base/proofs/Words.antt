@@ -66,7 +66,8 @@ map-failed f F input why e = rw e refl
 
 -- why a read of so many bytes failed
 pub raw-misreads : (ended : ℕ → DecodeError → Type 0) (device : DeviceErrors) (rest rest' : List ℕ) (n before after : ℕ) (e : DecodeError) →
-    FallsShort ended rest n e ⊎ (device.uncounted e ⊎ (device.counted e × Rose before after)) → device.uncounted e ⊎ Takes rest rest' → Misreads ended device ((raw n).read rest) before after rest rest' e
+    FallsShort ended rest n e ⊎ (device.uncounted e ⊎ (device.counted e × Rose before after)) → device.uncounted e ⊎ Takes rest rest' →
+    Misreads ended device ((raw n).read rest) before after rest rest' e
 raw-misreads ended device rest rest' n before after e why (inl d) = by_device d
 raw-misreads ended device rest rest' n before after e (inl h) (inr t) = by_fault (End (Some (n - length rest))) (raw-short rest n h.0) h.1 t
 raw-misreads ended device rest rest' n before after e (inr (inl h)) (inr t) = by_device h
@@ -93,7 +94,8 @@ no_steps (Took a rest steps) = refl
 no_steps (Failed why steps) = refl
 
 module _ (tags : ℕ → IntegerType) (name : IntegerType) (order : Endianness) (width : ℕ) (input rest : List ℕ) where
-  varint-then : (first : ℕ) → byte.read input ≡ Took first rest [] → (varint tags name order width).read input ≡ (behind order (InvalidInteger name (tags first)) first (first_byte width first)).read rest
+  varint-then : (first : ℕ) → byte.read input ≡ Took first rest [] →
+      (varint tags name order width).read input ≡ (behind order (InvalidInteger name (tags first)) first (first_byte width first)).read rest
   unfolding varint written_as ◌>>=◌
   varint-then first e = rw e (no_steps ((behind order (InvalidInteger name (tags first)) first (first_byte width first)).read rest))
 
@@ -112,7 +114,8 @@ module _ (tags : ℕ → IntegerType) (name : IntegerType) (order : Endianness) 
 
   module _ (ended : ℕ → DecodeError → Type 0) (device : DeviceErrors) where
     -- a tag that is too wide
-    pub varint-too_wide : (first before after : ℕ) (e : DecodeError) → byte.read input ≡ Took first rest [] → first_byte width first ≡ TooWide → e ≡ InvalidIntegerType name (tags first) → Misreads ended device ((varint tags name order width).read input) before after input rest e
+    pub varint-too_wide : (first before after : ℕ) (e : DecodeError) → byte.read input ≡ Took first rest [] → first_byte width first ≡ TooWide →
+        e ≡ InvalidIntegerType name (tags first) → Misreads ended device ((varint tags name order width).read input) before after input rest e
     unfolding refused
     varint-too_wide first before after e b row same =
         let p = byte-lawful.read_word input rest first [] b in
@@ -151,12 +154,22 @@ below-wider n fewer width h i =
 
 module _ {W : Type 0} (adds : W → List ℕ → W → Type 0) (refuses : W → List ℕ → EncodeError → W → Type 0) where
   -- the writer refused the first piece
-  pub stops-first : ((w : W) → adds w [] w) → (piece : List ℕ) (others : List (List ℕ)) (before after : W) (e : EncodeError) → refuses before piece e after → StopsAmong adds refuses (piece ∷ others) before e after
+  pub stops-first : ((w : W) → adds w [] w) → (piece : List ℕ) (others : List (List ℕ)) (before after : W) (e : EncodeError) →
+      refuses before piece e after → StopsAmong adds refuses (piece ∷ others) before e after
   stops-first none piece others before after e h = record { written = []; piece = piece; others = others; pieces_are = refl; middle = before; added = none before; refused = h }
 
   -- the writer refused the second piece
-  pub stops-second : (first piece : List ℕ) (others : List (List ℕ)) (before middle after : W) (e : EncodeError) → adds before first middle → refuses middle piece e after → StopsAmong adds refuses (first ∷ piece ∷ others) before e after
-  stops-second first piece others before middle after e h k = record { written = first ∷ []; piece = piece; others = others; pieces_are = refl; middle = middle; added = rw (append-nil first) h; refused = k }
+  pub stops-second : (first piece : List ℕ) (others : List (List ℕ)) (before middle after : W) (e : EncodeError) → adds before first middle →
+      refuses middle piece e after → StopsAmong adds refuses (first ∷ piece ∷ others) before e after
+  stops-second first piece others before middle after e h k = record {
+    written = first ∷ [];
+    piece = piece;
+    others = others;
+    pieces_are = refl;
+    middle = middle;
+    added = rw (append-nil first) h;
+    refused = k;
+  }
 
 -- an integer that is read by its number
 module _ {A B : Type 0} (f : A → B) (F : Format A) where
@@ -164,15 +177,21 @@ module _ {A B : Type 0} (f : A → B) (F : Format A) where
       IfErr r (Misreads ended device (F.read input) before after input rest) → IfErr r (Misreads ended device ((map_format f F).read input) before after input rest)
   mapped_misreads ended device before after input rest r h = IfErr-weaker r _ _ (λ e k. misreads-more ended device _ _ before after input rest e (map-failed f F input) k) h
 
-pub signed_took : (w : Width) (f : ℕ → ℤ) (F : Format ℕ) (input rest : List ℕ) (n : ℕ) (z : ℤ) → FitsSigned w z → z ≡ f n → F.read input ≡ Took n rest [] → (map_format f F).read input ≡ Took (to_z w (of_z w z)) rest []
+pub signed_took : (w : Width) (f : ℕ → ℤ) (F : Format ℕ) (input rest : List ℕ) (n : ℕ) (z : ℤ) → FitsSigned w z → z ≡ f n →
+    F.read input ≡ Took n rest [] → (map_format f F).read input ≡ Took (to_z w (of_z w z)) rest []
 signed_took w f F input rest n z fits e h = map-took f F input rest n _ (to_z-of_z w z fits ∙ e) h
 
 -- a fixed number is one piece
-module _ {W : Type 0} (adds : W → List ℕ → W → Type 0) (refuses : W → List ℕ → EncodeError → W → Type 0) (none : (w : W) → adds w [] w) {T : Type 0} (r : Result T EncodeError) (piece : List ℕ) (before after : W) (order : Endianness) (width : ℕ) (encoding : IntEncoding) (e : encoding ≡ Fixed) where
-  pub fixed_refused : (n : ℕ) → piece ≡ digits_of order width n → IfErr r (λ e. refuses before piece e after) → IfErr r (λ e. StopsAmong adds refuses (spelling_pieces encoding order width n) before e after)
+module _ {W : Type 0} (adds : W → List ℕ → W → Type 0) (refuses : W → List ℕ → EncodeError → W → Type 0) (none : (w : W) → adds w [] w) {T : Type 0}
+    (r : Result T EncodeError) (piece : List ℕ) (before after : W) (order : Endianness) (width : ℕ) (encoding : IntEncoding)
+    (e : encoding ≡ Fixed) where
+  pub fixed_refused : (n : ℕ) → piece ≡ digits_of order width n → IfErr r (λ e. refuses before piece e after) →
+      IfErr r (λ e. StopsAmong adds refuses (spelling_pieces encoding order width n) before e after)
   fixed_refused n p h = rw e (IfErr-weaker r _ _ (λ d k. rw (sym p) (stops-first adds refuses none piece [] before after d k)) h)
 
-  pub fixed_signed_refused : (w : Width) (z : ℤ) → FitsSigned w z → piece ≡ digits_of order width (two_complement width (to_z w (of_z w z))) → IfErr r (λ e. refuses before piece e after) → IfErr r (λ e. StopsAmong adds refuses (spelling_pieces encoding order width (number_for width encoding z)) before e after)
+  pub fixed_signed_refused : (w : Width) (z : ℤ) → FitsSigned w z → piece ≡ digits_of order width (two_complement width (to_z w (of_z w z))) →
+      IfErr r (λ e. refuses before piece e after) →
+      IfErr r (λ e. StopsAmong adds refuses (spelling_pieces encoding order width (number_for width encoding z)) before e after)
   fixed_signed_refused w z fits p h =
       let q = p ∙ ap (λ y. digits_of order width (two_complement width y)) (to_z-of_z w z fits) in
       rw e (IfErr-weaker r _ _ (λ d k. rw (sym q) (stops-first adds refuses none piece [] before after d k)) h)

@@ -3,7 +3,8 @@ use Rattle.std.specs.Prelude.{◌≡◌, ℕ, zero, suc, ◌+◌, ◌*◌, ◌�
 use Rattle.std.proofs.Common.{subst, arith}
 use Rattle.bincode_base.specs.Fault.{Fault}
 use Rattle.bincode_base.specs.Charge.{Step, Charge, Reserve, Release, reserved, released}
-use Rattle.bincode_base.specs.Format.{Format, Reading, Took, Failed, after_steps, then_read, done, refused, raw, step, ◌>>=◌, vague_reading, unsure, written_as, settled, map_format, charged, elements, sequence}
+use Rattle.bincode_base.specs.Format.{Format, Reading, Took, Failed, after_steps, then_read, done, refused, raw, step, ◌>>=◌, vague_reading, unsure}
+use Rattle.bincode_base.specs.Format.{written_as, settled, map_format, charged, elements, sequence}
 use Rattle.bincode_base.specs.Laws.{Lawful, IsBacked, Settles, Holds, Balanced}
 
 reserved_append : (s t : List Step) → reserved (s ++ t) ≡ reserved s + reserved t
@@ -32,7 +33,8 @@ front_of_both [] t front back e = in_second front back refl e
 front_of_both (x ∷ s) t [] back e = in_first (x ∷ s) refl
 front_of_both (x ∷ s) t (y ∷ front) back e = front_behind x y s t front (cc) (front_of_both s t front back (cc))
 
-backed_by : (before between : ℕ) (s t front : List Step) → IsBacked before s → before + reserved s ≡ between + released s → IsBacked between t → FrontOfBoth s t front → released front ≤ before + reserved front
+backed_by : (before between : ℕ) (s t front : List Step) → IsBacked before s → before + reserved s ≡ between + released s → IsBacked between t →
+    FrontOfBoth s t front → released front ≤ before + reserved front
 backed_by before between s t front h e k (in_first back p) = h front back p
 backed_by before between s t front h e k (in_second more back p q) =
     let b : released more ≤ between + reserved more = k more back q in
@@ -84,13 +86,15 @@ pub raw-holds : (held n : ℕ) → Holds held held (raw n)
 unfolding raw
 raw-holds held n = record { settles = λ input. settles_either held (nat_lt (length input) n) _ (take n input) (drop n input) }
 
-settles_after : {B : Type 0} (before between after : ℕ) (s : List Step) (r : Reading B) → IsBacked before s → before + reserved s ≡ between + released s → Settles between after r → Settles before after (after_steps s r)
+settles_after : {B : Type 0} (before between after : ℕ) (s : List Step) (r : Reading B) → IsBacked before s →
+    before + reserved s ≡ between + released s → Settles between after r → Settles before after (after_steps s r)
 settles_after before between after s (Took b rest t) h e k =
     let p : between + reserved t ≡ after + released t = k.1 in
     (backed_append before between s t h e k.0, omega (arith, reserved_append s t, released_append s t))
 settles_after before between after s (Failed why t) h e k = backed_append before between s t h e k
 
-settles_then : {A B : Type 0} (before between after : ℕ) (G : A → Format B) → ((a : A) → Holds between after (G a)) → (r : Reading A) → Settles before between r → Settles before after (then_read r (λ a rest. (G a).read rest))
+settles_then : {A B : Type 0} (before between after : ℕ) (G : A → Format B) → ((a : A) → Holds between after (G a)) → (r : Reading A) →
+    Settles before between r → Settles before after (then_read r (λ a rest. (G a).read rest))
 settles_then before between after G g (Took a rest s) h = settles_after before between after s ((G a).read rest) h.0 h.1 ((g a).settles rest)
 settles_then before between after G g (Failed why s) h = h
 
@@ -151,7 +155,9 @@ elements-holds (suc n) share F f =
 
 -- a sequence releases all that it reserves
 pub sequence-balanced : {A : Type 0} (n share : ℕ) (F : Format A) → Balanced F → Balanced (sequence n share F)
-sequence-balanced n share F f = turn-holds 0 (0 + n * share) 0 (step (Reserve (n * share))) (λ _. elements n share F) (reserve-holds 0 (n * share)) (λ _. let e : 0 + n * share ≡ n * share = omega arith in rw e (elements-holds n share F f))
+sequence-balanced n share F f =
+    turn-holds 0 (0 + n * share) 0 (step (Reserve (n * share))) (λ _. elements n share F) (reserve-holds 0 (n * share))
+    (λ _. let e : 0 + n * share ≡ n * share = omega arith in rw e (elements-holds n share F f))
 
 -- a word releases all that it reserves, and never before
 pub balanced-word : {A : Type 0} (F : Format A) (word : List ℕ) (m : A) (s : List Step) → Lawful F → Balanced F → F.Word word m s → IsBacked 0 s × (reserved s ≡ released s)

@@ -7,7 +7,8 @@ use Rattle.std.proofs.lemmas.Bool.{cases_lt, le-ltb, lt-ltb}
 use Rattle.std.proofs.lemmas.List.{append_cancel_right, take-append-drop, length-append, length-take, length-replicate}
 use Rattle.bincode_base.specs.Fault.{Fault, End, IsEnd, InvalidInteger, Zero, UnexpectedVariant, Utf8, InvalidChar, InvalidBool, InvalidDuration, NulAt, Other, LengthMismatch, EmptyEnum, OutsideUsize}
 use Rattle.bincode_base.specs.Charge.{Step, Charge, Reserve, Release}
-use Rattle.bincode_base.specs.Format.{Format, Reading, Took, Failed, after_steps, then_read, done, refused, raw, step, ◌>>=◌, InTurn, WrittenInTurn, FaultsLater, vague, vague_reading, unsure, written_as, settled, map_format, charged, elements, sequence}
+use Rattle.bincode_base.specs.Format.{Format, Reading, Took, Failed, after_steps, then_read, done, refused, raw, step, ◌>>=◌, InTurn, WrittenInTurn}
+use Rattle.bincode_base.specs.Format.{FaultsLater, vague, vague_reading, unsure, written_as, settled, map_format, charged, elements, sequence}
 use Rattle.bincode_base.specs.Laws.{Begun, BeginsWith, steps_of, IsAnswered, Mended, Lawful}
 
 -- what follows for every format
@@ -102,11 +103,13 @@ pub record FailedLater {A B : Type 0} (first : Reading A) (next : A → List ℕ
   pub second_is : next head middle ≡ Failed fault second_steps
   pub steps_are : s ≡ first_steps ++ second_steps
 
-took_after : {B : Type 0} (s : List Step) (second : Reading B) (m : B) (rest : List ℕ) (t : List Step) → after_steps s second ≡ Took m rest t → (others : List Step) × (second ≡ Took m rest others) × (t ≡ s ++ others)
+took_after : {B : Type 0} (s : List Step) (second : Reading B) (m : B) (rest : List ℕ) (t : List Step) → after_steps s second ≡ Took m rest t →
+    (others : List Step) × (second ≡ Took m rest others) × (t ≡ s ++ others)
 took_after s (Took n more u) m rest t e = (u, cc, cc)
 took_after s (Failed why u) m rest t e = absurd (cc)
 
-failed_after : {B : Type 0} (s : List Step) (second : Reading B) (fault : Fault) (t : List Step) → after_steps s second ≡ Failed fault t → (others : List Step) × (second ≡ Failed fault others) × (t ≡ s ++ others)
+failed_after : {B : Type 0} (s : List Step) (second : Reading B) (fault : Fault) (t : List Step) → after_steps s second ≡ Failed fault t →
+    (others : List Step) × (second ≡ Failed fault others) × (t ≡ s ++ others)
 failed_after s (Took n more u) fault t e = absurd (cc)
 failed_after s (Failed why u) fault t e = (u, cc, cc)
 
@@ -116,7 +119,8 @@ took_both (Took head middle t) next m rest s e =
     record { head = head; middle = middle; first_steps = t; second_steps = p.0; first_is = refl; second_is = p.1; steps_are = p.2 }
 took_both (Failed why t) next m rest s e = absurd (cc)
 
-failed_either : {A B : Type 0} (first : Reading A) (next : A → List ℕ → Reading B) (fault : Fault) (s : List Step) → then_read first next ≡ Failed fault s → (first ≡ Failed fault s) ⊎ FailedLater first next fault s
+failed_either : {A B : Type 0} (first : Reading A) (next : A → List ℕ → Reading B) (fault : Fault) (s : List Step) →
+    then_read first next ≡ Failed fault s → (first ≡ Failed fault s) ⊎ FailedLater first next fault s
 failed_either (Took head middle t) next fault s e =
     let p = failed_after t (next head middle) fault s e in
     inr (record { head = head; middle = middle; first_steps = t; second_steps = p.0; first_is = refl; second_is = p.1; steps_are = p.2 })
@@ -139,7 +143,8 @@ raw_read_word n input rest m s (inr h) e =
     let q : drop n input ≡ rest = cc in
     record { word = take n input; input_is = sym (take-append-drop n input) ∙ ap (λ z. take n input ++ z) q; is_word = (simp length-take (omega (arith, h)), cc, cc) }
 
-raw_read_fault : (n : ℕ) (input : List ℕ) (fault : Fault) (s : List Step) → (length input < n) ⊎ (n ≤ length input) → (raw n).read input ≡ Failed fault s → (length input < n) × (fault ≡ End (Some (n - length input))) × (s ≡ [])
+raw_read_fault : (n : ℕ) (input : List ℕ) (fault : Fault) (s : List Step) → (length input < n) ⊎ (n ≤ length input) →
+    (raw n).read input ≡ Failed fault s → (length input < n) × (fault ≡ End (Some (n - length input))) × (s ≡ [])
 raw_read_fault n input fault s (inl h) e =
     let p : ◌≡◌ {A = Reading (List ℕ)} (Failed (End (Some (n - length input))) []) (Failed fault s) = sym (raw_short n input h) ∙ e in (h, cc, cc)
 raw_read_fault n input fault s (inr h) e =
@@ -148,7 +153,11 @@ raw_read_fault n input fault s (inr h) e =
 raw_mended : (n : ℕ) (input : List ℕ) → length input < n → Mended (raw n).read input
 raw_mended n input h =
     let k : n ≤ length (input ++ replicate (n - length input) 0) = simp (length-append, length-replicate) (omega (arith, h)) in
-    record { more = replicate (n - length input) 0; are_bytes = All-replicate (λ b. b < 256) (n - length input) 0 (lit< tt); answered = rw (raw_enough n (input ++ replicate (n - length input) 0) k) tt }
+    record {
+      more = replicate (n - length input) 0;
+      are_bytes = All-replicate (λ b. b < 256) (n - length input) 0 (lit< tt);
+      answered = rw (raw_enough n (input ++ replicate (n - length input) 0) k) tt;
+    }
 
 pub raw-lawful : (n : ℕ) → Lawful (raw n)
 unfolding raw
@@ -223,9 +232,21 @@ module _ {A B : Type 0} (F : Format A) (G : A → Format B) (f : Lawful F) (g : 
   turn_later : (input : List ℕ) (fault : Fault) (s : List Step) → FailedLater (F.read input) (λ head more. (G head).read more) fault s → FaultsLater F G input fault s
   turn_later input fault s b =
       let p = f.read_word input b.middle b.head b.first_steps b.first_is in
-      record { first = p.word; rest = b.middle; head = b.head; first_steps = b.first_steps; rest_steps = b.second_steps; input_is = p.input_is; steps_are = b.steps_are; first_word = p.is_word; rest_faults = (g b.head).read_fault b.middle fault b.second_steps b.second_is }
+      record {
+        first = p.word;
+        rest = b.middle;
+        head = b.head;
+        first_steps = b.first_steps;
+        rest_steps = b.second_steps;
+        input_is = p.input_is;
+        steps_are = b.steps_are;
+        first_word = p.is_word;
+        rest_faults = (g b.head).read_fault b.middle fault b.second_steps b.second_is;
+      }
 
-  turn_read_fault : (input : List ℕ) (fault : Fault) (s : List Step) → (F.read input ≡ Failed fault s) ⊎ FailedLater (F.read input) (λ head more. (G head).read more) fault s → F.Faults input fault s ⊎ FaultsLater F G input fault s
+  turn_read_fault : (input : List ℕ) (fault : Fault) (s : List Step) →
+      (F.read input ≡ Failed fault s) ⊎ FailedLater (F.read input) (λ head more. (G head).read more) fault s →
+      F.Faults input fault s ⊎ FaultsLater F G input fault s
   turn_read_fault input fault s (inl h) = inl (f.read_fault input fault s h)
   turn_read_fault input fault s (inr b) = inr (turn_later input fault s b)
 
@@ -237,7 +258,9 @@ module _ {A B : Type 0} (F : Format A) (G : A → Format B) (f : Lawful F) (g : 
       let q : input ++ more ≡ p.word ++ (middle ++ more) = ap (λ z. z ++ more) p.input_is ∙ append_assoc p.word middle more in
       rw (q, f.word_read p.word (middle ++ more) head s p.is_word) refl
 
-  turn_stays : (input more : List ℕ) (fault : Fault) (s : List Step) → ¬ (IsEnd fault) → (F.read input ≡ Failed fault s) ⊎ FailedLater (F.read input) (λ head rest. (G head).read rest) fault s → (F >>= G).read (input ++ more) ≡ Failed fault s
+  turn_stays : (input more : List ℕ) (fault : Fault) (s : List Step) → ¬ (IsEnd fault) →
+      (F.read input ≡ Failed fault s) ⊎ FailedLater (F.read input) (λ head rest. (G head).read rest) fault s →
+      (F >>= G).read (input ++ more) ≡ Failed fault s
   unfolding ◌>>=◌
   turn_stays input more fault s other (inl h) = rw (f.stays input more fault s other h) refl
   turn_stays input more fault s other (inr b) =
@@ -248,7 +271,9 @@ module _ {A B : Type 0} (F : Format A) (G : A → Format B) (f : Lawful F) (g : 
   then_begun s (Took head rest t) b = begun_more s t ((G head).read rest) b
   then_begun s (Failed why t) b = b
 
-  turn_begun : (input more : List ℕ) (fault : Fault) (s : List Step) → IsEnd fault → (F.read input ≡ Failed fault s) ⊎ FailedLater (F.read input) (λ head rest. (G head).read rest) fault s → Begun s (steps_of ((F >>= G).read (input ++ more)))
+  turn_begun : (input more : List ℕ) (fault : Fault) (s : List Step) → IsEnd fault →
+      (F.read input ≡ Failed fault s) ⊎ FailedLater (F.read input) (λ head rest. (G head).read rest) fault s →
+      Begun s (steps_of ((F >>= G).read (input ++ more)))
   unfolding ◌>>=◌
   turn_begun input more fault s end (inl h) = then_begun s (F.read (input ++ more)) (f.begun input more fault s end h)
   turn_begun input more fault s end (inr b) =
@@ -258,7 +283,11 @@ module _ {A B : Type 0} (F : Format A) (G : A → Format B) (f : Lawful F) (g : 
   -- where the second is mended, so is the whole
   later_mended : (input middle : List ℕ) (head : A) (s : List Step) → F.read input ≡ Took head middle s → Mended (G head).read middle → Mended (F >>= G).read input
   unfolding ◌>>=◌
-  later_mended input middle head s e h = record { more = h.more; are_bytes = h.are_bytes; answered = rw (first_stands input h.more middle head s e) (answered_after s ((G head).read (middle ++ h.more)) h.answered) }
+  later_mended input middle head s e h = record {
+    more = h.more;
+    are_bytes = h.are_bytes;
+    answered = rw (first_stands input h.more middle head s e) (answered_after s ((G head).read (middle ++ h.more)) h.answered);
+  }
 
   failed_mended : (head : A) (middle : List ℕ) (why : Fault) (t : List Step) → IsEnd why ⊎ ¬ (IsEnd why) → (G head).read middle ≡ Failed why t → Mended (G head).read middle
   failed_mended head middle why t (inl h) e = (g head).mended middle why t h e
@@ -273,10 +302,15 @@ module _ {A B : Type 0} (F : Format A) (G : A → Format B) (f : Lawful F) (g : 
   unfolding ◌>>=◌
   first_mended input more small (Took head middle t) e h =
       let p = later_mended (input ++ more) middle head t e (second_mended head middle ((G head).read middle) refl) in
-      record { more = more ++ p.more; are_bytes = All-append (λ b. b < 256) more p.more small p.are_bytes; answered = subst (λ z. IsAnswered ((F >>= G).read z)) (append_assoc input more p.more) p.answered }
+      record {
+        more = more ++ p.more;
+        are_bytes = All-append (λ b. b < 256) more p.more small p.are_bytes;
+        answered = subst (λ z. IsAnswered ((F >>= G).read z)) (append_assoc input more p.more) p.answered;
+      }
   first_mended input more small (Failed why t) e h = record { more = more; are_bytes = small; answered = rw e h }
 
-  turn_mended : (input : List ℕ) (fault : Fault) (s : List Step) → IsEnd fault → (F.read input ≡ Failed fault s) ⊎ FailedLater (F.read input) (λ head rest. (G head).read rest) fault s → Mended (F >>= G).read input
+  turn_mended : (input : List ℕ) (fault : Fault) (s : List Step) → IsEnd fault →
+      (F.read input ≡ Failed fault s) ⊎ FailedLater (F.read input) (λ head rest. (G head).read rest) fault s → Mended (F >>= G).read input
   unfolding ◌>>=◌
   turn_mended input fault s end (inl h) = let p = f.mended input fault s end h in first_mended input p.more p.are_bytes (F.read (input ++ p.more)) refl p.answered
   turn_mended input fault s end (inr b) = later_mended input b.middle b.head b.first_steps b.first_is ((g b.head).mended b.middle fault b.second_steps end b.second_is)
@@ -287,7 +321,8 @@ module _ {A B : Type 0} (F : Format A) (G : A → Format B) (f : Lawful F) (g : 
       let q = (g w.head).written_is_word w.second m w.second_written in
       (p.0 ++ q.0, record { first = w.first; second = w.second; head = w.head; first_steps = p.0; second_steps = q.0; bytes_are = w.bytes_are; steps_are = refl; first_word = p.1; second_word = q.1 })
 
-  either : (input : List ℕ) (fault : Fault) (s : List Step) → (F >>= G).read input ≡ Failed fault s → (F.read input ≡ Failed fault s) ⊎ FailedLater (F.read input) (λ head rest. (G head).read rest) fault s
+  either : (input : List ℕ) (fault : Fault) (s : List Step) → (F >>= G).read input ≡ Failed fault s →
+      (F.read input ≡ Failed fault s) ⊎ FailedLater (F.read input) (λ head rest. (G head).read rest) fault s
   unfolding ◌>>=◌
   either input fault s e = failed_either (F.read input) (λ head rest. (G head).read rest) fault s e
 
@@ -305,7 +340,8 @@ module _ {A B : Type 0} (F : Format A) (G : A → Format B) (f : Lawful F) (g : 
   }
 
 -- other words may be chosen for writing
-pub rewritten-lawful : {A : Type 0} (Chosen : List ℕ → A → Type 0) (F : Format A) → Lawful F → ((word : List ℕ) (m : A) → Chosen word m → (s : List Step) × F.Word word m s) → Lawful (written_as Chosen F)
+pub rewritten-lawful : {A : Type 0} (Chosen : List ℕ → A → Type 0) (F : Format A) → Lawful F →
+    ((word : List ℕ) (m : A) → Chosen word m → (s : List Step) × F.Word word m s) → Lawful (written_as Chosen F)
 unfolding written_as
 rewritten-lawful Chosen F f chosen = record {
   word_read = f.word_read;

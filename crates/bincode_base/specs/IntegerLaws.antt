@@ -18,7 +18,9 @@ use Rattle.bincode_base.specs.Laws.{Lawful, Balanced}
 use Rattle.bincode_base.specs.FormatLaws.{done-lawful, refused-lawful, raw-lawful, turn-lawful, map-lawful, rewritten-lawful, charged-lawful}
 use Rattle.bincode_base.specs.Balance.{done-holds, refused-holds, raw-holds, turn-holds, rewritten-holds, map-balanced, charged-balanced}
 use Rattle.bincode_base.specs.Device.{joined}
-use Rattle.bincode_base.specs.Integers.{digits, first_of, byte, FirstByte, Itself, Before, TooWide, first_byte, behind, unsigned_tag, signed_tag, shortest, shortest_pieces, varint, number_by, unsigned, integer_by, number_for, signed, unsigned_byte, signed_byte, spelling}
+use Rattle.bincode_base.specs.Integers.{digits, first_of, byte, FirstByte, Itself, Before, TooWide, first_byte, behind, unsigned_tag, signed_tag}
+use Rattle.bincode_base.specs.Integers.{shortest, shortest_pieces, varint, number_by, unsigned, integer_by, number_for, signed, unsigned_byte}
+use Rattle.bincode_base.specs.Integers.{signed_byte, spelling}
 use Rattle.bincode_base.specs.DigitLaws.{length-digits_of, digits_of-are_bytes, number_of-digits_of, number_of_below}
 use Rattle.bincode_base.specs.SignedLaws.{unzigzag-zigzag, from_two_complement-two_complement, integer_by-number_for, number_for-integer_by, number_for-fits, integer_by-fits}
 
@@ -280,12 +282,14 @@ signed_byte-lawful = charged-lawful 1 (map_format (from_two_complement 1) byte) 
 
 -- what is written
 
-number_written : (tags : ℕ → IntegerType) (name : IntegerType) (order : Endianness) (width n : ℕ) (encoding : IntEncoding) → n < 256 ^ width → (number_by tags name order width encoding).Written (spelling encoding order width n) n
+number_written : (tags : ℕ → IntegerType) (name : IntegerType) (order : Endianness) (width n : ℕ) (encoding : IntEncoding) → n < 256 ^ width →
+    (number_by tags name order width encoding).Written (spelling encoding order width n) n
 unfolding digits varint written_as
 number_written tags name order width n Fixed h = (h, refl)
 number_written tags name order width n Variable h = (h, refl)
 
-written_number : (tags : ℕ → IntegerType) (name : IntegerType) (order : Endianness) (width n : ℕ) (encoding : IntEncoding) (bytes : List ℕ) → (number_by tags name order width encoding).Written bytes n → (n < 256 ^ width) × (bytes ≡ spelling encoding order width n)
+written_number : (tags : ℕ → IntegerType) (name : IntegerType) (order : Endianness) (width n : ℕ) (encoding : IntEncoding) (bytes : List ℕ) →
+    (number_by tags name order width encoding).Written bytes n → (n < 256 ^ width) × (bytes ≡ spelling encoding order width n)
 unfolding digits varint written_as
 written_number tags name order width n Fixed bytes h = h
 written_number tags name order width n Variable bytes h = h
@@ -314,7 +318,8 @@ written-unsigned name width n setting h =
     (number_written unsigned_tag name setting.order width n setting.encoding h)
 
 -- and nothing else
-pub unsigned-written : (name : IntegerType) (width n : ℕ) (setting : Setting) (bytes : List ℕ) → (unsigned name width setting).Written bytes n → (n < 256 ^ width) × (bytes ≡ spelling setting.encoding setting.order width n)
+pub unsigned-written : (name : IntegerType) (width n : ℕ) (setting : Setting) (bytes : List ℕ) → (unsigned name width setting).Written bytes n →
+    (n < 256 ^ width) × (bytes ≡ spelling setting.encoding setting.order width n)
 unfolding unsigned
 unsigned-written name width n setting bytes h =
     written_number unsigned_tag name setting.order width n setting.encoding bytes
@@ -379,7 +384,8 @@ number_by-balanced tags name order width Variable = varint-balanced tags name or
 -- an unsigned number is balanced
 pub unsigned-balanced : (name : IntegerType) (width : ℕ) (setting : Setting) → Balanced (unsigned name width setting)
 unfolding unsigned
-unsigned-balanced name width setting = charged-balanced width (number_by unsigned_tag name setting.order width setting.encoding) (number_by-balanced unsigned_tag name setting.order width setting.encoding)
+unsigned-balanced name width setting =
+    charged-balanced width (number_by unsigned_tag name setting.order width setting.encoding) (number_by-balanced unsigned_tag name setting.order width setting.encoding)
 
 -- a signed number is balanced
 pub signed-balanced : (name : IntegerType) (width : ℕ) (setting : Setting) → Balanced (signed name width setting)
@@ -406,7 +412,8 @@ width-positive width (Eight e) = omega (arith, e)
 width-positive width (Sixteen e) = omega (arith, e)
 
 -- for a signed number the spelling of its number is written
-pub written-signed : (name : IntegerType) (width : ℕ) (z : ℤ) (setting : Setting) → IsWidth width → FitsIn width z → (signed name width setting).Written (spelling setting.encoding setting.order width (number_for width setting.encoding z)) z
+pub written-signed : (name : IntegerType) (width : ℕ) (z : ℤ) (setting : Setting) → IsWidth width → FitsIn width z →
+    (signed name width setting).Written (spelling setting.encoding setting.order width (number_for width setting.encoding z)) z
 unfolding signed
 written-signed name width z setting w h =
     let F = number_by signed_tag name setting.order width setting.encoding in
@@ -419,7 +426,8 @@ written-signed name width z setting w h =
     (subst (λ y. (map_format (integer_by width setting.encoding) F).Written bytes y) e (map_written (integer_by width setting.encoding) F bytes n p))
 
 -- and nothing else
-pub signed-written : (name : IntegerType) (width : ℕ) (z : ℤ) (setting : Setting) (bytes : List ℕ) → (signed name width setting).Written bytes z → FitsIn width z × (bytes ≡ spelling setting.encoding setting.order width (number_for width setting.encoding z))
+pub signed-written : (name : IntegerType) (width : ℕ) (z : ℤ) (setting : Setting) (bytes : List ℕ) → (signed name width setting).Written bytes z →
+    FitsIn width z × (bytes ≡ spelling setting.encoding setting.order width (number_for width setting.encoding z))
 unfolding signed
 signed-written name width z setting bytes h =
     let F = number_by signed_tag name setting.order width setting.encoding in
@@ -444,7 +452,8 @@ Tells first Itself = first ≤ 250
 Tells first (Before n) = IsWidth n
 Tells first TooWide = Unit {0}
 
-tells_by : (first : ℕ) (a b c d e : Bool) → (a ≡ true → first ≤ 250) → Tells first (if a then Itself else if b then Before 2 else if c then Before 4 else if d then Before 8 else if e then Before 16 else TooWide)
+tells_by : (first : ℕ) (a b c d e : Bool) → (a ≡ true → first ≤ 250) →
+    Tells first (if a then Itself else if b then Before 2 else if c then Before 4 else if d then Before 8 else if e then Before 16 else TooWide)
 tells_by first true b c d e h = h refl
 tells_by first false true c d e h = Two refl
 tells_by first false false true d e h = Four refl
@@ -453,7 +462,8 @@ tells_by first false false false false true h = Sixteen refl
 tells_by first false false false false false h = tt
 
 first_byte_tells : (width first : ℕ) → Tells first (first_byte width first)
-first_byte_tells width first = tells_by first (nat_le first 250) (first == 251) ((first == 252) && nat_le 4 width) ((first == 253) && nat_le 8 width) ((first == 254) && nat_le 16 width) (leb-true first 250)
+first_byte_tells width first =
+    tells_by first (nat_le first 250) (first == 251) ((first == 252) && nat_le 4 width) ((first == 253) && nat_le 8 width) ((first == 254) && nat_le 16 width) (leb-true first 250)
 
 word_map : {A B : Type 0} (f : A → B) (F : Format A) (bytes : List ℕ) (b : B) (s : List Step) → (map_format f F).Word bytes b s → (a : A) × (t : List Step) × F.Word bytes a t × (b ≡ f a)
 unfolding ◌>>=◌ done
@@ -489,10 +499,17 @@ record FirstThen (tags : ℕ → IntegerType) (name : IntegerType) (order : Endi
   pub bytes_are : bytes ≡ head ∷ tail
   pub tail_word : (behind order (InvalidInteger name (tags head)) head (first_byte width head)).Word tail n steps
 
-word_varint : (tags : ℕ → IntegerType) (name : IntegerType) (order : Endianness) (width : ℕ) (bytes : List ℕ) (n : ℕ) (s : List Step) → (varint tags name order width).Word bytes n s → FirstThen tags name order width bytes n
+word_varint : (tags : ℕ → IntegerType) (name : IntegerType) (order : Endianness) (width : ℕ) (bytes : List ℕ) (n : ℕ) (s : List Step) →
+    (varint tags name order width).Word bytes n s → FirstThen tags name order width bytes n
 unfolding varint written_as ◌>>=◌
 word_varint tags name order width bytes n s h =
-    record { head = h.head; tail = h.second; steps = h.second_steps; bytes_are = h.bytes_are ∙ ap (λ z. z ++ h.second) (word_byte h.first h.head h.first_steps h.first_word); tail_word = h.second_word }
+    record {
+      head = h.head;
+      tail = h.second;
+      steps = h.second_steps;
+      bytes_are = h.bytes_are ∙ ap (λ z. z ++ h.second) (word_byte h.first h.head h.first_steps h.first_word);
+      tail_word = h.second_word;
+    }
 
 -- the shortest spelling is no longer than any
 
@@ -507,7 +524,8 @@ length_by order width n w h (InSixteen a) = rw (shortest_17 order n a).0 (omega 
 pub length-shortest : (order : Endianness) (width n : ℕ) → IsWidth width → n < 256 ^ width → length (shortest order n) ≤ suc width
 length-shortest order width n w h = length_by order width n w h (size_of n)
 
-shortest_behind : (order : Endianness) (why : Fault) (first : ℕ) (said : FirstByte) (tail : List ℕ) (n : ℕ) (s : List Step) → Tells first said → All (λ b. b < 256) tail → (behind order why first said).Word tail n s → length (shortest order n) ≤ suc (length tail)
+shortest_behind : (order : Endianness) (why : Fault) (first : ℕ) (said : FirstByte) (tail : List ℕ) (n : ℕ) (s : List Step) → Tells first said →
+    All (λ b. b < 256) tail → (behind order why first said).Word tail n s → length (shortest order n) ≤ suc (length tail)
 unfolding done refused
 shortest_behind order why first Itself tail n s t h u =
     let l : n ≤ 250 = rw u.1 t in
@@ -520,31 +538,37 @@ shortest_behind order why first (Before k) tail n s t h u =
 shortest_behind order why first TooWide tail n s t h u = absurd u
 
 -- no word of tags and digits is shorter than the shortest spelling of its meaning
-pub shortest-least : (tags : ℕ → IntegerType) (name : IntegerType) (order : Endianness) (width : ℕ) (bytes : List ℕ) (n : ℕ) (s : List Step) → All (λ b. b < 256) bytes → (varint tags name order width).Word bytes n s → length (shortest order n) ≤ length bytes
+pub shortest-least : (tags : ℕ → IntegerType) (name : IntegerType) (order : Endianness) (width : ℕ) (bytes : List ℕ) (n : ℕ) (s : List Step) →
+    All (λ b. b < 256) bytes → (varint tags name order width).Word bytes n s → length (shortest order n) ≤ length bytes
 shortest-least tags name order width bytes n s h u =
     let p = word_varint tags name order width bytes n s u in
     let g : All (λ b. b < 256) p.tail = All-tail (λ b. b < 256) p.head p.tail (subst (All (λ b. b < 256)) p.bytes_are h) in
     rw p.bytes_are (shortest_behind order (InvalidInteger name (tags p.head)) p.head (first_byte width p.head) p.tail n p.steps (first_byte_tells width p.head) g p.tail_word)
 
 -- no word of a number is shorter than its spelling
-pub spelling-least : (tags : ℕ → IntegerType) (name : IntegerType) (order : Endianness) (width : ℕ) (encoding : IntEncoding) (bytes : List ℕ) (n : ℕ) (s : List Step) → All (λ b. b < 256) bytes → (number_by tags name order width encoding).Word bytes n s → length (spelling encoding order width n) ≤ length bytes
+pub spelling-least :
+    (tags : ℕ → IntegerType) (name : IntegerType) (order : Endianness) (width : ℕ) (encoding : IntEncoding) (bytes : List ℕ) (n : ℕ) (s : List Step) →
+    All (λ b. b < 256) bytes → (number_by tags name order width encoding).Word bytes n s → length (spelling encoding order width n) ≤ length bytes
 spelling-least tags name order width Fixed bytes n s h u = let p = word_digits order width bytes n s u in omega (arith, length-digits_of order width n, p.0)
 spelling-least tags name order width Variable bytes n s h u = shortest-least tags name order width bytes n s h u
 
 -- no word of an unsigned number is shorter than the one that is written for the same meaning
-pub unsigned-least : (name : IntegerType) (width n : ℕ) (setting : Setting) (written bytes : List ℕ) (s : List Step) → All (λ b. b < 256) bytes → (unsigned name width setting).Written written n → (unsigned name width setting).Word bytes n s → length written ≤ length bytes
+pub unsigned-least : (name : IntegerType) (width n : ℕ) (setting : Setting) (written bytes : List ℕ) (s : List Step) → All (λ b. b < 256) bytes →
+    (unsigned name width setting).Written written n → (unsigned name width setting).Word bytes n s → length written ≤ length bytes
 unfolding unsigned
 unsigned-least name width n setting written bytes s h w u =
     let p = word_charged width (number_by unsigned_tag name setting.order width setting.encoding) bytes n s u in
     rw (unsigned-written name width n setting written w).1 (spelling-least unsigned_tag name setting.order width setting.encoding bytes n p.0 h p.1)
 
 -- the number of a word is that of its meaning, or its spelling is as long
-same_length : (width : ℕ) (encoding : IntEncoding) (order : Endianness) (n : ℕ) → length (spelling encoding order width (number_for width encoding (integer_by width encoding n))) ≡ length (spelling encoding order width n)
+same_length : (width : ℕ) (encoding : IntEncoding) (order : Endianness) (n : ℕ) →
+    length (spelling encoding order width (number_for width encoding (integer_by width encoding n))) ≡ length (spelling encoding order width n)
 same_length width Fixed order n = length-digits_of order width (two_complement width (from_two_complement width n)) ∙ sym (length-digits_of order width n)
 same_length width Variable order n = ap (λ m. length (shortest order m)) (unzigzag-zigzag n)
 
 -- no word of a signed number is shorter than the one that is written for the same meaning
-pub signed-least : (name : IntegerType) (width : ℕ) (z : ℤ) (setting : Setting) (written bytes : List ℕ) (s : List Step) → All (λ b. b < 256) bytes → (signed name width setting).Written written z → (signed name width setting).Word bytes z s → length written ≤ length bytes
+pub signed-least : (name : IntegerType) (width : ℕ) (z : ℤ) (setting : Setting) (written bytes : List ℕ) (s : List Step) → All (λ b. b < 256) bytes →
+    (signed name width setting).Written written z → (signed name width setting).Word bytes z s → length written ≤ length bytes
 unfolding signed
 signed-least name width z setting written bytes s h w u =
     let F = number_by signed_tag name setting.order width setting.encoding in

@@ -16,7 +16,9 @@ pub data Misreads {A : Type 0} (ended : ℕ → DecodeError → Type 0) (device 
 -- A reader, which was at `old` and is at `new`, read a word of a format without steps: what was given has its meaning, or
 -- the error tells why there is none; failures are counted up. The reader tells what is left as before, and reads through
 -- the same references.
-pub record ReadsWord {R A T : Type 0} (told : R → Type 0) (rest : R → List ℕ) (failures : R → ℕ) (place : R → List GName) (ended : ℕ → DecodeError → Type 0) (device : DeviceErrors) (format : Format A) (mean : T → A) (result : Result T DecodeError) (old new : R) : Type 0 where
+pub record ReadsWord {R A T : Type 0} (told : R → Type 0) (rest : R → List ℕ) (failures : R → ℕ) (place : R → List GName)
+    (ended : ℕ → DecodeError → Type 0) (device : DeviceErrors) (format : Format A) (mean : T → A) (result : Result T DecodeError)
+    (old new : R) : Type 0 where
   pub ok : told old → IfOk result (λ v. format.read (rest old) ≡ Took (mean v) (rest new) [])
   pub err : told old → IfErr result (Misreads ended device (format.read (rest old)) (failures old) (failures new) (rest old) (rest new))
   pub counted : failures old ≤ failures new

@@ -70,7 +70,8 @@ pub two_complement-fits : (width : ℕ) (z : ℤ) → FitsIn width z → two_com
 two_complement-fits width (pos n) h = omega (arith, h)
 two_complement-fits width (negsuc n) h = omega (arith, h)
 
-two_complement_by : (width n : ℕ) → n < 256 ^ width → (2 * n < 256 ^ width) ⊎ (256 ^ width ≤ 2 * n) → (two_complement width (from_two_complement width n) ≡ n) × FitsIn width (from_two_complement width n)
+two_complement_by : (width n : ℕ) → n < 256 ^ width → (2 * n < 256 ^ width) ⊎ (256 ^ width ≤ 2 * n) →
+    (two_complement width (from_two_complement width n) ≡ n) × FitsIn width (from_two_complement width n)
 two_complement_by width n h (inl k) = (ap (two_complement width) (low_half width n k), rw (low_half width n k) k)
 two_complement_by width n h (inr k) =
     let l : 2 * (256 ^ width - n - 1) < 256 ^ width = omega (arith, h, k) in

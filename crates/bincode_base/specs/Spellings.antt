@@ -36,7 +36,8 @@ pub unsigned-charged : (name : IntegerType) (width : ℕ) (s : Setting) → unsi
 unfolding unsigned
 unsigned-charged name width s = refl
 
-pub signed-charged : (name : IntegerType) (width : ℕ) (s : Setting) → signed name width s ≡ charged width (map_format (integer_by width s.encoding) (number_by signed_tag name s.order width s.encoding))
+pub signed-charged : (name : IntegerType) (width : ℕ) (s : Setting) →
+    signed name width s ≡ charged width (map_format (integer_by width s.encoding) (number_by signed_tag name s.order width s.encoding))
 unfolding signed
 signed-charged name width s = refl
 

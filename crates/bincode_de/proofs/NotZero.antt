@@ -38,7 +38,9 @@ tested name (Gave m r d) = if size_of m == 0 then Refused (Zero name) else Gave 
 tested name (Refused why) = Refused why
 tested name PassedLimit = PassedLimit
 
-tested_stop : (name : IntegerType) (ended : ℕ → DecodeError → Type 0) (device : DeviceErrors) (H : Type 0) (before after : ℕ) (input rest : List ℕ) (e : DecodeError) (a : Answer Meaning) → Stops ended device H a before after input rest e → Stops ended device H (tested name a) before after input rest e
+tested_stop :
+    (name : IntegerType) (ended : ℕ → DecodeError → Type 0) (device : DeviceErrors) (H : Type 0) (before after : ℕ) (input rest : List ℕ) (e : DecodeError) (a : Answer Meaning) →
+    Stops ended device H a before after input rest e → Stops ended device H (tested name a) before after input rest e
 tested_stop name ended device H before after input rest e a (by_fault why h t k) = by_fault why (ap (tested name) h) t k
 tested_stop name ended device H before after input rest e a (by_limit h t k) = by_limit (ap (tested name) h) t k
 tested_stop name ended device H before after input rest e a (by_memory h t k) = by_memory h t k
@@ -72,21 +74,30 @@ module _ {A : Type 0} (f : A → Meaning) (size : A → ℕ) (name : IntegerType
         each PassedLimit = refl
 
     -- 0 was read
-    was_zero : (m : Meaning) (rest : List ℕ) (d : ℕ) → answer limit (map_format f F) input c ≡ Gave m rest d → size_of m ≡ 0 → answer limit (map_format f (not_zero_by size name F)) input c ≡ Refused (Zero name)
+    was_zero : (m : Meaning) (rest : List ℕ) (d : ℕ) → answer limit (map_format f F) input c ≡ Gave m rest d → size_of m ≡ 0 →
+        answer limit (map_format f (not_zero_by size name F)) input c ≡ Refused (Zero name)
     was_zero m rest d e z = by_size ∙ ap (tested name) e ∙ rw z refl
 
     -- another number was
-    was_number : (m : Meaning) (rest : List ℕ) (d : ℕ) → answer limit (map_format f F) input c ≡ Gave m rest d → 0 < size_of m → answer limit (map_format f (not_zero_by size name F)) input c ≡ Gave m rest d
+    was_number : (m : Meaning) (rest : List ℕ) (d : ℕ) → answer limit (map_format f F) input c ≡ Gave m rest d → 0 < size_of m →
+        answer limit (map_format f (not_zero_by size name F)) input c ≡ Gave m rest d
     was_number m rest d e p = by_size ∙ ap (tested name) e ∙ rw (ne_eqb (size_of m) 0 (λ z. omega (arith, z, p))) refl
 
-  module _ {D T : Type 0} {told : D → Type 0} {rest : D → List ℕ} {charge failures : D → ℕ} {place : D → List GName} {limit : Option ℕ} {ended : ℕ → DecodeError → Type 0} {device : DeviceErrors} (F : Format A) {given : Meaning → A → Type 0} {other : Meaning → T → Type 0} {start : ℕ} {old new : D} where
+  module _ {D T : Type 0} {told : D → Type 0} {rest : D → List ℕ} {charge failures : D → ℕ} {place : D → List GName} {limit : Option ℕ}
+      {ended : ℕ → DecodeError → Type 0} {device : DeviceErrors} (F : Format A) {given : Meaning → A → Type 0} {other : Meaning → T → Type 0}
+      {start : ℕ} {old new : D} where
     -- where the number stops, so does the number other than 0
-    pub stops-too : (e : DecodeError) → Reads told rest charge failures place limit ended device ⊥ (map_format f F) given start (Err e) old new → Reads told rest charge failures place limit ended device ⊥ (map_format f (not_zero_by size name F)) other start (Err e) old new
-    stops-too e read = read-as (λ known. tt) (λ known. rw (by_size limit F (rest old) start) (tested_stop name ended device ⊥ (failures old) (failures new) (rest old) (rest new) e (answer limit (map_format f F) (rest old) start) (read.err known))) read
+    pub stops-too : (e : DecodeError) → Reads told rest charge failures place limit ended device ⊥ (map_format f F) given start (Err e) old new →
+        Reads told rest charge failures place limit ended device ⊥ (map_format f (not_zero_by size name F)) other start (Err e) old new
+    stops-too e read =
+        read-as (λ known. tt)
+        (λ known. rw (by_size limit F (rest old) start) (tested_stop name ended device ⊥ (failures old) (failures new) (rest old) (rest new) e (answer limit (map_format f F) (rest old) start) (read.err known))) read
 
     -- and a number is tested
-    pub read-tested : (get : T → A) (zero n k : A) (number : Option T) (r : Result T DecodeError) → size zero ≡ 0 → Lawful F → ((x : T) → 0 < size (get x)) → ((m : Meaning) → given m n → m ≡ f n) → ((x : T) (m : Meaning) → m ≡ f (get x) → other m x) →
-        k ≡ n → MatchOption number (k ≡ zero) (λ x. get x ≡ k) → r ≡ ok_or number (NonZeroTypeIsZero name) → Reads told rest charge failures place limit ended device ⊥ (map_format f F) given start (Ok n) old new →
+    pub read-tested : (get : T → A) (zero n k : A) (number : Option T) (r : Result T DecodeError) → size zero ≡ 0 → Lawful F →
+        ((x : T) → 0 < size (get x)) → ((m : Meaning) → given m n → m ≡ f n) → ((x : T) (m : Meaning) → m ≡ f (get x) → other m x) →
+        k ≡ n → MatchOption number (k ≡ zero) (λ x. get x ≡ k) → r ≡ ok_or number (NonZeroTypeIsZero name) →
+        Reads told rest charge failures place limit ended device ⊥ (map_format f F) given start (Ok n) old new →
         Reads told rest charge failures place limit ended device ⊥ (map_format f (not_zero_by size name F)) other start r old new
     read-tested get zero n k (Some x) r z l above is gives same_number made result read =
         rw result

@@ -46,37 +46,47 @@ listed_bytes (b ∷ bytes) = record { first = number b; others = listed (map num
 
 module _ (limit : Option ℕ) (all : Answer (List Meaning)) (input : List ℕ) (c : ℕ) (l : Allows limit c) where
   -- so many bytes are read
-  bytes_read : (bytes rest : List ℕ) (ms : List Meaning) (n k : ℕ) → n ≡ length bytes + k → ReadSoFar limit 1 (natural unsigned_byte) all input ms n (bytes ++ rest) c → ReadSoFar limit 1 (natural unsigned_byte) all input (ms ++ map number bytes) k rest c
+  bytes_read : (bytes rest : List ℕ) (ms : List Meaning) (n k : ℕ) → n ≡ length bytes + k →
+      ReadSoFar limit 1 (natural unsigned_byte) all input ms n (bytes ++ rest) c →
+      ReadSoFar limit 1 (natural unsigned_byte) all input (ms ++ map number bytes) k rest c
   bytes_read [] rest ms n k e h =
       let p : n ≡ k = omega (arith, e) in
       subst (λ z. ReadSoFar limit 1 (natural unsigned_byte) all input z k rest c) (sym (append-nil ms)) (subst (λ z. ReadSoFar limit 1 (natural unsigned_byte) all input ms z rest c) p h)
   bytes_read (b ∷ bytes) rest ms n k e h =
       let p : n ≡ suc (length bytes + k) = omega (arith, e) in
       let q = subst (λ z. ReadSoFar limit 1 (natural unsigned_byte) all input ms z (b ∷ bytes ++ rest) c) p h in
-      let one = one_more limit 1 (natural unsigned_byte) all input ms (map-lawful _ _ unsigned_byte-lawful) (map-balanced _ _ unsigned_byte-balanced) (length bytes + k) (b ∷ bytes ++ rest) c (number b) (bytes ++ rest) c q (byte_gave limit b (bytes ++ rest) c l (one_of limit c (length bytes + k) q.is_reserved)) in
-      subst (λ z. ReadSoFar limit 1 (natural unsigned_byte) all input z k rest c) (append_assoc ms (number b ∷ []) (map number bytes)) (bytes_read bytes rest (ms ++ number b ∷ []) (length bytes + k) k refl one)
+      let one =
+      one_more limit 1 (natural unsigned_byte) all input ms (map-lawful _ _ unsigned_byte-lawful) (map-balanced _ _ unsigned_byte-balanced)
+      (length bytes + k) (b ∷ bytes ++ rest) c (number b) (bytes ++ rest) c q
+      (byte_gave limit b (bytes ++ rest) c l (one_of limit c (length bytes + k) q.is_reserved)) in
+      subst (λ z. ReadSoFar limit 1 (natural unsigned_byte) all input z k rest c) (append_assoc ms (number b ∷ []) (map number bytes))
+      (bytes_read bytes rest (ms ++ number b ∷ []) (length bytes + k) k refl one)
 
   run_ends : (ms : List Meaning) (n : ℕ) → ReadSoFar limit 1 (natural unsigned_byte) all input ms (suc n) [] c → all ≡ Refused (End None)
   run_ends ms n h = sym h.is_rest ∙ ap (behind ms) (byte_ends limit n c l (one_of limit c n h.is_reserved))
 
 module _ (limit : Option ℕ) (n : ℕ) (input : List ℕ) (c : ℕ) (l : Allows limit c) (h : CanRelease limit c (n * 1)) where
   -- bytes that are read at once are those that are read one by one
-  pub bytes-decode : (bytes rest : List ℕ) → input ≡ bytes ++ rest → length bytes ≡ n → Decodes (λ ms. IsListOf (λ x m. IsNumber (pos x) m) bytes (listed ms)) (answer limit (elements n 1 (natural unsigned_byte)) input c) rest c
+  pub bytes-decode : (bytes rest : List ℕ) → input ≡ bytes ++ rest → length bytes ≡ n →
+      Decodes (λ ms. IsListOf (λ x m. IsNumber (pos x) m) bytes (listed ms)) (answer limit (elements n 1 (natural unsigned_byte)) input c) rest c
   bytes-decode bytes rest e k =
       let all = answer limit (elements n 1 (natural unsigned_byte)) input c in
-      let start : ReadSoFar limit 1 (natural unsigned_byte) all input [] n (bytes ++ rest) c = subst (λ z. ReadSoFar limit 1 (natural unsigned_byte) all input [] n z c) e (none_read limit 1 (natural unsigned_byte) n input c h) in
+      let start : ReadSoFar limit 1 (natural unsigned_byte) all input [] n (bytes ++ rest) c =
+      subst (λ z. ReadSoFar limit 1 (natural unsigned_byte) all input [] n z c) e (none_read limit 1 (natural unsigned_byte) n input c h) in
       let r = bytes_read limit all input c l bytes rest [] n 0 (omega (arith, k)) start in
       record { meaning = map number bytes; answer_is = all_read limit 1 (natural unsigned_byte) all input (map number bytes) rest c r; is_given = listed_bytes bytes }
 
   bytes_end : length input < n → answer limit (elements n 1 (natural unsigned_byte)) input c ≡ Refused (End None)
   bytes_end k =
       let all = answer limit (elements n 1 (natural unsigned_byte)) input c in
-      let start : ReadSoFar limit 1 (natural unsigned_byte) all input [] n (input ++ []) c = subst (λ z. ReadSoFar limit 1 (natural unsigned_byte) all input [] n z c) (sym (append-nil input)) (none_read limit 1 (natural unsigned_byte) n input c h) in
+      let start : ReadSoFar limit 1 (natural unsigned_byte) all input [] n (input ++ []) c =
+      subst (λ z. ReadSoFar limit 1 (natural unsigned_byte) all input [] n z c) (sym (append-nil input)) (none_read limit 1 (natural unsigned_byte) n input c h) in
       let r = bytes_read limit all input c l input [] [] n (suc (n - length input - 1)) (omega (arith, k)) start in
       run_ends limit all input c l (map number input) (n - length input - 1) r
 
   -- where the bytes can't be read at once, the run of them stops
-  pub bytes-stop : (ended : ℕ → DecodeError → Type 0) (device : DeviceErrors) (H : Type 0) (before after : ℕ) (rest : List ℕ) (e : DecodeError) → FallsShort ended input n e ⊎ (device.uncounted e ⊎ (device.counted e × Rose before after)) → device.uncounted e ⊎ Takes input rest →
+  pub bytes-stop : (ended : ℕ → DecodeError → Type 0) (device : DeviceErrors) (H : Type 0) (before after : ℕ) (rest : List ℕ) (e : DecodeError) →
+      FallsShort ended input n e ⊎ (device.uncounted e ⊎ (device.counted e × Rose before after)) → device.uncounted e ⊎ Takes input rest →
       Stops ended device H (answer limit (elements n 1 (natural unsigned_byte)) input c) before after input rest e
   bytes-stop ended device H before after rest e why (inl u) = by_device u
   bytes-stop ended device H before after rest e (inl s) (inr t) = by_fault (End None) (bytes_end s.0) (n - length input, s.1) t

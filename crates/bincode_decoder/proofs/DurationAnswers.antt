@@ -21,14 +21,16 @@ module _ (limit : Option ℕ) (s : Setting) (input : List ℕ) (c : ℕ) where
   in_parts : answer limit (duration s) input c ≡ answer limit (seconds_and_nanos s >>= λ parts. settled (duration_of parts.0 parts.1)) input c
   in_parts = rewritten-answer _ (seconds_and_nanos s >>= λ parts. settled (duration_of parts.0 parts.1)) limit input c
 
-  module _ (seconds nanos : ℕ) (middle rest : List ℕ) (d after : ℕ) (a : answer limit (unsigned integers.U64 8 s) input c ≡ Gave seconds middle d) (b : answer limit (unsigned integers.U32 4 s) middle d ≡ Gave nanos rest after) where
+  module _ (seconds nanos : ℕ) (middle rest : List ℕ) (d after : ℕ) (a : answer limit (unsigned integers.U64 8 s) input c ≡ Gave seconds middle d)
+      (b : answer limit (unsigned integers.U32 4 s) middle d ≡ Gave nanos rest after) where
     parts_gave : answer limit (seconds_and_nanos s) input c ≡ Gave (seconds, nanos) rest after
     parts_gave =
         answer-next limit (unsigned integers.U64 8 s) (λ k. map_format (λ n. (k, n)) (unsigned integers.U32 4 s)) input c seconds middle d a
         ∙ map-gave (λ n. (seconds, n)) limit (unsigned integers.U32 4 s) middle d nanos rest after b
 
     -- a span is given for its seconds and nanoseconds, of which whole seconds are carried
-    pub span-decodes : (x y : ℕ) → seconds + nanos / second_in_nanos < 2 ^ 64 → x ≡ seconds + nanos / second_in_nanos → y ≡ nanos % second_in_nanos → Decodes (IsSpan x y) (answer limit (duration s) input c) rest after
+    pub span-decodes : (x y : ℕ) → seconds + nanos / second_in_nanos < 2 ^ 64 → x ≡ seconds + nanos / second_in_nanos → y ≡ nanos % second_in_nanos →
+        Decodes (IsSpan x y) (answer limit (duration s) input c) rest after
     span-decodes x y h p q = record {
       meaning = span (seconds + nanos / second_in_nanos) (nanos % second_in_nanos);
       answer_is = in_parts ∙ settled-gave (λ parts. duration_of parts.0 parts.1) limit (seconds_and_nanos s) input c (seconds, nanos) rest after (span (seconds + nanos / second_in_nanos) (nanos % second_in_nanos)) parts_gave (carries seconds nanos h);
@@ -49,7 +51,8 @@ module _ (limit : Option ℕ) (s : Setting) (input : List ℕ) (c : ℕ) where
     parts_stop h = rw in_parts (stops-first ended device H H (λ k. k) limit (seconds_and_nanos s) (λ parts. settled (duration_of parts.0 parts.1)) input c before after rest e h)
 
     -- the seconds stop
-    pub span-stops_first : Stops ended device H (answer limit (unsigned integers.U64 8 s) input c) before after input rest e → Stops ended device H (answer limit (duration s) input c) before after input rest e
+    pub span-stops_first : Stops ended device H (answer limit (unsigned integers.U64 8 s) input c) before after input rest e →
+        Stops ended device H (answer limit (duration s) input c) before after input rest e
     span-stops_first h = parts_stop (stops-first ended device H H (λ k. k) limit (unsigned integers.U64 8 s) (λ k. map_format (λ n. (k, n)) (unsigned integers.U32 4 s)) input c before after rest e h)
 
     -- the nanoseconds stop

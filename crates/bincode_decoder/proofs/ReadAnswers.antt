@@ -14,16 +14,23 @@ use Rattle.bincode_decoder.specs.Claims.{OnlyCharged}
 use Rattle.bincode_decoder.specs.Runs.{Reads}
 use Rattle.bincode_decoder.proofs.Rooms.{claimed-grows, over-grows}
 
-module _ {D A B T U : Type 0} {told : D → Type 0} {rest : D → List ℕ} {charge failures : D → ℕ} {place : D → List GName} {limit : Option ℕ} {ended : ℕ → DecodeError → Type 0} {device : DeviceErrors} {G H : Type 0} {F : Format A} {given : A → T → Type 0} {charged : ℕ} {r : Result T DecodeError} {old new : D} where
+module _ {D A B T U : Type 0} {told : D → Type 0} {rest : D → List ℕ} {charge failures : D → ℕ} {place : D → List GName} {limit : Option ℕ}
+    {ended : ℕ → DecodeError → Type 0} {device : DeviceErrors} {G H : Type 0} {F : Format A} {given : A → T → Type 0} {charged : ℕ}
+    {r : Result T DecodeError} {old new : D} where
   module _ {whole : Format B} {other : B → U → Type 0} {q : Result U DecodeError} where
     -- what was read is read for something else
-    pub read-as : (told old → IfOk q (λ v. Decodes (λ m. other m v) (answer limit whole (rest old) charged) (rest new) (charge new))) → (told old → IfErr q (Stops ended device H (answer limit whole (rest old) charged) (failures old) (failures new) (rest old) (rest new))) →
+    pub read-as : (told old → IfOk q (λ v. Decodes (λ m. other m v) (answer limit whole (rest old) charged) (rest new) (charge new))) →
+        (told old → IfErr q (Stops ended device H (answer limit whole (rest old) charged) (failures old) (failures new) (rest old) (rest new))) →
         Reads told rest charge failures place limit ended device G F given charged r old new → Reads told rest charge failures place limit ended device H whole other charged q old new
     read-as h k read = record { ok = h; err = k; counted = read.counted; tells = read.tells; held = read.held; same_place = read.same_place }
 
     -- and what is read behind it with it
-    pub read-behind : {K C V : Type 0} {S : Format C} {next : C → V → Type 0} {p : Result V DecodeError} {end : D} → (told old → IfOk q (λ v. Decodes (λ m. other m v) (answer limit whole (rest old) charged) (rest end) (charge end))) → (told old → IfErr q (Stops ended device H (answer limit whole (rest old) charged) (failures old) (failures end) (rest old) (rest end))) →
-        Reads told rest charge failures place limit ended device G F given charged r old new → Reads told rest charge failures place limit ended device K S next (charge new) p new end → Reads told rest charge failures place limit ended device H whole other charged q old end
+    pub read-behind : {K C V : Type 0} {S : Format C} {next : C → V → Type 0} {p : Result V DecodeError} {end : D} →
+        (told old → IfOk q (λ v. Decodes (λ m. other m v) (answer limit whole (rest old) charged) (rest end) (charge end))) →
+        (told old → IfErr q (Stops ended device H (answer limit whole (rest old) charged) (failures old) (failures end) (rest old) (rest end))) →
+        Reads told rest charge failures place limit ended device G F given charged r old new →
+        Reads told rest charge failures place limit ended device K S next (charge new) p new end →
+        Reads told rest charge failures place limit ended device H whole other charged q old end
     read-behind h k first second = record {
       ok = h;
       err = k;
@@ -41,9 +48,13 @@ made-of h d = record { meaning = d.meaning; answer_is = d.answer_is; is_given = 
 pub exactly : {A : Type 0} {a : Answer A} {v : A} {rest : List ℕ} {c : ℕ} → Decodes (λ n. n ≡ v) a rest c → a ≡ Gave v rest c
 exactly {rest = rest} {c = c} d = d.answer_is ∙ ap (λ n. Gave n rest c) d.is_given
 
-module _ {D R C : Type 0} {told : D → Type 0} {rest : D → List ℕ} {charge failures : D → ℕ} {reader_of : D → R} {context_of : D → C} {place : D → List GName} {limit : Option ℕ} {ended : ℕ → DecodeError → Type 0} {device : DeviceErrors} {old now : D} (kept : OnlyCharged told rest failures reader_of context_of place old now) where
+module _ {D R C : Type 0} {told : D → Type 0} {rest : D → List ℕ} {charge failures : D → ℕ} {reader_of : D → R} {context_of : D → C}
+    {place : D → List GName} {limit : Option ℕ} {ended : ℕ → DecodeError → Type 0} {device : DeviceErrors} {old now : D}
+    (kept : OnlyCharged told rest failures reader_of context_of place old now) where
   -- a claim that passes the limit
-  pub claim-passed : {A T G : Type 0} {F : Format A} {given : A → T → Type 0} {e : DecodeError} (n : ℕ) → OverClaimed limit (charge old) n (charge now) → Stops ended device G (answer limit F (rest old) (charge old)) (failures old) (failures now) (rest old) (rest now) e →
+  pub claim-passed : {A T G : Type 0} {F : Format A} {given : A → T → Type 0} {e : DecodeError} (n : ℕ) →
+      OverClaimed limit (charge old) n (charge now) →
+      Stops ended device G (answer limit F (rest old) (charge old)) (failures old) (failures now) (rest old) (rest now) e →
       Reads told rest charge failures place limit ended device G F given (charge old) (Err e) old now
   claim-passed n over stops = record {
     ok = λ known. tt;
@@ -55,7 +66,8 @@ module _ {D R C : Type 0} {told : D → Type 0} {rest : D → List ℕ} {charge 
   }
 
   -- one that stands, and what is read behind it
-  pub charged-reads : {A T : Type 0} {F : Format A} {mean : T → A} {r : Result T DecodeError} {new : D} (n : ℕ) → Claimed limit (charge old) n (charge now) → ReadsWord told rest failures place ended device F mean r now new → charge new ≡ charge now →
+  pub charged-reads : {A T : Type 0} {F : Format A} {mean : T → A} {r : Result T DecodeError} {new : D} (n : ℕ) →
+      Claimed limit (charge old) n (charge now) → ReadsWord told rest failures place ended device F mean r now new → charge new ≡ charge now →
       Reads told rest charge failures place limit ended device ⊥ (charged n F) (λ a v. a ≡ mean v) (charge old) r old new
   charged-reads {F = F} {mean = mean} {r = r} {new = new} n claim read still = record {
     ok = λ known. IfOk-weaker r _ _ (λ v h. record { meaning = mean v; answer_is = rw still (charged-gave limit n F (rest old) (charge old) (charge now) (rest now) (rest new) (mean v) claim kept.same_rest h); is_given = refl }) (read.ok (kept.tells known));
@@ -67,7 +79,11 @@ module _ {D R C : Type 0} {told : D → Type 0} {rest : D → List ℕ} {charge 
   }
 
 -- a number that was read is its meaning read
-pub number-reads : {D A B : Type 0} {told : D → Type 0} {rest : D → List ℕ} {charge failures : D → ℕ} {place : D → List GName} {limit : Option ℕ} {ended : ℕ → DecodeError → Type 0} {device : DeviceErrors} {F : Format A} {given : B → A → Type 0} {start : ℕ} {r : Result A DecodeError} {old new : D} (f : A → B) → ((v : A) → given (f v) v) →
+pub number-reads :
+    {D A B : Type 0} {told : D → Type 0} {rest : D → List ℕ} {charge failures : D → ℕ} {place : D → List GName} {limit : Option ℕ}
+    {ended : ℕ → DecodeError → Type 0} {device : DeviceErrors} {F : Format A} {given : B → A → Type 0} {start : ℕ} {r : Result A DecodeError}
+    {old new : D} (f : A → B) →
+    ((v : A) → given (f v) v) →
     Reads told rest charge failures place limit ended device ⊥ F (λ n v. n ≡ v) start r old new → Reads told rest charge failures place limit ended device ⊥ (map_format f F) given start r old new
 number-reads {limit = limit} {F = F} {r = r} f g read =
     read-as

@@ -31,12 +31,17 @@ module _ (F : Format Meaning) (f : Lawful F) (P : Meaning → Type 0) {W : Type 
     own_or_held front e (inr b) = inr (held_begins front b)
 
     -- a front of its word is one of the cell
-    held_halts : (refuses : Refuses W) (N M : EncodeError → Type 0) → ((e : EncodeError) → N e → M e) → (before after : W) (e : EncodeError) → Halts adds refuses (Ready R (AllowedWord P F)) N before after e → Halts adds refuses (Ready S (AllowedWord IsAny (of_cell F))) M before after e
+    held_halts : (refuses : Refuses W) (N M : EncodeError → Type 0) → ((e : EncodeError) → N e → M e) → (before after : W) (e : EncodeError) →
+        Halts adds refuses (Ready R (AllowedWord P F)) N before after e →
+        Halts adds refuses (Ready S (AllowedWord IsAny (of_cell F))) M before after e
     held_halts refuses N M more before after e (by_writer front piece middle h r b) = by_writer front piece middle h r (held_begins (front ++ piece) b)
     held_halts refuses N M more before after e (by_name front h n b) = by_name front h (more e n) (own_or_held front e b)
 
 -- what was written for what a cell holds was written for the cell
-pub held-encodes : {F : Format Meaning} (f : Lawful F) {P : Meaning → Type 0} {R S : Type 0} (inner : S → R) (has_word : R → SomeWord (AllowedWord P F)) {E W T : Type 0} {adds : Adds W} {refuses : Refuses W} {writer_of : E → W} {place : E → List GName} {N M : EncodeError → Type 0} (more : (e : EncodeError) → N e → M e) {r : Result T EncodeError} {old new : E} →
+pub held-encodes :
+    {F : Format Meaning} (f : Lawful F) {P : Meaning → Type 0} {R S : Type 0} (inner : S → R) (has_word : R → SomeWord (AllowedWord P F))
+    {E W T : Type 0} {adds : Adds W} {refuses : Refuses W} {writer_of : E → W} {place : E → List GName} {N M : EncodeError → Type 0}
+    (more : (e : EncodeError) → N e → M e) {r : Result T EncodeError} {old new : E} →
     Encodes adds refuses writer_of place R (AllowedWord P F) N r old new → Encodes adds refuses writer_of place S (AllowedWord IsAny (of_cell F)) M r old new
 held-encodes {F} f {P} {R} {S} inner has_word {adds = adds} {refuses = refuses} {N = N} {M = M} more {r} w = record {
   ok = on_ok_weaker r (held_writes F f P adds _ _) w.ok;

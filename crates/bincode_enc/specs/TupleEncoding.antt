@@ -10,11 +10,16 @@ use Rattle.bincode_wire.specs.AllowedLaws.{tuple-allows, allowed-tuple}
 use Rattle.bincode_encoder.specs.Encoding.{Adds, Refuses, Encodes}
 use Rattle.bincode_encoder.proofs.EncodingAnswers.{Joined, first-halts, next-encodes}
 
-module _ {P Q : Meaning → Type 0} {F : Format Meaning} (others : Format Meaning) {R S : Type 0} {N M : EncodeError → Type 0} {E W T V : Type 0} {adds : Adds W} {refuses : Refuses W} {writer_of : E → W} {place : E → List GName} {old new : E} where
+module _ {P Q : Meaning → Type 0} {F : Format Meaning} (others : Format Meaning) {R S : Type 0} {N M : EncodeError → Type 0} {E W T V : Type 0}
+    {adds : Adds W} {refuses : Refuses W} {writer_of : E → W} {place : E → List GName} {old new : E} where
   -- the first part halts
-  pub tuple-halts : {e : EncodeError} → Encodes {T = T} adds refuses writer_of place R (AllowedWord P F) N (Err e) old new → Encodes {T = V} adds refuses writer_of place (R × S) (AllowedWord (IsThen P Q) (first_and F others)) (λ d. N d ⊎ M d) (Err e) old new
+  pub tuple-halts : {e : EncodeError} → Encodes {T = T} adds refuses writer_of place R (AllowedWord P F) N (Err e) old new →
+      Encodes {T = V} adds refuses writer_of place (R × S) (AllowedWord (IsThen P Q) (first_and F others)) (λ d. N d ⊎ M d) (Err e) old new
   tuple-halts = first-halts {R = R} {S = S} (λ r s. (r, s)) (λ u. u) (tuple-allows P Q F others) (allowed-tuple P Q F others) {N = N} {M = M} (λ e n. n)
 
   -- the first part, and then the others
-  pub tuple-encodes : {t : T} {r : Result V EncodeError} {between : E} → Joined adds → Encodes adds refuses writer_of place R (AllowedWord P F) N (Ok t) old between → Encodes adds refuses writer_of place S (AllowedWord Q others) M r between new → Encodes adds refuses writer_of place (R × S) (AllowedWord (IsThen P Q) (first_and F others)) (λ d. N d ⊎ M d) r old new
+  pub tuple-encodes : {t : T} {r : Result V EncodeError} {between : E} → Joined adds →
+      Encodes adds refuses writer_of place R (AllowedWord P F) N (Ok t) old between →
+      Encodes adds refuses writer_of place S (AllowedWord Q others) M r between new →
+      Encodes adds refuses writer_of place (R × S) (AllowedWord (IsThen P Q) (first_and F others)) (λ d. N d ⊎ M d) r old new
   tuple-encodes = next-encodes {R = R} {S = S} (λ r s. (r, s)) (λ u. u) (tuple-allows P Q F others) (allowed-tuple P Q F others) {N = N} {M = M} (λ e n. n)

@@ -46,7 +46,8 @@ pub data Halts {W : Type 0} (adds : Adds W) (refuses : Refuses W) (Allowed : Lis
 
 -- An encoder, which was at `old` and is at `new`, wrote a value: an allowed word was added, or the error tells why it
 -- halts. It writes through the same references.
-pub record Encodes {E W T : Type 0} (adds : Adds W) (refuses : Refuses W) (writer_of : E → W) (place : E → List GName) (Writable : Type 0) (Allowed : List ℕ → Type 0) (Names : EncodeError → Type 0) (result : Result T EncodeError) (old new : E) : Type 0 where
+pub record Encodes {E W T : Type 0} (adds : Adds W) (refuses : Refuses W) (writer_of : E → W) (place : E → List GName) (Writable : Type 0)
+    (Allowed : List ℕ → Type 0) (Names : EncodeError → Type 0) (result : Result T EncodeError) (old new : E) : Type 0 where
   pub ok : OnOk result (Writes adds Allowed (writer_of old) (writer_of new))
   pub err : IfErr result (Halts adds refuses (Ready Writable Allowed) Names (writer_of old) (writer_of new))
   pub same_place : place new ≡ place old

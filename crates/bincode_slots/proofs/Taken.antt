@@ -35,7 +35,8 @@ slots_given g view here there ys (suc n) i f (q, y, at, called, others) (suc m) 
     slots_given g view here there ys n (i + 1) q others m k d (omega (arith, eq)) (omega (arith, lt)) ∙ there f i y q called k (omega (arith, eq))
 
 -- values that the slots hold, index by index, are those of the slots
-pub all_given : {T : Type 0} (xs : List T) (ys : List (Option T)) → length xs ≡ length ys → ((k : ℕ) (d : T) → k < length xs → Some (slice_index_or xs k d) ≡ slice_index_or ys k None) → map Some xs ≡ ys
+pub all_given : {T : Type 0} (xs : List T) (ys : List (Option T)) → length xs ≡ length ys →
+    ((k : ℕ) (d : T) → k < length xs → Some (slice_index_or xs k d) ≡ slice_index_or ys k None) → map Some xs ≡ ys
 all_given [] [] e h = refl
 all_given [] (y ∷ ys) e h = absurd (omega (arith, e))
 all_given (x ∷ xs) [] e h = absurd (omega (arith, e))

@@ -26,7 +26,8 @@ MayName errors.Memory = ⊥
 
 -- what is written in one format is what is written in the other
 abbrev pub WrittenAlike : Format Meaning → Format Meaning → Type 0
-WrittenAlike F G = ((bytes : List ℕ) (meaning : Meaning) → F.Written bytes meaning → G.Written bytes meaning) × ((bytes : List ℕ) (meaning : Meaning) → G.Written bytes meaning → F.Written bytes meaning)
+WrittenAlike F G =
+    ((bytes : List ℕ) (meaning : Meaning) → F.Written bytes meaning → G.Written bytes meaning) × ((bytes : List ℕ) (meaning : Meaning) → G.Written bytes meaning → F.Written bytes meaning)
 
 -- what is meant in one way is what is meant in the other
 abbrev pub SameMeanings : (Meaning → Type 0) → (Meaning → Type 0) → Type 0
@@ -44,7 +45,9 @@ pub record SomeWord (Allowed : List ℕ → Type 0) : Type 0 where
 
 -- no word of the one kind of meanings is shorter than one that is written for the other
 abbrev pub NoneShorter : (Written Read : Meaning → Type 0) → Format Meaning → Type 0
-NoneShorter Written Read F = (written bytes : List ℕ) (meaning : Meaning) (steps : List Step) → AllowedWord Written F written → All (λ b. b < 256) bytes → F.Word bytes meaning steps → Read meaning → length written ≤ length bytes
+NoneShorter Written Read F =
+    (written bytes : List ℕ) (meaning : Meaning) (steps : List Step) → AllowedWord Written F written → All
+    (λ b. b < 256) bytes → F.Word bytes meaning steps → Read meaning → length written ≤ length bytes
 
 -- no word that decodes to what an allowed word decodes to is shorter than that one
 abbrev pub Shortest : (Means Given : Meaning → Type 0) → Format Meaning → Type 0

@@ -74,7 +74,8 @@ allowed-integral = allowed-number (λ z. z) (λ a b e. e)
 pub unsigned-allows : (name : IntegerType) (width n : ℕ) (s : Setting) → n < 256 ^ width → AllowedWord (IsNumber (pos n)) (natural (unsigned name width s)) (spelling s.encoding s.order width n)
 unsigned-allows name width n s h = natural-allows (unsigned name width s) (spelling s.encoding s.order width n) n (written-unsigned name width n s h)
 
-pub allowed-unsigned : (name : IntegerType) (width n : ℕ) (s : Setting) (bytes : List ℕ) → AllowedWord (IsNumber (pos n)) (natural (unsigned name width s)) bytes → bytes ≡ spelling s.encoding s.order width n
+pub allowed-unsigned : (name : IntegerType) (width n : ℕ) (s : Setting) (bytes : List ℕ) →
+    AllowedWord (IsNumber (pos n)) (natural (unsigned name width s)) bytes → bytes ≡ spelling s.encoding s.order width n
 allowed-unsigned name width n s bytes a = (unsigned-written name width n s bytes (allowed-natural (unsigned name width s) bytes n a)).1
 
 pub byte-allows : (n : ℕ) → AllowedWord (IsNumber (pos n)) (natural unsigned_byte) (n ∷ [])
@@ -84,10 +85,12 @@ pub allowed-byte : (n : ℕ) (bytes : List ℕ) → AllowedWord (IsNumber (pos n
 allowed-byte n bytes a = unsigned_byte-written bytes n (allowed-natural unsigned_byte bytes n a)
 
 -- the spelling of the number that stands for it
-pub signed-allows : (name : IntegerType) (width : ℕ) (z : ℤ) (s : Setting) → IsWidth width → FitsIn width z → AllowedWord (IsNumber z) (integral (signed name width s)) (spelling s.encoding s.order width (number_for width s.encoding z))
+pub signed-allows : (name : IntegerType) (width : ℕ) (z : ℤ) (s : Setting) → IsWidth width → FitsIn width z →
+    AllowedWord (IsNumber z) (integral (signed name width s)) (spelling s.encoding s.order width (number_for width s.encoding z))
 signed-allows name width z s w h = integral-allows (signed name width s) (spelling s.encoding s.order width (number_for width s.encoding z)) z (written-signed name width z s w h)
 
-pub allowed-signed : (name : IntegerType) (width : ℕ) (z : ℤ) (s : Setting) (bytes : List ℕ) → AllowedWord (IsNumber z) (integral (signed name width s)) bytes → bytes ≡ spelling s.encoding s.order width (number_for width s.encoding z)
+pub allowed-signed : (name : IntegerType) (width : ℕ) (z : ℤ) (s : Setting) (bytes : List ℕ) →
+    AllowedWord (IsNumber z) (integral (signed name width s)) bytes → bytes ≡ spelling s.encoding s.order width (number_for width s.encoding z)
 allowed-signed name width z s bytes a = (signed-written name width z s bytes (allowed-integral (signed name width s) bytes z a)).1
 
 pub signed_byte-allows : (z : ℤ) → FitsIn 1 z → AllowedWord (IsNumber z) (integral signed_byte) (two_complement 1 z ∷ [])
@@ -105,7 +108,11 @@ allowed-signed_byte z bytes a =
 
 -- a truth value allows its byte
 pub truth-allows : (v : Bool) → AllowedWord (IsTruth v) truth (truth_byte v ∷ [])
-truth-allows v = record { meaning = Truth v; is_meant = refl; is_written = settled-written truth_of unsigned_byte (truth_byte v ∷ []) (truth_byte v) (Truth v) (truth_byte-passes v) (written-unsigned_byte (truth_byte v)) }
+truth-allows v = record {
+  meaning = Truth v;
+  is_meant = refl;
+  is_written = settled-written truth_of unsigned_byte (truth_byte v ∷ []) (truth_byte v) (Truth v) (truth_byte-passes v) (written-unsigned_byte (truth_byte v));
+}
 
 pub allowed-truth : (v : Bool) (bytes : List ℕ) → AllowedWord (IsTruth v) truth bytes → bytes ≡ truth_byte v ∷ []
 allowed-truth v bytes a =
@@ -115,12 +122,15 @@ allowed-truth v bytes a =
 
 module _ {A : Type 0} (integer : A → ℤ) (one : (a b : A) → integer a ≡ integer b → a ≡ b) (size : A → ℕ) (name : IntegerType) (F : Format A) where
   -- a number other than 0 allows what it does as a number
-  pub not_zero-allows : (bytes : List ℕ) (a : A) → 0 < size a → AllowedWord (IsNumber (integer a)) (map_format (λ k. Number (integer k)) F) bytes → AllowedWord (IsNumber (integer a)) (map_format (λ k. Number (integer k)) (not_zero_by size name F)) bytes
+  pub not_zero-allows : (bytes : List ℕ) (a : A) → 0 < size a → AllowedWord (IsNumber (integer a)) (map_format (λ k. Number (integer k)) F) bytes →
+      AllowedWord (IsNumber (integer a)) (map_format (λ k. Number (integer k)) (not_zero_by size name F)) bytes
   not_zero-allows bytes a h w =
       number-allows integer one (not_zero_by size name F) bytes a
       (settled-written (λ x. not_zero_of name (size x) x) F bytes a a (not_zero-passes name (size a) a h) (allowed-number integer one F bytes a w))
 
-  pub allowed-not_zero : (bytes : List ℕ) (a : A) → AllowedWord (IsNumber (integer a)) (map_format (λ k. Number (integer k)) (not_zero_by size name F)) bytes → AllowedWord (IsNumber (integer a)) (map_format (λ k. Number (integer k)) F) bytes
+  pub allowed-not_zero : (bytes : List ℕ) (a : A) →
+      AllowedWord (IsNumber (integer a)) (map_format (λ k. Number (integer k)) (not_zero_by size name F)) bytes →
+      AllowedWord (IsNumber (integer a)) (map_format (λ k. Number (integer k)) F) bytes
   allowed-not_zero bytes a w =
       let p = written-settled (λ x. not_zero_of name (size x) x) F bytes a (allowed-number integer one (not_zero_by size name F) bytes a w) in
       number-allows integer one F bytes a (subst (λ x. F.Written bytes x) (not_zero-passed name (size p.0) p.0 a p.1) p.2)

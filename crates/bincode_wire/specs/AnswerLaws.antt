@@ -22,23 +22,28 @@ on_some_same None f g h = refl
 charge_behind_append : (limit : Option ℕ) (charge : ℕ) (s t : List Step) → charge_behind limit charge (s ++ t) ≡ on_some (charge_behind limit charge s) (λ after. charge_behind limit after t)
 charge_behind_append limit charge [] t = refl
 charge_behind_append limit charge (x ∷ s) t =
-    on_some_same (after_step limit charge x) (λ after. charge_behind limit after (s ++ t)) (λ after. on_some (charge_behind limit after s) (λ last. charge_behind limit last t)) (λ after. charge_behind_append limit after s t)
+    on_some_same (after_step limit charge x) (λ after. charge_behind limit after (s ++ t))
+    (λ after. on_some (charge_behind limit after s) (λ last. charge_behind limit last t)) (λ after. charge_behind_append limit after s t)
     ∙ sym (on_some_twice (after_step limit charge x) (λ after. charge_behind limit after s) (λ last. charge_behind limit last t))
 
 module _ {A B : Type 0} (limit : Option ℕ) where
-  gave_weighed : (a : A) (rest : List ℕ) (m : B) (more : List ℕ) (t : List Step) (o : Option ℕ) → gave_at m more (on_some o (λ after. charge_behind limit after t)) ≡ and_then (gave_at a rest o) (λ _ _ after. gave_at m more (charge_behind limit after t))
+  gave_weighed : (a : A) (rest : List ℕ) (m : B) (more : List ℕ) (t : List Step) (o : Option ℕ) →
+      gave_at m more (on_some o (λ after. charge_behind limit after t)) ≡ and_then (gave_at a rest o) (λ _ _ after. gave_at m more (charge_behind limit after t))
   gave_weighed a rest m more t (Some n) = refl
   gave_weighed a rest m more t None = refl
 
-  refused_weighed : (a : A) (rest : List ℕ) (why : Fault) (t : List Step) (o : Option ℕ) → refused_at {A = B} why (on_some o (λ after. charge_behind limit after t)) ≡ and_then (gave_at a rest o) (λ _ _ after. refused_at why (charge_behind limit after t))
+  refused_weighed : (a : A) (rest : List ℕ) (why : Fault) (t : List Step) (o : Option ℕ) →
+      refused_at {A = B} why (on_some o (λ after. charge_behind limit after t)) ≡ and_then (gave_at a rest o) (λ _ _ after. refused_at why (charge_behind limit after t))
   refused_weighed a rest why t (Some n) = refl
   refused_weighed a rest why t None = refl
 
-  weighed_after : (charge : ℕ) (a : A) (rest : List ℕ) (s : List Step) (r : Reading B) → weighed limit charge (after_steps s r) ≡ and_then (gave_at a rest (charge_behind limit charge s)) (λ _ _ after. weighed limit after r)
+  weighed_after : (charge : ℕ) (a : A) (rest : List ℕ) (s : List Step) (r : Reading B) →
+      weighed limit charge (after_steps s r) ≡ and_then (gave_at a rest (charge_behind limit charge s)) (λ _ _ after. weighed limit after r)
   weighed_after charge a rest s (Took m more t) = ap (gave_at m more) (charge_behind_append limit charge s t) ∙ gave_weighed a rest m more t (charge_behind limit charge s)
   weighed_after charge a rest s (Failed why t) = ap (refused_at {A = B} why) (charge_behind_append limit charge s t) ∙ refused_weighed a rest why t (charge_behind limit charge s)
 
-  gave_on : (next : A → List ℕ → Reading B) (a : A) (rest : List ℕ) (o : Option ℕ) → and_then (gave_at a rest o) (λ _ _ after. weighed limit after (next a rest)) ≡ and_then (gave_at a rest o) (λ m more after. weighed limit after (next m more))
+  gave_on : (next : A → List ℕ → Reading B) (a : A) (rest : List ℕ) (o : Option ℕ) →
+      and_then (gave_at a rest o) (λ _ _ after. weighed limit after (next a rest)) ≡ and_then (gave_at a rest o) (λ m more after. weighed limit after (next m more))
   gave_on next a rest (Some n) = refl
   gave_on next a rest None = refl
 
@@ -46,12 +51,14 @@ module _ {A B : Type 0} (limit : Option ℕ) where
   refused_on next why (Some n) = refl
   refused_on next why None = refl
 
-  weighed_then : (next : A → List ℕ → Reading B) (charge : ℕ) (r : Reading A) → weighed limit charge (then_read r next) ≡ and_then (weighed limit charge r) (λ a rest after. weighed limit after (next a rest))
+  weighed_then : (next : A → List ℕ → Reading B) (charge : ℕ) (r : Reading A) →
+      weighed limit charge (then_read r next) ≡ and_then (weighed limit charge r) (λ a rest after. weighed limit after (next a rest))
   weighed_then next charge (Took a rest s) = weighed_after charge a rest s (next a rest) ∙ gave_on next a rest (charge_behind limit charge s)
   weighed_then next charge (Failed why s) = refused_on (λ a rest after. weighed limit after (next a rest)) why (charge_behind limit charge s)
 
 -- The answer goes part by part.
-pub answer-then : {A B : Type 0} (limit : Option ℕ) (F : Format A) (G : A → Format B) (input : List ℕ) (charge : ℕ) → answer limit (F >>= G) input charge ≡ and_then (answer limit F input charge) (λ a rest after. answer limit (G a) rest after)
+pub answer-then : {A B : Type 0} (limit : Option ℕ) (F : Format A) (G : A → Format B) (input : List ℕ) (charge : ℕ) →
+    answer limit (F >>= G) input charge ≡ and_then (answer limit F input charge) (λ a rest after. answer limit (G a) rest after)
 unfolding answer ◌>>=◌
 answer-then limit F G input charge = weighed_then limit (λ a rest. (G a).read rest) charge (F.read input)
 
@@ -136,22 +143,29 @@ module _ (limit charge : ℕ) where
   within_none h [] back e = omega arith
   within_none h (x ∷ front) back e = absurd (cc)
 
-  within_step : (after : ℕ) (x : Step) (steps : List Step) → ((front : List Step) → charge_after charge (x ∷ front) ≡ charge_after after front) → charge ≤ limit → StaysWithin (Some limit) after steps → StaysWithin (Some limit) charge (x ∷ steps)
+  within_step : (after : ℕ) (x : Step) (steps : List Step) → ((front : List Step) → charge_after charge (x ∷ front) ≡ charge_after after front) →
+      charge ≤ limit → StaysWithin (Some limit) after steps → StaysWithin (Some limit) charge (x ∷ steps)
   within_step after x steps k h w [] back e = omega arith
   within_step after x steps k h w (y ∷ front) back e =
       let p : x ≡ y = cc in
       let q : charge_after after front ≤ limit = w front back (cc) in
       subst (λ z. charge_after charge (z ∷ front) ≤ limit) p (rw (k front) q)
 
-  weigh_step : (after : ℕ) (x : Step) (steps : List Step) → after_step (Some limit) charge x ≡ Some after → ((front : List Step) → charge_after charge (x ∷ front) ≡ charge_after after front) → (charge ≤ limit → after ≤ limit) → Weighing (Some limit) after steps → Weighing (Some limit) charge (x ∷ steps)
+  weigh_step : (after : ℕ) (x : Step) (steps : List Step) → after_step (Some limit) charge x ≡ Some after →
+      ((front : List Step) → charge_after charge (x ∷ front) ≡ charge_after after front) → (charge ≤ limit → after ≤ limit) →
+      Weighing (Some limit) after steps → Weighing (Some limit) charge (x ∷ steps)
   weigh_step after x steps e k l (stays p w) =
       stays (ap (λ z. on_some z (λ n. charge_behind (Some limit) n steps)) e ∙ p ∙ ap Some (sym (k steps))) (λ h. within_step after x steps k h (w (l h)))
   weigh_step after x steps e k l (passes p w) =
-      passes (ap (λ z. on_some z (λ n. charge_behind (Some limit) n steps)) e ∙ p) (record { front = x ∷ w.front; back = w.back; steps_are = ap (λ z. x ∷ z) w.steps_are; above = rw (k w.front) w.above })
+      passes (ap (λ z. on_some z (λ n. charge_behind (Some limit) n steps)) e ∙ p)
+      (record { front = x ∷ w.front; back = w.back; steps_are = ap (λ z. x ∷ z) w.steps_are; above = rw (k w.front) w.above })
 
-  weigh_claim : (n : ℕ) (x : Step) (steps : List Step) → after_step (Some limit) charge x ≡ claimed (Some limit) charge n → ((front : List Step) → charge_after charge (x ∷ front) ≡ charge_after (charge + n) front) → (limit < charge + n) ⊎ (charge + n ≤ limit) → Weighing (Some limit) (charge + n) steps → Weighing (Some limit) charge (x ∷ steps)
+  weigh_claim : (n : ℕ) (x : Step) (steps : List Step) → after_step (Some limit) charge x ≡ claimed (Some limit) charge n →
+      ((front : List Step) → charge_after charge (x ∷ front) ≡ charge_after (charge + n) front) → (limit < charge + n) ⊎ (charge + n ≤ limit) →
+      Weighing (Some limit) (charge + n) steps → Weighing (Some limit) charge (x ∷ steps)
   weigh_claim n x steps e k (inl h) w =
-      passes (ap (λ z. on_some z (λ n. charge_behind (Some limit) n steps)) (e ∙ claim_falls limit charge n h)) (record { front = x ∷ []; back = steps; steps_are = refl; above = rw (k []) (omega arith) })
+      passes (ap (λ z. on_some z (λ n. charge_behind (Some limit) n steps)) (e ∙ claim_falls limit charge n h))
+      (record { front = x ∷ []; back = steps; steps_are = refl; above = rw (k []) (omega arith) })
   weigh_claim n x steps e k (inr h) w = weigh_step (charge + n) x steps (e ∙ claim_stands (Some limit) charge n h) k (λ _. h) w
 
 module _ (held n : ℕ) (steps : List Step) where
@@ -209,11 +223,13 @@ module _ (limit : Option ℕ) (charge : ℕ) (steps : List Step) where
   passes_weighing h l (passes p w) = p
 
 -- Steps that are backed lead to the charge that is counted.
-pub behind-counted : (limit : Option ℕ) (charge held : ℕ) (steps : List Step) (after : ℕ) → IsBacked held steps → held ≤ charge → charge_behind limit charge steps ≡ Some after → after ≡ counted_after limit charge steps
+pub behind-counted : (limit : Option ℕ) (charge held : ℕ) (steps : List Step) (after : ℕ) → IsBacked held steps → held ≤ charge →
+    charge_behind limit charge steps ≡ Some after → after ≡ counted_after limit charge steps
 behind-counted limit charge held steps after h k e = weighing_counted limit charge steps after e (weigh limit charge held steps h k)
 
 -- Steps that lead to a charge stay within the limit.
-pub behind-stays : (limit : Option ℕ) (charge held : ℕ) (steps : List Step) (after : ℕ) → IsBacked held steps → held ≤ charge → Allows limit charge → charge_behind limit charge steps ≡ Some after → StaysWithin limit charge steps
+pub behind-stays : (limit : Option ℕ) (charge held : ℕ) (steps : List Step) (after : ℕ) → IsBacked held steps → held ≤ charge → Allows limit charge →
+    charge_behind limit charge steps ≡ Some after → StaysWithin limit charge steps
 behind-stays limit charge held steps after h k l e = weighing_stays limit charge steps after e l (weigh limit charge held steps h k)
 
 -- Steps that lead to no charge pass the limit.
@@ -221,11 +237,13 @@ pub behind-passes : (limit : Option ℕ) (charge held : ℕ) (steps : List Step)
 behind-passes limit charge held steps h k e = weighing_passes limit charge steps e (weigh limit charge held steps h k)
 
 -- Steps that stay within the limit lead to the charge that is counted.
-pub stays-behind : (limit : Option ℕ) (charge held : ℕ) (steps : List Step) → IsBacked held steps → held ≤ charge → StaysWithin limit charge steps → charge_behind limit charge steps ≡ Some (counted_after limit charge steps)
+pub stays-behind : (limit : Option ℕ) (charge held : ℕ) (steps : List Step) → IsBacked held steps → held ≤ charge → StaysWithin limit charge steps →
+    charge_behind limit charge steps ≡ Some (counted_after limit charge steps)
 stays-behind limit charge held steps h k w = stays_weighing limit charge steps w (weigh limit charge held steps h k)
 
 -- Steps that pass the limit lead to no charge.
-pub passes-behind : (limit : Option ℕ) (charge held : ℕ) (steps : List Step) → IsBacked held steps → held ≤ charge → Allows limit charge → Passes limit charge steps → charge_behind limit charge steps ≡ None
+pub passes-behind : (limit : Option ℕ) (charge held : ℕ) (steps : List Step) → IsBacked held steps → held ≤ charge → Allows limit charge →
+    Passes limit charge steps → charge_behind limit charge steps ≡ None
 passes-behind limit charge held steps h k l w = passes_weighing limit charge steps w l (weigh limit charge held steps h k)
 
 -- the answer and the language
@@ -252,7 +270,8 @@ module _ {A : Type 0} (m : A) (rest : List ℕ) (after : ℕ) where
   refused_gave why (Some n) e = cc
   refused_gave why None e = cc
 
-  gave_by : (limit : Option ℕ) (charge : ℕ) (r : Reading A) → weighed limit charge r ≡ Gave m rest after → (steps : List Step) × (r ≡ Took m rest steps) × (charge_behind limit charge steps ≡ Some after)
+  gave_by : (limit : Option ℕ) (charge : ℕ) (r : Reading A) → weighed limit charge r ≡ Gave m rest after →
+      (steps : List Step) × (r ≡ Took m rest steps) × (charge_behind limit charge steps ≡ Some after)
   gave_by limit charge (Took a more steps) e = let p = gave_at_is a more (charge_behind limit charge steps) e in (steps, rw (p.0, p.1) refl, p.2)
   gave_by limit charge (Failed why steps) e = absurd (refused_gave why (charge_behind limit charge steps) e)
 
@@ -265,7 +284,8 @@ module _ {A : Type 0} (why : Fault) where
   gave_refused a rest (Some n) e = cc
   gave_refused a rest None e = cc
 
-  refused_by : (limit : Option ℕ) (charge : ℕ) (r : Reading A) → weighed limit charge r ≡ Refused why → (steps : List Step) × (after : ℕ) × (r ≡ Failed why steps) × (charge_behind limit charge steps ≡ Some after)
+  refused_by : (limit : Option ℕ) (charge : ℕ) (r : Reading A) → weighed limit charge r ≡ Refused why →
+      (steps : List Step) × (after : ℕ) × (r ≡ Failed why steps) × (charge_behind limit charge steps ≡ Some after)
   refused_by limit charge (Took a rest steps) e = absurd (gave_refused a rest (charge_behind limit charge steps) e)
   refused_by limit charge (Failed fault steps) e = let p = refused_at_is fault (charge_behind limit charge steps) e in (steps, p.0, rw p.1 refl, p.2)
 
@@ -294,7 +314,13 @@ module _ {A : Type 0} (F : Format A) (f : Lawful F) (b : Balanced F) (limit : Op
   gave-word input rest m after e =
       let p = gave_by m rest after limit 0 (F.read input) e in
       let q = f.read_word input rest m p.0 p.1 in
-      record { word = q.word; steps = p.0; input_is = q.input_is; is_word = q.is_word; within = behind-stays limit 0 0 p.0 after (word_backed q.word m p.0 q.is_word) (omega arith) (allowed_none limit) p.2 }
+      record {
+        word = q.word;
+        steps = p.0;
+        input_is = q.input_is;
+        is_word = q.is_word;
+        within = behind-stays limit 0 0 p.0 after (word_backed q.word m p.0 q.is_word) (omega arith) (allowed_none limit) p.2;
+      }
 
   -- What is refused has this fault, before which the limit is not passed.
   pub refused-fault : (input : List ℕ) (why : Fault) → answer limit F input 0 ≡ Refused why → (steps : List Step) × F.Faults input why steps × StaysWithin limit 0 steps
@@ -322,7 +348,8 @@ module _ {A : Type 0} (F : Format A) (f : Lawful F) (b : Balanced F) (limit : Op
       (p.0, p.1, behind-passes limit 0 0 p.0 (steps_backed input p.0 p.1) (omega arith) p.2)
 
   -- A word within the limit is given.
-  pub word-gave : (word rest : List ℕ) (m : A) (steps : List Step) (charge : ℕ) → F.Word word m steps → StaysWithin limit charge steps → answer limit F (word ++ rest) charge ≡ Gave m rest (counted_after limit charge steps)
+  pub word-gave : (word rest : List ℕ) (m : A) (steps : List Step) (charge : ℕ) → F.Word word m steps → StaysWithin limit charge steps →
+      answer limit F (word ++ rest) charge ≡ Gave m rest (counted_after limit charge steps)
   unfolding answer
   word-gave word rest m steps charge u w =
       ap (weighed limit charge) (f.word_read word rest m steps u)
@@ -345,7 +372,9 @@ module _ {A : Type 0} (F : Format A) (f : Lawful F) (b : Balanced F) (limit : Op
   passes-passed input steps charge l s w = weighed_passes input steps charge s (passes-behind limit charge 0 steps (steps_backed input steps s) (omega arith) l w)
 
 -- A word is charged its full width, and gives back what was held before and is not after.
-pub gave-recharged : {A : Type 0} (F : Format A) (f : Lawful F) (held left : ℕ) (b : Holds held left F) (limit : ℕ) (input rest : List ℕ) (m : A) (charge after : ℕ) → held ≤ charge → answer (Some limit) F input charge ≡ Gave m rest after →
+pub gave-recharged :
+    {A : Type 0} (F : Format A) (f : Lawful F) (held left : ℕ) (b : Holds held left F) (limit : ℕ) (input rest : List ℕ) (m : A) (charge after : ℕ) →
+    held ≤ charge → answer (Some limit) F input charge ≡ Gave m rest after →
     (steps : List Step) × BeginsWith F input m rest steps × (after + held ≡ charge + full steps + left)
 unfolding answer
 gave-recharged F f held left b limit input rest m charge after le e =
@@ -356,7 +385,8 @@ gave-recharged F f held left b limit input rest m charge after le e =
     (p.0, f.read_word input rest m p.0 p.1, omega arith)
 
 -- Without a limit nothing is counted.
-pub gave-uncounted : {A : Type 0} (F : Format A) (f : Lawful F) (input rest : List ℕ) (m : A) (charge after : ℕ) → answer None F input charge ≡ Gave m rest after → (steps : List Step) × BeginsWith F input m rest steps × (after ≡ charge)
+pub gave-uncounted : {A : Type 0} (F : Format A) (f : Lawful F) (input rest : List ℕ) (m : A) (charge after : ℕ) →
+    answer None F input charge ≡ Gave m rest after → (steps : List Step) × BeginsWith F input m rest steps × (after ≡ charge)
 unfolding answer
 gave-uncounted F f input rest m charge after e =
     let p = gave_by m rest after None charge (F.read input) e in
@@ -369,12 +399,14 @@ gave-uncounted F f input rest m charge after e =
     uncounted charge ((Release n) ∷ steps) after e = uncounted charge steps after e
 
 -- A balanced one is charged its full width.
-pub gave-charge : {A : Type 0} (F : Format A) (f : Lawful F) (b : Balanced F) (limit : ℕ) (input rest : List ℕ) (m : A) (charge after : ℕ) → answer (Some limit) F input charge ≡ Gave m rest after → (steps : List Step) × BeginsWith F input m rest steps × (after ≡ charge + full steps)
+pub gave-charge : {A : Type 0} (F : Format A) (f : Lawful F) (b : Balanced F) (limit : ℕ) (input rest : List ℕ) (m : A) (charge after : ℕ) →
+    answer (Some limit) F input charge ≡ Gave m rest after → (steps : List Step) × BeginsWith F input m rest steps × (after ≡ charge + full steps)
 gave-charge F f b limit input rest m charge after e =
     let p = gave-recharged F f 0 0 b limit input rest m charge after (omega arith) e in
     let k = p.2 in
     (p.0, p.1, omega arith)
 
 -- A whole word gives back no more than it claims.
-pub gave-grows : {A : Type 0} (F : Format A) (f : Lawful F) (b : Balanced F) (limit : ℕ) (input rest : List ℕ) (m : A) (charge after : ℕ) → answer (Some limit) F input charge ≡ Gave m rest after → charge ≤ after
+pub gave-grows : {A : Type 0} (F : Format A) (f : Lawful F) (b : Balanced F) (limit : ℕ) (input rest : List ℕ) (m : A) (charge after : ℕ) →
+    answer (Some limit) F input charge ≡ Gave m rest after → charge ≤ after
 gave-grows F f b limit input rest m charge after e = let p = gave-charge F f b limit input rest m charge after e in let k = p.2 in omega arith

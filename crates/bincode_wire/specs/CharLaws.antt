@@ -1,5 +1,6 @@
 -- The format of a character keeps the laws, and its words are the bytes that std gives for it.
-use Rattle.std.specs.Prelude.{◌≡◌, ℕ, ◌+◌, ◌-◌, ◌/◌, ◌%◌, ◌<◌, ◌≤◌, ◌⊎◌, nat_lt, nat_eq, Bool, true, false, not, if◌then◌else◌, List, [], ◌∷◌, ◌++◌, length, refl, Result, Ok, Err, Option, Some, None, MatchOption, SomeIff}
+use Rattle.std.specs.Prelude.{◌≡◌, ℕ, ◌+◌, ◌-◌, ◌/◌, ◌%◌, ◌<◌, ◌≤◌, ◌⊎◌, nat_lt, nat_eq, Bool, true, false, not, if◌then◌else◌, List, [], ◌∷◌, ◌++◌}
+use Rattle.std.specs.Prelude.{length, refl, Result, Ok, Err, Option, Some, None, MatchOption, SomeIff}
 use Rattle.std.specs.List.{All}
 use Rattle.std.specs.Char.{encode_utf8, IsScalar}
 use Rattle.std.specs.Str.{is_utf8, all_scalars, encode_utf8_all}
@@ -240,7 +241,9 @@ rest_word first width bytes m s u =
     let h : u.head ≡ bytes = u.first_word.1 ∙ sym e in
     (ap length e ∙ u.first_word.0, subst (λ z. char_of (first ∷ z) ≡ Ok m) h p.1, u.steps_are ∙ ap (λ z. z ++ u.second_steps) u.first_word.2 ∙ p.2)
 
-behind_word : (first : ℕ) (width : Option ℕ) (bytes : List ℕ) (m : Meaning) (s : List Step) → char_width first ≡ width → (behind_char first width).Word bytes m s → (char_width first ≡ Some (length (first ∷ bytes))) × (char_of (first ∷ bytes) ≡ Ok m) × (s ≡ Charge (length (first ∷ bytes)) ∷ [])
+behind_word : (first : ℕ) (width : Option ℕ) (bytes : List ℕ) (m : Meaning) (s : List Step) → char_width first ≡ width →
+    (behind_char first width).Word bytes m s →
+    (char_width first ≡ Some (length (first ∷ bytes))) × (char_of (first ∷ bytes) ≡ Ok m) × (s ≡ Charge (length (first ∷ bytes)) ∷ [])
 unfolding ◌>>=◌ refused step
 behind_word first None bytes m s w u = absurd u
 behind_word first (Some width) bytes m s w u =
@@ -291,7 +294,14 @@ settled_written r m e = rw e (refl, refl)
 
 rest_written : (first : ℕ) (tail : List ℕ) (m : Meaning) → char_of (first ∷ tail) ≡ Ok m → (rest_of_char first (length (first ∷ tail))).Written tail m
 unfolding ◌>>=◌ raw
-rest_written first tail m e = record { first = tail; second = []; head = tail; bytes_are = sym (append-nil tail); first_written = (omega arith, refl); second_written = settled_written (char_of (first ∷ tail)) m e }
+rest_written first tail m e = record {
+  first = tail;
+  second = [];
+  head = tail;
+  bytes_are = sym (append-nil tail);
+  first_written = (omega arith, refl);
+  second_written = settled_written (char_of (first ∷ tail)) m e;
+}
 
 behind_written : (first : ℕ) (tail : List ℕ) (m : Meaning) → char_of (first ∷ tail) ≡ Ok m → (behind_char first (Some (length (first ∷ tail)))).Written tail m
 unfolding ◌>>=◌ step
@@ -299,7 +309,14 @@ behind_written first tail m e = record { first = []; second = tail; head = tt; b
 
 char_written : (first : ℕ) (tail : List ℕ) (m : Meaning) → char_width first ≡ Some (length (first ∷ tail)) → char_of (first ∷ tail) ≡ Ok m → character.Written (first ∷ tail) m
 unfolding ◌>>=◌
-char_written first tail m w e = record { first = first ∷ []; second = tail; head = first; bytes_are = refl; first_written = byte_written first; second_written = subst (λ z. (behind_char first z).Written tail m) (sym w) (behind_written first tail m e) }
+char_written first tail m w e = record {
+  first = first ∷ [];
+  second = tail;
+  head = first;
+  bytes_are = refl;
+  first_written = byte_written first;
+  second_written = subst (λ z. (behind_char first z).Written tail m) (sym w) (behind_written first tail m e);
+}
 
 -- what std gives for a character is written for it
 pub character-written : (c : ℕ) → IsScalar c → character.Written (encode_utf8 c) (Character c)

@@ -48,20 +48,23 @@ module _ (s : Setting) (allowed : Allowed) (found : ℕ) where
   unfolding refused
   part-written [] bytes m = λ w. absurd w
   part-written (variant ∷ others) bytes m =
-      by_pick (λ F. F.Written bytes m → (n : Meaning) × (m ≡ Choice found n)) (found == variant.0) (λ w. let p = written-map (Choice found) (variant.1 s) bytes m w in (p.0, p.1)) (part-written others bytes m)
+      by_pick (λ F. F.Written bytes m → (n : Meaning) × (m ≡ Choice found n)) (found == variant.0)
+      (λ w. let p = written-map (Choice found) (variant.1 s) bytes m w in (p.0, p.1)) (part-written others bytes m)
 
   part-word : (variants : List Variant) (bytes : List ℕ) (m : Meaning) (steps : List Step) → (part s variants allowed found).Word bytes m steps → (n : Meaning) × (m ≡ Choice found n)
   unfolding refused
   part-word [] bytes m steps = λ u. absurd u
   part-word (variant ∷ others) bytes m steps =
-      by_pick (λ F. F.Word bytes m steps → (n : Meaning) × (m ≡ Choice found n)) (found == variant.0) (λ u. let p = word-settled (λ k. Ok (Choice found k)) (variant.1 s) bytes m steps u in (p.0, cc)) (part-word others bytes m steps)
+      by_pick (λ F. F.Word bytes m steps → (n : Meaning) × (m ≡ Choice found n)) (found == variant.0)
+      (λ u. let p = word-settled (λ k. Ok (Choice found k)) (variant.1 s) bytes m steps u in (p.0, cc)) (part-word others bytes m steps)
 
 -- a tag picks its variant
 pub part-here : (s : Setting) (allowed : Allowed) (tag : ℕ) (F : Setting → Format Meaning) (others : List Variant) → part s ((tag, F) ∷ others) allowed tag ≡ map_format (Choice tag) (F s)
 part-here s allowed tag F others = rw (eq-eqb tag tag refl) refl
 
 -- another tag picks one of the others
-pub part-there : (s : Setting) (allowed : Allowed) (found tag : ℕ) (F : Setting → Format Meaning) (others : List Variant) → (found == tag) ≡ false → part s ((tag, F) ∷ others) allowed found ≡ part s others allowed found
+pub part-there : (s : Setting) (allowed : Allowed) (found tag : ℕ) (F : Setting → Format Meaning) (others : List Variant) → (found == tag) ≡ false →
+    part s ((tag, F) ∷ others) allowed found ≡ part s others allowed found
 part-there s allowed found tag F others h = rw h refl
 
 -- equal formats are written alike
@@ -126,7 +129,8 @@ module _ (tags : Setting → Format ℕ) (variants : List Variant) (s : Setting)
   -- the tag `found` picks the format F
   module _ (found : ℕ) (F : Format Meaning) (at : behind_tag variants s found ≡ map_format (Choice found) F) (P P' : Meaning → Type 0) where
     -- no word of it is shorter, if none of the tag is and none of the part
-    choice-none_shorter : NoneShorter (IsNumber (pos found)) (IsNumber (pos found)) (natural (tags s)) → NoneShorter P P' F → NoneShorter (IsChoice found P) (IsChoice found P') (chosen tags variants s)
+    choice-none_shorter : NoneShorter (IsNumber (pos found)) (IsNumber (pos found)) (natural (tags s)) → NoneShorter P P' F →
+        NoneShorter (IsChoice found P) (IsChoice found P') (chosen tags variants s)
     unfolding chosen ◌>>=◌
     choice-none_shorter t f written bytes m steps w h u e =
         let b = allowed-choice found F (same-alike at) P written w in
@@ -137,14 +141,16 @@ module _ (tags : Setting → Format ℕ) (variants : List Variant) (s : Setting)
         let q = word-settled (λ n. Ok (Choice found n)) F u.second m u.second_steps (subst (λ G. G.Word u.second m u.second_steps) at v) in
         let i : ◌≡◌ {A = Result Meaning Fault} (Ok (Choice found q.0)) (Ok (Choice found e.part)) = q.2 ∙ ap Ok e.meaning_is in
         let j : e.part ≡ q.0 = cc in
-        let x : (natural (tags s)).Word u.first (Number (pos found)) u.first_steps = settled-word (λ n. Ok (Number (pos n))) (tags s) u.first found (Number (pos found)) u.first_steps refl (subst (λ n. (tags s).Word u.first n u.first_steps) k u.first_word) in
+        let x : (natural (tags s)).Word u.first (Number (pos found)) u.first_steps =
+        settled-word (λ n. Ok (Number (pos n))) (tags s) u.first found (Number (pos found)) u.first_steps refl (subst (λ n. (tags s).Word u.first n u.first_steps) k u.first_word) in
         parts-no_longer written bytes b.0 b.1 u.first u.second b.2 u.bytes_are h
         (λ below. t b.0 u.first (Number (pos found)) u.first_steps b.3 below x refl)
         (λ below. f b.1 u.second q.0 q.1 b.4 below q.3 (subst P' j e.is_part))
 
   -- and none that decodes to the same
   module _ (found other : ℕ) (F : Format Meaning) (at : behind_tag variants s found ≡ map_format (Choice found) F) (P P' : Meaning → Type 0) where
-    pub choice-shortest : NoneShorter (IsNumber (pos found)) (IsNumber (pos found)) (natural (tags s)) → (found ≡ other → Shortest P P' F) → Shortest (IsChoice found P) (IsChoice other P') (chosen tags variants s)
+    pub choice-shortest : NoneShorter (IsNumber (pos found)) (IsNumber (pos found)) (natural (tags s)) → (found ≡ other → Shortest P P' F) →
+        Shortest (IsChoice found P) (IsChoice other P') (chosen tags variants s)
     choice-shortest t f written bytes m steps w h u e =
         let p = w.is_meant.0 in
         let q = w.is_meant.1 in
@@ -159,12 +165,14 @@ module _ (tags : Setting → Format ℕ) (variants : List Variant) (s : Setting)
         choice-none_shorter found F at (λ n. P n × P' n) P' t (f k) written bytes m steps x h u (subst (λ z. IsChoice z P' m) (sym k) e)
 
   -- it has a word, if the tag and the part that it picks have
-  pub choice-some_word : (found : ℕ) (F : Format Meaning) → behind_tag variants s found ≡ map_format (Choice found) F → Lawful (tags s) → SomeWord (AllowedWord (IsNumber (pos found)) (natural (tags s))) → HasWord F → HasWord (chosen tags variants s)
+  pub choice-some_word : (found : ℕ) (F : Format Meaning) → behind_tag variants s found ≡ map_format (Choice found) F → Lawful (tags s) →
+      SomeWord (AllowedWord (IsNumber (pos found)) (natural (tags s))) → HasWord F → HasWord (chosen tags variants s)
   unfolding chosen ◌>>=◌
   choice-some_word found F at f t x =
       let a = f.written_is_word t.bytes found (allowed-natural (tags s) t.bytes found t.is_allowed) in
       let b = held-word F x in
-      let c : (behind_tag variants s found).Word x.bytes (Choice found b.0) b.1 = subst (λ G. G.Word x.bytes (Choice found b.0) b.1) (sym at) (settled-word (λ n. Ok (Choice found n)) F x.bytes b.0 (Choice found b.0) b.1 refl b.2) in
+      let c : (behind_tag variants s found).Word x.bytes (Choice found b.0) b.1 =
+      subst (λ G. G.Word x.bytes (Choice found b.0) b.1) (sym at) (settled-word (λ n. Ok (Choice found n)) F x.bytes b.0 (Choice found b.0) b.1 refl b.2) in
       word-held (chosen tags variants s) (t.bytes ++ x.bytes) (Choice found b.0) (a.0 ++ b.1) (All-append (λ b. b < 256) t.bytes x.bytes t.are_bytes x.are_bytes) (record {
         first = t.bytes;
         second = x.bytes;
@@ -178,7 +186,8 @@ module _ (tags : Setting → Format ℕ) (variants : List Variant) (s : Setting)
       })
 
 -- choices of one meaning have one tag, and are equal if their parts are
-pub choice-same : {P Q : Meaning → Type 0} {first second : ℕ} {equal : Bool} → ((n : Meaning) → first ≡ second → P n → Q n → equal ≡ true) → (m : Meaning) → IsChoice first P m → IsChoice second Q m → equal ≡ true
+pub choice-same : {P Q : Meaning → Type 0} {first second : ℕ} {equal : Bool} → ((n : Meaning) → first ≡ second → P n → Q n → equal ≡ true) →
+    (m : Meaning) → IsChoice first P m → IsChoice second Q m → equal ≡ true
 choice-same {P} {Q} {first} {second} f m p q =
     let e : Choice first p.part ≡ Choice second q.part = sym p.meaning_is ∙ q.meaning_is in
     let a : first ≡ second = cc in

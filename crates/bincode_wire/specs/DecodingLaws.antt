@@ -28,7 +28,9 @@ pub takes-then : (rest middle rest' : List ℕ) → Takes rest middle → Takes 
 takes-then rest middle rest' (a, e) (b, f) = (a ++ b, e ∙ ap (λ z. a ++ z) f ∙ sym (append_assoc a b rest'))
 
 -- memory may be refused for more reasons
-pub stops-besides : {A : Type 0} (ended : ℕ → DecodeError → Type 0) (device : DeviceErrors) (H K : Type 0) → (H → K) → (a : Answer A) (before after : ℕ) (rest rest' : List ℕ) (e : DecodeError) → Stops ended device H a before after rest rest' e → Stops ended device K a before after rest rest' e
+pub stops-besides : {A : Type 0} (ended : ℕ → DecodeError → Type 0) (device : DeviceErrors) (H K : Type 0) → (H → K) →
+    (a : Answer A) (before after : ℕ) (rest rest' : List ℕ) (e : DecodeError) → Stops ended device H a before after rest rest' e →
+    Stops ended device K a before after rest rest' e
 stops-besides ended device H K f a before after rest rest' e (by_fault why h t k) = by_fault why h t k
 stops-besides ended device H K f a before after rest rest' e (by_limit h t k) = by_limit h t k
 stops-besides ended device H K f a before after rest rest' e (by_memory h t k) = by_memory (f h) t k
@@ -56,12 +58,15 @@ gave-takes limit F f input c a rest d e =
     (b.word, b.input_is)
 
 -- one part, and then what follows
-pub answer-next : {A B : Type 0} (limit : Option ℕ) (F : Format A) (G : A → Format B) (input : List ℕ) (c : ℕ) (a : A) (rest : List ℕ) (d : ℕ) → answer limit F input c ≡ Gave a rest d → answer limit (F >>= G) input c ≡ answer limit (G a) rest d
+pub answer-next : {A B : Type 0} (limit : Option ℕ) (F : Format A) (G : A → Format B) (input : List ℕ) (c : ℕ) (a : A) (rest : List ℕ) (d : ℕ) →
+    answer limit F input c ≡ Gave a rest d → answer limit (F >>= G) input c ≡ answer limit (G a) rest d
 answer-next limit F G input c a rest d e = answer-then limit F G input c ∙ ap (λ o. and_then o (λ b r after. answer limit (G b) r after)) e
 
 module _ {A B : Type 0} (ended : ℕ → DecodeError → Type 0) (device : DeviceErrors) (H K : Type 0) (grow : H → K) (limit : Option ℕ) (F : Format A) (G : A → Format B) where
   -- where the first part stops, so does the whole
-  pub stops-first : (input : List ℕ) (c before after : ℕ) (rest' : List ℕ) (e : DecodeError) → Stops ended device H (answer limit F input c) before after input rest' e → Stops ended device K (answer limit (F >>= G) input c) before after input rest' e
+  pub stops-first : (input : List ℕ) (c before after : ℕ) (rest' : List ℕ) (e : DecodeError) →
+      Stops ended device H (answer limit F input c) before after input rest' e →
+      Stops ended device K (answer limit (F >>= G) input c) before after input rest' e
   stops-first input c before after rest' e (by_fault why h t k) = by_fault why (answer-then limit F G input c ∙ ap (λ o. and_then o (λ b r d. answer limit (G b) r d)) h) t k
   stops-first input c before after rest' e (by_limit h t k) = by_limit (answer-then limit F G input c ∙ ap (λ o. and_then o (λ b r d. answer limit (G b) r d)) h) t k
   stops-first input c before after rest' e (by_memory h t k) = by_memory (grow h) t k
@@ -71,10 +76,13 @@ module _ {A B : Type 0} (ended : ℕ → DecodeError → Type 0) (device : Devic
   -- where what follows stops, so does the whole
   pub stops-next : Lawful F → (input : List ℕ) (c before between after : ℕ) (a : A) (rest rest' : List ℕ) (d : ℕ) (e : DecodeError) → answer limit F input c ≡ Gave a rest d → before ≤ between →
       Stops ended device H (answer limit (G a) rest d) between after rest rest' e → Stops ended device K (answer limit (F >>= G) input c) before after input rest' e
-  stops-next f input c before between after a rest rest' d e g le (by_fault why h t k) = by_fault why (answer-next limit F G input c a rest d g ∙ h) t (takes-then input rest rest' (gave-takes limit F f input c a rest d g) k)
-  stops-next f input c before between after a rest rest' d e g le (by_limit h t k) = by_limit (answer-next limit F G input c a rest d g ∙ h) t (takes-then input rest rest' (gave-takes limit F f input c a rest d g) k)
+  stops-next f input c before between after a rest rest' d e g le (by_fault why h t k) =
+      by_fault why (answer-next limit F G input c a rest d g ∙ h) t (takes-then input rest rest' (gave-takes limit F f input c a rest d g) k)
+  stops-next f input c before between after a rest rest' d e g le (by_limit h t k) =
+      by_limit (answer-next limit F G input c a rest d g ∙ h) t (takes-then input rest rest' (gave-takes limit F f input c a rest d g) k)
   stops-next f input c before between after a rest rest' d e g le (by_memory h t k) = by_memory (grow h) t (takes-then input rest rest' (gave-takes limit F f input c a rest d g) k)
-  stops-next f input c before between after a rest rest' d e g le (by_failure x h k) = by_failure x (rose-then before between after le h) (takes-then input rest rest' (gave-takes limit F f input c a rest d g) k)
+  stops-next f input c before between after a rest rest' d e g le (by_failure x h k) =
+      by_failure x (rose-then before between after le h) (takes-then input rest rest' (gave-takes limit F f input c a rest d g) k)
   stops-next f input c before between after a rest rest' d e g le (by_device h) = by_device h
 
 -- a claim that stands, and one that passes the limit
@@ -89,25 +97,35 @@ over_claimed-answer (Some limit) c n d input h = answer-charge_passed limit n in
 module _ {A : Type 0} (limit : Option ℕ) (n : ℕ) (F : Format A) (input : List ℕ) (c : ℕ) where
   -- a charge, and then a word
   pub charged-gave : (d : ℕ) (middle rest : List ℕ) (a : A) → Claimed limit c n d → middle ≡ input → F.read middle ≡ Took a rest [] → answer limit (charged n F) input c ≡ Gave a rest d
-  charged-gave d middle rest a h same r = answer-next limit (step (Charge n)) (λ _. F) input c tt input d (claimed-answer limit c n d input h) ∙ answer-took limit F input rest a d (ap F.read (sym same) ∙ r)
+  charged-gave d middle rest a h same r =
+      answer-next limit (step (Charge n)) (λ _. F) input c tt input d (claimed-answer limit c n d input h) ∙ answer-took limit F input rest a d (ap F.read (sym same) ∙ r)
 
   module _ (ended : ℕ → DecodeError → Type 0) (device : DeviceErrors) (H : Type 0) where
     -- a charge that passes the limit
-    pub charged-passed : (d before after : ℕ) (rest : List ℕ) (e : DecodeError) → OverClaimed limit c n d → e ≡ LimitExceeded → rest ≡ input → Stops ended device H (answer limit (charged n F) input c) before after input rest e
-    charged-passed d before after rest e h k same = by_limit (answer-then limit (step (Charge n)) (λ _. F) input c ∙ ap (λ o. and_then o (λ _ r after. answer limit F r after)) (over_claimed-answer limit c n d input h)) k ([], sym same)
+    pub charged-passed : (d before after : ℕ) (rest : List ℕ) (e : DecodeError) → OverClaimed limit c n d → e ≡ LimitExceeded → rest ≡ input →
+        Stops ended device H (answer limit (charged n F) input c) before after input rest e
+    charged-passed d before after rest e h k same =
+        by_limit (answer-then limit (step (Charge n)) (λ _. F) input c ∙ ap (λ o. and_then o (λ _ r after. answer limit F r after)) (over_claimed-answer limit c n d input h)) k ([], sym same)
 
     -- a charge, and then a fault
-    pub charged-misread : (d before between after : ℕ) (middle rest : List ℕ) (e : DecodeError) → Claimed limit c n d → middle ≡ input → between ≡ before → Misreads ended device (F.read middle) between after middle rest e → Stops ended device H (answer limit (charged n F) input c) before after input rest e
+    pub charged-misread : (d before between after : ℕ) (middle rest : List ℕ) (e : DecodeError) → Claimed limit c n d → middle ≡ input →
+        between ≡ before → Misreads ended device (F.read middle) between after middle rest e →
+        Stops ended device H (answer limit (charged n F) input c) before after input rest e
     charged-misread d before between after middle rest e h same count (reads.by_fault why r t k) =
         by_fault why (answer-next limit (step (Charge n)) (λ _. F) input c tt input d (claimed-answer limit c n d input h) ∙ answer-failed limit F input why d (ap F.read (sym same) ∙ r)) t (subst (λ z. Takes z rest) same k)
     charged-misread d before between after middle rest e h same count (reads.by_failure x r k) = by_failure x (subst (λ z. Rose z after) count r) (subst (λ z. Takes z rest) same k)
     charged-misread d before between after middle rest e h same count (reads.by_device k) = by_device k
 
 -- meanings renamed
-pub map-gave : {A B : Type 0} (f : A → B) (limit : Option ℕ) (F : Format A) (input : List ℕ) (c : ℕ) (a : A) (rest : List ℕ) (d : ℕ) → answer limit F input c ≡ Gave a rest d → answer limit (map_format f F) input c ≡ Gave (f a) rest d
+pub map-gave : {A B : Type 0} (f : A → B) (limit : Option ℕ) (F : Format A) (input : List ℕ) (c : ℕ) (a : A) (rest : List ℕ) (d : ℕ) →
+    answer limit F input c ≡ Gave a rest d → answer limit (map_format f F) input c ≡ Gave (f a) rest d
 map-gave f limit F input c a rest d e = answer-next limit F (λ z. done (f z)) input c a rest d e ∙ answer-done limit (f a) rest d
 
-pub map-stops : {A B : Type 0} (f : A → B) (ended : ℕ → DecodeError → Type 0) (device : DeviceErrors) (H : Type 0) (limit : Option ℕ) (F : Format A) (input : List ℕ) (c before after : ℕ) (rest : List ℕ) (e : DecodeError) → Stops ended device H (answer limit F input c) before after input rest e → Stops ended device H (answer limit (map_format f F) input c) before after input rest e
+pub map-stops :
+    {A B : Type 0} (f : A → B) (ended : ℕ → DecodeError → Type 0) (device : DeviceErrors) (H : Type 0) (limit : Option ℕ) (F : Format A)
+    (input : List ℕ) (c before after : ℕ) (rest : List ℕ) (e : DecodeError) →
+    Stops ended device H (answer limit F input c) before after input rest e →
+    Stops ended device H (answer limit (map_format f F) input c) before after input rest e
 map-stops f ended device H limit F input c before after rest e = stops-first ended device H H (λ h. h) limit F (λ z. done (f z)) input c before after rest e
 
 module _ {A B : Type 0} (test : A → Result B Fault) (limit : Option ℕ) (F : Format A) (input : List ℕ) (c : ℕ) (a : A) (rest : List ℕ) (d : ℕ) where
@@ -130,11 +148,13 @@ module _ (limit : Option ℕ) (input : List ℕ) (c b : ℕ) (rest : List ℕ) (
 
 module _ (limit : Option ℕ) (F : Format Meaning) (others : Format Meaning) (input : List ℕ) (c : ℕ) where
   -- the first part of a tuple, and then the others
-  pub tuple-gave : (a b : Meaning) (middle rest : List ℕ) (d after : ℕ) → answer limit F input c ≡ Gave a middle d → answer limit others middle d ≡ Gave b rest after → answer limit (first_and F others) input c ≡ Gave (Then a b) rest after
+  pub tuple-gave : (a b : Meaning) (middle rest : List ℕ) (d after : ℕ) → answer limit F input c ≡ Gave a middle d →
+      answer limit others middle d ≡ Gave b rest after → answer limit (first_and F others) input c ≡ Gave (Then a b) rest after
   unfolding first_and
   tuple-gave a b middle rest d after e k = answer-next limit F (λ m. map_format (Then m) others) input c a middle d e ∙ map-gave (Then a) limit others middle d b rest after k
 
-  pub tuple-decodes : (P Q : Meaning → Type 0) (middle rest : List ℕ) (d after : ℕ) → Decodes P (answer limit F input c) middle d → Decodes Q (answer limit others middle d) rest after → Decodes (IsThen P Q) (answer limit (first_and F others) input c) rest after
+  pub tuple-decodes : (P Q : Meaning → Type 0) (middle rest : List ℕ) (d after : ℕ) → Decodes P (answer limit F input c) middle d →
+      Decodes Q (answer limit others middle d) rest after → Decodes (IsThen P Q) (answer limit (first_and F others) input c) rest after
   tuple-decodes P Q middle rest d after p q = record {
     meaning = Then p.meaning q.meaning;
     answer_is = tuple-gave p.meaning q.meaning middle rest d after p.answer_is q.answer_is;
@@ -142,11 +162,16 @@ module _ (limit : Option ℕ) (F : Format Meaning) (others : Format Meaning) (in
   }
 
   module _ (ended : ℕ → DecodeError → Type 0) (device : DeviceErrors) (H K : Type 0) where
-    pub tuple-stops_first : (before after : ℕ) (rest : List ℕ) (e : DecodeError) → Stops ended device H (answer limit F input c) before after input rest e → Stops ended device (H ⊎ K) (answer limit (first_and F others) input c) before after input rest e
+    pub tuple-stops_first : (before after : ℕ) (rest : List ℕ) (e : DecodeError) →
+        Stops ended device H (answer limit F input c) before after input rest e →
+        Stops ended device (H ⊎ K) (answer limit (first_and F others) input c) before after input rest e
     unfolding first_and
     tuple-stops_first before after rest e = stops-first ended device H (H ⊎ K) inl limit F (λ m. map_format (Then m) others) input c before after rest e
 
-    pub tuple-stops_next : Lawful F → (P : Meaning → Type 0) (middle rest : List ℕ) (d before between after : ℕ) (e : DecodeError) → Decodes P (answer limit F input c) middle d → before ≤ between → Stops ended device K (answer limit others middle d) between after middle rest e → Stops ended device (H ⊎ K) (answer limit (first_and F others) input c) before after input rest e
+    pub tuple-stops_next : Lawful F → (P : Meaning → Type 0) (middle rest : List ℕ) (d before between after : ℕ) (e : DecodeError) →
+        Decodes P (answer limit F input c) middle d → before ≤ between →
+        Stops ended device K (answer limit others middle d) between after middle rest e →
+        Stops ended device (H ⊎ K) (answer limit (first_and F others) input c) before after input rest e
     unfolding first_and
     tuple-stops_next f P middle rest d before between after e p le s =
         stops-next ended device K (H ⊎ K) inr limit F (λ m. map_format (Then m) others) f input c before between after p.meaning middle rest d e p.answer_is le

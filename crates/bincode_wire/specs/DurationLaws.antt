@@ -26,7 +26,8 @@ settles_by seconds nanos m false = λ h. h
 
 module _ (s : Setting) where
   pub parts-lawful : Lawful (seconds_and_nanos s)
-  parts-lawful = turn-lawful _ _ (unsigned-lawful integers.U64 8 s (Eight refl)) (λ seconds. map-lawful (λ nanos. (seconds, nanos)) (unsigned integers.U32 4 s) (unsigned-lawful integers.U32 4 s (Four refl)))
+  parts-lawful =
+      turn-lawful _ _ (unsigned-lawful integers.U64 8 s (Eight refl)) (λ seconds. map-lawful (λ nanos. (seconds, nanos)) (unsigned integers.U32 4 s) (unsigned-lawful integers.U32 4 s (Four refl)))
 
   parts-balanced : Balanced (seconds_and_nanos s)
   parts-balanced = turn-holds 0 0 0 _ _ (unsigned-balanced integers.U64 8 s) (λ seconds. map-balanced (λ nanos. (seconds, nanos)) (unsigned integers.U32 4 s) (unsigned-balanced integers.U32 4 s))
@@ -50,7 +51,13 @@ abbrev pub span : ℕ → ℕ → Meaning
 span seconds nanos = listed (Number (pos seconds) ∷ Number (pos nanos) ∷ [])
 
 pub span_is : (seconds nanos : ℕ) → IsSpan seconds nanos (span seconds nanos)
-span_is seconds nanos = record { first = Number (pos seconds); others = listed (Number (pos nanos) ∷ []); meaning_is = refl; is_first = refl; are_others = record { first = Number (pos nanos); others = listed []; meaning_is = refl; is_first = refl; are_others = refl } }
+span_is seconds nanos = record {
+  first = Number (pos seconds);
+  others = listed (Number (pos nanos) ∷ []);
+  meaning_is = refl;
+  is_first = refl;
+  are_others = record { first = Number (pos nanos); others = listed []; meaning_is = refl; is_first = refl; are_others = refl };
+}
 
 is_span : (seconds nanos : ℕ) (m : Meaning) → IsSpan seconds nanos m → m ≡ span seconds nanos
 is_span seconds nanos m h =
@@ -94,7 +101,8 @@ module _ (seconds nanos : ℕ) where
 module _ (s : Setting) (seconds nanos : ℕ) where
   -- a span allows what its seconds and its nanoseconds do in turn
   pub duration-allows : seconds < 2 ^ 64 → nanos < second_in_nanos → (bytes : List ℕ) →
-      Both (AllowedWord (IsNumber (pos seconds)) (natural (unsigned integers.U64 8 s))) (AllowedWord (IsNumber (pos nanos)) (natural (unsigned integers.U32 4 s))) bytes → AllowedWord (IsSpan seconds nanos) (duration s) bytes
+      Both (AllowedWord (IsNumber (pos seconds)) (natural (unsigned integers.U64 8 s))) (AllowedWord (IsNumber (pos nanos)) (natural (unsigned integers.U32 4 s))) bytes →
+      AllowedWord (IsSpan seconds nanos) (duration s) bytes
   unfolding written_as ◌>>=◌
   duration-allows h k bytes (x, y, e, a, b) =
       let p = allowed-natural (unsigned integers.U64 8 s) x seconds a in

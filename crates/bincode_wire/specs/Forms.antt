@@ -10,7 +10,8 @@ use Rattle.bincode_base.specs.Laws.{Lawful, Balanced}
 use Rattle.bincode_base.specs.FormatLaws.{map-lawful}
 use Rattle.bincode_base.specs.Balance.{map-balanced}
 use Rattle.bincode_base.specs.Integers.{unsigned, signed, unsigned_byte, signed_byte}
-use Rattle.bincode_base.specs.IntegerLaws.{IsWidth, Two, Four, Eight, Sixteen, width_in_bytes, unsigned-lawful, unsigned-balanced, signed-lawful, signed-balanced, unsigned_byte-lawful, unsigned_byte-balanced, signed_byte-lawful, signed_byte-balanced}
+use Rattle.bincode_base.specs.IntegerLaws.{IsWidth, Two, Four, Eight, Sixteen, width_in_bytes, unsigned-lawful, unsigned-balanced, signed-lawful}
+use Rattle.bincode_base.specs.IntegerLaws.{signed-balanced, unsigned_byte-lawful, unsigned_byte-balanced, signed_byte-lawful, signed_byte-balanced}
 use Rattle.bincode_wire.specs.Meaning.{Meaning, Number, IsNumber, IsTruth}
 use Rattle.bincode_wire.specs.Words.{not_zero_by, truth}
 use Rattle.bincode_wire.specs.WordsLaws.{not_zero-lawful, not_zero-balanced, truth-lawful, truth-balanced}
@@ -116,13 +117,15 @@ module _ {A : Type 0} where
   bytes_not_zero get = numbers_not_zero pos (λ n. n < 2 ^ 8) (λ s. unsigned_byte) get byte-numerals 1 (omega arith) one_natural (λ n. n) (omega arith) U8
 
   abbrev pub unsigned_not_zero : (A → ℕ) → (name : IntegerType) (width : ℕ) → IsWidth width → Form A
-  unsigned_not_zero get name width w = numbers_not_zero pos (λ n. n < 256 ^ width) (unsigned name width) get (unsigned-numerals name width w) 1 (above_one width w) one_natural (λ n. n) (omega arith) name
+  unsigned_not_zero get name width w =
+      numbers_not_zero pos (λ n. n < 256 ^ width) (unsigned name width) get (unsigned-numerals name width w) 1 (above_one width w) one_natural (λ n. n) (omega arith) name
 
   abbrev pub signed_bytes_not_zero : (A → ℤ) → Form A
   signed_bytes_not_zero get = numbers_not_zero (λ z. z) (FitsSigned w8) (λ s. signed_byte) get signed_byte-numerals (pos 1) (omega arith) (λ a b e. e) unsigned_abs (omega arith) I8
 
   abbrev pub signed_not_zero : (A → ℤ) → (name : IntegerType) (w : Width) → IsWidth (width_in_bytes w) → Form A
-  signed_not_zero get name w more = numbers_not_zero (λ z. z) (FitsSigned w) (signed name (width_in_bytes w)) get (signed-numerals name w more) (pos 1) (above_one_signed w) (λ a b e. e) unsigned_abs (omega arith) name
+  signed_not_zero get name w more =
+      numbers_not_zero (λ z. z) (FitsSigned w) (signed name (width_in_bytes w)) get (signed-numerals name w more) (pos 1) (above_one_signed w) (λ a b e. e) unsigned_abs (omega arith) name
 
 -- truth values
 abbrev pub truths : Form Bool

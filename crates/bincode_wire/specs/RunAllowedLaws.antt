@@ -20,7 +20,8 @@ use Rattle.bincode_wire.specs.Run.{IsListOf, AllowsEach}
 -- the words of a run, element by element
 
 module _ {A : Type 0} (Means : A → Meaning → Type 0) (share : ℕ) (F : Format Meaning) where
-  each_written : (vs : List A) (bytes : List ℕ) → AllowsEach (λ v. AllowedWord (Means v) F) vs bytes → (ms : List Meaning) × IsListOf Means vs (listed ms) × (elements (length vs) share F).Written bytes ms
+  each_written : (vs : List A) (bytes : List ℕ) → AllowsEach (λ v. AllowedWord (Means v) F) vs bytes →
+      (ms : List Meaning) × IsListOf Means vs (listed ms) × (elements (length vs) share F).Written bytes ms
   unfolding done step ◌>>=◌ unsure
   each_written [] bytes a = ([], refl, (a, refl))
   each_written (v ∷ vs) bytes (x, y, e, a, b) =
@@ -31,7 +32,8 @@ module _ {A : Type 0} (Means : A → Meaning → Type 0) (share : ℕ) (F : Form
         record { first = []; second = bytes; head = tt; bytes_are = refl; first_written = refl; second_written = record { first = x; second = y; head = a.meaning; bytes_are = e; first_written = a.is_written; second_written = others } },
       )
 
-  written_each : (vs : List A) (bytes : List ℕ) (ms : List Meaning) → IsListOf Means vs (listed ms) → (elements (length vs) share F).Written bytes ms → AllowsEach (λ v. AllowedWord (Means v) F) vs bytes
+  written_each : (vs : List A) (bytes : List ℕ) (ms : List Meaning) → IsListOf Means vs (listed ms) →
+      (elements (length vs) share F).Written bytes ms → AllowsEach (λ v. AllowedWord (Means v) F) vs bytes
   unfolding done step ◌>>=◌ unsure
   written_each [] bytes ms i w = w.0
   written_each (v ∷ vs) bytes ms i w =
@@ -128,7 +130,8 @@ module _ {A : Type 0} (Allowed : A → List ℕ → Type 0) where
 -- no word that decodes to what a run decodes to is shorter, if none that decodes to what an element does is
 
 module _ {A : Type 0} (Means Given : A → Meaning → Type 0) (share : ℕ) (F : Format Meaning) (P : A → Type 0) (least : (v w : A) → P v → Shortest (Means v) (Given w) F) where
-  each_shortest : (vs ws : List A) → All P vs → (written bytes : List ℕ) (ns ms : List Meaning) (s : List Step) → IsListOf Means vs (listed ns) → IsListOf Given ws (listed ns) → (elements (length vs) share F).Written written ns → All (λ b. b < 256) bytes →
+  each_shortest : (vs ws : List A) → All P vs → (written bytes : List ℕ) (ns ms : List Meaning) (s : List Step) → IsListOf Means vs (listed ns) →
+      IsListOf Given ws (listed ns) → (elements (length vs) share F).Written written ns → All (λ b. b < 256) bytes →
       (elements (length vs) share F).Word bytes ms s → IsListOf Given ws (listed ms) → length written ≤ length bytes
   unfolding done step ◌>>=◌ unsure
   each_shortest [] ws h written bytes ns ms s i j a below u k = omega (arith, ap length a.0)
@@ -150,7 +153,8 @@ module _ {A : Type 0} (Means Given : A → Meaning → Type 0) (share : ℕ) (F 
       let k_first : k.first ≡ r.head = cc in
       let k_others : k.others ≡ listed t.0 = cc in
       let bytes_are : bytes ≡ r.first ++ r.second = u.bytes_are ∙ ap (λ y. y ++ u.second) u.first_word.0 ∙ r.bytes_are in
-      let head : AllowedWord (λ m. Means v m × Given w m) F x.first = record { meaning = x.head; is_meant = (subst (Means v) i_first i.is_first, subst (Given w) j_first j.is_first); is_written = x.first_written } in
+      let head : AllowedWord (λ m. Means v m × Given w m) F x.first =
+      record { meaning = x.head; is_meant = (subst (Means v) i_first i.is_first, subst (Given w) j_first j.is_first); is_written = x.first_written } in
       parts-no_longer written bytes x.first x.second r.first r.second written_is bytes_are below
       (λ bytes_below. least v w (All-head P v vs h) x.first r.first r.head r.first_steps head bytes_below r.first_word (subst (Given w) k_first k.is_first))
       (λ bytes_below. each_shortest vs ws (All-tail P v vs h) x.second r.second z.0 t.0 t.1 (subst (IsListOf Means vs) i_others i.are_others) (subst (IsListOf Given ws) j_others j.are_others) z.2 bytes_below t.3 (subst (IsListOf Given ws) k_others k.are_others))

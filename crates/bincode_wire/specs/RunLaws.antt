@@ -80,7 +80,9 @@ over_reserved_answer : (limit : Option ℕ) (c n d : ℕ) (input : List ℕ) →
 over_reserved_answer None c n d input h = absurd h
 over_reserved_answer (Some limit) c n d input h = answer-reserve_passed limit n input c h.0
 
-still_reserved : (limit : Option ℕ) (share : ℕ) (F : Format Meaning) → Lawful F → Balanced F → (n : ℕ) (rest : List ℕ) (c : ℕ) (m : Meaning) (rest' : List ℕ) (d : ℕ) → CanRelease limit c (suc n * share) → answer limit F rest (unclaimed limit c share) ≡ Gave m rest' d → CanRelease limit d (n * share)
+still_reserved : (limit : Option ℕ) (share : ℕ) (F : Format Meaning) → Lawful F → Balanced F →
+    (n : ℕ) (rest : List ℕ) (c : ℕ) (m : Meaning) (rest' : List ℕ) (d : ℕ) → CanRelease limit c (suc n * share) →
+    answer limit F rest (unclaimed limit c share) ≡ Gave m rest' d → CanRelease limit d (n * share)
 still_reserved None share F f b n rest c m rest' d h e = tt
 still_reserved (Some limit) share F f b n rest c m rest' d h e =
     let g : c - share ≤ d = gave-grows F f b limit rest rest' m (c - share) d e in
@@ -117,11 +119,14 @@ module _ (limit : Option ℕ) (share : ℕ) (F : Format Meaning) where
 
   module _ (all : Answer (List Meaning)) (input : List ℕ) (ms : List Meaning) where
     -- the answer to all, by that to the next element
-    so_far : (n : ℕ) (rest : List ℕ) (c : ℕ) (a : Answer Meaning) → ReadSoFar limit share F all input ms (suc n) rest c → answer limit F rest (unclaimed limit c share) ≡ a → all ≡ behind ms (others_behind limit share F n (vague_answer a))
+    so_far : (n : ℕ) (rest : List ℕ) (c : ℕ) (a : Answer Meaning) → ReadSoFar limit share F all input ms (suc n) rest c →
+        answer limit F rest (unclaimed limit c share) ≡ a → all ≡ behind ms (others_behind limit share F n (vague_answer a))
     so_far n rest c a h e = sym h.is_rest ∙ ap (behind ms) (element-then n rest c ∙ ap (λ z. others_behind limit share F n (vague_answer z)) e)
 
     -- one element more is read
-    pub one_more : Lawful F → Balanced F → (n : ℕ) (rest : List ℕ) (c : ℕ) (m : Meaning) (rest' : List ℕ) (d : ℕ) → ReadSoFar limit share F all input ms (suc n) rest c → answer limit F rest (unclaimed limit c share) ≡ Gave m rest' d → ReadSoFar limit share F all input (ms ++ m ∷ []) n rest' d
+    pub one_more : Lawful F → Balanced F → (n : ℕ) (rest : List ℕ) (c : ℕ) (m : Meaning) (rest' : List ℕ) (d : ℕ) →
+        ReadSoFar limit share F all input ms (suc n) rest c → answer limit F rest (unclaimed limit c share) ≡ Gave m rest' d →
+        ReadSoFar limit share F all input (ms ++ m ∷ []) n rest' d
     one_more f b n rest c m rest' d h e = record {
       is_rest = sym (so_far n rest c (Gave m rest' d) h e ∙ behind_push ms m (answer limit (elements n share F) rest' d));
       is_reserved = still_reserved limit share F f b n rest c m rest' d h.is_reserved e;
@@ -129,9 +134,12 @@ module _ (limit : Option ℕ) (share : ℕ) (F : Format Meaning) where
     }
 
     -- where an element stops, so does the run
-    pub one_stops : (ended : ℕ → DecodeError → Type 0) (device : DeviceErrors) (H : Type 0) (n : ℕ) (rest : List ℕ) (c before between after : ℕ) (rest' : List ℕ) (e : DecodeError) → before ≤ between → ReadSoFar limit share F all input ms (suc n) rest c →
+    pub one_stops :
+        (ended : ℕ → DecodeError → Type 0) (device : DeviceErrors) (H : Type 0) (n : ℕ) (rest : List ℕ) (c before between after : ℕ) (rest' : List ℕ) (e : DecodeError) →
+        before ≤ between → ReadSoFar limit share F all input ms (suc n) rest c →
         Stops ended device H (answer limit F rest (unclaimed limit c share)) between after rest rest' e → Stops ended device H all before after input rest' e
-    one_stops ended device H n rest c before between after rest' e le h (by_fault why a t k) = by_fault (vague why) (so_far n rest c (Refused why) h a) (tells-vague ended why e t) (takes-then input rest rest' h.is_behind k)
+    one_stops ended device H n rest c before between after rest' e le h (by_fault why a t k) =
+        by_fault (vague why) (so_far n rest c (Refused why) h a) (tells-vague ended why e t) (takes-then input rest rest' h.is_behind k)
     one_stops ended device H n rest c before between after rest' e le h (by_limit a t k) = by_limit (so_far n rest c PassedLimit h a) t (takes-then input rest rest' h.is_behind k)
     one_stops ended device H n rest c before between after rest' e le h (by_memory g t k) = by_memory g t (takes-then input rest rest' h.is_behind k)
     one_stops ended device H n rest c before between after rest' e le h (by_failure d r k) = by_failure d (rose-then before between after le r) (takes-then input rest rest' h.is_behind k)
@@ -152,20 +160,26 @@ module _ (limit : Option ℕ) (share : ℕ) (F : Format Meaning) where
 
   -- an array, behind the claim of its elements
   module _ (n : ℕ) (input : List ℕ) (c d : ℕ) where
-    pub array-decodes : (Given : Meaning → Type 0) (rest : List ℕ) (after : ℕ) → Claimed limit c (n * share) d → Decodes (λ ms. Given (listed ms)) (answer limit (elements n share F) input d) rest after → Decodes Given (answer limit (array n share F) input c) rest after
+    pub array-decodes : (Given : Meaning → Type 0) (rest : List ℕ) (after : ℕ) → Claimed limit c (n * share) d →
+        Decodes (λ ms. Given (listed ms)) (answer limit (elements n share F) input d) rest after →
+        Decodes Given (answer limit (array n share F) input c) rest after
     array-decodes Given rest after h p = record {
       meaning = listed p.meaning;
       answer_is = map-gave listed limit (sequence n share F) input c p.meaning rest after (answer-next limit (step (Reserve (n * share))) (λ _. elements n share F) input c tt input d (reserved_answer limit c (n * share) d input h) ∙ p.answer_is);
       is_given = p.is_given;
     }
 
-    pub array-stops : (ended : ℕ → DecodeError → Type 0) (device : DeviceErrors) (H : Type 0) (before after : ℕ) (rest : List ℕ) (e : DecodeError) → Claimed limit c (n * share) d → Stops ended device H (answer limit (elements n share F) input d) before after input rest e → Stops ended device H (answer limit (array n share F) input c) before after input rest e
+    pub array-stops : (ended : ℕ → DecodeError → Type 0) (device : DeviceErrors) (H : Type 0) (before after : ℕ) (rest : List ℕ) (e : DecodeError) →
+        Claimed limit c (n * share) d → Stops ended device H (answer limit (elements n share F) input d) before after input rest e →
+        Stops ended device H (answer limit (array n share F) input c) before after input rest e
     array-stops ended device H before after rest e h s =
         map-stops listed ended device H limit (sequence n share F) input c before after rest e
         (subst (λ a. Stops ended device H a before after input rest e) (sym (answer-next limit (step (Reserve (n * share))) (λ _. elements n share F) input c tt input d (reserved_answer limit c (n * share) d input h))) s)
 
     -- whose claim passes the limit
-    pub array-passed : (ended : ℕ → DecodeError → Type 0) (device : DeviceErrors) (H : Type 0) (before after : ℕ) (rest : List ℕ) (e : DecodeError) → OverClaimed limit c (n * share) d → e ≡ LimitExceeded → rest ≡ input → Stops ended device H (answer limit (array n share F) input c) before after input rest e
+    pub array-passed : (ended : ℕ → DecodeError → Type 0) (device : DeviceErrors) (H : Type 0) (before after : ℕ) (rest : List ℕ) (e : DecodeError) →
+        OverClaimed limit c (n * share) d → e ≡ LimitExceeded → rest ≡ input →
+        Stops ended device H (answer limit (array n share F) input c) before after input rest e
     array-passed ended device H before after rest e h k same =
         map-stops listed ended device H limit (sequence n share F) input c before after rest e
         (by_limit (answer-then limit (step (Reserve (n * share))) (λ _. elements n share F) input c ∙ ap (λ o. and_then o (λ _ r after. answer limit (elements n share F) r after)) (over_reserved_answer limit c (n * share) d input h)) k ([], sym same))
@@ -190,7 +204,8 @@ held-more None share n start c d h le = omega arith
 held-more (Some limit) share n start c d h le = let k : (n + 1) * share ≡ n * share + share = omega arith in omega arith
 
 -- one value more
-pub is_list_push : {A : Type 0} (Is : A → Meaning → Type 0) (vs : List A) (ms : List Meaning) (v : A) (m : Meaning) → IsListOf Is vs (listed ms) → Is v m → IsListOf Is (vs ++ v ∷ []) (listed (ms ++ m ∷ []))
+pub is_list_push : {A : Type 0} (Is : A → Meaning → Type 0) (vs : List A) (ms : List Meaning) (v : A) (m : Meaning) → IsListOf Is vs (listed ms) →
+    Is v m → IsListOf Is (vs ++ v ∷ []) (listed (ms ++ m ∷ []))
 is_list_push Is [] [] v m h k = record { first = m; others = Nothing; meaning_is = refl; is_first = k; are_others = refl }
 is_list_push Is [] (n ∷ ms) v m h k = absurd (cc)
 is_list_push Is (w ∷ vs) [] v m h k = let e = h.meaning_is in absurd (cc)
@@ -201,7 +216,9 @@ is_list_push Is (w ∷ vs) (n ∷ ms) v m h k =
     record { first = n; others = listed (ms ++ m ∷ []); meaning_is = refl; is_first = subst (Is w) a h.is_first; are_others = is_list_push Is vs ms v m (subst (IsListOf Is vs) b h.are_others) k }
 
 -- what is read from a charge that holds the room of a run gives it back
-pub run-returns : {A : Type 0} (limit : Option ℕ) (n share : ℕ) (F : Format A) → Lawful F → Balanced F → (input rest : List ℕ) (ms : List A) (before after : ℕ) → CanRelease limit before (n * share) → answer limit (elements n share F) input before ≡ Gave ms rest after → RoomReturned limit (elements n share F) (n * share) input rest before after
+pub run-returns : {A : Type 0} (limit : Option ℕ) (n share : ℕ) (F : Format A) → Lawful F → Balanced F →
+    (input rest : List ℕ) (ms : List A) (before after : ℕ) → CanRelease limit before (n * share) →
+    answer limit (elements n share F) input before ≡ Gave ms rest after → RoomReturned limit (elements n share F) (n * share) input rest before after
 run-returns None n share F f b input rest ms before after h e =
     let p = gave-uncounted (elements n share F) (elements-lawful n share F f) input rest ms before after e in
     record { meaning = ms; steps = p.0; begins = p.1; charge_is = p.2 }

@@ -20,7 +20,9 @@ use Rattle.bincode_wire.specs.Meaning.{Meaning, Number, IsTruth, IsNumber, IsNot
 use Rattle.bincode_wire.specs.Words.{natural, integral, not_zero_of, not_zero_by, truth_byte, truth, nothing}
 use Rattle.bincode_wire.specs.WordsLaws.{not_zero-passed, truth-lawful}
 use Rattle.bincode_wire.specs.Allowed.{AllowedWord, NoneShorter, Spelled}
-use Rattle.bincode_wire.specs.AllowedLaws.{one_natural, allowed-number, unsigned-allows, allowed-unsigned, byte-allows, allowed-byte, signed-allows, allowed-signed, signed_byte-allows, allowed-signed_byte, truth-allows, allowed-truth, not_zero-allows, allowed-not_zero, alone-one_length, same-one_length, allowed-nothing}
+use Rattle.bincode_wire.specs.AllowedLaws.{one_natural, allowed-number, unsigned-allows, allowed-unsigned, byte-allows, allowed-byte, signed-allows}
+use Rattle.bincode_wire.specs.AllowedLaws.{allowed-signed, signed_byte-allows, allowed-signed_byte, truth-allows, allowed-truth, not_zero-allows}
+use Rattle.bincode_wire.specs.AllowedLaws.{allowed-not_zero, alone-one_length, same-one_length, allowed-nothing}
 
 -- words behind a test of their meanings
 
@@ -42,7 +44,17 @@ module _ {A B : Type 0} (test : A → Result B Fault) (F : Format A) where
   pub settled-word : (bytes : List ℕ) (a : A) (b : B) (s : List Step) → test a ≡ Ok b → F.Word bytes a s → (F >>= λ x. settled (test x)).Word bytes b s
   unfolding ◌>>=◌ done
   settled-word bytes a b s e u =
-      record { first = bytes; second = []; head = a; first_steps = s; second_steps = []; bytes_are = sym (append-nil bytes); steps_are = sym (append-nil s); first_word = u; second_word = rw e (refl, refl, refl) }
+      record {
+        first = bytes;
+        second = [];
+        head = a;
+        first_steps = s;
+        second_steps = [];
+        bytes_are = sym (append-nil bytes);
+        steps_are = sym (append-nil s);
+        first_word = u;
+        second_word = rw e (refl, refl, refl);
+      }
 
 -- numbers
 
@@ -82,14 +94,20 @@ not_shorter P F f one written (b ∷ bytes) m s w h u e = omega (arith, one writ
 
 -- what is always one byte is spelled
 pub one_byte-spelled : (P : Meaning → Type 0) (F : Format Meaning) (b : ℕ) → Lawful F → b < 256 → AllowedWord P F (b ∷ []) → ((bytes : List ℕ) → AllowedWord P F bytes → length bytes ≡ 1) → Spelled P F
-one_byte-spelled P F b f h w one = record { has_word = record { bytes = b ∷ []; are_bytes = All-cons (λ b. b < 256) b [] h (All-nil (λ b. b < 256)); is_allowed = w }; one_length = λ x y a c. one x a ∙ sym (one y c); none_shorter = not_shorter P F f one }
+one_byte-spelled P F b f h w one = record {
+  has_word = record { bytes = b ∷ []; are_bytes = All-cons (λ b. b < 256) b [] h (All-nil (λ b. b < 256)); is_allowed = w };
+  one_length = λ x y a c. one x a ∙ sym (one y c);
+  none_shorter = not_shorter P F f one;
+}
 
 -- numbers of one byte are, and truth values
 pub byte-spelled : (n : ℕ) → n < 2 ^ 8 → Spelled (IsNumber (pos n)) (natural unsigned_byte)
 byte-spelled n h = one_byte-spelled (IsNumber (pos n)) (natural unsigned_byte) n (map-lawful _ unsigned_byte unsigned_byte-lawful) h (byte-allows n) (λ bytes a. ap length (allowed-byte n bytes a))
 
 pub signed_byte-spelled : (z : ℤ) → FitsSigned w8 z → Spelled (IsNumber z) (integral signed_byte)
-signed_byte-spelled z h = one_byte-spelled (IsNumber z) (integral signed_byte) (two_complement 1 z) (map-lawful _ signed_byte signed_byte-lawful) (two_complement-fits 1 z (FitsIn-from_signed w8 z h)) (signed_byte-allows z (FitsIn-from_signed w8 z h)) (allowed-signed_byte z)
+signed_byte-spelled z h =
+    one_byte-spelled (IsNumber z) (integral signed_byte) (two_complement 1 z) (map-lawful _ signed_byte signed_byte-lawful)
+    (two_complement-fits 1 z (FitsIn-from_signed w8 z h)) (signed_byte-allows z (FitsIn-from_signed w8 z h)) (allowed-signed_byte z)
 
 truth_byte-is_byte : (v : Bool) → truth_byte v < 256
 truth_byte-is_byte true = omega arith
@@ -99,7 +117,8 @@ pub truth-spelled : (v : Bool) → Spelled (IsTruth v) truth
 truth-spelled v = one_byte-spelled (IsTruth v) truth (truth_byte v) truth-lawful (truth_byte-is_byte v) (truth-allows v) (λ bytes a. ap length (allowed-truth v bytes a))
 
 module _ {A : Type 0} (integer : A → ℤ) (one : (a b : A) → integer a ≡ integer b → a ≡ b) (size : A → ℕ) (name : IntegerType) (F : Format A) (a : A) where
-  word_not_zero : (bytes : List ℕ) (m : Meaning) (s : List Step) → (map_format (λ k. Number (integer k)) (not_zero_by size name F)).Word bytes m s → (t : List Step) × (map_format (λ k. Number (integer k)) F).Word bytes m t
+  word_not_zero : (bytes : List ℕ) (m : Meaning) (s : List Step) → (map_format (λ k. Number (integer k)) (not_zero_by size name F)).Word bytes m s →
+      (t : List Step) × (map_format (λ k. Number (integer k)) F).Word bytes m t
   word_not_zero bytes m s u =
       let p = word-settled (λ k. Ok (Number (integer k))) (not_zero_by size name F) bytes m s u in
       let q = word-settled (λ x. not_zero_of name (size x) x) F bytes p.0 p.1 p.3 in
@@ -107,7 +126,8 @@ module _ {A : Type 0} (integer : A → ℤ) (one : (a b : A) → integer a ≡ i
       (q.1, settled-word (λ k. Ok (Number (integer k))) F bytes p.0 m q.1 p.2 (subst (λ x. F.Word bytes x q.1) e q.3))
 
   -- a number other than 0 is spelled as the number
-  pub number-not_zero : 0 < size a → Spelled (IsNumber (integer a)) (map_format (λ k. Number (integer k)) F) → Spelled (IsNumber (integer a)) (map_format (λ k. Number (integer k)) (not_zero_by size name F))
+  pub number-not_zero : 0 < size a → Spelled (IsNumber (integer a)) (map_format (λ k. Number (integer k)) F) →
+      Spelled (IsNumber (integer a)) (map_format (λ k. Number (integer k)) (not_zero_by size name F))
   number-not_zero h p = record {
     has_word = record { bytes = p.has_word.bytes; are_bytes = p.has_word.are_bytes; is_allowed = not_zero-allows integer one size name F p.has_word.bytes a h p.has_word.is_allowed };
     one_length = same-one_length _ _ (λ bytes. allowed-not_zero integer one size name F bytes a) p.one_length;

@@ -62,7 +62,9 @@ then-some_word F others x y =
 
 -- its words have one length
 pub then-one_length : {P Q : Meaning → Type 0} {F others : Format Meaning} → OneLength (AllowedWord P F) → OneLength (AllowedWord Q others) → OneLength (AllowedWord (IsThen P Q) (first_and F others))
-then-one_length {P} {Q} {F} {others} f g = same-one_length (Both (AllowedWord P F) (AllowedWord Q others)) (AllowedWord (IsThen P Q) (first_and F others)) (allowed-tuple P Q F others) (both-one_length (AllowedWord P F) (AllowedWord Q others) f g)
+then-one_length {P} {Q} {F} {others} f g =
+    same-one_length (Both (AllowedWord P F) (AllowedWord Q others)) (AllowedWord (IsThen P Q) (first_and F others)) (allowed-tuple P Q F others)
+    (both-one_length (AllowedWord P F) (AllowedWord Q others) f g)
 
 -- what follows of both parts follows of either
 pub either : {A B C : Type 0} → (A → C) → (B → C) → A ⊎ B → C
@@ -129,14 +131,18 @@ module _ {F G H I others : Format Meaning} where
   four-balanced f g h i o = then-balanced f (then-balanced g (then-balanced h (then-balanced i o)))
 
   module _ {P Q R S T : Meaning → Type 0} where
-    pub four-has_word : SomeWord (AllowedWord P F) → SomeWord (AllowedWord Q G) → SomeWord (AllowedWord R H) → SomeWord (AllowedWord S I) → SomeWord (AllowedWord T others) → SomeWord (AllowedWord (IsFourThen P Q R S T) (four_and F G H I others))
+    pub four-has_word : SomeWord (AllowedWord P F) → SomeWord (AllowedWord Q G) → SomeWord (AllowedWord R H) → SomeWord (AllowedWord S I) →
+        SomeWord (AllowedWord T others) → SomeWord (AllowedWord (IsFourThen P Q R S T) (four_and F G H I others))
     four-has_word f g h i o = then-has_word f (then-has_word g (then-has_word h (then-has_word i o)))
 
-    pub four-one_length : OneLength (AllowedWord P F) → OneLength (AllowedWord Q G) → OneLength (AllowedWord R H) → OneLength (AllowedWord S I) → OneLength (AllowedWord T others) → OneLength (AllowedWord (IsFourThen P Q R S T) (four_and F G H I others))
+    pub four-one_length : OneLength (AllowedWord P F) → OneLength (AllowedWord Q G) → OneLength (AllowedWord R H) → OneLength (AllowedWord S I) →
+        OneLength (AllowedWord T others) → OneLength (AllowedWord (IsFourThen P Q R S T) (four_and F G H I others))
     four-one_length f g h i o = then-one_length f (then-one_length g (then-one_length h (then-one_length i o)))
 
-    pub four-shortest : {P' Q' R' S' T' : Meaning → Type 0} → Shortest P P' F → Shortest Q Q' G → Shortest R R' H → Shortest S S' I → Shortest T T' others → Shortest (IsFourThen P Q R S T) (IsFourThen P' Q' R' S' T') (four_and F G H I others)
+    pub four-shortest : {P' Q' R' S' T' : Meaning → Type 0} → Shortest P P' F → Shortest Q Q' G → Shortest R R' H → Shortest S S' I →
+        Shortest T T' others → Shortest (IsFourThen P Q R S T) (IsFourThen P' Q' R' S' T') (four_and F G H I others)
     four-shortest f g h i o = then-shortest f (then-shortest g (then-shortest h (then-shortest i o)))
 
-pub four-same : {P Q R S T P' Q' R' S' T' : Meaning → Type 0} {x y z u v : Bool} → SameIn P P' x → SameIn Q Q' y → SameIn R R' z → SameIn S S' u → SameIn T T' v → SameIn (IsFourThen P Q R S T) (IsFourThen P' Q' R' S' T') (x && (y && (z && (u && v))))
+pub four-same : {P Q R S T P' Q' R' S' T' : Meaning → Type 0} {x y z u v : Bool} → SameIn P P' x → SameIn Q Q' y → SameIn R R' z → SameIn S S' u →
+    SameIn T T' v → SameIn (IsFourThen P Q R S T) (IsFourThen P' Q' R' S' T') (x && (y && (z && (u && v))))
 four-same f g h i o = then-same f (then-same g (then-same h (then-same i o)))

@@ -1,5 +1,6 @@
 -- The formats of the types, row by row.
-use Rattle.std.specs.Prelude.{◌≡◌, ℕ, ◌+◌, ◌-◌, ◌*◌, ◌<◌, ◌/◌, ◌%◌, ◌^◌, nat_lt, ◌==◌, if◌then◌else◌, ℤ, pos, unsigned_abs, ◌&&◌, Bool, true, false, List, [], ◌∷◌, ◌++◌, take, Result, Ok, Err, Option, Some, None, position}
+use Rattle.std.specs.Prelude.{◌≡◌, ℕ, ◌+◌, ◌-◌, ◌*◌, ◌<◌, ◌/◌, ◌%◌, ◌^◌, nat_lt, ◌==◌, if◌then◌else◌, ℤ, pos, unsigned_abs, ◌&&◌, Bool, true, false}
+use Rattle.std.specs.Prelude.{List, [], ◌∷◌, ◌++◌, take, Result, Ok, Err, Option, Some, None, position}
 use Rattle.std.specs.Str.{is_utf8}
 use Rattle.bincode_base.specs.declared.error.IntegerType.{IntegerType}
 use Rattle.bincode_base.specs.declared.error.IntegerType.TheVariants as integers

@@ -49,7 +49,9 @@ pub truth_byte-passes : (v : Bool) → truth_of (truth_byte v) ≡ Ok (Truth v)
 truth_byte-passes true = refl
 truth_byte-passes false = refl
 
-truth_by : (b : ℕ) (zero one v : Bool) → (zero ≡ true → b ≡ 0) → (one ≡ true → b ≡ 1) → ◌≡◌ {A = Result Meaning Fault} (if zero then Ok (Truth false) else if one then Ok (Truth true) else Err (InvalidBool b)) (Ok (Truth v)) → b ≡ truth_byte v
+truth_by : (b : ℕ) (zero one v : Bool) → (zero ≡ true → b ≡ 0) → (one ≡ true → b ≡ 1) →
+    ◌≡◌ {A = Result Meaning Fault} (if zero then Ok (Truth false) else if one then Ok (Truth true) else Err (InvalidBool b)) (Ok (Truth v)) →
+    b ≡ truth_byte v
 truth_by b true one v h k e = let p : false ≡ v = cc in h refl ∙ ap truth_byte p
 truth_by b false true v h k e = let p : true ≡ v = cc in k refl ∙ ap truth_byte p
 truth_by b false false v h k e = absurd (cc)

@@ -3,7 +3,8 @@ use Rattle.std.specs.Prelude.{◌≡◌, ◌⊎◌, ℕ, List, refl, Option, Som
 use Rattle.std.proofs.Common.{inl, inr}
 use Rattle.bincode_base.specs.declared.error.DecodeError.{DecodeError}
 use Rattle.bincode_base.specs.declared.error.DecodeError.TheVariants.{LimitExceeded, Memory}
-use Rattle.bincode_base.specs.Fault.{Fault, End, InvalidInteger, Zero, UnexpectedVariant, Utf8, InvalidChar, InvalidBool, InvalidDuration, NulAt, Other, LengthMismatch, EmptyEnum, OutsideUsize, short, long, Between, OneOf}
+use Rattle.bincode_base.specs.Fault.{Fault, End, InvalidInteger, Zero, UnexpectedVariant, Utf8, InvalidChar, InvalidBool, InvalidDuration, NulAt}
+use Rattle.bincode_base.specs.Fault.{Other, LengthMismatch, EmptyEnum, OutsideUsize, short, long, Between, OneOf}
 use Rattle.bincode_base.specs.Format.{Format}
 use Rattle.bincode_base.specs.Laws.{Lawful, Balanced}
 use Rattle.bincode_wire.specs.Meaning.{Meaning}
@@ -39,7 +40,8 @@ module _ (F : Format Meaning) (f : Lawful F) (b : Balanced F) (limit : Option �
   of_limit e i (inl h) = cc
   of_limit e i (inr h) = none h.0
 
-  by_answer : (A : Type 0) (e : DecodeError) → FindsWords {A = A} F limit Grows input (Err e) → TellsFaults {A = A} F limit Grows input (Err e) → KeepsLimit {A = A} F limit Grows input (Err e) → (a : Answer Meaning) → answer limit F input 0 ≡ a → e ≡ Memory → ⊥
+  by_answer : (A : Type 0) (e : DecodeError) → FindsWords {A = A} F limit Grows input (Err e) → TellsFaults {A = A} F limit Grows input (Err e) →
+      KeepsLimit {A = A} F limit Grows input (Err e) → (a : Answer Meaning) → answer limit F input 0 ≡ a → e ≡ Memory → ⊥
   by_answer A e found fault passed (Gave m rest after) h i =
       let w = gave-word F f b limit input rest m after h in
       none (found w.word rest m w.steps w.input_is w.is_word w.within).0
@@ -51,6 +53,7 @@ module _ (F : Format Meaning) (f : Lawful F) (b : Balanced F) (limit : Option �
       of_limit e i (passed w.0 w.1 w.2)
 
   -- the error is never that memory was refused
-  pub no_memory : {A : Type 0} (result : Result A DecodeError) → FindsWords F limit Grows input result → TellsFaults F limit Grows input result → KeepsLimit F limit Grows input result → IfErr result (λ e. ¬ (e ≡ Memory))
+  pub no_memory : {A : Type 0} (result : Result A DecodeError) → FindsWords F limit Grows input result → TellsFaults F limit Grows input result →
+      KeepsLimit F limit Grows input result → IfErr result (λ e. ¬ (e ≡ Memory))
   no_memory (Ok a) found fault passed = tt
   no_memory {A} (Err e) found fault passed = by_answer A e found fault passed (answer limit F input 0) refl

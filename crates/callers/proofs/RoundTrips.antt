@@ -10,7 +10,8 @@ use Rattle.bincode_wire.specs.Meaning.{Meaning}
 use Rattle.bincode_wire.specs.Allowed.{AllowedWord}
 use Rattle.bincode.specs.Slice.{WordWritten, Decoded, IsRefused, FindsWords}
 
-module _ {A : Type 0} (F : Format Meaning) (f : Lawful F) (limit : Option ℕ) (free : limit ≡ None) (Means : Meaning → Type 0) (Given : Meaning → A → Type 0) (Same : A → Type 0) (same : (a : A) (m : Meaning) → Means m → Given m a → Same a) where
+module _ {A : Type 0} (F : Format Meaning) (f : Lawful F) (limit : Option ℕ) (free : limit ≡ None) (Means : Meaning → Type 0)
+    (Given : Meaning → A → Type 0) (Same : A → Type 0) (same : (a : A) (m : Meaning) → Means m → Given m a → Same a) where
   -- an equal value is read, of as many bytes as were written
   pub read_back : (n : ℕ) (old new : List ℕ) → WordWritten (AllowedWord Means F) n old new → (Grows : Type 0) (result : Result (A × ℕ) DecodeError) →
       IfOk result (λ x. Decoded F limit new (λ m. Given m x.0) x.1) → FindsWords F limit Grows new result → MatchResult result (λ x. Same x.0 × (x.1 ≡ n)) (IsRefused Grows)

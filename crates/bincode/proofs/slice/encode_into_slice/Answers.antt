@@ -19,7 +19,8 @@ returns-in_err-encode_with-clause-left g c =
     rw (p.1, p.2) (halted-left _ _ _ _ c.new-writer.result c.encode_with.new.writer _ c.new-writer.ensures.bytes c.new-writer.ensures.start (search rules) c.in_err-encode_with.ensures.err)
 
 pub returns-clause-word : goal.returns-clause-word
-returns-clause-word g c = word-written _ c.new-writer.result c.encode_with.new.writer c.new-writer.ensures.start c.in_ok-encode_with.ensures.ok _ _ _ c.bytes_written.ensures c.new-writer.ensures.bytes (search rules)
+returns-clause-word g c =
+    word-written _ c.new-writer.result c.encode_with.new.writer c.new-writer.ensures.start c.in_ok-encode_with.ensures.ok _ _ _ c.bytes_written.ensures c.new-writer.ensures.bytes (search rules)
 
 pub returns-clause-room : goal.returns-clause-room
 returns-clause-room g c = word-fits _ c.new-writer.result c.encode_with.new.writer c.new-writer.ensures.start c.in_ok-encode_with.ensures.ok _ _ _ _ (search rules)

@@ -6,4 +6,5 @@ returns-clause-word g c =
     let d = c.args.decoder.now in
     let new = c.read_byte.new.read in
     let lent = g.met.D.Decoder in
-    lent-word (lent.reader_told d) (lent.rest_is d) (lent.failures_is d) (lent.put_told d new) (lent.put_rest d new) (lent.put_failures d new) (lent.put_place d new) (rw c.reader.ensures.value at c.read_byte.ensures)
+    lent-word (lent.reader_told d) (lent.rest_is d) (lent.failures_is d) (lent.put_told d new) (lent.put_rest d new) (lent.put_failures d new)
+    (lent.put_place d new) (rw c.reader.ensures.value at c.read_byte.ensures)

@@ -6,4 +6,5 @@ returns-clause-word g c =
     let d = c.args.decoder.now in
     let new = c.read.new.read in
     let lent = g.met.D.Decoder in
-    lent-word (lent.reader_told d) (lent.rest_is d) (lent.failures_is d) (lent.put_told d new) (lent.put_rest d new) (lent.put_failures d new) (lent.put_place d new) (rw (c.reader.ensures.value, c.endianness-endian.ensures, c.int_encoding-encoding.ensures) at c.read.ensures)
+    lent-word (lent.reader_told d) (lent.rest_is d) (lent.failures_is d) (lent.put_told d new) (lent.put_rest d new) (lent.put_failures d new)
+    (lent.put_place d new) (rw (c.reader.ensures.value, c.endianness-endian.ensures, c.int_encoding-encoding.ensures) at c.read.ensures)

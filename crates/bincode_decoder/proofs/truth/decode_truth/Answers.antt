@@ -28,4 +28,5 @@ pub returns-in_default-clause-reads : goal.returns-in_default-clause-reads
 returns-in_default-clause-reads g c =
     let read = c.in_ok-b.ensures.reads in
     let above : 1 < c.in_ok-b.b = search rules in
-    read-as (λ known. tt) (λ known. by_fault (InvalidBool c.in_ok-b.b) (truth-refuses _ _ _ _ _ _ (exactly (read.ok known)) above) refl (gave-takes _ _ unsigned_byte-lawful _ _ _ _ _ (exactly (read.ok known)))) read
+    read-as (λ known. tt)
+    (λ known. by_fault (InvalidBool c.in_ok-b.b) (truth-refuses _ _ _ _ _ _ (exactly (read.ok known)) above) refl (gave-takes _ _ unsigned_byte-lawful _ _ _ _ _ (exactly (read.ok known)))) read

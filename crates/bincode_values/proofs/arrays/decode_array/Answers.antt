@@ -8,10 +8,16 @@ pub returns-in-Some-clause-read : goal.returns-in-Some-clause-read
 returns-in-Some-clause-read g c = read-widened _ _ _ _ _ _ _ _ _ _ _ _ _ _ _ _ _ _ inl c.decode_over.ensures
 
 pub returns-in-Some-clause-charge : goal.returns-in-Some-clause-charge
-returns-in-Some-clause-charge g c = λ known. IfOk-weaker c.decode_over.result _ _ (λ v d. run-returns _ g.row.N _ _ (g.met.V.Value.Wire.lawful _) (g.met.V.Value.Wire.balanced _) _ _ d.meaning _ _ c.requires d.answer_is) (c.decode_over.ensures.ok known)
+returns-in-Some-clause-charge g c =
+    λ known. IfOk-weaker c.decode_over.result _ _
+    (λ v d. run-returns _ g.row.N _ _ (g.met.V.Value.Wire.lawful _) (g.met.V.Value.Wire.balanced _) _ _ d.meaning _ _ c.requires d.answer_is)
+    (c.decode_over.ensures.ok known)
 
 pub returns-clause-read : goal.returns-clause-read
 returns-clause-read g c = read-widened _ _ _ _ _ _ _ _ _ _ _ _ _ _ _ _ _ _ inl c.decode_into.ensures
 
 pub returns-clause-charge : goal.returns-clause-charge
-returns-clause-charge g c = λ known. IfOk-weaker c.decode_into.result _ _ (λ v d. run-returns _ g.row.N _ _ (g.met.V.Value.Wire.lawful _) (g.met.V.Value.Wire.balanced _) _ _ d.meaning _ _ c.requires d.answer_is) (c.decode_into.ensures.ok known)
+returns-clause-charge g c =
+    λ known. IfOk-weaker c.decode_into.result _ _
+    (λ v d. run-returns _ g.row.N _ _ (g.met.V.Value.Wire.lawful _) (g.met.V.Value.Wire.balanced _) _ _ d.meaning _ _ c.requires d.answer_is)
+    (c.decode_into.ensures.ok known)

@@ -10,4 +10,5 @@ returns-in_err-n g c =
     rw (p.1, p.2) (stops-too _ _ _ (λ n. refl) _ _ c.in_err-n.ensures)
 
 pub returns : goal.returns
-returns g c = read-tested _ _ _ (λ n. refl) _ _ (pos 0) _ _ _ _ refl (signed-lawful _ _ _ (Two refl)) (λ x. x.ok) (λ m h. h) (λ x m h. h) (search rules) c.new.ensures c.not_zero.ensures c.in_ok-n.ensures
+returns g c =
+    read-tested _ _ _ (λ n. refl) _ _ (pos 0) _ _ _ _ refl (signed-lawful _ _ _ (Two refl)) (λ x. x.ok) (λ m h. h) (λ x m h. h) (search rules) c.new.ensures c.not_zero.ensures c.in_ok-n.ensures
