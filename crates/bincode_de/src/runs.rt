@@ -13,7 +13,7 @@ use bincode_values::{arrays, runs};
 use std::marker::PhantomData;
 
 /// Reads values by their `Decode`.
-struct ByDecode<T>(PhantomData<T>);
+pub(crate) struct ByDecode<T>(PhantomData<T>);
 
 impl<Context: Drop, T: Decode<Context>> ReadValues<Context> for ByDecode<T> {
     type Value = T;

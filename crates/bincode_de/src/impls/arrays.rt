@@ -1,14 +1,16 @@
 //! Decoding of arrays.
 use crate::decode::Decode;
-use crate::runs::decode_array;
+use crate::runs::ByDecode;
 use bincode_base::error::DecodeError;
 use bincode_decoder::decoder::{ClaimContainer, Decoder};
+use bincode_values::arrays::decode_array;
 use bincode_values::values::ArrayOf;
 
 impl<Context: Drop, T: Decode<Context>, const N: usize> Decode<Context> for [T; N] {
     fn decode<D: Decoder<Context = Context>>(decoder: &mut D) -> Result<[T; N], DecodeError> {
         decoder.claim_container_read::<T>(N)?;
-        decode_array(decoder)
+        // Not by `runs::decode_array`: each call that hands on a whole array copies it.
+        decode_array::<Context, ByDecode<T>, D, N>(decoder)
     }
 
     // Written out, since the provided one isn't proved for arrays of any size.
