@@ -3,16 +3,17 @@ use Rattle.std.specs.Prelude.{◌≡◌, ◌⊎◌, ◌+◌, ◌-◌, ◌≤◌,
 use Rattle.std.proofs.Common.{◌∙◌, ap, subst, inl, inr, arith, length-append}
 use Rattle.bincode_base.specs.declared.error.DecodeError.{DecodeError}
 use Rattle.bincode_base.specs.declared.error.DecodeError.TheVariants.{UnexpectedEnd, LimitExceeded}
-use Rattle.bincode_base.specs.Fault.{Fault}
-use Rattle.bincode_base.specs.Charge.{Step, Passes, StaysWithin}
-use Rattle.bincode_base.specs.Device.{no_device}
-use Rattle.bincode_base.specs.Format.{Format}
-use Rattle.bincode_base.specs.Laws.{Lawful, Balanced}
-use Rattle.bincode_wire.specs.Meaning.{Meaning}
-use Rattle.bincode_wire.specs.Answer.{Answer, Gave, Refused, PassedLimit, Allows, answer}
-use Rattle.bincode_wire.specs.AnswerLaws.{StepsOf, counted_after, gave-word, word-gave, fault-refused, passes-passed}
-use Rattle.bincode_wire.specs.Decoding.{Decodes, Stops, by_fault, by_limit, by_memory, by_failure, by_device}
-use Rattle.bincode.specs.Slice.{Decoded, TellsOfSlice, IsRefused}
+use Rattle.bincode_format.specs.Fault.{Fault}
+use Rattle.bincode_format.specs.Charge.{Step, Passes, StaysWithin}
+use Rattle.bincode_format.specs.Device.{no_device}
+use Rattle.bincode_format.specs.Format.{Format}
+use Rattle.bincode_format.specs.Laws.{Lawful, Balanced}
+use Rattle.bincode_format.specs.Meaning.{Meaning}
+use Rattle.bincode_format.specs.Answer.{Answer, Gave, Refused, PassedLimit, Allows, answer}
+use Rattle.bincode_format.specs.Answer.{StepsOf}
+use Rattle.bincode_laws.specs.AnswerLaws.{counted_after, gave-word, word-gave, fault-refused, passes-passed}
+use Rattle.bincode_format.specs.Decoding.{Decodes, Stops, by_fault, by_limit, by_memory, by_failure, by_device}
+use Rattle.bincode_format.specs.Slice.{Decoded, TellsOfSlice, IsRefused}
 
 -- why decoding from a slice stops
 abbrev pub SliceStops : Type 0 → Answer Meaning → List ℕ → List ℕ → DecodeError → Type 0

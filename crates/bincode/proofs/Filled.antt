@@ -1,14 +1,14 @@
 -- What a slice holds where a value could not be written.
 use Rattle.std.specs.Prelude.{◌≡◌, ◌⊎◌, ◌+◌, ◌-◌, ◌≤◌, ◌<◌, ◌++◌, ℕ, List, length, drop, refl, Result, Ok, Err}
 use Rattle.std.proofs.Common.{◌∙◌, ap, subst, inl, inr, arith, append_assoc, length-append, length-drop}
-use Rattle.bincode_base.specs.Put.{put}
-use Rattle.bincode_base.specs.Slices.{bytes_of, count_of}
-use Rattle.bincode_base.specs.declared.write.SliceWriter.{SliceWriter}
+use Rattle.bincode_format.specs.Put.{put}
+use Rattle.bincode_io.specs.Slices.{bytes_of, count_of}
+use Rattle.bincode_io.specs.declared.write.SliceWriter.{SliceWriter}
 use Rattle.bincode_base.specs.declared.error.EncodeError.{EncodeError}
 use Rattle.bincode_base.specs.declared.error.EncodeError.TheVariants.{UnexpectedEnd}
-use Rattle.bincode_wire.specs.Allowed.{OneLength}
-use Rattle.bincode_encoder.specs.Encoding.{Ready, Writes, Begins, Halts, by_writer, by_name}
-use Rattle.bincode.specs.Slice.{Fills, WordWritten, FrontWritten, FitsExactly}
+use Rattle.bincode_format.specs.Allowed.{OneLength}
+use Rattle.bincode_format.specs.Encoding.{Ready, Writes, Begins, Halts, by_writer, by_name}
+use Rattle.bincode_format.specs.Slice.{Fills, WordWritten, FrontWritten, FitsExactly}
 
 -- what a slice writer adds, and why it refuses a piece
 abbrev pub Added : SliceWriter → List ℕ → SliceWriter → Type 0

@@ -1,7 +1,7 @@
 //! Decoders, and what they read from.
 
-pub use bincode_base::io_read::{IoReader, LentIoReader};
-pub use bincode_base::read;
+pub use bincode_io::io_read::{IoReader, LentIoReader};
+pub use bincode_io::read;
 pub use bincode_de::decode::Decode;
 pub use bincode_de::from_parts::FromParts;
 pub use bincode_de::runs::{decode_array, decode_run, decode_vec};

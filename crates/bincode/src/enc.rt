@@ -1,6 +1,6 @@
 //! Encoders, and what they write to.
 
-pub use bincode_base::write;
+pub use bincode_io::write;
 pub use bincode_enc::encode::Encode;
 pub use bincode_enc::encode_parts::EncodeParts;
 pub use bincode_enc::runs::encode_run;

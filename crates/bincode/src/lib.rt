@@ -11,9 +11,10 @@ pub mod de;
 pub mod enc;
 mod slice;
 
-pub use bincode_base::{config, error, text, varint};
+pub use bincode_base::{config, error, text};
 pub use bincode_de::decode::Decode;
 pub use bincode_enc::encode::Encode;
+pub use bincode_varint::varint;
 pub use bincode_wire::laws;
 pub use bincode_wire::own::time;
 pub use bincode_wire::parted::{Parted, SameParts};

@@ -1,17 +1,17 @@
 //! Encoding into a slice, and decoding from one.
 ghost use Rattle.std.specs.Prelude.{◌≡◌, ◌≤◌, ◌⊎◌, ℕ, OnOk, IfOk, IfErr, length};
 ghost use Rattle.bincode_base.specs.declared.error.EncodeError.TheVariants.{UnexpectedEnd};
-ghost use Rattle.bincode_wire.specs.Allowed.{AllowedWord};
-ghost use Rattle.bincode_wire.specs.Answer.{answer};
-ghost use Rattle.bincode_wire.specs.Decoding.{Decodes, Stops};
-ghost use Rattle.bincode_encoder.specs.Encoding.{Writes, Ready, Halts};
-ghost use Rattle.bincode.specs.Slice.{WordWritten, FrontWritten, FitsExactly, Decoded, FindsWords, TellsFaults};
-ghost use Rattle.bincode.specs.Slice.{KeepsLimit};
+ghost use Rattle.bincode_format.specs.Allowed.{AllowedWord};
+ghost use Rattle.bincode_format.specs.Answer.{answer};
+ghost use Rattle.bincode_format.specs.Decoding.{Decodes, Stops};
+ghost use Rattle.bincode_format.specs.Encoding.{Writes, Ready, Halts};
+ghost use Rattle.bincode_format.specs.Slice.{WordWritten, FrontWritten, FitsExactly, Decoded, FindsWords, TellsFaults};
+ghost use Rattle.bincode_format.specs.Slice.{KeepsLimit};
 
 use bincode_base::config::Config;
 use bincode_base::error::{DecodeError, EncodeError};
-use bincode_base::read::{Reader, SliceReader};
-use bincode_base::write::{SliceWriter, Writer};
+use bincode_io::read::{Reader, SliceReader};
+use bincode_io::write::{SliceWriter, Writer};
 use bincode_de::decode::Decode;
 use bincode_decoder::decoder::LentDecoder;
 use bincode_enc::encode::Encode;

@@ -1,6 +1,6 @@
 //! What encoding and decoding answer when they fail.
 ghost use Rattle.std.specs.Prelude.{◌≡◌};
-ghost use Rattle.bincode_base.specs.Fault.{signed_name, signed_error};
+ghost use Rattle.bincode_base.specs.SignedNames.{signed_name, signed_error};
 
 use crate::text::{ShortText, TypeName};
 use std::error::Error;

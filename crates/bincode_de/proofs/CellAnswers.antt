@@ -1,10 +1,10 @@
 -- What a cell holds is read for the cell.
 use Rattle.std.specs.Prelude.{◌≡◌, ℕ, List, Option}
-use Rattle.bincode_base.specs.Format.{Format, of_cell}
-use Rattle.bincode_wire.specs.Meaning.{Meaning}
-use Rattle.bincode_wire.specs.Answer.{answer}
-use Rattle.bincode_wire.specs.Decoding.{Decodes}
-use Rattle.bincode_wire.specs.Cells.{IsAny}
+use Rattle.bincode_format.specs.Format.{Format, of_cell}
+use Rattle.bincode_format.specs.Meaning.{Meaning}
+use Rattle.bincode_format.specs.Answer.{answer}
+use Rattle.bincode_format.specs.Decoding.{Decodes}
+use Rattle.bincode_format.specs.Cells.{IsAny}
 use Rattle.bincode_decoder.proofs.WrittenAs.{rewritten-answer}
 
 module _ (F : Format Meaning) (limit : Option ℕ) (input : List ℕ) (c : ℕ) where

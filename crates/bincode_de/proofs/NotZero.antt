@@ -7,18 +7,18 @@ use Rattle.std.proofs.lemmas.Bool.{ne_eqb}
 use Rattle.bincode_base.specs.declared.error.IntegerType.{IntegerType}
 use Rattle.bincode_base.specs.declared.error.DecodeError.{DecodeError}
 use Rattle.bincode_base.specs.declared.error.DecodeError.TheVariants.{NonZeroTypeIsZero}
-use Rattle.bincode_base.specs.Device.{DeviceErrors}
-use Rattle.bincode_base.specs.Fault.{Zero}
-use Rattle.bincode_base.specs.Format.{Format, settled, done, map_format}
-use Rattle.bincode_base.specs.Laws.{Lawful}
-use Rattle.bincode_base.specs.FormatLaws.{map-lawful}
-use Rattle.bincode_wire.specs.Meaning.{Meaning, Number}
-use Rattle.bincode_wire.specs.Words.{not_zero_of, not_zero_by}
-use Rattle.bincode_wire.specs.Answer.{Answer, answer, Gave, Refused, PassedLimit, and_then}
-use Rattle.bincode_wire.specs.AnswerLaws.{answer-then, answer-done, answer-refused}
-use Rattle.bincode_wire.specs.Decoding.{Stops, by_fault, by_limit, by_memory, by_failure, by_device}
-use Rattle.bincode_wire.specs.DecodingLaws.{gave-takes}
-use Rattle.bincode_decoder.specs.Runs.{Reads}
+use Rattle.bincode_format.specs.Device.{DeviceErrors}
+use Rattle.bincode_format.specs.Fault.{Zero}
+use Rattle.bincode_format.specs.Format.{Format, settled, done, map_format}
+use Rattle.bincode_format.specs.Laws.{Lawful}
+use Rattle.bincode_laws.specs.FormatLaws.{map-lawful}
+use Rattle.bincode_format.specs.Meaning.{Meaning, Number}
+use Rattle.bincode_format.specs.Words.{not_zero_of, not_zero_by}
+use Rattle.bincode_format.specs.Answer.{Answer, answer, Gave, Refused, PassedLimit, and_then}
+use Rattle.bincode_laws.specs.AnswerLaws.{answer-then, answer-done, answer-refused}
+use Rattle.bincode_format.specs.Decoding.{Stops, by_fault, by_limit, by_memory, by_failure, by_device}
+use Rattle.bincode_laws.specs.DecodingLaws.{gave-takes}
+use Rattle.bincode_format.specs.Values.{Reads}
 use Rattle.bincode_decoder.proofs.ReadAnswers.{read-as}
 
 -- an answer with its meaning renamed

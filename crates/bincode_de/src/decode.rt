@@ -1,8 +1,8 @@
 //! What can be decoded.
 ghost use Rattle.std.specs.Prelude.{◌≡◌, ◌*◌, length, IfSome, IfNone};
-ghost use Rattle.bincode_wire.specs.Answer.{Allows};
-ghost use Rattle.bincode_wire.specs.Run.{CanRelease};
-ghost use Rattle.bincode_decoder.specs.Runs.{Reads, RunRead};
+ghost use Rattle.bincode_format.specs.Answer.{Allows};
+ghost use Rattle.bincode_format.specs.Run.{CanRelease};
+ghost use Rattle.bincode_format.specs.Values.{Reads, RunRead};
 
 use bincode_base::error::DecodeError;
 use bincode_decoder::decoder::Decoder;

@@ -1,6 +1,6 @@
 //! Types that are decoded by their parts.
 ghost use Rattle.std.specs.Prelude.{◌≡◌};
-ghost use Rattle.bincode_wire.specs.Meaning.{Meaning};
+ghost use Rattle.bincode_format.specs.Meaning.{Meaning};
 
 use crate::decode::Decode;
 use bincode_base::error::DecodeError;

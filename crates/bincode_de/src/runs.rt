@@ -1,9 +1,9 @@
 //! Runs and arrays of values whose room has been reserved, without a length.
 ghost use Rattle.std.specs.Prelude.{◌≡◌, ◌*◌, ◌⊎◌, length, IfOk};
-ghost use Rattle.bincode_base.specs.Format.{elements};
+ghost use Rattle.bincode_format.specs.Format.{elements};
 ghost use Rattle.bincode_slots.specs.Slots.{SlotsFit};
-ghost use Rattle.bincode_wire.specs.Run.{CanRelease, RoomReturned};
-ghost use Rattle.bincode_decoder.specs.Runs.{RunRead};
+ghost use Rattle.bincode_format.specs.Run.{CanRelease, RoomReturned};
+ghost use Rattle.bincode_format.specs.Values.{RunRead};
 
 use crate::decode::Decode;
 use bincode_base::error::DecodeError;

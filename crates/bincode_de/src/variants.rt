@@ -1,8 +1,8 @@
 //! Decoding of enums, variant by variant.
 ghost use Rattle.std.specs.Prelude.{◌≡◌, ◌⊎◌, false, IfOk};
-ghost use Rattle.bincode_wire.specs.Words.{tags_of, in_order, allowed_tags, part};
-ghost use Rattle.bincode_wire.specs.Choices.{IsChoice};
-ghost use Rattle.bincode_decoder.specs.Runs.{Reads};
+ghost use Rattle.bincode_format.specs.Words.{tags_of, in_order, allowed_tags, part};
+ghost use Rattle.bincode_format.specs.Choices.{IsChoice};
+ghost use Rattle.bincode_format.specs.Values.{Reads};
 
 use crate::decode::Decode;
 use bincode_base::error::DecodeError;

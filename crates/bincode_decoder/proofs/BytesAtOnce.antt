@@ -3,19 +3,19 @@ use Rattle.std.specs.Prelude.{◌≡◌, ◌⊎◌, ℕ, suc, ◌+◌, ◌-◌, 
 use Rattle.std.proofs.Common.{sym, ◌∙◌, ap, subst, inl, inr, arith, append_assoc, append-nil}
 use Rattle.std.proofs.lemmas.Bool.{le-ltb, le-leb}
 use Rattle.bincode_base.specs.declared.error.DecodeError.{DecodeError}
-use Rattle.bincode_base.specs.Fault.{End}
-use Rattle.bincode_base.specs.Device.{DeviceErrors, Rose, Takes, FallsShort}
-use Rattle.bincode_base.specs.Format.{done, raw, step, ◌>>=◌, unsure, elements}
-use Rattle.bincode_base.specs.FormatLaws.{map-lawful}
-use Rattle.bincode_base.specs.Balance.{map-balanced}
-use Rattle.bincode_base.specs.Integers.{byte, unsigned_byte}
-use Rattle.bincode_base.specs.IntegerLaws.{unsigned_byte-lawful, unsigned_byte-balanced}
-use Rattle.bincode_wire.specs.Meaning.{Meaning, Number, IsNumber, listed}
-use Rattle.bincode_wire.specs.Words.{natural}
-use Rattle.bincode_wire.specs.Answer.{Answer, Allows, Gave, Refused, answer, unclaimed}
-use Rattle.bincode_wire.specs.Decoding.{Decodes, Stops, by_fault, by_failure, by_device}
-use Rattle.bincode_wire.specs.Run.{IsListOf, CanRelease}
-use Rattle.bincode_wire.specs.RunLaws.{ReadSoFar, behind, none_read, one_more, all_read}
+use Rattle.bincode_format.specs.Fault.{End}
+use Rattle.bincode_format.specs.Device.{DeviceErrors, Rose, Takes, FallsShort}
+use Rattle.bincode_format.specs.Format.{done, raw, step, ◌>>=◌, unsure, elements}
+use Rattle.bincode_laws.specs.FormatLaws.{map-lawful}
+use Rattle.bincode_laws.specs.Balance.{map-balanced}
+use Rattle.bincode_format.specs.Integers.{byte, unsigned_byte}
+use Rattle.bincode_laws.specs.IntegerLaws.{unsigned_byte-lawful, unsigned_byte-balanced}
+use Rattle.bincode_format.specs.Meaning.{Meaning, Number, IsNumber, listed}
+use Rattle.bincode_format.specs.Words.{natural}
+use Rattle.bincode_format.specs.Answer.{Answer, Allows, Gave, Refused, answer, unclaimed}
+use Rattle.bincode_format.specs.Decoding.{Decodes, Stops, by_fault, by_failure, by_device}
+use Rattle.bincode_format.specs.Run.{IsListOf, CanRelease}
+use Rattle.bincode_laws.specs.RunLaws.{ReadSoFar, behind, none_read, one_more, all_read}
 
 -- what a byte means
 abbrev number : ℕ → Meaning

@@ -2,19 +2,20 @@
 use Rattle.std.specs.Prelude.{◌≡◌, ℕ, ◌+◌, ◌/◌, ◌%◌, ◌<◌, ◌≤◌, ◌^◌, List, Option}
 use Rattle.std.proofs.Common.{◌∙◌, refl}
 use Rattle.bincode_base.specs.declared.error.IntegerType.TheVariants as integers
-use Rattle.bincode_base.specs.Device.{DeviceErrors}
+use Rattle.bincode_format.specs.Device.{DeviceErrors}
 use Rattle.bincode_base.specs.declared.error.DecodeError.{DecodeError}
 use Rattle.bincode_base.specs.declared.error.DecodeError.TheVariants as errors
 use Rattle.bincode_base.specs.Setting.{Setting}
-use Rattle.bincode_base.specs.Fault.{InvalidDuration}
-use Rattle.bincode_base.specs.Format.{◌>>=◌, settled, map_format}
-use Rattle.bincode_base.specs.Integers.{unsigned}
-use Rattle.bincode_base.specs.IntegerLaws.{Eight, unsigned-lawful}
-use Rattle.bincode_wire.specs.Words.{second_in_nanos, duration_of, seconds_and_nanos, duration}
-use Rattle.bincode_wire.specs.DurationLaws.{IsSpan, span, span_is, carries, overflows, parts-lawful}
-use Rattle.bincode_wire.specs.Answer.{Gave, answer}
-use Rattle.bincode_wire.specs.Decoding.{Decodes, Stops, by_fault}
-use Rattle.bincode_wire.specs.DecodingLaws.{answer-next, map-gave, map-stops, settled-gave, settled-refused, gave-takes, stops-first, stops-next}
+use Rattle.bincode_format.specs.Fault.{InvalidDuration}
+use Rattle.bincode_format.specs.Format.{◌>>=◌, settled, map_format}
+use Rattle.bincode_format.specs.Integers.{unsigned}
+use Rattle.bincode_format.specs.Integers.{Eight}
+use Rattle.bincode_laws.specs.IntegerLaws.{unsigned-lawful}
+use Rattle.bincode_format.specs.Words.{second_in_nanos, duration_of, seconds_and_nanos, duration}
+use Rattle.bincode_laws.specs.DurationLaws.{IsSpan, span, span_is, carries, overflows, parts-lawful}
+use Rattle.bincode_format.specs.Answer.{Gave, answer}
+use Rattle.bincode_format.specs.Decoding.{Decodes, Stops, by_fault}
+use Rattle.bincode_laws.specs.DecodingLaws.{answer-next, map-gave, map-stops, settled-gave, settled-refused, gave-takes, stops-first, stops-next}
 use Rattle.bincode_decoder.proofs.WrittenAs.{rewritten-answer}
 
 module _ (limit : Option ℕ) (s : Setting) (input : List ℕ) (c : ℕ) where

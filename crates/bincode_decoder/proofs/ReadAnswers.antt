@@ -4,14 +4,14 @@ use Rattle.std.specs.Borrow.{GName}
 use Rattle.std.proofs.Common.{◌∙◌, ap, arith}
 use Rattle.std.proofs.lemmas.Result.{IfOk-weaker, IfErr-weaker}
 use Rattle.bincode_base.specs.declared.error.DecodeError.{DecodeError}
-use Rattle.bincode_base.specs.Device.{DeviceErrors}
-use Rattle.bincode_base.specs.Format.{Format, charged, map_format}
-use Rattle.bincode_base.specs.Reads.{ReadsWord}
-use Rattle.bincode_wire.specs.Answer.{Answer, answer, Gave, Claimed, OverClaimed}
-use Rattle.bincode_wire.specs.Decoding.{Decodes, Stops}
-use Rattle.bincode_wire.specs.DecodingLaws.{charged-gave, charged-misread, map-gave, map-stops}
-use Rattle.bincode_decoder.specs.Claims.{OnlyCharged}
-use Rattle.bincode_decoder.specs.Runs.{Reads}
+use Rattle.bincode_format.specs.Device.{DeviceErrors}
+use Rattle.bincode_format.specs.Format.{Format, charged, map_format}
+use Rattle.bincode_format.specs.Reads.{ReadsWord}
+use Rattle.bincode_format.specs.Answer.{Answer, answer, Gave, Claimed, OverClaimed}
+use Rattle.bincode_format.specs.Decoding.{Decodes, Stops}
+use Rattle.bincode_laws.specs.DecodingLaws.{charged-gave, charged-misread, map-gave, map-stops}
+use Rattle.bincode_format.specs.Claims.{OnlyCharged}
+use Rattle.bincode_format.specs.Values.{Reads}
 use Rattle.bincode_decoder.proofs.Rooms.{claimed-grows, over-grows}
 
 module _ {D A B T U : Type 0} {told : D → Type 0} {rest : D → List ℕ} {charge failures : D → ℕ} {place : D → List GName} {limit : Option ℕ}

@@ -2,8 +2,8 @@
 use Rattle.std.specs.Prelude.{if◌then◌else◌, ℕ, ◌+◌, ◌*◌, ◌^◌, ◌≤◌, nat_lt, Bool, true, false, Option, Some, None}
 use Rattle.std.proofs.Common.{arith}
 use Rattle.std.proofs.Math.Nat.{mul-le-mul_right}
-use Rattle.bincode_wire.specs.Answer.{Claimed, OverClaimed}
-use Rattle.bincode_wire.specs.Run.{Held}
+use Rattle.bincode_format.specs.Answer.{Claimed, OverClaimed}
+use Rattle.bincode_format.specs.Run.{Held}
 
 -- the room of fewer values is within that of more
 pub held-within : (limit : Option ℕ) (share n m start c : ℕ) → n ≤ m → Held limit (n * share) start c → Held limit (m * share) start c

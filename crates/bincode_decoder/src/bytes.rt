@@ -1,11 +1,11 @@
 //! Runs of bytes, read at once through any decoder.
 ghost use Rattle.std.specs.Prelude.{◌*◌, pos, length};
-ghost use Rattle.bincode_base.specs.Integers.{unsigned_byte};
-ghost use Rattle.bincode_wire.specs.Meaning.{IsNumber};
-ghost use Rattle.bincode_wire.specs.Words.{natural};
-ghost use Rattle.bincode_wire.specs.Answer.{Allows};
-ghost use Rattle.bincode_wire.specs.Run.{CanRelease};
-ghost use Rattle.bincode_decoder.specs.Runs.{RunRead};
+ghost use Rattle.bincode_format.specs.Integers.{unsigned_byte};
+ghost use Rattle.bincode_format.specs.Meaning.{IsNumber};
+ghost use Rattle.bincode_format.specs.Words.{natural};
+ghost use Rattle.bincode_format.specs.Answer.{Allows};
+ghost use Rattle.bincode_format.specs.Run.{CanRelease};
+ghost use Rattle.bincode_format.specs.Values.{RunRead};
 
 use crate::decoder::Decoder;
 use crate::integers::read_from;

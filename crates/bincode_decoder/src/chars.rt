@@ -1,11 +1,11 @@
 //! Characters behind their first byte, read through any decoder.
 ghost use Rattle.std.specs.Prelude.{◌≡◌, ◌≤◌, [], Some, IfOk, IfErr};
-ghost use Rattle.bincode_base.specs.Format.{charged};
-ghost use Rattle.bincode_base.specs.Reads.{ReadsWord};
-ghost use Rattle.bincode_wire.specs.Meaning.{Character};
-ghost use Rattle.bincode_wire.specs.Words.{char_width, rest_of_char};
-ghost use Rattle.bincode_wire.specs.Answer.{Charges};
-ghost use Rattle.bincode_decoder.specs.Runs.{Reads};
+ghost use Rattle.bincode_format.specs.Format.{charged};
+ghost use Rattle.bincode_format.specs.Reads.{ReadsWord};
+ghost use Rattle.bincode_format.specs.Meaning.{Character};
+ghost use Rattle.bincode_format.specs.Words.{char_width, rest_of_char};
+ghost use Rattle.bincode_format.specs.Answer.{Charges};
+ghost use Rattle.bincode_format.specs.Values.{Reads};
 
 use crate::decoder::Decoder;
 use bincode_base::error::DecodeError;

@@ -3,13 +3,13 @@ ghost use Rattle.std.specs.Prelude.{◌≡◌, ◌*◌, ◌∷◌, ℕ, List, re
 ghost use Rattle.std.proofs.Common.{ap};
 ghost use Rattle.std.specs.Borrow.{GName, Lends, sem};
 ghost use Rattle.std.specs.Bool.{MatchBool};
-ghost use Rattle.bincode_wire.specs.Answer.{Allows, unclaimed};
-ghost use Rattle.bincode_wire.specs.Run.{CanRelease};
-ghost use Rattle.bincode_decoder.specs.Claims.{Claims, OnlyCharged};
+ghost use Rattle.bincode_format.specs.Answer.{Allows, unclaimed};
+ghost use Rattle.bincode_format.specs.Run.{CanRelease};
+ghost use Rattle.bincode_format.specs.Claims.{Claims, OnlyCharged};
 
 use bincode_base::config::Config;
 use bincode_base::error::DecodeError;
-use bincode_base::read::Reader;
+use bincode_io::read::Reader;
 use bincode_wire::wire::Wire;
 use std::alloc::Global;
 

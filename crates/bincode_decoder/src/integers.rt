@@ -2,21 +2,21 @@
 ghost use Rattle.std.specs.Prelude.{◌≡◌, ◌<◌, ◌≤◌, ◌⊎◌, [], ◌++◌, length, pos};
 ghost use Rattle.std.specs.Prelude.{ok_or, OnOk, IfOk, IfErr};
 ghost use Rattle.bincode_base.specs.declared.error.DecodeError.TheVariants.{NonZeroTypeIsZero};
-ghost use Rattle.bincode_base.specs.Device.{FallsShort, Rose, Takes};
-ghost use Rattle.bincode_base.specs.Format.{map_format};
-ghost use Rattle.bincode_base.specs.Number.{from_two_complement};
-ghost use Rattle.bincode_base.specs.Reads.{ReadsWord};
-ghost use Rattle.bincode_base.specs.Integers.{byte, unsigned_byte, signed_byte};
-ghost use Rattle.bincode_wire.specs.Meaning.{Number, IsNumber};
-ghost use Rattle.bincode_wire.specs.Answer.{Charges};
-ghost use Rattle.bincode_decoder.specs.Runs.{Reads};
+ghost use Rattle.bincode_format.specs.Device.{FallsShort, Rose, Takes};
+ghost use Rattle.bincode_format.specs.Format.{map_format};
+ghost use Rattle.bincode_format.specs.Number.{from_two_complement};
+ghost use Rattle.bincode_format.specs.Reads.{ReadsWord};
+ghost use Rattle.bincode_format.specs.Integers.{byte, unsigned_byte, signed_byte};
+ghost use Rattle.bincode_format.specs.Meaning.{Number, IsNumber};
+ghost use Rattle.bincode_format.specs.Answer.{Charges};
+ghost use Rattle.bincode_format.specs.Values.{Reads};
 
 use crate::decoder::Decoder;
-use bincode_base::bytes::{read_byte, read_i8};
+use bincode_varint::bytes::{read_byte, read_i8};
 use bincode_base::config::Config;
 use bincode_base::error::{DecodeError, IntegerType};
-use bincode_base::number::Integer;
-use bincode_base::read::Reader;
+use bincode_varint::number::Integer;
+use bincode_io::read::Reader;
 use bincode_wire::wire::Wire;
 
 /// Charges for all bytes of an integer, and reads it as the configuration says. Fails where the charge passes the

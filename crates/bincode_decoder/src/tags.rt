@@ -1,9 +1,9 @@
 //! Tags of enums, read through any decoder, and the error of one that no variant has.
 ghost use Rattle.std.specs.Prelude.{◌≡◌, ◌⊎◌, ◌++◌, false, OnOk, IfOk};
-ghost use Rattle.bincode_base.specs.Fault.{TellsTag};
+ghost use Rattle.bincode_format.specs.Fault.{TellsTag};
 ghost use Rattle.bincode_base.specs.declared.error.DecodeError.TheVariants.{Memory};
-ghost use Rattle.bincode_wire.specs.Words.{tags_of, in_order, last_of, allowed_tags};
-ghost use Rattle.bincode_decoder.specs.Runs.{Reads};
+ghost use Rattle.bincode_format.specs.Words.{tags_of, in_order, last_of, allowed_tags};
+ghost use Rattle.bincode_format.specs.Values.{Reads};
 
 use crate::decoder::Decoder;
 use crate::integers::{decode_byte, decode_integer};

@@ -1,9 +1,9 @@
 //! Spans of time, read through any decoder.
 ghost use Rattle.std.specs.Prelude.{pos};
-ghost use Rattle.bincode_wire.specs.Meaning.{IsNumber, IsThen, IsNothing};
-ghost use Rattle.bincode_wire.specs.Words.{duration};
+ghost use Rattle.bincode_format.specs.Meaning.{IsNumber, IsThen, IsNothing};
+ghost use Rattle.bincode_format.specs.Words.{duration};
 ghost use Rattle.bincode_wire.specs.Durations.{secs_of, nanos_of};
-ghost use Rattle.bincode_decoder.specs.Runs.{Reads};
+ghost use Rattle.bincode_format.specs.Values.{Reads};
 
 use crate::decoder::Decoder;
 use crate::integers::decode_integer;

@@ -1,8 +1,8 @@
 //! Truth values, read through any decoder.
-ghost use Rattle.bincode_wire.specs.Meaning.{IsTruth};
-ghost use Rattle.bincode_wire.specs.Words.{truth};
-ghost use Rattle.bincode_wire.specs.Answer.{Charges};
-ghost use Rattle.bincode_decoder.specs.Runs.{Reads};
+ghost use Rattle.bincode_format.specs.Meaning.{IsTruth};
+ghost use Rattle.bincode_format.specs.Words.{truth};
+ghost use Rattle.bincode_format.specs.Answer.{Charges};
+ghost use Rattle.bincode_format.specs.Values.{Reads};
 
 use crate::decoder::Decoder;
 use crate::integers::decode_byte;

@@ -4,14 +4,14 @@ use Rattle.std.specs.Borrow.{GName}
 use Rattle.std.proofs.Common.{inl, inr}
 use Rattle.std.proofs.lemmas.Result.{IfErr-weaker, on_ok_weaker}
 use Rattle.bincode_base.specs.declared.error.EncodeError.{EncodeError}
-use Rattle.bincode_base.specs.Format.{Format, of_cell}
-use Rattle.bincode_base.specs.Laws.{Lawful}
-use Rattle.bincode_wire.specs.Meaning.{Meaning}
-use Rattle.bincode_wire.specs.Allowed.{AllowedWord, SomeWord}
-use Rattle.bincode_wire.specs.Cells.{IsAny}
-use Rattle.bincode_wire.specs.CellLaws.{cell-allows}
-use Rattle.bincode_encoder.specs.Encoding.{Adds, Refuses, Writes, Ready, Begins, IsOwn, Halts, Encodes, by_writer, by_name}
-use Rattle.bincode_encoder.specs.EncodingLaws.{writes_same}
+use Rattle.bincode_format.specs.Format.{Format, of_cell}
+use Rattle.bincode_format.specs.Laws.{Lawful}
+use Rattle.bincode_format.specs.Meaning.{Meaning}
+use Rattle.bincode_format.specs.Allowed.{AllowedWord, SomeWord}
+use Rattle.bincode_format.specs.Cells.{IsAny}
+use Rattle.bincode_laws.specs.CellLaws.{cell-allows}
+use Rattle.bincode_format.specs.Encoding.{Adds, Refuses, Writes, Ready, Begins, IsOwn, Halts, Encodes, by_writer, by_name}
+use Rattle.bincode_laws.specs.EncodingLaws.{writes_same}
 
 module _ (F : Format Meaning) (f : Lawful F) (P : Meaning → Type 0) {W : Type 0} (adds : Adds W) where
   -- its word is one of the cell

@@ -2,12 +2,12 @@
 use Rattle.std.specs.Prelude.{◌⊎◌, List, Result, Ok, Err}
 use Rattle.std.specs.Borrow.{GName}
 use Rattle.bincode_base.specs.declared.error.EncodeError.{EncodeError}
-use Rattle.bincode_base.specs.Format.{Format}
-use Rattle.bincode_wire.specs.Meaning.{Meaning, IsThen}
-use Rattle.bincode_wire.specs.Words.{first_and}
-use Rattle.bincode_wire.specs.Allowed.{AllowedWord}
-use Rattle.bincode_wire.specs.AllowedLaws.{tuple-allows, allowed-tuple}
-use Rattle.bincode_encoder.specs.Encoding.{Adds, Refuses, Encodes}
+use Rattle.bincode_format.specs.Format.{Format}
+use Rattle.bincode_format.specs.Meaning.{Meaning, IsThen}
+use Rattle.bincode_format.specs.Words.{first_and}
+use Rattle.bincode_format.specs.Allowed.{AllowedWord}
+use Rattle.bincode_laws.specs.AllowedLaws.{tuple-allows, allowed-tuple}
+use Rattle.bincode_format.specs.Encoding.{Adds, Refuses, Encodes}
 use Rattle.bincode_encoder.proofs.EncodingAnswers.{Joined, first-halts, next-encodes}
 
 module _ {P Q : Meaning → Type 0} {F : Format Meaning} (others : Format Meaning) {R S : Type 0} {N M : EncodeError → Type 0} {E W T V : Type 0}

@@ -2,10 +2,10 @@
 ghost use Rattle.std.specs.Prelude.{IfSome, length};
 ghost use Rattle.std.specs.List.{All};
 ghost use Rattle.bincode_base.specs.Setting.{Setting};
-ghost use Rattle.bincode_wire.specs.Words.{array};
-ghost use Rattle.bincode_wire.specs.Run.{IsListOf};
-ghost use Rattle.bincode_wire.specs.Allowed.{AllowedWord};
-ghost use Rattle.bincode_encoder.specs.Encoding.{Ready, Encodes};
+ghost use Rattle.bincode_format.specs.Words.{array};
+ghost use Rattle.bincode_format.specs.Run.{IsListOf};
+ghost use Rattle.bincode_format.specs.Allowed.{AllowedWord};
+ghost use Rattle.bincode_format.specs.Encoding.{Ready, Encodes};
 
 use bincode_base::error::EncodeError;
 use bincode_encoder::encoder::Encoder;

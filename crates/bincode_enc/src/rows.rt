@@ -1,6 +1,6 @@
 //! Parts in a row by reference: what tuples are encoded as.
-ghost use Rattle.bincode_wire.specs.Allowed.{AllowedWord};
-ghost use Rattle.bincode_encoder.specs.Encoding.{Encodes};
+ghost use Rattle.bincode_format.specs.Allowed.{AllowedWord};
+ghost use Rattle.bincode_format.specs.Encoding.{Encodes};
 
 use crate::encode::Encode;
 use bincode_base::error::EncodeError;

@@ -1,10 +1,10 @@
 //! Runs of values, without a length.
 ghost use Rattle.std.specs.Prelude.{length};
 ghost use Rattle.std.specs.List.{All};
-ghost use Rattle.bincode_wire.specs.Words.{array};
-ghost use Rattle.bincode_wire.specs.Run.{IsListOf};
-ghost use Rattle.bincode_wire.specs.Allowed.{AllowedWord};
-ghost use Rattle.bincode_encoder.specs.Encoding.{Encodes};
+ghost use Rattle.bincode_format.specs.Words.{array};
+ghost use Rattle.bincode_format.specs.Run.{IsListOf};
+ghost use Rattle.bincode_format.specs.Allowed.{AllowedWord};
+ghost use Rattle.bincode_format.specs.Encoding.{Encodes};
 
 use crate::encode::Encode;
 use bincode_base::error::EncodeError;

@@ -1,11 +1,11 @@
 //! Encoding of enums, variant by variant.
-ghost use Rattle.bincode_base.specs.Format.{map_format};
+ghost use Rattle.bincode_format.specs.Format.{map_format};
 ghost use Rattle.bincode_base.specs.declared.error.EncodeError.{EncodeError};
-ghost use Rattle.bincode_wire.specs.Meaning.{Choice};
-ghost use Rattle.bincode_wire.specs.Words.{behind_tag, chosen};
-ghost use Rattle.bincode_wire.specs.Choices.{IsChoice};
-ghost use Rattle.bincode_wire.specs.Allowed.{AllowedWord, WrittenAlike, SameMeanings};
-ghost use Rattle.bincode_encoder.specs.Encoding.{Encodes};
+ghost use Rattle.bincode_format.specs.Meaning.{Choice};
+ghost use Rattle.bincode_format.specs.Words.{behind_tag, chosen};
+ghost use Rattle.bincode_format.specs.Choices.{IsChoice};
+ghost use Rattle.bincode_format.specs.Allowed.{AllowedWord, WrittenAlike, SameMeanings};
+ghost use Rattle.bincode_format.specs.Encoding.{Encodes};
 
 use crate::encode::Encode;
 use crate::runs::ByEncode;

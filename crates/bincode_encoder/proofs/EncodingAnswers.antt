@@ -5,13 +5,13 @@ use Rattle.std.proofs.Common.{◌∙◌}
 use Rattle.std.proofs.lemmas.Result.{IfErr-weaker, on_ok_weaker}
 use Rattle.bincode_base.specs.declared.error.IntegerType.{IntegerType}
 use Rattle.bincode_base.specs.declared.error.EncodeError.{EncodeError}
-use Rattle.bincode_base.specs.Format.{Format, map_format}
-use Rattle.bincode_wire.specs.Meaning.{Number, IsNumber}
-use Rattle.bincode_wire.specs.Words.{not_zero_by}
-use Rattle.bincode_wire.specs.Allowed.{AllowedWord, Both}
-use Rattle.bincode_wire.specs.AllowedLaws.{not_zero-allows, allowed-not_zero}
-use Rattle.bincode_encoder.specs.Encoding.{Adds, Refuses, Ready, Encodes}
-use Rattle.bincode_encoder.specs.EncodingLaws.{writes_alone, writes_both, writes_same, halts_alone, halts_same, halts_named, halts_where, halts_in_first, halts_in_next, ready_as}
+use Rattle.bincode_format.specs.Format.{Format, map_format}
+use Rattle.bincode_format.specs.Meaning.{Number, IsNumber}
+use Rattle.bincode_format.specs.Words.{not_zero_by}
+use Rattle.bincode_format.specs.Allowed.{AllowedWord, Both}
+use Rattle.bincode_laws.specs.AllowedLaws.{not_zero-allows, allowed-not_zero}
+use Rattle.bincode_format.specs.Encoding.{Adds, Refuses, Ready, Encodes}
+use Rattle.bincode_laws.specs.EncodingLaws.{writes_alone, writes_both, writes_same, halts_alone, halts_same, halts_named, halts_where, halts_in_first, halts_in_next, ready_as}
 
 -- a writer whose writes in turn are one write
 abbrev pub Joined : {W : Type 0} → Adds W → Type 0

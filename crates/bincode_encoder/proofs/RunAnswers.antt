@@ -5,14 +5,14 @@ use Rattle.std.proofs.Common.{sym, ◌∙◌, ap, subst, inl, inr, append_assoc,
 use Rattle.std.proofs.lemmas.List.{take_more, take_all, take-append-drop}
 use Rattle.std.proofs.lemmas.List.Elements.{All-nil, All-cons, All-head, All-tail}
 use Rattle.bincode_base.specs.declared.error.EncodeError.{EncodeError}
-use Rattle.bincode_base.specs.Format.{Format}
-use Rattle.bincode_wire.specs.Meaning.{Meaning}
-use Rattle.bincode_wire.specs.Words.{array}
-use Rattle.bincode_wire.specs.Allowed.{AllowedWord, Both}
-use Rattle.bincode_wire.specs.Run.{IsListOf, AllowsEach}
-use Rattle.bincode_wire.specs.RunAllowedLaws.{array-allows, allowed-array, each-join, each-split}
-use Rattle.bincode_encoder.specs.Encoding.{Adds, Refuses, Writes, Ready, Halts}
-use Rattle.bincode_encoder.specs.EncodingLaws.{writes_both, writes_same, halts_first, halts_next, halts_same, halts_named, ready_as}
+use Rattle.bincode_format.specs.Format.{Format}
+use Rattle.bincode_format.specs.Meaning.{Meaning}
+use Rattle.bincode_format.specs.Words.{array}
+use Rattle.bincode_format.specs.Allowed.{AllowedWord, Both}
+use Rattle.bincode_format.specs.Run.{IsListOf, AllowsEach}
+use Rattle.bincode_laws.specs.RunAllowedLaws.{array-allows, allowed-array, each-join, each-split}
+use Rattle.bincode_format.specs.Encoding.{Adds, Refuses, Writes, Ready, Halts}
+use Rattle.bincode_laws.specs.EncodingLaws.{writes_both, writes_same, halts_first, halts_next, halts_same, halts_named, ready_as}
 
 -- the items before an index, the item there and those behind it
 around : {A : Type 0} (vs : List A) (i : ℕ) (v : A) → i < length vs → v ≡ slice_index_or vs i v → vs ≡ take i vs ++ v ∷ drop (i + 1) vs

@@ -1,5 +1,5 @@
 //! The error of a cell that cannot be read.
-ghost use Rattle.bincode_wire.specs.Cells.{IsBorrowed};
+ghost use Rattle.bincode_format.specs.Cells.{IsBorrowed};
 
 use bincode_base::error::EncodeError;
 use bincode_base::text::ShortText;

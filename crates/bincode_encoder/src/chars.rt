@@ -1,10 +1,10 @@
 //! Characters, written through any encoder.
 ghost use Rattle.std.specs.Prelude.{◌≡◌};
 ghost use Rattle.std.specs.Char.{encode_utf8, IsScalar};
-ghost use Rattle.bincode_wire.specs.Meaning.{IsCharacter};
-ghost use Rattle.bincode_wire.specs.Words.{character};
-ghost use Rattle.bincode_wire.specs.Allowed.{AllowedWord};
-ghost use Rattle.bincode_encoder.specs.Encoding.{Encodes};
+ghost use Rattle.bincode_format.specs.Meaning.{IsCharacter};
+ghost use Rattle.bincode_format.specs.Words.{character};
+ghost use Rattle.bincode_format.specs.Allowed.{AllowedWord};
+ghost use Rattle.bincode_format.specs.Encoding.{Encodes};
 
 use crate::encoder::{Encoder, write_from};
 use bincode_base::error::EncodeError;

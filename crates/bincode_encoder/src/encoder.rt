@@ -5,7 +5,7 @@ ghost use Rattle.std.specs.Borrow.{GName, Lends, sem};
 
 use bincode_base::config::Config;
 use bincode_base::error::EncodeError;
-use bincode_base::write::Writer;
+use bincode_io::write::Writer;
 
 mod sealed {
     /// Only the encoders of this crate are encoders.

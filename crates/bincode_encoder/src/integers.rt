@@ -2,19 +2,19 @@
 ghost use Rattle.std.specs.Prelude.{pos, FitsSigned, length};
 ghost use Rattle.std.specs.List.{All};
 ghost use Rattle.std.specs.Int.{w8};
-ghost use Rattle.bincode_base.specs.Format.{map_format};
-ghost use Rattle.bincode_base.specs.Integers.{unsigned_byte, signed_byte};
-ghost use Rattle.bincode_wire.specs.Meaning.{Number, IsNumber};
-ghost use Rattle.bincode_wire.specs.Words.{natural, integral, array};
-ghost use Rattle.bincode_wire.specs.Run.{IsListOf};
-ghost use Rattle.bincode_wire.specs.Allowed.{AllowedWord};
-ghost use Rattle.bincode_encoder.specs.Encoding.{Ready, Encodes};
+ghost use Rattle.bincode_format.specs.Format.{map_format};
+ghost use Rattle.bincode_format.specs.Integers.{unsigned_byte, signed_byte};
+ghost use Rattle.bincode_format.specs.Meaning.{Number, IsNumber};
+ghost use Rattle.bincode_format.specs.Words.{natural, integral, array};
+ghost use Rattle.bincode_format.specs.Run.{IsListOf};
+ghost use Rattle.bincode_format.specs.Allowed.{AllowedWord};
+ghost use Rattle.bincode_format.specs.Encoding.{Ready, Encodes};
 
 use crate::encoder::{Encoder, write_from};
-use bincode_base::bytes::byte_of_i8;
+use bincode_varint::bytes::byte_of_i8;
 use bincode_base::config::Config;
 use bincode_base::error::EncodeError;
-use bincode_base::number::Integer;
+use bincode_varint::number::Integer;
 
 /// Writes an integer as the configuration says. Fails where the writer refuses a piece; those before it stay written.
 #[inline(always)]

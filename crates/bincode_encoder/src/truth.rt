@@ -1,8 +1,8 @@
 //! Truth values, written through any encoder.
-ghost use Rattle.bincode_wire.specs.Meaning.{IsTruth};
-ghost use Rattle.bincode_wire.specs.Words.{truth};
-ghost use Rattle.bincode_wire.specs.Allowed.{AllowedWord};
-ghost use Rattle.bincode_encoder.specs.Encoding.{Encodes};
+ghost use Rattle.bincode_format.specs.Meaning.{IsTruth};
+ghost use Rattle.bincode_format.specs.Words.{truth};
+ghost use Rattle.bincode_format.specs.Allowed.{AllowedWord};
+ghost use Rattle.bincode_format.specs.Encoding.{Encodes};
 
 use crate::encoder::{Encoder, write_from};
 use bincode_base::error::EncodeError;

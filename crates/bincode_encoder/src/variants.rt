@@ -1,12 +1,12 @@
 //! Values of enums, written variant by variant: a tag, and a part by a way to write it.
 ghost use Rattle.std.specs.Prelude.{pos};
-ghost use Rattle.bincode_base.specs.Format.{map_format};
+ghost use Rattle.bincode_format.specs.Format.{map_format};
 ghost use Rattle.bincode_base.specs.declared.error.EncodeError.{EncodeError};
-ghost use Rattle.bincode_wire.specs.Meaning.{Choice, IsNumber};
-ghost use Rattle.bincode_wire.specs.Words.{natural, behind_tag, chosen};
-ghost use Rattle.bincode_wire.specs.Choices.{IsChoice};
-ghost use Rattle.bincode_wire.specs.Allowed.{AllowedWord, WrittenAlike, SameMeanings};
-ghost use Rattle.bincode_encoder.specs.Encoding.{Encodes};
+ghost use Rattle.bincode_format.specs.Meaning.{Choice, IsNumber};
+ghost use Rattle.bincode_format.specs.Words.{natural, behind_tag, chosen};
+ghost use Rattle.bincode_format.specs.Choices.{IsChoice};
+ghost use Rattle.bincode_format.specs.Allowed.{AllowedWord, WrittenAlike, SameMeanings};
+ghost use Rattle.bincode_format.specs.Encoding.{Encodes};
 
 use crate::encoder::Encoder;
 use crate::integers::{encode_byte, encode_integer};

@@ -3,15 +3,15 @@ use Rattle.std.specs.Prelude.{◌≡◌, ℕ, suc, ◌+◌, ◌-◌, ◌*◌, �
 use Rattle.std.specs.Borrow.{GName}
 use Rattle.std.proofs.Common.{◌∙◌, arith}
 use Rattle.bincode_base.specs.declared.error.DecodeError.{DecodeError}
-use Rattle.bincode_base.specs.Device.{DeviceErrors}
-use Rattle.bincode_base.specs.Format.{Format, elements}
-use Rattle.bincode_base.specs.Laws.{Lawful, Balanced}
-use Rattle.bincode_wire.specs.Meaning.{Meaning, listed}
-use Rattle.bincode_wire.specs.Answer.{answer, unclaimed}
-use Rattle.bincode_wire.specs.DecodingLaws.{stops-besides}
-use Rattle.bincode_wire.specs.Run.{IsListOf, CanRelease, Held}
-use Rattle.bincode_wire.specs.RunLaws.{ReadSoFar, none_read, one_more, one_stops, all_read, one-releases, others-release, held-none, held-more, is_list_push}
-use Rattle.bincode_decoder.specs.Runs.{Reads, RunRead}
+use Rattle.bincode_format.specs.Device.{DeviceErrors}
+use Rattle.bincode_format.specs.Format.{Format, elements}
+use Rattle.bincode_format.specs.Laws.{Lawful, Balanced}
+use Rattle.bincode_format.specs.Meaning.{Meaning, listed}
+use Rattle.bincode_format.specs.Answer.{answer, unclaimed}
+use Rattle.bincode_laws.specs.DecodingLaws.{stops-besides}
+use Rattle.bincode_format.specs.Run.{IsListOf, CanRelease, Held}
+use Rattle.bincode_laws.specs.RunLaws.{ReadSoFar, none_read, one_more, one_stops, all_read, one-releases, others-release, held-none, held-more, is_list_push}
+use Rattle.bincode_format.specs.Values.{Reads, RunRead}
 use Rattle.bincode_decoder.proofs.Rooms.{held-within}
 
 -- of a run of so many values these were read, and the room of the others is still reserved

@@ -1,9 +1,9 @@
 //! Arrays of elements whose room has been reserved.
 ghost use Rattle.std.specs.Prelude.{◌≡◌, ◌*◌, ◌⊎◌, List, Option, Some, length, map, OnOk, IfOk};
-ghost use Rattle.bincode_base.specs.Format.{elements};
+ghost use Rattle.bincode_format.specs.Format.{elements};
 ghost use Rattle.bincode_slots.specs.Slots.{SlotsFit};
-ghost use Rattle.bincode_wire.specs.Run.{CanRelease, RoomReturned};
-ghost use Rattle.bincode_decoder.specs.Runs.{RunRead};
+ghost use Rattle.bincode_format.specs.Run.{CanRelease, RoomReturned};
+ghost use Rattle.bincode_format.specs.Values.{RunRead};
 
 use crate::runs::{decode_next, decode_run};
 use crate::values::ReadValues;

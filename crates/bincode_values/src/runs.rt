@@ -1,9 +1,9 @@
 //! Runs of values whose room has been reserved, without a length.
 ghost use Rattle.std.specs.Prelude.{◌≡◌, ◌*◌, length, IfOk, IfSome, IfErr};
 ghost use Rattle.bincode_base.specs.declared.error.DecodeError.TheVariants.{Memory};
-ghost use Rattle.bincode_wire.specs.Answer.{unclaimed};
-ghost use Rattle.bincode_wire.specs.Run.{CanRelease};
-ghost use Rattle.bincode_decoder.specs.Runs.{Reads, RunRead};
+ghost use Rattle.bincode_format.specs.Answer.{unclaimed};
+ghost use Rattle.bincode_format.specs.Run.{CanRelease};
+ghost use Rattle.bincode_format.specs.Values.{Reads, RunRead};
 
 use crate::values::ReadValues;
 use bincode_base::error::DecodeError;

@@ -1,7 +1,7 @@
 //! Values that are made of their parts.
 ghost use Rattle.std.specs.Prelude.{◌≡◌};
-ghost use Rattle.bincode_wire.specs.Meaning.{Meaning};
-ghost use Rattle.bincode_decoder.specs.Runs.{Reads};
+ghost use Rattle.bincode_format.specs.Meaning.{Meaning};
+ghost use Rattle.bincode_format.specs.Values.{Reads};
 
 use bincode_base::error::DecodeError;
 use bincode_decoder::decoder::Decoder;

@@ -1,7 +1,7 @@
 -- What a span of time has.
 use Rattle.std.specs.Prelude.{ℕ, ◌+◌, ◌*◌}
 use Rattle.bincode_wire.specs.declared.own.time.Duration.{Duration}
-use Rattle.bincode_wire.specs.Words.{second_in_nanos}
+use Rattle.bincode_format.specs.Words.{second_in_nanos}
 
 -- its whole seconds
 abbrev pub secs_of : Duration → ℕ

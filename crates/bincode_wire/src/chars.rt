@@ -1,14 +1,14 @@
 //! The bytes of characters.
 ghost use Rattle.std.specs.Prelude.{◌≡◌, ◌<◌, ◌≤◌, ◌∷◌, [], Some, None, IfOk, IfErr};
 ghost use Rattle.std.specs.Char.{encode_utf8};
-ghost use Rattle.bincode_base.specs.Reads.{ReadsWord};
-ghost use Rattle.bincode_wire.specs.Meaning.{Character};
-ghost use Rattle.bincode_wire.specs.Words.{char_width, rest_of_char};
-ghost use Rattle.bincode_wire.specs.CharLaws.{Spells};
+ghost use Rattle.bincode_format.specs.Reads.{ReadsWord};
+ghost use Rattle.bincode_format.specs.Meaning.{Character};
+ghost use Rattle.bincode_format.specs.Words.{char_width, rest_of_char};
+ghost use Rattle.bincode_laws.specs.CharLaws.{Spells};
 
-use bincode_base::bytes::read_array;
+use bincode_varint::bytes::read_array;
 use bincode_base::error::DecodeError;
-use bincode_base::read::Reader;
+use bincode_io::read::Reader;
 
 // Always inlined, as the decoding of numbers is: a call hands on a result with room for an error.
 

@@ -2,9 +2,9 @@
 ghost use Rattle.std.specs.Prelude.{◌≡◌, true};
 ghost use Rattle.bincode_base.specs.Setting.{Setting};
 ghost use Rattle.bincode_base.specs.declared.error.EncodeError.{EncodeError};
-ghost use Rattle.bincode_wire.specs.Meaning.{Meaning};
-ghost use Rattle.bincode_wire.specs.Allowed.{AllowedWord, Shortest, OneLength};
-ghost use Rattle.bincode_wire.specs.Cells.{HasWord};
+ghost use Rattle.bincode_format.specs.Meaning.{Meaning};
+ghost use Rattle.bincode_format.specs.Allowed.{AllowedWord, Shortest, OneLength};
+ghost use Rattle.bincode_format.specs.Cells.{HasWord};
 
 use crate::wire::Wire;
 

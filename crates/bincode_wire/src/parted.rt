@@ -1,8 +1,8 @@
 //! Types that have the words of their parts.
 ghost use Rattle.std.specs.Prelude.{◌≡◌, true};
-ghost use Rattle.bincode_wire.specs.Meaning.{Meaning};
-ghost use Rattle.bincode_wire.specs.Promises.{Promise, no_more};
-ghost use Rattle.bincode_wire.specs.AllowedLaws.{fewer-none_shorter};
+ghost use Rattle.bincode_format.specs.Meaning.{Meaning};
+ghost use Rattle.bincode_format.specs.Promises.{Promise, no_more};
+ghost use Rattle.bincode_laws.specs.AllowedLaws.{fewer-none_shorter};
 
 use crate::laws::{Canonical, Exact, Inhabited, Plain, Writable};
 use crate::wire::Wire;

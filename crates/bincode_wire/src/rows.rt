@@ -1,10 +1,10 @@
 //! Parts in a row: what tuples are written as.
 ghost use Rattle.std.specs.Prelude.{◌≡◌, ◌⊎◌, ◌+◌, ◌-◌, ◌^◌, min, refl};
-ghost use Rattle.bincode_wire.specs.Meaning.{IsThen, IsFourThen};
-ghost use Rattle.bincode_wire.specs.Words.{first_and, four_and};
-ghost use Rattle.bincode_wire.specs.TupleLaws.{units, then-some_word, then-lawful, then-balanced, then-has_word};
-ghost use Rattle.bincode_wire.specs.TupleLaws.{then-one_length, then-same, then-shortest, either, four-lawful};
-ghost use Rattle.bincode_wire.specs.TupleLaws.{four-balanced, four-has_word, four-one_length, four-same, four-shortest};
+ghost use Rattle.bincode_format.specs.Meaning.{IsThen, IsFourThen};
+ghost use Rattle.bincode_format.specs.Words.{first_and, four_and};
+ghost use Rattle.bincode_laws.specs.TupleLaws.{units, then-some_word, then-lawful, then-balanced, then-has_word};
+ghost use Rattle.bincode_laws.specs.TupleLaws.{then-one_length, then-same, then-shortest, either, four-lawful};
+ghost use Rattle.bincode_laws.specs.TupleLaws.{four-balanced, four-has_word, four-one_length, four-same, four-shortest};
 
 use crate::laws::{Canonical, Exact, Inhabited, Plain, Writable};
 use crate::parted::{Parted, SameParts};

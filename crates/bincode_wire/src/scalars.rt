@@ -1,8 +1,8 @@
 //! Types of one word each that is written: numbers, truth values and characters.
 ghost use Rattle.std.specs.Prelude.{◌≡◌, ℕ, true};
-ghost use Rattle.bincode_wire.specs.Meaning.{Meaning};
-ghost use Rattle.bincode_wire.specs.AllowedLaws.{more-allowed};
-ghost use Rattle.bincode_wire.specs.Forms.{Form};
+ghost use Rattle.bincode_format.specs.Meaning.{Meaning};
+ghost use Rattle.bincode_laws.specs.AllowedLaws.{more-allowed};
+ghost use Rattle.bincode_laws.specs.Forms.{Form};
 
 use crate::laws::{Canonical, Exact, Inhabited, Plain, Writable};
 use crate::wire::Wire;

@@ -1,11 +1,11 @@
 //! The trait of all types that have words.
 ghost use Rattle.std.specs.Prelude.{◌≡◌, ℕ};
 ghost use Rattle.bincode_base.specs.Setting.{Setting};
-ghost use Rattle.bincode_base.specs.Format.{Format};
-ghost use Rattle.bincode_base.specs.Laws.{Lawful, Balanced};
+ghost use Rattle.bincode_format.specs.Format.{Format};
+ghost use Rattle.bincode_format.specs.Laws.{Lawful, Balanced};
 ghost use Rattle.bincode_base.specs.declared.error.EncodeError.{EncodeError};
-ghost use Rattle.bincode_wire.specs.Meaning.{Meaning};
-ghost use Rattle.bincode_wire.specs.Allowed.{AllowedWord, SomeWord, MayName};
+ghost use Rattle.bincode_format.specs.Meaning.{Meaning};
+ghost use Rattle.bincode_format.specs.Allowed.{AllowedWord, SomeWord, MayName};
 
 /// What a type says of its words, so that encoding and decoding speak of the same. `Encode` and `Decode` stand on it. A
 /// type that is made of others has it by `Parted`.

@@ -3,14 +3,14 @@ use Rattle.std.specs.Prelude.{◌≡◌, ◌⊎◌, ℕ, List, refl, Option, Som
 use Rattle.std.proofs.Common.{inl, inr}
 use Rattle.bincode_base.specs.declared.error.DecodeError.{DecodeError}
 use Rattle.bincode_base.specs.declared.error.DecodeError.TheVariants.{LimitExceeded, Memory}
-use Rattle.bincode_base.specs.Fault.{Fault, End, InvalidInteger, Zero, UnexpectedVariant, Utf8, InvalidChar, InvalidBool, InvalidDuration, NulAt}
-use Rattle.bincode_base.specs.Fault.{Other, LengthMismatch, EmptyEnum, OutsideUsize, short, long, Between, OneOf}
-use Rattle.bincode_base.specs.Format.{Format}
-use Rattle.bincode_base.specs.Laws.{Lawful, Balanced}
-use Rattle.bincode_wire.specs.Meaning.{Meaning}
-use Rattle.bincode_wire.specs.Answer.{Answer, Gave, Refused, PassedLimit, answer}
-use Rattle.bincode_wire.specs.AnswerLaws.{gave-word, refused-fault, passed-limit}
-use Rattle.bincode.specs.Slice.{TellsOfSlice, IsRefused, FindsWords, TellsFaults, KeepsLimit}
+use Rattle.bincode_format.specs.Fault.{Fault, End, InvalidInteger, Zero, UnexpectedVariant, Utf8, InvalidChar, InvalidBool, InvalidDuration, NulAt}
+use Rattle.bincode_format.specs.Fault.{Other, LengthMismatch, EmptyEnum, OutsideUsize, short, long, Between, OneOf}
+use Rattle.bincode_format.specs.Format.{Format}
+use Rattle.bincode_format.specs.Laws.{Lawful, Balanced}
+use Rattle.bincode_format.specs.Meaning.{Meaning}
+use Rattle.bincode_format.specs.Answer.{Answer, Gave, Refused, PassedLimit, answer}
+use Rattle.bincode_laws.specs.AnswerLaws.{gave-word, refused-fault, passed-limit}
+use Rattle.bincode_format.specs.Slice.{TellsOfSlice, IsRefused, FindsWords, TellsFaults, KeepsLimit}
 
 -- no fault is told by it
 tells_none : (why : Fault) (e : DecodeError) → e ≡ Memory → TellsOfSlice why e → ⊥

@@ -2,13 +2,13 @@
 use Rattle.std.specs.Prelude.{◌≡◌, ℕ, List, length, drop, Option, None, Result, Ok, Err, IfOk, MatchResult}
 use Rattle.std.proofs.Common.{sym, ◌∙◌, ap, subst}
 use Rattle.bincode_base.specs.declared.error.DecodeError.{DecodeError}
-use Rattle.bincode_base.specs.Charge.{StaysWithin}
-use Rattle.bincode_base.specs.Format.{Format}
-use Rattle.bincode_base.specs.Laws.{Lawful}
-use Rattle.bincode_base.specs.FormatLaws.{one_word}
-use Rattle.bincode_wire.specs.Meaning.{Meaning}
-use Rattle.bincode_wire.specs.Allowed.{AllowedWord}
-use Rattle.bincode.specs.Slice.{WordWritten, Decoded, IsRefused, FindsWords}
+use Rattle.bincode_format.specs.Charge.{StaysWithin}
+use Rattle.bincode_format.specs.Format.{Format}
+use Rattle.bincode_format.specs.Laws.{Lawful}
+use Rattle.bincode_laws.specs.FormatLaws.{one_word}
+use Rattle.bincode_format.specs.Meaning.{Meaning}
+use Rattle.bincode_format.specs.Allowed.{AllowedWord}
+use Rattle.bincode_format.specs.Slice.{WordWritten, Decoded, IsRefused, FindsWords}
 
 module _ {A : Type 0} (F : Format Meaning) (f : Lawful F) (limit : Option ℕ) (free : limit ≡ None) (Means : Meaning → Type 0)
     (Given : Meaning → A → Type 0) (Same : A → Type 0) (same : (a : A) (m : Meaning) → Means m → Given m a → Same a) where

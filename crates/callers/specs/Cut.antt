@@ -2,7 +2,7 @@
 use Rattle.std.specs.Prelude.{◌≡◌}
 use Rattle.bincode_base.specs.declared.text.Text.{Text}
 use Rattle.bincode_base.specs.declared.error.DecodeError.TheVariants.{Other}
-use Rattle.bincode_base.specs.Device.{DeviceErrors}
+use Rattle.bincode_format.specs.Device.{DeviceErrors}
 
 -- a text, which is counted
 abbrev pub cut_errors : DeviceErrors

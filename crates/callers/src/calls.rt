@@ -1,8 +1,8 @@
 //! Callers that rest on the contracts of the two calls alone.
 ghost use Rattle.std.specs.Prelude.{◌≡◌, true, None, IfErr, IfOk, MatchResult};
 ghost use Rattle.bincode_base.specs.declared.error.DecodeError.TheVariants.{Memory};
-ghost use Rattle.bincode_wire.specs.Allowed.{AllowedWord};
-ghost use Rattle.bincode.specs.Slice.{IsRefused, FrontWritten};
+ghost use Rattle.bincode_format.specs.Allowed.{AllowedWord};
+ghost use Rattle.bincode_format.specs.Slice.{IsRefused, FrontWritten};
 
 use bincode::config::Config;
 use bincode::de::Decode;

@@ -2,8 +2,8 @@
 ghost use Rattle.std.specs.Prelude.{◌≡◌, ◌+◌, ◌-◌, ◌^◌, ◌<◌, ◌≤◌, ◌⊎◌, [], length};
 ghost use Rattle.std.specs.Prelude.{⊤, Some};
 ghost use Rattle.std.proofs.Common.{zero-le, le_refl, inl, inr, arith, length-append};
-ghost use Rattle.bincode_base.specs.Device.{Rose};
-ghost use Rattle.bincode_base.specs.Slices.{left_of};
+ghost use Rattle.bincode_format.specs.Device.{Rose};
+ghost use Rattle.bincode_io.specs.Slices.{left_of};
 ghost use Rattle.bincode_base.specs.declared.error.DecodeError.TheVariants.{UnexpectedEnd};
 ghost use Rattle.callers.specs.Cut.{cut_errors};
 

@@ -4,13 +4,13 @@ use Rattle.bincode_base.specs.declared.config.Endianness.TheVariants.{Little, Bi
 use Rattle.bincode_base.specs.declared.config.IntEncoding.TheVariants.{Fixed, Variable}
 use Rattle.bincode_base.specs.declared.error.IntegerType.TheVariants.{U16, U32, U64, U128, I16, I32, I128, Isize, Reserved}
 use Rattle.bincode_base.specs.Setting.{Setting}
-use Rattle.bincode_base.specs.Number.{zigzag}
-use Rattle.bincode_base.specs.Fault.{End, InvalidInteger, Zero, UnexpectedVariant, Between, OneOf, Utf8, InvalidChar, InvalidBool, InvalidDuration, NulAt}
-use Rattle.bincode_base.specs.Charge.{Charge, Reserve, Release}
-use Rattle.bincode_base.specs.Format.{Format, Took, Failed}
-use Rattle.bincode_wire.specs.Meaning.{Meaning, Truth, Number, Character, Bytes, Nothing, Choice, IsNumber, listed}
-use Rattle.bincode_wire.specs.Allowed.{AllowedWord}
-use Rattle.bincode_wire.specs.Words.{list, text, without_nul}
+use Rattle.bincode_format.specs.Number.{zigzag}
+use Rattle.bincode_format.specs.Fault.{End, InvalidInteger, Zero, UnexpectedVariant, Between, OneOf, Utf8, InvalidChar, InvalidBool, InvalidDuration, NulAt}
+use Rattle.bincode_format.specs.Charge.{Charge, Reserve, Release}
+use Rattle.bincode_format.specs.Format.{Format, Took, Failed}
+use Rattle.bincode_format.specs.Meaning.{Meaning, Truth, Number, Character, Bytes, Nothing, Choice, IsNumber, listed}
+use Rattle.bincode_format.specs.Allowed.{AllowedWord}
+use Rattle.bincode_format.specs.Words.{list, text, without_nul}
 
 -- what is computed, and what docs/FORMAT.md expects
 record Row (A : Type 0) : Type 0 where

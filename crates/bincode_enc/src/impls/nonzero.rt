@@ -1,15 +1,15 @@
 //! Encoding of integers other than 0.
 ghost use Rattle.std.specs.Prelude.{◌<◌};
-ghost use Rattle.bincode_base.specs.Format.{map_format};
-ghost use Rattle.bincode_wire.specs.Meaning.{Number, IsNumber};
-ghost use Rattle.bincode_wire.specs.Words.{not_zero_by};
-ghost use Rattle.bincode_wire.specs.Allowed.{AllowedWord};
-ghost use Rattle.bincode_encoder.specs.Encoding.{Encodes};
+ghost use Rattle.bincode_format.specs.Format.{map_format};
+ghost use Rattle.bincode_format.specs.Meaning.{Number, IsNumber};
+ghost use Rattle.bincode_format.specs.Words.{not_zero_by};
+ghost use Rattle.bincode_format.specs.Allowed.{AllowedWord};
+ghost use Rattle.bincode_format.specs.Encoding.{Encodes};
 
 use crate::encode::Encode;
 use crate::encode_parts::EncodeParts;
 use bincode_base::error::EncodeError;
-use bincode_base::number::Integer;
+use bincode_varint::number::Integer;
 use bincode_encoder::encoder::Encoder;
 use bincode_encoder::integers::encode_integer;
 use std::num::{

@@ -3,12 +3,12 @@ ghost use Rattle.std.specs.Prelude.{◌≡◌, ◌*◌, ◌-◌, ◌^◌, ◌⊎
 ghost use Rattle.std.specs.List.{All};
 ghost use Rattle.std.proofs.lemmas.List.Elements.{All-weaker};
 ghost use Rattle.bincode_slots.specs.Slots.{SlotsFit};
-ghost use Rattle.bincode_wire.specs.Words.{array};
-ghost use Rattle.bincode_wire.specs.WordsLaws.{array-lawful, array-balanced};
-ghost use Rattle.bincode_wire.specs.Run.{IsListOf};
-ghost use Rattle.bincode_wire.specs.RunAllowedLaws.{array-allows, allowed-array, array-some_word, each-has_word};
-ghost use Rattle.bincode_wire.specs.RunAllowedLaws.{each-one_length, array-shortest, run_same};
-ghost use Rattle.bincode_wire.specs.AllowedLaws.{same-one_length};
+ghost use Rattle.bincode_format.specs.Words.{array};
+ghost use Rattle.bincode_laws.specs.WordsLaws.{array-lawful, array-balanced};
+ghost use Rattle.bincode_format.specs.Run.{IsListOf};
+ghost use Rattle.bincode_laws.specs.RunAllowedLaws.{array-allows, allowed-array, array-some_word, each-has_word};
+ghost use Rattle.bincode_laws.specs.RunAllowedLaws.{each-one_length, array-shortest, run_same};
+ghost use Rattle.bincode_laws.specs.AllowedLaws.{same-one_length};
 
 use crate::laws::{Canonical, Exact, Inhabited, Plain, Writable};
 use crate::wire::Wire;

@@ -1,10 +1,10 @@
 //! The words of cells.
 ghost use Rattle.std.specs.Prelude.{◌⊎◌};
-ghost use Rattle.bincode_base.specs.Format.{of_cell};
-ghost use Rattle.bincode_wire.specs.Cells.{IsAny, IsBorrowed, IsHeld};
-ghost use Rattle.bincode_wire.specs.Allowed.{MayName};
-ghost use Rattle.bincode_wire.specs.CellLaws.{cell-lawful, cell-balanced, cell-some_word, borrowed-named};
-ghost use Rattle.bincode_wire.specs.TupleLaws.{either};
+ghost use Rattle.bincode_format.specs.Format.{of_cell};
+ghost use Rattle.bincode_format.specs.Cells.{IsAny, IsBorrowed, IsHeld};
+ghost use Rattle.bincode_format.specs.Allowed.{MayName};
+ghost use Rattle.bincode_laws.specs.CellLaws.{cell-lawful, cell-balanced, cell-some_word, borrowed-named};
+ghost use Rattle.bincode_laws.specs.TupleLaws.{either};
 
 use crate::laws::{Inhabited, Writable};
 use crate::wire::Wire;

@@ -1,5 +1,5 @@
 //! The words of characters.
-ghost use Rattle.bincode_wire.specs.CharLaws.{characters, same_character};
+ghost use Rattle.bincode_laws.specs.CharLaws.{characters, same_character};
 
 use crate::parted::{Parted, SameParts};
 use crate::scalars::{Alone, Scalar};

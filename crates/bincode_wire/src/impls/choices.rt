@@ -1,7 +1,7 @@
 //! The words of truth values, `Option`, `Result` and `Bound`.
 ghost use Rattle.std.specs.Prelude.{refl};
-ghost use Rattle.bincode_wire.specs.AllowedLaws.{same_truth};
-ghost use Rattle.bincode_wire.specs.Forms.{truths};
+ghost use Rattle.bincode_laws.specs.AllowedLaws.{same_truth};
+ghost use Rattle.bincode_laws.specs.Forms.{truths};
 
 use crate::laws::Exact;
 use crate::parted::{Parted, SameParts};

@@ -6,9 +6,9 @@ ghost use Rattle.std.specs.Int.NonZero.{non_zero_u128_get, non_zero_usize_get, n
 ghost use Rattle.std.specs.Int.NonZero.{non_zero_i32_get, non_zero_i64_get, non_zero_i128_get, non_zero_isize_get};
 ghost use Rattle.bincode_base.specs.declared.error.IntegerType.TheVariants.{U16, U32, U64, U128, Usize, I16, I32, I64};
 ghost use Rattle.bincode_base.specs.declared.error.IntegerType.TheVariants.{I128, Isize};
-ghost use Rattle.bincode_base.specs.IntegerLaws.{Two, Four, Eight, Sixteen};
-ghost use Rattle.bincode_wire.specs.AllowedLaws.{same_number, same_integer};
-ghost use Rattle.bincode_wire.specs.Forms.{bytes_not_zero, unsigned_not_zero, signed_bytes_not_zero, signed_not_zero};
+ghost use Rattle.bincode_format.specs.Integers.{Two, Four, Eight, Sixteen};
+ghost use Rattle.bincode_laws.specs.AllowedLaws.{same_number, same_integer};
+ghost use Rattle.bincode_laws.specs.Forms.{bytes_not_zero, unsigned_not_zero, signed_bytes_not_zero, signed_not_zero};
 
 use crate::parted::{Parted, SameParts};
 use crate::scalars::{Alone, Scalar};

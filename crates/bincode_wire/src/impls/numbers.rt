@@ -3,9 +3,9 @@ ghost use Rattle.std.specs.Prelude.{refl};
 ghost use Rattle.std.specs.Int.{w16, w32, w64, w128};
 ghost use Rattle.bincode_base.specs.declared.error.IntegerType.TheVariants.{U16, U32, U64, U128, Usize, I16, I32, I64};
 ghost use Rattle.bincode_base.specs.declared.error.IntegerType.TheVariants.{I128, Isize};
-ghost use Rattle.bincode_base.specs.IntegerLaws.{Two, Four, Eight, Sixteen};
-ghost use Rattle.bincode_wire.specs.AllowedLaws.{same_number, same_integer};
-ghost use Rattle.bincode_wire.specs.Forms.{bytes, unsigned_numbers, signed_bytes, signed_numbers};
+ghost use Rattle.bincode_format.specs.Integers.{Two, Four, Eight, Sixteen};
+ghost use Rattle.bincode_laws.specs.AllowedLaws.{same_number, same_integer};
+ghost use Rattle.bincode_laws.specs.Forms.{bytes, unsigned_numbers, signed_bytes, signed_numbers};
 
 use crate::parted::{Parted, SameParts};
 use crate::scalars::{Alone, Scalar};

@@ -1,13 +1,13 @@
 //! The words of spans of time.
 ghost use Rattle.std.specs.Prelude.{◌≡◌, ◌<◌, ◌^◌, ◌++◌, pos, refl};
 ghost use Rattle.bincode_base.specs.declared.error.IntegerType.TheVariants.{U32, U64};
-ghost use Rattle.bincode_wire.specs.Meaning.{IsNumber, IsThen, IsNothing};
-ghost use Rattle.bincode_wire.specs.Words.{second_in_nanos, duration};
+ghost use Rattle.bincode_format.specs.Meaning.{IsNumber, IsThen, IsNothing};
+ghost use Rattle.bincode_format.specs.Words.{second_in_nanos, duration};
 ghost use Rattle.bincode_wire.specs.Durations.{secs_of, nanos_of};
-ghost use Rattle.bincode_wire.specs.AllowedLaws.{both-one_length, same-one_length};
-ghost use Rattle.bincode_wire.specs.SpelledLaws.{unsigned-spelled};
-ghost use Rattle.bincode_wire.specs.DurationLaws.{duration-lawful, duration-balanced, duration-some_word};
-ghost use Rattle.bincode_wire.specs.DurationLaws.{duration-has_word, allowed-duration, nanos_fit, span_same};
+ghost use Rattle.bincode_laws.specs.AllowedLaws.{both-one_length, same-one_length};
+ghost use Rattle.bincode_laws.specs.SpelledLaws.{unsigned-spelled};
+ghost use Rattle.bincode_laws.specs.DurationLaws.{duration-lawful, duration-balanced, duration-some_word};
+ghost use Rattle.bincode_laws.specs.DurationLaws.{duration-has_word, allowed-duration, nanos_fit, span_same};
 
 use crate::laws::{Exact, Inhabited, Plain, Writable};
 use crate::own::time::Duration;

@@ -1,5 +1,5 @@
 use Rattle.std.proofs.lemmas.Result.{err_from_is_err_and}
-use Rattle.bincode_wire.specs.DecodingLaws.{charged-passed}
+use Rattle.bincode_laws.specs.DecodingLaws.{charged-passed}
 use Rattle.bincode_decoder.proofs.ReadAnswers.{claim-passed, charged-reads}
 use Rattle.bincode_decoder.proofs.chars.decode_rest_of_char.Goals as goal
 

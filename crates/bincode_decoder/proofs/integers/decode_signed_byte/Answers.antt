@@ -1,8 +1,8 @@
 use Rattle.std.proofs.Common.{refl}
 use Rattle.std.proofs.lemmas.Result.{err_from_is_err_and}
-use Rattle.bincode_base.specs.Integers.{signed_byte}
-use Rattle.bincode_wire.specs.Meaning.{Number}
-use Rattle.bincode_wire.specs.DecodingLaws.{charged-passed}
+use Rattle.bincode_format.specs.Integers.{signed_byte}
+use Rattle.bincode_format.specs.Meaning.{Number}
+use Rattle.bincode_laws.specs.DecodingLaws.{charged-passed}
 use Rattle.bincode_decoder.proofs.ReadAnswers.{claim-passed, charged-reads, number-reads}
 use Rattle.bincode_decoder.proofs.integers.decode_signed_byte.Goals as goal
 

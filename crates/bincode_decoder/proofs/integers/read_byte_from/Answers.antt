@@ -1,4 +1,4 @@
-use Rattle.bincode_base.proofs.WordAnswers.{lent-word}
+use Rattle.bincode_varint.proofs.WordAnswers.{lent-word}
 use Rattle.bincode_decoder.proofs.integers.read_byte_from.Goals as goal
 
 pub returns-clause-word : goal.returns-clause-word

@@ -1,7 +1,7 @@
 use Rattle.std.specs.Prelude.{◌+◌, ◌/◌, ◌<◌, ◌≤◌, ◌^◌}
 use Rattle.std.proofs.Common.{rules}
 use Rattle.std.proofs.lemmas.Result.{err_from_is_err_and}
-use Rattle.bincode_wire.specs.Words.{second_in_nanos}
+use Rattle.bincode_format.specs.Words.{second_in_nanos}
 use Rattle.bincode_decoder.proofs.DurationAnswers.{span-decodes, span-overflows, span-stops_first, span-stops_next}
 use Rattle.bincode_decoder.proofs.ReadAnswers.{read-as, read-behind, exactly}
 use Rattle.bincode_decoder.proofs.time.decode_duration.Goals as goal

@@ -1,5 +1,5 @@
-use Rattle.bincode_wire.specs.CharLaws.{character-allows}
-use Rattle.bincode_encoder.specs.EncodingLaws.{ready}
+use Rattle.bincode_laws.specs.CharLaws.{character-allows}
+use Rattle.bincode_laws.specs.EncodingLaws.{ready}
 use Rattle.bincode_encoder.proofs.EncodingAnswers.{piece-encodes}
 use Rattle.bincode_encoder.proofs.chars.write_char.Goals as goal
 

@@ -1,5 +1,5 @@
-use Rattle.bincode_wire.specs.AllowedLaws.{byte-allows}
-use Rattle.bincode_encoder.specs.EncodingLaws.{ready}
+use Rattle.bincode_laws.specs.AllowedLaws.{byte-allows}
+use Rattle.bincode_laws.specs.EncodingLaws.{ready}
 use Rattle.bincode_encoder.proofs.EncodingAnswers.{piece-encodes}
 use Rattle.bincode_encoder.proofs.integers.encode_byte.Goals as goal
 

@@ -1,6 +1,6 @@
 use Rattle.std.proofs.lemmas.Result.{IfErr-weaker, on_ok_weaker}
-use Rattle.bincode_wire.specs.AllowedLaws.{number-allows}
-use Rattle.bincode_encoder.specs.EncodingLaws.{writes_alone, halts_among, ready}
+use Rattle.bincode_laws.specs.AllowedLaws.{number-allows}
+use Rattle.bincode_laws.specs.EncodingLaws.{writes_alone, halts_among, ready}
 use Rattle.bincode_encoder.proofs.integers.encode_integer.Goals as goal
 
 pub returns : goal.returns

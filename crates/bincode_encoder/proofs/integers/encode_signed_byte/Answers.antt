@@ -1,8 +1,8 @@
 use Rattle.std.specs.Int.{w8}
 use Rattle.std.proofs.lemmas.Int.{to_z-of_z}
-use Rattle.bincode_base.specs.IntegerLaws.{FitsIn-from_signed}
-use Rattle.bincode_wire.specs.AllowedLaws.{signed_byte-allows}
-use Rattle.bincode_encoder.specs.EncodingLaws.{ready}
+use Rattle.bincode_laws.specs.IntegerLaws.{FitsIn-from_signed}
+use Rattle.bincode_laws.specs.AllowedLaws.{signed_byte-allows}
+use Rattle.bincode_laws.specs.EncodingLaws.{ready}
 use Rattle.bincode_encoder.proofs.EncodingAnswers.{piece-encodes}
 use Rattle.bincode_encoder.proofs.integers.encode_signed_byte.Goals as goal
 

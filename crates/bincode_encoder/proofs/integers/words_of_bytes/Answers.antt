@@ -1,13 +1,13 @@
 use Rattle.std.specs.Prelude.{ℕ, pos, List, [], ◌∷◌, length, refl}
 use Rattle.std.specs.List.{All}
 use Rattle.std.proofs.lemmas.List.Elements.{All-nil, All-cons}
-use Rattle.bincode_base.specs.Integers.{unsigned_byte}
-use Rattle.bincode_wire.specs.Meaning.{IsNumber}
-use Rattle.bincode_wire.specs.Words.{natural, array}
-use Rattle.bincode_wire.specs.Allowed.{AllowedWord}
-use Rattle.bincode_wire.specs.AllowedLaws.{byte-allows}
-use Rattle.bincode_wire.specs.Run.{IsListOf, AllowsEach}
-use Rattle.bincode_wire.specs.RunAllowedLaws.{array-allows}
+use Rattle.bincode_format.specs.Integers.{unsigned_byte}
+use Rattle.bincode_format.specs.Meaning.{IsNumber}
+use Rattle.bincode_format.specs.Words.{natural, array}
+use Rattle.bincode_format.specs.Allowed.{AllowedWord}
+use Rattle.bincode_laws.specs.AllowedLaws.{byte-allows}
+use Rattle.bincode_format.specs.Run.{IsListOf, AllowsEach}
+use Rattle.bincode_laws.specs.RunAllowedLaws.{array-allows}
 use Rattle.bincode_encoder.proofs.integers.words_of_bytes.Goals as goal
 
 each-allows : (bytes : List ℕ) → AllowsEach (λ v. AllowedWord (IsNumber (pos v)) (natural unsigned_byte)) bytes bytes

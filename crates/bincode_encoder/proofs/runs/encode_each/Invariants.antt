@@ -1,7 +1,7 @@
 use Rattle.std.proofs.Common.{◌≡◌, take}
-use Rattle.bincode_wire.specs.Allowed.{AllowedWord}
-use Rattle.bincode_wire.specs.Run.{AllowsEach}
-use Rattle.bincode_encoder.specs.Encoding.{Writes}
+use Rattle.bincode_format.specs.Allowed.{AllowedWord}
+use Rattle.bincode_format.specs.Run.{AllowsEach}
+use Rattle.bincode_format.specs.Encoding.{Writes}
 use Rattle.bincode_encoder.proofs.runs.encode_each.Given as goal
 
 abbrev pub invariant-loop-item : goal.invariant-loop-item

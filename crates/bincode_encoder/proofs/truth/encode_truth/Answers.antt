@@ -1,8 +1,8 @@
 use Rattle.std.specs.Prelude.{◌≡◌, Bool, true, false, refl}
 use Rattle.std.specs.Int.{from_bool}
-use Rattle.bincode_wire.specs.Words.{truth_byte}
-use Rattle.bincode_wire.specs.AllowedLaws.{truth-allows}
-use Rattle.bincode_encoder.specs.EncodingLaws.{ready}
+use Rattle.bincode_format.specs.Words.{truth_byte}
+use Rattle.bincode_laws.specs.AllowedLaws.{truth-allows}
+use Rattle.bincode_laws.specs.EncodingLaws.{ready}
 use Rattle.bincode_encoder.proofs.EncodingAnswers.{piece-encodes}
 use Rattle.bincode_encoder.proofs.truth.encode_truth.Goals as goal
 

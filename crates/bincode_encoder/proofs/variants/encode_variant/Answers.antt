@@ -1,10 +1,10 @@
 use Rattle.std.specs.Prelude.{ℕ, List}
 use Rattle.std.proofs.Common.{inl, inr}
 use Rattle.std.proofs.lemmas.Result.{err_from_is_err_and}
-use Rattle.bincode_base.specs.Format.{Format}
-use Rattle.bincode_wire.specs.Meaning.{Meaning}
-use Rattle.bincode_wire.specs.Allowed.{AllowedWord, SameMeanings}
-use Rattle.bincode_wire.specs.ChoiceLaws.{choice-allows, allowed-choice}
+use Rattle.bincode_format.specs.Format.{Format}
+use Rattle.bincode_format.specs.Meaning.{Meaning}
+use Rattle.bincode_format.specs.Allowed.{AllowedWord, SameMeanings}
+use Rattle.bincode_laws.specs.ChoiceLaws.{choice-allows, allowed-choice}
 use Rattle.bincode_encoder.proofs.EncodingAnswers.{encodes-as, first-halts, next-encodes}
 use Rattle.bincode_encoder.proofs.variants.encode_variant.Goals as goal
 

@@ -1,6 +1,6 @@
 use Rattle.std.proofs.Common.{inl}
 use Rattle.std.proofs.lemmas.Result.{IfOk-weaker}
-use Rattle.bincode_wire.specs.RunLaws.{run-returns}
+use Rattle.bincode_laws.specs.RunLaws.{run-returns}
 use Rattle.bincode_values.proofs.Reading.{read-widened}
 use Rattle.bincode_values.proofs.arrays.decode_array.Goals as goal
 

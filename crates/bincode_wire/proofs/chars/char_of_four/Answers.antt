@@ -1,6 +1,6 @@
 use Rattle.std.proofs.Common.{◌≡◌, ◌+◌, ◌*◌, ◌∷◌, [], sym, ◌∙◌, arith}
-use Rattle.bincode_wire.specs.Words.{code_point}
-use Rattle.bincode_wire.specs.CharLaws.{length-encoded_3, spells-longer, spells-other, spells-past, spells-found}
+use Rattle.bincode_format.specs.Words.{code_point}
+use Rattle.bincode_laws.specs.CharLaws.{length-encoded_3, spells-longer, spells-other, spells-past, spells-found}
 use Rattle.bincode_wire.proofs.chars.char_of_four.Goals as goal
 use Rattle.bincode_wire.proofs.chars.char_of_four.Goals.{then-code-lt65536-via-then-code-lt65536}
 use Rattle.bincode_wire.proofs.chars.char_of_four.Goals.{then-code-lt65536-via-else-code-lt65536+then-code-ge1114112}

@@ -1,6 +1,6 @@
 use Rattle.std.proofs.Common.{◌≡◌, ◌+◌, ◌*◌, ◌∷◌, [], sym, ◌∙◌, arith}
-use Rattle.bincode_wire.specs.Words.{code_point}
-use Rattle.bincode_wire.specs.CharLaws.{length-encoded_2, spells-longer, spells-other, spells-found}
+use Rattle.bincode_format.specs.Words.{code_point}
+use Rattle.bincode_laws.specs.CharLaws.{length-encoded_2, spells-longer, spells-other, spells-found}
 use Rattle.bincode_wire.proofs.chars.char_of_three.Goals as goal
 use Rattle.bincode_wire.proofs.chars.char_of_three.Goals.{then-code-lt2048-via-then-code-lt2048, then-code-lt2048-via-else-code-lt2048+then-ne}
 

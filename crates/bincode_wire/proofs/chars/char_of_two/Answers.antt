@@ -1,6 +1,6 @@
 use Rattle.std.proofs.Common.{◌≡◌, ◌+◌, ◌*◌, ◌∷◌, [], sym, ◌∙◌, arith}
-use Rattle.bincode_wire.specs.Words.{code_point}
-use Rattle.bincode_wire.specs.CharLaws.{length-encoded_1, spells-longer, spells-other, spells-found}
+use Rattle.bincode_format.specs.Words.{code_point}
+use Rattle.bincode_laws.specs.CharLaws.{length-encoded_1, spells-longer, spells-other, spells-found}
 use Rattle.bincode_wire.proofs.chars.char_of_two.Goals as goal
 use Rattle.bincode_wire.proofs.chars.char_of_two.Goals.{then-code-lt128-via-then-code-lt128, then-code-lt128-via-else-code-lt128+then-ne}
 

@@ -1,8 +1,8 @@
 use Rattle.std.proofs.Common.{◌≤◌, arith, refl}
 use Rattle.std.proofs.lemmas.Result.{err_from_is_err_and}
-use Rattle.bincode_base.proofs.WordAnswers.{word-as}
-use Rattle.bincode_wire.specs.CharLaws.{char_width-bounds}
-use Rattle.bincode_wire.specs.CharDecodingLaws.{raw-took_1, raw-took_2, raw-took_3, rest_of_char-misread, rest_of_char-found, rest_of_char-not_found, rest_of_char-alone}
+use Rattle.bincode_varint.proofs.WordAnswers.{word-as}
+use Rattle.bincode_laws.specs.CharLaws.{char_width-bounds}
+use Rattle.bincode_laws.specs.CharDecodingLaws.{raw-took_1, raw-took_2, raw-took_3, rest_of_char-misread, rest_of_char-found, rest_of_char-not_found, rest_of_char-alone}
 use Rattle.bincode_wire.proofs.chars.read_rest_of_char.Goals as goal
 
 pub returns-in_err-second-in-2 : goal.returns-in_err-second-in-2

@@ -1,5 +1,5 @@
 use Rattle.std.proofs.Common.{sym}
-use Rattle.bincode_wire.specs.CharLaws.{encoded_2}
+use Rattle.bincode_laws.specs.CharLaws.{encoded_2}
 use Rattle.bincode_wire.proofs.chars.two_bytes_of_char.Goals as goal
 
 pub returns : goal.returns

@@ -6,7 +6,7 @@ ghost use Rattle.std.specs.Cmp.Rules.{comparing, hashing};
 ghost use Rattle.std.specs.Ordering.{on, nat_cmp, as_partial_cmp};
 ghost use Rattle.std.specs.Hash as fed;
 ghost use Rattle.std.specs.Duration.{as_nanos};
-ghost use Rattle.bincode_wire.specs.Words.{second_in_nanos};
+ghost use Rattle.bincode_format.specs.Words.{second_in_nanos};
 ghost use Rattle.bincode_wire.specs.Durations.{secs_of, nanos_of, in_nanos};
 
 use super::Duration;

@@ -1,5 +1,5 @@
 use Rattle.std.proofs.lemmas.Result.{IfErr-weaker}
-use Rattle.bincode.specs.Fronts.{front_written}
+use Rattle.bincode_laws.specs.Fronts.{front_written}
 use Rattle.callers.proofs.calls.write.Goals as goal
 
 pub returns : goal.returns

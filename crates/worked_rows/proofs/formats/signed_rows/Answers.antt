@@ -1,7 +1,7 @@
 use Rattle.std.specs.Prelude.{refl}
-use Rattle.bincode_base.specs.Format.{done, refused, raw, ◌>>=◌, written_as, unsure, step}
-use Rattle.bincode_base.specs.Integers.{digits, byte, varint, unsigned, signed, unsigned_byte, signed_byte}
-use Rattle.bincode_wire.specs.Words.{nothing, first_and, chosen}
+use Rattle.bincode_format.specs.Format.{done, refused, raw, ◌>>=◌, written_as, unsure, step}
+use Rattle.bincode_format.specs.Integers.{digits, byte, varint, unsigned, signed, unsigned_byte, signed_byte}
+use Rattle.bincode_format.specs.Words.{nothing, first_and, chosen}
 use Rattle.std.specs.Str.{is_utf8, chars}
 use lib.Utf8.{encode}
 use Rattle.worked_rows.proofs.formats.signed_rows.Goals as goal

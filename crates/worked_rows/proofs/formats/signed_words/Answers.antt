@@ -1,8 +1,8 @@
 use Rattle.std.specs.Prelude.{pos, negsuc, refl}
 use Rattle.std.proofs.Common.{arith}
 use Rattle.bincode_base.specs.declared.error.IntegerType.TheVariants.{I16, I32, I64, I128}
-use Rattle.bincode_base.specs.IntegerLaws.{Two, Four, Eight, Sixteen}
-use Rattle.bincode_wire.specs.AllowedLaws.{signed-allows, signed_byte-allows}
+use Rattle.bincode_format.specs.Integers.{Two, Four, Eight, Sixteen}
+use Rattle.bincode_laws.specs.AllowedLaws.{signed-allows, signed_byte-allows}
 use Rattle.worked_rows.specs.Formats.{standard, standard_big, legacy}
 use Rattle.worked_rows.proofs.formats.signed_words.Goals as goal
 

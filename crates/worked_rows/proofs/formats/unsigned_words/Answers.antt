@@ -1,6 +1,6 @@
 use Rattle.std.proofs.Common.{arith}
 use Rattle.bincode_base.specs.declared.error.IntegerType.TheVariants.{U32, U64, U128}
-use Rattle.bincode_wire.specs.AllowedLaws.{unsigned-allows}
+use Rattle.bincode_laws.specs.AllowedLaws.{unsigned-allows}
 use Rattle.worked_rows.specs.Formats.{standard, standard_big, legacy, legacy_big}
 use Rattle.worked_rows.proofs.formats.unsigned_words.Goals as goal
 

@@ -1,7 +1,7 @@
 use Rattle.std.specs.Prelude.{[]}
 use Rattle.std.proofs.Common.{refl, inl, inr, arith}
-use Rattle.bincode_wire.specs.AnswerLaws.{answer-refused}
-use Rattle.bincode_wire.specs.Decoding.{by_fault, by_memory}
+use Rattle.bincode_laws.specs.AnswerLaws.{answer-refused}
+use Rattle.bincode_format.specs.Decoding.{by_fault, by_memory}
 use Rattle.bincode_de.proofs.variants.NoOtherDecodeVariants.decode_part.Goals as goal
 
 pub returns-clause-reads : goal.returns-clause-reads

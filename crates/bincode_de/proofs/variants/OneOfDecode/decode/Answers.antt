@@ -1,5 +1,5 @@
 use Rattle.std.proofs.lemmas.Result.{err_from_is_err_and}
-use Rattle.bincode_wire.specs.ChoiceDecodingLaws.{choice-decodes, choice-stops_tag, choice-stops_part}
+use Rattle.bincode_laws.specs.ChoiceDecodingLaws.{choice-decodes, choice-stops_tag, choice-stops_part}
 use Rattle.bincode_decoder.proofs.ReadAnswers.{read-as, read-behind, exactly}
 use Rattle.bincode_de.proofs.variants.OneOfDecode.decode.Goals as goal
 

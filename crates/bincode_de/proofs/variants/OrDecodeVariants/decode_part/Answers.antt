@@ -1,6 +1,6 @@
 use Rattle.std.proofs.Common.{inl, inr}
 use Rattle.std.proofs.lemmas.Result.{err_from_is_err_and}
-use Rattle.bincode_wire.specs.ChoiceDecodingLaws.{here-decodes, here-stops, there-stops}
+use Rattle.bincode_laws.specs.ChoiceDecodingLaws.{here-decodes, here-stops, there-stops}
 use Rattle.bincode_decoder.proofs.ReadAnswers.{read-as}
 use Rattle.bincode_de.proofs.variants.OrDecodeVariants.decode_part.Goals as goal
 

@@ -1,6 +1,6 @@
 use Rattle.std.specs.Prelude.{[], ◌∷◌}
 use Rattle.std.proofs.Common.{append_assoc}
-use Rattle.bincode_wire.specs.Words.{tags_of}
+use Rattle.bincode_format.specs.Words.{tags_of}
 use Rattle.bincode_decoder.proofs.tags.OrListed.push_tags.Goals as goal
 
 pub returns : goal.returns

@@ -1,6 +1,6 @@
 use Rattle.std.proofs.Common.{arith, ◌∙◌}
 use Rattle.std.proofs.lemmas.Result.{IfOk-weaker, IfErr-weaker, err_from_is_err_and}
-use Rattle.bincode_wire.specs.RunLaws.{array-decodes, array-stops, array-passed}
+use Rattle.bincode_laws.specs.RunLaws.{array-decodes, array-stops, array-passed}
 use Rattle.bincode_decoder.proofs.Rooms.{claimed-held}
 use Rattle.bincode_decoder.proofs.ReadAnswers.{claim-passed}
 use Rattle.bincode_de.proofs.impls.arrays.ArrayDecode.decode.Goals as goal

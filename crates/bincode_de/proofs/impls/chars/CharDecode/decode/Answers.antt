@@ -1,7 +1,7 @@
 use Rattle.std.proofs.Common.{◌≡◌, sym, ◌∙◌, refl, Some, rules, arith}
 use Rattle.std.proofs.lemmas.Result.{IfOk-weaker, IfErr-weaker, err_from_is_err_and}
-use Rattle.bincode_wire.specs.Words.{char_width}
-use Rattle.bincode_wire.specs.CharDecodingLaws.{character-stops_first, character-stops_none, character-stops_behind, character-decodes}
+use Rattle.bincode_format.specs.Words.{char_width}
+use Rattle.bincode_laws.specs.CharDecodingLaws.{character-stops_first, character-stops_none, character-stops_behind, character-decodes}
 use Rattle.bincode_decoder.proofs.ReadAnswers.{exactly}
 use Rattle.bincode_de.proofs.impls.chars.CharDecode.decode.Goals as goal
 

@@ -1,6 +1,6 @@
 use Rattle.std.proofs.Common.{refl, pos, rules}
 use Rattle.std.proofs.lemmas.Result.{err_from_is_err_and}
-use Rattle.bincode_base.specs.IntegerLaws.{signed_byte-lawful}
+use Rattle.bincode_laws.specs.IntegerLaws.{signed_byte-lawful}
 use Rattle.bincode_de.proofs.NotZero.{stops-too, read-tested}
 use Rattle.bincode_de.proofs.impls.nonzero.NonZeroI8Decode.decode.Goals as goal
 

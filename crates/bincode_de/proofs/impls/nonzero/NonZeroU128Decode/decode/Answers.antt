@@ -1,6 +1,7 @@
 use Rattle.std.proofs.Common.{refl}
 use Rattle.std.proofs.lemmas.Result.{err_from_is_err_and}
-use Rattle.bincode_base.specs.IntegerLaws.{Sixteen, unsigned-lawful}
+use Rattle.bincode_format.specs.Integers.{Sixteen}
+use Rattle.bincode_laws.specs.IntegerLaws.{unsigned-lawful}
 use Rattle.bincode_de.proofs.NotZero.{stops-too, read-tested}
 use Rattle.bincode_de.proofs.impls.nonzero.NonZeroU128Decode.decode.Goals as goal
 

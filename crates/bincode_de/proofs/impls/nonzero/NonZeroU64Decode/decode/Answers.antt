@@ -1,6 +1,7 @@
 use Rattle.std.proofs.Common.{refl}
 use Rattle.std.proofs.lemmas.Result.{err_from_is_err_and}
-use Rattle.bincode_base.specs.IntegerLaws.{Eight, unsigned-lawful}
+use Rattle.bincode_format.specs.Integers.{Eight}
+use Rattle.bincode_laws.specs.IntegerLaws.{unsigned-lawful}
 use Rattle.bincode_de.proofs.NotZero.{stops-too, read-tested}
 use Rattle.bincode_de.proofs.impls.nonzero.NonZeroU64Decode.decode.Goals as goal
 

@@ -1,6 +1,6 @@
 use Rattle.std.proofs.Common.{refl}
 use Rattle.std.proofs.lemmas.Result.{err_from_is_err_and}
-use Rattle.bincode_base.specs.IntegerLaws.{unsigned_byte-lawful}
+use Rattle.bincode_laws.specs.IntegerLaws.{unsigned_byte-lawful}
 use Rattle.bincode_de.proofs.NotZero.{stops-too, read-tested}
 use Rattle.bincode_de.proofs.impls.nonzero.NonZeroU8Decode.decode.Goals as goal
 

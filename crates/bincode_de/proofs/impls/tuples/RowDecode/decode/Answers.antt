@@ -1,5 +1,5 @@
 use Rattle.std.proofs.lemmas.Result.{err_from_is_err_and}
-use Rattle.bincode_wire.specs.DecodingLaws.{tuple-decodes, tuple-stops_first, tuple-stops_next}
+use Rattle.bincode_laws.specs.DecodingLaws.{tuple-decodes, tuple-stops_first, tuple-stops_next}
 use Rattle.bincode_decoder.proofs.ReadAnswers.{read-as, read-behind}
 use Rattle.bincode_de.proofs.impls.tuples.RowDecode.decode.Goals as goal
 

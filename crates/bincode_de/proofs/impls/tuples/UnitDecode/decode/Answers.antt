@@ -1,5 +1,5 @@
 use Rattle.std.proofs.Common.{refl, arith}
-use Rattle.bincode_wire.specs.DecodingLaws.{nothing-decodes}
+use Rattle.bincode_laws.specs.DecodingLaws.{nothing-decodes}
 use Rattle.bincode_de.proofs.impls.tuples.UnitDecode.decode.Goals as goal
 
 pub returns : goal.returns

@@ -1,5 +1,5 @@
 use Rattle.std.proofs.Common.{refl, inl, inr}
-use Rattle.bincode_encoder.specs.Encoding.{by_name}
+use Rattle.bincode_format.specs.Encoding.{by_name}
 use Rattle.bincode_enc.proofs.CellWords.{held-encodes}
 use Rattle.bincode_enc.proofs.impls.cells.RefCellEncode.encode.Goals as goal
 

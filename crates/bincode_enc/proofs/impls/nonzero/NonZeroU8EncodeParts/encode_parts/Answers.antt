@@ -1,5 +1,5 @@
 use Rattle.std.specs.Prelude.{pos}
-use Rattle.bincode_wire.specs.AllowedLaws.{one_natural}
+use Rattle.bincode_laws.specs.AllowedLaws.{one_natural}
 use Rattle.bincode_encoder.proofs.EncodingAnswers.{not_zero-encodes}
 use Rattle.bincode_enc.proofs.impls.nonzero.NonZeroU8EncodeParts.encode_parts.Goals as goal
 

@@ -1,8 +1,8 @@
 use Rattle.std.specs.Prelude.{◌<◌, ◌^◌}
 use Rattle.std.proofs.Common.{rules, inl, inr}
-use Rattle.bincode_wire.specs.Words.{second_in_nanos}
-use Rattle.bincode_wire.specs.AllowedLaws.{pair-allows, allowed-pair}
-use Rattle.bincode_wire.specs.DurationLaws.{duration-allows, allowed-duration}
+use Rattle.bincode_format.specs.Words.{second_in_nanos}
+use Rattle.bincode_laws.specs.AllowedLaws.{pair-allows, allowed-pair}
+use Rattle.bincode_laws.specs.DurationLaws.{duration-allows, allowed-duration}
 use Rattle.bincode_encoder.proofs.EncodingAnswers.{encodes-as}
 use Rattle.bincode_enc.proofs.impls.time.DurationEncode.encode.Goals as goal
 

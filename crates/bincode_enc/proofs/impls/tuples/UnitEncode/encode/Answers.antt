@@ -1,6 +1,6 @@
 use Rattle.std.proofs.Common.{refl}
-use Rattle.bincode_wire.specs.AllowedLaws.{nothing-allows}
-use Rattle.bincode_encoder.specs.EncodingLaws.{writes_alone}
+use Rattle.bincode_laws.specs.AllowedLaws.{nothing-allows}
+use Rattle.bincode_laws.specs.EncodingLaws.{writes_alone}
 use Rattle.bincode_enc.proofs.impls.tuples.UnitEncode.encode.Goals as goal
 
 pub returns : goal.returns

@@ -1,4 +1,0 @@
-use Rattle.bincode_base.proofs.read.RefMutReader.read.Goals as goal
-
-pub returns-clause-next : goal.returns-clause-next
-returns-clause-next g c = c.read.ensures.next

@@ -1,5 +1,0 @@
-use Rattle.std.proofs.Common.{refl}
-use Rattle.bincode_base.proofs.read.SliceReader.new.Goals as goal
-
-pub returns : goal.returns
-returns c = refl

@@ -1,4 +1,0 @@
-use Rattle.bincode_base.proofs.write.RefMutWriter.write.Goals as goal
-
-pub returns-clause-ok : goal.returns-clause-ok
-returns-clause-ok g c = c.write.ensures.ok

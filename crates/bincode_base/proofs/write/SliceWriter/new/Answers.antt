@@ -1,5 +1,0 @@
-use Rattle.std.proofs.Common.{refl}
-use Rattle.bincode_base.proofs.write.SliceWriter.new.Goals as goal
-
-pub returns : goal.returns
-returns c = record { place = refl; bytes = refl; start = refl }

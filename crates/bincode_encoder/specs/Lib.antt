@@ -1,3 +1,0 @@
--- What encoding does and leaves.
-pub mod Encoding
-pub mod EncodingLaws

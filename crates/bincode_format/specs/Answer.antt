@@ -1,0 +1,83 @@
+-- What decoding answers, by a format, a limit, and the charge at the start.
+use Rattle.std.specs.Prelude.{◌≡◌, ℕ, ◌+◌, ◌-◌, ◌<◌, ◌≤◌, ◌⊎◌, ◌^◌, nat_le, nat_lt, if◌then◌else◌, List, [], ◌∷◌, ◌++◌, Option, Some, None}
+use Rattle.bincode_format.specs.Fault.{Fault}
+use Rattle.bincode_format.specs.Charge.{Step, Charge, Reserve, Release}
+use Rattle.bincode_format.specs.Format.{Format, Reading, Took, Failed}
+
+-- the limit allows this charge
+abbrev pub Allows : Option ℕ → ℕ → Type 0
+Allows None charge = Unit {0}
+Allows (Some limit) charge = charge ≤ limit
+
+-- The claim of n bytes stands: without a limit nothing is counted, else the raised charge is within the limit.
+abbrev pub Claimed : Option ℕ → ℕ → ℕ → ℕ → Type 0
+Claimed None before n after = after ≡ before
+Claimed (Some limit) before n after = (before + n ≤ limit) × (after ≡ before + n)
+
+-- It passes the limit: the raised charge is kept if it fits 64 bits, else the charge stays.
+abbrev pub OverClaimed : Option ℕ → ℕ → ℕ → ℕ → Type 0
+OverClaimed None before n after = ⊥
+OverClaimed (Some limit) before n after = (limit < before + n) × (after ≡ (if nat_lt (before + n) (2 ^ 64) then before + n else before))
+
+-- A claim of n bytes was made: it stands or passes the limit, and no byte was given back.
+abbrev pub Charges : Option ℕ → ℕ → ℕ → ℕ → Type 0
+Charges limit before n after = Claimed limit before n after ⊎ OverClaimed limit before n after
+
+-- the charge after a claim, if the limit allows it; without a limit nothing is counted
+abbrev pub claimed : Option ℕ → ℕ → ℕ → Option ℕ
+claimed None charge n = Some charge
+claimed (Some limit) charge n = if nat_le (charge + n) limit then Some (charge + n) else None
+
+-- the charge after a release
+abbrev pub unclaimed : Option ℕ → ℕ → ℕ → ℕ
+unclaimed None charge n = charge
+unclaimed (Some limit) charge n = charge - n
+
+-- the charge after one step, if the limit allows it
+abbrev pub after_step : Option ℕ → ℕ → Step → Option ℕ
+after_step limit charge (Charge n) = claimed limit charge n
+after_step limit charge (Reserve n) = claimed limit charge n
+after_step limit charge (Release n) = Some (unclaimed limit charge n)
+
+abbrev pub on_some : Option ℕ → (ℕ → Option ℕ) → Option ℕ
+on_some (Some n) next = next n
+on_some None next = None
+
+-- the charge behind the steps, if none passes the limit
+abbrev pub charge_behind : Option ℕ → ℕ → List Step → Option ℕ
+charge_behind limit charge [] = Some charge
+charge_behind limit charge (s ∷ steps) = on_some (after_step limit charge s) (λ after. charge_behind limit after steps)
+
+-- a meaning with the bytes behind the word and the charge behind its steps; a fault; or a step that passed the limit
+pub data Answer (A : Type 0) : Type 0 where
+  Gave : A → List ℕ → ℕ → Answer A
+  Refused : Fault → Answer A
+  PassedLimit : Answer A
+
+abbrev pub gave_at : {A : Type 0} → A → List ℕ → Option ℕ → Answer A
+gave_at a rest (Some charge) = Gave a rest charge
+gave_at a rest None = PassedLimit
+
+abbrev pub refused_at : {A : Type 0} → Fault → Option ℕ → Answer A
+refused_at why (Some charge) = Refused why
+refused_at why None = PassedLimit
+
+-- what a limit makes of a reading
+abbrev pub weighed : {A : Type 0} → Option ℕ → ℕ → Reading A → Answer A
+weighed limit charge (Took a rest steps) = gave_at a rest (charge_behind limit charge steps)
+weighed limit charge (Failed why steps) = refused_at why (charge_behind limit charge steps)
+
+-- the answer to an input, from a charge
+unfoldable pub answer : {A : Type 0} → Option ℕ → Format A → List ℕ → ℕ → Answer A
+answer limit F input charge = weighed limit charge (F.read input)
+
+-- what follows an answer that gave a meaning
+abbrev pub and_then : {A B : Type 0} → Answer A → (A → List ℕ → ℕ → Answer B) → Answer B
+and_then (Gave a rest charge) next = next a rest charge
+and_then (Refused why) next = Refused why
+and_then PassedLimit next = PassedLimit
+
+-- these are the steps of the word that the input begins with, or those before its fault
+pub data StepsOf {A : Type 0} (F : Format A) (input : List ℕ) (steps : List Step) : Type 0 where
+  of_word : (word rest : List ℕ) (meaning : A) → F.Word word meaning steps → input ≡ word ++ rest → StepsOf F input steps
+  of_fault : (why : Fault) → F.Faults input why steps → StepsOf F input steps

@@ -1,0 +1,20 @@
+-- What a claim answers and what it keeps.
+use Rattle.std.specs.Prelude.{◌≡◌, ℕ, List, Option, Result, OnOk, IfErr}
+use Rattle.std.specs.Borrow.{GName}
+use Rattle.bincode_base.specs.declared.error.DecodeError.{DecodeError}
+use Rattle.bincode_base.specs.declared.error.DecodeError.TheVariants.{LimitExceeded}
+use Rattle.bincode_format.specs.Answer.{Claimed, OverClaimed}
+
+-- n bytes are claimed: they stand, or are refused as passing the limit
+pub record Claims (limit : Option ℕ) (before n after : ℕ) (result : Result (Unit {0}) DecodeError) : Type 0 where
+  pub ok : OnOk result (Claimed limit before n after)
+  pub err : IfErr result (λ e. (e ≡ LimitExceeded) × OverClaimed limit before n after)
+
+-- a decoder that was at `old` and is at `new` has its input, its failures, its reader, its context and its references as before
+pub record OnlyCharged {D R C : Type 0} (told : D → Type 0) (rest : D → List ℕ) (failures : D → ℕ) (reader_of : D → R) (context_of : D → C) (place : D → List GName) (old new : D) : Type 0 where
+  pub same_rest : rest new ≡ rest old
+  pub same_failures : failures new ≡ failures old
+  pub tells : told old → told new
+  pub same_reader : reader_of new ≡ reader_of old
+  pub same_context : context_of new ≡ context_of old
+  pub same_place : place new ≡ place old

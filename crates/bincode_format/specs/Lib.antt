@@ -1,0 +1,24 @@
+-- What is promised, in the order of reading.
+pub mod Number
+pub mod Charge
+pub mod Fault
+pub mod Format
+pub mod Laws
+pub mod Integers
+pub mod Spelling
+pub mod Meaning
+pub mod Words
+pub mod Choices
+pub mod Cells
+pub mod Run
+pub mod Allowed
+pub mod Answer
+pub mod Promises
+pub mod Put
+pub mod Device
+pub mod Reads
+pub mod Decoding
+pub mod Encoding
+pub mod Claims
+pub mod Values
+pub mod Slice

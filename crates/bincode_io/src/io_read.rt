@@ -1,0 +1,183 @@
+//! Readers of the streams of `std::io`.
+ghost use Rattle.std.specs.Prelude.{◌≡◌, ◌<◌, ◌≤◌, List, ℕ, [], ◌∷◌, length, take, IsSome};
+ghost use Rattle.std.specs.Prelude.{OnOk, IfOk, IfErr, OnErr};
+ghost use Rattle.std.proofs.Common.{zero-le, inr};
+ghost use Rattle.std.specs.Io.{ReadsAtMost};
+ghost use Rattle.std.specs.Io.KnownBytes.{Consumes, IsAtEnd, Keeps};
+ghost use Rattle.bincode_io.specs.Stream.{TellsBytes, known, EndsShort, FailsStream, stream_errors};
+
+use bincode_base::error::DecodeError;
+use crate::read::Reader;
+use std::alloc::Global;
+use std::io;
+use std::io::{ErrorKind, Read};
+
+/// One read, tried again where a signal interrupts it.
+fn read_some<R: Read>(stream: &mut R, bytes: &mut [u8]) -> io::Result<usize>
+    ensures bound { ReadsAtMost result bytes.new }
+    ensures ok { IfOk result (λ n. Consumes (R.remaining stream.old) (R.remaining stream.new) (take n bytes.new)) }
+    ensures end { IfOk result (λ n. n ≡ 0 → 0 < length bytes.old → IsAtEnd (R.remaining stream.new)) }
+    ensures err { OnErr result (Keeps (R.remaining stream.old) (R.remaining stream.new)) }
+{
+    for _ in 0..usize::MAX {
+        match stream.read(bytes) {
+            Err(e) if e.kind() == ErrorKind::Interrupted => {}
+            outcome => return outcome,
+        }
+    }
+    stream.read(bytes)
+}
+
+/// The error of a stream that failed with so many bytes missing: `Io`, or `Memory` where none is left to hold its
+/// cause.
+#[cold]
+fn failure(alloc: Global, cause: io::Error, additional: usize) -> DecodeError
+    ensures { FailsStream result }
+{
+    match Box::new(alloc, cause) {
+        Ok(inner) => DecodeError::Io { inner, additional },
+        Err(_) => DecodeError::Memory,
+    }
+}
+
+/// Fills all of `bytes` from a stream. Fails with `Io` where the stream fails or ends before, or with `Memory` where
+/// its error finds none; the stream is then behind what it gave, which is lost.
+fn fill<R: Read>(alloc: Global, stream: &mut R, bytes: &mut [u8]) -> Result<(), DecodeError>
+    ensures ok { OnOk result (Consumes (R.remaining stream.old) (R.remaining stream.new) bytes.new) }
+    ensures err { IfErr result FailsStream }
+    ensures told { TellsBytes (R.remaining stream.old) → TellsBytes (R.remaining stream.new) }
+{
+    let mut at = 0;
+    while at < bytes.len() {
+        match read_some(stream, &mut bytes[at..]) {
+            Ok(0) => {
+                let cause = io::Error::from(ErrorKind::UnexpectedEof);
+                return Err(failure(alloc, cause, bytes.len() - at));
+            }
+            Ok(n) => at += n,
+            Err(cause) => return Err(failure(alloc, cause, bytes.len() - at)),
+        }
+    }
+    Ok(())
+}
+
+/// A reader of a stream. It shows nothing, and fails with `Io`, also where the stream ends, or with `Memory` where its
+/// error finds none. A stream that does not tell its bytes, as a file or the standard input, is read alike, but nothing
+/// is promised of the bytes.
+pub struct IoReader<R> {
+    stream: R,
+    alloc: Global,
+}
+
+impl<R: Drop> Drop for IoReader<R> {
+    fn drop(self) {
+        let IoReader {
+            stream: _,
+            alloc: _,
+        } = self;
+    }
+}
+
+impl<R: Read> IoReader<R> {
+    ghost use Rattle.bincode_io.specs.Stream.{stream_of};
+
+    /// A reader of this stream, whose errors are held on the heap.
+    pub fn new(alloc: Global, stream: R) -> IoReader<R>
+        ensures { stream_of result ≡ stream }
+    {
+        IoReader { stream, alloc }
+    }
+}
+
+impl<R: Read + Drop> Reader for IoReader<R> {
+    ghost use Rattle.bincode_io.specs.Stream.{stream_of};
+
+    ghost told = { λ r. TellsBytes (R.remaining (stream_of r)) };
+
+    ghost rest = { λ r. known (R.remaining (stream_of r)) };
+
+    ghost shown = { λ _. 0 };
+
+    ghost failures = { λ _. 0 };
+
+    ghost ended = { EndsShort };
+
+    ghost device = { stream_errors };
+
+    ghost place = { λ _. [] };
+
+    fn read(&mut self, bytes: &mut [u8]) -> Result<(), DecodeError> {
+        fill(self.alloc, &mut self.stream, bytes)
+    }
+
+    fn peek_read(&mut self, _n: usize) -> Option<&[u8]> {
+        None
+    }
+
+    fn consume(&mut self, _n: usize) {}
+
+    ghost shown_left = { λ r _. zero-le };
+
+    ghost ended_is = { λ missing e h. inr h };
+}
+
+/// A reader of a stream that is lent: `IoReader`, whose stream is known to its lender afterwards.
+pub struct LentIoReader<'a, R> {
+    stream: &'a mut R,
+    alloc: Global,
+}
+
+impl<R> Drop for LentIoReader<'_, R> {
+    fn drop(self)
+        ensures { self.exit.0.now ≡ self.entry.stream.now }
+    {
+        let LentIoReader {
+            stream: _,
+            alloc: _,
+        } = self;
+    }
+}
+
+impl<'a, R: Read> LentIoReader<'a, R> {
+    ghost use Rattle.bincode_io.specs.Stream.{lent_stream};
+
+    /// A reader of this stream, whose errors are held on the heap.
+    pub fn new(alloc: Global, stream: &'a mut R) -> LentIoReader<'a, R>
+        ensures place { ⟦<LentIoReader<'a, R> as Reader>⟧.place result ≡ stream.entry.ghost_name ∷ [] }
+        ensures stream { lent_stream result ≡ stream.old }
+    {
+        LentIoReader { stream, alloc }
+    }
+}
+
+impl<R: Read> Reader for LentIoReader<'_, R> {
+    ghost use Rattle.bincode_io.specs.Stream.{lent_stream};
+
+    ghost told = { λ r. TellsBytes (R.remaining (lent_stream r)) };
+
+    ghost rest = { λ r. known (R.remaining (lent_stream r)) };
+
+    ghost shown = { λ _. 0 };
+
+    ghost failures = { λ _. 0 };
+
+    ghost ended = { EndsShort };
+
+    ghost device = { stream_errors };
+
+    ghost place = { λ r. r.stream.ghost_name ∷ [] };
+
+    fn read(&mut self, bytes: &mut [u8]) -> Result<(), DecodeError> {
+        fill(self.alloc, self.stream, bytes)
+    }
+
+    fn peek_read(&mut self, _n: usize) -> Option<&[u8]> {
+        None
+    }
+
+    fn consume(&mut self, _n: usize) {}
+
+    ghost shown_left = { λ r _. zero-le };
+
+    ghost ended_is = { λ missing e h. inr h };
+}

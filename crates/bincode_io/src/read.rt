@@ -1,0 +1,198 @@
+//! Readers.
+ghost use Rattle.std.specs.Prelude.{◌≡◌, ◌-◌, ◌<◌, ◌≤◌, ◌⊎◌, ◌↔◌, ℕ, List, []};
+ghost use Rattle.std.specs.Prelude.{◌∷◌, ◌++◌, length, drop, take, ⊤, OnOk, OnErr, IfErr, IfSome, IsSome};
+ghost use Rattle.std.specs.Prelude.{IsErr, IfOk};
+ghost use Rattle.std.proofs.Common.{le_refl, inl};
+ghost use Rattle.std.specs.Borrow.{GName, sem};
+ghost use Rattle.std.specs.Io.BufRead.{Rests};
+ghost use Rattle.bincode_format.specs.Device.{DeviceErrors, no_device, IsEndError, FallsShort, Rose, Takes, Unmoved};
+ghost use Rattle.bincode_base.specs.declared.error.DecodeError.{DecodeError};
+ghost use Rattle.bincode_base.specs.declared.error.DecodeError.TheVariants.{UnexpectedEnd};
+
+use bincode_base::error::DecodeError;
+
+/// A source of bytes, which are taken in order.
+pub trait Reader: Drop {
+    /// That it tells the bytes that are left. What is said of `rest` is said where it does.
+    ghost told: { Self → Type 0 };
+
+    /// The bytes that are left.
+    ghost rest: { Self → List ℕ };
+
+    /// How many of them a peek shows.
+    ghost shown: { Self → ℕ };
+
+    /// How often the device failed by an error that it counts. A count that stands at its last value, 2^64 - 1, is
+    /// taken for one that rose.
+    ghost failures: { Self → ℕ };
+
+    /// The error of a read that asks for so many bytes more than are left.
+    ghost ended: { ℕ → DecodeError → Type 0 };
+
+    /// The errors by which the device fails.
+    ghost device: { DeviceErrors };
+
+    /// The references that it reads through. No call changes them.
+    ghost place: { Self → List GName };
+
+    /// Fills all of `bytes` with the next bytes. Fails where too few are left, or where the device fails; then some
+    /// front of them is taken, unless the error is one that the device does not count.
+    fn read(&mut self, bytes: &mut [u8]) -> Result<(), DecodeError>
+        ensures next { told self.old → OnOk result (rest self.old ≡ bytes.new ++ rest self.new) }
+        ensures why { told self.old → IfErr result (λ e. FallsShort ended (rest self.old) (length bytes.old) e
+            ⊎ (device.uncounted e ⊎ (device.counted e × Rose (failures self.old) (failures self.new)))) }
+        ensures left { told self.old → IfErr result (λ e. device.uncounted e
+            ⊎ Takes (rest self.old) (rest self.new)) }
+        ensures count { failures self.old ≤ failures self.new }
+        ensures told { told self.old → told self.new }
+        ensures place { place self.new ≡ place self.old };
+
+    /// The next `n` bytes. Of at least one it answers exactly where the reader shows so many. Takes none.
+    fn peek_read(&mut self, n: usize) -> Option<&[u8]>
+        ensures next { IfSome result (λ s. (length s.now ≡ n)
+            × (told self.old → s.now ≡ take n (rest self.old))) }
+        ensures shows { 0 < n → IsSome result ↔ (n ≤ shown self.old) }
+        ensures* stays { sem 𝓛 (Rests Self.row self.entry (λ after.
+            Unmoved (told self.old) (told after) (rest self.old) (rest after) (failures self.old) (failures after)
+            (place self.old) (place after)
+            × IfSome result (λ _. n ≤ shown after))) };
+
+    /// Takes `n` bytes that a peek showed.
+    fn consume(&mut self, n: usize)
+        requires { n ≤ shown self.old }
+        ensures taken { told self.old → rest self.new ≡ drop n (rest self.old) }
+        ensures count { failures self.new ≡ failures self.old }
+        ensures told { told self.old → told self.new }
+        ensures place { place self.new ≡ place self.old };
+
+    /// It shows no more than is left.
+    ghost shown_left: { (r : Self) → told r → shown r ≤ length (rest r) };
+
+    /// Where bytes are missing it answers `UnexpectedEnd` or `Io`, with how many.
+    ghost ended_is: { (missing : ℕ) (e : DecodeError) → ended missing e → IsEndError missing e };
+}
+
+/// A reader of a slice, which it keeps whole: it counts what it took.
+pub struct SliceReader<'s> {
+    slice: &'s [u8],
+    taken: usize,
+    ghost within: { taken ≤ length slice.now },
+}
+
+impl Drop for SliceReader<'_> {
+    fn drop(self) {
+        let SliceReader { slice: _, taken: _ } = self;
+    }
+}
+
+impl<'s> SliceReader<'s> {
+    ghost use Rattle.bincode_io.specs.Slices.{left_of};
+
+    /// A reader of these bytes.
+    pub fn new(bytes: &'s [u8]) -> SliceReader<'s>
+        ensures { left_of result ≡ bytes.now }
+    {
+        SliceReader {
+            slice: bytes,
+            taken: 0,
+        }
+    }
+
+    /// How many bytes are left.
+    pub fn bytes_left(&self) -> usize
+        ensures { result ≡ length (left_of self.now) }
+    {
+        self.slice.len() - self.taken
+    }
+}
+
+impl Reader for SliceReader<'_> {
+    ghost use Rattle.bincode_io.specs.Slices.{left_of};
+    ghost use Rattle.bincode_io.specs.contracts.read.SliceReader.{the_row};
+    ghost use mir.Syntax.{named};
+
+    ghost told = { λ _. ⊤ };
+
+    ghost rest = { left_of };
+
+    ghost shown = { λ r. length (left_of r) };
+
+    ghost failures = { λ _. 0 };
+
+    ghost ended = { λ missing e. e ≡ UnexpectedEnd missing };
+
+    ghost device = { no_device };
+
+    ghost place = { λ _. [] };
+
+    /// Fails exactly where too few bytes are left, and then takes none.
+    fn read(&mut self, bytes: &mut [u8]) -> Result<(), DecodeError>
+        ensures next { OnOk result (left_of self.old ≡ bytes.new ++ left_of self.new) }
+        ensures why { IfErr result (λ e. FallsShort (λ missing d. d ≡ UnexpectedEnd missing) (left_of self.old)
+            (length bytes.old) e) }
+        ensures left { OnErr result (left_of self.new ≡ left_of self.old) }
+    {
+        // What was taken is compared with the last place where so many bytes stand, so that LLVM sees one length tested
+        // by several reads.
+        if self.slice.len() < bytes.len() || self.slice.len() - bytes.len() < self.taken {
+            return Err(DecodeError::UnexpectedEnd {
+                additional: bytes.len() - self.bytes_left(),
+            });
+        }
+        let end = self.taken + bytes.len();
+        bytes.copy_from_slice(&self.slice[self.taken..end]);
+        self.taken = end;
+        Ok(())
+    }
+
+    /// Answers exactly where `n` bytes are left.
+    fn peek_read(&mut self, n: usize) -> Option<&[u8]>
+        ensures next { IfSome result (λ s. (length s.now ≡ n) × (s.now ≡ take n (left_of self.old))) }
+        ensures shows { IsSome result ↔ (n ≤ length (left_of self.old)) }
+        ensures* stays { sem 𝓛 (Rests (the_row (record { mir = named 1; lft = [] })) self.entry (λ after.
+            Unmoved ⊤ ⊤ (left_of self.old) (left_of after) 0 0 [] []
+            × IfSome result (λ _. n ≤ length (left_of after)))) }
+    {
+        self.slice[self.taken..].get(..n)
+    }
+
+    fn consume(&mut self, n: usize) {
+        self.taken += n;
+    }
+
+    ghost shown_left = { λ r _. le_refl (length (left_of r)) };
+
+    ghost ended_is = { λ missing e h. inl h };
+}
+
+impl<R: Reader> Reader for &mut R {
+    ghost told = { λ r. R.told r.now };
+
+    ghost rest = { λ r. R.rest r.now };
+
+    ghost shown = { λ r. R.shown r.now };
+
+    ghost failures = { λ r. R.failures r.now };
+
+    ghost ended = { R.ended };
+
+    ghost device = { R.device };
+
+    ghost place = { λ r. r.ghost_name ∷ R.place r.now };
+
+    fn read(&mut self, bytes: &mut [u8]) -> Result<(), DecodeError> {
+        (**self).read(bytes)
+    }
+
+    fn peek_read(&mut self, n: usize) -> Option<&[u8]> {
+        (**self).peek_read(n)
+    }
+
+    fn consume(&mut self, n: usize) {
+        (**self).consume(n)
+    }
+
+    ghost shown_left = { λ r. R.shown_left r.now };
+
+    ghost ended_is = { R.ended_is };
+}

@@ -1,0 +1,172 @@
+//! Writers.
+ghost use Rattle.std.specs.Prelude.{◌≡◌, ◌+◌, ◌-◌, ◌<◌, ◌≤◌, ◌⊎◌, ℕ, List, []};
+ghost use Rattle.std.specs.Prelude.{◌∷◌, ◌++◌, length, Option, Some, OnOk, IfErr};
+ghost use Rattle.std.specs.Borrow.{GName};
+ghost use Rattle.std.proofs.Common.{rules, sym, ◌∙◌, ap, arith, le_refl};
+ghost use Rattle.std.proofs.lemmas.Grind.{common_steps};
+ghost use Rattle.bincode_format.specs.Device.{Rose, TooLong};
+ghost use Rattle.bincode_format.specs.Put.{put};
+ghost use Rattle.bincode_laws.specs.PutLaws.{put_none, put_join};
+ghost use Rattle.bincode_base.specs.declared.error.EncodeError.{EncodeError};
+ghost use Rattle.bincode_base.specs.declared.error.EncodeError.TheVariants.{UnexpectedEnd, Memory};
+
+use bincode_base::error::EncodeError;
+
+/// A target of bytes, which come piece by piece.
+pub trait Writer: Drop {
+    /// What a write that succeeds does to a writer.
+    ghost adds: { Self → List ℕ → Self → Type 0 };
+
+    /// What a write that fails answers, and does to it.
+    ghost refuses: { Self → List ℕ → EncodeError → Self → Type 0 };
+
+    /// How many bytes it can still take, if that is limited.
+    ghost room: { Self → Option ℕ };
+
+    /// How often the device failed. A count that stands at its last value, 2^64 - 1, is taken for one that rose.
+    ghost failures: { Self → ℕ };
+
+    /// An error that may come at any call.
+    ghost device: { EncodeError → Type 0 };
+
+    /// The references that it writes through. No call changes them.
+    ghost place: { Self → List GName };
+
+    /// Writes a piece. Fails where it is longer than the room, where memory is refused, or where the device fails.
+    fn write(&mut self, bytes: &[u8]) -> Result<(), EncodeError>
+        ensures ok { OnOk result (adds self.old bytes.now self.new) }
+        ensures err { IfErr result (λ e. refuses self.old bytes.now e self.new) }
+        ensures count { failures self.old ≤ failures self.new }
+        ensures place { place self.new ≡ place self.old };
+
+    /// The empty piece changes nothing.
+    ghost adds_none: { (w : Self) → adds w [] w };
+
+    /// Two pieces in turn are their join.
+    ghost adds_join: { (a b c : Self) (x y : List ℕ) → adds a x b → adds b y c → adds a (x ++ y) c };
+
+    /// A write that succeeds takes nothing off the count of failures,
+    ghost adds_count: { (a b : Self) (piece : List ℕ) → adds a piece b → failures a ≤ failures b };
+
+    /// nor does one that fails.
+    ghost refuses_count: { (a b : Self) (piece : List ℕ) (e : EncodeError) → refuses a piece e b → failures a
+        ≤ failures b };
+
+    /// Why a write fails.
+    ghost refuses_why: { (a b : Self) (piece : List ℕ) (e : EncodeError) → refuses a piece e b →
+        TooLong (room a) piece ⊎ ((e ≡ Memory) ⊎ (device e ⊎ Rose (failures a) (failures b))) };
+}
+
+/// A writer into the front of a slice.
+pub struct SliceWriter<'s> {
+    slice: &'s mut [u8],
+    written: usize,
+    ghost within: { written ≤ length slice.now },
+}
+
+impl Drop for SliceWriter<'_> {
+    ghost use Rattle.bincode_io.specs.Slices.{bytes_of};
+
+    fn drop(self)
+        ensures { self.exit.0.now ≡ bytes_of self.entry }
+    {
+        let SliceWriter {
+            slice: _,
+            written: _,
+        } = self;
+    }
+}
+
+impl<'s> SliceWriter<'s> {
+    ghost use Rattle.bincode_io.specs.Slices.{bytes_of, count_of, loan_of};
+
+    /// A writer into these bytes, of which none is written.
+    pub fn new(bytes: &'s mut [u8]) -> SliceWriter<'s>
+        ensures place { loan_of result ≡ bytes.entry.ghost_name }
+        ensures bytes { bytes_of result ≡ bytes.old }
+        ensures start { count_of result ≡ 0 }
+    {
+        SliceWriter {
+            slice: bytes,
+            written: 0,
+        }
+    }
+
+    /// How many bytes were written.
+    pub fn bytes_written(&self) -> usize
+        ensures { result ≡ count_of self.now }
+    {
+        self.written
+    }
+}
+
+impl Writer for SliceWriter<'_> {
+    ghost use Rattle.bincode_io.specs.Slices.{bytes_of, count_of, loan_of};
+
+    ghost adds = { λ a piece b. (count_of b ≡ count_of a + length piece)
+        × (bytes_of b ≡ put (count_of a) piece (bytes_of a)) };
+
+    ghost refuses = { λ a piece e b. (e ≡ UnexpectedEnd) × (length (bytes_of a) - count_of a < length piece)
+        × (b ≡ a) };
+
+    ghost room = { λ w. Some (length (bytes_of w) - count_of w) };
+
+    ghost failures = { λ _. 0 };
+
+    ghost device = { λ _. ⊥ };
+
+    ghost place = { λ w. loan_of w ∷ [] };
+
+    fn write(&mut self, bytes: &[u8]) -> Result<(), EncodeError> {
+        let left = self.slice.len() - self.written;
+        if left < bytes.len() {
+            return Err(EncodeError::UnexpectedEnd);
+        }
+        let end = self.written + bytes.len();
+        self.slice[self.written..end].copy_from_slice(bytes);
+        self.written = end;
+        Ok(())
+    }
+
+    ghost adds_none = { λ w. (Prim.search rules, put_none w.written w.slice.now) };
+
+    ghost adds_join = { λ a b c x y p q. (
+      Prim.grind (arith, common_steps),
+      q.1 ∙ ap (put b.written y) p.1 ∙ ap (λ k. put k y (put a.written x a.slice.now)) p.0
+          ∙ put_join a.written x y a.slice.now a.within,
+    ) };
+
+    ghost adds_count = { λ a b piece h. le_refl 0 };
+
+    ghost refuses_count = { λ a b piece e h. le_refl 0 };
+
+    ghost refuses_why = { λ a b piece e h. Prim.search rules };
+}
+
+impl<W: Writer> Writer for &mut W {
+    ghost adds = { λ a piece b. W.adds a.now piece b.now };
+
+    ghost refuses = { λ a piece e b. W.refuses a.now piece e b.now };
+
+    ghost room = { λ w. W.room w.now };
+
+    ghost failures = { λ w. W.failures w.now };
+
+    ghost device = { W.device };
+
+    ghost place = { λ w. w.ghost_name ∷ W.place w.now };
+
+    fn write(&mut self, bytes: &[u8]) -> Result<(), EncodeError> {
+        (**self).write(bytes)
+    }
+
+    ghost adds_none = { λ w. W.adds_none w.now };
+
+    ghost adds_join = { λ a b c x y p q. W.adds_join a.now b.now c.now x y p q };
+
+    ghost adds_count = { λ a b piece h. W.adds_count a.now b.now piece h };
+
+    ghost refuses_count = { λ a b piece e h. W.refuses_count a.now b.now piece e h };
+
+    ghost refuses_why = { λ a b piece e h. W.refuses_why a.now b.now piece e h };
+}

@@ -1,0 +1,228 @@
+-- What decoding answers to a run, element by element.
+use Rattle.std.specs.Prelude.{◌≡◌, ℕ, suc, ◌+◌, ◌-◌, ◌*◌, ◌≤◌, List, [], ◌∷◌, ◌++◌, Option, Some, None, refl}
+use Rattle.std.proofs.Common.{sym, ◌∙◌, ap, subst, arith, append_assoc, append-nil}
+use Rattle.bincode_base.specs.declared.error.DecodeError.{DecodeError}
+use Rattle.bincode_base.specs.declared.error.DecodeError.TheVariants.{LimitExceeded}
+use Rattle.bincode_format.specs.Fault.{Fault, End, InvalidInteger, Zero, UnexpectedVariant, Utf8, InvalidChar, InvalidBool, InvalidDuration, NulAt, Other, LengthMismatch, EmptyEnum, OutsideUsize, Tells}
+use Rattle.bincode_format.specs.Charge.{Reserve, Release}
+use Rattle.bincode_format.specs.Device.{DeviceErrors, Takes}
+use Rattle.bincode_format.specs.Format.{Format, Reading, Took, Failed, done, step, ◌>>=◌, vague, vague_reading, unsure, map_format, elements, sequence}
+use Rattle.bincode_format.specs.Laws.{Lawful, Balanced}
+use Rattle.bincode_laws.specs.FormatLaws.{elements-lawful}
+use Rattle.bincode_laws.specs.Balance.{elements-holds}
+use Rattle.bincode_format.specs.Meaning.{Meaning, Nothing, listed}
+use Rattle.bincode_format.specs.Words.{array}
+use Rattle.bincode_format.specs.Answer.{Answer, Gave, Refused, PassedLimit, answer, and_then, weighed, gave_at, refused_at, charge_behind, Claimed, OverClaimed, unclaimed}
+use Rattle.bincode_laws.specs.AnswerLaws.{answer-then, answer-done, answer-release, answer-reserve, answer-reserve_passed, gave-grows, gave-recharged, gave-uncounted}
+use Rattle.bincode_format.specs.Decoding.{Decodes, Stops, by_fault, by_limit, by_memory, by_failure, by_device}
+use Rattle.bincode_laws.specs.DecodingLaws.{rose-then, takes-then, gave-takes, answer-next, map-gave, map-stops}
+use Rattle.bincode_format.specs.Run.{IsListOf, CanRelease, Held, RoomReturned}
+
+-- how far a run is read
+
+-- these meanings, and then those of the answer
+abbrev pub behind : List Meaning → Answer (List Meaning) → Answer (List Meaning)
+behind ms a = and_then a (λ others rest charge. Gave (ms ++ others) rest charge)
+
+-- With these meanings read and so many elements left, the answer to all is that to the rest of the input behind them;
+-- and the room of those that are left is still reserved.
+pub record ReadSoFar (limit : Option ℕ) (share : ℕ) (F : Format Meaning) (all : Answer (List Meaning)) (input : List ℕ) (ms : List Meaning) (left : ℕ) (rest : List ℕ) (charge : ℕ) : Type 0 where
+  pub is_rest : behind ms (answer limit (elements left share F) rest charge) ≡ all
+  pub is_reserved : CanRelease limit charge (left * share)
+  pub is_behind : Takes input rest
+
+-- an answer that doesn't say by how many bytes the input ends too early
+
+abbrev vague_answer : Answer Meaning → Answer Meaning
+vague_answer (Gave m rest charge) = Gave m rest charge
+vague_answer (Refused why) = Refused (vague why)
+vague_answer PassedLimit = PassedLimit
+
+took_vaguely : (m : Meaning) (rest : List ℕ) (x : Option ℕ) → gave_at m rest x ≡ vague_answer (gave_at m rest x)
+took_vaguely m rest (Some c) = refl
+took_vaguely m rest None = refl
+
+failed_vaguely : (why : Fault) (x : Option ℕ) → refused_at (vague why) x ≡ vague_answer (refused_at why x)
+failed_vaguely why (Some c) = refl
+failed_vaguely why None = refl
+
+weighed_vaguely : (limit : Option ℕ) (c : ℕ) (r : Reading Meaning) → weighed limit c (vague_reading r) ≡ vague_answer (weighed limit c r)
+weighed_vaguely limit c (Took m rest s) = took_vaguely m rest (charge_behind limit c s)
+weighed_vaguely limit c (Failed why s) = failed_vaguely why (charge_behind limit c s)
+
+answer-unsure : (limit : Option ℕ) (F : Format Meaning) (input : List ℕ) (c : ℕ) → answer limit (unsure F) input c ≡ vague_answer (answer limit F input c)
+unfolding answer unsure
+answer-unsure limit F input c = weighed_vaguely limit c (F.read input)
+
+-- the error that tells a fault tells it vaguely
+tells-vague : (ended : ℕ → DecodeError → Type 0) (why : Fault) (e : DecodeError) → Tells ended why e → Tells ended (vague why) e
+tells-vague ended (End (Some missing)) e h = (missing, h)
+tells-vague ended (End None) e h = h
+tells-vague ended (InvalidInteger _ _) e h = h
+tells-vague ended (Zero _) e h = h
+tells-vague ended (UnexpectedVariant _ _) e h = h
+tells-vague ended Utf8 e h = h
+tells-vague ended (InvalidChar _) e h = h
+tells-vague ended (InvalidBool _) e h = h
+tells-vague ended (InvalidDuration _ _) e h = h
+tells-vague ended (NulAt _) e h = h
+tells-vague ended (Other _) e h = h
+tells-vague ended (LengthMismatch _ _) e h = h
+tells-vague ended EmptyEnum e h = h
+tells-vague ended (OutsideUsize _) e h = h
+
+-- a claim of room that stands, and one that passes the limit
+reserved_answer : (limit : Option ℕ) (c n d : ℕ) (input : List ℕ) → Claimed limit c n d → answer limit (step (Reserve n)) input c ≡ Gave tt input d
+reserved_answer None c n d input h = answer-reserve None n input c tt ∙ ap (Gave tt input) (sym h)
+reserved_answer (Some limit) c n d input h = answer-reserve (Some limit) n input c h.0 ∙ ap (Gave tt input) (sym h.1)
+
+over_reserved_answer : (limit : Option ℕ) (c n d : ℕ) (input : List ℕ) → OverClaimed limit c n d → answer limit (step (Reserve n)) input c ≡ PassedLimit
+over_reserved_answer None c n d input h = absurd h
+over_reserved_answer (Some limit) c n d input h = answer-reserve_passed limit n input c h.0
+
+still_reserved : (limit : Option ℕ) (share : ℕ) (F : Format Meaning) → Lawful F → Balanced F →
+    (n : ℕ) (rest : List ℕ) (c : ℕ) (m : Meaning) (rest' : List ℕ) (d : ℕ) → CanRelease limit c (suc n * share) →
+    answer limit F rest (unclaimed limit c share) ≡ Gave m rest' d → CanRelease limit d (n * share)
+still_reserved None share F f b n rest c m rest' d h e = tt
+still_reserved (Some limit) share F f b n rest c m rest' d h e =
+    let g : c - share ≤ d = gave-grows F f b limit rest rest' m (c - share) d e in
+    let k : suc n * share ≡ n * share + share = omega arith in
+    omega arith
+
+-- what follows an element: the others behind it
+abbrev others_behind : Option ℕ → ℕ → Format Meaning → ℕ → Answer Meaning → Answer (List Meaning)
+others_behind limit share F n a = and_then a (λ m rest c. behind (m ∷ []) (answer limit (elements n share F) rest c))
+
+module _ (limit : Option ℕ) (share : ℕ) (F : Format Meaning) where
+  last_behind : (m : Meaning) (a : Answer (List Meaning)) → and_then a (λ others rest c. answer limit (done (m ∷ others)) rest c) ≡ behind (m ∷ []) a
+  last_behind m (Gave others rest c) = answer-done limit (m ∷ others) rest c
+  last_behind m (Refused why) = refl
+  last_behind m PassedLimit = refl
+
+  next_behind : (n : ℕ) (a : Answer Meaning) → and_then a (λ m rest c. answer limit (map_format (λ others. m ∷ others) (elements n share F)) rest c) ≡ others_behind limit share F n a
+  next_behind n (Gave m rest c) = answer-then limit (elements n share F) (λ others. done (m ∷ others)) rest c ∙ last_behind m (answer limit (elements n share F) rest c)
+  next_behind n (Refused why) = refl
+  next_behind n PassedLimit = refl
+
+  -- one element, whose share is released, and then the others
+  element-then : (n : ℕ) (input : List ℕ) (c : ℕ) → answer limit (elements (suc n) share F) input c ≡ others_behind limit share F n (vague_answer (answer limit F input (unclaimed limit c share)))
+  element-then n input c =
+      answer-next limit (step (Release share)) (λ _. unsure F >>= λ m. map_format (λ others. m ∷ others) (elements n share F)) input c tt input (unclaimed limit c share) (answer-release limit share input c)
+      ∙ answer-then limit (unsure F) (λ m. map_format (λ others. m ∷ others) (elements n share F)) input (unclaimed limit c share)
+      ∙ next_behind n (answer limit (unsure F) input (unclaimed limit c share))
+      ∙ ap (others_behind limit share F n) (answer-unsure limit F input (unclaimed limit c share))
+
+  behind_push : (ms : List Meaning) (m : Meaning) (a : Answer (List Meaning)) → behind ms (behind (m ∷ []) a) ≡ behind (ms ++ m ∷ []) a
+  behind_push ms m (Gave others rest c) = ap (λ z. Gave z rest c) (sym (append_assoc ms (m ∷ []) others))
+  behind_push ms m (Refused why) = refl
+  behind_push ms m PassedLimit = refl
+
+  module _ (all : Answer (List Meaning)) (input : List ℕ) (ms : List Meaning) where
+    -- the answer to all, by that to the next element
+    so_far : (n : ℕ) (rest : List ℕ) (c : ℕ) (a : Answer Meaning) → ReadSoFar limit share F all input ms (suc n) rest c →
+        answer limit F rest (unclaimed limit c share) ≡ a → all ≡ behind ms (others_behind limit share F n (vague_answer a))
+    so_far n rest c a h e = sym h.is_rest ∙ ap (behind ms) (element-then n rest c ∙ ap (λ z. others_behind limit share F n (vague_answer z)) e)
+
+    -- one element more is read
+    pub one_more : Lawful F → Balanced F → (n : ℕ) (rest : List ℕ) (c : ℕ) (m : Meaning) (rest' : List ℕ) (d : ℕ) →
+        ReadSoFar limit share F all input ms (suc n) rest c → answer limit F rest (unclaimed limit c share) ≡ Gave m rest' d →
+        ReadSoFar limit share F all input (ms ++ m ∷ []) n rest' d
+    one_more f b n rest c m rest' d h e = record {
+      is_rest = sym (so_far n rest c (Gave m rest' d) h e ∙ behind_push ms m (answer limit (elements n share F) rest' d));
+      is_reserved = still_reserved limit share F f b n rest c m rest' d h.is_reserved e;
+      is_behind = takes-then input rest rest' h.is_behind (gave-takes limit F f rest (unclaimed limit c share) m rest' d e);
+    }
+
+    -- where an element stops, so does the run
+    pub one_stops :
+        (ended : ℕ → DecodeError → Type 0) (device : DeviceErrors) (H : Type 0) (n : ℕ) (rest : List ℕ) (c before between after : ℕ) (rest' : List ℕ) (e : DecodeError) →
+        before ≤ between → ReadSoFar limit share F all input ms (suc n) rest c →
+        Stops ended device H (answer limit F rest (unclaimed limit c share)) between after rest rest' e → Stops ended device H all before after input rest' e
+    one_stops ended device H n rest c before between after rest' e le h (by_fault why a t k) =
+        by_fault (vague why) (so_far n rest c (Refused why) h a) (tells-vague ended why e t) (takes-then input rest rest' h.is_behind k)
+    one_stops ended device H n rest c before between after rest' e le h (by_limit a t k) = by_limit (so_far n rest c PassedLimit h a) t (takes-then input rest rest' h.is_behind k)
+    one_stops ended device H n rest c before between after rest' e le h (by_memory g t k) = by_memory g t (takes-then input rest rest' h.is_behind k)
+    one_stops ended device H n rest c before between after rest' e le h (by_failure d r k) = by_failure d (rose-then before between after le r) (takes-then input rest rest' h.is_behind k)
+    one_stops ended device H n rest c before between after rest' e le h (by_device g) = by_device g
+
+    -- all is read
+    pub all_read : (rest : List ℕ) (c : ℕ) → ReadSoFar limit share F all input ms 0 rest c → all ≡ Gave ms rest c
+    all_read rest c h = sym h.is_rest ∙ ap (behind ms) (answer-done limit [] rest c) ∙ ap (λ z. Gave z rest c) (append-nil ms)
+
+  behind_none : (a : Answer (List Meaning)) → behind [] a ≡ a
+  behind_none (Gave others rest c) = refl
+  behind_none (Refused why) = refl
+  behind_none PassedLimit = refl
+
+  -- nothing is read yet
+  pub none_read : (n : ℕ) (input : List ℕ) (c : ℕ) → CanRelease limit c (n * share) → ReadSoFar limit share F (answer limit (elements n share F) input c) input [] n input c
+  none_read n input c h = record { is_rest = behind_none (answer limit (elements n share F) input c); is_reserved = h; is_behind = ([], refl) }
+
+  -- an array, behind the claim of its elements
+  module _ (n : ℕ) (input : List ℕ) (c d : ℕ) where
+    pub array-decodes : (Given : Meaning → Type 0) (rest : List ℕ) (after : ℕ) → Claimed limit c (n * share) d →
+        Decodes (λ ms. Given (listed ms)) (answer limit (elements n share F) input d) rest after →
+        Decodes Given (answer limit (array n share F) input c) rest after
+    array-decodes Given rest after h p = record {
+      meaning = listed p.meaning;
+      answer_is = map-gave listed limit (sequence n share F) input c p.meaning rest after (answer-next limit (step (Reserve (n * share))) (λ _. elements n share F) input c tt input d (reserved_answer limit c (n * share) d input h) ∙ p.answer_is);
+      is_given = p.is_given;
+    }
+
+    pub array-stops : (ended : ℕ → DecodeError → Type 0) (device : DeviceErrors) (H : Type 0) (before after : ℕ) (rest : List ℕ) (e : DecodeError) →
+        Claimed limit c (n * share) d → Stops ended device H (answer limit (elements n share F) input d) before after input rest e →
+        Stops ended device H (answer limit (array n share F) input c) before after input rest e
+    array-stops ended device H before after rest e h s =
+        map-stops listed ended device H limit (sequence n share F) input c before after rest e
+        (subst (λ a. Stops ended device H a before after input rest e) (sym (answer-next limit (step (Reserve (n * share))) (λ _. elements n share F) input c tt input d (reserved_answer limit c (n * share) d input h))) s)
+
+    -- whose claim passes the limit
+    pub array-passed : (ended : ℕ → DecodeError → Type 0) (device : DeviceErrors) (H : Type 0) (before after : ℕ) (rest : List ℕ) (e : DecodeError) →
+        OverClaimed limit c (n * share) d → e ≡ LimitExceeded → rest ≡ input →
+        Stops ended device H (answer limit (array n share F) input c) before after input rest e
+    array-passed ended device H before after rest e h k same =
+        map-stops listed ended device H limit (sequence n share F) input c before after rest e
+        (by_limit (answer-then limit (step (Reserve (n * share))) (λ _. elements n share F) input c ∙ ap (λ o. and_then o (λ _ r after. answer limit (elements n share F) r after)) (over_reserved_answer limit c (n * share) d input h)) k ([], sym same))
+
+-- one share of several
+pub one-releases : (limit : Option ℕ) (c share n : ℕ) → CanRelease limit c (suc n * share) → CanRelease limit c share
+one-releases None c share n h = tt
+one-releases (Some limit) c share n h = let k : suc n * share ≡ n * share + share = omega arith in omega arith
+
+-- what is left can be released after one share was, and while no more is
+pub others-release : (limit : Option ℕ) (c share n d : ℕ) → CanRelease limit c (suc n * share) → unclaimed limit c share ≤ d → CanRelease limit d (n * share)
+others-release None c share n d h le = tt
+others-release (Some limit) c share n d h le = let k : suc n * share ≡ n * share + share = omega arith in omega arith
+
+-- nothing was released; one share more was
+pub held-none : (limit : Option ℕ) (share start : ℕ) → Held limit (0 * share) start start
+held-none None share start = omega arith
+held-none (Some limit) share start = omega arith
+
+pub held-more : (limit : Option ℕ) (share n start c d : ℕ) → Held limit (n * share) start c → unclaimed limit c share ≤ d → Held limit ((n + 1) * share) start d
+held-more None share n start c d h le = omega arith
+held-more (Some limit) share n start c d h le = let k : (n + 1) * share ≡ n * share + share = omega arith in omega arith
+
+-- one value more
+pub is_list_push : {A : Type 0} (Is : A → Meaning → Type 0) (vs : List A) (ms : List Meaning) (v : A) (m : Meaning) → IsListOf Is vs (listed ms) →
+    Is v m → IsListOf Is (vs ++ v ∷ []) (listed (ms ++ m ∷ []))
+is_list_push Is [] [] v m h k = record { first = m; others = Nothing; meaning_is = refl; is_first = k; are_others = refl }
+is_list_push Is [] (n ∷ ms) v m h k = absurd (cc)
+is_list_push Is (w ∷ vs) [] v m h k = let e = h.meaning_is in absurd (cc)
+is_list_push Is (w ∷ vs) (n ∷ ms) v m h k =
+    let e = h.meaning_is in
+    let a : h.first ≡ n = cc in
+    let b : h.others ≡ listed ms = cc in
+    record { first = n; others = listed (ms ++ m ∷ []); meaning_is = refl; is_first = subst (Is w) a h.is_first; are_others = is_list_push Is vs ms v m (subst (IsListOf Is vs) b h.are_others) k }
+
+-- what is read from a charge that holds the room of a run gives it back
+pub run-returns : {A : Type 0} (limit : Option ℕ) (n share : ℕ) (F : Format A) → Lawful F → Balanced F →
+    (input rest : List ℕ) (ms : List A) (before after : ℕ) → CanRelease limit before (n * share) →
+    answer limit (elements n share F) input before ≡ Gave ms rest after → RoomReturned limit (elements n share F) (n * share) input rest before after
+run-returns None n share F f b input rest ms before after h e =
+    let p = gave-uncounted (elements n share F) (elements-lawful n share F f) input rest ms before after e in
+    record { meaning = ms; steps = p.0; begins = p.1; charge_is = p.2 }
+run-returns (Some limit) n share F f b input rest ms before after h e =
+    let p = gave-recharged (elements n share F) (elements-lawful n share F f) (n * share) 0 (elements-holds n share F b) limit input rest ms before after h e in
+    let k = p.2 in
+    record { meaning = ms; steps = p.0; begins = p.1; charge_is = omega arith }

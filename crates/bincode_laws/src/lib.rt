@@ -1,0 +1,2 @@
+//! What follows from the definitions of `bincode_format`, for every type and every format.
+#![tactic(auto)]

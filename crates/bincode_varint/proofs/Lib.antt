@@ -1,0 +1,3 @@
+pub mod StdBytes
+pub mod WordAnswers
+pub mod Words

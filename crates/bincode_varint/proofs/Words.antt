@@ -1,0 +1,200 @@
+-- Reading and writing the words of numbers, part by part.
+use Rattle.std.specs.Prelude.{◌≡◌, ◌⊎◌, ℕ, ℤ, FitsSigned, Result, IfErr, ◌-◌, ◌<◌, ◌≤◌, ◌^◌, ◌==◌, ◌&&◌, ◌≢◌, nat_le, true, false, List, [], ◌∷◌, ◌++◌, length, Some, refl, slice_index}
+use Rattle.std.proofs.Common.{sym, ◌∙◌, inl, inr, ap, arith, append-nil, append_assoc}
+use Rattle.std.proofs.Math.Nat.{pow-le-pow_right}
+use Rattle.std.specs.Int.{Width}
+use Rattle.std.proofs.lemmas.Int.{to_z-of_z}
+use Rattle.std.proofs.lemmas.Result.{IfErr-weaker}
+use Rattle.std.proofs.lemmas.Bool.{le-leb, lt-leb}
+use Rattle.std.proofs.lemmas.Bool.Decides.{nat_tests}
+use Rattle.bincode_base.specs.declared.config.Endianness.{Endianness}
+use Rattle.bincode_base.specs.declared.error.IntegerType.{IntegerType}
+use Rattle.bincode_base.specs.declared.error.EncodeError.{EncodeError}
+use Rattle.bincode_base.specs.declared.error.DecodeError.{DecodeError}
+use Rattle.bincode_base.specs.declared.error.DecodeError.TheVariants.{InvalidIntegerType}
+use Rattle.bincode_format.specs.Number.{number_of, digits_of, two_complement}
+use Rattle.bincode_format.specs.Fault.{Fault, End, InvalidInteger}
+use Rattle.bincode_format.specs.Format.{Format, Reading, Took, Failed, after_steps, raw, done, refused, ◌>>=◌, written_as, map_format}
+use Rattle.bincode_laws.specs.FormatLaws.{raw-lawful}
+use Rattle.bincode_laws.specs.IntegerLaws.{byte-lawful}
+use Rattle.bincode_base.specs.declared.config.IntEncoding.{IntEncoding}
+use Rattle.bincode_base.specs.declared.config.IntEncoding.TheVariants.{Fixed}
+use Rattle.bincode_format.specs.Integers.{spelling_pieces, number_for, byte, digits, first_of, varint, first_byte, Itself, Before, TooWide, behind}
+use Rattle.bincode_format.specs.Device.{DeviceErrors, FallsShort, Rose, Takes, StopsAmong}
+use mir.Val.{to_z, of_z}
+use Rattle.bincode_format.specs.Reads.{Misreads, by_fault, by_device, by_failure}
+
+-- so many bytes are there
+pub raw-read : (bytes rest : List ℕ) (n : ℕ) → length bytes ≡ n → (raw n).read (bytes ++ rest) ≡ Took bytes rest []
+unfolding raw
+raw-read bytes rest n e = (raw-lawful n).word_read bytes rest bytes [] (e, refl, refl)
+
+-- too few bytes are there
+raw-short : (input : List ℕ) (n : ℕ) → length input < n → (raw n).read input ≡ Failed (End (Some (n - length input))) []
+unfolding raw
+raw-short input n h = (raw-lawful n).fault_read input (End (Some (n - length input))) [] (h, refl, refl)
+
+-- a byte, and digits, are so many bytes as they are
+first_of-index : (bytes : List ℕ) → first_of bytes ≡ slice_index bytes 0
+first_of-index [] = refl
+first_of-index (b ∷ bytes) = refl
+
+pub byte-took : (input bytes rest : List ℕ) → (raw 1).read input ≡ Took bytes rest [] → byte.read input ≡ Took (slice_index bytes 0) rest []
+unfolding byte ◌>>=◌ done
+byte-took input bytes rest e = rw (e, first_of-index bytes) refl
+
+pub byte-failed : (input : List ℕ) (why : Fault) → (raw 1).read input ≡ Failed why [] → byte.read input ≡ Failed why []
+unfolding byte ◌>>=◌
+byte-failed input why e = rw e refl
+
+pub digits-took : (order : Endianness) (n : ℕ) (input bytes rest : List ℕ) → (raw n).read input ≡ Took bytes rest [] → (digits order n).read input ≡ Took (number_of order bytes) rest []
+unfolding digits written_as ◌>>=◌ done
+digits-took order n input bytes rest e = rw e refl
+
+pub digits-failed : (order : Endianness) (n : ℕ) (input : List ℕ) (why : Fault) → (raw n).read input ≡ Failed why [] → (digits order n).read input ≡ Failed why []
+unfolding digits written_as ◌>>=◌
+digits-failed order n input why e = rw e refl
+
+-- a format with its meanings mapped
+pub map-took : {A B : Type 0} (f : A → B) (F : Format A) (input rest : List ℕ) (a : A) (b : B) → b ≡ f a → F.read input ≡ Took a rest [] → (map_format f F).read input ≡ Took b rest []
+unfolding ◌>>=◌ done
+map-took f F input rest a b same e = rw (e, same) refl
+
+pub map-failed : {A B : Type 0} (f : A → B) (F : Format A) (input : List ℕ) (why : Fault) → F.read input ≡ Failed why [] → (map_format f F).read input ≡ Failed why []
+unfolding ◌>>=◌
+map-failed f F input why e = rw e refl
+
+-- why a read of so many bytes failed
+pub raw-misreads : (ended : ℕ → DecodeError → Type 0) (device : DeviceErrors) (rest rest' : List ℕ) (n before after : ℕ) (e : DecodeError) →
+    FallsShort ended rest n e ⊎ (device.uncounted e ⊎ (device.counted e × Rose before after)) → device.uncounted e ⊎ Takes rest rest' →
+    Misreads ended device ((raw n).read rest) before after rest rest' e
+raw-misreads ended device rest rest' n before after e why (inl d) = by_device d
+raw-misreads ended device rest rest' n before after e (inl h) (inr t) = by_fault (End (Some (n - length rest))) (raw-short rest n h.0) h.1 t
+raw-misreads ended device rest rest' n before after e (inr (inl h)) (inr t) = by_device h
+raw-misreads ended device rest rest' n before after e (inr (inr h)) (inr t) = by_failure h.0 h.1 t
+
+-- the fault of a part is that of the whole
+pub misreads-more : {A B : Type 0} (ended : ℕ → DecodeError → Type 0) (device : DeviceErrors) (part : Reading A) (whole : Reading B) (before after : ℕ) (rest rest' : List ℕ) (e : DecodeError) →
+    ((why : Fault) → part ≡ Failed why [] → whole ≡ Failed why []) → Misreads ended device part before after rest rest' e → Misreads ended device whole before after rest rest' e
+misreads-more ended device part whole before after rest rest' e same (by_fault why h t k) = by_fault why (same why h) t k
+misreads-more ended device part whole before after rest rest' e same (by_failure d h k) = by_failure d h k
+misreads-more ended device part whole before after rest rest' e same (by_device h) = by_device h
+
+-- what was taken before, and then more
+takes-then : (rest middle rest' : List ℕ) → Takes rest middle → Takes middle rest' → Takes rest rest'
+takes-then rest middle rest' (a, e) (b, f) = (a ++ b, e ∙ ap (λ z. a ++ z) f ∙ sym (append_assoc a b rest'))
+
+rose-then : (a b c : ℕ) → a ≤ b → Rose b c → Rose a c
+rose-then a b c h (inl r) = inl (omega arith)
+rose-then a b c h (inr r) = inr r
+
+-- what the first byte asks for
+no_steps : {A : Type 0} (r : Reading A) → after_steps [] r ≡ r
+no_steps (Took a rest steps) = refl
+no_steps (Failed why steps) = refl
+
+module _ (tags : ℕ → IntegerType) (name : IntegerType) (order : Endianness) (width : ℕ) (input rest : List ℕ) where
+  varint-then : (first : ℕ) → byte.read input ≡ Took first rest [] →
+      (varint tags name order width).read input ≡ (behind order (InvalidInteger name (tags first)) first (first_byte width first)).read rest
+  unfolding varint written_as ◌>>=◌
+  varint-then first e = rw e (no_steps ((behind order (InvalidInteger name (tags first)) first (first_byte width first)).read rest))
+
+  pub varint-none : (why : Fault) → byte.read input ≡ Failed why [] → (varint tags name order width).read input ≡ Failed why []
+  unfolding varint written_as ◌>>=◌
+  varint-none why e = rw e refl
+
+  -- a byte is the number itself
+  pub varint-itself : (first n : ℕ) → byte.read input ≡ Took first rest [] → first_byte width first ≡ Itself → n ≡ first → (varint tags name order width).read input ≡ Took n rest []
+  unfolding done
+  varint-itself first n e row same = varint-then first e ∙ rw (row, same) refl
+
+  -- a tag, and then the digits
+  pub varint-digits : (first k : ℕ) → byte.read input ≡ Took first rest [] → first_byte width first ≡ Before k → (varint tags name order width).read input ≡ (digits order k).read rest
+  varint-digits first k e row = varint-then first e ∙ rw row refl
+
+  module _ (ended : ℕ → DecodeError → Type 0) (device : DeviceErrors) where
+    -- a tag that is too wide
+    pub varint-too_wide : (first before after : ℕ) (e : DecodeError) → byte.read input ≡ Took first rest [] → first_byte width first ≡ TooWide →
+        e ≡ InvalidIntegerType name (tags first) → Misreads ended device ((varint tags name order width).read input) before after input rest e
+    unfolding refused
+    varint-too_wide first before after e b row same =
+        let p = byte-lawful.read_word input rest first [] b in
+        by_fault (InvalidInteger name (tags first)) (varint-then first b ∙ rw row refl) same (p.word, p.input_is)
+
+    -- digits that are missing
+    pub varint-misreads : (first k before between after : ℕ) (rest' : List ℕ) (e : DecodeError) → byte.read input ≡ Took first rest [] → first_byte width first ≡ Before k → before ≤ between →
+        Misreads ended device ((digits order k).read rest) between after rest rest' e → Misreads ended device ((varint tags name order width).read input) before after input rest' e
+    varint-misreads first k before between after rest' e b row le (by_fault why h t f) =
+        let p = byte-lawful.read_word input rest first [] b in
+        by_fault why (varint-digits first k b row ∙ h) t (takes-then input rest rest' (p.word, p.input_is) f)
+    varint-misreads first k before between after rest' e b row le (by_failure d h f) =
+        let p = byte-lawful.read_word input rest first [] b in
+        by_failure d (rose-then before between after le h) (takes-then input rest rest' (p.word, p.input_is) f)
+    varint-misreads first k before between after rest' e b row le (by_device h) = by_device h
+
+-- what a first byte says
+pub small-itself : (width first : ℕ) → first ≤ 250 → first_byte width first ≡ Itself
+small-itself width first h = let a : nat_le first 250 ≡ true = le-leb first 250 h in rw a refl
+
+-- a tag that its width does not have
+pub tag-too_wide : (width first : ℕ) → 250 < first → first ≢ 251 → first ≢ 252 ⊎ (width < 4) → first ≢ 253 ⊎ (width < 8) → first ≢ 254 ⊎ (width < 16) → first_byte width first ≡ TooWide
+tag-too_wide width first h a b c d =
+    let p : nat_le first 250 ≡ false = lt-leb first 250 h in
+    let q : (first == 251) ≡ false = grind (arith, nat_tests) in
+    let r : ((first == 252) && nat_le 4 width) ≡ false = grind (arith, nat_tests) in
+    let s : ((first == 253) && nat_le 8 width) ≡ false = grind (arith, nat_tests) in
+    let t : ((first == 254) && nat_le 16 width) ≡ false = grind (arith, nat_tests) in
+    rw (p, q, r, s, t) refl
+
+-- a number of fewer bytes
+pub below-wider : (n fewer width : ℕ) → n < 256 ^ fewer → fewer ≤ width → n < 256 ^ width
+below-wider n fewer width h i =
+    let k : 256 ^ fewer ≤ 256 ^ width = pow-le-pow_right {n = 256} (omega arith) i in
+    omega (arith, h, k)
+
+module _ {W : Type 0} (adds : W → List ℕ → W → Type 0) (refuses : W → List ℕ → EncodeError → W → Type 0) where
+  -- the writer refused the first piece
+  pub stops-first : ((w : W) → adds w [] w) → (piece : List ℕ) (others : List (List ℕ)) (before after : W) (e : EncodeError) →
+      refuses before piece e after → StopsAmong adds refuses (piece ∷ others) before e after
+  stops-first none piece others before after e h = record { written = []; piece = piece; others = others; pieces_are = refl; middle = before; added = none before; refused = h }
+
+  -- the writer refused the second piece
+  pub stops-second : (first piece : List ℕ) (others : List (List ℕ)) (before middle after : W) (e : EncodeError) → adds before first middle →
+      refuses middle piece e after → StopsAmong adds refuses (first ∷ piece ∷ others) before e after
+  stops-second first piece others before middle after e h k = record {
+    written = first ∷ [];
+    piece = piece;
+    others = others;
+    pieces_are = refl;
+    middle = middle;
+    added = rw (append-nil first) h;
+    refused = k;
+  }
+
+-- an integer that is read by its number
+module _ {A B : Type 0} (f : A → B) (F : Format A) where
+  pub mapped_misreads : {T : Type 0} (ended : ℕ → DecodeError → Type 0) (device : DeviceErrors) (before after : ℕ) (input rest : List ℕ) (r : Result T DecodeError) →
+      IfErr r (Misreads ended device (F.read input) before after input rest) → IfErr r (Misreads ended device ((map_format f F).read input) before after input rest)
+  mapped_misreads ended device before after input rest r h = IfErr-weaker r _ _ (λ e k. misreads-more ended device _ _ before after input rest e (map-failed f F input) k) h
+
+pub signed_took : (w : Width) (f : ℕ → ℤ) (F : Format ℕ) (input rest : List ℕ) (n : ℕ) (z : ℤ) → FitsSigned w z → z ≡ f n →
+    F.read input ≡ Took n rest [] → (map_format f F).read input ≡ Took (to_z w (of_z w z)) rest []
+signed_took w f F input rest n z fits e h = map-took f F input rest n _ (to_z-of_z w z fits ∙ e) h
+
+-- a fixed number is one piece
+module _ {W : Type 0} (adds : W → List ℕ → W → Type 0) (refuses : W → List ℕ → EncodeError → W → Type 0) (none : (w : W) → adds w [] w) {T : Type 0}
+    (r : Result T EncodeError) (piece : List ℕ) (before after : W) (order : Endianness) (width : ℕ) (encoding : IntEncoding)
+    (e : encoding ≡ Fixed) where
+  pub fixed_refused : (n : ℕ) → piece ≡ digits_of order width n → IfErr r (λ e. refuses before piece e after) →
+      IfErr r (λ e. StopsAmong adds refuses (spelling_pieces encoding order width n) before e after)
+  fixed_refused n p h = rw e (IfErr-weaker r _ _ (λ d k. rw (sym p) (stops-first adds refuses none piece [] before after d k)) h)
+
+  pub fixed_signed_refused : (w : Width) (z : ℤ) → FitsSigned w z → piece ≡ digits_of order width (two_complement width (to_z w (of_z w z))) →
+      IfErr r (λ e. refuses before piece e after) →
+      IfErr r (λ e. StopsAmong adds refuses (spelling_pieces encoding order width (number_for width encoding z)) before e after)
+  fixed_signed_refused w z fits p h =
+      let q = p ∙ ap (λ y. digits_of order width (two_complement width y)) (to_z-of_z w z fits) in
+      rw e (IfErr-weaker r _ _ (λ d k. rw (sym q) (stops-first adds refuses none piece [] before after d k)) h)
+
+-- for the proofs of numbers
+pub ruleset by_number = (mapped_misreads, signed_took, fixed_refused, fixed_signed_refused)

@@ -1,0 +1,116 @@
+//! Unsigned numbers, read in any spelling.
+ghost use Rattle.std.specs.Prelude.{◌≡◌, ◌<◌, ◌≤◌, ◌^◌, IfOk};
+ghost use Rattle.bincode_format.specs.Integers.{varint, unsigned_tag, tags_of};
+ghost use Rattle.bincode_format.specs.Reads.{ReadsWord};
+ghost use Rattle.bincode_base.specs.declared.error.DecodeError.TheVariants.{InvalidIntegerType};
+ghost use Rattle.bincode_base.specs.declared.error.IntegerType.TheVariants.{U16, U32, U64, U128, Usize};
+
+use super::{SINGLE_BYTE_MAX, U16_BYTE, U32_BYTE, U64_BYTE, U128_BYTE};
+use crate::bytes::{read_byte, read_u16, read_u32, read_u64, read_u128};
+use bincode_base::config::Endianness;
+use bincode_base::error::{DecodeError, IntegerType};
+use bincode_io::read::Reader;
+
+/// Reads a word of a number, also one that is longer than its shortest spelling. Fails where bytes are missing, and
+/// where the tag is too wide for the type or reserved.
+pub fn varint_decode_u16<R: Reader>(read: &mut R, endian: Endianness) -> Result<u16, DecodeError>
+    ensures { ReadsWord R.told R.rest R.failures R.place R.ended R.device (varint unsigned_tag U16 endian 2)
+        (λ v. v) result read.old read.new }
+{
+    let n = varint_decode(read, endian, IntegerType::U16, 2)?;
+    Ok(n as u16)
+}
+
+/// Reads a word of a `u32`, as `varint_decode_u16` does.
+pub fn varint_decode_u32<R: Reader>(read: &mut R, endian: Endianness) -> Result<u32, DecodeError>
+    ensures { ReadsWord R.told R.rest R.failures R.place R.ended R.device (varint unsigned_tag U32 endian 4)
+        (λ v. v) result read.old read.new }
+{
+    let n = varint_decode(read, endian, IntegerType::U32, 4)?;
+    Ok(n as u32)
+}
+
+/// Reads a word of a `u64`, as `varint_decode_u16` does.
+pub fn varint_decode_u64<R: Reader>(read: &mut R, endian: Endianness) -> Result<u64, DecodeError>
+    ensures { ReadsWord R.told R.rest R.failures R.place R.ended R.device (varint unsigned_tag U64 endian 8)
+        (λ v. v) result read.old read.new }
+{
+    let n = varint_decode(read, endian, IntegerType::U64, 8)?;
+    Ok(n as u64)
+}
+
+/// Reads a word of a `u128`, as `varint_decode_u16` does.
+pub fn varint_decode_u128<R: Reader>(read: &mut R, endian: Endianness) -> Result<u128, DecodeError>
+    ensures { ReadsWord R.told R.rest R.failures R.place R.ended R.device (varint unsigned_tag U128 endian 16)
+        (λ v. v) result read.old read.new }
+{
+    varint_decode(read, endian, IntegerType::U128, 16)
+}
+
+/// Reads a word of a `usize`, as `varint_decode_u16` does.
+pub fn varint_decode_usize<R: Reader>(
+    read: &mut R,
+    endian: Endianness,
+) -> Result<usize, DecodeError>
+    ensures { ReadsWord R.told R.rest R.failures R.place R.ended R.device (varint unsigned_tag Usize endian 8)
+        (λ v. v) result read.old read.new }
+{
+    let n = varint_decode(read, endian, IntegerType::Usize, 8)?;
+    Ok(n as usize)
+}
+
+/// The same for a number of so many bytes, of which a fault speaks by name.
+#[inline]
+pub(crate) fn varint_decode<R: Reader>(
+    read: &mut R,
+    endian: Endianness,
+    name: IntegerType,
+    width: usize,
+) -> Result<u128, DecodeError>
+    ensures word { ReadsWord R.told R.rest R.failures R.place R.ended R.device
+        (varint (tags_of name) name endian width) (λ v. v) result read.old read.new }
+    ensures fits { 2 ≤ width → IfOk result (λ v. v < 256 ^ width) }
+{
+    let tag = read_byte(read)?;
+    if tag <= SINGLE_BYTE_MAX {
+        return Ok(u128::from(tag));
+    }
+    match tag {
+        U16_BYTE => Ok(u128::from(read_u16(read, endian)?)),
+        U32_BYTE if width >= 4 => Ok(u128::from(read_u32(read, endian)?)),
+        U64_BYTE if width >= 8 => Ok(u128::from(read_u64(read, endian)?)),
+        U128_BYTE if width >= 16 => read_u128(read, endian),
+        _ => Err(invalid_tag(name, tag)),
+    }
+}
+
+/// The error for a tag that is too wide for the type, or reserved.
+fn invalid_tag(expected: IntegerType, tag: u8) -> DecodeError
+    ensures { result ≡ InvalidIntegerType expected (tags_of expected tag) }
+{
+    DecodeError::InvalidIntegerType {
+        expected,
+        found: name_of_tag(expected, tag),
+    }
+}
+
+/// The name of the type that a tag stands for: a signed one where a signed type is read.
+fn name_of_tag(expected: IntegerType, tag: u8) -> IntegerType
+    ensures { result ≡ tags_of expected tag }
+{
+    let found = match tag {
+        U32_BYTE => IntegerType::U32,
+        U64_BYTE => IntegerType::U64,
+        U128_BYTE => IntegerType::U128,
+        _ => IntegerType::Reserved,
+    };
+    match expected {
+        IntegerType::I8
+        | IntegerType::I16
+        | IntegerType::I32
+        | IntegerType::I64
+        | IntegerType::I128
+        | IntegerType::Isize => found.into_signed(),
+        _ => found,
+    }
+}

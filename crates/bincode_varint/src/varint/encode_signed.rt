@@ -1,0 +1,87 @@
+//! Signed numbers, written by zigzag.
+ghost use Rattle.std.specs.Prelude.{◌≡◌, OnOk, IfErr};
+ghost use Rattle.bincode_format.specs.Number.{zigzag};
+ghost use Rattle.bincode_format.specs.Integers.{shortest, shortest_pieces};
+ghost use Rattle.bincode_format.specs.Device.{StopsAmong};
+
+use super::{varint_encode_u16, varint_encode_u32, varint_encode_u64, varint_encode_u128};
+use bincode_base::config::Endianness;
+use bincode_base::error::EncodeError;
+use bincode_io::write::Writer;
+use crate::zigzag::zigzag;
+
+/// Writes the shortest spelling of the number of an integer by zigzag. Where the writer refuses a piece, those before
+/// it stay written.
+#[inline(always)]
+pub fn varint_encode_i16<W: Writer>(
+    writer: &mut W,
+    endian: Endianness,
+    val: i16,
+) -> Result<(), EncodeError>
+    ensures ok { OnOk result (W.adds writer.old (shortest endian (zigzag val)) writer.new) }
+    ensures err { IfErr result (λ e. StopsAmong W.adds W.refuses
+        (shortest_pieces endian (zigzag val)) writer.old e writer.new) }
+    ensures place { W.place writer.new ≡ W.place writer.old }
+{
+    varint_encode_u16(writer, endian, zigzag(i128::from(val)) as u16)
+}
+
+/// Writes the shortest spelling of the number of an `i32`, as `varint_encode_i16` does.
+#[inline(always)]
+pub fn varint_encode_i32<W: Writer>(
+    writer: &mut W,
+    endian: Endianness,
+    val: i32,
+) -> Result<(), EncodeError>
+    ensures ok { OnOk result (W.adds writer.old (shortest endian (zigzag val)) writer.new) }
+    ensures err { IfErr result (λ e. StopsAmong W.adds W.refuses
+        (shortest_pieces endian (zigzag val)) writer.old e writer.new) }
+    ensures place { W.place writer.new ≡ W.place writer.old }
+{
+    varint_encode_u32(writer, endian, zigzag(i128::from(val)) as u32)
+}
+
+/// Writes the shortest spelling of the number of an `i64`, as `varint_encode_i16` does.
+#[inline(always)]
+pub fn varint_encode_i64<W: Writer>(
+    writer: &mut W,
+    endian: Endianness,
+    val: i64,
+) -> Result<(), EncodeError>
+    ensures ok { OnOk result (W.adds writer.old (shortest endian (zigzag val)) writer.new) }
+    ensures err { IfErr result (λ e. StopsAmong W.adds W.refuses
+        (shortest_pieces endian (zigzag val)) writer.old e writer.new) }
+    ensures place { W.place writer.new ≡ W.place writer.old }
+{
+    varint_encode_u64(writer, endian, zigzag(i128::from(val)) as u64)
+}
+
+/// Writes the shortest spelling of the number of an `i128`, as `varint_encode_i16` does.
+#[inline(always)]
+pub fn varint_encode_i128<W: Writer>(
+    writer: &mut W,
+    endian: Endianness,
+    val: i128,
+) -> Result<(), EncodeError>
+    ensures ok { OnOk result (W.adds writer.old (shortest endian (zigzag val)) writer.new) }
+    ensures err { IfErr result (λ e. StopsAmong W.adds W.refuses
+        (shortest_pieces endian (zigzag val)) writer.old e writer.new) }
+    ensures place { W.place writer.new ≡ W.place writer.old }
+{
+    varint_encode_u128(writer, endian, zigzag(val))
+}
+
+/// Writes the shortest spelling of the number of an `isize`, as `varint_encode_i16` does.
+#[inline(always)]
+pub fn varint_encode_isize<W: Writer>(
+    writer: &mut W,
+    endian: Endianness,
+    val: isize,
+) -> Result<(), EncodeError>
+    ensures ok { OnOk result (W.adds writer.old (shortest endian (zigzag val)) writer.new) }
+    ensures err { IfErr result (λ e. StopsAmong W.adds W.refuses
+        (shortest_pieces endian (zigzag val)) writer.old e writer.new) }
+    ensures place { W.place writer.new ≡ W.place writer.old }
+{
+    varint_encode_u64(writer, endian, zigzag(val as i128) as u64)
+}

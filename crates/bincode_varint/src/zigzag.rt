@@ -1,0 +1,30 @@
+//! Signed numbers as unsigned ones: 0, -1, 1, -2, 2 are numbered 0, 1, 2, 3, 4, and so on.
+ghost use Rattle.std.specs.Prelude.{◌≡◌, ◌<◌, ◌^◌, ℕ};
+ghost use Rattle.bincode_format.specs.Number.{zigzag, unzigzag, FitsIn};
+ghost use Rattle.bincode_laws.specs.SignedLaws.{zigzag-unzigzag, unzigzag-zigzag, zigzag-fits, unzigzag-fits};
+
+/// The number of an integer. One to one, and that of an integer of so many bytes has so many bytes.
+#[inline]
+pub fn zigzag(val: i128) -> u128
+    ensures number { result ≡ zigzag val }
+    ensures back { unzigzag result ≡ val }
+    ensures width { (width : ℕ) → 0 < width → FitsIn width val → zigzag val < 256 ^ width }
+{
+    let bits = val.cast_unsigned();
+    if val < 0 { !bits * 2 + 1 } else { bits * 2 }
+}
+
+/// The integer with this number. One to one, and that of a number of so many bytes has so many bytes.
+#[inline]
+pub fn unzigzag(n: u128) -> i128
+    ensures integer { result ≡ unzigzag n }
+    ensures back { zigzag result ≡ n }
+    ensures width { (width : ℕ) → n < 256 ^ width → FitsIn width (unzigzag n) }
+{
+    let half = n / 2;
+    if n % 2 == 0 {
+        half.cast_signed()
+    } else {
+        (!half).cast_signed()
+    }
+}
