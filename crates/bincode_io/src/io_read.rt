@@ -6,8 +6,8 @@ ghost use Rattle.std.specs.Io.{ReadsAtMost};
 ghost use Rattle.std.specs.Io.KnownBytes.{Consumes, IsAtEnd, Keeps};
 ghost use Rattle.bincode_io.specs.Stream.{TellsBytes, known, EndsShort, FailsStream, stream_errors};
 
-use bincode_base::error::DecodeError;
 use crate::read::Reader;
+use bincode_base::error::DecodeError;
 use std::alloc::Global;
 use std::io;
 use std::io::{ErrorKind, Read};
