@@ -23,7 +23,8 @@ use Rattle.bincode_format.specs.Meaning.{Meaning, Character, IsCharacter}
 use Rattle.bincode_format.specs.Allowed.{AllowedWord, SomeWord, NoneShorter}
 use Rattle.bincode_laws.specs.CellLaws.{cell-has_word}
 use Rattle.bincode_laws.specs.AllowedLaws.{alone-one_length}
-use Rattle.bincode_laws.specs.Forms.{Form}
+use Rattle.bincode_format.specs.Forms.{characters}
+use Rattle.bincode_laws.specs.FormLaws.{FormLaws}
 use Rattle.bincode_format.specs.Words.{char_width, code_point, four_bytes, char_of, rest_of_char, behind_char, character}
 
 -- the laws
@@ -357,12 +358,9 @@ character-none_shorter c written bytes m s w h u e =
 pub character-has_word : (c : ℕ) → IsScalar c → SomeWord (AllowedWord (IsCharacter c) character)
 character-has_word c h = record { bytes = encode_utf8 c; are_bytes = let p = spelled c h in rw p.bytes_are p.are_bytes; is_allowed = character-allows c h }
 
--- the form of characters
-abbrev pub characters : Form ℕ
-characters = record {
-  format = λ s. character;
-  Bounds = IsScalar;
-  means = IsCharacter;
+-- characters keep the laws
+pub characters-laws : FormLaws characters
+characters-laws = record {
   lawful = λ s. character-lawful;
   balanced = λ s. character-balanced;
   spelled = λ s c h. record { has_word = character-has_word c h; one_length = alone-one_length _ (encode_utf8 c) (allowed-character c); none_shorter = character-none_shorter c };

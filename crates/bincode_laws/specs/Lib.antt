@@ -11,7 +11,7 @@ pub mod DigitLaws
 pub mod DurationLaws
 pub mod EncodingLaws
 pub mod FormatLaws
-pub mod Forms
+pub mod FormLaws
 pub mod Fronts
 pub mod IntegerLaws
 pub mod PutLaws

@@ -14,7 +14,8 @@ use Rattle.bincode_laws.specs.AllowedLaws.{tuple-allows, allowed-tuple, nothing-
 use Rattle.bincode_laws.specs.SpelledLaws.{word-settled, settled-word, parts-no_longer, nothing-none_shorter}
 use Rattle.bincode_format.specs.Cells.{HasWord}
 use Rattle.bincode_laws.specs.CellLaws.{cell-has_word, held-word, word-held}
-use Rattle.bincode_laws.specs.Forms.{Form}
+use Rattle.bincode_format.specs.Forms.{units}
+use Rattle.bincode_laws.specs.FormLaws.{FormLaws}
 
 -- a tuple is lawful
 pub nothing-lawful : Lawful nothing
@@ -110,11 +111,8 @@ pub then-shortest : {P Q P' Q' : Meaning → Type 0} {F others : Format Meaning}
 then-shortest f g = fewer-none_shorter both-then (λ m h. h) (then-none_shorter f g)
 
 -- no parts
-abbrev pub units : Form (Unit {0})
-units = record {
-  format = λ s. nothing;
-  Bounds = λ v. Unit {0};
-  means = λ v. IsNothing;
+pub units-laws : FormLaws units
+units-laws = record {
   lawful = λ s. nothing-lawful;
   balanced = λ s. nothing-balanced;
   spelled = λ s v h. record { has_word = record { bytes = []; are_bytes = All-nil (λ b. b < 256); is_allowed = nothing-allows }; one_length = alone-one_length (AllowedWord IsNothing nothing) [] allowed-nothing; none_shorter = nothing-none_shorter };

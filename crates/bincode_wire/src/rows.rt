@@ -2,7 +2,8 @@
 ghost use Rattle.std.specs.Prelude.{◌≡◌, ◌⊎◌, ◌+◌, ◌-◌, ◌^◌, min, refl};
 ghost use Rattle.bincode_format.specs.Meaning.{IsThen, IsFourThen};
 ghost use Rattle.bincode_format.specs.Words.{first_and, four_and};
-ghost use Rattle.bincode_laws.specs.TupleLaws.{units, then-some_word, then-lawful, then-balanced, then-has_word};
+ghost use Rattle.bincode_format.specs.Forms.{units};
+ghost use Rattle.bincode_laws.specs.TupleLaws.{units-laws, then-some_word, then-lawful, then-balanced, then-has_word};
 ghost use Rattle.bincode_laws.specs.TupleLaws.{then-one_length, then-same, then-shortest, either, four-lawful};
 ghost use Rattle.bincode_laws.specs.TupleLaws.{four-balanced, four-has_word, four-one_length, four-same, four-shortest};
 
@@ -13,6 +14,8 @@ use crate::wire::Wire;
 
 impl Scalar for () {
     ghost form = { units };
+
+    ghost form_laws = { units-laws };
 
     ghost SIZE = { 0 };
 

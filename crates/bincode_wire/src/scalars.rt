@@ -2,15 +2,19 @@
 ghost use Rattle.std.specs.Prelude.{◌≡◌, ℕ, true};
 ghost use Rattle.bincode_format.specs.Meaning.{Meaning};
 ghost use Rattle.bincode_laws.specs.AllowedLaws.{more-allowed};
-ghost use Rattle.bincode_laws.specs.Forms.{Form};
+ghost use Rattle.bincode_format.specs.Forms.{Form};
+ghost use Rattle.bincode_laws.specs.FormLaws.{FormLaws};
 
 use crate::laws::{Canonical, Exact, Inhabited, Plain, Writable};
 use crate::wire::Wire;
 
 /// A type whose values are written in one way each, and are equal if they mean the same.
 pub trait Scalar: PartialEq {
-    /// Its words and what they mean, what each value keeps, and that its words are the shortest.
+    /// Its words, which values there are, and what each means.
     ghost form: { Form Self };
+
+    /// Each value in bounds is written in one way, which is the shortest.
+    ghost form_laws: { FormLaws form };
 
     /// Its size in memory, which a container claims for it.
     ghost SIZE: { ℕ };
@@ -48,17 +52,17 @@ impl<T: Scalar> Wire for Alone<T> {
         T::SIZE
     }
 
-    ghost lawful = { T.form.lawful };
+    ghost lawful = { T.form_laws.lawful };
 
-    ghost balanced = { T.form.balanced };
+    ghost balanced = { T.form_laws.balanced };
 
-    ghost has_word = { λ s v h w. (T.form.spelled s v.value h).has_word };
+    ghost has_word = { λ s v h w. (T.form_laws.spelled s v.value h).has_word };
 
     ghost names_own = { λ e h. absurd h };
 }
 
 impl<T: Scalar> Inhabited for Alone<T> {
-    ghost some_word = { T.form.some_word };
+    ghost some_word = { T.form_laws.some_word };
 }
 
 impl<T: Scalar> Writable for Alone<T> {
@@ -66,15 +70,15 @@ impl<T: Scalar> Writable for Alone<T> {
 }
 
 impl<T: Scalar> Plain for Alone<T> {
-    ghost one_length = { λ s v h. (T.form.spelled s v.value h).one_length };
+    ghost one_length = { λ s v h. (T.form_laws.spelled s v.value h).one_length };
 
     ghost names_none = { λ e h. h };
 }
 
 impl<T: Scalar> Canonical for Alone<T> {
     ghost shortest = { λ s v w h written bytes m steps a b u g.
-        (T.form.spelled s v.value h).none_shorter written bytes m steps (more-allowed (λ n p. p.0) written a) b u
-        (T.form.one_meaning v.value w.value a.meaning m a.is_meant.0 a.is_meant.1 g) };
+        (T.form_laws.spelled s v.value h).none_shorter written bytes m steps (more-allowed (λ n p. p.0) written a) b u
+        (T.form_laws.one_meaning v.value w.value a.meaning m a.is_meant.0 a.is_meant.1 g) };
 }
 
 impl<T: Scalar> Exact for Alone<T> {

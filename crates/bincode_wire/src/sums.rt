@@ -11,7 +11,7 @@ ghost use Rattle.bincode_base.specs.declared.error.IntegerType.TheVariants.{U32}
 ghost use Rattle.bincode_base.specs.declared.error.EncodeError.{EncodeError};
 ghost use Rattle.bincode_format.specs.Meaning.{Meaning, Choice, IsNumber};
 ghost use Rattle.bincode_format.specs.Words.{natural, tag, Variant, tags_of, allowed_tags, in_order, part, chosen};
-ghost use Rattle.bincode_laws.specs.Forms.{Numerals, byte-numerals, unsigned-numerals};
+ghost use Rattle.bincode_laws.specs.FormLaws.{Numerals, byte-numerals, unsigned-numerals};
 ghost use Rattle.bincode_format.specs.Allowed.{AllowedWord, SomeWord, MayName, Shortest, OneLength};
 ghost use Rattle.bincode_laws.specs.AllowedLaws.{fewer-none_shorter};
 ghost use Rattle.bincode_format.specs.Choices.{IsChoice};

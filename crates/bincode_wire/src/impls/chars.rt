@@ -1,11 +1,14 @@
 //! The words of characters.
-ghost use Rattle.bincode_laws.specs.CharLaws.{characters, same_character};
+ghost use Rattle.bincode_format.specs.Forms.{characters};
+ghost use Rattle.bincode_laws.specs.CharLaws.{characters-laws, same_character};
 
 use crate::parted::{Parted, SameParts};
 use crate::scalars::{Alone, Scalar};
 
 impl Scalar for char {
     ghost form = { characters };
+
+    ghost form_laws = { characters-laws };
 
     ghost SIZE = { 4 };
 

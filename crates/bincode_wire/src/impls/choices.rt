@@ -1,7 +1,8 @@
 //! The words of truth values, `Option`, `Result` and `Bound`.
 ghost use Rattle.std.specs.Prelude.{refl};
 ghost use Rattle.bincode_laws.specs.AllowedLaws.{same_truth};
-ghost use Rattle.bincode_laws.specs.Forms.{truths};
+ghost use Rattle.bincode_format.specs.Forms.{truths};
+ghost use Rattle.bincode_laws.specs.FormLaws.{truths-laws};
 
 use crate::laws::Exact;
 use crate::parted::{Parted, SameParts};
@@ -12,6 +13,8 @@ use std::ops::Bound;
 
 impl Scalar for bool {
     ghost form = { truths };
+
+    ghost form_laws = { truths-laws };
 
     ghost SIZE = { 1 };
 

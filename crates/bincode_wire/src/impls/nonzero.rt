@@ -8,7 +8,8 @@ ghost use Rattle.bincode_base.specs.declared.error.IntegerType.TheVariants.{U16,
 ghost use Rattle.bincode_base.specs.declared.error.IntegerType.TheVariants.{I128, Isize};
 ghost use Rattle.bincode_format.specs.Integers.{Two, Four, Eight, Sixteen};
 ghost use Rattle.bincode_laws.specs.AllowedLaws.{same_number, same_integer};
-ghost use Rattle.bincode_laws.specs.Forms.{bytes_not_zero, unsigned_not_zero, signed_bytes_not_zero, signed_not_zero};
+ghost use Rattle.bincode_format.specs.Forms.{bytes_not_zero, unsigned_not_zero, signed_bytes_not_zero, signed_not_zero};
+ghost use Rattle.bincode_laws.specs.FormLaws.{bytes_not_zero-laws, unsigned_not_zero-laws, signed_bytes_not_zero-laws, signed_not_zero-laws};
 
 use crate::parted::{Parted, SameParts};
 use crate::scalars::{Alone, Scalar};
@@ -19,6 +20,8 @@ use std::num::{
 
 impl Scalar for NonZeroU8 {
     ghost form = { bytes_not_zero non_zero_u8_get };
+
+    ghost form_laws = { bytes_not_zero-laws non_zero_u8_get };
 
     ghost SIZE = { 1 };
 
@@ -38,7 +41,9 @@ impl SameParts<Alone<NonZeroU8>> for NonZeroU8 {
 }
 
 impl Scalar for NonZeroU16 {
-    ghost form = { unsigned_not_zero non_zero_u16_get U16 2 (Two refl) };
+    ghost form = { unsigned_not_zero non_zero_u16_get U16 2 };
+
+    ghost form_laws = { unsigned_not_zero-laws non_zero_u16_get U16 2 (Two refl) };
 
     ghost SIZE = { 2 };
 
@@ -58,7 +63,9 @@ impl SameParts<Alone<NonZeroU16>> for NonZeroU16 {
 }
 
 impl Scalar for NonZeroU32 {
-    ghost form = { unsigned_not_zero non_zero_u32_get U32 4 (Four refl) };
+    ghost form = { unsigned_not_zero non_zero_u32_get U32 4 };
+
+    ghost form_laws = { unsigned_not_zero-laws non_zero_u32_get U32 4 (Four refl) };
 
     ghost SIZE = { 4 };
 
@@ -78,7 +85,9 @@ impl SameParts<Alone<NonZeroU32>> for NonZeroU32 {
 }
 
 impl Scalar for NonZeroU64 {
-    ghost form = { unsigned_not_zero non_zero_u64_get U64 8 (Eight refl) };
+    ghost form = { unsigned_not_zero non_zero_u64_get U64 8 };
+
+    ghost form_laws = { unsigned_not_zero-laws non_zero_u64_get U64 8 (Eight refl) };
 
     ghost SIZE = { 8 };
 
@@ -98,7 +107,9 @@ impl SameParts<Alone<NonZeroU64>> for NonZeroU64 {
 }
 
 impl Scalar for NonZeroU128 {
-    ghost form = { unsigned_not_zero non_zero_u128_get U128 16 (Sixteen refl) };
+    ghost form = { unsigned_not_zero non_zero_u128_get U128 16 };
+
+    ghost form_laws = { unsigned_not_zero-laws non_zero_u128_get U128 16 (Sixteen refl) };
 
     ghost SIZE = { 16 };
 
@@ -118,7 +129,9 @@ impl SameParts<Alone<NonZeroU128>> for NonZeroU128 {
 }
 
 impl Scalar for NonZeroUsize {
-    ghost form = { unsigned_not_zero non_zero_usize_get Usize 8 (Eight refl) };
+    ghost form = { unsigned_not_zero non_zero_usize_get Usize 8 };
+
+    ghost form_laws = { unsigned_not_zero-laws non_zero_usize_get Usize 8 (Eight refl) };
 
     ghost SIZE = { 8 };
 
@@ -140,6 +153,8 @@ impl SameParts<Alone<NonZeroUsize>> for NonZeroUsize {
 impl Scalar for NonZeroI8 {
     ghost form = { signed_bytes_not_zero non_zero_i8_get };
 
+    ghost form_laws = { signed_bytes_not_zero-laws non_zero_i8_get };
+
     ghost SIZE = { 1 };
 
     const SIZE: usize = size_of::<NonZeroI8>();
@@ -158,7 +173,9 @@ impl SameParts<Alone<NonZeroI8>> for NonZeroI8 {
 }
 
 impl Scalar for NonZeroI16 {
-    ghost form = { signed_not_zero non_zero_i16_get I16 w16 (Two refl) };
+    ghost form = { signed_not_zero non_zero_i16_get I16 w16 };
+
+    ghost form_laws = { signed_not_zero-laws non_zero_i16_get I16 w16 (Two refl) };
 
     ghost SIZE = { 2 };
 
@@ -178,7 +195,9 @@ impl SameParts<Alone<NonZeroI16>> for NonZeroI16 {
 }
 
 impl Scalar for NonZeroI32 {
-    ghost form = { signed_not_zero non_zero_i32_get I32 w32 (Four refl) };
+    ghost form = { signed_not_zero non_zero_i32_get I32 w32 };
+
+    ghost form_laws = { signed_not_zero-laws non_zero_i32_get I32 w32 (Four refl) };
 
     ghost SIZE = { 4 };
 
@@ -198,7 +217,9 @@ impl SameParts<Alone<NonZeroI32>> for NonZeroI32 {
 }
 
 impl Scalar for NonZeroI64 {
-    ghost form = { signed_not_zero non_zero_i64_get I64 w64 (Eight refl) };
+    ghost form = { signed_not_zero non_zero_i64_get I64 w64 };
+
+    ghost form_laws = { signed_not_zero-laws non_zero_i64_get I64 w64 (Eight refl) };
 
     ghost SIZE = { 8 };
 
@@ -218,7 +239,9 @@ impl SameParts<Alone<NonZeroI64>> for NonZeroI64 {
 }
 
 impl Scalar for NonZeroI128 {
-    ghost form = { signed_not_zero non_zero_i128_get I128 w128 (Sixteen refl) };
+    ghost form = { signed_not_zero non_zero_i128_get I128 w128 };
+
+    ghost form_laws = { signed_not_zero-laws non_zero_i128_get I128 w128 (Sixteen refl) };
 
     ghost SIZE = { 16 };
 
@@ -238,7 +261,9 @@ impl SameParts<Alone<NonZeroI128>> for NonZeroI128 {
 }
 
 impl Scalar for NonZeroIsize {
-    ghost form = { signed_not_zero non_zero_isize_get Isize w64 (Eight refl) };
+    ghost form = { signed_not_zero non_zero_isize_get Isize w64 };
+
+    ghost form_laws = { signed_not_zero-laws non_zero_isize_get Isize w64 (Eight refl) };
 
     ghost SIZE = { 8 };
 

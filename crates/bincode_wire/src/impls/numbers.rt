@@ -5,13 +5,16 @@ ghost use Rattle.bincode_base.specs.declared.error.IntegerType.TheVariants.{U16,
 ghost use Rattle.bincode_base.specs.declared.error.IntegerType.TheVariants.{I128, Isize};
 ghost use Rattle.bincode_format.specs.Integers.{Two, Four, Eight, Sixteen};
 ghost use Rattle.bincode_laws.specs.AllowedLaws.{same_number, same_integer};
-ghost use Rattle.bincode_laws.specs.Forms.{bytes, unsigned_numbers, signed_bytes, signed_numbers};
+ghost use Rattle.bincode_format.specs.Forms.{bytes, unsigned_numbers, signed_bytes, signed_numbers};
+ghost use Rattle.bincode_laws.specs.FormLaws.{bytes-laws, unsigned_numbers-laws, signed_bytes-laws, signed_numbers-laws};
 
 use crate::parted::{Parted, SameParts};
 use crate::scalars::{Alone, Scalar};
 
 impl Scalar for u8 {
     ghost form = { bytes };
+
+    ghost form_laws = { bytes-laws };
 
     ghost SIZE = { 1 };
 
@@ -31,7 +34,9 @@ impl SameParts<Alone<u8>> for u8 {
 }
 
 impl Scalar for u16 {
-    ghost form = { unsigned_numbers U16 2 (Two refl) };
+    ghost form = { unsigned_numbers U16 2 };
+
+    ghost form_laws = { unsigned_numbers-laws U16 2 (Two refl) };
 
     ghost SIZE = { 2 };
 
@@ -51,7 +56,9 @@ impl SameParts<Alone<u16>> for u16 {
 }
 
 impl Scalar for u32 {
-    ghost form = { unsigned_numbers U32 4 (Four refl) };
+    ghost form = { unsigned_numbers U32 4 };
+
+    ghost form_laws = { unsigned_numbers-laws U32 4 (Four refl) };
 
     ghost SIZE = { 4 };
 
@@ -71,7 +78,9 @@ impl SameParts<Alone<u32>> for u32 {
 }
 
 impl Scalar for u64 {
-    ghost form = { unsigned_numbers U64 8 (Eight refl) };
+    ghost form = { unsigned_numbers U64 8 };
+
+    ghost form_laws = { unsigned_numbers-laws U64 8 (Eight refl) };
 
     ghost SIZE = { 8 };
 
@@ -91,7 +100,9 @@ impl SameParts<Alone<u64>> for u64 {
 }
 
 impl Scalar for u128 {
-    ghost form = { unsigned_numbers U128 16 (Sixteen refl) };
+    ghost form = { unsigned_numbers U128 16 };
+
+    ghost form_laws = { unsigned_numbers-laws U128 16 (Sixteen refl) };
 
     ghost SIZE = { 16 };
 
@@ -111,7 +122,9 @@ impl SameParts<Alone<u128>> for u128 {
 }
 
 impl Scalar for usize {
-    ghost form = { unsigned_numbers Usize 8 (Eight refl) };
+    ghost form = { unsigned_numbers Usize 8 };
+
+    ghost form_laws = { unsigned_numbers-laws Usize 8 (Eight refl) };
 
     ghost SIZE = { 8 };
 
@@ -133,6 +146,8 @@ impl SameParts<Alone<usize>> for usize {
 impl Scalar for i8 {
     ghost form = { signed_bytes };
 
+    ghost form_laws = { signed_bytes-laws };
+
     ghost SIZE = { 1 };
 
     const SIZE: usize = size_of::<i8>();
@@ -151,7 +166,9 @@ impl SameParts<Alone<i8>> for i8 {
 }
 
 impl Scalar for i16 {
-    ghost form = { signed_numbers I16 w16 (Two refl) };
+    ghost form = { signed_numbers I16 w16 };
+
+    ghost form_laws = { signed_numbers-laws I16 w16 (Two refl) };
 
     ghost SIZE = { 2 };
 
@@ -171,7 +188,9 @@ impl SameParts<Alone<i16>> for i16 {
 }
 
 impl Scalar for i32 {
-    ghost form = { signed_numbers I32 w32 (Four refl) };
+    ghost form = { signed_numbers I32 w32 };
+
+    ghost form_laws = { signed_numbers-laws I32 w32 (Four refl) };
 
     ghost SIZE = { 4 };
 
@@ -191,7 +210,9 @@ impl SameParts<Alone<i32>> for i32 {
 }
 
 impl Scalar for i64 {
-    ghost form = { signed_numbers I64 w64 (Eight refl) };
+    ghost form = { signed_numbers I64 w64 };
+
+    ghost form_laws = { signed_numbers-laws I64 w64 (Eight refl) };
 
     ghost SIZE = { 8 };
 
@@ -211,7 +232,9 @@ impl SameParts<Alone<i64>> for i64 {
 }
 
 impl Scalar for i128 {
-    ghost form = { signed_numbers I128 w128 (Sixteen refl) };
+    ghost form = { signed_numbers I128 w128 };
+
+    ghost form_laws = { signed_numbers-laws I128 w128 (Sixteen refl) };
 
     ghost SIZE = { 16 };
 
@@ -231,7 +254,9 @@ impl SameParts<Alone<i128>> for i128 {
 }
 
 impl Scalar for isize {
-    ghost form = { signed_numbers Isize w64 (Eight refl) };
+    ghost form = { signed_numbers Isize w64 };
+
+    ghost form_laws = { signed_numbers-laws Isize w64 (Eight refl) };
 
     ghost SIZE = { 8 };
 
