@@ -12,7 +12,8 @@ use Rattle.bincode_format.specs.Integers.{byte}
 use Rattle.bincode_laws.specs.IntegerLaws.{byte-lawful}
 use Rattle.bincode_format.specs.Meaning.{Meaning, Character, IsCharacter}
 use Rattle.bincode_format.specs.Words.{char_width, char_of, four_bytes, rest_of_char, behind_char, character}
-use Rattle.bincode_laws.specs.CharLaws.{Spells, char_of-alone}
+use Rattle.bincode_format.specs.Words.{Spells}
+use Rattle.bincode_laws.specs.CharLaws.{char_of-alone}
 use Rattle.bincode_format.specs.Answer.{Gave, Refused, answer}
 use Rattle.bincode_laws.specs.AnswerLaws.{answer-took, answer-failed, answer-refused}
 use Rattle.bincode_format.specs.Decoding.{Decodes, Stops}

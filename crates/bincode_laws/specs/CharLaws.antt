@@ -1,6 +1,6 @@
 -- The format of a character keeps the laws, and its words are the bytes that std gives for it.
 use Rattle.std.specs.Prelude.{◌≡◌, ℕ, ◌+◌, ◌-◌, ◌/◌, ◌%◌, ◌<◌, ◌≤◌, ◌⊎◌, nat_lt, nat_eq, Bool, true, false, not, if◌then◌else◌, List, [], ◌∷◌, ◌++◌}
-use Rattle.std.specs.Prelude.{length, refl, Result, Ok, Err, Option, Some, None, MatchOption, SomeIff}
+use Rattle.std.specs.Prelude.{length, refl, Result, Ok, Err, Option, Some, None, SomeIff}
 use Rattle.std.specs.List.{All}
 use Rattle.std.specs.Char.{encode_utf8, IsScalar}
 use Rattle.std.specs.Str.{is_utf8, all_scalars, encode_utf8_all}
@@ -25,7 +25,7 @@ use Rattle.bincode_laws.specs.CellLaws.{cell-has_word}
 use Rattle.bincode_laws.specs.AllowedLaws.{alone-one_length}
 use Rattle.bincode_format.specs.Forms.{characters}
 use Rattle.bincode_laws.specs.FormLaws.{FormLaws}
-use Rattle.bincode_format.specs.Words.{char_width, code_point, four_bytes, char_of, rest_of_char, behind_char, character}
+use Rattle.bincode_format.specs.Words.{Spells, char_width, code_point, four_bytes, char_of, rest_of_char, behind_char, character}
 
 -- the laws
 
@@ -391,10 +391,6 @@ pub char_of-alone : (first width : ℕ) → char_width first ≡ Some width → 
 char_of-alone first width w l = char_of-low first (ltb-true first 128 (width_1_by (nat_lt first 128) (nat_lt first 194) (nat_lt first 224) (nat_lt first 240) (nat_lt first 245) width w l))
 
 -- bytes in hand
-
--- the character that was found is what the bytes spell, or they spell none
-abbrev pub Spells : List ℕ → Option ℕ → Type 0
-Spells bytes found = MatchOption found (char_of bytes ≡ Err (InvalidChar (four_bytes bytes))) (λ c. char_of bytes ≡ Ok (Character c))
 
 module _ (first : ℕ) (tail : List ℕ) (w : char_width first ≡ Some (length (first ∷ tail))) (n : ℕ) (code_is : code_point (first ∷ tail) ≡ n) where
   -- bytes whose digits are no character's number, or are not how it is written, spell none

@@ -17,22 +17,12 @@ use Rattle.bincode_laws.specs.AllowedLaws.{map-written, written-map, natural-all
 use Rattle.bincode_laws.specs.SpelledLaws.{word-settled, settled-word, parts-no_longer}
 use Rattle.bincode_format.specs.Cells.{HasWord}
 use Rattle.bincode_laws.specs.CellLaws.{held-word, word-held}
-use Rattle.bincode_format.specs.Choices.{IsChoice}
+use Rattle.bincode_format.specs.Choices.{IsChoice, AllLawful, AllBalanced}
 
 -- what holds of each part holds of the one that is picked
 by_pick : (P : Format Meaning → Type 0) (picked : Bool) {F G : Format Meaning} → P F → P G → P (if_picked picked F G)
 by_pick P true f g = f
 by_pick P false f g = g
-
--- the part of each variant keeps the laws
-abbrev pub AllLawful : Setting → List Variant → Type 0
-AllLawful s [] = Unit {0}
-AllLawful s (variant ∷ others) = Lawful (variant.1 s) × AllLawful s others
-
--- and is balanced
-abbrev pub AllBalanced : Setting → List Variant → Type 0
-AllBalanced s [] = Unit {0}
-AllBalanced s (variant ∷ others) = Balanced (variant.1 s) × AllBalanced s others
 
 module _ (s : Setting) (allowed : Allowed) (found : ℕ) where
   part-lawful : (variants : List Variant) → AllLawful s variants → Lawful (part s variants allowed found)

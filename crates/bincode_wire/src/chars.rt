@@ -3,8 +3,7 @@ ghost use Rattle.std.specs.Prelude.{◌≡◌, ◌<◌, ◌≤◌, ◌∷◌, []
 ghost use Rattle.std.specs.Char.{encode_utf8};
 ghost use Rattle.bincode_format.specs.Reads.{ReadsWord};
 ghost use Rattle.bincode_format.specs.Meaning.{Character};
-ghost use Rattle.bincode_format.specs.Words.{char_width, rest_of_char};
-ghost use Rattle.bincode_laws.specs.CharLaws.{Spells};
+ghost use Rattle.bincode_format.specs.Words.{char_width, rest_of_char, Spells};
 
 use bincode_base::error::DecodeError;
 use bincode_io::read::Reader;

@@ -14,8 +14,8 @@ ghost use Rattle.bincode_format.specs.Words.{natural, tag, Variant, tags_of, all
 ghost use Rattle.bincode_laws.specs.FormLaws.{Numerals, byte-numerals, unsigned-numerals};
 ghost use Rattle.bincode_format.specs.Allowed.{AllowedWord, SomeWord, MayName, Shortest, OneLength};
 ghost use Rattle.bincode_laws.specs.AllowedLaws.{fewer-none_shorter};
-ghost use Rattle.bincode_format.specs.Choices.{IsChoice};
-ghost use Rattle.bincode_laws.specs.ChoiceLaws.{AllLawful, AllBalanced, part-here, part-there, same-alike};
+ghost use Rattle.bincode_format.specs.Choices.{IsChoice, AllLawful, AllBalanced};
+ghost use Rattle.bincode_laws.specs.ChoiceLaws.{part-here, part-there, same-alike};
 ghost use Rattle.bincode_laws.specs.ChoiceLaws.{chosen-lawful, chosen-balanced, choice-has_word, choice-one_length};
 ghost use Rattle.bincode_laws.specs.ChoiceLaws.{choice-shortest, choice-some_word, choice-same, tags-differ};
 ghost use Rattle.bincode_laws.specs.TupleLaws.{either};
