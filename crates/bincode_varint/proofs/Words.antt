@@ -1,9 +1,9 @@
 -- Reading and writing the words of numbers, part by part.
-use Rattle.std.specs.Prelude.{◌≡◌, ◌⊎◌, ℕ, ℤ, FitsSigned, Result, IfErr, ◌-◌, ◌<◌, ◌≤◌, ◌^◌, ◌==◌, ◌&&◌, ◌≢◌, nat_le, true, false, List, [], ◌∷◌, ◌++◌, length, Some, refl, slice_index}
-use Rattle.std.proofs.Common.{sym, ◌∙◌, inl, inr, ap, arith, append-nil, append_assoc}
+use Rattle.std.specs.Prelude.{◌≡◌, ◌⊎◌, ℕ, ℤ, pos, negsuc, FitsSigned, Result, IfErr, ◌-◌, ◌<◌, ◌≤◌, ◌^◌, ◌==◌, ◌&&◌, ◌≢◌, nat_le, true, false, List, [], ◌∷◌, ◌++◌, length, Some, refl, slice_index}
+use Rattle.std.proofs.Common.{sym, ◌∙◌, inl, inr, ap, arith, append-nil, append_assoc, rules}
 use Rattle.std.proofs.Math.Nat.{pow-le-pow_right}
-use Rattle.std.specs.Int.{Width}
-use Rattle.std.proofs.lemmas.Int.{to_z-of_z}
+use Rattle.std.specs.Int.{Width, w8, w16, w32, w64, w128}
+use Rattle.std.proofs.lemmas.Int.{to_z-of_z, ints}
 use Rattle.std.proofs.lemmas.Result.{IfErr-weaker}
 use Rattle.std.proofs.lemmas.Bool.{le-leb, lt-leb}
 use Rattle.std.proofs.lemmas.Bool.Decides.{nat_tests}
@@ -12,16 +12,16 @@ use Rattle.bincode_base.specs.declared.error.IntegerType.{IntegerType}
 use Rattle.bincode_base.specs.declared.error.EncodeError.{EncodeError}
 use Rattle.bincode_base.specs.declared.error.DecodeError.{DecodeError}
 use Rattle.bincode_base.specs.declared.error.DecodeError.TheVariants.{InvalidIntegerType}
-use Rattle.bincode_format.specs.Number.{number_of, digits_of, two_complement}
+use Rattle.bincode_format.specs.Number.{number_of, digits_of, two_complement, from_two_complement, FitsIn}
 use Rattle.bincode_format.specs.Fault.{Fault, End, InvalidInteger}
 use Rattle.bincode_format.specs.Format.{Format, Reading, Took, Failed, after_steps, raw, done, refused, ◌>>=◌, written_as, map_format}
 use Rattle.bincode_laws.specs.FormatLaws.{raw-lawful}
 use Rattle.bincode_laws.specs.IntegerLaws.{byte-lawful}
 use Rattle.bincode_base.specs.declared.config.IntEncoding.{IntEncoding}
 use Rattle.bincode_base.specs.declared.config.IntEncoding.TheVariants.{Fixed}
-use Rattle.bincode_format.specs.Integers.{spelling_pieces, number_for, byte, digits, first_of, varint, first_byte, Itself, Before, TooWide, behind}
+use Rattle.bincode_format.specs.Integers.{spelling_pieces, number_for, byte, digits, first_of, varint, first_byte, Itself, Before, TooWide, behind, width_in_bytes}
 use Rattle.bincode_format.specs.Device.{DeviceErrors, FallsShort, Rose, Takes, StopsAmong}
-use mir.Val.{to_z, of_z}
+use mir.Val.{to_z, of_z, Fits}
 use Rattle.bincode_format.specs.Reads.{Misreads, by_fault, by_device, by_failure}
 
 -- so many bytes are there
@@ -180,6 +180,53 @@ module _ {A B : Type 0} (f : A → B) (F : Format A) where
 pub signed_took : (w : Width) (f : ℕ → ℤ) (F : Format ℕ) (input rest : List ℕ) (n : ℕ) (z : ℤ) → FitsSigned w z → z ≡ f n →
     F.read input ≡ Took n rest [] → (map_format f F).read input ≡ Took (to_z w (of_z w z)) rest []
 signed_took w f F input rest n z fits e h = map-took f F input rest n _ (to_z-of_z w z fits ∙ e) h
+
+-- an integer that fits its width, read as a wider one and then as one of its own width
+signed-fits : (w : Width) (z : ℤ) → FitsIn (width_in_bytes w) z → FitsSigned w z
+signed-fits w8 (pos n) h = omega arith
+signed-fits w8 (negsuc n) h = omega arith
+signed-fits w16 (pos n) h = omega arith
+signed-fits w16 (negsuc n) h = omega arith
+signed-fits w32 (pos n) h = omega arith
+signed-fits w32 (negsuc n) h = omega arith
+signed-fits w64 (pos n) h = omega arith
+signed-fits w64 (negsuc n) h = omega arith
+signed-fits w128 (pos n) h = omega arith
+signed-fits w128 (negsuc n) h = omega arith
+
+widest-fits : (w : Width) (z : ℤ) → FitsIn (width_in_bytes w) z → FitsSigned w128 z
+widest-fits w8 (pos n) h = omega arith
+widest-fits w8 (negsuc n) h = omega arith
+widest-fits w16 (pos n) h = omega arith
+widest-fits w16 (negsuc n) h = omega arith
+widest-fits w32 (pos n) h = omega arith
+widest-fits w32 (negsuc n) h = omega arith
+widest-fits w64 (pos n) h = omega arith
+widest-fits w64 (negsuc n) h = omega arith
+widest-fits w128 (pos n) h = omega arith
+widest-fits w128 (negsuc n) h = omega arith
+
+pub narrow-fits : (w : Width) (z : ℤ) → FitsIn (width_in_bytes w) z → FitsSigned w (to_z w128 (of_z w128 z))
+narrow-fits w z h = rw (to_z-of_z w128 z (widest-fits w z h)) (signed-fits w z h)
+
+pub narrow-same : (w : Width) (z : ℤ) → FitsIn (width_in_bytes w) z → to_z w (of_z w (to_z w128 (of_z w128 z))) ≡ z
+narrow-same w z h = rw (to_z-of_z w128 z (widest-fits w z h)) (to_z-of_z w z (signed-fits w z h))
+
+-- an integer by its bits
+pub to_z-two_complement : (w : Width) (n : ℕ) → to_z w n ≡ from_two_complement (width_in_bytes w) n
+to_z-two_complement w8 n = search (ints, rules)
+to_z-two_complement w16 n = search (ints, rules)
+to_z-two_complement w32 n = search (ints, rules)
+to_z-two_complement w64 n = search (ints, rules)
+to_z-two_complement w128 n = search (ints, rules)
+
+-- a number that fits its bits
+pub fits-bits : (w : Width) (n : ℕ) → n < 256 ^ width_in_bytes w → Fits w n
+fits-bits w8 n h = search rules
+fits-bits w16 n h = search rules
+fits-bits w32 n h = search rules
+fits-bits w64 n h = search rules
+fits-bits w128 n h = search rules
 
 -- a fixed number is one piece
 module _ {W : Type 0} (adds : W → List ℕ → W → Type 0) (refuses : W → List ℕ → EncodeError → W → Type 0) (none : (w : W) → adds w [] w) {T : Type 0}
