@@ -1,5 +1,5 @@
 -- What readers and writers do and leave.
-use Rattle.std.specs.Prelude.{Box, ◌≡◌, ◌-◌, ◌^◌, ◌<◌, ◌⊎◌, ℕ, List, [], ◌∷◌, ◌++◌, length, Option, Some, None}
+use Rattle.std.specs.Prelude.{Box, ◌≡◌, ◌-◌, ◌^◌, ◌<◌, ◌⊎◌, ℕ, List, [], ◌∷◌, ◌++◌, ◌≤◌, length, drop, Option, Some, None, Result, OnOk, IfErr}
 use Rattle.std.specs.Borrow.{GName}
 use Rattle.std.specs.declared.alloc.Global.{Global}
 use Rattle.std.specs.declared.io.Error.{Error}
@@ -36,6 +36,25 @@ Unmoved told told' rest rest' failures failures' place place' = (told → told' 
 -- a read of so many bytes has too few: what it answers where so many are missing is `ended`
 abbrev pub FallsShort : (ℕ → DecodeError → Type 0) → List ℕ → ℕ → DecodeError → Type 0
 FallsShort ended rest wanted e = (length rest < wanted) × ended (wanted - length rest) e
+
+-- A reader, which was at `old` and is at `new`, was asked to fill some bytes. They are the next ones; or too few are left, or
+-- the device failed, and then some front of what was left is taken, unless the error is one that the device does not count.
+-- The reader tells what is left as before, counts failures up, and reads through the same references.
+pub record Fills {R : Type 0} (told : R → Type 0) (rest : R → List ℕ) (failures : R → ℕ) (place : R → List GName)
+    (ended : ℕ → DecodeError → Type 0) (device : DeviceErrors) (before after : List ℕ) (result : Result (Unit {0}) DecodeError) (old new : R) : Type 0 where
+  pub next : told old → OnOk result (rest old ≡ after ++ rest new)
+  pub why : told old → IfErr result (λ e. FallsShort ended (rest old) (length before) e ⊎ (device.uncounted e ⊎ (device.counted e × Rose (failures old) (failures new))))
+  pub left : told old → IfErr result (λ e. device.uncounted e ⊎ Takes (rest old) (rest new))
+  pub counted : failures old ≤ failures new
+  pub tells : told old → told new
+  pub same_place : place new ≡ place old
+
+-- it was asked to take bytes that it showed
+pub record TakesShown {R : Type 0} (told : R → Type 0) (rest : R → List ℕ) (failures : R → ℕ) (place : R → List GName) (n : ℕ) (old new : R) : Type 0 where
+  pub taken : told old → rest new ≡ drop n (rest old)
+  pub same_failures : failures new ≡ failures old
+  pub tells : told old → told new
+  pub same_place : place new ≡ place old
 
 -- a piece is longer than the room
 abbrev pub TooLong : Option ℕ → List ℕ → Type 0

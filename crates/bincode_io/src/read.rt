@@ -5,7 +5,7 @@ ghost use Rattle.std.specs.Prelude.{IsErr, IfOk};
 ghost use Rattle.std.proofs.Common.{le_refl, inl};
 ghost use Rattle.std.specs.Borrow.{GName, sem};
 ghost use Rattle.std.specs.Io.BufRead.{Rests};
-ghost use Rattle.bincode_format.specs.Device.{DeviceErrors, no_device, IsEndError, FallsShort, Rose, Takes, Unmoved};
+ghost use Rattle.bincode_format.specs.Device.{DeviceErrors, no_device, IsEndError, FallsShort, Fills, TakesShown, Unmoved};
 ghost use Rattle.bincode_base.specs.declared.error.DecodeError.{DecodeError};
 ghost use Rattle.bincode_base.specs.declared.error.DecodeError.TheVariants.{UnexpectedEnd};
 
@@ -38,14 +38,7 @@ pub trait Reader: Drop {
     /// Fills all of `bytes` with the next bytes. Fails where too few are left, or where the device fails; then some
     /// front of them is taken, unless the error is one that the device does not count.
     fn read(&mut self, bytes: &mut [u8]) -> Result<(), DecodeError>
-        ensures next { told self.old → OnOk result (rest self.old ≡ bytes.new ++ rest self.new) }
-        ensures why { told self.old → IfErr result (λ e. FallsShort ended (rest self.old) (length bytes.old) e
-            ⊎ (device.uncounted e ⊎ (device.counted e × Rose (failures self.old) (failures self.new)))) }
-        ensures left { told self.old → IfErr result (λ e. device.uncounted e
-            ⊎ Takes (rest self.old) (rest self.new)) }
-        ensures count { failures self.old ≤ failures self.new }
-        ensures told { told self.old → told self.new }
-        ensures place { place self.new ≡ place self.old };
+        ensures { Fills told rest failures place ended device bytes.old bytes.new result self.old self.new };
 
     /// The next `n` bytes. Of at least one it answers exactly where the reader shows so many. Takes none.
     fn peek_read(&mut self, n: usize) -> Option<&[u8]>
@@ -60,10 +53,7 @@ pub trait Reader: Drop {
     /// Takes `n` bytes that a peek showed.
     fn consume(&mut self, n: usize)
         requires { n ≤ shown self.old }
-        ensures taken { told self.old → rest self.new ≡ drop n (rest self.old) }
-        ensures count { failures self.new ≡ failures self.old }
-        ensures told { told self.old → told self.new }
-        ensures place { place self.new ≡ place self.old };
+        ensures { TakesShown told rest failures place n self.old self.new };
 
     /// It shows no more than is left.
     ghost shown_left: { (r : Self) → told r → shown r ≤ length (rest r) };

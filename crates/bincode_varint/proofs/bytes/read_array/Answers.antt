@@ -11,9 +11,9 @@ returns-in_err-read g c =
     rw (p.1, p.2) (record {
       ok = λ known. tt;
       err = λ known. raw-misreads _ _ _ _ _ _ _ _ (rw length-replicate at (read.why known)) (read.left known);
-      counted = read.count;
-      tells = read.told;
-      same_place = read.place;
+      counted = read.counted;
+      tells = read.tells;
+      same_place = read.same_place;
     })
 
 pub returns : goal.returns
@@ -22,7 +22,7 @@ returns g c =
     record {
       ok = λ known. rw (read.next known) (raw-read _ _ _ (c.read.auto.bytes ∙ length-replicate g.row.N 0));
       err = λ known. tt;
-      counted = read.count;
-      tells = read.told;
-      same_place = read.place;
+      counted = read.counted;
+      tells = read.tells;
+      same_place = read.same_place;
     }
