@@ -56,6 +56,15 @@ pub record TakesShown {R : Type 0} (told : R → Type 0) (rest : R → List ℕ)
   pub tells : told old → told new
   pub same_place : place new ≡ place old
 
+-- A writer, which was at `old` and is at `new`, was given a piece: it was added, or it was refused, and the error tells why.
+-- Failures are counted up, and it writes through the same references.
+pub record TakesPiece {W : Type 0} (adds : W → List ℕ → W → Type 0) (refuses : W → List ℕ → EncodeError → W → Type 0) (failures : W → ℕ)
+    (place : W → List GName) (piece : List ℕ) (result : Result (Unit {0}) EncodeError) (old new : W) : Type 0 where
+  pub ok : OnOk result (adds old piece new)
+  pub err : IfErr result (λ e. refuses old piece e new)
+  pub counted : failures old ≤ failures new
+  pub same_place : place new ≡ place old
+
 -- a piece is longer than the room
 abbrev pub TooLong : Option ℕ → List ℕ → Type 0
 TooLong None piece = ⊥

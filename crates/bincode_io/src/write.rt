@@ -4,7 +4,7 @@ ghost use Rattle.std.specs.Prelude.{◌∷◌, ◌++◌, length, Option, Some, O
 ghost use Rattle.std.specs.Borrow.{GName};
 ghost use Rattle.std.proofs.Common.{rules, sym, ◌∙◌, ap, arith, le_refl};
 ghost use Rattle.std.proofs.lemmas.Grind.{common_steps};
-ghost use Rattle.bincode_format.specs.Device.{Rose, TooLong};
+ghost use Rattle.bincode_format.specs.Device.{Rose, TakesPiece, TooLong};
 ghost use Rattle.bincode_format.specs.Put.{put};
 ghost use Rattle.bincode_laws.specs.PutLaws.{put_none, put_join};
 ghost use Rattle.bincode_base.specs.declared.error.EncodeError.{EncodeError};
@@ -34,10 +34,7 @@ pub trait Writer: Drop {
 
     /// Writes a piece. Fails where it is longer than the room, where memory is refused, or where the device fails.
     fn write(&mut self, bytes: &[u8]) -> Result<(), EncodeError>
-        ensures ok { OnOk result (adds self.old bytes.now self.new) }
-        ensures err { IfErr result (λ e. refuses self.old bytes.now e self.new) }
-        ensures count { failures self.old ≤ failures self.new }
-        ensures place { place self.new ≡ place self.old };
+        ensures { TakesPiece adds refuses failures place bytes.now result self.old self.new };
 
     /// The empty piece changes nothing.
     ghost adds_none: { (w : Self) → adds w [] w };

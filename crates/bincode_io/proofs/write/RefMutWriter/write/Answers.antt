@@ -1,4 +1,7 @@
+use Rattle.std.proofs.Common.{refl}
 use Rattle.bincode_io.proofs.write.RefMutWriter.write.Goals as goal
 
-pub returns-clause-ok : goal.returns-clause-ok
-returns-clause-ok g c = c.write.ensures.ok
+pub returns : goal.returns
+returns g c =
+    let write = c.write.ensures in
+    record { ok = write.ok; err = write.err; counted = write.counted; same_place = rw write.same_place refl }
