@@ -6,9 +6,9 @@ ghost use Rattle.bincode_format.specs.Meaning.{Character};
 ghost use Rattle.bincode_format.specs.Words.{char_width, rest_of_char};
 ghost use Rattle.bincode_laws.specs.CharLaws.{Spells};
 
-use bincode_varint::bytes::read_array;
 use bincode_base::error::DecodeError;
 use bincode_io::read::Reader;
+use bincode_varint::bytes::read_array;
 
 // Always inlined, as the decoding of numbers is: a call hands on a result with room for an error.
 
