@@ -1,8 +1,7 @@
 //! The words of tuples.
-ghost use Rattle.bincode_wire.specs.Rows.{row, four};
-ghost use Rattle.std.proofs.Common.{rules};
+ghost use Rattle.std.specs.Prelude.{[], ◌∷◌};
+ghost use Rattle.bincode_wire.specs.Rows.{row, four, row_same};
 
-use crate::laws::Exact;
 use crate::parted::{Parted, SameParts};
 use crate::rows::{LongRow, Row};
 use crate::wire::Wire;
@@ -155,106 +154,141 @@ where
         v.1.1.1.1.1.1.1.1.1.1.1.1.1.1.1.0 tt))) };
 }
 
-impl<A: Exact> SameParts<Row<A, ()>> for (A,) {
-    ghost same_parts = { λ v w e. Prim.search rules };
+impl<A: Wire + PartialEq> SameParts<Row<A, ()>> for (A,) {
+    ghost same_parts = { λ v w e. row_same (A.eq v.0 w.0) [] e };
 }
 
-impl<A: Exact, B: Exact> SameParts<Row<A, Row<B, ()>>> for (A, B) {
-    ghost same_parts = { λ v w e. Prim.search rules };
+impl<A: Wire + PartialEq, B: Wire + PartialEq> SameParts<Row<A, Row<B, ()>>> for (A, B) {
+    ghost same_parts = { λ v w e. row_same (A.eq v.0 w.0) (B.eq v.1 w.1 ∷ []) e };
 }
 
-impl<A: Exact, B: Exact, C: Exact> SameParts<Row<A, Row<B, Row<C, ()>>>> for (A, B, C) {
-    ghost same_parts = { λ v w e. Prim.search rules };
+impl<A: Wire + PartialEq, B: Wire + PartialEq, C: Wire + PartialEq> SameParts<
+    Row<A, Row<B, Row<C, ()>>>,
+> for (A, B, C) {
+    ghost same_parts = { λ v w e. row_same (A.eq v.0 w.0) (B.eq v.1 w.1 ∷ C.eq v.2 w.2 ∷ []) e };
 }
 
-impl<A: Exact, B: Exact, C: Exact, D: Exact> SameParts<LongRow<A, B, C, D, ()>> for (A, B, C, D) {
-    ghost same_parts = { λ v w e. Prim.search rules };
-}
-
-impl<A: Exact, B: Exact, C: Exact, D: Exact, E: Exact> SameParts<LongRow<A, B, C, D, Row<E, ()>>>
-    for (A, B, C, D, E) {
-    ghost same_parts = { λ v w e. Prim.search rules };
-}
-
-impl<A: Exact, B: Exact, C: Exact, D: Exact, E: Exact, F: Exact> SameParts<
-    LongRow<A, B, C, D, Row<E, Row<F, ()>>>,
-> for (A, B, C, D, E, F) {
-    ghost same_parts = { λ v w e. Prim.search rules };
-}
-
-impl<A: Exact, B: Exact, C: Exact, D: Exact, E: Exact, F: Exact, G: Exact> SameParts<
-    LongRow<A, B, C, D, Row<E, Row<F, Row<G, ()>>>>,
-> for (A, B, C, D, E, F, G) {
-    ghost same_parts = { λ v w e. Prim.search rules };
-}
-
-impl<A: Exact, B: Exact, C: Exact, D: Exact, E: Exact, F: Exact, G: Exact, H: Exact> SameParts<
-    LongRow<A, B, C, D, LongRow<E, F, G, H, ()>>,
-> for (A, B, C, D, E, F, G, H) {
-    ghost same_parts = { λ v w e. Prim.search rules };
+impl<A: Wire + PartialEq, B: Wire + PartialEq, C: Wire + PartialEq, D: Wire + PartialEq> SameParts<
+    LongRow<A, B, C, D, ()>,
+> for (A, B, C, D) {
+    ghost same_parts = { λ v w e. row_same (A.eq v.0 w.0) (B.eq v.1 w.1 ∷ C.eq v.2 w.2 ∷ D.eq v.3 w.3 ∷ []) e };
 }
 
 impl<
-    A: Exact,
-    B: Exact,
-    C: Exact,
-    D: Exact,
-    E: Exact,
-    F: Exact,
-    G: Exact,
-    H: Exact,
-    I: Exact,
+    A: Wire + PartialEq,
+    B: Wire + PartialEq,
+    C: Wire + PartialEq,
+    D: Wire + PartialEq,
+    E: Wire + PartialEq,
+> SameParts<LongRow<A, B, C, D, Row<E, ()>>> for (A, B, C, D, E) {
+    ghost same_parts = { λ v w e. row_same (A.eq v.0 w.0) (B.eq v.1 w.1 ∷ C.eq v.2 w.2 ∷ D.eq v.3 w.3 ∷ E.eq v.4 w.4
+        ∷ []) e };
+}
+
+impl<
+    A: Wire + PartialEq,
+    B: Wire + PartialEq,
+    C: Wire + PartialEq,
+    D: Wire + PartialEq,
+    E: Wire + PartialEq,
+    F: Wire + PartialEq,
+> SameParts<LongRow<A, B, C, D, Row<E, Row<F, ()>>>> for (A, B, C, D, E, F) {
+    ghost same_parts = { λ v w e. row_same (A.eq v.0 w.0) (B.eq v.1 w.1 ∷ C.eq v.2 w.2 ∷ D.eq v.3 w.3 ∷ E.eq v.4 w.4 ∷ F.eq v.5 w.5
+        ∷ []) e };
+}
+
+impl<
+    A: Wire + PartialEq,
+    B: Wire + PartialEq,
+    C: Wire + PartialEq,
+    D: Wire + PartialEq,
+    E: Wire + PartialEq,
+    F: Wire + PartialEq,
+    G: Wire + PartialEq,
+> SameParts<LongRow<A, B, C, D, Row<E, Row<F, Row<G, ()>>>>> for (A, B, C, D, E, F, G) {
+    ghost same_parts = { λ v w e. row_same (A.eq v.0 w.0) (B.eq v.1 w.1 ∷ C.eq v.2 w.2 ∷ D.eq v.3 w.3 ∷ E.eq v.4 w.4 ∷ F.eq v.5 w.5
+        ∷ G.eq v.6 w.6 ∷ []) e };
+}
+
+impl<
+    A: Wire + PartialEq,
+    B: Wire + PartialEq,
+    C: Wire + PartialEq,
+    D: Wire + PartialEq,
+    E: Wire + PartialEq,
+    F: Wire + PartialEq,
+    G: Wire + PartialEq,
+    H: Wire + PartialEq,
+> SameParts<LongRow<A, B, C, D, LongRow<E, F, G, H, ()>>> for (A, B, C, D, E, F, G, H) {
+    ghost same_parts = { λ v w e. row_same (A.eq v.0 w.0) (B.eq v.1 w.1 ∷ C.eq v.2 w.2 ∷ D.eq v.3 w.3 ∷ E.eq v.4 w.4 ∷ F.eq v.5 w.5
+        ∷ G.eq v.6 w.6 ∷ H.eq v.7 w.7 ∷ []) e };
+}
+
+impl<
+    A: Wire + PartialEq,
+    B: Wire + PartialEq,
+    C: Wire + PartialEq,
+    D: Wire + PartialEq,
+    E: Wire + PartialEq,
+    F: Wire + PartialEq,
+    G: Wire + PartialEq,
+    H: Wire + PartialEq,
+    I: Wire + PartialEq,
 > SameParts<LongRow<A, B, C, D, LongRow<E, F, G, H, Row<I, ()>>>> for (A, B, C, D, E, F, G, H, I) {
-    ghost same_parts = { λ v w e. Prim.search rules };
+    ghost same_parts = { λ v w e. row_same (A.eq v.0 w.0) (B.eq v.1 w.1 ∷ C.eq v.2 w.2 ∷ D.eq v.3 w.3 ∷ E.eq v.4 w.4 ∷ F.eq v.5 w.5
+        ∷ G.eq v.6 w.6 ∷ H.eq v.7 w.7 ∷ I.eq v.8 w.8 ∷ []) e };
 }
 
 impl<
-    A: Exact,
-    B: Exact,
-    C: Exact,
-    D: Exact,
-    E: Exact,
-    F: Exact,
-    G: Exact,
-    H: Exact,
-    I: Exact,
-    J: Exact,
+    A: Wire + PartialEq,
+    B: Wire + PartialEq,
+    C: Wire + PartialEq,
+    D: Wire + PartialEq,
+    E: Wire + PartialEq,
+    F: Wire + PartialEq,
+    G: Wire + PartialEq,
+    H: Wire + PartialEq,
+    I: Wire + PartialEq,
+    J: Wire + PartialEq,
 > SameParts<LongRow<A, B, C, D, LongRow<E, F, G, H, Row<I, Row<J, ()>>>>>
     for (A, B, C, D, E, F, G, H, I, J) {
-    ghost same_parts = { λ v w e. Prim.search rules };
+    ghost same_parts = { λ v w e. row_same (A.eq v.0 w.0) (B.eq v.1 w.1 ∷ C.eq v.2 w.2 ∷ D.eq v.3 w.3 ∷ E.eq v.4 w.4 ∷ F.eq v.5 w.5
+        ∷ G.eq v.6 w.6 ∷ H.eq v.7 w.7 ∷ I.eq v.8 w.8 ∷ J.eq v.9 w.9 ∷ []) e };
 }
 
 impl<
-    A: Exact,
-    B: Exact,
-    C: Exact,
-    D: Exact,
-    E: Exact,
-    F: Exact,
-    G: Exact,
-    H: Exact,
-    I: Exact,
-    J: Exact,
-    K: Exact,
+    A: Wire + PartialEq,
+    B: Wire + PartialEq,
+    C: Wire + PartialEq,
+    D: Wire + PartialEq,
+    E: Wire + PartialEq,
+    F: Wire + PartialEq,
+    G: Wire + PartialEq,
+    H: Wire + PartialEq,
+    I: Wire + PartialEq,
+    J: Wire + PartialEq,
+    K: Wire + PartialEq,
 > SameParts<LongRow<A, B, C, D, LongRow<E, F, G, H, Row<I, Row<J, Row<K, ()>>>>>>
     for (A, B, C, D, E, F, G, H, I, J, K) {
-    ghost same_parts = { λ v w e. Prim.search rules };
+    ghost same_parts = { λ v w e. row_same (A.eq v.0 w.0) (B.eq v.1 w.1 ∷ C.eq v.2 w.2 ∷ D.eq v.3 w.3 ∷ E.eq v.4 w.4 ∷ F.eq v.5 w.5
+        ∷ G.eq v.6 w.6 ∷ H.eq v.7 w.7 ∷ I.eq v.8 w.8 ∷ J.eq v.9 w.9 ∷ K.eq v.10 w.10 ∷ []) e };
 }
 
 impl<
-    A: Exact,
-    B: Exact,
-    C: Exact,
-    D: Exact,
-    E: Exact,
-    F: Exact,
-    G: Exact,
-    H: Exact,
-    I: Exact,
-    J: Exact,
-    K: Exact,
-    L: Exact,
+    A: Wire + PartialEq,
+    B: Wire + PartialEq,
+    C: Wire + PartialEq,
+    D: Wire + PartialEq,
+    E: Wire + PartialEq,
+    F: Wire + PartialEq,
+    G: Wire + PartialEq,
+    H: Wire + PartialEq,
+    I: Wire + PartialEq,
+    J: Wire + PartialEq,
+    K: Wire + PartialEq,
+    L: Wire + PartialEq,
 > SameParts<LongRow<A, B, C, D, LongRow<E, F, G, H, LongRow<I, J, K, L, ()>>>>
     for (A, B, C, D, E, F, G, H, I, J, K, L) {
-    ghost same_parts = { λ v w e. Prim.search rules };
+    ghost same_parts = { λ v w e. row_same (A.eq v.0 w.0) (B.eq v.1 w.1 ∷ C.eq v.2 w.2 ∷ D.eq v.3 w.3 ∷ E.eq v.4 w.4 ∷ F.eq v.5 w.5
+        ∷ G.eq v.6 w.6 ∷ H.eq v.7 w.7 ∷ I.eq v.8 w.8 ∷ J.eq v.9 w.9 ∷ K.eq v.10 w.10 ∷ L.eq v.11 w.11 ∷ []) e };
 }
