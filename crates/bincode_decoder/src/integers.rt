@@ -12,11 +12,11 @@ ghost use Rattle.bincode_format.specs.Answer.{Charges};
 ghost use Rattle.bincode_format.specs.Values.{Reads};
 
 use crate::decoder::Decoder;
-use bincode_varint::bytes::{read_byte, read_i8};
 use bincode_base::config::Config;
 use bincode_base::error::{DecodeError, IntegerType};
-use bincode_varint::number::Integer;
 use bincode_io::read::Reader;
+use bincode_varint::bytes::{read_byte, read_i8};
+use bincode_varint::number::Integer;
 use bincode_wire::wire::Wire;
 
 /// Charges for all bytes of an integer, and reads it as the configuration says. Fails where the charge passes the
