@@ -1,6 +1,7 @@
 -- Where the decoding of a span of time ends.
-use Rattle.std.specs.Prelude.{◌≡◌, ℕ, ◌+◌, ◌/◌, ◌%◌, ◌<◌, ◌≤◌, ◌^◌, List, Option}
-use Rattle.std.proofs.Common.{◌∙◌, refl}
+use Rattle.std.specs.Prelude.{◌≡◌, ℕ, ◌+◌, ◌/◌, ◌%◌, ◌<◌, ◌≤◌, ◌^◌, List, Option, Some, None, is_some, SomeIff, true, false}
+use Rattle.std.proofs.Common.{◌∙◌, refl, arith}
+use Rattle.std.proofs.lemmas.Bool.{true≢false, false≢true}
 use Rattle.bincode_base.specs.declared.error.IntegerType.TheVariants as integers
 use Rattle.bincode_format.specs.Device.{DeviceErrors}
 use Rattle.bincode_base.specs.declared.error.DecodeError.{DecodeError}
@@ -17,6 +18,15 @@ use Rattle.bincode_format.specs.Answer.{Gave, answer}
 use Rattle.bincode_format.specs.Decoding.{Decodes, Stops, by_fault}
 use Rattle.bincode_laws.specs.DecodingLaws.{answer-next, map-gave, map-stops, settled-gave, settled-refused, gave-takes, stops-first, stops-next}
 use Rattle.bincode_decoder.proofs.WrittenAs.{rewritten-answer}
+
+-- a checked sum is one that fits
+pub some-below : (o : Option ℕ) (n : ℕ) → SomeIff o (n < 2 ^ 64) n → is_some o ≡ true → n < 2 ^ 64
+some-below None n h e = absurd (false≢true e)
+some-below (Some m) n h e = h.0
+
+pub none-above : (o : Option ℕ) (n : ℕ) → SomeIff o (n < 2 ^ 64) n → is_some o ≡ false → 2 ^ 64 ≤ n
+none-above None n h e = omega (arith, h)
+none-above (Some m) n h e = absurd (true≢false e)
 
 module _ (limit : Option ℕ) (s : Setting) (input : List ℕ) (c : ℕ) where
   in_parts : answer limit (duration s) input c ≡ answer limit (seconds_and_nanos s >>= λ parts. settled (duration_of parts.0 parts.1)) input c

@@ -1,8 +1,12 @@
 -- The room that is held for a run of values.
-use Rattle.std.specs.Prelude.{if◌then◌else◌, ℕ, ◌+◌, ◌*◌, ◌^◌, ◌≤◌, nat_lt, Bool, true, false, Option, Some, None}
+use Rattle.std.specs.Prelude.{if◌then◌else◌, ◌≡◌, ℕ, ◌+◌, ◌-◌, ◌*◌, ◌^◌, ◌<◌, ◌≤◌, nat_lt, nat_le, Bool, true, false, is_some, Option, Some, None, Ok, Err, refl}
+use Rattle.std.specs.Bool.{MatchBool}
 use Rattle.std.proofs.Common.{arith}
+use Rattle.std.proofs.lemmas.Bool.{false≢true, true≢false, le-ltb, cases_from_iff, leb-true, le-leb}
+use Rattle.bincode_base.specs.declared.error.DecodeError.TheVariants.{LimitExceeded}
+use Rattle.bincode_format.specs.Claims.{Claims}
 use Rattle.std.proofs.Math.Nat.{mul-le-mul_right}
-use Rattle.bincode_format.specs.Answer.{Claimed, OverClaimed}
+use Rattle.bincode_format.specs.Answer.{Claimed, OverClaimed, unclaimed}
 use Rattle.bincode_format.specs.Run.{Held}
 
 -- the room of fewer values is within that of more
@@ -33,3 +37,22 @@ over-grows (Some limit) before n after h = rw h.1 (each (nat_lt (before + n) (2 
     each : (b : Bool) → before ≤ (if b then before + n else before)
     each true = omega arith
     each false = omega arith
+
+-- without a limit a claim counts nothing,
+pub unlimited-claims : (limit : Option ℕ) (before n : ℕ) → is_some limit ≡ false → Claims limit before n before (Ok tt)
+unlimited-claims None before n e = record { ok = refl; err = tt }
+unlimited-claims (Some limit) before n e = absurd (true≢false e)
+
+-- and under one, which fits 64 bits, a claim that doesn't fit them is refused
+pub over-claims : (limit : Option ℕ) (before n : ℕ) → is_some limit ≡ true → ((l : ℕ) → limit ≡ Some l → l < 2 ^ 64) → 2 ^ 64 ≤ n → Claims limit before n before (Err LimitExceeded)
+over-claims None before n e fits h = absurd (false≢true e)
+over-claims (Some limit) before n e fits h = record { ok = tt; err = (refl, (let k = fits limit refl in omega arith, rw (le-ltb (before + n) (2 ^ 64) (omega arith)) refl)) }
+
+-- what is released under a limit is taken off
+pub unclaimed-some : (limit : Option ℕ) (charge n : ℕ) → true ≡ is_some limit → charge - n ≡ unclaimed limit charge n
+unclaimed-some None charge n e = absurd (true≢false e)
+unclaimed-some (Some limit) charge n e = refl
+
+-- what a test of two numbers tells
+pub leb-tells : (a b : ℕ) → MatchBool (nat_le a b) (a ≤ b) (¬ (a ≤ b))
+leb-tells a b = cases_from_iff (leb-true a b, le-leb a b)

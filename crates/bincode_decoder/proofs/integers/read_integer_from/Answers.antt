@@ -8,3 +8,6 @@ returns-clause-word g c =
     let lent = g.met.D.Decoder in
     lent-word (lent.reader_told d) (lent.rest_is d) (lent.failures_is d) (lent.put_told d new) (lent.put_rest d new) (lent.put_failures d new)
     (lent.put_place d new) (rw (c.reader.ensures.value, c.endianness-endian.ensures, c.int_encoding-encoding.ensures) at c.read.ensures)
+
+pub returns-clause-charge : goal.returns-clause-charge
+returns-clause-charge g c = g.met.D.Decoder.put_charge c.args.decoder.now c.read.new.read

@@ -1,8 +1,5 @@
-use Rattle.std.specs.Prelude.{◌+◌, ◌/◌, ◌<◌, ◌≤◌, ◌^◌}
-use Rattle.std.proofs.Common.{rules}
 use Rattle.std.proofs.lemmas.Result.{err_from_is_err_and}
-use Rattle.bincode_format.specs.Words.{second_in_nanos}
-use Rattle.bincode_decoder.proofs.DurationAnswers.{span-decodes, span-overflows, span-stops_first, span-stops_next}
+use Rattle.bincode_decoder.proofs.DurationAnswers.{none-above, some-below, span-decodes, span-overflows, span-stops_first, span-stops_next}
 use Rattle.bincode_decoder.proofs.ReadAnswers.{read-as, read-behind, exactly}
 use Rattle.bincode_decoder.proofs.time.decode_duration.Goals as goal
 
@@ -23,12 +20,12 @@ pub returns-then-is_none : goal.returns-then-is_none
 returns-then-is_none g c =
     let a = c.in_ok-secs.ensures.reads in
     let b = c.in_ok-nanos.ensures.reads in
-    let h : 2 ^ 64 ≤ c.in_ok-secs.secs + c.in_ok-nanos.nanos / second_in_nanos = search rules in
+    let h = none-above _ _ (rw c.from.ensures at c.checked_add.ensures) c.if-is_none.ensures in
     read-behind (λ known. tt) (λ known. span-overflows _ _ _ _ _ _ _ _ _ _ (exactly (a.ok known)) (exactly (b.ok (a.tells known))) _ _ _ _ _ h) a b
 
 pub returns : goal.returns
 returns g c =
     let a = c.in_ok-secs.ensures.reads in
     let b = c.in_ok-nanos.ensures.reads in
-    let h : c.in_ok-secs.secs + c.in_ok-nanos.nanos / second_in_nanos < 2 ^ 64 = search rules in
+    let h = some-below _ _ (rw c.from.ensures at c.checked_add.ensures) c.if-is_none.ensures in
     read-behind (λ known. span-decodes _ _ _ _ _ _ _ _ _ _ (exactly (a.ok known)) (exactly (b.ok (a.tells known))) _ _ h c.new.ensures.secs c.new.ensures.nanos) (λ known. tt) a b

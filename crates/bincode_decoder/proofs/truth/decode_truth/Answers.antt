@@ -1,5 +1,5 @@
 use Rattle.std.specs.Prelude.{◌<◌}
-use Rattle.std.proofs.Common.{refl, rules, true, false}
+use Rattle.std.proofs.Common.{refl, arith, true, false}
 use Rattle.std.proofs.lemmas.Result.{err_from_is_err_and}
 use Rattle.bincode_format.specs.Fault.{InvalidBool}
 use Rattle.bincode_laws.specs.IntegerLaws.{unsigned_byte-lawful}
@@ -27,6 +27,9 @@ returns-in-1-clause-reads g c =
 pub returns-in_default-clause-reads : goal.returns-in_default-clause-reads
 returns-in_default-clause-reads g c =
     let read = c.in_ok-b.ensures.reads in
-    let above : 1 < c.in_ok-b.b = search rules in
+    let above : 1 < c.in_ok-b.b = omega arith in
     read-as (λ known. tt)
     (λ known. by_fault (InvalidBool c.in_ok-b.b) (truth-refuses _ _ _ _ _ _ (exactly (read.ok known)) above) refl (gave-takes _ _ unsigned_byte-lawful _ _ _ _ _ (exactly (read.ok known)))) read
+
+pub returns-in_default-clause-charge : goal.returns-in_default-clause-charge
+returns-in_default-clause-charge g c = c.in_ok-b.ensures.charge
