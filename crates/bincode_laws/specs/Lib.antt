@@ -21,4 +21,5 @@ pub mod SignedLaws
 pub mod SpelledLaws
 pub mod Spellings
 pub mod TupleLaws
+pub mod RowLaws
 pub mod WordsLaws
