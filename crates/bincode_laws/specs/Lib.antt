@@ -19,7 +19,7 @@ pub mod RunAllowedLaws
 pub mod RunLaws
 pub mod SignedLaws
 pub mod SpelledLaws
-pub mod Spellings
+pub mod SpellingLaws
 pub mod TupleLaws
 pub mod RowLaws
 pub mod WordsLaws

@@ -5,8 +5,8 @@ ghost use Rattle.std.specs.Prelude.{◌≡◌, ℕ, IfErr, OnOk, refl};
 ghost use Rattle.bincode_base.specs.declared.error.IntegerType.TheVariants.{U16, U32, U64, U128, Usize, I16, I32, I64};
 ghost use Rattle.bincode_base.specs.declared.error.IntegerType.TheVariants.{I128, Isize};
 ghost use Rattle.bincode_format.specs.Integers.{Two, Four, Eight, Sixteen};
-ghost use Rattle.bincode_format.specs.Spelling.{Spelling};
-ghost use Rattle.bincode_laws.specs.Spellings.{unsigned_spelling, signed_spelling};
+ghost use Rattle.bincode_format.specs.Spelling.{Spelling, unsigned_spelling, signed_spelling};
+ghost use Rattle.bincode_laws.specs.SpellingLaws.{SpellingLaws, unsigned_spelling-laws, signed_spelling-laws};
 ghost use Rattle.bincode_format.specs.Device.{StopsAmong};
 ghost use Rattle.bincode_format.specs.Reads.{ReadsWord};
 
@@ -33,7 +33,10 @@ pub trait Integer: Drop + Sized {
     ghost width: { ℕ };
 
     /// Its words, and which of them is written.
-    ghost spelling: { Spelling width Self };
+    ghost spelling: { Spelling Self };
+
+    /// What is written of a value is one of its words, in one way for each integer.
+    ghost spelling_laws: { SpellingLaws width spelling };
 
     /// Reads a word: also a varint that is longer than its shortest spelling. Fails where bytes are missing, where the
     /// tag of a varint is too wide for the type or reserved, and where the device fails. Then some front of the bytes
@@ -64,6 +67,8 @@ impl Integer for u16 {
     ghost width = { 2 };
 
     ghost spelling = { unsigned_spelling U16 2 };
+
+    ghost spelling_laws = { unsigned_spelling-laws U16 2 };
 
     #[inline(always)]
     fn read<R: Reader>(
@@ -96,6 +101,8 @@ impl Integer for u32 {
 
     ghost spelling = { unsigned_spelling U32 4 };
 
+    ghost spelling_laws = { unsigned_spelling-laws U32 4 };
+
     #[inline(always)]
     fn read<R: Reader>(
         read: &mut R,
@@ -126,6 +133,8 @@ impl Integer for u64 {
     ghost width = { 8 };
 
     ghost spelling = { unsigned_spelling U64 8 };
+
+    ghost spelling_laws = { unsigned_spelling-laws U64 8 };
 
     #[inline(always)]
     fn read<R: Reader>(
@@ -158,6 +167,8 @@ impl Integer for u128 {
 
     ghost spelling = { unsigned_spelling U128 16 };
 
+    ghost spelling_laws = { unsigned_spelling-laws U128 16 };
+
     #[inline(always)]
     fn read<R: Reader>(
         read: &mut R,
@@ -189,6 +200,8 @@ impl Integer for usize {
 
     ghost spelling = { unsigned_spelling Usize 8 };
 
+    ghost spelling_laws = { unsigned_spelling-laws Usize 8 };
+
     #[inline(always)]
     fn read<R: Reader>(
         read: &mut R,
@@ -218,7 +231,9 @@ impl Integer for usize {
 impl Integer for i16 {
     ghost width = { 2 };
 
-    ghost spelling = { signed_spelling I16 2 (Two refl) };
+    ghost spelling = { signed_spelling I16 2 };
+
+    ghost spelling_laws = { signed_spelling-laws I16 2 (Two refl) };
 
     #[inline(always)]
     fn read<R: Reader>(
@@ -249,7 +264,9 @@ impl Integer for i16 {
 impl Integer for i32 {
     ghost width = { 4 };
 
-    ghost spelling = { signed_spelling I32 4 (Four refl) };
+    ghost spelling = { signed_spelling I32 4 };
+
+    ghost spelling_laws = { signed_spelling-laws I32 4 (Four refl) };
 
     #[inline(always)]
     fn read<R: Reader>(
@@ -280,7 +297,9 @@ impl Integer for i32 {
 impl Integer for i64 {
     ghost width = { 8 };
 
-    ghost spelling = { signed_spelling I64 8 (Eight refl) };
+    ghost spelling = { signed_spelling I64 8 };
+
+    ghost spelling_laws = { signed_spelling-laws I64 8 (Eight refl) };
 
     #[inline(always)]
     fn read<R: Reader>(
@@ -311,7 +330,9 @@ impl Integer for i64 {
 impl Integer for i128 {
     ghost width = { 16 };
 
-    ghost spelling = { signed_spelling I128 16 (Sixteen refl) };
+    ghost spelling = { signed_spelling I128 16 };
+
+    ghost spelling_laws = { signed_spelling-laws I128 16 (Sixteen refl) };
 
     #[inline(always)]
     fn read<R: Reader>(
@@ -342,7 +363,9 @@ impl Integer for i128 {
 impl Integer for isize {
     ghost width = { 8 };
 
-    ghost spelling = { signed_spelling Isize 8 (Eight refl) };
+    ghost spelling = { signed_spelling Isize 8 };
+
+    ghost spelling_laws = { signed_spelling-laws Isize 8 (Eight refl) };
 
     #[inline(always)]
     fn read<R: Reader>(

@@ -1,18 +1,26 @@
--- How integers of more than one byte are spelled.
-use Rattle.std.specs.Prelude.{◌≡◌, ℕ, ◌<◌, ◌^◌, ℤ, pos, unsigned_abs, refl}
+-- The spellings of integers of more than one byte keep the laws.
+use Rattle.std.specs.Prelude.{◌≡◌, ℕ, unsigned_abs, refl}
 use Rattle.std.proofs.Common.{ap, append-nil}
 use Rattle.bincode_base.specs.declared.config.Endianness.{Endianness}
 use Rattle.bincode_base.specs.declared.config.IntEncoding.{IntEncoding}
 use Rattle.bincode_base.specs.declared.config.IntEncoding.TheVariants.{Fixed, Variable}
 use Rattle.bincode_base.specs.declared.error.IntegerType.{IntegerType}
 use Rattle.bincode_base.specs.Setting.{Setting}
-use Rattle.bincode_format.specs.Number.{digits_of, FitsIn}
+use Rattle.bincode_format.specs.Number.{digits_of}
 use Rattle.bincode_format.specs.Format.{map_format, charged}
 use Rattle.bincode_format.specs.Device.{joined}
 use Rattle.bincode_format.specs.Integers.{number_by, integer_by, number_for, unsigned_tag, signed_tag, unsigned, signed, spelling, spelling_pieces}
 use Rattle.bincode_format.specs.Integers.{IsWidth}
 use Rattle.bincode_laws.specs.IntegerLaws.{shortest-pieces, written-unsigned, written-signed}
-use Rattle.bincode_format.specs.Spelling.{Spelling}
+use Rattle.bincode_format.specs.Spelling.{Spelling, unsigned_spelling, signed_spelling}
+
+-- integers that are equal are of one value; a word is charged before it is read; the pieces are the word; and what is written of a value that
+-- fits is a word
+pub record SpellingLaws (width : ℕ) {A : Type 0} (spelling : Spelling A) : Type 1 where
+  pub one : (a b : A) → spelling.integer a ≡ spelling.integer b → a ≡ b
+  pub charged_first : (s : Setting) → spelling.words s ≡ charged width (spelling.read_by s.order s.encoding)
+  pub pieces_join : (order : Endianness) (encoding : IntEncoding) (a : A) → joined (spelling.pieces order encoding a) ≡ spelling.written order encoding a
+  pub is_written : (s : Setting) (a : A) → spelling.Fits a → (spelling.words s).Written (spelling.written s.order s.encoding a) a
 
 pub joined_spelling : (order : Endianness) (width : ℕ) (encoding : IntEncoding) (n : ℕ) → joined (spelling_pieces encoding order width n) ≡ spelling encoding order width n
 joined_spelling order width Fixed n = append-nil (digits_of order width n)
@@ -28,16 +36,8 @@ unfolding signed
 signed-charged name width s = refl
 
 -- of unsigned numbers
-abbrev pub unsigned_spelling : (name : IntegerType) (width : ℕ) → Spelling width ℕ
-unsigned_spelling name width = record {
-  name = name;
-  words = unsigned name width;
-  read_by = λ order encoding. number_by unsigned_tag name order width encoding;
-  written = λ order encoding. spelling encoding order width;
-  pieces = λ order encoding. spelling_pieces encoding order width;
-  integer = pos;
-  size = λ n. n;
-  Fits = λ n. n < 256 ^ width;
+pub unsigned_spelling-laws : (name : IntegerType) (width : ℕ) → SpellingLaws width (unsigned_spelling name width)
+unsigned_spelling-laws name width = record {
   one = λ a b e. ap unsigned_abs e;
   charged_first = unsigned-charged name width;
   pieces_join = λ order encoding. joined_spelling order width encoding;
@@ -45,16 +45,8 @@ unsigned_spelling name width = record {
 }
 
 -- of signed numbers
-abbrev pub signed_spelling : (name : IntegerType) (width : ℕ) → IsWidth width → Spelling width ℤ
-signed_spelling name width w = record {
-  name = name;
-  words = signed name width;
-  read_by = λ order encoding. map_format (integer_by width encoding) (number_by signed_tag name order width encoding);
-  written = λ order encoding z. spelling encoding order width (number_for width encoding z);
-  pieces = λ order encoding z. spelling_pieces encoding order width (number_for width encoding z);
-  integer = λ z. z;
-  size = unsigned_abs;
-  Fits = FitsIn width;
+pub signed_spelling-laws : (name : IntegerType) (width : ℕ) → IsWidth width → SpellingLaws width (signed_spelling name width)
+signed_spelling-laws name width w = record {
   one = λ a b e. e;
   charged_first = signed-charged name width;
   pieces_join = λ order encoding z. joined_spelling order width encoding (number_for width encoding z);
