@@ -14,9 +14,6 @@ use crate::bytes::{
     bytes_of_i16, bytes_of_i32, bytes_of_i64, bytes_of_i128, bytes_of_u16, bytes_of_u32,
     bytes_of_u64, bytes_of_u128, read_u16, read_u32, read_u64, read_u128,
 };
-use bincode_base::config::{Endianness, IntEncoding};
-use bincode_base::error::{DecodeError, EncodeError};
-use bincode_io::read::Reader;
 use crate::varint::{
     varint_decode_i16, varint_decode_i32, varint_decode_i64, varint_decode_i128,
     varint_decode_isize, varint_decode_u16, varint_decode_u32, varint_decode_u64,
@@ -24,6 +21,9 @@ use crate::varint::{
     varint_encode_i64, varint_encode_i128, varint_encode_isize, varint_encode_u16,
     varint_encode_u32, varint_encode_u64, varint_encode_u128, varint_encode_usize,
 };
+use bincode_base::config::{Endianness, IntEncoding};
+use bincode_base::error::{DecodeError, EncodeError};
+use bincode_io::read::Reader;
 use bincode_io::write::Writer;
 
 /// An integer of 2, 4, 8 or 16 bytes: by the encoding it is a varint, or all its bytes in the byte order. The words are

@@ -7,10 +7,10 @@ ghost use Rattle.bincode_format.specs.Reads.{ReadsWord};
 ghost use Rattle.bincode_base.specs.declared.error.IntegerType.TheVariants.{I16, I32, I64, I128, Isize};
 
 use super::varint_decode;
+use crate::zigzag::unzigzag;
 use bincode_base::config::Endianness;
 use bincode_base::error::{DecodeError, IntegerType};
 use bincode_io::read::Reader;
-use crate::zigzag::unzigzag;
 
 /// Reads a word of the number of an integer by zigzag. Fails where bytes are missing, and where the tag is too wide for
 /// the type or reserved.

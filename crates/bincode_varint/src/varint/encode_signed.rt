@@ -5,10 +5,10 @@ ghost use Rattle.bincode_format.specs.Integers.{shortest, shortest_pieces};
 ghost use Rattle.bincode_format.specs.Device.{StopsAmong};
 
 use super::{varint_encode_u16, varint_encode_u32, varint_encode_u64, varint_encode_u128};
+use crate::zigzag::zigzag;
 use bincode_base::config::Endianness;
 use bincode_base::error::EncodeError;
 use bincode_io::write::Writer;
-use crate::zigzag::zigzag;
 
 /// Writes the shortest spelling of the number of an integer by zigzag. Where the writer refuses a piece, those before
 /// it stay written.
