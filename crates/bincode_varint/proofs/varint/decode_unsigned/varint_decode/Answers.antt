@@ -24,7 +24,9 @@ returns-in_err-read_u16-in-251-clause-word g c =
     let p = err_from_is_err_and c.from_residual-in_err-read_u16-in-251.result c.from_residual-in_err-read_u16-in-251.ensures.1 in
     let tag = c.in_ok-tag.ensures in
     let digits = c.in_err-read_u16-in-251.ensures in
-    rw (p.1, p.2) (behind-part {r = Ok c.in_ok-tag.tag} (λ known. tt) (λ known. varint-misreads _ _ _ _ _ _ _ _ _ 2 _ _ _ _ _ (tag.ok known) (rw c.in-251.is refl) tag.counted (digits.err (tag.tells known))) tag digits)
+    rw (p.1, p.2)
+    (behind-part {r = Ok c.in_ok-tag.tag} (λ known. tt)
+    (λ known. varint-misreads _ _ _ _ _ _ _ _ _ 2 _ _ _ _ _ (tag.ok known) (rw c.in-251.is refl) tag.counted (digits.err (tag.tells known))) tag digits)
 
 pub returns-in_ok-read_u16-in-251-clause-word : goal.returns-in_ok-read_u16-in-251-clause-word
 returns-in_ok-read_u16-in-251-clause-word g c =
@@ -41,7 +43,8 @@ returns-in_err-read_u32-in-252-clause-word g c =
     let tag = c.in_ok-tag.ensures in
     let digits = c.in_err-read_u32-in-252.ensures in
     rw (p.1, p.2)
-    (behind-part {r = Ok c.in_ok-tag.tag} (λ known. tt) (λ known. varint-misreads _ _ _ _ _ _ _ _ _ 4 _ _ _ _ _ (tag.ok known) (rw c.in-252.is (tag_252 _ c.if-width-ge4.true)) tag.counted (digits.err (tag.tells known))) tag digits)
+    (behind-part {r = Ok c.in_ok-tag.tag} (λ known. tt)
+    (λ known. varint-misreads _ _ _ _ _ _ _ _ _ 4 _ _ _ _ _ (tag.ok known) (rw c.in-252.is (tag_252 _ c.if-width-ge4.true)) tag.counted (digits.err (tag.tells known))) tag digits)
 
 pub returns-in_ok-read_u32-in-252-clause-word : goal.returns-in_ok-read_u32-in-252-clause-word
 returns-in_ok-read_u32-in-252-clause-word g c =
@@ -61,7 +64,8 @@ returns-in_err-read_u64-in-253-clause-word g c =
     let tag = c.in_ok-tag.ensures in
     let digits = c.in_err-read_u64-in-253.ensures in
     rw (p.1, p.2)
-    (behind-part {r = Ok c.in_ok-tag.tag} (λ known. tt) (λ known. varint-misreads _ _ _ _ _ _ _ _ _ 8 _ _ _ _ _ (tag.ok known) (rw c.in-253.is (tag_253 _ c.if-width-ge8.true)) tag.counted (digits.err (tag.tells known))) tag digits)
+    (behind-part {r = Ok c.in_ok-tag.tag} (λ known. tt)
+    (λ known. varint-misreads _ _ _ _ _ _ _ _ _ 8 _ _ _ _ _ (tag.ok known) (rw c.in-253.is (tag_253 _ c.if-width-ge8.true)) tag.counted (digits.err (tag.tells known))) tag digits)
 
 pub returns-in_ok-read_u64-in-253-clause-word : goal.returns-in_ok-read_u64-in-253-clause-word
 returns-in_ok-read_u64-in-253-clause-word g c =
