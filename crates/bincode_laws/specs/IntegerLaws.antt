@@ -172,14 +172,14 @@ module _ (order : Endianness) (n : ℕ) where
       let b : nat_lt n 65536 ≡ true = lt-ltb n 65536 k in
       (rw (a, b) refl, rw (a, b) refl)
 
-  shortest_5 : 65536 ≤ n → n < 4294967296 → (shortest order n ≡ 252 ∷ digits_of order 4 n) × (shortest_pieces order n ≡ (252 ∷ []) ∷ digits_of order 4 n ∷ [])
+  pub shortest_5 : 65536 ≤ n → n < 4294967296 → (shortest order n ≡ 252 ∷ digits_of order 4 n) × (shortest_pieces order n ≡ (252 ∷ []) ∷ digits_of order 4 n ∷ [])
   shortest_5 h k =
       let a : nat_le n 250 ≡ false = lt-leb n 250 (omega (arith, h)) in
       let b : nat_lt n 65536 ≡ false = le-ltb n 65536 h in
       let c : nat_lt n 4294967296 ≡ true = lt-ltb n 4294967296 k in
       (rw (a, b, c) refl, rw (a, b, c) refl)
 
-  shortest_9 : 4294967296 ≤ n → n < 18446744073709551616 → (shortest order n ≡ 253 ∷ digits_of order 8 n) × (shortest_pieces order n ≡ (253 ∷ []) ∷ digits_of order 8 n ∷ [])
+  pub shortest_9 : 4294967296 ≤ n → n < 18446744073709551616 → (shortest order n ≡ 253 ∷ digits_of order 8 n) × (shortest_pieces order n ≡ (253 ∷ []) ∷ digits_of order 8 n ∷ [])
   shortest_9 h k =
       let a : nat_le n 250 ≡ false = lt-leb n 250 (omega (arith, h)) in
       let b : nat_lt n 65536 ≡ false = le-ltb n 65536 (omega (arith, h)) in
@@ -187,7 +187,7 @@ module _ (order : Endianness) (n : ℕ) where
       let d : nat_lt n 18446744073709551616 ≡ true = lt-ltb n 18446744073709551616 k in
       (rw (a, b, c, d) refl, rw (a, b, c, d) refl)
 
-  shortest_17 : 18446744073709551616 ≤ n → (shortest order n ≡ 254 ∷ digits_of order 16 n) × (shortest_pieces order n ≡ (254 ∷ []) ∷ digits_of order 16 n ∷ [])
+  pub shortest_17 : 18446744073709551616 ≤ n → (shortest order n ≡ 254 ∷ digits_of order 16 n) × (shortest_pieces order n ≡ (254 ∷ []) ∷ digits_of order 16 n ∷ [])
   shortest_17 h =
       let a : nat_le n 250 ≡ false = lt-leb n 250 (omega (arith, h)) in
       let b : nat_lt n 65536 ≡ false = le-ltb n 65536 (omega (arith, h)) in

@@ -1,4 +1,4 @@
-use Rattle.std.proofs.Common.{[], IfOk, ◌≡◌, ◌<◌, ◌∙◌, inl, inr, arith, rules, refl}
+use Rattle.std.proofs.Common.{[], Ok, IfOk, ◌≡◌, ◌<◌, ◌∙◌, inl, inr, arith, rules, refl}
 use Rattle.std.proofs.lemmas.Result.{err_from_is_err_and, IfErr-weaker, IfOk-weaker}
 use Rattle.bincode_format.specs.Integers.{first_byte, TooWide}
 use Rattle.bincode_laws.specs.IntegerLaws.{tag_252, tag_253, tag_254}
@@ -24,13 +24,15 @@ returns-in_err-read_u16-in-251-clause-word g c =
     let p = err_from_is_err_and c.from_residual-in_err-read_u16-in-251.result c.from_residual-in_err-read_u16-in-251.ensures.1 in
     let tag = c.in_ok-tag.ensures in
     let digits = c.in_err-read_u16-in-251.ensures in
-    rw (p.1, p.2) (behind-part (λ known. tt) (λ known. varint-misreads _ _ _ _ _ _ _ _ _ 2 _ _ _ _ _ (tag.ok known) (rw c.in-251.is refl) tag.counted (digits.err (tag.tells known))) tag digits)
+    rw (p.1, p.2)
+    (behind-part {r = Ok c.in_ok-tag.tag} (λ known. tt)
+    (λ known. varint-misreads _ _ _ _ _ _ _ _ _ 2 _ _ _ _ _ (tag.ok known) (rw c.in-251.is refl) tag.counted (digits.err (tag.tells known))) tag digits)
 
 pub returns-in_ok-read_u16-in-251-clause-word : goal.returns-in_ok-read_u16-in-251-clause-word
 returns-in_ok-read_u16-in-251-clause-word g c =
     let tag = c.in_ok-tag.ensures in
     let digits = c.in_ok-read_u16-in-251.ensures in
-    behind-part (λ known. rw c.from-in-251.ensures (varint-digits _ _ _ _ _ _ _ 2 (tag.ok known) (rw c.in-251.is refl) ∙ digits.ok (tag.tells known))) (λ known. tt) tag digits
+    behind-part {r = Ok c.in_ok-tag.tag} (λ known. rw c.from-in-251.ensures (varint-digits _ _ _ _ _ _ _ 2 (tag.ok known) (rw c.in-251.is refl) ∙ digits.ok (tag.tells known))) (λ known. tt) tag digits
 
 pub returns-in_ok-read_u16-in-251-clause-fits : goal.returns-in_ok-read_u16-in-251-clause-fits
 returns-in_ok-read_u16-in-251-clause-fits g c = λ h. below-wider _ 2 _ (let l : c.in_ok-read_u16-in-251.field-0 < 65536 = search rules in rw c.from-in-251.ensures (omega (arith, l))) h
@@ -41,13 +43,14 @@ returns-in_err-read_u32-in-252-clause-word g c =
     let tag = c.in_ok-tag.ensures in
     let digits = c.in_err-read_u32-in-252.ensures in
     rw (p.1, p.2)
-    (behind-part (λ known. tt) (λ known. varint-misreads _ _ _ _ _ _ _ _ _ 4 _ _ _ _ _ (tag.ok known) (rw c.in-252.is (tag_252 _ c.if-width-ge4.true)) tag.counted (digits.err (tag.tells known))) tag digits)
+    (behind-part {r = Ok c.in_ok-tag.tag} (λ known. tt)
+    (λ known. varint-misreads _ _ _ _ _ _ _ _ _ 4 _ _ _ _ _ (tag.ok known) (rw c.in-252.is (tag_252 _ c.if-width-ge4.true)) tag.counted (digits.err (tag.tells known))) tag digits)
 
 pub returns-in_ok-read_u32-in-252-clause-word : goal.returns-in_ok-read_u32-in-252-clause-word
 returns-in_ok-read_u32-in-252-clause-word g c =
     let tag = c.in_ok-tag.ensures in
     let digits = c.in_ok-read_u32-in-252.ensures in
-    behind-part
+    behind-part {r = Ok c.in_ok-tag.tag}
     (λ known. rw c.from-in-252.ensures (varint-digits _ _ _ _ _ _ _ 4 (tag.ok known) (rw c.in-252.is (tag_252 _ c.if-width-ge4.true)) ∙ digits.ok (tag.tells known)))
     (λ known. tt) tag digits
 
@@ -61,13 +64,14 @@ returns-in_err-read_u64-in-253-clause-word g c =
     let tag = c.in_ok-tag.ensures in
     let digits = c.in_err-read_u64-in-253.ensures in
     rw (p.1, p.2)
-    (behind-part (λ known. tt) (λ known. varint-misreads _ _ _ _ _ _ _ _ _ 8 _ _ _ _ _ (tag.ok known) (rw c.in-253.is (tag_253 _ c.if-width-ge8.true)) tag.counted (digits.err (tag.tells known))) tag digits)
+    (behind-part {r = Ok c.in_ok-tag.tag} (λ known. tt)
+    (λ known. varint-misreads _ _ _ _ _ _ _ _ _ 8 _ _ _ _ _ (tag.ok known) (rw c.in-253.is (tag_253 _ c.if-width-ge8.true)) tag.counted (digits.err (tag.tells known))) tag digits)
 
 pub returns-in_ok-read_u64-in-253-clause-word : goal.returns-in_ok-read_u64-in-253-clause-word
 returns-in_ok-read_u64-in-253-clause-word g c =
     let tag = c.in_ok-tag.ensures in
     let digits = c.in_ok-read_u64-in-253.ensures in
-    behind-part
+    behind-part {r = Ok c.in_ok-tag.tag}
     (λ known. rw c.from-in-253.ensures (varint-digits _ _ _ _ _ _ _ 8 (tag.ok known) (rw c.in-253.is (tag_253 _ c.if-width-ge8.true)) ∙ digits.ok (tag.tells known)))
     (λ known. tt) tag digits
 
@@ -80,7 +84,7 @@ returns-in-254-clause-word g c =
     let tag = c.in_ok-tag.ensures in
     let digits = c.read_u128.ensures in
     let row = tag_254 _ c.if-width-ge16.true in
-    behind-part
+    behind-part {r = Ok c.in_ok-tag.tag}
     (λ known. IfOk-weaker c.read_u128.result _ _ (λ v h. varint-digits _ _ _ _ _ _ _ 16 (tag.ok known) (rw c.in-254.is row) ∙ h) (digits.ok (tag.tells known)))
     (λ known. IfErr-weaker c.read_u128.result _ _ (λ e h. varint-misreads _ _ _ _ _ _ _ _ _ 16 _ _ _ _ e (tag.ok known) (rw c.in-254.is row) tag.counted h) (digits.err (tag.tells known)))
     tag digits
