@@ -10,12 +10,12 @@ ghost use Rattle.bincode_format.specs.Slice.{KeepsLimit};
 
 use bincode_base::config::Config;
 use bincode_base::error::{DecodeError, EncodeError};
-use bincode_io::read::{Reader, SliceReader};
-use bincode_io::write::{SliceWriter, Writer};
 use bincode_de::decode::Decode;
 use bincode_decoder::decoder::LentDecoder;
 use bincode_enc::encode::Encode;
 use bincode_encoder::encoder::LentEncoder;
+use bincode_io::read::{Reader, SliceReader};
+use bincode_io::write::{SliceWriter, Writer};
 use std::alloc::Global;
 
 /// Writes a value into the front of a slice, and answers how many bytes it took. Fails with `UnexpectedEnd` where the
