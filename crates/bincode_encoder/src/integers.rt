@@ -11,9 +11,9 @@ ghost use Rattle.bincode_format.specs.Allowed.{AllowedWord};
 ghost use Rattle.bincode_format.specs.Encoding.{Ready, Encodes};
 
 use crate::encoder::{Encoder, write_from};
-use bincode_varint::bytes::byte_of_i8;
 use bincode_base::config::Config;
 use bincode_base::error::EncodeError;
+use bincode_varint::bytes::byte_of_i8;
 use bincode_varint::number::Integer;
 
 /// Writes an integer as the configuration says. Fails where the writer refuses a piece; those before it stay written.
