@@ -29,3 +29,6 @@ returns-clause-fault g c = decoded-fault _ (g.met.D.Wire.lawful _) (g.met.D.Wire
 
 pub returns-clause-limit : goal.returns-clause-limit
 returns-clause-limit g c = decoded-limit _ (g.met.D.Wire.lawful _) (g.met.D.Wire.balanced _) _ _ _ _ _ (rw c.new-reader.ensures at (c.in_ok-value.ensures.ok tt).1)
+
+pub returns-clause-found : goal.returns-clause-found
+returns-clause-found g c = λ word more m s i w within. tt

@@ -24,3 +24,9 @@ returns-clause-word g c =
 
 pub returns-clause-room : goal.returns-clause-room
 returns-clause-room g c = word-fits _ c.new-writer.result c.encode_with.new.writer c.new-writer.ensures.start c.in_ok-encode_with.ensures.ok _ _ _ _ (search rules)
+
+pub returns-clause-fault : goal.returns-clause-fault
+returns-clause-fault g c = tt
+
+pub returns-clause-left : goal.returns-clause-left
+returns-clause-left g c = tt

@@ -1,6 +1,8 @@
 use Rattle.std.proofs.Common.{◌+◌, ◌∷◌, [], length, refl, ap, ◌∙◌, arith}
 use Rattle.std.proofs.lemmas.List.{length-append}
 use Rattle.std.proofs.lemmas.Result.{err_from_is_err_and}
+use Rattle.bincode_format.specs.Decoding.{by_memory}
+use Rattle.bincode_decoder.proofs.Rooms.{held-still}
 use Rattle.bincode_values.proofs.Reading.{none-so_far, next-releases, next-so_far, stops-so_far, all-so_far}
 use Rattle.bincode_values.proofs.runs.decode_by_pushes.Goals as goal
 
@@ -27,3 +29,13 @@ loop-preserved g c =
 
 pub returns-clause-read : goal.returns-clause-read
 returns-clause-read g c = all-so_far _ _ _ _ _ _ _ _ _ _ _ _ _ _ c.loop.invariant.0 _ _ _ _ _ (omega arith) refl
+
+pub returns-in_default-clause-read : goal.returns-in_default-clause-read
+returns-in_default-clause-read g c = record {
+  ok = λ known. tt;
+  err = λ known. by_memory tt refl ([], refl);
+  counted = omega arith;
+  tells = λ known. known;
+  held = held-still _ _ _;
+  same_place = refl;
+}
