@@ -55,12 +55,12 @@ halted-why A N before after e (by_name front h n b) = inr n
 
 module _ (A : List ℕ → Type 0) (before after : SliceWriter) (count : count_of before ≡ 0) (w : Writes Added A before after) where
   -- what was counted is the length of the word
-  word-counted : count_of after ≡ length w.word
-  word-counted = let h = w.added.0 in omega arith
+  word_counted : count_of after ≡ length w.word
+  word_counted = let h = w.added.0 in omega arith
 
   -- a word that was added stands in the slice
   pub word-written : (old new : List ℕ) (n : ℕ) → n ≡ count_of after → bytes_of before ≡ old → new ≡ bytes_of after → WordWritten A n old new
-  word-written old new n size start end = record { word = w.word; is_allowed = w.is_allowed; count = size ∙ word-counted; fills = end ∙ filled old w.word before after start count w.added }
+  word-written old new n size start end = record { word = w.word; is_allowed = w.is_allowed; count = size ∙ word_counted; fills = end ∙ filled old w.word before after start count w.added }
 
   -- and each word of its length is within the room
   pub word-fits : (Writable : Type 0) (N : EncodeError → Type 0) (room n : ℕ) → count_of after ≤ room → FitsExactly (Ready Writable A) N room (Ok n)
@@ -68,7 +68,7 @@ module _ (A : List ℕ → Type 0) (before after : SliceWriter) (count : count_o
     short = tt;
     exact = λ one none word a.
         let same : length word ≡ length w.word = one word w.word a (record { is_writable = a.is_writable; is_allowed = w.is_allowed }) in
-        let long = word-counted in
+        let long = word_counted in
         (λ h. omega arith, λ fits. refl);
   }
 

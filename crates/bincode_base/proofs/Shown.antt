@@ -35,18 +35,18 @@ module _ {room : ℕ} where
   pub shown : (t : Text room) → IsUtf8 (held_bytes t) → text_bytes t ≡ held_bytes t
   shown t h = rw (is_utf8-from_IsUtf8 _ h) refl
 
-  pub not_shown : (t : Text room) → ¬ (IsUtf8 (held_bytes t)) → text_bytes t ≡ []
-  not_shown t h = elim (is_utf8 (held_bytes t)) as (λ b. is_utf8 (held_bytes t) ≡ b → cond b (held_bytes t) [] ≡ []) [ true ↦ λ e. absurd (h (IsUtf8-from_is_utf8 _ e)) | false ↦ λ e. refl ] refl
+  pub not-shown : (t : Text room) → ¬ (IsUtf8 (held_bytes t)) → text_bytes t ≡ []
+  not-shown t h = elim (is_utf8 (held_bytes t)) as (λ b. is_utf8 (held_bytes t) ≡ b → cond b (held_bytes t) [] ≡ []) [ true ↦ λ e. absurd (h (IsUtf8-from_is_utf8 _ e)) | false ↦ λ e. refl ] refl
 
   -- r is what `from_utf8` made of the bytes
   pub checked : {E : Type 0} (t : Text room) (bs : List ℕ) (r : Result (Bor (List ℕ)) E) (empty : Bor (List ℕ)) (P : E → Type 0) → bs ≡ held_bytes t → empty.now ≡ []
       → MatchResult r (λ s. (s.now ≡ bs) × IsUtf8 bs) (λ e. ¬ (IsUtf8 bs) × P e) → (result_unwrap_or r empty).now ≡ text_bytes t
   checked t bs (Ok s) empty P is none h = h.0 ∙ is ∙ sym (shown t (subst IsUtf8 is h.1))
-  checked t bs (Err e) empty P is none h = none ∙ sym (not_shown t (λ k. h.0 (subst IsUtf8 (sym is) k)))
+  checked t bs (Err e) empty P is none h = none ∙ sym (not-shown t (λ k. h.0 (subst IsUtf8 (sym is) k)))
 
 -- a text with others behind it
-pub put_in : (room : ℕ) (kept copied rest : List ℕ) → copied ≡ kept → IsUtf8 kept → text_bytes {room = room} (record { length = length kept; bytes = copied ++ rest }) ≡ kept
-put_in room kept copied rest is h =
+pub put-in : (room : ℕ) (kept copied rest : List ℕ) → copied ≡ kept → IsUtf8 kept → text_bytes {room = room} (record { length = length kept; bytes = copied ++ rest }) ≡ kept
+put-in room kept copied rest is h =
     let t : Text room = record { length = length kept; bytes = copied ++ rest } in
     let held : held_bytes t ≡ kept = ap (λ l. take (length kept) (l ++ rest)) is ∙ take_at kept rest _ refl in
     shown t (subst IsUtf8 (sym held) h) ∙ held

@@ -99,23 +99,23 @@ module _ {A : Type 0} (f : A → Meaning) (size : A → ℕ) (name : IntegerType
         k ≡ n → MatchOption number (k ≡ zero) (λ x. get x ≡ k) → r ≡ ok_or number (NonZeroTypeIsZero name) →
         Reads told rest charge failures place limit ended device ⊥ (map_format f F) given start (Ok n) old new →
         Reads told rest charge failures place limit ended device ⊥ (map_format f (not_zero_by size name F)) other start r old new
-    read-tested get zero n k (Some x) r z l above is gives same_number made result read =
+    read-tested get zero n k (Some x) r z l above is gives number-same made result read =
         rw result
         (read-as
         (λ known.
         let d = read.ok known in
         let e : d.meaning ≡ f n = is d.meaning d.is_given in
-        let e' : size_of d.meaning ≡ size (get x) = ap size_of e ∙ same n ∙ ap size (sym (made ∙ same_number)) in
+        let e' : size_of d.meaning ≡ size (get x) = ap size_of e ∙ same n ∙ ap size (sym (made ∙ number-same)) in
         let p = above x in
-        record { meaning = d.meaning; answer_is = was_number limit F (rest old) start d.meaning (rest new) (charge new) d.answer_is (omega (arith, e', p)); is_given = gives x d.meaning (e ∙ ap f (sym (made ∙ same_number))) })
+        record { meaning = d.meaning; answer_is = was_number limit F (rest old) start d.meaning (rest new) (charge new) d.answer_is (omega (arith, e', p)); is_given = gives x d.meaning (e ∙ ap f (sym (made ∙ number-same))) })
         (λ known. tt)
         read)
-    read-tested get zero n k None r z l above is gives same_number made result read =
+    read-tested get zero n k None r z l above is gives number-same made result read =
         rw result
         (read-as
         (λ known. tt)
         (λ known.
         let d = read.ok known in
-        let e' : size_of d.meaning ≡ 0 = ap size_of (is d.meaning d.is_given) ∙ same n ∙ ap size (sym same_number ∙ made) ∙ z in
+        let e' : size_of d.meaning ≡ 0 = ap size_of (is d.meaning d.is_given) ∙ same n ∙ ap size (sym number-same ∙ made) ∙ z in
         by_fault (Zero name) (was_zero limit F (rest old) start d.meaning (rest new) (charge new) d.answer_is e') refl (gave-takes limit (map_format f F) (map-lawful f F l) (rest old) start d.meaning (rest new) (charge new) d.answer_is))
         read)

@@ -15,7 +15,7 @@ use Rattle.bincode_format.specs.Words.{natural}
 use Rattle.bincode_format.specs.Answer.{Answer, Allows, Gave, Refused, answer, unclaimed}
 use Rattle.bincode_format.specs.Decoding.{Decodes, Stops, by_fault, by_failure, by_device}
 use Rattle.bincode_format.specs.Run.{IsListOf, CanRelease}
-use Rattle.bincode_laws.specs.RunLaws.{ReadSoFar, behind, none_read, one_more, all_read}
+use Rattle.bincode_laws.specs.RunLaws.{ReadSoFar, behind, none-read, one-more, all-read}
 
 -- what a byte means
 abbrev number : ℕ → Meaning
@@ -56,7 +56,7 @@ module _ (limit : Option ℕ) (all : Answer (List Meaning)) (input : List ℕ) (
       let p : n ≡ suc (length bytes + k) = omega (arith, e) in
       let q = subst (λ z. ReadSoFar limit 1 (natural unsigned_byte) all input ms z (b ∷ bytes ++ rest) c) p h in
       let one =
-      one_more limit 1 (natural unsigned_byte) all input ms (map-lawful _ _ unsigned_byte-lawful) (map-balanced _ _ unsigned_byte-balanced)
+      one-more limit 1 (natural unsigned_byte) all input ms (map-lawful _ _ unsigned_byte-lawful) (map-balanced _ _ unsigned_byte-balanced)
       (length bytes + k) (b ∷ bytes ++ rest) c (number b) (bytes ++ rest) c q
       (byte_gave limit b (bytes ++ rest) c l (one_of limit c (length bytes + k) q.is_reserved)) in
       subst (λ z. ReadSoFar limit 1 (natural unsigned_byte) all input z k rest c) (append_assoc ms (number b ∷ []) (map number bytes))
@@ -72,15 +72,15 @@ module _ (limit : Option ℕ) (n : ℕ) (input : List ℕ) (c : ℕ) (l : Allows
   bytes-decode bytes rest e k =
       let all = answer limit (elements n 1 (natural unsigned_byte)) input c in
       let start : ReadSoFar limit 1 (natural unsigned_byte) all input [] n (bytes ++ rest) c =
-      subst (λ z. ReadSoFar limit 1 (natural unsigned_byte) all input [] n z c) e (none_read limit 1 (natural unsigned_byte) n input c h) in
+      subst (λ z. ReadSoFar limit 1 (natural unsigned_byte) all input [] n z c) e (none-read limit 1 (natural unsigned_byte) n input c h) in
       let r = bytes_read limit all input c l bytes rest [] n 0 (omega (arith, k)) start in
-      record { meaning = map number bytes; answer_is = all_read limit 1 (natural unsigned_byte) all input (map number bytes) rest c r; is_given = listed_bytes bytes }
+      record { meaning = map number bytes; answer_is = all-read limit 1 (natural unsigned_byte) all input (map number bytes) rest c r; is_given = listed_bytes bytes }
 
   bytes_end : length input < n → answer limit (elements n 1 (natural unsigned_byte)) input c ≡ Refused (End None)
   bytes_end k =
       let all = answer limit (elements n 1 (natural unsigned_byte)) input c in
       let start : ReadSoFar limit 1 (natural unsigned_byte) all input [] n (input ++ []) c =
-      subst (λ z. ReadSoFar limit 1 (natural unsigned_byte) all input [] n z c) (sym (append-nil input)) (none_read limit 1 (natural unsigned_byte) n input c h) in
+      subst (λ z. ReadSoFar limit 1 (natural unsigned_byte) all input [] n z c) (sym (append-nil input)) (none-read limit 1 (natural unsigned_byte) n input c h) in
       let r = bytes_read limit all input c l input [] [] n (suc (n - length input - 1)) (omega (arith, k)) start in
       run_ends limit all input c l (map number input) (n - length input - 1) r
 

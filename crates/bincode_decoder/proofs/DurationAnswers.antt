@@ -13,7 +13,7 @@ use Rattle.bincode_format.specs.Integers.{unsigned}
 use Rattle.bincode_format.specs.Integers.{Eight}
 use Rattle.bincode_laws.specs.IntegerLaws.{unsigned-lawful}
 use Rattle.bincode_format.specs.Words.{second_in_nanos, duration_of, seconds_and_nanos, duration}
-use Rattle.bincode_laws.specs.DurationLaws.{IsSpan, span, span_is, carries, overflows, parts-lawful}
+use Rattle.bincode_laws.specs.DurationLaws.{IsSpan, span, span-is, carries, overflows, parts-lawful}
 use Rattle.bincode_format.specs.Answer.{Gave, answer}
 use Rattle.bincode_format.specs.Decoding.{Decodes, Stops, by_fault}
 use Rattle.bincode_laws.specs.DecodingLaws.{answer-next, map-gave, map-stops, settled-gave, settled-refused, gave-takes, stops-first, stops-next}
@@ -45,7 +45,7 @@ module _ (limit : Option ℕ) (s : Setting) (input : List ℕ) (c : ℕ) where
     span-decodes x y h p q = record {
       meaning = span (seconds + nanos / second_in_nanos) (nanos % second_in_nanos);
       answer_is = in_parts ∙ settled-gave (λ parts. duration_of parts.0 parts.1) limit (seconds_and_nanos s) input c (seconds, nanos) rest after (span (seconds + nanos / second_in_nanos) (nanos % second_in_nanos)) parts_gave (carries seconds nanos h);
-      is_given = rw (p, q) (span_is (seconds + nanos / second_in_nanos) (nanos % second_in_nanos));
+      is_given = rw (p, q) (span-is (seconds + nanos / second_in_nanos) (nanos % second_in_nanos));
     }
 
     -- too many seconds are refused

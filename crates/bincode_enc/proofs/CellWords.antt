@@ -11,12 +11,12 @@ use Rattle.bincode_format.specs.Allowed.{AllowedWord, SomeWord}
 use Rattle.bincode_format.specs.Cells.{IsAny}
 use Rattle.bincode_laws.specs.CellLaws.{cell-allows}
 use Rattle.bincode_format.specs.Encoding.{Adds, Refuses, Writes, Ready, Begins, IsOwn, Halts, Encodes, by_writer, by_name}
-use Rattle.bincode_laws.specs.EncodingLaws.{writes_same}
+use Rattle.bincode_laws.specs.EncodingLaws.{writes-same}
 
 module _ (F : Format Meaning) (f : Lawful F) (P : Meaning → Type 0) {W : Type 0} (adds : Adds W) where
   -- its word is one of the cell
   held_writes : (before after : W) → Writes adds (AllowedWord P F) before after → Writes adds (AllowedWord IsAny (of_cell F)) before after
-  held_writes before after w = writes_same adds _ _ before after (cell-allows F f P) w
+  held_writes before after w = writes-same adds _ _ before after (cell-allows F f P) w
 
   module _ (R S : Type 0) (inner : S → R) (has_word : R → SomeWord (AllowedWord P F)) where
     held_begins : (bytes : List ℕ) → Begins (Ready R (AllowedWord P F)) bytes → Begins (Ready S (AllowedWord IsAny (of_cell F))) bytes

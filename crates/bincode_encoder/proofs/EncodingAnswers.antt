@@ -11,7 +11,7 @@ use Rattle.bincode_format.specs.Words.{not_zero_by}
 use Rattle.bincode_format.specs.Allowed.{AllowedWord, Both}
 use Rattle.bincode_laws.specs.AllowedLaws.{not_zero-allows, allowed-not_zero}
 use Rattle.bincode_format.specs.Encoding.{Adds, Refuses, Ready, Encodes}
-use Rattle.bincode_laws.specs.EncodingLaws.{writes_alone, writes_both, writes_same, halts_alone, halts_same, halts_named, halts_where, halts_in_first, halts_in_next, ready_as}
+use Rattle.bincode_laws.specs.EncodingLaws.{writes-alone, writes-both, writes-same, halts-alone, halts-same, halts-named, halts-where, halts-in_first, halts-in_next, ready-as}
 
 -- a writer whose writes in turn are one write
 abbrev pub Joined : {W : Type 0} → Adds W → Type 0
@@ -23,8 +23,8 @@ module _ {E W : Type 0} {adds : Adds W} {refuses : Refuses W} {writer_of : E →
   pub piece-encodes : {piece : List ℕ} → ((w : W) → adds w [] w) → Ready R A piece → OnOk r (adds (writer_of old) piece (writer_of new)) →
       IfErr r (λ e. refuses (writer_of old) piece e (writer_of new)) → place new ≡ place old → Encodes adds refuses writer_of place R A N r old new
   piece-encodes {piece = piece} none a ok err same = record {
-    ok = on_ok_weaker r (writes_alone adds A piece _ _ a.is_allowed) ok;
-    err = IfErr-weaker r _ _ (λ e h. halts_alone adds refuses none (Ready R A) piece a N _ _ e h) err;
+    ok = on_ok_weaker r (writes-alone adds A piece _ _ a.is_allowed) ok;
+    err = IfErr-weaker r _ _ (λ e h. halts-alone adds refuses none (Ready R A) piece a N _ _ e h) err;
     same_place = same;
   }
 
@@ -33,8 +33,8 @@ module _ {E W : Type 0} {adds : Adds W} {refuses : Refuses W} {writer_of : E →
       ((bytes : List ℕ) → B bytes → A bytes) → (S → R) → ((e : EncodeError) → N e → M e) →
       Encodes adds refuses writer_of place R A N r old new → Encodes adds refuses writer_of place S B M r old new
   encodes-as {S = S} {B = B} {M = M} to from can more w = record {
-    ok = on_ok_weaker r (writes_same adds A B _ _ to) w.ok;
-    err = IfErr-weaker r _ _ (λ e h. halts_where adds refuses R S B can M _ _ e (halts_same adds refuses (Ready R A) (Ready R B) M _ _ e (ready_as R A B to) (ready_as R B A from) (halts_named adds refuses (Ready R A) N M _ _ e (more e) h))) w.err;
+    ok = on_ok_weaker r (writes-same adds A B _ _ to) w.ok;
+    err = IfErr-weaker r _ _ (λ e h. halts-where adds refuses R S B can M _ _ e (halts-same adds refuses (Ready R A) (Ready R B) M _ _ e (ready-as R A B to) (ready-as R B A from) (halts-named adds refuses (Ready R A) N M _ _ e (more e) h))) w.err;
     same_place = w.same_place;
   }
 
@@ -44,14 +44,14 @@ module _ {R S U : Type 0} (pair : R → S → U) (split : U → R × S) {A B C :
     {E W T V : Type 0} {adds : Adds W} {refuses : Refuses W} {writer_of : E → W} {place : E → List GName} {old new : E} where
   -- where its first part halts, it does
   pub first-halts : {e : EncodeError} → Encodes {T = T} adds refuses writer_of place R A N (Err e) old new → Encodes {T = V} adds refuses writer_of place U C K (Err e) old new
-  first-halts {e} w = record { ok = tt; err = halts_in_first pair split to from adds refuses N M K e (more e) _ _ w.err; same_place = w.same_place }
+  first-halts {e} w = record { ok = tt; err = halts-in_first pair split to from adds refuses N M K e (more e) _ _ w.err; same_place = w.same_place }
 
   -- and behind its first part it is written as the second
   pub next-encodes : {t : T} {r : Result V EncodeError} {between : E} → Joined adds → Encodes adds refuses writer_of place R A N (Ok t) old between →
       Encodes adds refuses writer_of place S B M r between new → Encodes adds refuses writer_of place U C K r old new
   next-encodes {r = r} join first next = record {
-    ok = on_ok_weaker r (λ h. writes_same adds (Both A B) C _ _ to (writes_both adds join A B _ _ _ first.ok h)) next.ok;
-    err = IfErr-weaker r _ _ (λ e h. halts_in_next pair split to from adds refuses N M K e (more e) join _ _ _ first.ok h) next.err;
+    ok = on_ok_weaker r (λ h. writes-same adds (Both A B) C _ _ to (writes-both adds join A B _ _ _ first.ok h)) next.ok;
+    err = IfErr-weaker r _ _ (λ e h. halts-in_next pair split to from adds refuses N M K e (more e) join _ _ _ first.ok h) next.err;
     same_place = next.same_place ∙ first.same_place;
   }
 

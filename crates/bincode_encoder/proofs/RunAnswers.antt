@@ -12,7 +12,7 @@ use Rattle.bincode_format.specs.Allowed.{AllowedWord, Both}
 use Rattle.bincode_format.specs.Run.{IsListOf, AllowsEach}
 use Rattle.bincode_laws.specs.RunAllowedLaws.{array-allows, allowed-array, each-join, each-split}
 use Rattle.bincode_format.specs.Encoding.{Adds, Refuses, Writes, Ready, Halts}
-use Rattle.bincode_laws.specs.EncodingLaws.{writes_both, writes_same, halts_first, halts_next, halts_same, halts_named, ready_as}
+use Rattle.bincode_laws.specs.EncodingLaws.{writes-both, writes-same, halts-first, halts-next, halts-same, halts-named, ready-as}
 
 -- the items before an index, the item there and those behind it
 around : {A : Type 0} (vs : List A) (i : ℕ) (v : A) → i < length vs → v ≡ slice_index_or vs i v → vs ≡ take i vs ++ v ∷ drop (i + 1) vs
@@ -22,22 +22,22 @@ around vs i v h e =
 
 module _ {W : Type 0} (adds : Adds W) where
   -- one item more
-  pub writes_more : ((a b c : W) (x y : List ℕ) → adds a x b → adds b y c → adds a (x ++ y) c) →
+  pub writes-more : ((a b c : W) (x y : List ℕ) → adds a x b → adds b y c → adds a (x ++ y) c) →
       {A : Type 0} (Allowed : A → List ℕ → Type 0) (before between after : W) (vs : List A) (i : ℕ) (v : A) → i < length vs →
       v ≡ slice_index_or vs i v →
       Writes adds (AllowsEach Allowed (take i vs)) before between → Writes adds (Allowed v) between after → Writes adds (AllowsEach Allowed (take (i + 1) vs)) before after
-  writes_more join Allowed before between after vs i v h e w u =
+  writes-more join Allowed before between after vs i v h e w u =
       let p : take i vs ++ v ∷ [] ≡ take (i + 1) vs = ap (λ z. take i vs ++ z ∷ []) e ∙ sym (take_more vs i v h) in
       let one : Writes adds (AllowsEach Allowed (v ∷ [])) between after = record { word = u.word; is_allowed = (u.word, [], sym (append-nil u.word), u.is_allowed, refl); added = u.added } in
       subst (λ z. Writes adds (AllowsEach Allowed z) before after) p
-      (writes_same adds _ (AllowsEach Allowed (take i vs ++ v ∷ [])) before after (each-join Allowed (take i vs) (v ∷ [])) (writes_both adds join _ _ before between after w one))
+      (writes-same adds _ (AllowsEach Allowed (take i vs ++ v ∷ [])) before after (each-join Allowed (take i vs) (v ∷ [])) (writes-both adds join _ _ before between after w one))
 
   -- all the items are the array
-  pub writes_array : {A : Type 0} (Means : A → Meaning → Type 0) (share : ℕ) (F : Format Meaning) (n i : ℕ) (vs : List A) (before after : W) →
+  pub writes-array : {A : Type 0} (Means : A → Meaning → Type 0) (share : ℕ) (F : Format Meaning) (n i : ℕ) (vs : List A) (before after : W) →
       length vs ≡ n → length vs ≤ i → Writes adds (AllowsEach (λ v. AllowedWord (Means v) F) (take i vs)) before after →
       Writes adds (AllowedWord (IsListOf Means vs) (array n share F)) before after
-  writes_array Means share F n i vs before after e h w =
-      writes_same adds _ _ before after (λ bytes. array-allows Means share F n vs bytes e) (subst (λ z. Writes adds (AllowsEach (λ v. AllowedWord (Means v) F) z) before after) (take_all i vs h) w)
+  writes-array Means share F n i vs before after e h w =
+      writes-same adds _ _ before after (λ bytes. array-allows Means share F n vs bytes e) (subst (λ z. Writes adds (AllowsEach (λ v. AllowedWord (Means v) F) z) before after) (take_all i vs h) w)
 
 -- what each value allows, where it can be written
 module _ {A : Type 0} (Writable : A → Type 0) (Allowed : A → List ℕ → Type 0) where
@@ -75,22 +75,22 @@ module _ {W : Type 0} (adds : Adds W) (refuses : Refuses W) where
   one_of N e (inr (inr h)) = h
 
   -- where an item stops, so does the run
-  pub halts_at : ((a b c : W) (x y : List ℕ) → adds a x b → adds b y c → adds a (x ++ y) c) →
+  pub halts-at : ((a b c : W) (x y : List ℕ) → adds a x b → adds b y c → adds a (x ++ y) c) →
       {A : Type 0} (Writable : A → Type 0) (Allowed : A → List ℕ → Type 0) (N : EncodeError → Type 0) (before between after : W) (vs : List A) (i : ℕ) (v : A) (e : EncodeError) →
       i < length vs → v ≡ slice_index_or vs i v →
       Writes adds (AllowsEach Allowed (take i vs)) before between → Halts adds refuses (Ready (Writable v) (Allowed v)) N between after e →
       Halts adds refuses (Ready (All Writable vs) (AllowsEach Allowed vs)) N before after e
-  halts_at join Writable Allowed N before between after vs i v e h k w u =
+  halts-at join Writable Allowed N before between after vs i v e h k w u =
       let xs = take i vs in
       let ys = drop (i + 1) vs in
-      let first = halts_first adds refuses (ReadyEach Writable Allowed v) (AllowsEach (ReadyEach Writable Allowed) ys) N N between after e u in
+      let first = halts-first adds refuses (ReadyEach Writable Allowed v) (AllowsEach (ReadyEach Writable Allowed) ys) N N between after e u in
       let next =
-      halts_next adds refuses join (All Writable xs) (AllowsEach Allowed xs)
+      halts-next adds refuses join (All Writable xs) (AllowsEach Allowed xs)
       (Both (ReadyEach Writable Allowed v) (AllowsEach (ReadyEach Writable Allowed) ys)) N (λ d. N d ⊎ N d) before between after e w first in
       let all =
-      halts_same adds refuses _ (Ready (All Writable (xs ++ v ∷ ys)) (AllowsEach Allowed (xs ++ v ∷ ys))) _ before after e
+      halts-same adds refuses _ (Ready (All Writable (xs ++ v ∷ ys)) (AllowsEach Allowed (xs ++ v ∷ ys))) _ before after e
       (ready_around Writable Allowed xs ys v) (around_ready Writable Allowed xs ys v) next in
-      subst (λ z. Halts adds refuses (Ready (All Writable z) (AllowsEach Allowed z)) N before after e) (sym (around vs i v h k)) (halts_named adds refuses _ _ N before after e (one_of N e) all)
+      subst (λ z. Halts adds refuses (Ready (All Writable z) (AllowsEach Allowed z)) N before after e) (sym (around vs i v h k)) (halts-named adds refuses _ _ N before after e (one_of N e) all)
 
   -- and so does the array
   pub halts_array :
@@ -98,4 +98,4 @@ module _ {W : Type 0} (adds : Adds W) (refuses : Refuses W) where
       length vs ≡ n → Halts adds refuses (Ready R (AllowsEach (λ v. AllowedWord (Means v) F) vs)) N before after e →
       Halts adds refuses (Ready R (AllowedWord (IsListOf Means vs) (array n share F))) N before after e
   halts_array Means share F R N n vs before after e l =
-      halts_same adds refuses _ _ N before after e (ready_as R _ _ (λ bytes. array-allows Means share F n vs bytes l)) (ready_as R _ _ (λ bytes. allowed-array Means share F n vs bytes l))
+      halts-same adds refuses _ _ N before after e (ready-as R _ _ (λ bytes. array-allows Means share F n vs bytes l)) (ready-as R _ _ (λ bytes. allowed-array Means share F n vs bytes l))

@@ -6,7 +6,7 @@ ghost use Rattle.std.proofs.Common.{rules, sym, ◌∙◌, ap, arith, le_refl};
 ghost use Rattle.std.proofs.lemmas.Grind.{common_steps};
 ghost use Rattle.bincode_format.specs.Device.{Rose, TakesPiece, TooLong};
 ghost use Rattle.bincode_format.specs.Put.{put};
-ghost use Rattle.bincode_laws.specs.PutLaws.{put_none, put_join};
+ghost use Rattle.bincode_laws.specs.PutLaws.{put-none, put-join};
 ghost use Rattle.bincode_base.specs.declared.error.EncodeError.{EncodeError};
 ghost use Rattle.bincode_base.specs.declared.error.EncodeError.TheVariants.{UnexpectedEnd, Memory};
 
@@ -125,12 +125,12 @@ impl Writer for SliceWriter<'_> {
         Ok(())
     }
 
-    ghost adds_none = { λ w. (Prim.search rules, put_none w.written w.slice.now) };
+    ghost adds_none = { λ w. (Prim.search rules, put-none w.written w.slice.now) };
 
     ghost adds_join = { λ a b c x y p q. (
       Prim.grind (arith, common_steps),
       q.1 ∙ ap (put b.written y) p.1 ∙ ap (λ k. put k y (put a.written x a.slice.now)) p.0
-          ∙ put_join a.written x y a.slice.now a.within,
+          ∙ put-join a.written x y a.slice.now a.within,
     ) };
 
     ghost adds_count = { λ a b piece h. le_refl 0 };

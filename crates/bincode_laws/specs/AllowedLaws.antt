@@ -54,15 +54,15 @@ module _ {A : Type 0} (integer : A → ℤ) (one : (a b : A) → integer a ≡ i
       let q : a ≡ p.0 = one a p.0 (cc) in
       subst (λ z. F.Written bytes z) (sym q) p.2
 
-pub one_natural : (a b : ℕ) → pos a ≡ pos b → a ≡ b
-one_natural a b e = cc
+pub natural-one : (a b : ℕ) → pos a ≡ pos b → a ≡ b
+natural-one a b e = cc
 
 -- an unsigned number allows what is written for it
 pub natural-allows : (F : Format ℕ) (bytes : List ℕ) (n : ℕ) → F.Written bytes n → AllowedWord (IsNumber (pos n)) (natural F) bytes
-natural-allows = number-allows pos one_natural
+natural-allows = number-allows pos natural-one
 
 pub allowed-natural : (F : Format ℕ) (bytes : List ℕ) (n : ℕ) → AllowedWord (IsNumber (pos n)) (natural F) bytes → F.Written bytes n
-allowed-natural = allowed-number pos one_natural
+allowed-natural = allowed-number pos natural-one
 
 -- and so does a signed one
 pub integral-allows : (F : Format ℤ) (bytes : List ℕ) (z : ℤ) → F.Written bytes z → AllowedWord (IsNumber z) (integral F) bytes
@@ -211,15 +211,15 @@ pub same-one_length : (A B : List ℕ → Type 0) → ((bytes : List ℕ) → B 
 same-one_length A B from a x y p q = a x y (from x p) (from y q)
 
 -- numbers of one meaning are equal
-pub same_number : (v w : ℕ) (m : Meaning) → IsNumber (pos v) m → IsNumber (pos w) m → nat_eq v w ≡ true
-same_number v w m a b =
+pub number-same : (v w : ℕ) (m : Meaning) → IsNumber (pos v) m → IsNumber (pos w) m → nat_eq v w ≡ true
+number-same v w m a b =
     let e : Number (pos v) ≡ Number (pos w) = sym a ∙ b in
     let q : v ≡ w = cc in
     eq-eqb v w q
 
-pub same_integer : (v w : ℤ) (m : Meaning) → IsNumber v m → IsNumber w m → int_eq v w ≡ true
-same_integer v w m a b = let e : Number v ≡ Number w = sym a ∙ b in (signed_Decides v w).1 (cc)
+pub integer-same : (v w : ℤ) (m : Meaning) → IsNumber v m → IsNumber w m → int_eq v w ≡ true
+integer-same v w m a b = let e : Number v ≡ Number w = sym a ∙ b in (signed_Decides v w).1 (cc)
 
 -- truth values of one meaning are equal
-pub same_truth : (v w : Bool) (m : Meaning) → IsTruth v m → IsTruth w m → beq v w ≡ true
-same_truth v w m a b = let e : Truth v ≡ Truth w = sym a ∙ b in (booleans_Decides v w).1 (cc)
+pub truth-same : (v w : Bool) (m : Meaning) → IsTruth v m → IsTruth w m → beq v w ≡ true
+truth-same v w m a b = let e : Truth v ≡ Truth w = sym a ∙ b in (booleans_Decides v w).1 (cc)

@@ -128,13 +128,13 @@ settles_more held (Failed why s) h = backed_more held s h
 pub more-holds : {A : Type 0} (held : ℕ) (F : Format A) → Balanced F → Holds held held F
 more-holds held F f = record { settles = λ input. settles_more held (F.read input) (f.settles input) }
 
-settled-holds : {A : Type 0} (held : ℕ) (r : Result A Fault) → Holds held held (settled r)
-settled-holds held (Ok a) = done-holds held a
-settled-holds held (Err why) = refused-holds held held why
+settled_holds : {A : Type 0} (held : ℕ) (r : Result A Fault) → Holds held held (settled r)
+settled_holds held (Ok a) = done-holds held a
+settled_holds held (Err why) = refused-holds held held why
 
 -- a test of the meaning takes no steps
 pub test-balanced : {A B : Type 0} (F : Format A) (test : A → Result B Fault) → Balanced F → Balanced (F >>= λ a. settled (test a))
-test-balanced F test f = turn-holds 0 0 0 F (λ a. settled (test a)) f (λ a. settled-holds 0 (test a))
+test-balanced F test f = turn-holds 0 0 0 F (λ a. settled (test a)) f (λ a. settled_holds 0 (test a))
 
 -- another meaning takes no steps
 pub map-balanced : {A B : Type 0} (f : A → B) (F : Format A) → Balanced F → Balanced (map_format f F)

@@ -44,21 +44,21 @@ rest_of_char-lawful first width = test-lawful (raw (width - 1)) (λ bytes. char_
 pub rest_of_char-balanced : (first width : ℕ) → Balanced (rest_of_char first width)
 rest_of_char-balanced first width = test-balanced (raw (width - 1)) (λ bytes. char_of (first ∷ bytes)) (raw-holds 0 (width - 1))
 
-behind-lawful : (first : ℕ) (width : Option ℕ) → Lawful (behind_char first width)
-behind-lawful first None = refused-lawful (InvalidChar (four_bytes (first ∷ []))) (λ h. h)
-behind-lawful first (Some width) = charged-lawful width (rest_of_char first width) (rest_of_char-lawful first width)
+behind_lawful : (first : ℕ) (width : Option ℕ) → Lawful (behind_char first width)
+behind_lawful first None = refused-lawful (InvalidChar (four_bytes (first ∷ []))) (λ h. h)
+behind_lawful first (Some width) = charged-lawful width (rest_of_char first width) (rest_of_char-lawful first width)
 
-behind-balanced : (first : ℕ) (width : Option ℕ) → Balanced (behind_char first width)
-behind-balanced first None = refused-holds 0 0 (InvalidChar (four_bytes (first ∷ [])))
-behind-balanced first (Some width) = charged-balanced width (rest_of_char first width) (rest_of_char-balanced first width)
+behind_balanced : (first : ℕ) (width : Option ℕ) → Balanced (behind_char first width)
+behind_balanced first None = refused-holds 0 0 (InvalidChar (four_bytes (first ∷ [])))
+behind_balanced first (Some width) = charged-balanced width (rest_of_char first width) (rest_of_char-balanced first width)
 
 -- a character keeps the laws
 pub character-lawful : Lawful character
-character-lawful = turn-lawful byte (λ first. behind_char first (char_width first)) byte-lawful (λ first. behind-lawful first (char_width first))
+character-lawful = turn-lawful byte (λ first. behind_char first (char_width first)) byte-lawful (λ first. behind_lawful first (char_width first))
 
 -- a character is balanced
 pub character-balanced : Balanced character
-character-balanced = turn-holds 0 0 0 byte (λ first. behind_char first (char_width first)) byte-balanced (λ first. behind-balanced first (char_width first))
+character-balanced = turn-holds 0 0 0 byte (λ first. behind_char first (char_width first)) byte-balanced (λ first. behind_balanced first (char_width first))
 
 -- the forms
 
@@ -75,31 +75,31 @@ width_4 : (first : ℕ) → 240 ≤ first → first < 245 → char_width first �
 width_4 first h k = rw (le-ltb first 128 (omega arith), le-ltb first 194 (omega arith), le-ltb first 224 (omega arith), le-ltb first 240 h, lt-ltb first 245 k) refl
 
 -- the bytes that std gives
-pub encoded_1 : (c : ℕ) → c < 128 → encode_utf8 c ≡ c ∷ []
+pub encoded-1 : (c : ℕ) → c < 128 → encode_utf8 c ≡ c ∷ []
 unfolding encode
-encoded_1 c h = rw (lt-ltb c 128 h) refl
+encoded-1 c h = rw (lt-ltb c 128 h) refl
 
-pub encoded_2 : (c : ℕ) → 128 ≤ c → c < 2048 → encode_utf8 c ≡ (192 + c / 64) ∷ (128 + c % 64) ∷ []
+pub encoded-2 : (c : ℕ) → 128 ≤ c → c < 2048 → encode_utf8 c ≡ (192 + c / 64) ∷ (128 + c % 64) ∷ []
 unfolding encode
-encoded_2 c h k = rw (le-ltb c 128 h, lt-ltb c 2048 k) refl
+encoded-2 c h k = rw (le-ltb c 128 h, lt-ltb c 2048 k) refl
 
-pub encoded_3 : (c : ℕ) → 2048 ≤ c → c < 65536 → encode_utf8 c ≡ (224 + c / 4096) ∷ (128 + c / 64 % 64) ∷ (128 + c % 64) ∷ []
+pub encoded-3 : (c : ℕ) → 2048 ≤ c → c < 65536 → encode_utf8 c ≡ (224 + c / 4096) ∷ (128 + c / 64 % 64) ∷ (128 + c % 64) ∷ []
 unfolding encode
-encoded_3 c h k = rw (le-ltb c 128 (omega arith), le-ltb c 2048 h, lt-ltb c 65536 k) refl
+encoded-3 c h k = rw (le-ltb c 128 (omega arith), le-ltb c 2048 h, lt-ltb c 65536 k) refl
 
-pub encoded_4 : (c : ℕ) → 65536 ≤ c → encode_utf8 c ≡ (240 + c / 262144) ∷ (128 + c / 4096 % 64) ∷ (128 + c / 64 % 64) ∷ (128 + c % 64) ∷ []
+pub encoded-4 : (c : ℕ) → 65536 ≤ c → encode_utf8 c ≡ (240 + c / 262144) ∷ (128 + c / 4096 % 64) ∷ (128 + c / 64 % 64) ∷ (128 + c % 64) ∷ []
 unfolding encode
-encoded_4 c h = rw (le-ltb c 128 (omega arith), le-ltb c 2048 (omega arith), le-ltb c 65536 h) refl
+encoded-4 c h = rw (le-ltb c 128 (omega arith), le-ltb c 2048 (omega arith), le-ltb c 65536 h) refl
 
 -- and how many they are at most, below what takes one more
 pub length-encoded_1 : (c : ℕ) → c < 128 → length (encode_utf8 c) ≤ 1
-length-encoded_1 c h = omega (arith, ap length (encoded_1 c h))
+length-encoded_1 c h = omega (arith, ap length (encoded-1 c h))
 
 pub length-encoded_2 : (c : ℕ) → c < 2048 → length (encode_utf8 c) ≤ 2
-length-encoded_2 c h = ⊎_elim (λ k. omega (arith, length-encoded_1 c k)) (λ k. omega (arith, ap length (encoded_2 c k h))) (cases_lt c 128)
+length-encoded_2 c h = ⊎_elim (λ k. omega (arith, length-encoded_1 c k)) (λ k. omega (arith, ap length (encoded-2 c k h))) (cases_lt c 128)
 
 pub length-encoded_3 : (c : ℕ) → c < 65536 → length (encode_utf8 c) ≤ 3
-length-encoded_3 c h = ⊎_elim (λ k. omega (arith, length-encoded_2 c k)) (λ k. omega (arith, ap length (encoded_3 c k h))) (cases_lt c 2048)
+length-encoded_3 c h = ⊎_elim (λ k. omega (arith, length-encoded_2 c k)) (λ k. omega (arith, ap length (encoded-3 c k h))) (cases_lt c 2048)
 
 -- the bytes of a character have the width that the first one says, and its number
 pub record Spelled (c : ℕ) : Type 0 where
@@ -117,13 +117,13 @@ last_bytes : (c : ℕ) → All (λ b. b < 256) ((128 + c / 64 % 64) ∷ (128 + c
 last_bytes c = All-cons (λ b. b < 256) (128 + c / 64 % 64) ((128 + c % 64) ∷ []) (omega arith) (last_byte c)
 
 spelled_1 : (c : ℕ) → c < 128 → Spelled c
-spelled_1 c h = record { first = c; tail = []; bytes_are = encoded_1 c h; width_is = width_1 c h; code_is = refl; are_bytes = All-cons (λ b. b < 256) c [] (omega (arith, h)) (All-nil (λ b. b < 256)) }
+spelled_1 c h = record { first = c; tail = []; bytes_are = encoded-1 c h; width_is = width_1 c h; code_is = refl; are_bytes = All-cons (λ b. b < 256) c [] (omega (arith, h)) (All-nil (λ b. b < 256)) }
 
 spelled_2 : (c : ℕ) → 128 ≤ c → c < 2048 → Spelled c
 spelled_2 c h k = record {
   first = 192 + c / 64;
   tail = (128 + c % 64) ∷ [];
-  bytes_are = encoded_2 c h k;
+  bytes_are = encoded-2 c h k;
   width_is = width_2 (192 + c / 64) (omega arith) (omega arith);
   code_is = omega arith;
   are_bytes = All-cons (λ b. b < 256) (192 + c / 64) ((128 + c % 64) ∷ []) (omega arith) (last_byte c);
@@ -133,7 +133,7 @@ spelled_3 : (c : ℕ) → 2048 ≤ c → c < 65536 → Spelled c
 spelled_3 c h k = record {
   first = 224 + c / 4096;
   tail = (128 + c / 64 % 64) ∷ (128 + c % 64) ∷ [];
-  bytes_are = encoded_3 c h k;
+  bytes_are = encoded-3 c h k;
   width_is = width_3 (224 + c / 4096) (omega arith) (omega arith);
   code_is = omega arith;
   are_bytes = All-cons (λ b. b < 256) (224 + c / 4096) ((128 + c / 64 % 64) ∷ (128 + c % 64) ∷ []) (omega arith) (last_bytes c);
@@ -143,7 +143,7 @@ spelled_4 : (c : ℕ) → 65536 ≤ c → c < 1114112 → Spelled c
 spelled_4 c h k = record {
   first = 240 + c / 262144;
   tail = (128 + c / 4096 % 64) ∷ (128 + c / 64 % 64) ∷ (128 + c % 64) ∷ [];
-  bytes_are = encoded_4 c h;
+  bytes_are = encoded-4 c h;
   width_is = width_4 (240 + c / 262144) (omega arith) (omega arith);
   code_is = omega arith;
   are_bytes = All-cons (λ b. b < 256) (240 + c / 262144) ((128 + c / 4096 % 64) ∷ (128 + c / 64 % 64) ∷ (128 + c % 64) ∷ []) (omega arith) (All-cons (λ b. b < 256) (128 + c / 4096 % 64) ((128 + c / 64 % 64) ∷ (128 + c % 64) ∷ []) (omega arith) (last_bytes c));
@@ -369,8 +369,8 @@ characters-laws = record {
 }
 
 -- characters of one meaning are equal
-pub same_character : (v w : ℕ) (m : Meaning) → IsCharacter v m → IsCharacter w m → nat_eq v w ≡ true
-same_character v w m a b =
+pub character-same : (v w : ℕ) (m : Meaning) → IsCharacter v m → IsCharacter w m → nat_eq v w ≡ true
+character-same v w m a b =
     let e : Character v ≡ Character w = sym a ∙ b in
     let q : v ≡ w = cc in
     eq-eqb v w q
@@ -385,7 +385,7 @@ width_1_by false false false false false width h l = absurd (cc)
 
 -- a byte below 128, and no other, is a character by itself
 pub char_of-low : (first : ℕ) → first < 128 → char_of (first ∷ []) ≡ Ok (Character first)
-char_of-low first h = subst (λ z. char_of z ≡ Ok (Character first)) (encoded_1 first h) (char_of-encoded first (low_scalar first (omega arith)))
+char_of-low first h = subst (λ z. char_of z ≡ Ok (Character first)) (encoded-1 first h) (char_of-encoded first (low_scalar first (omega arith)))
 
 pub char_of-alone : (first width : ℕ) → char_width first ≡ Some width → width ≤ 1 → char_of (first ∷ []) ≡ Ok (Character first)
 char_of-alone first width w l = char_of-low first (ltb-true first 128 (width_1_by (nat_lt first 128) (nat_lt first 194) (nat_lt first 224) (nat_lt first 240) (nat_lt first 245) width w l))
@@ -416,10 +416,10 @@ module _ (first : ℕ) (tail : List ℕ) (w : char_width first ≡ Some (length 
   pub spells-past : 1114112 ≤ n → Spells (first ∷ tail) None
   spells-past h = spells-none (λ s e. let m = below_most n (scalar_cases n s) in omega arith)
 
-  spells-by : (found : Option ℕ) → first ∷ tail ≡ encode_utf8 n → SomeIff found (IsScalar n) n → Spells (first ∷ tail) found
-  spells-by None e other = spells-none (λ s h. other s)
-  spells-by (Some c) e h = subst (λ z. char_of z ≡ Ok (Character c)) (sym e) (char_of-encoded n h.0 ∙ ap (λ z. Ok (Character z)) (sym h.1))
+  spells_by : (found : Option ℕ) → first ∷ tail ≡ encode_utf8 n → SomeIff found (IsScalar n) n → Spells (first ∷ tail) found
+  spells_by None e other = spells-none (λ s h. other s)
+  spells_by (Some c) e h = subst (λ z. char_of z ≡ Ok (Character c)) (sym e) (char_of-encoded n h.0 ∙ ap (λ z. Ok (Character z)) (sym h.1))
 
   -- those that are how the number is written spell it where it is a character's
   pub spells-found : (found : Option ℕ) (xs : List ℕ) → xs ≡ encode_utf8 n → false ≡ not (pointwise nat_eq xs (first ∷ tail)) → SomeIff found (IsScalar n) n → Spells (first ∷ tail) found
-  spells-found found xs e same = spells-by found (sym ((bytes_decides xs (first ∷ tail)).0 (not-false _ (sym same))) ∙ e)
+  spells-found found xs e same = spells_by found (sym ((bytes_decides xs (first ∷ tail)).0 (not-false _ (sym same))) ∙ e)

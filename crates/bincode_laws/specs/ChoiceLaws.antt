@@ -25,28 +25,28 @@ by_pick P true f g = f
 by_pick P false f g = g
 
 module _ (s : Setting) (allowed : Allowed) (found : ℕ) where
-  part-lawful : (variants : List Variant) → AllLawful s variants → Lawful (part s variants allowed found)
-  part-lawful [] h = refused-lawful (UnexpectedVariant allowed found) (λ h. h)
-  part-lawful (variant ∷ others) h = by_pick Lawful (found == variant.0) (map-lawful (Choice found) (variant.1 s) h.0) (part-lawful others h.1)
+  part_lawful : (variants : List Variant) → AllLawful s variants → Lawful (part s variants allowed found)
+  part_lawful [] h = refused-lawful (UnexpectedVariant allowed found) (λ h. h)
+  part_lawful (variant ∷ others) h = by_pick Lawful (found == variant.0) (map-lawful (Choice found) (variant.1 s) h.0) (part_lawful others h.1)
 
-  part-balanced : (variants : List Variant) → AllBalanced s variants → Balanced (part s variants allowed found)
-  part-balanced [] h = refused-holds 0 0 (UnexpectedVariant allowed found)
-  part-balanced (variant ∷ others) h = by_pick Balanced (found == variant.0) (map-balanced (Choice found) (variant.1 s) h.0) (part-balanced others h.1)
+  part_balanced : (variants : List Variant) → AllBalanced s variants → Balanced (part s variants allowed found)
+  part_balanced [] h = refused-holds 0 0 (UnexpectedVariant allowed found)
+  part_balanced (variant ∷ others) h = by_pick Balanced (found == variant.0) (map-balanced (Choice found) (variant.1 s) h.0) (part_balanced others h.1)
 
   -- whatever the part, its meaning has the tag
-  part-written : (variants : List Variant) (bytes : List ℕ) (m : Meaning) → (part s variants allowed found).Written bytes m → (n : Meaning) × (m ≡ Choice found n)
+  part_written : (variants : List Variant) (bytes : List ℕ) (m : Meaning) → (part s variants allowed found).Written bytes m → (n : Meaning) × (m ≡ Choice found n)
   unfolding refused
-  part-written [] bytes m = λ w. absurd w
-  part-written (variant ∷ others) bytes m =
+  part_written [] bytes m = λ w. absurd w
+  part_written (variant ∷ others) bytes m =
       by_pick (λ F. F.Written bytes m → (n : Meaning) × (m ≡ Choice found n)) (found == variant.0)
-      (λ w. let p = written-map (Choice found) (variant.1 s) bytes m w in (p.0, p.1)) (part-written others bytes m)
+      (λ w. let p = written-map (Choice found) (variant.1 s) bytes m w in (p.0, p.1)) (part_written others bytes m)
 
-  part-word : (variants : List Variant) (bytes : List ℕ) (m : Meaning) (steps : List Step) → (part s variants allowed found).Word bytes m steps → (n : Meaning) × (m ≡ Choice found n)
+  part_word : (variants : List Variant) (bytes : List ℕ) (m : Meaning) (steps : List Step) → (part s variants allowed found).Word bytes m steps → (n : Meaning) × (m ≡ Choice found n)
   unfolding refused
-  part-word [] bytes m steps = λ u. absurd u
-  part-word (variant ∷ others) bytes m steps =
+  part_word [] bytes m steps = λ u. absurd u
+  part_word (variant ∷ others) bytes m steps =
       by_pick (λ F. F.Word bytes m steps → (n : Meaning) × (m ≡ Choice found n)) (found == variant.0)
-      (λ u. let p = word-settled (λ k. Ok (Choice found k)) (variant.1 s) bytes m steps u in (p.0, cc)) (part-word others bytes m steps)
+      (λ u. let p = word-settled (λ k. Ok (Choice found k)) (variant.1 s) bytes m steps u in (p.0, cc)) (part_word others bytes m steps)
 
 -- a tag picks its variant
 pub part-here : (s : Setting) (allowed : Allowed) (tag : ℕ) (F : Setting → Format Meaning) (others : List Variant) → part s ((tag, F) ∷ others) allowed tag ≡ map_format (Choice tag) (F s)
@@ -65,11 +65,11 @@ module _ (tags : Setting → Format ℕ) (variants : List Variant) (s : Setting)
   -- a tag and the part that it picks keep the laws
   pub chosen-lawful : Lawful (tags s) → AllLawful s variants → Lawful (chosen tags variants s)
   unfolding chosen
-  chosen-lawful t h = turn-lawful (tags s) (behind_tag variants s) t (λ found. part-lawful s _ found variants h)
+  chosen-lawful t h = turn-lawful (tags s) (behind_tag variants s) t (λ found. part_lawful s _ found variants h)
 
   pub chosen-balanced : Balanced (tags s) → AllBalanced s variants → Balanced (chosen tags variants s)
   unfolding chosen
-  chosen-balanced t h = turn-holds 0 0 0 (tags s) (behind_tag variants s) t (λ found. part-balanced s _ found variants h)
+  chosen-balanced t h = turn-holds 0 0 0 (tags s) (behind_tag variants s) t (λ found. part_balanced s _ found variants h)
 
   -- the tag `found` picks what is written for F
   module _ (found : ℕ) (F : Format Meaning) (alike : WrittenAlike (map_format (Choice found) F) (behind_tag variants s found)) (P : Meaning → Type 0) where
@@ -94,7 +94,7 @@ module _ (tags : Setting → Format ℕ) (variants : List Variant) (s : Setting)
     allowed-choice bytes w =
         let u = w.is_written in
         let m = w.is_meant in
-        let p = part-written s _ u.head variants u.second w.meaning u.second_written in
+        let p = part_written s _ u.head variants u.second w.meaning u.second_written in
         let e : Choice u.head p.0 ≡ Choice found m.part = sym p.1 ∙ m.meaning_is in
         let h : u.head ≡ found = cc in
         let v : (behind_tag variants s found).Written u.second w.meaning = subst (λ k. (behind_tag variants s k).Written u.second w.meaning) h u.second_written in
@@ -119,12 +119,12 @@ module _ (tags : Setting → Format ℕ) (variants : List Variant) (s : Setting)
   -- the tag `found` picks the format F
   module _ (found : ℕ) (F : Format Meaning) (at : behind_tag variants s found ≡ map_format (Choice found) F) (P P' : Meaning → Type 0) where
     -- no word of it is shorter, if none of the tag is and none of the part
-    choice-none_shorter : NoneShorter (IsNumber (pos found)) (IsNumber (pos found)) (natural (tags s)) → NoneShorter P P' F →
+    choice_none_shorter : NoneShorter (IsNumber (pos found)) (IsNumber (pos found)) (natural (tags s)) → NoneShorter P P' F →
         NoneShorter (IsChoice found P) (IsChoice found P') (chosen tags variants s)
     unfolding chosen ◌>>=◌
-    choice-none_shorter t f written bytes m steps w h u e =
+    choice_none_shorter t f written bytes m steps w h u e =
         let b = allowed-choice found F (same-alike at) P written w in
-        let p = part-word s _ u.head variants u.second m u.second_steps u.second_word in
+        let p = part_word s _ u.head variants u.second m u.second_steps u.second_word in
         let c : Choice u.head p.0 ≡ Choice found e.part = sym p.1 ∙ e.meaning_is in
         let k : u.head ≡ found = cc in
         let v : (behind_tag variants s found).Word u.second m u.second_steps = subst (λ k. (behind_tag variants s k).Word u.second m u.second_steps) k u.second_word in
@@ -152,7 +152,7 @@ module _ (tags : Setting → Format ℕ) (variants : List Variant) (s : Setting)
           is_meant = record { part = p.part; meaning_is = p.meaning_is; is_part = (p.is_part, subst P' j q.is_part) };
           is_written = w.is_written;
         } in
-        choice-none_shorter found F at (λ n. P n × P' n) P' t (f k) written bytes m steps x h u (subst (λ z. IsChoice z P' m) (sym k) e)
+        choice_none_shorter found F at (λ n. P n × P' n) P' t (f k) written bytes m steps x h u (subst (λ z. IsChoice z P' m) (sym k) e)
 
   -- it has a word, if the tag and the part that it picks have
   pub choice-some_word : (found : ℕ) (F : Format Meaning) → behind_tag variants s found ≡ map_format (Choice found) F → Lawful (tags s) →

@@ -37,23 +37,23 @@ stops-besides ended device H K f a before after rest rest' e (by_memory h t k) =
 stops-besides ended device H K f a before after rest rest' e (by_failure d h k) = by_failure d h k
 stops-besides ended device H K f a before after rest rest' e (by_device h) = by_device h
 
-gave_at-is : {A : Type 0} (a b : A) (r s : List ℕ) (x : Option ℕ) (d : ℕ) → gave_at a r x ≡ Gave b s d → (a ≡ b) × (r ≡ s)
-gave_at-is a b r s (Some c) d e = (cc, cc)
-gave_at-is a b r s None d e = absurd (cc)
+gave_at_parts : {A : Type 0} (a b : A) (r s : List ℕ) (x : Option ℕ) (d : ℕ) → gave_at a r x ≡ Gave b s d → (a ≡ b) × (r ≡ s)
+gave_at_parts a b r s (Some c) d e = (cc, cc)
+gave_at_parts a b r s None d e = absurd (cc)
 
-refused_at-gave : {A : Type 0} (why : Fault) (b : A) (s : List ℕ) (x : Option ℕ) (d : ℕ) → refused_at why x ≡ Gave b s d → ⊥
-refused_at-gave why b s (Some c) d e = cc
-refused_at-gave why b s None d e = cc
+refused_at_gave : {A : Type 0} (why : Fault) (b : A) (s : List ℕ) (x : Option ℕ) (d : ℕ) → refused_at why x ≡ Gave b s d → ⊥
+refused_at_gave why b s (Some c) d e = cc
+refused_at_gave why b s None d e = cc
 
-weighed-took : {A : Type 0} (limit : Option ℕ) (c : ℕ) (r : Reading A) (a : A) (rest : List ℕ) (d : ℕ) → weighed limit c r ≡ Gave a rest d → (s : List Step) × (r ≡ Took a rest s)
-weighed-took limit c (Took b r s) a rest d e = let p = gave_at-is b a r rest (charge_behind limit c s) d e in (s, cc)
-weighed-took limit c (Failed why s) a rest d e = absurd (refused_at-gave why a rest (charge_behind limit c s) d e)
+weighed_took : {A : Type 0} (limit : Option ℕ) (c : ℕ) (r : Reading A) (a : A) (rest : List ℕ) (d : ℕ) → weighed limit c r ≡ Gave a rest d → (s : List Step) × (r ≡ Took a rest s)
+weighed_took limit c (Took b r s) a rest d e = let p = gave_at_parts b a r rest (charge_behind limit c s) d e in (s, cc)
+weighed_took limit c (Failed why s) a rest d e = absurd (refused_at_gave why a rest (charge_behind limit c s) d e)
 
 -- an answer that gave a meaning took a front of the input
 pub gave-takes : {A : Type 0} (limit : Option ℕ) (F : Format A) → Lawful F → (input : List ℕ) (c : ℕ) (a : A) (rest : List ℕ) (d : ℕ) → answer limit F input c ≡ Gave a rest d → Takes input rest
 unfolding answer
 gave-takes limit F f input c a rest d e =
-    let t = weighed-took limit c (F.read input) a rest d e in
+    let t = weighed_took limit c (F.read input) a rest d e in
     let b = f.read_word input rest a t.0 t.1 in
     (b.word, b.input_is)
 

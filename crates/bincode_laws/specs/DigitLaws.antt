@@ -9,16 +9,16 @@ use Rattle.bincode_base.specs.declared.config.Endianness.{Endianness}
 use Rattle.bincode_base.specs.declared.config.Endianness.TheVariants.{Little, Big}
 use Rattle.bincode_format.specs.Number.{low_first_number, low_first_digits, number_of, digits_of}
 
-length-low_first_digits : (width n : ℕ) → length (low_first_digits width n) ≡ width
-length-low_first_digits zero n = refl
-length-low_first_digits (suc width) n = ap suc (length-low_first_digits width (n / 256))
+length_low_first_digits : (width n : ℕ) → length (low_first_digits width n) ≡ width
+length_low_first_digits zero n = refl
+length_low_first_digits (suc width) n = ap suc (length_low_first_digits width (n / 256))
 
 fewer : (width n : ℕ) → n < 256 ^ suc width → n / 256 < 256 ^ width
 fewer width n h = (div-lt_iff_lt-mul {k = 256} (omega arith)).1 (rw pow-suc at h)
 
-low_first_number-digits : (width n : ℕ) → n < 256 ^ width → low_first_number (low_first_digits width n) ≡ n
-low_first_number-digits zero n h = omega (arith, h)
-low_first_number-digits (suc width) n h = rw (low_first_number-digits width (n / 256) (fewer width n h)) (mod-add-div n 256)
+low_first_number_digits : (width n : ℕ) → n < 256 ^ width → low_first_number (low_first_digits width n) ≡ n
+low_first_number_digits zero n h = omega (arith, h)
+low_first_number_digits (suc width) n h = rw (low_first_number_digits width (n / 256) (fewer width n h)) (mod-add-div n 256)
 
 low_first_number_below : (bytes : List ℕ) → All (λ b. b < 256) bytes → low_first_number bytes < 256 ^ length bytes
 low_first_number_below [] h = omega arith
@@ -27,31 +27,31 @@ low_first_number_below (b ∷ bytes) h =
     let p : low_first_number bytes < 256 ^ length bytes = low_first_number_below bytes (All-tail (λ b. b < 256) b bytes h) in
     rw pow-suc (omega (arith, l, p))
 
-All-reverse : (P : ℕ → Type 0) (xs : List ℕ) → All P xs → All P (reverse xs)
-All-reverse P xs h = λ k d l. let m : k < length xs = omega (arith, l, length-reverse xs) in rw (get_or-reverse xs k d m) (h (length xs - 1 - k) d (omega (arith, m)))
+All_reverse : (P : ℕ → Type 0) (xs : List ℕ) → All P xs → All P (reverse xs)
+All_reverse P xs h = λ k d l. let m : k < length xs = omega (arith, l, length-reverse xs) in rw (get_or-reverse xs k d m) (h (length xs - 1 - k) d (omega (arith, m)))
 
 -- a number has as many digits as are asked for
 pub length-digits_of : (order : Endianness) (width n : ℕ) → length (digits_of order width n) ≡ width
-length-digits_of Little width n = length-low_first_digits width n
-length-digits_of Big width n = length-reverse (low_first_digits width n) ∙ length-low_first_digits width n
+length-digits_of Little width n = length_low_first_digits width n
+length-digits_of Big width n = length-reverse (low_first_digits width n) ∙ length_low_first_digits width n
 
 -- digits are bytes
-low_first_digits-are_bytes : (width n : ℕ) → All (λ b. b < 256) (low_first_digits width n)
-low_first_digits-are_bytes zero n = All-nil (λ b. b < 256)
-low_first_digits-are_bytes (suc width) n = All-cons (λ b. b < 256) (n % 256) (low_first_digits width (n / 256)) (omega arith) (low_first_digits-are_bytes width (n / 256))
+low_first_digits_are_bytes : (width n : ℕ) → All (λ b. b < 256) (low_first_digits width n)
+low_first_digits_are_bytes zero n = All-nil (λ b. b < 256)
+low_first_digits_are_bytes (suc width) n = All-cons (λ b. b < 256) (n % 256) (low_first_digits width (n / 256)) (omega arith) (low_first_digits_are_bytes width (n / 256))
 
 pub digits_of-are_bytes : (order : Endianness) (width n : ℕ) → All (λ b. b < 256) (digits_of order width n)
-digits_of-are_bytes Little width n = low_first_digits-are_bytes width n
-digits_of-are_bytes Big width n = All-reverse (λ b. b < 256) (low_first_digits width n) (low_first_digits-are_bytes width n)
+digits_of-are_bytes Little width n = low_first_digits_are_bytes width n
+digits_of-are_bytes Big width n = All_reverse (λ b. b < 256) (low_first_digits width n) (low_first_digits_are_bytes width n)
 
 -- a number of `width` bytes is the number of its digits
 pub number_of-digits_of : (order : Endianness) (width n : ℕ) → n < 256 ^ width → number_of order (digits_of order width n) ≡ n
-number_of-digits_of Little width n h = low_first_number-digits width n h
-number_of-digits_of Big width n h = rw (reverse-reverse (low_first_digits width n)) (low_first_number-digits width n h)
+number_of-digits_of Little width n h = low_first_number_digits width n h
+number_of-digits_of Big width n h = rw (reverse-reverse (low_first_digits width n)) (low_first_number_digits width n h)
 
 -- bytes are a number of so many bytes
-pub number_of_below : (order : Endianness) (width : ℕ) (bytes : List ℕ) → length bytes ≡ width → All (λ b. b < 256) bytes → number_of order bytes < 256 ^ width
-number_of_below Little width bytes e h = rw (← e) (low_first_number_below bytes h)
-number_of_below Big width bytes e h =
+pub number_of-below : (order : Endianness) (width : ℕ) (bytes : List ℕ) → length bytes ≡ width → All (λ b. b < 256) bytes → number_of order bytes < 256 ^ width
+number_of-below Little width bytes e h = rw (← e) (low_first_number_below bytes h)
+number_of-below Big width bytes e h =
     let l : length (reverse bytes) ≡ width = length-reverse bytes ∙ e in
-    rw (← l) (low_first_number_below (reverse bytes) (All-reverse (λ b. b < 256) bytes h))
+    rw (← l) (low_first_number_below (reverse bytes) (All_reverse (λ b. b < 256) bytes h))

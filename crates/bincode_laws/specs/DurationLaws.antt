@@ -30,8 +30,8 @@ module _ (s : Setting) where
   parts-lawful =
       turn-lawful _ _ (unsigned-lawful integers.U64 8 s (Eight refl)) (λ seconds. map-lawful (λ nanos. (seconds, nanos)) (unsigned integers.U32 4 s) (unsigned-lawful integers.U32 4 s (Four refl)))
 
-  parts-balanced : Balanced (seconds_and_nanos s)
-  parts-balanced = turn-holds 0 0 0 _ _ (unsigned-balanced integers.U64 8 s) (λ seconds. map-balanced (λ nanos. (seconds, nanos)) (unsigned integers.U32 4 s) (unsigned-balanced integers.U32 4 s))
+  parts_balanced : Balanced (seconds_and_nanos s)
+  parts_balanced = turn-holds 0 0 0 _ _ (unsigned-balanced integers.U64 8 s) (λ seconds. map-balanced (λ nanos. (seconds, nanos)) (unsigned integers.U32 4 s) (unsigned-balanced integers.U32 4 s))
 
   -- spans of time keep the laws
   pub duration-lawful : Lawful (duration s)
@@ -41,7 +41,7 @@ module _ (s : Setting) where
       (λ word m h. let p = parts-lawful.written_is_word word h.0 h.3 in (p.0, settled-word (λ parts. duration_of parts.0 parts.1) (seconds_and_nanos s) word h.0 m p.0 h.2 p.1))
 
   pub duration-balanced : Balanced (duration s)
-  duration-balanced = rewritten-holds 0 0 _ _ (test-balanced (seconds_and_nanos s) (λ parts. duration_of parts.0 parts.1) parts-balanced)
+  duration-balanced = rewritten-holds 0 0 _ _ (test-balanced (seconds_and_nanos s) (λ parts. duration_of parts.0 parts.1) parts_balanced)
 
 -- what seconds and nanoseconds mean together
 abbrev pub IsSpan : ℕ → ℕ → Meaning → Type 0
@@ -51,8 +51,8 @@ IsSpan seconds nanos = IsThen (IsNumber (pos seconds)) (IsThen (IsNumber (pos na
 abbrev pub span : ℕ → ℕ → Meaning
 span seconds nanos = listed (Number (pos seconds) ∷ Number (pos nanos) ∷ [])
 
-pub span_is : (seconds nanos : ℕ) → IsSpan seconds nanos (span seconds nanos)
-span_is seconds nanos = record {
+pub span-is : (seconds nanos : ℕ) → IsSpan seconds nanos (span seconds nanos)
+span-is seconds nanos = record {
   first = Number (pos seconds);
   others = listed (Number (pos nanos) ∷ []);
   meaning_is = refl;
@@ -66,8 +66,8 @@ is_span seconds nanos m h =
     cc (h.meaning_is, h.is_first, k.meaning_is, k.is_first, k.are_others)
 
 -- spans of one meaning are equal
-pub span_same : (a b c d : ℕ) (m : Meaning) → IsSpan a b m → IsSpan c d m → nat_eq (a * second_in_nanos + b) (c * second_in_nanos + d) ≡ true
-span_same a b c d m p q =
+pub span-same : (a b c d : ℕ) (m : Meaning) → IsSpan a b m → IsSpan c d m → nat_eq (a * second_in_nanos + b) (c * second_in_nanos + d) ≡ true
+span-same a b c d m p q =
     let e : span a b ≡ span c d = sym (is_span a b m p) ∙ is_span c d m q in
     let h : a ≡ c = cc in
     let k : b ≡ d = cc in
@@ -96,8 +96,8 @@ module _ (seconds nanos : ℕ) where
   keeps : seconds < 2 ^ 64 → nanos < second_in_nanos → duration_of seconds nanos ≡ Ok (span seconds nanos)
   keeps h k = carries (omega arith) ∙ ap Ok (kept k)
 
-  pub kept_as : (m : Meaning) → nanos < second_in_nanos → duration_of seconds nanos ≡ Ok m → span seconds nanos ≡ m
-  kept_as m h e = sym (kept h) ∙ carried_by _ m (nat_lt (seconds + nanos / second_in_nanos) (2 ^ 64)) e
+  pub kept-as : (m : Meaning) → nanos < second_in_nanos → duration_of seconds nanos ≡ Ok m → span seconds nanos ≡ m
+  kept-as m h e = sym (kept h) ∙ carried_by _ m (nat_lt (seconds + nanos / second_in_nanos) (2 ^ 64)) e
 
 module _ (s : Setting) (seconds nanos : ℕ) where
   -- a span allows what its seconds and its nanoseconds do in turn
@@ -110,7 +110,7 @@ module _ (s : Setting) (seconds nanos : ℕ) where
       let q = allowed-natural (unsigned integers.U32 4 s) y nanos b in
       record {
         meaning = span seconds nanos;
-        is_meant = span_is seconds nanos;
+        is_meant = span-is seconds nanos;
         is_written = ((seconds, nanos), k, keeps seconds nanos h k, record { first = x; second = y; head = seconds; bytes_are = e; first_written = p; second_written = map-written (λ n. (seconds, n)) (unsigned integers.U32 4 s) y nanos q });
       }
 
@@ -121,7 +121,7 @@ module _ (s : Setting) (seconds nanos : ℕ) where
       let parts = w.is_written.0 in
       let u = w.is_written.3 in
       let t = written-map (λ n. (u.head, n)) (unsigned integers.U32 4 s) u.second parts u.second_written in
-      let e : span parts.0 parts.1 ≡ span seconds nanos = kept_as parts.0 parts.1 w.meaning w.is_written.1 w.is_written.2 ∙ is_span seconds nanos w.meaning w.is_meant in
+      let e : span parts.0 parts.1 ≡ span seconds nanos = kept-as parts.0 parts.1 w.meaning w.is_written.1 w.is_written.2 ∙ is_span seconds nanos w.meaning w.is_meant in
       let a : parts.0 ≡ seconds = cc in
       let b : parts.1 ≡ nanos = cc in
       let c : u.head ≡ seconds = sym (ap (λ p. p.0) t.1) ∙ a in
@@ -131,14 +131,14 @@ module _ (s : Setting) (seconds nanos : ℕ) where
       (u.first, u.second, u.bytes_are, natural-allows (unsigned integers.U64 8 s) u.first seconds p, natural-allows (unsigned integers.U32 4 s) u.second nanos q)
 
 -- less than a second of nanoseconds fits four bytes
-pub nanos_fit : (nanos : ℕ) → nanos < second_in_nanos → nanos < 256 ^ 4
-nanos_fit nanos h = omega (arith, h)
+pub nanos-fit : (nanos : ℕ) → nanos < second_in_nanos → nanos < 256 ^ 4
+nanos-fit nanos h = omega (arith, h)
 
 -- a span has a word of bytes
 pub duration-has_word : (s : Setting) (seconds nanos : ℕ) → seconds < 2 ^ 64 → nanos < second_in_nanos → SomeWord (AllowedWord (IsSpan seconds nanos) (duration s))
 duration-has_word s seconds nanos h k =
     let x = (unsigned-spelled integers.U64 8 seconds s h).has_word in
-    let y = (unsigned-spelled integers.U32 4 nanos s (nanos_fit nanos k)).has_word in
+    let y = (unsigned-spelled integers.U32 4 nanos s (nanos-fit nanos k)).has_word in
     record {
       bytes = x.bytes ++ y.bytes;
       are_bytes = All-append (λ b. b < 256) x.bytes y.bytes x.are_bytes y.are_bytes;

@@ -20,8 +20,8 @@ pub ready : (A : List ℕ → Type 0) (bytes : List ℕ) → A bytes → Ready (
 ready A bytes a = record { is_writable = tt; is_allowed = a }
 
 -- the same words by another name
-pub ready_as : (R : Type 0) (A B : List ℕ → Type 0) → ((bytes : List ℕ) → A bytes → B bytes) → (bytes : List ℕ) → Ready R A bytes → Ready R B bytes
-ready_as R A B to bytes w = record { is_writable = w.is_writable; is_allowed = to bytes w.is_allowed }
+pub ready-as : (R : Type 0) (A B : List ℕ → Type 0) → ((bytes : List ℕ) → A bytes → B bytes) → (bytes : List ℕ) → Ready R A bytes → Ready R B bytes
+ready-as R A B to bytes w = record { is_writable = w.is_writable; is_allowed = to bytes w.is_allowed }
 
 -- what begins a word of one value begins one of another, which can be written where that one can
 begins_where : (R S : Type 0) (A : List ℕ → Type 0) → (S → R) → (bytes : List ℕ) → Begins (Ready R A) bytes → Begins (Ready S A) bytes
@@ -35,72 +35,72 @@ own_or A B e x y f (inr b) = inr (f b)
 
 module _ {W : Type 0} (adds : Adds W) where
   -- a piece that is a word
-  pub writes_alone : (A : List ℕ → Type 0) (piece : List ℕ) (before after : W) → A piece → adds before piece after → Writes adds A before after
-  writes_alone A piece before after a h = record { word = piece; is_allowed = a; added = h }
+  pub writes-alone : (A : List ℕ → Type 0) (piece : List ℕ) (before after : W) → A piece → adds before piece after → Writes adds A before after
+  writes-alone A piece before after a h = record { word = piece; is_allowed = a; added = h }
 
   -- two parts in turn
-  pub writes_both : ((a b c : W) (x y : List ℕ) → adds a x b → adds b y c → adds a (x ++ y) c) → (A B : List ℕ → Type 0) (before between after : W) →
+  pub writes-both : ((a b c : W) (x y : List ℕ) → adds a x b → adds b y c → adds a (x ++ y) c) → (A B : List ℕ → Type 0) (before between after : W) →
       Writes adds A before between → Writes adds B between after → Writes adds (Both A B) before after
-  writes_both join A B before between after v w = record {
+  writes-both join A B before between after v w = record {
     word = v.word ++ w.word;
     is_allowed = (v.word, w.word, refl, v.is_allowed, w.is_allowed);
     added = join before between after v.word w.word v.added w.added;
   }
 
   -- the same words by another name
-  pub writes_same : (A B : List ℕ → Type 0) (before after : W) → ((bytes : List ℕ) → A bytes → B bytes) → Writes adds A before after → Writes adds B before after
-  writes_same A B before after to v = record { word = v.word; is_allowed = to v.word v.is_allowed; added = v.added }
+  pub writes-same : (A B : List ℕ → Type 0) (before after : W) → ((bytes : List ℕ) → A bytes → B bytes) → Writes adds A before after → Writes adds B before after
+  writes-same A B before after to v = record { word = v.word; is_allowed = to v.word v.is_allowed; added = v.added }
 
 module _ {W : Type 0} (adds : Adds W) (refuses : Refuses W) where
   -- two parts in turn
-  pub halts_first : (A B : List ℕ → Type 0) (N M : EncodeError → Type 0) (before after : W) (e : EncodeError) →
+  pub halts-first : (A B : List ℕ → Type 0) (N M : EncodeError → Type 0) (before after : W) (e : EncodeError) →
       Halts adds refuses A N before after e → Halts adds refuses (Both A B) (λ d. N d ⊎ M d) before after e
-  halts_first A B N M before after e (by_writer front piece middle h r b) = by_writer front piece middle h r (begins_first A B (front ++ piece) b)
-  halts_first A B N M before after e (by_name front h n b) = by_name front h (inl n) (own_or A (Both A B) e front front (begins_first A B front) b)
+  halts-first A B N M before after e (by_writer front piece middle h r b) = by_writer front piece middle h r (begins_first A B (front ++ piece) b)
+  halts-first A B N M before after e (by_name front h n b) = by_name front h (inl n) (own_or A (Both A B) e front front (begins_first A B front) b)
 
-  pub halts_next : ((a b c : W) (x y : List ℕ) → adds a x b → adds b y c → adds a (x ++ y) c) →
+  pub halts-next : ((a b c : W) (x y : List ℕ) → adds a x b → adds b y c → adds a (x ++ y) c) →
       (R : Type 0) (A B : List ℕ → Type 0) (N M : EncodeError → Type 0) (before between after : W) (e : EncodeError) →
       Writes adds A before between → Halts adds refuses B M between after e → Halts adds refuses (Both (Ready R A) B) (λ d. N d ⊎ M d) before after e
-  halts_next join R A B N M before between after e v (by_writer front piece middle g r b) =
+  halts-next join R A B N M before between after e v (by_writer front piece middle g r b) =
       by_writer (v.word ++ front) piece middle (join before between middle v.word front v.added g) r
       (subst (Begins (Both (Ready R A) B)) (sym (append_assoc v.word front piece)) (begins_next R A B v.word (front ++ piece) v.is_allowed b))
-  halts_next join R A B N M before between after e v (by_name front g n b) =
+  halts-next join R A B N M before between after e v (by_name front g n b) =
       by_name (v.word ++ front) (join before between after v.word front v.added g) (inr n) (own_or B (Both (Ready R A) B) e front (v.word ++ front) (begins_next R A B v.word front v.is_allowed) b)
 
   -- the same words by another name
-  pub halts_same : (A B : List ℕ → Type 0) (N : EncodeError → Type 0) (before after : W) (e : EncodeError) → ((bytes : List ℕ) → A bytes → B bytes) →
+  pub halts-same : (A B : List ℕ → Type 0) (N : EncodeError → Type 0) (before after : W) (e : EncodeError) → ((bytes : List ℕ) → A bytes → B bytes) →
       ((bytes : List ℕ) → B bytes → A bytes) → Halts adds refuses A N before after e → Halts adds refuses B N before after e
-  halts_same A B N before after e to from (by_writer front piece middle h r b) = by_writer front piece middle h r (begins_same A B to from (front ++ piece) b)
-  halts_same A B N before after e to from (by_name front h n b) = by_name front h n (own_or A B e front front (begins_same A B to from front) b)
+  halts-same A B N before after e to from (by_writer front piece middle h r b) = by_writer front piece middle h r (begins_same A B to from (front ++ piece) b)
+  halts-same A B N before after e to from (by_name front h n b) = by_name front h n (own_or A B e front front (begins_same A B to from front) b)
 
   -- an error that more may name
-  pub halts_named : (A : List ℕ → Type 0) (N M : EncodeError → Type 0) (before after : W) (e : EncodeError) → (N e → M e) →
+  pub halts-named : (A : List ℕ → Type 0) (N M : EncodeError → Type 0) (before after : W) (e : EncodeError) → (N e → M e) →
       Halts adds refuses A N before after e → Halts adds refuses A M before after e
-  halts_named A N M before after e more (by_writer front piece middle h r b) = by_writer front piece middle h r b
-  halts_named A N M before after e more (by_name front h n b) = by_name front h (more n) b
+  halts-named A N M before after e more (by_writer front piece middle h r b) = by_writer front piece middle h r b
+  halts-named A N M before after e more (by_name front h n b) = by_name front h (more n) b
 
   -- a value that can be written where another can
-  pub halts_where : (R S : Type 0) (A : List ℕ → Type 0) → (S → R) → (N : EncodeError → Type 0) (before after : W) (e : EncodeError) →
+  pub halts-where : (R S : Type 0) (A : List ℕ → Type 0) → (S → R) → (N : EncodeError → Type 0) (before after : W) (e : EncodeError) →
       Halts adds refuses (Ready R A) N before after e → Halts adds refuses (Ready S A) N before after e
-  halts_where R S A f N before after e (by_writer front piece middle h r b) = by_writer front piece middle h r (begins_where R S A f (front ++ piece) b)
-  halts_where R S A f N before after e (by_name front h n b) = by_name front h n (own_or (Ready R A) (Ready S A) e front front (begins_where R S A f front) b)
+  halts-where R S A f N before after e (by_writer front piece middle h r b) = by_writer front piece middle h r (begins_where R S A f (front ++ piece) b)
+  halts-where R S A f N before after e (by_name front h n b) = by_name front h n (own_or (Ready R A) (Ready S A) e front front (begins_where R S A f front) b)
 
   -- one piece that is the whole word
-  pub halts_alone : ((w : W) → adds w [] w) → (A : List ℕ → Type 0) (piece : List ℕ) → A piece →
+  pub halts-alone : ((w : W) → adds w [] w) → (A : List ℕ → Type 0) (piece : List ℕ) → A piece →
       (N : EncodeError → Type 0) (before after : W) (e : EncodeError) → refuses before piece e after → Halts adds refuses A N before after e
-  halts_alone none A piece a N before after e r = by_writer [] piece before (none before) r (λ some h. ([], subst A (sym (append-nil piece)) a))
+  halts-alone none A piece a N before after e r = by_writer [] piece before (none before) r (λ some h. ([], subst A (sym (append-nil piece)) a))
 
   -- pieces whose join is the whole word
-  pub halts_among : (A : List ℕ → Type 0) (pieces : List (List ℕ)) → A (joined pieces) →
+  pub halts-among : (A : List ℕ → Type 0) (pieces : List (List ℕ)) → A (joined pieces) →
       (N : EncodeError → Type 0) (before after : W) (e : EncodeError) → StopsAmong adds refuses pieces before e after →
       Halts adds refuses A N before after e
-  halts_among A pieces a N before after e s =
+  halts-among A pieces a N before after e s =
       by_writer (joined s.written) s.piece s.middle s.added s.refused
-      (λ some h. (joined s.others, subst A (ap joined s.pieces_are ∙ joined-append s.written (s.piece ∷ s.others) ∙ sym (append_assoc (joined s.written) s.piece (joined s.others))) a))
+      (λ some h. (joined s.others, subst A (ap joined s.pieces_are ∙ joined_append s.written (s.piece ∷ s.others) ∙ sym (append_assoc (joined s.written) s.piece (joined s.others))) a))
     where
-      joined-append : (x y : List (List ℕ)) → joined (x ++ y) ≡ joined x ++ joined y
-      joined-append [] y = refl
-      joined-append (p ∷ x) y = ap (λ z. p ++ z) (joined-append x y) ∙ sym (append_assoc p (joined x) (joined y))
+      joined_append : (x y : List (List ℕ)) → joined (x ++ y) ≡ joined x ++ joined y
+      joined_append [] y = refl
+      joined_append (p ∷ x) y = ap (λ z. p ++ z) (joined_append x y) ∙ sym (append_assoc p (joined x) (joined y))
 
 -- A whole whose words are those of two parts in turn, and that can be written where they can.
 module _ {R S U : Type 0} (pair : R → S → U) (split : U → R × S) {A B C : List ℕ → Type 0} (to : (bytes : List ℕ) → Both A B bytes → C bytes) (from : (bytes : List ℕ) → C bytes → Both A B bytes) where
@@ -115,14 +115,14 @@ module _ {R S U : Type 0} (pair : R → S → U) (split : U → R × S) {A B C :
 
   module _ {W : Type 0} (adds : Adds W) (refuses : Refuses W) (N M K : EncodeError → Type 0) (e : EncodeError) (more : N e ⊎ M e → K e) where
     -- where its first part halts, it does
-    pub halts_in_first : (before after : W) → Halts adds refuses (Ready R A) N before after e → Halts adds refuses (Ready U C) K before after e
-    halts_in_first before after h =
-        halts_same adds refuses (Both (Ready R A) (Ready S B)) (Ready U C) K before after e whole_ready parts_ready
-        (halts_named adds refuses (Both (Ready R A) (Ready S B)) (λ d. N d ⊎ M d) K before after e more (halts_first adds refuses (Ready R A) (Ready S B) N M before after e h))
+    pub halts-in_first : (before after : W) → Halts adds refuses (Ready R A) N before after e → Halts adds refuses (Ready U C) K before after e
+    halts-in_first before after h =
+        halts-same adds refuses (Both (Ready R A) (Ready S B)) (Ready U C) K before after e whole_ready parts_ready
+        (halts-named adds refuses (Both (Ready R A) (Ready S B)) (λ d. N d ⊎ M d) K before after e more (halts-first adds refuses (Ready R A) (Ready S B) N M before after e h))
 
     -- and where the second does
-    pub halts_in_next : ((a b c : W) (x y : List ℕ) → adds a x b → adds b y c → adds a (x ++ y) c) → (before between after : W) →
+    pub halts-in_next : ((a b c : W) (x y : List ℕ) → adds a x b → adds b y c → adds a (x ++ y) c) → (before between after : W) →
         Writes adds A before between → Halts adds refuses (Ready S B) M between after e → Halts adds refuses (Ready U C) K before after e
-    halts_in_next join before between after v h =
-        halts_same adds refuses (Both (Ready R A) (Ready S B)) (Ready U C) K before after e whole_ready parts_ready
-        (halts_named adds refuses (Both (Ready R A) (Ready S B)) (λ d. N d ⊎ M d) K before after e more (halts_next adds refuses join R A (Ready S B) N M before between after e v h))
+    halts-in_next join before between after v h =
+        halts-same adds refuses (Both (Ready R A) (Ready S B)) (Ready U C) K before after e whole_ready parts_ready
+        (halts-named adds refuses (Both (Ready R A) (Ready S B)) (λ d. N d ⊎ M d) K before after e more (halts-next adds refuses join R A (Ready S B) N M before between after e v h))

@@ -21,7 +21,7 @@ use Rattle.bincode_format.specs.Cells.{HasWord}
 use Rattle.bincode_format.specs.Forms.{Form, numbers, numbers_not_zero, bytes, unsigned_numbers, signed_bytes, signed_numbers}
 use Rattle.bincode_format.specs.Forms.{bytes_not_zero, unsigned_not_zero, signed_bytes_not_zero, signed_not_zero, truths}
 use Rattle.bincode_laws.specs.CellLaws.{cell-has_word}
-use Rattle.bincode_laws.specs.AllowedLaws.{one_natural}
+use Rattle.bincode_laws.specs.AllowedLaws.{natural-one}
 use Rattle.bincode_laws.specs.SpelledLaws.{unsigned-spelled, byte-spelled, signed-spelled, signed_byte-spelled, truth-spelled, number-not_zero}
 
 pub record FormLaws {A : Type 0} (form : Form A) : Type 0 where
@@ -37,18 +37,18 @@ pub record Numerals {A : Type 0} (Bounds : A → Type 0) (integer : A → ℤ) (
   pub balanced : (s : Setting) → Balanced (F s)
   pub spelled : (s : Setting) (n : A) → Bounds n → Spelled (IsNumber (integer n)) (map_format (λ k. Number (integer k)) (F s))
 
-pub above_one : (width : ℕ) → IsWidth width → 1 < 256 ^ width
-above_one width (Two e) = rw e (omega arith)
-above_one width (Four e) = rw e (omega arith)
-above_one width (Eight e) = rw e (omega arith)
-above_one width (Sixteen e) = rw e (omega arith)
+pub width-above_one : (width : ℕ) → IsWidth width → 1 < 256 ^ width
+width-above_one width (Two e) = rw e (omega arith)
+width-above_one width (Four e) = rw e (omega arith)
+width-above_one width (Eight e) = rw e (omega arith)
+width-above_one width (Sixteen e) = rw e (omega arith)
 
-pub above_one_signed : (w : Width) → FitsSigned w (pos 1)
-above_one_signed w8 = omega arith
-above_one_signed w16 = omega arith
-above_one_signed w32 = omega arith
-above_one_signed w64 = omega arith
-above_one_signed w128 = omega arith
+pub signed-above_one : (w : Width) → FitsSigned w (pos 1)
+signed-above_one w8 = omega arith
+signed-above_one w16 = omega arith
+signed-above_one w32 = omega arith
+signed-above_one w64 = omega arith
+signed-above_one w128 = omega arith
 
 pub byte-numerals : Numerals (λ n. n < 2 ^ 8) pos (λ s. unsigned_byte)
 byte-numerals = record { lawful = λ s. unsigned_byte-lawful; balanced = λ s. unsigned_byte-balanced; spelled = λ s n h. byte-spelled n h }
@@ -71,8 +71,8 @@ signed-numerals name w more = record {
 }
 
 module _ {A B : Type 0} (integer : A → ℤ) (Bounds : A → Type 0) (F : Setting → Format A) (get : B → A) (p : Numerals Bounds integer F) (some : A) (bounded : Bounds some) where
-  numbers-laws : FormLaws (numbers integer Bounds F get)
-  numbers-laws = record {
+  numbers_laws : FormLaws (numbers integer Bounds F get)
+  numbers_laws = record {
     lawful = λ s. map-lawful _ _ (p.lawful s);
     balanced = λ s. map-balanced _ _ (p.balanced s);
     spelled = λ s v h. p.spelled s (get v) h;
@@ -80,8 +80,8 @@ module _ {A B : Type 0} (integer : A → ℤ) (Bounds : A → Type 0) (F : Setti
     some_word = λ s. cell-has_word _ (map-lawful _ _ (p.lawful s)) _ (p.spelled s some bounded).has_word;
   }
 
-  numbers_not_zero-laws : ((a b : A) → integer a ≡ integer b → a ≡ b) → (size : A → ℕ) → 0 < size some → (name : IntegerType) → FormLaws (numbers_not_zero integer Bounds F get size name)
-  numbers_not_zero-laws one size above name = record {
+  numbers_not_zero_laws : ((a b : A) → integer a ≡ integer b → a ≡ b) → (size : A → ℕ) → 0 < size some → (name : IntegerType) → FormLaws (numbers_not_zero integer Bounds F get size name)
+  numbers_not_zero_laws one size above name = record {
     lawful = λ s. map-lawful _ _ (not_zero-lawful size name (F s) (p.lawful s));
     balanced = λ s. map-balanced _ _ (not_zero-balanced size name (F s) (p.balanced s));
     spelled = λ s v h. number-not_zero integer one size name (F s) (get v) h.1 (p.spelled s (get v) h.0);
@@ -90,31 +90,31 @@ module _ {A B : Type 0} (integer : A → ℤ) (Bounds : A → Type 0) (F : Setti
   }
 
 pub bytes-laws : FormLaws bytes
-bytes-laws = numbers-laws pos (λ n. n < 2 ^ 8) (λ s. unsigned_byte) (λ n. n) byte-numerals 1 (omega arith)
+bytes-laws = numbers_laws pos (λ n. n < 2 ^ 8) (λ s. unsigned_byte) (λ n. n) byte-numerals 1 (omega arith)
 
 pub unsigned_numbers-laws : (name : IntegerType) (width : ℕ) → IsWidth width → FormLaws (unsigned_numbers name width)
-unsigned_numbers-laws name width w = numbers-laws pos (λ n. n < 256 ^ width) (unsigned name width) (λ n. n) (unsigned-numerals name width w) 1 (above_one width w)
+unsigned_numbers-laws name width w = numbers_laws pos (λ n. n < 256 ^ width) (unsigned name width) (λ n. n) (unsigned-numerals name width w) 1 (width-above_one width w)
 
 pub signed_bytes-laws : FormLaws signed_bytes
-signed_bytes-laws = numbers-laws (λ z. z) (FitsSigned w8) (λ s. signed_byte) (λ z. z) signed_byte-numerals (pos 1) (omega arith)
+signed_bytes-laws = numbers_laws (λ z. z) (FitsSigned w8) (λ s. signed_byte) (λ z. z) signed_byte-numerals (pos 1) (omega arith)
 
 pub signed_numbers-laws : (name : IntegerType) (w : Width) → IsWidth (width_in_bytes w) → FormLaws (signed_numbers name w)
-signed_numbers-laws name w more = numbers-laws (λ z. z) (FitsSigned w) (signed name (width_in_bytes w)) (λ z. z) (signed-numerals name w more) (pos 1) (above_one_signed w)
+signed_numbers-laws name w more = numbers_laws (λ z. z) (FitsSigned w) (signed name (width_in_bytes w)) (λ z. z) (signed-numerals name w more) (pos 1) (signed-above_one w)
 
 module _ {A : Type 0} where
   pub bytes_not_zero-laws : (get : A → ℕ) → FormLaws (bytes_not_zero get)
-  bytes_not_zero-laws get = numbers_not_zero-laws pos (λ n. n < 2 ^ 8) (λ s. unsigned_byte) get byte-numerals 1 (omega arith) one_natural (λ n. n) (omega arith) U8
+  bytes_not_zero-laws get = numbers_not_zero_laws pos (λ n. n < 2 ^ 8) (λ s. unsigned_byte) get byte-numerals 1 (omega arith) natural-one (λ n. n) (omega arith) U8
 
   pub unsigned_not_zero-laws : (get : A → ℕ) (name : IntegerType) (width : ℕ) → IsWidth width → FormLaws (unsigned_not_zero get name width)
   unsigned_not_zero-laws get name width w =
-      numbers_not_zero-laws pos (λ n. n < 256 ^ width) (unsigned name width) get (unsigned-numerals name width w) 1 (above_one width w) one_natural (λ n. n) (omega arith) name
+      numbers_not_zero_laws pos (λ n. n < 256 ^ width) (unsigned name width) get (unsigned-numerals name width w) 1 (width-above_one width w) natural-one (λ n. n) (omega arith) name
 
   pub signed_bytes_not_zero-laws : (get : A → ℤ) → FormLaws (signed_bytes_not_zero get)
-  signed_bytes_not_zero-laws get = numbers_not_zero-laws (λ z. z) (FitsSigned w8) (λ s. signed_byte) get signed_byte-numerals (pos 1) (omega arith) (λ a b e. e) unsigned_abs (omega arith) I8
+  signed_bytes_not_zero-laws get = numbers_not_zero_laws (λ z. z) (FitsSigned w8) (λ s. signed_byte) get signed_byte-numerals (pos 1) (omega arith) (λ a b e. e) unsigned_abs (omega arith) I8
 
   pub signed_not_zero-laws : (get : A → ℤ) (name : IntegerType) (w : Width) → IsWidth (width_in_bytes w) → FormLaws (signed_not_zero get name w)
   signed_not_zero-laws get name w more =
-      numbers_not_zero-laws (λ z. z) (FitsSigned w) (signed name (width_in_bytes w)) get (signed-numerals name w more) (pos 1) (above_one_signed w) (λ a b e. e) unsigned_abs (omega arith) name
+      numbers_not_zero_laws (λ z. z) (FitsSigned w) (signed name (width_in_bytes w)) get (signed-numerals name w more) (pos 1) (signed-above_one w) (λ a b e. e) unsigned_abs (omega arith) name
 
 pub truths-laws : FormLaws truths
 truths-laws = record {

@@ -15,8 +15,8 @@ use Rattle.bincode_format.specs.Laws.{Begun, BeginsWith, steps_of, IsAnswered, M
 
 module _ {A : Type 0} {F : Format A} where
   -- no word is a proper front of another, and a word has one meaning and one list of steps
-  pub one_word : Lawful F → (a b x y : List ℕ) (m n : A) (s t : List Step) → F.Word a m s → F.Word b n t → a ++ x ≡ b ++ y → (a ≡ b) × (m ≡ n) × (s ≡ t)
-  one_word f a b x y m n s t u v e =
+  pub one-word : Lawful F → (a b x y : List ℕ) (m n : A) (s t : List Step) → F.Word a m s → F.Word b n t → a ++ x ≡ b ++ y → (a ≡ b) × (m ≡ n) × (s ≡ t)
+  one-word f a b x y m n s t u v e =
       let p : Took m x s ≡ Took n y t = sym (f.word_read a x m s u) ∙ ap F.read e ∙ f.word_read b y n t v in
       let q : x ≡ y = cc in
       (append_cancel_right a b x (e ∙ ap (λ z. b ++ z) (sym q)), cc, cc)
@@ -28,8 +28,8 @@ module _ {A : Type 0} {F : Format A} where
       cc
 
   -- an input has one fault
-  pub one_fault : Lawful F → (input : List ℕ) (p q : Fault) (s t : List Step) → F.Faults input p s → F.Faults input q t → (p ≡ q) × (s ≡ t)
-  one_fault f input p q s t h k =
+  pub one-fault : Lawful F → (input : List ℕ) (p q : Fault) (s t : List Step) → F.Faults input p s → F.Faults input q t → (p ≡ q) × (s ≡ t)
+  one-fault f input p q s t h k =
       let e : ◌≡◌ {A = Reading A} (Failed p s) (Failed q t) = sym (f.fault_read input p s h) ∙ f.fault_read input q t k in
       (cc, cc)
 
@@ -431,12 +431,12 @@ Settles (Err why) = ¬ (IsEnd why)
 abbrev pub IsSettling : {A B : Type 0} → (A → Result B Fault) → Type 0
 IsSettling {A} test = (a : A) → Settles (test a)
 
-settled-lawful : {A : Type 0} (r : Result A Fault) → Settles r → Lawful (settled r)
-settled-lawful (Ok a) h = done-lawful a
-settled-lawful (Err why) h = refused-lawful why h
+settled_lawful : {A : Type 0} (r : Result A Fault) → Settles r → Lawful (settled r)
+settled_lawful (Ok a) h = done-lawful a
+settled_lawful (Err why) h = refused-lawful why h
 
 pub test-lawful : {A B : Type 0} (F : Format A) (test : A → Result B Fault) → Lawful F → IsSettling test → Lawful (F >>= λ a. settled (test a))
-test-lawful F test f h = turn-lawful F (λ a. settled (test a)) f (λ a. settled-lawful (test a) (h a))
+test-lawful F test f h = turn-lawful F (λ a. settled (test a)) f (λ a. settled_lawful (test a) (h a))
 
 pub map-lawful : {A B : Type 0} (f : A → B) (F : Format A) → Lawful F → Lawful (map_format f F)
 map-lawful f F h = turn-lawful F (λ a. done (f a)) h (λ a. done-lawful (f a))

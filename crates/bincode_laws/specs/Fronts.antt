@@ -14,5 +14,5 @@ module _ (Writable : Type 0) (Allowed : List ℕ → Type 0) (w : Writable) wher
   begins_or front e (inr b) = inr (begins front b)
 
   -- a front of a word that is ready is one of an allowed word
-  pub front_written : (old new : List ℕ) (e : EncodeError) → FrontWritten (Ready Writable Allowed) old new e → FrontWritten Allowed old new e
-  front_written old new e f = record { front = f.front; fills = f.fills; begins = begins_or f.front e f.begins }
+  pub front-written : (old new : List ℕ) (e : EncodeError) → FrontWritten (Ready Writable Allowed) old new e → FrontWritten Allowed old new e
+  front-written old new e f = record { front = f.front; fills = f.fills; begins = begins_or f.front e f.begins }

@@ -21,7 +21,7 @@ use Rattle.bincode_format.specs.Device.{joined}
 use Rattle.bincode_format.specs.Integers.{digits, first_of, byte, FirstByte, Itself, Before, TooWide, first_byte, behind, unsigned_tag, signed_tag}
 use Rattle.bincode_format.specs.Integers.{shortest, shortest_pieces, varint, number_by, unsigned, integer_by, number_for, signed, unsigned_byte}
 use Rattle.bincode_format.specs.Integers.{signed_byte, spelling, IsWidth, Two, Four, Eight, Sixteen, width_in_bytes}
-use Rattle.bincode_laws.specs.DigitLaws.{length-digits_of, digits_of-are_bytes, number_of-digits_of, number_of_below}
+use Rattle.bincode_laws.specs.DigitLaws.{length-digits_of, digits_of-are_bytes, number_of-digits_of, number_of-below}
 use Rattle.bincode_laws.specs.SignedLaws.{unzigzag-zigzag, from_two_complement-two_complement, integer_by-number_for, number_for-integer_by, number_for-fits, integer_by-fits}
 
 -- a byte is a lawful format
@@ -64,10 +64,10 @@ byte_word b = record {
   second_word = (refl, refl, refl);
 }
 
-behind-lawful : (order : Endianness) (why : Fault) (first : ℕ) (said : FirstByte) → ¬ (IsEnd why) → Lawful (behind order why first said)
-behind-lawful order why first Itself h = done-lawful first
-behind-lawful order why first (Before n) h = digits-lawful order n
-behind-lawful order why first TooWide h = refused-lawful why h
+behind_lawful : (order : Endianness) (why : Fault) (first : ℕ) (said : FirstByte) → ¬ (IsEnd why) → Lawful (behind order why first said)
+behind_lawful order why first Itself h = done-lawful first
+behind_lawful order why first (Before n) h = digits-lawful order n
+behind_lawful order why first TooWide h = refused-lawful why h
 
 module _ (tags : ℕ → IntegerType) (name : IntegerType) (order : Endianness) (width : ℕ) where
   -- a small number is its byte
@@ -103,14 +103,14 @@ module _ (tags : ℕ → IntegerType) (name : IntegerType) (order : Endianness) 
   }
 
 -- the tags that a width has
-pub tag_252 : (width : ℕ) → 4 ≤ width → first_byte width 252 ≡ Before 4
-tag_252 width h = rw (le-leb 4 width h) refl
+pub tag-252 : (width : ℕ) → 4 ≤ width → first_byte width 252 ≡ Before 4
+tag-252 width h = rw (le-leb 4 width h) refl
 
-pub tag_253 : (width : ℕ) → 8 ≤ width → first_byte width 253 ≡ Before 8
-tag_253 width h = rw (le-leb 8 width h) refl
+pub tag-253 : (width : ℕ) → 8 ≤ width → first_byte width 253 ≡ Before 8
+tag-253 width h = rw (le-leb 8 width h) refl
 
-pub tag_254 : (width : ℕ) → 16 ≤ width → first_byte width 254 ≡ Before 16
-tag_254 width h = rw (le-leb 16 width h) refl
+pub tag-254 : (width : ℕ) → 16 ≤ width → first_byte width 254 ≡ Before 16
+tag-254 width h = rw (le-leb 16 width h) refl
 
 at_least_2 : (width : ℕ) → IsWidth width → 2 ≤ width
 at_least_2 width (Two e) = omega (arith, e)
@@ -163,32 +163,32 @@ size_of n = size_by n (cases_lt 250 n) (cases_lt n 65536) (cases_lt n 4294967296
 
 -- the shortest spelling and its pieces, by the size of the number
 module _ (order : Endianness) (n : ℕ) where
-  pub shortest_1 : n ≤ 250 → (shortest order n ≡ n ∷ []) × (shortest_pieces order n ≡ (n ∷ []) ∷ [])
-  shortest_1 h = let a : nat_le n 250 ≡ true = le-leb n 250 h in (rw a refl, rw a refl)
+  pub shortest-1 : n ≤ 250 → (shortest order n ≡ n ∷ []) × (shortest_pieces order n ≡ (n ∷ []) ∷ [])
+  shortest-1 h = let a : nat_le n 250 ≡ true = le-leb n 250 h in (rw a refl, rw a refl)
 
-  pub shortest_3 : 250 < n → n < 65536 → (shortest order n ≡ 251 ∷ digits_of order 2 n) × (shortest_pieces order n ≡ (251 ∷ []) ∷ digits_of order 2 n ∷ [])
-  shortest_3 h k =
+  pub shortest-3 : 250 < n → n < 65536 → (shortest order n ≡ 251 ∷ digits_of order 2 n) × (shortest_pieces order n ≡ (251 ∷ []) ∷ digits_of order 2 n ∷ [])
+  shortest-3 h k =
       let a : nat_le n 250 ≡ false = lt-leb n 250 h in
       let b : nat_lt n 65536 ≡ true = lt-ltb n 65536 k in
       (rw (a, b) refl, rw (a, b) refl)
 
-  pub shortest_5 : 65536 ≤ n → n < 4294967296 → (shortest order n ≡ 252 ∷ digits_of order 4 n) × (shortest_pieces order n ≡ (252 ∷ []) ∷ digits_of order 4 n ∷ [])
-  shortest_5 h k =
+  pub shortest-5 : 65536 ≤ n → n < 4294967296 → (shortest order n ≡ 252 ∷ digits_of order 4 n) × (shortest_pieces order n ≡ (252 ∷ []) ∷ digits_of order 4 n ∷ [])
+  shortest-5 h k =
       let a : nat_le n 250 ≡ false = lt-leb n 250 (omega (arith, h)) in
       let b : nat_lt n 65536 ≡ false = le-ltb n 65536 h in
       let c : nat_lt n 4294967296 ≡ true = lt-ltb n 4294967296 k in
       (rw (a, b, c) refl, rw (a, b, c) refl)
 
-  pub shortest_9 : 4294967296 ≤ n → n < 18446744073709551616 → (shortest order n ≡ 253 ∷ digits_of order 8 n) × (shortest_pieces order n ≡ (253 ∷ []) ∷ digits_of order 8 n ∷ [])
-  shortest_9 h k =
+  pub shortest-9 : 4294967296 ≤ n → n < 18446744073709551616 → (shortest order n ≡ 253 ∷ digits_of order 8 n) × (shortest_pieces order n ≡ (253 ∷ []) ∷ digits_of order 8 n ∷ [])
+  shortest-9 h k =
       let a : nat_le n 250 ≡ false = lt-leb n 250 (omega (arith, h)) in
       let b : nat_lt n 65536 ≡ false = le-ltb n 65536 (omega (arith, h)) in
       let c : nat_lt n 4294967296 ≡ false = le-ltb n 4294967296 h in
       let d : nat_lt n 18446744073709551616 ≡ true = lt-ltb n 18446744073709551616 k in
       (rw (a, b, c, d) refl, rw (a, b, c, d) refl)
 
-  pub shortest_17 : 18446744073709551616 ≤ n → (shortest order n ≡ 254 ∷ digits_of order 16 n) × (shortest_pieces order n ≡ (254 ∷ []) ∷ digits_of order 16 n ∷ [])
-  shortest_17 h =
+  pub shortest-17 : 18446744073709551616 ≤ n → (shortest order n ≡ 254 ∷ digits_of order 16 n) × (shortest_pieces order n ≡ (254 ∷ []) ∷ digits_of order 16 n ∷ [])
+  shortest-17 h =
       let a : nat_le n 250 ≡ false = lt-leb n 250 (omega (arith, h)) in
       let b : nat_lt n 65536 ≡ false = le-ltb n 65536 (omega (arith, h)) in
       let c : nat_lt n 4294967296 ≡ false = le-ltb n 4294967296 (omega (arith, h)) in
@@ -199,50 +199,50 @@ joined_two : (a b : List ℕ) → joined (a ∷ b ∷ []) ≡ a ++ b
 joined_two a b = ap (λ z. a ++ z) (append-nil b)
 
 pieces_by : (order : Endianness) (n : ℕ) → Size n → joined (shortest_pieces order n) ≡ shortest order n
-pieces_by order n (Small h) = let e = shortest_1 order n h in ap joined e.1 ∙ sym e.0
-pieces_by order n (InTwo h k) = let e = shortest_3 order n h k in ap joined e.1 ∙ joined_two (251 ∷ []) (digits_of order 2 n) ∙ sym e.0
-pieces_by order n (InFour h k) = let e = shortest_5 order n h k in ap joined e.1 ∙ joined_two (252 ∷ []) (digits_of order 4 n) ∙ sym e.0
-pieces_by order n (InEight h k) = let e = shortest_9 order n h k in ap joined e.1 ∙ joined_two (253 ∷ []) (digits_of order 8 n) ∙ sym e.0
-pieces_by order n (InSixteen h) = let e = shortest_17 order n h in ap joined e.1 ∙ joined_two (254 ∷ []) (digits_of order 16 n) ∙ sym e.0
+pieces_by order n (Small h) = let e = shortest-1 order n h in ap joined e.1 ∙ sym e.0
+pieces_by order n (InTwo h k) = let e = shortest-3 order n h k in ap joined e.1 ∙ joined_two (251 ∷ []) (digits_of order 2 n) ∙ sym e.0
+pieces_by order n (InFour h k) = let e = shortest-5 order n h k in ap joined e.1 ∙ joined_two (252 ∷ []) (digits_of order 4 n) ∙ sym e.0
+pieces_by order n (InEight h k) = let e = shortest-9 order n h k in ap joined e.1 ∙ joined_two (253 ∷ []) (digits_of order 8 n) ∙ sym e.0
+pieces_by order n (InSixteen h) = let e = shortest-17 order n h in ap joined e.1 ∙ joined_two (254 ∷ []) (digits_of order 16 n) ∙ sym e.0
 
 -- the pieces of the shortest spelling are the spelling
 pub shortest-pieces : (order : Endianness) (n : ℕ) → joined (shortest_pieces order n) ≡ shortest order n
 shortest-pieces order n = pieces_by order n (size_of n)
 
 -- a spelling is bytes
-tagged-are_bytes : (order : Endianness) (tag width n : ℕ) → tag < 256 → All (λ b. b < 256) (tag ∷ digits_of order width n)
-tagged-are_bytes order tag width n h = All-cons (λ b. b < 256) tag (digits_of order width n) h (digits_of-are_bytes order width n)
+tagged_are_bytes : (order : Endianness) (tag width n : ℕ) → tag < 256 → All (λ b. b < 256) (tag ∷ digits_of order width n)
+tagged_are_bytes order tag width n h = All-cons (λ b. b < 256) tag (digits_of order width n) h (digits_of-are_bytes order width n)
 
-shortest-are_bytes : (order : Endianness) (n : ℕ) → Size n → All (λ b. b < 256) (shortest order n)
-shortest-are_bytes order n (Small h) = rw (shortest_1 order n h).0 (All-cons (λ b. b < 256) n [] (omega (arith, h)) (All-nil (λ b. b < 256)))
-shortest-are_bytes order n (InTwo h k) = rw (shortest_3 order n h k).0 (tagged-are_bytes order 251 2 n (omega arith))
-shortest-are_bytes order n (InFour h k) = rw (shortest_5 order n h k).0 (tagged-are_bytes order 252 4 n (omega arith))
-shortest-are_bytes order n (InEight h k) = rw (shortest_9 order n h k).0 (tagged-are_bytes order 253 8 n (omega arith))
-shortest-are_bytes order n (InSixteen h) = rw (shortest_17 order n h).0 (tagged-are_bytes order 254 16 n (omega arith))
+shortest_are_bytes : (order : Endianness) (n : ℕ) → Size n → All (λ b. b < 256) (shortest order n)
+shortest_are_bytes order n (Small h) = rw (shortest-1 order n h).0 (All-cons (λ b. b < 256) n [] (omega (arith, h)) (All-nil (λ b. b < 256)))
+shortest_are_bytes order n (InTwo h k) = rw (shortest-3 order n h k).0 (tagged_are_bytes order 251 2 n (omega arith))
+shortest_are_bytes order n (InFour h k) = rw (shortest-5 order n h k).0 (tagged_are_bytes order 252 4 n (omega arith))
+shortest_are_bytes order n (InEight h k) = rw (shortest-9 order n h k).0 (tagged_are_bytes order 253 8 n (omega arith))
+shortest_are_bytes order n (InSixteen h) = rw (shortest-17 order n h).0 (tagged_are_bytes order 254 16 n (omega arith))
 
 pub spelling-are_bytes : (encoding : IntEncoding) (order : Endianness) (width n : ℕ) → All (λ b. b < 256) (spelling encoding order width n)
 spelling-are_bytes Fixed order width n = digits_of-are_bytes order width n
-spelling-are_bytes Variable order width n = shortest-are_bytes order n (size_of n)
+spelling-are_bytes Variable order width n = shortest_are_bytes order n (size_of n)
 
 module _ (tags : ℕ → IntegerType) (name : IntegerType) (order : Endianness) (width n : ℕ) (w : IsWidth width) (h : n < 256 ^ width) where
   shortest_by : Size n → (varint tags name order width).Word (shortest order n) n []
-  shortest_by (Small a) = rw (shortest_1 order n a).0 (small_word tags name order width n a)
-  shortest_by (InTwo a b) = rw (shortest_3 order n a b).0 (tagged_word tags name order width 251 2 n refl (omega (arith, b)))
-  shortest_by (InFour a b) = rw (shortest_5 order n a b).0 (tagged_word tags name order width 252 4 n (tag_252 width (at_least_4 width n w h a)) (omega (arith, b)))
-  shortest_by (InEight a b) = rw (shortest_9 order n a b).0 (tagged_word tags name order width 253 8 n (tag_253 width (at_least_8 width n w h a)) (omega (arith, b)))
-  shortest_by (InSixteen a) = rw (shortest_17 order n a).0 (tagged_word tags name order width 254 16 n (tag_254 width (at_least_16 width n w h a)) (at_most_16 width n w h))
+  shortest_by (Small a) = rw (shortest-1 order n a).0 (small_word tags name order width n a)
+  shortest_by (InTwo a b) = rw (shortest-3 order n a b).0 (tagged_word tags name order width 251 2 n refl (omega (arith, b)))
+  shortest_by (InFour a b) = rw (shortest-5 order n a b).0 (tagged_word tags name order width 252 4 n (tag-252 width (at_least_4 width n w h a)) (omega (arith, b)))
+  shortest_by (InEight a b) = rw (shortest-9 order n a b).0 (tagged_word tags name order width 253 8 n (tag-253 width (at_least_8 width n w h a)) (omega (arith, b)))
+  shortest_by (InSixteen a) = rw (shortest-17 order n a).0 (tagged_word tags name order width 254 16 n (tag-254 width (at_least_16 width n w h a)) (at_most_16 width n w h))
 
   -- the shortest spelling of a number is a word of it
-  pub shortest_word : (varint tags name order width).Word (shortest order n) n []
-  shortest_word = shortest_by (size_of n)
+  pub shortest-word : (varint tags name order width).Word (shortest order n) n []
+  shortest-word = shortest_by (size_of n)
 
 -- tags and digits are a lawful format
 pub varint-lawful : (tags : ℕ → IntegerType) (name : IntegerType) (order : Endianness) (width : ℕ) → IsWidth width → Lawful (varint tags name order width)
 unfolding varint written_as
 varint-lawful tags name order width w =
     rewritten-lawful _ (byte >>= λ first. behind order (InvalidInteger name (tags first)) first (first_byte width first))
-    (turn-lawful byte (λ first. behind order (InvalidInteger name (tags first)) first (first_byte width first)) byte-lawful (λ first. behind-lawful order (InvalidInteger name (tags first)) first (first_byte width first) (λ k. k)))
-    (λ word n h. ([], subst (λ z. (varint tags name order width).Word z n []) (sym h.1) (shortest_word tags name order width n w h.0)))
+    (turn-lawful byte (λ first. behind order (InvalidInteger name (tags first)) first (first_byte width first)) byte-lawful (λ first. behind_lawful order (InvalidInteger name (tags first)) first (first_byte width first) (λ k. k)))
+    (λ word n h. ([], subst (λ z. (varint tags name order width).Word z n []) (sym h.1) (shortest-word tags name order width n w h.0)))
 
 -- a number in either encoding is a lawful format
 pub number_by-lawful : (tags : ℕ → IntegerType) (name : IntegerType) (order : Endianness) (width : ℕ) (encoding : IntEncoding) → IsWidth width → Lawful (number_by tags name order width encoding)
@@ -355,17 +355,17 @@ pub digits-balanced : (order : Endianness) (width : ℕ) → Balanced (digits or
 unfolding digits
 digits-balanced order width = rewritten-holds 0 0 _ (map_format (number_of order) (raw width)) (map-balanced (number_of order) (raw width) (raw-holds 0 width))
 
-behind-balanced : (order : Endianness) (why : Fault) (first : ℕ) (said : FirstByte) → Balanced (behind order why first said)
-behind-balanced order why first Itself = done-holds 0 first
-behind-balanced order why first (Before n) = digits-balanced order n
-behind-balanced order why first TooWide = refused-holds 0 0 why
+behind_balanced : (order : Endianness) (why : Fault) (first : ℕ) (said : FirstByte) → Balanced (behind order why first said)
+behind_balanced order why first Itself = done-holds 0 first
+behind_balanced order why first (Before n) = digits-balanced order n
+behind_balanced order why first TooWide = refused-holds 0 0 why
 
 -- tags and digits are balanced
 pub varint-balanced : (tags : ℕ → IntegerType) (name : IntegerType) (order : Endianness) (width : ℕ) → Balanced (varint tags name order width)
 unfolding varint
 varint-balanced tags name order width =
     let G : ℕ → Format ℕ = λ first. behind order (InvalidInteger name (tags first)) first (first_byte width first) in
-    rewritten-holds 0 0 _ (byte >>= G) (turn-holds 0 0 0 byte G byte-balanced (λ first. behind-balanced order (InvalidInteger name (tags first)) first (first_byte width first)))
+    rewritten-holds 0 0 _ (byte >>= G) (turn-holds 0 0 0 byte G byte-balanced (λ first. behind_balanced order (InvalidInteger name (tags first)) first (first_byte width first)))
 
 -- a number in either encoding is balanced
 pub number_by-balanced : (tags : ℕ → IntegerType) (name : IntegerType) (order : Endianness) (width : ℕ) (encoding : IntEncoding) → Balanced (number_by tags name order width encoding)
@@ -505,11 +505,11 @@ word_varint tags name order width bytes n s h =
 -- the shortest spelling is no longer than any
 
 length_by : (order : Endianness) (width n : ℕ) → IsWidth width → n < 256 ^ width → Size n → length (shortest order n) ≤ suc width
-length_by order width n w h (Small a) = rw (shortest_1 order n a).0 (omega arith)
-length_by order width n w h (InTwo a b) = rw (shortest_3 order n a b).0 (omega (arith, length-digits_of order 2 n, at_least_2 width w))
-length_by order width n w h (InFour a b) = rw (shortest_5 order n a b).0 (omega (arith, length-digits_of order 4 n, at_least_4 width n w h a))
-length_by order width n w h (InEight a b) = rw (shortest_9 order n a b).0 (omega (arith, length-digits_of order 8 n, at_least_8 width n w h a))
-length_by order width n w h (InSixteen a) = rw (shortest_17 order n a).0 (omega (arith, length-digits_of order 16 n, at_least_16 width n w h a))
+length_by order width n w h (Small a) = rw (shortest-1 order n a).0 (omega arith)
+length_by order width n w h (InTwo a b) = rw (shortest-3 order n a b).0 (omega (arith, length-digits_of order 2 n, at_least_2 width w))
+length_by order width n w h (InFour a b) = rw (shortest-5 order n a b).0 (omega (arith, length-digits_of order 4 n, at_least_4 width n w h a))
+length_by order width n w h (InEight a b) = rw (shortest-9 order n a b).0 (omega (arith, length-digits_of order 8 n, at_least_8 width n w h a))
+length_by order width n w h (InSixteen a) = rw (shortest-17 order n a).0 (omega (arith, length-digits_of order 16 n, at_least_16 width n w h a))
 
 -- the shortest spelling is at most a byte longer than the number
 pub length-shortest : (order : Endianness) (width n : ℕ) → IsWidth width → n < 256 ^ width → length (shortest order n) ≤ suc width
@@ -520,10 +520,10 @@ shortest_behind : (order : Endianness) (why : Fault) (first : ℕ) (said : First
 unfolding done refused
 shortest_behind order why first Itself tail n s t h u =
     let l : n ≤ 250 = rw u.1 t in
-    rw (shortest_1 order n l).0 (omega arith)
+    rw (shortest-1 order n l).0 (omega arith)
 shortest_behind order why first (Before k) tail n s t h u =
     let p = word_digits order k tail n s u in
-    let l : n < 256 ^ k = rw p.1 (number_of_below order k tail p.0 h) in
+    let l : n < 256 ^ k = rw p.1 (number_of-below order k tail p.0 h) in
     let q : length (shortest order n) ≤ suc k = length-shortest order k n t l in
     omega (arith, q, p.0)
 shortest_behind order why first TooWide tail n s t h u = absurd u

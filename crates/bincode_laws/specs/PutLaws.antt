@@ -6,15 +6,15 @@ use Rattle.std.proofs.lemmas.List.{length-take-le, drop-drop, take-append-drop}
 use Rattle.bincode_format.specs.Put.{put}
 
 -- nothing is put
-pub put_none : (n : ℕ) (s : List ℕ) → s ≡ put n [] s
-put_none n s = let e : n + 0 ≡ n = omega arith in rw e (sym (take-append-drop n s))
+pub put-none : (n : ℕ) (s : List ℕ) → s ≡ put n [] s
+put-none n s = let e : n + 0 ≡ n = omega arith in rw e (sym (take-append-drop n s))
 
 seam : (q d y : List ℕ) (m k : ℕ) → length q ≡ m → take m (q ++ d) ++ (y ++ drop (m + k) (q ++ d)) ≡ q ++ (y ++ drop k d)
 seam q d y m k e = rw (← e, take-append_seam q d, drop-append-add q d k) refl
 
 -- one piece after another is their join
-pub put_join : (n : ℕ) (x y s : List ℕ) → n ≤ length s → put (n + length x) y (put n x s) ≡ put n (x ++ y) s
-put_join n x y s h =
+pub put-join : (n : ℕ) (x y s : List ℕ) → n ≤ length s → put (n + length x) y (put n x s) ≡ put n (x ++ y) s
+put-join n x y s h =
     let front : length (take n s ++ x) ≡ n + length x = length-append (take n s) x ∙ ap (λ k. k + length x) (length-take-le n s h) in
     let regroup : take n s ++ (x ++ drop (n + length x) s) ≡ (take n s ++ x) ++ drop (n + length x) s = sym (append_assoc (take n s) x (drop (n + length x) s)) in
     let step = seam (take n s ++ x) (drop (n + length x) s) y (n + length x) (length y) front in

@@ -120,11 +120,11 @@ module _ {A : Type 0} (Allowed : A → List ℕ → Type 0) where
       let b = each-has_word P Q vs f (All-tail P v vs h) (All-tail Q v vs k) in
       record { bytes = a.bytes ++ b.bytes; are_bytes = All-append (λ b. b < 256) a.bytes b.bytes a.are_bytes b.are_bytes; is_allowed = (a.bytes, b.bytes, refl, a.is_allowed, b.is_allowed) }
 
-  none-one_length : OneLength (AllowsEach Allowed [])
-  none-one_length x y a b = ap length (a ∙ sym b)
+  none_one_length : OneLength (AllowsEach Allowed [])
+  none_one_length x y a b = ap length (a ∙ sym b)
 
   pub each-one_length : (P : A → Type 0) (vs : List A) → ((v : A) → P v → OneLength (Allowed v)) → All P vs → OneLength (AllowsEach Allowed vs)
-  each-one_length P [] f h = none-one_length
+  each-one_length P [] f h = none_one_length
   each-one_length P (v ∷ vs) f h = both-one_length (Allowed v) (AllowsEach Allowed vs) (f v (All-head P v vs h)) (each-one_length P vs f (All-tail P v vs h))
 
 -- no word that decodes to what a run decodes to is shorter, if none that decodes to what an element does is
@@ -177,10 +177,10 @@ module _ {A : Type 0} (Means Given : A → Meaning → Type 0) (share : ℕ) (F 
       omega (arith, l, ap length written_is, ap length bytes_are)
 
 -- runs of one meaning are equal, if values are
-pub run_same : {A : Type 0} (Is Is' : A → Meaning → Type 0) (P Q : A → Type 0) (same : A → A → Bool) → ((v w : A) (m : Meaning) → P v → Q w → Is v m → Is' w m → same v w ≡ true) →
+pub run-same : {A : Type 0} (Is Is' : A → Meaning → Type 0) (P Q : A → Type 0) (same : A → A → Bool) → ((v w : A) (m : Meaning) → P v → Q w → Is v m → Is' w m → same v w ≡ true) →
     (vs ws : List A) → All P vs → All Q ws → (m : Meaning) → IsListOf Is vs m → IsListOf Is' ws m → pointwise same vs ws ≡ true
-run_same Is Is' P Q same f [] [] h k m i j = refl
-run_same Is Is' P Q same f [] (w ∷ ws) h k m i j = let e : Nothing ≡ Then j.first j.others = sym i ∙ j.meaning_is in absurd (cc)
-run_same Is Is' P Q same f (v ∷ vs) [] h k m i j = let e : Nothing ≡ Then i.first i.others = sym j ∙ i.meaning_is in absurd (cc)
-run_same Is Is' P Q same f (v ∷ vs) (w ∷ ws) h k m i j =
-    then-same (λ n. f v w n (All-head P v vs h) (All-head Q w ws k)) (run_same Is Is' P Q same f vs ws (All-tail P v vs h) (All-tail Q w ws k)) m i j
+run-same Is Is' P Q same f [] [] h k m i j = refl
+run-same Is Is' P Q same f [] (w ∷ ws) h k m i j = let e : Nothing ≡ Then j.first j.others = sym i ∙ j.meaning_is in absurd (cc)
+run-same Is Is' P Q same f (v ∷ vs) [] h k m i j = let e : Nothing ≡ Then i.first i.others = sym j ∙ i.meaning_is in absurd (cc)
+run-same Is Is' P Q same f (v ∷ vs) (w ∷ ws) h k m i j =
+    then-same (λ n. f v w n (All-head P v vs h) (All-head Q w ws k)) (run-same Is Is' P Q same f vs ws (All-tail P v vs h) (All-tail Q w ws k)) m i j

@@ -50,26 +50,26 @@ weighed_vaguely : (limit : Option ℕ) (c : ℕ) (r : Reading Meaning) → weigh
 weighed_vaguely limit c (Took m rest s) = took_vaguely m rest (charge_behind limit c s)
 weighed_vaguely limit c (Failed why s) = failed_vaguely why (charge_behind limit c s)
 
-answer-unsure : (limit : Option ℕ) (F : Format Meaning) (input : List ℕ) (c : ℕ) → answer limit (unsure F) input c ≡ vague_answer (answer limit F input c)
+answer_unsure : (limit : Option ℕ) (F : Format Meaning) (input : List ℕ) (c : ℕ) → answer limit (unsure F) input c ≡ vague_answer (answer limit F input c)
 unfolding answer unsure
-answer-unsure limit F input c = weighed_vaguely limit c (F.read input)
+answer_unsure limit F input c = weighed_vaguely limit c (F.read input)
 
 -- the error that tells a fault tells it vaguely
-tells-vague : (ended : ℕ → DecodeError → Type 0) (why : Fault) (e : DecodeError) → Tells ended why e → Tells ended (vague why) e
-tells-vague ended (End (Some missing)) e h = (missing, h)
-tells-vague ended (End None) e h = h
-tells-vague ended (InvalidInteger _ _) e h = h
-tells-vague ended (Zero _) e h = h
-tells-vague ended (UnexpectedVariant _ _) e h = h
-tells-vague ended Utf8 e h = h
-tells-vague ended (InvalidChar _) e h = h
-tells-vague ended (InvalidBool _) e h = h
-tells-vague ended (InvalidDuration _ _) e h = h
-tells-vague ended (NulAt _) e h = h
-tells-vague ended (Other _) e h = h
-tells-vague ended (LengthMismatch _ _) e h = h
-tells-vague ended EmptyEnum e h = h
-tells-vague ended (OutsideUsize _) e h = h
+tells_vague : (ended : ℕ → DecodeError → Type 0) (why : Fault) (e : DecodeError) → Tells ended why e → Tells ended (vague why) e
+tells_vague ended (End (Some missing)) e h = (missing, h)
+tells_vague ended (End None) e h = h
+tells_vague ended (InvalidInteger _ _) e h = h
+tells_vague ended (Zero _) e h = h
+tells_vague ended (UnexpectedVariant _ _) e h = h
+tells_vague ended Utf8 e h = h
+tells_vague ended (InvalidChar _) e h = h
+tells_vague ended (InvalidBool _) e h = h
+tells_vague ended (InvalidDuration _ _) e h = h
+tells_vague ended (NulAt _) e h = h
+tells_vague ended (Other _) e h = h
+tells_vague ended (LengthMismatch _ _) e h = h
+tells_vague ended EmptyEnum e h = h
+tells_vague ended (OutsideUsize _) e h = h
 
 -- a claim of room that stands, and one that passes the limit
 reserved_answer : (limit : Option ℕ) (c n d : ℕ) (input : List ℕ) → Claimed limit c n d → answer limit (step (Reserve n)) input c ≡ Gave tt input d
@@ -105,12 +105,12 @@ module _ (limit : Option ℕ) (share : ℕ) (F : Format Meaning) where
   next_behind n PassedLimit = refl
 
   -- one element, whose share is released, and then the others
-  element-then : (n : ℕ) (input : List ℕ) (c : ℕ) → answer limit (elements (suc n) share F) input c ≡ others_behind limit share F n (vague_answer (answer limit F input (unclaimed limit c share)))
-  element-then n input c =
+  element_then : (n : ℕ) (input : List ℕ) (c : ℕ) → answer limit (elements (suc n) share F) input c ≡ others_behind limit share F n (vague_answer (answer limit F input (unclaimed limit c share)))
+  element_then n input c =
       answer-next limit (step (Release share)) (λ _. unsure F >>= λ m. map_format (λ others. m ∷ others) (elements n share F)) input c tt input (unclaimed limit c share) (answer-release limit share input c)
       ∙ answer-then limit (unsure F) (λ m. map_format (λ others. m ∷ others) (elements n share F)) input (unclaimed limit c share)
       ∙ next_behind n (answer limit (unsure F) input (unclaimed limit c share))
-      ∙ ap (others_behind limit share F n) (answer-unsure limit F input (unclaimed limit c share))
+      ∙ ap (others_behind limit share F n) (answer_unsure limit F input (unclaimed limit c share))
 
   behind_push : (ms : List Meaning) (m : Meaning) (a : Answer (List Meaning)) → behind ms (behind (m ∷ []) a) ≡ behind (ms ++ m ∷ []) a
   behind_push ms m (Gave others rest c) = ap (λ z. Gave z rest c) (sym (append_assoc ms (m ∷ []) others))
@@ -121,13 +121,13 @@ module _ (limit : Option ℕ) (share : ℕ) (F : Format Meaning) where
     -- the answer to all, by that to the next element
     so_far : (n : ℕ) (rest : List ℕ) (c : ℕ) (a : Answer Meaning) → ReadSoFar limit share F all input ms (suc n) rest c →
         answer limit F rest (unclaimed limit c share) ≡ a → all ≡ behind ms (others_behind limit share F n (vague_answer a))
-    so_far n rest c a h e = sym h.is_rest ∙ ap (behind ms) (element-then n rest c ∙ ap (λ z. others_behind limit share F n (vague_answer z)) e)
+    so_far n rest c a h e = sym h.is_rest ∙ ap (behind ms) (element_then n rest c ∙ ap (λ z. others_behind limit share F n (vague_answer z)) e)
 
     -- one element more is read
-    pub one_more : Lawful F → Balanced F → (n : ℕ) (rest : List ℕ) (c : ℕ) (m : Meaning) (rest' : List ℕ) (d : ℕ) →
+    pub one-more : Lawful F → Balanced F → (n : ℕ) (rest : List ℕ) (c : ℕ) (m : Meaning) (rest' : List ℕ) (d : ℕ) →
         ReadSoFar limit share F all input ms (suc n) rest c → answer limit F rest (unclaimed limit c share) ≡ Gave m rest' d →
         ReadSoFar limit share F all input (ms ++ m ∷ []) n rest' d
-    one_more f b n rest c m rest' d h e = record {
+    one-more f b n rest c m rest' d h e = record {
       is_rest = sym (so_far n rest c (Gave m rest' d) h e ∙ behind_push ms m (answer limit (elements n share F) rest' d));
       is_reserved = still_reserved limit share F f b n rest c m rest' d h.is_reserved e;
       is_behind = takes-then input rest rest' h.is_behind (gave-takes limit F f rest (unclaimed limit c share) m rest' d e);
@@ -139,15 +139,15 @@ module _ (limit : Option ℕ) (share : ℕ) (F : Format Meaning) where
         before ≤ between → ReadSoFar limit share F all input ms (suc n) rest c →
         Stops ended device H (answer limit F rest (unclaimed limit c share)) between after rest rest' e → Stops ended device H all before after input rest' e
     one_stops ended device H n rest c before between after rest' e le h (by_fault why a t k) =
-        by_fault (vague why) (so_far n rest c (Refused why) h a) (tells-vague ended why e t) (takes-then input rest rest' h.is_behind k)
+        by_fault (vague why) (so_far n rest c (Refused why) h a) (tells_vague ended why e t) (takes-then input rest rest' h.is_behind k)
     one_stops ended device H n rest c before between after rest' e le h (by_limit a t k) = by_limit (so_far n rest c PassedLimit h a) t (takes-then input rest rest' h.is_behind k)
     one_stops ended device H n rest c before between after rest' e le h (by_memory g t k) = by_memory g t (takes-then input rest rest' h.is_behind k)
     one_stops ended device H n rest c before between after rest' e le h (by_failure d r k) = by_failure d (rose-then before between after le r) (takes-then input rest rest' h.is_behind k)
     one_stops ended device H n rest c before between after rest' e le h (by_device g) = by_device g
 
     -- all is read
-    pub all_read : (rest : List ℕ) (c : ℕ) → ReadSoFar limit share F all input ms 0 rest c → all ≡ Gave ms rest c
-    all_read rest c h = sym h.is_rest ∙ ap (behind ms) (answer-done limit [] rest c) ∙ ap (λ z. Gave z rest c) (append-nil ms)
+    pub all-read : (rest : List ℕ) (c : ℕ) → ReadSoFar limit share F all input ms 0 rest c → all ≡ Gave ms rest c
+    all-read rest c h = sym h.is_rest ∙ ap (behind ms) (answer-done limit [] rest c) ∙ ap (λ z. Gave z rest c) (append-nil ms)
 
   behind_none : (a : Answer (List Meaning)) → behind [] a ≡ a
   behind_none (Gave others rest c) = refl
@@ -155,8 +155,8 @@ module _ (limit : Option ℕ) (share : ℕ) (F : Format Meaning) where
   behind_none PassedLimit = refl
 
   -- nothing is read yet
-  pub none_read : (n : ℕ) (input : List ℕ) (c : ℕ) → CanRelease limit c (n * share) → ReadSoFar limit share F (answer limit (elements n share F) input c) input [] n input c
-  none_read n input c h = record { is_rest = behind_none (answer limit (elements n share F) input c); is_reserved = h; is_behind = ([], refl) }
+  pub none-read : (n : ℕ) (input : List ℕ) (c : ℕ) → CanRelease limit c (n * share) → ReadSoFar limit share F (answer limit (elements n share F) input c) input [] n input c
+  none-read n input c h = record { is_rest = behind_none (answer limit (elements n share F) input c); is_reserved = h; is_behind = ([], refl) }
 
   -- an array, behind the claim of its elements
   module _ (n : ℕ) (input : List ℕ) (c d : ℕ) where
@@ -204,16 +204,16 @@ held-more None share n start c d h le = omega arith
 held-more (Some limit) share n start c d h le = let k : (n + 1) * share ≡ n * share + share = omega arith in omega arith
 
 -- one value more
-pub is_list_push : {A : Type 0} (Is : A → Meaning → Type 0) (vs : List A) (ms : List Meaning) (v : A) (m : Meaning) → IsListOf Is vs (listed ms) →
+pub is_list-push : {A : Type 0} (Is : A → Meaning → Type 0) (vs : List A) (ms : List Meaning) (v : A) (m : Meaning) → IsListOf Is vs (listed ms) →
     Is v m → IsListOf Is (vs ++ v ∷ []) (listed (ms ++ m ∷ []))
-is_list_push Is [] [] v m h k = record { first = m; others = Nothing; meaning_is = refl; is_first = k; are_others = refl }
-is_list_push Is [] (n ∷ ms) v m h k = absurd (cc)
-is_list_push Is (w ∷ vs) [] v m h k = let e = h.meaning_is in absurd (cc)
-is_list_push Is (w ∷ vs) (n ∷ ms) v m h k =
+is_list-push Is [] [] v m h k = record { first = m; others = Nothing; meaning_is = refl; is_first = k; are_others = refl }
+is_list-push Is [] (n ∷ ms) v m h k = absurd (cc)
+is_list-push Is (w ∷ vs) [] v m h k = let e = h.meaning_is in absurd (cc)
+is_list-push Is (w ∷ vs) (n ∷ ms) v m h k =
     let e = h.meaning_is in
     let a : h.first ≡ n = cc in
     let b : h.others ≡ listed ms = cc in
-    record { first = n; others = listed (ms ++ m ∷ []); meaning_is = refl; is_first = subst (Is w) a h.is_first; are_others = is_list_push Is vs ms v m (subst (IsListOf Is vs) b h.are_others) k }
+    record { first = n; others = listed (ms ++ m ∷ []); meaning_is = refl; is_first = subst (Is w) a h.is_first; are_others = is_list-push Is vs ms v m (subst (IsListOf Is vs) b h.are_others) k }
 
 -- what is read from a charge that holds the room of a run gives it back
 pub run-returns : {A : Type 0} (limit : Option ℕ) (n share : ℕ) (F : Format A) → Lawful F → Balanced F →

@@ -12,7 +12,7 @@ use Rattle.bincode_format.specs.Fault.{Fault}
 use Rattle.bincode_format.specs.Charge.{Step}
 use Rattle.bincode_format.specs.Format.{Format, done, refused, settled, ◌>>=◌, map_format}
 use Rattle.bincode_format.specs.Laws.{Lawful}
-use Rattle.bincode_laws.specs.FormatLaws.{one_word, map-lawful}
+use Rattle.bincode_laws.specs.FormatLaws.{one-word, map-lawful}
 use Rattle.bincode_format.specs.Integers.{number_for, unsigned, signed, unsigned_byte, signed_byte, spelling}
 use Rattle.bincode_laws.specs.SignedLaws.{two_complement-fits}
 use Rattle.bincode_format.specs.Integers.{IsWidth, width_in_bytes}
@@ -21,7 +21,7 @@ use Rattle.bincode_format.specs.Meaning.{Meaning, Number, IsTruth, IsNumber, IsN
 use Rattle.bincode_format.specs.Words.{natural, integral, not_zero_of, not_zero_by, truth_byte, truth, nothing}
 use Rattle.bincode_laws.specs.WordsLaws.{not_zero-passed, truth-lawful}
 use Rattle.bincode_format.specs.Allowed.{AllowedWord, NoneShorter, Spelled}
-use Rattle.bincode_laws.specs.AllowedLaws.{one_natural, allowed-number, unsigned-allows, allowed-unsigned, byte-allows, allowed-byte, signed-allows}
+use Rattle.bincode_laws.specs.AllowedLaws.{natural-one, allowed-number, unsigned-allows, allowed-unsigned, byte-allows, allowed-byte, signed-allows}
 use Rattle.bincode_laws.specs.AllowedLaws.{allowed-signed, signed_byte-allows, allowed-signed_byte, truth-allows, allowed-truth, not_zero-allows}
 use Rattle.bincode_laws.specs.AllowedLaws.{allowed-not_zero, alone-one_length, same-one_length, allowed-nothing}
 
@@ -73,7 +73,7 @@ pub unsigned-spelled : (name : IntegerType) (width n : ℕ) (s : Setting) → n 
 unsigned-spelled name width n s h = record {
   has_word = record { bytes = spelling s.encoding s.order width n; are_bytes = spelling-are_bytes s.encoding s.order width n; is_allowed = unsigned-allows name width n s h };
   one_length = alone-one_length _ (spelling s.encoding s.order width n) (allowed-unsigned name width n s);
-  none_shorter = number-none_shorter pos one_natural (unsigned name width s) n (unsigned-least name width n s);
+  none_shorter = number-none_shorter pos natural-one (unsigned name width s) n (unsigned-least name width n s);
 }
 
 pub signed-spelled : (name : IntegerType) (w : Width) (z : ℤ) (s : Setting) → IsWidth (width_in_bytes w) → FitsSigned w z → Spelled (IsNumber z) (integral (signed name (width_in_bytes w) s))
@@ -89,7 +89,7 @@ signed-spelled name w z s more h =
 not_shorter : (P : Meaning → Type 0) (F : Format Meaning) → Lawful F → ((bytes : List ℕ) → AllowedWord P F bytes → length bytes ≡ 1) → NoneShorter P P F
 not_shorter P F f one written [] m s w h u e =
     let p = f.written_is_word written w.meaning w.is_written in
-    let q : [] ≡ written = (one_word f [] written written [] m w.meaning s p.0 u p.1 (sym (append-nil written))).0 in
+    let q : [] ≡ written = (one-word f [] written written [] m w.meaning s p.0 u p.1 (sym (append-nil written))).0 in
     omega (arith, ap length q)
 not_shorter P F f one written (b ∷ bytes) m s w h u e = omega (arith, one written w)
 
@@ -110,12 +110,12 @@ signed_byte-spelled z h =
     one_byte-spelled (IsNumber z) (integral signed_byte) (two_complement 1 z) (map-lawful _ signed_byte signed_byte-lawful)
     (two_complement-fits 1 z (FitsIn-from_signed w8 z h)) (signed_byte-allows z (FitsIn-from_signed w8 z h)) (allowed-signed_byte z)
 
-truth_byte-is_byte : (v : Bool) → truth_byte v < 256
-truth_byte-is_byte true = omega arith
-truth_byte-is_byte false = omega arith
+truth_byte_is_byte : (v : Bool) → truth_byte v < 256
+truth_byte_is_byte true = omega arith
+truth_byte_is_byte false = omega arith
 
 pub truth-spelled : (v : Bool) → Spelled (IsTruth v) truth
-truth-spelled v = one_byte-spelled (IsTruth v) truth (truth_byte v) truth-lawful (truth_byte-is_byte v) (truth-allows v) (λ bytes a. ap length (allowed-truth v bytes a))
+truth-spelled v = one_byte-spelled (IsTruth v) truth (truth_byte v) truth-lawful (truth_byte_is_byte v) (truth-allows v) (λ bytes a. ap length (allowed-truth v bytes a))
 
 module _ {A : Type 0} (integer : A → ℤ) (one : (a b : A) → integer a ≡ integer b → a ≡ b) (size : A → ℕ) (name : IntegerType) (F : Format A) (a : A) where
   word_not_zero : (bytes : List ℕ) (m : Meaning) (s : List Step) → (map_format (λ k. Number (integer k)) (not_zero_by size name F)).Word bytes m s →

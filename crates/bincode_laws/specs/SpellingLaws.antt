@@ -22,9 +22,9 @@ pub record SpellingLaws (width : ℕ) {A : Type 0} (spelling : Spelling A) : Typ
   pub pieces_join : (order : Endianness) (encoding : IntEncoding) (a : A) → joined (spelling.pieces order encoding a) ≡ spelling.written order encoding a
   pub is_written : (s : Setting) (a : A) → spelling.Fits a → (spelling.words s).Written (spelling.written s.order s.encoding a) a
 
-pub joined_spelling : (order : Endianness) (width : ℕ) (encoding : IntEncoding) (n : ℕ) → joined (spelling_pieces encoding order width n) ≡ spelling encoding order width n
-joined_spelling order width Fixed n = append-nil (digits_of order width n)
-joined_spelling order width Variable n = shortest-pieces order n
+pub joined-spelling : (order : Endianness) (width : ℕ) (encoding : IntEncoding) (n : ℕ) → joined (spelling_pieces encoding order width n) ≡ spelling encoding order width n
+joined-spelling order width Fixed n = append-nil (digits_of order width n)
+joined-spelling order width Variable n = shortest-pieces order n
 
 pub unsigned-charged : (name : IntegerType) (width : ℕ) (s : Setting) → unsigned name width s ≡ charged width (number_by unsigned_tag name s.order width s.encoding)
 unfolding unsigned
@@ -40,7 +40,7 @@ pub unsigned_spelling-laws : (name : IntegerType) (width : ℕ) → SpellingLaws
 unsigned_spelling-laws name width = record {
   one = λ a b e. ap unsigned_abs e;
   charged_first = unsigned-charged name width;
-  pieces_join = λ order encoding. joined_spelling order width encoding;
+  pieces_join = λ order encoding. joined-spelling order width encoding;
   is_written = λ s n h. written-unsigned name width n s h;
 }
 
@@ -49,6 +49,6 @@ pub signed_spelling-laws : (name : IntegerType) (width : ℕ) → IsWidth width 
 signed_spelling-laws name width w = record {
   one = λ a b e. e;
   charged_first = signed-charged name width;
-  pieces_join = λ order encoding z. joined_spelling order width encoding (number_for width encoding z);
+  pieces_join = λ order encoding z. joined-spelling order width encoding (number_for width encoding z);
   is_written = λ s z h. written-signed name width z s w h;
 }

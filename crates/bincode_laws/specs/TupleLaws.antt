@@ -98,8 +98,8 @@ then-none_shorter {P} {Q} {P'} {Q'} {F} {others} f g written bytes m s w h u e =
     (λ below. g b.1 u.second t.0 t.1 b.4 below t.3 (subst Q' k e.are_others))
 
 -- and none that decodes to the same
-both-then : {P Q P' Q' : Meaning → Type 0} (m : Meaning) → IsThen P Q m × IsThen P' Q' m → IsThen (λ n. P n × P' n) (λ n. Q n × Q' n) m
-both-then {P} {Q} {P'} {Q'} m b =
+both_then : {P Q P' Q' : Meaning → Type 0} (m : Meaning) → IsThen P Q m × IsThen P' Q' m → IsThen (λ n. P n × P' n) (λ n. Q n × Q' n) m
+both_then {P} {Q} {P'} {Q'} m b =
     let p = b.0 in
     let q = b.1 in
     let e : Then q.first q.others ≡ Then p.first p.others = sym q.meaning_is ∙ p.meaning_is in
@@ -108,7 +108,7 @@ both-then {P} {Q} {P'} {Q'} m b =
     record { first = p.first; others = p.others; meaning_is = p.meaning_is; is_first = (p.is_first, subst P' j q.is_first); are_others = (p.are_others, subst Q' k q.are_others) }
 
 pub then-shortest : {P Q P' Q' : Meaning → Type 0} {F others : Format Meaning} → Shortest P P' F → Shortest Q Q' others → Shortest (IsThen P Q) (IsThen P' Q') (first_and F others)
-then-shortest f g = fewer-none_shorter both-then (λ m h. h) (then-none_shorter f g)
+then-shortest f g = fewer-none_shorter both_then (λ m h. h) (then-none_shorter f g)
 
 -- no parts
 pub units-laws : FormLaws units

@@ -34,12 +34,12 @@ module _ {A : Type 0} (name : IntegerType) (size : ℕ) (a : A) where
   pub not_zero-passed : (b : A) → not_zero_of name size a ≡ Ok b → a ≡ b
   not_zero-passed = passed_by (size == 0)
 
-  not_zero-settles : Settles (not_zero_of name size a)
-  not_zero-settles = settles_by (size == 0)
+  not_zero_settles : Settles (not_zero_of name size a)
+  not_zero_settles = settles_by (size == 0)
 
 -- numbers other than 0 keep the laws
 pub not_zero-lawful : {A : Type 0} (size : A → ℕ) (name : IntegerType) (F : Format A) → Lawful F → Lawful (not_zero_by size name F)
-not_zero-lawful size name F f = test-lawful F (λ a. not_zero_of name (size a) a) f (λ a. not_zero-settles name (size a) a)
+not_zero-lawful size name F f = test-lawful F (λ a. not_zero_of name (size a) a) f (λ a. not_zero_settles name (size a) a)
 
 pub not_zero-balanced : {A : Type 0} (size : A → ℕ) (name : IntegerType) (F : Format A) → Balanced F → Balanced (not_zero_by size name F)
 not_zero-balanced size name F f = test-balanced F (λ a. not_zero_of name (size a) a) f

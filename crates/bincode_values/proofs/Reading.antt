@@ -10,7 +10,7 @@ use Rattle.bincode_format.specs.Meaning.{Meaning, listed}
 use Rattle.bincode_format.specs.Answer.{answer, unclaimed}
 use Rattle.bincode_laws.specs.DecodingLaws.{stops-besides}
 use Rattle.bincode_format.specs.Run.{IsListOf, CanRelease, Held}
-use Rattle.bincode_laws.specs.RunLaws.{ReadSoFar, none_read, one_more, one_stops, all_read, one-releases, others-release, held-none, held-more, is_list_push}
+use Rattle.bincode_laws.specs.RunLaws.{ReadSoFar, none-read, one-more, one_stops, all-read, one-releases, others-release, held-none, held-more, is_list-push}
 use Rattle.bincode_format.specs.Values.{Reads, RunRead}
 use Rattle.bincode_decoder.proofs.Rooms.{held-within}
 
@@ -30,7 +30,7 @@ module _ {D T : Type 0} (told : D → Type 0) (rest : D → List ℕ) (charge fa
   none-so_far h =
       let e : count - 0 ≡ count = omega arith in
       record {
-        known = λ k. (k, [], rw e (none_read limit claim format count (rest old) (charge old) h), refl);
+        known = λ k. (k, [], rw e (none-read limit claim format count (rest old) (charge old) h), refl);
         reserved = rw e h;
         held = held-none limit claim (charge old);
         counted = omega arith;
@@ -47,7 +47,7 @@ module _ {D T : Type 0} (told : D → Type 0) (rest : D → List ℕ) (charge fa
               let s = h.known k in
               record {
                 meaning = s.1;
-                answer_is = all_read limit claim format _ (rest old) s.1 (rest now) (charge now) (rw n at s.2);
+                answer_is = all-read limit claim format _ (rest old) s.1 (rest now) (charge now) (rw n at s.2);
                 is_given = rw e s.3;
               };
           err = λ k. tt;
@@ -74,8 +74,8 @@ module _ {D T : Type 0} (told : D → Type 0) (rest : D → List ℕ) (charge fa
               let p = r.ok s.0 in (
                 r.tells s.0,
                 s.1 ++ p.meaning ∷ [],
-                one_more limit claim format _ (rest old) s.1 f b (count - (read + 1)) (rest now) (charge now) p.meaning (rest after) (charge after) (rw left at s.2) p.answer_is,
-                rw e (is_list_push _ vs s.1 v p.meaning s.3 p.is_given),
+                one-more limit claim format _ (rest old) s.1 f b (count - (read + 1)) (rest now) (charge now) p.meaning (rest after) (charge after) (rw left at s.2) p.answer_is,
+                rw e (is_list-push _ vs s.1 v p.meaning s.3 p.is_given),
               );
           reserved = others-release limit (charge now) claim (count - (read + 1)) (charge after) (rw left at h.reserved) r.held;
           held = held-more limit claim read (charge old) (charge now) (charge after) h.held r.held;

@@ -6,58 +6,58 @@ use Rattle.std.proofs.Math.Nat.{pow-suc, div-div-eq-div-mul}
 use Rattle.std.proofs.lemmas.List.{reverse-append, length-reverse}
 use Rattle.bincode_format.specs.Number.{low_first_number, low_first_digits}
 
-byte_at-div : (i n : ℕ) → (n / 256 ^ i) % 256 ≡ byte_at i n
-byte_at-div zero n = let d : n / 1 ≡ n = omega arith in ap (λ z. z % 256) d
-byte_at-div (suc i) n = refl
+byte_at_div : (i n : ℕ) → (n / 256 ^ i) % 256 ≡ byte_at i n
+byte_at_div zero n = let d : n / 1 ≡ n = omega arith in ap (λ z. z % 256) d
+byte_at_div (suc i) n = refl
 
-div-pow : (i n : ℕ) → (n / 256 ^ i) / 256 ≡ n / 256 ^ suc i
-div-pow i n = div-div-eq-div-mul n (256 ^ i) 256 ∙ ap (λ z. n / z) (sym (pow-suc 256 i))
+div_pow : (i n : ℕ) → (n / 256 ^ i) / 256 ≡ n / 256 ^ suc i
+div_pow i n = div-div-eq-div-mul n (256 ^ i) 256 ∙ ap (λ z. n / z) (sym (pow-suc 256 i))
 
 digits_from : (k i n : ℕ) → low_first_digits k (n / 256 ^ i) ≡ bytes_low_first i k n
 digits_from zero i n = refl
-digits_from (suc k) i n = rw (byte_at-div i n, div-pow i n) (ap (λ z. byte_at i n ∷ z) (digits_from k (suc i) n))
+digits_from (suc k) i n = rw (byte_at_div i n, div_pow i n) (ap (λ z. byte_at i n ∷ z) (digits_from k (suc i) n))
 
 -- its lowest bytes, the lowest first
 pub low_first-std : (k n : ℕ) → bytes_low_first 0 k n ≡ low_first_digits k n
 low_first-std k n = let d : n / 1 ≡ n = omega arith in sym (digits_from k 0 n) ∙ ap (low_first_digits k) d
 
-bytes-snoc : (k i n : ℕ) → bytes_low_first i (suc k) n ≡ bytes_low_first i k n ++ byte_at (i + k) n ∷ []
-bytes-snoc zero i n = let e : i + 0 ≡ i = omega arith in rw e refl
-bytes-snoc (suc k) i n = let e : suc i + k ≡ i + suc k = omega arith in ap (λ z. byte_at i n ∷ z) (bytes-snoc k (suc i) n ∙ ap (λ z. bytes_low_first (suc i) k n ++ byte_at z n ∷ []) e)
+bytes_snoc : (k i n : ℕ) → bytes_low_first i (suc k) n ≡ bytes_low_first i k n ++ byte_at (i + k) n ∷ []
+bytes_snoc zero i n = let e : i + 0 ≡ i = omega arith in rw e refl
+bytes_snoc (suc k) i n = let e : suc i + k ≡ i + suc k = omega arith in ap (λ z. byte_at i n ∷ z) (bytes_snoc k (suc i) n ∙ ap (λ z. bytes_low_first (suc i) k n ++ byte_at z n ∷ []) e)
 
-high_first-reverse : (k n : ℕ) → bytes_high_first k n ≡ reverse (bytes_low_first 0 k n)
-high_first-reverse zero n = refl
-high_first-reverse (suc k) n =
+high_first_reverse : (k n : ℕ) → bytes_high_first k n ≡ reverse (bytes_low_first 0 k n)
+high_first_reverse zero n = refl
+high_first_reverse (suc k) n =
     let e : 0 + k ≡ k = omega arith in
-    let s : bytes_low_first 0 (suc k) n ≡ bytes_low_first 0 k n ++ byte_at k n ∷ [] = bytes-snoc k 0 n ∙ ap (λ z. bytes_low_first 0 k n ++ byte_at z n ∷ []) e in
-    ap (λ z. byte_at k n ∷ z) (high_first-reverse k n) ∙ sym (reverse-append (bytes_low_first 0 k n) (byte_at k n ∷ [])) ∙ ap reverse (sym s)
+    let s : bytes_low_first 0 (suc k) n ≡ bytes_low_first 0 k n ++ byte_at k n ∷ [] = bytes_snoc k 0 n ∙ ap (λ z. bytes_low_first 0 k n ++ byte_at z n ∷ []) e in
+    ap (λ z. byte_at k n ∷ z) (high_first_reverse k n) ∙ sym (reverse-append (bytes_low_first 0 k n) (byte_at k n ∷ [])) ∙ ap reverse (sym s)
 
 -- its lowest bytes, the highest first
 pub high_first-std : (k n : ℕ) → bytes_high_first k n ≡ reverse (low_first_digits k n)
-high_first-std k n = high_first-reverse k n ∙ ap reverse (low_first-std k n)
+high_first-std k n = high_first_reverse k n ∙ ap reverse (low_first-std k n)
 
 -- a sum by its first part, by equal parts, and by a factor
-sum-first : (f : ℕ → ℕ) (k : ℕ) → sum_through f (suc k) ≡ f 0 + sum_through (λ i. f (suc i)) k
-sum-first f zero = refl
-sum-first f (suc k) = let e = sum-first f k in omega arith
+sum_first : (f : ℕ → ℕ) (k : ℕ) → sum_through f (suc k) ≡ f 0 + sum_through (λ i. f (suc i)) k
+sum_first f zero = refl
+sum_first f (suc k) = let e = sum_first f k in omega arith
 
-sum-same : (f g : ℕ → ℕ) (k : ℕ) → ((i : ℕ) → i ≤ k → f i ≡ g i) → sum_through f k ≡ sum_through g k
-sum-same f g zero h = h 0 (omega arith)
-sum-same f g (suc k) h =
-    let e = sum-same f g k (λ i le. h i (omega arith)) in
+sum_same : (f g : ℕ → ℕ) (k : ℕ) → ((i : ℕ) → i ≤ k → f i ≡ g i) → sum_through f k ≡ sum_through g k
+sum_same f g zero h = h 0 (omega arith)
+sum_same f g (suc k) h =
+    let e = sum_same f g k (λ i le. h i (omega arith)) in
     let l : f (suc k) ≡ g (suc k) = h (suc k) (omega arith) in
     omega arith
 
-sum-times : (f : ℕ → ℕ) (k : ℕ) → sum_through (λ i. 256 * f i) k ≡ 256 * sum_through f k
-sum-times f zero = refl
-sum-times f (suc k) = let e = sum-times f k in omega arith
+sum_times : (f : ℕ → ℕ) (k : ℕ) → sum_through (λ i. 256 * f i) k ≡ 256 * sum_through f k
+sum_times f zero = refl
+sum_times f (suc k) = let e = sum_times f k in omega arith
 
-worth-pow : (i b : ℕ) → byte_worth i b ≡ b * 256 ^ i
-worth-pow zero b = let e : b ≡ b * 1 = omega arith in e
-worth-pow (suc i) b = refl
+worth_pow : (i b : ℕ) → byte_worth i b ≡ b * 256 ^ i
+worth_pow zero b = let e : b ≡ b * 1 = omega arith in e
+worth_pow (suc i) b = refl
 
-worth-suc : (i b : ℕ) → byte_worth (suc i) b ≡ 256 * byte_worth i b
-worth-suc i b = rw (worth-pow i b, pow-suc 256 i) (let p = 256 ^ i in grind arith)
+worth_suc : (i b : ℕ) → byte_worth (suc i) b ≡ 256 * byte_worth i b
+worth_suc i b = rw (worth_pow i b, pow-suc 256 i) (let p = 256 ^ i in grind arith)
 
 -- the number with these bytes, the lowest first
 pub from_low_first-std : (k : ℕ) (bytes : List ℕ) → length bytes ≡ suc k → sum_through (λ i. byte_worth i (slice_index bytes i)) k ≡ low_first_number bytes
@@ -66,15 +66,15 @@ from_low_first-std zero (b ∷ []) e = let z : b ≡ b + 256 * 0 = omega arith i
 from_low_first-std zero (b ∷ c ∷ bytes) e = absurd (omega arith)
 from_low_first-std (suc k) (b ∷ bytes) e =
     let l : length bytes ≡ suc k = omega arith in
-    sum-first (λ i. byte_worth i (slice_index (b ∷ bytes) i)) k
-    ∙ ap (λ z. b + z) (sum-same (λ i. byte_worth (suc i) (slice_index bytes i)) (λ i. 256 * byte_worth i (slice_index bytes i)) k (λ i le. worth-suc i (slice_index bytes i))
-    ∙ sum-times (λ i. byte_worth i (slice_index bytes i)) k
+    sum_first (λ i. byte_worth i (slice_index (b ∷ bytes) i)) k
+    ∙ ap (λ z. b + z) (sum_same (λ i. byte_worth (suc i) (slice_index bytes i)) (λ i. 256 * byte_worth i (slice_index bytes i)) k (λ i le. worth_suc i (slice_index bytes i))
+    ∙ sum_times (λ i. byte_worth i (slice_index bytes i)) k
     ∙ ap (λ z. 256 * z) (from_low_first-std k bytes l))
 
-number-snoc : (xs : List ℕ) (b : ℕ) → low_first_number (xs ++ b ∷ []) ≡ low_first_number xs + b * 256 ^ length xs
-number-snoc [] b = let e : b + 256 * 0 ≡ 0 + b * 1 = omega arith in e
-number-snoc (x ∷ xs) b =
-    let e = number-snoc xs b in
+number_snoc : (xs : List ℕ) (b : ℕ) → low_first_number (xs ++ b ∷ []) ≡ low_first_number xs + b * 256 ^ length xs
+number_snoc [] b = let e : b + 256 * 0 ≡ 0 + b * 1 = omega arith in e
+number_snoc (x ∷ xs) b =
+    let e = number_snoc xs b in
     let p : 256 ^ suc (length xs) ≡ 256 ^ length xs * 256 = pow-suc 256 (length xs) in
     rw (e, p) (let q = 256 ^ length xs in grind arith)
 
@@ -86,8 +86,8 @@ from_high_first-std zero (b ∷ c ∷ bytes) e = absurd (omega arith)
 from_high_first-std (suc k) (b ∷ bytes) e =
     let l : length bytes ≡ suc k = omega arith in
     let r : length (reverse bytes) ≡ suc k = length-reverse bytes ∙ l in
-    sum-first (λ i. byte_worth (suc k - i) (slice_index (b ∷ bytes) i)) k
-    ∙ ap (λ z. byte_worth (suc k - 0) b + z) (sum-same (λ i. byte_worth (suc k - suc i) (slice_index bytes i)) (λ i. byte_worth (k - i) (slice_index bytes i)) k (λ i le. let d : suc k - suc i ≡ k - i = omega arith in ap (λ z. byte_worth z (slice_index bytes i)) d)
+    sum_first (λ i. byte_worth (suc k - i) (slice_index (b ∷ bytes) i)) k
+    ∙ ap (λ z. byte_worth (suc k - 0) b + z) (sum_same (λ i. byte_worth (suc k - suc i) (slice_index bytes i)) (λ i. byte_worth (k - i) (slice_index bytes i)) k (λ i le. let d : suc k - suc i ≡ k - i = omega arith in ap (λ z. byte_worth z (slice_index bytes i)) d)
     ∙ from_high_first-std k bytes l)
     ∙ last
   where
@@ -95,7 +95,7 @@ from_high_first-std (suc k) (b ∷ bytes) e =
     last =
         let n : length (reverse bytes) ≡ suc k = length-reverse bytes ∙ omega arith in
         let s : low_first_number (reverse (b ∷ bytes)) ≡ low_first_number (reverse bytes) + b * 256 ^ length (reverse bytes) =
-        ap low_first_number (reverse-append (b ∷ []) bytes) ∙ number-snoc (reverse bytes) b in
+        ap low_first_number (reverse-append (b ∷ []) bytes) ∙ number_snoc (reverse bytes) b in
         let z : suc k - 0 ≡ suc k = omega arith in
         let w : byte_worth (suc k - 0) b ≡ b * 256 ^ suc k = ap (λ i. byte_worth i b) z in
         let t : b * 256 ^ length (reverse bytes) ≡ b * 256 ^ suc k = ap (λ z. b * 256 ^ z) n in

@@ -30,18 +30,18 @@ unfolding raw
 raw-read bytes rest n e = (raw-lawful n).word_read bytes rest bytes [] (e, refl, refl)
 
 -- too few bytes are there
-raw-short : (input : List ℕ) (n : ℕ) → length input < n → (raw n).read input ≡ Failed (End (Some (n - length input))) []
+raw_too_short : (input : List ℕ) (n : ℕ) → length input < n → (raw n).read input ≡ Failed (End (Some (n - length input))) []
 unfolding raw
-raw-short input n h = (raw-lawful n).fault_read input (End (Some (n - length input))) [] (h, refl, refl)
+raw_too_short input n h = (raw-lawful n).fault_read input (End (Some (n - length input))) [] (h, refl, refl)
 
 -- a byte, and digits, are so many bytes as they are
-first_of-index : (bytes : List ℕ) → first_of bytes ≡ slice_index bytes 0
-first_of-index [] = refl
-first_of-index (b ∷ bytes) = refl
+first_of_index : (bytes : List ℕ) → first_of bytes ≡ slice_index bytes 0
+first_of_index [] = refl
+first_of_index (b ∷ bytes) = refl
 
 pub byte-took : (input bytes rest : List ℕ) → (raw 1).read input ≡ Took bytes rest [] → byte.read input ≡ Took (slice_index bytes 0) rest []
 unfolding byte ◌>>=◌ done
-byte-took input bytes rest e = rw (e, first_of-index bytes) refl
+byte-took input bytes rest e = rw (e, first_of_index bytes) refl
 
 pub byte-failed : (input : List ℕ) (why : Fault) → (raw 1).read input ≡ Failed why [] → byte.read input ≡ Failed why []
 unfolding byte ◌>>=◌
@@ -69,7 +69,7 @@ pub raw-misreads : (ended : ℕ → DecodeError → Type 0) (device : DeviceErro
     FallsShort ended rest n e ⊎ (device.uncounted e ⊎ (device.counted e × Rose before after)) → device.uncounted e ⊎ Takes rest rest' →
     Misreads ended device ((raw n).read rest) before after rest rest' e
 raw-misreads ended device rest rest' n before after e why (inl d) = by_device d
-raw-misreads ended device rest rest' n before after e (inl h) (inr t) = by_fault (End (Some (n - length rest))) (raw-short rest n h.0) h.1 t
+raw-misreads ended device rest rest' n before after e (inl h) (inr t) = by_fault (End (Some (n - length rest))) (raw_too_short rest n h.0) h.1 t
 raw-misreads ended device rest rest' n before after e (inr (inl h)) (inr t) = by_device h
 raw-misreads ended device rest rest' n before after e (inr (inr h)) (inr t) = by_failure h.0 h.1 t
 
@@ -94,10 +94,10 @@ no_steps (Took a rest steps) = refl
 no_steps (Failed why steps) = refl
 
 module _ (tags : ℕ → IntegerType) (name : IntegerType) (order : Endianness) (width : ℕ) (input rest : List ℕ) where
-  varint-then : (first : ℕ) → byte.read input ≡ Took first rest [] →
+  varint_then : (first : ℕ) → byte.read input ≡ Took first rest [] →
       (varint tags name order width).read input ≡ (behind order (InvalidInteger name (tags first)) first (first_byte width first)).read rest
   unfolding varint written_as ◌>>=◌
-  varint-then first e = rw e (no_steps ((behind order (InvalidInteger name (tags first)) first (first_byte width first)).read rest))
+  varint_then first e = rw e (no_steps ((behind order (InvalidInteger name (tags first)) first (first_byte width first)).read rest))
 
   pub varint-none : (why : Fault) → byte.read input ≡ Failed why [] → (varint tags name order width).read input ≡ Failed why []
   unfolding varint written_as ◌>>=◌
@@ -106,11 +106,11 @@ module _ (tags : ℕ → IntegerType) (name : IntegerType) (order : Endianness) 
   -- a byte is the number itself
   pub varint-itself : (first n : ℕ) → byte.read input ≡ Took first rest [] → first_byte width first ≡ Itself → n ≡ first → (varint tags name order width).read input ≡ Took n rest []
   unfolding done
-  varint-itself first n e row same = varint-then first e ∙ rw (row, same) refl
+  varint-itself first n e row same = varint_then first e ∙ rw (row, same) refl
 
   -- a tag, and then the digits
   pub varint-digits : (first k : ℕ) → byte.read input ≡ Took first rest [] → first_byte width first ≡ Before k → (varint tags name order width).read input ≡ (digits order k).read rest
-  varint-digits first k e row = varint-then first e ∙ rw row refl
+  varint-digits first k e row = varint_then first e ∙ rw row refl
 
   module _ (ended : ℕ → DecodeError → Type 0) (device : DeviceErrors) where
     -- a tag that is too wide
@@ -119,7 +119,7 @@ module _ (tags : ℕ → IntegerType) (name : IntegerType) (order : Endianness) 
     unfolding refused
     varint-too_wide first before after e b row same =
         let p = byte-lawful.read_word input rest first [] b in
-        by_fault (InvalidInteger name (tags first)) (varint-then first b ∙ rw row refl) same (p.word, p.input_is)
+        by_fault (InvalidInteger name (tags first)) (varint_then first b ∙ rw row refl) same (p.word, p.input_is)
 
     -- digits that are missing
     pub varint-misreads : (first k before between after : ℕ) (rest' : List ℕ) (e : DecodeError) → byte.read input ≡ Took first rest [] → first_byte width first ≡ Before k → before ≤ between →
@@ -173,44 +173,44 @@ module _ {W : Type 0} (adds : W → List ℕ → W → Type 0) (refuses : W → 
 
 -- an integer that is read by its number
 module _ {A B : Type 0} (f : A → B) (F : Format A) where
-  pub mapped_misreads : {T : Type 0} (ended : ℕ → DecodeError → Type 0) (device : DeviceErrors) (before after : ℕ) (input rest : List ℕ) (r : Result T DecodeError) →
+  pub mapped-misreads : {T : Type 0} (ended : ℕ → DecodeError → Type 0) (device : DeviceErrors) (before after : ℕ) (input rest : List ℕ) (r : Result T DecodeError) →
       IfErr r (Misreads ended device (F.read input) before after input rest) → IfErr r (Misreads ended device ((map_format f F).read input) before after input rest)
-  mapped_misreads ended device before after input rest r h = IfErr-weaker r _ _ (λ e k. misreads-more ended device _ _ before after input rest e (map-failed f F input) k) h
+  mapped-misreads ended device before after input rest r h = IfErr-weaker r _ _ (λ e k. misreads-more ended device _ _ before after input rest e (map-failed f F input) k) h
 
-pub signed_took : (w : Width) (f : ℕ → ℤ) (F : Format ℕ) (input rest : List ℕ) (n : ℕ) (z : ℤ) → FitsSigned w z → z ≡ f n →
+pub signed-took : (w : Width) (f : ℕ → ℤ) (F : Format ℕ) (input rest : List ℕ) (n : ℕ) (z : ℤ) → FitsSigned w z → z ≡ f n →
     F.read input ≡ Took n rest [] → (map_format f F).read input ≡ Took (to_z w (of_z w z)) rest []
-signed_took w f F input rest n z fits e h = map-took f F input rest n _ (to_z-of_z w z fits ∙ e) h
+signed-took w f F input rest n z fits e h = map-took f F input rest n _ (to_z-of_z w z fits ∙ e) h
 
 -- an integer that fits its width, read as a wider one and then as one of its own width
-signed-fits : (w : Width) (z : ℤ) → FitsIn (width_in_bytes w) z → FitsSigned w z
-signed-fits w8 (pos n) h = omega arith
-signed-fits w8 (negsuc n) h = omega arith
-signed-fits w16 (pos n) h = omega arith
-signed-fits w16 (negsuc n) h = omega arith
-signed-fits w32 (pos n) h = omega arith
-signed-fits w32 (negsuc n) h = omega arith
-signed-fits w64 (pos n) h = omega arith
-signed-fits w64 (negsuc n) h = omega arith
-signed-fits w128 (pos n) h = omega arith
-signed-fits w128 (negsuc n) h = omega arith
+signed_fits : (w : Width) (z : ℤ) → FitsIn (width_in_bytes w) z → FitsSigned w z
+signed_fits w8 (pos n) h = omega arith
+signed_fits w8 (negsuc n) h = omega arith
+signed_fits w16 (pos n) h = omega arith
+signed_fits w16 (negsuc n) h = omega arith
+signed_fits w32 (pos n) h = omega arith
+signed_fits w32 (negsuc n) h = omega arith
+signed_fits w64 (pos n) h = omega arith
+signed_fits w64 (negsuc n) h = omega arith
+signed_fits w128 (pos n) h = omega arith
+signed_fits w128 (negsuc n) h = omega arith
 
-widest-fits : (w : Width) (z : ℤ) → FitsIn (width_in_bytes w) z → FitsSigned w128 z
-widest-fits w8 (pos n) h = omega arith
-widest-fits w8 (negsuc n) h = omega arith
-widest-fits w16 (pos n) h = omega arith
-widest-fits w16 (negsuc n) h = omega arith
-widest-fits w32 (pos n) h = omega arith
-widest-fits w32 (negsuc n) h = omega arith
-widest-fits w64 (pos n) h = omega arith
-widest-fits w64 (negsuc n) h = omega arith
-widest-fits w128 (pos n) h = omega arith
-widest-fits w128 (negsuc n) h = omega arith
+widest_fits : (w : Width) (z : ℤ) → FitsIn (width_in_bytes w) z → FitsSigned w128 z
+widest_fits w8 (pos n) h = omega arith
+widest_fits w8 (negsuc n) h = omega arith
+widest_fits w16 (pos n) h = omega arith
+widest_fits w16 (negsuc n) h = omega arith
+widest_fits w32 (pos n) h = omega arith
+widest_fits w32 (negsuc n) h = omega arith
+widest_fits w64 (pos n) h = omega arith
+widest_fits w64 (negsuc n) h = omega arith
+widest_fits w128 (pos n) h = omega arith
+widest_fits w128 (negsuc n) h = omega arith
 
 pub narrow-fits : (w : Width) (z : ℤ) → FitsIn (width_in_bytes w) z → FitsSigned w (to_z w128 (of_z w128 z))
-narrow-fits w z h = rw (to_z-of_z w128 z (widest-fits w z h)) (signed-fits w z h)
+narrow-fits w z h = rw (to_z-of_z w128 z (widest_fits w z h)) (signed_fits w z h)
 
 pub narrow-same : (w : Width) (z : ℤ) → FitsIn (width_in_bytes w) z → to_z w (of_z w (to_z w128 (of_z w128 z))) ≡ z
-narrow-same w z h = rw (to_z-of_z w128 z (widest-fits w z h)) (to_z-of_z w z (signed-fits w z h))
+narrow-same w z h = rw (to_z-of_z w128 z (widest_fits w z h)) (to_z-of_z w z (signed_fits w z h))
 
 -- an integer by its bits
 pub to_z-two_complement : (w : Width) (n : ℕ) → to_z w n ≡ from_two_complement (width_in_bytes w) n
@@ -232,16 +232,16 @@ fits-bits w128 n h = search rules
 module _ {W : Type 0} (adds : W → List ℕ → W → Type 0) (refuses : W → List ℕ → EncodeError → W → Type 0) (none : (w : W) → adds w [] w) {T : Type 0}
     (r : Result T EncodeError) (piece : List ℕ) (before after : W) (order : Endianness) (width : ℕ) (encoding : IntEncoding)
     (e : encoding ≡ Fixed) where
-  pub fixed_refused : (n : ℕ) → piece ≡ digits_of order width n → IfErr r (λ e. refuses before piece e after) →
+  pub fixed-refused : (n : ℕ) → piece ≡ digits_of order width n → IfErr r (λ e. refuses before piece e after) →
       IfErr r (λ e. StopsAmong adds refuses (spelling_pieces encoding order width n) before e after)
-  fixed_refused n p h = rw e (IfErr-weaker r _ _ (λ d k. rw (sym p) (stops-first adds refuses none piece [] before after d k)) h)
+  fixed-refused n p h = rw e (IfErr-weaker r _ _ (λ d k. rw (sym p) (stops-first adds refuses none piece [] before after d k)) h)
 
-  pub fixed_signed_refused : (w : Width) (z : ℤ) → FitsSigned w z → piece ≡ digits_of order width (two_complement width (to_z w (of_z w z))) →
+  pub fixed_signed-refused : (w : Width) (z : ℤ) → FitsSigned w z → piece ≡ digits_of order width (two_complement width (to_z w (of_z w z))) →
       IfErr r (λ e. refuses before piece e after) →
       IfErr r (λ e. StopsAmong adds refuses (spelling_pieces encoding order width (number_for width encoding z)) before e after)
-  fixed_signed_refused w z fits p h =
+  fixed_signed-refused w z fits p h =
       let q = p ∙ ap (λ y. digits_of order width (two_complement width y)) (to_z-of_z w z fits) in
       rw e (IfErr-weaker r _ _ (λ d k. rw (sym q) (stops-first adds refuses none piece [] before after d k)) h)
 
 -- for the proofs of numbers
-pub ruleset by_number = (mapped_misreads, signed_took, fixed_refused, fixed_signed_refused)
+pub ruleset by_number = (mapped-misreads, signed-took, fixed-refused, fixed_signed-refused)

@@ -53,7 +53,7 @@ module _ (F : Format Meaning) (f : Lawful F) (b : Balanced F) (limit : Option �
       of_limit e i (passed w.0 w.1 w.2)
 
   -- the error is never that memory was refused
-  pub no_memory : {A : Type 0} (result : Result A DecodeError) → FindsWords F limit Grows input result → TellsFaults F limit Grows input result →
+  pub no-memory : {A : Type 0} (result : Result A DecodeError) → FindsWords F limit Grows input result → TellsFaults F limit Grows input result →
       KeepsLimit F limit Grows input result → IfErr result (λ e. ¬ (e ≡ Memory))
-  no_memory (Ok a) found fault passed = tt
-  no_memory {A} (Err e) found fault passed = by_answer A e found fault passed (answer limit F input 0) refl
+  no-memory (Ok a) found fault passed = tt
+  no-memory {A} (Err e) found fault passed = by_answer A e found fault passed (answer limit F input 0) refl

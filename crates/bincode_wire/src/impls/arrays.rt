@@ -7,7 +7,7 @@ ghost use Rattle.bincode_format.specs.Words.{array};
 ghost use Rattle.bincode_laws.specs.WordsLaws.{array-lawful, array-balanced};
 ghost use Rattle.bincode_format.specs.Run.{IsListOf};
 ghost use Rattle.bincode_laws.specs.RunAllowedLaws.{array-allows, allowed-array, array-some_word, each-has_word};
-ghost use Rattle.bincode_laws.specs.RunAllowedLaws.{each-one_length, array-shortest, run_same};
+ghost use Rattle.bincode_laws.specs.RunAllowedLaws.{each-one_length, array-shortest, run-same};
 ghost use Rattle.bincode_laws.specs.AllowedLaws.{same-one_length};
 
 use crate::laws::{Canonical, Exact, Inhabited, Plain, Writable};
@@ -67,10 +67,10 @@ impl<T: Plain, const N: usize> Plain for [T; N] {
 }
 
 impl<T: Exact, const N: usize> Exact for [T; N] {
-    ghost one_value = { λ v w m h k. run_same T.means T.means T.valid T.valid T.eq T.one_value v w h.1 k.1 m };
+    ghost one_value = { λ v w m h k. run-same T.means T.means T.valid T.valid T.eq T.one_value v w h.1 k.1 m };
 
     ghost comes_back = { λ v w m h.
-        run_same T.means (λ x n. T.given n x) T.valid (λ x. Unit {0}) T.eq
+        run-same T.means (λ x n. T.given n x) T.valid (λ x. Unit {0}) T.eq
         (λ x y n p q. T.comes_back x y n p) v w h.1
         (λ k d lt. tt) m };
 }

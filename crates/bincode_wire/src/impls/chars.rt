@@ -1,6 +1,6 @@
 //! The words of characters.
 ghost use Rattle.bincode_format.specs.Forms.{characters};
-ghost use Rattle.bincode_laws.specs.CharLaws.{characters-laws, same_character};
+ghost use Rattle.bincode_laws.specs.CharLaws.{characters-laws, character-same};
 
 use crate::parted::{Parted, SameParts};
 use crate::scalars::{Alone, Scalar};
@@ -14,7 +14,7 @@ impl Scalar for char {
 
     const SIZE: usize = size_of::<char>();
 
-    ghost same = { same_character };
+    ghost same = { character-same };
 }
 
 impl Parted for char {

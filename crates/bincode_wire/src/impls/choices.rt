@@ -1,6 +1,6 @@
 //! The words of truth values, `Option`, `Result` and `Bound`.
 ghost use Rattle.std.specs.Prelude.{refl};
-ghost use Rattle.bincode_laws.specs.AllowedLaws.{same_truth};
+ghost use Rattle.bincode_laws.specs.AllowedLaws.{truth-same};
 ghost use Rattle.bincode_format.specs.Forms.{truths};
 ghost use Rattle.bincode_laws.specs.FormLaws.{truths-laws};
 
@@ -20,7 +20,7 @@ impl Scalar for bool {
 
     const SIZE: usize = size_of::<bool>();
 
-    ghost same = { same_truth };
+    ghost same = { truth-same };
 }
 
 impl Parted for bool {

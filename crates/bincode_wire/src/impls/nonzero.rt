@@ -7,7 +7,7 @@ ghost use Rattle.std.specs.Int.NonZero.{non_zero_i32_get, non_zero_i64_get, non_
 ghost use Rattle.bincode_base.specs.declared.error.IntegerType.TheVariants.{U16, U32, U64, U128, Usize, I16, I32, I64};
 ghost use Rattle.bincode_base.specs.declared.error.IntegerType.TheVariants.{I128, Isize};
 ghost use Rattle.bincode_format.specs.Integers.{Two, Four, Eight, Sixteen};
-ghost use Rattle.bincode_laws.specs.AllowedLaws.{same_number, same_integer};
+ghost use Rattle.bincode_laws.specs.AllowedLaws.{number-same, integer-same};
 ghost use Rattle.bincode_format.specs.Forms.{bytes_not_zero, unsigned_not_zero, signed_bytes_not_zero, signed_not_zero};
 ghost use Rattle.bincode_laws.specs.FormLaws.{bytes_not_zero-laws, unsigned_not_zero-laws, signed_bytes_not_zero-laws, signed_not_zero-laws};
 
@@ -27,7 +27,7 @@ impl Scalar for NonZeroU8 {
 
     const SIZE: usize = size_of::<NonZeroU8>();
 
-    ghost same = { λ v w. same_number (non_zero_u8_get v) (non_zero_u8_get w) };
+    ghost same = { λ v w. number-same (non_zero_u8_get v) (non_zero_u8_get w) };
 }
 
 impl Parted for NonZeroU8 {
@@ -49,7 +49,7 @@ impl Scalar for NonZeroU16 {
 
     const SIZE: usize = size_of::<NonZeroU16>();
 
-    ghost same = { λ v w. same_number (non_zero_u16_get v) (non_zero_u16_get w) };
+    ghost same = { λ v w. number-same (non_zero_u16_get v) (non_zero_u16_get w) };
 }
 
 impl Parted for NonZeroU16 {
@@ -71,7 +71,7 @@ impl Scalar for NonZeroU32 {
 
     const SIZE: usize = size_of::<NonZeroU32>();
 
-    ghost same = { λ v w. same_number (non_zero_u32_get v) (non_zero_u32_get w) };
+    ghost same = { λ v w. number-same (non_zero_u32_get v) (non_zero_u32_get w) };
 }
 
 impl Parted for NonZeroU32 {
@@ -93,7 +93,7 @@ impl Scalar for NonZeroU64 {
 
     const SIZE: usize = size_of::<NonZeroU64>();
 
-    ghost same = { λ v w. same_number (non_zero_u64_get v) (non_zero_u64_get w) };
+    ghost same = { λ v w. number-same (non_zero_u64_get v) (non_zero_u64_get w) };
 }
 
 impl Parted for NonZeroU64 {
@@ -115,7 +115,7 @@ impl Scalar for NonZeroU128 {
 
     const SIZE: usize = size_of::<NonZeroU128>();
 
-    ghost same = { λ v w. same_number (non_zero_u128_get v) (non_zero_u128_get w) };
+    ghost same = { λ v w. number-same (non_zero_u128_get v) (non_zero_u128_get w) };
 }
 
 impl Parted for NonZeroU128 {
@@ -137,7 +137,7 @@ impl Scalar for NonZeroUsize {
 
     const SIZE: usize = size_of::<NonZeroUsize>();
 
-    ghost same = { λ v w. same_number (non_zero_usize_get v) (non_zero_usize_get w) };
+    ghost same = { λ v w. number-same (non_zero_usize_get v) (non_zero_usize_get w) };
 }
 
 impl Parted for NonZeroUsize {
@@ -159,7 +159,7 @@ impl Scalar for NonZeroI8 {
 
     const SIZE: usize = size_of::<NonZeroI8>();
 
-    ghost same = { λ v w. same_integer (non_zero_i8_get v) (non_zero_i8_get w) };
+    ghost same = { λ v w. integer-same (non_zero_i8_get v) (non_zero_i8_get w) };
 }
 
 impl Parted for NonZeroI8 {
@@ -181,7 +181,7 @@ impl Scalar for NonZeroI16 {
 
     const SIZE: usize = size_of::<NonZeroI16>();
 
-    ghost same = { λ v w. same_integer (non_zero_i16_get v) (non_zero_i16_get w) };
+    ghost same = { λ v w. integer-same (non_zero_i16_get v) (non_zero_i16_get w) };
 }
 
 impl Parted for NonZeroI16 {
@@ -203,7 +203,7 @@ impl Scalar for NonZeroI32 {
 
     const SIZE: usize = size_of::<NonZeroI32>();
 
-    ghost same = { λ v w. same_integer (non_zero_i32_get v) (non_zero_i32_get w) };
+    ghost same = { λ v w. integer-same (non_zero_i32_get v) (non_zero_i32_get w) };
 }
 
 impl Parted for NonZeroI32 {
@@ -225,7 +225,7 @@ impl Scalar for NonZeroI64 {
 
     const SIZE: usize = size_of::<NonZeroI64>();
 
-    ghost same = { λ v w. same_integer (non_zero_i64_get v) (non_zero_i64_get w) };
+    ghost same = { λ v w. integer-same (non_zero_i64_get v) (non_zero_i64_get w) };
 }
 
 impl Parted for NonZeroI64 {
@@ -247,7 +247,7 @@ impl Scalar for NonZeroI128 {
 
     const SIZE: usize = size_of::<NonZeroI128>();
 
-    ghost same = { λ v w. same_integer (non_zero_i128_get v) (non_zero_i128_get w) };
+    ghost same = { λ v w. integer-same (non_zero_i128_get v) (non_zero_i128_get w) };
 }
 
 impl Parted for NonZeroI128 {
@@ -269,7 +269,7 @@ impl Scalar for NonZeroIsize {
 
     const SIZE: usize = size_of::<NonZeroIsize>();
 
-    ghost same = { λ v w. same_integer (non_zero_isize_get v) (non_zero_isize_get w) };
+    ghost same = { λ v w. integer-same (non_zero_isize_get v) (non_zero_isize_get w) };
 }
 
 impl Parted for NonZeroIsize {

@@ -4,7 +4,7 @@ ghost use Rattle.std.specs.Int.{w16, w32, w64, w128};
 ghost use Rattle.bincode_base.specs.declared.error.IntegerType.TheVariants.{U16, U32, U64, U128, Usize, I16, I32, I64};
 ghost use Rattle.bincode_base.specs.declared.error.IntegerType.TheVariants.{I128, Isize};
 ghost use Rattle.bincode_format.specs.Integers.{Two, Four, Eight, Sixteen};
-ghost use Rattle.bincode_laws.specs.AllowedLaws.{same_number, same_integer};
+ghost use Rattle.bincode_laws.specs.AllowedLaws.{number-same, integer-same};
 ghost use Rattle.bincode_format.specs.Forms.{bytes, unsigned_numbers, signed_bytes, signed_numbers};
 ghost use Rattle.bincode_laws.specs.FormLaws.{bytes-laws, unsigned_numbers-laws, signed_bytes-laws, signed_numbers-laws};
 
@@ -20,7 +20,7 @@ impl Scalar for u8 {
 
     const SIZE: usize = size_of::<u8>();
 
-    ghost same = { same_number };
+    ghost same = { number-same };
 }
 
 impl Parted for u8 {
@@ -42,7 +42,7 @@ impl Scalar for u16 {
 
     const SIZE: usize = size_of::<u16>();
 
-    ghost same = { same_number };
+    ghost same = { number-same };
 }
 
 impl Parted for u16 {
@@ -64,7 +64,7 @@ impl Scalar for u32 {
 
     const SIZE: usize = size_of::<u32>();
 
-    ghost same = { same_number };
+    ghost same = { number-same };
 }
 
 impl Parted for u32 {
@@ -86,7 +86,7 @@ impl Scalar for u64 {
 
     const SIZE: usize = size_of::<u64>();
 
-    ghost same = { same_number };
+    ghost same = { number-same };
 }
 
 impl Parted for u64 {
@@ -108,7 +108,7 @@ impl Scalar for u128 {
 
     const SIZE: usize = size_of::<u128>();
 
-    ghost same = { same_number };
+    ghost same = { number-same };
 }
 
 impl Parted for u128 {
@@ -130,7 +130,7 @@ impl Scalar for usize {
 
     const SIZE: usize = size_of::<usize>();
 
-    ghost same = { same_number };
+    ghost same = { number-same };
 }
 
 impl Parted for usize {
@@ -152,7 +152,7 @@ impl Scalar for i8 {
 
     const SIZE: usize = size_of::<i8>();
 
-    ghost same = { same_integer };
+    ghost same = { integer-same };
 }
 
 impl Parted for i8 {
@@ -174,7 +174,7 @@ impl Scalar for i16 {
 
     const SIZE: usize = size_of::<i16>();
 
-    ghost same = { same_integer };
+    ghost same = { integer-same };
 }
 
 impl Parted for i16 {
@@ -196,7 +196,7 @@ impl Scalar for i32 {
 
     const SIZE: usize = size_of::<i32>();
 
-    ghost same = { same_integer };
+    ghost same = { integer-same };
 }
 
 impl Parted for i32 {
@@ -218,7 +218,7 @@ impl Scalar for i64 {
 
     const SIZE: usize = size_of::<i64>();
 
-    ghost same = { same_integer };
+    ghost same = { integer-same };
 }
 
 impl Parted for i64 {
@@ -240,7 +240,7 @@ impl Scalar for i128 {
 
     const SIZE: usize = size_of::<i128>();
 
-    ghost same = { same_integer };
+    ghost same = { integer-same };
 }
 
 impl Parted for i128 {
@@ -262,7 +262,7 @@ impl Scalar for isize {
 
     const SIZE: usize = size_of::<isize>();
 
-    ghost same = { same_integer };
+    ghost same = { integer-same };
 }
 
 impl Parted for isize {

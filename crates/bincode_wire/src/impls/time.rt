@@ -7,7 +7,7 @@ ghost use Rattle.bincode_wire.specs.Durations.{secs_of, nanos_of};
 ghost use Rattle.bincode_laws.specs.AllowedLaws.{both-one_length, same-one_length};
 ghost use Rattle.bincode_laws.specs.SpelledLaws.{unsigned-spelled};
 ghost use Rattle.bincode_laws.specs.DurationLaws.{duration-lawful, duration-balanced, duration-some_word};
-ghost use Rattle.bincode_laws.specs.DurationLaws.{duration-has_word, allowed-duration, nanos_fit, span_same};
+ghost use Rattle.bincode_laws.specs.DurationLaws.{duration-has_word, allowed-duration, nanos-fit, span-same};
 
 use crate::laws::{Exact, Inhabited, Plain, Writable};
 use crate::own::time::Duration;
@@ -55,13 +55,13 @@ impl Plain for Duration {
     ghost one_length = { λ s v h.
         same-one_length _ _ (allowed-duration s (secs_of v) (nanos_of v))
         (both-one_length _ _ (unsigned-spelled U64 8 (secs_of v) s h.0).one_length
-        (unsigned-spelled U32 4 (nanos_of v) s (nanos_fit (nanos_of v) h.1)).one_length) };
+        (unsigned-spelled U32 4 (nanos_of v) s (nanos-fit (nanos_of v) h.1)).one_length) };
 
     ghost names_none = { λ e h. h };
 }
 
 impl Exact for Duration {
-    ghost one_value = { λ v w m h k. span_same (secs_of v) (nanos_of v) (secs_of w) (nanos_of w) m };
+    ghost one_value = { λ v w m h k. span-same (secs_of v) (nanos_of v) (secs_of w) (nanos_of w) m };
 
-    ghost comes_back = { λ v w m h. span_same (secs_of v) (nanos_of v) (secs_of w) (nanos_of w) m };
+    ghost comes_back = { λ v w m h. span-same (secs_of v) (nanos_of v) (secs_of w) (nanos_of w) m };
 }

@@ -1,6 +1,6 @@
 use Rattle.std.proofs.Common.{◌∙◌, refl, arith}
 use Rattle.std.proofs.lemmas.Result.{err_from_is_err_and}
-use Rattle.bincode_encoder.proofs.RunAnswers.{writes_more, writes_array, halts_at, halts_array}
+use Rattle.bincode_encoder.proofs.RunAnswers.{writes-more, writes-array, halts-at, halts_array}
 use Rattle.bincode_encoder.proofs.runs.encode_each.Goals as goal
 
 pub returns-in_err-write_value : goal.returns-in_err-write_value
@@ -9,17 +9,17 @@ returns-in_err-write_value g c =
     let halted = c.in_err-write_value.ensures in
     rw (p.1, p.2) (record {
       ok = tt;
-      err = halts_array _ _ _ _ _ _ _ _ _ _ _ _ refl (halts_at _ _ g.met.E.W.Writer.adds_join (g.V.Value.Wire.writable g.E.C.Config.setting) _ _ _ _ _ c.args.items.now c.loop-item.item-index _ _ (omega arith) c.item-item.is c.loop-item.invariant.0 halted.err);
+      err = halts_array _ _ _ _ _ _ _ _ _ _ _ _ refl (halts-at _ _ g.met.E.W.Writer.adds_join (g.V.Value.Wire.writable g.E.C.Config.setting) _ _ _ _ _ c.args.items.now c.loop-item.item-index _ _ (omega arith) c.item-item.is c.loop-item.invariant.0 halted.err);
       same_place = halted.same_place ∙ c.loop-item.invariant.1;
     })
 
 pub loop-item-preserved : goal.loop-item-preserved
 loop-item-preserved g c =
-    (writes_more _ g.met.E.W.Writer.adds_join _ _ _ _ c.args.items.now c.loop-item.item-index _ (omega arith) c.item-item.is c.loop-item.invariant.0 c.in_ok-write_value.ensures.ok, c.write_value.ensures.same_place ∙ c.loop-item.invariant.1)
+    (writes-more _ g.met.E.W.Writer.adds_join _ _ _ _ c.args.items.now c.loop-item.item-index _ (omega arith) c.item-item.is c.loop-item.invariant.0 c.in_ok-write_value.ensures.ok, c.write_value.ensures.same_place ∙ c.loop-item.invariant.1)
 
 pub returns : goal.returns
 returns g c = record {
-  ok = writes_array _ _ _ _ _ c.loop-item.item-index _ _ _ refl (omega arith) c.loop-item.invariant.0;
+  ok = writes-array _ _ _ _ _ c.loop-item.item-index _ _ _ refl (omega arith) c.loop-item.invariant.0;
   err = tt;
   same_place = c.loop-item.invariant.1;
 }

@@ -1,13 +1,13 @@
 use Rattle.std.proofs.Common.{◌≡◌, ◌∙◌, length, rules}
 use Rattle.std.proofs.lemmas.Result.{err_from_is_err_and}
-use Rattle.bincode_slots.proofs.Taken.{all_filled, same_values}
+use Rattle.bincode_slots.proofs.Taken.{all-filled, values-same}
 use Rattle.bincode_values.proofs.Reading.{read-besides, read-of}
 use Rattle.bincode_values.proofs.arrays.decode_into.Goals as goal
 
 pub unwrap_all-requires : goal.unwrap_all-requires
 unwrap_all-requires g c =
     let f = c.in_ok-decode_slots.ensures in
-    (search rules, (search rules, all_filled f.0 _ _ (search rules) f.1))
+    (search rules, (search rules, all-filled f.0 _ _ (search rules) f.1))
 
 pub returns-in_err-decode_slots : goal.returns-in_err-decode_slots
 returns-in_err-decode_slots g c =
@@ -19,4 +19,4 @@ pub returns : goal.returns
 returns g c =
     let f = c.in_ok-decode_slots.ensures in
     let e : length c.args.slots ≡ g.row.N = search rules in
-    read-of _ _ _ _ _ _ _ _ _ _ _ _ _ _ _ _ _ _ _ _ _ e (same_values _ _ (c.unwrap_all.ensures ∙ f.1)) f.2
+    read-of _ _ _ _ _ _ _ _ _ _ _ _ _ _ _ _ _ _ _ _ _ e (values-same _ _ (c.unwrap_all.ensures ∙ f.1)) f.2

@@ -1,11 +1,11 @@
 use Rattle.std.proofs.Common.{refl}
 use Rattle.bincode_laws.specs.AllowedLaws.{nothing-allows}
-use Rattle.bincode_laws.specs.EncodingLaws.{writes_alone}
+use Rattle.bincode_laws.specs.EncodingLaws.{writes-alone}
 use Rattle.bincode_enc.proofs.impls.tuples.UnitEncode.encode.Goals as goal
 
 pub returns : goal.returns
 returns g c = record {
-  ok = writes_alone _ _ _ _ _ nothing-allows (g.met.Z.W.Writer.adds_none _);
+  ok = writes-alone _ _ _ _ _ nothing-allows (g.met.Z.W.Writer.adds_none _);
   err = tt;
   same_place = refl;
 }
