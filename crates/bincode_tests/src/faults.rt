@@ -5,7 +5,7 @@ use bincode::de::Named;
 use bincode::error::{DecodeError, EncodeError, IntegerType};
 use bincode::text::{ShortText, TypeName};
 use bincode::{NoOther, OneOf, Or};
-use std::alloc::AllocError;
+use std::alloc::{AllocError, Global};
 use std::mem::size_of;
 
 /// A name for a sum whose tags do not stand in order.
@@ -69,15 +69,19 @@ const NAMES: [(IntegerType, &str); 13] = [
     (IntegerType::Reserved, "Reserved"),
 ];
 
+/// Whether the type is printed so.
+fn is_shown(alloc: Global, kind: IntegerType, name: &str) -> bool {
+    let shown: Result<String, AllocError> = format!(in alloc; "{kind:?}");
+    let Ok(text) = shown else {
+        return false;
+    };
+    text.as_str() == name
+}
+
 #[test]
 fn prints_integer_types(rt: HostRuntime) {
     for (kind, name) in NAMES {
-        let shown: Result<String, AllocError> = format!(in rt.alloc(); "{kind:?}");
-        let Ok(text) = shown else {
-            assert!(rt; false, "{name}");
-            return;
-        };
-        assert!(rt; text.as_str() == name, "{name}");
+        assert!(rt; is_shown(rt.alloc(), kind, name), "{name}");
     }
 }
 
