@@ -2,59 +2,30 @@
 
 use bincode::config;
 use bincode::de::read::SliceReader;
-use bincode::de::{ClaimContainer, Decode, Decoder, DecoderImpl, decode_array, decode_vec};
+use bincode::de::{
+    ClaimContainer, Decode, Decoder, DecoderImpl, decode_array, decode_run, decode_vec,
+};
 use bincode::enc::write::SliceWriter;
 use bincode::enc::{Encode, Encoder, EncoderImpl, encode_run};
 use bincode::error::DecodeError;
 use std::process::Abort;
 
-/// Two numbers are written, the second by a reference to the encoder's own.
-fn writes_two_numbers<E: Encoder>(rt: &impl Abort, mut encoder: &mut E) {
+/// A number is written, a run of two, and a number by a reference to the encoder's own.
+fn writes_in_turn<E: Encoder>(rt: &impl Abort, mut encoder: &mut E) {
     assert!(rt; 300u32.encode(encoder).is_ok());
+    assert!(rt; encode_run(&[300u16, 7], encoder).is_ok());
     assert!(rt; 7u8.encode(&mut encoder).is_ok());
 }
 
 #[test]
 fn encodes_in_turn(rt: HostRuntime) {
-    let mut slice = [9u8; 5];
+    let mut slice = [9u8; 9];
     let mut encoder = EncoderImpl::new(SliceWriter::new(&mut slice), config::standard());
-    writes_two_numbers(&rt, &mut encoder);
+    writes_in_turn(&rt, &mut encoder);
     let writer = encoder.into_writer();
-    assert!(rt; writer.bytes_written() == 4);
+    assert!(rt; writer.bytes_written() == 8);
     drop(writer);
-    assert!(rt; slice == [251, 44, 1, 7, 9]);
-}
-
-#[test]
-fn encodes_a_run(rt: HostRuntime) {
-    let mut slice = [9u8; 5];
-    let mut encoder = EncoderImpl::new(SliceWriter::new(&mut slice), config::standard());
-    assert!(rt; encode_run(&[300u16, 7], &mut encoder).is_ok());
-    let writer = encoder.into_writer();
-    assert!(rt; writer.bytes_written() == 4);
-    drop(writer);
-    assert!(rt; slice == [251, 44, 1, 7, 9]);
-}
-
-/// Two numbers behind their room, under a limit of 10 bytes; then two bytes, of which one is there.
-fn reads_runs<D: Decoder<Context = ()>>(rt: &impl Abort, decoder: &mut D) {
-    assert!(rt; decoder.claim_container_read::<u32>(2).is_ok());
-    let pair: Result<Vec<u32>, DecodeError> = decode_vec(decoder, 2);
-    let Ok(pair) = pair else {
-        assert!(rt; false);
-        return;
-    };
-    assert!(rt; pair.as_slice() == [300, 7].as_slice());
-    assert!(rt; decoder.claim_container_read::<u8>(2).is_ok());
-    let outcome: Result<Vec<u8>, DecodeError> = decode_vec(decoder, 2);
-    assert!(rt; matches!(outcome, Err(DecodeError::UnexpectedEnd { .. })));
-}
-
-#[test]
-fn decodes_a_run(rt: HostRuntime) {
-    let ten = config::standard().with_limit::<10>();
-    let reader = SliceReader::new(&[251, 44, 1, 7, 9]);
-    reads_runs(&rt, &mut DecoderImpl::new(rt.alloc(), reader, ten, ()));
+    assert!(rt; slice == [251, 44, 1, 251, 44, 1, 7, 7, 9]);
 }
 
 /// Two numbers are read, the second by a reference to the decoder's own.
@@ -63,31 +34,79 @@ fn reads_two_numbers<D: Decoder<Context = ()>>(rt: &impl Abort, mut decoder: &mu
     assert!(rt; matches!(u8::decode(&mut decoder), Ok(7)));
 }
 
+/// What is read of two bytes, whose room is claimed.
+fn read_vec<D: Decoder<Context = ()>>(decoder: &mut D) -> Result<Vec<u8>, DecodeError> {
+    decoder.claim_container_read::<u8>(2)?;
+    decode_vec(decoder, 2)
+}
+
+/// The same as an array.
+fn read_array<D: Decoder<Context = ()>>(decoder: &mut D) -> Result<[u8; 2], DecodeError> {
+    decoder.claim_container_read::<u8>(2)?;
+    decode_array(decoder)
+}
+
+/// What is read over three values, whose room is claimed.
+fn read_over<D: Decoder<Context = ()>>(decoder: &mut D) -> Result<[u16; 3], DecodeError> {
+    let mut values = [5u16; 3];
+    decoder.claim_container_read::<u16>(3)?;
+    decode_run(decoder, &mut values)?;
+    Ok(values)
+}
+
 #[test]
 fn decodes_in_turn(rt: HostRuntime) {
     let reader = SliceReader::new(&[251, 44, 1, 7]);
-    reads_two_numbers(
-        &rt,
-        &mut DecoderImpl::new(rt.alloc(), reader, config::standard(), ()),
-    );
+    let mut decoder = DecoderImpl::new(rt.alloc(), reader, config::standard(), ());
+    reads_two_numbers(&rt, &mut decoder);
 }
 
-/// Under a limit of 10 bytes, before two bytes: containers are claimed up to it, and what is released can be claimed
-/// again.
-fn claims_up_to_ten<D: Decoder<Context = ()>>(rt: &impl Abort, decoder: &mut D) {
-    assert!(rt; decoder.claim_container_read::<u16>(5).is_ok());
-    decoder.unclaim_bytes_read(4);
-    let pair: Result<[u8; 2], DecodeError> = decode_array(decoder);
-    assert!(rt; matches!(pair, Ok(read) if read == [1, 2]));
-    assert!(rt; decoder.claim_bytes_read(4).is_ok());
-    assert!(rt; matches!(decoder.claim_bytes_read(1), Err(DecodeError::LimitExceeded)));
-    let outcome = decoder.claim_container_read::<u64>(usize::MAX);
-    assert!(rt; matches!(outcome, Err(DecodeError::LimitExceeded)));
+#[test]
+fn decodes_runs(rt: HostRuntime) {
+    let reader = SliceReader::new(&[251, 44, 1, 7, 8, 5, 6, 1, 2, 9]);
+    let ten = config::standard().with_limit::<10>();
+    let mut decoder = DecoderImpl::new(rt.alloc(), reader, ten, ());
+    assert!(rt; matches!(read_over(&mut decoder), Ok(read) if read == [300, 7, 8]));
+    assert!(rt; matches!(read_array(&mut decoder), Ok(read) if read == [5, 6]));
+    let Ok(pair) = read_vec(&mut decoder) else {
+        assert!(rt; false);
+        return;
+    };
+    assert!(rt; pair.as_slice() == [1, 2].as_slice());
+}
+
+/// Under a limit of 10 bytes six are claimed and five more are not; of these eleven three are released.
+fn claims_six_and_not_five<D: Decoder>(rt: &impl Abort, decoder: &mut D) {
+    assert!(rt; decoder.claim_bytes_read(6).is_ok());
+    assert!(rt; matches!(decoder.claim_bytes_read(5), Err(DecodeError::LimitExceeded)));
+    decoder.unclaim_bytes_read(3);
+}
+
+/// What is claimed.
+fn claim<D: Decoder>(decoder: &mut D, n: usize) -> Result<(), DecodeError> {
+    decoder.claim_bytes_read(n)
+}
+
+/// What is claimed for a container of numbers of four bytes that take 2^64.
+fn claim_all<D: Decoder>(decoder: &mut D) -> Result<(), DecodeError> {
+    decoder.claim_container_read::<u32>(1 << 62)
 }
 
 #[test]
 fn claims_and_releases(rt: HostRuntime) {
     let ten = config::standard().with_limit::<10>();
-    let reader = SliceReader::new(&[1, 2]);
-    claims_up_to_ten(&rt, &mut DecoderImpl::new(rt.alloc(), reader, ten, ()));
+    let mut decoder = DecoderImpl::new(rt.alloc(), SliceReader::new(&[]), ten, ());
+    claims_six_and_not_five(&rt, &mut decoder);
+    assert!(rt; claim(&mut decoder, 2).is_ok());
+    assert!(rt;
+        matches!(
+            claim(&mut decoder, usize::MAX),
+            Err(DecodeError::LimitExceeded)
+        )
+    );
+    assert!(rt; claim(&mut decoder, 0).is_ok());
+    assert!(rt; matches!(claim_all(&mut decoder), Err(DecodeError::LimitExceeded)));
+    let free = config::standard();
+    let mut decoder = DecoderImpl::new(rt.alloc(), SliceReader::new(&[]), free, ());
+    assert!(rt; claim_all(&mut decoder).is_ok());
 }

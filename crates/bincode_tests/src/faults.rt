@@ -1,50 +1,12 @@
 //! Faults of decoding, with their fields.
 
+use crate::checks::fault_of;
 use bincode::de::Named;
 use bincode::error::{DecodeError, EncodeError, IntegerType};
 use bincode::text::{ShortText, TypeName};
-use bincode::{NoOther, OneOf, Or, config, decode_from_slice};
+use bincode::{NoOther, OneOf, Or};
 use std::alloc::{AllocError, Global};
 use std::mem::size_of;
-use std::test::Fail;
-
-fn read_number(alloc: Global, bytes: &[u8]) -> Result<(u32, usize), DecodeError> {
-    decode_from_slice(alloc, bytes, config::standard())
-}
-
-#[test]
-fn names_a_wrong_tag(rt: HostRuntime) {
-    let cases = [
-        (253, IntegerType::U64),
-        (254, IntegerType::U128),
-        (255, IntegerType::Reserved),
-    ];
-    for (tag, want) in cases {
-        let fault = match read_number(rt.alloc(), &[tag]) {
-            Err(DecodeError::InvalidIntegerType { expected, found }) => Some((expected, found)),
-            _ => None,
-        };
-        assert!(rt; fault == Some((IntegerType::U32, want)), "at {tag}");
-    }
-}
-
-#[test]
-fn counts_the_missing_bytes(rt: HostRuntime) {
-    let short = read_number(rt.alloc(), &[252, 0, 0]);
-    assert!(rt; matches!(short, Err(DecodeError::UnexpectedEnd { additional: 2 })));
-    let byte: Result<(u8, usize), DecodeError> = decode_from_slice(
-        rt.alloc(),
-        &[],
-        config::standard(),
-    );
-    assert!(rt; matches!(byte, Err(DecodeError::UnexpectedEnd { additional: 1 })));
-    let fixed: Result<(u32, usize), DecodeError> = decode_from_slice(
-        rt.alloc(),
-        &[0, 0, 0],
-        config::legacy(),
-    );
-    assert!(rt; matches!(fixed, Err(DecodeError::UnexpectedEnd { additional: 1 })));
-}
 
 /// A name for a sum whose tags do not stand in order.
 struct Sparse;
@@ -59,18 +21,14 @@ type SparseParts = OneOf<Or<1, (), Or<5, u8, Or<300, u8, NoOther<Sparse>>>>>;
 
 #[test]
 fn lists_tags_that_do_not_stand_in_order(rt: HostRuntime) {
-    let read: Result<(SparseParts, usize), DecodeError> = decode_from_slice(
-        rt.alloc(),
-        &[2],
-        config::standard(),
-    );
-    let Err(
+    let fault = fault_of::<SparseParts>(rt.alloc(), &[2]);
+    let Some(
         DecodeError::UnlistedVariant {
             type_name,
             found,
             allowed,
         },
-    ) = read
+    ) = fault
     else {
         assert!(rt; false);
         return;
@@ -94,19 +52,6 @@ fn errors_are_small(rt: HostRuntime) {
     assert!(rt; size_of::<DecodeError>() <= 24);
 }
 
-#[test]
-fn prints_a_name(rt: HostRuntime) -> Result<(), Fail> {
-    let fault = DecodeError::UnexpectedVariant {
-        type_name: TypeName::new("Option"),
-        found: 2,
-        min: 0,
-        max: 1,
-    };
-    let shown: Result<String, AllocError> = format!(in rt.alloc(); "{fault}");
-    assert!(rt; shown?.as_str().contains("type_name: \"Option\", found: 2"));
-    Ok(())
-}
-
 /// The integer types, as they are printed.
 const NAMES: [(IntegerType, &str); 13] = [
     (IntegerType::U8, "U8"),
@@ -124,30 +69,36 @@ const NAMES: [(IntegerType, &str); 13] = [
     (IntegerType::Reserved, "Reserved"),
 ];
 
-#[test]
-fn prints_integer_types(rt: HostRuntime) -> Result<(), Fail> {
-    for (kind, name) in NAMES {
-        let shown: Result<String, AllocError> = format!(in rt.alloc(); "{kind:?}");
-        assert!(rt; shown?.as_str() == name, "{name}");
-    }
-    Ok(())
+/// Whether the type is printed so.
+fn is_shown(alloc: Global, kind: IntegerType, name: &str) -> bool {
+    let shown: Result<String, AllocError> = format!(in alloc; "{kind:?}");
+    let Ok(text) = shown else {
+        return false;
+    };
+    text.as_str() == name
 }
 
 #[test]
-fn prints_errors(rt: HostRuntime) -> Result<(), Fail> {
-    let alloc = rt.alloc();
-    let fault = DecodeError::InvalidIntegerType {
-        expected: IntegerType::U32,
-        found: IntegerType::U64,
+fn prints_integer_types(rt: HostRuntime) {
+    for (kind, name) in NAMES {
+        assert!(rt; is_shown(rt.alloc(), kind, name), "{name}");
+    }
+}
+
+#[test]
+fn prints_errors(rt: HostRuntime) {
+    let fault = DecodeError::UnexpectedVariant {
+        type_name: TypeName::new("Option"),
+        found: 2,
+        min: 0,
+        max: 1,
     };
-    let shown: Result<String, AllocError> = format!(in alloc; "{fault} {fault:?}");
-    assert!(rt;
-        shown?
-            .as_str()
-            .contains("InvalidIntegerType { expected: U32, found: U64 }")
-    );
     let refusal = EncodeError::UnexpectedEnd;
-    let shown: Result<String, AllocError> = format!(in alloc; "{refusal} {refusal:?}");
-    assert!(rt; shown?.as_str().contains("UnexpectedEnd"));
-    Ok(())
+    let shown: Result<String, AllocError> = format!(in rt.alloc(); "{refusal} {fault}");
+    let Ok(text) = shown else {
+        assert!(rt; false);
+        return;
+    };
+    assert!(rt; text.as_str().contains("UnexpectedEnd"));
+    assert!(rt; text.as_str().contains("type_name: \"Option\", found: 2"));
 }

@@ -28,6 +28,4 @@ mod tables;
 #[cfg(test)]
 mod varints;
 #[cfg(test)]
-mod words;
-#[cfg(test)]
 mod writers;

@@ -8,16 +8,8 @@ use bincode::varint::varint_decode_u32;
 use callers::cut::CutReader;
 use std::process::Abort;
 
-#[test]
-fn reads_variable_integers(rt: HostRuntime) {
-    let mut reader = SliceReader::new(&[251, 251, 0, 252, 0, 1, 0, 0, 7]);
-    assert!(rt; matches!(varint_decode_u32(&mut reader, Endianness::Little), Ok(251)));
-    assert!(rt; matches!(varint_decode_u32(&mut reader, Endianness::Big), Ok(65536)));
-    assert!(rt; reader.bytes_left() == 1);
-}
-
 /// Of 1, 2 and 3 the first two are shown, and taken.
-fn shows_and_takes_two<R: Reader>(rt: &impl Abort, reader: &mut R) {
+fn shows_and_takes_two<R: Reader>(rt: &impl Abort, mut reader: R) {
     assert!(rt; reader.peek_read(4).is_none());
     assert!(rt; matches!(reader.peek_read(2), Some([1, 2])));
     reader.consume(2);
@@ -41,14 +33,9 @@ fn shows_and_takes(rt: HostRuntime) {
     reads_the_last(&rt, &mut reader);
 }
 
-/// A number of two bytes and one of one are read.
-fn reads_two_numbers<D: Decoder<Context = ()>>(rt: &impl Abort, decoder: &mut D) {
+/// A fixed number is read, and of the next three bytes are missing, as the stream's error says.
+fn reads_one_and_misses_three<D: Decoder<Context = ()>>(rt: &impl Abort, decoder: &mut D) {
     assert!(rt; matches!(u16::decode(decoder), Ok(300)));
-    assert!(rt; matches!(u8::decode(decoder), Ok(7)));
-}
-
-/// Of a fixed number three bytes are missing, and the stream's error says so.
-fn misses_three_bytes<D: Decoder<Context = ()>>(rt: &impl Abort, decoder: &mut D) {
     let ended = u32::decode(decoder);
     assert!(rt;
         matches!(
@@ -63,12 +50,10 @@ fn misses_three_bytes<D: Decoder<Context = ()>>(rt: &impl Abort, decoder: &mut D
 
 #[test]
 fn reads_a_stream(rt: HostRuntime) {
-    let bytes = [251, 44, 1, 7, 0];
+    let bytes = [44, 1, 7];
     let reader = IoReader::new(rt.alloc(), &bytes[..]);
-    let mut decoder = DecoderImpl::new(rt.alloc(), reader, config::standard(), ());
-    reads_two_numbers(&rt, &mut decoder);
-    let mut rest = DecoderImpl::new(rt.alloc(), decoder.reader(), config::legacy(), ());
-    misses_three_bytes(&rt, &mut rest);
+    let mut decoder = DecoderImpl::new(rt.alloc(), reader, config::legacy(), ());
+    reads_one_and_misses_three(&rt, &mut decoder);
 }
 
 /// A number is read, and nothing is shown of what follows.
