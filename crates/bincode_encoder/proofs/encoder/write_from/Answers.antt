@@ -11,4 +11,4 @@ returns-clause-err g c =
     rw put (rw c.writer.ensures.value at c.write.ensures.err)
 
 pub returns-clause-place : goal.returns-clause-place
-returns-clause-place g c = g.met.E.Encoder.put_place c.args.encoder.now c.write.new.self (rw c.writer.ensures.value at c.write.ensures.place)
+returns-clause-place g c = g.met.E.Encoder.put_place c.args.encoder.now c.write.new.self (rw c.writer.ensures.value at c.write.ensures.same_place)
