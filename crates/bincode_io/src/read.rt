@@ -5,7 +5,8 @@ ghost use Rattle.std.specs.Prelude.{IsErr, IfOk};
 ghost use Rattle.std.proofs.Common.{le_refl, inl};
 ghost use Rattle.std.specs.Borrow.{GName, sem};
 ghost use Rattle.std.specs.Io.BufRead.{Rests};
-ghost use Rattle.bincode_format.specs.Device.{DeviceErrors, no_device, IsEndError, FallsShort, Fills, TakesShown, Unmoved};
+ghost use Rattle.bincode_format.specs.Device.{DeviceErrors, no_device, IsEndError};
+ghost use Rattle.bincode_format.specs.Device.{FallsShort, Fills, TakesShown, Unmoved};
 ghost use Rattle.bincode_base.specs.declared.error.DecodeError.{DecodeError};
 ghost use Rattle.bincode_base.specs.declared.error.DecodeError.TheVariants.{UnexpectedEnd};
 

@@ -9,7 +9,8 @@ ghost use Rattle.bincode_base.specs.declared.error.IntegerType.TheVariants.{I128
 ghost use Rattle.bincode_format.specs.Integers.{Two, Four, Eight, Sixteen};
 ghost use Rattle.bincode_laws.specs.AllowedLaws.{number-same, integer-same};
 ghost use Rattle.bincode_format.specs.Forms.{bytes_not_zero, unsigned_not_zero, signed_bytes_not_zero, signed_not_zero};
-ghost use Rattle.bincode_laws.specs.FormLaws.{bytes_not_zero-laws, unsigned_not_zero-laws, signed_bytes_not_zero-laws, signed_not_zero-laws};
+ghost use Rattle.bincode_laws.specs.FormLaws.{bytes_not_zero-laws, unsigned_not_zero-laws};
+ghost use Rattle.bincode_laws.specs.FormLaws.{signed_bytes_not_zero-laws, signed_not_zero-laws};
 
 use crate::parted::{Parted, SameParts};
 use crate::scalars::{Alone, Scalar};

@@ -6,7 +6,8 @@ ghost use Rattle.bincode_base.specs.declared.error.IntegerType.TheVariants.{I128
 ghost use Rattle.bincode_format.specs.Integers.{Two, Four, Eight, Sixteen};
 ghost use Rattle.bincode_laws.specs.AllowedLaws.{number-same, integer-same};
 ghost use Rattle.bincode_format.specs.Forms.{bytes, unsigned_numbers, signed_bytes, signed_numbers};
-ghost use Rattle.bincode_laws.specs.FormLaws.{bytes-laws, unsigned_numbers-laws, signed_bytes-laws, signed_numbers-laws};
+ghost use Rattle.bincode_laws.specs.FormLaws.{bytes-laws, unsigned_numbers-laws};
+ghost use Rattle.bincode_laws.specs.FormLaws.{signed_bytes-laws, signed_numbers-laws};
 
 use crate::parted::{Parted, SameParts};
 use crate::scalars::{Alone, Scalar};

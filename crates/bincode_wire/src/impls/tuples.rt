@@ -182,7 +182,8 @@ impl<
     D: Wire + PartialEq,
     E: Wire + PartialEq,
 > SameParts<LongRow<A, B, C, D, Row<E, ()>>> for (A, B, C, D, E) {
-    ghost same_parts = { λ v w e. row-same (A.eq v.0 w.0) (B.eq v.1 w.1 ∷ C.eq v.2 w.2 ∷ D.eq v.3 w.3 ∷ E.eq v.4 w.4
+    ghost same_parts = { λ v w e. row-same (A.eq v.0 w.0) (B.eq v.1 w.1 ∷ C.eq v.2 w.2 ∷ D.eq v.3 w.3
+        ∷ E.eq v.4 w.4
         ∷ []) e };
 }
 
@@ -194,7 +195,8 @@ impl<
     E: Wire + PartialEq,
     F: Wire + PartialEq,
 > SameParts<LongRow<A, B, C, D, Row<E, Row<F, ()>>>> for (A, B, C, D, E, F) {
-    ghost same_parts = { λ v w e. row-same (A.eq v.0 w.0) (B.eq v.1 w.1 ∷ C.eq v.2 w.2 ∷ D.eq v.3 w.3 ∷ E.eq v.4 w.4 ∷ F.eq v.5 w.5
+    ghost same_parts = { λ v w e. row-same (A.eq v.0 w.0) (B.eq v.1 w.1 ∷ C.eq v.2 w.2 ∷ D.eq v.3 w.3
+        ∷ E.eq v.4 w.4 ∷ F.eq v.5 w.5
         ∷ []) e };
 }
 
@@ -207,7 +209,8 @@ impl<
     F: Wire + PartialEq,
     G: Wire + PartialEq,
 > SameParts<LongRow<A, B, C, D, Row<E, Row<F, Row<G, ()>>>>> for (A, B, C, D, E, F, G) {
-    ghost same_parts = { λ v w e. row-same (A.eq v.0 w.0) (B.eq v.1 w.1 ∷ C.eq v.2 w.2 ∷ D.eq v.3 w.3 ∷ E.eq v.4 w.4 ∷ F.eq v.5 w.5
+    ghost same_parts = { λ v w e. row-same (A.eq v.0 w.0) (B.eq v.1 w.1 ∷ C.eq v.2 w.2 ∷ D.eq v.3 w.3
+        ∷ E.eq v.4 w.4 ∷ F.eq v.5 w.5
         ∷ G.eq v.6 w.6 ∷ []) e };
 }
 
@@ -221,7 +224,8 @@ impl<
     G: Wire + PartialEq,
     H: Wire + PartialEq,
 > SameParts<LongRow<A, B, C, D, LongRow<E, F, G, H, ()>>> for (A, B, C, D, E, F, G, H) {
-    ghost same_parts = { λ v w e. row-same (A.eq v.0 w.0) (B.eq v.1 w.1 ∷ C.eq v.2 w.2 ∷ D.eq v.3 w.3 ∷ E.eq v.4 w.4 ∷ F.eq v.5 w.5
+    ghost same_parts = { λ v w e. row-same (A.eq v.0 w.0) (B.eq v.1 w.1 ∷ C.eq v.2 w.2 ∷ D.eq v.3 w.3
+        ∷ E.eq v.4 w.4 ∷ F.eq v.5 w.5
         ∷ G.eq v.6 w.6 ∷ H.eq v.7 w.7 ∷ []) e };
 }
 
@@ -236,7 +240,8 @@ impl<
     H: Wire + PartialEq,
     I: Wire + PartialEq,
 > SameParts<LongRow<A, B, C, D, LongRow<E, F, G, H, Row<I, ()>>>> for (A, B, C, D, E, F, G, H, I) {
-    ghost same_parts = { λ v w e. row-same (A.eq v.0 w.0) (B.eq v.1 w.1 ∷ C.eq v.2 w.2 ∷ D.eq v.3 w.3 ∷ E.eq v.4 w.4 ∷ F.eq v.5 w.5
+    ghost same_parts = { λ v w e. row-same (A.eq v.0 w.0) (B.eq v.1 w.1 ∷ C.eq v.2 w.2 ∷ D.eq v.3 w.3
+        ∷ E.eq v.4 w.4 ∷ F.eq v.5 w.5
         ∷ G.eq v.6 w.6 ∷ H.eq v.7 w.7 ∷ I.eq v.8 w.8 ∷ []) e };
 }
 
@@ -253,7 +258,8 @@ impl<
     J: Wire + PartialEq,
 > SameParts<LongRow<A, B, C, D, LongRow<E, F, G, H, Row<I, Row<J, ()>>>>>
     for (A, B, C, D, E, F, G, H, I, J) {
-    ghost same_parts = { λ v w e. row-same (A.eq v.0 w.0) (B.eq v.1 w.1 ∷ C.eq v.2 w.2 ∷ D.eq v.3 w.3 ∷ E.eq v.4 w.4 ∷ F.eq v.5 w.5
+    ghost same_parts = { λ v w e. row-same (A.eq v.0 w.0) (B.eq v.1 w.1 ∷ C.eq v.2 w.2 ∷ D.eq v.3 w.3
+        ∷ E.eq v.4 w.4 ∷ F.eq v.5 w.5
         ∷ G.eq v.6 w.6 ∷ H.eq v.7 w.7 ∷ I.eq v.8 w.8 ∷ J.eq v.9 w.9 ∷ []) e };
 }
 
@@ -271,7 +277,8 @@ impl<
     K: Wire + PartialEq,
 > SameParts<LongRow<A, B, C, D, LongRow<E, F, G, H, Row<I, Row<J, Row<K, ()>>>>>>
     for (A, B, C, D, E, F, G, H, I, J, K) {
-    ghost same_parts = { λ v w e. row-same (A.eq v.0 w.0) (B.eq v.1 w.1 ∷ C.eq v.2 w.2 ∷ D.eq v.3 w.3 ∷ E.eq v.4 w.4 ∷ F.eq v.5 w.5
+    ghost same_parts = { λ v w e. row-same (A.eq v.0 w.0) (B.eq v.1 w.1 ∷ C.eq v.2 w.2 ∷ D.eq v.3 w.3
+        ∷ E.eq v.4 w.4 ∷ F.eq v.5 w.5
         ∷ G.eq v.6 w.6 ∷ H.eq v.7 w.7 ∷ I.eq v.8 w.8 ∷ J.eq v.9 w.9 ∷ K.eq v.10 w.10 ∷ []) e };
 }
 
@@ -290,6 +297,8 @@ impl<
     L: Wire + PartialEq,
 > SameParts<LongRow<A, B, C, D, LongRow<E, F, G, H, LongRow<I, J, K, L, ()>>>>
     for (A, B, C, D, E, F, G, H, I, J, K, L) {
-    ghost same_parts = { λ v w e. row-same (A.eq v.0 w.0) (B.eq v.1 w.1 ∷ C.eq v.2 w.2 ∷ D.eq v.3 w.3 ∷ E.eq v.4 w.4 ∷ F.eq v.5 w.5
-        ∷ G.eq v.6 w.6 ∷ H.eq v.7 w.7 ∷ I.eq v.8 w.8 ∷ J.eq v.9 w.9 ∷ K.eq v.10 w.10 ∷ L.eq v.11 w.11 ∷ []) e };
+    ghost same_parts = { λ v w e. row-same (A.eq v.0 w.0) (B.eq v.1 w.1 ∷ C.eq v.2 w.2 ∷ D.eq v.3 w.3
+        ∷ E.eq v.4 w.4 ∷ F.eq v.5 w.5
+        ∷ G.eq v.6 w.6 ∷ H.eq v.7 w.7 ∷ I.eq v.8 w.8 ∷ J.eq v.9 w.9 ∷ K.eq v.10 w.10 ∷ L.eq v.11 w.11
+        ∷ []) e };
 }
