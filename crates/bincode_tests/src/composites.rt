@@ -13,7 +13,7 @@ use std::num::Wrapping;
 use std::ops::{Bound, Range, RangeInclusive};
 use std::time::Duration as StdDuration;
 
-/// Tuples of one to six bytes, of seven to nine, and so on: each length once.
+/// Tuples whose parts are of one type, by their length.
 type One<T> = (T,);
 
 type Two<T> = (T, T);
@@ -46,7 +46,7 @@ type Fifteen<T> = (T, T, T, T, T, T, T, T, T, T, T, T, T, T, T);
 
 type Sixteen<T> = (T, T, T, T, T, T, T, T, T, T, T, T, T, T, T, T);
 
-/// Of a type whose words are single bytes.
+/// Whether tuples of up to eight parts keep their words, of a type whose words are single bytes.
 fn keeps_tuples_of<T: Encode + Decode<()> + Copy>(alloc: Global) -> bool {
     keeps::<One<T>>(alloc, &[0, 99], 1)
         && keeps::<Two<T>>(alloc, &[0, 1, 99], 2)
@@ -58,7 +58,7 @@ fn keeps_tuples_of<T: Encode + Decode<()> + Copy>(alloc: Global) -> bool {
         && keeps::<Eight<T>>(alloc, &[0, 1, 2, 3, 4, 5, 6, 7, 99], 8)
 }
 
-/// Of a type whose words are single bytes.
+/// The same of nine to fifteen parts.
 fn keeps_longer_tuples_of<T: Encode + Decode<()> + Copy>(alloc: Global) -> bool {
     keeps::<Nine<T>>(alloc, &[0, 1, 2, 3, 4, 5, 6, 7, 8, 99], 9)
         && keeps::<Ten<T>>(alloc, &[0, 1, 2, 3, 4, 5, 6, 7, 8, 9, 99], 10)
@@ -83,7 +83,7 @@ fn keeps_tuples(rt: HostRuntime) {
     assert!(rt; keeps_longer_tuples_of::<u8>(rt.alloc()));
 }
 
-/// Of values whose words are their places. Tuples of more than twelve parts have no `==`.
+/// The same of sixteen, and whether each part is read at its place: tuples of more than twelve parts have no `==`.
 fn keeps_sixteen_of<T>(alloc: Global, parts: [T; 16]) -> bool
 where
     T: Encode + Decode<()> + Copy + PartialEq,
