@@ -1,5 +1,6 @@
 //! Decoders, and what they read from.
 
+pub use bincode_base::slots::{collect_into_array, slots_fit};
 pub use bincode_de::decode::Decode;
 pub use bincode_de::from_parts::FromParts;
 pub use bincode_de::runs::{decode_array, decode_run, decode_vec};
@@ -7,5 +8,4 @@ pub use bincode_decoder::decoder::{ClaimContainer, Decoder, DecoderImpl};
 pub use bincode_decoder::tags::Named;
 pub use bincode_io::io_read::{IoReader, LentIoReader};
 pub use bincode_io::read;
-pub use bincode_slots::{collect_into_array, slots_fit};
 pub use bincode_values::values::ArrayOf;

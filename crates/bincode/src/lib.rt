@@ -11,7 +11,7 @@ pub mod de;
 pub mod enc;
 mod slice;
 
-pub use bincode_base::{config, error, text};
+pub use bincode_base::{config, error, short_text};
 pub use bincode_de::decode::Decode;
 pub use bincode_enc::encode::Encode;
 pub use bincode_varint::varint;

@@ -1,10 +1,10 @@
 //! Encoding into a slice, and decoding from one.
-ghost use Rattle.std.specs.Prelude.{◌≡◌, ◌≤◌, ◌⊎◌, ℕ, OnOk, IfOk, IfErr, length};
+ghost use Rattle.std.specs.Prelude.{◌≡◌, ◌≤◌, ◌⊎◌, ℕ, IfOk, IfErr, length};
 ghost use Rattle.bincode_base.specs.declared.error.EncodeError.TheVariants.{UnexpectedEnd};
 ghost use Rattle.bincode_format.specs.Allowed.{AllowedWord};
 ghost use Rattle.bincode_format.specs.Answer.{answer};
 ghost use Rattle.bincode_format.specs.Decoding.{Decodes, Stops};
-ghost use Rattle.bincode_format.specs.Encoding.{Writes, Ready, Halts};
+ghost use Rattle.bincode_format.specs.Encoding.{Ready, Encodes};
 ghost use Rattle.bincode_format.specs.Slice.{WordWritten, FrontWritten, FitsExactly, Decoded, FindsWords, TellsFaults};
 ghost use Rattle.bincode_format.specs.Slice.{KeepsLimit};
 
@@ -46,10 +46,8 @@ fn encode_with<E: Encode, W: Writer, C: Config>(
     writer: &mut W,
     config: &C,
 ) -> Result<(), EncodeError>
-    ensures ok { OnOk result (Writes W.adds (AllowedWord (E.means val) (E.format C.setting)) writer.old writer.new) }
-    ensures err { IfErr result (Halts W.adds W.refuses (Ready (E.writable C.setting val)
-        (AllowedWord (E.means val) (E.format C.setting))) E.names writer.old writer.new) }
-    ensures place { W.place writer.new ≡ W.place writer.old }
+    ensures { Encodes W.adds W.refuses (λ w. w) W.place (E.writable C.setting val)
+        (AllowedWord (E.means val) (E.format C.setting)) E.names result writer.old writer.new }
 {
     let mut encoder = LentEncoder::new(writer, config);
     val.encode(&mut encoder)

@@ -4,8 +4,8 @@ use Rattle.std.proofs.Common.{arith, inl, inr, sym, ap, subst, ◌∙◌, take_a
 use Rattle.std.specs.Str.{is_utf8, IsCharBoundary}
 use Rattle.std.proofs.lemmas.Str.{is_utf8-from_IsUtf8, IsUtf8-from_is_utf8, IsCharBoundary-end}
 use Rattle.std.specs.Result.{result_unwrap_or}
-use Rattle.bincode_base.specs.declared.text.Text.{Text}
-use Rattle.bincode_base.specs.Text.{held_bytes, text_bytes}
+use Rattle.bincode_base.specs.declared.short_text.Text.{Text}
+use Rattle.bincode_base.specs.ShortText.{held_bytes, text_bytes}
 
 order : (m n : ℕ) → (m < n) ⊎ (n ≤ m)
 order m n = by_test (ltb m n) refl

@@ -1,3 +1,4 @@
 pub mod Setting
-pub mod Text
+pub mod ShortText
 pub mod SignedNames
+pub mod Slots

@@ -2,7 +2,7 @@
 ghost use Rattle.std.specs.Prelude.{◌≡◌};
 ghost use Rattle.bincode_base.specs.SignedNames.{signed_name, signed_error};
 
-use crate::text::{ShortText, TypeName};
+use crate::short_text::{ShortText, TypeName};
 use std::error::Error;
 use std::mem::size_of;
 use std::str::Utf8Error;

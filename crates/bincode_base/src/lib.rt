@@ -1,6 +1,7 @@
-//! Configurations and errors.
+//! Configurations, errors with their texts, and slots of arrays.
 #![tactic(auto)]
 
 pub mod config;
 pub mod error;
-pub mod text;
+pub mod short_text;
+pub mod slots;

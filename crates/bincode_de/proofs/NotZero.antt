@@ -91,7 +91,8 @@ module _ {A : Type 0} (f : A → Meaning) (size : A → ℕ) (name : IntegerType
         Reads told rest charge failures place limit ended device ⊥ (map_format f (not_zero_by size name F)) other start (Err e) old new
     stops-too e read =
         read-as (λ known. tt)
-        (λ known. rw (by_size limit F (rest old) start) (tested_stop name ended device ⊥ (failures old) (failures new) (rest old) (rest new) e (answer limit (map_format f F) (rest old) start) (read.err known))) read
+        (λ known. rw (by_size limit F (rest old) start) (tested_stop name ended device ⊥ (failures old) (failures new) (rest old) (rest new) e
+        (answer limit (map_format f F) (rest old) start) (read.err known))) read
 
     -- and a number is tested
     pub read-tested : (get : T → A) (zero n k : A) (number : Option T) (r : Result T DecodeError) → size zero ≡ 0 → Lawful F →
@@ -107,7 +108,12 @@ module _ {A : Type 0} (f : A → Meaning) (size : A → ℕ) (name : IntegerType
         let e : d.meaning ≡ f n = is d.meaning d.is_given in
         let e' : size_of d.meaning ≡ size (get x) = ap size_of e ∙ same n ∙ ap size (sym (made ∙ number-same)) in
         let p = above x in
-        record { meaning = d.meaning; answer_is = was_number limit F (rest old) start d.meaning (rest new) (charge new) d.answer_is (omega (arith, e', p)); is_given = gives x d.meaning (e ∙ ap f (sym (made ∙ number-same))) })
+        record {
+          meaning = d.meaning;
+          answer_is = was_number limit F (rest old) start d.meaning (rest new) (charge new) d.answer_is (omega (arith, e', p));
+          is_given = gives x d.meaning
+              (e ∙ ap f (sym (made ∙ number-same)));
+        })
         (λ known. tt)
         read)
     read-tested get zero n k None r z l above is gives number-same made result read =
@@ -117,5 +123,6 @@ module _ {A : Type 0} (f : A → Meaning) (size : A → ℕ) (name : IntegerType
         (λ known.
         let d = read.ok known in
         let e' : size_of d.meaning ≡ 0 = ap size_of (is d.meaning d.is_given) ∙ same n ∙ ap size (sym number-same ∙ made) ∙ z in
-        by_fault (Zero name) (was_zero limit F (rest old) start d.meaning (rest new) (charge new) d.answer_is e') refl (gave-takes limit (map_format f F) (map-lawful f F l) (rest old) start d.meaning (rest new) (charge new) d.answer_is))
+        by_fault (Zero name) (was_zero limit F (rest old) start d.meaning (rest new) (charge new) d.answer_is e') refl
+        (gave-takes limit (map_format f F) (map-lawful f F l) (rest old) start d.meaning (rest new) (charge new) d.answer_is))
         read)

@@ -1,5 +1,6 @@
 //! What can be decoded.
-ghost use Rattle.std.specs.Prelude.{◌≡◌, ◌*◌, length, IfSome, IfNone};
+ghost use Rattle.std.specs.Prelude.{◌≡◌, ◌*◌, length};
+ghost use Rattle.std.specs.Option.{MatchOption};
 ghost use Rattle.bincode_format.specs.Answer.{Allows};
 ghost use Rattle.bincode_format.specs.Run.{CanRelease};
 ghost use Rattle.bincode_format.specs.Values.{Reads, RunRead};
@@ -33,12 +34,11 @@ pub trait Decode<Context: Drop>: Wire + Drop + Sized {
         decoder: &mut D,
         values: &mut [Self],
     ) -> Option<Result<(), DecodeError>>
-        requires room { CanRelease D.C.bound (D.charge decoder.old) (length values.old * Self.claim) }
-        requires allowed { Allows D.C.bound (D.charge decoder.old) }
-        ensures none { IfNone result (decoder.new ≡ decoder.old) }
-        ensures some { IfSome result (λ r. RunRead D.told D.rest D.charge D.failures D.place D.C.bound D.R.ended
-            D.R.device Self.grows Self.claim (Self.format D.C.setting) Self.given (length values.old)
-            (λ _. values.new) r decoder.old decoder.new) }
+        requires { CanRelease D.C.bound (D.charge decoder.old) (length values.old * Self.claim)
+            × Allows D.C.bound (D.charge decoder.old) }
+        ensures { MatchOption result (decoder.new ≡ decoder.old) (λ r. RunRead D.told D.rest D.charge D.failures
+            D.place D.C.bound D.R.ended D.R.device Self.grows Self.claim (Self.format D.C.setting) Self.given
+            (length values.old) (λ _. values.new) r decoder.old decoder.new) }
     {
         let _ = &*decoder;
         let _ = &*values;

@@ -1,7 +1,7 @@
 //! Runs and arrays of values whose room has been reserved, without a length.
 ghost use Rattle.std.specs.Prelude.{◌≡◌, ◌*◌, ◌⊎◌, length, IfOk};
 ghost use Rattle.bincode_format.specs.Format.{elements};
-ghost use Rattle.bincode_slots.specs.Slots.{SlotsFit};
+ghost use Rattle.bincode_base.specs.Slots.{SlotsFit};
 ghost use Rattle.bincode_format.specs.Run.{CanRelease, RoomReturned};
 ghost use Rattle.bincode_format.specs.Values.{RunRead};
 

@@ -44,7 +44,8 @@ module _ (limit : Option ℕ) (s : Setting) (input : List ℕ) (c : ℕ) where
         Decodes (IsSpan x y) (answer limit (duration s) input c) rest after
     span-decodes x y h p q = record {
       meaning = span (seconds + nanos / second_in_nanos) (nanos % second_in_nanos);
-      answer_is = in_parts ∙ settled-gave (λ parts. duration_of parts.0 parts.1) limit (seconds_and_nanos s) input c (seconds, nanos) rest after (span (seconds + nanos / second_in_nanos) (nanos % second_in_nanos)) parts_gave (carries seconds nanos h);
+      answer_is = in_parts ∙ settled-gave (λ parts. duration_of parts.0 parts.1) limit (seconds_and_nanos s) input c (seconds, nanos) rest after
+          (span (seconds + nanos / second_in_nanos) (nanos % second_in_nanos)) parts_gave (carries seconds nanos h);
       is_given = rw (p, q) (span-is (seconds + nanos / second_in_nanos) (nanos % second_in_nanos));
     }
 
@@ -53,7 +54,8 @@ module _ (limit : Option ℕ) (s : Setting) (input : List ℕ) (c : ℕ) where
         Stops ended device H (answer limit (duration s) input c) before last input rest (errors.InvalidDuration seconds nanos)
     span-overflows ended device H before last h =
         by_fault (InvalidDuration seconds nanos)
-        (in_parts ∙ settled-refused (λ parts. duration_of parts.0 parts.1) limit (seconds_and_nanos s) input c (seconds, nanos) rest after (InvalidDuration seconds nanos) parts_gave (overflows seconds nanos h))
+        (in_parts ∙ settled-refused (λ parts. duration_of parts.0 parts.1) limit (seconds_and_nanos s) input c (seconds, nanos) rest after (InvalidDuration seconds nanos) parts_gave
+        (overflows seconds nanos h))
         refl
         (gave-takes limit (seconds_and_nanos s) (parts-lawful s) input c (seconds, nanos) rest after parts_gave)
 
@@ -71,5 +73,6 @@ module _ (limit : Option ℕ) (s : Setting) (input : List ℕ) (c : ℕ) where
         Stops ended device H (answer limit (unsigned integers.U32 4 s) middle d) between after middle rest e → Stops ended device H (answer limit (duration s) input c) before after input rest e
     span-stops_next seconds middle d between a le h =
         parts_stop
-        (stops-next ended device H H (λ k. k) limit (unsigned integers.U64 8 s) (λ k. map_format (λ n. (k, n)) (unsigned integers.U32 4 s)) (unsigned-lawful integers.U64 8 s (Eight refl)) input c before between after seconds middle rest d e a le
+        (stops-next ended device H H (λ k. k) limit (unsigned integers.U64 8 s) (λ k. map_format (λ n. (k, n)) (unsigned integers.U32 4 s))
+        (unsigned-lawful integers.U64 8 s (Eight refl)) input c before between after seconds middle rest d e a le
         (map-stops (λ n. (seconds, n)) ended device H limit (unsigned integers.U32 4 s) middle d between after rest e h))

@@ -1,17 +1,18 @@
 -- What was read, by what was read for it.
-use Rattle.std.specs.Prelude.{◌≡◌, ℕ, List, Option, Result, Err, IfOk, IfErr, refl}
+use Rattle.std.specs.Prelude.{◌≡◌, ℕ, ℤ, List, Option, Result, Err, IfOk, IfErr, refl}
 use Rattle.std.specs.Borrow.{GName}
 use Rattle.std.proofs.Common.{◌∙◌, ap, arith}
 use Rattle.std.proofs.lemmas.Result.{IfOk-weaker, IfErr-weaker}
 use Rattle.bincode_base.specs.declared.error.DecodeError.{DecodeError}
-use Rattle.bincode_format.specs.Device.{DeviceErrors}
+use Rattle.bincode_format.specs.Device.{DeviceErrors, Fills}
 use Rattle.bincode_format.specs.Format.{Format, charged, map_format}
 use Rattle.bincode_format.specs.Reads.{ReadsWord}
-use Rattle.bincode_format.specs.Answer.{Answer, answer, Gave, Claimed, OverClaimed}
+use Rattle.bincode_format.specs.Answer.{Answer, answer, Gave, Claimed, OverClaimed, Charges}
+use Rattle.bincode_format.specs.Meaning.{Number}
 use Rattle.bincode_format.specs.Decoding.{Decodes, Stops}
 use Rattle.bincode_laws.specs.DecodingLaws.{charged-gave, charged-misread, map-gave, map-stops}
 use Rattle.bincode_format.specs.Claims.{OnlyCharged}
-use Rattle.bincode_format.specs.Values.{Reads}
+use Rattle.bincode_format.specs.Values.{Reads, ReadsInteger}
 use Rattle.bincode_decoder.proofs.Rooms.{claimed-grows, over-grows}
 
 module _ {D A B T U : Type 0} {told : D → Type 0} {rest : D → List ℕ} {charge failures : D → ℕ} {place : D → List GName} {limit : Option ℕ}
@@ -70,13 +71,36 @@ module _ {D R C : Type 0} {told : D → Type 0} {rest : D → List ℕ} {charge 
       Claimed limit (charge old) n (charge now) → ReadsWord told rest failures place ended device F mean r now new → charge new ≡ charge now →
       Reads told rest charge failures place limit ended device ⊥ (charged n F) (λ a v. a ≡ mean v) (charge old) r old new
   charged-reads {F = F} {mean = mean} {r = r} {new = new} n claim read still = record {
-    ok = λ known. IfOk-weaker r _ _ (λ v h. record { meaning = mean v; answer_is = rw still (charged-gave limit n F (rest old) (charge old) (charge now) (rest now) (rest new) (mean v) claim kept.same_rest h); is_given = refl }) (read.ok (kept.tells known));
-    err = λ known. IfErr-weaker r _ _ (λ e h. charged-misread limit n F (rest old) (charge old) ended device ⊥ (charge now) (failures old) (failures now) (failures new) (rest now) (rest new) e claim kept.same_rest kept.same_failures h) (read.err (kept.tells known));
+    ok = λ known. IfOk-weaker r _ _ (λ v h. record {
+      meaning = mean v;
+      answer_is = rw still
+          (charged-gave limit n F (rest old) (charge old) (charge now) (rest now) (rest new) (mean v) claim kept.same_rest h);
+      is_given = refl;
+    }) (read.ok (kept.tells known));
+    err = λ known. IfErr-weaker r _ _ (λ e h. charged-misread limit n F (rest old) (charge old) ended device ⊥ (charge now) (failures old) (failures now) (failures new) (rest now)
+        (rest new) e claim kept.same_rest kept.same_failures h) (read.err (kept.tells known));
     counted = let e = kept.same_failures in let count = read.counted in omega (arith, e, count);
     tells = λ known. read.tells (kept.tells known);
     held = rw still (claimed-grows limit (charge old) n (charge now) claim);
     same_place = read.same_place ∙ kept.same_place;
   }
+
+-- what a reader fills is filled by the one who lends it
+pub lent-fills :
+    {R S : Type 0} {told : R → Type 0} {rest : R → List ℕ} {failures : R → ℕ} {place : R → List GName} {told' : S → Type 0} {rest' : S → List ℕ}
+    {failures' : S → ℕ} {place' : S → List GName} {ended : ℕ → DecodeError → Type 0} {device : DeviceErrors} {bytes filled : List ℕ}
+    {r : Result (Unit {0}) DecodeError} {lender after : S} {before new : R} →
+    (told' lender → told before) → rest before ≡ rest' lender → failures before ≡ failures' lender → (told new → told' after) →
+    rest' after ≡ rest new → failures' after ≡ failures new → (place new ≡ place before → place' after ≡ place' lender) →
+    Fills told rest failures place ended device bytes filled r before new → Fills told' rest' failures' place' ended device bytes filled r lender after
+lent-fills known left failed knows leaves fails placed fills = record {
+  next = λ k. rw (← left, leaves) (fills.next (known k));
+  why = λ k. rw (← left, ← failed, fails) (fills.why (known k));
+  left = λ k. rw (← left, leaves) (fills.left (known k));
+  counted = rw (← failed, fails) fills.counted;
+  tells = λ k. knows (fills.tells (known k));
+  same_place = placed fills.same_place;
+}
 
 -- a number that was read is its meaning read
 pub number-reads :
@@ -90,3 +114,11 @@ number-reads {limit = limit} {F = F} {r = r} f g read =
     (λ known. IfOk-weaker r _ _ (λ v h. record { meaning = f v; answer_is = map-gave f limit F _ _ v _ _ (exactly h); is_given = g v }) (read.ok known))
     (λ known. IfErr-weaker r _ _ (λ e k. map-stops f _ _ ⊥ limit F _ _ _ _ _ e k) (read.err known))
     read
+
+-- so an integer is read with what it means
+pub integer-reads :
+    {D A : Type 0} {told : D → Type 0} {rest : D → List ℕ} {charge failures : D → ℕ} {place : D → List GName} {limit : Option ℕ}
+    {ended : ℕ → DecodeError → Type 0} {device : DeviceErrors} {F : Format A} {width : ℕ} {r : Result A DecodeError} {old new : D} (integer : A → ℤ) →
+    Reads told rest charge failures place limit ended device ⊥ F (λ n v. n ≡ v) (charge old) r old new → Charges limit (charge old) width (charge new) →
+    ReadsInteger told rest charge failures place limit ended device F integer width r old new
+integer-reads integer read charges = record { reads = read; means = number-reads (λ k. Number (integer k)) (λ v. refl) read; charges = charges }

@@ -1,13 +1,15 @@
 -- The room that is held for a run of values.
-use Rattle.std.specs.Prelude.{if◌then◌else◌, ◌≡◌, ℕ, ◌+◌, ◌-◌, ◌*◌, ◌^◌, ◌<◌, ◌≤◌, nat_lt, nat_le, Bool, true, false, is_some, Option, Some, None, Ok, Err, refl}
+use Rattle.std.specs.Prelude.{if◌then◌else◌, ◌≡◌, ℕ, ◌+◌, ◌-◌, ◌*◌, ◌^◌, ◌<◌, ◌≤◌, nat_lt, nat_le, Bool, true, false, is_some, List, Option, Some, None, Ok, Err, refl}
 use Rattle.std.specs.Bool.{MatchBool}
+use Rattle.std.specs.Borrow.{GName}
 use Rattle.std.proofs.Common.{arith}
 use Rattle.std.proofs.lemmas.Bool.{false≢true, true≢false, le-ltb, cases_from_iff, leb-true, le-leb}
 use Rattle.bincode_base.specs.declared.error.DecodeError.TheVariants.{LimitExceeded}
-use Rattle.bincode_format.specs.Claims.{Claims}
+use Rattle.bincode_format.specs.Claims.{Claims, OnlyCharged}
 use Rattle.std.proofs.Math.Nat.{mul-le-mul_right}
 use Rattle.bincode_format.specs.Answer.{Claimed, OverClaimed, unclaimed}
 use Rattle.bincode_format.specs.Run.{Held}
+use Rattle.bincode_laws.specs.AnswerLaws.{claim-falls}
 
 -- the room of fewer values is within that of more
 pub held-within : (limit : Option ℕ) (share n m start c : ℕ) → n ≤ m → Held limit (n * share) start c → Held limit (m * share) start c
@@ -19,20 +21,24 @@ pub held-still : (limit : Option ℕ) (room charge : ℕ) → Held limit room ch
 held-still None room charge = omega arith
 held-still (Some limit) room charge = omega arith
 
+-- the charge behind a claim that stands
+claimed_by : (b : Bool) (raised after : ℕ) → (if b then Some raised else None) ≡ Some after → after ≡ raised
+claimed_by true raised after e = cc
+claimed_by false raised after e = absurd (cc)
+
 -- a claim that stands gives nothing back,
 pub claimed-grows : (limit : Option ℕ) (before n after : ℕ) → Claimed limit before n after → before ≤ after
-claimed-grows None before n after h = omega (arith, h)
-claimed-grows (Some limit) before n after h = let e = h.1 in omega (arith, e)
+claimed-grows None before n after h = let e : after ≡ before = cc in omega (arith, e)
+claimed-grows (Some limit) before n after h = let e = claimed_by (nat_le (before + n) limit) (before + n) after h in omega (arith, e)
 
 -- nor does what holds its room,
 pub claimed-held : (limit : Option ℕ) (before n after end : ℕ) → Claimed limit before n after → Held limit n after end → before ≤ end
-claimed-held None before n after end h k = omega (arith, h, k)
-claimed-held (Some limit) before n after end h k = let e = h.1 in omega (arith, e, k)
+claimed-held None before n after end h k = let e : after ≡ before = cc in omega (arith, e, k)
+claimed-held (Some limit) before n after end h k = let e = claimed_by (nat_le (before + n) limit) (before + n) after h in omega (arith, e, k)
 
 -- nor does one that passes the limit
 pub over-grows : (limit : Option ℕ) (before n after : ℕ) → OverClaimed limit before n after → before ≤ after
-over-grows None before n after h = absurd h
-over-grows (Some limit) before n after h = rw h.1 (each (nat_lt (before + n) (2 ^ 64)))
+over-grows limit before n after h = rw h.1 (each (nat_lt (before + n) (2 ^ 64)))
   where
     each : (b : Bool) → before ≤ (if b then before + n else before)
     each true = omega arith
@@ -46,7 +52,15 @@ unlimited-claims (Some limit) before n e = absurd (true≢false e)
 -- and under one, which fits 64 bits, a claim that doesn't fit them is refused
 pub over-claims : (limit : Option ℕ) (before n : ℕ) → is_some limit ≡ true → ((l : ℕ) → limit ≡ Some l → l < 2 ^ 64) → 2 ^ 64 ≤ n → Claims limit before n before (Err LimitExceeded)
 over-claims None before n e fits h = absurd (false≢true e)
-over-claims (Some limit) before n e fits h = record { ok = tt; err = (refl, (let k = fits limit refl in omega arith, rw (le-ltb (before + n) (2 ^ 64) (omega arith)) refl)) }
+over-claims (Some limit) before n e fits h = record {
+  ok = tt;
+  err = (refl, (claim-falls limit before n (let k = fits limit refl in omega arith), rw (le-ltb (before + n) (2 ^ 64) (omega arith)) refl));
+}
+
+-- a decoder to which nothing was done
+pub charged-still : {D R C : Type 0} {told : D → Type 0} {rest : D → List ℕ} {failures : D → ℕ} {reader_of : D → R} {context_of : D → C} {place : D → List GName} (d : D) →
+    OnlyCharged told rest failures reader_of context_of place d d
+charged-still d = record { same_rest = refl; same_failures = refl; tells = λ h. h; same_reader = refl; same_context = refl; same_place = refl }
 
 -- what is released under a limit is taken off
 pub unclaimed-some : (limit : Option ℕ) (charge n : ℕ) → true ≡ is_some limit → charge - n ≡ unclaimed limit charge n

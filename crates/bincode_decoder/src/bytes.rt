@@ -16,8 +16,8 @@ use bincode_base::error::DecodeError;
 /// where the reader does.
 #[inline(always)]
 pub fn decode_bytes<D: Decoder>(decoder: &mut D, values: &mut [u8]) -> Result<(), DecodeError>
-    requires room { CanRelease D.C.bound (D.charge decoder.old) (length values.old * 1) }
-    requires allowed { Allows D.C.bound (D.charge decoder.old) }
+    requires { CanRelease D.C.bound (D.charge decoder.old) (length values.old * 1)
+        × Allows D.C.bound (D.charge decoder.old) }
     ensures { RunRead D.told D.rest D.charge D.failures D.place D.C.bound D.R.ended D.R.device ⊥ 1
         (natural unsigned_byte) (λ m n. IsNumber (pos n) m) (length values.old) (λ _. values.new) result
         decoder.old decoder.new }

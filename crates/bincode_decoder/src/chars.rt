@@ -1,11 +1,10 @@
 //! Characters behind their first byte, read through any decoder.
-ghost use Rattle.std.specs.Prelude.{◌≡◌, ◌≤◌, [], Some, IfOk, IfErr};
+ghost use Rattle.std.specs.Prelude.{◌≡◌, Some};
 ghost use Rattle.bincode_format.specs.Format.{charged};
-ghost use Rattle.bincode_format.specs.Reads.{ReadsWord};
+ghost use Rattle.bincode_format.specs.Reads.{ReadsUncharged};
 ghost use Rattle.bincode_format.specs.Meaning.{Character};
 ghost use Rattle.bincode_format.specs.Words.{char_width, rest_of_char};
-ghost use Rattle.bincode_format.specs.Answer.{Charges};
-ghost use Rattle.bincode_format.specs.Values.{Reads};
+ghost use Rattle.bincode_format.specs.Values.{ReadsCharged};
 
 use crate::decoder::Decoder;
 use bincode_base::error::DecodeError;
@@ -20,9 +19,8 @@ fn read_rest_of_char_from<D: Decoder>(
     width: usize,
 ) -> Result<char, DecodeError>
     requires { char_width first ≡ Some width }
-    ensures word { ReadsWord D.told D.rest D.failures D.place D.R.ended D.R.device (rest_of_char first width)
-        Character result decoder.old decoder.new }
-    ensures charge { D.charge decoder.new ≡ D.charge decoder.old }
+    ensures { ReadsUncharged D.told D.rest D.charge D.failures D.place D.R.ended D.R.device
+        (rest_of_char first width) Character result decoder.old decoder.new }
 {
     read_rest_of_char(decoder.reader(), first, width)
 }
@@ -35,10 +33,8 @@ pub fn decode_rest_of_char<D: Decoder>(
     width: usize,
 ) -> Result<char, DecodeError>
     requires { char_width first ≡ Some width }
-    ensures reads { Reads D.told D.rest D.charge D.failures D.place D.C.bound D.R.ended D.R.device ⊥
-        (charged width (rest_of_char first width)) (λ m v. m ≡ Character v) (D.charge decoder.old) result
-        decoder.old decoder.new }
-    ensures charge { Charges D.C.bound (D.charge decoder.old) width (D.charge decoder.new) }
+    ensures { ReadsCharged D.told D.rest D.charge D.failures D.place D.C.bound D.R.ended D.R.device
+        (charged width (rest_of_char first width)) (λ m v. m ≡ Character v) width result decoder.old decoder.new }
 {
     decoder.claim_bytes_read(width)?;
     read_rest_of_char_from(decoder, first, width)

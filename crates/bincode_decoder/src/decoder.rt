@@ -5,7 +5,7 @@ ghost use Rattle.std.specs.Borrow.{GName, Lends, sem};
 ghost use Rattle.std.specs.Bool.{MatchBool};
 ghost use Rattle.bincode_format.specs.Answer.{Allows, unclaimed};
 ghost use Rattle.bincode_format.specs.Run.{CanRelease};
-ghost use Rattle.bincode_format.specs.Claims.{Claims, OnlyCharged};
+ghost use Rattle.bincode_format.specs.Claims.{Claims, MakesClaim, MakesRelease};
 
 use bincode_base::config::Config;
 use bincode_base::error::DecodeError;
@@ -74,8 +74,8 @@ pub trait Decoder: Sealed {
     /// Charges `n` bytes. Without a limit nothing is counted. Fails with `LimitExceeded` where the raised charge is
     /// above the limit: the raised charge is kept if it fits 64 bits, else the charge stays.
     fn claim_bytes_read(&mut self, n: usize) -> Result<(), DecodeError>
-        ensures claimed { Claims Self.C.bound (charge self.old) n (charge self.new) result }
-        ensures kept { OnlyCharged told rest failures reader_of context_of place self.old self.new };
+        ensures { MakesClaim told rest charge failures reader_of context_of place Self.C.bound n result self.old
+            self.new };
 
     /// Whether the charge is within the limit. After a claim that passed it, it may not be.
     fn is_within_limit(&self) -> bool
@@ -85,8 +85,8 @@ pub trait Decoder: Sealed {
     /// Takes `n` bytes off the charge, of those that a container claimed. Without a limit nothing is counted.
     fn unclaim_bytes_read(&mut self, n: usize)
         requires { CanRelease Self.C.bound (charge self.old) n }
-        ensures charge { charge self.new ≡ unclaimed Self.C.bound (charge self.old) n }
-        ensures kept { OnlyCharged told rest failures reader_of context_of place self.old self.new };
+        ensures { MakesRelease told rest charge failures reader_of context_of place Self.C.bound n self.old
+            self.new };
 
     /// A reader that was put is the reader, and a context beside it stays,
     ghost reader_put: { (d : Self) (r : Self.R) → reader_of (put_reader d r) ≡ r };
@@ -134,9 +134,8 @@ pub trait ClaimContainer: Decoder {
     /// Charges for a container of `len` elements: `claim_bytes_read` of `len` times the claim size of `T`. A product
     /// that does not fit 64 bits is above each limit, and then the charge stays.
     fn claim_container_read<T: Wire>(&mut self, len: usize) -> Result<(), DecodeError>
-        ensures claimed { Claims Self.C.bound (Self.charge self.old) (len * T.claim) (Self.charge self.new) result }
-        ensures kept { OnlyCharged Self.told Self.rest Self.failures Self.reader_of Self.context_of Self.place
-            self.old self.new };
+        ensures { MakesClaim Self.told Self.rest Self.charge Self.failures Self.reader_of Self.context_of Self.place
+            Self.C.bound (len * T.claim) result self.old self.new };
 }
 
 // The bound says again what `Decoder` says of `C`: with it the limit of a claim is known to be that of the decoder.

@@ -1,15 +1,12 @@
 //! Integers and bytes, read through any decoder.
-ghost use Rattle.std.specs.Prelude.{◌≡◌, ◌<◌, ◌≤◌, ◌⊎◌, [], ◌++◌, length, pos};
-ghost use Rattle.std.specs.Prelude.{ok_or, OnOk, IfOk, IfErr};
+ghost use Rattle.std.specs.Prelude.{◌≡◌, pos, ok_or};
 ghost use Rattle.bincode_base.specs.declared.error.DecodeError.TheVariants.{NonZeroTypeIsZero};
-ghost use Rattle.bincode_format.specs.Device.{FallsShort, Rose, Takes};
+ghost use Rattle.bincode_format.specs.Device.{Fills};
 ghost use Rattle.bincode_format.specs.Format.{map_format};
 ghost use Rattle.bincode_format.specs.Number.{from_two_complement};
-ghost use Rattle.bincode_format.specs.Reads.{ReadsWord};
+ghost use Rattle.bincode_format.specs.Reads.{ReadsUncharged};
 ghost use Rattle.bincode_format.specs.Integers.{byte, unsigned_byte, signed_byte};
-ghost use Rattle.bincode_format.specs.Meaning.{Number, IsNumber};
-ghost use Rattle.bincode_format.specs.Answer.{Charges};
-ghost use Rattle.bincode_format.specs.Values.{Reads};
+ghost use Rattle.bincode_format.specs.Values.{ReadsInteger};
 
 use crate::decoder::Decoder;
 use bincode_base::config::Config;
@@ -24,12 +21,8 @@ use bincode_wire::wire::Wire;
 #[inline(always)]
 pub fn decode_integer<T: Integer + Wire, D: Decoder>(decoder: &mut D) -> Result<T, DecodeError>
     requires { T.claim ≡ T.width }
-    ensures reads { Reads D.told D.rest D.charge D.failures D.place D.C.bound D.R.ended D.R.device ⊥
-        (T.spelling.words D.C.setting) (λ n v. n ≡ v) (D.charge decoder.old) result decoder.old decoder.new }
-    ensures means { Reads D.told D.rest D.charge D.failures D.place D.C.bound D.R.ended D.R.device ⊥
-        (map_format (λ k. Number (T.spelling.integer k)) (T.spelling.words D.C.setting))
-        (λ m v. IsNumber (T.spelling.integer v) m) (D.charge decoder.old) result decoder.old decoder.new }
-    ensures charge { Charges D.C.bound (D.charge decoder.old) T.width (D.charge decoder.new) }
+    ensures { ReadsInteger D.told D.rest D.charge D.failures D.place D.C.bound D.R.ended D.R.device
+        (T.spelling.words D.C.setting) T.spelling.integer T.width result decoder.old decoder.new }
 {
     decoder.claim_bytes_read(T::claim_size())?;
     read_integer_from(decoder)
@@ -37,9 +30,8 @@ pub fn decode_integer<T: Integer + Wire, D: Decoder>(decoder: &mut D) -> Result<
 
 #[inline(always)]
 fn read_integer_from<T: Integer, D: Decoder>(decoder: &mut D) -> Result<T, DecodeError>
-    ensures word { ReadsWord D.told D.rest D.failures D.place D.R.ended D.R.device
+    ensures { ReadsUncharged D.told D.rest D.charge D.failures D.place D.R.ended D.R.device
         (T.spelling.read_by D.C.setting.order D.C.setting.encoding) (λ v. v) result decoder.old decoder.new }
-    ensures charge { D.charge decoder.new ≡ D.charge decoder.old }
 {
     let endian = decoder.config().endianness();
     let encoding = decoder.config().int_encoding();
@@ -48,60 +40,41 @@ fn read_integer_from<T: Integer, D: Decoder>(decoder: &mut D) -> Result<T, Decod
 
 /// Charges for a byte, and reads it. A fault leaves the charge.
 pub fn decode_byte<D: Decoder>(decoder: &mut D) -> Result<u8, DecodeError>
-    ensures reads { Reads D.told D.rest D.charge D.failures D.place D.C.bound D.R.ended D.R.device ⊥ unsigned_byte
-        (λ n v. n ≡ v) (D.charge decoder.old) result decoder.old decoder.new }
-    ensures means { Reads D.told D.rest D.charge D.failures D.place D.C.bound D.R.ended D.R.device ⊥
-        (map_format (λ k. Number (pos k)) unsigned_byte)
-        (λ m v. IsNumber (pos v) m) (D.charge decoder.old) result decoder.old decoder.new }
-    ensures charge { Charges D.C.bound (D.charge decoder.old) 1 (D.charge decoder.new) }
+    ensures { ReadsInteger D.told D.rest D.charge D.failures D.place D.C.bound D.R.ended D.R.device unsigned_byte pos
+        1 result decoder.old decoder.new }
 {
     decoder.claim_bytes_read(1)?;
     read_byte_from(decoder)
 }
 
 pub fn read_byte_from<D: Decoder>(decoder: &mut D) -> Result<u8, DecodeError>
-    ensures word { ReadsWord D.told D.rest D.failures D.place D.R.ended D.R.device byte (λ v. v) result
+    ensures { ReadsUncharged D.told D.rest D.charge D.failures D.place D.R.ended D.R.device byte (λ v. v) result
         decoder.old decoder.new }
-    ensures charge { D.charge decoder.new ≡ D.charge decoder.old }
 {
     read_byte(decoder.reader())
 }
 
 /// Charges for a signed byte, and reads it. A fault leaves the charge.
 pub fn decode_signed_byte<D: Decoder>(decoder: &mut D) -> Result<i8, DecodeError>
-    ensures reads { Reads D.told D.rest D.charge D.failures D.place D.C.bound D.R.ended D.R.device ⊥ signed_byte
-        (λ n v. n ≡ v) (D.charge decoder.old) result decoder.old decoder.new }
-    ensures means { Reads D.told D.rest D.charge D.failures D.place D.C.bound D.R.ended D.R.device ⊥
-        (map_format (λ k. Number k) signed_byte)
-        (λ m v. IsNumber v m) (D.charge decoder.old) result decoder.old decoder.new }
-    ensures charge { Charges D.C.bound (D.charge decoder.old) 1 (D.charge decoder.new) }
+    ensures { ReadsInteger D.told D.rest D.charge D.failures D.place D.C.bound D.R.ended D.R.device signed_byte
+        (λ z. z) 1 result decoder.old decoder.new }
 {
     decoder.claim_bytes_read(1)?;
     read_i8_from(decoder)
 }
 
 fn read_i8_from<D: Decoder>(decoder: &mut D) -> Result<i8, DecodeError>
-    ensures word { ReadsWord D.told D.rest D.failures D.place D.R.ended D.R.device
+    ensures { ReadsUncharged D.told D.rest D.charge D.failures D.place D.R.ended D.R.device
         (map_format (from_two_complement 1) byte) (λ v. v) result decoder.old decoder.new }
-    ensures charge { D.charge decoder.new ≡ D.charge decoder.old }
 {
     read_i8(decoder.reader())
 }
 
 /// Fills all of `bytes` with the next bytes.
 pub fn read_from<D: Decoder>(decoder: &mut D, bytes: &mut [u8]) -> Result<(), DecodeError>
-    ensures next { D.told decoder.old → OnOk result (D.rest decoder.old ≡ bytes.new ++ D.rest decoder.new) }
-    ensures why { D.told decoder.old → IfErr result
-        (λ e. FallsShort D.R.ended (D.rest decoder.old) (length bytes.old) e
-        ⊎ (D.R.device.uncounted e
-        ⊎ (D.R.device.counted e × Rose (D.failures decoder.old) (D.failures decoder.new)))) }
-    ensures left { D.told decoder.old → IfErr result (λ e. D.R.device.uncounted e
-        ⊎ Takes (D.rest decoder.old) (D.rest decoder.new)) }
-    ensures length { length bytes.new ≡ length bytes.old }
-    ensures count { D.failures decoder.old ≤ D.failures decoder.new }
-    ensures told { D.told decoder.old → D.told decoder.new }
+    ensures fills { Fills D.told D.rest D.failures D.place D.R.ended D.R.device bytes.old bytes.new result decoder.old
+        decoder.new }
     ensures charge { D.charge decoder.new ≡ D.charge decoder.old }
-    ensures place { D.place decoder.new ≡ D.place decoder.old }
 {
     decoder.reader().read(bytes)
 }

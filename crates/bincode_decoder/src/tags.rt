@@ -8,7 +8,7 @@ ghost use Rattle.bincode_format.specs.Values.{Reads};
 use crate::decoder::Decoder;
 use crate::integers::{decode_byte, decode_integer};
 use bincode_base::error::DecodeError;
-use bincode_base::text::TypeName;
+use bincode_base::short_text::TypeName;
 use bincode_wire::sums::{NoOther, Or, Tag, Variants};
 use bincode_wire::wire::Wire;
 use std::alloc::{AllocError, Global};

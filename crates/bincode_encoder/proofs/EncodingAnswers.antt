@@ -34,7 +34,8 @@ module _ {E W : Type 0} {adds : Adds W} {refuses : Refuses W} {writer_of : E →
       Encodes adds refuses writer_of place R A N r old new → Encodes adds refuses writer_of place S B M r old new
   encodes-as {S = S} {B = B} {M = M} to from can more w = record {
     ok = on_ok_weaker r (writes-same adds A B _ _ to) w.ok;
-    err = IfErr-weaker r _ _ (λ e h. halts-where adds refuses R S B can M _ _ e (halts-same adds refuses (Ready R A) (Ready R B) M _ _ e (ready-as R A B to) (ready-as R B A from) (halts-named adds refuses (Ready R A) N M _ _ e (more e) h))) w.err;
+    err = IfErr-weaker r _ _ (λ e h. halts-where adds refuses R S B can M _ _ e
+        (halts-same adds refuses (Ready R A) (Ready R B) M _ _ e (ready-as R A B to) (ready-as R B A from) (halts-named adds refuses (Ready R A) N M _ _ e (more e) h))) w.err;
     same_place = w.same_place;
   }
 

@@ -47,8 +47,14 @@ module _ {A : Type 0} (Writable : A → Type 0) (Allowed : A → List ℕ → Ty
   ready_each : (vs : List A) (bytes : List ℕ) → Ready (All Writable vs) (AllowsEach Allowed vs) bytes → AllowsEach ReadyEach vs bytes
   ready_each [] bytes w = w.is_allowed
   ready_each (v ∷ vs) bytes w =
-      let b = w.is_allowed in
-      (b.0, b.1, b.2, record { is_writable = All-head Writable v vs w.is_writable; is_allowed = b.3 }, ready_each vs b.1 (record { is_writable = All-tail Writable v vs w.is_writable; is_allowed = b.4 }))
+      let b = w.is_allowed in (
+        b.0,
+        b.1,
+        b.2,
+        record { is_writable = All-head Writable v vs w.is_writable; is_allowed = b.3 },
+        ready_each vs b.1
+            (record { is_writable = All-tail Writable v vs w.is_writable; is_allowed = b.4 }),
+      )
 
   each_ready : (vs : List A) (bytes : List ℕ) → AllowsEach ReadyEach vs bytes → Ready (All Writable vs) (AllowsEach Allowed vs) bytes
   each_ready [] bytes e = record { is_writable = All-nil Writable; is_allowed = e }

@@ -2,7 +2,7 @@
 ghost use Rattle.bincode_format.specs.Cells.{IsBorrowed};
 
 use bincode_base::error::EncodeError;
-use bincode_base::text::ShortText;
+use bincode_base::short_text::ShortText;
 
 /// The error of a cell that is borrowed for writing.
 pub fn borrowed_cell() -> EncodeError

@@ -1,7 +1,8 @@
 //! Encoders: a writer with a configuration.
-ghost use Rattle.std.specs.Prelude.{◌≡◌, List, ◌∷◌, OnOk, IfErr, refl};
+ghost use Rattle.std.specs.Prelude.{◌≡◌, List, ◌∷◌, refl};
 ghost use Rattle.std.proofs.Common.{ap};
 ghost use Rattle.std.specs.Borrow.{GName, Lends, sem};
+ghost use Rattle.bincode_format.specs.Device.{TakesPiece};
 
 use bincode_base::config::Config;
 use bincode_base::error::EncodeError;
@@ -183,9 +184,9 @@ impl<E: Encoder> Encoder for &mut E {
 
 /// Writes a piece to the writer of an encoder.
 pub fn write_from<E: Encoder>(encoder: &mut E, bytes: &[u8]) -> Result<(), EncodeError>
-    ensures ok { OnOk result (E.W.adds (E.writer_of encoder.old) bytes.now (E.writer_of encoder.new)) }
-    ensures err { IfErr result (λ e. E.W.refuses (E.writer_of encoder.old) bytes.now e (E.writer_of encoder.new)) }
-    ensures place { E.place encoder.new ≡ E.place encoder.old }
+    ensures { TakesPiece (λ a piece b. E.W.adds (E.writer_of a) piece (E.writer_of b))
+        (λ a piece e b. E.W.refuses (E.writer_of a) piece e (E.writer_of b)) (λ e. E.W.failures (E.writer_of e))
+        E.place bytes.now result encoder.old encoder.new }
 {
     encoder.writer().write(bytes)
 }

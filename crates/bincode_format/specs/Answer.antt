@@ -9,24 +9,22 @@ abbrev pub Allows : Option ℕ → ℕ → Type 0
 Allows None charge = Unit {0}
 Allows (Some limit) charge = charge ≤ limit
 
--- The claim of n bytes stands: without a limit nothing is counted, else the raised charge is within the limit.
-abbrev pub Claimed : Option ℕ → ℕ → ℕ → ℕ → Type 0
-Claimed None before n after = after ≡ before
-Claimed (Some limit) before n after = (before + n ≤ limit) × (after ≡ before + n)
-
--- It passes the limit: the raised charge is kept if it fits 64 bits, else the charge stays.
-abbrev pub OverClaimed : Option ℕ → ℕ → ℕ → ℕ → Type 0
-OverClaimed None before n after = ⊥
-OverClaimed (Some limit) before n after = (limit < before + n) × (after ≡ (if nat_lt (before + n) (2 ^ 64) then before + n else before))
-
--- A claim of n bytes was made: it stands or passes the limit, and no byte was given back.
-abbrev pub Charges : Option ℕ → ℕ → ℕ → ℕ → Type 0
-Charges limit before n after = Claimed limit before n after ⊎ OverClaimed limit before n after
-
 -- the charge after a claim, if the limit allows it; without a limit nothing is counted
 abbrev pub claimed : Option ℕ → ℕ → ℕ → Option ℕ
 claimed None charge n = Some charge
 claimed (Some limit) charge n = if nat_le (charge + n) limit then Some (charge + n) else None
+
+-- the claim of n bytes stands
+abbrev pub Claimed : Option ℕ → ℕ → ℕ → ℕ → Type 0
+Claimed limit before n after = claimed limit before n ≡ Some after
+
+-- it passes the limit: the raised charge is kept if it fits 64 bits, else the charge stays
+abbrev pub OverClaimed : Option ℕ → ℕ → ℕ → ℕ → Type 0
+OverClaimed limit before n after = (claimed limit before n ≡ None) × (after ≡ (if nat_lt (before + n) (2 ^ 64) then before + n else before))
+
+-- A claim of n bytes was made: it stands or passes the limit, and no byte was given back.
+abbrev pub Charges : Option ℕ → ℕ → ℕ → ℕ → Type 0
+Charges limit before n after = Claimed limit before n after ⊎ OverClaimed limit before n after
 
 -- the charge after a release
 abbrev pub unclaimed : Option ℕ → ℕ → ℕ → ℕ

@@ -1,6 +1,6 @@
 -- What is said of cells: no contract says what one holds.
 use Rattle.std.specs.Prelude.{◌≡◌}
-use Rattle.bincode_base.specs.declared.text.Text.{Text}
+use Rattle.bincode_base.specs.declared.short_text.Text.{Text}
 use Rattle.bincode_base.specs.declared.error.EncodeError.{EncodeError}
 use Rattle.bincode_base.specs.declared.error.EncodeError.TheVariants.{RefCellAlreadyBorrowed}
 use Rattle.bincode_format.specs.Format.{Format, of_cell}

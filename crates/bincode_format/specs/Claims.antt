@@ -3,7 +3,7 @@ use Rattle.std.specs.Prelude.{◌≡◌, ℕ, List, Option, Result, OnOk, IfErr}
 use Rattle.std.specs.Borrow.{GName}
 use Rattle.bincode_base.specs.declared.error.DecodeError.{DecodeError}
 use Rattle.bincode_base.specs.declared.error.DecodeError.TheVariants.{LimitExceeded}
-use Rattle.bincode_format.specs.Answer.{Claimed, OverClaimed}
+use Rattle.bincode_format.specs.Answer.{Claimed, OverClaimed, unclaimed}
 
 -- n bytes are claimed: they stand, or are refused as passing the limit
 pub record Claims (limit : Option ℕ) (before n after : ℕ) (result : Result (Unit {0}) DecodeError) : Type 0 where
@@ -18,3 +18,15 @@ pub record OnlyCharged {D R C : Type 0} (told : D → Type 0) (rest : D → List
   pub same_reader : reader_of new ≡ reader_of old
   pub same_context : context_of new ≡ context_of old
   pub same_place : place new ≡ place old
+
+-- such a decoder claimed n bytes, and nothing else
+pub record MakesClaim {D R C : Type 0} (told : D → Type 0) (rest : D → List ℕ) (charge failures : D → ℕ) (reader_of : D → R) (context_of : D → C) (place : D → List GName)
+    (limit : Option ℕ) (n : ℕ) (result : Result (Unit {0}) DecodeError) (old new : D) : Type 0 where
+  pub claimed : Claims limit (charge old) n (charge new) result
+  pub kept : OnlyCharged told rest failures reader_of context_of place old new
+
+-- it released n bytes of its charge, and nothing else
+pub record MakesRelease {D R C : Type 0} (told : D → Type 0) (rest : D → List ℕ) (charge failures : D → ℕ) (reader_of : D → R) (context_of : D → C) (place : D → List GName)
+    (limit : Option ℕ) (n : ℕ) (old new : D) : Type 0 where
+  pub released : charge new ≡ unclaimed limit (charge old) n
+  pub kept : OnlyCharged told rest failures reader_of context_of place old new

@@ -84,3 +84,11 @@ pub record StopsAmong {W : Type 0} (adds : W → List ℕ → W → Type 0) (ref
   pub middle : W
   pub added : adds before (joined written) middle
   pub refused : refuses middle piece e after
+
+-- A writer, which was at `old` and is at `new`, was given a word by its pieces in turn: all were added, or it refused one, and
+-- the error tells why. It writes through the same references.
+pub record TakesPieces {W : Type 0} (adds : W → List ℕ → W → Type 0) (refuses : W → List ℕ → EncodeError → W → Type 0) (place : W → List GName)
+    (word : List ℕ) (pieces : List (List ℕ)) (result : Result (Unit {0}) EncodeError) (old new : W) : Type 0 where
+  pub ok : OnOk result (adds old word new)
+  pub err : IfErr result (λ e. StopsAmong adds refuses pieces old e new)
+  pub same_place : place new ≡ place old

@@ -4,11 +4,11 @@ use Rattle.std.specs.declared.string.String.{String}
 use Rattle.std.specs.declared.vec.Vec.{Vec}
 use Rattle.std.specs.declared.alloc.Global.{Global}
 use Rattle.std.specs.declared.str.Utf8Error.{Utf8Error}
-use Rattle.bincode_base.specs.declared.text.Text.{Text}
+use Rattle.bincode_base.specs.declared.short_text.Text.{Text}
 use Rattle.bincode_base.specs.declared.error.IntegerType.{IntegerType}
 use Rattle.bincode_base.specs.declared.error.DecodeError.{DecodeError}
 use Rattle.bincode_base.specs.declared.error.DecodeError.TheVariants as errors
-use Rattle.bincode_base.specs.Text.{text_bytes}
+use Rattle.bincode_base.specs.ShortText.{text_bytes}
 
 -- the tags that a choice has
 pub data Allowed : Type 0 where

@@ -24,3 +24,10 @@ pub record ReadsWord {R A T : Type 0} (told : R → Type 0) (rest : R → List �
   pub counted : failures old ≤ failures new
   pub tells : told old → told new
   pub same_place : place new ≡ place old
+
+-- the same by a decoder, which charged nothing
+pub record ReadsUncharged {D A T : Type 0} (told : D → Type 0) (rest : D → List ℕ) (charge failures : D → ℕ) (place : D → List GName)
+    (ended : ℕ → DecodeError → Type 0) (device : DeviceErrors) (format : Format A) (mean : T → A) (result : Result T DecodeError)
+    (old new : D) : Type 0 where
+  pub word : ReadsWord told rest failures place ended device format mean result old new
+  pub same_charge : charge new ≡ charge old

@@ -1,11 +1,11 @@
 -- What the reading of a value, and of a run of values, promises.
-use Rattle.std.specs.Prelude.{◌≡◌, ℕ, ◌*◌, ◌≤◌, List, Option, Result, IfOk, IfErr}
+use Rattle.std.specs.Prelude.{◌≡◌, ℕ, ℤ, ◌*◌, ◌≤◌, List, Option, Result, IfOk, IfErr}
 use Rattle.std.specs.Borrow.{GName}
 use Rattle.bincode_base.specs.declared.error.DecodeError.{DecodeError}
 use Rattle.bincode_format.specs.Device.{DeviceErrors}
-use Rattle.bincode_format.specs.Format.{Format, elements}
-use Rattle.bincode_format.specs.Meaning.{Meaning, listed}
-use Rattle.bincode_format.specs.Answer.{answer}
+use Rattle.bincode_format.specs.Format.{Format, map_format, elements}
+use Rattle.bincode_format.specs.Meaning.{Meaning, Number, IsNumber, listed}
+use Rattle.bincode_format.specs.Answer.{answer, Charges}
 use Rattle.bincode_format.specs.Decoding.{Decodes, Stops}
 use Rattle.bincode_format.specs.Run.{IsListOf, Held}
 
@@ -21,6 +21,21 @@ pub record Reads {D A T : Type 0} (told : D → Type 0) (rest : D → List ℕ) 
   pub tells : told old → told new
   pub held : charged ≤ charge new
   pub same_place : place new ≡ place old
+
+-- It read a value whose words have so many bytes: a claim for them was made, whether one was there or not.
+pub record ReadsCharged {D A T : Type 0} (told : D → Type 0) (rest : D → List ℕ) (charge failures : D → ℕ) (place : D → List GName) (limit : Option ℕ)
+    (ended : ℕ → DecodeError → Type 0) (device : DeviceErrors) (format : Format A) (given : A → T → Type 0) (width : ℕ)
+    (result : Result T DecodeError) (old new : D) : Type 0 where
+  pub reads : Reads told rest charge failures place limit ended device ⊥ format given (charge old) result old new
+  pub charges : Charges limit (charge old) width (charge new)
+
+-- It read an integer in the same way: the one that a word stands for, and so what the word means.
+pub record ReadsInteger {D A : Type 0} (told : D → Type 0) (rest : D → List ℕ) (charge failures : D → ℕ) (place : D → List GName) (limit : Option ℕ)
+    (ended : ℕ → DecodeError → Type 0) (device : DeviceErrors) (format : Format A) (integer : A → ℤ) (width : ℕ)
+    (result : Result A DecodeError) (old new : D) : Type 0 where
+  pub reads : Reads told rest charge failures place limit ended device ⊥ format (λ n v. n ≡ v) (charge old) result old new
+  pub means : Reads told rest charge failures place limit ended device ⊥ (map_format (λ k. Number (integer k)) format) (λ m v. IsNumber (integer v) m) (charge old) result old new
+  pub charges : Charges limit (charge old) width (charge new)
 
 -- It read a run of so many values, whose room was reserved, in the same way: no more than the room was given back.
 pub record RunRead {D A T : Type 0} (told : D → Type 0) (rest : D → List ℕ) (charge failures : D → ℕ) (place : D → List GName) (limit : Option ℕ)

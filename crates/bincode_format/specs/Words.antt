@@ -1,5 +1,5 @@
 -- The formats of the types, row by row.
-use Rattle.std.specs.Prelude.{◌≡◌, ℕ, ◌+◌, ◌-◌, ◌*◌, ◌<◌, ◌/◌, ◌%◌, ◌^◌, nat_lt, ◌==◌, if◌then◌else◌, ℤ, pos, unsigned_abs, ◌&&◌, Bool, true, false}
+use Rattle.std.specs.Prelude.{◌≡◌, ℕ, ◌+◌, ◌-◌, ◌*◌, ◌<◌, ◌/◌, ◌%◌, ◌^◌, nat_lt, ◌==◌, if◌then◌else◌, ℤ, pos, ◌&&◌, Bool, true, false}
 use Rattle.std.specs.Prelude.{List, [], ◌∷◌, ◌++◌, take, Result, Ok, Err, Option, Some, None, position, MatchOption}
 use Rattle.std.specs.Str.{is_utf8}
 use Rattle.bincode_base.specs.declared.error.IntegerType.{IntegerType}
@@ -25,13 +25,6 @@ not_zero_of name size a = if size == 0 then Err (Zero name) else Ok a
 
 abbrev pub not_zero_by : {A : Type 0} → (A → ℕ) → IntegerType → Format A → Format A
 not_zero_by size name F = F >>= λ a. settled (not_zero_of name (size a) a)
-
--- an unsigned number other than 0, and a signed one
-abbrev pub not_zero : IntegerType → Format ℕ → Format ℕ
-not_zero name F = not_zero_by (λ n. n) name F
-
-abbrev pub not_zero_integer : IntegerType → Format ℤ → Format ℤ
-not_zero_integer name F = not_zero_by unsigned_abs name F
 
 -- lengths and tags
 abbrev pub len : Setting → Format ℕ

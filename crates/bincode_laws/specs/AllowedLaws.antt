@@ -155,7 +155,15 @@ module _ (P Q : Meaning → Type 0) (F : Format Meaning) (others : Format Meanin
   tuple-allows bytes b = record {
     meaning = Then b.3.meaning b.4.meaning;
     is_meant = record { first = b.3.meaning; others = b.4.meaning; meaning_is = refl; is_first = b.3.is_meant; are_others = b.4.is_meant };
-    is_written = record { first = b.0; second = b.1; head = b.3.meaning; bytes_are = b.2; first_written = b.3.is_written; second_written = map-written (Then b.3.meaning) others b.1 b.4.meaning b.4.is_written };
+    is_written = record {
+      first = b.0;
+      second = b.1;
+      head = b.3.meaning;
+      bytes_are = b.2;
+      first_written = b.3.is_written;
+      second_written = map-written
+          (Then b.3.meaning) others b.1 b.4.meaning b.4.is_written;
+    };
   }
 
   pub allowed-tuple : (bytes : List ℕ) → AllowedWord (IsThen P Q) (first_and F others) bytes → Both (AllowedWord P F) (AllowedWord Q others) bytes

@@ -7,7 +7,8 @@ use Rattle.bincode_format.specs.Charge.{Step, Charge, Reserve, Release, full, re
 use Rattle.bincode_format.specs.Format.{Format, Reading, Took, Failed, after_steps, then_read, done, refused, step, ◌>>=◌}
 use Rattle.bincode_format.specs.Laws.{Lawful, BeginsWith, IsBacked, Balanced, Settles, Holds}
 use Rattle.bincode_laws.specs.Balance.{balanced-word, balanced-fault}
-use Rattle.bincode_format.specs.Answer.{StepsOf, of_word, of_fault, Allows, claimed, unclaimed, after_step, on_some, charge_behind, Answer, Gave, Refused, PassedLimit, gave_at, refused_at, weighed, answer, and_then}
+use Rattle.bincode_format.specs.Answer.{StepsOf, of_word, of_fault, Allows, claimed, unclaimed, after_step, on_some, charge_behind}
+use Rattle.bincode_format.specs.Answer.{Answer, Gave, Refused, PassedLimit, gave_at, refused_at, weighed, answer, and_then}
 
 -- the answer, part by part
 
@@ -92,33 +93,20 @@ abbrev pub raised : Option ℕ → ℕ → ℕ → ℕ
 raised None charge n = charge
 raised (Some limit) charge n = charge + n
 
-claim_stands : (limit : Option ℕ) (charge n : ℕ) → Allows limit (charge + n) → claimed limit charge n ≡ Some (raised limit charge n)
-claim_stands None charge n h = refl
-claim_stands (Some limit) charge n h = rw (le-leb (charge + n) limit h) refl
+-- where the limit allows the raised charge, the claim stands
+pub claim-stands : (limit : Option ℕ) (charge n : ℕ) → Allows limit (charge + n) → claimed limit charge n ≡ Some (raised limit charge n)
+claim-stands None charge n h = refl
+claim-stands (Some limit) charge n h = rw (le-leb (charge + n) limit h) refl
 
-claim_falls : (limit charge n : ℕ) → limit < charge + n → claimed (Some limit) charge n ≡ None
-claim_falls limit charge n h = rw (lt-leb (charge + n) limit h) refl
+-- where it does not, the claim falls
+pub claim-falls : (limit charge n : ℕ) → limit < charge + n → claimed (Some limit) charge n ≡ None
+claim-falls limit charge n h = rw (lt-leb (charge + n) limit h) refl
 
-step_answered : (limit : Option ℕ) (change : Step) (input : List ℕ) (charge : ℕ) (o : Option ℕ) → after_step limit charge change ≡ o → answer limit (step change) input charge ≡ gave_at tt input o
+-- one step, by what it leaves of the charge
+pub step-answered : (limit : Option ℕ) (change : Step) (input : List ℕ) (charge : ℕ) (o : Option ℕ) → after_step limit charge change ≡ o → answer limit (step change) input charge ≡ gave_at tt input o
 unfolding answer step
-step_answered limit change input charge (Some n) e = ap (λ z. gave_at tt input (on_some z (λ after. charge_behind limit after []))) e
-step_answered limit change input charge None e = ap (λ z. gave_at tt input (on_some z (λ after. charge_behind limit after []))) e
-
--- A charge that the limit allows is answered.
-pub answer-charge : (limit : Option ℕ) (n : ℕ) (input : List ℕ) (charge : ℕ) → Allows limit (charge + n) → answer limit (step (Charge n)) input charge ≡ Gave tt input (raised limit charge n)
-answer-charge limit n input charge h = step_answered limit (Charge n) input charge (Some (raised limit charge n)) (claim_stands limit charge n h)
-
--- A charge above the limit passes it.
-pub answer-charge_passed : (limit n : ℕ) (input : List ℕ) (charge : ℕ) → limit < charge + n → answer (Some limit) (step (Charge n)) input charge ≡ PassedLimit
-answer-charge_passed limit n input charge h = step_answered (Some limit) (Charge n) input charge None (claim_falls limit charge n h)
-
--- Room that the limit allows is answered.
-pub answer-reserve : (limit : Option ℕ) (n : ℕ) (input : List ℕ) (charge : ℕ) → Allows limit (charge + n) → answer limit (step (Reserve n)) input charge ≡ Gave tt input (raised limit charge n)
-answer-reserve limit n input charge h = step_answered limit (Reserve n) input charge (Some (raised limit charge n)) (claim_stands limit charge n h)
-
--- Room above the limit passes it.
-pub answer-reserve_passed : (limit n : ℕ) (input : List ℕ) (charge : ℕ) → limit < charge + n → answer (Some limit) (step (Reserve n)) input charge ≡ PassedLimit
-answer-reserve_passed limit n input charge h = step_answered (Some limit) (Reserve n) input charge None (claim_falls limit charge n h)
+step-answered limit change input charge (Some n) e = ap (λ z. gave_at tt input (on_some z (λ after. charge_behind limit after []))) e
+step-answered limit change input charge None e = ap (λ z. gave_at tt input (on_some z (λ after. charge_behind limit after []))) e
 
 -- the limit and the fronts of the steps
 
@@ -164,9 +152,9 @@ module _ (limit charge : ℕ) where
       ((front : List Step) → charge_after charge (x ∷ front) ≡ charge_after (charge + n) front) → (limit < charge + n) ⊎ (charge + n ≤ limit) →
       Weighing (Some limit) (charge + n) steps → Weighing (Some limit) charge (x ∷ steps)
   weigh_claim n x steps e k (inl h) w =
-      passes (ap (λ z. on_some z (λ n. charge_behind (Some limit) n steps)) (e ∙ claim_falls limit charge n h))
+      passes (ap (λ z. on_some z (λ n. charge_behind (Some limit) n steps)) (e ∙ claim-falls limit charge n h))
       (record { front = x ∷ []; back = steps; steps_are = refl; above = rw (k []) (omega arith) })
-  weigh_claim n x steps e k (inr h) w = weigh_step (charge + n) x steps (e ∙ claim_stands (Some limit) charge n h) k (λ _. h) w
+  weigh_claim n x steps e k (inr h) w = weigh_step (charge + n) x steps (e ∙ claim-stands (Some limit) charge n h) k (λ _. h) w
 
 module _ (held n : ℕ) (steps : List Step) where
   backed_charge : IsBacked held ((Charge n) ∷ steps) → IsBacked held steps
@@ -188,10 +176,12 @@ weigh_limited limit charge held [] h k = let e : charge_after charge [] ≡ char
 weigh_limited limit charge held ((Charge n) ∷ steps) h k =
     weigh_claim limit charge n (Charge n) steps refl (λ front. omega arith) (cases_lt limit (charge + n)) (weigh_limited limit (charge + n) held steps (backed_charge held n steps h) (omega arith))
 weigh_limited limit charge held ((Reserve n) ∷ steps) h k =
-    weigh_claim limit charge n (Reserve n) steps refl (λ front. omega arith) (cases_lt limit (charge + n)) (weigh_limited limit (charge + n) (held + n) steps (backed_reserve held n steps h) (omega arith))
+    weigh_claim limit charge n (Reserve n) steps refl (λ front. omega arith) (cases_lt limit (charge + n))
+    (weigh_limited limit (charge + n) (held + n) steps (backed_reserve held n steps h) (omega arith))
 weigh_limited limit charge held ((Release n) ∷ steps) h k =
     let l = backed_held held n steps h in
-    weigh_step limit charge (charge - n) (Release n) steps refl (λ front. omega arith) (λ m. omega arith) (weigh_limited limit (charge - n) (held - n) steps (backed_release held n steps h) (omega arith))
+    weigh_step limit charge (charge - n) (Release n) steps refl (λ front. omega arith) (λ m. omega arith)
+    (weigh_limited limit (charge - n) (held - n) steps (backed_release held n steps h) (omega arith))
 
 weigh : (limit : Option ℕ) (charge held : ℕ) (steps : List Step) → IsBacked held steps → held ≤ charge → Weighing limit charge steps
 weigh None charge held steps h k = stays (unlimited charge steps) (λ _. tt)

@@ -126,14 +126,16 @@ module _ (limit : Option ℕ) (input middle : List ℕ) (c first : ℕ) (read : 
     -- a byte that begins no character
     pub character-stops_none : (before after : ℕ) (e : DecodeError) → char_width first ≡ None → e ≡ InvalidCharEncoding (first ∷ 0 ∷ 0 ∷ 0 ∷ []) →
         Stops ended device H (answer limit character input c) before after input middle e
-    character-stops_none before after e w t = let p = byte-lawful.read_word input middle first [] read in stops.by_fault (InvalidChar (first ∷ 0 ∷ 0 ∷ 0 ∷ [])) (character-none w) t (p.word, p.input_is)
+    character-stops_none before after e w t = let p = byte-lawful.read_word input middle first [] read in stops.by_fault (InvalidChar (first ∷ 0 ∷ 0 ∷ 0 ∷ [])) (character-none w) t
+        (p.word, p.input_is)
 
     -- where what follows the first byte stops, so does the whole
     pub character-stops_behind : (width before between after : ℕ) (rest : List ℕ) (e : DecodeError) → char_width first ≡ Some width → before ≤ between →
         Stops ended device H (answer limit (charged width (rest_of_char first width)) middle c) between after middle rest e →
         Stops ended device H (answer limit character input c) before after input rest e
     character-stops_behind width before between after rest e w le s =
-        stops-next ended device H H (λ z. z) limit byte (λ z. behind_char z (char_width z)) byte-lawful input c before between after first middle rest c e (answer-took limit byte input middle first c read) le
+        stops-next ended device H H (λ z. z) limit byte (λ z. behind_char z (char_width z)) byte-lawful input c before between after first middle rest c e
+        (answer-took limit byte input middle first c read) le
         (subst (λ z. Stops ended device H (answer limit (behind_char first z) middle c) between after middle rest e) (sym w) s)
 
 -- a first byte that could not be read

@@ -146,7 +146,8 @@ spelled_4 c h k = record {
   bytes_are = encoded-4 c h;
   width_is = width_4 (240 + c / 262144) (omega arith) (omega arith);
   code_is = omega arith;
-  are_bytes = All-cons (λ b. b < 256) (240 + c / 262144) ((128 + c / 4096 % 64) ∷ (128 + c / 64 % 64) ∷ (128 + c % 64) ∷ []) (omega arith) (All-cons (λ b. b < 256) (128 + c / 4096 % 64) ((128 + c / 64 % 64) ∷ (128 + c % 64) ∷ []) (omega arith) (last_bytes c));
+  are_bytes = All-cons (λ b. b < 256) (240 + c / 262144) ((128 + c / 4096 % 64) ∷ (128 + c / 64 % 64) ∷ (128 + c % 64) ∷ []) (omega arith)
+      (All-cons (λ b. b < 256) (128 + c / 4096 % 64) ((128 + c / 64 % 64) ∷ (128 + c % 64) ∷ []) (omega arith) (last_bytes c));
 }
 
 spelled_by : (c : ℕ) → c < 1114112 → (c < 128) ⊎ (128 ≤ c) → (c < 2048) ⊎ (2048 ≤ c) → (c < 65536) ⊎ (65536 ≤ c) → Spelled c

@@ -15,7 +15,7 @@ use Rattle.bincode_format.specs.Meaning.{Meaning, Truth, Nothing, Then, IsTruth,
 use Rattle.bincode_format.specs.Words.{truth_of, truth_byte, truth, nothing, first_and}
 use Rattle.bincode_laws.specs.WordsLaws.{truth_byte-passes, truth-fails}
 use Rattle.bincode_format.specs.Answer.{Answer, Gave, Refused, PassedLimit, answer, and_then, weighed, gave_at, refused_at, charge_behind, Claimed, OverClaimed}
-use Rattle.bincode_laws.specs.AnswerLaws.{answer-then, answer-took, answer-failed, answer-done, answer-refused, answer-charge, answer-charge_passed}
+use Rattle.bincode_laws.specs.AnswerLaws.{answer-then, answer-took, answer-failed, answer-done, answer-refused, step-answered}
 use Rattle.bincode_format.specs.Decoding.{Decodes, Stops, by_fault, by_limit, by_memory, by_failure, by_device}
 
 -- a rise after a step that didn't fall
@@ -87,12 +87,10 @@ module _ {A B : Type 0} (ended : ℕ → DecodeError → Type 0) (device : Devic
 
 -- a claim that stands, and one that passes the limit
 pub claimed-answer : (limit : Option ℕ) (c n d : ℕ) (input : List ℕ) → Claimed limit c n d → answer limit (step (Charge n)) input c ≡ Gave tt input d
-claimed-answer None c n d input h = answer-charge None n input c tt ∙ ap (Gave tt input) (sym h)
-claimed-answer (Some limit) c n d input h = answer-charge (Some limit) n input c h.0 ∙ ap (Gave tt input) (sym h.1)
+claimed-answer limit c n d input h = step-answered limit (Charge n) input c (Some d) h
 
 pub over_claimed-answer : (limit : Option ℕ) (c n d : ℕ) (input : List ℕ) → OverClaimed limit c n d → answer limit (step (Charge n)) input c ≡ PassedLimit
-over_claimed-answer None c n d input h = absurd h
-over_claimed-answer (Some limit) c n d input h = answer-charge_passed limit n input c h.0
+over_claimed-answer limit c n d input h = step-answered limit (Charge n) input c None h.0
 
 module _ {A : Type 0} (limit : Option ℕ) (n : ℕ) (F : Format A) (input : List ℕ) (c : ℕ) where
   -- a charge, and then a word
@@ -112,7 +110,8 @@ module _ {A : Type 0} (limit : Option ℕ) (n : ℕ) (F : Format A) (input : Lis
         between ≡ before → Misreads ended device (F.read middle) between after middle rest e →
         Stops ended device H (answer limit (charged n F) input c) before after input rest e
     charged-misread d before between after middle rest e h same count (reads.by_fault why r t k) =
-        by_fault why (answer-next limit (step (Charge n)) (λ _. F) input c tt input d (claimed-answer limit c n d input h) ∙ answer-failed limit F input why d (ap F.read (sym same) ∙ r)) t (subst (λ z. Takes z rest) same k)
+        by_fault why (answer-next limit (step (Charge n)) (λ _. F) input c tt input d (claimed-answer limit c n d input h) ∙ answer-failed limit F input why d (ap F.read (sym same) ∙ r)) t
+        (subst (λ z. Takes z rest) same k)
     charged-misread d before between after middle rest e h same count (reads.by_failure x r k) = by_failure x (subst (λ z. Rose z after) count r) (subst (λ z. Takes z rest) same k)
     charged-misread d before between after middle rest e h same count (reads.by_device k) = by_device k
 

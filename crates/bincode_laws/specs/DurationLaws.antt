@@ -111,7 +111,20 @@ module _ (s : Setting) (seconds nanos : ℕ) where
       record {
         meaning = span seconds nanos;
         is_meant = span-is seconds nanos;
-        is_written = ((seconds, nanos), k, keeps seconds nanos h k, record { first = x; second = y; head = seconds; bytes_are = e; first_written = p; second_written = map-written (λ n. (seconds, n)) (unsigned integers.U32 4 s) y nanos q });
+        is_written = (
+          (seconds, nanos),
+          k,
+          keeps seconds nanos h k,
+          record {
+            first = x;
+            second = y;
+            head = seconds;
+            bytes_are = e;
+            first_written = p;
+            second_written = map-written
+                (λ n. (seconds, n)) (unsigned integers.U32 4 s) y nanos q;
+          },
+        );
       }
 
   pub allowed-duration : (bytes : List ℕ) → AllowedWord (IsSpan seconds nanos) (duration s) bytes →

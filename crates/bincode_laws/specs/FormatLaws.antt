@@ -5,7 +5,8 @@ use Rattle.std.proofs.Math.Seq.{take-append_seam, drop-append_seam}
 use Rattle.std.proofs.lemmas.List.Elements.{All-nil, All-append, All-replicate}
 use Rattle.std.proofs.lemmas.Bool.{cases_lt, le-ltb, lt-ltb}
 use Rattle.std.proofs.lemmas.List.{append_cancel_right, take-append-drop, length-append, length-take, length-replicate}
-use Rattle.bincode_format.specs.Fault.{Fault, End, IsEnd, InvalidInteger, Zero, UnexpectedVariant, Utf8, InvalidChar, InvalidBool, InvalidDuration, NulAt, Other, LengthMismatch, EmptyEnum, OutsideUsize}
+use Rattle.bincode_format.specs.Fault.{Fault, End, IsEnd, InvalidInteger, Zero, UnexpectedVariant, Utf8}
+use Rattle.bincode_format.specs.Fault.{InvalidChar, InvalidBool, InvalidDuration, NulAt, Other, LengthMismatch, EmptyEnum, OutsideUsize}
 use Rattle.bincode_format.specs.Charge.{Step, Charge, Reserve, Release}
 use Rattle.bincode_format.specs.Format.{Format, Reading, Took, Failed, after_steps, then_read, done, refused, raw, step, ◌>>=◌, InTurn, WrittenInTurn}
 use Rattle.bincode_format.specs.Format.{FaultsLater, vague, vague_reading, unsure, written_as, settled, map_format, charged, elements, sequence}
@@ -218,7 +219,17 @@ module _ {A B : Type 0} (F : Format A) (G : A → Format B) (f : Lawful F) (g : 
       record {
         word = p.word ++ q.word;
         input_is = p.input_is ∙ ap (λ z. p.word ++ z) q.input_is ∙ sym (append_assoc p.word q.word rest);
-        is_word = record { first = p.word; second = q.word; head = b.head; first_steps = b.first_steps; second_steps = b.second_steps; bytes_are = refl; steps_are = b.steps_are; first_word = p.is_word; second_word = q.is_word };
+        is_word = record {
+          first = p.word;
+          second = q.word;
+          head = b.head;
+          first_steps = b.first_steps;
+          second_steps = b.second_steps;
+          bytes_are = refl;
+          steps_are = b.steps_are;
+          first_word = p.is_word;
+          second_word = q.is_word;
+        };
       }
 
   turn_fault_read : (input : List ℕ) (fault : Fault) (s : List Step) → F.Faults input fault s ⊎ FaultsLater F G input fault s → (F >>= G).read input ≡ Failed fault s

@@ -241,7 +241,8 @@ pub varint-lawful : (tags : ℕ → IntegerType) (name : IntegerType) (order : E
 unfolding varint written_as
 varint-lawful tags name order width w =
     rewritten-lawful _ (byte >>= λ first. behind order (InvalidInteger name (tags first)) first (first_byte width first))
-    (turn-lawful byte (λ first. behind order (InvalidInteger name (tags first)) first (first_byte width first)) byte-lawful (λ first. behind_lawful order (InvalidInteger name (tags first)) first (first_byte width first) (λ k. k)))
+    (turn-lawful byte (λ first. behind order (InvalidInteger name (tags first)) first (first_byte width first)) byte-lawful
+    (λ first. behind_lawful order (InvalidInteger name (tags first)) first (first_byte width first) (λ k. k)))
     (λ word n h. ([], subst (λ z. (varint tags name order width).Word z n []) (sym h.1) (shortest-word tags name order width n w h.0)))
 
 -- a number in either encoding is a lawful format
@@ -252,7 +253,8 @@ number_by-lawful tags name order width Variable w = varint-lawful tags name orde
 -- an unsigned number is a lawful format
 pub unsigned-lawful : (name : IntegerType) (width : ℕ) (setting : Setting) → IsWidth width → Lawful (unsigned name width setting)
 unfolding unsigned
-unsigned-lawful name width setting w = let F = number_by unsigned_tag name setting.order width setting.encoding in charged-lawful width F (number_by-lawful unsigned_tag name setting.order width setting.encoding w)
+unsigned-lawful name width setting w = let F = number_by unsigned_tag name setting.order width setting.encoding in charged-lawful width F
+    (number_by-lawful unsigned_tag name setting.order width setting.encoding w)
 
 -- a signed number is a lawful format
 pub signed-lawful : (name : IntegerType) (width : ℕ) (setting : Setting) → IsWidth width → Lawful (signed name width setting)
@@ -383,7 +385,8 @@ pub signed-balanced : (name : IntegerType) (width : ℕ) (setting : Setting) →
 unfolding signed
 signed-balanced name width setting =
     let F = number_by signed_tag name setting.order width setting.encoding in
-    charged-balanced width (map_format (integer_by width setting.encoding) F) (map-balanced (integer_by width setting.encoding) F (number_by-balanced signed_tag name setting.order width setting.encoding))
+    charged-balanced width (map_format (integer_by width setting.encoding) F)
+    (map-balanced (integer_by width setting.encoding) F (number_by-balanced signed_tag name setting.order width setting.encoding))
 
 -- an unsigned number of one byte is balanced
 pub unsigned_byte-balanced : Balanced unsigned_byte
@@ -433,7 +436,8 @@ unfolding signed_byte
 written-signed_byte z h =
     let e : from_two_complement 1 (two_complement 1 z) ≡ z = from_two_complement-two_complement 1 z (omega arith) h in
     charged_written 1 (map_format (from_two_complement 1) byte) (two_complement 1 z ∷ []) z
-    (subst (λ y. (map_format (from_two_complement 1) byte).Written (two_complement 1 z ∷ []) y) e (map_written (from_two_complement 1) byte (two_complement 1 z ∷ []) (two_complement 1 z) (byte_written (two_complement 1 z))))
+    (subst (λ y. (map_format (from_two_complement 1) byte).Written (two_complement 1 z ∷ []) y) e
+    (map_written (from_two_complement 1) byte (two_complement 1 z ∷ []) (two_complement 1 z) (byte_written (two_complement 1 z))))
 
 -- words, backwards
 

@@ -26,10 +26,19 @@ module _ {A : Type 0} (Means : A → Meaning → Type 0) (share : ℕ) (F : Form
   each_written [] bytes a = ([], refl, (a, refl))
   each_written (v ∷ vs) bytes (x, y, e, a, b) =
       let p = each_written vs y b in
-      let others : (map_format (λ others. a.meaning ∷ others) (elements (length vs) share F)).Written y (a.meaning ∷ p.0) = map-written (λ others. a.meaning ∷ others) (elements (length vs) share F) y p.0 p.2 in (
+      let others : (map_format (λ others. a.meaning ∷ others) (elements (length vs) share F)).Written y (a.meaning ∷ p.0) = map-written (λ others. a.meaning ∷ others)
+      (elements (length vs) share F) y p.0 p.2 in (
         a.meaning ∷ p.0,
         record { first = a.meaning; others = listed p.0; meaning_is = refl; is_first = a.is_meant; are_others = p.1 },
-        record { first = []; second = bytes; head = tt; bytes_are = refl; first_written = refl; second_written = record { first = x; second = y; head = a.meaning; bytes_are = e; first_written = a.is_written; second_written = others } },
+        record {
+          first = [];
+          second = bytes;
+          head = tt;
+          bytes_are = refl;
+          first_written = refl;
+          second_written =
+              record { first = x; second = y; head = a.meaning; bytes_are = e; first_written = a.is_written; second_written = others };
+        },
       )
 
   written_each : (vs : List A) (bytes : List ℕ) (ms : List Meaning) → IsListOf Means vs (listed ms) →
@@ -42,8 +51,14 @@ module _ {A : Type 0} (Means : A → Meaning → Type 0) (share : ℕ) (F : Form
       let e : Then i.first i.others ≡ Then u.head (listed t.0) = sym i.meaning_is ∙ ap listed t.1 in
       let a : i.first ≡ u.head = cc in
       let b : i.others ≡ listed t.0 = cc in
-      let p : bytes ≡ u.first ++ u.second = w.bytes_are ∙ ap (λ z. z ++ w.second) w.first_written ∙ u.bytes_are in
-      (u.first, u.second, p, record { meaning = u.head; is_meant = subst (Means v) a i.is_first; is_written = u.first_written }, written_each vs u.second t.0 (subst (IsListOf Means vs) b i.are_others) t.2)
+      let p : bytes ≡ u.first ++ u.second = w.bytes_are ∙ ap (λ z. z ++ w.second) w.first_written ∙ u.bytes_are in (
+        u.first,
+        u.second,
+        p,
+        record { meaning = u.head; is_meant = subst (Means v) a i.is_first; is_written = u.first_written },
+        written_each vs u.second t.0
+            (subst (IsListOf Means vs) b i.are_others) t.2,
+      )
 
   -- an array allows what its values do in turn
   pub array-allows : (n : ℕ) (vs : List A) (bytes : List ℕ) → length vs ≡ n → AllowsEach (λ v. AllowedWord (Means v) F) vs bytes → AllowedWord (IsListOf Means vs) (array n share F) bytes
@@ -71,7 +86,8 @@ module _ (share : ℕ) (F : Format Meaning) (x : HasWord F) where
   each_word (suc n) =
       let a = held-word F x in
       let b = each_word n in
-      let others : (map_format (λ others. a.0 ∷ others) (elements n share F)).Word b.0 (a.0 ∷ b.1) b.2 = settled-word (λ others. Ok (a.0 ∷ others)) (elements n share F) b.0 b.1 (a.0 ∷ b.1) b.2 refl b.4 in (
+      let others : (map_format (λ others. a.0 ∷ others) (elements n share F)).Word b.0 (a.0 ∷ b.1) b.2 = settled-word (λ others. Ok (a.0 ∷ others)) (elements n share F) b.0 b.1
+      (a.0 ∷ b.1) b.2 refl b.4 in (
         x.bytes ++ b.0,
         a.0 ∷ b.1,
         Release share ∷ (a.1 ++ b.2),
@@ -157,7 +173,8 @@ module _ {A : Type 0} (Means Given : A → Meaning → Type 0) (share : ℕ) (F 
       record { meaning = x.head; is_meant = (subst (Means v) i_first i.is_first, subst (Given w) j_first j.is_first); is_written = x.first_written } in
       parts-no_longer written bytes x.first x.second r.first r.second written_is bytes_are below
       (λ bytes_below. least v w (All-head P v vs h) x.first r.first r.head r.first_steps head bytes_below r.first_word (subst (Given w) k_first k.is_first))
-      (λ bytes_below. each_shortest vs ws (All-tail P v vs h) x.second r.second z.0 t.0 t.1 (subst (IsListOf Means vs) i_others i.are_others) (subst (IsListOf Given ws) j_others j.are_others) z.2 bytes_below t.3 (subst (IsListOf Given ws) k_others k.are_others))
+      (λ bytes_below. each_shortest vs ws (All-tail P v vs h) x.second r.second z.0 t.0 t.1 (subst (IsListOf Means vs) i_others i.are_others)
+      (subst (IsListOf Given ws) j_others j.are_others) z.2 bytes_below t.3 (subst (IsListOf Given ws) k_others k.are_others))
 
   pub array-shortest : (n : ℕ) (vs ws : List A) → length vs ≡ n → All P vs → Shortest (IsListOf Means vs) (IsListOf Given ws) (array n share F)
   unfolding step ◌>>=◌
@@ -173,7 +190,8 @@ module _ {A : Type 0} (Means Given : A → Meaning → Type 0) (share : ℕ) (F 
       let bytes_are : bytes ≡ v.second = v.bytes_are ∙ ap (λ z. z ++ v.second) v.first_word.0 in
       let word : (elements (length vs) share F).Word v.second t.0 v.second_steps = subst (λ j. (elements j share F).Word v.second t.0 v.second_steps) (sym e) v.second_word in
       let l : length x.second ≤ length v.second =
-      each_shortest vs ws h x.second v.second a.0 t.0 v.second_steps (subst (IsListOf Means vs) a.1 w.is_meant.0) (subst (IsListOf Given ws) a.1 w.is_meant.1) is_written (subst (All (λ b. b < 256)) bytes_are below) word (subst (IsListOf Given ws) k i) in
+      each_shortest vs ws h x.second v.second a.0 t.0 v.second_steps (subst (IsListOf Means vs) a.1 w.is_meant.0) (subst (IsListOf Given ws) a.1 w.is_meant.1) is_written
+      (subst (All (λ b. b < 256)) bytes_are below) word (subst (IsListOf Given ws) k i) in
       omega (arith, l, ap length written_is, ap length bytes_are)
 
 -- runs of one meaning are equal, if values are

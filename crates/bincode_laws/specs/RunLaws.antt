@@ -3,7 +3,8 @@ use Rattle.std.specs.Prelude.{◌≡◌, ℕ, suc, ◌+◌, ◌-◌, ◌*◌, �
 use Rattle.std.proofs.Common.{sym, ◌∙◌, ap, subst, arith, append_assoc, append-nil}
 use Rattle.bincode_base.specs.declared.error.DecodeError.{DecodeError}
 use Rattle.bincode_base.specs.declared.error.DecodeError.TheVariants.{LimitExceeded}
-use Rattle.bincode_format.specs.Fault.{Fault, End, InvalidInteger, Zero, UnexpectedVariant, Utf8, InvalidChar, InvalidBool, InvalidDuration, NulAt, Other, LengthMismatch, EmptyEnum, OutsideUsize, Tells}
+use Rattle.bincode_format.specs.Fault.{Fault, End, InvalidInteger, Zero, UnexpectedVariant, Utf8, InvalidChar}
+use Rattle.bincode_format.specs.Fault.{InvalidBool, InvalidDuration, NulAt, Other, LengthMismatch, EmptyEnum, OutsideUsize, Tells}
 use Rattle.bincode_format.specs.Charge.{Reserve, Release}
 use Rattle.bincode_format.specs.Device.{DeviceErrors, Takes}
 use Rattle.bincode_format.specs.Format.{Format, Reading, Took, Failed, done, step, ◌>>=◌, vague, vague_reading, unsure, map_format, elements, sequence}
@@ -13,7 +14,7 @@ use Rattle.bincode_laws.specs.Balance.{elements-holds}
 use Rattle.bincode_format.specs.Meaning.{Meaning, Nothing, listed}
 use Rattle.bincode_format.specs.Words.{array}
 use Rattle.bincode_format.specs.Answer.{Answer, Gave, Refused, PassedLimit, answer, and_then, weighed, gave_at, refused_at, charge_behind, Claimed, OverClaimed, unclaimed}
-use Rattle.bincode_laws.specs.AnswerLaws.{answer-then, answer-done, answer-release, answer-reserve, answer-reserve_passed, gave-grows, gave-recharged, gave-uncounted}
+use Rattle.bincode_laws.specs.AnswerLaws.{answer-then, answer-done, answer-release, step-answered, gave-grows, gave-recharged, gave-uncounted}
 use Rattle.bincode_format.specs.Decoding.{Decodes, Stops, by_fault, by_limit, by_memory, by_failure, by_device}
 use Rattle.bincode_laws.specs.DecodingLaws.{rose-then, takes-then, gave-takes, answer-next, map-gave, map-stops}
 use Rattle.bincode_format.specs.Run.{IsListOf, CanRelease, Held, RoomReturned}
@@ -73,12 +74,10 @@ tells_vague ended (OutsideUsize _) e h = h
 
 -- a claim of room that stands, and one that passes the limit
 reserved_answer : (limit : Option ℕ) (c n d : ℕ) (input : List ℕ) → Claimed limit c n d → answer limit (step (Reserve n)) input c ≡ Gave tt input d
-reserved_answer None c n d input h = answer-reserve None n input c tt ∙ ap (Gave tt input) (sym h)
-reserved_answer (Some limit) c n d input h = answer-reserve (Some limit) n input c h.0 ∙ ap (Gave tt input) (sym h.1)
+reserved_answer limit c n d input h = step-answered limit (Reserve n) input c (Some d) h
 
 over_reserved_answer : (limit : Option ℕ) (c n d : ℕ) (input : List ℕ) → OverClaimed limit c n d → answer limit (step (Reserve n)) input c ≡ PassedLimit
-over_reserved_answer None c n d input h = absurd h
-over_reserved_answer (Some limit) c n d input h = answer-reserve_passed limit n input c h.0
+over_reserved_answer limit c n d input h = step-answered limit (Reserve n) input c None h.0
 
 still_reserved : (limit : Option ℕ) (share : ℕ) (F : Format Meaning) → Lawful F → Balanced F →
     (n : ℕ) (rest : List ℕ) (c : ℕ) (m : Meaning) (rest' : List ℕ) (d : ℕ) → CanRelease limit c (suc n * share) →
@@ -107,7 +106,8 @@ module _ (limit : Option ℕ) (share : ℕ) (F : Format Meaning) where
   -- one element, whose share is released, and then the others
   element_then : (n : ℕ) (input : List ℕ) (c : ℕ) → answer limit (elements (suc n) share F) input c ≡ others_behind limit share F n (vague_answer (answer limit F input (unclaimed limit c share)))
   element_then n input c =
-      answer-next limit (step (Release share)) (λ _. unsure F >>= λ m. map_format (λ others. m ∷ others) (elements n share F)) input c tt input (unclaimed limit c share) (answer-release limit share input c)
+      answer-next limit (step (Release share)) (λ _. unsure F >>= λ m. map_format (λ others. m ∷ others) (elements n share F)) input c tt input (unclaimed limit c share)
+      (answer-release limit share input c)
       ∙ answer-then limit (unsure F) (λ m. map_format (λ others. m ∷ others) (elements n share F)) input (unclaimed limit c share)
       ∙ next_behind n (answer limit (unsure F) input (unclaimed limit c share))
       ∙ ap (others_behind limit share F n) (answer_unsure limit F input (unclaimed limit c share))
@@ -165,7 +165,8 @@ module _ (limit : Option ℕ) (share : ℕ) (F : Format Meaning) where
         Decodes Given (answer limit (array n share F) input c) rest after
     array-decodes Given rest after h p = record {
       meaning = listed p.meaning;
-      answer_is = map-gave listed limit (sequence n share F) input c p.meaning rest after (answer-next limit (step (Reserve (n * share))) (λ _. elements n share F) input c tt input d (reserved_answer limit c (n * share) d input h) ∙ p.answer_is);
+      answer_is = map-gave listed limit (sequence n share F) input c p.meaning rest after
+          (answer-next limit (step (Reserve (n * share))) (λ _. elements n share F) input c tt input d (reserved_answer limit c (n * share) d input h) ∙ p.answer_is);
       is_given = p.is_given;
     }
 
@@ -174,7 +175,8 @@ module _ (limit : Option ℕ) (share : ℕ) (F : Format Meaning) where
         Stops ended device H (answer limit (array n share F) input c) before after input rest e
     array-stops ended device H before after rest e h s =
         map-stops listed ended device H limit (sequence n share F) input c before after rest e
-        (subst (λ a. Stops ended device H a before after input rest e) (sym (answer-next limit (step (Reserve (n * share))) (λ _. elements n share F) input c tt input d (reserved_answer limit c (n * share) d input h))) s)
+        (subst (λ a. Stops ended device H a before after input rest e)
+        (sym (answer-next limit (step (Reserve (n * share))) (λ _. elements n share F) input c tt input d (reserved_answer limit c (n * share) d input h))) s)
 
     -- whose claim passes the limit
     pub array-passed : (ended : ℕ → DecodeError → Type 0) (device : DeviceErrors) (H : Type 0) (before after : ℕ) (rest : List ℕ) (e : DecodeError) →
@@ -182,7 +184,8 @@ module _ (limit : Option ℕ) (share : ℕ) (F : Format Meaning) where
         Stops ended device H (answer limit (array n share F) input c) before after input rest e
     array-passed ended device H before after rest e h k same =
         map-stops listed ended device H limit (sequence n share F) input c before after rest e
-        (by_limit (answer-then limit (step (Reserve (n * share))) (λ _. elements n share F) input c ∙ ap (λ o. and_then o (λ _ r after. answer limit (elements n share F) r after)) (over_reserved_answer limit c (n * share) d input h)) k ([], sym same))
+        (by_limit (answer-then limit (step (Reserve (n * share))) (λ _. elements n share F) input c ∙ ap (λ o. and_then o (λ _ r after. answer limit (elements n share F) r after))
+        (over_reserved_answer limit c (n * share) d input h)) k ([], sym same))
 
 -- one share of several
 pub one-releases : (limit : Option ℕ) (c share n : ℕ) → CanRelease limit c (suc n * share) → CanRelease limit c share

@@ -61,7 +61,8 @@ module _ {A B : Type 0} (test : A → Result B Fault) (F : Format A) where
 
 -- no word of a number is shorter, if none of its format is
 pub number-none_shorter : {A : Type 0} (integer : A → ℤ) (one : (a b : A) → integer a ≡ integer b → a ≡ b) (F : Format A) (a : A) →
-    ((written bytes : List ℕ) (s : List Step) → All (λ b. b < 256) bytes → F.Written written a → F.Word bytes a s → length written ≤ length bytes) → NoneShorter (IsNumber (integer a)) (IsNumber (integer a)) (map_format (λ k. Number (integer k)) F)
+    ((written bytes : List ℕ) (s : List Step) → All (λ b. b < 256) bytes → F.Written written a → F.Word bytes a s → length written ≤ length bytes) → NoneShorter (IsNumber (integer a))
+    (IsNumber (integer a)) (map_format (λ k. Number (integer k)) F)
 number-none_shorter integer one F a least written bytes m s w h u e =
     let p = word-settled (λ k. Ok (Number (integer k))) F bytes m s u in
     let i : ◌≡◌ {A = Result Meaning Fault} (Ok (Number (integer p.0))) (Ok (Number (integer a))) = p.2 ∙ ap Ok e in
@@ -81,7 +82,12 @@ signed-spelled name w z s more h =
     let width = width_in_bytes w in
     let bytes = spelling s.encoding s.order width (number_for width s.encoding z) in
     record {
-      has_word = record { bytes = bytes; are_bytes = spelling-are_bytes s.encoding s.order width (number_for width s.encoding z); is_allowed = signed-allows name width z s more (FitsIn-from_signed w z h) };
+      has_word = record {
+        bytes = bytes;
+        are_bytes = spelling-are_bytes s.encoding s.order width (number_for width s.encoding z);
+        is_allowed = signed-allows name width z s more
+            (FitsIn-from_signed w z h);
+      };
       one_length = alone-one_length _ bytes (allowed-signed name width z s);
       none_shorter = number-none_shorter (λ k. k) (λ a b e. e) (signed name width s) z (signed-least name width z s);
     }

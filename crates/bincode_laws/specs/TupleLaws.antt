@@ -115,7 +115,12 @@ pub units-laws : FormLaws units
 units-laws = record {
   lawful = λ s. nothing-lawful;
   balanced = λ s. nothing-balanced;
-  spelled = λ s v h. record { has_word = record { bytes = []; are_bytes = All-nil (λ b. b < 256); is_allowed = nothing-allows }; one_length = alone-one_length (AllowedWord IsNothing nothing) [] allowed-nothing; none_shorter = nothing-none_shorter };
+  spelled = λ s v h. record {
+    has_word = record { bytes = []; are_bytes = All-nil (λ b. b < 256); is_allowed = nothing-allows };
+    one_length = alone-one_length
+        (AllowedWord IsNothing nothing) [] allowed-nothing;
+    none_shorter = nothing-none_shorter;
+  };
   one_meaning = λ v w m n h k l. l;
   some_word = λ s. cell-has_word nothing nothing-lawful _ (record { bytes = []; are_bytes = All-nil (λ b. b < 256); is_allowed = nothing-allows });
 }

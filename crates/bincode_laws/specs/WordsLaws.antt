@@ -1,7 +1,7 @@
 -- The formats of the types keep the laws, and the balance of their steps.
 use Rattle.std.specs.Prelude.{◌≡◌, ◌<◌, ℕ, ◌==◌, if◌then◌else◌, Bool, true, false, Result, Ok, Err, refl}
 use Rattle.std.proofs.Common.{◌∙◌, ap, arith}
-use Rattle.std.proofs.lemmas.Bool.{eq-eqb, ne_eqb, eqb-true}
+use Rattle.std.proofs.lemmas.Bool.{ne_eqb, eqb-true}
 use Rattle.bincode_base.specs.declared.error.IntegerType.{IntegerType}
 use Rattle.bincode_format.specs.Fault.{Fault, Zero, InvalidBool}
 use Rattle.bincode_format.specs.Format.{Format, sequence}
@@ -17,10 +17,6 @@ use Rattle.bincode_format.specs.Words.{not_zero_of, not_zero_by, truth_of, truth
 module _ {A : Type 0} (name : IntegerType) (size : ℕ) (a : A) where
   pub not_zero-passes : 0 < size → not_zero_of name size a ≡ Ok a
   not_zero-passes h = rw (ne_eqb size 0 (λ e. omega (arith, e, h))) refl
-
-  -- 0 is its fault
-  pub zero-fails : size ≡ 0 → not_zero_of name size a ≡ Err (Zero name)
-  zero-fails e = rw (eq-eqb size 0 e) refl
 
   passed_by : (test : Bool) (b : A) → ◌≡◌ {A = Result A Fault} (if test then Err (Zero name) else Ok a) (Ok b) → a ≡ b
   passed_by true b e = absurd (cc)

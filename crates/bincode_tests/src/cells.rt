@@ -13,9 +13,9 @@ fn keeps_each_byte_in_a_cell(rt: HostRuntime) {
         cell.set(byte);
         let mut slice = [99u8; 2];
         let written = encode_into_slice(&cell, &mut slice, config::standard());
-        assert!(rt; matches!(written, Ok(1)) && slice == [byte, 99], "{byte}");
+        assert!(rt; matches!(written, Ok(1)) && slice == [byte, 99]);
         let read: Option<Cell<u8>> = read_front(alloc, &slice, 1);
-        assert!(rt; matches!(read, Some(cell) if cell.get() == byte), "{byte}");
+        assert!(rt; matches!(read, Some(cell) if cell.get() == byte));
     }
 }
 
@@ -25,14 +25,14 @@ fn keeps_each_byte_in_an_unborrowed_cell(rt: HostRuntime) {
     for byte in 0..=255u8 {
         let mut slice = [99u8; 2];
         let written = encode_into_slice(&RefCell::new(byte), &mut slice, config::standard());
-        assert!(rt; matches!(written, Ok(1)) && slice == [byte, 99], "{byte}");
+        assert!(rt; matches!(written, Ok(1)) && slice == [byte, 99]);
         let read: Option<RefCell<u8>> = read_front(alloc, &slice, 1);
         let Some(cell) = read else {
-            assert!(rt; false, "{byte}");
+            assert!(rt; false);
             return;
         };
-        assert!(rt; cell.try_borrow_mut().is_ok(), "{byte}");
-        assert!(rt; cell.into_inner() == byte, "{byte}");
+        assert!(rt; cell.try_borrow_mut().is_ok());
+        assert!(rt; cell.into_inner() == byte);
     }
 }
 

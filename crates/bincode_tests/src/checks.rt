@@ -7,16 +7,25 @@ use bincode::error::DecodeError;
 use bincode::{config, decode_from_slice, encode_into_slice};
 use std::alloc::Global;
 
-/// Whether the first bytes of the input, so many, are read as a value, and this is written as them into a longer slice
-/// of 99s. Behind them the input has 99s too, so that what is read and what is written can't be longer.
-pub fn keeps<T: Encode + Decode<()>>(alloc: Global, input: &[u8], length: usize) -> bool {
-    let read: Result<(T, usize), DecodeError> = decode_from_slice(alloc, input, config::standard());
+/// Whether these bytes are read as a value, and it is written as them. Behind them the input has 99s, as the slice has
+/// that is written, so that what is read and what is written can't be longer.
+pub fn keeps<T: Encode + Decode<()>>(alloc: Global, word: &[u8]) -> bool {
+    let mut input = [99u8; 100];
+    let Some(front) = input.get_mut(..word.len()) else {
+        return false;
+    };
+    front.copy_from_slice(word);
+    let read: Result<(T, usize), DecodeError> = decode_from_slice(
+        alloc,
+        &input,
+        config::standard(),
+    );
     let Ok((value, taken)) = read else {
         return false;
     };
     let mut slice = [99u8; 100];
     let written = encode_into_slice(value, &mut slice, config::standard());
-    taken == length && matches!(written, Ok(count) if count == length) && slice.starts_with(input)
+    taken == word.len() && matches!(written, Ok(count) if count == taken) && slice == input
 }
 
 /// Whether decoding a value fails, and then decoding a byte from the same decoder gives 77.

@@ -74,39 +74,3 @@ fn decodes_runs(rt: HostRuntime) {
     };
     assert!(rt; pair.as_slice() == [1, 2].as_slice());
 }
-
-/// Under a limit of 10 bytes six are claimed and five more are not; of these eleven three are released.
-fn claims_six_and_not_five<D: Decoder>(rt: &impl Abort, decoder: &mut D) {
-    assert!(rt; decoder.claim_bytes_read(6).is_ok());
-    assert!(rt; matches!(decoder.claim_bytes_read(5), Err(DecodeError::LimitExceeded)));
-    decoder.unclaim_bytes_read(3);
-}
-
-/// What is claimed.
-fn claim<D: Decoder>(decoder: &mut D, n: usize) -> Result<(), DecodeError> {
-    decoder.claim_bytes_read(n)
-}
-
-/// What is claimed for a container of numbers of four bytes that take 2^64.
-fn claim_all<D: Decoder>(decoder: &mut D) -> Result<(), DecodeError> {
-    decoder.claim_container_read::<u32>(1 << 62)
-}
-
-#[test]
-fn claims_and_releases(rt: HostRuntime) {
-    let ten = config::standard().with_limit::<10>();
-    let mut decoder = DecoderImpl::new(rt.alloc(), SliceReader::new(&[]), ten, ());
-    claims_six_and_not_five(&rt, &mut decoder);
-    assert!(rt; claim(&mut decoder, 2).is_ok());
-    assert!(rt;
-        matches!(
-            claim(&mut decoder, usize::MAX),
-            Err(DecodeError::LimitExceeded)
-        )
-    );
-    assert!(rt; claim(&mut decoder, 0).is_ok());
-    assert!(rt; matches!(claim_all(&mut decoder), Err(DecodeError::LimitExceeded)));
-    let free = config::standard();
-    let mut decoder = DecoderImpl::new(rt.alloc(), SliceReader::new(&[]), free, ());
-    assert!(rt; claim_all(&mut decoder).is_ok());
-}

@@ -10,7 +10,7 @@ use std::alloc::Global;
 use std::cmp::Reverse;
 use std::marker::PhantomData;
 use std::num::Wrapping;
-use std::ops::{Bound, Range, RangeInclusive};
+use std::ops::{Range, RangeInclusive};
 use std::time::Duration as StdDuration;
 
 /// Tuples whose parts are of one type, by their length.
@@ -46,35 +46,30 @@ type Fifteen<T> = (T, T, T, T, T, T, T, T, T, T, T, T, T, T, T);
 
 type Sixteen<T> = (T, T, T, T, T, T, T, T, T, T, T, T, T, T, T, T);
 
+/// The numbers from 0.
+const COUNT: [u8; 16] = [0, 1, 2, 3, 4, 5, 6, 7, 8, 9, 10, 11, 12, 13, 14, 15];
+
 /// Whether tuples of up to eight parts keep their words, of a type whose words are single bytes.
 fn keeps_tuples_of<T: Encode + Decode<()> + Copy>(alloc: Global) -> bool {
-    keeps::<One<T>>(alloc, &[0, 99], 1)
-        && keeps::<Two<T>>(alloc, &[0, 1, 99], 2)
-        && keeps::<Three<T>>(alloc, &[0, 1, 2, 99], 3)
-        && keeps::<Four<T>>(alloc, &[0, 1, 2, 3, 99], 4)
-        && keeps::<Five<T>>(alloc, &[0, 1, 2, 3, 4, 99], 5)
-        && keeps::<Six<T>>(alloc, &[0, 1, 2, 3, 4, 5, 99], 6)
-        && keeps::<Seven<T>>(alloc, &[0, 1, 2, 3, 4, 5, 6, 99], 7)
-        && keeps::<Eight<T>>(alloc, &[0, 1, 2, 3, 4, 5, 6, 7, 99], 8)
+    keeps::<One<T>>(alloc, &COUNT[..1])
+        && keeps::<Two<T>>(alloc, &COUNT[..2])
+        && keeps::<Three<T>>(alloc, &COUNT[..3])
+        && keeps::<Four<T>>(alloc, &COUNT[..4])
+        && keeps::<Five<T>>(alloc, &COUNT[..5])
+        && keeps::<Six<T>>(alloc, &COUNT[..6])
+        && keeps::<Seven<T>>(alloc, &COUNT[..7])
+        && keeps::<Eight<T>>(alloc, &COUNT[..8])
 }
 
 /// The same of nine to fifteen parts.
 fn keeps_longer_tuples_of<T: Encode + Decode<()> + Copy>(alloc: Global) -> bool {
-    keeps::<Nine<T>>(alloc, &[0, 1, 2, 3, 4, 5, 6, 7, 8, 99], 9)
-        && keeps::<Ten<T>>(alloc, &[0, 1, 2, 3, 4, 5, 6, 7, 8, 9, 99], 10)
-        && keeps::<Eleven<T>>(alloc, &[0, 1, 2, 3, 4, 5, 6, 7, 8, 9, 10, 99], 11)
-        && keeps::<Twelve<T>>(alloc, &[0, 1, 2, 3, 4, 5, 6, 7, 8, 9, 10, 11, 99], 12)
-        && keeps::<Thirteen<T>>(alloc, &[0, 1, 2, 3, 4, 5, 6, 7, 8, 9, 10, 11, 12, 99], 13)
-        && keeps::<Fourteen<T>>(
-            alloc,
-            &[0, 1, 2, 3, 4, 5, 6, 7, 8, 9, 10, 11, 12, 13, 99],
-            14,
-        )
-        && keeps::<Fifteen<T>>(
-            alloc,
-            &[0, 1, 2, 3, 4, 5, 6, 7, 8, 9, 10, 11, 12, 13, 14, 99],
-            15,
-        )
+    keeps::<Nine<T>>(alloc, &COUNT[..9])
+        && keeps::<Ten<T>>(alloc, &COUNT[..10])
+        && keeps::<Eleven<T>>(alloc, &COUNT[..11])
+        && keeps::<Twelve<T>>(alloc, &COUNT[..12])
+        && keeps::<Thirteen<T>>(alloc, &COUNT[..13])
+        && keeps::<Fourteen<T>>(alloc, &COUNT[..14])
+        && keeps::<Fifteen<T>>(alloc, &COUNT[..15])
 }
 
 #[test]
@@ -83,19 +78,19 @@ fn keeps_tuples(rt: HostRuntime) {
     assert!(rt; keeps_longer_tuples_of::<u8>(rt.alloc()));
 }
 
-/// The same of sixteen, and whether each part is read at its place: tuples of more than twelve parts have no `==`.
+/// Whether a tuple of sixteen keeps its word, and each part is read at its place: tuples of more than twelve parts have
+/// no `==`.
 fn keeps_sixteen_of<T>(alloc: Global, parts: [T; 16]) -> bool
 where
     T: Encode + Decode<()> + Copy + PartialEq,
 {
-    let input = [0, 1, 2, 3, 4, 5, 6, 7, 8, 9, 10, 11, 12, 13, 14, 15, 99];
-    let Some(v) = read_front::<Sixteen<T>>(alloc, &input, 16) else {
+    let Some(v) = read_front::<Sixteen<T>>(alloc, &COUNT, 16) else {
         return false;
     };
     let read = [
         v.0, v.1, v.2, v.3, v.4, v.5, v.6, v.7, v.8, v.9, v.10, v.11, v.12, v.13, v.14, v.15,
     ];
-    read == parts && keeps::<Sixteen<T>>(alloc, &input, 16)
+    read == parts && keeps::<Sixteen<T>>(alloc, &COUNT[..16])
 }
 
 #[test]
@@ -122,40 +117,29 @@ fn keeps_an_array_of_none(rt: HostRuntime) {
     assert!(rt; matches!(read, Ok((_, 0))));
 }
 
+/// The worked rows have no `Result` that is read. They have all other choices, characters and spans of time.
 #[test]
-fn keeps_choices(rt: HostRuntime) {
-    let alloc = rt.alloc();
-    assert!(rt; keeps::<(bool, char)>(alloc, &[1, 226, 130, 172, 99], 4));
-    assert!(rt; keeps::<Option<u8>>(alloc, &[1, 7, 99], 2));
-    assert!(rt; keeps::<Bound<u8>>(alloc, &[2, 7, 99], 2));
-    assert!(rt; keeps::<Duration>(alloc, &[4, 251, 44, 1, 99], 4));
+fn reads_an_outcome(rt: HostRuntime) {
+    let read: Option<Result<(), u8>> = read_front(rt.alloc(), &[1, 7, 99], 2);
+    assert!(rt; matches!(read, Some(Err(7))));
 }
 
 #[test]
 fn keeps_wrappers(rt: HostRuntime) {
     let alloc = rt.alloc();
-    assert!(rt; keeps::<Range<u8>>(alloc, &[1, 9, 99], 2));
-    assert!(rt; keeps::<Wrapping<u8>>(alloc, &[7, 99], 1));
-    assert!(rt; keeps::<Reverse<u8>>(alloc, &[8, 99], 1));
-    assert!(rt; keeps::<PhantomData<u8>>(alloc, &[99], 0));
-    assert!(rt; keeps::<()>(alloc, &[99], 0));
-    assert!(rt; keeps::<[u16; 2]>(alloc, &[5, 251, 44, 1, 99], 4));
+    assert!(rt; keeps::<Range<u8>>(alloc, &[1, 9]));
+    assert!(rt; keeps::<Wrapping<u8>>(alloc, &[7]));
+    assert!(rt; keeps::<Reverse<u8>>(alloc, &[8]));
+    assert!(rt; keeps::<PhantomData<u8>>(alloc, &[]));
+    assert!(rt; keeps::<[u16; 2]>(alloc, &[5, 251, 44, 1]));
 }
 
 #[test]
 fn keeps_an_inclusive_range(rt: HostRuntime) {
     let alloc = rt.alloc();
-    assert!(rt; keeps::<RangeInclusive<u8>>(alloc, &[1, 5, 99], 2));
+    assert!(rt; keeps::<RangeInclusive<u8>>(alloc, &[1, 5]));
     let read: Option<RangeInclusive<u8>> = read_front(alloc, &[1, 5, 99], 2);
     assert!(rt; matches!(read, Some(range) if range == (1..=5)));
-}
-
-#[test]
-fn keeps_an_outcome(rt: HostRuntime) {
-    let alloc = rt.alloc();
-    assert!(rt; keeps::<Result<(), u8>>(alloc, &[1, 7, 99], 2));
-    let read: Option<Result<(), u8>> = read_front(alloc, &[1, 7, 99], 2);
-    assert!(rt; matches!(read, Some(Err(7))));
 }
 
 /// Behind a tag, or a sum of seconds, that no value has.
@@ -188,18 +172,9 @@ fn collects_into_arrays(rt: HostRuntime) {
     assert!(rt; collected == Some(Err(7)));
     assert!(rt; items.next() == Some(Ok(4)));
 
-    let few: [Result<u8, u8>; 2] = [Ok(1), Ok(2)];
-    let collected: Option<Result<[u8; 3], u8>> = collect_into_array(&mut few.into_iter());
-    assert!(rt; collected == None);
-
     let many: [Result<u8, u8>; 4] = [Ok(1), Ok(2), Ok(3), Ok(4)];
     let mut items = many.into_iter();
     let collected: Option<Result<[u8; 3], u8>> = collect_into_array(&mut items);
     assert!(rt; collected == Some(Ok([1, 2, 3])));
     assert!(rt; items.next() == Some(Ok(4)));
-
-    let mut items = many.into_iter();
-    let collected: Option<Result<[u8; 0], u8>> = collect_into_array(&mut items);
-    assert!(rt; collected == Some(Ok([])));
-    assert!(rt; items.next() == Some(Ok(1)));
 }

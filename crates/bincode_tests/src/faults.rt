@@ -3,7 +3,7 @@
 use crate::checks::fault_of;
 use bincode::de::Named;
 use bincode::error::{DecodeError, EncodeError, IntegerType};
-use bincode::text::{ShortText, TypeName};
+use bincode::short_text::{ShortText, TypeName};
 use bincode::{NoOther, OneOf, Or};
 use std::alloc::{AllocError, Global};
 use std::mem::size_of;
@@ -81,7 +81,7 @@ fn is_shown(alloc: Global, kind: IntegerType, name: &str) -> bool {
 #[test]
 fn prints_integer_types(rt: HostRuntime) {
     for (kind, name) in NAMES {
-        assert!(rt; is_shown(rt.alloc(), kind, name), "{name}");
+        assert!(rt; is_shown(rt.alloc(), kind, name));
     }
 }
 

@@ -1,15 +1,15 @@
 //! Arrays of elements whose room has been reserved.
 ghost use Rattle.std.specs.Prelude.{◌≡◌, ◌*◌, ◌⊎◌, List, Option, Some, length, map, OnOk, IfOk};
 ghost use Rattle.bincode_format.specs.Format.{elements};
-ghost use Rattle.bincode_slots.specs.Slots.{SlotsFit};
+ghost use Rattle.bincode_base.specs.Slots.{SlotsFit};
 ghost use Rattle.bincode_format.specs.Run.{CanRelease, RoomReturned};
 ghost use Rattle.bincode_format.specs.Values.{RunRead};
 
 use crate::runs::{decode_next, decode_run};
 use crate::values::ReadValues;
 use bincode_base::error::DecodeError;
+use bincode_base::slots::{empty_slots, slots_fit, unwrap_all};
 use bincode_decoder::decoder::Decoder;
-use bincode_slots::{empty_slots, slots_fit, unwrap_all};
 use bincode_wire::wire::Wire;
 
 /// Fills each slot with an element, before which it releases the element's share.

@@ -1,5 +1,6 @@
 //! A way to read one value, by which the functions of this crate read more.
-ghost use Rattle.std.specs.Prelude.{◌≡◌, ◌*◌, length, IfSome, IfNone};
+ghost use Rattle.std.specs.Prelude.{◌≡◌, ◌*◌, length};
+ghost use Rattle.std.specs.Option.{MatchOption};
 ghost use Rattle.bincode_format.specs.Answer.{Allows};
 ghost use Rattle.bincode_format.specs.Run.{CanRelease};
 ghost use Rattle.bincode_format.specs.Values.{Reads, RunRead};
@@ -29,12 +30,12 @@ pub trait ReadValues<Context: Drop> {
         decoder: &mut D,
         values: &mut [Self::Value],
     ) -> Option<Result<(), DecodeError>>
-        requires room { CanRelease D.C.bound (D.charge decoder.old) (length values.old * Self.Value.claim) }
-        requires allowed { Allows D.C.bound (D.charge decoder.old) }
-        ensures none { IfNone result (decoder.new ≡ decoder.old) }
-        ensures some { IfSome result (λ r. RunRead D.told D.rest D.charge D.failures D.place D.C.bound D.R.ended
-            D.R.device Self.Value.grows Self.Value.claim (Self.Value.format D.C.setting) Self.Value.given
-            (length values.old) (λ _. values.new) r decoder.old decoder.new) };
+        requires { CanRelease D.C.bound (D.charge decoder.old) (length values.old * Self.Value.claim)
+            × Allows D.C.bound (D.charge decoder.old) }
+        ensures { MatchOption result (decoder.new ≡ decoder.old) (λ r. RunRead D.told D.rest D.charge D.failures
+            D.place D.C.bound D.R.ended D.R.device Self.Value.grows Self.Value.claim
+            (Self.Value.format D.C.setting) Self.Value.given (length values.old) (λ _. values.new) r
+            decoder.old decoder.new) };
 }
 
 /// An array of a type's values.

@@ -87,7 +87,8 @@ from_high_first-std (suc k) (b ∷ bytes) e =
     let l : length bytes ≡ suc k = omega arith in
     let r : length (reverse bytes) ≡ suc k = length-reverse bytes ∙ l in
     sum_first (λ i. byte_worth (suc k - i) (slice_index (b ∷ bytes) i)) k
-    ∙ ap (λ z. byte_worth (suc k - 0) b + z) (sum_same (λ i. byte_worth (suc k - suc i) (slice_index bytes i)) (λ i. byte_worth (k - i) (slice_index bytes i)) k (λ i le. let d : suc k - suc i ≡ k - i = omega arith in ap (λ z. byte_worth z (slice_index bytes i)) d)
+    ∙ ap (λ z. byte_worth (suc k - 0) b + z) (sum_same (λ i. byte_worth (suc k - suc i) (slice_index bytes i)) (λ i. byte_worth (k - i) (slice_index bytes i)) k
+    (λ i le. let d : suc k - suc i ≡ k - i = omega arith in ap (λ z. byte_worth z (slice_index bytes i)) d)
     ∙ from_high_first-std k bytes l)
     ∙ last
   where

@@ -1,10 +1,12 @@
 -- Reading and writing the words of numbers, part by part.
-use Rattle.std.specs.Prelude.{◌≡◌, ◌⊎◌, ℕ, ℤ, pos, negsuc, FitsSigned, Result, IfErr, ◌-◌, ◌<◌, ◌≤◌, ◌^◌, ◌==◌, ◌&&◌, ◌≢◌, nat_le, true, false, List, [], ◌∷◌, ◌++◌, length, Some, refl, slice_index}
+use Rattle.std.specs.Prelude.{◌≡◌, ◌⊎◌, ℕ, ℤ, pos, negsuc, FitsSigned, Result, Err, IfErr, ◌-◌, ◌<◌, ◌≤◌, ◌^◌}
+use Rattle.std.specs.Prelude.{◌==◌, ◌&&◌, ◌≢◌, nat_le, true, false, List, [], ◌∷◌, ◌++◌, length, Some, refl, slice_index}
 use Rattle.std.proofs.Common.{sym, ◌∙◌, inl, inr, ap, arith, append-nil, append_assoc, rules}
 use Rattle.std.proofs.Math.Nat.{pow-le-pow_right}
 use Rattle.std.specs.Int.{Width, w8, w16, w32, w64, w128}
 use Rattle.std.proofs.lemmas.Int.{to_z-of_z, ints}
-use Rattle.std.proofs.lemmas.Result.{IfErr-weaker}
+use Rattle.std.specs.Borrow.{GName}
+use Rattle.std.proofs.lemmas.Result.{IfErr-weaker, on_ok_weaker}
 use Rattle.std.proofs.lemmas.Bool.{le-leb, lt-leb}
 use Rattle.std.proofs.lemmas.Bool.Decides.{nat_tests}
 use Rattle.bincode_base.specs.declared.config.Endianness.{Endianness}
@@ -19,8 +21,8 @@ use Rattle.bincode_laws.specs.FormatLaws.{raw-lawful}
 use Rattle.bincode_laws.specs.IntegerLaws.{byte-lawful}
 use Rattle.bincode_base.specs.declared.config.IntEncoding.{IntEncoding}
 use Rattle.bincode_base.specs.declared.config.IntEncoding.TheVariants.{Fixed}
-use Rattle.bincode_format.specs.Integers.{spelling_pieces, number_for, byte, digits, first_of, varint, first_byte, Itself, Before, TooWide, behind, width_in_bytes}
-use Rattle.bincode_format.specs.Device.{DeviceErrors, FallsShort, Rose, Takes, StopsAmong}
+use Rattle.bincode_format.specs.Integers.{spelling, spelling_pieces, number_for, byte, digits, first_of, varint, first_byte, Itself, Before, TooWide, behind, width_in_bytes}
+use Rattle.bincode_format.specs.Device.{DeviceErrors, FallsShort, Rose, Takes, StopsAmong, TakesPiece, TakesPieces}
 use mir.Val.{to_z, of_z, Fits}
 use Rattle.bincode_format.specs.Reads.{Misreads, by_fault, by_device, by_failure}
 
@@ -228,20 +230,44 @@ fits-bits w32 n h = search rules
 fits-bits w64 n h = search rules
 fits-bits w128 n h = search rules
 
--- a fixed number is one piece
-module _ {W : Type 0} (adds : W → List ℕ → W → Type 0) (refuses : W → List ℕ → EncodeError → W → Type 0) (none : (w : W) → adds w [] w) {T : Type 0}
-    (r : Result T EncodeError) (piece : List ℕ) (before after : W) (order : Endianness) (width : ℕ) (encoding : IntEncoding)
-    (e : encoding ≡ Fixed) where
-  pub fixed-refused : (n : ℕ) → piece ≡ digits_of order width n → IfErr r (λ e. refuses before piece e after) →
-      IfErr r (λ e. StopsAmong adds refuses (spelling_pieces encoding order width n) before e after)
-  fixed-refused n p h = rw e (IfErr-weaker r _ _ (λ d k. rw (sym p) (stops-first adds refuses none piece [] before after d k)) h)
+-- words that are written by pieces
+module _ {W : Type 0} {adds : W → List ℕ → W → Type 0} {refuses : W → List ℕ → EncodeError → W → Type 0} {place : W → List GName} {failures : W → ℕ} {before after : W} where
+  -- the writer refused the first piece
+  pub pieces-first : {word piece : List ℕ} {others : List (List ℕ)} {e : EncodeError} → ((w : W) → adds w [] w) →
+      TakesPiece adds refuses failures place piece (Err e) before after → TakesPieces adds refuses place word (piece ∷ others) (Err e) before after
+  pieces-first {piece = piece} {others = others} {e = e} none h = record { ok = tt; err = stops-first adds refuses none piece others before after e h.err; same_place = h.same_place }
 
-  pub fixed_signed-refused : (w : Width) (z : ℤ) → FitsSigned w z → piece ≡ digits_of order width (two_complement width (to_z w (of_z w z))) →
-      IfErr r (λ e. refuses before piece e after) →
-      IfErr r (λ e. StopsAmong adds refuses (spelling_pieces encoding order width (number_for width encoding z)) before e after)
-  fixed_signed-refused w z fits p h =
-      let q = p ∙ ap (λ y. digits_of order width (two_complement width y)) (to_z-of_z w z fits) in
-      rw e (IfErr-weaker r _ _ (λ d k. rw (sym q) (stops-first adds refuses none piece [] before after d k)) h)
+  -- a word of one piece
+  pub pieces-one : {word piece : List ℕ} {pieces : List (List ℕ)} {r : Result (Unit {0}) EncodeError} → ((w : W) → adds w [] w) → word ≡ piece → pieces ≡ piece ∷ [] →
+      TakesPiece adds refuses failures place piece r before after → TakesPieces adds refuses place word pieces r before after
+  pieces-one {piece = piece} {r = r} none e p h = record {
+    ok = rw e h.ok;
+    err = rw p (IfErr-weaker r _ _ (λ d k. stops-first adds refuses none piece [] before after d k) h.err);
+    same_place = h.same_place;
+  }
+
+  -- a word of two pieces, of which the first was added
+  pub pieces-two : {first piece : List ℕ} {middle : W} {r : Result (Unit {0}) EncodeError} → ((a b c : W) (x y : List ℕ) → adds a x b → adds b y c → adds a (x ++ y) c) →
+      adds before first middle → place middle ≡ place before → TakesPiece adds refuses failures place piece r middle after →
+      TakesPieces adds refuses place (first ++ piece) (first ∷ piece ∷ []) r before after
+  pieces-two {first = first} {piece = piece} {middle = middle} {r = r} join added same h = record {
+    ok = on_ok_weaker _ (λ k. join before middle after first piece added k) h.ok;
+    err = IfErr-weaker r _ _ (λ d k. stops-second adds refuses first piece [] before middle after d added k) h.err;
+    same_place = h.same_place ∙ same;
+  }
+
+  -- a fixed number is one piece
+  module _ {r : Result (Unit {0}) EncodeError} {piece : List ℕ} {encoding : IntEncoding} (none : (w : W) → adds w [] w) (e : encoding ≡ Fixed) (order : Endianness) (width : ℕ) where
+    pub pieces-fixed : (n : ℕ) → piece ≡ digits_of order width n → TakesPiece adds refuses failures place piece r before after →
+        TakesPieces adds refuses place (spelling encoding order width n) (spelling_pieces encoding order width n) r before after
+    pieces-fixed n p h = rw e (pieces-one none (sym p) (ap (λ z. z ∷ []) (sym p)) h)
+
+    pub pieces-fixed_signed : (w : Width) (z : ℤ) → FitsSigned w z → piece ≡ digits_of order width (two_complement width (to_z w (of_z w z))) →
+        TakesPiece adds refuses failures place piece r before after →
+        TakesPieces adds refuses place (spelling encoding order width (number_for width encoding z)) (spelling_pieces encoding order width (number_for width encoding z)) r before after
+    pieces-fixed_signed w z fits p h =
+        let q = p ∙ ap (λ y. digits_of order width (two_complement width y)) (to_z-of_z w z fits) in
+        rw e (pieces-one none (sym q) (ap (λ y. y ∷ []) (sym q)) h)
 
 -- for the proofs of numbers
-pub ruleset by_number = (mapped-misreads, signed-took, fixed-refused, fixed_signed-refused)
+pub ruleset by_number = (mapped-misreads, signed-took)

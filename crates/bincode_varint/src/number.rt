@@ -1,13 +1,13 @@
 //! Integers of 2, 4, 8 or 16 bytes, in either encoding.
 #![tactic(auto, using(crate::proofs::Words::by_number))]
 
-ghost use Rattle.std.specs.Prelude.{◌≡◌, ℕ, IfErr, OnOk, refl};
+ghost use Rattle.std.specs.Prelude.{ℕ, refl};
 ghost use Rattle.bincode_base.specs.declared.error.IntegerType.TheVariants.{U16, U32, U64, U128, Usize, I16, I32, I64};
 ghost use Rattle.bincode_base.specs.declared.error.IntegerType.TheVariants.{I128, Isize};
 ghost use Rattle.bincode_format.specs.Integers.{Two, Four, Eight, Sixteen};
 ghost use Rattle.bincode_format.specs.Spelling.{Spelling, unsigned_spelling, signed_spelling};
 ghost use Rattle.bincode_laws.specs.SpellingLaws.{SpellingLaws, unsigned_spelling-laws, signed_spelling-laws};
-ghost use Rattle.bincode_format.specs.Device.{StopsAmong};
+ghost use Rattle.bincode_format.specs.Device.{TakesPieces};
 ghost use Rattle.bincode_format.specs.Reads.{ReadsWord};
 
 use crate::bytes::{
@@ -57,10 +57,9 @@ pub trait Integer: Drop + Sized {
         endian: Endianness,
         encoding: IntEncoding,
     ) -> Result<(), EncodeError>
-        ensures ok { OnOk result (W.adds writer.old (spelling.written endian encoding self) writer.new) }
-        ensures err { IfErr result (λ e. StopsAmong W.adds W.refuses
-            (spelling.pieces endian encoding self) writer.old e writer.new) }
-        ensures place { W.place writer.new ≡ W.place writer.old };
+        ensures { TakesPieces W.adds W.refuses W.place (spelling.written endian encoding self)
+            (spelling.pieces endian encoding self)
+            result writer.old writer.new };
 }
 
 impl Integer for u16 {

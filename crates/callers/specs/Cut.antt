@@ -1,6 +1,6 @@
 -- By what a line that is cut fails.
 use Rattle.std.specs.Prelude.{◌≡◌}
-use Rattle.bincode_base.specs.declared.text.Text.{Text}
+use Rattle.bincode_base.specs.declared.short_text.Text.{Text}
 use Rattle.bincode_base.specs.declared.error.DecodeError.TheVariants.{Other}
 use Rattle.bincode_format.specs.Device.{DeviceErrors}
 

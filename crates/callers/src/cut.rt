@@ -10,7 +10,7 @@ ghost use Rattle.callers.specs.Cut.{cut_errors};
 use bincode::de::read::{Reader, SliceReader};
 use bincode::enc::write::Writer;
 use bincode::error::{DecodeError, EncodeError};
-use bincode_base::text::ShortText;
+use bincode_base::short_text::ShortText;
 
 /// Reads a slice until the line is cut, and counts each read after that.
 #[derive(Drop)]

@@ -3,7 +3,7 @@
 use bincode::de::{FromParts, Named};
 use bincode::enc::{Encode, EncodeParts, Encoder, encode_variant};
 use bincode::error::EncodeError;
-use bincode::text::TypeName;
+use bincode::short_text::TypeName;
 use bincode::{NoOther, OneOf, Or, Parted};
 
 /// A request: nothing, the value of a key, or a key with its value.

@@ -109,7 +109,8 @@ WholeRows bool unit pair five two_u16 = AllHold (
     (pair standard).read (1 ∷ 251 ∷ 44 ∷ 1 ∷ []) gives Took (listed (number 1 ∷ number 300 ∷ [])) [] (Charge 1 ∷ Charge 4 ∷ []) ∷
     (pair standard).read (1 ∷ []) gives Failed (End (Some 1)) (Charge 1 ∷ Charge 4 ∷ []) ∷
     (five standard).read (0 ∷ 10 ∷ 251 ∷ 32 ∷ 78 ∷ 97 ∷ 0 ∷ 1 ∷ 2 ∷ 3 ∷ [])
-    gives Took (listed (number 0 ∷ number 10 ∷ number 10000 ∷ Character 97 ∷ listed (number 0 ∷ number 1 ∷ number 2 ∷ number 3 ∷ []) ∷ [])) [] (Charge 1 ∷ Charge 4 ∷ Charge 16 ∷ Charge 1 ∷ Reserve 4 ∷ Release 1 ∷ Charge 1 ∷ Release 1 ∷ Charge 1 ∷ Release 1 ∷ Charge 1 ∷ Release 1 ∷ Charge 1 ∷ []) ∷
+    gives Took (listed (number 0 ∷ number 10 ∷ number 10000 ∷ Character 97 ∷ listed (number 0 ∷ number 1 ∷ number 2 ∷ number 3 ∷ []) ∷ [])) []
+    (Charge 1 ∷ Charge 4 ∷ Charge 16 ∷ Charge 1 ∷ Reserve 4 ∷ Release 1 ∷ Charge 1 ∷ Release 1 ∷ Charge 1 ∷ Release 1 ∷ Charge 1 ∷ Release 1 ∷ Charge 1 ∷ []) ∷
     (two_u16 standard).read (5 ∷ 6 ∷ []) gives Took (listed (number 5 ∷ number 6 ∷ [])) [] (Reserve 4 ∷ Release 2 ∷ Charge 2 ∷ Release 2 ∷ Charge 2 ∷ []) ∷
     [])
 

@@ -1,8 +1,7 @@
 //! Signed numbers, written by zigzag.
-ghost use Rattle.std.specs.Prelude.{◌≡◌, OnOk, IfErr};
 ghost use Rattle.bincode_format.specs.Number.{zigzag};
 ghost use Rattle.bincode_format.specs.Integers.{shortest, shortest_pieces};
-ghost use Rattle.bincode_format.specs.Device.{StopsAmong};
+ghost use Rattle.bincode_format.specs.Device.{TakesPieces};
 
 use super::{varint_encode_u16, varint_encode_u32, varint_encode_u64, varint_encode_u128};
 use crate::zigzag::zigzag;
@@ -18,10 +17,9 @@ pub fn varint_encode_i16<W: Writer>(
     endian: Endianness,
     val: i16,
 ) -> Result<(), EncodeError>
-    ensures ok { OnOk result (W.adds writer.old (shortest endian (zigzag val)) writer.new) }
-    ensures err { IfErr result (λ e. StopsAmong W.adds W.refuses
-        (shortest_pieces endian (zigzag val)) writer.old e writer.new) }
-    ensures place { W.place writer.new ≡ W.place writer.old }
+    ensures { TakesPieces W.adds W.refuses W.place (shortest endian (zigzag val))
+        (shortest_pieces endian (zigzag val))
+        result writer.old writer.new }
 {
     varint_encode_u16(writer, endian, zigzag(i128::from(val)) as u16)
 }
@@ -33,10 +31,9 @@ pub fn varint_encode_i32<W: Writer>(
     endian: Endianness,
     val: i32,
 ) -> Result<(), EncodeError>
-    ensures ok { OnOk result (W.adds writer.old (shortest endian (zigzag val)) writer.new) }
-    ensures err { IfErr result (λ e. StopsAmong W.adds W.refuses
-        (shortest_pieces endian (zigzag val)) writer.old e writer.new) }
-    ensures place { W.place writer.new ≡ W.place writer.old }
+    ensures { TakesPieces W.adds W.refuses W.place (shortest endian (zigzag val))
+        (shortest_pieces endian (zigzag val))
+        result writer.old writer.new }
 {
     varint_encode_u32(writer, endian, zigzag(i128::from(val)) as u32)
 }
@@ -48,10 +45,9 @@ pub fn varint_encode_i64<W: Writer>(
     endian: Endianness,
     val: i64,
 ) -> Result<(), EncodeError>
-    ensures ok { OnOk result (W.adds writer.old (shortest endian (zigzag val)) writer.new) }
-    ensures err { IfErr result (λ e. StopsAmong W.adds W.refuses
-        (shortest_pieces endian (zigzag val)) writer.old e writer.new) }
-    ensures place { W.place writer.new ≡ W.place writer.old }
+    ensures { TakesPieces W.adds W.refuses W.place (shortest endian (zigzag val))
+        (shortest_pieces endian (zigzag val))
+        result writer.old writer.new }
 {
     varint_encode_u64(writer, endian, zigzag(i128::from(val)) as u64)
 }
@@ -63,10 +59,9 @@ pub fn varint_encode_i128<W: Writer>(
     endian: Endianness,
     val: i128,
 ) -> Result<(), EncodeError>
-    ensures ok { OnOk result (W.adds writer.old (shortest endian (zigzag val)) writer.new) }
-    ensures err { IfErr result (λ e. StopsAmong W.adds W.refuses
-        (shortest_pieces endian (zigzag val)) writer.old e writer.new) }
-    ensures place { W.place writer.new ≡ W.place writer.old }
+    ensures { TakesPieces W.adds W.refuses W.place (shortest endian (zigzag val))
+        (shortest_pieces endian (zigzag val))
+        result writer.old writer.new }
 {
     varint_encode_u128(writer, endian, zigzag(val))
 }
@@ -78,10 +73,9 @@ pub fn varint_encode_isize<W: Writer>(
     endian: Endianness,
     val: isize,
 ) -> Result<(), EncodeError>
-    ensures ok { OnOk result (W.adds writer.old (shortest endian (zigzag val)) writer.new) }
-    ensures err { IfErr result (λ e. StopsAmong W.adds W.refuses
-        (shortest_pieces endian (zigzag val)) writer.old e writer.new) }
-    ensures place { W.place writer.new ≡ W.place writer.old }
+    ensures { TakesPieces W.adds W.refuses W.place (shortest endian (zigzag val))
+        (shortest_pieces endian (zigzag val))
+        result writer.old writer.new }
 {
     varint_encode_u64(writer, endian, zigzag(val as i128) as u64)
 }

@@ -1,7 +1,7 @@
 //! Unsigned numbers, written in their shortest spelling.
-ghost use Rattle.std.specs.Prelude.{◌≡◌, [], ◌∷◌, OnOk, IfErr};
+ghost use Rattle.std.specs.Prelude.{[], ◌∷◌};
 ghost use Rattle.bincode_format.specs.Integers.{shortest, shortest_pieces};
-ghost use Rattle.bincode_format.specs.Device.{StopsAmong};
+ghost use Rattle.bincode_format.specs.Device.{TakesPieces};
 
 use super::{SINGLE_BYTE_MAX, U16_BYTE, U32_BYTE, U64_BYTE, U128_BYTE};
 use crate::bytes::{bytes_of_u16, bytes_of_u32, bytes_of_u64, bytes_of_u128};
@@ -17,10 +17,8 @@ pub fn varint_encode_u16<W: Writer>(
     endian: Endianness,
     val: u16,
 ) -> Result<(), EncodeError>
-    ensures ok { OnOk result (W.adds writer.old (shortest endian val) writer.new) }
-    ensures err { IfErr result (λ e. StopsAmong W.adds W.refuses (shortest_pieces endian val)
-        writer.old e writer.new) }
-    ensures place { W.place writer.new ≡ W.place writer.old }
+    ensures { TakesPieces W.adds W.refuses W.place (shortest endian val) (shortest_pieces endian val)
+        result writer.old writer.new }
 {
     if val <= u16::from(SINGLE_BYTE_MAX) {
         writer.write(&[val as u8])
@@ -36,10 +34,8 @@ pub fn varint_encode_u32<W: Writer>(
     endian: Endianness,
     val: u32,
 ) -> Result<(), EncodeError>
-    ensures ok { OnOk result (W.adds writer.old (shortest endian val) writer.new) }
-    ensures err { IfErr result (λ e. StopsAmong W.adds W.refuses (shortest_pieces endian val)
-        writer.old e writer.new) }
-    ensures place { W.place writer.new ≡ W.place writer.old }
+    ensures { TakesPieces W.adds W.refuses W.place (shortest endian val) (shortest_pieces endian val)
+        result writer.old writer.new }
 {
     if val <= u32::from(SINGLE_BYTE_MAX) {
         writer.write(&[val as u8])
@@ -57,10 +53,8 @@ pub fn varint_encode_u64<W: Writer>(
     endian: Endianness,
     val: u64,
 ) -> Result<(), EncodeError>
-    ensures ok { OnOk result (W.adds writer.old (shortest endian val) writer.new) }
-    ensures err { IfErr result (λ e. StopsAmong W.adds W.refuses (shortest_pieces endian val)
-        writer.old e writer.new) }
-    ensures place { W.place writer.new ≡ W.place writer.old }
+    ensures { TakesPieces W.adds W.refuses W.place (shortest endian val) (shortest_pieces endian val)
+        result writer.old writer.new }
 {
     if val <= u64::from(SINGLE_BYTE_MAX) {
         writer.write(&[val as u8])
@@ -80,10 +74,8 @@ pub fn varint_encode_u128<W: Writer>(
     endian: Endianness,
     val: u128,
 ) -> Result<(), EncodeError>
-    ensures ok { OnOk result (W.adds writer.old (shortest endian val) writer.new) }
-    ensures err { IfErr result (λ e. StopsAmong W.adds W.refuses (shortest_pieces endian val)
-        writer.old e writer.new) }
-    ensures place { W.place writer.new ≡ W.place writer.old }
+    ensures { TakesPieces W.adds W.refuses W.place (shortest endian val) (shortest_pieces endian val)
+        result writer.old writer.new }
 {
     if val <= u128::from(SINGLE_BYTE_MAX) {
         writer.write(&[val as u8])
@@ -104,10 +96,8 @@ pub fn varint_encode_usize<W: Writer>(
     endian: Endianness,
     val: usize,
 ) -> Result<(), EncodeError>
-    ensures ok { OnOk result (W.adds writer.old (shortest endian val) writer.new) }
-    ensures err { IfErr result (λ e. StopsAmong W.adds W.refuses (shortest_pieces endian val)
-        writer.old e writer.new) }
-    ensures place { W.place writer.new ≡ W.place writer.old }
+    ensures { TakesPieces W.adds W.refuses W.place (shortest endian val) (shortest_pieces endian val)
+        result writer.old writer.new }
 {
     varint_encode_u64(writer, endian, val as u64)
 }
@@ -115,10 +105,8 @@ pub fn varint_encode_usize<W: Writer>(
 /// Writes a tag, and then the bytes behind it.
 #[inline(always)]
 fn write_tagged<W: Writer>(writer: &mut W, tag: u8, bytes: &[u8]) -> Result<(), EncodeError>
-    ensures ok { OnOk result (W.adds writer.old (tag ∷ bytes.now) writer.new) }
-    ensures err { IfErr result (λ e. StopsAmong W.adds W.refuses ((tag ∷ []) ∷ bytes.now ∷ [])
-        writer.old e writer.new) }
-    ensures place { W.place writer.new ≡ W.place writer.old }
+    ensures { TakesPieces W.adds W.refuses W.place (tag ∷ bytes.now) ((tag ∷ []) ∷ bytes.now ∷ [])
+        result writer.old writer.new }
 {
     writer.write(&[tag])?;
     writer.write(bytes)

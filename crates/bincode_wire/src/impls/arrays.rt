@@ -2,7 +2,7 @@
 ghost use Rattle.std.specs.Prelude.{◌≡◌, ◌*◌, ◌-◌, ◌^◌, ◌⊎◌, min, length};
 ghost use Rattle.std.specs.List.{All};
 ghost use Rattle.std.proofs.lemmas.List.Elements.{All-weaker};
-ghost use Rattle.bincode_slots.specs.Slots.{SlotsFit};
+ghost use Rattle.bincode_base.specs.Slots.{SlotsFit};
 ghost use Rattle.bincode_format.specs.Words.{array};
 ghost use Rattle.bincode_laws.specs.WordsLaws.{array-lawful, array-balanced};
 ghost use Rattle.bincode_format.specs.Run.{IsListOf};

@@ -6,7 +6,8 @@ use Rattle.bincode.proofs.slice.decode_from_slice.Goals as goal
 pub returns-in_err-value-clause-found : goal.returns-in_err-value-clause-found
 returns-in_err-value-clause-found g c =
     let p = err_from_is_err_and c.from_residual.result c.from_residual.ensures.1 in
-    λ word more m s i w within. rw (p.1, p.2) (stopped-word _ (g.met.D.Wire.lawful _) (g.met.D.Wire.balanced _) _ _ _ _ _ (rw c.new-reader.ensures at (c.in_err-value.ensures.err tt)) word more m s i w within)
+    λ word more m s i w within. rw (p.1, p.2) (stopped-word _ (g.met.D.Wire.lawful _) (g.met.D.Wire.balanced _) _ _ _ _ _
+    (rw c.new-reader.ensures at (c.in_err-value.ensures.err tt)) word more m s i w within)
 
 pub returns-in_err-value-clause-fault : goal.returns-in_err-value-clause-fault
 returns-in_err-value-clause-fault g c =

@@ -1,27 +1,21 @@
-use Rattle.std.proofs.Common.{refl}
+use Rattle.std.proofs.Common.{refl, inl, inr}
 use Rattle.std.proofs.lemmas.Result.{err_from_is_err_and}
 use Rattle.bincode_format.specs.Integers.{signed_byte}
-use Rattle.bincode_format.specs.Meaning.{Number}
 use Rattle.bincode_laws.specs.DecodingLaws.{charged-passed}
-use Rattle.bincode_decoder.proofs.ReadAnswers.{claim-passed, charged-reads, number-reads}
+use Rattle.bincode_decoder.proofs.ReadAnswers.{claim-passed, charged-reads, integer-reads}
 use Rattle.bincode_decoder.proofs.integers.decode_signed_byte.Goals as goal
 
-pub returns-in_err-claim_bytes_read-clause-reads : goal.returns-in_err-claim_bytes_read-clause-reads
+pub returns-in_err-claim_bytes_read : goal.returns-in_err-claim_bytes_read
 unfolding signed_byte
-returns-in_err-claim_bytes_read-clause-reads g c =
+returns-in_err-claim_bytes_read g c =
     let p = err_from_is_err_and c.from_residual.result c.from_residual.ensures.1 in
     let h = c.in_err-claim_bytes_read.ensures.claimed.err in
     let kept = c.claim_bytes_read.ensures.kept in
-    rw (p.1, p.2) (claim-passed kept _ h.1 (charged-passed _ _ _ _ _ _ _ _ _ _ _ _ _ h.1 h.0 kept.same_rest))
+    rw (p.1, p.2) (integer-reads (λ z. z) (claim-passed kept _ h.1 (charged-passed _ _ _ _ _ _ _ _ _ _ _ _ _ h.1 h.0 kept.same_rest)) (inr h.1))
 
-pub returns-clause-reads : goal.returns-clause-reads
+pub returns : goal.returns
 unfolding signed_byte
-returns-clause-reads g c =
+returns g c =
     let read = c.read_i8_from.ensures in
-    charged-reads c.claim_bytes_read.ensures.kept _ c.in_ok-claim_bytes_read.ensures.claimed.ok read.word read.charge
-
-pub returns-in_err-claim_bytes_read-clause-means : goal.returns-in_err-claim_bytes_read-clause-means
-returns-in_err-claim_bytes_read-clause-means g c = number-reads Number (λ v. refl) (returns-in_err-claim_bytes_read-clause-reads g c)
-
-pub returns-clause-means : goal.returns-clause-means
-returns-clause-means g c = number-reads Number (λ v. refl) (returns-clause-reads g c)
+    let claim = c.in_ok-claim_bytes_read.ensures.claimed.ok in
+    integer-reads (λ z. z) (charged-reads c.claim_bytes_read.ensures.kept _ claim read.word read.same_charge) (rw read.same_charge (inl claim))

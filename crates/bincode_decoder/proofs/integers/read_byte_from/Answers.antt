@@ -1,13 +1,13 @@
 use Rattle.bincode_varint.proofs.WordAnswers.{lent-word}
 use Rattle.bincode_decoder.proofs.integers.read_byte_from.Goals as goal
 
-pub returns-clause-word : goal.returns-clause-word
-returns-clause-word g c =
+pub returns : goal.returns
+returns g c =
     let d = c.args.decoder.now in
     let new = c.read_byte.new.read in
     let lent = g.met.D.Decoder in
-    lent-word (lent.reader_told d) (lent.rest_is d) (lent.failures_is d) (lent.put_told d new) (lent.put_rest d new) (lent.put_failures d new)
-    (lent.put_place d new) (rw c.reader.ensures.value at c.read_byte.ensures)
-
-pub returns-clause-charge : goal.returns-clause-charge
-returns-clause-charge g c = g.met.D.Decoder.put_charge c.args.decoder.now c.read_byte.new.read
+    record {
+      word = lent-word (lent.reader_told d) (lent.rest_is d) (lent.failures_is d) (lent.put_told d new) (lent.put_rest d new) (lent.put_failures d new)
+          (lent.put_place d new) (rw c.reader.ensures.value at c.read_byte.ensures);
+      same_charge = lent.put_charge d new;
+    }

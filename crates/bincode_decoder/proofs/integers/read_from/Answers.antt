@@ -1,10 +1,13 @@
+use Rattle.bincode_decoder.proofs.ReadAnswers.{lent-fills}
 use Rattle.bincode_decoder.proofs.integers.read_from.Goals as goal
 
-pub returns-clause-next : goal.returns-clause-next
-returns-clause-next g c =
+pub returns-clause-fills : goal.returns-clause-fills
+returns-clause-fills g c =
     let d = c.args.decoder.now in
+    let new = c.read.new.self in
     let lent = g.met.D.Decoder in
-    λ known. rw (lent.put_rest d c.read.new.self, ← lent.rest_is d) (rw c.reader.ensures.value at c.read.ensures.next (lent.reader_told d known))
+    lent-fills (lent.reader_told d) (lent.rest_is d) (lent.failures_is d) (lent.put_told d new) (lent.put_rest d new) (lent.put_failures d new)
+    (lent.put_place d new) (rw c.reader.ensures.value at c.read.ensures)
 
 pub returns-clause-charge : goal.returns-clause-charge
 returns-clause-charge g c = g.met.D.Decoder.put_charge c.args.decoder.now c.read.new.self

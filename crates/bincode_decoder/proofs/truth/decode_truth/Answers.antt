@@ -8,28 +8,37 @@ use Rattle.bincode_laws.specs.DecodingLaws.{gave-takes, stops-first, truth-decod
 use Rattle.bincode_decoder.proofs.ReadAnswers.{read-as, exactly}
 use Rattle.bincode_decoder.proofs.truth.decode_truth.Goals as goal
 
-pub returns-in_err-b-clause-reads : goal.returns-in_err-b-clause-reads
-returns-in_err-b-clause-reads g c =
+pub returns-in_err-b : goal.returns-in_err-b
+returns-in_err-b g c =
     let p = err_from_is_err_and c.from_residual.result c.from_residual.ensures.1 in
     let read = c.in_err-b.ensures.reads in
-    rw (p.1, p.2) (read-as (λ known. tt) (λ known. stops-first _ _ _ _ (λ h. h) _ _ _ _ _ _ _ _ _ (read.err known)) read)
+    rw (p.1, p.2) (record {
+      reads = read-as (λ known. tt) (λ known. stops-first _ _ _ _ (λ h. h) _ _ _ _ _ _ _ _ _ (read.err known)) read;
+      charges = c.in_err-b.ensures.charges;
+    })
 
-pub returns-in-0-clause-reads : goal.returns-in-0-clause-reads
-returns-in-0-clause-reads g c =
+pub returns-in-0 : goal.returns-in-0
+returns-in-0 g c =
     let read = c.in_ok-b.ensures.reads in
-    read-as (λ known. truth-decodes _ _ _ _ _ _ false (exactly (read.ok known)) c.in-0.is) (λ known. tt) read
+    record {
+      reads = read-as (λ known. truth-decodes _ _ _ _ _ _ false (exactly (read.ok known)) c.in-0.is) (λ known. tt) read;
+      charges = c.in_ok-b.ensures.charges;
+    }
 
-pub returns-in-1-clause-reads : goal.returns-in-1-clause-reads
-returns-in-1-clause-reads g c =
+pub returns-in-1 : goal.returns-in-1
+returns-in-1 g c =
     let read = c.in_ok-b.ensures.reads in
-    read-as (λ known. truth-decodes _ _ _ _ _ _ true (exactly (read.ok known)) c.in-1.is) (λ known. tt) read
+    record {
+      reads = read-as (λ known. truth-decodes _ _ _ _ _ _ true (exactly (read.ok known)) c.in-1.is) (λ known. tt) read;
+      charges = c.in_ok-b.ensures.charges;
+    }
 
-pub returns-in_default-clause-reads : goal.returns-in_default-clause-reads
-returns-in_default-clause-reads g c =
+pub returns-in_default : goal.returns-in_default
+returns-in_default g c =
     let read = c.in_ok-b.ensures.reads in
     let above : 1 < c.in_ok-b.b = omega arith in
-    read-as (λ known. tt)
-    (λ known. by_fault (InvalidBool c.in_ok-b.b) (truth-refuses _ _ _ _ _ _ (exactly (read.ok known)) above) refl (gave-takes _ _ unsigned_byte-lawful _ _ _ _ _ (exactly (read.ok known)))) read
-
-pub returns-in_default-clause-charge : goal.returns-in_default-clause-charge
-returns-in_default-clause-charge g c = c.in_ok-b.ensures.charge
+    record {
+      reads = read-as (λ known. tt)
+          (λ known. by_fault (InvalidBool c.in_ok-b.b) (truth-refuses _ _ _ _ _ _ (exactly (read.ok known)) above) refl (gave-takes _ _ unsigned_byte-lawful _ _ _ _ _ (exactly (read.ok known)))) read;
+      charges = c.in_ok-b.ensures.charges;
+    }

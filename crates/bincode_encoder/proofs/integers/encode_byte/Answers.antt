@@ -6,4 +6,4 @@ use Rattle.bincode_encoder.proofs.integers.encode_byte.Goals as goal
 pub returns : goal.returns
 returns g c =
     let write = c.write_from.ensures in
-    piece-encodes g.met.E.W.Writer.adds_none (ready _ _ (byte-allows _)) write.ok write.err write.place
+    piece-encodes g.met.E.W.Writer.adds_none (ready _ _ (byte-allows _)) write.ok write.err write.same_place

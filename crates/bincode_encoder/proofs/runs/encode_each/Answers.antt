@@ -9,13 +9,16 @@ returns-in_err-write_value g c =
     let halted = c.in_err-write_value.ensures in
     rw (p.1, p.2) (record {
       ok = tt;
-      err = halts_array _ _ _ _ _ _ _ _ _ _ _ _ refl (halts-at _ _ g.met.E.W.Writer.adds_join (g.V.Value.Wire.writable g.E.C.Config.setting) _ _ _ _ _ c.args.items.now c.loop-item.item-index _ _ (omega arith) c.item-item.is c.loop-item.invariant.0 halted.err);
+      err = halts_array _ _ _ _ _ _ _ _ _ _ _ _ refl (halts-at _ _ g.met.E.W.Writer.adds_join
+          (g.V.Value.Wire.writable g.E.C.Config.setting) _ _ _ _ _ c.args.items.now c.loop-item.item-index _ _ (omega arith) c.item-item.is c.loop-item.invariant.0 halted.err);
       same_place = halted.same_place ∙ c.loop-item.invariant.1;
     })
 
 pub loop-item-preserved : goal.loop-item-preserved
-loop-item-preserved g c =
-    (writes-more _ g.met.E.W.Writer.adds_join _ _ _ _ c.args.items.now c.loop-item.item-index _ (omega arith) c.item-item.is c.loop-item.invariant.0 c.in_ok-write_value.ensures.ok, c.write_value.ensures.same_place ∙ c.loop-item.invariant.1)
+loop-item-preserved g c = (
+  writes-more _ g.met.E.W.Writer.adds_join _ _ _ _ c.args.items.now c.loop-item.item-index _ (omega arith) c.item-item.is c.loop-item.invariant.0 c.in_ok-write_value.ensures.ok,
+  c.write_value.ensures.same_place ∙ c.loop-item.invariant.1,
+)
 
 pub returns : goal.returns
 returns g c = record {

@@ -13,4 +13,4 @@ as_byte false = refl
 pub returns : goal.returns
 returns g c =
     let write = rw (c.from.ensures, as_byte c.args.val) at c.write_from.ensures in
-    piece-encodes g.met.E.W.Writer.adds_none (ready _ _ (truth-allows c.args.val)) write.ok write.err write.place
+    piece-encodes g.met.E.W.Writer.adds_none (ready _ _ (truth-allows c.args.val)) write.ok write.err write.same_place

@@ -21,10 +21,12 @@ returns-in_err-encode_tag g c =
     let alike = c.requires.picks in
     rw (p.1, p.2)
     (encodes-as (allows-as c.requires.means) (allows-back c.requires.means) c.requires.writable (λ e n. n)
-    (first-halts {R = Unit {0}} (λ _ r. r) (λ r. (tt, r)) (choice-allows _ _ _ _ _ alike _) (allowed-choice _ _ _ _ _ alike _) {M = g.V.Value.Wire.names} (λ e. elim [ inl k ↦ absurd k | inr k ↦ c.requires.names e k ]) c.in_err-encode_tag.ensures))
+    (first-halts {R = Unit {0}} (λ _ r. r) (λ r. (tt, r)) (choice-allows _ _ _ _ _ alike _) (allowed-choice _ _ _ _ _ alike _) {M = g.V.Value.Wire.names}
+    (λ e. elim [ inl k ↦ absurd k | inr k ↦ c.requires.names e k ]) c.in_err-encode_tag.ensures))
 
 pub returns : goal.returns
 returns g c =
     let alike = c.requires.picks in
     encodes-as (allows-as c.requires.means) (allows-back c.requires.means) c.requires.writable (λ e n. n)
-    (next-encodes {R = Unit {0}} (λ _ r. r) (λ r. (tt, r)) (choice-allows _ _ _ _ _ alike _) (allowed-choice _ _ _ _ _ alike _) (λ e. elim [ inl k ↦ absurd k | inr k ↦ c.requires.names e k ]) g.met.E.W.Writer.adds_join c.in_ok-encode_tag.ensures c.write_value.ensures)
+    (next-encodes {R = Unit {0}} (λ _ r. r) (λ r. (tt, r)) (choice-allows _ _ _ _ _ alike _) (allowed-choice _ _ _ _ _ alike _)
+    (λ e. elim [ inl k ↦ absurd k | inr k ↦ c.requires.names e k ]) g.met.E.W.Writer.adds_join c.in_ok-encode_tag.ensures c.write_value.ensures)

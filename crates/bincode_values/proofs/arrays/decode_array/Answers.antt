@@ -5,7 +5,7 @@ use Rattle.bincode_values.proofs.Reading.{read-widened}
 use Rattle.bincode_values.proofs.arrays.decode_array.Goals as goal
 
 pub returns-in-Some-clause-read : goal.returns-in-Some-clause-read
-returns-in-Some-clause-read g c = read-widened _ _ _ _ _ _ _ _ _ _ _ _ _ _ _ _ _ _ inl c.decode_over.ensures
+returns-in-Some-clause-read g c = read-widened _ inl c.decode_over.ensures
 
 pub returns-in-Some-clause-charge : goal.returns-in-Some-clause-charge
 returns-in-Some-clause-charge g c =
@@ -14,7 +14,7 @@ returns-in-Some-clause-charge g c =
     (c.decode_over.ensures.ok known)
 
 pub returns-clause-read : goal.returns-clause-read
-returns-clause-read g c = read-widened _ _ _ _ _ _ _ _ _ _ _ _ _ _ _ _ _ _ inl c.decode_into.ensures
+returns-clause-read g c = read-widened _ inl c.decode_into.ensures
 
 pub returns-clause-charge : goal.returns-clause-charge
 returns-clause-charge g c =

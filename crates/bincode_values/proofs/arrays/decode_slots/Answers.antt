@@ -5,15 +5,15 @@ use Rattle.bincode_values.proofs.Reading.{none-so_far, next-releases, next-so_fa
 use Rattle.bincode_values.proofs.arrays.decode_slots.Goals as goal
 
 pub loop-index-init : goal.loop-index-init
-loop-index-init g c = ([], refl, none-so_far _ _ _ _ _ _ _ _ _ _ _ c.requires)
+loop-index-init g c = ([], refl, none-so_far c.requires)
 
 pub decode_next-requires : goal.decode_next-requires
-decode_next-requires g c = next-releases _ _ _ _ _ _ _ _ _ _ _ _ _ _ c.loop-index.invariant.2 (omega arith)
+decode_next-requires g c = next-releases c.loop-index.invariant.2 (omega arith)
 
 pub returns-in_err-decode_next : goal.returns-in_err-decode_next
 returns-in_err-decode_next g c =
     let p = err_from_is_err_and c.from_residual.result c.from_residual.ensures.1 in
-    rw (p.1, p.2) ([], tt, stops-so_far _ _ _ _ _ _ _ _ _ _ _ _ _ _ c.loop-index.invariant.2 (omega arith) _ _ _ _ _ (λ k. k) _ _ c.in_err-decode_next.ensures)
+    rw (p.1, p.2) ([], tt, stops-so_far c.loop-index.invariant.2 (omega arith) (λ k. k) c.in_err-decode_next.ensures)
 
 pub loop-index-preserved : goal.loop-index-preserved
 loop-index-preserved g c =
@@ -21,10 +21,10 @@ loop-index-preserved g c =
     let v = c.in_ok-decode_next.field-0 in (
       h.0 ++ v ∷ [],
       take_more_set _ _ _ (omega arith) ∙ (ap (λ z. z ++ Some v ∷ []) h.1 ∙ sym (map-append Some h.0 (v ∷ []))),
-      next-so_far _ _ _ _ _ _ _ _ _ _ _ _ _ _ h.2 (omega arith) _ _ _ _ (g.met.V.Value.Wire.lawful _) (g.met.V.Value.Wire.balanced _) _ _ refl c.in_ok-decode_next.ensures,
+      next-so_far h.2 (omega arith) (g.met.V.Value.Wire.lawful _) (g.met.V.Value.Wire.balanced _) refl c.in_ok-decode_next.ensures,
     )
 
 pub returns : goal.returns
 returns g c =
     let h = c.loop-index.invariant in
-    (h.0, sym (take_all c.loop-index.index c.loop-index.slots (omega arith)) ∙ h.1, all-so_far _ _ _ _ _ _ _ _ _ _ _ _ _ _ h.2 _ _ _ _ _ (omega arith) refl)
+    (h.0, sym (take_all c.loop-index.index c.loop-index.slots (omega arith)) ∙ h.1, all-so_far h.2 (omega arith) refl)

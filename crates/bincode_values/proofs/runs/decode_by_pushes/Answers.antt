@@ -7,28 +7,28 @@ use Rattle.bincode_values.proofs.Reading.{none-so_far, next-releases, next-so_fa
 use Rattle.bincode_values.proofs.runs.decode_by_pushes.Goals as goal
 
 pub loop-init : goal.loop-init
-loop-init g c = (rw c.in-Ok.ensures.items (none-so_far _ _ _ _ _ _ _ _ _ _ _ c.requires), rw c.in-Ok.ensures.items refl, c.in-Ok.ensures.len, c.in-Ok.ensures.capacity)
+loop-init g c = (rw c.in-Ok.ensures.items (none-so_far c.requires), rw c.in-Ok.ensures.items refl, c.in-Ok.ensures.len, c.in-Ok.ensures.capacity)
 
 pub decode_next-requires : goal.decode_next-requires
-decode_next-requires g c = next-releases _ _ _ _ _ _ _ _ _ _ _ _ _ _ c.loop.invariant.0 (omega arith)
+decode_next-requires g c = next-releases c.loop.invariant.0 (omega arith)
 
 pub returns-in_err-decode_next-clause-read : goal.returns-in_err-decode_next-clause-read
 returns-in_err-decode_next-clause-read g c =
     let p = err_from_is_err_and c.from_residual.result c.from_residual.ensures.1 in
-    rw (p.1, p.2) (stops-so_far _ _ _ _ _ _ _ _ _ _ _ _ _ _ c.loop.invariant.0 (omega arith) _ _ _ _ _ (λ _. tt) _ _ c.in_err-decode_next.ensures)
+    rw (p.1, p.2) (stops-so_far c.loop.invariant.0 (omega arith) (λ _. tt) c.in_err-decode_next.ensures)
 
 pub loop-preserved : goal.loop-preserved
 loop-preserved g c =
     let h = c.loop.invariant in
     let v = c.in_ok-decode_next.field-0 in (
-      next-so_far _ _ _ _ _ _ _ _ _ _ _ _ _ _ h.0 (omega arith) _ _ _ _ (g.met.V.Value.Wire.lawful _) (g.met.V.Value.Wire.balanced _) _ _ c.push_reserved.ensures.items c.in_ok-decode_next.ensures,
+      next-so_far h.0 (omega arith) (g.met.V.Value.Wire.lawful _) (g.met.V.Value.Wire.balanced _) c.push_reserved.ensures.items c.in_ok-decode_next.ensures,
       ap length c.push_reserved.ensures.items ∙ length-append c.loop.values.items (v ∷ []) ∙ ap (λ z. z + 1) h.1,
       c.push_reserved.ensures.len ∙ ap (λ z. z + 1) h.2,
       rw c.push_reserved.ensures.capacity h.3,
     )
 
 pub returns-clause-read : goal.returns-clause-read
-returns-clause-read g c = all-so_far _ _ _ _ _ _ _ _ _ _ _ _ _ _ c.loop.invariant.0 _ _ _ _ _ (omega arith) refl
+returns-clause-read g c = all-so_far c.loop.invariant.0 (omega arith) refl
 
 pub returns-in_default-clause-read : goal.returns-in_default-clause-read
 returns-in_default-clause-read g c = record {

@@ -5,19 +5,19 @@ use Rattle.bincode_values.proofs.Reading.{none-so_far, next-releases, next-so_fa
 use Rattle.bincode_values.proofs.runs.decode_each.Goals as goal
 
 pub loop-index-init : goal.loop-index-init
-loop-index-init g c = none-so_far _ _ _ _ _ _ _ _ _ _ _ c.requires
+loop-index-init g c = none-so_far c.requires
 
 pub decode_next-requires : goal.decode_next-requires
-decode_next-requires g c = next-releases _ _ _ _ _ _ _ _ _ _ _ _ _ _ c.loop-index.invariant (omega arith)
+decode_next-requires g c = next-releases c.loop-index.invariant (omega arith)
 
 pub returns-in_err-values : goal.returns-in_err-values
 returns-in_err-values g c =
     let p = err_from_is_err_and c.from_residual.result c.from_residual.ensures.1 in
-    rw (p.1, p.2) (stops-so_far _ _ _ _ _ _ _ _ _ _ _ _ _ _ c.loop-index.invariant (omega arith) _ _ _ _ _ (λ k. k) _ _ c.in_err-values.ensures)
+    rw (p.1, p.2) (stops-so_far c.loop-index.invariant (omega arith) (λ k. k) c.in_err-values.ensures)
 
 pub loop-index-preserved : goal.loop-index-preserved
 loop-index-preserved g c =
-    next-so_far _ _ _ _ _ _ _ _ _ _ _ _ _ _ c.loop-index.invariant (omega arith) _ _ _ _ (g.met.V.Value.Wire.lawful _) (g.met.V.Value.Wire.balanced _) _ _ (take_more_set _ _ _ (omega arith)) c.in_ok-values.ensures
+    next-so_far c.loop-index.invariant (omega arith) (g.met.V.Value.Wire.lawful _) (g.met.V.Value.Wire.balanced _) (take_more_set _ _ _ (omega arith)) c.in_ok-values.ensures
 
 pub returns : goal.returns
-returns g c = all-so_far _ _ _ _ _ _ _ _ _ _ _ _ _ _ c.loop-index.invariant _ _ _ _ _ (omega arith) (sym (take_all c.loop-index.index c.loop-index.values (omega arith)))
+returns g c = all-so_far c.loop-index.invariant (omega arith) (sym (take_all c.loop-index.index c.loop-index.values (omega arith)))

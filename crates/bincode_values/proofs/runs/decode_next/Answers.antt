@@ -6,10 +6,10 @@ returns g c =
     let before = c.unclaim_bytes_read.ensures in
     let read = c.read_value.ensures in
     record {
-      ok = λ known. rw (before.kept.same_rest, before.charge, c.claim_size.ensures) at (read.ok (before.kept.tells known));
-      err = λ known. rw (before.kept.same_rest, before.charge, before.kept.same_failures, c.claim_size.ensures) at (read.err (before.kept.tells known));
+      ok = λ known. rw (before.kept.same_rest, before.released, c.claim_size.ensures) at (read.ok (before.kept.tells known));
+      err = λ known. rw (before.kept.same_rest, before.released, before.kept.same_failures, c.claim_size.ensures) at (read.err (before.kept.tells known));
       counted = rw before.kept.same_failures at read.counted;
       tells = λ known. read.tells (before.kept.tells known);
-      held = rw (before.charge, c.claim_size.ensures) at read.held;
+      held = rw (before.released, c.claim_size.ensures) at read.held;
       same_place = read.same_place ∙ before.kept.same_place;
     }

@@ -7,4 +7,4 @@ pub returns-in_err-decode_run-clause-read : goal.returns-in_err-decode_run-claus
 returns-in_err-decode_run-clause-read g c =
     let p = err_from_is_err_and c.from_residual-in_err-decode_run.result c.from_residual-in_err-decode_run.ensures.1 in
     let k : length c.deref_mut.result.now ≡ c.args.len = ap length c.deref_mut.ensures.value ∙ (rw c.in-Some.is at c.in_ok-values.ensures.length) in
-    rw (p.1, p.2) (read-besides _ _ _ _ _ _ _ _ _ _ _ _ _ _ _ _ _ _ _ _ k (λ _. tt) c.in_err-decode_run.ensures)
+    rw (p.1, p.2) (read-besides k (λ _. tt) c.in_err-decode_run.ensures)

@@ -9,7 +9,8 @@ returns-then-code-lt128 c =
     let k : code_point (c.args.first ∷ c.args.second ∷ []) ≡ c.from.result * 64 + c.from-2.result = omega (arith, c.from.ensures, c.from-2.ensures) in
     elim c.then-code-lt128.branch [
       | then-code-lt128-via-then-code-lt128 w ↦ spells-longer c.args.first (c.args.second ∷ []) c.requires _ k 1 (length-encoded_1 _ w.if-code-lt128.true) (omega arith)
-      | then-code-lt128-via-else-code-lt128+then-ne w ↦ spells-other c.args.first (c.args.second ∷ []) c.requires _ k w.two_bytes_of_char.result w.two_bytes_of_char.ensures (sym w.if-ne.true ∙ w.ne.ensures)
+      | then-code-lt128-via-else-code-lt128+then-ne w ↦ spells-other c.args.first (c.args.second ∷ []) c.requires _ k w.two_bytes_of_char.result w.two_bytes_of_char.ensures
+          (sym w.if-ne.true ∙ w.ne.ensures)
     ]
 
 pub returns : goal.returns

@@ -15,7 +15,8 @@ returns-in_err-of g c =
     let tag = c.in_ok-found.ensures in
     let part = c.in_err-of.ensures.reads in
     rw (p.1, p.2)
-    (read-behind (λ known. tt) (λ known. choice-stops_part _ _ _ _ _ _ _ _ _ (exactly (tag.ok known)) (g.Of.Tag.Tag.numerals.lawful _) _ _ _ _ _ _ _ _ tag.counted (part.err (tag.tells known))) tag part)
+    (read-behind (λ known. tt) (λ known. choice-stops_part _ _ _ _ _ _ _ _ _ (exactly (tag.ok known)) (g.Of.Tag.Tag.numerals.lawful _) _ _ _ _ _ _ _ _ tag.counted
+    (part.err (tag.tells known))) tag part)
 
 pub returns : goal.returns
 returns g c =

@@ -1,5 +1,10 @@
-use Rattle.bincode_varint.proofs.Words.{fixed_signed-refused}
+use Rattle.std.specs.Int.{w32}
+use Rattle.std.proofs.lemmas.Int.{to_z-of_z}
+use Rattle.bincode_varint.proofs.Words.{pieces-fixed_signed}
 use Rattle.bincode_varint.proofs.number.I32Integer.write.Goals as goal
 
-pub returns-in-Fixed-clause-err : goal.returns-in-Fixed-clause-err
-returns-in-Fixed-clause-err g c = fixed_signed-refused _ _ g.met.W.Writer.adds_none _ _ _ _ _ _ _ c.in-Fixed.is _ _ c.ranges.self c.bytes_of_i32.ensures c.write.ensures.err
+pub returns-in-Variable : goal.returns-in-Variable
+returns-in-Variable g c = rw c.in-Variable.is (rw (to_z-of_z w32 c.args.self c.ranges.self) at c.varint_encode_i32.ensures)
+
+pub returns-in-Fixed : goal.returns-in-Fixed
+returns-in-Fixed g c = pieces-fixed_signed g.met.W.Writer.adds_none c.in-Fixed.is _ _ _ _ c.ranges.self c.bytes_of_i32.ensures c.write.ensures

@@ -1,9 +1,8 @@
-use Rattle.bincode_varint.proofs.Words.{fixed-refused}
+use Rattle.bincode_varint.proofs.Words.{pieces-fixed}
 use Rattle.bincode_varint.proofs.number.U16Integer.write.Goals as goal
 
-pub returns-in-Fixed-clause-ok : goal.returns-in-Fixed-clause-ok
-returns-in-Fixed-clause-ok g c = rw c.in-Fixed.is (rw c.bytes_of_u16.ensures at c.write.ensures.ok)
+pub returns-in-Variable : goal.returns-in-Variable
+returns-in-Variable g c = rw c.in-Variable.is c.varint_encode_u16.ensures
 
-pub returns-in-Fixed-clause-err : goal.returns-in-Fixed-clause-err
-returns-in-Fixed-clause-err g c =
-    fixed-refused _ _ g.met.W.Writer.adds_none _ _ _ _ _ _ _ c.in-Fixed.is _ c.bytes_of_u16.ensures c.write.ensures.err
+pub returns-in-Fixed : goal.returns-in-Fixed
+returns-in-Fixed g c = pieces-fixed g.met.W.Writer.adds_none c.in-Fixed.is _ _ _ c.bytes_of_u16.ensures c.write.ensures

@@ -35,7 +35,7 @@ returns-in_ok-read_u16-in-251-clause-word g c =
     behind-part {r = Ok c.in_ok-tag.tag} (λ known. rw c.from-in-251.ensures (varint-digits _ _ _ _ _ _ _ 2 (tag.ok known) (rw c.in-251.is refl) ∙ digits.ok (tag.tells known))) (λ known. tt) tag digits
 
 pub returns-in_ok-read_u16-in-251-clause-fits : goal.returns-in_ok-read_u16-in-251-clause-fits
-returns-in_ok-read_u16-in-251-clause-fits g c = λ h. below-wider _ 2 _ (let l : c.in_ok-read_u16-in-251.field-0 < 65536 = search rules in rw c.from-in-251.ensures (omega (arith, l))) h
+returns-in_ok-read_u16-in-251-clause-fits g c = λ h. below-wider _ 2 _ (let t = rw c.in_ok-read_u16-in-251.was at c.read_u16.type_inv in rw c.from-in-251.ensures (omega (arith, t))) h
 
 pub returns-in_err-read_u32-in-252-clause-word : goal.returns-in_err-read_u32-in-252-clause-word
 returns-in_err-read_u32-in-252-clause-word g c =
@@ -56,7 +56,7 @@ returns-in_ok-read_u32-in-252-clause-word g c =
 
 pub returns-in_ok-read_u32-in-252-clause-fits : goal.returns-in_ok-read_u32-in-252-clause-fits
 returns-in_ok-read_u32-in-252-clause-fits g c =
-    λ h. below-wider _ 4 _ (let l : c.in_ok-read_u32-in-252.field-0 < 4294967296 = search rules in rw c.from-in-252.ensures (omega (arith, l))) c.if-width-ge4.true
+    λ h. below-wider _ 4 _ (let t = rw c.in_ok-read_u32-in-252.was at c.read_u32.type_inv in rw c.from-in-252.ensures (omega (arith, t))) c.if-width-ge4.true
 
 pub returns-in_err-read_u64-in-253-clause-word : goal.returns-in_err-read_u64-in-253-clause-word
 returns-in_err-read_u64-in-253-clause-word g c =
@@ -77,7 +77,7 @@ returns-in_ok-read_u64-in-253-clause-word g c =
 
 pub returns-in_ok-read_u64-in-253-clause-fits : goal.returns-in_ok-read_u64-in-253-clause-fits
 returns-in_ok-read_u64-in-253-clause-fits g c =
-    λ h. below-wider _ 8 _ (let l : c.in_ok-read_u64-in-253.field-0 < 18446744073709551616 = search rules in rw c.from-in-253.ensures (omega (arith, l))) c.if-width-ge8.true
+    λ h. below-wider _ 8 _ (let t = rw c.in_ok-read_u64-in-253.was at c.read_u64.type_inv in rw c.from-in-253.ensures (omega (arith, t))) c.if-width-ge8.true
 
 pub returns-in-254-clause-word : goal.returns-in-254-clause-word
 returns-in-254-clause-word g c =

@@ -1,40 +1,24 @@
 use Rattle.std.proofs.Common.{arith}
-use Rattle.std.proofs.lemmas.Result.{IfErr-weaker}
 use Rattle.bincode_laws.specs.IntegerLaws.{shortest-1, shortest-3, shortest-5, shortest-9}
-use Rattle.bincode_varint.proofs.Words.{stops-first}
+use Rattle.bincode_varint.proofs.Words.{pieces-one}
 use Rattle.bincode_varint.proofs.varint.encode_unsigned.varint_encode_u64.Goals as goal
 
-pub returns-then-val-from-clause-err : goal.returns-then-val-from-clause-err
-returns-then-val-from-clause-err g c =
-    rw (shortest-1 c.args.endian c.args.val (omega arith)).1
-    (IfErr-weaker c.write.result _ _ (λ e h. stops-first g.W.Writer.adds g.W.Writer.refuses g.met.W.Writer.adds_none _ _ _ _ e h) c.write.ensures.err)
+pub returns-then-val-from : goal.returns-then-val-from
+returns-then-val-from g c =
+    let spelled = shortest-1 c.args.endian c.args.val (omega arith) in
+    pieces-one g.met.W.Writer.adds_none spelled.0 spelled.1 c.write.ensures
 
-pub returns-then-val-from-2-clause-ok : goal.returns-then-val-from-2-clause-ok
-returns-then-val-from-2-clause-ok g c =
+pub returns-then-val-from-2 : goal.returns-then-val-from-2
+returns-then-val-from-2 g c =
     let spelled = shortest-3 c.args.endian c.args.val (omega arith) (omega arith) in
-    rw spelled.0 (rw c.bytes_of_u16.ensures at c.write_tagged.ensures.ok)
+    rw (spelled.0, spelled.1) (rw c.bytes_of_u16.ensures at c.write_tagged.ensures)
 
-pub returns-then-val-from-2-clause-err : goal.returns-then-val-from-2-clause-err
-returns-then-val-from-2-clause-err g c =
-    let spelled = shortest-3 c.args.endian c.args.val (omega arith) (omega arith) in
-    rw spelled.1 (rw c.bytes_of_u16.ensures at c.write_tagged.ensures.err)
-
-pub returns-then-val-from-3-clause-ok : goal.returns-then-val-from-3-clause-ok
-returns-then-val-from-3-clause-ok g c =
+pub returns-then-val-from-3 : goal.returns-then-val-from-3
+returns-then-val-from-3 g c =
     let spelled = shortest-5 c.args.endian c.args.val (omega arith) (omega arith) in
-    rw spelled.0 (rw c.bytes_of_u32.ensures at c.write_tagged-then-val-from-3.ensures.ok)
+    rw (spelled.0, spelled.1) (rw c.bytes_of_u32.ensures at c.write_tagged-then-val-from-3.ensures)
 
-pub returns-then-val-from-3-clause-err : goal.returns-then-val-from-3-clause-err
-returns-then-val-from-3-clause-err g c =
-    let spelled = shortest-5 c.args.endian c.args.val (omega arith) (omega arith) in
-    rw spelled.1 (rw c.bytes_of_u32.ensures at c.write_tagged-then-val-from-3.ensures.err)
-
-pub returns-else-val-from-3-clause-ok : goal.returns-else-val-from-3-clause-ok
-returns-else-val-from-3-clause-ok g c =
+pub returns-else-val-from-3 : goal.returns-else-val-from-3
+returns-else-val-from-3 g c =
     let spelled = shortest-9 c.args.endian c.args.val (omega arith) (omega arith) in
-    rw spelled.0 (rw c.bytes_of_u64.ensures at c.write_tagged-else-val-from-3.ensures.ok)
-
-pub returns-else-val-from-3-clause-err : goal.returns-else-val-from-3-clause-err
-returns-else-val-from-3-clause-err g c =
-    let spelled = shortest-9 c.args.endian c.args.val (omega arith) (omega arith) in
-    rw spelled.1 (rw c.bytes_of_u64.ensures at c.write_tagged-else-val-from-3.ensures.err)
+    rw (spelled.0, spelled.1) (rw c.bytes_of_u64.ensures at c.write_tagged-else-val-from-3.ensures)

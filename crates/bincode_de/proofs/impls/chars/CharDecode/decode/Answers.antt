@@ -9,7 +9,7 @@ pub returns-in_err-first : goal.returns-in_err-first
 returns-in_err-first g c =
     let p = err_from_is_err_and c.from_residual.result c.from_residual.ensures.1 in
     let first = c.in_err-first.ensures.word in
-    let still = c.in_err-first.ensures.charge in
+    let still = c.in_err-first.ensures.same_charge in
     rw (p.1, p.2) (record {
       ok = λ known. tt;
       err = λ known. character-stops_first _ _ _ _ _ _ _ _ _ _ (first.err known);
@@ -22,7 +22,7 @@ returns-in_err-first g c =
 pub returns-in_default : goal.returns-in_default
 returns-in_default g c =
     let first = c.in_ok-first.ensures.word in
-    let still = c.in_ok-first.ensures.charge in
+    let still = c.in_ok-first.ensures.same_charge in
     record {
       ok = λ known. tt;
       err = λ known. character-stops_none _ _ _ _ _ (first.ok known) _ _ _ _ _ _ (search rules) refl;
@@ -35,12 +35,13 @@ returns-in_default g c =
 pub returns : goal.returns
 returns g c =
     let first = c.in_ok-first.ensures.word in
-    let still = c.in_ok-first.ensures.charge in
+    let still = c.in_ok-first.ensures.same_charge in
     let others = c.decode_rest_of_char.ensures.reads in
     let w : char_width c.in_ok-first.first ≡ Some c.in-Some.width = sym c.width_of_char.ensures ∙ c.in-Some.is in
     record {
       ok = λ known. IfOk-weaker c.decode_rest_of_char.result _ _ (λ v r. character-decodes _ _ _ _ _ (first.ok known) _ _ v _ w (exactly r)) (rw still at (others.ok (first.tells known)));
-      err = λ known. IfErr-weaker c.decode_rest_of_char.result _ _ (λ e r. character-stops_behind _ _ _ _ _ (first.ok known) _ _ _ _ _ _ _ _ e w first.counted r) (rw still at (others.err (first.tells known)));
+      err = λ known. IfErr-weaker c.decode_rest_of_char.result _ _ (λ e r. character-stops_behind _ _ _ _ _ (first.ok known) _ _ _ _ _ _ _ _ e w first.counted r)
+          (rw still at (others.err (first.tells known)));
       counted = let a = first.counted in let b = others.counted in omega (arith, a, b);
       tells = λ known. others.tells (first.tells known);
       held = rw still at others.held;

@@ -1,0 +1,13 @@
+-- What a short text holds.
+use Rattle.std.specs.Prelude.{ℕ, List, [], take, if◌then◌else◌}
+use Rattle.std.specs.Str.{is_utf8}
+use Rattle.bincode_base.specs.declared.short_text.Text.{Text}
+
+module _ {room : ℕ} where
+  -- the bytes that were put into it
+  abbrev pub held_bytes : Text room → List ℕ
+  held_bytes t = take t.length t.bytes
+
+  -- its bytes, which are UTF-8; what is none shows as the empty text
+  abbrev pub text_bytes : Text room → List ℕ
+  text_bytes t = if is_utf8 (held_bytes t) then held_bytes t else []

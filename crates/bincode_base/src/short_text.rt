@@ -1,0 +1,49 @@
+//! Short texts that are held inline.
+ghost use Rattle.std.specs.Prelude.{◌≡◌, ◌≤◌, ◌++◌, List, ℕ, length, min};
+
+use std::{fmt, str};
+
+/// A text of at most `ROOM` bytes and at most 255, held inline.
+#[derive(Clone, Copy)]
+pub struct Text<const ROOM: usize> {
+    length: u8,
+    bytes: [u8; ROOM],
+}
+
+/// A text of at most 22 bytes. Errors name causes and types by it.
+pub type ShortText = Text<22>;
+
+/// The name of a type, of at most 10 bytes: beside it an error has room for a tag and what is allowed in its place.
+pub type TypeName = Text<10>;
+
+impl<const ROOM: usize> Text<ROOM> {
+    ghost use Rattle.bincode_base.specs.ShortText.{text_bytes};
+
+    /// The same text. One that is too long is cut: the first characters stay that fit.
+    pub fn new(text: &str) -> Text<ROOM>
+        ensures whole { length text.now ≤ min ROOM 255 → text_bytes result ≡ text.now }
+        ensures front { (rest : List ℕ) × (text.now ≡ text_bytes result ++ rest) }
+    {
+        let kept = &text[..text.floor_char_boundary(ROOM.min(255))];
+        let mut bytes = [0; ROOM];
+        bytes[..kept.len()].copy_from_slice(kept.as_bytes());
+        Text {
+            length: kept.len() as u8,
+            bytes,
+        }
+    }
+
+    /// The text that it holds.
+    pub fn as_str(&self) -> &str
+        ensures { result.now ≡ text_bytes self.now }
+    {
+        let held = &self.bytes[..usize::from(self.length).min(ROOM)];
+        str::from_utf8(held).unwrap_or("")
+    }
+}
+
+impl<const ROOM: usize> fmt::Debug for Text<ROOM> {
+    fn fmt<W: fmt::Write>(&self, f: &mut fmt::Formatter<W>) -> fmt::Result {
+        fmt::Debug::fmt(&self.as_str(), f)
+    }
+}

@@ -1,3 +1,0 @@
--- What the proofs of this crate share.
-pub mod Taken
-pub mod Collected
