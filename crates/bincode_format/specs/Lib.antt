@@ -12,6 +12,7 @@ pub mod Forms
 pub mod Allowed
 pub mod Choices
 pub mod Run
+pub mod Collections
 pub mod Cells
 pub mod Answer
 pub mod Promises
