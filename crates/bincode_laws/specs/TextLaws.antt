@@ -1,5 +1,5 @@
 -- Texts keep the laws. A text allows a word of its length and then its bytes, which no other word of it is shorter than.
-use Rattle.std.specs.Prelude.{◌≡◌, ℕ, ◌<◌, ◌^◌, Bool, true, false, if◌then◌else◌, Result, Ok, Err, List, [], ◌∷◌, ◌++◌, length, refl}
+use Rattle.std.specs.Prelude.{◌≡◌, ℕ, nat_eq, ◌<◌, ◌^◌, Bool, true, false, if◌then◌else◌, Result, Ok, Err, List, [], ◌∷◌, ◌++◌, length, refl}
 use Rattle.std.specs.List.{All}
 use Rattle.std.specs.Char.{encode_utf8}
 use Rattle.std.specs.Str.{IsUtf8, is_utf8, all_scalars, encode_utf8_all}
@@ -7,6 +7,7 @@ use Rattle.std.proofs.Common.{sym, ◌∙◌, ap, subst, arith}
 use Rattle.std.proofs.lemmas.Bool.{and_parts}
 use Rattle.std.proofs.lemmas.Str.{is_utf8-from_IsUtf8}
 use Rattle.std.proofs.lemmas.List.Elements.{All-nil, All-append}
+use lib.Pointwise.{pointwise, bytes_decides}
 use lib.Utf8.{scalar}
 use Rattle.bincode_base.specs.declared.error.IntegerType.TheVariants.{U64}
 use Rattle.bincode_base.specs.Setting.{Setting}
@@ -154,3 +155,7 @@ module _ (s : Setting) where
 -- texts of one meaning have the same bytes
 pub text-same : (x y : List ℕ) (m : Meaning) → IsBytes x m → IsBytes y m → x ≡ y
 text-same x y m a b = let e : Bytes x ≡ Bytes y = sym a ∙ b in cc
+
+-- and are equal
+pub text-alike : (x y : List ℕ) (m : Meaning) → IsBytes x m → IsBytes y m → pointwise nat_eq x y ≡ true
+text-alike x y m a b = (bytes_decides x y).1 (text-same x y m a b)
