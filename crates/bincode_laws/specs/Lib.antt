@@ -16,6 +16,7 @@ pub mod Fronts
 pub mod IntegerLaws
 pub mod PutLaws
 pub mod RunAllowedLaws
+pub mod ListLaws
 pub mod RunLaws
 pub mod SignedLaws
 pub mod SpelledLaws
