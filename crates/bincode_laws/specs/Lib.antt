@@ -21,6 +21,7 @@ pub mod RunLaws
 pub mod SignedLaws
 pub mod SpelledLaws
 pub mod SpellingLaws
+pub mod TextLaws
 pub mod TupleLaws
 pub mod RowLaws
 pub mod WordsLaws

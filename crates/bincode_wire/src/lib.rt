@@ -10,5 +10,6 @@ pub mod parted;
 pub mod rows;
 pub mod scalars;
 pub mod sums;
+pub mod texts;
 pub mod wholes;
 pub mod wire;
