@@ -1,6 +1,7 @@
 //! What each type says of its words.
 #![tactic(auto)]
 
+pub mod bags;
 pub mod chars;
 pub mod impls;
 pub mod laws;
