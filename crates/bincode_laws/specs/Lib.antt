@@ -16,6 +16,7 @@ pub mod FormLaws
 pub mod Fronts
 pub mod IntegerLaws
 pub mod LaidLaws
+pub mod MapLaws
 pub mod OrderLaws
 pub mod PutLaws
 pub mod RunAllowedLaws

@@ -33,7 +33,8 @@ module _ {K : Type 0} (cmp : K → K → Ordering) (total : IsTotalOrder cmp) wh
   put_last keys [] h s = sym (append-nil keys)
   put_last keys (k ∷ items) h s =
       let last = insert_last keys k (All-weaker _ (λ x. cmp k x ≡ Greater) (λ x. All-head (λ y. cmp y x ≡ Greater) k items) keys h) in
-      let first : All (λ y. cmp y k ≡ Greater) items = All-weaker (λ y. cmp k y ≡ Less) (λ y. cmp y k ≡ Greater) (above k) items (All-from_recursion (λ y. cmp k y ≡ Less) items (sorted_head cmp k items s)) in
+      let below = All-from_recursion (λ y. cmp k y ≡ Less) items (sorted_head cmp k items s) in
+      let first : All (λ y. cmp y k ≡ Greater) items = All-weaker (λ y. cmp k y ≡ Less) (λ y. cmp y k ≡ Greater) (above k) items below in
       let others = All-weaker _ (λ x. All (λ y. cmp y x ≡ Greater) items) (λ x. All-tail (λ y. cmp y x ≡ Greater) k items) keys h in
       ap (λ l. put_keys cmp l items) last
       ∙ put_last (keys ++ k ∷ []) items (All-push (λ x. All (λ y. cmp y x ≡ Greater) items) keys k others first) (sorted_tail cmp k items s)

@@ -135,8 +135,9 @@ module _ {A : Type 0} (Given : A → Meaning → Type 0) (share : ℕ) (F : Form
         let n : length vs ≡ u.head = array-word_length share F Given vs u.head u.second r.meaning u.second_steps u.second_word r.is_given in
         let number : (natural (len s)).Word u.first (Number (pos u.head)) u.first_steps =
         settled-word (λ k. Ok (Number (pos k))) (len s) u.first u.head (Number (pos u.head)) u.first_steps refl u.first_word in
+        let below = first_bytes bytes u.first u.second u.bytes_are r.are_bytes in
         let first : ReadsAs (IsNumber (pos (length vs))) (natural (len s)) u.first =
-        record { meaning = Number (pos u.head); steps = u.first_steps; are_bytes = first_bytes bytes u.first u.second u.bytes_are r.are_bytes; is_word = number; is_given = ap (λ k. Number (pos k)) (sym n) } in
+        record { meaning = Number (pos u.head); steps = u.first_steps; are_bytes = below; is_word = number; is_given = ap (λ k. Number (pos k)) (sym n) } in
         let second : ReadsAs (IsListOf Given vs) (array u.head share F) u.second =
         record { meaning = r.meaning; steps = u.second_steps; are_bytes = second_bytes bytes u.first u.second u.bytes_are r.are_bytes; is_word = u.second_word; is_given = r.is_given } in
         (u.first, u.second, u.bytes_are, first, array_read u.head vs u.second n second)

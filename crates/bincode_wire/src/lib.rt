@@ -5,6 +5,7 @@ pub mod bags;
 pub mod chars;
 pub mod impls;
 pub mod laws;
+pub mod ordered;
 pub mod own;
 pub mod parted;
 pub mod rows;
