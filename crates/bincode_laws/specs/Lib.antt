@@ -16,11 +16,14 @@ pub mod FormLaws
 pub mod Fronts
 pub mod IntegerLaws
 pub mod LaidLaws
+pub mod MapLaws
+pub mod OrderLaws
 pub mod PutLaws
 pub mod RunAllowedLaws
 pub mod ListLaws
 pub mod ReadLaws
 pub mod RunLaws
+pub mod SetLaws
 pub mod SignedLaws
 pub mod SpelledLaws
 pub mod SpellingLaws

@@ -1,7 +1,7 @@
 -- What words of lists decode to, by what those of their values do.
 use Rattle.std.specs.Prelude.{◌≡◌, ℕ, ◌<◌, ◌≤◌, ◌^◌, ◌*◌, ◌⊎◌, pos, Result, Ok, List, [], ◌∷◌, ◌++◌, length, refl}
 use Rattle.std.specs.List.{All}
-use Rattle.std.proofs.Common.{sym, ◌∙◌, ap, subst, inl, inr, arith, length-append}
+use Rattle.std.proofs.Common.{sym, ◌∙◌, ap, subst, inl, inr, arith, append-nil, length-append}
 use Rattle.std.proofs.Math.Seq.{take-append_seam, drop-append_seam}
 use Rattle.std.proofs.lemmas.Bool.{cases_lt}
 use Rattle.std.proofs.lemmas.List.Elements.{All-nil, All-append, All-take, All-drop}
@@ -14,8 +14,8 @@ use Rattle.bincode_format.specs.Fault.{Fault}
 use Rattle.bincode_format.specs.Charge.{Step, Reserve, Release}
 use Rattle.bincode_format.specs.Format.{Format, done, step, ◌>>=◌, unsure, map_format, charged, elements, sequence}
 use Rattle.bincode_format.specs.Integers.{Two, Four, Eight, number_by, unsigned, unsigned_tag, shortest, spelling}
-use Rattle.bincode_format.specs.Meaning.{Meaning, Then, Number, IsNumber, listed}
-use Rattle.bincode_format.specs.Words.{natural, len, array, list}
+use Rattle.bincode_format.specs.Meaning.{Meaning, Nothing, Then, Number, IsNumber, IsNothing, IsThen, listed}
+use Rattle.bincode_format.specs.Words.{natural, len, nothing, first_and, array, list}
 use Rattle.bincode_format.specs.Allowed.{Both}
 use Rattle.bincode_format.specs.Run.{IsListOf, AllowsEach}
 use Rattle.bincode_laws.specs.AllowedLaws.{natural-one, allowed-natural, allowed-unsigned}
@@ -135,8 +135,9 @@ module _ {A : Type 0} (Given : A → Meaning → Type 0) (share : ℕ) (F : Form
         let n : length vs ≡ u.head = array-word_length share F Given vs u.head u.second r.meaning u.second_steps u.second_word r.is_given in
         let number : (natural (len s)).Word u.first (Number (pos u.head)) u.first_steps =
         settled-word (λ k. Ok (Number (pos k))) (len s) u.first u.head (Number (pos u.head)) u.first_steps refl u.first_word in
+        let below = first_bytes bytes u.first u.second u.bytes_are r.are_bytes in
         let first : ReadsAs (IsNumber (pos (length vs))) (natural (len s)) u.first =
-        record { meaning = Number (pos u.head); steps = u.first_steps; are_bytes = first_bytes bytes u.first u.second u.bytes_are r.are_bytes; is_word = number; is_given = ap (λ k. Number (pos k)) (sym n) } in
+        record { meaning = Number (pos u.head); steps = u.first_steps; are_bytes = below; is_word = number; is_given = ap (λ k. Number (pos k)) (sym n) } in
         let second : ReadsAs (IsListOf Given vs) (array u.head share F) u.second =
         record { meaning = r.meaning; steps = u.second_steps; are_bytes = second_bytes bytes u.first u.second u.bytes_are r.are_bytes; is_word = u.second_word; is_given = r.is_given } in
         (u.first, u.second, u.bytes_are, first, array_read u.head vs u.second n second)
@@ -230,3 +231,62 @@ fewer-read Given share F s vs ws le below shed bytes r =
       reads-list Given share F s ws (x.0 ++ y.0) (x.0, y.0, refl, x.1, y.1),
       omega (arith, x.2, y.2, length-append x.0 y.0, ap length b.2, length-append b.0 b.1),
     )
+
+-- a tuple decodes to what its first part does, and then to what the others do
+module _ (P Q : Meaning → Type 0) (F others : Format Meaning) where
+  tuple_reads : (bytes : List ℕ) → ReadsAs (IsThen P Q) (first_and F others) bytes → Both (ReadsAs P F) (ReadsAs Q others) bytes
+  unfolding first_and ◌>>=◌
+  tuple_reads bytes r =
+      let u = r.is_word in
+      let i = r.is_given in
+      let t = word-settled (λ k. Ok (Then u.head k)) others u.second r.meaning u.second_steps u.second_word in
+      let q : ◌≡◌ {A = Result Meaning Fault} (Ok (Then u.head t.0)) (Ok (Then i.first i.others)) = t.2 ∙ ap Ok i.meaning_is in
+      let a : i.first ≡ u.head = cc in
+      let b : i.others ≡ t.0 = cc in (
+        u.first,
+        u.second,
+        u.bytes_are,
+        record { meaning = u.head; steps = u.first_steps; are_bytes = first_bytes bytes u.first u.second u.bytes_are r.are_bytes; is_word = u.first_word; is_given = subst P a i.is_first },
+        record { meaning = t.0; steps = t.1; are_bytes = second_bytes bytes u.first u.second u.bytes_are r.are_bytes; is_word = t.3; is_given = subst Q b i.are_others },
+      )
+
+  reads_tuple : (bytes : List ℕ) → Both (ReadsAs P F) (ReadsAs Q others) bytes → ReadsAs (IsThen P Q) (first_and F others) bytes
+  unfolding first_and ◌>>=◌
+  reads_tuple bytes (x, y, e, a, c) = record {
+    meaning = Then a.meaning c.meaning;
+    steps = a.steps ++ c.steps;
+    are_bytes = subst (All (λ b. b < 256)) (sym e) (All-append (λ b. b < 256) x y a.are_bytes c.are_bytes);
+    is_word = record {
+      first = x;
+      second = y;
+      head = a.meaning;
+      first_steps = a.steps;
+      second_steps = c.steps;
+      bytes_are = e;
+      steps_are = refl;
+      first_word = a.is_word;
+      second_word = settled-word (λ k. Ok (Then a.meaning k)) others y c.meaning (Then a.meaning c.meaning) c.steps refl c.is_word;
+    };
+    is_given = record { first = a.meaning; others = c.meaning; meaning_is = refl; is_first = a.is_given; are_others = c.is_given };
+  }
+
+nothing_reads : (bytes : List ℕ) → ReadsAs IsNothing nothing bytes → bytes ≡ []
+unfolding nothing done
+nothing_reads bytes r = r.is_word.0
+
+reads_nothing : ReadsAs IsNothing nothing []
+unfolding nothing done
+reads_nothing = record { meaning = Nothing; steps = []; are_bytes = All-nil (λ b. b < 256); is_word = (refl, refl, refl); is_given = refl }
+
+-- and a pair to what its parts do in turn
+module _ (P Q : Meaning → Type 0) (F G : Format Meaning) where
+  pub pair-reads : (bytes : List ℕ) → ReadsAs (IsThen P (IsThen Q IsNothing)) (first_and F (first_and G nothing)) bytes → Both (ReadsAs P F) (ReadsAs Q G) bytes
+  pair-reads bytes r =
+      let a = tuple_reads P (IsThen Q IsNothing) F (first_and G nothing) bytes r in
+      let b = tuple_reads Q IsNothing G nothing a.1 a.4 in
+      let e : a.1 ≡ b.0 = b.2 ∙ ap (λ z. b.0 ++ z) (nothing_reads b.1 b.4) ∙ append-nil b.0 in
+      (a.0, a.1, a.2, a.3, subst (ReadsAs Q G) (sym e) b.3)
+
+  pub reads-pair : (bytes : List ℕ) → Both (ReadsAs P F) (ReadsAs Q G) bytes → ReadsAs (IsThen P (IsThen Q IsNothing)) (first_and F (first_and G nothing)) bytes
+  reads-pair bytes (x, y, e, a, b) =
+      reads_tuple P (IsThen Q IsNothing) F (first_and G nothing) bytes (x, y, e, a, reads_tuple Q IsNothing G nothing y (y, [], sym (append-nil y), b, reads_nothing))

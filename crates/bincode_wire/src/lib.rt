@@ -6,6 +6,7 @@ pub mod chars;
 pub mod impls;
 pub mod laws;
 pub mod lists;
+pub mod ordered;
 pub mod own;
 pub mod parted;
 pub mod rows;
