@@ -23,3 +23,4 @@ pub mod Values
 pub mod Encoding
 pub mod Claims
 pub mod Slice
+pub mod Vec
