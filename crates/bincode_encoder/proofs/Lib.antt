@@ -1,4 +1,5 @@
 -- What the proofs of this crate share, and those of crates above it.
 pub mod EncodingAnswers
+pub mod IterAnswers
 pub mod ListAnswers
 pub mod RunAnswers

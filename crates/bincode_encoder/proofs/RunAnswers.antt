@@ -22,15 +22,20 @@ around vs i v h e =
 
 module _ {W : Type 0} (adds : Adds W) where
   -- one item more
+  pub writes-push : ((a b c : W) (x y : List ℕ) → adds a x b → adds b y c → adds a (x ++ y) c) →
+      {A : Type 0} (Allowed : A → List ℕ → Type 0) (before between after : W) (vs : List A) (v : A) →
+      Writes adds (AllowsEach Allowed vs) before between → Writes adds (Allowed v) between after → Writes adds (AllowsEach Allowed (vs ++ v ∷ [])) before after
+  writes-push join Allowed before between after vs v w u =
+      let one : Writes adds (AllowsEach Allowed (v ∷ [])) between after = record { word = u.word; is_allowed = (u.word, [], sym (append-nil u.word), u.is_allowed, refl); added = u.added } in
+      writes-same adds _ (AllowsEach Allowed (vs ++ v ∷ [])) before after (each-join Allowed vs (v ∷ [])) (writes-both adds join _ _ before between after w one)
+
   pub writes-more : ((a b c : W) (x y : List ℕ) → adds a x b → adds b y c → adds a (x ++ y) c) →
       {A : Type 0} (Allowed : A → List ℕ → Type 0) (before between after : W) (vs : List A) (i : ℕ) (v : A) → i < length vs →
       v ≡ slice_index_or vs i v →
       Writes adds (AllowsEach Allowed (take i vs)) before between → Writes adds (Allowed v) between after → Writes adds (AllowsEach Allowed (take (i + 1) vs)) before after
   writes-more join Allowed before between after vs i v h e w u =
       let p : take i vs ++ v ∷ [] ≡ take (i + 1) vs = ap (λ z. take i vs ++ z ∷ []) e ∙ sym (take_more vs i v h) in
-      let one : Writes adds (AllowsEach Allowed (v ∷ [])) between after = record { word = u.word; is_allowed = (u.word, [], sym (append-nil u.word), u.is_allowed, refl); added = u.added } in
-      subst (λ z. Writes adds (AllowsEach Allowed z) before after) p
-      (writes-same adds _ (AllowsEach Allowed (take i vs ++ v ∷ [])) before after (each-join Allowed (take i vs) (v ∷ [])) (writes-both adds join _ _ before between after w one))
+      subst (λ z. Writes adds (AllowsEach Allowed z) before after) p (writes-push join Allowed before between after (take i vs) v w u)
 
   -- all the items are the array
   pub writes-array : {A : Type 0} (Means : A → Meaning → Type 0) (share : ℕ) (F : Format Meaning) (n i : ℕ) (vs : List A) (before after : W) →
@@ -81,14 +86,11 @@ module _ {W : Type 0} (adds : Adds W) (refuses : Refuses W) where
   one_of N e (inr (inr h)) = h
 
   -- where an item stops, so does the run
-  pub halts-at : ((a b c : W) (x y : List ℕ) → adds a x b → adds b y c → adds a (x ++ y) c) →
-      {A : Type 0} (Writable : A → Type 0) (Allowed : A → List ℕ → Type 0) (N : EncodeError → Type 0) (before between after : W) (vs : List A) (i : ℕ) (v : A) (e : EncodeError) →
-      i < length vs → v ≡ slice_index_or vs i v →
-      Writes adds (AllowsEach Allowed (take i vs)) before between → Halts adds refuses (Ready (Writable v) (Allowed v)) N between after e →
-      Halts adds refuses (Ready (All Writable vs) (AllowsEach Allowed vs)) N before after e
-  halts-at join Writable Allowed N before between after vs i v e h k w u =
-      let xs = take i vs in
-      let ys = drop (i + 1) vs in
+  pub halts-between : ((a b c : W) (x y : List ℕ) → adds a x b → adds b y c → adds a (x ++ y) c) →
+      {A : Type 0} (Writable : A → Type 0) (Allowed : A → List ℕ → Type 0) (N : EncodeError → Type 0) (before between after : W) (xs ys : List A) (v : A) (e : EncodeError) →
+      Writes adds (AllowsEach Allowed xs) before between → Halts adds refuses (Ready (Writable v) (Allowed v)) N between after e →
+      Halts adds refuses (Ready (All Writable (xs ++ v ∷ ys)) (AllowsEach Allowed (xs ++ v ∷ ys))) N before after e
+  halts-between join Writable Allowed N before between after xs ys v e w u =
       let first = halts-first adds refuses (ReadyEach Writable Allowed v) (AllowsEach (ReadyEach Writable Allowed) ys) N N between after e u in
       let next =
       halts-next adds refuses join (All Writable xs) (AllowsEach Allowed xs)
@@ -96,7 +98,16 @@ module _ {W : Type 0} (adds : Adds W) (refuses : Refuses W) where
       let all =
       halts-same adds refuses _ (Ready (All Writable (xs ++ v ∷ ys)) (AllowsEach Allowed (xs ++ v ∷ ys))) _ before after e
       (ready_around Writable Allowed xs ys v) (around_ready Writable Allowed xs ys v) next in
-      subst (λ z. Halts adds refuses (Ready (All Writable z) (AllowsEach Allowed z)) N before after e) (sym (around vs i v h k)) (halts-named adds refuses _ _ N before after e (one_of N e) all)
+      halts-named adds refuses _ _ N before after e (one_of N e) all
+
+  pub halts-at : ((a b c : W) (x y : List ℕ) → adds a x b → adds b y c → adds a (x ++ y) c) →
+      {A : Type 0} (Writable : A → Type 0) (Allowed : A → List ℕ → Type 0) (N : EncodeError → Type 0) (before between after : W) (vs : List A) (i : ℕ) (v : A) (e : EncodeError) →
+      i < length vs → v ≡ slice_index_or vs i v →
+      Writes adds (AllowsEach Allowed (take i vs)) before between → Halts adds refuses (Ready (Writable v) (Allowed v)) N between after e →
+      Halts adds refuses (Ready (All Writable vs) (AllowsEach Allowed vs)) N before after e
+  halts-at join Writable Allowed N before between after vs i v e h k w u =
+      subst (λ z. Halts adds refuses (Ready (All Writable z) (AllowsEach Allowed z)) N before after e) (sym (around vs i v h k))
+      (halts-between join Writable Allowed N before between after (take i vs) (drop (i + 1) vs) v e w u)
 
   -- and so does the array
   pub halts_array :

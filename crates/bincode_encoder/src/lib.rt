@@ -7,6 +7,7 @@ pub mod chars;
 pub mod encoder;
 pub mod integers;
 pub mod lists;
+pub mod ordered;
 pub mod runs;
 pub mod texts;
 pub mod truth;
