@@ -1,0 +1,98 @@
+-- Maps: their entries in order are what they mean, and the entries of a word, put in turn, are what it decodes to.
+use Rattle.std.specs.Prelude.{◌≡◌, ℕ, ◌+◌, ◌≤◌, ◌&&◌, Bool, true, List, [], ◌∷◌, ◌++◌, length, map, refl}
+use Rattle.std.specs.declared.cmp.Ordering.{Ordering}
+use Rattle.std.specs.Ordering.{is_eq}
+use Rattle.std.specs.Cmp.{IsTotalOrder}
+use Rattle.std.specs.Cmp.Lexicographic.{pointwise, as_long}
+use Rattle.std.specs.List.{All}
+use Rattle.std.specs.List.Sorted.{IsStrictlySortedBy}
+use Rattle.std.specs.Map.{keys_of}
+use Rattle.std.proofs.Common.{sym, ◌∙◌, ap, subst, arith, length-append}
+use Rattle.std.proofs.lemmas.Bool.{and_parts}
+use Rattle.std.proofs.lemmas.List.Elements.{All-nil}
+use Rattle.bincode_base.specs.Setting.{Setting}
+use Rattle.bincode_format.specs.Format.{Format}
+use Rattle.bincode_format.specs.Meaning.{Meaning, IsNothing, IsThen}
+use Rattle.bincode_format.specs.Words.{nothing, first_and, list}
+use Rattle.bincode_format.specs.Allowed.{Shortest, Both}
+use Rattle.bincode_format.specs.Run.{IsListOf, AllowsEach}
+use Rattle.bincode_format.specs.Collections.{AreValid, IsMadeOf, MakesMap, put_entries}
+use Rattle.bincode_laws.specs.RunAllowedLaws.{run-same}
+use Rattle.bincode_laws.specs.ListLaws.{list-shortest}
+use Rattle.bincode_laws.specs.LaidLaws.{each-laid, laid-each}
+use Rattle.bincode_laws.specs.OrderLaws.{sorted-put_entries, sorted-equal, map-put_entries, All-put_entries, put_entries-weighs, length-put_entries}
+use Rattle.bincode_laws.specs.ReadLaws.{ReadsAs, fewer-read, pair-reads, reads-pair}
+
+-- entries that are put in turn have words that are no longer, if a word of an entry is one of its key and one of its value: a key that stays keeps its word
+module _ {K V : Type 0} (cmp : K → K → Ordering) (Keys : K → List ℕ → Type 0) (Values : V → List ℕ → Type 0) (Allowed : K × V → List ℕ → Type 0) where
+  pub put_entries-allowed : ((e : K × V) (bytes : List ℕ) → Allowed e bytes → Both (Keys e.0) (Values e.1) bytes) →
+      ((e : K × V) (bytes : List ℕ) → Both (Keys e.0) (Values e.1) bytes → Allowed e bytes) → (items : List (K × V)) (bytes : List ℕ) → AllowsEach Allowed items bytes →
+      (other : List ℕ) × AllowsEach Allowed (put_entries cmp [] items) other × (length other ≤ length bytes)
+  put_entries-allowed split join items bytes a =
+      let key : K × List ℕ → K = λ x. x.0 in
+      let value : V × List ℕ → V = λ x. x.0 in
+      let plain : (K × List ℕ) × (V × List ℕ) → K × V = λ x. (x.0.0, x.1.0) in
+      let IsKey : K × List ℕ → Type 0 = λ x. Keys x.0 x.1 in
+      let IsValue : V × List ℕ → Type 0 = λ x. Values x.0 x.1 in
+      let IsLaid : (K × List ℕ) × (V × List ℕ) → Type 0 = λ x. IsKey x.0 × IsValue x.1 in
+      let weight : (K × List ℕ) × (V × List ℕ) → ℕ = λ x. length x.0.1 + length x.1.1 in
+      let told : K × List ℕ → K × List ℕ → Ordering = λ x y. cmp x.0 y.0 in
+      let p = each-laid Allowed plain IsLaid weight
+      (λ e x b. let c = split e x b in (((e.0, c.0), (e.1, c.1)), refl, (c.3, c.4), ap length c.2 ∙ length-append c.0 c.1)) items bytes a in
+      let put = put_entries told [] p.0 in
+      let r = laid-each Allowed plain IsLaid weight (λ x h. (x.0.1 ++ x.1.1, join (plain x) (x.0.1 ++ x.1.1) (x.0.1, x.1.1, refl, h.0, h.1), length-append x.0.1 x.1.1)) put
+      (All-put_entries told IsKey IsValue [] p.0 (All-nil IsLaid) p.2) in
+      let e : map plain put ≡ put_entries cmp [] items = map-put_entries cmp key value [] p.0 ∙ ap (put_entries cmp []) (sym p.1) in
+      (r.0, subst (λ l. AllowsEach Allowed l r.0) e r.1, omega (arith, r.2, p.3, put_entries-weighs told (λ x. length x.1) (λ x. length x.1) [] p.0))
+
+module _ {K V : Type 0} (cmp : K → K → Ordering) (eq : K → K → Bool) (same : V → V → Bool) (total : IsTotalOrder cmp) (matches : (x y : K) → eq x y ≡ is_eq (cmp x y)) where
+  -- entries are equal where their keys and their values are
+  abbrev pub entry_eq : K × V → K × V → Bool
+  entry_eq x y = eq x.0 y.0 && same x.1 y.1
+
+  keys_equal : (xs ys : List (K × V)) → pointwise entry_eq xs ys ≡ true → pointwise eq (keys_of xs) (keys_of ys) ≡ true
+  keys_equal [] [] p = refl
+  keys_equal [] (y ∷ ys) p = absurd (cc)
+  keys_equal (x ∷ xs) [] p = absurd (cc)
+  keys_equal (x ∷ xs) (y ∷ ys) p =
+      let q = and_parts (entry_eq x y) (pointwise entry_eq xs ys) p in
+      rw ((and_parts (eq x.0 y.0) (same x.1 y.1) q.0).0, keys_equal xs ys q.1) refl
+
+  module _ (Means Given : K × V → Meaning → Type 0) (Valid : K × V → Type 0) (comes_back : (v w : K × V) (m : Meaning) → Valid v → Means v m → Given w m → entry_eq v w ≡ true) where
+    -- what decodes to what a map in order means are its entries
+    given_entries : (entries others : List (K × V)) (m : Meaning) → IsStrictlySortedBy cmp (keys_of entries) → All Valid entries → IsListOf Means entries m →
+        IsMadeOf (MakesMap cmp) Given others m → (pointwise entry_eq entries others ≡ true) × IsListOf Given others m
+    given_entries entries others m s h i (items, e, j) =
+        let alike = run-same Means Given Valid (λ x. Unit {0}) entry_eq (λ v w n p q. comes_back v w n p) entries items h (λ k d lt. tt) m i j in
+        let sorted = sorted-equal cmp total eq matches (keys_of entries) (keys_of items) (keys_equal entries items alike) s in
+        let are : others ≡ items = e ∙ sorted-put_entries cmp total items sorted in
+        (subst (λ l. pointwise entry_eq entries l ≡ true) (sym are) alike, subst (λ l. IsListOf Given l m) (sym are) j)
+
+    -- a map comes back equal
+    pub map-comes_back : (entries others : List (K × V)) (m : Meaning) → IsStrictlySortedBy cmp (keys_of entries) → All Valid entries → IsListOf Means entries m →
+        IsMadeOf (MakesMap cmp) Given others m → pointwise entry_eq entries others ≡ true
+    map-comes_back entries others m s h i j = (given_entries entries others m s h i j).0
+
+  -- no word that decodes to it is shorter, if none of an entry is: of words of equal keys those of the first key and of the last value count
+  module _ (Means : K × V → Meaning → Type 0) (GivenKey : K → Meaning → Type 0) (GivenValue : V → Meaning → Type 0) (Valid : K × V → Type 0) where
+    abbrev Given : K × V → Meaning → Type 0
+    Given e = IsThen (GivenKey e.0) (IsThen (GivenValue e.1) IsNothing)
+
+    module _ (comes_back : (v w : K × V) (m : Meaning) → Valid v → Means v m → Given w m → entry_eq v w ≡ true) where
+      pub map-shortest : (s : Setting) (share : ℕ) (F G : Format Meaning) → ((v w : K × V) → Valid v → Shortest (Means v) (Given w) (first_and F (first_and G nothing))) →
+          (entries others : List (K × V)) → AreValid Valid entries → IsStrictlySortedBy cmp (keys_of entries) →
+          Shortest (IsListOf Means entries) (IsMadeOf (MakesMap cmp) Given others) (list s share (first_and F (first_and G nothing)))
+      map-shortest s share F G least entries others h sorted written bytes m steps w below u (items, e, i) =
+          let H = first_and F (first_and G nothing) in
+          let Reads : K × V → List ℕ → Type 0 = λ v. ReadsAs (Given v) H in
+          let g = given_entries Means Given Valid comes_back entries others w.meaning sorted h.1 w.is_meant.0 w.is_meant.1 in
+          let long : length entries ≡ length others = as_long entry_eq entries others g.0 in
+          let fewer : length others ≤ length items = omega (arith, length-put_entries cmp items, ap length e) in
+          let put = put_entries-allowed cmp (λ k. ReadsAs (GivenKey k) F) (λ v. ReadsAs (GivenValue v) G) Reads
+          (λ x. pair-reads (GivenKey x.0) (GivenValue x.1) F G) (λ x. reads-pair (GivenKey x.0) (GivenValue x.1) F G) items in
+          let r = fewer-read Given share H s items others fewer (omega (arith, h.0, long))
+          (λ x a. subst (λ l. (other : List ℕ) × AllowsEach Reads l other × (length other ≤ length x)) (sym e) (put x a)) bytes
+          (record { meaning = m; steps = steps; are_bytes = below; is_word = u; is_given = i }) in
+          let l = list-shortest Means s share H Given Valid least entries others h.1 written r.0 r.1.meaning r.1.steps
+          (record { meaning = w.meaning; is_meant = (w.is_meant.0, g.1); is_written = w.is_written }) r.1.are_bytes r.1.is_word r.1.is_given in
+          omega (arith, l, r.2)
