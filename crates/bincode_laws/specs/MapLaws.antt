@@ -12,8 +12,8 @@ use Rattle.std.proofs.lemmas.Bool.{and_parts}
 use Rattle.std.proofs.lemmas.List.Elements.{All-nil}
 use Rattle.bincode_base.specs.Setting.{Setting}
 use Rattle.bincode_format.specs.Format.{Format}
-use Rattle.bincode_format.specs.Meaning.{Meaning, IsNothing, IsThen}
-use Rattle.bincode_format.specs.Words.{nothing, first_and, list}
+use Rattle.bincode_format.specs.Meaning.{Meaning}
+use Rattle.bincode_format.specs.Words.{list}
 use Rattle.bincode_format.specs.Allowed.{Shortest, Both}
 use Rattle.bincode_format.specs.Run.{IsListOf, AllowsEach}
 use Rattle.bincode_format.specs.Collections.{AreValid, IsMadeOf, MakesMap, put_entries}
@@ -21,6 +21,7 @@ use Rattle.bincode_laws.specs.RunAllowedLaws.{run-same}
 use Rattle.bincode_laws.specs.ListLaws.{list-shortest}
 use Rattle.bincode_laws.specs.LaidLaws.{each-laid, laid-each}
 use Rattle.bincode_laws.specs.OrderLaws.{sorted-put_entries, sorted-equal, map-put_entries, All-put_entries, put_entries-weighs, length-put_entries}
+use Rattle.bincode_laws.specs.PairLaws.{pair_of, IsPair}
 use Rattle.bincode_laws.specs.ReadLaws.{ReadsAs, fewer-read, pair-reads, reads-pair}
 
 -- entries that are put in turn have words that are no longer, if a word of an entry is one of its key and one of its value: a key that stays keeps its word
@@ -76,14 +77,14 @@ module _ {K V : Type 0} (cmp : K → K → Ordering) (eq : K → K → Bool) (sa
   -- no word that decodes to it is shorter, if none of an entry is: of words of equal keys those of the first key and of the last value count
   module _ (Means : K × V → Meaning → Type 0) (GivenKey : K → Meaning → Type 0) (GivenValue : V → Meaning → Type 0) (Valid : K × V → Type 0) where
     abbrev Given : K × V → Meaning → Type 0
-    Given e = IsThen (GivenKey e.0) (IsThen (GivenValue e.1) IsNothing)
+    Given e = IsPair (GivenKey e.0) (GivenValue e.1)
 
     module _ (comes_back : (v w : K × V) (m : Meaning) → Valid v → Means v m → Given w m → entry_eq v w ≡ true) where
-      pub map-shortest : (s : Setting) (share : ℕ) (F G : Format Meaning) → ((v w : K × V) → Valid v → Shortest (Means v) (Given w) (first_and F (first_and G nothing))) →
+      pub map-shortest : (s : Setting) (share : ℕ) (F G : Format Meaning) → ((v w : K × V) → Valid v → Shortest (Means v) (Given w) (pair_of F G)) →
           (entries others : List (K × V)) → AreValid Valid entries → IsStrictlySortedBy cmp (keys_of entries) →
-          Shortest (IsListOf Means entries) (IsMadeOf (MakesMap cmp) Given others) (list s share (first_and F (first_and G nothing)))
+          Shortest (IsListOf Means entries) (IsMadeOf (MakesMap cmp) Given others) (list s share (pair_of F G))
       map-shortest s share F G least entries others h sorted written bytes m steps w below u (items, e, i) =
-          let H = first_and F (first_and G nothing) in
+          let H = pair_of F G in
           let Reads : K × V → List ℕ → Type 0 = λ v. ReadsAs (Given v) H in
           let g = given_entries Means Given Valid comes_back entries others w.meaning sorted h.1 w.is_meant.0 w.is_meant.1 in
           let long : length entries ≡ length others = as_long entry_eq entries others g.0 in
