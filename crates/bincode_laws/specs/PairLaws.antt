@@ -1,5 +1,6 @@
 -- What pairs keep, if their parts do.
 use Rattle.std.specs.Prelude.{Bool, true, ◌&&◌, [], ◌∷◌, refl}
+use Rattle.std.proofs.lemmas.Bool.{and_parts}
 use Rattle.bincode_base.specs.Setting.{Setting}
 use Rattle.bincode_format.specs.Format.{Format}
 use Rattle.bincode_format.specs.Laws.{Lawful, Balanced}
@@ -42,3 +43,7 @@ module _ {F G : Format Meaning} (s : Setting) where
 -- pairs are equal where their parts are
 pub pair-same : {P Q P' Q' : Meaning → Type 0} {x y : Bool} → SameIn P P' x → SameIn Q Q' y → SameIn (IsPair P Q) (IsPair P' Q') (x && y)
 pair-same {x = x} {y = y} f g m p q = row-same x (y ∷ []) (then-same f (then-same {x = y} {y = true} g (λ n h k. refl)) m p q)
+
+-- and their first parts are, whatever the second
+pub pair-first_same : {P Q P' Q' : Meaning → Type 0} {x : Bool} → SameIn P P' x → SameIn (IsPair P Q) (IsPair P' Q') x
+pair-first_same {x = x} f m p q = (and_parts x true (then-same {x = x} {y = true} f (λ n h k. refl) m p q)).0

@@ -12,7 +12,7 @@ ghost use Rattle.bincode_laws.specs.ListLaws.{list-some_word};
 ghost use Rattle.bincode_laws.specs.RunAllowedLaws.{run-same};
 ghost use Rattle.bincode_laws.specs.TupleLaws.{either};
 ghost use Rattle.bincode_laws.specs.PairLaws.{pair-lawful, pair-balanced, pair-has_word, pair-one_length, pair-same};
-ghost use Rattle.bincode_laws.specs.PairLaws.{pair-shortest};
+ghost use Rattle.bincode_laws.specs.PairLaws.{pair-first_same, pair-shortest};
 ghost use Rattle.bincode_laws.specs.SetLaws.{set-comes_back, set-shortest};
 ghost use Rattle.bincode_laws.specs.MapLaws.{map-comes_back, map-shortest};
 
@@ -150,16 +150,16 @@ impl<K: Exact + Ord, V: Exact> Exact for Entries<K, V> {
         (λ e f n a b. pair-same (λ o. K.one_value e.0 f.0 o a.0 b.0) (λ o. V.one_value e.1 f.1 o a.1.0 b.1.0) n)
         v.entries w.entries h.0.1 k.0.1 m };
 
-    ghost comes_back = { λ v w m h. map-comes_back K.cmp K.eq V.eq K.total K.matches_eq
-        ⟦<(K, V) as Wire>⟧.means (λ x n. ⟦<(K, V) as Wire>⟧.given n x) ⟦<(K, V) as Wire>⟧.valid
+    ghost comes_back = { λ v w m h. map-comes_back K.cmp K.eq K.total K.matches_eq ⟦<(K, V) as Wire>⟧.valid
+        V.eq ⟦<(K, V) as Wire>⟧.means (λ x n. ⟦<(K, V) as Wire>⟧.given n x)
         (λ e f n a. pair-same (λ o. K.comes_back e.0 f.0 o a.0) (λ o. V.comes_back e.1 f.1 o a.1.0) n)
         v.entries w.entries m h.1 h.0.1 };
 }
 
-impl<K: Exact + Canonical + Ord, V: Exact + Canonical> Canonical for Entries<K, V> {
-    ghost shortest = { λ s v w h. map-shortest K.cmp K.eq V.eq K.total K.matches_eq ⟦<(K, V) as Wire>⟧.means
-        (λ x n. K.given n x) (λ x n. V.given n x) ⟦<(K, V) as Wire>⟧.valid
-        (λ e f n a. pair-same (λ o. K.comes_back e.0 f.0 o a.0) (λ o. V.comes_back e.1 f.1 o a.1.0) n)
+impl<K: Exact + Canonical + Ord, V: Canonical> Canonical for Entries<K, V> {
+    ghost shortest = { λ s v w h. map-shortest K.cmp K.eq K.total K.matches_eq ⟦<(K, V) as Wire>⟧.valid
+        ⟦<(K, V) as Wire>⟧.means (λ x n. K.given n x) (λ x n. V.given n x)
+        (λ e f n a. pair-first_same (λ o. K.comes_back e.0 f.0 o a.0) n)
         s ⟦<(K, V) as Wire>⟧.claim (K.format s) (V.format s)
         (λ e f a. pair-shortest s (K.shortest s e.0 f.0 a.0) (V.shortest s e.1 f.1 a.1.0))
         v.entries w.entries h.0 h.1 };
