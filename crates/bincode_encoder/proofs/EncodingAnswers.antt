@@ -11,7 +11,7 @@ use Rattle.bincode_format.specs.Words.{not_zero_by}
 use Rattle.bincode_format.specs.Allowed.{AllowedWord, Both}
 use Rattle.bincode_laws.specs.AllowedLaws.{not_zero-allows, allowed-not_zero}
 use Rattle.bincode_format.specs.Encoding.{Adds, Refuses, Ready, Encodes}
-use Rattle.bincode_laws.specs.EncodingLaws.{writes-alone, writes-both, writes-same, halts-alone, halts-same, halts-named, halts-where, halts-in_first, halts-in_next, ready-as}
+use Rattle.bincode_laws.specs.EncodingLaws.{writes-alone, writes-both, writes-same, halts-alone, halts-within, halts-same, halts-named, halts-where, halts-in_first, halts-in_next, ready-as}
 
 -- a writer whose writes in turn are one write
 abbrev pub Joined : {W : Type 0} → Adds W → Type 0
@@ -36,6 +36,16 @@ module _ {E W : Type 0} {adds : Adds W} {refuses : Refuses W} {writer_of : E →
     ok = on_ok_weaker r (writes-same adds A B _ _ to) w.ok;
     err = IfErr-weaker r _ _ (λ e h. halts-where adds refuses R S B can M _ _ e
         (halts-same adds refuses (Ready R A) (Ready R B) M _ _ e (ready-as R A B to) (ready-as R B A from) (halts-named adds refuses (Ready R A) N M _ _ e (more e) h))) w.err;
+    same_place = w.same_place;
+  }
+
+  -- words among others: where one of those is allowed, one of these is
+  pub encodes-within : {B : List ℕ → Type 0} → ((bytes : List ℕ) → A bytes → B bytes) → ((bytes : List ℕ) → B bytes → (word : List ℕ) × A word) →
+      Encodes adds refuses writer_of place R A N r old new → Encodes adds refuses writer_of place R B N r old new
+  encodes-within {B = B} to from w = record {
+    ok = on_ok_weaker r (writes-same adds A B _ _ to) w.ok;
+    err = IfErr-weaker r _ _ (λ e h. halts-within adds refuses (Ready R A) (Ready R B) N _ _ e (ready-as R A B to)
+        (λ bytes b. let a = from bytes b.is_allowed in (a.0, record { is_writable = b.is_writable; is_allowed = a.1 })) h) w.err;
     same_place = w.same_place;
   }
 

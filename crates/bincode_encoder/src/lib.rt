@@ -1,10 +1,13 @@
-//! Encoders, and the integers, characters, truth values, runs and variants that are written through any of them.
+//! Encoders, and the integers, characters, truth values, texts, runs, lists and variants that are written through any
+//! of them.
 #![tactic(auto)]
 
 pub mod cells;
 pub mod chars;
 pub mod encoder;
 pub mod integers;
+pub mod lists;
 pub mod runs;
+pub mod texts;
 pub mod truth;
 pub mod variants;

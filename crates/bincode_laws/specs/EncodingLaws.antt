@@ -12,8 +12,11 @@ begins_first A B bytes h some (x, y, e, a, b) = let m = h x a in (m.0 ++ y, (byt
 begins_next : (R : Type 0) (A B : List ℕ → Type 0) (word bytes : List ℕ) → A word → Begins B bytes → Begins (Both (Ready R A) B) (word ++ bytes)
 begins_next R A B word bytes a h some (x, y, e, a', b) = let m = h y b in (m.0, (word, bytes ++ m.0, append_assoc word bytes m.0, record { is_writable = a'.is_writable; is_allowed = a }, m.1))
 
-begins_same : (A B : List ℕ → Type 0) → ((bytes : List ℕ) → A bytes → B bytes) → ((bytes : List ℕ) → B bytes → A bytes) → (bytes : List ℕ) → Begins A bytes → Begins B bytes
-begins_same A B to from bytes h some b = let m = h some (from some b) in (m.0, to (bytes ++ m.0) m.1)
+begins_within : (A B : List ℕ → Type 0) → ((bytes : List ℕ) → A bytes → B bytes) → ((bytes : List ℕ) → B bytes → (word : List ℕ) × A word) → (bytes : List ℕ) → Begins A bytes → Begins B bytes
+begins_within A B to from bytes h some b =
+    let a = from some b in
+    let m = h a.0 a.1 in
+    (m.0, to (bytes ++ m.0) m.1)
 
 -- a word of a value without cells
 pub ready : (A : List ℕ → Type 0) (bytes : List ℕ) → A bytes → Ready (Unit {0}) A bytes
@@ -67,11 +70,16 @@ module _ {W : Type 0} (adds : Adds W) (refuses : Refuses W) where
   halts-next join R A B N M before between after e v (by_name front g n b) =
       by_name (v.word ++ front) (join before between after v.word front v.added g) (inr n) (own_or B (Both (Ready R A) B) e front (v.word ++ front) (begins_next R A B v.word front v.is_allowed) b)
 
+  -- words among others: where one of those is allowed, one of these is
+  pub halts-within : (A B : List ℕ → Type 0) (N : EncodeError → Type 0) (before after : W) (e : EncodeError) → ((bytes : List ℕ) → A bytes → B bytes) →
+      ((bytes : List ℕ) → B bytes → (word : List ℕ) × A word) → Halts adds refuses A N before after e → Halts adds refuses B N before after e
+  halts-within A B N before after e to from (by_writer front piece middle h r b) = by_writer front piece middle h r (begins_within A B to from (front ++ piece) b)
+  halts-within A B N before after e to from (by_name front h n b) = by_name front h n (own_or A B e front front (begins_within A B to from front) b)
+
   -- the same words by another name
   pub halts-same : (A B : List ℕ → Type 0) (N : EncodeError → Type 0) (before after : W) (e : EncodeError) → ((bytes : List ℕ) → A bytes → B bytes) →
       ((bytes : List ℕ) → B bytes → A bytes) → Halts adds refuses A N before after e → Halts adds refuses B N before after e
-  halts-same A B N before after e to from (by_writer front piece middle h r b) = by_writer front piece middle h r (begins_same A B to from (front ++ piece) b)
-  halts-same A B N before after e to from (by_name front h n b) = by_name front h n (own_or A B e front front (begins_same A B to from front) b)
+  halts-same A B N before after e to from = halts-within A B N before after e to (λ bytes b. (bytes, from bytes b))
 
   -- an error that more may name
   pub halts-named : (A : List ℕ → Type 0) (N M : EncodeError → Type 0) (before after : W) (e : EncodeError) → (N e → M e) →

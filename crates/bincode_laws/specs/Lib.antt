@@ -28,6 +28,7 @@ pub mod SetLaws
 pub mod SignedLaws
 pub mod SpelledLaws
 pub mod SpellingLaws
+pub mod TextLaws
 pub mod TupleLaws
 pub mod RowLaws
 pub mod WordsLaws

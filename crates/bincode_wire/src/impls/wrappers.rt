@@ -1,10 +1,17 @@
-//! The words of wrappers and references.
+//! The words of wrappers, pointers and references.
+ghost use Rattle.std.specs.Cow.{cow_value};
+ghost use Rattle.std.specs.Arc.{arc_value};
+
 use crate::laws::{Canonical, Exact, Inhabited, Plain, Writable};
 use crate::parted::{Parted, SameParts};
+use crate::scalars::Scalar;
 use crate::wire::Wire;
+use std::borrow::Cow;
 use std::cmp::Reverse;
 use std::marker::PhantomData;
 use std::num::Wrapping;
+use std::rc::Rc;
+use std::sync::Arc;
 
 impl<T: Wire> Parted for Wrapping<T> {
     type Parts = T;
@@ -57,7 +64,7 @@ impl<T: Wire> Wire for Pointed<T> {
 
     ghost names = { T.names };
 
-    ghost grows = { T.grows };
+    ghost grows = { Unit {0} };
 
     ghost claim = { 8 };
 
@@ -105,5 +112,45 @@ impl<T: Wire> Parted for &T {
 }
 
 impl<T: Exact> SameParts<Pointed<T>> for &T {
+    ghost same_parts = { λ v w e. e };
+}
+
+impl<T: Wire> Parted for Box<T> {
+    type Parts = Pointed<T>;
+
+    ghost parts = { λ v. record { to = v.value } };
+}
+
+impl<T: Exact> SameParts<Pointed<T>> for Box<T> {
+    ghost same_parts = { λ v w e. e };
+}
+
+impl<T: Wire> Parted for Rc<T> {
+    type Parts = Pointed<T>;
+
+    ghost parts = { λ v. record { to = v.value } };
+}
+
+impl<T: Exact> SameParts<Pointed<T>> for Rc<T> {
+    ghost same_parts = { λ v w e. e };
+}
+
+impl<T: Wire> Parted for Arc<T> {
+    type Parts = Pointed<T>;
+
+    ghost parts = { λ v. record { to = arc_value v } };
+}
+
+impl<T: Exact> SameParts<Pointed<T>> for Arc<T> {
+    ghost same_parts = { λ v w e. e };
+}
+
+impl<T: Scalar + Wire + Clone> Parted for Cow<'_, T> {
+    type Parts = T;
+
+    ghost parts = { λ v. cow_value v };
+}
+
+impl<T: Scalar + Exact + Clone> SameParts<T> for Cow<'_, T> {
     ghost same_parts = { λ v w e. e };
 }

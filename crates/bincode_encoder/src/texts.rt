@@ -1,0 +1,21 @@
+//! Texts, written through any encoder.
+ghost use Rattle.bincode_format.specs.Meaning.{IsBytes};
+ghost use Rattle.bincode_format.specs.Words.{text};
+ghost use Rattle.bincode_format.specs.Allowed.{AllowedWord};
+ghost use Rattle.bincode_format.specs.Encoding.{Encodes};
+
+use crate::encoder::{Encoder, write_from};
+use crate::lists::encode_length;
+use bincode_base::error::EncodeError;
+
+/// Writes a text: its length in bytes, and then all its bytes in one piece. Fails where the writer refuses a piece;
+/// those before it stay written.
+#[inline(always)]
+pub fn encode_text<E: Encoder>(encoder: &mut E, val: &str) -> Result<(), EncodeError>
+    ensures { Encodes E.W.adds E.W.refuses E.writer_of E.place (Unit {0})
+        (AllowedWord (IsBytes val.now) (text E.C.setting)) (λ _. ⊥) result encoder.old encoder.new }
+{
+    let bytes = val.as_bytes();
+    encode_length(encoder, bytes.len())?;
+    write_from(encoder, bytes)
+}

@@ -1,0 +1,161 @@
+-- Texts keep the laws. A text allows a word of its length and then its bytes, which no other word of it is shorter than.
+use Rattle.std.specs.Prelude.{◌≡◌, ℕ, nat_eq, ◌<◌, ◌^◌, Bool, true, false, if◌then◌else◌, Result, Ok, Err, List, [], ◌∷◌, ◌++◌, length, refl}
+use Rattle.std.specs.List.{All}
+use Rattle.std.specs.Char.{encode_utf8}
+use Rattle.std.specs.Str.{IsUtf8, is_utf8, all_scalars, encode_utf8_all}
+use Rattle.std.proofs.Common.{sym, ◌∙◌, ap, subst, arith}
+use Rattle.std.proofs.lemmas.Bool.{and_parts}
+use Rattle.std.proofs.lemmas.Str.{is_utf8-from_IsUtf8}
+use Rattle.std.proofs.lemmas.List.Elements.{All-nil, All-append}
+use lib.Pointwise.{pointwise, bytes_decides}
+use lib.Utf8.{scalar}
+use Rattle.bincode_base.specs.declared.error.IntegerType.TheVariants.{U64}
+use Rattle.bincode_base.specs.Setting.{Setting}
+use Rattle.bincode_format.specs.Fault.{Fault, Utf8}
+use Rattle.bincode_format.specs.Charge.{Step}
+use Rattle.bincode_format.specs.Format.{raw, step, ◌>>=◌, unsure, charged}
+use Rattle.bincode_format.specs.Laws.{Lawful, Balanced}
+use Rattle.bincode_laws.specs.FormatLaws.{Settles, raw-lawful, turn-lawful, unsure-lawful, test-lawful, charged-lawful}
+use Rattle.bincode_laws.specs.Balance.{raw-holds, turn-holds, unsure-holds, test-balanced, charged-balanced}
+use Rattle.bincode_format.specs.Integers.{Eight}
+use Rattle.bincode_laws.specs.IntegerLaws.{unsigned-lawful, unsigned-balanced, unsigned-least}
+use Rattle.bincode_format.specs.Meaning.{Meaning, Bytes, IsBytes}
+use Rattle.bincode_format.specs.Words.{len, counted, text_of, text}
+use Rattle.bincode_format.specs.Allowed.{AllowedWord, SomeWord, OneLength, Shortest, Both}
+use Rattle.bincode_format.specs.Collections.{LengthWord}
+use Rattle.bincode_format.specs.Cells.{HasWord}
+use Rattle.bincode_laws.specs.AllowedLaws.{settled-written, written-settled, natural-allows, allowed-natural, both-one_length, same-one_length, alone-one_length, more-allowed}
+use Rattle.bincode_laws.specs.SpelledLaws.{unsigned-spelled, word-settled, parts-no_longer}
+use Rattle.bincode_laws.specs.CellLaws.{cell-has_word}
+use Rattle.bincode_laws.specs.CharLaws.{spelled}
+
+-- the laws
+
+-- bytes behind their length keep the laws
+pub counted-lawful : (s : Setting) → Lawful (counted s)
+counted-lawful s =
+    turn-lawful (len s) (λ n. charged n (unsure (raw n))) (unsigned-lawful U64 8 s (Eight refl)) (λ n. charged-lawful n (unsure (raw n)) (unsure-lawful (raw n) (raw-lawful n)))
+
+pub counted-balanced : (s : Setting) → Balanced (counted s)
+counted-balanced s =
+    turn-holds 0 0 0 (len s) (λ n. charged n (unsure (raw n))) (unsigned-balanced U64 8 s) (λ n. charged-balanced n (unsure (raw n)) (unsure-holds 0 0 (raw n) (raw-holds 0 n)))
+
+settles_by : (test : Bool) (bytes : List ℕ) → Settles {A = Meaning} (if test then Ok (Bytes bytes) else Err Utf8)
+settles_by true bytes = tt
+settles_by false bytes = λ h. h
+
+-- texts keep the laws
+pub text-lawful : (s : Setting) → Lawful (text s)
+text-lawful s = test-lawful (counted s) text_of (counted-lawful s) (λ bytes. settles_by (is_utf8 bytes) bytes)
+
+pub text-balanced : (s : Setting) → Balanced (text s)
+text-balanced s = test-balanced (counted s) text_of (counted-balanced s)
+
+-- words
+
+-- UTF-8 passes the test as it is
+pub text_of-passes : (bytes : List ℕ) → IsUtf8 bytes → text_of bytes ≡ Ok (Bytes bytes)
+text_of-passes bytes u = rw (is_utf8-from_IsUtf8 bytes u) refl
+
+passed_by : (test : Bool) (bytes : List ℕ) (m : Meaning) → ◌≡◌ {A = Result Meaning Fault} (if test then Ok (Bytes bytes) else Err Utf8) (Ok m) → m ≡ Bytes bytes
+passed_by true bytes m e = cc
+passed_by false bytes m e = absurd (cc)
+
+-- what passes means itself
+pub text_of-passed : (bytes : List ℕ) (m : Meaning) → text_of bytes ≡ Ok m → m ≡ Bytes bytes
+text_of-passed bytes m = passed_by (is_utf8 bytes) bytes m
+
+-- UTF-8 is bytes
+chars_are_bytes : (cs : List ℕ) → all_scalars cs ≡ true → All (λ b. b < 256) (encode_utf8_all cs)
+chars_are_bytes [] h = All-nil (λ b. b < 256)
+chars_are_bytes (c ∷ cs) h =
+    let k = and_parts (scalar c) (all_scalars cs) h in
+    let p = spelled c k.0 in
+    let first : All (λ b. b < 256) (encode_utf8 c) = subst (All (λ b. b < 256)) (sym p.bytes_are) p.are_bytes in
+    All-append (λ b. b < 256) (encode_utf8 c) (encode_utf8_all cs) first (chars_are_bytes cs k.1)
+
+pub utf8-are_bytes : (bytes : List ℕ) → IsUtf8 bytes → All (λ b. b < 256) bytes
+utf8-are_bytes bytes (cs, (h, e)) = subst (All (λ b. b < 256)) e (chars_are_bytes cs h)
+
+module _ (s : Setting) where
+  counted_written : (bytes word : List ℕ) → Both (LengthWord s (length bytes)) (λ b. b ≡ bytes) word → (counted s).Written word bytes
+  unfolding ◌>>=◌ step raw unsure
+  counted_written bytes word (x, y, e, a, b) = record {
+    first = x;
+    second = y;
+    head = length bytes;
+    bytes_are = e;
+    first_written = allowed-natural (len s) x (length bytes) a;
+    second_written = record { first = []; second = y; head = tt; bytes_are = refl; first_written = refl; second_written = (ap length b, sym b) };
+  }
+
+  written_counted : (bytes word : List ℕ) → (counted s).Written word bytes → Both (LengthWord s (length bytes)) (λ b. b ≡ bytes) word
+  unfolding ◌>>=◌ step raw unsure
+  written_counted bytes word w =
+      let u = w.second_written in
+      let e : w.second ≡ u.second = u.bytes_are ∙ ap (λ z. z ++ u.second) u.first_written in
+      let b : w.second ≡ bytes = e ∙ sym u.second_written.1 in
+      let n : w.head ≡ length bytes = sym u.second_written.0 ∙ ap length (sym u.second_written.1) in
+      (w.first, w.second, w.bytes_are, natural-allows (len s) w.first (length bytes) (subst ((len s).Written w.first) n w.first_written), b)
+
+  -- a text allows a word of its length, and then its bytes
+  pub text-allows : (bytes word : List ℕ) → IsUtf8 bytes → Both (LengthWord s (length bytes)) (λ b. b ≡ bytes) word → AllowedWord (IsBytes bytes) (text s) word
+  text-allows bytes word u b =
+      record { meaning = Bytes bytes; is_meant = refl; is_written = settled-written text_of (counted s) word bytes (Bytes bytes) (text_of-passes bytes u) (counted_written bytes word b) }
+
+  pub allowed-text : (bytes word : List ℕ) → AllowedWord (IsBytes bytes) (text s) word → Both (LengthWord s (length bytes)) (λ b. b ≡ bytes) word
+  allowed-text bytes word a =
+      let p = written-settled text_of (counted s) word a.meaning a.is_written in
+      let e : Bytes bytes ≡ Bytes p.0 = sym a.is_meant ∙ text_of-passed p.0 a.meaning p.1 in
+      let q : bytes ≡ p.0 = cc in
+      written_counted bytes word (subst (λ z. (counted s).Written word z) (sym q) p.2)
+
+  word_counted : (word bytes : List ℕ) (t : List Step) → (counted s).Word word bytes t → (x : List ℕ) × (u : List Step) × (word ≡ x ++ bytes) × (len s).Word x (length bytes) u
+  unfolding ◌>>=◌ step raw unsure
+  word_counted word bytes t w =
+      let u = w.second_word in
+      let e : w.second ≡ u.second = u.bytes_are ∙ ap (λ z. z ++ u.second) u.first_word.0 in
+      let b : w.second ≡ bytes = e ∙ sym u.second_word.1 in
+      let n : w.head ≡ length bytes = sym u.second_word.0 ∙ ap length (sym u.second_word.1) in
+      (w.first, w.first_steps, w.bytes_are ∙ ap (λ z. w.first ++ z) b, subst (λ z. (len s).Word w.first z w.first_steps) n w.first_word)
+
+  -- the words that a text allows have one length
+  pub text-one_length : (bytes : List ℕ) → length bytes < 2 ^ 64 → OneLength (AllowedWord (IsBytes bytes) (text s))
+  text-one_length bytes h =
+      same-one_length _ _ (allowed-text bytes) (both-one_length (LengthWord s (length bytes)) (λ b. b ≡ bytes) (unsigned-spelled U64 8 (length bytes) s (omega (arith, h))).one_length
+      (alone-one_length (λ b. b ≡ bytes) bytes (λ b e. e)))
+
+  -- there is one
+  pub text-has_word : (bytes : List ℕ) → IsUtf8 bytes → length bytes < 2 ^ 64 → SomeWord (AllowedWord (IsBytes bytes) (text s))
+  text-has_word bytes u h =
+      let a = (unsigned-spelled U64 8 (length bytes) s (omega (arith, h))).has_word in
+      record {
+        bytes = a.bytes ++ bytes;
+        are_bytes = All-append (λ b. b < 256) a.bytes bytes a.are_bytes (utf8-are_bytes bytes u);
+        is_allowed = text-allows bytes (a.bytes ++ bytes) u (a.bytes, bytes, refl, a.is_allowed, refl);
+      }
+
+  -- some text has a word: the empty one
+  pub text-some_word : HasWord (text s)
+  text-some_word = cell-has_word (text s) (text-lawful s) _ (text-has_word [] ([], (refl, refl)) (omega arith))
+
+  -- no word that decodes to what a text means is shorter than one that is written for it
+  pub text-shortest : (bytes other : List ℕ) → Shortest (IsBytes bytes) (IsBytes other) (text s)
+  text-shortest bytes other written word m t w h u g =
+      let a = allowed-text bytes written (more-allowed (λ n p. p.0) written w) in
+      let i = w.is_meant in
+      let same : Bytes bytes ≡ Bytes other = sym i.0 ∙ i.1 in
+      let p = word-settled text_of (counted s) word m t u in
+      let e : Bytes other ≡ Bytes p.0 = sym g ∙ text_of-passed p.0 m p.2 in
+      let q : p.0 ≡ bytes = cc in
+      let c = word_counted word bytes p.1 (subst (λ z. (counted s).Word word z p.1) q p.3) in
+      parts-no_longer written word a.0 a.1 c.0 bytes a.2 c.2 h
+      (λ below. unsigned-least U64 8 (length bytes) s a.0 c.0 c.1 below (allowed-natural (len s) a.0 (length bytes) a.3) c.3) (λ below. omega (arith, ap length a.4))
+
+-- texts of one meaning have the same bytes
+pub text-same : (x y : List ℕ) (m : Meaning) → IsBytes x m → IsBytes y m → x ≡ y
+text-same x y m a b = let e : Bytes x ≡ Bytes y = sym a ∙ b in cc
+
+-- and are equal
+pub text-alike : (x y : List ℕ) (m : Meaning) → IsBytes x m → IsBytes y m → pointwise nat_eq x y ≡ true
+text-alike x y m a b = (bytes_decides x y).1 (text-same x y m a b)

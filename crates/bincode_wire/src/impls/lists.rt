@@ -1,0 +1,74 @@
+//! The words of lists.
+ghost use Rattle.std.specs.Prelude.{◌≡◌};
+ghost use Rattle.std.specs.Box.{boxed_slice_items};
+ghost use Rattle.std.specs.Cow.{cow_slice_items};
+ghost use Rattle.std.specs.Rc.{rc_slice_items};
+
+use crate::laws::Exact;
+use crate::lists::Items;
+use crate::parted::{Parted, SameParts};
+use crate::wire::Wire;
+use std::borrow::CowSlice;
+use std::boxed::BoxedSlice;
+use std::collections::VecDeque;
+use std::rc::RcSlice;
+
+impl<T: Wire> Parted for Vec<T> {
+    type Parts = Items<T, 24>;
+
+    ghost parts = { λ v. record { items = v.items } };
+}
+
+impl<T: Exact> SameParts<Items<T, 24>> for Vec<T> {
+    ghost same_parts = { λ v w e. e };
+}
+
+impl<T: Wire> Parted for VecDeque<T> {
+    type Parts = Items<T, 24>;
+
+    ghost parts = { λ v. record { items = v.items } };
+}
+
+impl<T: Exact> SameParts<Items<T, 24>> for VecDeque<T> {
+    ghost same_parts = { λ v w e. e };
+}
+
+impl<T: Wire> Parted for &[T] {
+    type Parts = Items<T, 16>;
+
+    ghost parts = { λ v. record { items = v.now } };
+}
+
+impl<T: Exact> SameParts<Items<T, 16>> for &[T] {
+    ghost same_parts = { λ v w e. e };
+}
+
+impl<T: Wire> Parted for BoxedSlice<T> {
+    type Parts = Items<T, 16>;
+
+    ghost parts = { λ v. record { items = boxed_slice_items v } };
+}
+
+impl<T: Exact> SameParts<Items<T, 16>> for BoxedSlice<T> {
+    ghost same_parts = { λ v w e. e };
+}
+
+impl<T: Wire> Parted for RcSlice<T> {
+    type Parts = Items<T, 16>;
+
+    ghost parts = { λ v. record { items = rc_slice_items v } };
+}
+
+impl<T: Exact> SameParts<Items<T, 16>> for RcSlice<T> {
+    ghost same_parts = { λ v w e. e };
+}
+
+impl<T: Wire> Parted for CowSlice<'_, T> {
+    type Parts = Items<T, 24>;
+
+    ghost parts = { λ v. record { items = cow_slice_items v } };
+}
+
+impl<T: Exact> SameParts<Items<T, 24>> for CowSlice<'_, T> {
+    ghost same_parts = { λ v w e. e };
+}

@@ -1,0 +1,61 @@
+//! The words of texts.
+ghost use Rattle.std.specs.String.{string_bytes};
+ghost use Rattle.std.specs.Box.{boxed_str_bytes};
+ghost use Rattle.std.specs.Rc.{rc_str_bytes};
+ghost use Rattle.std.specs.Cow.{cow_str_bytes};
+
+use crate::parted::{Parted, SameParts};
+use crate::texts::TextBytes;
+use std::borrow::CowStr;
+use std::boxed::BoxedStr;
+use std::rc::RcStr;
+
+impl Parted for String {
+    type Parts = TextBytes<24>;
+
+    ghost parts = { λ v. record { bytes = string_bytes v } };
+}
+
+impl SameParts<TextBytes<24>> for String {
+    ghost same_parts = { λ v w e. e };
+}
+
+impl Parted for &str {
+    type Parts = TextBytes<16>;
+
+    ghost parts = { λ v. record { bytes = v.now } };
+}
+
+impl SameParts<TextBytes<16>> for &str {
+    ghost same_parts = { λ v w e. e };
+}
+
+impl Parted for BoxedStr {
+    type Parts = TextBytes<16>;
+
+    ghost parts = { λ v. record { bytes = boxed_str_bytes v } };
+}
+
+impl SameParts<TextBytes<16>> for BoxedStr {
+    ghost same_parts = { λ v w e. e };
+}
+
+impl Parted for RcStr {
+    type Parts = TextBytes<16>;
+
+    ghost parts = { λ v. record { bytes = rc_str_bytes v } };
+}
+
+impl SameParts<TextBytes<16>> for RcStr {
+    ghost same_parts = { λ v w e. e };
+}
+
+impl Parted for CowStr<'_> {
+    type Parts = TextBytes<24>;
+
+    ghost parts = { λ v. record { bytes = cow_str_bytes v } };
+}
+
+impl SameParts<TextBytes<24>> for CowStr<'_> {
+    ghost same_parts = { λ v w e. e };
+}

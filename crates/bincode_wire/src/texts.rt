@@ -1,0 +1,70 @@
+//! Texts: the bytes that stand for what a text holds.
+ghost use Rattle.std.specs.Prelude.{◌≡◌, ◌<◌, ◌^◌, length};
+ghost use Rattle.std.specs.Str.{IsUtf8};
+ghost use Rattle.bincode_format.specs.Meaning.{IsBytes};
+ghost use Rattle.bincode_format.specs.Words.{text};
+ghost use Rattle.bincode_laws.specs.TextLaws.{text-lawful, text-balanced, text-has_word, text-some_word};
+ghost use Rattle.bincode_laws.specs.TextLaws.{text-one_length, text-shortest, text-alike};
+
+use crate::laws::{Canonical, Exact, Inhabited, Plain, Writable};
+use crate::wire::Wire;
+
+/// What a text holds: bytes that are UTF-8. A container claims `SIZE` bytes for it. It stands in proofs alone.
+#[derive(Drop, PartialEq)]
+pub struct TextBytes<const SIZE: usize> {
+    pub bytes: [u8; 0],
+}
+
+impl<const SIZE: usize> Wire for TextBytes<SIZE> {
+    ghost format = { text };
+
+    ghost valid = { λ v. IsUtf8 v.bytes × (length v.bytes < 2 ^ 64) };
+
+    ghost means = { λ v. IsBytes v.bytes };
+
+    ghost given = { λ m v. IsBytes v.bytes m };
+
+    ghost writable = { λ s v. Unit {0} };
+
+    ghost names = { λ e. ⊥ };
+
+    ghost grows = { Unit {0} };
+
+    ghost claim = { SIZE };
+
+    fn claim_size() -> usize {
+        SIZE
+    }
+
+    ghost lawful = { text-lawful };
+
+    ghost balanced = { text-balanced };
+
+    ghost has_word = { λ s v h w. text-has_word s v.bytes h.0 h.1 };
+
+    ghost names_own = { λ e h. absurd h };
+}
+
+impl<const SIZE: usize> Inhabited for TextBytes<SIZE> {
+    ghost some_word = { text-some_word };
+}
+
+impl<const SIZE: usize> Writable for TextBytes<SIZE> {
+    ghost always_writable = { λ s v h. tt };
+}
+
+impl<const SIZE: usize> Plain for TextBytes<SIZE> {
+    ghost one_length = { λ s v h. text-one_length s v.bytes h.1 };
+
+    ghost names_none = { λ e h. h };
+}
+
+impl<const SIZE: usize> Exact for TextBytes<SIZE> {
+    ghost one_value = { λ v w m h k. text-alike v.bytes w.bytes m };
+
+    ghost comes_back = { λ v w m h. text-alike v.bytes w.bytes m };
+}
+
+impl<const SIZE: usize> Canonical for TextBytes<SIZE> {
+    ghost shortest = { λ s v w h. text-shortest s v.bytes w.bytes };
+}
