@@ -18,6 +18,7 @@ pub mod IntegerLaws
 pub mod LaidLaws
 pub mod MapLaws
 pub mod OrderLaws
+pub mod PairLaws
 pub mod PutLaws
 pub mod RunAllowedLaws
 pub mod ListLaws

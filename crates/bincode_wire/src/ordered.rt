@@ -10,6 +10,9 @@ ghost use Rattle.bincode_format.specs.Words.{list};
 ghost use Rattle.bincode_laws.specs.ListLaws.{list-lawful, list-balanced, list-has_word, list-one_length};
 ghost use Rattle.bincode_laws.specs.ListLaws.{list-some_word};
 ghost use Rattle.bincode_laws.specs.RunAllowedLaws.{run-same};
+ghost use Rattle.bincode_laws.specs.TupleLaws.{either};
+ghost use Rattle.bincode_laws.specs.PairLaws.{pair-lawful, pair-balanced, pair-has_word, pair-one_length, pair-same};
+ghost use Rattle.bincode_laws.specs.PairLaws.{pair-first_same, pair-shortest};
 ghost use Rattle.bincode_laws.specs.SetLaws.{set-comes_back, set-shortest};
 ghost use Rattle.bincode_laws.specs.MapLaws.{map-comes_back, map-shortest};
 
@@ -112,16 +115,16 @@ impl<K: Wire + Ord, V: Wire> Wire for Entries<K, V> {
     }
 
     ghost lawful = { λ s. list-lawful s ⟦<(K, V) as Wire>⟧.claim (⟦<(K, V) as Wire>⟧.format s)
-        (⟦<(K, V) as Wire>⟧.lawful s) };
+        (pair-lawful s (K.lawful s) (V.lawful s)) };
 
     ghost balanced = { λ s. list-balanced s ⟦<(K, V) as Wire>⟧.claim (⟦<(K, V) as Wire>⟧.format s)
-        (⟦<(K, V) as Wire>⟧.balanced s) };
+        (pair-balanced s (K.balanced s) (V.balanced s)) };
 
     ghost has_word = { λ s v h. list-has_word ⟦<(K, V) as Wire>⟧.means s ⟦<(K, V) as Wire>⟧.claim
         (⟦<(K, V) as Wire>⟧.format s) ⟦<(K, V) as Wire>⟧.valid (⟦<(K, V) as Wire>⟧.writable s)
-        (⟦<(K, V) as Wire>⟧.has_word s) v.entries h.0 };
+        (λ e a w. pair-has_word s (K.has_word s e.0 a.0 w.0) (V.has_word s e.1 a.1.0 w.1.0)) v.entries h.0 };
 
-    ghost names_own = { ⟦<(K, V) as Wire>⟧.names_own };
+    ghost names_own = { λ e. either (K.names_own e) (either (V.names_own e) (λ h. absurd h)) };
 }
 
 impl<K: Wire + Ord, V: Wire> Inhabited for Entries<K, V> {
@@ -130,22 +133,34 @@ impl<K: Wire + Ord, V: Wire> Inhabited for Entries<K, V> {
 
 impl<K: Writable + Ord, V: Writable> Writable for Entries<K, V> {
     ghost always_writable = { λ s v h. All-weaker ⟦<(K, V) as Wire>⟧.valid (⟦<(K, V) as Wire>⟧.writable s)
-        (⟦<(K, V) as Writable>⟧.always_writable s) v.entries h.0.1 };
+        (λ e a. (K.always_writable s e.0 a.0, (V.always_writable s e.1 a.1.0, tt))) v.entries h.0.1 };
 }
 
 impl<K: Exact + Ord, V: Plain> Plain for Entries<K, V> {
     ghost one_length = { λ s v h. list-one_length ⟦<(K, V) as Wire>⟧.means s ⟦<(K, V) as Wire>⟧.claim
-        (⟦<(K, V) as Wire>⟧.format s) ⟦<(K, V) as Wire>⟧.valid (⟦<(K, V) as Plain>⟧.one_length s) v.entries h.0.1 };
+        (⟦<(K, V) as Wire>⟧.format s) ⟦<(K, V) as Wire>⟧.valid
+        (λ e a. pair-one_length s (K.one_length s e.0 a.0) (V.one_length s e.1 a.1.0)) v.entries h.0.1 };
 
-    ghost names_none = { ⟦<(K, V) as Plain>⟧.names_none };
+    ghost names_none = { λ e. either (K.names_none e) (either (V.names_none e) (λ h. h)) };
 }
 
 impl<K: Exact + Ord, V: Exact> Exact for Entries<K, V> {
     ghost one_value = { λ v w m h k. run-same ⟦<(K, V) as Wire>⟧.means ⟦<(K, V) as Wire>⟧.means
         ⟦<(K, V) as Wire>⟧.valid ⟦<(K, V) as Wire>⟧.valid ⟦<(K, V) as PartialEq>⟧.eq
-        ⟦<(K, V) as Exact>⟧.one_value v.entries w.entries h.0.1 k.0.1 m };
+        (λ e f n a b. pair-same (λ o. K.one_value e.0 f.0 o a.0 b.0) (λ o. V.one_value e.1 f.1 o a.1.0 b.1.0) n)
+        v.entries w.entries h.0.1 k.0.1 m };
 
-    ghost comes_back = { λ v w m h. map-comes_back K.cmp K.eq V.eq K.total K.matches_eq
-        ⟦<(K, V) as Wire>⟧.means (λ x n. ⟦<(K, V) as Wire>⟧.given n x) ⟦<(K, V) as Wire>⟧.valid
-        ⟦<(K, V) as Exact>⟧.comes_back v.entries w.entries m h.1 h.0.1 };
+    ghost comes_back = { λ v w m h. map-comes_back K.cmp K.eq K.total K.matches_eq ⟦<(K, V) as Wire>⟧.valid
+        V.eq ⟦<(K, V) as Wire>⟧.means (λ x n. ⟦<(K, V) as Wire>⟧.given n x)
+        (λ e f n a. pair-same (λ o. K.comes_back e.0 f.0 o a.0) (λ o. V.comes_back e.1 f.1 o a.1.0) n)
+        v.entries w.entries m h.1 h.0.1 };
+}
+
+impl<K: Exact + Canonical + Ord, V: Canonical> Canonical for Entries<K, V> {
+    ghost shortest = { λ s v w h. map-shortest K.cmp K.eq K.total K.matches_eq ⟦<(K, V) as Wire>⟧.valid
+        ⟦<(K, V) as Wire>⟧.means (λ x n. K.given n x) (λ x n. V.given n x)
+        (λ e f n a. pair-first_same (λ o. K.comes_back e.0 f.0 o a.0) n)
+        s ⟦<(K, V) as Wire>⟧.claim (K.format s) (V.format s)
+        (λ e f a. pair-shortest s (K.shortest s e.0 f.0 a.0) (V.shortest s e.1 f.1 a.1.0))
+        v.entries w.entries h.0 h.1 };
 }
