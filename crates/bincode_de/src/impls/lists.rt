@@ -35,7 +35,9 @@ impl<Context: Drop, T: Decode<Context> + Ord> Decode<Context> for BinaryHeap<T> 
 
 impl<Context: Drop, T: Decode<Context>> Decode<Context> for BoxedSlice<T> {
     #[inline]
-    fn decode<D: Decoder<Context = Context>>(decoder: &mut D) -> Result<BoxedSlice<T>, DecodeError> {
+    fn decode<D: Decoder<Context = Context>>(
+        decoder: &mut D,
+    ) -> Result<BoxedSlice<T>, DecodeError> {
         let list = decode_list::<Context, ByDecode<T>, D>(decoder)?;
         Ok(list.into_boxed_slice())
     }
@@ -52,7 +54,7 @@ impl<Context: Drop, T: Decode<Context>> Decode<Context> for RcSlice<T> {
     }
 }
 
-impl<'a, Context: Drop, T: Decode<Context>> Decode<Context> for CowSlice<'a, T> {
+impl<'a, Context: Drop, T: Decode<Context> + 'a> Decode<Context> for CowSlice<'a, T> {
     #[inline]
     fn decode<D: Decoder<Context = Context>>(
         decoder: &mut D,
