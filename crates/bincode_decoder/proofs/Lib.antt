@@ -4,3 +4,5 @@ pub mod DurationAnswers
 pub mod Rooms
 pub mod BytesAtOnce
 pub mod ReadAnswers
+pub mod PartAnswers
+pub mod CountedBytes

@@ -1,5 +1,5 @@
 -- What decoding answers, by a format, a limit, and the charge at the start.
-use Rattle.std.specs.Prelude.{◌≡◌, ℕ, ◌+◌, ◌-◌, ◌<◌, ◌≤◌, ◌⊎◌, ◌^◌, nat_le, nat_lt, if◌then◌else◌, List, [], ◌∷◌, ◌++◌, Option, Some, None}
+use Rattle.std.specs.Prelude.{◌≡◌, ℕ, ◌+◌, ◌-◌, ◌≤◌, ◌⊎◌, ◌^◌, nat_le, nat_lt, if◌then◌else◌, List, [], ◌∷◌, ◌++◌, Option, Some, None}
 use Rattle.bincode_format.specs.Fault.{Fault}
 use Rattle.bincode_format.specs.Charge.{Step, Charge, Reserve, Release}
 use Rattle.bincode_format.specs.Format.{Format, Reading, Took, Failed}

@@ -24,3 +24,4 @@ pub mod Values
 pub mod Encoding
 pub mod Claims
 pub mod Slice
+pub mod Vec

@@ -3,4 +3,6 @@
 
 pub mod io_read;
 pub mod read;
+mod size_writer;
+mod vec_writer;
 pub mod write;

@@ -10,6 +10,8 @@ ghost use Rattle.bincode_laws.specs.PutLaws.{put-none, put-join};
 ghost use Rattle.bincode_base.specs.declared.error.EncodeError.{EncodeError};
 ghost use Rattle.bincode_base.specs.declared.error.EncodeError.TheVariants.{UnexpectedEnd, Memory};
 
+pub use crate::size_writer::SizeWriter;
+pub use crate::vec_writer::VecWriter;
 use bincode_base::error::EncodeError;
 
 /// A target of bytes, which come piece by piece.

@@ -1,5 +1,6 @@
 pub mod AllowedLaws
 pub mod AnswerLaws
+pub mod BagLaws
 pub mod Balance
 pub mod CellLaws
 pub mod CharDecodingLaws
@@ -14,10 +15,16 @@ pub mod FormatLaws
 pub mod FormLaws
 pub mod Fronts
 pub mod IntegerLaws
+pub mod LaidLaws
+pub mod MapLaws
+pub mod OrderLaws
+pub mod PairLaws
 pub mod PutLaws
 pub mod RunAllowedLaws
 pub mod ListLaws
+pub mod ReadLaws
 pub mod RunLaws
+pub mod SetLaws
 pub mod SignedLaws
 pub mod SpelledLaws
 pub mod SpellingLaws

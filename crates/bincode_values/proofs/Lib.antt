@@ -1,2 +1,4 @@
 -- What the proofs of this crate share.
 pub mod Reading
+pub mod Containers
+pub mod Putting

@@ -1,7 +1,9 @@
-//! Values read by a way to read one: wholes of their parts, runs and arrays.
+//! Values read by a way to read one: wholes of their parts, runs, arrays, lists and ordered collections.
 #![tactic(auto)]
 
 pub mod arrays;
+pub mod lists;
+pub mod ordered;
 pub mod runs;
 pub mod values;
 pub mod wholes;

@@ -1,10 +1,12 @@
 //! What each type says of its words.
 #![tactic(auto)]
 
+pub mod bags;
 pub mod chars;
 pub mod impls;
 pub mod laws;
 pub mod lists;
+pub mod ordered;
 pub mod own;
 pub mod parted;
 pub mod rows;

@@ -14,6 +14,7 @@ use bincode::varint::{
 };
 use bincode::{decode_from_slice, encode_into_slice};
 use std::alloc::{AllocError, Global};
+use std::collections::BTreeMap;
 use std::num::NonZeroU16;
 use std::ops::Bound;
 
@@ -42,6 +43,10 @@ pub enum Value {
     Option(Encoding<Option<u32>>),
     Result(Encoding<Result<u8, u8>>),
     Bound(Encoding<Bound<u8>>),
+    /// The vector of these items.
+    List(Encoding<&'static [u32]>),
+    /// The map of these entries.
+    Map(Encoding<&'static [(u8, u8)]>),
 }
 
 /// A value that is written and read back.
@@ -78,6 +83,9 @@ pub enum Input {
     Bound(Decoding<Bound<u8>, NoLimit>),
     /// As a `Duration`; the answer has its seconds and nanoseconds.
     Duration(Decoding<(u64, u32), NoLimit>),
+    Text(Decoding<&'static str, NoLimit>),
+    /// As a map; the answer has its entries.
+    Map(Decoding<&'static [(u8, u8)], NoLimit>),
 }
 
 /// An input that is read within a limit.
@@ -138,7 +146,10 @@ pub enum Fault {
     UnexpectedEnd {
         additional: usize,
     },
+    /// The input ends too early; by how many bytes is not said.
+    EndsEarly,
     LimitExceeded,
+    Utf8,
     InvalidIntegerType {
         expected: IntegerType,
         found: IntegerType,
@@ -175,7 +186,7 @@ pub fn holds(alloc: Global, case: &Case) -> Result<bool, AllocError> {
         Case::Keep(kept) => keeps_value(alloc, kept),
         Case::RefusePair(row) => refuses(alloc, row),
         Case::Varint(number) => spells_number(alloc, number),
-        Case::Decode(input) => Ok(decodes_input(alloc, input)),
+        Case::Decode(input) => decodes_input(alloc, input),
         Case::DecodeWithin(limited) => Ok(decodes_within(alloc, limited)),
     }
 }
@@ -192,6 +203,8 @@ fn encodes_value(alloc: Global, value: &Value) -> Result<bool, AllocError> {
         Value::Option(row) => encodes(alloc, row),
         Value::Result(row) => encodes(alloc, row),
         Value::Bound(row) => encodes(alloc, row),
+        Value::List(row) => encodes_list(alloc, row),
+        Value::Map(row) => encodes_map(alloc, row),
     }
 }
 
@@ -213,8 +226,8 @@ fn spells_number(alloc: Global, number: &Number) -> Result<bool, AllocError> {
     }
 }
 
-fn decodes_input(alloc: Global, input: &Input) -> bool {
-    match input {
+fn decodes_input(alloc: Global, input: &Input) -> Result<bool, AllocError> {
+    Ok(match input {
         Input::U16(row) => decodes(alloc, row),
         Input::U64(row) => decodes(alloc, row),
         Input::U128(row) => decodes(alloc, row),
@@ -226,7 +239,9 @@ fn decodes_input(alloc: Global, input: &Input) -> bool {
         Input::Option(row) => decodes(alloc, row),
         Input::Bound(row) => decodes(alloc, row),
         Input::Duration(row) => decodes_duration(alloc, row),
-    }
+        Input::Text(row) => decodes_text(alloc, row)?,
+        Input::Map(row) => decodes_map(alloc, row)?,
+    })
 }
 
 fn decodes_within(alloc: Global, limited: &Limited) -> bool {
@@ -320,6 +335,37 @@ fn encodes_duration(alloc: Global, row: &Encoding<(u64, u32)>) -> Result<bool, A
     encodes(alloc, &encoding)
 }
 
+/// Whether the vector of the items is written as the word.
+fn encodes_list(alloc: Global, row: &Encoding<&'static [u32]>) -> Result<bool, AllocError> {
+    let list = row.value.to_vec(alloc)?;
+    let encoding = Encoding {
+        setting: row.setting,
+        value: &list,
+        word: row.word,
+    };
+    encodes(alloc, &encoding)
+}
+
+/// Whether the map of the entries is written as the word.
+fn encodes_map(alloc: Global, row: &Encoding<&'static [(u8, u8)]>) -> Result<bool, AllocError> {
+    let map = map_of(alloc, row.value)?;
+    let encoding = Encoding {
+        setting: row.setting,
+        value: &map,
+        word: row.word,
+    };
+    encodes(alloc, &encoding)
+}
+
+/// The map of these entries.
+fn map_of(alloc: Global, entries: &[(u8, u8)]) -> Result<BTreeMap<u8, u8>, AllocError> {
+    let mut map = BTreeMap::new(alloc);
+    for entry in entries {
+        map.insert(entry.0, entry.1)?;
+    }
+    Ok(map)
+}
+
 /// Whether the value is written as the word, and the word read as the value.
 fn keeps<T>(alloc: Global, row: &Encoding<T>) -> Result<bool, AllocError>
 where
@@ -400,6 +446,36 @@ fn decodes_duration(alloc: Global, row: &Decoding<(u64, u32), NoLimit>) -> bool 
     )
 }
 
+/// Whether decoding the input as a text gives the answer.
+fn decodes_text(
+    alloc: Global,
+    row: &Decoding<&'static str, NoLimit>,
+) -> Result<bool, AllocError> {
+    let answer = match row.answer {
+        Answer::Value(text, length) => Answer::Value(String::from_str(alloc, text)?, length),
+        Answer::Fault(fault) => Answer::Fault(fault),
+    };
+    Ok(answers(
+        decode_under(alloc, row.setting, row.limit, row.input),
+        &answer,
+    ))
+}
+
+/// Whether decoding the input as a map gives the answer.
+fn decodes_map(
+    alloc: Global,
+    row: &Decoding<&'static [(u8, u8)], NoLimit>,
+) -> Result<bool, AllocError> {
+    let answer = match row.answer {
+        Answer::Value(entries, length) => Answer::Value(map_of(alloc, entries)?, length),
+        Answer::Fault(fault) => Answer::Fault(fault),
+    };
+    Ok(answers(
+        decode_under(alloc, row.setting, row.limit, row.input),
+        &answer,
+    ))
+}
+
 /// Whether the outcome is the answer.
 fn answers<T: PartialEq + Drop>(
     outcome: Result<(T, usize), DecodeError>,
@@ -418,7 +494,9 @@ fn tells(error: &DecodeError, fault: Fault) -> bool {
         (DecodeError::UnexpectedEnd { additional: a }, Fault::UnexpectedEnd { additional }) => {
             *a == additional
         }
-        (DecodeError::LimitExceeded, Fault::LimitExceeded) => true,
+        (DecodeError::UnexpectedEnd { additional: _ }, Fault::EndsEarly)
+        | (DecodeError::LimitExceeded, Fault::LimitExceeded)
+        | (DecodeError::Utf8 { inner: _ }, Fault::Utf8) => true,
         (
             DecodeError::InvalidIntegerType {
                 expected: e,

@@ -24,7 +24,7 @@ pub fn table() -> &'static [Row] {
     &TABLE
 }
 
-static TABLE: [Row; 46] = [
+static TABLE: [Row; 52] = [
     Row {
         label: "1",
         case: Case::Keep(Kept::Five(Encoding {
@@ -332,6 +332,41 @@ static TABLE: [Row; 46] = [
         })),
     },
     Row {
+        label: "12a",
+        case: Case::Decode(Input::Map(Decoding {
+            setting: Setting::Standard,
+            limit: NoLimit,
+            input: &[3, 1, 10, 2, 20, 1, 30],
+            answer: Answer::Value(&[(1, 30), (2, 20)], 7),
+        })),
+    },
+    Row {
+        label: "12b",
+        case: Case::Encode(Value::Map(Encoding {
+            setting: Setting::Standard,
+            value: &[(1, 30), (2, 20)],
+            word: &[2, 1, 30, 2, 20],
+        })),
+    },
+    Row {
+        label: "13a",
+        case: Case::Decode(Input::Text(Decoding {
+            setting: Setting::Standard,
+            limit: NoLimit,
+            input: &[2, 195, 40],
+            answer: Answer::Fault(Fault::Utf8),
+        })),
+    },
+    Row {
+        label: "13b",
+        case: Case::Decode(Input::Text(Decoding {
+            setting: Setting::Standard,
+            limit: NoLimit,
+            input: &[2, 195],
+            answer: Answer::Fault(Fault::EndsEarly),
+        })),
+    },
+    Row {
         label: "14a",
         case: Case::Decode(Input::Duration(Decoding {
             setting: Setting::Standard,
@@ -429,6 +464,22 @@ static TABLE: [Row; 46] = [
             setting: Setting::Standard,
             value: (),
             word: &[],
+        })),
+    },
+    Row {
+        label: "21b",
+        case: Case::Encode(Value::List(Encoding {
+            setting: Setting::Standard,
+            value: &[],
+            word: &[0],
+        })),
+    },
+    Row {
+        label: "21c",
+        case: Case::Encode(Value::List(Encoding {
+            setting: Setting::Legacy,
+            value: &[],
+            word: &[0, 0, 0, 0, 0, 0, 0, 0],
         })),
     },
     Row {

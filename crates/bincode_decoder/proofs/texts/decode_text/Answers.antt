@@ -1,0 +1,23 @@
+use Rattle.std.proofs.Common.{refl, ap}
+use Rattle.std.proofs.lemmas.Bool.{false≢true}
+use Rattle.std.proofs.lemmas.Result.{err_from_is_err_and}
+use Rattle.bincode_format.specs.Fault.{Utf8}
+use Rattle.bincode_format.specs.Meaning.{Bytes}
+use Rattle.bincode_format.specs.Words.{counted, text_of}
+use Rattle.bincode_decoder.proofs.PartAnswers.{first-stops, test-passed, test-failed}
+use Rattle.bincode_decoder.proofs.CountedBytes.{counted-lawful, text-bytes, text-passes, text-fails}
+use Rattle.bincode_decoder.proofs.texts.decode_text.Goals as goal
+
+pub returns-in_err-bytes : goal.returns-in_err-bytes
+returns-in_err-bytes g c =
+    let p = err_from_is_err_and c.from_residual.result c.from_residual.ensures.1 in
+    rw (p.1, p.2) (first-stops (counted g.D.C.Config.setting) _ (λ h. h) c.in_err-bytes.ensures)
+
+pub returns-in-Ok : goal.returns-in-Ok
+returns-in-Ok g c =
+    test-passed text_of c.in_ok-bytes.ensures (Bytes c.in_ok-bytes.bytes.items) c.in-Ok.text (text-passes c.in-Ok.text c.in_ok-bytes.bytes c.in-Ok.ensures.ok)
+    (ap Bytes (text-bytes c.in-Ok.text c.in_ok-bytes.bytes c.in-Ok.ensures.ok))
+
+pub returns-in-Err : goal.returns-in-Err
+returns-in-Err g c =
+    test-failed text_of c.in_ok-bytes.ensures (counted-lawful g.D.C.Config.setting) Utf8 _ (text-fails c.in_ok-bytes.bytes.items (λ h. false≢true (c.in-Err.ensures.succeeds h))) (c.utf8_error.result, refl)

@@ -1,0 +1,73 @@
+//! Encoding of texts.
+ghost use Rattle.std.specs.Prelude.{◌<◌, ◌^◌, length};
+ghost use Rattle.std.specs.Str.{IsUtf8};
+
+use crate::encode_parts::EncodeParts;
+use bincode_base::error::EncodeError;
+use bincode_encoder::encoder::Encoder;
+use bincode_encoder::texts::encode_text;
+use std::borrow::CowStr;
+use std::boxed::BoxedStr;
+use std::rc::RcStr;
+
+/// Says of the text in hand that its bytes are UTF-8, and that their number is a length.
+fn tell_text_valid(text: &str)
+    ensures { IsUtf8 text.now × (length text.now < 2 ^ 64) }
+{
+    let _len = text.len();
+}
+
+impl EncodeParts for String {
+    fn tell_valid_parts(&self) {
+        tell_text_valid(self);
+    }
+
+    #[inline(always)]
+    fn encode_parts<E: Encoder>(&self, encoder: &mut E) -> Result<(), EncodeError> {
+        encode_text(encoder, self)
+    }
+}
+
+impl EncodeParts for &str {
+    fn tell_valid_parts(&self) {
+        tell_text_valid(self);
+    }
+
+    #[inline(always)]
+    fn encode_parts<E: Encoder>(&self, encoder: &mut E) -> Result<(), EncodeError> {
+        encode_text(encoder, self)
+    }
+}
+
+impl EncodeParts for BoxedStr {
+    fn tell_valid_parts(&self) {
+        tell_text_valid(self);
+    }
+
+    #[inline(always)]
+    fn encode_parts<E: Encoder>(&self, encoder: &mut E) -> Result<(), EncodeError> {
+        encode_text(encoder, self)
+    }
+}
+
+impl EncodeParts for RcStr {
+    fn tell_valid_parts(&self) {
+        tell_text_valid(self);
+    }
+
+    #[inline(always)]
+    fn encode_parts<E: Encoder>(&self, encoder: &mut E) -> Result<(), EncodeError> {
+        encode_text(encoder, self)
+    }
+}
+
+impl EncodeParts for CowStr<'_> {
+    fn tell_valid_parts(&self) {
+        tell_text_valid(self);
+    }
+
+    #[inline(always)]
+    fn encode_parts<E: Encoder>(&self, encoder: &mut E) -> Result<(), EncodeError> {
+        encode_text(encoder, self)
+    }
+}

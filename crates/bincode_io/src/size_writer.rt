@@ -1,0 +1,48 @@
+//! A writer that counts.
+ghost use Rattle.std.specs.Prelude.{◌≡◌, ◌+◌, ◌-◌, ◌^◌, ◌<◌, ◌++◌, Some, [], length};
+ghost use Rattle.std.proofs.Common.{arith, inl, le_refl};
+ghost use Rattle.std.proofs.lemmas.Grind.{common_steps};
+ghost use Rattle.bincode_base.specs.declared.error.EncodeError.TheVariants.{UnexpectedEnd};
+
+use crate::write::Writer;
+use bincode_base::error::EncodeError;
+
+/// A writer that counts the bytes and keeps none of them: it tells how much room a value takes. Fails with
+/// `UnexpectedEnd` where the count would pass 64 bits; the count then stays.
+#[derive(Default, Drop)]
+pub struct SizeWriter {
+    /// How many bytes were written.
+    pub bytes_written: usize,
+}
+
+impl Writer for SizeWriter {
+    ghost adds = { λ a piece b. b.bytes_written ≡ a.bytes_written + length piece };
+
+    ghost refuses = { λ a piece e b. (e ≡ UnexpectedEnd) × (2 ^ 64 - 1 - a.bytes_written < length piece) × (b ≡ a) };
+
+    ghost room = { λ w. Some (2 ^ 64 - 1 - w.bytes_written) };
+
+    ghost failures = { λ _. 0 };
+
+    ghost device = { λ _. ⊥ };
+
+    ghost place = { λ _. [] };
+
+    fn write(&mut self, bytes: &[u8]) -> Result<(), EncodeError> {
+        let Some(count) = self.bytes_written.checked_add(bytes.len()) else {
+            return Err(EncodeError::UnexpectedEnd);
+        };
+        self.bytes_written = count;
+        Ok(())
+    }
+
+    ghost adds_none = { λ w. Prim.grind (arith, common_steps) };
+
+    ghost adds_join = { λ a b c x y p q. Prim.grind (arith, common_steps) };
+
+    ghost adds_count = { λ a b piece h. le_refl 0 };
+
+    ghost refuses_count = { λ a b piece e h. le_refl 0 };
+
+    ghost refuses_why = { λ a b piece e h. inl h.1 };
+}

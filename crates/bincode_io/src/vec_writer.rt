@@ -1,0 +1,80 @@
+//! A writer into a vector.
+ghost use Rattle.std.specs.Prelude.{◌≡◌, ◌+◌, ◌<◌, ◌≤◌, ◌++◌, IsOk, IfOk, IfErr, None, [], length};
+ghost use Rattle.std.proofs.Common.{◌∙◌, ap, sym, inl, inr, le_refl, le_trans, append_assoc};
+ghost use Rattle.std.proofs.lemmas.List.{append-nil};
+ghost use Rattle.bincode_base.specs.declared.error.EncodeError.TheVariants.{Memory};
+
+use crate::write::Writer;
+use bincode_base::error::EncodeError;
+use std::alloc::Global;
+
+/// A writer into a vector, which grows where its room is too small. Fails with `Memory` where the memory to grow is
+/// refused; it then holds what it held.
+#[derive(Drop)]
+pub struct VecWriter {
+    bytes: Vec<u8>,
+}
+
+impl VecWriter {
+    ghost use Rattle.bincode_io.specs.Vectors.{held_by, capacity_of};
+
+    /// A writer with room for so many bytes, of which none is written. Fails with `Memory` where the room is refused.
+    pub fn with_capacity(alloc: Global, capacity: usize) -> Result<VecWriter, EncodeError>
+        ensures start { IfOk result (λ w. held_by w ≡ []) }
+        ensures room { IfOk result (λ w. capacity ≤ capacity_of w) }
+        ensures fault { IfErr result (λ e. e ≡ Memory) }
+        ensures none { capacity ≡ 0 → IsOk result }
+    {
+        match Vec::with_capacity(alloc, capacity) {
+            Ok(bytes) => Ok(VecWriter { bytes }),
+            Err(_) => Err(EncodeError::Memory),
+        }
+    }
+
+    /// The bytes that were written.
+    pub fn collect(self) -> Vec<u8>
+        ensures { result.items ≡ held_by self }
+    {
+        let VecWriter { bytes } = self;
+        bytes
+    }
+}
+
+impl Writer for VecWriter {
+    ghost use Rattle.bincode_io.specs.Vectors.{held_by, capacity_of};
+
+    ghost adds = { λ a piece b. (held_by b ≡ held_by a ++ piece) × (capacity_of a ≤ capacity_of b) };
+
+    ghost refuses = { λ a piece e b. (e ≡ Memory) × (capacity_of a < length (held_by a) + length piece)
+        × (held_by b ≡ held_by a) × (capacity_of b ≡ capacity_of a) };
+
+    ghost room = { λ _. None };
+
+    ghost failures = { λ _. 0 };
+
+    ghost device = { λ _. ⊥ };
+
+    ghost place = { λ _. [] };
+
+    fn write(&mut self, bytes: &[u8]) -> Result<(), EncodeError> {
+        if self.bytes.reserve(bytes.len()).is_err()
+            || self.bytes.extend_from_slice(bytes).is_err()
+        {
+            return Err(EncodeError::Memory);
+        }
+        Ok(())
+    }
+
+    ghost adds_none = { λ w. (sym (append-nil (held_by w)), le_refl _) };
+
+    ghost adds_join = { λ a b c x y p q. (
+      q.0 ∙ ap (λ l. l ++ y) p.0 ∙ append_assoc (held_by a) x y,
+      le_trans p.1 q.1,
+    ) };
+
+    ghost adds_count = { λ a b piece h. le_refl 0 };
+
+    ghost refuses_count = { λ a b piece e h. le_refl 0 };
+
+    ghost refuses_why = { λ a b piece e h. inr (inl h.0) };
+}

@@ -1,0 +1,43 @@
+-- What is read is put into a collection in turn.
+use Rattle.std.specs.Prelude.{◌≡◌, ℕ, ◌≤◌, List, [], ◌∷◌, ◌++◌, Option, Err, refl}
+use Rattle.std.specs.Borrow.{GName}
+use Rattle.std.specs.BTreeMap.{insert_entry}
+use Rattle.std.specs.BTreeSet.{insert_key}
+use Rattle.std.specs.declared.cmp.Ordering.{Ordering}
+use Rattle.bincode_base.specs.declared.error.DecodeError.{DecodeError}
+use Rattle.bincode_base.specs.declared.error.DecodeError.TheVariants.{Memory}
+use Rattle.bincode_format.specs.Collections.{put_keys, put_entries}
+use Rattle.bincode_format.specs.Decoding.{by_memory}
+use Rattle.bincode_format.specs.Device.{DeviceErrors}
+use Rattle.bincode_format.specs.Format.{Format}
+use Rattle.bincode_format.specs.Meaning.{Meaning}
+use Rattle.bincode_format.specs.Values.{RunRead}
+use Rattle.bincode_decoder.proofs.Rooms.{held-within}
+use Rattle.bincode_values.proofs.Reading.{RunSoFar}
+
+-- one key more is put behind those before it,
+pub keys-push : {K : Type 0} (cmp : K → K → Ordering) (keys items : List K) (k : K) → put_keys cmp keys (items ++ k ∷ []) ≡ insert_key cmp (put_keys cmp keys items) k
+keys-push cmp keys [] k = refl
+keys-push cmp keys (item ∷ items) k = keys-push cmp (insert_key cmp keys item) items k
+
+-- and one entry more
+pub entries-push : {K V : Type 0} (cmp : K → K → Ordering) (entries items : List (K × V)) (k : K) (v : V) →
+    put_entries cmp entries (items ++ (k, v) ∷ []) ≡ insert_entry cmp (put_entries cmp entries items) k v
+entries-push cmp entries [] k v = refl
+entries-push cmp entries (item ∷ items) k v = entries-push cmp (insert_entry cmp entries item.0 item.1) items k v
+
+-- the room for what was read is refused
+pub refused-so_far :
+    {D A T : Type 0} {told : D → Type 0} {rest : D → List ℕ} {charge failures : D → ℕ} {place : D → List GName} {limit : Option ℕ} {claim : ℕ}
+    {format : Format Meaning} {given : Meaning → T → Type 0} {count read : ℕ} {vs : List T} {old now : D} {ended : ℕ → DecodeError → Type 0}
+    {device : DeviceErrors} {values : A → List T} →
+    RunSoFar told rest charge failures place limit claim format given count read vs old now → read ≤ count →
+    RunRead told rest charge failures place limit ended device (Unit {0}) claim format given count values (Err Memory) old now
+refused-so_far {charge = charge} {limit = limit} {claim = claim} {count = count} {read = read} {old = old} {now = now} h l = record {
+  ok = λ k. tt;
+  err = λ k. by_memory tt refl (h.known k).2.is_behind;
+  counted = h.counted;
+  tells = λ k. (h.known k).0;
+  held = held-within limit claim read count (charge old) (charge now) l h.held;
+  same_place = h.same_place;
+}

@@ -1,0 +1,135 @@
+//! Ordered collections behind their length, into which what is read is put in turn.
+ghost use Rattle.std.specs.Prelude.{◌≡◌, ◌*◌, List, [], IfOk};
+ghost use Rattle.bincode_format.specs.Collections.{IsMadeOf, MakesMap, MakesSet};
+ghost use Rattle.bincode_format.specs.Run.{CanRelease};
+ghost use Rattle.bincode_format.specs.Values.{Reads, RunRead};
+ghost use Rattle.bincode_format.specs.Words.{array, list};
+
+use crate::runs::decode_next;
+use crate::values::ReadValues;
+use bincode_base::error::DecodeError;
+use bincode_decoder::decoder::{ClaimContainer, Decoder};
+use bincode_decoder::lists::decode_length;
+use bincode_wire::wire::Wire;
+use std::collections::{BTreeMap, BTreeSet};
+
+/// Reads `len` keys, whose room `claim_container_read` has reserved, and puts them into a set in turn: each one's share
+/// is released before it is read. Fails where a key does, or with `Memory` where the room for a key is refused.
+fn decode_keys<Context: Drop, K: ReadValues<Context>, D: Decoder<Context = Context>>(
+    decoder: &mut D,
+    len: usize,
+) -> Result<BTreeSet<K::Value>, DecodeError>
+where
+    K::Value: Ord,
+    requires { CanRelease D.C.bound (D.charge decoder.old) (len * K.Value.claim) }
+    ensures { (items : List K.Value) × IfOk result (λ v. MakesSet K.Value.cmp items v.keys)
+        × RunRead D.told D.rest D.charge D.failures D.place D.C.bound D.R.ended D.R.device (Unit {0}) K.Value.claim
+        (K.Value.format D.C.setting) K.Value.given len (λ _. items) result decoder.old decoder.new }
+{
+    let mut keys = BTreeSet::new(decoder.alloc());
+    for _ in 0..len {
+        let key = decode_next::<Context, K, D>(decoder)?;
+        let Ok(_) = keys.insert(key) else {
+            return Err(DecodeError::Memory);
+        };
+    }
+    Ok(keys)
+}
+
+/// Claims the room of `len` keys, and reads them into a set. Fails with `LimitExceeded` where the claim passes the
+/// limit, and where `decode_keys` does. A fault leaves what was claimed.
+fn decode_claimed_keys<Context: Drop, K: ReadValues<Context>, D: Decoder<Context = Context>>(
+    decoder: &mut D,
+    len: usize,
+) -> Result<BTreeSet<K::Value>, DecodeError>
+where
+    K::Value: Ord,
+    ensures { Reads D.told D.rest D.charge D.failures D.place D.C.bound D.R.ended D.R.device (Unit {0})
+        (array len K.Value.claim (K.Value.format D.C.setting))
+        (λ m v. IsMadeOf (MakesSet K.Value.cmp) (λ x n. K.Value.given n x) v.keys m) (D.charge decoder.old) result
+        decoder.old decoder.new }
+{
+    decoder.claim_container_read::<K::Value>(len)?;
+    decode_keys::<Context, K, D>(decoder, len)
+}
+
+/// Reads a length, and so many keys, which are put into a set in turn: of equal keys the first stays. The room of the
+/// keys is claimed as that of a list, and none of it is reserved. Fails where the length can't be read, with
+/// `LimitExceeded` where the claim passes the limit, with `Memory` where the room for a key is refused, and where a key
+/// does. A fault leaves what was claimed.
+pub fn decode_set<Context: Drop, K: ReadValues<Context>, D: Decoder<Context = Context>>(
+    decoder: &mut D,
+) -> Result<BTreeSet<K::Value>, DecodeError>
+where
+    K::Value: Ord,
+    ensures { Reads D.told D.rest D.charge D.failures D.place D.C.bound D.R.ended D.R.device (Unit {0})
+        (list D.C.setting K.Value.claim (K.Value.format D.C.setting))
+        (λ m v. IsMadeOf (MakesSet K.Value.cmp) (λ x n. K.Value.given n x) v.keys m) (D.charge decoder.old) result
+        decoder.old decoder.new }
+{
+    let len = decode_length(decoder)?;
+    decode_claimed_keys::<Context, K, D>(decoder, len)
+}
+
+/// Reads `len` entries, whose room `claim_container_read` has reserved, and puts them into a map in turn: each one's
+/// share is released before it is read. Fails where an entry does, or with `Memory` where the room for one is refused.
+fn decode_entries<
+    Context: Drop,
+    K: Ord + Wire + Drop,
+    V: Wire + Drop,
+    E: ReadValues<Context, Value = (K, V)>,
+    D: Decoder<Context = Context>,
+>(decoder: &mut D, len: usize) -> Result<BTreeMap<K, V>, DecodeError>
+    requires { CanRelease D.C.bound (D.charge decoder.old) (len * ⟦<(K, V) as Wire>⟧.claim) }
+    ensures { (items : List _) × IfOk result (λ v. MakesMap K.cmp items v.entries)
+        × RunRead D.told D.rest D.charge D.failures D.place D.C.bound D.R.ended D.R.device (Unit {0})
+        ⟦<(K, V) as Wire>⟧.claim (⟦<(K, V) as Wire>⟧.format D.C.setting) ⟦<(K, V) as Wire>⟧.given len (λ _. items)
+        result decoder.old decoder.new }
+{
+    let mut entries = BTreeMap::new(decoder.alloc());
+    for _ in 0..len {
+        let (key, value) = decode_next::<Context, E, D>(decoder)?;
+        let Ok(_) = entries.insert(key, value) else {
+            return Err(DecodeError::Memory);
+        };
+    }
+    Ok(entries)
+}
+
+/// Claims the room of `len` entries, and reads them into a map. Fails with `LimitExceeded` where the claim passes the
+/// limit, and where `decode_entries` does. A fault leaves what was claimed.
+fn decode_claimed_entries<
+    Context: Drop,
+    K: Ord + Wire + Drop,
+    V: Wire + Drop,
+    E: ReadValues<Context, Value = (K, V)>,
+    D: Decoder<Context = Context>,
+>(decoder: &mut D, len: usize) -> Result<BTreeMap<K, V>, DecodeError>
+    ensures { Reads D.told D.rest D.charge D.failures D.place D.C.bound D.R.ended D.R.device (Unit {0})
+        (array len ⟦<(K, V) as Wire>⟧.claim (⟦<(K, V) as Wire>⟧.format D.C.setting))
+        (λ m v. IsMadeOf (MakesMap K.cmp) (λ x n. ⟦<(K, V) as Wire>⟧.given n x) v.entries m) (D.charge decoder.old)
+        result decoder.old decoder.new }
+{
+    decoder.claim_container_read::<(K, V)>(len)?;
+    decode_entries::<Context, K, V, E, D>(decoder, len)
+}
+
+/// Reads a length, and so many entries, which are put into a map in turn: of equal keys the first stays, with the last
+/// value. The room of the entries is claimed as that of a list, and none of it is reserved. Fails where the length
+/// can't be read, with `LimitExceeded` where the claim passes the limit, with `Memory` where the room for an entry is
+/// refused, and where an entry does. A fault leaves what was claimed.
+pub fn decode_map<
+    Context: Drop,
+    K: Ord + Wire + Drop,
+    V: Wire + Drop,
+    E: ReadValues<Context, Value = (K, V)>,
+    D: Decoder<Context = Context>,
+>(decoder: &mut D) -> Result<BTreeMap<K, V>, DecodeError>
+    ensures { Reads D.told D.rest D.charge D.failures D.place D.C.bound D.R.ended D.R.device (Unit {0})
+        (list D.C.setting ⟦<(K, V) as Wire>⟧.claim (⟦<(K, V) as Wire>⟧.format D.C.setting))
+        (λ m v. IsMadeOf (MakesMap K.cmp) (λ x n. ⟦<(K, V) as Wire>⟧.given n x) v.entries m) (D.charge decoder.old)
+        result decoder.old decoder.new }
+{
+    let len = decode_length(decoder)?;
+    decode_claimed_entries::<Context, K, V, E, D>(decoder, len)
+}

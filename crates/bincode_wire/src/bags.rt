@@ -1,0 +1,72 @@
+//! Bags: items whose order is not told.
+ghost use Rattle.std.specs.Prelude.{◌≡◌};
+ghost use Rattle.std.specs.List.{All};
+ghost use Rattle.std.proofs.lemmas.List.Elements.{All-weaker};
+ghost use Rattle.bincode_format.specs.Collections.{AreValid, IsMadeOf, MakesBag};
+ghost use Rattle.bincode_format.specs.Words.{list};
+ghost use Rattle.bincode_laws.specs.ListLaws.{list-lawful, list-balanced, list-has_word, list-some_word};
+ghost use Rattle.bincode_laws.specs.BagLaws.{bag-has_word, bag-one_length, bag-shortest};
+
+use crate::laws::{Canonical, Inhabited, Plain, Writable};
+use crate::wire::Wire;
+
+/// Items that are written one after the other, in whatever order. It stands in proofs alone.
+#[derive(Drop)]
+pub struct Bag<T> {
+    pub items: [T; 0],
+}
+
+impl<T: Wire> Wire for Bag<T> {
+    ghost format = { λ s. list s T.claim (T.format s) };
+
+    ghost valid = { λ v. AreValid T.valid v.items };
+
+    ghost means = { λ v. IsMadeOf MakesBag T.means v.items };
+
+    ghost given = { λ m v. IsMadeOf MakesBag (λ x n. T.given n x) v.items m };
+
+    ghost writable = { λ s v. All (T.writable s) v.items };
+
+    ghost names = { T.names };
+
+    ghost grows = { Unit {0} };
+
+    ghost claim = { 24 };
+
+    fn claim_size() -> usize {
+        24
+    }
+
+    ghost lawful = { λ s. list-lawful s T.claim (T.format s) (T.lawful s) };
+
+    ghost balanced = { λ s. list-balanced s T.claim (T.format s) (T.balanced s) };
+
+    ghost has_word = { λ s v h w.
+        let x = list-has_word T.means s T.claim (T.format s) T.valid (T.writable s) (T.has_word s) v.items h w in
+        record {
+          bytes = x.bytes;
+          are_bytes = x.are_bytes;
+          is_allowed = bag-has_word T.means s T.claim (T.format s) v.items x.bytes x.is_allowed;
+        } };
+
+    ghost names_own = { T.names_own };
+}
+
+impl<T: Wire> Inhabited for Bag<T> {
+    ghost some_word = { λ s. list-some_word s T.claim (T.format s) };
+}
+
+impl<T: Writable> Writable for Bag<T> {
+    ghost always_writable = { λ s v h. All-weaker T.valid (T.writable s) (T.always_writable s) v.items h.1 };
+}
+
+impl<T: Plain> Plain for Bag<T> {
+    ghost one_length = { λ s v h. bag-one_length T.means s T.claim (T.format s) T.valid (T.one_length s) v.items h.1 };
+
+    ghost names_none = { T.names_none };
+}
+
+impl<T: Canonical> Canonical for Bag<T> {
+    ghost shortest = { λ s v w h. bag-shortest T.means s T.claim (T.format s) (λ x n. T.given n x) T.valid
+        (T.shortest s) v.items w.items h.1 };
+}

@@ -1,0 +1,35 @@
+//! The words of sets, maps and heaps.
+ghost use Rattle.std.specs.BinaryHeap.{heap_items};
+
+use crate::bags::Bag;
+use crate::laws::Exact;
+use crate::ordered::{Entries, Keys};
+use crate::parted::{Parted, SameParts};
+use crate::wire::Wire;
+use std::collections::{BTreeMap, BTreeSet, BinaryHeap};
+
+impl<K: Wire + Ord> Parted for BTreeSet<K> {
+    type Parts = Keys<K>;
+
+    ghost parts = { λ v. record { keys = v.keys } };
+}
+
+impl<K: Exact + Ord> SameParts<Keys<K>> for BTreeSet<K> {
+    ghost same_parts = { λ v w e. e };
+}
+
+impl<K: Wire + Ord, V: Wire> Parted for BTreeMap<K, V> {
+    type Parts = Entries<K, V>;
+
+    ghost parts = { λ v. record { entries = v.entries } };
+}
+
+impl<K: Exact + Ord, V: Exact> SameParts<Entries<K, V>> for BTreeMap<K, V> {
+    ghost same_parts = { λ v w e. e };
+}
+
+impl<T: Wire + Ord> Parted for BinaryHeap<T> {
+    type Parts = Bag<T>;
+
+    ghost parts = { λ v. record { items = heap_items v } };
+}
