@@ -75,7 +75,8 @@ pub fn encode_bag<V: WriteValues, E: Encoder>(
 ) -> Result<(), EncodeError>
 where
     V::Value: Ord,
-    ensures { Encodes E.W.adds E.W.refuses E.writer_of E.place (All (V.Value.writable E.C.setting) (heap_items heap.now))
+    ensures { Encodes E.W.adds E.W.refuses E.writer_of E.place
+        (All (V.Value.writable E.C.setting) (heap_items heap.now))
         (AllowedWord (IsMadeOf MakesBag V.Value.means (heap_items heap.now))
         (list E.C.setting V.Value.claim (V.Value.format E.C.setting)))
         V.Value.names result encoder.old encoder.new }
