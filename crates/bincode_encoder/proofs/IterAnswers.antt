@@ -56,7 +56,8 @@ module _ {W : Type 0} (adds : Adds W) {A : Type 0} (Means : A → Meaning → Ty
       (so_far-all (λ xs. Writes adds (AllowsEach (λ v. AllowedWord (Means v) F) xs) _ _) w f)
 
   -- where an item stops, so does the array
-  pub written-halts : (refuses : Refuses W) → Joined adds → (share : ℕ) (Writable : A → Type 0) (N : EncodeError → Type 0) {vs left rest : List A} {v : A} {before between after : W} {e : EncodeError} →
+  pub written-halts : (refuses : Refuses W) → Joined adds → (share : ℕ) (Writable : A → Type 0) (N : EncodeError → Type 0) {vs left rest : List A} {v : A}
+      {before between after : W} {e : EncodeError} →
       WrittenSoFar vs left before between → left ≡ v ∷ rest → Halts adds refuses (Ready (Writable v) (AllowedWord (Means v) F)) N between after e →
       Halts adds refuses (Ready (All Writable vs) (AllowedWord (IsListOf Means vs) (array (length vs) share F))) N before after e
   written-halts refuses join share Writable N {vs = vs} {rest = rest} {v = v} {before = before} {between = between} {after = after} {e = why} (xs, e, d) f h =

@@ -50,16 +50,17 @@ pub fn encode_list<V: WriteValues, E: Encoder>(
 /// refuses a piece of the length or an item fails, and then leaves what `encode_list` does.
 #[inline]
 pub fn encode_deque<V: WriteValues, E: Encoder>(
-    items: &VecDeque<V::Value>,
+    queue: &VecDeque<V::Value>,
     encoder: &mut E,
 ) -> Result<(), EncodeError>
-    ensures { Encodes E.W.adds E.W.refuses E.writer_of E.place (All (V.Value.writable E.C.setting) items.now.items)
-        (AllowedWord (IsListOf V.Value.means items.now.items)
+    ensures { Encodes E.W.adds E.W.refuses E.writer_of E.place (All (V.Value.writable E.C.setting) queue.now.items)
+        (AllowedWord (IsListOf V.Value.means queue.now.items)
         (list E.C.setting V.Value.claim (V.Value.format E.C.setting)))
         V.Value.names result encoder.old encoder.new }
 {
-    let (first, second) = items.as_slices();
-    encode_length(encoder, items.len())?;
+    let len = queue.len();
+    let (first, second) = queue.as_slices();
+    encode_length(encoder, len)?;
     encode_run::<V, E>(first, encoder)?;
     encode_run::<V, E>(second, encoder)
 }
@@ -74,10 +75,12 @@ pub fn encode_bag<V: WriteValues, E: Encoder>(
 ) -> Result<(), EncodeError>
 where
     V::Value: Ord,
-    ensures { Encodes E.W.adds E.W.refuses E.writer_of E.place (All (V.Value.writable E.C.setting) (heap_items heap.now))
+    ensures { Encodes E.W.adds E.W.refuses E.writer_of E.place
+        (All (V.Value.writable E.C.setting) (heap_items heap.now))
         (AllowedWord (IsMadeOf MakesBag V.Value.means (heap_items heap.now))
         (list E.C.setting V.Value.claim (V.Value.format E.C.setting)))
         V.Value.names result encoder.old encoder.new }
 {
-    encode_list::<V, E>(heap.as_slice(), encoder)
+    let items = heap.as_slice();
+    encode_list::<V, E>(items, encoder)
 }

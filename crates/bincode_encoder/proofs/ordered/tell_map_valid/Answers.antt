@@ -5,7 +5,8 @@ use Rattle.bincode_encoder.proofs.IterAnswers.{so_far-none, so_far-all, valid-mo
 use Rattle.bincode_encoder.proofs.ordered.tell_map_valid.Goals as goal
 
 pub loop-key-init : goal.loop-key-init
-loop-key-init g c = so_far-none (All (λ e. g.K.Value.Wire.valid e.0 × (g.V.Value.Wire.valid e.1 × Unit {0}))) (c.into_iter-key-iterator.ensures.into_iter_gives ∙ c.iter-key-items.ensures.rest) (All-nil _)
+loop-key-init g c =
+    so_far-none (All (λ e. g.K.Value.Wire.valid e.0 × (g.V.Value.Wire.valid e.1 × Unit {0}))) (c.into_iter-key-iterator.ensures.into_iter_gives ∙ c.iter-key-items.ensures.rest) (All-nil _)
 
 pub loop-key-preserved : goal.loop-key-preserved
 loop-key-preserved g c =
