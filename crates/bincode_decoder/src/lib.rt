@@ -1,5 +1,4 @@
-//! Decoders, and the numbers, characters, truth values, spans of time, lengths, texts and tags that are read through any
-//! of them.
+//! Decoders, and what is read through any of them: numbers, characters, truth values, spans of time, tags and texts.
 #![tactic(auto)]
 
 pub mod bytes;

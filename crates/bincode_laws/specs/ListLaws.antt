@@ -76,7 +76,8 @@ module _ (share : ℕ) (F : Format Meaning) where
       let t = written-map listed (sequence n share F) bytes m w in
       is_list-length Is vs t.0 (subst (IsListOf Is vs) t.1 h) ∙ elements_written n t.2.second t.0 t.2.second_written
 
-  pub array-word_length : {A : Type 0} (Is : A → Meaning → Type 0) (vs : List A) (n : ℕ) (bytes : List ℕ) (m : Meaning) (steps : List Step) → (array n share F).Word bytes m steps → IsListOf Is vs m → length vs ≡ n
+  pub array-word_length : {A : Type 0} (Is : A → Meaning → Type 0) (vs : List A) (n : ℕ) (bytes : List ℕ) (m : Meaning) (steps : List Step) →
+      (array n share F).Word bytes m steps → IsListOf Is vs m → length vs ≡ n
   unfolding step ◌>>=◌
   array-word_length Is vs n bytes m steps w h =
       let t = word-settled (λ ms. Ok (listed ms)) (sequence n share F) bytes m steps w in
@@ -93,7 +94,8 @@ list-balanced s share F f = turn-holds 0 0 0 (len s) (λ n. array n share F) (un
 
 module _ {A : Type 0} (Means : A → Meaning → Type 0) (s : Setting) (share : ℕ) (F : Format Meaning) where
   -- a list allows what is written for its length, and then what its array allows
-  pub list-allows : (vs : List A) (bytes : List ℕ) → Both (LengthWord s (length vs)) (AllowedWord (IsListOf Means vs) (array (length vs) share F)) bytes → AllowedWord (IsListOf Means vs) (list s share F) bytes
+  pub list-allows : (vs : List A) (bytes : List ℕ) → Both (LengthWord s (length vs)) (AllowedWord (IsListOf Means vs) (array (length vs) share F)) bytes →
+      AllowedWord (IsListOf Means vs) (list s share F) bytes
   unfolding ◌>>=◌
   list-allows vs bytes b = record {
     meaning = b.4.meaning;
@@ -108,7 +110,8 @@ module _ {A : Type 0} (Means : A → Meaning → Type 0) (s : Setting) (share : 
     };
   }
 
-  pub allowed-list : (vs : List A) (bytes : List ℕ) → AllowedWord (IsListOf Means vs) (list s share F) bytes → Both (LengthWord s (length vs)) (AllowedWord (IsListOf Means vs) (array (length vs) share F)) bytes
+  pub allowed-list : (vs : List A) (bytes : List ℕ) → AllowedWord (IsListOf Means vs) (list s share F) bytes →
+      Both (LengthWord s (length vs)) (AllowedWord (IsListOf Means vs) (array (length vs) share F)) bytes
   unfolding ◌>>=◌
   allowed-list vs bytes w =
       let u = w.is_written in
@@ -126,7 +129,8 @@ module _ {A : Type 0} (Means : A → Meaning → Type 0) (s : Setting) (share : 
   list-each vs bytes w = let b = allowed-list vs bytes w in (b.0, b.1, b.2, b.3, allowed-array Means share F (length vs) vs b.1 refl b.4)
 
   -- it has a word, if each of its values has
-  pub list-has_word : (P Q : A → Type 0) → ((v : A) → P v → Q v → SomeWord (AllowedWord (Means v) F)) → (vs : List A) → AreValid P vs → All Q vs → SomeWord (AllowedWord (IsListOf Means vs) (list s share F))
+  pub list-has_word : (P Q : A → Type 0) → ((v : A) → P v → Q v → SomeWord (AllowedWord (Means v) F)) → (vs : List A) → AreValid P vs → All Q vs →
+      SomeWord (AllowedWord (IsListOf Means vs) (list s share F))
   list-has_word P Q f vs h k =
       let n = length-has_word s (length vs) h.0 in
       let x = each-has_word _ P Q vs f h.1 k in
@@ -141,7 +145,8 @@ module _ {A : Type 0} (Means : A → Meaning → Type 0) (s : Setting) (share : 
   list-one_length P f vs h = same-one_length _ _ (list-each vs) (both-one_length _ _ (length-one_length s (length vs)) (each-one_length _ P vs f h))
 
   -- no word that decodes to what it decodes to is shorter, if none of a value is
-  pub list-shortest : (Given : A → Meaning → Type 0) (P : A → Type 0) → ((v w : A) → P v → Shortest (Means v) (Given w) F) → (vs ws : List A) → All P vs → Shortest (IsListOf Means vs) (IsListOf Given ws) (list s share F)
+  pub list-shortest : (Given : A → Meaning → Type 0) (P : A → Type 0) → ((v w : A) → P v → Shortest (Means v) (Given w) F) → (vs ws : List A) → All P vs →
+      Shortest (IsListOf Means vs) (IsListOf Given ws) (list s share F)
   unfolding ◌>>=◌
   list-shortest Given P least vs ws h written bytes m steps w below u i =
       let x = w.is_written in
@@ -174,7 +179,17 @@ no_elements : (share : ℕ) (F : Format Meaning) → (steps : List Step) × (arr
 unfolding done step ◌>>=◌
 no_elements share F =
     let run : (sequence 0 share F).Word [] [] (Reserve (0 * share) ∷ []) =
-    record { first = []; second = []; head = tt; first_steps = Reserve (0 * share) ∷ []; second_steps = []; bytes_are = refl; steps_are = refl; first_word = (refl, refl); second_word = (refl, refl, refl) } in
+    record {
+      first = [];
+      second = [];
+      head = tt;
+      first_steps = Reserve (0 * share) ∷ [];
+      second_steps = [];
+      bytes_are = refl;
+      steps_are = refl;
+      first_word = (refl, refl);
+      second_word = (refl, refl, refl);
+    } in
     (Reserve (0 * share) ∷ [], settled-word (λ ms. Ok (listed ms)) (sequence 0 share F) [] [] (listed []) (Reserve (0 * share) ∷ []) refl run)
 
 -- a list may be empty

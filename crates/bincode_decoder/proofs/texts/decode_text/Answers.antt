@@ -21,4 +21,5 @@ returns-in-Ok g c =
 
 pub returns-in-Err : goal.returns-in-Err
 returns-in-Err g c =
-    test-failed text_of c.in_ok-bytes.ensures (counted-lawful g.D.C.Config.setting) Utf8 _ (text-fails c.in_ok-bytes.bytes.items (λ h. false≢true (c.in-Err.ensures.succeeds h))) (c.utf8_error.result, refl)
+    test-failed text_of c.in_ok-bytes.ensures (counted-lawful g.D.C.Config.setting) Utf8 _
+    (text-fails c.in_ok-bytes.bytes.items (λ h. false≢true (c.in-Err.ensures.succeeds h))) (c.utf8_error.result, refl)
