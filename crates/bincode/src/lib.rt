@@ -10,6 +10,8 @@
 pub mod de;
 pub mod enc;
 mod slice;
+mod vec;
+mod writer;
 
 pub use bincode_base::{config, error, short_text};
 pub use bincode_de::decode::Decode;
@@ -21,3 +23,5 @@ pub use bincode_wire::parted::{Parted, SameParts};
 pub use bincode_wire::sums::{NoOther, OneOf, Or};
 pub use bincode_wire::wire::Wire;
 pub use slice::{decode_from_slice, encode_into_slice};
+pub use vec::encode_to_vec;
+pub use writer::encode_into_writer;

@@ -4,18 +4,18 @@ ghost use Rattle.bincode_base.specs.declared.error.EncodeError.TheVariants.{Unex
 ghost use Rattle.bincode_format.specs.Allowed.{AllowedWord};
 ghost use Rattle.bincode_format.specs.Answer.{answer};
 ghost use Rattle.bincode_format.specs.Decoding.{Decodes, Stops};
-ghost use Rattle.bincode_format.specs.Encoding.{Ready, Encodes};
+ghost use Rattle.bincode_format.specs.Encoding.{Ready};
 ghost use Rattle.bincode_format.specs.Slice.{WordWritten, FrontWritten, FitsExactly, Decoded, FindsWords, TellsFaults};
 ghost use Rattle.bincode_format.specs.Slice.{KeepsLimit};
 
+use crate::writer::encode_with;
 use bincode_base::config::Config;
 use bincode_base::error::{DecodeError, EncodeError};
 use bincode_de::decode::Decode;
 use bincode_decoder::decoder::LentDecoder;
 use bincode_enc::encode::Encode;
-use bincode_encoder::encoder::LentEncoder;
 use bincode_io::read::{Reader, SliceReader};
-use bincode_io::write::{SliceWriter, Writer};
+use bincode_io::write::SliceWriter;
 use std::alloc::Global;
 
 /// Writes a value into the front of a slice, and answers how many bytes it took. Fails with `UnexpectedEnd` where the
@@ -37,20 +37,8 @@ pub fn encode_into_slice<E: Encode, C: Config>(
         (AllowedWord (E.means val) (E.format C.setting))) dst.old dst.new) }
 {
     let mut writer = SliceWriter::new(dst);
-    encode_with(val, &mut writer, &config)?;
+    encode_with(&val, &mut writer, &config)?;
     Ok(writer.bytes_written())
-}
-
-fn encode_with<E: Encode, W: Writer, C: Config>(
-    val: E,
-    writer: &mut W,
-    config: &C,
-) -> Result<(), EncodeError>
-    ensures { Encodes W.adds W.refuses (λ w. w) W.place (E.writable C.setting val)
-        (AllowedWord (E.means val) (E.format C.setting)) E.names result writer.old writer.new }
-{
-    let mut encoder = LentEncoder::new(writer, config);
-    val.encode(&mut encoder)
 }
 
 /// Reads a value from the front of a slice, and answers how many bytes its word has. The bytes after them decide

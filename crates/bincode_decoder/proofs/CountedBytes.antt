@@ -8,20 +8,16 @@ use Rattle.std.specs.declared.string.String.{String}
 use Rattle.std.specs.declared.vec.Vec.{Vec}
 use Rattle.std.proofs.Common.{sym, ◌∙◌, ap, inl, inr}
 use Rattle.std.proofs.lemmas.Result.{on_ok_weaker, IfErr-weaker}
-use Rattle.std.proofs.lemmas.Str.{IsUtf8-from_is_utf8, is_utf8-from_IsUtf8, IsUtf8-string_bytes}
+use Rattle.std.proofs.lemmas.Str.{IsUtf8-from_is_utf8, IsUtf8-string_bytes}
 use Rattle.bincode_base.specs.declared.error.DecodeError.{DecodeError}
-use Rattle.bincode_base.specs.declared.error.IntegerType.TheVariants as integers
-use Rattle.bincode_base.specs.Setting.{Setting}
 use Rattle.bincode_format.specs.Fault.{End, Utf8}
 use Rattle.bincode_format.specs.Device.{DeviceErrors, Rose, Takes, FallsShort, Fills}
-use Rattle.bincode_format.specs.Format.{Took, Failed, raw, unsure, charged, vague_reading}
+use Rattle.bincode_format.specs.Format.{Took, Failed, raw, unsure, vague_reading}
 use Rattle.bincode_format.specs.Reads.{ReadsWord, Misreads, by_fault, by_failure, by_device}
-use Rattle.bincode_format.specs.Integers.{Eight}
-use Rattle.bincode_format.specs.Laws.{Lawful}
 use Rattle.bincode_format.specs.Meaning.{Bytes}
-use Rattle.bincode_format.specs.Words.{len, counted, text_of}
-use Rattle.bincode_laws.specs.FormatLaws.{raw-lawful, unsure-lawful, charged-lawful, turn-lawful}
-use Rattle.bincode_laws.specs.IntegerLaws.{unsigned-lawful}
+use Rattle.bincode_format.specs.Words.{text_of}
+use Rattle.bincode_laws.specs.FormatLaws.{raw-lawful}
+use Rattle.bincode_laws.specs.TextLaws.{text_of-passes}
 use Rattle.bincode_varint.proofs.Words.{raw-read}
 use Rattle.bincode_decoder.proofs.BytesAtOnce.{both-of_err}
 
@@ -56,17 +52,12 @@ filled-reads {rest = rest} {failures = failures} {ended = ended} {device = devic
   same_place = fills.same_place;
 }
 
--- bytes behind their length keep the laws
-pub counted-lawful : (s : Setting) → Lawful (counted s)
-counted-lawful s =
-    turn-lawful (len s) (λ n. charged n (unsure (raw n))) (unsigned-lawful integers.U64 8 s (Eight refl)) (λ n. charged-lawful n (unsure (raw n)) (unsure-lawful (raw n) (raw-lawful n)))
-
 -- the bytes of a text are its meaning,
 pub text-bytes : {Z : Type 0} (t : String Z) (v : Vec ℕ Z) → string_vec t ≡ v → v.items ≡ string_bytes t
 text-bytes t v e = ap vec_items (sym e)
 
 pub text-passes : {Z : Type 0} (t : String Z) (v : Vec ℕ Z) → string_vec t ≡ v → text_of v.items ≡ Ok (Bytes v.items)
-text-passes t v e = rw (is_utf8-from_IsUtf8 v.items (rw (sym (text-bytes t v e)) at (IsUtf8-string_bytes t))) refl
+text-passes t v e = text_of-passes v.items (rw (sym (text-bytes t v e)) at (IsUtf8-string_bytes t))
 
 -- and others are refused
 pub text-fails : (bytes : List ℕ) → ¬ (IsUtf8 bytes) → text_of bytes ≡ Err Utf8

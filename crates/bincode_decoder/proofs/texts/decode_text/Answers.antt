@@ -4,8 +4,9 @@ use Rattle.std.proofs.lemmas.Result.{err_from_is_err_and}
 use Rattle.bincode_format.specs.Fault.{Utf8}
 use Rattle.bincode_format.specs.Meaning.{Bytes}
 use Rattle.bincode_format.specs.Words.{counted, text_of}
+use Rattle.bincode_laws.specs.TextLaws.{counted-lawful}
 use Rattle.bincode_decoder.proofs.PartAnswers.{first-stops, test-passed, test-failed}
-use Rattle.bincode_decoder.proofs.CountedBytes.{counted-lawful, text-bytes, text-passes, text-fails}
+use Rattle.bincode_decoder.proofs.CountedBytes.{text-bytes, text-passes, text-fails}
 use Rattle.bincode_decoder.proofs.texts.decode_text.Goals as goal
 
 pub returns-in_err-bytes : goal.returns-in_err-bytes
