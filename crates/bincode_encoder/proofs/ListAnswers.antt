@@ -14,7 +14,8 @@ use Rattle.bincode_format.specs.Allowed.{AllowedWord}
 use Rattle.bincode_format.specs.Run.{IsListOf}
 use Rattle.bincode_format.specs.Collections.{LengthWord, IsMadeOf, MakesBag}
 use Rattle.bincode_laws.specs.RunAllowedLaws.{array-join, array-split}
-use Rattle.bincode_laws.specs.ListLaws.{list-allows, allowed-list, list-bag, bag-list}
+use Rattle.bincode_laws.specs.ListLaws.{list-allows, allowed-list}
+use Rattle.bincode_laws.specs.BagLaws.{bag-has_word, bag-list}
 use Rattle.bincode_format.specs.Encoding.{Adds, Refuses, Encodes}
 use Rattle.bincode_encoder.proofs.EncodingAnswers.{Joined, encodes-within, first-halts, next-encodes}
 
@@ -66,4 +67,4 @@ module _ {E W T : Type 0} {adds : Adds W} {refuses : Refuses W} {writer_of : E �
   -- a bag is written as a list of its items
   pub bag-encodes : (vs : List A) {R : Type 0} {r : Result T EncodeError} → Encodes adds refuses writer_of place R (AllowedWord (IsListOf Means vs) (list s share F)) N r old new →
       Encodes adds refuses writer_of place R (AllowedWord (IsMadeOf MakesBag Means vs) (list s share F)) N r old new
-  bag-encodes vs = encodes-within (list-bag Means s share F vs) (bag-list Means s share F vs)
+  bag-encodes vs = encodes-within (bag-has_word Means s share F vs) (bag-list Means s share F vs)

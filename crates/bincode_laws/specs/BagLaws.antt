@@ -13,7 +13,7 @@ use Rattle.bincode_format.specs.Run.{IsListOf, AllowsEach}
 use Rattle.bincode_format.specs.Collections.{LengthWord, IsMadeOf, MakesBag}
 use Rattle.bincode_laws.specs.AllowedLaws.{more-allowed, both-one_length}
 use Rattle.bincode_laws.specs.RunAllowedLaws.{each-one_length}
-use Rattle.bincode_laws.specs.ListLaws.{list-each, list-shortest, length-one_length}
+use Rattle.bincode_laws.specs.ListLaws.{each-list, list-each, list-shortest, length-one_length}
 use Rattle.bincode_laws.specs.LaidLaws.{each-permuted}
 use Rattle.bincode_laws.specs.ReadLaws.{ReadsAs, list-reads, reads-list}
 
@@ -32,6 +32,10 @@ module _ {A : Type 0} (Means : A → Meaning → Type 0) (s : Setting) (share : 
       let p = each-permuted (λ v. AllowedWord (Means v) F) items vs moved b.1 b.4 in
       let number : LengthWord s (length vs) b.0 = subst (λ n. LengthWord s n b.0) (sym (length_permutation items vs moved)) b.3 in
       (b.0 ++ p.0, (b.0, p.0, refl, number, p.1), omega (arith, length-append b.0 p.0, length-append b.0 b.1, p.2, ap length b.2))
+
+  -- so where it has a word, it has one in its own order
+  pub bag-list : (vs : List A) (bytes : List ℕ) → AllowedWord (IsMadeOf MakesBag Means vs) (list s share F) bytes → (word : List ℕ) × AllowedWord (IsListOf Means vs) (list s share F) word
+  bag-list vs bytes w = let p = in_order vs bytes w in (p.0, each-list Means s share F vs p.0 p.1)
 
   -- its words have one length, if those of each value have
   pub bag-one_length : (P : A → Type 0) → ((v : A) → P v → OneLength (AllowedWord (Means v) F)) → (vs : List A) → All P vs → OneLength (AllowedWord (IsMadeOf MakesBag Means vs) (list s share F))

@@ -3,7 +3,6 @@ use Rattle.std.specs.Prelude.{◌≡◌, ℕ, zero, suc, ◌*◌, ◌<◌, ◌^�
 use Rattle.std.specs.List.{All}
 use Rattle.std.proofs.Common.{sym, ◌∙◌, ap, subst, arith, append-nil}
 use Rattle.std.proofs.lemmas.List.Elements.{All-append}
-use Rattle.std.proofs.lemmas.List.Sorted.{IsPermutation-refl, length_permutation}
 use Rattle.bincode_base.specs.Setting.{Setting}
 use Rattle.bincode_base.specs.declared.error.IntegerType.TheVariants.{U64}
 use Rattle.bincode_format.specs.Fault.{Fault}
@@ -16,15 +15,15 @@ use Rattle.bincode_format.specs.Words.{natural, len, array, list}
 use Rattle.bincode_format.specs.Allowed.{AllowedWord, SomeWord, OneLength, NoneShorter, Shortest, Both}
 use Rattle.bincode_format.specs.Cells.{HasWord}
 use Rattle.bincode_format.specs.Run.{IsListOf, AllowsEach}
-use Rattle.bincode_format.specs.Collections.{LengthWord, AreValid, IsMadeOf, MakesBag}
+use Rattle.bincode_format.specs.Collections.{LengthWord, AreValid}
 use Rattle.bincode_laws.specs.FormatLaws.{turn-lawful}
 use Rattle.bincode_laws.specs.Balance.{turn-holds}
 use Rattle.bincode_laws.specs.IntegerLaws.{unsigned-lawful, unsigned-balanced, unsigned-least}
 use Rattle.bincode_laws.specs.WordsLaws.{array-lawful, array-balanced}
-use Rattle.bincode_laws.specs.AllowedLaws.{written-map, natural-allows, allowed-natural, natural-one, alone-one_length, same-one_length, both-one_length, allowed-unsigned, more-allowed}
+use Rattle.bincode_laws.specs.AllowedLaws.{written-map, natural-allows, allowed-natural, natural-one, alone-one_length, same-one_length, both-one_length, allowed-unsigned}
 use Rattle.bincode_laws.specs.CellLaws.{word-held}
 use Rattle.bincode_laws.specs.SpelledLaws.{word-settled, settled-word, unsigned-spelled, number-none_shorter, parts-no_longer}
-use Rattle.bincode_laws.specs.RunAllowedLaws.{array-allows, allowed-array, each-has_word, each-one_length, array-shortest, each-reordered}
+use Rattle.bincode_laws.specs.RunAllowedLaws.{array-allows, allowed-array, each-has_word, each-one_length, array-shortest}
 
 -- lengths
 
@@ -163,17 +162,6 @@ module _ {A : Type 0} (Means : A → Meaning → Type 0) (s : Setting) (share : 
       (natural-allows (len s) x.first u.head (subst (λ k. (len s).Written x.first k) same x.first_written)) b word refl)
       (λ b. array-shortest Means Given share F P least x.head vs ws n h x.second u.second m u.second_steps second b
       (subst (λ k. (array k share F).Word u.second m u.second_steps) (sym same) u.second_word) i)
-
-  -- a bag allows what a list of its items does, and where it allows a word, so does the list
-  pub list-bag : (vs : List A) (bytes : List ℕ) → AllowedWord (IsListOf Means vs) (list s share F) bytes → AllowedWord (IsMadeOf MakesBag Means vs) (list s share F) bytes
-  list-bag vs = more-allowed (λ m i. (vs, IsPermutation-refl vs, i))
-
-  pub bag-list : (vs : List A) (bytes : List ℕ) → AllowedWord (IsMadeOf MakesBag Means vs) (list s share F) bytes → (word : List ℕ) × AllowedWord (IsListOf Means vs) (list s share F) word
-  bag-list vs bytes w =
-      let (items, same, is_list) = w.is_meant in
-      let b = list-each items bytes (record { meaning = w.meaning; is_meant = is_list; is_written = w.is_written }) in
-      let c = each-reordered (λ v. AllowedWord (Means v) F) items vs same b.1 b.4 in
-      (b.0 ++ c.0, each-list vs (b.0 ++ c.0) (b.0, c.0, refl, subst (λ n. LengthWord s n b.0) (sym (length_permutation items vs same)) b.3, c.1))
 
 no_elements : (share : ℕ) (F : Format Meaning) → (steps : List Step) × (array 0 share F).Word [] (listed []) steps
 unfolding done step ◌>>=◌

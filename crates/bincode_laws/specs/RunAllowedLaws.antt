@@ -1,11 +1,9 @@
 -- What a run of values allows, by what each value does.
 use Rattle.std.specs.Prelude.{◌≡◌, ℕ, zero, suc, ◌*◌, ◌<◌, ◌≤◌, Bool, true, Result, Ok, List, [], ◌∷◌, ◌++◌, length, refl}
 use Rattle.std.specs.List.{All}
-use Rattle.std.specs.List.Sorted.{IsPermutation}
 use Rattle.std.specs.Cmp.Lexicographic.{pointwise}
 use Rattle.std.proofs.Common.{sym, ◌∙◌, ap, subst, arith, append_assoc}
-use Rattle.std.proofs.lemmas.List.Elements.{All-nil, All-cons, All-head, All-tail, All-append}
-use Rattle.std.proofs.lemmas.List.Sorted.{All-permutation}
+use Rattle.std.proofs.lemmas.List.Elements.{All-nil, All-head, All-tail, All-append}
 use Rattle.bincode_format.specs.Fault.{Fault}
 use Rattle.bincode_format.specs.Charge.{Step, Reserve, Release}
 use Rattle.bincode_format.specs.Format.{Format, done, step, ◌>>=◌, unsure, map_format, elements, sequence}
@@ -143,27 +141,6 @@ module _ {A : Type 0} (Means : A → Meaning → Type 0) (share : ℕ) (F : Form
   array-split vs ws bytes w =
       let b = each-split (λ v. AllowedWord (Means v) F) vs ws bytes (allowed-array Means share F (length (vs ++ ws)) (vs ++ ws) bytes refl w) in
       (b.0, b.1, b.2, array-allows Means share F (length vs) vs b.0 refl b.3, array-allows Means share F (length ws) ws b.1 refl b.4)
-
--- a run in another order
-
-module _ {A : Type 0} (Allowed : A → List ℕ → Type 0) where
-  abbrev HasSome : A → Type 0
-  HasSome v = (word : List ℕ) × Allowed v word
-
-  each_some : (vs : List A) (bytes : List ℕ) → AllowsEach Allowed vs bytes → All HasSome vs
-  each_some [] bytes a = All-nil HasSome
-  each_some (v ∷ vs) bytes (x, y, e, a, b) = All-cons HasSome v vs (x, a) (each_some vs y b)
-
-  some_each : (vs : List A) → All HasSome vs → (word : List ℕ) × AllowsEach Allowed vs word
-  some_each [] h = ([], refl)
-  some_each (v ∷ vs) h =
-      let a = All-head HasSome v vs h in
-      let b = some_each vs (All-tail HasSome v vs h) in
-      (a.0 ++ b.0, (a.0, b.0, refl, a.1, b.1))
-
-  -- where the values allow some bytes in one order, they allow some in each other
-  pub each-reordered : (vs ws : List A) → IsPermutation vs ws → (bytes : List ℕ) → AllowsEach Allowed vs bytes → (word : List ℕ) × AllowsEach Allowed ws word
-  each-reordered vs ws p bytes a = some_each ws (All-permutation HasSome vs ws p (each_some vs bytes a))
 
 -- what holds of each value holds of the run
 
