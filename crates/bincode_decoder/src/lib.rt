@@ -1,5 +1,5 @@
-//! Decoders, and the numbers, characters, truth values, spans of time, lengths, texts and tags that are read through any
-//! of them.
+//! Decoders, and the numbers, characters, truth values, spans of time, lengths, texts and tags that are read through
+//! any of them.
 #![tactic(auto)]
 
 pub mod bytes;
