@@ -466,9 +466,10 @@ word_map f F bytes b s h =
     let e : bytes ≡ h.first = h.bytes_are ∙ ap (λ z. h.first ++ z) h.second_word.0 ∙ append-nil h.first in
     (h.head, h.first_steps, subst (λ z. F.Word z h.head h.first_steps) (sym e) h.first_word, h.second_word.1)
 
-word_charged : {A : Type 0} (n : ℕ) (F : Format A) (bytes : List ℕ) (m : A) (s : List Step) → (charged n F).Word bytes m s → (t : List Step) × F.Word bytes m t
+-- a word behind a charge is a word
+pub word-charged : {A : Type 0} (n : ℕ) (F : Format A) (bytes : List ℕ) (m : A) (s : List Step) → (charged n F).Word bytes m s → (t : List Step) × F.Word bytes m t
 unfolding ◌>>=◌ step
-word_charged n F bytes m s h =
+word-charged n F bytes m s h =
     let e : bytes ≡ h.second = h.bytes_are ∙ ap (λ z. z ++ h.second) h.first_word.0 in
     (h.second_steps, subst (λ z. F.Word z m h.second_steps) (sym e) h.second_word)
 
@@ -552,7 +553,7 @@ pub unsigned-least : (name : IntegerType) (width n : ℕ) (setting : Setting) (w
     (unsigned name width setting).Written written n → (unsigned name width setting).Word bytes n s → length written ≤ length bytes
 unfolding unsigned
 unsigned-least name width n setting written bytes s h w u =
-    let p = word_charged width (number_by unsigned_tag name setting.order width setting.encoding) bytes n s u in
+    let p = word-charged width (number_by unsigned_tag name setting.order width setting.encoding) bytes n s u in
     rw (unsigned-written name width n setting written w).1 (spelling-least unsigned_tag name setting.order width setting.encoding bytes n p.0 h p.1)
 
 -- the number of a word is that of its meaning, or its spelling is as long
@@ -567,7 +568,7 @@ pub signed-least : (name : IntegerType) (width : ℕ) (z : ℤ) (setting : Setti
 unfolding signed
 signed-least name width z setting written bytes s h w u =
     let F = number_by signed_tag name setting.order width setting.encoding in
-    let p = word_charged width (map_format (integer_by width setting.encoding) F) bytes z s u in
+    let p = word-charged width (map_format (integer_by width setting.encoding) F) bytes z s u in
     let q = word_map (integer_by width setting.encoding) F bytes z p.0 p.1 in
     let e : length written ≡ length (spelling setting.encoding setting.order width (number_for width setting.encoding z)) = ap length (signed-written name width z setting written w).1 in
     let f : length (spelling setting.encoding setting.order width (number_for width setting.encoding z)) ≡ length (spelling setting.encoding setting.order width q.0) =

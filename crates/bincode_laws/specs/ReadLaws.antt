@@ -20,7 +20,7 @@ use Rattle.bincode_format.specs.Allowed.{Both}
 use Rattle.bincode_format.specs.Run.{IsListOf, AllowsEach}
 use Rattle.bincode_laws.specs.AllowedLaws.{natural-one, allowed-natural, allowed-unsigned}
 use Rattle.bincode_laws.specs.DigitLaws.{length-digits_of}
-use Rattle.bincode_laws.specs.IntegerLaws.{unsigned-lawful, spelling-least, length-shortest, shortest-1, shortest-3, shortest-5, shortest-9, shortest-17}
+use Rattle.bincode_laws.specs.IntegerLaws.{word-charged, unsigned-lawful, spelling-least, length-shortest, shortest-1, shortest-3, shortest-5, shortest-9, shortest-17}
 use Rattle.bincode_laws.specs.SpelledLaws.{word-settled, settled-word}
 use Rattle.bincode_laws.specs.ListLaws.{length-has_word, array-word_length}
 
@@ -170,16 +170,10 @@ module _ {A : Type 0} (Given : A → Meaning → Type 0) (share : ℕ) (F : Form
 
 -- a smaller length has a word that is no longer
 
-charged_word : {A : Type 0} (n : ℕ) (F : Format A) (bytes : List ℕ) (m : A) (s : List Step) → (charged n F).Word bytes m s → (t : List Step) × F.Word bytes m t
-unfolding ◌>>=◌ step
-charged_word n F bytes m s h =
-    let e : bytes ≡ h.second = h.bytes_are ∙ ap (λ z. z ++ h.second) h.first_word.0 in
-    (h.second_steps, subst (λ z. F.Word z m h.second_steps) (sym e) h.second_word)
-
 length_least : (s : Setting) (n : ℕ) (bytes : List ℕ) (steps : List Step) → All (λ b. b < 256) bytes → (len s).Word bytes n steps → length (spelling s.encoding s.order 8 n) ≤ length bytes
 unfolding unsigned
 length_least s n bytes steps h w =
-    let p = charged_word 8 (number_by unsigned_tag U64 s.order 8 s.encoding) bytes n steps w in
+    let p = word-charged 8 (number_by unsigned_tag U64 s.order 8 s.encoding) bytes n steps w in
     spelling-least unsigned_tag U64 s.order 8 s.encoding bytes n p.0 h p.1
 
 module _ (order : Endianness) (k n : ℕ) (le : k ≤ n) (below : k < 18446744073709551616) where

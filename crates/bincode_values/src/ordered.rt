@@ -83,8 +83,8 @@ fn decode_entries<
     requires { CanRelease D.C.bound (D.charge decoder.old) (len * ⟦<(K, V) as Wire>⟧.claim) }
     ensures { (items : List _) × IfOk result (λ v. MakesMap K.cmp items v.entries)
         × RunRead D.told D.rest D.charge D.failures D.place D.C.bound D.R.ended D.R.device (Unit {0})
-        ⟦<(K, V) as Wire>⟧.claim (⟦<(K, V) as Wire>⟧.format D.C.setting) ⟦<(K, V) as Wire>⟧.given len (λ _. items)
-        result decoder.old decoder.new }
+        ⟦<(K, V) as Wire>⟧.claim (⟦<(K, V) as Wire>⟧.format D.C.setting) ⟦<(K, V) as Wire>⟧.given len
+        (λ _. items) result decoder.old decoder.new }
 {
     let mut entries = BTreeMap::new(decoder.alloc());
     for _ in 0..len {
@@ -107,8 +107,8 @@ fn decode_claimed_entries<
 >(decoder: &mut D, len: usize) -> Result<BTreeMap<K, V>, DecodeError>
     ensures { Reads D.told D.rest D.charge D.failures D.place D.C.bound D.R.ended D.R.device (Unit {0})
         (array len ⟦<(K, V) as Wire>⟧.claim (⟦<(K, V) as Wire>⟧.format D.C.setting))
-        (λ m v. IsMadeOf (MakesMap K.cmp) (λ x n. ⟦<(K, V) as Wire>⟧.given n x) v.entries m) (D.charge decoder.old)
-        result decoder.old decoder.new }
+        (λ m v. IsMadeOf (MakesMap K.cmp) (λ x n. ⟦<(K, V) as Wire>⟧.given n x) v.entries m)
+        (D.charge decoder.old) result decoder.old decoder.new }
 {
     decoder.claim_container_read::<(K, V)>(len)?;
     decode_entries::<Context, K, V, E, D>(decoder, len)
@@ -127,8 +127,8 @@ pub fn decode_map<
 >(decoder: &mut D) -> Result<BTreeMap<K, V>, DecodeError>
     ensures { Reads D.told D.rest D.charge D.failures D.place D.C.bound D.R.ended D.R.device (Unit {0})
         (list D.C.setting ⟦<(K, V) as Wire>⟧.claim (⟦<(K, V) as Wire>⟧.format D.C.setting))
-        (λ m v. IsMadeOf (MakesMap K.cmp) (λ x n. ⟦<(K, V) as Wire>⟧.given n x) v.entries m) (D.charge decoder.old)
-        result decoder.old decoder.new }
+        (λ m v. IsMadeOf (MakesMap K.cmp) (λ x n. ⟦<(K, V) as Wire>⟧.given n x) v.entries m)
+        (D.charge decoder.old) result decoder.old decoder.new }
 {
     let len = decode_length(decoder)?;
     decode_claimed_entries::<Context, K, V, E, D>(decoder, len)
