@@ -12,7 +12,7 @@ use Rattle.bincode_base.specs.declared.error.IntegerType.TheVariants.{U64}
 use Rattle.bincode_base.specs.Setting.{Setting}
 use Rattle.bincode_format.specs.Fault.{Fault}
 use Rattle.bincode_format.specs.Charge.{Step, Reserve, Release}
-use Rattle.bincode_format.specs.Format.{Format, done, step, ◌>>=◌, unsure, map_format, charged, elements, sequence}
+use Rattle.bincode_format.specs.Format.{Format, done, step, ◌>>=◌, unsure, map_format, elements, sequence}
 use Rattle.bincode_format.specs.Integers.{Two, Four, Eight, number_by, unsigned, unsigned_tag, shortest, spelling}
 use Rattle.bincode_format.specs.Meaning.{Meaning, Nothing, Then, Number, IsNumber, IsNothing, IsThen, listed}
 use Rattle.bincode_format.specs.Words.{natural, len, nothing, first_and, array, list}

@@ -447,10 +447,7 @@ fn decodes_duration(alloc: Global, row: &Decoding<(u64, u32), NoLimit>) -> bool 
 }
 
 /// Whether decoding the input as a text gives the answer.
-fn decodes_text(
-    alloc: Global,
-    row: &Decoding<&'static str, NoLimit>,
-) -> Result<bool, AllocError> {
+fn decodes_text(alloc: Global, row: &Decoding<&'static str, NoLimit>) -> Result<bool, AllocError> {
     let answer = match row.answer {
         Answer::Value(text, length) => Answer::Value(String::from_str(alloc, text)?, length),
         Answer::Fault(fault) => Answer::Fault(fault),
