@@ -1,9 +1,9 @@
 //! What tests ask of a type: that its words are read and written, and what is read behind a fault.
 
+use bincode::config::Config;
 use bincode::de::read::SliceReader;
 use bincode::de::{Decode, DecoderImpl};
 use bincode::enc::Encode;
-use bincode::config::Config;
 use bincode::error::{DecodeError, EncodeError};
 use bincode::{config, decode_from_slice, encode_into_slice, encode_to_vec};
 use std::alloc::Global;
@@ -111,7 +111,9 @@ pub fn is_written_as<T: Encode>(alloc: Global, value: Option<T>, word: &[u8]) ->
 pub fn comes_back<T: Encode + Decode<()>>(alloc: Global, value: &T) -> Option<T> {
     let word = written(alloc, value)?;
     let mut input = [99u8; 100];
-    input.get_mut(..word.len())?.copy_from_slice(word.as_slice());
+    input
+        .get_mut(..word.len())?
+        .copy_from_slice(word.as_slice());
     match decoded(alloc, &input, config::standard()) {
         Ok((read, taken)) if taken == word.len() => Some(read),
         _ => None,

@@ -17,7 +17,10 @@ const LONG: [u8; 5] = [252, 160, 134, 1, 0];
 
 /// Whether the limit of 100000 refuses the input, at the first call: no memory was asked for.
 fn passes_limit<T: Decode<()>>(alloc: Global, input: &[u8]) -> bool {
-    matches!(within::<T, 100_000>(alloc, input), Err(DecodeError::LimitExceeded))
+    matches!(
+        within::<T, 100_000>(alloc, input),
+        Err(DecodeError::LimitExceeded)
+    )
 }
 
 #[test]

@@ -1,6 +1,6 @@
 -- What a size writer counted is the length of each word.
 use Rattle.std.specs.Prelude.{◌≡◌, ◌+◌, ℕ, List, length}
-use Rattle.std.proofs.Common.{◌∙◌, sym, arith}
+use Rattle.std.proofs.Common.{◌∙◌, arith}
 use Rattle.bincode_format.specs.Allowed.{OneLength}
 use Rattle.bincode_format.specs.Encoding.{Writes}
 use Rattle.bincode_io.specs.declared.size_writer.SizeWriter.{SizeWriter}

@@ -52,6 +52,8 @@ impl<const N: usize> Writer for Fixed<N> {
     ghost place = { λ _. [] };
 
     fn write(&mut self, bytes: &[u8]) -> Result<(), EncodeError> {
+        // says that what is held is within the capacity
+        let _left = self.bytes.remaining_capacity();
         match self.bytes.try_extend_from_slice(bytes) {
             Ok(()) => Ok(()),
             Err(_) => Err(EncodeError::UnexpectedEnd),
