@@ -1,10 +1,11 @@
 //! What tests ask of a type: that its words are read and written, and what is read behind a fault.
 
+use bincode::config::Config;
 use bincode::de::read::SliceReader;
 use bincode::de::{Decode, DecoderImpl};
 use bincode::enc::Encode;
-use bincode::error::DecodeError;
-use bincode::{config, decode_from_slice, encode_into_slice};
+use bincode::error::{DecodeError, EncodeError};
+use bincode::{config, decode_from_slice, encode_into_slice, encode_to_vec};
 use std::alloc::Global;
 
 /// Whether these bytes are read as a value, and it is written as them. Behind them the input has 99s, as the slice has
@@ -63,4 +64,69 @@ pub fn fault_of<T: Decode<()>>(alloc: Global, input: &[u8]) -> Option<DecodeErro
         config::standard(),
     );
     outcome.err()
+}
+
+/// What a call makes. Where memory is refused it is called once more.
+pub fn made<T, E: Drop, F: Fn() -> Result<T, E>>(make: F) -> Option<T>
+    requires { F.IsAlwaysCallable make }
+{
+    match make() {
+        Ok(value) => Some(value),
+        Err(_) => make().ok(),
+    }
+}
+
+/// What comes of writing a value into a vector. Where memory is refused it is written once more.
+pub fn written<T: Encode>(alloc: Global, value: &T) -> Option<Vec<u8>> {
+    match encode_to_vec(alloc, value, config::standard()) {
+        Err(EncodeError::Memory) => encode_to_vec(alloc, value, config::standard()).ok(),
+        outcome => outcome.ok(),
+    }
+}
+
+/// What comes of decoding. Where memory is refused it is decoded once more.
+pub fn decoded<T: Decode<()>, C: Config>(
+    alloc: Global,
+    input: &[u8],
+    config: C,
+) -> Result<(T, usize), DecodeError> {
+    match decode_from_slice(alloc, input, config) {
+        Err(DecodeError::Memory) => decode_from_slice(alloc, input, config),
+        outcome => outcome,
+    }
+}
+
+/// Whether a value is written as this word.
+pub fn is_written_as<T: Encode>(alloc: Global, value: Option<T>, word: &[u8]) -> bool {
+    let Some(value) = value else {
+        return false;
+    };
+    let Some(bytes) = written(alloc, &value) else {
+        return false;
+    };
+    bytes.as_slice() == word
+}
+
+/// What is read of the word of a value, with bytes behind it, if so many bytes are taken as the word has.
+pub fn comes_back<T: Encode + Decode<()>>(alloc: Global, value: &T) -> Option<T> {
+    let word = written(alloc, value)?;
+    let mut input = [99u8; 100];
+    input
+        .get_mut(..word.len())?
+        .copy_from_slice(word.as_slice());
+    match decoded(alloc, &input, config::standard()) {
+        Ok((read, taken)) if taken == word.len() => Some(read),
+        _ => None,
+    }
+}
+
+/// Whether a value is there, and an equal one is read of its word.
+pub fn keeps_value<T: Encode + Decode<()> + PartialEq>(alloc: Global, value: Option<T>) -> bool {
+    let Some(value) = value else {
+        return false;
+    };
+    let Some(read) = comes_back(alloc, &value) else {
+        return false;
+    };
+    read == value
 }

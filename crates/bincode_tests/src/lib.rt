@@ -14,7 +14,13 @@ mod composites;
 #[cfg(test)]
 mod configurations;
 #[cfg(test)]
+mod containers;
+#[cfg(test)]
 mod faults;
+#[cfg(test)]
+mod limits;
+#[cfg(test)]
+mod maps;
 #[cfg(test)]
 mod numbers;
 #[cfg(test)]
@@ -25,6 +31,8 @@ mod readers;
 mod runs;
 #[cfg(test)]
 mod tables;
+#[cfg(test)]
+mod texts;
 #[cfg(test)]
 mod varints;
 #[cfg(test)]

@@ -3,3 +3,5 @@
 
 pub mod calls;
 pub mod cut;
+pub mod fixed;
+pub mod lengths;

@@ -1,0 +1,72 @@
+//! A writer of a user's own, into a vector of a fixed capacity.
+ghost use Rattle.std.specs.Prelude.{◌≡◌, ◌+◌, ◌-◌, ◌<◌, ◌++◌, Some, [], length};
+ghost use Rattle.std.proofs.Common.{◌∙◌, ap, sym, inl, le_refl, append_assoc};
+ghost use Rattle.std.proofs.lemmas.List.{append-nil};
+ghost use Rattle.bincode_base.specs.declared.error.EncodeError.TheVariants.{UnexpectedEnd};
+ghost use Rattle.arrayvec.specs.ArrayVec.{array_vec_len};
+
+use arrayvec::ArrayVec;
+use bincode::enc::write::Writer;
+use bincode::error::EncodeError;
+
+/// Holds at most `N` bytes, and never allocates. A piece is taken whole, or, where it is longer than what is left,
+/// refused with `UnexpectedEnd`.
+#[derive(Drop)]
+pub struct Fixed<const N: usize> {
+    bytes: ArrayVec<u8, N>,
+}
+
+impl<const N: usize> Fixed<N> {
+    ghost use Rattle.callers.specs.Fixed.{held_by};
+
+    /// A writer that holds nothing.
+    pub fn new() -> Fixed<N>
+        ensures { held_by result ≡ [] }
+    {
+        Fixed {
+            bytes: ArrayVec::new(),
+        }
+    }
+
+    /// The bytes that it holds.
+    pub fn held(&self) -> &[u8]
+        ensures { result.now ≡ held_by self.now }
+    {
+        self.bytes.as_slice()
+    }
+}
+
+impl<const N: usize> Writer for Fixed<N> {
+    ghost use Rattle.callers.specs.Fixed.{held_by};
+
+    ghost adds = { λ a piece b. held_by b ≡ held_by a ++ piece };
+
+    ghost refuses = { λ a piece e b. (e ≡ UnexpectedEnd) × (N - length (held_by a) < length piece) × (b ≡ a) };
+
+    ghost room = { λ w. Some (N - length (held_by w)) };
+
+    ghost failures = { λ _. 0 };
+
+    ghost device = { λ _. ⊥ };
+
+    ghost place = { λ _. [] };
+
+    fn write(&mut self, bytes: &[u8]) -> Result<(), EncodeError> {
+        // says that what is held is within the capacity
+        let _left = self.bytes.remaining_capacity();
+        match self.bytes.try_extend_from_slice(bytes) {
+            Ok(()) => Ok(()),
+            Err(_) => Err(EncodeError::UnexpectedEnd),
+        }
+    }
+
+    ghost adds_none = { λ w. sym (append-nil (held_by w)) };
+
+    ghost adds_join = { λ a b c x y p q. q ∙ ap (λ l. l ++ y) p ∙ append_assoc (held_by a) x y };
+
+    ghost adds_count = { λ a b piece h. le_refl 0 };
+
+    ghost refuses_count = { λ a b piece e h. le_refl 0 };
+
+    ghost refuses_why = { λ a b piece e h. inl h.1 };
+}

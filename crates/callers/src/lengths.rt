@@ -1,0 +1,24 @@
+//! How many bytes a value takes, when nothing of it is kept.
+ghost use Rattle.std.specs.Prelude.{◌≡◌, ℕ, List, IfOk, length};
+ghost use Rattle.bincode_format.specs.Allowed.{AllowedWord};
+
+use bincode::config::Config;
+use bincode::enc::Encode;
+use bincode::enc::write::SizeWriter;
+use bincode::encode_into_writer;
+use bincode::error::EncodeError;
+use bincode::laws::Plain;
+
+/// How many bytes a value takes, wherever it is written: each word that it allows has this length.
+pub fn encoded_length<E: Encode + Plain, C: Config>(
+    value: &E,
+    config: C,
+) -> Result<usize, EncodeError>
+    ensures { IfOk result (λ n. (word : List ℕ) → AllowedWord (E.means value.now) (E.format C.setting) word → length word
+        ≡ n) }
+{
+    value.tell_valid();
+    let mut counter = SizeWriter::default();
+    encode_into_writer(value, &mut counter, config)?;
+    Ok(counter.bytes_written)
+}
