@@ -9,6 +9,7 @@
 
 pub mod de;
 pub mod enc;
+mod reader;
 mod slice;
 mod vec;
 mod writer;
@@ -17,11 +18,15 @@ pub use bincode_base::{config, error, short_text};
 pub use bincode_de::decode::Decode;
 pub use bincode_enc::encode::Encode;
 pub use bincode_varint::varint;
+pub use bincode_wire::empty::NoVariants;
 pub use bincode_wire::laws;
+pub use bincode_wire::lists::Items;
 pub use bincode_wire::own::time;
 pub use bincode_wire::parted::{Parted, SameParts};
+pub use bincode_wire::passed::{Passed, Tested};
 pub use bincode_wire::sums::{NoOther, OneOf, Or};
 pub use bincode_wire::wire::Wire;
-pub use slice::{decode_from_slice, encode_into_slice};
+pub use reader::decode_from_reader;
+pub use slice::{decode_from_slice, decode_from_slice_with_context, encode_into_slice};
 pub use vec::encode_to_vec;
 pub use writer::encode_into_writer;

@@ -1,20 +1,18 @@
 //! Encoding into a slice, and decoding from one.
-ghost use Rattle.std.specs.Prelude.{◌≡◌, ◌≤◌, ◌⊎◌, ℕ, IfOk, IfErr, length};
+ghost use Rattle.std.specs.Prelude.{◌≡◌, ◌⊎◌, IfOk, IfErr, length};
 ghost use Rattle.bincode_base.specs.declared.error.EncodeError.TheVariants.{UnexpectedEnd};
 ghost use Rattle.bincode_format.specs.Allowed.{AllowedWord};
-ghost use Rattle.bincode_format.specs.Answer.{answer};
-ghost use Rattle.bincode_format.specs.Decoding.{Decodes, Stops};
 ghost use Rattle.bincode_format.specs.Encoding.{Ready};
 ghost use Rattle.bincode_format.specs.Slice.{WordWritten, FrontWritten, FitsExactly, Decoded, FindsWords, TellsFaults};
 ghost use Rattle.bincode_format.specs.Slice.{KeepsLimit};
 
+use crate::reader::decode_with;
 use crate::writer::encode_with;
 use bincode_base::config::Config;
 use bincode_base::error::{DecodeError, EncodeError};
 use bincode_de::decode::Decode;
-use bincode_decoder::decoder::LentDecoder;
 use bincode_enc::encode::Encode;
-use bincode_io::read::{Reader, SliceReader};
+use bincode_io::read::SliceReader;
 use bincode_io::write::SliceWriter;
 use std::alloc::Global;
 
@@ -58,28 +56,29 @@ pub fn decode_from_slice<D: Decode<()>, C: Config>(
     // and charges that pass the limit are refused.
     ensures limit { KeepsLimit (D.format C.setting) C.bound D.grows src.now result }
 {
-    let mut reader = SliceReader::new(src);
-    let value = decode_with(alloc, &mut reader, &config, &mut ())?;
-    let taken = src.len() - reader.bytes_left();
-    Ok((value, taken))
+    decode_from_slice_with_context(alloc, src, config, ())
 }
 
-fn decode_with<Context: Drop, D: Decode<Context>, R: Reader, C: Config>(
+/// `decode_from_slice` for a type that decodes with a context, of which its decoder asks: an arena to place values in,
+/// say. What is read is the same whatever the context.
+pub fn decode_from_slice_with_context<Context: Drop, D: Decode<Context>, C: Config>(
     alloc: Global,
-    reader: &mut R,
-    config: &C,
-    context: &mut Context,
-) -> Result<D, DecodeError>
-    ensures ok { R.told reader.old → IfOk result (λ v. (charge : ℕ)
-        × Decodes (λ m. D.given m v) (answer C.bound (D.format C.setting) (R.rest reader.old) 0)
-        (R.rest reader.new) charge) }
-    ensures err { R.told reader.old → IfErr result (Stops R.ended R.device D.grows
-        (answer C.bound (D.format C.setting) (R.rest reader.old) 0) (R.failures reader.old) (R.failures reader.new)
-        (R.rest reader.old) (R.rest reader.new)) }
-    ensures count { R.failures reader.old ≤ R.failures reader.new }
-    ensures told { R.told reader.old → R.told reader.new }
-    ensures place { R.place reader.new ≡ R.place reader.old }
+    src: &[u8],
+    config: C,
+    context: Context,
+) -> Result<(D, usize), DecodeError>
+    // What is read is a word within the limit, of so many bytes, and the value is given for its meaning.
+    ensures word { IfOk result (λ x. Decoded (D.format C.setting) C.bound src.now (λ m. D.given m x.0) x.1) }
+    // Each word within the limit is read,
+    ensures found { FindsWords (D.format C.setting) C.bound D.grows src.now result }
+    // each fault within the limit is told,
+    ensures fault { TellsFaults (D.format C.setting) C.bound D.grows src.now result }
+    // and charges that pass the limit are refused.
+    ensures limit { KeepsLimit (D.format C.setting) C.bound D.grows src.now result }
 {
-    let mut decoder = LentDecoder::new(alloc, reader, config, context);
-    D::decode(&mut decoder)
+    let mut context = context;
+    let mut reader = SliceReader::new(src);
+    let value = decode_with(alloc, &mut reader, &config, &mut context)?;
+    let taken = src.len() - reader.bytes_left();
+    Ok((value, taken))
 }

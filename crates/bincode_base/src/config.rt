@@ -114,11 +114,7 @@ where
 }
 
 /// What the library asks of a configuration. Every `Copy` type with the three parts is one.
-pub trait Config: InternalEndianConfig
-    + InternalIntEncodingConfig
-    + InternalLimitConfig
-    + Copy
-    + Clone {
+pub trait Config: Copy + Clone {
     /// The byte order and the integer encoding, on which words depend.
     ghost setting: { Setting };
 

@@ -2,3 +2,4 @@
 pub mod NotZero
 pub mod CellAnswers
 mod MadeAnswers
+mod PassedAnswers

@@ -13,7 +13,7 @@ use bincode_io::read::Reader;
 use bincode_wire::wire::Wire;
 use std::alloc::Global;
 
-mod sealed {
+pub(crate) mod sealed {
     /// Only the decoders of this crate are decoders.
     pub trait Sealed {}
 }
@@ -138,11 +138,7 @@ pub trait ClaimContainer: Decoder {
             Self.C.bound (len * T.claim) result self.old self.new };
 }
 
-// The bound says again what `Decoder` says of `C`: with it the limit of a claim is known to be that of the decoder.
-impl<D: Decoder> ClaimContainer for D
-where
-    D::C: Config,
-{
+impl<D: Decoder> ClaimContainer for D {
     fn claim_container_read<T: Wire>(&mut self, len: usize) -> Result<(), DecodeError> {
         match len.checked_mul(T::claim_size()) {
             Some(n) => self.claim_bytes_read(n),
@@ -457,11 +453,7 @@ impl<R: Reader, C: Config, Context: Drop> Decoder for LentDecoder<'_, R, C, Cont
 
 impl<D: Sealed> Sealed for &mut D {}
 
-// The bound says again what `Decoder` says of `C`: with it a call through `&mut D` is known to be one of `D`.
-impl<D: Decoder> Decoder for &mut D
-where
-    D::C: Config,
-{
+impl<D: Decoder> Decoder for &mut D {
     type R = D::R;
 
     type C = D::C;

@@ -3,7 +3,9 @@
 
 pub mod bytes;
 pub mod chars;
+pub mod context;
 pub mod decoder;
+pub mod empty;
 pub mod integers;
 pub mod lists;
 pub mod tags;

@@ -4,6 +4,7 @@
 pub mod encode;
 pub mod encode_parts;
 mod impls;
+pub mod passed;
 mod rows;
 pub mod runs;
 pub mod variants;

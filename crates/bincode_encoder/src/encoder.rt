@@ -183,6 +183,7 @@ impl<E: Encoder> Encoder for &mut E {
 }
 
 /// Writes a piece to the writer of an encoder.
+#[inline(always)]
 pub fn write_from<E: Encoder>(encoder: &mut E, bytes: &[u8]) -> Result<(), EncodeError>
     ensures { TakesPiece (λ a piece b. E.W.adds (E.writer_of a) piece (E.writer_of b))
         (λ a piece e b. E.W.refuses (E.writer_of a) piece e (E.writer_of b)) (λ e. E.W.failures (E.writer_of e))

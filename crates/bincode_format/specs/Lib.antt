@@ -15,7 +15,9 @@ pub mod Run
 pub mod Collections
 pub mod Cells
 pub mod Answer
+pub mod Limits
 pub mod Promises
+pub mod Passed
 pub mod Put
 pub mod Device
 pub mod Reads

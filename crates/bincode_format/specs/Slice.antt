@@ -1,14 +1,13 @@
 -- Encoding into a slice, and decoding from one.
-use Rattle.std.specs.Prelude.{◌≡◌, ◌≤◌, ◌<◌, ◌⊎◌, ◌↔◌, ◌++◌, ℕ, List, length, drop, Option, Result, IsOk, IfErr, IsErrAnd, MatchResult}
+use Rattle.std.specs.Prelude.{◌≡◌, ◌≤◌, ◌<◌, ◌⊎◌, ◌↔◌, ◌++◌, ℕ, List, length, drop, Option, Result, IsOk, IfErr}
 use Rattle.bincode_base.specs.declared.error.EncodeError.{EncodeError}
 use Rattle.bincode_base.specs.declared.error.DecodeError.{DecodeError}
-use Rattle.bincode_base.specs.declared.error.DecodeError.TheVariants.{UnexpectedEnd, LimitExceeded, Memory}
-use Rattle.bincode_format.specs.Fault.{Fault, Tells}
-use Rattle.bincode_format.specs.Charge.{Step, Passes, StaysWithin}
+use Rattle.bincode_base.specs.declared.error.DecodeError.TheVariants.{UnexpectedEnd}
+use Rattle.bincode_format.specs.Charge.{Step, StaysWithin}
 use Rattle.bincode_format.specs.Format.{Format}
 use Rattle.bincode_format.specs.Meaning.{Meaning}
 use Rattle.bincode_format.specs.Allowed.{OneLength}
-use Rattle.bincode_format.specs.Answer.{StepsOf}
+use Rattle.bincode_format.specs.Decoding.{IsRefused, Finds, TellsEach, KeepsWithin}
 use Rattle.bincode_format.specs.Encoding.{Begins, IsOwn}
 
 -- these bytes stand at the front of the slice, and those after them stay
@@ -34,13 +33,9 @@ pub record FitsExactly (Allowed : List ℕ → Type 0) (Names : EncodeError → 
   pub short : IfErr result (λ e. Names e ⊎ ((front : List ℕ) × Begins Allowed front × (room < length front)))
   pub exact : OneLength Allowed → ((e : EncodeError) → ¬ (Names e)) → (word : List ℕ) → Allowed word → IsOk result ↔ (length word ≤ room)
 
--- the error that tells a fault of a slice
-abbrev pub TellsOfSlice : Fault → DecodeError → Type 0
-TellsOfSlice why e = Tells (λ missing d. d ≡ UnexpectedEnd missing) why e
-
--- memory was refused, where decoding takes some
-abbrev pub IsRefused : Type 0 → DecodeError → Type 0
-IsRefused Grows e = Grows × (e ≡ Memory)
+-- the error that a slice without enough bytes ends in
+abbrev pub EndsSlice : ℕ → DecodeError → Type 0
+EndsSlice missing e = e ≡ UnexpectedEnd missing
 
 -- the first n bytes are a word whose steps stay within the limit, and the value is given for its meaning
 pub record Decoded (F : Format Meaning) (limit : Option ℕ) (input : List ℕ) (Given : Meaning → Type 0) (n : ℕ) : Type 0 where
@@ -54,15 +49,14 @@ pub record Decoded (F : Format Meaning) (limit : Option ℕ) (input : List ℕ) 
   pub count : n ≡ length word
   pub is_given : Given meaning
 
--- where the input begins with a word whose steps stay within the limit, decoding succeeds, unless memory is refused
+-- each word within the limit is read, unless memory is refused
 abbrev pub FindsWords : {A : Type 0} → Format Meaning → Option ℕ → Type 0 → List ℕ → Result A DecodeError → Type 0
-FindsWords F limit Grows input result = (word rest : List ℕ) (meaning : Meaning) (steps : List Step) → input ≡ word ++ rest → F.Word word meaning steps → StaysWithin limit 0 steps →
-    MatchResult result (λ _. Unit {0}) (IsRefused Grows)
+FindsWords F limit Grows input result = Finds F limit (IsRefused Grows) input result
 
--- where the input has a fault and the steps before it stay within the limit, the error tells it, unless memory is refused
+-- each fault within the limit is told, unless memory is refused
 abbrev pub TellsFaults : {A : Type 0} → Format Meaning → Option ℕ → Type 0 → List ℕ → Result A DecodeError → Type 0
-TellsFaults F limit Grows input result = (why : Fault) (steps : List Step) → F.Faults input why steps → StaysWithin limit 0 steps → IsErrAnd result (λ e. TellsOfSlice why e ⊎ IsRefused Grows e)
+TellsFaults F limit Grows input result = TellsEach EndsSlice F limit (IsRefused Grows) input result
 
--- where the steps of the word or before the fault pass the limit, the error says so, unless memory is refused
+-- charges that pass the limit are refused as such, unless memory is refused
 abbrev pub KeepsLimit : {A : Type 0} → Format Meaning → Option ℕ → Type 0 → List ℕ → Result A DecodeError → Type 0
-KeepsLimit F limit Grows input result = (steps : List Step) → StepsOf F input steps → Passes limit 0 steps → IsErrAnd result (λ e. (e ≡ LimitExceeded) ⊎ IsRefused Grows e)
+KeepsLimit F limit Grows input result = KeepsWithin F limit (IsRefused Grows) input result

@@ -28,6 +28,7 @@ impl Writer for SizeWriter {
 
     ghost place = { λ _. [] };
 
+    #[inline(always)]
     fn write(&mut self, bytes: &[u8]) -> Result<(), EncodeError> {
         let Some(count) = self.bytes_written.checked_add(bytes.len()) else {
             return Err(EncodeError::UnexpectedEnd);

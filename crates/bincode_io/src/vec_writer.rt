@@ -56,10 +56,16 @@ impl Writer for VecWriter {
 
     ghost place = { λ _. [] };
 
+    #[inline(always)]
     fn write(&mut self, bytes: &[u8]) -> Result<(), EncodeError> {
-        if self.bytes.reserve(bytes.len()).is_err()
-            || self.bytes.extend_from_slice(bytes).is_err()
-        {
+        if self.bytes.reserve(bytes.len()).is_err() {
+            return Err(EncodeError::Memory);
+        }
+        if let [byte] = bytes {
+            self.bytes.push_reserved(*byte);
+            return Ok(());
+        }
+        if self.bytes.extend_from_slice(bytes).is_err() {
             return Err(EncodeError::Memory);
         }
         Ok(())

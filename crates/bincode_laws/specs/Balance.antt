@@ -7,20 +7,20 @@ use Rattle.bincode_format.specs.Format.{Format, Reading, Took, Failed, after_ste
 use Rattle.bincode_format.specs.Format.{written_as, settled, map_format, charged, elements, sequence}
 use Rattle.bincode_format.specs.Laws.{Lawful, IsBacked, Settles, Holds, Balanced}
 
-reserved_append : (s t : List Step) → reserved (s ++ t) ≡ reserved s + reserved t
+pub reserved_append : (s t : List Step) → reserved (s ++ t) ≡ reserved s + reserved t
 reserved_append [] t = omega arith
 reserved_append ((Charge n) ∷ s) t = reserved_append s t
 reserved_append ((Reserve n) ∷ s) t = omega (arith, reserved_append s t)
 reserved_append ((Release n) ∷ s) t = reserved_append s t
 
-released_append : (s t : List Step) → released (s ++ t) ≡ released s + released t
+pub released_append : (s t : List Step) → released (s ++ t) ≡ released s + released t
 released_append [] t = omega arith
 released_append ((Charge n) ∷ s) t = released_append s t
 released_append ((Reserve n) ∷ s) t = released_append s t
 released_append ((Release n) ∷ s) t = omega (arith, released_append s t)
 
 -- a front of two lists of steps is a front of the first, or all of it and a front of the second
-data FrontOfBoth (s t front : List Step) : Type 0 where
+pub data FrontOfBoth (s t front : List Step) : Type 0 where
   in_first : (back : List Step) → s ≡ front ++ back → FrontOfBoth s t front
   in_second : (more back : List Step) → front ≡ s ++ more → t ≡ more ++ back → FrontOfBoth s t front
 
@@ -28,7 +28,7 @@ front_behind : (x y : Step) (s t front : List Step) → x ≡ y → FrontOfBoth 
 front_behind x y s t front e (in_first back h) = in_first back (cc)
 front_behind x y s t front e (in_second more back h k) = in_second more back (cc) k
 
-front_of_both : (s t front back : List Step) → s ++ t ≡ front ++ back → FrontOfBoth s t front
+pub front_of_both : (s t front back : List Step) → s ++ t ≡ front ++ back → FrontOfBoth s t front
 front_of_both [] t front back e = in_second front back refl e
 front_of_both (x ∷ s) t [] back e = in_first (x ∷ s) refl
 front_of_both (x ∷ s) t (y ∷ front) back e = front_behind x y s t front (cc) (front_of_both s t front back (cc))

@@ -7,6 +7,7 @@ pub mod CharDecodingLaws
 pub mod CharLaws
 pub mod ChoiceDecodingLaws
 pub mod ChoiceLaws
+pub mod CostLaws
 pub mod DecodingLaws
 pub mod DigitLaws
 pub mod DurationLaws
@@ -16,9 +17,11 @@ pub mod FormLaws
 pub mod Fronts
 pub mod IntegerLaws
 pub mod LaidLaws
+pub mod LimitLaws
 pub mod MapLaws
 pub mod OrderLaws
 pub mod PairLaws
+pub mod PassedLaws
 pub mod PutLaws
 pub mod RunAllowedLaws
 pub mod ListLaws

@@ -10,11 +10,15 @@ mod claims;
 #[cfg(test)]
 mod coders;
 #[cfg(test)]
+mod collected;
+#[cfg(test)]
 mod composites;
 #[cfg(test)]
 mod configurations;
 #[cfg(test)]
 mod containers;
+#[cfg(test)]
+mod contexts;
 #[cfg(test)]
 mod faults;
 #[cfg(test)]

@@ -1,9 +1,10 @@
 //! What containers claim of the limit, and when.
 
 use crate::checks::{decoded, fault_of, within};
-use bincode::config;
+use bincode::config::{self, Config};
 use bincode::de::Decode;
 use bincode::error::DecodeError;
+use callers::calls::round_trip_of_numbers;
 use std::alloc::Global;
 use std::boxed::{BoxedSlice, BoxedStr};
 use std::collections::{BTreeMap, BTreeSet, BinaryHeap, VecDeque};
@@ -65,4 +66,23 @@ fn claims_for_lists_in_lists(rt: HostRuntime) {
     };
     assert!(rt; lists.len() == 1);
     assert!(rt; matches!(lists.first(), Some(list) if list.as_slice() == [7, 8].as_slice()));
+}
+
+/// What is read back of a number and four under this configuration.
+fn reads_back<C: Config>(
+    alloc: Global,
+    config: C,
+) -> Option<Result<((u64, [u32; 4]), usize), DecodeError>> {
+    let mut slice = [9u8; 8];
+    let trip = round_trip_of_numbers(alloc, &(7, [1, 2, 3, 300]), &mut slice, config).ok()?;
+    Some(trip.read)
+}
+
+/// Eight bytes and the room of four numbers of four are within 24, and not within 23.
+#[test]
+fn reads_back_within_the_peak(rt: HostRuntime) {
+    let read = reads_back(rt.alloc(), config::standard().with_limit::<24>());
+    assert!(&rt; matches!(read, Some(Ok(((7, [1, 2, 3, 300]), 7)))));
+    let refused = reads_back(rt.alloc(), config::standard().with_limit::<23>());
+    assert!(&rt; matches!(refused, Some(Err(DecodeError::LimitExceeded))));
 }

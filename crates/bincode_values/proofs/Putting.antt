@@ -1,9 +1,10 @@
 -- What is read is put into a collection in turn.
-use Rattle.std.specs.Prelude.{◌≡◌, ℕ, ◌≤◌, List, [], ◌∷◌, ◌++◌, Option, Err, refl}
+use Rattle.std.specs.Prelude.{◌≡◌, ℕ, ◌*◌, ◌≤◌, List, [], ◌∷◌, ◌++◌, Option, Result, Ok, Err, MatchResult, refl}
 use Rattle.std.specs.Borrow.{GName}
 use Rattle.std.specs.BTreeMap.{insert_entry}
 use Rattle.std.specs.BTreeSet.{insert_key}
 use Rattle.std.specs.declared.cmp.Ordering.{Ordering}
+use Rattle.std.proofs.Common.{arith}
 use Rattle.bincode_base.specs.declared.error.DecodeError.{DecodeError}
 use Rattle.bincode_base.specs.declared.error.DecodeError.TheVariants.{Memory}
 use Rattle.bincode_format.specs.Collections.{put_keys, put_entries}
@@ -11,9 +12,10 @@ use Rattle.bincode_format.specs.Decoding.{by_memory}
 use Rattle.bincode_format.specs.Device.{DeviceErrors}
 use Rattle.bincode_format.specs.Format.{Format}
 use Rattle.bincode_format.specs.Meaning.{Meaning}
+use Rattle.bincode_format.specs.Run.{CanRelease}
 use Rattle.bincode_format.specs.Values.{RunRead}
 use Rattle.bincode_decoder.proofs.Rooms.{held-within}
-use Rattle.bincode_values.proofs.Reading.{RunSoFar}
+use Rattle.bincode_values.proofs.Reading.{RunSoFar, none-so_far, all-so_far}
 
 -- one key more is put behind those before it,
 pub keys-push : {K : Type 0} (cmp : K → K → Ordering) (keys items : List K) (k : K) → put_keys cmp keys (items ++ k ∷ []) ≡ insert_key cmp (put_keys cmp keys items) k
@@ -41,3 +43,27 @@ refused-so_far {charge = charge} {limit = limit} {claim = claim} {count = count}
   held = held-within limit claim read count (charge old) (charge now) l h.held;
   same_place = h.same_place;
 }
+
+module _ {D T : Type 0} {told : D → Type 0} {rest : D → List ℕ} {charge failures : D → ℕ} {place : D → List GName} {limit : Option ℕ} {claim : ℕ}
+    {format : Format Meaning} {given : Meaning → T → Type 0} {count : ℕ} {vs : List T} {old now : D} where
+  -- nothing was read yet, and what it is put into is there: the decoder may have another context
+  pub begun-so_far : (told old → told now) → rest now ≡ rest old → charge now ≡ charge old → failures now ≡ failures old → place now ≡ place old →
+      CanRelease limit (charge old) (count * claim) → vs ≡ [] → RunSoFar told rest charge failures place limit claim format given count 0 vs old now
+  begun-so_far tells same_rest same_charge same_failures same_place h none =
+      let begun = none-so_far {told = told} {rest = rest} {charge = charge} {failures = failures} {place = place} {limit = limit} {claim = claim} {format = format} {given = given}
+      {count = count} {old = old} h in
+      record {
+        known = λ k. let s = begun.known k in (tells k, s.1, rw (same_rest, same_charge) s.2, rw none s.3);
+        reserved = rw same_charge begun.reserved;
+        held = rw same_charge begun.held;
+        counted = rw same_failures begun.counted;
+        same_place = same_place;
+      }
+
+  -- all were read, and what is made of them is there or refused
+  pub finished-so_far : {A : Type 0} {ended : ℕ → DecodeError → Type 0} {device : DeviceErrors} {values : A → List T} {read : ℕ} (r : Result A DecodeError) →
+      RunSoFar told rest charge failures place limit claim format given count read vs old now → read ≡ count →
+      MatchResult r (λ v. values v ≡ vs) (λ e. e ≡ Memory) →
+      RunRead told rest charge failures place limit ended device (Unit {0}) claim format given count values r old now
+  finished-so_far (Ok v) h all made = all-so_far h all made
+  finished-so_far (Err e) h all refused = rw refused (refused-so_far h (omega (arith, all)))

@@ -2,6 +2,7 @@
 #![tactic(auto)]
 
 pub mod arrays;
+pub mod collections;
 pub mod lists;
 pub mod ordered;
 pub mod runs;

@@ -102,7 +102,9 @@ fn decode_by_pushes<Context: Drop, V: ReadValues<Context>, D: Decoder<Context = 
     Ok(values)
 }
 
-/// So many values to read over, if the type has such at hand. Fails with `Memory` where the room for them is refused.
+/// So many values to read over, if the type has such at hand and its values claim a byte each, as those do that are read
+/// at once: others are pushed, which takes less than zeros first. Fails with `Memory` where the room for them is
+/// refused.
 fn blank_values<Context: Drop, V: ReadValues<Context>>(
     alloc: Global,
     len: usize,
@@ -110,7 +112,7 @@ fn blank_values<Context: Drop, V: ReadValues<Context>>(
     ensures length { IfOk result (λ blank. IfSome blank (λ v. length v.items ≡ len)) }
     ensures err { IfErr result (λ e. e ≡ Memory) }
 {
-    if V::blank_array::<[V::Value; 0]>().is_none() {
+    if V::Value::claim_size() > 1 || V::blank_array::<[V::Value; 0]>().is_none() {
         return Ok(None);
     }
     let Ok(mut values) = Vec::with_capacity(alloc, len) else {

@@ -1,10 +1,11 @@
 //! Laws that some types keep beside those of `Wire`.
-ghost use Rattle.std.specs.Prelude.{◌≡◌, true};
+ghost use Rattle.std.specs.Prelude.{◌≡◌, ◌≤◌, ℕ, true};
 ghost use Rattle.bincode_base.specs.Setting.{Setting};
 ghost use Rattle.bincode_base.specs.declared.error.EncodeError.{EncodeError};
 ghost use Rattle.bincode_format.specs.Meaning.{Meaning};
 ghost use Rattle.bincode_format.specs.Allowed.{AllowedWord, Shortest, OneLength};
 ghost use Rattle.bincode_format.specs.Cells.{HasWord};
+ghost use Rattle.bincode_format.specs.Limits.{Costs};
 
 use crate::wire::Wire;
 
@@ -42,4 +43,17 @@ pub trait Exact: Plain + PartialEq {
 pub trait Canonical: Plain {
     ghost shortest: { (s : Setting) (v w : Self) → Self.valid v
         → Shortest (Self.means v) (λ m. Self.given m w) (Self.format s) };
+}
+
+/// A type whose words all charge the same, so that a caller can tell how large a limit has to be.
+pub trait ConstantCharge: Wire {
+    /// How many bytes a word charges in all.
+    ghost cost: { ℕ };
+
+    /// How many bytes are charged and held for elements at once, at most.
+    ghost peak: { ℕ };
+
+    ghost costs: { (s : Setting) → Costs peak cost (Self.format s) };
+
+    ghost cost_fits: { cost ≤ peak };
 }

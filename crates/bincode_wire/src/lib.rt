@@ -3,12 +3,14 @@
 
 pub mod bags;
 pub mod chars;
+pub mod empty;
 pub mod impls;
 pub mod laws;
 pub mod lists;
 pub mod ordered;
 pub mod own;
 pub mod parted;
+pub mod passed;
 pub mod rows;
 pub mod scalars;
 pub mod sums;

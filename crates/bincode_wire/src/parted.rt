@@ -4,7 +4,7 @@ ghost use Rattle.bincode_format.specs.Meaning.{Meaning};
 ghost use Rattle.bincode_format.specs.Promises.{Promise, no_more};
 ghost use Rattle.bincode_laws.specs.AllowedLaws.{fewer-none_shorter};
 
-use crate::laws::{Canonical, Exact, Inhabited, Plain, Writable};
+use crate::laws::{Canonical, ConstantCharge, Exact, Inhabited, Plain, Writable};
 use crate::wire::Wire;
 
 /// A type whose values have the words of their parts: a struct has those of the tuple of its fields. It has `Wire` by
@@ -81,6 +81,19 @@ where
         fewer-none_shorter (λ m p. (p.0, (T.promised w (T.Parts.given m (T.parts w))).keeps p.1))
         (λ m p. (T.promised w (T.Parts.given m (T.parts w))).keeps p)
         (T.Parts.shortest s (T.parts v) (T.parts w) h) };
+}
+
+impl<T: Parted> ConstantCharge for T
+where
+    T::Parts: ConstantCharge,
+{
+    ghost cost = { T.Parts.cost };
+
+    ghost peak = { T.Parts.peak };
+
+    ghost costs = { T.Parts.costs };
+
+    ghost cost_fits = { T.Parts.cost_fits };
 }
 
 /// A type whose values are equal where their parts are. It is `Exact`, if the type of its parts is.

@@ -1,13 +1,15 @@
 //! Parts in a row: what tuples are written as.
-ghost use Rattle.std.specs.Prelude.{◌≡◌, ◌⊎◌, ◌+◌, ◌-◌, ◌^◌, min, refl};
+ghost use Rattle.std.specs.Prelude.{◌≡◌, ◌⊎◌, ◌+◌, ◌-◌, ◌^◌, min, max, refl};
+ghost use Rattle.std.proofs.Common.{arith, le_refl};
 ghost use Rattle.bincode_format.specs.Meaning.{IsThen, IsFourThen};
 ghost use Rattle.bincode_format.specs.Words.{first_and, four_and};
 ghost use Rattle.bincode_format.specs.Forms.{units};
+ghost use Rattle.bincode_laws.specs.CostLaws.{nothing-costs, then-costs, four-costs};
 ghost use Rattle.bincode_laws.specs.TupleLaws.{units-laws, then-some_word, then-lawful, then-balanced, then-has_word};
 ghost use Rattle.bincode_laws.specs.TupleLaws.{then-one_length, then-same, then-shortest, either, four-lawful};
 ghost use Rattle.bincode_laws.specs.TupleLaws.{four-balanced, four-has_word, four-one_length, four-same, four-shortest};
 
-use crate::laws::{Canonical, Exact, Inhabited, Plain, Writable};
+use crate::laws::{Canonical, ConstantCharge, Exact, Inhabited, Plain, Writable};
 use crate::parted::{Parted, SameParts};
 use crate::scalars::{Alone, Scalar};
 use crate::wire::Wire;
@@ -32,6 +34,16 @@ impl Parted for () {
 
 impl SameParts<Alone<()>> for () {
     ghost same_parts = { λ v w e. e };
+}
+
+impl ConstantCharge for Alone<()> {
+    ghost cost = { 0 };
+
+    ghost peak = { 0 };
+
+    ghost costs = { λ s. nothing-costs };
+
+    ghost cost_fits = { le_refl 0 };
 }
 
 /// A part, and the others: a row too, or `()` behind the last. What they claim is a sum, at most the greatest `usize`.
@@ -92,6 +104,16 @@ impl<A: Exact, Others: Exact> Exact for Row<A, Others> {
 
 impl<A: Canonical, Others: Canonical> Canonical for Row<A, Others> {
     ghost shortest = { λ s v w h. then-shortest (A.shortest s v.0 w.0 h.0) (Others.shortest s v.1 w.1 h.1) };
+}
+
+impl<A: ConstantCharge, Others: ConstantCharge> ConstantCharge for Row<A, Others> {
+    ghost cost = { A.cost + Others.cost };
+
+    ghost peak = { max A.peak (A.cost + Others.peak) };
+
+    ghost costs = { λ s. then-costs (A.costs s) (Others.costs s) };
+
+    ghost cost_fits = { omega (arith, Others.cost_fits) };
 }
 
 /// Four parts, and the others.
@@ -181,4 +203,20 @@ impl<A: Canonical, B: Canonical, C: Canonical, D: Canonical, Others: Canonical> 
     ghost shortest = { λ s v w h.
         four-shortest (A.shortest s v.0 w.0 h.0) (B.shortest s v.1 w.1 h.1.0) (C.shortest s v.2 w.2 h.1.1.0)
         (D.shortest s v.3 w.3 h.1.1.1.0) (Others.shortest s v.4 w.4 h.1.1.1.1) };
+}
+
+impl<
+    A: ConstantCharge,
+    B: ConstantCharge,
+    C: ConstantCharge,
+    D: ConstantCharge,
+    Others: ConstantCharge,
+> ConstantCharge for LongRow<A, B, C, D, Others> {
+    ghost cost = { ⟦<Row<A, Row<B, Row<C, Row<D, Others>>>> as ConstantCharge>⟧.cost };
+
+    ghost peak = { ⟦<Row<A, Row<B, Row<C, Row<D, Others>>>> as ConstantCharge>⟧.peak };
+
+    ghost costs = { λ s. four-costs (A.costs s) (B.costs s) (C.costs s) (D.costs s) (Others.costs s) };
+
+    ghost cost_fits = { omega (arith, Others.cost_fits) };
 }

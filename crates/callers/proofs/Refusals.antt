@@ -3,17 +3,18 @@ use Rattle.std.specs.Prelude.{◌≡◌, ◌⊎◌, ℕ, List, refl, Option, Som
 use Rattle.std.proofs.Common.{inl, inr}
 use Rattle.bincode_base.specs.declared.error.DecodeError.{DecodeError}
 use Rattle.bincode_base.specs.declared.error.DecodeError.TheVariants.{LimitExceeded, Memory}
-use Rattle.bincode_format.specs.Fault.{Fault, End, InvalidInteger, Zero, UnexpectedVariant, Utf8, InvalidChar, InvalidBool, InvalidDuration, NulAt}
+use Rattle.bincode_format.specs.Fault.{Fault, Tells, End, InvalidInteger, Zero, UnexpectedVariant, Utf8, InvalidChar, InvalidBool, InvalidDuration, NulAt}
 use Rattle.bincode_format.specs.Fault.{Other, LengthMismatch, EmptyEnum, OutsideUsize, short, long, Between, OneOf}
 use Rattle.bincode_format.specs.Format.{Format}
 use Rattle.bincode_format.specs.Laws.{Lawful, Balanced}
 use Rattle.bincode_format.specs.Meaning.{Meaning}
 use Rattle.bincode_format.specs.Answer.{Answer, Gave, Refused, PassedLimit, answer}
 use Rattle.bincode_laws.specs.AnswerLaws.{gave-word, refused-fault, passed-limit}
-use Rattle.bincode_format.specs.Slice.{TellsOfSlice, IsRefused, FindsWords, TellsFaults, KeepsLimit}
+use Rattle.bincode_format.specs.Decoding.{IsRefused}
+use Rattle.bincode_format.specs.Slice.{EndsSlice, FindsWords, TellsFaults, KeepsLimit}
 
 -- no fault is told by it
-tells_none : (why : Fault) (e : DecodeError) → e ≡ Memory → TellsOfSlice why e → ⊥
+tells_none : (why : Fault) (e : DecodeError) → e ≡ Memory → Tells EndsSlice why e → ⊥
 tells_none (End (Some missing)) e i h = cc
 tells_none (End None) e i h = let k = h.1 in cc
 tells_none (InvalidInteger expected found) e i h = cc
@@ -32,7 +33,7 @@ tells_none EmptyEnum e i h = let k = h.1 in cc
 tells_none (OutsideUsize n) e i h = cc
 
 module _ (F : Format Meaning) (f : Lawful F) (b : Balanced F) (limit : Option ℕ) (input : List ℕ) (Grows : Type 0) (none : Grows → ⊥) where
-  of_fault : (why : Fault) (e : DecodeError) → e ≡ Memory → TellsOfSlice why e ⊎ IsRefused Grows e → ⊥
+  of_fault : (why : Fault) (e : DecodeError) → e ≡ Memory → Tells EndsSlice why e ⊎ IsRefused Grows e → ⊥
   of_fault why e i (inl h) = tells_none why e i h
   of_fault why e i (inr h) = none h.0
 

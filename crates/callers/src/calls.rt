@@ -1,14 +1,17 @@
 //! Callers that rest on the contracts of the two calls alone.
-ghost use Rattle.std.specs.Prelude.{◌≡◌, true, None, IfErr, IfOk, MatchResult};
+ghost use Rattle.std.specs.Prelude.{◌≡◌, true, IfErr, IfOk, MatchResult};
 ghost use Rattle.bincode_base.specs.declared.error.DecodeError.TheVariants.{Memory};
 ghost use Rattle.bincode_format.specs.Allowed.{AllowedWord};
-ghost use Rattle.bincode_format.specs.Slice.{IsRefused, FrontWritten};
+ghost use Rattle.bincode_format.specs.Answer.{Allows};
+ghost use Rattle.bincode_format.specs.Decoding.{IsRefused};
+ghost use Rattle.bincode_format.specs.Limits.{FitsLimit};
+ghost use Rattle.bincode_format.specs.Slice.{FrontWritten};
 
 use bincode::config::Config;
 use bincode::de::Decode;
 use bincode::enc::Encode;
 use bincode::error::{DecodeError, EncodeError};
-use bincode::laws::{Exact, Writable};
+use bincode::laws::{ConstantCharge, Exact, Writable};
 use bincode::time::Duration;
 use bincode::{Wire, decode_from_slice, encode_into_slice};
 use std::alloc::Global;
@@ -36,21 +39,49 @@ pub struct RoundTrip<T> {
     pub read: Result<(T, usize), DecodeError>,
 }
 
-/// Writes a value into the front of a slice, and reads it back from there, with the bytes behind it. Without a limit an
-/// equal value is read, of as many bytes, unless memory is refused.
+/// Writes a value into the front of a slice, and reads it back from there, with the bytes behind it. Where the charges
+/// of its words stay within the limit an equal value is read, of as many bytes, unless memory is refused.
 pub fn round_trip<T: Encode + Decode<()> + Exact, C: Config>(
     alloc: Global,
     value: &T,
     slice: &mut [u8],
     config: C,
 ) -> Result<RoundTrip<T>, EncodeError>
-    ensures { C.bound ≡ None → IfOk result (λ trip. MatchResult trip.read
-        (λ x. (T.eq value.now x.0 ≡ true) × (x.1 ≡ trip.written)) (IsRefused T.grows)) }
+    ensures { FitsLimit (T.means value.now) (T.format C.setting) C.bound → IfOk result (λ trip.
+        MatchResult trip.read (λ x. (T.eq value.now x.0 ≡ true) × (x.1 ≡ trip.written)) (IsRefused T.grows)) }
 {
     value.tell_valid();
     let written = encode_into_slice(value, slice, config)?;
     let read = decode_from_slice(alloc, slice, config);
     Ok(RoundTrip { written, read })
+}
+
+/// The same of a type whose words all charge the same: the limit has to allow what is charged and held at once, at
+/// most.
+pub fn round_trip_within<T: Encode + Decode<()> + Exact + ConstantCharge, C: Config>(
+    alloc: Global,
+    value: &T,
+    slice: &mut [u8],
+    config: C,
+) -> Result<RoundTrip<T>, EncodeError>
+    ensures { Allows C.bound T.peak → IfOk result (λ trip.
+        MatchResult trip.read (λ x. (T.eq value.now x.0 ≡ true) × (x.1 ≡ trip.written)) (IsRefused T.grows)) }
+{
+    round_trip(alloc, value, slice, config)
+}
+
+/// A number of 8 bytes and four of 4, under any limit from 24 on.
+pub fn round_trip_of_numbers<C: Config>(
+    alloc: Global,
+    value: &(u64, [u32; 4]),
+    slice: &mut [u8],
+    config: C,
+) -> Result<RoundTrip<(u64, [u32; 4])>, EncodeError>
+    ensures { Allows C.bound 24 → IfOk result (λ trip. MatchResult trip.read
+        (λ x. (⟦<(u64, [u32; 4]) as PartialEq>⟧.eq value.now x.0 ≡ true) × (x.1 ≡ trip.written))
+        (IsRefused (⟦<(u64, [u32; 4]) as Wire>⟧.grows))) }
+{
+    round_trip_within(alloc, value, slice, config)
 }
 
 /// Reads a number, which takes no memory.

@@ -1,5 +1,9 @@
 //! Types of a user's own, as README's section 'Your own types' shows them.
 #![tactic(auto)]
 
+pub mod code;
+pub mod even;
+pub mod event;
 pub mod message;
+pub mod never;
 pub mod request;

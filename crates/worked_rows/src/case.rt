@@ -97,6 +97,15 @@ pub enum Limited {
     CharTo0(Decoding<char, Limit<0>>),
     PairTo15(Decoding<(u64, u64), Limit<15>>),
     PairTo16(Decoding<(u64, u64), Limit<16>>),
+    TextTo100000(Decoding<&'static str, Limit<100_000>>),
+    /// As a list; the answer has its items.
+    ListTo100000(Decoding<&'static [u32], Limit<100_000>>),
+    /// As a list of lists of bytes; the answer has them.
+    ListsTo31(Decoding<&'static [&'static [u8]], Limit<31>>),
+    ListsTo32(Decoding<&'static [&'static [u8]], Limit<32>>),
+    /// As a list of `()`; the answer has its length.
+    UnitsTo7(Decoding<usize, Limit<7>>),
+    UnitsTo8(Decoding<usize, Limit<8>>),
 }
 
 /// A value, and the word that it is written as under a setting.
@@ -187,7 +196,7 @@ pub fn holds(alloc: Global, case: &Case) -> Result<bool, AllocError> {
         Case::RefusePair(row) => refuses(alloc, row),
         Case::Varint(number) => spells_number(alloc, number),
         Case::Decode(input) => decodes_input(alloc, input),
-        Case::DecodeWithin(limited) => Ok(decodes_within(alloc, limited)),
+        Case::DecodeWithin(limited) => decodes_within(alloc, limited),
     }
 }
 
@@ -244,15 +253,21 @@ fn decodes_input(alloc: Global, input: &Input) -> Result<bool, AllocError> {
     })
 }
 
-fn decodes_within(alloc: Global, limited: &Limited) -> bool {
-    match limited {
+fn decodes_within(alloc: Global, limited: &Limited) -> Result<bool, AllocError> {
+    Ok(match limited {
         Limited::U16To2(row) => decodes(alloc, row),
         Limited::U64To7(row) => decodes(alloc, row),
         Limited::U64To8(row) => decodes(alloc, row),
         Limited::CharTo0(row) => decodes(alloc, row),
         Limited::PairTo15(row) => decodes(alloc, row),
         Limited::PairTo16(row) => decodes(alloc, row),
-    }
+        Limited::TextTo100000(row) => decodes_text(alloc, row)?,
+        Limited::ListTo100000(row) => decodes_list(alloc, row)?,
+        Limited::ListsTo31(row) => decodes_lists(alloc, row)?,
+        Limited::ListsTo32(row) => decodes_lists(alloc, row)?,
+        Limited::UnitsTo7(row) => decodes_units(alloc, row),
+        Limited::UnitsTo8(row) => decodes_units(alloc, row),
+    })
 }
 
 /// A number that is a variable integer by itself.
@@ -447,7 +462,10 @@ fn decodes_duration(alloc: Global, row: &Decoding<(u64, u32), NoLimit>) -> bool 
 }
 
 /// Whether decoding the input as a text gives the answer.
-fn decodes_text(alloc: Global, row: &Decoding<&'static str, NoLimit>) -> Result<bool, AllocError> {
+fn decodes_text<L>(alloc: Global, row: &Decoding<&'static str, L>) -> Result<bool, AllocError>
+where
+    L: InternalLimitConfig + Copy,
+{
     let answer = match row.answer {
         Answer::Value(text, length) => Answer::Value(String::from_str(alloc, text)?, length),
         Answer::Fault(fault) => Answer::Fault(fault),
@@ -456,6 +474,65 @@ fn decodes_text(alloc: Global, row: &Decoding<&'static str, NoLimit>) -> Result<
         decode_under(alloc, row.setting, row.limit, row.input),
         &answer,
     ))
+}
+
+/// Whether decoding the input as a list gives the answer.
+fn decodes_list<L>(alloc: Global, row: &Decoding<&'static [u32], L>) -> Result<bool, AllocError>
+where
+    L: InternalLimitConfig + Copy,
+{
+    let answer = match row.answer {
+        Answer::Value(items, length) => Answer::Value(items.to_vec(alloc)?, length),
+        Answer::Fault(fault) => Answer::Fault(fault),
+    };
+    Ok(answers(
+        decode_under(alloc, row.setting, row.limit, row.input),
+        &answer,
+    ))
+}
+
+/// Whether decoding the input as a list of lists gives the answer.
+fn decodes_lists<L>(
+    alloc: Global,
+    row: &Decoding<&'static [&'static [u8]], L>,
+) -> Result<bool, AllocError>
+where
+    L: InternalLimitConfig + Copy,
+{
+    let answer = match row.answer {
+        Answer::Value(lists, length) => Answer::Value(lists_of(alloc, lists)?, length),
+        Answer::Fault(fault) => Answer::Fault(fault),
+    };
+    Ok(answers(
+        decode_under(alloc, row.setting, row.limit, row.input),
+        &answer,
+    ))
+}
+
+/// The list of these lists.
+fn lists_of(alloc: Global, lists: &[&'static [u8]]) -> Result<Vec<Vec<u8>>, AllocError> {
+    let mut all = Vec::new(alloc);
+    for list in lists {
+        all.push(list.to_vec(alloc)?)?;
+    }
+    Ok(all)
+}
+
+/// Whether decoding the input as a list of `()` gives one of the answer's length.
+fn decodes_units<L>(alloc: Global, row: &Decoding<usize, L>) -> bool
+where
+    L: InternalLimitConfig + Copy,
+{
+    let outcome: Result<(Vec<()>, usize), DecodeError> = decode_under(
+        alloc,
+        row.setting,
+        row.limit,
+        row.input,
+    );
+    answers(
+        outcome.map(|(units, taken)| (units.len(), taken)),
+        &row.answer,
+    )
 }
 
 /// Whether decoding the input as a map gives the answer.

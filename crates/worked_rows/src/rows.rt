@@ -24,7 +24,7 @@ pub fn table() -> &'static [Row] {
     &TABLE
 }
 
-static TABLE: [Row; 52] = [
+static TABLE: [Row; 58] = [
     Row {
         label: "1",
         case: Case::Keep(Kept::Five(Encoding {
@@ -305,6 +305,42 @@ static TABLE: [Row; 52] = [
         })),
     },
     Row {
+        label: "8a",
+        case: Case::DecodeWithin(Limited::ListTo100000(Decoding {
+            setting: Setting::Standard,
+            limit: Limit,
+            input: &[253, 255, 255, 255, 255, 255, 255, 255, 255],
+            answer: Answer::Fault(Fault::LimitExceeded),
+        })),
+    },
+    Row {
+        label: "8b",
+        case: Case::DecodeWithin(Limited::TextTo100000(Decoding {
+            setting: Setting::Standard,
+            limit: Limit,
+            input: &[252, 160, 134, 1, 0],
+            answer: Answer::Fault(Fault::LimitExceeded),
+        })),
+    },
+    Row {
+        label: "9a",
+        case: Case::DecodeWithin(Limited::ListsTo31(Decoding {
+            setting: Setting::Standard,
+            limit: Limit,
+            input: &[1, 2, 7, 8],
+            answer: Answer::Fault(Fault::LimitExceeded),
+        })),
+    },
+    Row {
+        label: "9b",
+        case: Case::DecodeWithin(Limited::ListsTo32(Decoding {
+            setting: Setting::Standard,
+            limit: Limit,
+            input: &[1, 2, 7, 8],
+            answer: Answer::Value(&[&[7, 8]], 4),
+        })),
+    },
+    Row {
         label: "10a",
         case: Case::DecodeWithin(Limited::PairTo15(Decoding {
             setting: Setting::Standard,
@@ -412,6 +448,24 @@ static TABLE: [Row; 52] = [
             before: &[9, 9, 9],
             after: &[1, 251, 9],
         }),
+    },
+    Row {
+        label: "17c",
+        case: Case::DecodeWithin(Limited::UnitsTo8(Decoding {
+            setting: Setting::Standard,
+            limit: Limit,
+            input: &[3],
+            answer: Answer::Value(3, 1),
+        })),
+    },
+    Row {
+        label: "17d",
+        case: Case::DecodeWithin(Limited::UnitsTo7(Decoding {
+            setting: Setting::Standard,
+            limit: Limit,
+            input: &[3],
+            answer: Answer::Fault(Fault::LimitExceeded),
+        })),
     },
     Row {
         label: "19a",

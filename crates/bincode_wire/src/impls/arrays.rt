@@ -1,5 +1,8 @@
 //! The words of arrays.
-ghost use Rattle.std.specs.Prelude.{◌≡◌, ◌*◌, ◌-◌, ◌^◌, ◌⊎◌, min, length};
+ghost use Rattle.std.specs.Prelude.{◌≡◌, ◌*◌, ◌-◌, ◌^◌, ◌⊎◌, min, max, length};
+ghost use Rattle.std.proofs.Common.{arith};
+ghost use Rattle.std.proofs.Math.Nat.{mul-le-mul_left};
+ghost use Rattle.bincode_laws.specs.CostLaws.{array-costs};
 ghost use Rattle.std.specs.List.{All};
 ghost use Rattle.std.proofs.lemmas.List.Elements.{All-weaker};
 ghost use Rattle.bincode_base.specs.Slots.{SlotsFit};
@@ -10,7 +13,7 @@ ghost use Rattle.bincode_laws.specs.RunAllowedLaws.{array-allows, allowed-array,
 ghost use Rattle.bincode_laws.specs.RunAllowedLaws.{each-one_length, array-shortest, run-same};
 ghost use Rattle.bincode_laws.specs.AllowedLaws.{same-one_length};
 
-use crate::laws::{Canonical, Exact, Inhabited, Plain, Writable};
+use crate::laws::{Canonical, ConstantCharge, Exact, Inhabited, Plain, Writable};
 use crate::wire::Wire;
 
 // Decoding answers `Memory` where the slots that it fills can't exist, though the array itself could.
@@ -78,4 +81,15 @@ impl<T: Exact, const N: usize> Exact for [T; N] {
 impl<T: Canonical, const N: usize> Canonical for [T; N] {
     ghost shortest = { λ s v w h. array-shortest T.means (λ x n. T.given n x) T.claim (T.format s) T.valid
         (T.shortest s) N v w h.0 h.1 };
+}
+
+impl<T: ConstantCharge, const N: usize> ConstantCharge for [T; N] {
+    ghost cost = { N * T.cost };
+
+    ghost peak = { N * max T.claim T.peak };
+
+    ghost costs = { λ s. array-costs (T.format s) N T.claim T.peak T.cost (max T.claim T.peak) (omega arith)
+        (omega arith) (omega (arith, T.cost_fits)) (T.costs s) };
+
+    ghost cost_fits = { mul-le-mul_left N (omega (arith, T.cost_fits)) };
 }

@@ -1,17 +1,21 @@
 //! The words of integers other than 0.
 ghost use Rattle.std.specs.Prelude.{refl};
 ghost use Rattle.std.specs.Int.{w16, w32, w64, w128};
+ghost use Rattle.std.proofs.Common.{le_refl};
 ghost use Rattle.std.specs.Int.NonZero.{non_zero_u8_get, non_zero_u16_get, non_zero_u32_get, non_zero_u64_get};
 ghost use Rattle.std.specs.Int.NonZero.{non_zero_u128_get, non_zero_usize_get, non_zero_i8_get, non_zero_i16_get};
 ghost use Rattle.std.specs.Int.NonZero.{non_zero_i32_get, non_zero_i64_get, non_zero_i128_get, non_zero_isize_get};
-ghost use Rattle.bincode_base.specs.declared.error.IntegerType.TheVariants.{U16, U32, U64, U128, Usize, I16, I32, I64};
+ghost use Rattle.bincode_base.specs.declared.error.IntegerType.TheVariants.{U8, U16, U32, U64, U128, Usize, I8, I16, I32, I64};
 ghost use Rattle.bincode_base.specs.declared.error.IntegerType.TheVariants.{I128, Isize};
 ghost use Rattle.bincode_format.specs.Integers.{Two, Four, Eight, Sixteen};
 ghost use Rattle.bincode_laws.specs.AllowedLaws.{number-same, integer-same};
 ghost use Rattle.bincode_format.specs.Forms.{bytes_not_zero, unsigned_not_zero, signed_bytes_not_zero, signed_not_zero};
+ghost use Rattle.bincode_laws.specs.CostLaws.{map-costs, not_zero-costs, unsigned-costs, signed-costs};
+ghost use Rattle.bincode_laws.specs.CostLaws.{unsigned_byte-costs, signed_byte-costs};
 ghost use Rattle.bincode_laws.specs.FormLaws.{bytes_not_zero-laws, unsigned_not_zero-laws};
 ghost use Rattle.bincode_laws.specs.FormLaws.{signed_bytes_not_zero-laws, signed_not_zero-laws};
 
+use crate::laws::ConstantCharge;
 use crate::parted::{Parted, SameParts};
 use crate::scalars::{Alone, Scalar};
 use std::num::{
@@ -41,6 +45,16 @@ impl SameParts<Alone<NonZeroU8>> for NonZeroU8 {
     ghost same_parts = { λ v w e. e };
 }
 
+impl ConstantCharge for Alone<NonZeroU8> {
+    ghost cost = { 1 };
+
+    ghost peak = { 1 };
+
+    ghost costs = { λ s. map-costs 1 1 _ _ (not_zero-costs _ U8 1 _ unsigned_byte-costs) };
+
+    ghost cost_fits = { le_refl 1 };
+}
+
 impl Scalar for NonZeroU16 {
     ghost form = { unsigned_not_zero non_zero_u16_get U16 2 };
 
@@ -61,6 +75,16 @@ impl Parted for NonZeroU16 {
 
 impl SameParts<Alone<NonZeroU16>> for NonZeroU16 {
     ghost same_parts = { λ v w e. e };
+}
+
+impl ConstantCharge for Alone<NonZeroU16> {
+    ghost cost = { 2 };
+
+    ghost peak = { 2 };
+
+    ghost costs = { λ s. map-costs 2 2 _ _ (not_zero-costs _ U16 2 _ (unsigned-costs U16 2 s)) };
+
+    ghost cost_fits = { le_refl 2 };
 }
 
 impl Scalar for NonZeroU32 {
@@ -85,6 +109,16 @@ impl SameParts<Alone<NonZeroU32>> for NonZeroU32 {
     ghost same_parts = { λ v w e. e };
 }
 
+impl ConstantCharge for Alone<NonZeroU32> {
+    ghost cost = { 4 };
+
+    ghost peak = { 4 };
+
+    ghost costs = { λ s. map-costs 4 4 _ _ (not_zero-costs _ U32 4 _ (unsigned-costs U32 4 s)) };
+
+    ghost cost_fits = { le_refl 4 };
+}
+
 impl Scalar for NonZeroU64 {
     ghost form = { unsigned_not_zero non_zero_u64_get U64 8 };
 
@@ -105,6 +139,16 @@ impl Parted for NonZeroU64 {
 
 impl SameParts<Alone<NonZeroU64>> for NonZeroU64 {
     ghost same_parts = { λ v w e. e };
+}
+
+impl ConstantCharge for Alone<NonZeroU64> {
+    ghost cost = { 8 };
+
+    ghost peak = { 8 };
+
+    ghost costs = { λ s. map-costs 8 8 _ _ (not_zero-costs _ U64 8 _ (unsigned-costs U64 8 s)) };
+
+    ghost cost_fits = { le_refl 8 };
 }
 
 impl Scalar for NonZeroU128 {
@@ -129,6 +173,16 @@ impl SameParts<Alone<NonZeroU128>> for NonZeroU128 {
     ghost same_parts = { λ v w e. e };
 }
 
+impl ConstantCharge for Alone<NonZeroU128> {
+    ghost cost = { 16 };
+
+    ghost peak = { 16 };
+
+    ghost costs = { λ s. map-costs 16 16 _ _ (not_zero-costs _ U128 16 _ (unsigned-costs U128 16 s)) };
+
+    ghost cost_fits = { le_refl 16 };
+}
+
 impl Scalar for NonZeroUsize {
     ghost form = { unsigned_not_zero non_zero_usize_get Usize 8 };
 
@@ -149,6 +203,16 @@ impl Parted for NonZeroUsize {
 
 impl SameParts<Alone<NonZeroUsize>> for NonZeroUsize {
     ghost same_parts = { λ v w e. e };
+}
+
+impl ConstantCharge for Alone<NonZeroUsize> {
+    ghost cost = { 8 };
+
+    ghost peak = { 8 };
+
+    ghost costs = { λ s. map-costs 8 8 _ _ (not_zero-costs _ Usize 8 _ (unsigned-costs Usize 8 s)) };
+
+    ghost cost_fits = { le_refl 8 };
 }
 
 impl Scalar for NonZeroI8 {
@@ -173,6 +237,16 @@ impl SameParts<Alone<NonZeroI8>> for NonZeroI8 {
     ghost same_parts = { λ v w e. e };
 }
 
+impl ConstantCharge for Alone<NonZeroI8> {
+    ghost cost = { 1 };
+
+    ghost peak = { 1 };
+
+    ghost costs = { λ s. map-costs 1 1 _ _ (not_zero-costs _ I8 1 _ signed_byte-costs) };
+
+    ghost cost_fits = { le_refl 1 };
+}
+
 impl Scalar for NonZeroI16 {
     ghost form = { signed_not_zero non_zero_i16_get I16 w16 };
 
@@ -193,6 +267,16 @@ impl Parted for NonZeroI16 {
 
 impl SameParts<Alone<NonZeroI16>> for NonZeroI16 {
     ghost same_parts = { λ v w e. e };
+}
+
+impl ConstantCharge for Alone<NonZeroI16> {
+    ghost cost = { 2 };
+
+    ghost peak = { 2 };
+
+    ghost costs = { λ s. map-costs 2 2 _ _ (not_zero-costs _ I16 2 _ (signed-costs I16 2 s)) };
+
+    ghost cost_fits = { le_refl 2 };
 }
 
 impl Scalar for NonZeroI32 {
@@ -217,6 +301,16 @@ impl SameParts<Alone<NonZeroI32>> for NonZeroI32 {
     ghost same_parts = { λ v w e. e };
 }
 
+impl ConstantCharge for Alone<NonZeroI32> {
+    ghost cost = { 4 };
+
+    ghost peak = { 4 };
+
+    ghost costs = { λ s. map-costs 4 4 _ _ (not_zero-costs _ I32 4 _ (signed-costs I32 4 s)) };
+
+    ghost cost_fits = { le_refl 4 };
+}
+
 impl Scalar for NonZeroI64 {
     ghost form = { signed_not_zero non_zero_i64_get I64 w64 };
 
@@ -237,6 +331,16 @@ impl Parted for NonZeroI64 {
 
 impl SameParts<Alone<NonZeroI64>> for NonZeroI64 {
     ghost same_parts = { λ v w e. e };
+}
+
+impl ConstantCharge for Alone<NonZeroI64> {
+    ghost cost = { 8 };
+
+    ghost peak = { 8 };
+
+    ghost costs = { λ s. map-costs 8 8 _ _ (not_zero-costs _ I64 8 _ (signed-costs I64 8 s)) };
+
+    ghost cost_fits = { le_refl 8 };
 }
 
 impl Scalar for NonZeroI128 {
@@ -261,6 +365,16 @@ impl SameParts<Alone<NonZeroI128>> for NonZeroI128 {
     ghost same_parts = { λ v w e. e };
 }
 
+impl ConstantCharge for Alone<NonZeroI128> {
+    ghost cost = { 16 };
+
+    ghost peak = { 16 };
+
+    ghost costs = { λ s. map-costs 16 16 _ _ (not_zero-costs _ I128 16 _ (signed-costs I128 16 s)) };
+
+    ghost cost_fits = { le_refl 16 };
+}
+
 impl Scalar for NonZeroIsize {
     ghost form = { signed_not_zero non_zero_isize_get Isize w64 };
 
@@ -281,4 +395,14 @@ impl Parted for NonZeroIsize {
 
 impl SameParts<Alone<NonZeroIsize>> for NonZeroIsize {
     ghost same_parts = { λ v w e. e };
+}
+
+impl ConstantCharge for Alone<NonZeroIsize> {
+    ghost cost = { 8 };
+
+    ghost peak = { 8 };
+
+    ghost costs = { λ s. map-costs 8 8 _ _ (not_zero-costs _ Isize 8 _ (signed-costs Isize 8 s)) };
+
+    ghost cost_fits = { le_refl 8 };
 }

@@ -1,14 +1,19 @@
 //! The words of integers.
 ghost use Rattle.std.specs.Prelude.{refl};
 ghost use Rattle.std.specs.Int.{w16, w32, w64, w128};
+ghost use Rattle.std.proofs.Common.{le_refl};
 ghost use Rattle.bincode_base.specs.declared.error.IntegerType.TheVariants.{U16, U32, U64, U128, Usize, I16, I32, I64};
 ghost use Rattle.bincode_base.specs.declared.error.IntegerType.TheVariants.{I128, Isize};
 ghost use Rattle.bincode_format.specs.Integers.{Two, Four, Eight, Sixteen};
 ghost use Rattle.bincode_laws.specs.AllowedLaws.{number-same, integer-same};
 ghost use Rattle.bincode_format.specs.Forms.{bytes, unsigned_numbers, signed_bytes, signed_numbers};
+ghost use Rattle.bincode_format.specs.Integers.{unsigned, signed, unsigned_byte, signed_byte};
+ghost use Rattle.bincode_laws.specs.CostLaws.{map-costs, unsigned-costs, signed-costs, unsigned_byte-costs};
+ghost use Rattle.bincode_laws.specs.CostLaws.{signed_byte-costs};
 ghost use Rattle.bincode_laws.specs.FormLaws.{bytes-laws, unsigned_numbers-laws};
 ghost use Rattle.bincode_laws.specs.FormLaws.{signed_bytes-laws, signed_numbers-laws};
 
+use crate::laws::ConstantCharge;
 use crate::parted::{Parted, SameParts};
 use crate::scalars::{Alone, Scalar};
 
@@ -34,6 +39,16 @@ impl SameParts<Alone<u8>> for u8 {
     ghost same_parts = { λ v w e. e };
 }
 
+impl ConstantCharge for Alone<u8> {
+    ghost cost = { 1 };
+
+    ghost peak = { 1 };
+
+    ghost costs = { λ s. map-costs 1 1 _ (unsigned_byte) unsigned_byte-costs };
+
+    ghost cost_fits = { le_refl 1 };
+}
+
 impl Scalar for u16 {
     ghost form = { unsigned_numbers U16 2 };
 
@@ -54,6 +69,16 @@ impl Parted for u16 {
 
 impl SameParts<Alone<u16>> for u16 {
     ghost same_parts = { λ v w e. e };
+}
+
+impl ConstantCharge for Alone<u16> {
+    ghost cost = { 2 };
+
+    ghost peak = { 2 };
+
+    ghost costs = { λ s. map-costs 2 2 _ (unsigned U16 2 s) (unsigned-costs U16 2 s) };
+
+    ghost cost_fits = { le_refl 2 };
 }
 
 impl Scalar for u32 {
@@ -78,6 +103,16 @@ impl SameParts<Alone<u32>> for u32 {
     ghost same_parts = { λ v w e. e };
 }
 
+impl ConstantCharge for Alone<u32> {
+    ghost cost = { 4 };
+
+    ghost peak = { 4 };
+
+    ghost costs = { λ s. map-costs 4 4 _ (unsigned U32 4 s) (unsigned-costs U32 4 s) };
+
+    ghost cost_fits = { le_refl 4 };
+}
+
 impl Scalar for u64 {
     ghost form = { unsigned_numbers U64 8 };
 
@@ -98,6 +133,16 @@ impl Parted for u64 {
 
 impl SameParts<Alone<u64>> for u64 {
     ghost same_parts = { λ v w e. e };
+}
+
+impl ConstantCharge for Alone<u64> {
+    ghost cost = { 8 };
+
+    ghost peak = { 8 };
+
+    ghost costs = { λ s. map-costs 8 8 _ (unsigned U64 8 s) (unsigned-costs U64 8 s) };
+
+    ghost cost_fits = { le_refl 8 };
 }
 
 impl Scalar for u128 {
@@ -122,6 +167,16 @@ impl SameParts<Alone<u128>> for u128 {
     ghost same_parts = { λ v w e. e };
 }
 
+impl ConstantCharge for Alone<u128> {
+    ghost cost = { 16 };
+
+    ghost peak = { 16 };
+
+    ghost costs = { λ s. map-costs 16 16 _ (unsigned U128 16 s) (unsigned-costs U128 16 s) };
+
+    ghost cost_fits = { le_refl 16 };
+}
+
 impl Scalar for usize {
     ghost form = { unsigned_numbers Usize 8 };
 
@@ -142,6 +197,16 @@ impl Parted for usize {
 
 impl SameParts<Alone<usize>> for usize {
     ghost same_parts = { λ v w e. e };
+}
+
+impl ConstantCharge for Alone<usize> {
+    ghost cost = { 8 };
+
+    ghost peak = { 8 };
+
+    ghost costs = { λ s. map-costs 8 8 _ (unsigned Usize 8 s) (unsigned-costs Usize 8 s) };
+
+    ghost cost_fits = { le_refl 8 };
 }
 
 impl Scalar for i8 {
@@ -166,6 +231,16 @@ impl SameParts<Alone<i8>> for i8 {
     ghost same_parts = { λ v w e. e };
 }
 
+impl ConstantCharge for Alone<i8> {
+    ghost cost = { 1 };
+
+    ghost peak = { 1 };
+
+    ghost costs = { λ s. map-costs 1 1 _ (signed_byte) signed_byte-costs };
+
+    ghost cost_fits = { le_refl 1 };
+}
+
 impl Scalar for i16 {
     ghost form = { signed_numbers I16 w16 };
 
@@ -186,6 +261,16 @@ impl Parted for i16 {
 
 impl SameParts<Alone<i16>> for i16 {
     ghost same_parts = { λ v w e. e };
+}
+
+impl ConstantCharge for Alone<i16> {
+    ghost cost = { 2 };
+
+    ghost peak = { 2 };
+
+    ghost costs = { λ s. map-costs 2 2 _ (signed I16 2 s) (signed-costs I16 2 s) };
+
+    ghost cost_fits = { le_refl 2 };
 }
 
 impl Scalar for i32 {
@@ -210,6 +295,16 @@ impl SameParts<Alone<i32>> for i32 {
     ghost same_parts = { λ v w e. e };
 }
 
+impl ConstantCharge for Alone<i32> {
+    ghost cost = { 4 };
+
+    ghost peak = { 4 };
+
+    ghost costs = { λ s. map-costs 4 4 _ (signed I32 4 s) (signed-costs I32 4 s) };
+
+    ghost cost_fits = { le_refl 4 };
+}
+
 impl Scalar for i64 {
     ghost form = { signed_numbers I64 w64 };
 
@@ -230,6 +325,16 @@ impl Parted for i64 {
 
 impl SameParts<Alone<i64>> for i64 {
     ghost same_parts = { λ v w e. e };
+}
+
+impl ConstantCharge for Alone<i64> {
+    ghost cost = { 8 };
+
+    ghost peak = { 8 };
+
+    ghost costs = { λ s. map-costs 8 8 _ (signed I64 8 s) (signed-costs I64 8 s) };
+
+    ghost cost_fits = { le_refl 8 };
 }
 
 impl Scalar for i128 {
@@ -254,6 +359,16 @@ impl SameParts<Alone<i128>> for i128 {
     ghost same_parts = { λ v w e. e };
 }
 
+impl ConstantCharge for Alone<i128> {
+    ghost cost = { 16 };
+
+    ghost peak = { 16 };
+
+    ghost costs = { λ s. map-costs 16 16 _ (signed I128 16 s) (signed-costs I128 16 s) };
+
+    ghost cost_fits = { le_refl 16 };
+}
+
 impl Scalar for isize {
     ghost form = { signed_numbers Isize w64 };
 
@@ -274,4 +389,14 @@ impl Parted for isize {
 
 impl SameParts<Alone<isize>> for isize {
     ghost same_parts = { λ v w e. e };
+}
+
+impl ConstantCharge for Alone<isize> {
+    ghost cost = { 8 };
+
+    ghost peak = { 8 };
+
+    ghost costs = { λ s. map-costs 8 8 _ (signed Isize 8 s) (signed-costs Isize 8 s) };
+
+    ghost cost_fits = { le_refl 8 };
 }

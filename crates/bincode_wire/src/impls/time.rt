@@ -6,10 +6,12 @@ ghost use Rattle.bincode_format.specs.Words.{second_in_nanos, duration};
 ghost use Rattle.bincode_wire.specs.Durations.{secs_of, nanos_of};
 ghost use Rattle.bincode_laws.specs.AllowedLaws.{both-one_length, same-one_length};
 ghost use Rattle.bincode_laws.specs.SpelledLaws.{unsigned-spelled};
+ghost use Rattle.std.proofs.Common.{le_refl};
+ghost use Rattle.bincode_laws.specs.CostLaws.{duration-costs};
 ghost use Rattle.bincode_laws.specs.DurationLaws.{duration-lawful, duration-balanced, duration-some_word};
 ghost use Rattle.bincode_laws.specs.DurationLaws.{duration-has_word, allowed-duration, nanos-fit, span-same};
 
-use crate::laws::{Exact, Inhabited, Plain, Writable};
+use crate::laws::{ConstantCharge, Exact, Inhabited, Plain, Writable};
 use crate::own::time::Duration;
 use crate::wire::Wire;
 
@@ -64,4 +66,14 @@ impl Exact for Duration {
     ghost one_value = { λ v w m h k. span-same (secs_of v) (nanos_of v) (secs_of w) (nanos_of w) m };
 
     ghost comes_back = { λ v w m h. span-same (secs_of v) (nanos_of v) (secs_of w) (nanos_of w) m };
+}
+
+impl ConstantCharge for Duration {
+    ghost cost = { 12 };
+
+    ghost peak = { 12 };
+
+    ghost costs = { duration-costs };
+
+    ghost cost_fits = { le_refl 12 };
 }

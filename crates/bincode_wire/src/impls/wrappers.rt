@@ -2,7 +2,7 @@
 ghost use Rattle.std.specs.Cow.{cow_value};
 ghost use Rattle.std.specs.Arc.{arc_value};
 
-use crate::laws::{Canonical, Exact, Inhabited, Plain, Writable};
+use crate::laws::{Canonical, ConstantCharge, Exact, Inhabited, Plain, Writable};
 use crate::parted::{Parted, SameParts};
 use crate::scalars::Scalar;
 use crate::wire::Wire;
@@ -103,6 +103,16 @@ impl<T: Exact> Exact for Pointed<T> {
 
 impl<T: Canonical> Canonical for Pointed<T> {
     ghost shortest = { λ s v w. T.shortest s v.to w.to };
+}
+
+impl<T: ConstantCharge> ConstantCharge for Pointed<T> {
+    ghost cost = { T.cost };
+
+    ghost peak = { T.peak };
+
+    ghost costs = { T.costs };
+
+    ghost cost_fits = { T.cost_fits };
 }
 
 impl<T: Wire> Parted for &T {

@@ -1,0 +1,29 @@
+//! Lists of a user's own, which are filled item by item.
+ghost use Rattle.bincode_format.specs.Run.{IsListOf};
+ghost use Rattle.bincode_format.specs.Values.{Reads};
+ghost use Rattle.bincode_format.specs.Words.{list};
+
+use crate::decode::Decode;
+use crate::runs::ByDecode;
+use bincode_base::error::DecodeError;
+use bincode_decoder::decoder::Decoder;
+use bincode_values::collections;
+use bincode_values::collections::Collect;
+
+/// Reads a length and so many items, as `Vec<T>` does, and puts each into a list of one's own. The room of the items is
+/// claimed before the list is begun, and each one's share is released before it is read. Fails where the length can't be
+/// read, with `LimitExceeded` where the room passes the limit, with `Memory` where the list does, and where an item
+/// does. A fault leaves what was claimed.
+#[inline]
+pub fn decode_collection<
+    Context: Drop,
+    T: Decode<Context>,
+    K: Collect<Context, Item = T>,
+    D: Decoder<Context = Context>,
+>(decoder: &mut D) -> Result<K, DecodeError>
+    ensures { Reads D.told D.rest D.charge D.failures D.place D.C.bound D.R.ended D.R.device (Unit {0})
+        (list D.C.setting T.claim (T.format D.C.setting)) (λ m v. IsListOf (λ x n. T.given n x) (K.items v) m)
+        (D.charge decoder.old) result decoder.old decoder.new }
+{
+    collections::decode_collection::<Context, ByDecode<T>, K, D>(decoder)
+}

@@ -1,0 +1,21 @@
+//! Encoding of types whose values passed a test.
+ghost use Rattle.bincode_format.specs.Passed.{passed};
+ghost use Rattle.bincode_format.specs.Allowed.{AllowedWord};
+ghost use Rattle.bincode_format.specs.Encoding.{Encodes};
+
+use crate::encode::Encode;
+use bincode_base::error::EncodeError;
+use bincode_encoder::encoder::Encoder;
+use bincode_wire::passed::Tested;
+
+/// Writes a value that passed a test: what it holds. It does, fails and leaves what `Encode::encode` of that does.
+#[inline(always)]
+pub fn encode_passed<T: Tested, E: Encoder>(value: &T, encoder: &mut E) -> Result<(), EncodeError>
+where
+    T::Of: Encode,
+    ensures { Encodes E.W.adds E.W.refuses E.writer_of E.place (T.Of.writable E.C.setting (T.of value.now))
+        (AllowedWord (T.Of.means (T.of value.now)) (passed T.passes T.fault (T.Of.format E.C.setting))) T.Of.names
+        result encoder.old encoder.new }
+{
+    value.of().encode(encoder)
+}

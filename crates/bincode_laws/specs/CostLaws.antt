@@ -1,0 +1,349 @@
+-- What the words of a format charge, where all of them charge the same.
+use Rattle.std.specs.Prelude.{◌≡◌, ℕ, zero, suc, ◌+◌, ◌*◌, ◌≤◌, max, List, [], ◌∷◌, ◌++◌, refl, Option, Some, None, Result, Ok, Err}
+use Rattle.std.proofs.Common.{sym, ◌∙◌, ap, subst, arith}
+use Rattle.std.proofs.Math.Nat.{mul-le-mul_left}
+use Rattle.std.proofs.lemmas.List.{append-nil}
+use Rattle.bincode_format.specs.Answer.{Allows}
+use Rattle.bincode_format.specs.Fault.{Fault}
+use Rattle.bincode_format.specs.Charge.{Step, Charge, Reserve, Release, full, reserved, released, StaysWithin}
+use Rattle.bincode_format.specs.Format.{Format, done, refused, raw, step, ◌>>=◌, written_as, unsure, settled, map_format, charged, elements, sequence}
+use Rattle.bincode_base.specs.Setting.{Setting}
+use Rattle.bincode_base.specs.declared.config.Endianness.{Endianness}
+use Rattle.bincode_base.specs.declared.config.IntEncoding.{IntEncoding}
+use Rattle.bincode_base.specs.declared.config.IntEncoding.TheVariants.{Fixed, Variable}
+use Rattle.bincode_base.specs.declared.error.IntegerType.{IntegerType}
+use Rattle.bincode_base.specs.declared.error.IntegerType.TheVariants as integers
+use Rattle.bincode_format.specs.Integers.{digits, byte, first_of, FirstByte, Itself, Before, TooWide, first_byte, behind, varint, number_by, unsigned_tag, signed_tag}
+use Rattle.bincode_format.specs.Integers.{unsigned, signed, unsigned_byte, signed_byte, integer_by}
+use Rattle.bincode_format.specs.Limits.{Costs, FitsLimit}
+use Rattle.bincode_format.specs.Meaning.{Meaning, Nothing, Then, listed}
+use Rattle.bincode_format.specs.Number.{number_of, from_two_complement}
+use Rattle.bincode_format.specs.Words.{truth, truth_of, not_zero_by, not_zero_of, duration, duration_of, seconds_and_nanos, nothing, first_and, four_and, array}
+use Rattle.bincode_laws.specs.Balance.{reserved_append, released_append, FrontOfBoth, in_first, in_second, front_of_both}
+
+full_append : (s t : List Step) → full (s ++ t) ≡ full s + full t
+full_append [] t = omega arith
+full_append ((Charge n) ∷ s) t = omega (arith, full_append s t)
+full_append ((Reserve n) ∷ s) t = full_append s t
+full_append ((Release n) ∷ s) t = full_append s t
+
+-- the limit allows the steps of a word, where it allows the peak
+pub cost-within : {A : Type 0} (F : Format A) (peak cost : ℕ) → Costs peak cost F → (limit : Option ℕ) (charge : ℕ) → Allows limit (charge + peak) →
+    (word : List ℕ) (m : A) (s : List Step) → F.Word word m s → StaysWithin limit charge s
+cost-within F peak cost c None charge h word m s w = tt
+cost-within F peak cost c (Some limit) charge h word m s w = λ front back e. let p = c.stays word m s w front back e in omega arith
+
+-- where the limit allows the peak, the steps of all words stay within it
+pub cost-fits : (Means : Meaning → Type 0) (F : Format Meaning) (peak cost : ℕ) → Costs peak cost F → (limit : Option ℕ) → Allows limit peak → FitsLimit Means F limit
+cost-fits Means F peak cost c None h = λ word m s p w u. tt
+cost-fits Means F peak cost c (Some limit) h = λ word m s p w u front back e. let q = c.stays word m s u front back e in omega arith
+
+-- no steps
+stays_none : (peak : ℕ) (s front back : List Step) → s ≡ [] → s ≡ front ++ back → full front + reserved front ≤ peak + released front
+stays_none peak s [] back e h = omega arith
+stays_none peak s (x ∷ front) back e h = absurd (cc)
+
+pub done-costs : {A : Type 0} (a : A) → Costs 0 0 (done a)
+unfolding done
+done-costs a = record {
+  charges = λ word m s w. ap full w.2;
+  evens = λ word m s w. ap reserved w.2 ∙ sym (ap released w.2);
+  stays = λ word m s w front back e. stays_none 0 s front back w.2 e;
+}
+
+pub refused-costs : {A : Type 0} (peak cost : ℕ) (why : Fault) → Costs peak cost (refused {A = A} why)
+unfolding refused
+refused-costs peak cost why = record { charges = λ word m s w. absurd w; evens = λ word m s w. absurd w; stays = λ word m s w. absurd w }
+
+pub raw-costs : (n : ℕ) → Costs 0 0 (raw n)
+unfolding raw
+raw-costs n = record {
+  charges = λ word m s w. ap full w.2;
+  evens = λ word m s w. ap reserved w.2 ∙ sym (ap released w.2);
+  stays = λ word m s w front back e. stays_none 0 s front back w.2 e;
+}
+
+stays_charge : (n : ℕ) (s front back : List Step) → s ≡ Charge n ∷ [] → s ≡ front ++ back → full front + reserved front ≤ n + released front
+stays_charge n s [] back e h = omega arith
+stays_charge n s (x ∷ []) back e h = let p : x ≡ Charge n = cc in rw p (omega arith)
+stays_charge n s (x ∷ (y ∷ front)) back e h = absurd (cc)
+
+pub charge-costs : (n : ℕ) → Costs n n (step (Charge n))
+unfolding step
+charge-costs n = record {
+  charges = λ word m s w. ap full w.1 ∙ (omega arith);
+  evens = λ word m s w. ap reserved w.1 ∙ sym (ap released w.1);
+  stays = λ word m s w front back e. stays_charge n s front back w.1 e;
+}
+
+pub rewritten-costs : {A : Type 0} (peak cost : ℕ) (Chosen : List ℕ → A → Type 0) (F : Format A) → Costs peak cost F → Costs peak cost (written_as Chosen F)
+unfolding written_as
+rewritten-costs peak cost Chosen F c = record { charges = c.charges; evens = c.evens; stays = c.stays }
+
+pub unsure-costs : {A : Type 0} (peak cost : ℕ) (F : Format A) → Costs peak cost F → Costs peak cost (unsure F)
+unfolding unsure
+unsure-costs peak cost F c = record { charges = c.charges; evens = c.evens; stays = c.stays }
+
+stays_both : (peak p c q : ℕ) (s t front : List Step) → p ≤ peak → c + q ≤ peak → full s ≡ c → reserved s ≡ released s →
+    ((front back : List Step) → s ≡ front ++ back → full front + reserved front ≤ p + released front) →
+    ((front back : List Step) → t ≡ front ++ back → full front + reserved front ≤ q + released front) →
+    FrontOfBoth s t front → full front + reserved front ≤ peak + released front
+stays_both peak p c q s t front h k e f x y (in_first back i) = let a = x front back i in omega arith
+stays_both peak p c q s t front h k e f x y (in_second more back i j) =
+    let a = y more back j in
+    rw i (omega (arith, full_append s more, reserved_append s more, released_append s more))
+
+module _ {A B : Type 0} (F : Format A) (G : A → Format B) where
+  -- one and then another, within a peak that allows both
+  pub turn-costs : (peak p c q d : ℕ) → p ≤ peak → c + q ≤ peak → Costs p c F → ((a : A) → Costs q d (G a)) → Costs peak (c + d) (F >>= G)
+  unfolding ◌>>=◌
+  turn-costs peak p c q d h k f g = record {
+    charges = λ word m s w.
+        ap full w.steps_are ∙ full_append w.first_steps w.second_steps
+        ∙ ap (λ n. n + full w.second_steps) (f.charges w.first w.head w.first_steps w.first_word)
+        ∙ ap (λ n. c + n) ((g w.head).charges w.second m w.second_steps w.second_word);
+    evens = λ word m s w.
+        let x = f.evens w.first w.head w.first_steps w.first_word in
+        let y = (g w.head).evens w.second m w.second_steps w.second_word in
+        rw w.steps_are (omega (arith, reserved_append w.first_steps w.second_steps, released_append w.first_steps w.second_steps));
+    stays = λ word m s w front back e.
+        stays_both peak p c q w.first_steps w.second_steps front h k (f.charges w.first w.head w.first_steps w.first_word) (f.evens w.first w.head w.first_steps w.first_word)
+        (f.stays w.first w.head w.first_steps w.first_word) ((g w.head).stays w.second m w.second_steps w.second_word)
+        (front_of_both w.first_steps w.second_steps front back (sym w.steps_are ∙ e));
+  }
+
+-- a test or another meaning costs nothing
+none_costs : {A : Type 0} (r : Result A Fault) → Costs 0 0 (settled r)
+none_costs (Ok a) = done-costs a
+none_costs (Err why) = refused-costs 0 0 why
+
+module _ {A B : Type 0} (F : Format A) (G : A → Format B) (peak cost : ℕ) where
+  -- what is free may follow,
+  pub free-behind : Costs peak cost F → ((a : A) → Costs 0 0 (G a)) → Costs peak cost (F >>= G)
+  unfolding ◌>>=◌
+  free-behind f g = record {
+    charges = λ word m s w.
+        ap full w.steps_are ∙ full_append w.first_steps w.second_steps
+        ∙ ap (λ n. n + full w.second_steps) (f.charges w.first w.head w.first_steps w.first_word)
+        ∙ ap (λ n. cost + n) ((g w.head).charges w.second m w.second_steps w.second_word) ∙ (omega arith);
+    evens = λ word m s w.
+        let x = f.evens w.first w.head w.first_steps w.first_word in
+        let y = (g w.head).evens w.second m w.second_steps w.second_word in
+        rw w.steps_are (omega (arith, reserved_append w.first_steps w.second_steps, released_append w.first_steps w.second_steps));
+    stays = λ word m s w front back e.
+        let whole = f.stays w.first w.head w.first_steps w.first_word in
+        let even = f.evens w.first w.head w.first_steps w.first_word in
+        behind w.first_steps w.second_steps front whole even ((g w.head).stays w.second m w.second_steps w.second_word)
+        (front_of_both w.first_steps w.second_steps front back (sym w.steps_are ∙ e));
+  } where
+    behind : (s t front : List Step) → ((front back : List Step) → s ≡ front ++ back → full front + reserved front ≤ peak + released front) → reserved s ≡ released s →
+        ((front back : List Step) → t ≡ front ++ back → full front + reserved front ≤ 0 + released front) → FrontOfBoth s t front → full front + reserved front ≤ peak + released front
+    behind s t front x e y (in_first back i) = x front back i
+    behind s t front x e y (in_second more back i j) =
+        let a = y more back j in
+        let b = x s [] (sym (append-nil s)) in
+        rw i (omega (arith, full_append s more, reserved_append s more, released_append s more))
+
+  -- and come before
+  pub free-before : Costs 0 0 F → ((a : A) → Costs peak cost (G a)) → Costs peak cost (F >>= G)
+  free-before f g =
+      let e : 0 + cost ≡ cost = omega arith in
+      subst (λ n. Costs peak n (F >>= G)) e (turn-costs F G peak 0 0 peak cost (omega arith) (omega arith) f g)
+
+pub map-costs : {A B : Type 0} (peak cost : ℕ) (f : A → B) (F : Format A) → Costs peak cost F → Costs peak cost (map_format f F)
+map-costs peak cost f F c = free-behind F (λ a. done (f a)) peak cost c (λ a. done-costs (f a))
+
+pub test-costs : {A B : Type 0} (peak cost : ℕ) (F : Format A) (test : A → Result B Fault) → Costs peak cost F → Costs peak cost (F >>= λ a. settled (test a))
+test-costs peak cost F test c = free-behind F (λ a. settled (test a)) peak cost c (λ a. none_costs (test a))
+
+pub charged-costs : {A : Type 0} (n : ℕ) (F : Format A) → Costs 0 0 F → Costs n n (charged n F)
+charged-costs n F c = free-behind (step (Charge n)) (λ _. F) n n (charge-costs n) (λ _. c)
+
+-- numbers
+
+digits_cost : (order : Endianness) (width : ℕ) → Costs 0 0 (digits order width)
+unfolding digits
+digits_cost order width = rewritten-costs 0 0 _ _ (map-costs 0 0 (number_of order) (raw width) (raw-costs width))
+
+byte_costs : Costs 0 0 byte
+unfolding byte
+byte_costs = map-costs 0 0 first_of (raw 1) (raw-costs 1)
+
+behind_costs : (order : Endianness) (why : Fault) (first : ℕ) (b : FirstByte) → Costs 0 0 (behind order why first b)
+behind_costs order why first Itself = done-costs first
+behind_costs order why first (Before n) = digits_cost order n
+behind_costs order why first TooWide = refused-costs 0 0 why
+
+varint_costs : (tags : ℕ → IntegerType) (name : IntegerType) (order : Endianness) (width : ℕ) → Costs 0 0 (varint tags name order width)
+unfolding varint
+varint_costs tags name order width = rewritten-costs 0 0 _ _ (free-behind byte _ 0 0 byte_costs (λ first. behind_costs order _ first (first_byte width first)))
+
+number_costs : (tags : ℕ → IntegerType) (name : IntegerType) (order : Endianness) (width : ℕ) (e : IntEncoding) → Costs 0 0 (number_by tags name order width e)
+number_costs tags name order width Fixed = digits_cost order width
+number_costs tags name order width Variable = varint_costs tags name order width
+
+-- a number charges its full width
+pub unsigned-costs : (name : IntegerType) (width : ℕ) (s : Setting) → Costs width width (unsigned name width s)
+unfolding unsigned
+unsigned-costs name width s = charged-costs width _ (number_costs unsigned_tag name s.order width s.encoding)
+
+pub signed-costs : (name : IntegerType) (width : ℕ) (s : Setting) → Costs width width (signed name width s)
+unfolding signed
+signed-costs name width s = charged-costs width _ (map-costs 0 0 (integer_by width s.encoding) _ (number_costs signed_tag name s.order width s.encoding))
+
+pub unsigned_byte-costs : Costs 1 1 unsigned_byte
+unfolding unsigned_byte
+unsigned_byte-costs = charged-costs 1 byte byte_costs
+
+pub signed_byte-costs : Costs 1 1 signed_byte
+unfolding signed_byte
+signed_byte-costs = charged-costs 1 _ (map-costs 0 0 (from_two_complement 1) byte byte_costs)
+
+-- a truth value charges its byte,
+pub truth-costs : Costs 1 1 truth
+truth-costs = test-costs 1 1 unsigned_byte truth_of unsigned_byte-costs
+
+-- a number other than 0 what the number does,
+pub not_zero-costs : {A : Type 0} (size : A → ℕ) (name : IntegerType) (width : ℕ) (F : Format A) → Costs width width F → Costs width width (not_zero_by size name F)
+not_zero-costs size name width F c = test-costs width width F (λ a. not_zero_of name (size a) a) c
+
+-- a span of time its two numbers
+pub duration-costs : (s : Setting) → Costs 12 12 (duration s)
+duration-costs s =
+    rewritten-costs 12 12 _ _ (test-costs 12 12 (seconds_and_nanos s) (λ parts. duration_of parts.0 parts.1)
+    (turn-costs (unsigned integers.U64 8 s) _ 12 8 8 4 4 (omega arith) (omega arith) (unsigned-costs integers.U64 8 s)
+    (λ seconds. map-costs 4 4 (λ nanos. (seconds, nanos)) (unsigned integers.U32 4 s) (unsigned-costs integers.U32 4 s))))
+
+-- parts in order
+pub nothing-costs : Costs 0 0 nothing
+unfolding nothing
+nothing-costs = done-costs Nothing
+
+first_and_costs : (F others : Format Meaning) (peak p c q d : ℕ) → p ≤ peak → c + q ≤ peak → Costs p c F → Costs q d others → Costs peak (c + d) (first_and F others)
+unfolding first_and
+first_and_costs F others peak p c q d h k f g = turn-costs F _ peak p c q d h k f (λ m. map-costs q d (Then m) others g)
+
+pub then-costs : {F others : Format Meaning} {p c q d : ℕ} → Costs p c F → Costs q d others → Costs (max p (c + q)) (c + d) (first_and F others)
+then-costs {F} {others} {p} {c} {q} {d} f g = first_and_costs F others (max p (c + q)) p c q d (omega arith) (omega arith) f g
+
+pub four-costs : {F G H I others : Format Meaning} {p a q b r c s d t e : ℕ} → Costs p a F → Costs q b G → Costs r c H → Costs s d I → Costs t e others →
+    Costs (max p (a + max q (b + max r (c + max s (d + t))))) (a + (b + (c + (d + e)))) (four_and F G H I others)
+four-costs f g h i others = then-costs f (then-costs g (then-costs h (then-costs i others)))
+
+-- arrays
+
+-- The same of words that release what was held before: so much more than they reserve.
+record Frees (held peak cost : ℕ) {A : Type 0} (F : Format A) : Type 0 where
+  charges : (word : List ℕ) (m : A) (s : List Step) → F.Word word m s → full s ≡ cost
+  evens : (word : List ℕ) (m : A) (s : List Step) → F.Word word m s → reserved s + held ≡ released s
+  stays : (word : List ℕ) (m : A) (s : List Step) → F.Word word m s → (front back : List Step) → s ≡ front ++ back → full front + reserved front + held ≤ peak + released front
+
+costs_free : {A : Type 0} (held peak total cost : ℕ) (F : Format A) → held ≡ 0 → peak ≤ total → Costs peak cost F → Frees held total cost F
+costs_free held peak total cost F e k c = record {
+  charges = c.charges;
+  evens = λ word m s w. let p = c.evens word m s w in omega arith;
+  stays = λ word m s w front back i. let p = c.stays word m s w front back i in omega arith;
+}
+
+frees_cost : {A : Type 0} (peak cost : ℕ) (F : Format A) → Frees 0 peak cost F → Costs peak cost F
+frees_cost peak cost F c = record {
+  charges = c.charges;
+  evens = λ word m s w. let p = c.evens word m s w in omega arith;
+  stays = λ word m s w front back i. let p = c.stays word m s w front back i in omega arith;
+}
+
+stays_release : (n peak : ℕ) (s front back : List Step) → n ≤ peak → s ≡ Release n ∷ [] → s ≡ front ++ back → full front + reserved front + n ≤ peak + released front
+stays_release n peak s [] back k e h = omega arith
+stays_release n peak s (x ∷ []) back k e h = let p : x ≡ Release n = cc in rw p (omega arith)
+stays_release n peak s (x ∷ (y ∷ front)) back k e h = absurd (cc)
+
+release_frees : (n peak : ℕ) → n ≤ peak → Frees n peak 0 (step (Release n))
+unfolding step
+release_frees n peak k = record {
+  charges = λ word m s w. ap full w.1;
+  evens = λ word m s w. let e : reserved s ≡ 0 = ap reserved w.1 in let f : released s ≡ n + 0 = ap released w.1 in omega arith;
+  stays = λ word m s w front back e. stays_release n peak s front back k w.1 e;
+}
+
+frees_both : (peak h p c k q : ℕ) (s t front : List Step) → p + k ≤ peak → c + q ≤ peak → full s ≡ c → reserved s + h ≡ released s →
+    ((front back : List Step) → s ≡ front ++ back → full front + reserved front + h ≤ p + released front) →
+    ((front back : List Step) → t ≡ front ++ back → full front + reserved front + k ≤ q + released front) →
+    FrontOfBoth s t front → full front + reserved front + (h + k) ≤ peak + released front
+frees_both peak h p c k q s t front i j e f x y (in_first back o) = let a = x front back o in omega arith
+frees_both peak h p c k q s t front i j e f x y (in_second more back o r) =
+    let a = y more back r in
+    rw o (omega (arith, full_append s more, reserved_append s more, released_append s more))
+
+turn_frees : {A B : Type 0} (F : Format A) (G : A → Format B) (peak h p c k q d : ℕ) → p + k ≤ peak → c + q ≤ peak → Frees h p c F → ((a : A) → Frees k q d (G a)) → Frees (h + k) peak (c + d) (F >>= G)
+unfolding ◌>>=◌
+turn_frees F G peak h p c k q d i j f g = record {
+  charges = λ word m s w.
+      ap full w.steps_are ∙ full_append w.first_steps w.second_steps
+      ∙ ap (λ n. n + full w.second_steps) (f.charges w.first w.head w.first_steps w.first_word)
+      ∙ ap (λ n. c + n) ((g w.head).charges w.second m w.second_steps w.second_word);
+  evens = λ word m s w.
+      let x = f.evens w.first w.head w.first_steps w.first_word in
+      let y = (g w.head).evens w.second m w.second_steps w.second_word in
+      rw w.steps_are (omega (arith, reserved_append w.first_steps w.second_steps, released_append w.first_steps w.second_steps));
+  stays = λ word m s w front back e.
+      frees_both peak h p c k q w.first_steps w.second_steps front i j (f.charges w.first w.head w.first_steps w.first_word) (f.evens w.first w.head w.first_steps w.first_word)
+      (f.stays w.first w.head w.first_steps w.first_word) ((g w.head).stays w.second m w.second_steps w.second_word)
+      (front_of_both w.first_steps w.second_steps front back (sym w.steps_are ∙ e));
+}
+
+frees_as : {A : Type 0} (F : Format A) (h h' p c c' : ℕ) → h ≡ h' → c ≡ c' → Frees h p c F → Frees h' p c' F
+frees_as F h h' p c c' e f r = rw (← e, ← f) r
+
+module _ {A : Type 0} (F : Format A) (share p c most : ℕ) (f : Costs p c F) (share_fits : share ≤ most) (peak_fits : p ≤ most) (cost_fits : c ≤ most) where
+  elements_free : (n : ℕ) → Frees (n * share) (n * most) (n * c) (elements n share F)
+  elements_free zero = frees_as (done []) 0 (zero * share) (zero * most) 0 (zero * c) (omega arith) (omega arith) (costs_free 0 0 (zero * most) 0 (done []) refl (omega arith) (done-costs []))
+  elements_free (suc n) =
+      let held : suc n * share ≡ n * share + share = omega arith in
+      let peak : suc n * most ≡ n * most + most = omega arith in
+      let cost : suc n * c ≡ n * c + c = omega arith in
+      let room : n * share ≤ n * most = mul-le-mul_left n share_fits in
+      frees_as _ (share + (0 + (n * share + 0))) (suc n * share) (suc n * most) (0 + (c + (n * c + 0))) (suc n * c) (omega arith) (omega arith)
+      (turn_frees (step (Release share)) (λ _. unsure F >>= λ a. map_format (λ others. a ∷ others) (elements n share F))
+      (suc n * most) share share 0 (0 + (n * share + 0)) (suc n * most) (c + (n * c + 0)) (omega arith) (omega arith) (release_frees share share (omega arith))
+      (λ _. turn_frees (unsure F) (λ a. map_format (λ others. a ∷ others) (elements n share F))
+      (suc n * most) 0 p c (n * share + 0) (n * most) (n * c + 0) (omega arith) (omega arith) (costs_free 0 p p c (unsure F) refl (omega arith) (unsure-costs p c F f))
+      (λ a. turn_frees (elements n share F) (λ others. done (a ∷ others)) (n * most) (n * share) (n * most) (n * c) 0 0 0 (omega arith) (omega (arith, mul-le-mul_left n cost_fits))
+      (elements_free n) (λ others. costs_free 0 0 0 0 (done (a ∷ others)) refl (omega arith) (done-costs (a ∷ others))))))
+
+stays_behind : (k peak : ℕ) (s more front : List Step) → s ≡ Reserve k ∷ [] → full more + reserved more + k ≤ peak + released more → front ≡ s ++ more →
+    full front + reserved front ≤ peak + released front
+stays_behind k peak s more front e a i =
+    let b : reserved s ≡ k + 0 = ap reserved e in
+    let c : full s ≡ 0 = ap full e in
+    let d : released s ≡ 0 = ap released e in
+    rw i (omega (arith, full_append s more, reserved_append s more, released_append s more))
+
+sequence_stays : (k peak : ℕ) (s t front : List Step) → k ≤ peak → s ≡ Reserve k ∷ [] → ((front back : List Step) → t ≡ front ++ back → full front + reserved front + k ≤ peak + released front) →
+    FrontOfBoth s t front → full front + reserved front ≤ peak + released front
+sequence_stays k peak s t [] h e y f = omega arith
+sequence_stays k peak s t (x ∷ []) h e y (in_first back i) = let p : x ≡ Reserve k = cc in rw p (omega arith)
+sequence_stays k peak s t (x ∷ (z ∷ front)) h e y (in_first back i) = absurd (cc)
+sequence_stays k peak s t (x ∷ front) h e y (in_second more back i j) = stays_behind k peak s more (x ∷ front) e (y more back j) i
+
+reserve_costs : {A : Type 0} (k peak cost : ℕ) (F : Format A) → k ≤ peak → Frees k peak cost F → Costs peak cost (step (Reserve k) >>= λ _. F)
+unfolding ◌>>=◌ step
+reserve_costs k peak cost F h f = record {
+  charges = λ word m s w.
+      let a = f.charges w.second m w.second_steps w.second_word in
+      let b : full w.first_steps ≡ 0 = ap full w.first_word.1 in
+      rw w.steps_are (omega (arith, full_append w.first_steps w.second_steps));
+  evens = λ word m s w.
+      let a = f.evens w.second m w.second_steps w.second_word in
+      let b : reserved w.first_steps ≡ k + 0 = ap reserved w.first_word.1 in
+      let c : released w.first_steps ≡ 0 = ap released w.first_word.1 in
+      rw w.steps_are (omega (arith, reserved_append w.first_steps w.second_steps, released_append w.first_steps w.second_steps));
+  stays = λ word m s w front back e.
+      sequence_stays k peak w.first_steps w.second_steps front h w.first_word.1 (f.stays w.second m w.second_steps w.second_word)
+      (front_of_both w.first_steps w.second_steps front back (sym w.steps_are ∙ e));
+}
+
+-- n elements charge n times what one does; of their room and what they charge no more than n times the greater is held at once
+pub array-costs : (F : Format Meaning) (n share peak cost most : ℕ) → share ≤ most → peak ≤ most → cost ≤ most → Costs peak cost F → Costs (n * most) (n * cost) (array n share F)
+array-costs F n share peak cost most h i j f =
+    map-costs (n * most) (n * cost) listed (sequence n share F)
+    (reserve_costs (n * share) (n * most) (n * cost) (elements n share F) (mul-le-mul_left n h) (elements_free F share peak cost most f h i j n))

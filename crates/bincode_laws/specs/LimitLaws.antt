@@ -1,0 +1,56 @@
+-- What another limit changes, and what is read back within one.
+use Rattle.std.specs.Prelude.{◌≡◌, ℕ, List, length, drop, Option, Some, None, Result, Ok, Err, IfOk, MatchResult}
+use Rattle.std.proofs.Common.{sym, ◌∙◌, ap, subst, arith}
+use Rattle.bincode_base.specs.declared.error.DecodeError.{DecodeError}
+use Rattle.bincode_format.specs.Allowed.{AllowedWord}
+use Rattle.bincode_format.specs.Answer.{Gave, answer}
+use Rattle.bincode_format.specs.Charge.{Step, StaysWithin}
+use Rattle.bincode_format.specs.Decoding.{IsRefused}
+use Rattle.bincode_format.specs.Format.{Format}
+use Rattle.bincode_format.specs.Laws.{Lawful, Balanced}
+use Rattle.bincode_format.specs.Limits.{NoTighter, FitsLimit}
+use Rattle.bincode_format.specs.Meaning.{Meaning}
+use Rattle.bincode_format.specs.Slice.{WordWritten, Decoded, FindsWords}
+use Rattle.bincode_laws.specs.AnswerLaws.{counted_after, gave-word, word-gave}
+use Rattle.bincode_laws.specs.FormatLaws.{one-word}
+
+-- what stays within a limit stays within each larger one, and where there is none
+pub within-larger : (small large : Option ℕ) (charge : ℕ) (steps : List Step) → NoTighter small large → StaysWithin small charge steps → StaysWithin large charge steps
+within-larger small None charge steps h w = tt
+within-larger None (Some large) charge steps h w = absurd h
+within-larger (Some small) (Some large) charge steps h w = λ front back e. let p = w front back e in omega arith
+
+-- Where a limit lets a decode succeed, each larger limit and none give the same meaning and the same rest.
+pub larger-gives : {A : Type 0} (F : Format A) (f : Lawful F) (b : Balanced F) (small large : Option ℕ) → NoTighter small large → (input rest : List ℕ) (m : A) (charge : ℕ) →
+    answer small F input 0 ≡ Gave m rest charge → (after : ℕ) × (answer large F input 0 ≡ Gave m rest after)
+larger-gives F f b small large h input rest m charge g =
+    let w = gave-word F f b small input rest m charge g in
+    let e = word-gave F f b large w.word rest m w.steps 0 w.is_word (within-larger small large 0 w.steps h w.within) in
+    (counted_after large 0 w.steps, ap (λ z. answer large F z 0) w.input_is ∙ e)
+
+-- The same of the calls that decode: what was decoded within a limit is decoded within each larger one, to a value that is
+-- given for the same meaning, of as many bytes, unless memory is refused.
+pub larger-decodes : {A : Type 0} (F : Format Meaning) (f : Lawful F) (small large : Option ℕ) → NoTighter small large → (input : List ℕ) (Given : Meaning → A → Type 0) (a : A) (n : ℕ) →
+    Decoded F small input (λ m. Given m a) n → (Grows : Type 0) (result : Result (A × ℕ) DecodeError) → IfOk result (λ x. Decoded F large input (λ m. Given m x.0) x.1) →
+    FindsWords F large Grows input result → MatchResult result (λ x. ((m : Meaning) × Given m a × Given m x.0) × (x.1 ≡ n)) (IsRefused Grows)
+larger-decodes F f small large h input Given a n d Grows (Ok x) e found =
+    let one = one-word f d.word e.word d.rest e.rest d.meaning e.meaning d.steps e.steps d.is_word e.is_word (sym d.input_is ∙ e.input_is) in
+    ((d.meaning, d.is_given, subst (λ m. Given m x.0) (sym one.1) e.is_given), e.count ∙ ap length (sym one.0) ∙ sym d.count)
+larger-decodes F f small large h input Given a n d Grows (Err e) g found =
+    found d.word d.rest d.meaning d.steps d.input_is d.is_word (within-larger small large 0 d.steps h d.within)
+
+module _ {A : Type 0} (F : Format Meaning) (f : Lawful F) (limit : Option ℕ) (Means : Meaning → Type 0)
+    (Given : Meaning → A → Type 0) (Same : A → Type 0) (same : (a : A) (m : Meaning) → Means m → Given m a → Same a) where
+  -- What was written is read back under each limit that its steps stay within: an equal value, of as many bytes, whatever
+  -- follows them, unless memory is refused.
+  pub read-back : (n : ℕ) (old new : List ℕ) → WordWritten (AllowedWord Means F) n old new →
+      FitsLimit Means F limit →
+      (Grows : Type 0) (result : Result (A × ℕ) DecodeError) → IfOk result (λ x. Decoded F limit new (λ m. Given m x.0) x.1) →
+      FindsWords F limit Grows new result → MatchResult result (λ x. Same x.0 × (x.1 ≡ n)) (IsRefused Grows)
+  read-back n old new w within Grows (Ok x) d found =
+      let u = f.written_is_word w.word w.is_allowed.meaning w.is_allowed.is_written in
+      let one = one-word f w.word d.word (drop (length w.word) old) d.rest w.is_allowed.meaning d.meaning u.0 d.steps u.1 d.is_word (sym w.fills ∙ d.input_is) in
+      (same x.0 w.is_allowed.meaning w.is_allowed.is_meant (subst (λ m. Given m x.0) (sym one.1) d.is_given), d.count ∙ ap length (sym one.0) ∙ sym w.count)
+  read-back n old new w within Grows (Err e) d found =
+      let u = f.written_is_word w.word w.is_allowed.meaning w.is_allowed.is_written in
+      found w.word (drop (length w.word) old) w.is_allowed.meaning u.0 w.fills u.1 (within w.word w.is_allowed.meaning u.0 w.is_allowed.is_meant w.is_allowed.is_written u.1)

@@ -1,0 +1,68 @@
+//! Decoding with a context, and from a reader.
+
+use bincode::de::read::SliceReader;
+use bincode::de::{Decode, Decoder, DecoderImpl, LendInContext};
+use bincode::error::DecodeError;
+use bincode::{config, decode_from_reader, decode_from_slice_with_context};
+use std::process::Abort;
+
+#[test]
+fn reads_in_turn(rt: HostRuntime) {
+    let mut reader = SliceReader::new(&[251, 44, 1, 7, 9]);
+    let first: Result<u32, DecodeError> = decode_from_reader(
+        rt.alloc(),
+        &mut reader,
+        config::standard(),
+    );
+    assert!(&rt; matches!(first, Ok(300)));
+    let next: Result<u8, DecodeError> = decode_from_reader(
+        rt.alloc(),
+        &mut reader,
+        config::standard(),
+    );
+    assert!(&rt; matches!(next, Ok(7)));
+    assert!(&rt; reader.bytes_left() == 1);
+}
+
+#[test]
+fn decodes_with_a_context(rt: HostRuntime) {
+    let decoded: Result<((u32, u8), usize), DecodeError> = decode_from_slice_with_context(
+        rt.alloc(),
+        &[251, 44, 1, 7, 9],
+        config::standard(),
+        5u16,
+    );
+    assert!(&rt; matches!(decoded, Ok(((300, 7), 4))));
+}
+
+/// A number is read, and the context is this one, which is then another.
+fn reads_in_context<D: Decoder<Context = u8>>(rt: &impl Abort, decoder: &mut D, context: u8) {
+    assert!(rt; matches!(u32::decode(decoder), Ok(300)));
+    assert!(rt; *decoder.context() == context);
+    *decoder.context() = 1;
+}
+
+/// The lender has its own context again, and the charge of what was read.
+fn has_read_four_of_five<D: Decoder<Context = u8>>(rt: &impl Abort, decoder: &mut D) {
+    assert!(rt; *decoder.context() == 8);
+    assert!(rt; matches!(u8::decode(decoder), Ok(7)));
+    assert!(rt; matches!(u8::decode(decoder), Err(DecodeError::LimitExceeded)));
+}
+
+/// The decoder is lent with the context 3.
+fn lends_with_three<D: Decoder<Context = u8>>(rt: &impl Abort, decoder: &mut D) {
+    reads_in_context(rt, &mut decoder.with_context(3u8), 3);
+}
+
+#[test]
+fn lends_in_context(rt: HostRuntime) {
+    let reader = SliceReader::new(&[251, 44, 1, 7, 9]);
+    let mut decoder = DecoderImpl::new(
+        rt.alloc(),
+        reader,
+        config::standard().with_limit::<5>(),
+        8u8,
+    );
+    lends_with_three(&rt, &mut decoder);
+    has_read_four_of_five(&rt, &mut decoder);
+}

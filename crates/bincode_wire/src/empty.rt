@@ -1,0 +1,59 @@
+//! What enums without variants are written as.
+ghost use Rattle.bincode_format.specs.Fault.{EmptyEnum};
+ghost use Rattle.bincode_format.specs.Format.{refused};
+ghost use Rattle.bincode_laws.specs.FormatLaws.{refused-lawful};
+ghost use Rattle.bincode_laws.specs.Balance.{refused-holds};
+
+use crate::laws::{Canonical, Plain, Writable};
+use crate::wire::Wire;
+use std::convert::Infallible;
+use std::marker::PhantomData;
+
+/// What the enum `Of` without variants is written as. It has no values and no words, and every input has the fault that
+/// says so.
+#[derive(Drop)]
+pub struct NoVariants<Of>(Infallible, PhantomData<Of>);
+
+impl<Of> Wire for NoVariants<Of> {
+    ghost format = { λ s. refused EmptyEnum };
+
+    ghost valid = { λ v. ⊥ };
+
+    ghost means = { λ v m. ⊥ };
+
+    ghost given = { λ m v. ⊥ };
+
+    ghost writable = { λ s v. ⊥ };
+
+    ghost names = { λ e. ⊥ };
+
+    ghost grows = { ⊥ };
+
+    ghost claim = { 1 };
+
+    fn claim_size() -> usize {
+        1
+    }
+
+    ghost lawful = { λ s. refused-lawful EmptyEnum (λ h. h) };
+
+    ghost balanced = { λ s. refused-holds 0 0 EmptyEnum };
+
+    ghost has_word = { λ s v h w. absurd h };
+
+    ghost names_own = { λ e h. absurd h };
+}
+
+impl<Of> Writable for NoVariants<Of> {
+    ghost always_writable = { λ s v h. absurd h };
+}
+
+impl<Of> Plain for NoVariants<Of> {
+    ghost one_length = { λ s v h. absurd h };
+
+    ghost names_none = { λ e h. h };
+}
+
+impl<Of> Canonical for NoVariants<Of> {
+    ghost shortest = { λ s v w h. absurd h };
+}

@@ -1,0 +1,129 @@
+//! Types whose values are those of another type that passed a test.
+ghost use Rattle.std.specs.Prelude.{◌≡◌, Bool, true, is_ok, IfOk, IfErr};
+ghost use Rattle.std.proofs.Common.{rules};
+ghost use Rattle.std.specs.Cmp.Rules.{comparing};
+ghost use Rattle.bincode_format.specs.Fault.{Fault, IsEnd};
+ghost use Rattle.bincode_format.specs.Meaning.{Meaning};
+ghost use Rattle.bincode_format.specs.Passed.{passed, TellsOwn};
+ghost use Rattle.bincode_laws.specs.PassedLaws.{passed-lawful, passed-balanced, passed-has_word};
+ghost use Rattle.bincode_laws.specs.PassedLaws.{passed-one_length, passed-shortest};
+
+use crate::laws::{Canonical, Exact, Plain, Writable};
+use crate::wire::Wire;
+use bincode_base::error::DecodeError;
+
+/// A type whose values hold one of another type that passed a test, as an even number does. Its words are those of the
+/// other type, and those that mean what fails the test have one fault, which the type names. `Passed` of it is what it
+/// is written as.
+pub trait Tested: Sized {
+    /// The type that is tested.
+    type Of: Wire;
+
+    /// The value that a value holds.
+    ghost of: { Self → Self.Of };
+
+    /// The test, of what was read.
+    ghost passes: { Meaning → Bool };
+
+    /// The fault of what fails it.
+    ghost fault: { Fault };
+
+    /// The value that it holds.
+    fn of(&self) -> &Self::Of
+        ensures { result.now ≡ of self.now };
+
+    /// Tests a value, and holds it. Fails with the error that tells the type's fault, exactly where the test fails what
+    /// the value is given for.
+    fn test(value: Self::Of) -> Result<Self, DecodeError>
+        ensures holds { IfOk result (λ v. of v ≡ value) }
+        ensures passes { (m : Meaning) → Self.Of.given m value → passes m ≡ is_ok result }
+        ensures tells { IfErr result (TellsOwn fault) };
+
+    /// Each value passes the test, whatever it means.
+    ghost each_passes: { (v : Self) (m : Meaning) → Self.Of.means (of v) m → passes m ≡ true };
+
+    /// The fault is no early end of the input: that one is told by what more bytes would mend.
+    ghost is_no_end: { ¬ (IsEnd fault) };
+}
+
+/// A value of a type that passed its test, in place of what it holds: what a `Tested` type is written as.
+#[derive(Drop)]
+pub struct Passed<T>(pub T);
+
+impl<T: Tested> PartialEq for Passed<T>
+where
+    T::Of: PartialEq,
+{
+    ghost eq = { λ v w. T.Of.eq (T.of v.0) (T.of w.0) };
+
+    ghost laws = { Prim.search (comparing, rules) };
+
+    fn eq(&self, other: &Passed<T>) -> bool {
+        self.0.of() == other.0.of()
+    }
+}
+
+impl<T: Tested> Wire for Passed<T> {
+    ghost format = { λ s. passed T.passes T.fault (T.Of.format s) };
+
+    ghost valid = { λ v. T.Of.valid (T.of v.0) };
+
+    ghost means = { λ v. T.Of.means (T.of v.0) };
+
+    ghost given = { λ m v. T.Of.given m (T.of v.0) × (T.passes m ≡ true) };
+
+    ghost writable = { λ s v. T.Of.writable s (T.of v.0) };
+
+    ghost names = { T.Of.names };
+
+    ghost grows = { T.Of.grows };
+
+    ghost claim = { T.Of.claim };
+
+    fn claim_size() -> usize {
+        T::Of::claim_size()
+    }
+
+    ghost lawful = { λ s. passed-lawful T.passes T.fault (T.Of.format s) T.is_no_end (T.Of.lawful s) };
+
+    ghost balanced = { λ s. passed-balanced T.passes T.fault (T.Of.format s) (T.Of.balanced s) };
+
+    ghost has_word = { λ s v h w. passed-has_word T.passes T.fault (T.Of.format s) (T.Of.means (T.of v.0))
+        (T.each_passes v.0) (T.Of.has_word s (T.of v.0) h w) };
+
+    ghost names_own = { T.Of.names_own };
+}
+
+impl<T: Tested> Writable for Passed<T>
+where
+    T::Of: Writable,
+{
+    ghost always_writable = { λ s v. T.Of.always_writable s (T.of v.0) };
+}
+
+impl<T: Tested> Plain for Passed<T>
+where
+    T::Of: Plain,
+{
+    ghost one_length = { λ s v h. passed-one_length T.passes T.fault (T.Of.format s) (T.Of.means (T.of v.0))
+        (T.Of.one_length s (T.of v.0) h) };
+
+    ghost names_none = { T.Of.names_none };
+}
+
+impl<T: Tested> Exact for Passed<T>
+where
+    T::Of: Exact,
+{
+    ghost one_value = { λ v w. T.Of.one_value (T.of v.0) (T.of w.0) };
+
+    ghost comes_back = { λ v w m h p q. T.Of.comes_back (T.of v.0) (T.of w.0) m h p q.0 };
+}
+
+impl<T: Tested> Canonical for Passed<T>
+where
+    T::Of: Canonical,
+{
+    ghost shortest = { λ s v w h. passed-shortest T.passes T.fault (T.Of.format s) (T.Of.means (T.of v.0))
+        (λ m. T.Of.given m (T.of w.0)) (T.Of.shortest s (T.of v.0) (T.of w.0) h) };
+}
