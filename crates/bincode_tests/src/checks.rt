@@ -4,8 +4,12 @@ use bincode::config::Config;
 use bincode::de::read::SliceReader;
 use bincode::de::{Decode, DecoderImpl};
 use bincode::enc::Encode;
+use bincode::enc::write::SizeWriter;
 use bincode::error::{DecodeError, EncodeError};
-use bincode::{config, decode_from_slice, encode_into_slice, encode_to_vec};
+use bincode::{
+    config, decode_from_reader, decode_from_slice, decode_from_slice_with_context,
+    encode_into_slice, encode_into_writer, encode_to_vec,
+};
 use std::alloc::Global;
 
 /// Whether these bytes are read as a value, and it is written as them. Behind them the input has 99s, as the slice has
@@ -58,11 +62,7 @@ pub fn within<T: Decode<()>, const N: usize>(
 
 /// The fault of the input, if it has one.
 pub fn fault_of<T: Decode<()>>(alloc: Global, input: &[u8]) -> Option<DecodeError> {
-    let outcome: Result<(T, usize), DecodeError> = decode_from_slice(
-        alloc,
-        input,
-        config::standard(),
-    );
+    let outcome: Result<(T, usize), DecodeError> = decoded(alloc, input, config::standard());
     outcome.err()
 }
 
@@ -94,6 +94,95 @@ pub fn decoded<T: Decode<()>, C: Config>(
         Err(DecodeError::Memory) => decode_from_slice(alloc, input, config),
         outcome => outcome,
     }
+}
+
+/// What comes of decoding with a context. Where memory is refused it is decoded once more.
+pub fn decoded_with<Context: Copy + Drop, T: Decode<Context>, C: Config>(
+    alloc: Global,
+    input: &[u8],
+    config: C,
+    context: Context,
+) -> Result<(T, usize), DecodeError> {
+    match decode_from_slice_with_context(alloc, input, config, context) {
+        Err(DecodeError::Memory) => decode_from_slice_with_context(alloc, input, config, context),
+        outcome => outcome,
+    }
+}
+
+/// Whether each call that writes writes the value as this word.
+pub fn each_call_writes<T: Encode>(alloc: Global, value: &T, word: &[u8]) -> bool {
+    let mut slice = [99u8; 100];
+    let filled = encode_into_slice(value, &mut slice, config::standard());
+    let mut counter = SizeWriter::default();
+    let counted = encode_into_writer(value, &mut counter, config::standard());
+    let Some(bytes) = written(alloc, value) else {
+        return false;
+    };
+    matches!(filled, Ok(count) if count == word.len())
+        && slice.starts_with(word)
+        && counted.is_ok()
+        && counter.bytes_written == word.len()
+        && bytes.as_slice() == word
+}
+
+/// What is read of a reader over an input of 100 bytes, and how many it takes.
+fn read_in_turn<T: Decode<()>>(
+    alloc: Global,
+    input: &[u8; 100],
+) -> Result<(T, usize), DecodeError> {
+    let mut reader = SliceReader::new(input);
+    let value = decode_from_reader(alloc, &mut reader, config::standard())?;
+    Ok((value, 100usize.saturating_sub(reader.bytes_left())))
+}
+
+/// Whether a value was read of this word, and each call writes it so.
+fn is_read_of<T: Encode>(alloc: Global, read: Option<(T, usize)>, word: &[u8]) -> bool {
+    let Some((value, taken)) = read else {
+        return false;
+    };
+    taken == word.len() && each_call_writes(alloc, &value, word)
+}
+
+/// Whether each call that reads takes the word, with 99s behind it, for a value that each call writes so.
+pub fn each_call_keeps<T: Encode + Decode<()>>(alloc: Global, word: &[u8]) -> bool {
+    let mut input = [99u8; 100];
+    let Some(front) = input.get_mut(..word.len()) else {
+        return false;
+    };
+    front.copy_from_slice(word);
+    let read: Option<(T, usize)> = made(|| decode_from_slice(alloc, &input, config::standard()));
+    let with_context: Option<(T, usize)> = made(|| {
+        decode_from_slice_with_context(alloc, &input, config::standard(), ())
+    });
+    let in_turn: Option<(T, usize)> = made(|| read_in_turn(alloc, &input));
+    is_read_of(alloc, read, word)
+        && is_read_of(alloc, with_context, word)
+        && is_read_of(alloc, in_turn, word)
+}
+
+/// Whether decoding answers that the input ends.
+fn is_cut<T: Drop>(outcome: Result<T, DecodeError>) -> bool {
+    matches!(outcome, Err(DecodeError::UnexpectedEnd { additional: _ }))
+}
+
+/// Whether the input of each decoding with this context ends that has fewer bytes than the word.
+pub fn ends_at_each_place<Context: Copy + Drop, T: Decode<Context>>(
+    alloc: Global,
+    word: &[u8],
+    context: Context,
+) -> bool {
+    for count in 0..word.len() {
+        let outcome: Result<(T, usize), DecodeError> = decoded_with(
+            alloc,
+            &word[..count],
+            config::standard(),
+            context,
+        );
+        if !is_cut(outcome) {
+            return false;
+        }
+    }
+    true
 }
 
 /// Whether a value is written as this word.

@@ -74,3 +74,41 @@ fn decodes_runs(rt: HostRuntime) {
     };
     assert!(rt; pair.as_slice() == [1, 2].as_slice());
 }
+
+/// Six of ten are claimed, and of the four that are left not five, but two where three are given back.
+fn claims_within_ten<D: Decoder<Context = ()>>(rt: &impl Abort, decoder: &mut D) {
+    assert!(rt; decoder.claim_bytes_read(6).is_ok());
+    assert!(rt; matches!(decoder.claim_bytes_read(5), Err(DecodeError::LimitExceeded)));
+    decoder.unclaim_bytes_read(3);
+    assert!(rt; decoder.claim_bytes_read(2).is_ok());
+}
+
+/// Nothing more is claimed where it passes what a counter holds, and then the charge stays.
+fn claims_nothing_more<D: Decoder<Context = ()>>(rt: &impl Abort, decoder: &mut D) {
+    let refused = decoder.claim_bytes_read(usize::MAX);
+    assert!(rt; matches!(refused, Err(DecodeError::LimitExceeded)));
+    assert!(rt; decoder.claim_bytes_read(0).is_ok());
+    let refused = decoder.claim_container_read::<u32>(1 << 62);
+    assert!(rt; matches!(refused, Err(DecodeError::LimitExceeded)));
+    assert!(rt; decoder.claim_bytes_read(0).is_ok());
+}
+
+#[test]
+fn claims_and_gives_back(rt: HostRuntime) {
+    let ten = config::standard().with_limit::<10>();
+    let mut decoder = DecoderImpl::new(rt.alloc(), SliceReader::new(&[]), ten, ());
+    claims_within_ten(&rt, &mut decoder);
+    claims_nothing_more(&rt, &mut decoder);
+}
+
+/// Without a limit nothing is refused.
+fn claims_without_end<D: Decoder<Context = ()>>(rt: &impl Abort, decoder: &mut D) {
+    assert!(rt; decoder.claim_container_read::<u32>(1 << 62).is_ok());
+}
+
+#[test]
+fn claims_without_a_limit(rt: HostRuntime) {
+    let reader = SliceReader::new(&[]);
+    let mut decoder = DecoderImpl::new(rt.alloc(), reader, config::standard(), ());
+    claims_without_end(&rt, &mut decoder);
+}

@@ -1,42 +1,9 @@
-//! Faults of decoding, with their fields.
+//! Short texts, and errors as they are printed.
 
-use crate::checks::fault_of;
-use bincode::de::Named;
 use bincode::error::{DecodeError, EncodeError, IntegerType};
 use bincode::short_text::{ShortText, TypeName};
-use bincode::{NoOther, OneOf, Or};
 use std::alloc::{AllocError, Global};
 use std::mem::size_of;
-
-/// A name for a sum whose tags do not stand in order.
-struct Sparse;
-
-impl Named for Sparse {
-    fn type_name() -> TypeName {
-        TypeName::new("SparseRequest")
-    }
-}
-
-type SparseParts = OneOf<Or<1, (), Or<5, u8, Or<300, u8, NoOther<Sparse>>>>>;
-
-#[test]
-fn lists_tags_that_do_not_stand_in_order(rt: HostRuntime) {
-    let fault = fault_of::<SparseParts>(rt.alloc(), &[2]);
-    let Some(
-        DecodeError::UnlistedVariant {
-            type_name,
-            found,
-            allowed,
-        },
-    ) = fault
-    else {
-        assert!(rt; false);
-        return;
-    };
-    assert!(rt; type_name.as_str() == "SparseRequ");
-    assert!(rt; found == 2);
-    assert!(rt; allowed.as_slice() == [1, 5, 300].as_slice());
-}
 
 #[test]
 fn keeps_short_texts(rt: HostRuntime) {

@@ -82,7 +82,11 @@ fn reads_back<C: Config>(
 #[test]
 fn reads_back_within_the_peak(rt: HostRuntime) {
     let read = reads_back(rt.alloc(), config::standard().with_limit::<24>());
-    assert!(&rt; matches!(read, Some(Ok(((7, [1, 2, 3, 300]), 7)))));
+    let Some(Ok((numbers, 7))) = read else {
+        assert!(rt; false);
+        return;
+    };
+    assert!(rt; numbers == (7, [1, 2, 3, 300]));
     let refused = reads_back(rt.alloc(), config::standard().with_limit::<23>());
-    assert!(&rt; matches!(refused, Some(Err(DecodeError::LimitExceeded))));
+    assert!(rt; matches!(refused, Some(Err(DecodeError::LimitExceeded))));
 }

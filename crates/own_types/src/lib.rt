@@ -4,6 +4,7 @@
 pub mod code;
 pub mod even;
 pub mod event;
+pub mod foo;
 pub mod message;
 pub mod never;
 pub mod request;
