@@ -4,7 +4,9 @@ use bincode::de::{FromParts, Named};
 use bincode::enc::{Encode, EncodeParts, Encoder, encode_variant};
 use bincode::error::EncodeError;
 use bincode::short_text::TypeName;
-use bincode::{NoOther, OneOf, Or, Parted};
+use bincode::{NoOther, OneOf, Or, Parted, SameParts};
+
+type Parts = OneOf<Or<1, (), Or<5, (), Or<300, (), NoOther<Code>>>>>;
 
 /// The code of an answer.
 #[derive(Clone, Copy, Debug, PartialEq)]
@@ -18,13 +20,19 @@ impl Parted for Code {
     ghost use Rattle.bincode_wire.specs.declared.sums.Or.TheVariants.{This, Other};
     ghost use Rattle.own_types.specs.declared.code.Code.TheVariants.{Done, Late, Refused};
 
-    type Parts = OneOf<Or<1, (), Or<5, (), Or<300, (), NoOther<Code>>>>>;
+    type Parts = Parts;
 
     ghost parts = { elim [
       | Done ↦ record { 0 = This tt }
       | Late ↦ record { 0 = Other (This tt) }
       | Refused ↦ record { 0 = Other (Other (This tt)) }
     ] };
+}
+
+impl SameParts<Parts> for Code {
+    ghost use Rattle.std.proofs.Common.{rules};
+
+    ghost same_parts = { λ v w e. Prim.search rules };
 }
 
 impl EncodeParts for Code {
@@ -46,7 +54,7 @@ impl Named for Code {
 }
 
 impl FromParts for Code {
-    fn from_parts(parts: Self::Parts) -> Self {
+    fn from_parts(parts: Parts) -> Code {
         match parts.0 {
             Or::This(()) => Code::Done,
             Or::Other(Or::This(())) => Code::Late,

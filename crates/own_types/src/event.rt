@@ -4,7 +4,9 @@ use bincode::de::{FromParts, Named};
 use bincode::enc::{Encode, EncodeParts, Encoder, encode_variant};
 use bincode::error::EncodeError;
 use bincode::short_text::TypeName;
-use bincode::{NoOther, OneOf, Or, Parted};
+use bincode::{NoOther, OneOf, Or, Parted, SameParts};
+
+type Parts = OneOf<Or<0, (), Or<1, (u32,), Or<2, (String,), NoOther<Event>>>>>;
 
 /// An event: a start, a stop with its cause, or a note.
 #[derive(Debug, Drop, PartialEq)]
@@ -18,13 +20,19 @@ impl Parted for Event {
     ghost use Rattle.bincode_wire.specs.declared.sums.Or.TheVariants.{This, Other};
     ghost use Rattle.own_types.specs.declared.event.Event.TheVariants.{Start, Stop, Note};
 
-    type Parts = OneOf<Or<0, (), Or<1, (u32,), Or<2, (String,), NoOther<Event>>>>>;
+    type Parts = Parts;
 
     ghost parts = { elim [
       | Start ↦ record { 0 = This tt }
       | Stop cause ↦ record { 0 = Other (This (record { 0 = cause })) }
       | Note text ↦ record { 0 = Other (Other (This (record { 0 = text }))) }
     ] };
+}
+
+impl SameParts<Parts> for Event {
+    ghost use Rattle.std.proofs.Common.{rules};
+
+    ghost same_parts = { λ v w e. Prim.search rules };
 }
 
 impl EncodeParts for Event {
@@ -52,7 +60,7 @@ impl Named for Event {
 }
 
 impl FromParts for Event {
-    fn from_parts(parts: Self::Parts) -> Self {
+    fn from_parts(parts: Parts) -> Event {
         match parts.0 {
             Or::This(()) => Event::Start,
             Or::Other(Or::This((cause,))) => Event::Stop(cause),

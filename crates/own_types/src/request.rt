@@ -4,7 +4,9 @@ use bincode::de::{FromParts, Named};
 use bincode::enc::{Encode, EncodeParts, Encoder, encode_variant};
 use bincode::error::EncodeError;
 use bincode::short_text::TypeName;
-use bincode::{NoOther, OneOf, Or, Parted};
+use bincode::{NoOther, OneOf, Or, Parted, SameParts};
+
+type Parts = OneOf<Or<0, (), Or<1, (u32,), Or<2, (u32, u64), NoOther<Request>>>>>;
 
 /// A request: nothing, the value of a key, or a key with its value.
 #[derive(Clone, Copy, Debug, PartialEq)]
@@ -18,13 +20,19 @@ impl Parted for Request {
     ghost use Rattle.bincode_wire.specs.declared.sums.Or.TheVariants.{This, Other};
     ghost use Rattle.own_types.specs.declared.request.Request.TheVariants.{Ping, Get, Put};
 
-    type Parts = OneOf<Or<0, (), Or<1, (u32,), Or<2, (u32, u64), NoOther<Request>>>>>;
+    type Parts = Parts;
 
     ghost parts = { elim [
       | Ping ↦ record { 0 = This tt }
       | Get key ↦ record { 0 = Other (This (record { 0 = key })) }
       | Put key value ↦ record { 0 = Other (Other (This (key, value))) }
     ] };
+}
+
+impl SameParts<Parts> for Request {
+    ghost use Rattle.std.proofs.Common.{rules};
+
+    ghost same_parts = { λ v w e. Prim.search rules };
 }
 
 impl EncodeParts for Request {
@@ -52,7 +60,7 @@ impl Named for Request {
 }
 
 impl FromParts for Request {
-    fn from_parts(parts: Self::Parts) -> Self {
+    fn from_parts(parts: Parts) -> Request {
         match parts.0 {
             Or::This(()) => Request::Ping,
             Or::Other(Or::This((key,))) => Request::Get { key },
