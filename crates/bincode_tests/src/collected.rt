@@ -83,8 +83,8 @@ fn lends_the_arena_of_a_context(rt: HostRuntime) {
 
 /// How many numbers are read over the arena. Where memory is refused they are read once more.
 fn counted(alloc: Global, bump: &mut Bump, input: &[u8]) -> Result<usize, DecodeError> {
-    match count_numbers(alloc, bump, input) {
-        Err(DecodeError::Memory) => count_numbers(alloc, bump, input),
+    match count_numbers(alloc, bump, input, config::standard()) {
+        Err(DecodeError::Memory) => count_numbers(alloc, bump, input, config::standard()),
         outcome => outcome,
     }
 }

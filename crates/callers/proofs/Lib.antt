@@ -1,2 +1,3 @@
 mod Counts
 mod Refusals
+mod Short

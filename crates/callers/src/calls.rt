@@ -1,11 +1,12 @@
 //! Callers that rest on the contracts of the two calls alone.
-ghost use Rattle.std.specs.Prelude.{◌≡◌, true, IfErr, IfOk, MatchResult};
+ghost use Rattle.std.specs.Prelude.{◌≡◌, true, IfErr, IfOk, MatchResult, length};
 ghost use Rattle.bincode_base.specs.declared.error.DecodeError.TheVariants.{Memory};
 ghost use Rattle.bincode_format.specs.Allowed.{AllowedWord};
 ghost use Rattle.bincode_format.specs.Answer.{Allows};
 ghost use Rattle.bincode_format.specs.Decoding.{IsRefused};
 ghost use Rattle.bincode_format.specs.Limits.{FitsLimit};
 ghost use Rattle.bincode_format.specs.Slice.{FrontWritten};
+ghost use Rattle.callers.specs.Short.{TooShort};
 
 use bincode::config::Config;
 use bincode::de::Decode;
@@ -40,15 +41,16 @@ pub struct RoundTrip<T> {
 }
 
 /// Writes a value into the front of a slice, and reads it back from there, with the bytes behind it. Where the charges
-/// of its words stay within the limit an equal value is read, of as many bytes, unless memory is refused.
+/// of its words stay within the limit an equal value is read, of as many bytes, unless memory is refused. Fails with `UnexpectedEnd` where the slice is too short.
 pub fn round_trip<T: Encode + Decode<()> + Exact, C: Config>(
     alloc: Global,
     value: &T,
     slice: &mut [u8],
     config: C,
 ) -> Result<RoundTrip<T>, EncodeError>
-    ensures { FitsLimit (T.means value.now) (T.format C.setting) C.bound → IfOk result (λ trip.
+    ensures back { FitsLimit (T.means value.now) (T.format C.setting) C.bound → IfOk result (λ trip.
         MatchResult trip.read (λ x. (T.eq value.now x.0 ≡ true) × (x.1 ≡ trip.written)) (IsRefused T.grows)) }
+    ensures short { IfErr result (TooShort (AllowedWord (T.means value.now) (T.format C.setting)) (length slice.old)) }
 {
     value.tell_valid();
     let written = encode_into_slice(value, slice, config)?;
@@ -64,8 +66,9 @@ pub fn round_trip_within<T: Encode + Decode<()> + Exact + ConstantCharge, C: Con
     slice: &mut [u8],
     config: C,
 ) -> Result<RoundTrip<T>, EncodeError>
-    ensures { Allows C.bound T.peak → IfOk result (λ trip.
+    ensures back { Allows C.bound T.peak → IfOk result (λ trip.
         MatchResult trip.read (λ x. (T.eq value.now x.0 ≡ true) × (x.1 ≡ trip.written)) (IsRefused T.grows)) }
+    ensures short { IfErr result (TooShort (AllowedWord (T.means value.now) (T.format C.setting)) (length slice.old)) }
 {
     round_trip(alloc, value, slice, config)
 }
@@ -77,9 +80,11 @@ pub fn round_trip_of_numbers<C: Config>(
     slice: &mut [u8],
     config: C,
 ) -> Result<RoundTrip<(u64, [u32; 4])>, EncodeError>
-    ensures { Allows C.bound 24 → IfOk result (λ trip. MatchResult trip.read
+    ensures back { Allows C.bound 24 → IfOk result (λ trip. MatchResult trip.read
         (λ x. (⟦<(u64, [u32; 4]) as PartialEq>⟧.eq value.now x.0 ≡ true) × (x.1 ≡ trip.written))
         (IsRefused (⟦<(u64, [u32; 4]) as Wire>⟧.grows))) }
+    ensures short { IfErr result (TooShort (AllowedWord (⟦<(u64, [u32; 4]) as Wire>⟧.means value.now)
+        (⟦<(u64, [u32; 4]) as Wire>⟧.format C.setting)) (length slice.old)) }
 {
     round_trip_within(alloc, value, slice, config)
 }

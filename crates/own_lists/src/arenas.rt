@@ -1,10 +1,13 @@
 //! Callers with arenas: which of two is lent, and how long its lists stay.
-ghost use Rattle.std.specs.Prelude.{◌≡◌};
+ghost use Rattle.std.specs.Prelude.{◌≡◌, ℕ, List, length, IfOk};
+ghost use Rattle.bincode_format.specs.Run.{IsListOf};
+ghost use Rattle.bincode_format.specs.Slice.{Decoded};
 
 use crate::arena::ArenaList;
+use bincode::config::Config;
 use bincode::de::{Decoder, LendInContext, WithContext};
 use bincode::error::DecodeError;
-use bincode::{config, decode_from_slice_with_context};
+use bincode::{Wire, decode_from_slice_with_context};
 use bumpalo::Bump;
 use std::alloc::Global;
 
@@ -27,12 +30,17 @@ pub fn with_kept<'a, 'b, D: Decoder<Context = Arenas<'b>>>(
 
 /// How many numbers a list has. The arena is free for the next one afterwards. Fails where the list can't be read, or
 /// with `Memory` where the arena has no room for it.
-pub fn count_numbers(alloc: Global, bump: &mut Bump, bytes: &[u8]) -> Result<usize, DecodeError> {
+pub fn count_numbers<C: Config>(
+    alloc: Global,
+    bump: &mut Bump,
+    bytes: &[u8],
+    config: C,
+) -> Result<usize, DecodeError>
+    ensures { IfOk result (λ n. (taken : ℕ) × Decoded (⟦<ArenaList<'static, u32> as Wire>⟧.format C.setting) C.bound bytes.now
+        (λ m. (items : List ℕ) × IsListOf (λ x k. ⟦<u32 as Wire>⟧.given k x) items m × (n ≡ length items)) taken) }
+{
     let (list, _taken): (ArenaList<u32>, usize) = decode_from_slice_with_context(
-        alloc,
-        bytes,
-        config::standard(),
-        &*bump,
+        alloc, bytes, config, &*bump,
     )?;
     let count = list.items.len();
     let _ = bump.reset();

@@ -1,0 +1,8 @@
+-- What a caller is told where a slice is too short.
+use Rattle.std.specs.Prelude.{◌≡◌, ◌<◌, ℕ, List, length}
+use Rattle.bincode_base.specs.declared.error.EncodeError.{EncodeError}
+use Rattle.bincode_base.specs.declared.error.EncodeError.TheVariants.{UnexpectedEnd}
+
+-- each word of the value is longer than the slice
+abbrev pub TooShort : (List ℕ → Type 0) → ℕ → EncodeError → Type 0
+TooShort Allowed room e = (e ≡ UnexpectedEnd) × ((word : List ℕ) → Allowed word → room < length word)
