@@ -1,5 +1,5 @@
 -- Values that passed a test: the words of another type, of which some are refused by what they mean.
-use Rattle.std.specs.Prelude.{ℕ, pos, negsuc, Bool, true, false, if◌then◌else◌, Result, Ok, Err, List}
+use Rattle.std.specs.Prelude.{ℕ, pos, negsuc, Bool, false, if◌then◌else◌, Result, Ok, Err, List}
 use Rattle.bincode_base.specs.declared.error.DecodeError.{DecodeError}
 use Rattle.bincode_format.specs.Fault.{Fault, Tells}
 use Rattle.bincode_format.specs.Format.{Format, ◌>>=◌, settled}

@@ -6,7 +6,7 @@ use bincode::error::EncodeError;
 use bincode::short_text::TypeName;
 use bincode::{NoOther, OneOf, Or, Parted, SameParts};
 
-type Parts = OneOf<Or<0, (), Or<1, (u32,), Or<2, (String,), NoOther<Event>>>>>;
+type Parts = OneOf<Or<0, (), Or<1, u32, Or<2, String, NoOther<Event>>>>>;
 
 /// An event: a start, a stop with its cause, or a note.
 #[derive(Debug, Drop, PartialEq)]
@@ -24,8 +24,8 @@ impl Parted for Event {
 
     ghost parts = { elim [
       | Start ↦ record { 0 = This tt }
-      | Stop cause ↦ record { 0 = Other (This (record { 0 = cause })) }
-      | Note text ↦ record { 0 = Other (Other (This (record { 0 = text }))) }
+      | Stop cause ↦ record { 0 = Other (This cause) }
+      | Note text ↦ record { 0 = Other (Other (This text)) }
     ] };
 }
 
@@ -39,16 +39,16 @@ impl EncodeParts for Event {
     fn tell_valid_parts(&self) {
         match self {
             Event::Start => {}
-            Event::Stop(cause) => (cause,).tell_valid(),
-            Event::Note(text) => (text,).tell_valid(),
+            Event::Stop(cause) => cause.tell_valid(),
+            Event::Note(text) => text.tell_valid(),
         }
     }
 
     fn encode_parts<E: Encoder>(&self, encoder: &mut E) -> Result<(), EncodeError> {
         match self {
             Event::Start => encode_variant(self, 0, &(), encoder),
-            Event::Stop(cause) => encode_variant(self, 1, &(cause,), encoder),
-            Event::Note(text) => encode_variant(self, 2, &(text,), encoder),
+            Event::Stop(cause) => encode_variant(self, 1, cause, encoder),
+            Event::Note(text) => encode_variant(self, 2, text, encoder),
         }
     }
 }
@@ -63,8 +63,8 @@ impl FromParts for Event {
     fn from_parts(parts: Parts) -> Event {
         match parts.0 {
             Or::This(()) => Event::Start,
-            Or::Other(Or::This((cause,))) => Event::Stop(cause),
-            Or::Other(Or::Other(Or::This((text,)))) => Event::Note(text),
+            Or::Other(Or::This(cause)) => Event::Stop(cause),
+            Or::Other(Or::Other(Or::This(text))) => Event::Note(text),
         }
     }
 }

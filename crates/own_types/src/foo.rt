@@ -26,11 +26,11 @@ impl SameParts<(u32, u32)> for Foo {
 
 impl EncodeParts for Foo {
     fn tell_valid_parts(&self) {
-        (self.a, self.b).tell_valid();
+        (&self.a, &self.b).tell_valid();
     }
 
     fn encode_parts<E: Encoder>(&self, encoder: &mut E) -> Result<(), EncodeError> {
-        (self.a, self.b).encode(encoder)
+        (&self.a, &self.b).encode(encoder)
     }
 }
 

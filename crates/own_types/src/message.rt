@@ -30,11 +30,11 @@ impl SameParts<Parts> for Message {
 
 impl EncodeParts for Message {
     fn tell_valid_parts(&self) {
-        (self.kind, self.id, self.place, self.reply).tell_valid();
+        (&self.kind, &self.id, &self.place, &self.reply).tell_valid();
     }
 
     fn encode_parts<E: Encoder>(&self, encoder: &mut E) -> Result<(), EncodeError> {
-        (self.kind, self.id, self.place, self.reply).encode(encoder)
+        (&self.kind, &self.id, &self.place, &self.reply).encode(encoder)
     }
 }
 

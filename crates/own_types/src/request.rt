@@ -6,7 +6,7 @@ use bincode::error::EncodeError;
 use bincode::short_text::TypeName;
 use bincode::{NoOther, OneOf, Or, Parted, SameParts};
 
-type Parts = OneOf<Or<0, (), Or<1, (u32,), Or<2, (u32, u64), NoOther<Request>>>>>;
+type Parts = OneOf<Or<0, (), Or<1, u32, Or<2, (u32, u64), NoOther<Request>>>>>;
 
 /// A request: nothing, the value of a key, or a key with its value.
 #[derive(Clone, Copy, Debug, PartialEq)]
@@ -24,7 +24,7 @@ impl Parted for Request {
 
     ghost parts = { elim [
       | Ping ↦ record { 0 = This tt }
-      | Get key ↦ record { 0 = Other (This (record { 0 = key })) }
+      | Get key ↦ record { 0 = Other (This key) }
       | Put key value ↦ record { 0 = Other (Other (This (key, value))) }
     ] };
 }
@@ -39,7 +39,7 @@ impl EncodeParts for Request {
     fn tell_valid_parts(&self) {
         match self {
             Request::Ping => {}
-            Request::Get { key } => (key,).tell_valid(),
+            Request::Get { key } => key.tell_valid(),
             Request::Put(key, value) => (key, value).tell_valid(),
         }
     }
@@ -47,7 +47,7 @@ impl EncodeParts for Request {
     fn encode_parts<E: Encoder>(&self, encoder: &mut E) -> Result<(), EncodeError> {
         match self {
             Request::Ping => encode_variant(self, 0, &(), encoder),
-            Request::Get { key } => encode_variant(self, 1, &(key,), encoder),
+            Request::Get { key } => encode_variant(self, 1, key, encoder),
             Request::Put(key, value) => encode_variant(self, 2, &(key, value), encoder),
         }
     }
@@ -63,7 +63,7 @@ impl FromParts for Request {
     fn from_parts(parts: Parts) -> Request {
         match parts.0 {
             Or::This(()) => Request::Ping,
-            Or::Other(Or::This((key,))) => Request::Get { key },
+            Or::Other(Or::This(key)) => Request::Get { key },
             Or::Other(Or::Other(Or::This((key, value)))) => Request::Put(key, value),
         }
     }

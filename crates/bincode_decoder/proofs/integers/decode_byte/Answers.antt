@@ -1,4 +1,4 @@
-use Rattle.std.proofs.Common.{refl, inl, inr, pos}
+use Rattle.std.proofs.Common.{inl, inr, pos}
 use Rattle.std.proofs.lemmas.Result.{err_from_is_err_and}
 use Rattle.bincode_format.specs.Integers.{unsigned_byte}
 use Rattle.bincode_laws.specs.DecodingLaws.{charged-passed}

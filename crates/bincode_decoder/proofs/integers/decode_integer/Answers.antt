@@ -1,4 +1,4 @@
-use Rattle.std.proofs.Common.{refl, inl, inr}
+use Rattle.std.proofs.Common.{inl, inr}
 use Rattle.std.proofs.lemmas.Result.{err_from_is_err_and}
 use Rattle.bincode_laws.specs.DecodingLaws.{charged-passed}
 use Rattle.bincode_decoder.proofs.ReadAnswers.{claim-passed, charged-reads, integer-reads}
