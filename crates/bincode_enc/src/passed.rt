@@ -1,4 +1,6 @@
 //! Encoding of types whose values passed a test.
+ghost use Rattle.std.specs.Prelude.{◌≡◌, true};
+ghost use Rattle.bincode_format.specs.Meaning.{Meaning};
 ghost use Rattle.bincode_format.specs.Passed.{passed};
 ghost use Rattle.bincode_format.specs.Allowed.{AllowedWord};
 ghost use Rattle.bincode_format.specs.Encoding.{Encodes};
@@ -18,4 +20,14 @@ where
         result encoder.old encoder.new }
 {
     value.of().encode(encoder)
+}
+
+/// Says of a value in hand that it is valid as what it is written as: what it holds is, and whatever that means passes.
+#[inline]
+pub fn tell_passed<T: Tested>(value: &T)
+where
+    T::Of: Encode,
+    ensures { T.Of.valid (T.of value.now) × ((m : Meaning) → T.Of.means (T.of value.now) m → T.passes m ≡ true) }
+{
+    value.of().tell_valid();
 }

@@ -15,6 +15,7 @@ use bincode_encoder::variants;
 use bincode_encoder::variants::EncodeTag;
 use bincode_wire::parted::Parted;
 use bincode_wire::sums::Choice;
+use bincode_wire::written::MadeOf;
 
 /// Writes the value of an enum: the tag of its variant, and then the part. Of an enum with type parameters the value
 /// has references to what they stand for, since its parts have to have a known size.
@@ -38,5 +39,28 @@ where
         (AllowedWord (T.Parts.means (T.parts value.now)) (chosen T.Parts.Tag.tags T.Parts.variants E.C.setting))
         T.Parts.names result encoder.old encoder.new }
 {
-    variants::encode_variant::<T, ByEncode<A>, E>(value, tag, part, encoder)
+    variants::encode_variant::<T::Parts, T, ByEncode<A>, E>(value, tag, part, encoder)
+}
+
+/// Writes the value of a closed enum, which is made of `Parts`, as `encode_variant` does.
+#[inline(always)]
+pub fn encode_variant_of<Parts: Choice, T: MadeOf<Parts>, A: Encode, E: Encoder>(
+    value: &T,
+    tag: u32,
+    part: &A,
+    encoder: &mut E,
+) -> Result<(), EncodeError>
+where
+    Parts::Tag: EncodeTag,
+    requires fits { Parts.Tag.Fits tag }
+    requires picks { WrittenAlike (map_format (Choice tag) (A.format E.C.setting))
+        (behind_tag Parts.variants E.C.setting tag) }
+    requires names { (e : EncodeError) → A.names e → Parts.names e }
+    requires means { SameMeanings (IsChoice tag (A.means part.now)) (Parts.means (T.parts value.now)) }
+    requires writable { Parts.writable E.C.setting (T.parts value.now) → A.writable E.C.setting part.now }
+    ensures { Encodes E.W.adds E.W.refuses E.writer_of E.place (Parts.writable E.C.setting (T.parts value.now))
+        (AllowedWord (Parts.means (T.parts value.now)) (chosen Parts.Tag.tags Parts.variants E.C.setting))
+        Parts.names result encoder.old encoder.new }
+{
+    variants::encode_variant::<Parts, T, ByEncode<A>, E>(value, tag, part, encoder)
 }

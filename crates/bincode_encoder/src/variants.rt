@@ -12,8 +12,8 @@ use crate::encoder::Encoder;
 use crate::integers::{encode_byte, encode_integer};
 use crate::runs::WriteValues;
 use bincode_base::error::EncodeError;
-use bincode_wire::parted::Parted;
 use bincode_wire::sums::{Choice, Tag};
+use bincode_wire::written::MadeOf;
 
 /// A type of tags that can be written.
 pub trait EncodeTag: Tag {
@@ -42,25 +42,24 @@ impl EncodeTag for u32 {
 /// Writes the value of an enum: the tag of its variant, and then the part. Of an enum with type parameters the value
 /// has references to what they stand for, since its parts have to have a known size.
 #[inline(always)]
-pub fn encode_variant<T: Parted, V: WriteValues, E: Encoder>(
+pub fn encode_variant<Parts: Choice, T: MadeOf<Parts>, V: WriteValues, E: Encoder>(
     value: &T,
     tag: u32,
     part: &V::Value,
     encoder: &mut E,
 ) -> Result<(), EncodeError>
 where
-    T::Parts: Choice,
-    <T::Parts as Choice>::Tag: EncodeTag,
-    requires fits { T.Parts.Tag.Fits tag }
+    Parts::Tag: EncodeTag,
+    requires fits { Parts.Tag.Fits tag }
     requires picks { WrittenAlike (map_format (Choice tag) (V.Value.format E.C.setting))
-        (behind_tag T.Parts.variants E.C.setting tag) }
-    requires names { (e : EncodeError) → V.Value.names e → T.Parts.names e }
-    requires means { SameMeanings (IsChoice tag (V.Value.means part.now)) (T.Parts.means (T.parts value.now)) }
-    requires writable { T.Parts.writable E.C.setting (T.parts value.now) → V.Value.writable E.C.setting part.now }
-    ensures { Encodes E.W.adds E.W.refuses E.writer_of E.place (T.Parts.writable E.C.setting (T.parts value.now))
-        (AllowedWord (T.Parts.means (T.parts value.now)) (chosen T.Parts.Tag.tags T.Parts.variants E.C.setting))
-        T.Parts.names result encoder.old encoder.new }
+        (behind_tag Parts.variants E.C.setting tag) }
+    requires names { (e : EncodeError) → V.Value.names e → Parts.names e }
+    requires means { SameMeanings (IsChoice tag (V.Value.means part.now)) (Parts.means (T.parts value.now)) }
+    requires writable { Parts.writable E.C.setting (T.parts value.now) → V.Value.writable E.C.setting part.now }
+    ensures { Encodes E.W.adds E.W.refuses E.writer_of E.place (Parts.writable E.C.setting (T.parts value.now))
+        (AllowedWord (Parts.means (T.parts value.now)) (chosen Parts.Tag.tags Parts.variants E.C.setting))
+        Parts.names result encoder.old encoder.new }
 {
-    <T::Parts as Choice>::Tag::encode_tag(tag, encoder)?;
+    Parts::Tag::encode_tag(tag, encoder)?;
     V::write_value(part, encoder)
 }

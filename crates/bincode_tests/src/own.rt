@@ -7,6 +7,9 @@ use bincode::enc::Encode;
 use bincode::error::DecodeError;
 use bincode::{Wire, config, decode_from_reader, encode_into_slice};
 use own_lists::pack::Pack;
+use own_records::album::Album;
+use own_records::entry::Entry;
+use own_records::track::Track;
 use own_types::code::Code;
 use own_types::even::Even;
 use own_types::event::Event;
@@ -40,6 +43,40 @@ fn keeps_each_variant(rt: HostRuntime) {
     for word in [[1].as_slice(), &[5], &[251, 44, 1]] {
         assert!(rt; has_word::<Code>(rt.alloc(), word));
     }
+}
+
+/// The word of an album of three entries, one of each variant, and a hidden track.
+const ALBUM: [u8; 25] = [
+    2, 97, 98, 3, 0, 1, 99, 2, 1, 251, 44, 1, 2, 1, 1, 5, 2, 1, 100, 6, 1, 0, 0, 0, 0,
+];
+
+#[test]
+fn keeps_types_that_hold_others(rt: HostRuntime) {
+    assert!(rt; has_word::<Album>(rt.alloc(), &ALBUM));
+    assert!(rt; has_word::<Track>(rt.alloc(), &[1, 99, 2, 1, 251, 44, 1, 2, 1]));
+    for word in [[0, 0, 0, 0, 0].as_slice(), &[1, 5], &[2, 1, 100, 6]] {
+        assert!(rt; has_word::<Entry>(rt.alloc(), word));
+    }
+}
+
+#[test]
+fn reads_types_that_hold_others(rt: HostRuntime) {
+    let Some((album, 25)) = made(|| within::<Album, 1000>(rt.alloc(), &ALBUM)) else {
+        assert!(rt; false);
+        return;
+    };
+    assert!(rt; album.name.as_str() == "ab" && album.hidden.is_some());
+    let [
+        Entry::Song(track),
+        Entry::Pause(5),
+        Entry::Note { text, at: 6 },
+    ] = album.entries.as_slice()
+    else {
+        assert!(rt; false);
+        return;
+    };
+    assert!(rt; track.title.as_str() == "c" && track.beats.as_slice() == [1, 300].as_slice());
+    assert!(rt; track.side == 2 && track.live && text.as_str() == "d");
 }
 
 #[test]
@@ -176,4 +213,6 @@ fn claims_what_own_types_claim(rt: HostRuntime) {
     assert!(rt; Code::claim_size() == 4);
     assert!(rt; Never::claim_size() == 1);
     assert!(rt; Even::claim_size() == 1);
+    assert!(rt; Track::claim_size() == 50);
+    assert!(rt; Entry::claim_size() == 54);
 }

@@ -17,3 +17,4 @@ pub mod sums;
 pub mod texts;
 pub mod wholes;
 pub mod wire;
+pub mod written;

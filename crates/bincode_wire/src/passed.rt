@@ -28,6 +28,9 @@ pub trait Tested: Sized {
     /// The fault of what fails it.
     ghost fault: { Fault };
 
+    /// The fault is no early end of the input: that one is told by what more bytes would mend.
+    ghost is_no_end: { ¬ (IsEnd fault) };
+
     /// The value that it holds.
     fn of(&self) -> &Self::Of
         ensures { result.now ≡ of self.now };
@@ -41,9 +44,6 @@ pub trait Tested: Sized {
 
     /// Each value passes the test, whatever it means.
     ghost each_passes: { (v : Self) (m : Meaning) → Self.Of.means (of v) m → passes m ≡ true };
-
-    /// The fault is no early end of the input: that one is told by what more bytes would mend.
-    ghost is_no_end: { ¬ (IsEnd fault) };
 }
 
 /// A value of a type that passed its test, in place of what it holds: what a `Tested` type is written as.
@@ -66,7 +66,8 @@ where
 impl<T: Tested> Wire for Passed<T> {
     ghost format = { λ s. passed T.passes T.fault (T.Of.format s) };
 
-    ghost valid = { λ v. T.Of.valid (T.of v.0) };
+    ghost valid = { λ v. T.Of.valid (T.of v.0)
+        × ((m : Meaning) → T.Of.means (T.of v.0) m → T.passes m ≡ true) };
 
     ghost means = { λ v. T.Of.means (T.of v.0) };
 
@@ -89,7 +90,7 @@ impl<T: Tested> Wire for Passed<T> {
     ghost balanced = { λ s. passed-balanced T.passes T.fault (T.Of.format s) (T.Of.balanced s) };
 
     ghost has_word = { λ s v h w. passed-has_word T.passes T.fault (T.Of.format s) (T.Of.means (T.of v.0))
-        (T.each_passes v.0) (T.Of.has_word s (T.of v.0) h w) };
+        h.1 (T.Of.has_word s (T.of v.0) h.0 w) };
 
     ghost names_own = { T.Of.names_own };
 }
@@ -98,7 +99,7 @@ impl<T: Tested> Writable for Passed<T>
 where
     T::Of: Writable,
 {
-    ghost always_writable = { λ s v. T.Of.always_writable s (T.of v.0) };
+    ghost always_writable = { λ s v h. T.Of.always_writable s (T.of v.0) h.0 };
 }
 
 impl<T: Tested> Plain for Passed<T>
@@ -106,7 +107,7 @@ where
     T::Of: Plain,
 {
     ghost one_length = { λ s v h. passed-one_length T.passes T.fault (T.Of.format s) (T.Of.means (T.of v.0))
-        (T.Of.one_length s (T.of v.0) h) };
+        (T.Of.one_length s (T.of v.0) h.0) };
 
     ghost names_none = { T.Of.names_none };
 }
@@ -115,9 +116,9 @@ impl<T: Tested> Exact for Passed<T>
 where
     T::Of: Exact,
 {
-    ghost one_value = { λ v w. T.Of.one_value (T.of v.0) (T.of w.0) };
+    ghost one_value = { λ v w m h k. T.Of.one_value (T.of v.0) (T.of w.0) m h.0 k.0 };
 
-    ghost comes_back = { λ v w m h p q. T.Of.comes_back (T.of v.0) (T.of w.0) m h p q.0 };
+    ghost comes_back = { λ v w m h p q. T.Of.comes_back (T.of v.0) (T.of w.0) m h.0 p q.0 };
 }
 
 impl<T: Tested> Canonical for Passed<T>
@@ -125,5 +126,5 @@ where
     T::Of: Canonical,
 {
     ghost shortest = { λ s v w h. passed-shortest T.passes T.fault (T.Of.format s) (T.Of.means (T.of v.0))
-        (λ m. T.Of.given m (T.of w.0)) (T.Of.shortest s (T.of v.0) (T.of w.0) h) };
+        (λ m. T.Of.given m (T.of w.0)) (T.Of.shortest s (T.of v.0) (T.of w.0) h.0) };
 }

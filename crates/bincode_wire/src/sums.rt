@@ -88,10 +88,6 @@ pub trait Variants {
 
     ghost claim: { ℕ };
 
-    /// What the widest part claims.
-    fn claim_size() -> usize
-        ensures { result ≡ claim };
-
     ghost lawful: { (s : Setting) → AllLawful s variants };
 
     ghost balanced: { (s : Setting) → AllBalanced s variants };
@@ -100,6 +96,10 @@ pub trait Variants {
         → SomeWord (AllowedWord (means v) ((variant v).1 s)) };
 
     ghost names_own: { (e : EncodeError) → names e → MayName e };
+
+    /// What the widest part claims.
+    fn claim_size() -> usize
+        ensures { result ≡ claim };
 }
 
 /// Variants whose every valid value can be written in every setting.

@@ -34,10 +34,6 @@ pub trait Wire {
     /// How many bytes a container claims for an element.
     ghost claim: { ℕ };
 
-    /// How many bytes a container claims for an element. It stands for the size in memory.
-    fn claim_size() -> usize
-        ensures { result ≡ claim };
-
     /// No word begins another, each has one meaning, and each input has one front that is a word or one fault.
     ghost lawful: { (s : Setting) → Lawful (format s) };
 
@@ -50,4 +46,8 @@ pub trait Wire {
 
     /// No error that a writer has is named.
     ghost names_own: { (e : EncodeError) → names e → MayName e };
+
+    /// How many bytes a container claims for an element. It stands for the size in memory.
+    fn claim_size() -> usize
+        ensures { result ≡ claim };
 }

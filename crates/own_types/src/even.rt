@@ -2,7 +2,7 @@
 ghost use Rattle.std.specs.Prelude.{◌≡◌, ◌==◌, ◌%◌, true};
 
 use bincode::de::{FromParts, other_error};
-use bincode::enc::{Encode, EncodeParts, Encoder, encode_passed};
+use bincode::enc::{EncodeParts, Encoder, encode_passed, tell_passed};
 use bincode::error::{DecodeError, EncodeError};
 use bincode::{Parted, Passed, SameParts, Tested};
 
@@ -55,7 +55,7 @@ impl SameParts<Passed<Even>> for Even {
 
 impl EncodeParts for Even {
     fn tell_valid_parts(&self) {
-        self.number.tell_valid();
+        tell_passed(self);
     }
 
     fn encode_parts<E: Encoder>(&self, encoder: &mut E) -> Result<(), EncodeError> {
