@@ -18,7 +18,8 @@ pub struct SizeWriter {
 impl Writer for SizeWriter {
     ghost adds = { λ a piece b. b.bytes_written ≡ a.bytes_written + length piece };
 
-    ghost refuses = { λ a piece e b. (e ≡ UnexpectedEnd) × (2 ^ 64 - 1 - a.bytes_written < length piece) × (b ≡ a) };
+    ghost refuses = { λ a piece e b. (e ≡ UnexpectedEnd)
+        × (2 ^ 64 - 1 - a.bytes_written < length piece) × (b ≡ a) };
 
     ghost room = { λ w. Some (2 ^ 64 - 1 - w.bytes_written) };
 

@@ -34,15 +34,16 @@ pub trait Collect<Context: Drop>: Sized {
 
     /// Puts an item behind those before it. Fails with `Memory` where its room is refused.
     fn put(filling: &mut Self::Filling, item: Self::Item) -> Result<(), DecodeError>
-        ensures { MatchResult result (λ _. held filling.new ≡ held filling.old ++ item ∷ []) (λ e. e ≡ Memory) };
+        ensures { MatchResult result (λ _. held filling.new ≡ held filling.old ++ item ∷ [])
+            (λ e. e ≡ Memory) };
 
     /// Makes the list of what was put. Fails with `Memory` where its room is refused.
     fn finish(filling: Self::Filling) -> Result<Self, DecodeError>
         ensures { MatchResult result (λ v. items v ≡ held filling) (λ e. e ≡ Memory) };
 }
 
-/// Reads `len` items, whose room `claim_container_read` has reserved, and puts each into the list: its share is released
-/// before it is read. Fails where an item does, or with `Memory` where the list does.
+/// Reads `len` items, whose room `claim_container_read` has reserved, and puts each into the list: its share is
+/// released before it is read. Fails where an item does, or with `Memory` where the list does.
 fn decode_items<
     Context: Drop,
     V: ReadValues<Context>,
@@ -70,7 +71,8 @@ fn decode_claimed_items<
     D: Decoder<Context = Context>,
 >(decoder: &mut D, len: usize) -> Result<K, DecodeError>
     ensures { Reads D.told D.rest D.charge D.failures D.place D.C.bound D.R.ended D.R.device (Unit {0})
-        (array len V.Value.claim (V.Value.format D.C.setting)) (λ m v. IsListOf (λ x n. V.Value.given n x) (K.items v) m)
+        (array len V.Value.claim (V.Value.format D.C.setting))
+        (λ m v. IsListOf (λ x n. V.Value.given n x) (K.items v) m)
         (D.charge decoder.old) result decoder.old decoder.new }
 {
     decoder.claim_container_read::<V::Value>(len)?;
@@ -88,7 +90,8 @@ pub fn decode_collection<
 >(decoder: &mut D) -> Result<K, DecodeError>
     ensures { Reads D.told D.rest D.charge D.failures D.place D.C.bound D.R.ended D.R.device (Unit {0})
         (list D.C.setting V.Value.claim (V.Value.format D.C.setting))
-        (λ m v. IsListOf (λ x n. V.Value.given n x) (K.items v) m) (D.charge decoder.old) result decoder.old decoder.new }
+        (λ m v. IsListOf (λ x n. V.Value.given n x) (K.items v) m)
+        (D.charge decoder.old) result decoder.old decoder.new }
 {
     let len = decode_length(decoder)?;
     decode_claimed_items::<Context, V, K, D>(decoder, len)

@@ -102,8 +102,8 @@ fn decode_by_pushes<Context: Drop, V: ReadValues<Context>, D: Decoder<Context = 
     Ok(values)
 }
 
-/// So many values to read over, if the type has such at hand and its values claim a byte each, as those do that are read
-/// at once: others are pushed, which takes less than zeros first. Fails with `Memory` where the room for them is
+/// So many values to read over, if the type has such at hand and its values claim a byte each, as those do that are
+/// read at once: others are pushed, which takes less than zeros first. Fails with `Memory` where the room for them is
 /// refused.
 fn blank_values<Context: Drop, V: ReadValues<Context>>(
     alloc: Global,

@@ -41,7 +41,8 @@ pub struct RoundTrip<T> {
 }
 
 /// Writes a value into the front of a slice, and reads it back from there, with the bytes behind it. Where the charges
-/// of its words stay within the limit an equal value is read, of as many bytes, unless memory is refused. Fails with `UnexpectedEnd` where the slice is too short.
+/// of its words stay within the limit an equal value is read, of as many bytes, unless memory is refused. Fails with
+/// `UnexpectedEnd` where the slice is too short.
 pub fn round_trip<T: Encode + Decode<()> + Exact, C: Config>(
     alloc: Global,
     value: &T,

@@ -14,8 +14,8 @@ pub fn encoded_length<E: Encode + Plain, C: Config>(
     value: &E,
     config: C,
 ) -> Result<usize, EncodeError>
-    ensures { IfOk result (λ n. (word : List ℕ) → AllowedWord (E.means value.now) (E.format C.setting) word → length word
-        ≡ n) }
+    ensures { IfOk result (λ n. (word : List ℕ) → AllowedWord (E.means value.now) (E.format C.setting) word
+        → length word ≡ n) }
 {
     value.tell_valid();
     let mut counter = SizeWriter::default();

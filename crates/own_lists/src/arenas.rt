@@ -36,8 +36,10 @@ pub fn count_numbers<C: Config>(
     bytes: &[u8],
     config: C,
 ) -> Result<usize, DecodeError>
-    ensures { IfOk result (λ n. (taken : ℕ) × Decoded (⟦<ArenaList<'static, u32> as Wire>⟧.format C.setting) C.bound bytes.now
-        (λ m. (items : List ℕ) × IsListOf (λ x k. ⟦<u32 as Wire>⟧.given k x) items m × (n ≡ length items)) taken) }
+    ensures { IfOk result (λ n. (taken : ℕ)
+        × Decoded (⟦<ArenaList<'static, u32> as Wire>⟧.format C.setting) C.bound bytes.now
+        (λ m. (items : List ℕ) × IsListOf (λ x k. ⟦<u32 as Wire>⟧.given k x) items m × (n ≡ length items))
+        taken) }
 {
     let (list, _taken): (ArenaList<u32>, usize) = decode_from_slice_with_context(
         alloc, bytes, config, &*bump,

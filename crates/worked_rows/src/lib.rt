@@ -4,3 +4,4 @@
 pub mod case;
 pub mod formats;
 pub mod rows;
+pub mod run;

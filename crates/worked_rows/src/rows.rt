@@ -3,8 +3,9 @@ ghost use Rattle.std.specs.Prelude.{◌≤◌, length, IfOk};
 
 use crate::case::{
     Answer, Case, Decoding, Encoding, Fault, Input, Kept, Limited, Number, Refusal, Setting,
-    Spelling, Value, holds,
+    Spelling, Value,
 };
+use crate::run::holds;
 use bincode::config::{Endianness, Limit, NoLimit};
 use bincode::error::IntegerType;
 use std::alloc::Global;
