@@ -4,6 +4,6 @@ pub use bincode_enc::encode::Encode;
 pub use bincode_enc::encode_parts::EncodeParts;
 pub use bincode_enc::passed::{encode_passed, tell_passed};
 pub use bincode_enc::runs::encode_run;
-pub use bincode_enc::variants::{encode_variant, encode_variant_of};
+pub use bincode_enc::variants::encode_variant;
 pub use bincode_encoder::encoder::{Encoder, EncoderImpl};
 pub use bincode_io::write;

@@ -13,38 +13,13 @@ use bincode_base::error::EncodeError;
 use bincode_encoder::encoder::Encoder;
 use bincode_encoder::variants;
 use bincode_encoder::variants::EncodeTag;
-use bincode_wire::parted::Parted;
 use bincode_wire::sums::Choice;
 use bincode_wire::written::MadeOf;
 
-/// Writes the value of an enum: the tag of its variant, and then the part. Of an enum with type parameters the value
-/// has references to what they stand for, since its parts have to have a known size.
+/// Writes the value of an enum, which is made of `Parts`: the tag of its variant, and then the part. Of an enum with
+/// type parameters the value has references to what they stand for, since its parts have to have a known size.
 #[inline(always)]
-pub fn encode_variant<T: Parted, A: Encode, E: Encoder>(
-    value: &T,
-    tag: u32,
-    part: &A,
-    encoder: &mut E,
-) -> Result<(), EncodeError>
-where
-    T::Parts: Choice,
-    <T::Parts as Choice>::Tag: EncodeTag,
-    requires fits { T.Parts.Tag.Fits tag }
-    requires picks { WrittenAlike (map_format (Choice tag) (A.format E.C.setting))
-        (behind_tag T.Parts.variants E.C.setting tag) }
-    requires names { (e : EncodeError) → A.names e → T.Parts.names e }
-    requires means { SameMeanings (IsChoice tag (A.means part.now)) (T.Parts.means (T.parts value.now)) }
-    requires writable { T.Parts.writable E.C.setting (T.parts value.now) → A.writable E.C.setting part.now }
-    ensures { Encodes E.W.adds E.W.refuses E.writer_of E.place (T.Parts.writable E.C.setting (T.parts value.now))
-        (AllowedWord (T.Parts.means (T.parts value.now)) (chosen T.Parts.Tag.tags T.Parts.variants E.C.setting))
-        T.Parts.names result encoder.old encoder.new }
-{
-    variants::encode_variant::<T::Parts, T, ByEncode<A>, E>(value, tag, part, encoder)
-}
-
-/// Writes the value of a closed enum, which is made of `Parts`, as `encode_variant` does.
-#[inline(always)]
-pub fn encode_variant_of<Parts: Choice, T: MadeOf<Parts>, A: Encode, E: Encoder>(
+pub fn encode_variant<Parts: Choice, T: MadeOf<Parts>, A: Encode, E: Encoder>(
     value: &T,
     tag: u32,
     part: &A,

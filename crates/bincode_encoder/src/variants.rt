@@ -39,8 +39,8 @@ impl EncodeTag for u32 {
     }
 }
 
-/// Writes the value of an enum: the tag of its variant, and then the part. Of an enum with type parameters the value
-/// has references to what they stand for, since its parts have to have a known size.
+/// Writes the value of an enum, which is made of `Parts`: the tag of its variant, and then the part. Of an enum with
+/// type parameters the value has references to what they stand for, since its parts have to have a known size.
 #[inline(always)]
 pub fn encode_variant<Parts: Choice, T: MadeOf<Parts>, V: WriteValues, E: Encoder>(
     value: &T,

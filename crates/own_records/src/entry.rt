@@ -2,7 +2,7 @@
 
 use crate::track::Track;
 use bincode::de::{Decode, Decoder, Named};
-use bincode::enc::{Encode, Encoder, encode_variant_of};
+use bincode::enc::{Encode, Encoder, encode_variant};
 use bincode::error::{DecodeError, EncodeError};
 use bincode::short_text::TypeName;
 use bincode::{MadeOf, NoOther, OneOf, Or, Wire, WrittenAs};
@@ -69,13 +69,9 @@ impl Encode for Entry {
 
     fn encode<E: Encoder>(&self, encoder: &mut E) -> Result<(), EncodeError> {
         match self {
-            Entry::Song(track) => encode_variant_of::<Parts, _, _, _>(self, 0, track, encoder),
-            Entry::Pause(milliseconds) => {
-                encode_variant_of::<Parts, _, _, _>(self, 1, milliseconds, encoder)
-            }
-            Entry::Note { text, at } => {
-                encode_variant_of::<Parts, _, _, _>(self, 2, &(text, at), encoder)
-            }
+            Entry::Song(track) => encode_variant(self, 0, track, encoder),
+            Entry::Pause(milliseconds) => encode_variant(self, 1, milliseconds, encoder),
+            Entry::Note { text, at } => encode_variant(self, 2, &(text, at), encoder),
         }
     }
 }
