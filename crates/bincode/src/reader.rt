@@ -51,9 +51,9 @@ pub(crate) fn decode_with<Context: Drop, D: Decode<Context>, R: Reader, C: Confi
     ensures ok { R.told reader.old → IfOk result (λ v. (charge : ℕ)
         × Decodes (λ m. D.given m v) (answer C.bound (D.format C.setting) (R.rest reader.old) 0)
         (R.rest reader.new) charge) }
-    ensures err { R.told reader.old → IfErr result (Stops R.ended R.device D.grows
+    ensures err { R.told reader.old → IfErr result (λ e. (charge : ℕ) × Stops R.ended R.device D.grows
         (answer C.bound (D.format C.setting) (R.rest reader.old) 0) (R.failures reader.old) (R.failures reader.new)
-        (R.rest reader.old) (R.rest reader.new)) }
+        (R.rest reader.old) (R.rest reader.new) charge e) }
     ensures count { R.failures reader.old ≤ R.failures reader.new }
     ensures told { R.told reader.old → R.told reader.new }
     ensures place { R.place reader.new ≡ R.place reader.old }

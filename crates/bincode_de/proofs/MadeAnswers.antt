@@ -16,14 +16,14 @@ module _ {D A T U : Type 0} {told : D → Type 0} {rest : D → List ℕ} {charg
   -- it is made
   pub read-made : {v : T} {u : U} → ((m : A) → given m v → other m u) → Reads told rest charge failures place limit ended device G F given charged (Ok v) old new →
       Reads told rest charge failures place limit ended device (Unit {0}) F other charged (Ok u) old new
-  read-made made read = read-as (λ known. made-of made (read.ok known)) (λ known. tt) read
+  read-made made read = read-as (λ known. made-of made (read.ok known)) (λ known. tt) read.within read
 
   -- memory is refused
   pub read-refused : Lawful F → {v : T} {e : DecodeError} → e ≡ Memory → Reads told rest charge failures place limit ended device G F given charged (Ok v) old new →
       Reads told rest charge failures place limit ended device (Unit {0}) F other charged (Err e) old new
-  read-refused f e read = read-as (λ known. tt) (λ known. let d = read.ok known in by_memory tt e (gave-takes limit F f (rest old) charged d.meaning (rest new) (charge new) d.answer_is)) read
+  read-refused f e read = read-as (λ known. tt) (λ known. let d = read.ok known in by_memory tt e (gave-takes limit F f (rest old) charged d.meaning (rest new) (charge new) d.answer_is)) (λ _. tt) read
 
   -- nothing was read
   pub read-failed : {e : DecodeError} → Reads told rest charge failures place limit ended device G F given charged (Err e) old new →
       Reads told rest charge failures place limit ended device (Unit {0}) F other charged (Err e) old new
-  read-failed read = read-as (λ known. tt) (λ known. stops-besides _ _ _ _ (λ _. tt) _ _ _ _ _ _ (read.err known)) read
+  read-failed read = read-as (λ known. tt) (λ known. stops-besides _ _ _ _ (λ _. tt) _ _ _ _ _ _ (read.err known)) (λ _. tt) read

@@ -24,7 +24,7 @@ use Rattle.bincode_decoder.proofs.ReadAnswers.{read-as}
 -- an answer with its meaning renamed
 abbrev renamed : {A B : Type 0} → (A → B) → Answer A → Answer B
 renamed f (Gave a r d) = Gave (f a) r d
-renamed f (Refused why) = Refused why
+renamed f (Refused why d) = Refused why d
 renamed f PassedLimit = PassedLimit
 
 -- the size of a number, by its meaning
@@ -34,13 +34,13 @@ size_of m = 1
 
 -- the answer where 0 is refused, by that where it is not
 abbrev tested : IntegerType → Answer Meaning → Answer Meaning
-tested name (Gave m r d) = if size_of m == 0 then Refused (Zero name) else Gave m r d
-tested name (Refused why) = Refused why
+tested name (Gave m r d) = if size_of m == 0 then Refused (Zero name) d else Gave m r d
+tested name (Refused why d) = Refused why d
 tested name PassedLimit = PassedLimit
 
 tested_stop :
-    (name : IntegerType) (ended : ℕ → DecodeError → Type 0) (device : DeviceErrors) (H : Type 0) (before after : ℕ) (input rest : List ℕ) (e : DecodeError) (a : Answer Meaning) →
-    Stops ended device H a before after input rest e → Stops ended device H (tested name a) before after input rest e
+    (name : IntegerType) (ended : ℕ → DecodeError → Type 0) (device : DeviceErrors) (H : Type 0) (before after : ℕ) (input rest : List ℕ) {now : ℕ} (e : DecodeError) (a : Answer Meaning) →
+    Stops ended device H a before after input rest now e → Stops ended device H (tested name a) before after input rest now e
 tested_stop name ended device H before after input rest e a (by_fault why h t k) = by_fault why (ap (tested name) h) t k
 tested_stop name ended device H before after input rest e a (by_limit h t k) = by_limit (ap (tested name) h) t k
 tested_stop name ended device H before after input rest e a (by_memory h t k) = by_memory h t k
@@ -54,7 +54,7 @@ module _ {A : Type 0} (f : A → Meaning) (size : A → ℕ) (name : IntegerType
       where
         each : (a : Answer A) → and_then a (λ z r d. answer limit (done (h z)) r d) ≡ renamed h a
         each (Gave a r d) = answer-done limit (h a) r d
-        each (Refused why) = refl
+        each (Refused why d) = refl
         each PassedLimit = refl
 
     by_size : answer limit (map_format f (not_zero_by size name F)) input c ≡ tested name (answer limit (map_format f F) input c)
@@ -64,18 +64,18 @@ module _ {A : Type 0} (f : A → Meaning) (size : A → ℕ) (name : IntegerType
         ∙ each (answer limit F input c)
         ∙ ap (tested name) (sym (mapped F f))
       where
-        chosen : (a : A) (r : List ℕ) (d : ℕ) (zero : Bool) → renamed f (answer limit (settled (if zero then Err (Zero name) else Ok a)) r d) ≡ (if zero then Refused (Zero name) else Gave (f a) r d)
+        chosen : (a : A) (r : List ℕ) (d : ℕ) (zero : Bool) → renamed f (answer limit (settled (if zero then Err (Zero name) else Ok a)) r d) ≡ (if zero then Refused (Zero name) d else Gave (f a) r d)
         chosen a r d true = ap (renamed f) (answer-refused limit (Zero name) r d)
         chosen a r d false = ap (renamed f) (answer-done limit a r d)
 
         each : (a : Answer A) → renamed f (and_then a (λ v r d. answer limit (settled (not_zero_of name (size v) v)) r d)) ≡ tested name (renamed f a)
         each (Gave a r d) = rw (same a) (chosen a r d (size a == 0))
-        each (Refused why) = refl
+        each (Refused why d) = refl
         each PassedLimit = refl
 
     -- 0 was read
     was_zero : (m : Meaning) (rest : List ℕ) (d : ℕ) → answer limit (map_format f F) input c ≡ Gave m rest d → size_of m ≡ 0 →
-        answer limit (map_format f (not_zero_by size name F)) input c ≡ Refused (Zero name)
+        answer limit (map_format f (not_zero_by size name F)) input c ≡ Refused (Zero name) d
     was_zero m rest d e z = by_size ∙ ap (tested name) e ∙ rw z refl
 
     -- another number was
@@ -92,7 +92,7 @@ module _ {A : Type 0} (f : A → Meaning) (size : A → ℕ) (name : IntegerType
     stops-too e read =
         read-as (λ known. tt)
         (λ known. rw (by_size limit F (rest old) start) (tested_stop name ended device ⊥ (failures old) (failures new) (rest old) (rest new) e
-        (answer limit (map_format f F) (rest old) start) (read.err known))) read
+        (answer limit (map_format f F) (rest old) start) (read.err known))) (λ _. tt) read
 
     -- and a number is tested
     pub read-tested : (get : T → A) (zero n k : A) (number : Option T) (r : Result T DecodeError) → size zero ≡ 0 → Lawful F →
@@ -115,6 +115,7 @@ module _ {A : Type 0} (f : A → Meaning) (size : A → ℕ) (name : IntegerType
               (e ∙ ap f (sym (made ∙ number-same)));
         })
         (λ known. tt)
+        read.within
         read)
     read-tested get zero n k None r z l above is gives number-same made result read =
         rw result
@@ -125,4 +126,5 @@ module _ {A : Type 0} (f : A → Meaning) (size : A → ℕ) (name : IntegerType
         let e' : size_of d.meaning ≡ 0 = ap size_of (is d.meaning d.is_given) ∙ same n ∙ ap size (sym number-same ∙ made) ∙ z in
         by_fault (Zero name) (was_zero limit F (rest old) start d.meaning (rest new) (charge new) d.answer_is e') refl
         (gave-takes limit (map_format f F) (map-lawful f F l) (rest old) start d.meaning (rest new) (charge new) d.answer_is))
+        (λ _. tt)
         read)

@@ -32,6 +32,7 @@ module _ {D T U : Type 0} {told : D → Type 0} {rest : D → List ℕ} {charge 
         is_given = t.1;
       })
       (λ known. tt)
+      read.within
       read
 
   -- it fails
@@ -46,4 +47,5 @@ module _ {D T U : Type 0} {told : D → Type 0} {rest : D → List ℕ} {charge 
       (settled-refused (passed_of passes why) limit F (rest old) start d.meaning (rest new) (charge new) why d.answer_is (failed-is passes why d.meaning (test d.meaning d.is_given)))
       (own-tells ended why e tells)
       (gave-takes limit F f (rest old) start d.meaning (rest new) (charge new) d.answer_is))
+      (λ _. tt)
       read

@@ -31,7 +31,7 @@ byte_gave None b rest c l h = rw (byte_word b rest) refl
 byte_gave (Some limit) b rest c l h = let e : c - 1 + 1 ≡ c = omega arith in rw (byte_word b rest, e, le-leb c limit l) refl
 
 -- no byte is left
-byte_ends : (limit : Option ℕ) (n c : ℕ) → Allows limit c → CanRelease limit c 1 → answer limit (elements (suc n) 1 (natural unsigned_byte)) [] c ≡ Refused (End None)
+byte_ends : (limit : Option ℕ) (n c : ℕ) → Allows limit c → CanRelease limit c 1 → answer limit (elements (suc n) 1 (natural unsigned_byte)) [] c ≡ Refused (End None) c
 unfolding answer unsigned_byte byte raw step done ◌>>=◌ unsure
 byte_ends None n c l h = refl
 byte_ends (Some limit) n c l h = let e : c - 1 + 1 ≡ c = omega arith in rw (e, le-leb c limit l) refl
@@ -62,7 +62,7 @@ module _ (limit : Option ℕ) (all : Answer (List Meaning)) (input : List ℕ) (
       subst (λ z. ReadSoFar limit 1 (natural unsigned_byte) all input z k rest c) (append_assoc ms (number b ∷ []) (map number bytes))
       (bytes_read bytes rest (ms ++ number b ∷ []) (length bytes + k) k refl one)
 
-  run_ends : (ms : List Meaning) (n : ℕ) → ReadSoFar limit 1 (natural unsigned_byte) all input ms (suc n) [] c → all ≡ Refused (End None)
+  run_ends : (ms : List Meaning) (n : ℕ) → ReadSoFar limit 1 (natural unsigned_byte) all input ms (suc n) [] c → all ≡ Refused (End None) c
   run_ends ms n h = sym h.is_rest ∙ ap (behind ms) (byte_ends limit n c l (one_of limit c n h.is_reserved))
 
 module _ (limit : Option ℕ) (n : ℕ) (input : List ℕ) (c : ℕ) (l : Allows limit c) (h : CanRelease limit c (n * 1)) where
@@ -76,7 +76,7 @@ module _ (limit : Option ℕ) (n : ℕ) (input : List ℕ) (c : ℕ) (l : Allows
       let r = bytes_read limit all input c l bytes rest [] n 0 (omega (arith, k)) start in
       record { meaning = map number bytes; answer_is = all-read limit 1 (natural unsigned_byte) all input (map number bytes) rest c r; is_given = listed_bytes bytes }
 
-  bytes_end : length input < n → answer limit (elements n 1 (natural unsigned_byte)) input c ≡ Refused (End None)
+  bytes_end : length input < n → answer limit (elements n 1 (natural unsigned_byte)) input c ≡ Refused (End None) c
   bytes_end k =
       let all = answer limit (elements n 1 (natural unsigned_byte)) input c in
       let start : ReadSoFar limit 1 (natural unsigned_byte) all input [] n (input ++ []) c =
@@ -85,13 +85,13 @@ module _ (limit : Option ℕ) (n : ℕ) (input : List ℕ) (c : ℕ) (l : Allows
       run_ends limit all input c l (map number input) (n - length input - 1) r
 
   -- where the bytes can't be read at once, the run of them stops
-  pub bytes-stop : (ended : ℕ → DecodeError → Type 0) (device : DeviceErrors) (H : Type 0) (before after : ℕ) (rest : List ℕ) (e : DecodeError) →
+  pub bytes-stop : (ended : ℕ → DecodeError → Type 0) (device : DeviceErrors) (H : Type 0) (before after : ℕ) (rest : List ℕ) {now : ℕ} (e : DecodeError) → now ≡ c →
       FallsShort ended input n e ⊎ (device.uncounted e ⊎ (device.counted e × Rose before after)) → device.uncounted e ⊎ Takes input rest →
-      Stops ended device H (answer limit (elements n 1 (natural unsigned_byte)) input c) before after input rest e
-  bytes-stop ended device H before after rest e why (inl u) = by_device u
-  bytes-stop ended device H before after rest e (inl s) (inr t) = by_fault (End None) (bytes_end s.0) (n - length input, s.1) t
-  bytes-stop ended device H before after rest e (inr (inl u)) (inr t) = by_device u
-  bytes-stop ended device H before after rest e (inr (inr d)) (inr t) = by_failure d.0 d.1 t
+      Stops ended device H (answer limit (elements n 1 (natural unsigned_byte)) input c) before after input rest now e
+  bytes-stop ended device H before after rest e still why (inl u) = by_device u
+  bytes-stop ended device H before after rest e still (inl s) (inr t) = by_fault (End None) (bytes_end s.0 ∙ ap (Refused (End None)) (sym still)) (n - length input, s.1) t
+  bytes-stop ended device H before after rest e still (inr (inl u)) (inr t) = by_device u
+  bytes-stop ended device H before after rest e still (inr (inr d)) (inr t) = by_failure d.0 d.1 t
 
 -- two facts of an error
 pub both-of_err : {T E : Type 0} (r : Result T E) (P Q : E → Type 0) → IfErr r P → IfErr r Q → IfErr r (λ e. P e × Q e)

@@ -1,6 +1,6 @@
 -- Where the decoding of a span of time ends.
 use Rattle.std.specs.Prelude.{◌≡◌, ℕ, ◌+◌, ◌/◌, ◌%◌, ◌<◌, ◌≤◌, ◌^◌, List, Option, Some, None, is_some, SomeIff, true, false}
-use Rattle.std.proofs.Common.{◌∙◌, refl, arith}
+use Rattle.std.proofs.Common.{◌∙◌, sym, ap, refl, arith}
 use Rattle.std.proofs.lemmas.Bool.{true≢false, false≢true}
 use Rattle.bincode_base.specs.declared.error.IntegerType.TheVariants as integers
 use Rattle.bincode_format.specs.Device.{DeviceErrors}
@@ -14,7 +14,7 @@ use Rattle.bincode_format.specs.Integers.{Eight}
 use Rattle.bincode_laws.specs.IntegerLaws.{unsigned-lawful}
 use Rattle.bincode_format.specs.Words.{second_in_nanos, duration_of, seconds_and_nanos, duration}
 use Rattle.bincode_laws.specs.DurationLaws.{IsSpan, span, span-is, carries, overflows, parts-lawful}
-use Rattle.bincode_format.specs.Answer.{Gave, answer}
+use Rattle.bincode_format.specs.Answer.{Gave, Refused, answer}
 use Rattle.bincode_format.specs.Decoding.{Decodes, Stops, by_fault}
 use Rattle.bincode_laws.specs.DecodingLaws.{answer-next, map-gave, map-stops, settled-gave, settled-refused, gave-takes, stops-first, stops-next}
 use Rattle.bincode_decoder.proofs.WrittenAs.{rewritten-answer}
@@ -50,27 +50,28 @@ module _ (limit : Option ℕ) (s : Setting) (input : List ℕ) (c : ℕ) where
     }
 
     -- too many seconds are refused
-    pub span-overflows : (ended : ℕ → DecodeError → Type 0) (device : DeviceErrors) (H : Type 0) (before last : ℕ) → 2 ^ 64 ≤ seconds + nanos / second_in_nanos →
-        Stops ended device H (answer limit (duration s) input c) before last input rest (errors.InvalidDuration seconds nanos)
-    span-overflows ended device H before last h =
+    pub span-overflows : (ended : ℕ → DecodeError → Type 0) (device : DeviceErrors) (H : Type 0) (before last : ℕ) {now : ℕ} → now ≡ after → 2 ^ 64 ≤ seconds + nanos / second_in_nanos →
+        Stops ended device H (answer limit (duration s) input c) before last input rest now (errors.InvalidDuration seconds nanos)
+    span-overflows ended device H before last still h =
         by_fault (InvalidDuration seconds nanos)
         (in_parts ∙ settled-refused (λ parts. duration_of parts.0 parts.1) limit (seconds_and_nanos s) input c (seconds, nanos) rest after (InvalidDuration seconds nanos) parts_gave
-        (overflows seconds nanos h))
+        (overflows seconds nanos h)
+        ∙ ap (Refused (InvalidDuration seconds nanos)) (sym still))
         refl
         (gave-takes limit (seconds_and_nanos s) (parts-lawful s) input c (seconds, nanos) rest after parts_gave)
 
-  module _ (ended : ℕ → DecodeError → Type 0) (device : DeviceErrors) (H : Type 0) (before after : ℕ) (rest : List ℕ) (e : DecodeError) where
-    parts_stop : Stops ended device H (answer limit (seconds_and_nanos s) input c) before after input rest e → Stops ended device H (answer limit (duration s) input c) before after input rest e
+  module _ (ended : ℕ → DecodeError → Type 0) (device : DeviceErrors) (H : Type 0) (before after : ℕ) (rest : List ℕ) {now : ℕ} (e : DecodeError) where
+    parts_stop : Stops ended device H (answer limit (seconds_and_nanos s) input c) before after input rest now e → Stops ended device H (answer limit (duration s) input c) before after input rest now e
     parts_stop h = rw in_parts (stops-first ended device H H (λ k. k) limit (seconds_and_nanos s) (λ parts. settled (duration_of parts.0 parts.1)) input c before after rest e h)
 
     -- the seconds stop
-    pub span-stops_first : Stops ended device H (answer limit (unsigned integers.U64 8 s) input c) before after input rest e →
-        Stops ended device H (answer limit (duration s) input c) before after input rest e
+    pub span-stops_first : Stops ended device H (answer limit (unsigned integers.U64 8 s) input c) before after input rest now e →
+        Stops ended device H (answer limit (duration s) input c) before after input rest now e
     span-stops_first h = parts_stop (stops-first ended device H H (λ k. k) limit (unsigned integers.U64 8 s) (λ k. map_format (λ n. (k, n)) (unsigned integers.U32 4 s)) input c before after rest e h)
 
     -- the nanoseconds stop
     pub span-stops_next : (seconds : ℕ) (middle : List ℕ) (d between : ℕ) → answer limit (unsigned integers.U64 8 s) input c ≡ Gave seconds middle d → before ≤ between →
-        Stops ended device H (answer limit (unsigned integers.U32 4 s) middle d) between after middle rest e → Stops ended device H (answer limit (duration s) input c) before after input rest e
+        Stops ended device H (answer limit (unsigned integers.U32 4 s) middle d) between after middle rest now e → Stops ended device H (answer limit (duration s) input c) before after input rest now e
     span-stops_next seconds middle d between a le h =
         parts_stop
         (stops-next ended device H H (λ k. k) limit (unsigned integers.U64 8 s) (λ k. map_format (λ n. (k, n)) (unsigned integers.U32 4 s))

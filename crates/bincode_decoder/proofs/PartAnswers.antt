@@ -21,7 +21,7 @@ pub reads-besides :
     (G → H) →
     Reads told rest charge failures place limit ended device G F given start r old new → Reads told rest charge failures place limit ended device H F given start r old new
 reads-besides {limit = limit} {ended = ended} {device = device} {G = G} {H = H} r grow read =
-    read-as read.ok (λ known. IfErr-weaker r _ _ (λ e h. stops-besides ended device G H grow _ _ _ _ _ e h) (read.err known)) read
+    read-as read.ok (λ known. IfErr-weaker r _ _ (λ e h. stops-besides ended device G H grow _ _ _ _ _ e h) (read.err known)) read.within read
 
 module _ {D A B T U : Type 0} {told : D → Type 0} {rest : D → List ℕ} {charge failures : D → ℕ} {place : D → List GName} {limit : Option ℕ}
     {ended : ℕ → DecodeError → Type 0} {device : DeviceErrors} {G H : Type 0} (F : Format A) (S : A → Format B) {start : ℕ} {old : D}
@@ -30,7 +30,7 @@ module _ {D A B T U : Type 0} {told : D → Type 0} {rest : D → List ℕ} {cha
   pub first-stops : {given : A → T → Type 0} {e : DecodeError} {new : D} → (G → H) →
       Reads told rest charge failures place limit ended device G F given start (Err e) old new →
       Reads told rest charge failures place limit ended device H (F >>= S) whole start (Err e) old new
-  first-stops {e = e} grow read = read-as (λ known. tt) (λ known. stops-first ended device G H grow limit F S _ _ _ _ _ e (read.err known)) read
+  first-stops {e = e} grow read = read-as (λ known. tt) (λ known. stops-first ended device G H grow limit F S _ _ _ _ _ e (read.err known)) (λ _. tt) read
 
   -- what follows a part that was read
   pub next-reads : {mean : T → A} {v : T} {r : Result U DecodeError} {middle end : D} → Lawful F →
@@ -46,6 +46,7 @@ module _ {D A B T U : Type 0} {told : D → Type 0} {rest : D → List ℕ} {cha
       }) (second.ok (first.tells known)))
       (λ known. IfErr-weaker r _ _ (λ e h. stops-next ended device H H (λ k. k) limit F S lawful (rest old) start (failures old) (failures middle) (failures end) (mean v) (rest middle)
       (rest end) (charge middle) e (exactly (first.ok known)) first.counted h) (second.err (first.tells known)))
+      (λ a. second.within (first.within a))
       first second
 
 module _ {D A B T U : Type 0} {told : D → Type 0} {rest : D → List ℕ} {charge failures : D → ℕ} {place : D → List GName} {limit : Option ℕ}
@@ -57,6 +58,7 @@ module _ {D A B T U : Type 0} {told : D → Type 0} {rest : D → List ℕ} {cha
       read-as
       (λ known. record { meaning = b; answer_is = settled-gave test limit F (rest old) start (mean v) (rest new) (charge new) b (exactly (read.ok known)) h; is_given = given })
       (λ known. tt)
+      read.within
       read
 
   -- it fails it
@@ -67,4 +69,5 @@ module _ {D A B T U : Type 0} {told : D → Type 0} {rest : D → List ℕ} {cha
       (λ known. tt)
       (λ known. by_fault why (settled-refused test limit F (rest old) start (mean v) (rest new) (charge new) why (exactly (read.ok known)) h) tells
       (gave-takes limit F lawful (rest old) start (mean v) (rest new) (charge new) (exactly (read.ok known))))
+      (λ _. tt)
       read

@@ -7,13 +7,13 @@ use Rattle.bincode_base.specs.declared.error.DecodeError.{DecodeError}
 use Rattle.bincode_format.specs.Device.{DeviceErrors, Fills}
 use Rattle.bincode_format.specs.Format.{Format, charged, map_format}
 use Rattle.bincode_format.specs.Reads.{ReadsWord}
-use Rattle.bincode_format.specs.Answer.{Answer, answer, Gave, Claimed, OverClaimed, Charges}
+use Rattle.bincode_format.specs.Answer.{Answer, answer, Gave, Allows, Claimed, OverClaimed, Charges}
 use Rattle.bincode_format.specs.Meaning.{Number}
 use Rattle.bincode_format.specs.Decoding.{Decodes, Stops}
 use Rattle.bincode_laws.specs.DecodingLaws.{charged-gave, charged-misread, map-gave, map-stops}
 use Rattle.bincode_format.specs.Claims.{OnlyCharged}
 use Rattle.bincode_format.specs.Values.{Reads, ReadsInteger}
-use Rattle.bincode_decoder.proofs.Rooms.{claimed-grows, over-grows}
+use Rattle.bincode_decoder.proofs.Rooms.{claimed-grows, claimed-within, over-grows, whatever_given}
 
 module _ {D A B T U : Type 0} {told : D → Type 0} {rest : D → List ℕ} {charge failures : D → ℕ} {place : D → List GName} {limit : Option ℕ}
     {ended : ℕ → DecodeError → Type 0} {device : DeviceErrors} {G H : Type 0} {F : Format A} {given : A → T → Type 0} {charged : ℕ}
@@ -21,23 +21,26 @@ module _ {D A B T U : Type 0} {told : D → Type 0} {rest : D → List ℕ} {cha
   module _ {whole : Format B} {other : B → U → Type 0} {q : Result U DecodeError} where
     -- what was read is read for something else
     pub read-as : (told old → IfOk q (λ v. Decodes (λ m. other m v) (answer limit whole (rest old) charged) (rest new) (charge new))) →
-        (told old → IfErr q (Stops ended device H (answer limit whole (rest old) charged) (failures old) (failures new) (rest old) (rest new))) →
+        (told old → IfErr q (Stops ended device H (answer limit whole (rest old) charged) (failures old) (failures new) (rest old) (rest new) (charge new))) →
+        (Allows limit charged → IfOk q (λ _. Allows limit (charge new))) →
         Reads told rest charge failures place limit ended device G F given charged r old new → Reads told rest charge failures place limit ended device H whole other charged q old new
-    read-as h k read = record { ok = h; err = k; counted = read.counted; tells = read.tells; held = read.held; same_place = read.same_place }
+    read-as h k w read = record { ok = h; err = k; counted = read.counted; tells = read.tells; held = read.held; within = w; same_place = read.same_place }
 
     -- and what is read behind it with it
     pub read-behind : {K C V : Type 0} {S : Format C} {next : C → V → Type 0} {p : Result V DecodeError} {end : D} →
         (told old → IfOk q (λ v. Decodes (λ m. other m v) (answer limit whole (rest old) charged) (rest end) (charge end))) →
-        (told old → IfErr q (Stops ended device H (answer limit whole (rest old) charged) (failures old) (failures end) (rest old) (rest end))) →
+        (told old → IfErr q (Stops ended device H (answer limit whole (rest old) charged) (failures old) (failures end) (rest old) (rest end) (charge end))) →
+        (Allows limit charged → IfOk q (λ _. Allows limit (charge end))) →
         Reads told rest charge failures place limit ended device G F given charged r old new →
         Reads told rest charge failures place limit ended device K S next (charge new) p new end →
         Reads told rest charge failures place limit ended device H whole other charged q old end
-    read-behind h k first second = record {
+    read-behind h k w first second = record {
       ok = h;
       err = k;
       counted = let a = first.counted in let b = second.counted in omega (arith, a, b);
       tells = λ known. second.tells (first.tells known);
       held = let a = first.held in let b = second.held in omega (arith, a, b);
+      within = w;
       same_place = second.same_place ∙ first.same_place;
     }
 
@@ -55,7 +58,7 @@ module _ {D R C : Type 0} {told : D → Type 0} {rest : D → List ℕ} {charge 
   -- a claim that passes the limit
   pub claim-passed : {A T G : Type 0} {F : Format A} {given : A → T → Type 0} {e : DecodeError} (n : ℕ) →
       OverClaimed limit (charge old) n (charge now) →
-      Stops ended device G (answer limit F (rest old) (charge old)) (failures old) (failures now) (rest old) (rest now) e →
+      Stops ended device G (answer limit F (rest old) (charge old)) (failures old) (failures now) (rest old) (rest now) (charge now) e →
       Reads told rest charge failures place limit ended device G F given (charge old) (Err e) old now
   claim-passed n over stops = record {
     ok = λ known. tt;
@@ -63,6 +66,7 @@ module _ {D R C : Type 0} {told : D → Type 0} {rest : D → List ℕ} {charge 
     counted = let e = kept.same_failures in omega (arith, e);
     tells = kept.tells;
     held = over-grows limit (charge old) n (charge now) over;
+    within = λ _. tt;
     same_place = kept.same_place;
   }
 
@@ -78,10 +82,11 @@ module _ {D R C : Type 0} {told : D → Type 0} {rest : D → List ℕ} {charge 
       is_given = refl;
     }) (read.ok (kept.tells known));
     err = λ known. IfErr-weaker r _ _ (λ e h. charged-misread limit n F (rest old) (charge old) ended device ⊥ (charge now) (failures old) (failures now) (failures new) (rest now)
-        (rest new) e claim kept.same_rest kept.same_failures h) (read.err (kept.tells known));
+        (rest new) e still claim kept.same_rest kept.same_failures h) (read.err (kept.tells known));
     counted = let e = kept.same_failures in let count = read.counted in omega (arith, e, count);
     tells = λ known. read.tells (kept.tells known);
     held = rw still (claimed-grows limit (charge old) n (charge now) claim);
+    within = λ _. whatever_given r (rw still (claimed-within limit (charge old) n (charge now) claim));
     same_place = read.same_place ∙ kept.same_place;
   }
 
@@ -113,6 +118,7 @@ number-reads {limit = limit} {F = F} {r = r} f g read =
     read-as
     (λ known. IfOk-weaker r _ _ (λ v h. record { meaning = f v; answer_is = map-gave f limit F _ _ v _ _ (exactly h); is_given = g v }) (read.ok known))
     (λ known. IfErr-weaker r _ _ (λ e k. map-stops f _ _ ⊥ limit F _ _ _ _ _ e k) (read.err known))
+    read.within
     read
 
 -- so an integer is read with what it means

@@ -1,5 +1,5 @@
 -- The room that is held for a run of values.
-use Rattle.std.specs.Prelude.{if◌then◌else◌, ◌≡◌, ℕ, ◌+◌, ◌-◌, ◌*◌, ◌^◌, ◌<◌, ◌≤◌, nat_lt, nat_le, Bool, true, false, is_some, List, Option, Some, None, Ok, Err, refl}
+use Rattle.std.specs.Prelude.{if◌then◌else◌, ◌≡◌, ℕ, ◌+◌, ◌-◌, ◌*◌, ◌^◌, ◌<◌, ◌≤◌, nat_lt, nat_le, Bool, true, false, is_some, List, Option, Some, None, Result, Ok, Err, IfOk, refl}
 use Rattle.std.specs.Bool.{MatchBool}
 use Rattle.std.specs.Borrow.{GName}
 use Rattle.std.proofs.Common.{arith}
@@ -7,7 +7,7 @@ use Rattle.std.proofs.lemmas.Bool.{false≢true, true≢false, le-ltb, cases_fro
 use Rattle.bincode_base.specs.declared.error.DecodeError.TheVariants.{LimitExceeded}
 use Rattle.bincode_format.specs.Claims.{Claims, OnlyCharged}
 use Rattle.std.proofs.Math.Nat.{mul-le-mul_right}
-use Rattle.bincode_format.specs.Answer.{Claimed, OverClaimed, unclaimed}
+use Rattle.bincode_format.specs.Answer.{Allows, Claimed, OverClaimed, unclaimed}
 use Rattle.bincode_format.specs.Run.{Held}
 use Rattle.bincode_laws.specs.AnswerLaws.{claim-falls}
 
@@ -30,6 +30,28 @@ claimed_by false raised after e = absurd (cc)
 pub claimed-grows : (limit : Option ℕ) (before n after : ℕ) → Claimed limit before n after → before ≤ after
 claimed-grows None before n after h = let e : after ≡ before = cc in omega (arith, e)
 claimed-grows (Some limit) before n after h = let e = claimed_by (nat_le (before + n) limit) (before + n) after h in omega (arith, e)
+
+-- and leads to a charge within the limit;
+pub claimed-within : (limit : Option ℕ) (before n after : ℕ) → Claimed limit before n after → Allows limit after
+claimed-within None before n after h = tt
+claimed-within (Some limit) before n after h = stands (nat_le (before + n) limit) refl
+  where
+    stands : (b : Bool) → nat_le (before + n) limit ≡ b → after ≤ limit
+    stands true e = let k : before + n ≤ limit = leb-true (before + n) limit e in let r : after ≡ before + n = claimed_by true (before + n) after (rw e at h) in omega (arith, k, r)
+    stands false e = absurd (none (rw e at h))
+      where
+        none : ◌≡◌ {A = Option ℕ} None (Some after) → ⊥
+        none k = cc
+
+-- so does a release, if the charge was within it before
+pub unclaimed-within : (limit : Option ℕ) (charge n : ℕ) → Allows limit charge → Allows limit (unclaimed limit charge n)
+unclaimed-within None charge n h = tt
+unclaimed-within (Some limit) charge n h = omega arith
+
+-- a fact that doesn't depend on what was given
+pub whatever_given : {T E : Type 0} (r : Result T E) {P : Type 0} → P → IfOk r (λ _. P)
+whatever_given (Ok v) p = p
+whatever_given (Err e) p = tt
 
 -- nor does what holds its room,
 pub claimed-held : (limit : Option ℕ) (before n after end : ℕ) → Claimed limit before n after → Held limit n after end → before ≤ end

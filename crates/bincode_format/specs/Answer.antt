@@ -46,10 +46,11 @@ abbrev pub charge_behind : Option ℕ → ℕ → List Step → Option ℕ
 charge_behind limit charge [] = Some charge
 charge_behind limit charge (s ∷ steps) = on_some (after_step limit charge s) (λ after. charge_behind limit after steps)
 
--- a meaning with the bytes behind the word and the charge behind its steps; a fault; or a step that passed the limit
+-- a meaning with the bytes behind the word and the charge behind its steps; a fault with the charge behind the steps before
+-- it; or a step that passed the limit
 pub data Answer (A : Type 0) : Type 0 where
   Gave : A → List ℕ → ℕ → Answer A
-  Refused : Fault → Answer A
+  Refused : Fault → ℕ → Answer A
   PassedLimit : Answer A
 
 abbrev pub gave_at : {A : Type 0} → A → List ℕ → Option ℕ → Answer A
@@ -57,7 +58,7 @@ gave_at a rest (Some charge) = Gave a rest charge
 gave_at a rest None = PassedLimit
 
 abbrev pub refused_at : {A : Type 0} → Fault → Option ℕ → Answer A
-refused_at why (Some charge) = Refused why
+refused_at why (Some charge) = Refused why charge
 refused_at why None = PassedLimit
 
 -- what a limit makes of a reading
@@ -72,7 +73,7 @@ answer limit F input charge = weighed limit charge (F.read input)
 -- what follows an answer that gave a meaning
 abbrev pub and_then : {A B : Type 0} → Answer A → (A → List ℕ → ℕ → Answer B) → Answer B
 and_then (Gave a rest charge) next = next a rest charge
-and_then (Refused why) next = Refused why
+and_then (Refused why charge) next = Refused why charge
 and_then PassedLimit next = PassedLimit
 
 -- these are the steps of the word that the input begins with, or those before its fault

@@ -15,15 +15,15 @@ pub record Decodes {A : Type 0} (Given : A → Type 0) (a : Answer A) (rest : Li
   pub answer_is : a ≡ Gave meaning rest charge
   pub is_given : Given meaning
 
--- The error tells the answer, memory was refused where decoding takes some, or the device failed by an error that it
--- counts; some front of the input was taken. Or it failed by one that it does not count, and then nothing is said of the
--- input.
-pub data Stops {A : Type 0} (ended : ℕ → DecodeError → Type 0) (device : DeviceErrors) (Grows : Type 0) (a : Answer A) (before after : ℕ) (rest rest' : List ℕ) (e : DecodeError) : Type 0 where
-  by_fault : (why : Fault) → a ≡ Refused why → Tells ended why e → Takes rest rest' → Stops ended device Grows a before after rest rest' e
-  by_limit : a ≡ PassedLimit → e ≡ LimitExceeded → Takes rest rest' → Stops ended device Grows a before after rest rest' e
-  by_memory : Grows → e ≡ Memory → Takes rest rest' → Stops ended device Grows a before after rest rest' e
-  by_failure : device.counted e → Rose before after → Takes rest rest' → Stops ended device Grows a before after rest rest' e
-  by_device : device.uncounted e → Stops ended device Grows a before after rest rest' e
+-- The error tells the answer, and the charge is the one behind the steps before the fault; memory was refused where decoding
+-- takes some; or the device failed by an error that it counts; some front of the input was taken. Or it failed by one that it
+-- does not count, and then nothing is said of the input.
+pub data Stops {A : Type 0} (ended : ℕ → DecodeError → Type 0) (device : DeviceErrors) (Grows : Type 0) (a : Answer A) (before after : ℕ) (rest rest' : List ℕ) (charge : ℕ) (e : DecodeError) : Type 0 where
+  by_fault : (why : Fault) → a ≡ Refused why charge → Tells ended why e → Takes rest rest' → Stops ended device Grows a before after rest rest' charge e
+  by_limit : a ≡ PassedLimit → e ≡ LimitExceeded → Takes rest rest' → Stops ended device Grows a before after rest rest' charge e
+  by_memory : Grows → e ≡ Memory → Takes rest rest' → Stops ended device Grows a before after rest rest' charge e
+  by_failure : device.counted e → Rose before after → Takes rest rest' → Stops ended device Grows a before after rest rest' charge e
+  by_device : device.uncounted e → Stops ended device Grows a before after rest rest' charge e
 
 -- memory was refused, where decoding takes some
 abbrev pub IsRefused : Type 0 → DecodeError → Type 0

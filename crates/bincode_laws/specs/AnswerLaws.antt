@@ -69,7 +69,7 @@ unfolding answer
 answer-took limit F input rest m charge e = ap (weighed limit charge) e
 
 -- What faults with no steps before is refused.
-pub answer-failed : {A : Type 0} (limit : Option ℕ) (F : Format A) (input : List ℕ) (why : Fault) (charge : ℕ) → F.read input ≡ Failed why [] → answer limit F input charge ≡ Refused why
+pub answer-failed : {A : Type 0} (limit : Option ℕ) (F : Format A) (input : List ℕ) (why : Fault) (charge : ℕ) → F.read input ≡ Failed why [] → answer limit F input charge ≡ Refused why charge
 unfolding answer
 answer-failed limit F input why charge e = ap (weighed limit charge) e
 
@@ -79,7 +79,7 @@ unfolding answer done
 answer-done limit a input charge = refl
 
 -- A refusal is answered at once.
-pub answer-refused : {A : Type 0} (limit : Option ℕ) (why : Fault) (input : List ℕ) (charge : ℕ) → answer limit (refused {A = A} why) input charge ≡ Refused why
+pub answer-refused : {A : Type 0} (limit : Option ℕ) (why : Fault) (input : List ℕ) (charge : ℕ) → answer limit (refused {A = A} why) input charge ≡ Refused why charge
 unfolding answer refused
 answer-refused limit why input charge = refl
 
@@ -260,19 +260,19 @@ module _ {A : Type 0} (m : A) (rest : List ℕ) (after : ℕ) where
   gave_by limit charge (Took a more steps) e = let p = gave_at_is a more (charge_behind limit charge steps) e in (steps, rw (p.0, p.1) refl, p.2)
   gave_by limit charge (Failed why steps) e = absurd (refused_gave why (charge_behind limit charge steps) e)
 
-module _ {A : Type 0} (why : Fault) where
-  refused_at_is : (fault : Fault) (o : Option ℕ) → ◌≡◌ {A = Answer A} (refused_at fault o) (Refused why) → (after : ℕ) × (fault ≡ why) × (o ≡ Some after)
-  refused_at_is fault (Some n) e = (n, cc, refl)
+module _ {A : Type 0} (why : Fault) (after : ℕ) where
+  refused_at_is : (fault : Fault) (o : Option ℕ) → ◌≡◌ {A = Answer A} (refused_at fault o) (Refused why after) → (fault ≡ why) × (o ≡ Some after)
+  refused_at_is fault (Some n) e = (cc, cc)
   refused_at_is fault None e = absurd (cc)
 
-  gave_refused : (a : A) (rest : List ℕ) (o : Option ℕ) → gave_at a rest o ≡ Refused why → ⊥
+  gave_refused : (a : A) (rest : List ℕ) (o : Option ℕ) → gave_at a rest o ≡ Refused why after → ⊥
   gave_refused a rest (Some n) e = cc
   gave_refused a rest None e = cc
 
-  refused_by : (limit : Option ℕ) (charge : ℕ) (r : Reading A) → weighed limit charge r ≡ Refused why →
-      (steps : List Step) × (after : ℕ) × (r ≡ Failed why steps) × (charge_behind limit charge steps ≡ Some after)
+  refused_by : (limit : Option ℕ) (charge : ℕ) (r : Reading A) → weighed limit charge r ≡ Refused why after →
+      (steps : List Step) × (r ≡ Failed why steps) × (charge_behind limit charge steps ≡ Some after)
   refused_by limit charge (Took a rest steps) e = absurd (gave_refused a rest (charge_behind limit charge steps) e)
-  refused_by limit charge (Failed fault steps) e = let p = refused_at_is fault (charge_behind limit charge steps) e in (steps, p.0, rw p.1 refl, p.2)
+  refused_by limit charge (Failed fault steps) e = let p = refused_at_is fault (charge_behind limit charge steps) e in (steps, rw p.0 refl, p.1)
 
 gave_passed : {A : Type 0} (a : A) (rest : List ℕ) (o : Option ℕ) → gave_at a rest o ≡ PassedLimit → o ≡ None
 gave_passed a rest (Some n) e = absurd (cc)
@@ -308,12 +308,12 @@ module _ {A : Type 0} (F : Format A) (f : Lawful F) (b : Balanced F) (limit : Op
       }
 
   -- What is refused has this fault, before which the limit is not passed.
-  pub refused-fault : (input : List ℕ) (why : Fault) → answer limit F input 0 ≡ Refused why → (steps : List Step) × F.Faults input why steps × StaysWithin limit 0 steps
+  pub refused-fault : (input : List ℕ) (why : Fault) (after : ℕ) → answer limit F input 0 ≡ Refused why after → (steps : List Step) × F.Faults input why steps × StaysWithin limit 0 steps
   unfolding answer
-  refused-fault input why e =
-      let p = refused_by why limit 0 (F.read input) e in
-      let q = f.read_fault input why p.0 p.2 in
-      (p.0, q, behind-stays limit 0 0 p.0 p.1 (fault_backed input why p.0 q) (omega arith) (allowed_none limit) p.3)
+  refused-fault input why after e =
+      let p = refused_by why after limit 0 (F.read input) e in
+      let q = f.read_fault input why p.0 p.1 in
+      (p.0, q, behind-stays limit 0 0 p.0 after (fault_backed input why p.0 q) (omega arith) (allowed_none limit) p.2)
 
   steps_backed : (input : List ℕ) (steps : List Step) → StepsOf F input steps → IsBacked 0 steps
   steps_backed input steps (of_word word rest m u e) = word_backed word m steps u
@@ -340,8 +340,9 @@ module _ {A : Type 0} (F : Format A) (f : Lawful F) (b : Balanced F) (limit : Op
       ap (weighed limit charge) (f.word_read word rest m steps u)
       ∙ ap (gave_at m rest) (stays-behind limit charge 0 steps (word_backed word m steps u) (omega arith) w)
 
-  -- A fault before which the limit is not passed is refused.
-  pub fault-refused : (input : List ℕ) (why : Fault) (steps : List Step) (charge : ℕ) → F.Faults input why steps → StaysWithin limit charge steps → answer limit F input charge ≡ Refused why
+  -- A fault before which the limit is not passed is refused, with the charge behind the steps before it.
+  pub fault-refused : (input : List ℕ) (why : Fault) (steps : List Step) (charge : ℕ) → F.Faults input why steps → StaysWithin limit charge steps →
+      answer limit F input charge ≡ Refused why (counted_after limit charge steps)
   unfolding answer
   fault-refused input why steps charge h w =
       ap (weighed limit charge) (f.fault_read input why steps h)

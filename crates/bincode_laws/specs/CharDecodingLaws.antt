@@ -113,7 +113,7 @@ module _ (limit : Option ℕ) (input middle : List ℕ) (c first : ℕ) (read : 
       answer-next limit byte (λ z. behind_char z (char_width z)) input c first middle c (answer-took limit byte input middle first c read) ∙ ap (λ z. answer limit (behind_char first z) middle c) e
 
   -- a byte that begins no character
-  pub character-none : char_width first ≡ None → answer limit character input c ≡ Refused (InvalidChar (first ∷ 0 ∷ 0 ∷ 0 ∷ []))
+  pub character-none : char_width first ≡ None → answer limit character input c ≡ Refused (InvalidChar (first ∷ 0 ∷ 0 ∷ 0 ∷ [])) c
   character-none e = character-next None e ∙ answer-refused limit (InvalidChar (four_bytes (first ∷ []))) middle c
 
   -- the character that was read is given
@@ -124,26 +124,28 @@ module _ (limit : Option ℕ) (input middle : List ℕ) (c first : ℕ) (read : 
 
   module _ (ended : ℕ → DecodeError → Type 0) (device : DeviceErrors) (H : Type 0) where
     -- a byte that begins no character
-    pub character-stops_none : (before after : ℕ) (e : DecodeError) → char_width first ≡ None → e ≡ InvalidCharEncoding (first ∷ 0 ∷ 0 ∷ 0 ∷ []) →
-        Stops ended device H (answer limit character input c) before after input middle e
-    character-stops_none before after e w t = let p = byte-lawful.read_word input middle first [] read in stops.by_fault (InvalidChar (first ∷ 0 ∷ 0 ∷ 0 ∷ [])) (character-none w) t
-        (p.word, p.input_is)
+    pub character-stops_none : (before after : ℕ) {now : ℕ} (e : DecodeError) → now ≡ c → char_width first ≡ None → e ≡ InvalidCharEncoding (first ∷ 0 ∷ 0 ∷ 0 ∷ []) →
+        Stops ended device H (answer limit character input c) before after input middle now e
+    character-stops_none before after e still w t =
+        let p = byte-lawful.read_word input middle first [] read in
+        stops.by_fault (InvalidChar (first ∷ 0 ∷ 0 ∷ 0 ∷ [])) (character-none w ∙ ap (Refused (InvalidChar (first ∷ 0 ∷ 0 ∷ 0 ∷ []))) (sym still)) t (p.word, p.input_is)
 
     -- where what follows the first byte stops, so does the whole
-    pub character-stops_behind : (width before between after : ℕ) (rest : List ℕ) (e : DecodeError) → char_width first ≡ Some width → before ≤ between →
-        Stops ended device H (answer limit (charged width (rest_of_char first width)) middle c) between after middle rest e →
-        Stops ended device H (answer limit character input c) before after input rest e
-    character-stops_behind width before between after rest e w le s =
+    pub character-stops_behind : (width before between after : ℕ) (rest : List ℕ) {now : ℕ} (e : DecodeError) → char_width first ≡ Some width → before ≤ between →
+        Stops ended device H (answer limit (charged width (rest_of_char first width)) middle c) between after middle rest now e →
+        Stops ended device H (answer limit character input c) before after input rest now e
+    character-stops_behind width before between after rest {now} e w le s =
         stops-next ended device H H (λ z. z) limit byte (λ z. behind_char z (char_width z)) byte-lawful input c before between after first middle rest c e
         (answer-took limit byte input middle first c read) le
-        (subst (λ z. Stops ended device H (answer limit (behind_char first z) middle c) between after middle rest e) (sym w) s)
+        (subst (λ z. Stops ended device H (answer limit (behind_char first z) middle c) between after middle rest now e) (sym w) s)
 
 -- a first byte that could not be read
 pub character-stops_first :
-    (limit : Option ℕ) (input : List ℕ) (c : ℕ) (ended : ℕ → DecodeError → Type 0) (device : DeviceErrors) (H : Type 0) (before after : ℕ) (rest : List ℕ) (e : DecodeError) →
+    (limit : Option ℕ) (input : List ℕ) (c : ℕ) (ended : ℕ → DecodeError → Type 0) (device : DeviceErrors) (H : Type 0) (before after : ℕ) (rest : List ℕ) {now : ℕ} (e : DecodeError) → now ≡ c →
     Misreads ended device (byte.read input) before after input rest e →
-    Stops ended device H (answer limit character input c) before after input rest e
-character-stops_first limit input c ended device H before after rest e (by_fault why h t k) =
-    stops-first ended device H H (λ z. z) limit byte (λ z. behind_char z (char_width z)) input c before after rest e (stops.by_fault why (answer-failed limit byte input why c h) t k)
-character-stops_first limit input c ended device H before after rest e (by_failure d h k) = stops.by_failure d h k
-character-stops_first limit input c ended device H before after rest e (by_device h) = stops.by_device h
+    Stops ended device H (answer limit character input c) before after input rest now e
+character-stops_first limit input c ended device H before after rest e still (by_fault why h t k) =
+    stops-first ended device H H (λ z. z) limit byte (λ z. behind_char z (char_width z)) input c before after rest e
+    (stops.by_fault why (answer-failed limit byte input why c h ∙ ap (Refused why) (sym still)) t k)
+character-stops_first limit input c ended device H before after rest e still (by_failure d h k) = stops.by_failure d h k
+character-stops_first limit input c ended device H before after rest e still (by_device h) = stops.by_device h

@@ -17,9 +17,9 @@ use Rattle.bincode_laws.specs.DecodingLaws.{answer-next, stops-first, stops-next
 module _ (limit : Option ℕ) (tags : Setting → Format ℕ) (variants : List Variant) (s : Setting) (input : List ℕ) (c : ℕ) where
   -- where the tag stops, so does the whole
   pub choice-stops_tag :
-      (ended : ℕ → DecodeError → Type 0) (device : DeviceErrors) (K : Type 0) (before after : ℕ) (rest : List ℕ) (e : DecodeError) →
-      Stops ended device ⊥ (answer limit (tags s) input c) before after input rest e →
-      Stops ended device K (answer limit (chosen tags variants s) input c) before after input rest e
+      (ended : ℕ → DecodeError → Type 0) (device : DeviceErrors) (K : Type 0) (before after : ℕ) (rest : List ℕ) {now : ℕ} (e : DecodeError) →
+      Stops ended device ⊥ (answer limit (tags s) input c) before after input rest now e →
+      Stops ended device K (answer limit (chosen tags variants s) input c) before after input rest now e
   unfolding chosen
   choice-stops_tag ended device K before after rest e = stops-first ended device ⊥ K (λ h. absurd h) limit (tags s) (behind_tag variants s) input c before after rest e
 
@@ -33,9 +33,9 @@ module _ (limit : Option ℕ) (tags : Setting → Format ℕ) (variants : List V
 
     -- and where it stops, so does the whole
     pub choice-stops_part : Lawful (tags s) →
-        (ended : ℕ → DecodeError → Type 0) (device : DeviceErrors) (H : Type 0) (before between after : ℕ) (rest : List ℕ) (e : DecodeError) →
-        before ≤ between → Stops ended device H (answer limit (behind_tag variants s found) middle d) between after middle rest e →
-        Stops ended device H (answer limit (chosen tags variants s) input c) before after input rest e
+        (ended : ℕ → DecodeError → Type 0) (device : DeviceErrors) (H : Type 0) (before between after : ℕ) (rest : List ℕ) {now : ℕ} (e : DecodeError) →
+        before ≤ between → Stops ended device H (answer limit (behind_tag variants s found) middle d) between after middle rest now e →
+        Stops ended device H (answer limit (chosen tags variants s) input c) before after input rest now e
     unfolding chosen
     choice-stops_part t ended device H before between after rest e =
         stops-next ended device H H (λ h. h) limit (tags s) (behind_tag variants s) t input c before between after found middle rest d e gave
@@ -50,12 +50,12 @@ module _ (limit : Option ℕ) (found tag : ℕ) (F others : Format Meaning) (inp
     is_given = record { part = p.meaning; meaning_is = refl; is_part = p.is_given };
   }
 
-  module _ (ended : ℕ → DecodeError → Type 0) (device : DeviceErrors) (H K : Type 0) (grow : H → K) (before after : ℕ) (rest : List ℕ) (e : DecodeError) where
-    pub here-stops : found ≡ tag → Stops ended device H (answer limit F input c) before after input rest e →
-        Stops ended device K (answer limit (if_picked (found == tag) (map_format (Choice found) F) others) input c) before after input rest e
+  module _ (ended : ℕ → DecodeError → Type 0) (device : DeviceErrors) (H K : Type 0) (grow : H → K) (before after : ℕ) (rest : List ℕ) {now : ℕ} (e : DecodeError) where
+    pub here-stops : found ≡ tag → Stops ended device H (answer limit F input c) before after input rest now e →
+        Stops ended device K (answer limit (if_picked (found == tag) (map_format (Choice found) F) others) input c) before after input rest now e
     here-stops same p = rw (eq-eqb found tag same) (stops-besides ended device H K grow _ before after input rest e (map-stops (Choice found) ended device H limit F input c before after rest e p))
 
     -- the tag picks one of the others
-    pub there-stops : (found ≡ tag → ⊥) → Stops ended device H (answer limit others input c) before after input rest e →
-        Stops ended device K (answer limit (if_picked (found == tag) (map_format (Choice found) F) others) input c) before after input rest e
+    pub there-stops : (found ≡ tag → ⊥) → Stops ended device H (answer limit others input c) before after input rest now e →
+        Stops ended device K (answer limit (if_picked (found == tag) (map_format (Choice found) F) others) input c) before after input rest now e
     there-stops differ p = rw (ne_eqb found tag differ) (stops-besides ended device H K grow _ before after input rest e p)

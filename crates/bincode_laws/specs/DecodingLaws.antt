@@ -29,8 +29,8 @@ takes-then rest middle rest' (a, e) (b, f) = (a ++ b, e ∙ ap (λ z. a ++ z) f 
 
 -- memory may be refused for more reasons
 pub stops-besides : {A : Type 0} (ended : ℕ → DecodeError → Type 0) (device : DeviceErrors) (H K : Type 0) → (H → K) →
-    (a : Answer A) (before after : ℕ) (rest rest' : List ℕ) (e : DecodeError) → Stops ended device H a before after rest rest' e →
-    Stops ended device K a before after rest rest' e
+    (a : Answer A) (before after : ℕ) (rest rest' : List ℕ) {now : ℕ} (e : DecodeError) → Stops ended device H a before after rest rest' now e →
+    Stops ended device K a before after rest rest' now e
 stops-besides ended device H K f a before after rest rest' e (by_fault why h t k) = by_fault why h t k
 stops-besides ended device H K f a before after rest rest' e (by_limit h t k) = by_limit h t k
 stops-besides ended device H K f a before after rest rest' e (by_memory h t k) = by_memory (f h) t k
@@ -64,9 +64,9 @@ answer-next limit F G input c a rest d e = answer-then limit F G input c ∙ ap 
 
 module _ {A B : Type 0} (ended : ℕ → DecodeError → Type 0) (device : DeviceErrors) (H K : Type 0) (grow : H → K) (limit : Option ℕ) (F : Format A) (G : A → Format B) where
   -- where the first part stops, so does the whole
-  pub stops-first : (input : List ℕ) (c before after : ℕ) (rest' : List ℕ) (e : DecodeError) →
-      Stops ended device H (answer limit F input c) before after input rest' e →
-      Stops ended device K (answer limit (F >>= G) input c) before after input rest' e
+  pub stops-first : (input : List ℕ) (c before after : ℕ) (rest' : List ℕ) {now : ℕ} (e : DecodeError) →
+      Stops ended device H (answer limit F input c) before after input rest' now e →
+      Stops ended device K (answer limit (F >>= G) input c) before after input rest' now e
   stops-first input c before after rest' e (by_fault why h t k) = by_fault why (answer-then limit F G input c ∙ ap (λ o. and_then o (λ b r d. answer limit (G b) r d)) h) t k
   stops-first input c before after rest' e (by_limit h t k) = by_limit (answer-then limit F G input c ∙ ap (λ o. and_then o (λ b r d. answer limit (G b) r d)) h) t k
   stops-first input c before after rest' e (by_memory h t k) = by_memory (grow h) t k
@@ -74,8 +74,8 @@ module _ {A B : Type 0} (ended : ℕ → DecodeError → Type 0) (device : Devic
   stops-first input c before after rest' e (by_device h) = by_device h
 
   -- where what follows stops, so does the whole
-  pub stops-next : Lawful F → (input : List ℕ) (c before between after : ℕ) (a : A) (rest rest' : List ℕ) (d : ℕ) (e : DecodeError) → answer limit F input c ≡ Gave a rest d → before ≤ between →
-      Stops ended device H (answer limit (G a) rest d) between after rest rest' e → Stops ended device K (answer limit (F >>= G) input c) before after input rest' e
+  pub stops-next : Lawful F → (input : List ℕ) (c before between after : ℕ) (a : A) (rest rest' : List ℕ) (d : ℕ) {now : ℕ} (e : DecodeError) → answer limit F input c ≡ Gave a rest d → before ≤ between →
+      Stops ended device H (answer limit (G a) rest d) between after rest rest' now e → Stops ended device K (answer limit (F >>= G) input c) before after input rest' now e
   stops-next f input c before between after a rest rest' d e g le (by_fault why h t k) =
       by_fault why (answer-next limit F G input c a rest d g ∙ h) t (takes-then input rest rest' (gave-takes limit F f input c a rest d g) k)
   stops-next f input c before between after a rest rest' d e g le (by_limit h t k) =
@@ -100,20 +100,22 @@ module _ {A : Type 0} (limit : Option ℕ) (n : ℕ) (F : Format A) (input : Lis
 
   module _ (ended : ℕ → DecodeError → Type 0) (device : DeviceErrors) (H : Type 0) where
     -- a charge that passes the limit
-    pub charged-passed : (d before after : ℕ) (rest : List ℕ) (e : DecodeError) → OverClaimed limit c n d → e ≡ LimitExceeded → rest ≡ input →
-        Stops ended device H (answer limit (charged n F) input c) before after input rest e
+    pub charged-passed : (d before after : ℕ) (rest : List ℕ) {now : ℕ} (e : DecodeError) → OverClaimed limit c n d → e ≡ LimitExceeded → rest ≡ input →
+        Stops ended device H (answer limit (charged n F) input c) before after input rest now e
     charged-passed d before after rest e h k same =
         by_limit (answer-then limit (step (Charge n)) (λ _. F) input c ∙ ap (λ o. and_then o (λ _ r after. answer limit F r after)) (over_claimed-answer limit c n d input h)) k ([], sym same)
 
     -- a charge, and then a fault
-    pub charged-misread : (d before between after : ℕ) (middle rest : List ℕ) (e : DecodeError) → Claimed limit c n d → middle ≡ input →
+    pub charged-misread : (d before between after : ℕ) (middle rest : List ℕ) {now : ℕ} (e : DecodeError) → now ≡ d → Claimed limit c n d → middle ≡ input →
         between ≡ before → Misreads ended device (F.read middle) between after middle rest e →
-        Stops ended device H (answer limit (charged n F) input c) before after input rest e
-    charged-misread d before between after middle rest e h same count (reads.by_fault why r t k) =
-        by_fault why (answer-next limit (step (Charge n)) (λ _. F) input c tt input d (claimed-answer limit c n d input h) ∙ answer-failed limit F input why d (ap F.read (sym same) ∙ r)) t
+        Stops ended device H (answer limit (charged n F) input c) before after input rest now e
+    charged-misread d before between after middle rest e still h same count (reads.by_fault why r t k) =
+        by_fault why
+        (answer-next limit (step (Charge n)) (λ _. F) input c tt input d (claimed-answer limit c n d input h) ∙ answer-failed limit F input why d (ap F.read (sym same) ∙ r)
+        ∙ ap (Refused why) (sym still)) t
         (subst (λ z. Takes z rest) same k)
-    charged-misread d before between after middle rest e h same count (reads.by_failure x r k) = by_failure x (subst (λ z. Rose z after) count r) (subst (λ z. Takes z rest) same k)
-    charged-misread d before between after middle rest e h same count (reads.by_device k) = by_device k
+    charged-misread d before between after middle rest e still h same count (reads.by_failure x r k) = by_failure x (subst (λ z. Rose z after) count r) (subst (λ z. Takes z rest) same k)
+    charged-misread d before between after middle rest e still h same count (reads.by_device k) = by_device k
 
 -- meanings renamed
 pub map-gave : {A B : Type 0} (f : A → B) (limit : Option ℕ) (F : Format A) (input : List ℕ) (c : ℕ) (a : A) (rest : List ℕ) (d : ℕ) →
@@ -122,9 +124,9 @@ map-gave f limit F input c a rest d e = answer-next limit F (λ z. done (f z)) i
 
 pub map-stops :
     {A B : Type 0} (f : A → B) (ended : ℕ → DecodeError → Type 0) (device : DeviceErrors) (H : Type 0) (limit : Option ℕ) (F : Format A)
-    (input : List ℕ) (c before after : ℕ) (rest : List ℕ) (e : DecodeError) →
-    Stops ended device H (answer limit F input c) before after input rest e →
-    Stops ended device H (answer limit (map_format f F) input c) before after input rest e
+    (input : List ℕ) (c before after : ℕ) (rest : List ℕ) {now : ℕ} (e : DecodeError) →
+    Stops ended device H (answer limit F input c) before after input rest now e →
+    Stops ended device H (answer limit (map_format f F) input c) before after input rest now e
 map-stops f ended device H limit F input c before after rest e = stops-first ended device H H (λ h. h) limit F (λ z. done (f z)) input c before after rest e
 
 module _ {A B : Type 0} (test : A → Result B Fault) (limit : Option ℕ) (F : Format A) (input : List ℕ) (c : ℕ) (a : A) (rest : List ℕ) (d : ℕ) where
@@ -133,7 +135,7 @@ module _ {A B : Type 0} (test : A → Result B Fault) (limit : Option ℕ) (F : 
   settled-gave b e h = answer-next limit F (λ x. settled (test x)) input c a rest d e ∙ rw h (answer-done limit b rest d)
 
   -- one that fails it
-  pub settled-refused : (why : Fault) → answer limit F input c ≡ Gave a rest d → test a ≡ Err why → answer limit (F >>= λ x. settled (test x)) input c ≡ Refused why
+  pub settled-refused : (why : Fault) → answer limit F input c ≡ Gave a rest d → test a ≡ Err why → answer limit (F >>= λ x. settled (test x)) input c ≡ Refused why d
   settled-refused why e h = answer-next limit F (λ x. settled (test x)) input c a rest d e ∙ rw h (answer-refused {A = B} limit why rest d)
 
 module _ (limit : Option ℕ) (input : List ℕ) (c b : ℕ) (rest : List ℕ) (d : ℕ) where
@@ -142,7 +144,7 @@ module _ (limit : Option ℕ) (input : List ℕ) (c b : ℕ) (rest : List ℕ) (
   truth-decodes v e same = record { meaning = Truth v; answer_is = settled-gave truth_of limit unsigned_byte input c b rest d (Truth v) e (ap truth_of same ∙ truth_byte-passes v); is_given = refl }
 
   -- a byte above 1 is refused
-  pub truth-refuses : answer limit unsigned_byte input c ≡ Gave b rest d → 1 < b → answer limit truth input c ≡ Refused (InvalidBool b)
+  pub truth-refuses : answer limit unsigned_byte input c ≡ Gave b rest d → 1 < b → answer limit truth input c ≡ Refused (InvalidBool b) d
   truth-refuses e h = settled-refused truth_of limit unsigned_byte input c b rest d (InvalidBool b) e (truth-fails b h)
 
 module _ (limit : Option ℕ) (F : Format Meaning) (others : Format Meaning) (input : List ℕ) (c : ℕ) where
@@ -161,16 +163,16 @@ module _ (limit : Option ℕ) (F : Format Meaning) (others : Format Meaning) (in
   }
 
   module _ (ended : ℕ → DecodeError → Type 0) (device : DeviceErrors) (H K : Type 0) where
-    pub tuple-stops_first : (before after : ℕ) (rest : List ℕ) (e : DecodeError) →
-        Stops ended device H (answer limit F input c) before after input rest e →
-        Stops ended device (H ⊎ K) (answer limit (first_and F others) input c) before after input rest e
+    pub tuple-stops_first : (before after : ℕ) (rest : List ℕ) {now : ℕ} (e : DecodeError) →
+        Stops ended device H (answer limit F input c) before after input rest now e →
+        Stops ended device (H ⊎ K) (answer limit (first_and F others) input c) before after input rest now e
     unfolding first_and
     tuple-stops_first before after rest e = stops-first ended device H (H ⊎ K) inl limit F (λ m. map_format (Then m) others) input c before after rest e
 
-    pub tuple-stops_next : Lawful F → (P : Meaning → Type 0) (middle rest : List ℕ) (d before between after : ℕ) (e : DecodeError) →
+    pub tuple-stops_next : Lawful F → (P : Meaning → Type 0) (middle rest : List ℕ) (d before between after : ℕ) {now : ℕ} (e : DecodeError) →
         Decodes P (answer limit F input c) middle d → before ≤ between →
-        Stops ended device K (answer limit others middle d) between after middle rest e →
-        Stops ended device (H ⊎ K) (answer limit (first_and F others) input c) before after input rest e
+        Stops ended device K (answer limit others middle d) between after middle rest now e →
+        Stops ended device (H ⊎ K) (answer limit (first_and F others) input c) before after input rest now e
     unfolding first_and
     tuple-stops_next f P middle rest d before between after e p le s =
         stops-next ended device K (H ⊎ K) inr limit F (λ m. map_format (Then m) others) f input c before between after p.meaning middle rest d e p.answer_is le

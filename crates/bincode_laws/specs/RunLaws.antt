@@ -36,7 +36,7 @@ pub record ReadSoFar (limit : Option ℕ) (share : ℕ) (F : Format Meaning) (al
 
 abbrev vague_answer : Answer Meaning → Answer Meaning
 vague_answer (Gave m rest charge) = Gave m rest charge
-vague_answer (Refused why) = Refused (vague why)
+vague_answer (Refused why c) = Refused (vague why) c
 vague_answer PassedLimit = PassedLimit
 
 took_vaguely : (m : Meaning) (rest : List ℕ) (x : Option ℕ) → gave_at m rest x ≡ vague_answer (gave_at m rest x)
@@ -95,12 +95,12 @@ others_behind limit share F n a = and_then a (λ m rest c. behind (m ∷ []) (an
 module _ (limit : Option ℕ) (share : ℕ) (F : Format Meaning) where
   last_behind : (m : Meaning) (a : Answer (List Meaning)) → and_then a (λ others rest c. answer limit (done (m ∷ others)) rest c) ≡ behind (m ∷ []) a
   last_behind m (Gave others rest c) = answer-done limit (m ∷ others) rest c
-  last_behind m (Refused why) = refl
+  last_behind m (Refused why c) = refl
   last_behind m PassedLimit = refl
 
   next_behind : (n : ℕ) (a : Answer Meaning) → and_then a (λ m rest c. answer limit (map_format (λ others. m ∷ others) (elements n share F)) rest c) ≡ others_behind limit share F n a
   next_behind n (Gave m rest c) = answer-then limit (elements n share F) (λ others. done (m ∷ others)) rest c ∙ last_behind m (answer limit (elements n share F) rest c)
-  next_behind n (Refused why) = refl
+  next_behind n (Refused why c) = refl
   next_behind n PassedLimit = refl
 
   -- one element, whose share is released, and then the others
@@ -114,7 +114,7 @@ module _ (limit : Option ℕ) (share : ℕ) (F : Format Meaning) where
 
   behind_push : (ms : List Meaning) (m : Meaning) (a : Answer (List Meaning)) → behind ms (behind (m ∷ []) a) ≡ behind (ms ++ m ∷ []) a
   behind_push ms m (Gave others rest c) = ap (λ z. Gave z rest c) (sym (append_assoc ms (m ∷ []) others))
-  behind_push ms m (Refused why) = refl
+  behind_push ms m (Refused why c) = refl
   behind_push ms m PassedLimit = refl
 
   module _ (all : Answer (List Meaning)) (input : List ℕ) (ms : List Meaning) where
@@ -135,11 +135,11 @@ module _ (limit : Option ℕ) (share : ℕ) (F : Format Meaning) where
 
     -- where an element stops, so does the run
     pub one_stops :
-        (ended : ℕ → DecodeError → Type 0) (device : DeviceErrors) (H : Type 0) (n : ℕ) (rest : List ℕ) (c before between after : ℕ) (rest' : List ℕ) (e : DecodeError) →
+        (ended : ℕ → DecodeError → Type 0) (device : DeviceErrors) (H : Type 0) (n : ℕ) (rest : List ℕ) (c before between after : ℕ) (rest' : List ℕ) {now : ℕ} (e : DecodeError) →
         before ≤ between → ReadSoFar limit share F all input ms (suc n) rest c →
-        Stops ended device H (answer limit F rest (unclaimed limit c share)) between after rest rest' e → Stops ended device H all before after input rest' e
-    one_stops ended device H n rest c before between after rest' e le h (by_fault why a t k) =
-        by_fault (vague why) (so_far n rest c (Refused why) h a) (tells_vague ended why e t) (takes-then input rest rest' h.is_behind k)
+        Stops ended device H (answer limit F rest (unclaimed limit c share)) between after rest rest' now e → Stops ended device H all before after input rest' now e
+    one_stops ended device H n rest c before between after rest' {now} e le h (by_fault why a t k) =
+        by_fault (vague why) (so_far n rest c (Refused why now) h a) (tells_vague ended why e t) (takes-then input rest rest' h.is_behind k)
     one_stops ended device H n rest c before between after rest' e le h (by_limit a t k) = by_limit (so_far n rest c PassedLimit h a) t (takes-then input rest rest' h.is_behind k)
     one_stops ended device H n rest c before between after rest' e le h (by_memory g t k) = by_memory g t (takes-then input rest rest' h.is_behind k)
     one_stops ended device H n rest c before between after rest' e le h (by_failure d r k) = by_failure d (rose-then before between after le r) (takes-then input rest rest' h.is_behind k)
@@ -151,7 +151,7 @@ module _ (limit : Option ℕ) (share : ℕ) (F : Format Meaning) where
 
   behind_none : (a : Answer (List Meaning)) → behind [] a ≡ a
   behind_none (Gave others rest c) = refl
-  behind_none (Refused why) = refl
+  behind_none (Refused why c) = refl
   behind_none PassedLimit = refl
 
   -- nothing is read yet
@@ -170,18 +170,18 @@ module _ (limit : Option ℕ) (share : ℕ) (F : Format Meaning) where
       is_given = p.is_given;
     }
 
-    pub array-stops : (ended : ℕ → DecodeError → Type 0) (device : DeviceErrors) (H : Type 0) (before after : ℕ) (rest : List ℕ) (e : DecodeError) →
-        Claimed limit c (n * share) d → Stops ended device H (answer limit (elements n share F) input d) before after input rest e →
-        Stops ended device H (answer limit (array n share F) input c) before after input rest e
-    array-stops ended device H before after rest e h s =
+    pub array-stops : (ended : ℕ → DecodeError → Type 0) (device : DeviceErrors) (H : Type 0) (before after : ℕ) (rest : List ℕ) {now : ℕ} (e : DecodeError) →
+        Claimed limit c (n * share) d → Stops ended device H (answer limit (elements n share F) input d) before after input rest now e →
+        Stops ended device H (answer limit (array n share F) input c) before after input rest now e
+    array-stops ended device H before after rest {now} e h s =
         map-stops listed ended device H limit (sequence n share F) input c before after rest e
-        (subst (λ a. Stops ended device H a before after input rest e)
+        (subst (λ a. Stops ended device H a before after input rest now e)
         (sym (answer-next limit (step (Reserve (n * share))) (λ _. elements n share F) input c tt input d (reserved_answer limit c (n * share) d input h))) s)
 
     -- whose claim passes the limit
-    pub array-passed : (ended : ℕ → DecodeError → Type 0) (device : DeviceErrors) (H : Type 0) (before after : ℕ) (rest : List ℕ) (e : DecodeError) →
+    pub array-passed : (ended : ℕ → DecodeError → Type 0) (device : DeviceErrors) (H : Type 0) (before after : ℕ) (rest : List ℕ) {now : ℕ} (e : DecodeError) →
         OverClaimed limit c (n * share) d → e ≡ LimitExceeded → rest ≡ input →
-        Stops ended device H (answer limit (array n share F) input c) before after input rest e
+        Stops ended device H (answer limit (array n share F) input c) before after input rest now e
     array-passed ended device H before after rest e h k same =
         map-stops listed ended device H limit (sequence n share F) input c before after rest e
         (by_limit (answer-then limit (step (Reserve (n * share))) (λ _. elements n share F) input c ∙ ap (λ o. and_then o (λ _ r after. answer limit (elements n share F) r after))

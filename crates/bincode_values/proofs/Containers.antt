@@ -18,7 +18,7 @@ use Rattle.bincode_format.specs.Run.{IsListOf}
 use Rattle.bincode_format.specs.Values.{Reads, RunRead}
 use Rattle.bincode_laws.specs.IntegerLaws.{unsigned-lawful}
 use Rattle.bincode_laws.specs.RunLaws.{array-decodes, array-stops}
-use Rattle.bincode_decoder.proofs.Rooms.{claimed-held}
+use Rattle.bincode_decoder.proofs.Rooms.{claimed-held, claimed-within}
 use Rattle.bincode_decoder.proofs.ReadAnswers.{read-as, made-of}
 use Rattle.bincode_decoder.proofs.PartAnswers.{first-stops, next-reads}
 
@@ -44,6 +44,7 @@ array-reads {rest = rest} {charge = charge} {failures = failures} {limit = limit
       counted = let e = kept.same_failures in let c = run.counted in omega (arith, e, c);
       tells = λ known. run.tells (kept.tells known);
       held = claimed-held limit (charge old) (n * claim) (charge now) (charge new) h run.held;
+      within = λ _. run.within (claimed-within limit (charge old) (n * claim) (charge now) h);
       same_place = run.same_place ∙ kept.same_place;
     }
 
@@ -58,7 +59,7 @@ pub made-reads :
     Reads told rest charge failures place limit ended device grows (array n claim format) (λ m v. IsMadeOf Making (λ x k. given k x) (values v) m) (charge old) r old new
 made-reads {r = r} Making values kept h items made run =
     let read = array-reads kept h run in
-    read-as (λ known. both_ok r _ _ _ (λ v p d. made-of (λ m k. (items, p, k)) d) made (read.ok known)) read.err read
+    read-as (λ known. both_ok r _ _ _ (λ v p d. made-of (λ m k. (items, p, k)) d) made (read.ok known)) read.err read.within read
 
 module _ {D A : Type 0} {told : D → Type 0} {rest : D → List ℕ} {charge failures : D → ℕ} {place : D → List GName} {limit : Option ℕ}
     {ended : ℕ → DecodeError → Type 0} {device : DeviceErrors} {grows : Type 0} (s : Setting) (claim : ℕ) (format : Format Meaning) {given : Meaning → A → Type 0} {start : ℕ} {old : D} where

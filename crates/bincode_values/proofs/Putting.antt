@@ -41,6 +41,7 @@ refused-so_far {charge = charge} {limit = limit} {claim = claim} {count = count}
   counted = h.counted;
   tells = λ k. (h.known k).0;
   held = held-within limit claim read count (charge old) (charge now) l h.held;
+  within = λ _. tt;
   same_place = h.same_place;
 }
 
@@ -56,6 +57,7 @@ module _ {D T : Type 0} {told : D → Type 0} {rest : D → List ℕ} {charge fa
         known = λ k. let s = begun.known k in (tells k, s.1, rw (same_rest, same_charge) s.2, rw none s.3);
         reserved = rw same_charge begun.reserved;
         held = rw same_charge begun.held;
+        within = rw same_charge begun.within;
         counted = rw same_failures begun.counted;
         same_place = same_place;
       }

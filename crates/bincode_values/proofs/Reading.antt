@@ -7,12 +7,12 @@ use Rattle.bincode_format.specs.Device.{DeviceErrors}
 use Rattle.bincode_format.specs.Format.{Format, elements}
 use Rattle.bincode_format.specs.Laws.{Lawful, Balanced}
 use Rattle.bincode_format.specs.Meaning.{Meaning, listed}
-use Rattle.bincode_format.specs.Answer.{answer, unclaimed}
+use Rattle.bincode_format.specs.Answer.{answer, Allows, unclaimed}
 use Rattle.bincode_laws.specs.DecodingLaws.{stops-besides}
 use Rattle.bincode_format.specs.Run.{IsListOf, CanRelease, Held}
 use Rattle.bincode_laws.specs.RunLaws.{ReadSoFar, none-read, one-more, one_stops, all-read, one-releases, others-release, held-none, held-more, is_list-push}
 use Rattle.bincode_format.specs.Values.{Reads, RunRead}
-use Rattle.bincode_decoder.proofs.Rooms.{held-within}
+use Rattle.bincode_decoder.proofs.Rooms.{held-within, unclaimed-within}
 
 -- of a run of so many values these were read, and the room of the others is still reserved
 pub record RunSoFar {D T : Type 0} (told : D → Type 0) (rest : D → List ℕ) (charge failures : D → ℕ) (place : D → List GName) (limit : Option ℕ)
@@ -22,6 +22,7 @@ pub record RunSoFar {D T : Type 0} (told : D → Type 0) (rest : D → List ℕ)
       (charge now) × IsListOf (λ x m. given m x) vs (listed ms)
   pub reserved : CanRelease limit (charge now) ((count - read) * claim)
   pub held : Held limit (read * claim) (charge old) (charge now)
+  pub within : Allows limit (charge old) → Allows limit (charge now)
   pub counted : failures old ≤ failures now
   pub same_place : place now ≡ place old
 
@@ -38,6 +39,7 @@ module _ {D T : Type 0} {told : D → Type 0} {rest : D → List ℕ} {charge fa
         known = λ k. (k, [], rw e (none-read limit claim format count (rest old) (charge old) h), refl);
         reserved = rw e h;
         held = held-none limit claim (charge old);
+        within = λ within. within;
         counted = omega arith;
         same_place = refl;
       }
@@ -59,6 +61,7 @@ module _ {D T : Type 0} {told : D → Type 0} {rest : D → List ℕ} {charge fa
           counted = h.counted;
           tells = λ k. (h.known k).0;
           held = rw r at h.held;
+          within = h.within;
           same_place = h.same_place;
         }
 
@@ -81,6 +84,7 @@ module _ {D T : Type 0} {told : D → Type 0} {rest : D → List ℕ} {charge fa
               );
           reserved = others-release limit (charge now) claim (count - (read + 1)) (charge after) (rw (one_fewer count read l) at h.reserved) r.held;
           held = held-more limit claim read (charge old) (charge now) (charge after) h.held r.held;
+          within = λ within. r.within (unclaimed-within limit (charge now) claim (h.within within));
           counted = let a = h.counted in let c = r.counted in omega (arith, a, c);
           same_place = r.same_place ∙ h.same_place;
         }
@@ -98,6 +102,7 @@ module _ {D T : Type 0} {told : D → Type 0} {rest : D → List ℕ} {charge fa
           counted = let a = h.counted in let c = r.counted in omega (arith, a, c);
           tells = λ k. r.tells (h.known k).0;
           held = held-within limit claim (read + 1) count (charge old) (charge after) (omega (arith, l)) (held-more limit claim read (charge old) (charge now) (charge after) h.held r.held);
+          within = λ _. tt;
           same_place = r.same_place ∙ h.same_place;
         }
 
@@ -115,6 +120,7 @@ read-besides k widen r = record {
   counted = r.counted;
   tells = r.tells;
   held = rw k at r.held;
+  within = λ _. tt;
   same_place = r.same_place;
 }
 
@@ -131,6 +137,7 @@ read-of k same r = record {
   counted = r.counted;
   tells = r.tells;
   held = rw k at r.held;
+  within = r.within;
   same_place = r.same_place;
 }
 

@@ -46,8 +46,8 @@ module _ (F : Format Meaning) (f : Lawful F) (b : Balanced F) (limit : Option â„
   by_answer A e found fault passed (Gave m rest after) h i =
       let w = gave-word F f b limit input rest m after h in
       none (found w.word rest m w.steps w.input_is w.is_word w.within).0
-  by_answer A e found fault passed (Refused why) h i =
-      let w = refused-fault F f b limit input why h in
+  by_answer A e found fault passed (Refused why after) h i =
+      let w = refused-fault F f b limit input why after h in
       of_fault why e i (fault why w.0 w.1 w.2)
   by_answer A e found fault passed PassedLimit h i =
       let w = passed-limit F f b limit input h in

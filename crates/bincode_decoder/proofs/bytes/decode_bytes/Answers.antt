@@ -1,6 +1,6 @@
 use Rattle.std.proofs.lemmas.Result.{on_ok_weaker, IfErr-weaker}
 use Rattle.bincode_decoder.proofs.BytesAtOnce.{bytes-decode, bytes-stop, both-of_err}
-use Rattle.bincode_decoder.proofs.Rooms.{held-still}
+use Rattle.bincode_decoder.proofs.Rooms.{held-still, whatever_given}
 use Rattle.bincode_decoder.proofs.bytes.decode_bytes.Goals as goal
 
 pub returns : goal.returns
@@ -9,10 +9,11 @@ returns g c =
     record {
       ok = λ known. rw c.read_from.ensures.charge (on_ok_weaker c.read_from.result (λ e. bytes-decode _ _ _ _ c.requires.1 c.requires.0 c.read_from.new.bytes _ e c.read_from.auto.bytes)
           (fills.next known));
-      err = λ known. IfErr-weaker c.read_from.result _ _ (λ e h. bytes-stop _ _ _ _ c.requires.1 c.requires.0 _ _ _ _ _ _ _ h.0 h.1)
+      err = λ known. IfErr-weaker c.read_from.result _ _ (λ e h. bytes-stop _ _ _ _ c.requires.1 c.requires.0 _ _ _ _ _ _ _ c.read_from.ensures.charge h.0 h.1)
           (both-of_err c.read_from.result _ _ (fills.why known) (fills.left known));
       counted = fills.counted;
       tells = fills.tells;
       held = rw c.read_from.ensures.charge (held-still _ _ _);
+      within = λ a. whatever_given c.read_from.result (rw c.read_from.ensures.charge a);
       same_place = fills.same_place;
     }

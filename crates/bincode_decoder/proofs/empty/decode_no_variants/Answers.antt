@@ -11,5 +11,6 @@ returns g c = record {
   counted = omega arith;
   tells = λ known. known;
   held = omega arith;
+  within = λ _. tt;
   same_place = refl;
 }

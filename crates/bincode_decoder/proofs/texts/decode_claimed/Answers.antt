@@ -21,7 +21,7 @@ returns-in_err-read_from g c =
     let l : length c.deref_mut.result.now ≡ c.args.count = c.deref_mut.ensures.len ∙ c.in-Ok.ensures.len in
     let word = filled-reads c.args.count l (c.read_from.auto.bytes ∙ l) c.in_err-read_from.ensures.fills in
     let read = charged-reads c.claim_bytes_read.ensures.kept _ c.in_ok-claim_bytes_read.ensures.claimed.ok word c.read_from.ensures.charge in
-    rw (p.1, p.2) (reads-besides _ (λ _. tt) (read-as (λ known. tt) read.err read))
+    rw (p.1, p.2) (reads-besides _ (λ _. tt) (read-as (λ known. tt) read.err (λ _. tt) read))
 
 pub returns : goal.returns
 returns g c =
@@ -29,4 +29,4 @@ returns g c =
     let word = filled-reads c.args.count l (c.read_from.auto.bytes ∙ l) c.in_ok-read_from.ensures.fills in
     let read = charged-reads c.claim_bytes_read.ensures.kept _ c.in_ok-claim_bytes_read.ensures.claimed.ok word c.read_from.ensures.charge in
     let same = with_items_is c.in-Ok.bytes c.read_from.new.bytes (c.read_from.auto.bytes ∙ c.deref_mut.ensures.len) in
-    read-as (λ known. made-of (λ m h. h ∙ sym same) (read.ok known)) (λ known. tt) read
+    read-as (λ known. made-of (λ m h. h ∙ sym same) (read.ok known)) (λ known. tt) read.within read

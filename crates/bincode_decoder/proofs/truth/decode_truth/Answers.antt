@@ -13,7 +13,7 @@ returns-in_err-b g c =
     let p = err_from_is_err_and c.from_residual.result c.from_residual.ensures.1 in
     let read = c.in_err-b.ensures.reads in
     rw (p.1, p.2) (record {
-      reads = read-as (λ known. tt) (λ known. stops-first _ _ _ _ (λ h. h) _ _ _ _ _ _ _ _ _ (read.err known)) read;
+      reads = read-as (λ known. tt) (λ known. stops-first _ _ _ _ (λ h. h) _ _ _ _ _ _ _ _ _ (read.err known)) (λ _. tt) read;
       charges = c.in_err-b.ensures.charges;
     })
 
@@ -21,7 +21,7 @@ pub returns-in-0 : goal.returns-in-0
 returns-in-0 g c =
     let read = c.in_ok-b.ensures.reads in
     record {
-      reads = read-as (λ known. truth-decodes _ _ _ _ _ _ false (exactly (read.ok known)) c.in-0.is) (λ known. tt) read;
+      reads = read-as (λ known. truth-decodes _ _ _ _ _ _ false (exactly (read.ok known)) c.in-0.is) (λ known. tt) read.within read;
       charges = c.in_ok-b.ensures.charges;
     }
 
@@ -29,7 +29,7 @@ pub returns-in-1 : goal.returns-in-1
 returns-in-1 g c =
     let read = c.in_ok-b.ensures.reads in
     record {
-      reads = read-as (λ known. truth-decodes _ _ _ _ _ _ true (exactly (read.ok known)) c.in-1.is) (λ known. tt) read;
+      reads = read-as (λ known. truth-decodes _ _ _ _ _ _ true (exactly (read.ok known)) c.in-1.is) (λ known. tt) read.within read;
       charges = c.in_ok-b.ensures.charges;
     }
 
@@ -39,6 +39,6 @@ returns-in_default g c =
     let above : 1 < c.in_ok-b.b = omega arith in
     record {
       reads = read-as (λ known. tt)
-          (λ known. by_fault (InvalidBool c.in_ok-b.b) (truth-refuses _ _ _ _ _ _ (exactly (read.ok known)) above) refl (gave-takes _ _ unsigned_byte-lawful _ _ _ _ _ (exactly (read.ok known)))) read;
+          (λ known. by_fault (InvalidBool c.in_ok-b.b) (truth-refuses _ _ _ _ _ _ (exactly (read.ok known)) above) refl (gave-takes _ _ unsigned_byte-lawful _ _ _ _ _ (exactly (read.ok known)))) (λ _. tt) read;
       charges = c.in_ok-b.ensures.charges;
     }

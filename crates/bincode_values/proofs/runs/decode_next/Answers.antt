@@ -11,5 +11,6 @@ returns g c =
       counted = rw before.kept.same_failures at read.counted;
       tells = λ known. read.tells (before.kept.tells known);
       held = rw (before.released, c.claim_size.ensures) at read.held;
+      within = rw (before.released, c.claim_size.ensures) at read.within;
       same_place = read.same_place ∙ before.kept.same_place;
     }

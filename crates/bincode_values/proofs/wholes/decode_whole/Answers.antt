@@ -7,7 +7,7 @@ pub returns-in_err-parts : goal.returns-in_err-parts
 returns-in_err-parts g c =
     let p = err_from_is_err_and c.from_residual.result c.from_residual.ensures.1 in
     let read = c.in_err-parts.ensures in
-    rw (p.1, p.2) (read-as (λ known. tt) read.err read)
+    rw (p.1, p.2) (read-as (λ known. tt) read.err (λ _. tt) read)
 
 pub returns : goal.returns
 returns g c =
@@ -16,4 +16,5 @@ returns g c =
     read-as
     (λ known. made-of (λ m h. subst (λ parts. (g.W.Whole.Parted.promised c.make.result (g.W.Whole.Parts.Wire.given m parts)).Promised) (sym made.parts) (made.promise m h)) (read.ok known))
     (λ known. tt)
+    read.within
     read

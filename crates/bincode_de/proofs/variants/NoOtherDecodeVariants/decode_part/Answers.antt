@@ -14,5 +14,6 @@ returns-clause-reads g c = record {
   counted = omega arith;
   tells = λ known. known;
   held = omega arith;
+  within = λ _. tt;
   same_place = refl;
 }

@@ -1,7 +1,7 @@
 use Rattle.std.proofs.Common.{arith, ◌∙◌}
 use Rattle.std.proofs.lemmas.Result.{IfOk-weaker, IfErr-weaker, err_from_is_err_and}
 use Rattle.bincode_laws.specs.RunLaws.{array-decodes, array-stops, array-passed}
-use Rattle.bincode_decoder.proofs.Rooms.{claimed-held}
+use Rattle.bincode_decoder.proofs.Rooms.{claimed-held, claimed-within}
 use Rattle.bincode_decoder.proofs.ReadAnswers.{claim-passed}
 use Rattle.bincode_de.proofs.impls.arrays.ArrayDecode.decode.Goals as goal
 
@@ -23,5 +23,6 @@ returns g c =
       counted = let e = kept.same_failures in let k = read.counted in omega (arith, e, k);
       tells = λ known. read.tells (kept.tells known);
       held = claimed-held _ _ _ _ _ claim read.held;
+      within = λ _. read.within (claimed-within _ _ _ _ claim);
       same_place = read.same_place ∙ kept.same_place;
     }

@@ -7,9 +7,9 @@ pub returns-in_err-decode : goal.returns-in_err-decode
 returns-in_err-decode g c =
     let p = err_from_is_err_and c.from_residual.result c.from_residual.ensures.1 in
     let read = c.in_err-decode.ensures in
-    rw (p.1, p.2) (read-as (λ known. tt) (λ known. rw cell-answer (read.err known)) read)
+    rw (p.1, p.2) (read-as (λ known. tt) (λ known. rw cell-answer (read.err known)) (λ _. tt) read)
 
 pub returns : goal.returns
 returns g c =
     let read = c.in_ok-decode.ensures in
-    read-as (λ known. cell-decodes _ _ _ _ _ _ _ (read.ok known)) (λ known. tt) read
+    read-as (λ known. cell-decodes _ _ _ _ _ _ _ (read.ok known)) (λ known. tt) read.within read

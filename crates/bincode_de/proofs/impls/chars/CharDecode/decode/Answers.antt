@@ -12,10 +12,11 @@ returns-in_err-first g c =
     let still = c.in_err-first.ensures.same_charge in
     rw (p.1, p.2) (record {
       ok = λ known. tt;
-      err = λ known. character-stops_first _ _ _ _ _ _ _ _ _ _ (first.err known);
+      err = λ known. character-stops_first _ _ _ _ _ _ _ _ _ _ still (first.err known);
       counted = first.counted;
       tells = first.tells;
       held = omega (arith, still);
+      within = λ _. tt;
       same_place = first.same_place;
     })
 
@@ -25,10 +26,11 @@ returns-in_default g c =
     let still = c.in_ok-first.ensures.same_charge in
     record {
       ok = λ known. tt;
-      err = λ known. character-stops_none _ _ _ _ _ (first.ok known) _ _ _ _ _ _ (search rules) refl;
+      err = λ known. character-stops_none _ _ _ _ _ (first.ok known) _ _ _ _ _ _ still (search rules) refl;
       counted = first.counted;
       tells = first.tells;
       held = omega (arith, still);
+      within = λ _. tt;
       same_place = first.same_place;
     }
 
@@ -45,5 +47,6 @@ returns g c =
       counted = let a = first.counted in let b = others.counted in omega (arith, a, b);
       tells = λ known. others.tells (first.tells known);
       held = rw still at others.held;
+      within = rw still at others.within;
       same_place = others.same_place ∙ first.same_place;
     }

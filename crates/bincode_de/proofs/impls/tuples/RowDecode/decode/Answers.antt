@@ -7,7 +7,7 @@ pub returns-in_err-first : goal.returns-in_err-first
 returns-in_err-first g c =
     let p = err_from_is_err_and c.from_residual.result c.from_residual.ensures.1 in
     let a = c.in_err-first.ensures in
-    rw (p.1, p.2) (read-as (λ known. tt) (λ known. tuple-stops_first _ _ _ _ _ _ _ _ _ _ _ _ _ (a.err known)) a)
+    rw (p.1, p.2) (read-as (λ known. tt) (λ known. tuple-stops_first _ _ _ _ _ _ _ _ _ _ _ _ _ (a.err known)) (λ _. tt) a)
 
 pub returns-in_err-others : goal.returns-in_err-others
 returns-in_err-others g c =
@@ -15,10 +15,10 @@ returns-in_err-others g c =
     let a = c.in_ok-first.ensures in
     let b = c.in_err-others.ensures in
     rw (p.1, p.2)
-    (read-behind (λ known. tt) (λ known. tuple-stops_next _ _ _ _ _ _ _ _ _ (g.A.Wire.lawful _) _ _ _ _ _ _ _ _ (a.ok known) a.counted (b.err (a.tells known))) a b)
+    (read-behind (λ known. tt) (λ known. tuple-stops_next _ _ _ _ _ _ _ _ _ (g.A.Wire.lawful _) _ _ _ _ _ _ _ _ (a.ok known) a.counted (b.err (a.tells known))) (λ _. tt) a b)
 
 pub returns : goal.returns
 returns g c =
     let a = c.in_ok-first.ensures in
     let b = c.in_ok-others.ensures in
-    read-behind (λ known. tuple-decodes _ _ _ _ _ _ _ _ _ _ _ (a.ok known) (b.ok (a.tells known))) (λ known. tt) a b
+    read-behind (λ known. tuple-decodes _ _ _ _ _ _ _ _ _ _ _ (a.ok known) (b.ok (a.tells known))) (λ known. tt) (λ within. b.within (a.within within)) a b
