@@ -13,7 +13,7 @@ use bincode_values::collections::Collect;
 /// Reads a length and so many items, as `Vec<T>` does, and puts each into a list of one's own. The room of the items is
 /// claimed before the list is begun, and each one's share is released before it is read. Fails where the length can't
 /// be read, with `LimitExceeded` where the room passes the limit, with `Memory` where the list does, and where an item
-/// does. A fault leaves what was claimed.
+/// does. A fault leaves what was charged before it.
 #[inline]
 pub fn decode_collection<
     Context: Drop,

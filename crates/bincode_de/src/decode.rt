@@ -1,5 +1,5 @@
 //! What can be decoded.
-ghost use Rattle.std.specs.Prelude.{◌≡◌, ◌*◌, length};
+ghost use Rattle.std.specs.Prelude.{◌≡◌, ◌*◌, ◌<◌, length};
 ghost use Rattle.std.specs.Option.{MatchOption};
 ghost use Rattle.bincode_format.specs.Answer.{Allows};
 ghost use Rattle.bincode_format.specs.Run.{CanRelease};
@@ -14,7 +14,8 @@ use bincode_wire::wire::Wire;
 pub trait Decode<Context: Drop>: Wire + Drop + Sized {
     /// Reads a word and gives a value for its meaning. Fails with the first fault of the input, where the charges pass
     /// the limit, where memory is refused, or where the device fails. Then some front of the input is taken, unless the
-    /// error is one that the device does not count. Nothing that was charged before is given back.
+    /// error is one that the device does not count. Nothing that was charged before is given back; a fault leaves what
+    /// was charged before it, and after a success the charge is within the limit, if it was before.
     fn decode<D: Decoder<Context = Context>>(decoder: &mut D) -> Result<Self, DecodeError>
         ensures { Reads D.told D.rest D.charge D.failures D.place D.C.bound D.R.ended D.R.device Self.grows
             (Self.format D.C.setting) Self.given (D.charge decoder.old) result decoder.old decoder.new };
@@ -37,8 +38,8 @@ pub trait Decode<Context: Drop>: Wire + Drop + Sized {
         requires { CanRelease D.C.bound (D.charge decoder.old) (length values.old * Self.claim)
             × Allows D.C.bound (D.charge decoder.old) }
         ensures { MatchOption result (decoder.new ≡ decoder.old) (λ r. RunRead D.told D.rest D.charge D.failures
-            D.place D.C.bound D.R.ended D.R.device Self.grows Self.claim (Self.format D.C.setting) Self.given
-            (length values.old) (λ _. values.new) r decoder.old decoder.new) }
+            D.place D.C.bound D.R.ended D.R.device (Self.grows × (0 < length values.old)) Self.claim
+            (Self.format D.C.setting) Self.given (length values.old) (λ _. values.new) r decoder.old decoder.new) }
     {
         let _ = &*decoder;
         let _ = &*values;

@@ -1,5 +1,5 @@
 //! Runs and arrays of values whose room has been reserved, without a length.
-ghost use Rattle.std.specs.Prelude.{◌≡◌, ◌*◌, ◌⊎◌, length, IfOk};
+ghost use Rattle.std.specs.Prelude.{◌≡◌, ◌*◌, ◌<◌, ◌⊎◌, length, IfOk, vec_capacity};
 ghost use Rattle.bincode_format.specs.Format.{elements};
 ghost use Rattle.bincode_base.specs.Slots.{SlotsFit};
 ghost use Rattle.bincode_format.specs.Run.{CanRelease, RoomReturned};
@@ -47,14 +47,15 @@ pub fn decode_run<Context: Drop, T: Decode<Context>, D: Decoder<Context = Contex
     values: &mut [T],
 ) -> Result<(), DecodeError>
     requires { CanRelease D.C.bound (D.charge decoder.old) (length values.old * T.claim) }
-    ensures { RunRead D.told D.rest D.charge D.failures D.place D.C.bound D.R.ended D.R.device T.grows T.claim
-        (T.format D.C.setting) T.given (length values.old) (λ _. values.new) result decoder.old decoder.new }
+    ensures { RunRead D.told D.rest D.charge D.failures D.place D.C.bound D.R.ended D.R.device
+        (T.grows × (0 < length values.old)) T.claim (T.format D.C.setting) T.given (length values.old)
+        (λ _. values.new) result decoder.old decoder.new }
 {
     runs::decode_run::<Context, ByDecode<T>, D>(decoder, values)
 }
 
-/// Reads `len` values, as `decode_run` does. Fails where a value does, or with `Memory` where the room for the values
-/// is refused.
+/// Reads `len` values, as `decode_run` does, into a vector with room for just so many. Fails where a value does, or
+/// with `Memory` where the room for the values is refused; of no values it is never refused.
 #[inline]
 pub fn decode_vec<Context: Drop, T: Decode<Context>, D: Decoder<Context = Context>>(
     decoder: &mut D,
@@ -62,7 +63,8 @@ pub fn decode_vec<Context: Drop, T: Decode<Context>, D: Decoder<Context = Contex
 ) -> Result<Vec<T>, DecodeError>
     requires { CanRelease D.C.bound (D.charge decoder.old) (len * T.claim) }
     ensures length { IfOk result (λ v. length v.items ≡ len) }
-    ensures read { RunRead D.told D.rest D.charge D.failures D.place D.C.bound D.R.ended D.R.device (Unit {0}) T.claim
+    ensures room { IfOk result (λ v. vec_capacity v ≡ len) }
+    ensures read { RunRead D.told D.rest D.charge D.failures D.place D.C.bound D.R.ended D.R.device (0 < len) T.claim
         (T.format D.C.setting) T.given len (λ v. v.items) result decoder.old decoder.new }
 {
     runs::decode_vec::<Context, ByDecode<T>, D>(decoder, len)

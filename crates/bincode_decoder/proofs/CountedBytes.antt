@@ -2,8 +2,8 @@
 use Rattle.std.specs.Prelude.{◌≡◌, ◌-◌, ◌<◌, ◌⊎◌, ℕ, Bool, true, false, List, [], ◌++◌, Some, None, length, Result, Ok, Err, refl}
 use Rattle.std.specs.Borrow.{GName}
 use Rattle.std.specs.Str.{IsUtf8, is_utf8}
-use Rattle.std.specs.String.{string_bytes, string_vec}
-use Rattle.std.specs.Vec.{vec_items}
+use Rattle.std.specs.String.{string_bytes, string_capacity, string_vec}
+use Rattle.std.specs.Vec.{vec_items, vec_capacity}
 use Rattle.std.specs.declared.string.String.{String}
 use Rattle.std.specs.declared.vec.Vec.{Vec}
 use Rattle.std.proofs.Common.{sym, ◌∙◌, ap, inl, inr}
@@ -55,6 +55,10 @@ filled-reads {rest = rest} {failures = failures} {ended = ended} {device = devic
 -- the bytes of a text are its meaning,
 pub text-bytes : {Z : Type 0} (t : String Z) (v : Vec ℕ Z) → string_vec t ≡ v → v.items ≡ string_bytes t
 text-bytes t v e = ap vec_items (sym e)
+
+-- and its room is that of the bytes,
+pub text-room : {Z : Type 0} (t : String Z) (v : Vec ℕ Z) → string_vec t ≡ v → vec_capacity v ≡ length v.items → string_capacity t ≡ length (string_bytes t)
+text-room t v e h = ap vec_capacity e ∙ h ∙ ap length (text-bytes t v e)
 
 pub text-passes : {Z : Type 0} (t : String Z) (v : Vec ℕ Z) → string_vec t ≡ v → text_of v.items ≡ Ok (Bytes v.items)
 text-passes t v e = text_of-passes v.items (rw (sym (text-bytes t v e)) at (IsUtf8-string_bytes t))

@@ -1,7 +1,7 @@
 -- What was read, by what was read for it.
-use Rattle.std.specs.Prelude.{◌≡◌, ℕ, ℤ, List, Option, Result, Err, IfOk, IfErr, refl}
+use Rattle.std.specs.Prelude.{◌≡◌, ℕ, ℤ, List, [], Option, Result, Err, IfOk, IfErr, refl}
 use Rattle.std.specs.Borrow.{GName}
-use Rattle.std.proofs.Common.{◌∙◌, ap, arith}
+use Rattle.std.proofs.Common.{◌∙◌, ap, sym, arith}
 use Rattle.std.proofs.lemmas.Result.{IfOk-weaker, IfErr-weaker}
 use Rattle.bincode_base.specs.declared.error.DecodeError.{DecodeError}
 use Rattle.bincode_format.specs.Device.{DeviceErrors, Fills}
@@ -9,7 +9,8 @@ use Rattle.bincode_format.specs.Format.{Format, charged, map_format}
 use Rattle.bincode_format.specs.Reads.{ReadsWord}
 use Rattle.bincode_format.specs.Answer.{Answer, answer, Gave, Allows, Claimed, OverClaimed, Charges}
 use Rattle.bincode_format.specs.Meaning.{Number}
-use Rattle.bincode_format.specs.Decoding.{Decodes, Stops}
+use Rattle.bincode_base.specs.declared.error.DecodeError.TheVariants.{Memory}
+use Rattle.bincode_format.specs.Decoding.{Decodes, Stops, by_memory}
 use Rattle.bincode_laws.specs.DecodingLaws.{charged-gave, charged-misread, map-gave, map-stops}
 use Rattle.bincode_format.specs.Claims.{OnlyCharged}
 use Rattle.bincode_format.specs.Values.{Reads, ReadsInteger}
@@ -66,6 +67,19 @@ module _ {D R C : Type 0} {told : D → Type 0} {rest : D → List ℕ} {charge 
     counted = let e = kept.same_failures in omega (arith, e);
     tells = kept.tells;
     held = over-grows limit (charge old) n (charge now) over;
+    within = λ _. tt;
+    same_place = kept.same_place;
+  }
+
+  -- one that stands, and memory is refused behind it
+  pub charge-refused : {A T G : Type 0} {F : Format A} {given : A → T → Type 0} (n : ℕ) → Claimed limit (charge old) n (charge now) → G →
+      Reads told rest charge failures place limit ended device G F given (charge old) (Err Memory) old now
+  charge-refused n claim grows = record {
+    ok = λ known. tt;
+    err = λ known. by_memory grows refl ([], sym kept.same_rest);
+    counted = let e = kept.same_failures in omega (arith, e);
+    tells = kept.tells;
+    held = claimed-grows limit (charge old) n (charge now) claim;
     within = λ _. tt;
     same_place = kept.same_place;
   }

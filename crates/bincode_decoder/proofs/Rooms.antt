@@ -1,5 +1,5 @@
 -- The room that is held for a run of values.
-use Rattle.std.specs.Prelude.{if◌then◌else◌, ◌≡◌, ℕ, ◌+◌, ◌-◌, ◌*◌, ◌^◌, ◌<◌, ◌≤◌, nat_lt, nat_le, Bool, true, false, is_some, List, Option, Some, None, Result, Ok, Err, IfOk, refl}
+use Rattle.std.specs.Prelude.{if◌then◌else◌, ◌≡◌, ℕ, zero, suc, ◌+◌, ◌-◌, ◌*◌, ◌^◌, ◌<◌, ◌≤◌, nat_lt, nat_le, Bool, true, false, is_some, List, Option, Some, None, Result, Ok, Err, IfOk, refl}
 use Rattle.std.specs.Bool.{MatchBool}
 use Rattle.std.specs.Borrow.{GName}
 use Rattle.std.proofs.Common.{arith}
@@ -78,6 +78,11 @@ over-claims (Some limit) before n e fits h = record {
   ok = tt;
   err = (refl, (claim-falls limit before n (let k = fits limit refl in omega arith), rw (le-ltb (before + n) (2 ^ 64) (omega arith)) refl));
 }
+
+-- room that is there where it is none was refused for some
+pub refused-some : (n : ℕ) → (n ≡ 0 → false ≡ true) → 0 < n
+refused-some zero h = absurd (false≢true (h refl))
+refused-some (suc n) h = omega arith
 
 -- a decoder to which nothing was done
 pub charged-still : {D R C : Type 0} {told : D → Type 0} {rest : D → List ℕ} {failures : D → ℕ} {reader_of : D → R} {context_of : D → C} {place : D → List GName} (d : D) →

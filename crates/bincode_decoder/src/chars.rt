@@ -25,7 +25,8 @@ fn read_rest_of_char_from<D: Decoder>(
     read_rest_of_char(decoder.reader(), first, width)
 }
 
-/// Charges for a character of so many bytes, and reads those behind the first. A fault leaves the charge.
+/// Charges for a character of so many bytes, and reads those behind the first. A fault leaves what was charged before
+/// it.
 #[inline(always)]
 pub fn decode_rest_of_char<D: Decoder>(
     decoder: &mut D,

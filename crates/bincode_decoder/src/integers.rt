@@ -17,7 +17,7 @@ use bincode_varint::number::Integer;
 use bincode_wire::wire::Wire;
 
 /// Charges for all bytes of an integer, and reads it as the configuration says. Fails where the charge passes the
-/// limit, and where `Integer::read` does. A fault leaves the charge.
+/// limit, and where `Integer::read` does. A fault leaves what was charged before it.
 #[inline(always)]
 pub fn decode_integer<T: Integer + Wire, D: Decoder>(decoder: &mut D) -> Result<T, DecodeError>
     requires { T.claim ≡ T.width }
@@ -38,7 +38,7 @@ fn read_integer_from<T: Integer, D: Decoder>(decoder: &mut D) -> Result<T, Decod
     T::read(decoder.reader(), endian, encoding)
 }
 
-/// Charges for a byte, and reads it. A fault leaves the charge.
+/// Charges for a byte, and reads it. A fault leaves what was charged before it.
 pub fn decode_byte<D: Decoder>(decoder: &mut D) -> Result<u8, DecodeError>
     ensures { ReadsInteger D.told D.rest D.charge D.failures D.place D.C.bound D.R.ended D.R.device unsigned_byte pos
         1 result decoder.old decoder.new }
@@ -54,7 +54,7 @@ pub fn read_byte_from<D: Decoder>(decoder: &mut D) -> Result<u8, DecodeError>
     read_byte(decoder.reader())
 }
 
-/// Charges for a signed byte, and reads it. A fault leaves the charge.
+/// Charges for a signed byte, and reads it. A fault leaves what was charged before it.
 pub fn decode_signed_byte<D: Decoder>(decoder: &mut D) -> Result<i8, DecodeError>
     ensures { ReadsInteger D.told D.rest D.charge D.failures D.place D.C.bound D.R.ended D.R.device signed_byte
         (λ z. z) 1 result decoder.old decoder.new }

@@ -8,7 +8,7 @@ use crate::integers::decode_integer;
 use bincode_base::error::DecodeError;
 
 /// Charges for the 8 bytes of a length, and reads it. Fails where the charge passes the limit, and where the number
-/// can't be read; each length fits `usize`, which has 64 bits here. A fault leaves the charge.
+/// can't be read; each length fits `usize`, which has 64 bits here. A fault leaves what was charged before it.
 #[inline(always)]
 pub fn decode_length<D: Decoder>(decoder: &mut D) -> Result<usize, DecodeError>
     ensures { ReadsCharged D.told D.rest D.charge D.failures D.place D.C.bound D.R.ended D.R.device

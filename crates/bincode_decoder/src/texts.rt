@@ -1,6 +1,7 @@
 //! Texts behind their length, read through any decoder.
-ghost use Rattle.std.specs.Prelude.{◌≡◌};
-ghost use Rattle.std.specs.String.{string_bytes};
+ghost use Rattle.std.specs.Prelude.{◌≡◌, ◌<◌, length, IfOk, IfErr, vec_len, vec_capacity};
+ghost use Rattle.bincode_base.specs.declared.error.DecodeError.TheVariants.{Memory};
+ghost use Rattle.std.specs.String.{string_bytes, string_capacity};
 ghost use Rattle.bincode_format.specs.Format.{raw, unsure, charged};
 ghost use Rattle.bincode_format.specs.Meaning.{IsBytes};
 ghost use Rattle.bincode_format.specs.Words.{counted, text};
@@ -10,39 +11,56 @@ use crate::decoder::Decoder;
 use crate::integers::read_from;
 use crate::lists::decode_length;
 use bincode_base::error::DecodeError;
+use std::alloc::Global;
+
+/// So many zeros, with room for just so many. Fails with `Memory` where the room is refused, and never for none.
+fn zeros(alloc: Global, count: usize) -> Result<Vec<u8>, DecodeError>
+    ensures length { IfOk result (λ v. vec_len v ≡ count) }
+    ensures room { IfOk result (λ v. vec_capacity v ≡ count) }
+    ensures refused { IfErr result (λ e. (0 < count) × (e ≡ Memory)) }
+{
+    let Ok(mut bytes) = Vec::with_capacity(alloc, count) else {
+        return Err(DecodeError::Memory);
+    };
+    for _ in 0..count {
+        bytes.push_reserved(0);
+    }
+    Ok(bytes)
+}
 
 /// Charges for so many bytes, makes room for them and reads them in one piece. Fails with `LimitExceeded` where the
-/// charge passes the limit, before any room is made, with `Memory` where the room is refused, and where the reader
-/// does. A fault leaves the charge.
+/// charge passes the limit, before any room is made, with `Memory` where the room is refused, which it never is for no
+/// bytes, and where the reader does. A fault leaves what was charged before it.
 fn decode_claimed<D: Decoder>(decoder: &mut D, count: usize) -> Result<Vec<u8>, DecodeError>
-    ensures { Reads D.told D.rest D.charge D.failures D.place D.C.bound D.R.ended D.R.device (Unit {0})
+    ensures room { IfOk result (λ v. vec_capacity v ≡ length v.items) }
+    ensures read { Reads D.told D.rest D.charge D.failures D.place D.C.bound D.R.ended D.R.device (0 < count)
         (charged count (unsure (raw count))) (λ bytes v. bytes ≡ v.items) (D.charge decoder.old) result decoder.old
         decoder.new }
 {
     decoder.claim_bytes_read(count)?;
-    let Ok(mut bytes) = Vec::from_elem(decoder.alloc(), 0, count) else {
-        return Err(DecodeError::Memory);
-    };
+    let mut bytes = zeros(decoder.alloc(), count)?;
     read_from(decoder, &mut bytes)?;
     Ok(bytes)
 }
 
-/// Reads a length, and then so many bytes in one piece. Fails where the length can't be read, with `LimitExceeded`
-/// where the charge for the bytes passes the limit, with `Memory` where their room is refused, and where the reader
-/// fails. A fault leaves the charge.
+/// Reads a length, and then so many bytes in one piece, into a vector with room for just so many. Fails where the
+/// length can't be read, with `LimitExceeded` where the charge for the bytes passes the limit, with `Memory` where
+/// their room is refused, and where the reader fails. A fault leaves what was charged before it.
 pub fn decode_counted<D: Decoder>(decoder: &mut D) -> Result<Vec<u8>, DecodeError>
-    ensures { Reads D.told D.rest D.charge D.failures D.place D.C.bound D.R.ended D.R.device (Unit {0})
+    ensures room { IfOk result (λ v. vec_capacity v ≡ length v.items) }
+    ensures read { Reads D.told D.rest D.charge D.failures D.place D.C.bound D.R.ended D.R.device (Unit {0})
         (counted D.C.setting) (λ bytes v. bytes ≡ v.items) (D.charge decoder.old) result decoder.old decoder.new }
 {
     let count = decode_length(decoder)?;
     decode_claimed(decoder, count)
 }
 
-/// Reads a length, and so many bytes as a text. Fails where `decode_counted` does, or with `Utf8` where the bytes, all
-/// of which are read, are no text. A fault leaves the charge.
+/// Reads a length, and so many bytes as a text, with room for just so many. Fails where `decode_counted` does, or with
+/// `Utf8` where the bytes, all of which are read, are no text. A fault leaves what was charged before it.
 pub fn decode_text<D: Decoder>(decoder: &mut D) -> Result<String, DecodeError>
     ensures { Reads D.told D.rest D.charge D.failures D.place D.C.bound D.R.ended D.R.device (Unit {0})
-        (text D.C.setting) (λ m v. IsBytes (string_bytes v) m) (D.charge decoder.old) result decoder.old decoder.new }
+        (text D.C.setting) (λ m v. IsBytes (string_bytes v) m × (string_capacity v ≡ length (string_bytes v)))
+        (D.charge decoder.old) result decoder.old decoder.new }
 {
     let bytes = decode_counted(decoder)?;
     match String::from_utf8(bytes) {

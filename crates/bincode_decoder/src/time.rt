@@ -12,7 +12,7 @@ use bincode_wire::own::time::Duration;
 
 /// Charges for the seconds and reads them, and then for the nanoseconds, of which whole seconds are carried. Fails
 /// where one of the numbers does, or with `InvalidDuration`, which has both as they were read, where the seconds pass
-/// 64 bits. A fault leaves the charge.
+/// 64 bits. A fault leaves what was charged before it.
 pub fn decode_duration<D: Decoder>(decoder: &mut D) -> Result<Duration, DecodeError>
     ensures { Reads D.told D.rest D.charge D.failures D.place D.C.bound D.R.ended D.R.device ⊥ (duration D.C.setting)
         (λ m v. IsThen (IsNumber (pos (secs_of v))) (IsThen (IsNumber (pos (nanos_of v))) IsNothing) m)

@@ -7,7 +7,7 @@ use crate::decoder::Decoder;
 use crate::integers::decode_byte;
 use bincode_base::error::DecodeError;
 
-/// Charges for a truth value, and reads it. A fault leaves the charge.
+/// Charges for a truth value, and reads it. A fault leaves what was charged before it.
 pub fn decode_truth<D: Decoder>(decoder: &mut D) -> Result<bool, DecodeError>
     ensures { ReadsCharged D.told D.rest D.charge D.failures D.place D.C.bound D.R.ended D.R.device truth
         (λ m v. IsTruth v m) 1 result decoder.old decoder.new }

@@ -16,6 +16,6 @@ pub record Costs (peak cost : ℕ) {A : Type 0} (F : Format A) : Type 0 where
   pub evens : (word : List ℕ) (m : A) (s : List Step) → F.Word word m s → reserved s ≡ released s
   pub stays : (word : List ℕ) (m : A) (s : List Step) → F.Word word m s → (front back : List Step) → s ≡ front ++ back → full front + reserved front ≤ peak + released front
 
--- the steps of each word that is written for a meaning of the value stay within the limit
-abbrev pub FitsLimit : (Meaning → Type 0) → Format Meaning → Option ℕ → Type 0
-FitsLimit Means F limit = (word : List ℕ) (m : Meaning) (s : List Step) → Means m → F.Written word m → F.Word word m s → StaysWithin limit 0 s
+-- the steps of this word stay within the limit
+abbrev pub FitsLimit : Format Meaning → Option ℕ → List ℕ → Type 0
+FitsLimit F limit word = (m : Meaning) (s : List Step) → F.Word word m s → StaysWithin limit 0 s

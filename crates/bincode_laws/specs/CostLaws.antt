@@ -1,11 +1,11 @@
 -- What the words of a format charge, where all of them charge the same.
-use Rattle.std.specs.Prelude.{◌≡◌, ℕ, zero, suc, ◌+◌, ◌*◌, ◌≤◌, max, List, [], ◌∷◌, ◌++◌, refl, Option, Some, None, Result, Ok, Err}
-use Rattle.std.proofs.Common.{sym, ◌∙◌, ap, subst, arith}
+use Rattle.std.specs.Prelude.{◌≡◌, ℕ, zero, suc, ◌+◌, ◌*◌, ◌≤◌, max, List, [], ◌∷◌, ◌++◌, refl, length, Option, Some, None, Result, Ok, Err}
+use Rattle.std.proofs.Common.{sym, ◌∙◌, ap, subst, arith, append_assoc}
 use Rattle.std.proofs.Math.Nat.{mul-le-mul_left}
 use Rattle.std.proofs.lemmas.List.{append-nil}
 use Rattle.bincode_format.specs.Answer.{Allows}
 use Rattle.bincode_format.specs.Fault.{Fault}
-use Rattle.bincode_format.specs.Charge.{Step, Charge, Reserve, Release, full, reserved, released, StaysWithin}
+use Rattle.bincode_format.specs.Charge.{Step, Charge, Reserve, Release, full, reserved, released, charge_after, StaysWithin}
 use Rattle.bincode_format.specs.Format.{Format, done, refused, raw, step, ◌>>=◌, written_as, unsure, settled, map_format, charged, elements, sequence}
 use Rattle.bincode_base.specs.Setting.{Setting}
 use Rattle.bincode_base.specs.declared.config.Endianness.{Endianness}
@@ -18,7 +18,9 @@ use Rattle.bincode_format.specs.Integers.{unsigned, signed, unsigned_byte, signe
 use Rattle.bincode_format.specs.Limits.{Costs, FitsLimit}
 use Rattle.bincode_format.specs.Meaning.{Meaning, Nothing, Then, listed}
 use Rattle.bincode_format.specs.Number.{number_of, from_two_complement}
-use Rattle.bincode_format.specs.Words.{truth, truth_of, not_zero_by, not_zero_of, duration, duration_of, seconds_and_nanos, nothing, first_and, four_and, array}
+use Rattle.bincode_format.specs.Words.{truth, truth_of, not_zero_by, not_zero_of, duration, duration_of, seconds_and_nanos, nothing, first_and, four_and, array, list}
+use Rattle.bincode_format.specs.Run.{IsListOf}
+use Rattle.bincode_laws.specs.ListLaws.{array-word_length}
 use Rattle.bincode_laws.specs.Balance.{reserved_append, released_append, FrontOfBoth, in_first, in_second, front_of_both}
 
 full_append : (s t : List Step) → full (s ++ t) ≡ full s + full t
@@ -33,10 +35,10 @@ pub cost-within : {A : Type 0} (F : Format A) (peak cost : ℕ) → Costs peak c
 cost-within F peak cost c None charge h word m s w = tt
 cost-within F peak cost c (Some limit) charge h word m s w = λ front back e. let p = c.stays word m s w front back e in omega arith
 
--- where the limit allows the peak, the steps of all words stay within it
-pub cost-fits : (Means : Meaning → Type 0) (F : Format Meaning) (peak cost : ℕ) → Costs peak cost F → (limit : Option ℕ) → Allows limit peak → FitsLimit Means F limit
-cost-fits Means F peak cost c None h = λ word m s p w u. tt
-cost-fits Means F peak cost c (Some limit) h = λ word m s p w u front back e. let q = c.stays word m s u front back e in omega arith
+-- where the limit allows the peak, the steps of each word stay within it
+pub cost-fits : (F : Format Meaning) (peak cost : ℕ) → Costs peak cost F → (limit : Option ℕ) → Allows limit peak → (word : List ℕ) → FitsLimit F limit word
+cost-fits F peak cost c None h word = λ m s u. tt
+cost-fits F peak cost c (Some limit) h word = λ m s u front back e. let q = c.stays word m s u front back e in omega arith
 
 -- no steps
 stays_none : (peak : ℕ) (s front back : List Step) → s ≡ [] → s ≡ front ++ back → full front + reserved front ≤ peak + released front
@@ -347,3 +349,21 @@ pub array-costs : (F : Format Meaning) (n share peak cost most : ℕ) → share 
 array-costs F n share peak cost most h i j f =
     map-costs (n * most) (n * cost) listed (sequence n share F)
     (reserve_costs (n * share) (n * most) (n * cost) (elements n share F) (mul-le-mul_left n h) (elements_free F share peak cost most f h i j n))
+
+-- under a limit the room of a list's items is within it
+pub list-room : {A : Type 0} (s : Setting) (share : ℕ) (F : Format Meaning) (limit : ℕ) (word : List ℕ) (m : Meaning) (steps : List Step) → (list s share F).Word word m steps →
+    StaysWithin (Some limit) 0 steps → (Given : A → Meaning → Type 0) (vs : List A) → IsListOf Given vs m → length vs * share ≤ limit
+unfolding ◌>>=◌ step
+list-room s share F limit word m steps w within Given vs given =
+    let n : length vs ≡ w.head = array-word_length share F Given vs w.head w.second m w.second_steps w.second_word given in
+    let a = w.second_word in
+    let q = a.first_word in
+    let room = Reserve (w.head * share) in
+    let front = w.first_steps ++ room ∷ [] in
+    let back = q.second_steps ++ a.second_steps in
+    let begun : a.first_steps ≡ room ∷ q.second_steps = q.steps_are ∙ ap (λ z. z ++ q.second_steps) q.first_word.1 in
+    let parts : steps ≡ front ++ back =
+    w.steps_are ∙ ap (λ z. w.first_steps ++ z) (a.steps_are ∙ ap (λ z. z ++ a.second_steps) begun) ∙ sym (append_assoc w.first_steps (room ∷ []) back) in
+    let top : charge_after 0 front ≤ limit = within front back parts in
+    let even = (unsigned-costs integers.U64 8 s).evens w.first w.head w.first_steps w.first_word in
+    rw n (omega (arith, even, top, full_append w.first_steps (room ∷ []), reserved_append w.first_steps (room ∷ []), released_append w.first_steps (room ∷ [])))

@@ -1,6 +1,7 @@
 -- What another limit changes, and what is read back within one.
-use Rattle.std.specs.Prelude.{◌≡◌, ℕ, List, length, drop, Option, Some, None, Result, Ok, Err, IfOk, MatchResult}
-use Rattle.std.proofs.Common.{sym, ◌∙◌, ap, subst, arith}
+use Rattle.std.specs.Prelude.{◌≡◌, ℕ, List, [], ◌++◌, length, take, drop, Option, Some, None, Result, Ok, Err, IfOk, MatchResult, refl}
+use Rattle.std.proofs.Common.{sym, ◌∙◌, ap, subst, arith, append-nil}
+use Rattle.std.proofs.Math.Seq.{take-append_seam}
 use Rattle.bincode_base.specs.declared.error.DecodeError.{DecodeError}
 use Rattle.bincode_format.specs.Allowed.{AllowedWord}
 use Rattle.bincode_format.specs.Answer.{Gave, answer}
@@ -41,16 +42,37 @@ larger-decodes F f small large h input Given a n d Grows (Err e) g found =
 
 module _ {A : Type 0} (F : Format Meaning) (f : Lawful F) (limit : Option ℕ) (Means : Meaning → Type 0)
     (Given : Meaning → A → Type 0) (Same : A → Type 0) (same : (a : A) (m : Meaning) → Means m → Given m a → Same a) where
-  -- What was written is read back under each limit that its steps stay within: an equal value, of as many bytes, whatever
-  -- follows them, unless memory is refused.
-  pub read-back : (n : ℕ) (old new : List ℕ) → WordWritten (AllowedWord Means F) n old new →
-      FitsLimit Means F limit →
+  -- A word that was written is read back under each limit that its own steps stay within: an equal value, of as many bytes,
+  -- whatever follows them, unless memory is refused.
+  pub read-back : (word rest : List ℕ) → AllowedWord Means F word → FitsLimit F limit word →
+      (Grows : Type 0) (result : Result (A × ℕ) DecodeError) → IfOk result (λ x. Decoded F limit (word ++ rest) (λ m. Given m x.0) x.1) →
+      FindsWords F limit Grows (word ++ rest) result → MatchResult result (λ x. Same x.0 × (x.1 ≡ length word)) (IsRefused Grows)
+  read-back word rest w within Grows (Ok x) d found =
+      let u = f.written_is_word word w.meaning w.is_written in
+      let one = one-word f word d.word rest d.rest w.meaning d.meaning u.0 d.steps u.1 d.is_word d.input_is in
+      (same x.0 w.meaning w.is_meant (subst (λ m. Given m x.0) (sym one.1) d.is_given), d.count ∙ ap length (sym one.0))
+  read-back word rest w within Grows (Err e) d found =
+      let u = f.written_is_word word w.meaning w.is_written in
+      found word rest w.meaning u.0 refl u.1 (within w.meaning u.0 u.1)
+
+  -- the same of a slice that it was written into
+  pub read-back_slice : (n : ℕ) (old new : List ℕ) → WordWritten (AllowedWord Means F) n old new → FitsLimit F limit (take n new) →
       (Grows : Type 0) (result : Result (A × ℕ) DecodeError) → IfOk result (λ x. Decoded F limit new (λ m. Given m x.0) x.1) →
       FindsWords F limit Grows new result → MatchResult result (λ x. Same x.0 × (x.1 ≡ n)) (IsRefused Grows)
-  read-back n old new w within Grows (Ok x) d found =
-      let u = f.written_is_word w.word w.is_allowed.meaning w.is_allowed.is_written in
-      let one = one-word f w.word d.word (drop (length w.word) old) d.rest w.is_allowed.meaning d.meaning u.0 d.steps u.1 d.is_word (sym w.fills ∙ d.input_is) in
-      (same x.0 w.is_allowed.meaning w.is_allowed.is_meant (subst (λ m. Given m x.0) (sym one.1) d.is_given), d.count ∙ ap length (sym one.0) ∙ sym w.count)
-  read-back n old new w within Grows (Err e) d found =
-      let u = f.written_is_word w.word w.is_allowed.meaning w.is_allowed.is_written in
-      found w.word (drop (length w.word) old) w.is_allowed.meaning u.0 w.fills u.1 (within w.word w.is_allowed.meaning u.0 w.is_allowed.is_meant w.is_allowed.is_written u.1)
+  read-back_slice n old new w within Grows result d found =
+      let rest = drop (length w.word) old in
+      let front : take n new ≡ w.word = ap (λ k. take k new) w.count ∙ ap (take (length w.word)) w.fills ∙ take-append_seam w.word rest in
+      subst (λ k. MatchResult result (λ x. Same x.0 × (x.1 ≡ k)) (IsRefused Grows)) (sym w.count)
+      (read-back w.word rest w.is_allowed (subst (FitsLimit F limit) front within) Grows result
+      (subst (λ input. IfOk result (λ x. Decoded F limit input (λ m. Given m x.0) x.1)) w.fills d)
+      (subst (λ input. FindsWords F limit Grows input result) w.fills found))
+
+  -- and of a vector
+  pub read-back_vec : (bytes : List ℕ) → AllowedWord Means F bytes → FitsLimit F limit bytes →
+      (Grows : Type 0) (result : Result (A × ℕ) DecodeError) → IfOk result (λ x. Decoded F limit bytes (λ m. Given m x.0) x.1) →
+      FindsWords F limit Grows bytes result → MatchResult result (λ x. Same x.0 × (x.1 ≡ length bytes)) (IsRefused Grows)
+  read-back_vec bytes w within Grows result d found =
+      let whole : bytes ≡ bytes ++ [] = sym (append-nil bytes) in
+      read-back bytes [] w within Grows result
+      (subst (λ input. IfOk result (λ x. Decoded F limit input (λ m. Given m x.0) x.1)) whole d)
+      (subst (λ input. FindsWords F limit Grows input result) whole found)

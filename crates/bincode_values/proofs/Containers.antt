@@ -23,9 +23,19 @@ use Rattle.bincode_decoder.proofs.ReadAnswers.{read-as, made-of}
 use Rattle.bincode_decoder.proofs.PartAnswers.{first-stops, next-reads}
 
 -- two facts of a value
-both_ok : {T E : Type 0} (r : Result T E) (P Q S : T → Type 0) → ((v : T) → P v → Q v → S v) → IfOk r P → IfOk r Q → IfOk r S
+pub both_ok : {T E : Type 0} (r : Result T E) (P Q S : T → Type 0) → ((v : T) → P v → Q v → S v) → IfOk r P → IfOk r Q → IfOk r S
 both_ok (Ok v) P Q S f p q = f v p q
 both_ok (Err e) P Q S f p q = tt
+
+-- what was read, with a fact of it
+pub reads-with :
+    {D A T : Type 0} {told : D → Type 0} {rest : D → List ℕ} {charge failures : D → ℕ} {place : D → List GName} {limit : Option ℕ}
+    {ended : ℕ → DecodeError → Type 0} {device : DeviceErrors} {grows : Type 0} {format : Format A} {given other : A → T → Type 0} {start : ℕ} {P : T → Type 0}
+    (r : Result T DecodeError) {old new : D} →
+    ((m : A) (v : T) → given m v → P v → other m v) → IfOk r P →
+    Reads told rest charge failures place limit ended device grows format given start r old new →
+    Reads told rest charge failures place limit ended device grows format other start r old new
+reads-with r both fact read = read-as (λ known. both_ok r _ _ _ (λ v p d. made-of (λ m k. both m v k p) d) fact (read.ok known)) read.err read.within read
 
 -- a run that is read behind the claim of its room is an array
 pub array-reads :

@@ -63,7 +63,7 @@ fn decode_items<
 }
 
 /// Claims the room of `len` items, and reads them. Fails with `LimitExceeded` where the claim passes the limit, before
-/// the list is begun, and where `decode_items` does. A fault leaves what was claimed.
+/// the list is begun, and where `decode_items` does. A fault leaves what was charged before it.
 fn decode_claimed_items<
     Context: Drop,
     V: ReadValues<Context>,
@@ -81,7 +81,7 @@ fn decode_claimed_items<
 
 /// Reads a length and so many items, whose room is claimed before the list is begun. Fails where the length can't be
 /// read, with `LimitExceeded` where the room passes the limit, with `Memory` where the list does, and where an item
-/// does. A fault leaves what was claimed.
+/// does. A fault leaves what was charged before it.
 pub fn decode_collection<
     Context: Drop,
     V: ReadValues<Context>,

@@ -37,7 +37,7 @@ where
 }
 
 /// Claims the room of `len` keys, and reads them into a set. Fails with `LimitExceeded` where the claim passes the
-/// limit, and where `decode_keys` does. A fault leaves what was claimed.
+/// limit, and where `decode_keys` does. A fault leaves what was charged before it.
 fn decode_claimed_keys<Context: Drop, K: ReadValues<Context>, D: Decoder<Context = Context>>(
     decoder: &mut D,
     len: usize,
@@ -56,7 +56,7 @@ where
 /// Reads a length, and so many keys, which are put into a set in turn: of equal keys the first stays. The room of the
 /// keys is claimed as that of a list, and none of it is reserved. Fails where the length can't be read, with
 /// `LimitExceeded` where the claim passes the limit, with `Memory` where the room for a key is refused, and where a key
-/// does. A fault leaves what was claimed.
+/// does. A fault leaves what was charged before it.
 pub fn decode_set<Context: Drop, K: ReadValues<Context>, D: Decoder<Context = Context>>(
     decoder: &mut D,
 ) -> Result<BTreeSet<K::Value>, DecodeError>
@@ -97,7 +97,7 @@ fn decode_entries<
 }
 
 /// Claims the room of `len` entries, and reads them into a map. Fails with `LimitExceeded` where the claim passes the
-/// limit, and where `decode_entries` does. A fault leaves what was claimed.
+/// limit, and where `decode_entries` does. A fault leaves what was charged before it.
 fn decode_claimed_entries<
     Context: Drop,
     K: Ord + Wire + Drop,
@@ -117,7 +117,7 @@ fn decode_claimed_entries<
 /// Reads a length, and so many entries, which are put into a map in turn: of equal keys the first stays, with the last
 /// value. The room of the entries is claimed as that of a list, and none of it is reserved. Fails where the length
 /// can't be read, with `LimitExceeded` where the claim passes the limit, with `Memory` where the room for an entry is
-/// refused, and where an entry does. A fault leaves what was claimed.
+/// refused, and where an entry does. A fault leaves what was charged before it.
 pub fn decode_map<
     Context: Drop,
     K: Ord + Wire + Drop,

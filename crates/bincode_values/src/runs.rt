@@ -1,5 +1,5 @@
 //! Runs of values whose room has been reserved, without a length.
-ghost use Rattle.std.specs.Prelude.{◌≡◌, ◌*◌, length, IfOk, IfSome, IfErr};
+ghost use Rattle.std.specs.Prelude.{◌≡◌, ◌*◌, ◌<◌, length, IfOk, IfSome, IfErr, vec_capacity};
 ghost use Rattle.bincode_base.specs.declared.error.DecodeError.TheVariants.{Memory};
 ghost use Rattle.bincode_format.specs.Answer.{unclaimed};
 ghost use Rattle.bincode_format.specs.Run.{CanRelease};
@@ -21,9 +21,9 @@ pub fn decode_run<Context: Drop, V: ReadValues<Context>, D: Decoder<Context = Co
     values: &mut [V::Value],
 ) -> Result<(), DecodeError>
     requires { CanRelease D.C.bound (D.charge decoder.old) (length values.old * V.Value.claim) }
-    ensures { RunRead D.told D.rest D.charge D.failures D.place D.C.bound D.R.ended D.R.device V.Value.grows
-        V.Value.claim (V.Value.format D.C.setting) V.Value.given (length values.old) (λ _. values.new) result
-        decoder.old decoder.new }
+    ensures { RunRead D.told D.rest D.charge D.failures D.place D.C.bound D.R.ended D.R.device
+        (V.Value.grows × (0 < length values.old)) V.Value.claim (V.Value.format D.C.setting) V.Value.given
+        (length values.old) (λ _. values.new) result decoder.old decoder.new }
 {
     if !decoder.is_within_limit() {
         return decode_each::<Context, V, D>(decoder, values);
@@ -41,9 +41,9 @@ fn decode_each<Context: Drop, V: ReadValues<Context>, D: Decoder<Context = Conte
     values: &mut [V::Value],
 ) -> Result<(), DecodeError>
     requires { CanRelease D.C.bound (D.charge decoder.old) (length values.old * V.Value.claim) }
-    ensures { RunRead D.told D.rest D.charge D.failures D.place D.C.bound D.R.ended D.R.device V.Value.grows
-        V.Value.claim (V.Value.format D.C.setting) V.Value.given (length values.old) (λ _. values.new) result
-        decoder.old decoder.new }
+    ensures { RunRead D.told D.rest D.charge D.failures D.place D.C.bound D.R.ended D.R.device
+        (V.Value.grows × (0 < length values.old)) V.Value.claim (V.Value.format D.C.setting) V.Value.given
+        (length values.old) (λ _. values.new) result decoder.old decoder.new }
 {
     for index in 0..values.len() {
         values[index] = decode_next::<Context, V, D>(decoder)?;
@@ -65,15 +65,16 @@ pub(crate) fn decode_next<Context: Drop, V: ReadValues<Context>, D: Decoder<Cont
     V::read_value(decoder)
 }
 
-/// Reads `len` values, as `decode_run` does. Fails where a value does, or with `Memory` where the room for the values
-/// is refused.
+/// Reads `len` values, as `decode_run` does, into a vector with room for just so many. Fails where a value does, or
+/// with `Memory` where the room for the values is refused; of no values it is never refused.
 pub fn decode_vec<Context: Drop, V: ReadValues<Context>, D: Decoder<Context = Context>>(
     decoder: &mut D,
     len: usize,
 ) -> Result<Vec<V::Value>, DecodeError>
     requires { CanRelease D.C.bound (D.charge decoder.old) (len * V.Value.claim) }
     ensures length { IfOk result (λ v. length v.items ≡ len) }
-    ensures read { RunRead D.told D.rest D.charge D.failures D.place D.C.bound D.R.ended D.R.device (Unit {0})
+    ensures room { IfOk result (λ v. vec_capacity v ≡ len) }
+    ensures read { RunRead D.told D.rest D.charge D.failures D.place D.C.bound D.R.ended D.R.device (0 < len)
         V.Value.claim (V.Value.format D.C.setting) V.Value.given len (λ v. v.items) result decoder.old decoder.new }
 {
     let Some(mut values) = blank_values::<Context, V>(decoder.alloc(), len)? else {
@@ -90,7 +91,8 @@ fn decode_by_pushes<Context: Drop, V: ReadValues<Context>, D: Decoder<Context = 
 ) -> Result<Vec<V::Value>, DecodeError>
     requires { CanRelease D.C.bound (D.charge decoder.old) (len * V.Value.claim) }
     ensures length { IfOk result (λ v. length v.items ≡ len) }
-    ensures read { RunRead D.told D.rest D.charge D.failures D.place D.C.bound D.R.ended D.R.device (Unit {0})
+    ensures room { IfOk result (λ v. vec_capacity v ≡ len) }
+    ensures read { RunRead D.told D.rest D.charge D.failures D.place D.C.bound D.R.ended D.R.device (0 < len)
         V.Value.claim (V.Value.format D.C.setting) V.Value.given len (λ v. v.items) result decoder.old decoder.new }
 {
     let Ok(mut values) = Vec::with_capacity(decoder.alloc(), len) else {
@@ -110,7 +112,8 @@ fn blank_values<Context: Drop, V: ReadValues<Context>>(
     len: usize,
 ) -> Result<Option<Vec<V::Value>>, DecodeError>
     ensures length { IfOk result (λ blank. IfSome blank (λ v. length v.items ≡ len)) }
-    ensures err { IfErr result (λ e. e ≡ Memory) }
+    ensures room { IfOk result (λ blank. IfSome blank (λ v. vec_capacity v ≡ len)) }
+    ensures err { IfErr result (λ e. (0 < len) × (e ≡ Memory)) }
 {
     if V::Value::claim_size() > 1 || V::blank_array::<[V::Value; 0]>().is_none() {
         return Ok(None);

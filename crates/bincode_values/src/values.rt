@@ -1,5 +1,5 @@
 //! A way to read one value, by which the functions of this crate read more.
-ghost use Rattle.std.specs.Prelude.{◌≡◌, ◌*◌, length};
+ghost use Rattle.std.specs.Prelude.{◌≡◌, ◌*◌, ◌<◌, length};
 ghost use Rattle.std.specs.Option.{MatchOption};
 ghost use Rattle.bincode_format.specs.Answer.{Allows};
 ghost use Rattle.bincode_format.specs.Run.{CanRelease};
@@ -33,7 +33,7 @@ pub trait ReadValues<Context: Drop> {
         requires { CanRelease D.C.bound (D.charge decoder.old) (length values.old * Self.Value.claim)
             × Allows D.C.bound (D.charge decoder.old) }
         ensures { MatchOption result (decoder.new ≡ decoder.old) (λ r. RunRead D.told D.rest D.charge D.failures
-            D.place D.C.bound D.R.ended D.R.device Self.Value.grows Self.Value.claim
+            D.place D.C.bound D.R.ended D.R.device (Self.Value.grows × (0 < length values.old)) Self.Value.claim
             (Self.Value.format D.C.setting) Self.Value.given (length values.old) (λ _. values.new) r
             decoder.old decoder.new) };
 }

@@ -1,5 +1,5 @@
 //! Callers that rest on the contracts of the two calls alone.
-ghost use Rattle.std.specs.Prelude.{◌≡◌, true, IfErr, IfOk, MatchResult, length};
+ghost use Rattle.std.specs.Prelude.{◌≡◌, ◌*◌, ◌≤◌, ℕ, true, IfErr, IfOk, MatchResult, Some, false, length, take, vec_capacity};
 ghost use Rattle.bincode_base.specs.declared.error.DecodeError.TheVariants.{Memory};
 ghost use Rattle.bincode_format.specs.Allowed.{AllowedWord};
 ghost use Rattle.bincode_format.specs.Answer.{Allows};
@@ -7,6 +7,7 @@ ghost use Rattle.bincode_format.specs.Decoding.{IsRefused};
 ghost use Rattle.bincode_format.specs.Limits.{FitsLimit};
 ghost use Rattle.bincode_format.specs.Slice.{FrontWritten};
 ghost use Rattle.callers.specs.Short.{TooShort};
+ghost use Rattle.std.specs.Range.{range_inclusive_exhausted};
 
 use bincode::config::Config;
 use bincode::de::Decode;
@@ -14,7 +15,7 @@ use bincode::enc::Encode;
 use bincode::error::{DecodeError, EncodeError};
 use bincode::laws::{ConstantCharge, Exact, Writable};
 use bincode::time::Duration;
-use bincode::{Wire, decode_from_slice, encode_into_slice};
+use bincode::{Wire, decode_from_slice, encode_into_slice, encode_to_vec};
 use std::alloc::Global;
 use std::cell::{Cell, RefCell};
 use std::cmp::Reverse;
@@ -41,15 +42,15 @@ pub struct RoundTrip<T> {
 }
 
 /// Writes a value into the front of a slice, and reads it back from there, with the bytes behind it. Where the charges
-/// of its words stay within the limit an equal value is read, of as many bytes, unless memory is refused. Fails with
-/// `UnexpectedEnd` where the slice is too short.
+/// of the word that was written stay within the limit an equal value is read, of as many bytes, unless memory is
+/// refused. Fails with `UnexpectedEnd` where the slice is too short.
 pub fn round_trip<T: Encode + Decode<()> + Exact, C: Config>(
     alloc: Global,
     value: &T,
     slice: &mut [u8],
     config: C,
 ) -> Result<RoundTrip<T>, EncodeError>
-    ensures back { FitsLimit (T.means value.now) (T.format C.setting) C.bound → IfOk result (λ trip.
+    ensures back { IfOk result (λ trip. FitsLimit (T.format C.setting) C.bound (take trip.written slice.new) →
         MatchResult trip.read (λ x. (T.eq value.now x.0 ≡ true) × (x.1 ≡ trip.written)) (IsRefused T.grows)) }
     ensures short { IfErr result (TooShort (AllowedWord (T.means value.now) (T.format C.setting)) (length slice.old)) }
 {
@@ -57,6 +58,31 @@ pub fn round_trip<T: Encode + Decode<()> + Exact, C: Config>(
     let written = encode_into_slice(value, slice, config)?;
     let read = decode_from_slice(alloc, slice, config);
     Ok(RoundTrip { written, read })
+}
+
+/// What came of writing a value into a vector and reading it: the bytes of its word, and what was read.
+#[derive(Drop)]
+pub struct VecTrip<T> {
+    pub bytes: Vec<u8>,
+    pub read: Result<(T, usize), DecodeError>,
+}
+
+/// Writes a value into a vector, and reads it back from there. Where the charges of the word that was written stay
+/// within the limit an equal value is read, of as many bytes, unless memory is refused. Fails with `Memory` where the
+/// room of the vector is refused.
+pub fn round_trip_by_vec<T: Encode + Decode<()> + Exact, C: Config>(
+    alloc: Global,
+    value: &T,
+    config: C,
+) -> Result<VecTrip<T>, EncodeError>
+    ensures { IfOk result (λ trip. FitsLimit (T.format C.setting) C.bound trip.bytes.items →
+        MatchResult trip.read (λ x. (T.eq value.now x.0 ≡ true) × (x.1 ≡ length trip.bytes.items))
+        (IsRefused T.grows)) }
+{
+    value.tell_valid();
+    let bytes = encode_to_vec(alloc, value, config)?;
+    let read = decode_from_slice(alloc, &bytes, config);
+    Ok(VecTrip { bytes, read })
 }
 
 /// The same of a type whose words all charge the same: the limit has to allow what is charged and held at once, at
@@ -88,6 +114,28 @@ pub fn round_trip_of_numbers<C: Config>(
         (⟦<(u64, [u32; 4]) as Wire>⟧.format C.setting)) (length slice.old)) }
 {
     round_trip_within(alloc, value, slice, config)
+}
+
+/// Reads a list. Under a limit the room that it has, by the claim size of its items, is within the limit.
+pub fn read_list<T: Decode<()>, C: Config>(
+    alloc: Global,
+    src: &[u8],
+    config: C,
+) -> Result<(Vec<T>, usize), DecodeError>
+    ensures { (limit : ℕ) → C.bound ≡ Some limit → IfOk result (λ x. vec_capacity x.0 * T.claim ≤ limit) }
+{
+    decode_from_slice(alloc, src, config)
+}
+
+/// Says of a range that was read that it is not exhausted.
+pub fn read_range<C: Config>(
+    alloc: Global,
+    src: &[u8],
+    config: C,
+) -> Result<(RangeInclusive<u16>, usize), DecodeError>
+    ensures { IfOk result (λ x. range_inclusive_exhausted x.0 ≡ false) }
+{
+    decode_from_slice(alloc, src, config)
 }
 
 /// Reads a number, which takes no memory.

@@ -1,5 +1,5 @@
 //! The words of lists.
-ghost use Rattle.std.specs.Prelude.{◌≡◌};
+ghost use Rattle.std.specs.Prelude.{◌≡◌, length, vec_capacity};
 ghost use Rattle.std.specs.Box.{boxed_slice_items};
 ghost use Rattle.std.specs.Cow.{cow_slice_items};
 ghost use Rattle.std.specs.Rc.{rc_slice_items};
@@ -17,6 +17,12 @@ impl<T: Wire> Parted for Vec<T> {
     type Parts = Items<T, 24>;
 
     ghost parts = { λ v. record { items = v.items } };
+
+    // What is decoded has room for just its items.
+    ghost promised = { λ v of_parts. record {
+      Promised = of_parts × (vec_capacity v ≡ length v.items);
+      keeps = λ h. h.0;
+    } };
 }
 
 impl<T: Exact> SameParts<Items<T, 24>> for Vec<T> {

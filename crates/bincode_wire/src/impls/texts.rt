@@ -1,5 +1,6 @@
 //! The words of texts.
-ghost use Rattle.std.specs.String.{string_bytes};
+ghost use Rattle.std.specs.Prelude.{◌≡◌, length};
+ghost use Rattle.std.specs.String.{string_bytes, string_capacity};
 ghost use Rattle.std.specs.Box.{boxed_str_bytes};
 ghost use Rattle.std.specs.Rc.{rc_str_bytes};
 ghost use Rattle.std.specs.Cow.{cow_str_bytes};
@@ -14,6 +15,12 @@ impl Parted for String {
     type Parts = TextBytes<24>;
 
     ghost parts = { λ v. record { bytes = string_bytes v } };
+
+    // What is decoded has room for just its bytes.
+    ghost promised = { λ v of_parts. record {
+      Promised = of_parts × (string_capacity v ≡ length (string_bytes v));
+      keeps = λ h. h.0;
+    } };
 }
 
 impl SameParts<TextBytes<24>> for String {

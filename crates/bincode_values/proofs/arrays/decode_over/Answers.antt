@@ -7,7 +7,7 @@ pub returns-in_err-decode_run : goal.returns-in_err-decode_run
 returns-in_err-decode_run g c =
     let p = err_from_is_err_and c.from_residual.result c.from_residual.ensures.1 in
     let e : length c.args.values ≡ g.row.N = search rules in
-    rw (p.1, p.2) (read-besides e (λ k. k) c.in_err-decode_run.ensures)
+    rw (p.1, p.2) (read-besides e (λ k. k.0) c.in_err-decode_run.ensures)
 
 pub returns : goal.returns
 returns g c =

@@ -1,5 +1,5 @@
 use Rattle.std.proofs.lemmas.Result.{err_from_is_err_and}
-use Rattle.bincode_values.proofs.Containers.{length-stops, length-reads}
+use Rattle.bincode_values.proofs.Containers.{length-stops, length-reads, reads-with}
 use Rattle.bincode_values.proofs.lists.decode_list.Goals as goal
 
 pub returns-in_err-len : goal.returns-in_err-len
@@ -8,4 +8,6 @@ returns-in_err-len g c =
     rw (p.1, p.2) (length-stops g.D.C.Config.setting _ _ c.in_err-len.ensures.reads)
 
 pub returns : goal.returns
-returns g c = length-reads g.D.C.Config.setting _ _ c.in_ok-len.ensures.reads c.decode_claimed.ensures
+returns g c =
+    let claimed = reads-with c.decode_claimed.result (λ m v given room. (given, room)) c.decode_claimed.ensures.room c.decode_claimed.ensures.read in
+    length-reads g.D.C.Config.setting _ _ c.in_ok-len.ensures.reads claimed

@@ -2,12 +2,12 @@ use Rattle.std.proofs.Common.{◌+◌, ◌∷◌, [], length, refl, ap, ◌∙�
 use Rattle.std.proofs.lemmas.List.{length-append}
 use Rattle.std.proofs.lemmas.Result.{err_from_is_err_and}
 use Rattle.bincode_format.specs.Decoding.{by_memory}
-use Rattle.bincode_decoder.proofs.Rooms.{held-still}
+use Rattle.bincode_decoder.proofs.Rooms.{held-still, refused-some}
 use Rattle.bincode_values.proofs.Reading.{none-so_far, next-releases, next-so_far, stops-so_far, all-so_far}
 use Rattle.bincode_values.proofs.runs.decode_by_pushes.Goals as goal
 
 pub loop-init : goal.loop-init
-loop-init g c = (rw c.in-Ok.ensures.items (none-so_far c.requires), rw c.in-Ok.ensures.items refl, c.in-Ok.ensures.len, c.in-Ok.ensures.capacity)
+loop-init g c = (rw c.in-Ok.ensures.items (none-so_far c.requires), rw c.in-Ok.ensures.items refl, c.in-Ok.ensures.len, c.in-Ok.ensures.exact)
 
 pub decode_next-requires : goal.decode_next-requires
 decode_next-requires g c = next-releases c.loop.invariant.0 (omega arith)
@@ -15,7 +15,7 @@ decode_next-requires g c = next-releases c.loop.invariant.0 (omega arith)
 pub returns-in_err-decode_next-clause-read : goal.returns-in_err-decode_next-clause-read
 returns-in_err-decode_next-clause-read g c =
     let p = err_from_is_err_and c.from_residual.result c.from_residual.ensures.1 in
-    rw (p.1, p.2) (stops-so_far c.loop.invariant.0 (omega arith) (λ _. tt) c.in_err-decode_next.ensures)
+    rw (p.1, p.2) (stops-so_far c.loop.invariant.0 (omega arith) (λ _. omega arith) c.in_err-decode_next.ensures)
 
 pub loop-preserved : goal.loop-preserved
 loop-preserved g c =
@@ -24,7 +24,7 @@ loop-preserved g c =
       next-so_far h.0 (omega arith) (g.V.Value.Wire.lawful _) (g.V.Value.Wire.balanced _) c.push_reserved.ensures.items c.in_ok-decode_next.ensures,
       ap length c.push_reserved.ensures.items ∙ length-append c.loop.values.items (v ∷ []) ∙ ap (λ z. z + 1) h.1,
       c.push_reserved.ensures.len ∙ ap (λ z. z + 1) h.2,
-      rw c.push_reserved.ensures.capacity h.3,
+      c.push_reserved.ensures.capacity ∙ h.3,
     )
 
 pub returns-clause-read : goal.returns-clause-read
@@ -33,7 +33,7 @@ returns-clause-read g c = all-so_far c.loop.invariant.0 (omega arith) refl
 pub returns-in_default-clause-read : goal.returns-in_default-clause-read
 returns-in_default-clause-read g c = record {
   ok = λ known. tt;
-  err = λ known. by_memory tt refl ([], refl);
+  err = λ known. by_memory (refused-some c.args.len c.in_default.ensures.succeeds) refl ([], refl);
   counted = omega arith;
   tells = λ known. known;
   held = held-still _ _ _;

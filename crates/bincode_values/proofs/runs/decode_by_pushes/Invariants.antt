@@ -1,4 +1,4 @@
-use Rattle.std.proofs.Common.{◌≡◌, ◌≤◌, length}
+use Rattle.std.proofs.Common.{◌≡◌, length}
 use Rattle.std.specs.Vec.{vec_len, vec_capacity}
 use Rattle.bincode_values.proofs.Reading.{RunSoFar}
 use Rattle.bincode_values.proofs.runs.decode_by_pushes.Given as goal
@@ -9,4 +9,4 @@ invariant-loop g l =
     (g.V.Value.Wire.format g.D.C.Config.setting) g.V.Value.Wire.given l.fn.len l.counter l.values.items l.fn.decoder l.decoder
     × (length l.values.items ≡ l.counter)
     × (vec_len l.values ≡ l.counter)
-    × (l.fn.len ≤ vec_capacity l.values)
+    × (vec_capacity l.values ≡ l.fn.len)

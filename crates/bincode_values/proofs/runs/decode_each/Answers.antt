@@ -13,7 +13,7 @@ decode_next-requires g c = next-releases c.loop-index.invariant (omega arith)
 pub returns-in_err-values : goal.returns-in_err-values
 returns-in_err-values g c =
     let p = err_from_is_err_and c.from_residual.result c.from_residual.ensures.1 in
-    rw (p.1, p.2) (stops-so_far c.loop-index.invariant (omega arith) (λ k. k) c.in_err-values.ensures)
+    rw (p.1, p.2) (stops-so_far c.loop-index.invariant (omega arith) (λ k. (k, omega arith)) c.in_err-values.ensures)
 
 pub loop-index-preserved : goal.loop-index-preserved
 loop-index-preserved g c =

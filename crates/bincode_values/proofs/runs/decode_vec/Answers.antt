@@ -1,4 +1,4 @@
-use Rattle.std.proofs.Common.{◌≡◌, length, ap, ◌∙◌}
+use Rattle.std.proofs.Common.{◌≡◌, length, ap, ◌∙◌, arith}
 use Rattle.std.proofs.lemmas.Result.{err_from_is_err_and}
 use Rattle.bincode_values.proofs.Reading.{read-besides}
 use Rattle.bincode_values.proofs.runs.decode_vec.Goals as goal
@@ -7,4 +7,4 @@ pub returns-in_err-decode_run-clause-read : goal.returns-in_err-decode_run-claus
 returns-in_err-decode_run-clause-read g c =
     let p = err_from_is_err_and c.from_residual-in_err-decode_run.result c.from_residual-in_err-decode_run.ensures.1 in
     let k : length c.deref_mut.result.now ≡ c.args.len = ap length c.deref_mut.ensures.value ∙ (rw c.in-Some.is at c.in_ok-values.ensures.length) in
-    rw (p.1, p.2) (read-besides k (λ _. tt) c.in_err-decode_run.ensures)
+    rw (p.1, p.2) (read-besides k (λ h. let l = h.1 in omega (arith, k, l)) c.in_err-decode_run.ensures)

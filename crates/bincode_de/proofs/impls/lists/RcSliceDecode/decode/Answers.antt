@@ -10,7 +10,7 @@ returns-in_err-list g c =
     rw (p.1, p.2) (read-failed c.in_err-list.ensures)
 
 pub returns : goal.returns
-returns g c = read-made (λ m h. rw c.in-Ok.ensures h) c.in_ok-list.ensures
+returns g c = read-made (λ m h. rw c.in-Ok.ensures h.0) c.in_ok-list.ensures
 
 pub returns-in_default : goal.returns-in_default
 returns-in_default g c = read-refused (list-lawful _ _ _ (g.T.Wire.lawful _)) refl c.in_ok-list.ensures

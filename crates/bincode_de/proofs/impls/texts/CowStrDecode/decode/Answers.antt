@@ -8,4 +8,4 @@ returns-in_err-text g c =
     rw (p.1, p.2) (read-failed c.in_err-text.ensures)
 
 pub returns : goal.returns
-returns g c = read-made (λ m h. h) c.in_ok-text.ensures
+returns g c = read-made (λ m h. h.0) c.in_ok-text.ensures

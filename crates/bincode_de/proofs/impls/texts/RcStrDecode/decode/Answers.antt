@@ -10,7 +10,7 @@ returns-in_err-text g c =
     rw (p.1, p.2) (read-failed c.in_err-text.ensures)
 
 pub returns : goal.returns
-returns g c = read-made (λ m h. rw c.in-Ok.ensures.ok h) c.in_ok-text.ensures
+returns g c = read-made (λ m h. rw c.in-Ok.ensures.ok h.0) c.in_ok-text.ensures
 
 pub returns-in_default : goal.returns-in_default
 returns-in_default g c = read-refused (text-lawful _) refl c.in_ok-text.ensures
