@@ -6,4 +6,5 @@ pub returns : goal.returns
 returns g c = λ fits.
     read-back_vec _ (g.T.Wire.lawful _) _ _ _ (λ w. g.T.PartialEq.eq c.args.value.now w ≡ true)
     (λ w m. g.met.T.Exact.comes_back c.args.value.now w m c.tell_valid.ensures)
-    c.in_ok-bytes.bytes.items c.in_ok-bytes.ensures.word fits _ _ c.decode_from_slice-read.ensures.word c.decode_from_slice-read.ensures.found
+    c.in_ok-bytes.bytes.items c.in_ok-bytes.ensures.word fits _ _
+    (rw c.deref.ensures.value at c.decode_from_slice-read.ensures.word) (rw c.deref.ensures.value at c.decode_from_slice-read.ensures.found)
