@@ -82,7 +82,7 @@ where
         V.Value.names result encoder.old encoder.new }
 {
     let items = heap.as_slice();
-    let len = items.len();
-    encode_length(encoder, len)?;
+    let count = items.len();
+    encode_length(encoder, count)?;
     encode_each::<V, E>(items, encoder)
 }
