@@ -1,5 +1,5 @@
 -- What encoding does and leaves.
-use Rattle.std.specs.Prelude.{◌≡◌, ◌⊎◌, ℕ, List, ◌++◌, Option, Result, OnOk, IfErr}
+use Rattle.std.specs.Prelude.{◌≡◌, ◌⊎◌, ℕ, List, [], ◌++◌, Option, Result, OnOk, IfErr}
 use Rattle.std.specs.Borrow.{GName}
 use Rattle.bincode_base.specs.declared.error.EncodeError.{EncodeError}
 use Rattle.bincode_base.specs.declared.error.EncodeError.TheVariants as errors
@@ -61,3 +61,7 @@ pub record FitsRoom (Allowed : List ℕ → Type 0) (Names Fails : EncodeError �
   pub short : IfErr result (λ e. Names e ⊎ (Fails e ⊎ ((front : List ℕ) × Begins Allowed front × TooLong room front)))
   pub exact : OneLength Allowed → ((e : EncodeError) → ¬ (Names e)) → (word : List ℕ) → Allowed word →
       OnOk result (WithinRoom room word) × (WithinRoom room word → IfErr result Fails)
+
+-- where every allowed word is empty, only errors that the type names come
+abbrev pub FailsEmpty : {A : Type 0} → (List ℕ → Type 0) → (EncodeError → Type 0) → Result A EncodeError → Type 0
+FailsEmpty Allowed Names result = OneLength Allowed → Allowed [] → IfErr result Names

@@ -39,7 +39,7 @@ pub trait Writer: Drop {
     fn write(&mut self, bytes: &[u8]) -> Result<(), EncodeError>
         ensures { TakesPiece adds refuses failures place bytes.now result self.old self.new };
 
-    /// The empty piece changes nothing.
+    /// A writer that stays as it is has added the empty piece.
     ghost adds_none: { (w : Self) → adds w [] w };
 
     /// Two pieces in turn are their join.
@@ -56,7 +56,7 @@ pub trait Writer: Drop {
     ghost refuses_why: { (a b : Self) (piece : List ℕ) (e : EncodeError) → refuses a piece e b →
         TooLong (room a) piece ⊎ WriterFails device (failures a) (failures b) e };
 
-    /// A write of the empty piece leaves the writer as it was.
+    /// A writer that added the empty piece stayed as it was.
     ghost adds_nothing: { (a b : Self) → adds a [] b → b ≡ a };
 
     /// A piece that was added was within the room, and the room is then what is left of it.
