@@ -1,5 +1,5 @@
 -- Why a value is not put into a vector.
-use Rattle.std.specs.Prelude.{◌≡◌, ◌+◌, ◌-◌, ◌^◌, ◌<◌, ◌++◌, ℕ, List, length, Result, Err}
+use Rattle.std.specs.Prelude.{◌≡◌, ◌+◌, ◌-◌, ◌^◌, ◌<◌, ◌≤◌, ◌++◌, ℕ, List, length, Result, Err}
 use Rattle.std.proofs.Common.{inl, inr, arith, length-append}
 use Rattle.bincode_base.specs.declared.error.EncodeError.{EncodeError}
 use Rattle.bincode_base.specs.declared.error.EncodeError.TheVariants.{UnexpectedEnd}
@@ -10,7 +10,7 @@ use Rattle.bincode_format.specs.Vec.{FailsVec, FailsCounted, IsMemoryOrNamed}
 
 -- what a size writer adds, and why it refuses a piece
 abbrev pub Counted : SizeWriter → List ℕ → SizeWriter → Type 0
-Counted a piece b = b.bytes_written ≡ a.bytes_written + length piece
+Counted a piece b = (b.bytes_written ≡ a.bytes_written + length piece) × (length piece ≤ 2 ^ 64 - 1 - a.bytes_written)
 
 abbrev pub Uncounted : SizeWriter → List ℕ → EncodeError → SizeWriter → Type 0
 Uncounted a piece e b = (e ≡ UnexpectedEnd) × (2 ^ 64 - 1 - a.bytes_written < length piece) × (b ≡ a)
@@ -20,7 +20,7 @@ module _ (A : List ℕ → Type 0) (N : EncodeError → Type 0) (e : EncodeError
   pub halted-count : (before after : SizeWriter) → before.bytes_written ≡ 0 → Halts Counted Uncounted A N before after e → FailsVec A N e
   halted-count before after start (by_writer front piece middle h r b) =
       let both : length (front ++ piece) ≡ length front + length piece = length-append front piece in
-      let at : middle.bytes_written ≡ length front = omega (arith, h, start) in
+      let at : middle.bytes_written ≡ length front = omega (arith, h.0, start) in
       let room = r.1 in
       inr (r.0, (front ++ piece, b, omega arith))
   halted-count before after start (by_name front h n b) = inl (inr n)

@@ -1,5 +1,5 @@
 -- What a slice holds where a value could not be written.
-use Rattle.std.specs.Prelude.{◌≡◌, ◌⊎◌, ◌+◌, ◌-◌, ◌≤◌, ◌<◌, ◌++◌, ℕ, List, length, drop, refl, Result, Ok, Err}
+use Rattle.std.specs.Prelude.{◌≡◌, ◌⊎◌, ◌+◌, ◌-◌, ◌≤◌, ◌<◌, ◌++◌, ℕ, List, [], length, drop, refl, Result, Ok, Err}
 use Rattle.std.proofs.Common.{◌∙◌, ap, subst, inl, inr, arith, append_assoc, length-append, length-drop}
 use Rattle.bincode_format.specs.Put.{put}
 use Rattle.bincode_io.specs.Slices.{bytes_of, count_of}
@@ -12,7 +12,8 @@ use Rattle.bincode_format.specs.Slice.{Fills, WordWritten, FrontWritten, FitsExa
 
 -- what a slice writer adds, and why it refuses a piece
 abbrev pub Added : SliceWriter → List ℕ → SliceWriter → Type 0
-Added a piece b = (count_of b ≡ count_of a + length piece) × (bytes_of b ≡ put (count_of a) piece (bytes_of a))
+Added a piece b =
+    (count_of b ≡ count_of a + length piece) × (bytes_of b ≡ put (count_of a) piece (bytes_of a)) × (length (bytes_of b) ≡ length (bytes_of a)) × (piece ≡ [] → b ≡ a)
 
 abbrev pub Refused : SliceWriter → List ℕ → EncodeError → SliceWriter → Type 0
 Refused a piece e b = (e ≡ UnexpectedEnd) × (length (bytes_of a) - count_of a < length piece) × (b ≡ a)

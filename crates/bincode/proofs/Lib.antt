@@ -1,3 +1,5 @@
 pub mod Counted
 pub mod Decoded
+pub mod Empty
 pub mod Filled
+pub mod Room

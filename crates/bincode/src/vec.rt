@@ -1,7 +1,7 @@
 //! Encoding into a vector.
 ghost use Rattle.std.specs.Prelude.{IfOk, IfErr};
 ghost use Rattle.bincode_format.specs.Allowed.{AllowedWord};
-ghost use Rattle.bincode_format.specs.Encoding.{Ready};
+ghost use Rattle.bincode_format.specs.Encoding.{Ready, FailsEmpty};
 ghost use Rattle.bincode_format.specs.Vec.{FailsVec, FailsCounted};
 
 use crate::writer::encode_with;
@@ -25,6 +25,9 @@ pub fn encode_to_vec<E: Encode, C: Config>(
         (AllowedWord (E.means val) (E.format C.setting))) E.names) }
     // which words of one length are not.
     ensures counted { FailsCounted (Ready (E.writable C.setting val) (AllowedWord (E.means val) (E.format C.setting)))
+        E.names result }
+    // A value without bytes takes no memory.
+    ensures empty { FailsEmpty (Ready (E.writable C.setting val) (AllowedWord (E.means val) (E.format C.setting)))
         E.names result }
 {
     let mut counter = SizeWriter::default();

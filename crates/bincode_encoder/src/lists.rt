@@ -9,7 +9,7 @@ ghost use Rattle.bincode_format.specs.Encoding.{Encodes};
 
 use crate::encoder::Encoder;
 use crate::integers::encode_integer;
-use crate::runs::{WriteValues, encode_run, tell_each_valid};
+use crate::runs::{WriteValues, encode_each, encode_run, tell_each_valid};
 use bincode_base::error::EncodeError;
 use std::collections::{BinaryHeap, VecDeque};
 
@@ -65,9 +65,9 @@ pub fn encode_deque<V: WriteValues, E: Encoder>(
     encode_run::<V, E>(second, encoder)
 }
 
-/// Writes the length of a heap, and then its items in the order in which it holds them, though any order would be a
-/// word of it. Fails where the writer refuses a piece of the length or an item fails; what was written before begins a
-/// word of the heap.
+/// Writes the length of a heap, and then its items one by one, as the original does, in the order in which it holds them,
+/// though any order would be a word of it. Fails where the writer refuses a piece of the length or an item fails; what was
+/// written before begins a word of the heap.
 #[inline]
 pub fn encode_bag<V: WriteValues, E: Encoder>(
     heap: &BinaryHeap<V::Value>,
@@ -82,5 +82,7 @@ where
         V.Value.names result encoder.old encoder.new }
 {
     let items = heap.as_slice();
-    encode_list::<V, E>(items, encoder)
+    let count = items.len();
+    encode_length(encoder, count)?;
+    encode_each::<V, E>(items, encoder)
 }

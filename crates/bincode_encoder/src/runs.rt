@@ -60,9 +60,10 @@ pub fn encode_run<V: WriteValues, E: Encoder>(
     encode_each::<V, E>(items, encoder)
 }
 
-/// The same, one by one.
+/// The same one by one, also where the items are the bytes of their words: so where the writer has too little room, those
+/// that it has room for are written.
 #[inline]
-fn encode_each<V: WriteValues, E: Encoder>(
+pub(crate) fn encode_each<V: WriteValues, E: Encoder>(
     items: &[V::Value],
     encoder: &mut E,
 ) -> Result<(), EncodeError>

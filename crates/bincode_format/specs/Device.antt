@@ -6,6 +6,7 @@ use Rattle.std.specs.declared.io.Error.{Error}
 use Rattle.bincode_base.specs.declared.error.DecodeError.{DecodeError}
 use Rattle.bincode_base.specs.declared.error.DecodeError.TheVariants.{UnexpectedEnd, Io}
 use Rattle.bincode_base.specs.declared.error.EncodeError.{EncodeError}
+use Rattle.bincode_base.specs.declared.error.EncodeError.TheVariants.{Memory}
 
 -- the errors by which a device of a reader fails: those at which its count of failures rises, and those that it does
 -- not count, which may come at any call
@@ -69,6 +70,25 @@ pub record TakesPiece {W : Type 0} (adds : W → List ℕ → W → Type 0) (ref
 abbrev pub TooLong : Option ℕ → List ℕ → Type 0
 TooLong None piece = ⊥
 TooLong (Some room) piece = room < length piece
+
+-- a piece is within the room
+abbrev pub WithinRoom : Option ℕ → List ℕ → Type 0
+WithinRoom None piece = Unit {0}
+WithinRoom (Some room) piece = length piece ≤ room
+
+-- the room that is left behind a piece
+abbrev pub room_behind : Option ℕ → List ℕ → Option ℕ
+room_behind None piece = None
+room_behind (Some room) piece = Some (room - length piece)
+
+-- a piece that was added was within the room, and takes of it what it is long
+pub record TakesRoom (before : Option ℕ) (piece : List ℕ) (after : Option ℕ) : Type 0 where
+  pub within : WithinRoom before piece
+  pub left : after ≡ room_behind before piece
+
+-- memory was refused, or the device failed, which tells it by the error or by its count of failures
+abbrev pub WriterFails : (EncodeError → Type 0) → ℕ → ℕ → EncodeError → Type 0
+WriterFails device before after e = (e ≡ Memory) ⊎ (device e ⊎ Rose before after)
 
 -- the join of pieces
 abbrev pub joined : List (List ℕ) → List ℕ

@@ -1,8 +1,10 @@
 -- What encoding does and leaves.
-use Rattle.std.specs.Prelude.{◌≡◌, ◌⊎◌, ℕ, List, ◌++◌, Result, OnOk, IfErr}
+use Rattle.std.specs.Prelude.{◌≡◌, ◌⊎◌, ℕ, List, [], ◌++◌, Option, Result, OnOk, IfErr}
 use Rattle.std.specs.Borrow.{GName}
 use Rattle.bincode_base.specs.declared.error.EncodeError.{EncodeError}
 use Rattle.bincode_base.specs.declared.error.EncodeError.TheVariants as errors
+use Rattle.bincode_format.specs.Allowed.{OneLength}
+use Rattle.bincode_format.specs.Device.{TooLong, WithinRoom}
 
 -- what a write that succeeds does to a writer
 abbrev pub Adds : Type 0 → Type 1
@@ -51,3 +53,15 @@ pub record Encodes {E W T : Type 0} (adds : Adds W) (refuses : Refuses W) (write
   pub ok : OnOk result (Writes adds Allowed (writer_of old) (writer_of new))
   pub err : IfErr result (Halts adds refuses (Ready Writable Allowed) Names (writer_of old) (writer_of new))
   pub same_place : place new ≡ place old
+
+-- An error that neither the type names nor the writer's memory or device makes comes only where some front of an allowed
+-- word is longer than the room. So of a value whose words have one length, and whose type names no error, what is written
+-- is within the room, and where it is, only memory and the device fail.
+pub record FitsRoom (Allowed : List ℕ → Type 0) (Names Fails : EncodeError → Type 0) (room : Option ℕ) (result : Result (Unit {0}) EncodeError) : Type 0 where
+  pub short : IfErr result (λ e. Names e ⊎ (Fails e ⊎ ((front : List ℕ) × Begins Allowed front × TooLong room front)))
+  pub exact : OneLength Allowed → ((e : EncodeError) → ¬ (Names e)) → (word : List ℕ) → Allowed word →
+      OnOk result (WithinRoom room word) × (WithinRoom room word → IfErr result Fails)
+
+-- where every allowed word is empty, only errors that the type names come
+abbrev pub FailsEmpty : {A : Type 0} → (List ℕ → Type 0) → (EncodeError → Type 0) → Result A EncodeError → Type 0
+FailsEmpty Allowed Names result = OneLength Allowed → Allowed [] → IfErr result Names

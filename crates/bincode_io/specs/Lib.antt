@@ -1,3 +1,4 @@
+pub mod RoomLaws
 pub mod Slices
 pub mod Stream
 pub mod Vectors

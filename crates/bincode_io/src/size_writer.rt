@@ -1,7 +1,6 @@
 //! A writer that counts.
-ghost use Rattle.std.specs.Prelude.{◌≡◌, ◌+◌, ◌-◌, ◌^◌, ◌<◌, ◌++◌, Some, [], length};
-ghost use Rattle.std.proofs.Common.{arith, inl, le_refl};
-ghost use Rattle.std.proofs.lemmas.Grind.{common_steps};
+ghost use Rattle.std.specs.Prelude.{◌≡◌, ◌+◌, ◌-◌, ◌^◌, ◌<◌, ◌≤◌, ◌++◌, Some, [], length};
+ghost use Rattle.std.proofs.Common.{arith, inl, le_refl, zero-le, ap, ◌∙◌, add-zero, length-append};
 ghost use Rattle.bincode_base.specs.declared.error.EncodeError.TheVariants.{UnexpectedEnd};
 
 use crate::write::Writer;
@@ -16,7 +15,8 @@ pub struct SizeWriter {
 }
 
 impl Writer for SizeWriter {
-    ghost adds = { λ a piece b. b.bytes_written ≡ a.bytes_written + length piece };
+    ghost adds = { λ a piece b. (b.bytes_written ≡ a.bytes_written + length piece)
+        × (length piece ≤ 2 ^ 64 - 1 - a.bytes_written) };
 
     ghost refuses = { λ a piece e b. (e ≡ UnexpectedEnd)
         × (2 ^ 64 - 1 - a.bytes_written < length piece) × (b ≡ a) };
@@ -38,13 +38,17 @@ impl Writer for SizeWriter {
         Ok(())
     }
 
-    ghost adds_none = { λ w. Prim.grind (arith, common_steps) };
+    ghost adds_none = { λ w. (Prim.omega arith, zero-le) };
 
-    ghost adds_join = { λ a b c x y p q. Prim.grind (arith, common_steps) };
+    ghost adds_join = { λ a b c x y p q. let l = length-append x y in (Prim.omega arith, Prim.omega arith) };
 
     ghost adds_count = { λ a b piece h. le_refl 0 };
 
     ghost refuses_count = { λ a b piece e h. le_refl 0 };
 
     ghost refuses_why = { λ a b piece e h. inl h.1 };
+
+    ghost adds_nothing = { λ a b h. ap (λ n. record { bytes_written = n }) (h.0 ∙ add-zero a.bytes_written) };
+
+    ghost adds_room = { λ a b piece h. record { within = h.1; left = ap Some (Prim.omega arith) } };
 }

@@ -1,9 +1,10 @@
 //! A writer into a vector.
 ghost use Rattle.std.specs.Prelude.{◌≡◌, ◌+◌, ◌<◌, ◌≤◌, ◌++◌, [], length};
 ghost use Rattle.std.specs.Prelude.{IsOk, IfOk, IfErr, None};
-ghost use Rattle.std.proofs.Common.{◌∙◌, ap, sym, inl, inr, le_refl, le_trans, append_assoc};
+ghost use Rattle.std.proofs.Common.{◌∙◌, ap, sym, inl, inr, le_refl, le_trans, append_assoc, refl};
 ghost use Rattle.std.proofs.lemmas.List.{append-nil};
 ghost use Rattle.bincode_base.specs.declared.error.EncodeError.TheVariants.{Memory};
+ghost use Rattle.bincode_io.specs.RoomLaws.{first-empty, second-empty};
 
 use crate::write::Writer;
 use bincode_base::error::EncodeError;
@@ -19,10 +20,11 @@ pub struct VecWriter {
 impl VecWriter {
     ghost use Rattle.bincode_io.specs.Vectors.{held_by, capacity_of};
 
-    /// A writer with room for so many bytes, of which none is written. Fails with `Memory` where the room is refused.
+    /// A writer with room for so many bytes and no more, of which none is written. Fails with `Memory` where the room is
+    /// refused.
     pub fn with_capacity(alloc: Global, capacity: usize) -> Result<VecWriter, EncodeError>
         ensures start { IfOk result (λ w. held_by w ≡ []) }
-        ensures room { IfOk result (λ w. capacity ≤ capacity_of w) }
+        ensures room { IfOk result (λ w. capacity_of w ≡ capacity) }
         ensures fault { IfErr result (λ e. e ≡ Memory) }
         ensures none { capacity ≡ 0 → IsOk result }
     {
@@ -44,10 +46,11 @@ impl VecWriter {
 impl Writer for VecWriter {
     ghost use Rattle.bincode_io.specs.Vectors.{held_by, capacity_of};
 
-    ghost adds = { λ a piece b. (held_by b ≡ held_by a ++ piece) × (capacity_of a ≤ capacity_of b) };
+    ghost adds = { λ a piece b. (held_by b ≡ held_by a ++ piece) × (capacity_of a ≤ capacity_of b)
+        × (piece ≡ [] → b ≡ a) };
 
     ghost refuses = { λ a piece e b. (e ≡ Memory) × (capacity_of a < length (held_by a) + length piece)
-        × (held_by b ≡ held_by a) × (capacity_of b ≡ capacity_of a) };
+        × (held_by b ≡ held_by a) × (capacity_of b ≡ capacity_of a) × (0 < length piece) };
 
     ghost room = { λ _. None };
 
@@ -59,6 +62,9 @@ impl Writer for VecWriter {
 
     #[inline(always)]
     fn write(&mut self, bytes: &[u8]) -> Result<(), EncodeError> {
+        if bytes.is_empty() {
+            return Ok(());
+        }
         if self.bytes.reserve(bytes.len()).is_err() {
             return Err(EncodeError::Memory);
         }
@@ -72,11 +78,12 @@ impl Writer for VecWriter {
         Ok(())
     }
 
-    ghost adds_none = { λ w. (sym (append-nil (held_by w)), le_refl _) };
+    ghost adds_none = { λ w. (sym (append-nil (held_by w)), le_refl _, λ empty. refl) };
 
     ghost adds_join = { λ a b c x y p q. (
       q.0 ∙ ap (λ l. l ++ y) p.0 ∙ append_assoc (held_by a) x y,
       le_trans p.1 q.1,
+      λ empty. q.2 (second-empty x y empty) ∙ p.2 (first-empty x y empty),
     ) };
 
     ghost adds_count = { λ a b piece h. le_refl 0 };
@@ -84,4 +91,8 @@ impl Writer for VecWriter {
     ghost refuses_count = { λ a b piece e h. le_refl 0 };
 
     ghost refuses_why = { λ a b piece e h. inr (inl h.0) };
+
+    ghost adds_nothing = { λ a b h. h.2 refl };
+
+    ghost adds_room = { λ a b piece h. record { within = tt; left = refl } };
 }

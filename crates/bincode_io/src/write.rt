@@ -2,9 +2,10 @@
 ghost use Rattle.std.specs.Prelude.{◌≡◌, ◌+◌, ◌-◌, ◌<◌, ◌≤◌, ◌⊎◌, ℕ, List, []};
 ghost use Rattle.std.specs.Prelude.{◌∷◌, ◌++◌, length, Option, Some, OnOk, IfErr};
 ghost use Rattle.std.specs.Borrow.{GName};
-ghost use Rattle.std.proofs.Common.{rules, sym, ◌∙◌, ap, arith, le_refl};
+ghost use Rattle.std.proofs.Common.{rules, sym, ◌∙◌, ap, arith, le_refl, refl};
 ghost use Rattle.std.proofs.lemmas.Grind.{common_steps};
-ghost use Rattle.bincode_format.specs.Device.{Rose, TakesPiece, TooLong};
+ghost use Rattle.bincode_format.specs.Device.{TakesPiece, TooLong, TakesRoom, WriterFails};
+ghost use Rattle.bincode_io.specs.RoomLaws.{room-taken, first-empty, second-empty};
 ghost use Rattle.bincode_format.specs.Put.{put};
 ghost use Rattle.bincode_laws.specs.PutLaws.{put-none, put-join};
 ghost use Rattle.bincode_base.specs.declared.error.EncodeError.{EncodeError};
@@ -38,7 +39,7 @@ pub trait Writer: Drop {
     fn write(&mut self, bytes: &[u8]) -> Result<(), EncodeError>
         ensures { TakesPiece adds refuses failures place bytes.now result self.old self.new };
 
-    /// The empty piece changes nothing.
+    /// A writer that stays as it is has added the empty piece.
     ghost adds_none: { (w : Self) → adds w [] w };
 
     /// Two pieces in turn are their join.
@@ -53,7 +54,13 @@ pub trait Writer: Drop {
 
     /// Why a write fails.
     ghost refuses_why: { (a b : Self) (piece : List ℕ) (e : EncodeError) → refuses a piece e b →
-        TooLong (room a) piece ⊎ ((e ≡ Memory) ⊎ (device e ⊎ Rose (failures a) (failures b))) };
+        TooLong (room a) piece ⊎ WriterFails device (failures a) (failures b) e };
+
+    /// A writer that added the empty piece stayed as it was.
+    ghost adds_nothing: { (a b : Self) → adds a [] b → b ≡ a };
+
+    /// A piece that was added was within the room, and the room is then what is left of it.
+    ghost adds_room: { (a b : Self) (piece : List ℕ) → adds a piece b → TakesRoom (room a) piece (room b) };
 }
 
 /// A writer into the front of a slice.
@@ -103,7 +110,8 @@ impl Writer for SliceWriter<'_> {
     ghost use Rattle.bincode_io.specs.Slices.{bytes_of, count_of, loan_of};
 
     ghost adds = { λ a piece b. (count_of b ≡ count_of a + length piece)
-        × (bytes_of b ≡ put (count_of a) piece (bytes_of a)) };
+        × (bytes_of b ≡ put (count_of a) piece (bytes_of a)) × (length (bytes_of b) ≡ length (bytes_of a))
+        × (piece ≡ [] → b ≡ a) };
 
     ghost refuses = { λ a piece e b. (e ≡ UnexpectedEnd) × (length (bytes_of a) - count_of a < length piece)
         × (b ≡ a) };
@@ -127,12 +135,14 @@ impl Writer for SliceWriter<'_> {
         Ok(())
     }
 
-    ghost adds_none = { λ w. (Prim.search rules, put-none w.written w.slice.now) };
+    ghost adds_none = { λ w. (Prim.search rules, put-none w.written w.slice.now, refl, λ empty. refl) };
 
     ghost adds_join = { λ a b c x y p q. (
       Prim.grind (arith, common_steps),
       q.1 ∙ ap (put b.written y) p.1 ∙ ap (λ k. put k y (put a.written x a.slice.now)) p.0
           ∙ put-join a.written x y a.slice.now a.within,
+      q.2 ∙ p.2,
+      λ empty. q.3 (second-empty x y empty) ∙ p.3 (first-empty x y empty),
     ) };
 
     ghost adds_count = { λ a b piece h. le_refl 0 };
@@ -140,10 +150,15 @@ impl Writer for SliceWriter<'_> {
     ghost refuses_count = { λ a b piece e h. le_refl 0 };
 
     ghost refuses_why = { λ a b piece e h. Prim.search rules };
+
+    ghost adds_nothing = { λ a b h. h.3 refl };
+
+    ghost adds_room = { λ a b piece h. room-taken (length (bytes_of a)) (count_of a) (length (bytes_of b)) (count_of b)
+        piece h.0 h.2 b.within };
 }
 
 impl<W: Writer> Writer for &mut W {
-    ghost adds = { λ a piece b. W.adds a.now piece b.now };
+    ghost adds = { λ a piece b. W.adds a.now piece b.now × (b ≡ record a { now = b.now }) };
 
     ghost refuses = { λ a piece e b. W.refuses a.now piece e b.now };
 
@@ -159,13 +174,20 @@ impl<W: Writer> Writer for &mut W {
         (**self).write(bytes)
     }
 
-    ghost adds_none = { λ w. W.adds_none w.now };
+    ghost adds_none = { λ w. (W.adds_none w.now, refl) };
 
-    ghost adds_join = { λ a b c x y p q. W.adds_join a.now b.now c.now x y p q };
+    ghost adds_join = { λ a b c x y p q. (
+      W.adds_join a.now b.now c.now x y p.0 q.0,
+      q.1 ∙ ap (λ (w : Self). record w { now = c.now }) p.1,
+    ) };
 
-    ghost adds_count = { λ a b piece h. W.adds_count a.now b.now piece h };
+    ghost adds_count = { λ a b piece h. W.adds_count a.now b.now piece h.0 };
 
     ghost refuses_count = { λ a b piece e h. W.refuses_count a.now b.now piece e h };
 
     ghost refuses_why = { λ a b piece e h. W.refuses_why a.now b.now piece e h };
+
+    ghost adds_nothing = { λ a b h. h.1 ∙ ap (λ x. record a { now = x }) (W.adds_nothing a.now b.now h.0) };
+
+    ghost adds_room = { λ a b piece h. W.adds_room a.now b.now piece h.0 };
 }

@@ -1,3 +1,4 @@
 mod Counts
 mod Refusals
+mod Rooms
 mod Short

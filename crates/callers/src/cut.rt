@@ -1,9 +1,10 @@
 //! A reader and a writer of a user's own, over a line that is cut after so many calls.
-ghost use Rattle.std.specs.Prelude.{◌≡◌, ◌+◌, ◌-◌, ◌^◌, ◌<◌, ◌≤◌, ◌⊎◌, [], length};
+ghost use Rattle.std.specs.Prelude.{◌≡◌, ◌+◌, ◌-◌, ◌^◌, ◌<◌, ◌≤◌, ◌⊎◌, ◌++◌, [], length};
 ghost use Rattle.std.specs.Prelude.{⊤, Some};
-ghost use Rattle.std.proofs.Common.{zero-le, le_refl, inl, inr, arith, length-append};
+ghost use Rattle.std.proofs.Common.{zero-le, le_refl, inl, inr, arith, length-append, refl, ap, ◌∙◌};
 ghost use Rattle.bincode_format.specs.Device.{Rose};
 ghost use Rattle.bincode_io.specs.Slices.{left_of};
+ghost use Rattle.bincode_io.specs.RoomLaws.{first-empty, second-empty};
 ghost use Rattle.bincode_base.specs.declared.error.DecodeError.TheVariants.{UnexpectedEnd};
 ghost use Rattle.callers.specs.Cut.{cut_errors};
 
@@ -71,7 +72,7 @@ impl Reader for CutReader<'_> {
     ghost ended_is = { λ missing e h. inl h };
 }
 
-/// Counts the bytes that are sent until the line is cut, and each piece after that.
+/// Counts the bytes that are sent until the line is cut, and each piece after that. An empty piece is not sent.
 #[derive(Drop)]
 pub struct CutWriter {
     sent: usize,
@@ -101,7 +102,8 @@ impl CutWriter {
 }
 
 impl Writer for CutWriter {
-    ghost adds = { λ a piece b. (b.sent ≡ a.sent + length piece) × (a.failures ≤ b.failures) };
+    ghost adds = { λ a piece b. (b.sent ≡ a.sent + length piece) × (a.failures ≤ b.failures)
+        × (length piece ≤ 2 ^ 64 - 1 - a.sent) × (piece ≡ [] → b ≡ a) };
 
     ghost refuses = { λ a piece e b. (b.sent ≡ a.sent) × (a.failures ≤ b.failures)
         × ((2 ^ 64 - 1 - a.sent < length piece) ⊎ Rose a.failures b.failures) };
@@ -115,6 +117,9 @@ impl Writer for CutWriter {
     ghost place = { λ _. [] };
 
     fn write(&mut self, bytes: &[u8]) -> Result<(), EncodeError> {
+        if bytes.is_empty() {
+            return Ok(());
+        }
         if self.pieces == 0 {
             self.failures = self.failures.saturating_add(1);
             return Err(EncodeError::Other(ShortText::new("the line is cut")));
@@ -127,13 +132,22 @@ impl Writer for CutWriter {
         Ok(())
     }
 
-    ghost adds_none = { λ w. (Prim.omega arith, le_refl w.failures) };
+    ghost adds_none = { λ w. (Prim.omega arith, le_refl w.failures, zero-le, λ empty. refl) };
 
-    ghost adds_join = { λ a b c x y p q. let l = length-append x y in (Prim.omega arith, Prim.omega arith) };
+    ghost adds_join = { λ a b c x y p q. let l = length-append x y in (
+      Prim.omega arith,
+      Prim.omega arith,
+      Prim.omega arith,
+      λ empty. q.3 (second-empty x y empty) ∙ p.3 (first-empty x y empty),
+    ) };
 
     ghost adds_count = { λ a b piece h. h.1 };
 
     ghost refuses_count = { λ a b piece e h. h.1 };
 
     ghost refuses_why = { λ a b piece e h. elim h.2 [ inl short ↦ inl short | inr rose ↦ inr (inr (inr rose)) ] };
+
+    ghost adds_nothing = { λ a b h. h.3 refl };
+
+    ghost adds_room = { λ a b piece h. record { within = h.2; left = ap Some (Prim.omega arith) } };
 }

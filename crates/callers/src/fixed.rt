@@ -1,8 +1,9 @@
 //! A writer of a user's own, into a vector of a fixed capacity.
-ghost use Rattle.std.specs.Prelude.{◌≡◌, ◌+◌, ◌-◌, ◌<◌, ◌++◌, Some, [], length};
-ghost use Rattle.std.proofs.Common.{◌∙◌, ap, sym, inl, le_refl, append_assoc};
+ghost use Rattle.std.specs.Prelude.{◌≡◌, ◌+◌, ◌-◌, ◌<◌, ◌≤◌, ◌++◌, Some, [], length};
+ghost use Rattle.std.proofs.Common.{◌∙◌, ap, sym, inl, le_refl, zero-le, append_assoc, arith, refl, length-append};
 ghost use Rattle.std.proofs.lemmas.List.{append-nil};
 ghost use Rattle.bincode_base.specs.declared.error.EncodeError.TheVariants.{UnexpectedEnd};
+ghost use Rattle.bincode_io.specs.RoomLaws.{first-empty, second-empty};
 ghost use Rattle.arrayvec.specs.ArrayVec.{array_vec_len};
 
 use arrayvec::ArrayVec;
@@ -39,7 +40,8 @@ impl<const N: usize> Fixed<N> {
 impl<const N: usize> Writer for Fixed<N> {
     ghost use Rattle.callers.specs.Fixed.{held_by};
 
-    ghost adds = { λ a piece b. held_by b ≡ held_by a ++ piece };
+    ghost adds = { λ a piece b. (held_by b ≡ held_by a ++ piece) × (length piece ≤ N - length (held_by a))
+        × (piece ≡ [] → b ≡ a) };
 
     ghost refuses = { λ a piece e b. (e ≡ UnexpectedEnd) × (N - length (held_by a) < length piece) × (b ≡ a) };
 
@@ -52,6 +54,9 @@ impl<const N: usize> Writer for Fixed<N> {
     ghost place = { λ _. [] };
 
     fn write(&mut self, bytes: &[u8]) -> Result<(), EncodeError> {
+        if bytes.is_empty() {
+            return Ok(());
+        }
         // says that what is held is within the capacity
         let _left = self.bytes.remaining_capacity();
         match self.bytes.try_extend_from_slice(bytes) {
@@ -60,13 +65,23 @@ impl<const N: usize> Writer for Fixed<N> {
         }
     }
 
-    ghost adds_none = { λ w. sym (append-nil (held_by w)) };
+    ghost adds_none = { λ w. (sym (append-nil (held_by w)), zero-le, λ empty. refl) };
 
-    ghost adds_join = { λ a b c x y p q. q ∙ ap (λ l. l ++ y) p ∙ append_assoc (held_by a) x y };
+    ghost adds_join = { λ a b c x y p q. let l = length-append x y in
+        let held = ap length p.0 ∙ length-append (held_by a) x in (
+          q.0 ∙ ap (λ l. l ++ y) p.0 ∙ append_assoc (held_by a) x y,
+          Prim.omega arith,
+          λ empty. q.2 (second-empty x y empty) ∙ p.2 (first-empty x y empty),
+        ) };
 
     ghost adds_count = { λ a b piece h. le_refl 0 };
 
     ghost refuses_count = { λ a b piece e h. le_refl 0 };
 
     ghost refuses_why = { λ a b piece e h. inl h.1 };
+
+    ghost adds_nothing = { λ a b h. h.2 refl };
+
+    ghost adds_room = { λ a b piece h. let held = ap length h.0 ∙ length-append (held_by a) piece in
+        record { within = h.1; left = ap Some (Prim.omega arith) } };
 }

@@ -5,3 +5,4 @@ pub mod calls;
 pub mod cut;
 pub mod fixed;
 pub mod lengths;
+pub mod rooms;

@@ -1,14 +1,20 @@
-use Rattle.std.proofs.Common.{refl, arith}
-use Rattle.bincode_io.proofs.Slices.{copied}
+use Rattle.std.proofs.Common.{◌≤◌, ◌+◌, ◌∙◌, ap, length, refl, arith, le_refl}
+use Rattle.bincode_io.proofs.Slices.{copied, put-length, unwritten}
 use Rattle.bincode_io.proofs.write.SliceWriterWriter.write.Goals as goal
 
 pub returns-then-left-bytes : goal.returns-then-left-bytes
 returns-then-left-bytes c = record { ok = tt; err = (refl, c.if-left-bytes.true, refl); counted = omega arith; same_place = refl }
 
 pub returns : goal.returns
-returns c = record {
-  ok = (refl, copied _ _ _ _ _ c.copy_from_slice.ensures.after (omega arith));
-  err = tt;
-  counted = omega arith;
-  same_place = refl;
-}
+returns c =
+    let self = c.args.self.now in
+    let piece = c.args.bytes.now in
+    let within : self.written + length piece ≤ length self.slice.now = omega arith in
+    let counted : 0 ≤ 0 = le_refl 0 in
+    let same = copied self.written _ self.slice.now c.copy_from_slice.new.self piece c.copy_from_slice.ensures.after (omega arith) in
+    record {
+      ok = (refl, same, ap length same ∙ put-length self.written piece self.slice.now within, unwritten self _ piece _ _ same refl);
+      err = tt;
+      counted = counted;
+      same_place = refl;
+    }

@@ -1,0 +1,57 @@
+-- Why a value is not put into a writer, by the writer's room.
+use Rattle.std.specs.Prelude.{◌≡◌, ◌⊎◌, ◌≤◌, ◌<◌, ◌^◌, ◌-◌, ◌++◌, ℕ, List, Option, Result, Ok, Err}
+use Rattle.std.proofs.Common.{inl, inr, arith}
+use Rattle.std.specs.Borrow.{GName}
+use Rattle.bincode_base.specs.declared.error.EncodeError.{EncodeError}
+use Rattle.bincode_format.specs.Allowed.{OneLength}
+use Rattle.bincode_format.specs.Device.{Rose, TooLong, WithinRoom, TakesRoom, WriterFails}
+use Rattle.bincode_format.specs.Encoding.{Adds, Refuses, Ready, Begins, Halts, by_writer, by_name, Encodes, FitsRoom}
+use Rattle.bincode_io.specs.RoomLaws.{too_long-behind, not-within, within-same}
+
+-- a failure behind what was added is one of the whole call
+rose-behind : (before middle after : ℕ) → before ≤ middle → Rose middle after → Rose before after
+rose-behind before middle after h (inl r) = inl (omega arith)
+rose-behind before middle after h (inr r) = inr r
+
+fails-behind : (device : EncodeError → Type 0) (before middle after : ℕ) (e : EncodeError) → before ≤ middle → WriterFails device middle after e → WriterFails device before after e
+fails-behind device before middle after e h (inl memory) = inl memory
+fails-behind device before middle after e h (inr (inl d)) = inr (inl d)
+fails-behind device before middle after e h (inr (inr r)) = inr (inr (rose-behind before middle after h r))
+
+module _ {W : Type 0} (adds : Adds W) (refuses : Refuses W) (room : W → Option ℕ) (failures : W → ℕ) (device : EncodeError → Type 0)
+    (adds_room : (a b : W) (piece : List ℕ) → adds a piece b → TakesRoom (room a) piece (room b))
+    (adds_count : (a b : W) (piece : List ℕ) → adds a piece b → failures a ≤ failures b)
+    (refuses_why : (a b : W) (piece : List ℕ) (e : EncodeError) → refuses a piece e b → TooLong (room a) piece ⊎ WriterFails device (failures a) (failures b) e)
+    (R : Type 0) (A : List ℕ → Type 0) (N : EncodeError → Type 0) (before after : W) where
+  abbrev Why : EncodeError → Type 0
+  Why e = N e ⊎ (WriterFails device (failures before) (failures after) e ⊎ ((front : List ℕ) × Begins (Ready R A) front × TooLong (room before) front))
+
+  refused-why : (front piece : List ℕ) (middle : W) (e : EncodeError) → adds before front middle → Begins (Ready R A) (front ++ piece) →
+      TooLong (room middle) piece ⊎ WriterFails device (failures middle) (failures after) e → Why e
+  refused-why front piece middle e h b (inl long) = inr (inr (front ++ piece, b, too_long-behind (room before) (room middle) front piece (adds_room before middle front h) long))
+  refused-why front piece middle e h b (inr fails) = inr (inl (fails-behind device (failures before) (failures middle) (failures after) e (adds_count before middle front h) fails))
+
+  halted-why : (e : EncodeError) → Halts adds refuses (Ready R A) N before after e → Why e
+  halted-why e (by_writer front piece middle h r b) = refused-why front piece middle e h b (refuses_why middle after piece e r)
+  halted-why e (by_name front h n b) = inl n
+
+  -- within the room only memory and the device are left
+  within-fails : (e : EncodeError) → OneLength (Ready R A) → ((d : EncodeError) → ¬ (N d)) → (word : List ℕ) → Ready R A word → WithinRoom (room before) word → Why e →
+      WriterFails device (failures before) (failures after) e
+  within-fails e one none word a fits (inl n) = absurd (none e n)
+  within-fails e one none word a fits (inr (inl fails)) = fails
+  within-fails e one none word a fits (inr (inr t)) =
+      let m = t.1 word a in absurd (not-within (room before) t.0 m.0 word (one word (t.0 ++ m.0) a m.1) t.2 fits)
+
+  pub fits-room : (place : W → List GName) (result : Result (Unit {0}) EncodeError) → Encodes adds refuses (λ w. w) place R A N result before after →
+      FitsRoom (Ready R A) N (WriterFails device (failures before) (failures after)) (room before) result
+  fits-room place (Ok v) h =
+      let w = h.ok in record {
+        short = tt;
+        exact = λ one none word a. (
+          within-same (room before) w.word word (one word w.word a (record { is_writable = a.is_writable; is_allowed = w.is_allowed })) (adds_room before after w.word w.added).within,
+          λ fits. tt,
+        );
+      }
+  fits-room place (Err e) h =
+      let why = halted-why e h.err in record { short = why; exact = λ one none word a. (tt, λ fits. within-fails e one none word a fits why) }
