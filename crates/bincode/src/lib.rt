@@ -16,9 +16,7 @@ mod writer;
 
 /// What proofs know of a type: what it is written as, and the laws that it keeps.
 pub mod model {
-    pub use bincode_wire::laws::{
-        Canonical, ConstantCharge, Exact, Inhabited, Plain, Writable,
-    };
+    pub use bincode_wire::laws::{Canonical, ConstantCharge, Exact, Inhabited, Plain, Writable};
     pub use bincode_wire::wire::Wire;
 }
 
