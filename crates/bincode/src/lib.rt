@@ -14,6 +14,12 @@ mod slice;
 mod vec;
 mod writer;
 
+/// What proofs know of a type: what it is written as, and the laws that it keeps.
+pub mod model {
+    pub use bincode_wire::laws::{Canonical, ConstantCharge, Exact, Inhabited, Plain, Writable};
+    pub use bincode_wire::wire::Wire;
+}
+
 pub use bincode_base::{config, error, short_text};
 pub use bincode_de::decode::Decode;
 pub use bincode_enc::encode::Encode;

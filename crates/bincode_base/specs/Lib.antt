@@ -1,3 +1,4 @@
+pub mod AllowedTags
 pub mod Setting
 pub mod ShortText
 pub mod SignedNames

@@ -1,8 +1,10 @@
 //! What encoding and decoding answer when they fail.
-ghost use Rattle.std.specs.Prelude.{◌≡◌};
+ghost use Rattle.std.specs.Prelude.{◌≡◌, IfOk};
+ghost use Rattle.bincode_base.specs.AllowedTags.{TellsAllowed, IsUnexpected};
 ghost use Rattle.bincode_base.specs.SignedNames.{signed_name, signed_error};
 
 use crate::short_text::{ShortText, TypeName};
+use std::alloc::{AllocError, Global};
 use std::error::Error;
 use std::mem::size_of;
 use std::str::Utf8Error;
@@ -137,6 +139,20 @@ const _: () = prove!(size_of::<EncodeError>() <= 24);
 
 const _: () = prove!(size_of::<DecodeError>() <= 24);
 
+/// Which tags an enum allows.
+#[derive(Clone, Copy, Debug, PartialEq, Eq)]
+pub enum AllowedEnumVariants<'a> {
+    /// All from `min` to `max`, with both.
+    Range {
+        /// The first.
+        min: u32,
+        /// The last.
+        max: u32,
+    },
+    /// Each one of these.
+    Allowed(&'a [u32]),
+}
+
 /// The integer types by name.
 #[derive(Clone, Copy, PartialEq, Eq)]
 pub enum IntegerType {
@@ -201,6 +217,52 @@ impl fmt::Debug for IntegerType {
 }
 
 impl DecodeError {
+    /// The error of a tag that no variant of a type has. A list of the tags is copied, for which memory is taken: where
+    /// it is refused, that is the answer. A range takes none.
+    pub fn unexpected_variant(
+        alloc: Global,
+        type_name: TypeName,
+        found: u32,
+        allowed: AllowedEnumVariants<'_>,
+    ) -> DecodeError
+        ensures { IsUnexpected type_name found allowed.entry result }
+    {
+        match allowed {
+            AllowedEnumVariants::Range { min, max } => DecodeError::UnexpectedVariant {
+                type_name,
+                found,
+                min,
+                max,
+            },
+            AllowedEnumVariants::Allowed(tags) => match boxed_list(alloc, tags) {
+                Ok(allowed) => DecodeError::UnlistedVariant {
+                    type_name,
+                    found,
+                    allowed,
+                },
+                Err(_) => DecodeError::Memory,
+            },
+        }
+    }
+
+    /// Which tags the enum allows, of an error that tells a tag that no variant has; `None` of another error.
+    pub fn allowed(&self) -> Option<AllowedEnumVariants<'_>>
+        ensures { TellsAllowed self.now result }
+    {
+        match self {
+            DecodeError::UnexpectedVariant { min, max, .. } => {
+                Some(AllowedEnumVariants::Range {
+                    min: *min,
+                    max: *max,
+                })
+            }
+            DecodeError::UnlistedVariant { allowed, .. } => Some(AllowedEnumVariants::Allowed(
+                allowed,
+            )),
+            _ => None,
+        }
+    }
+
     /// The same error of the signed type: a tag that is too wide has signed names. Another error stays.
     pub fn change_integer_type_to_signed(self) -> DecodeError
         ensures { result ≡ signed_error self }
@@ -213,6 +275,15 @@ impl DecodeError {
             other => other,
         }
     }
+}
+
+/// A copy of a list, on the heap.
+fn boxed_list(alloc: Global, list: &[u32]) -> Result<Box<Vec<u32>>, AllocError>
+    ensures { IfOk result (λ copy. copy.value.items ≡ list.now) }
+{
+    let copy = list.to_vec(alloc)?;
+    let boxed = Box::new(alloc, copy)?;
+    Ok(boxed)
 }
 
 impl fmt::Display for EncodeError {

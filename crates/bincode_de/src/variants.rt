@@ -8,7 +8,7 @@ use crate::decode::Decode;
 use bincode_base::error::DecodeError;
 use bincode_decoder::decoder::Decoder;
 use bincode_decoder::tags::{DecodeTag, Listed, Named, unexpected_tag};
-use bincode_wire::sums::{NoOther, OneOf, Or, Tag};
+use bincode_wire::sums::{NoOther, OneOf, Or, Tag, Variants};
 use bincode_wire::wire::Wire;
 
 /// Variants whose parts can be read, in a context.
@@ -55,7 +55,13 @@ impl<
     }
 }
 
-impl<Context: Drop, Of: DecodeVariants<Context>> Decode<Context> for OneOf<Of>
+/// Variants of which there is at least one. An enum without variants is read as `NoVariants`, which fails before it
+/// reads.
+pub trait SomeVariants: Variants {}
+
+impl<const TAG: u32, A: Wire, Others: Variants> SomeVariants for Or<TAG, A, Others> {}
+
+impl<Context: Drop, Of: DecodeVariants<Context> + SomeVariants> Decode<Context> for OneOf<Of>
 where
     Of::Tag: DecodeTag,
 {

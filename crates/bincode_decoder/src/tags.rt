@@ -7,7 +7,7 @@ ghost use Rattle.bincode_format.specs.Values.{Reads};
 
 use crate::decoder::Decoder;
 use crate::integers::{decode_byte, decode_integer};
-use bincode_base::error::DecodeError;
+use bincode_base::error::{AllowedEnumVariants, DecodeError};
 use bincode_base::short_text::TypeName;
 use bincode_wire::sums::{NoOther, Or, Tag, Variants};
 use bincode_wire::wire::Wire;
@@ -122,29 +122,18 @@ fn unexpected<Of: Named, All: Listed>(alloc: Global, found: u32) -> DecodeError
 {
     let type_name = Of::type_name();
     if All::are_in_order(0) {
-        return DecodeError::UnexpectedVariant {
-            type_name,
-            found,
+        let range = AllowedEnumVariants::Range {
             min: 0,
             max: All::last_tag(0),
         };
+        return DecodeError::unexpected_variant(alloc, type_name, found, range);
     }
-    match all_tags::<All>(alloc) {
-        Ok(allowed) => DecodeError::UnlistedVariant {
-            type_name,
-            found,
-            allowed,
-        },
+    let mut tags = Vec::new(alloc);
+    match All::push_tags(&mut tags) {
+        Ok(()) => {
+            let list = AllowedEnumVariants::Allowed(&tags);
+            DecodeError::unexpected_variant(alloc, type_name, found, list)
+        }
         Err(_) => DecodeError::Memory,
     }
-}
-
-/// The list of the tags, on the heap.
-fn all_tags<All: Listed>(alloc: Global) -> Result<Box<Vec<u32>>, AllocError>
-    ensures { IfOk result (λ tags. tags.value.items ≡ tags_of All.variants) }
-{
-    let mut tags = Vec::new(alloc);
-    All::push_tags(&mut tags)?;
-    let boxed = Box::new(alloc, tags)?;
-    Ok(boxed)
 }
