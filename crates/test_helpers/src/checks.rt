@@ -196,15 +196,15 @@ pub fn is_written_as<T: Encode>(alloc: Global, value: Option<T>, word: &[u8]) ->
     bytes.as_slice() == word
 }
 
-/// What is read of the word of a value, with bytes behind it, if so many bytes are taken as the word has.
+/// What is read of the word of a value, with a byte behind it, if so many bytes are taken as the word has.
 pub fn comes_back<T: Encode + Decode<()>>(alloc: Global, value: &T) -> Option<T> {
-    let word = written(alloc, value)?;
-    let mut input = [99u8; 100];
-    input
-        .get_mut(..word.len())?
-        .copy_from_slice(word.as_slice());
-    match decoded(alloc, &input, config::standard()) {
-        Ok((read, taken)) if taken == word.len() => Some(read),
+    let mut input = written(alloc, value)?;
+    let length = input.len();
+    if input.push(99).is_err() && input.push(99).is_err() {
+        return None;
+    }
+    match decoded(alloc, input.as_slice(), config::standard()) {
+        Ok((read, taken)) if taken == length => Some(read),
         _ => None,
     }
 }
