@@ -8,6 +8,7 @@ use std::collections::{BinaryHeap, VecDeque};
 use std::rc::{Rc, RcSlice};
 use std::sync::Arc;
 use test_helpers::checks::{comes_back, decoded, is_written_as, keeps_value, made, written};
+use test_helpers::rows::first_wrong;
 
 /// The numbers from 0, of which those from 251 on take three bytes or five.
 fn numbers(alloc: Global, count: u32) -> Result<Vec<u32>, AllocError> {
@@ -89,10 +90,13 @@ fn keeps_borrowed_slices(rt: HostRuntime) {
 #[test]
 fn keeps_pointers(rt: HostRuntime) {
     let alloc = rt.alloc();
-    assert!(rt; keeps_value(alloc, made(|| Box::new(alloc, 300u32))));
-    assert!(rt; keeps_value(alloc, made(|| Rc::new(alloc, 300u32))));
-    assert!(rt; keeps_value(alloc, made(|| Arc::new(alloc, 300u32))));
-    assert!(rt; keeps_value(alloc, Some(Cow::Borrowed(&300u32))));
+    let rows = [
+        ("Box", keeps_value(alloc, made(|| Box::new(alloc, 300u32)))),
+        ("Rc", keeps_value(alloc, made(|| Rc::new(alloc, 300u32)))),
+        ("Arc", keeps_value(alloc, made(|| Arc::new(alloc, 300u32)))),
+        ("Cow", keeps_value(alloc, Some(Cow::Borrowed(&300u32)))),
+    ];
+    assert_eq!(rt; first_wrong(&rows), None);
 }
 
 /// A queue with 15 pushed behind and 5 in front.

@@ -1,15 +1,14 @@
 //! What containers claim of the limit, and when.
 
 use bincode::config;
-use bincode::de::read::SliceReader;
-use bincode::de::{Decode, Decoder, DecoderImpl};
+use bincode::de::Decode;
 use bincode::error::DecodeError;
 use bincode::time::Duration;
 use std::alloc::Global;
 use std::boxed::{BoxedSlice, BoxedStr};
 use std::collections::{BTreeMap, BTreeSet, BinaryHeap, VecDeque};
 use std::rc::{RcSlice, RcStr};
-use test_helpers::checks::{decoded, fault_of, within};
+use test_helpers::checks::{decoded, fault_of, leaves, within};
 use test_helpers::rows::first_wrong;
 
 /// A length of 2^64 - 1, behind which nothing stands.
@@ -76,28 +75,6 @@ fn claims_for_lists_in_lists(rt: HostRuntime) {
     };
     assert!(rt; lists.len() == 1);
     assert!(rt; matches!(lists.first(), Some(list) if list.as_slice() == [7, 8].as_slice()));
-}
-
-/// The error of decoding within a hundred, and whether this much of it is left and no more.
-fn left_behind<T: Decode<()>>(
-    alloc: Global,
-    input: &[u8],
-    left: usize,
-) -> (Option<DecodeError>, bool) {
-    let hundred = config::standard().with_limit::<100>();
-    let mut decoder = DecoderImpl::new(alloc, SliceReader::new(input), hundred, ());
-    let fault = T::decode(&mut decoder).err();
-    let is_left = decoder.claim_bytes_read(left).is_ok() && decoder.claim_bytes_read(1).is_err();
-    (fault, is_left)
-}
-
-/// Whether a fault leaves this much of a hundred. Where memory is refused the input is decoded once more.
-fn leaves<T: Decode<()>>(alloc: Global, input: &[u8], left: usize) -> bool {
-    let (mut fault, mut is_left) = left_behind::<T>(alloc, input, left);
-    if matches!(fault, Some(DecodeError::Memory)) {
-        (fault, is_left) = left_behind::<T>(alloc, input, left);
-    }
-    fault.is_some() && is_left
 }
 
 /// Of what a text and its length charge, of the room of the items that were not read, and of a span of time: a fault

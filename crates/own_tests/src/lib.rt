@@ -9,6 +9,8 @@ mod counted;
 #[cfg(test)]
 mod limits;
 #[cfg(test)]
+mod looped;
+#[cfg(test)]
 mod own;
 #[cfg(test)]
 mod readers;

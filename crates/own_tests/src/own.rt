@@ -36,7 +36,6 @@ fn keeps_structs(rt: HostRuntime) {
             "Message",
             has_word::<Message>(alloc, &[7, 251, 44, 1, 1, 4, 1, 5]),
         ),
-        ("Pack", has_word::<Pack<u32>>(alloc, &[3, 1, 251, 44, 1, 7])),
         ("Even", has_word::<Even>(alloc, &[4])),
     ];
     assert_eq!(rt; first_wrong(&rows), None);
