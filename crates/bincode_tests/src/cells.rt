@@ -1,9 +1,9 @@
 //! Cells, of which no contract says what they hold.
 
-use crate::checks::read_front;
 use bincode::error::EncodeError;
 use bincode::{config, encode_into_slice};
 use std::cell::{Cell, RefCell};
+use test_helpers::checks::read_front;
 
 #[test]
 fn keeps_each_byte_in_a_cell(rt: HostRuntime) {

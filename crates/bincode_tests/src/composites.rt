@@ -1,6 +1,5 @@
 //! Tuples, arrays, choices, ranges, spans of time and wrappers.
 
-use crate::checks::{goes_on, keeps, read_front, within};
 use bincode::de::{Decode, collect_into_array};
 use bincode::enc::Encode;
 use bincode::error::DecodeError;
@@ -10,8 +9,10 @@ use std::alloc::Global;
 use std::cmp::Reverse;
 use std::marker::PhantomData;
 use std::num::Wrapping;
-use std::ops::{Range, RangeInclusive};
+use std::ops::{Bound, Range, RangeInclusive};
 use std::time::Duration as StdDuration;
+use test_helpers::checks::{fault_of, goes_on, keeps, read_front, within};
+use test_helpers::rows::first_wrong;
 
 /// Tuples whose parts are of one type, by their length.
 type One<T> = (T,);
@@ -117,41 +118,92 @@ fn keeps_an_array_of_none(rt: HostRuntime) {
     assert!(rt; matches!(read, Ok((_, 0))));
 }
 
-/// The worked rows have no `Result` that is read. They have all other choices, characters and spans of time.
+/// The worked rows have no `Result` that is read, and no `Err`. They have all other choices, characters and spans of
+/// time.
 #[test]
-fn reads_an_outcome(rt: HostRuntime) {
+fn keeps_an_outcome(rt: HostRuntime) {
     let read: Option<Result<(), u8>> = read_front(rt.alloc(), &[1, 7, 99], 2);
     assert!(rt; matches!(read, Some(Err(7))));
+    let mut slice = [99u8; 3];
+    let outcome: Result<(), u8> = Err(7);
+    let written = encode_into_slice(outcome, &mut slice, config::standard());
+    assert!(rt; matches!(written, Ok(2)) && slice == [1, 7, 99]);
+}
+
+/// Whether the byte is refused as a tag, under this name and with this greatest tag.
+fn refuses_tag<T: Decode<()>>(alloc: Global, byte: u8, name: &str, greatest: u32) -> bool {
+    let Some(
+        DecodeError::UnexpectedVariant {
+            type_name,
+            found,
+            min: 0,
+            max,
+        },
+    ) = fault_of::<T>(alloc, &[byte])
+    else {
+        return false;
+    };
+    type_name.as_str() == name && found == byte as u32 && max == greatest
+}
+
+#[test]
+fn names_a_tag_that_no_choice_has(rt: HostRuntime) {
+    assert!(rt; refuses_tag::<Option<u8>>(rt.alloc(), 2, "Option", 1));
+    assert!(rt; refuses_tag::<Result<(), u8>>(rt.alloc(), 2, "Result", 1));
+    assert!(rt; refuses_tag::<Bound<u8>>(rt.alloc(), 3, "Bound", 2));
 }
 
 #[test]
 fn keeps_wrappers(rt: HostRuntime) {
     let alloc = rt.alloc();
-    assert!(rt; keeps::<Range<u8>>(alloc, &[1, 9]));
-    assert!(rt; keeps::<Wrapping<u8>>(alloc, &[7]));
-    assert!(rt; keeps::<Reverse<u8>>(alloc, &[8]));
-    assert!(rt; keeps::<PhantomData<u8>>(alloc, &[]));
-    assert!(rt; keeps::<[u16; 2]>(alloc, &[5, 251, 44, 1]));
+    let rows = [
+        ("Range", keeps::<Range<u8>>(alloc, &[1, 9])),
+        (
+            "RangeInclusive",
+            keeps::<RangeInclusive<u8>>(alloc, &[1, 5]),
+        ),
+        ("Wrapping", keeps::<Wrapping<u8>>(alloc, &[7])),
+        ("Reverse", keeps::<Reverse<u8>>(alloc, &[8])),
+        ("PhantomData", keeps::<PhantomData<u8>>(alloc, &[])),
+        ("[u16; 2]", keeps::<[u16; 2]>(alloc, &[5, 251, 44, 1])),
+    ];
+    assert_eq!(rt; first_wrong(&rows), None);
 }
 
+/// A range that was read gives each of its numbers: it is not one that was gone through.
 #[test]
-fn keeps_an_inclusive_range(rt: HostRuntime) {
-    let alloc = rt.alloc();
-    assert!(rt; keeps::<RangeInclusive<u8>>(alloc, &[1, 5]));
-    let read: Option<RangeInclusive<u8>> = read_front(alloc, &[1, 5, 99], 2);
-    assert!(rt; matches!(read, Some(range) if range == (1..=5)));
+fn reads_an_inclusive_range(rt: HostRuntime) {
+    let read: Option<RangeInclusive<u8>> = read_front(rt.alloc(), &[1, 5, 99], 2);
+    let Some(range) = read else {
+        assert!(rt; false);
+        return;
+    };
+    assert!(rt; !range.is_empty());
+    assert!(rt; range == (1..=5));
+    let mut wanted = 1;
+    for number in range {
+        assert!(rt; number == wanted && number < 6);
+        wanted += 1;
+    }
+    assert!(rt; wanted == 6);
 }
 
 /// Behind a tag, or a sum of seconds, that no value has.
 #[test]
 fn goes_on_behind_no_value(rt: HostRuntime) {
     let alloc = rt.alloc();
-    assert!(rt; goes_on::<Option<u8>>(alloc, &[2, 77]));
-    assert!(rt; goes_on::<Result<(), u8>>(alloc, &[251, 44, 1, 77]));
     let seconds = [
         253, 255, 255, 255, 255, 255, 255, 255, 255, 252, 0, 202, 154, 59, 77,
     ];
-    assert!(rt; goes_on::<Duration>(alloc, &seconds));
+    let rows = [
+        ("Option", goes_on::<Option<u8>>(alloc, &[2, 77])),
+        (
+            "Result",
+            goes_on::<Result<(), u8>>(alloc, &[251, 44, 1, 77]),
+        ),
+        ("Duration", goes_on::<Duration>(alloc, &seconds)),
+    ];
+    assert_eq!(rt; first_wrong(&rows), None);
 }
 
 #[test]
@@ -164,17 +216,24 @@ fn converts_spans(rt: HostRuntime) {
     assert!(rt; Duration::default() == Duration::new(0, 0));
 }
 
+/// What comes of collecting three of the items from a place on, and the next item then.
+type Collected = (Option<Result<[u8; 3], u8>>, Option<Result<u8, u8>>);
+
+/// Collects three of the items behind so many.
+fn collected_behind(items: [Result<u8, u8>; 4], count: usize) -> Collected {
+    let mut items = items.into_iter();
+    for _ in 0..count {
+        let _ = items.next();
+    }
+    let collected = collect_into_array(&mut items);
+    (collected, items.next())
+}
+
 #[test]
 fn collects_into_arrays(rt: HostRuntime) {
-    let stops: [Result<u8, u8>; 4] = [Ok(1), Ok(2), Err(7), Ok(4)];
-    let mut items = stops.into_iter();
-    let collected: Option<Result<[u8; 3], u8>> = collect_into_array(&mut items);
-    assert!(rt; collected == Some(Err(7)));
-    assert!(rt; items.next() == Some(Ok(4)));
-
-    let many: [Result<u8, u8>; 4] = [Ok(1), Ok(2), Ok(3), Ok(4)];
-    let mut items = many.into_iter();
-    let collected: Option<Result<[u8; 3], u8>> = collect_into_array(&mut items);
-    assert!(rt; collected == Some(Ok([1, 2, 3])));
-    assert!(rt; items.next() == Some(Ok(4)));
+    let all = [Ok(1), Ok(2), Ok(3), Ok(4)];
+    assert!(rt; collected_behind(all, 0) == (Some(Ok([1, 2, 3])), Some(Ok(4))));
+    assert!(rt; collected_behind(all, 2) == (None, None));
+    let stops = [Ok(1), Ok(2), Err(7), Ok(4)];
+    assert!(rt; collected_behind(stops, 0) == (Some(Err(7)), Some(Ok(4))));
 }

@@ -1,16 +1,12 @@
-//! Tests of the library through its public calls. Expected values come from the description of the format.
+//! Tests of the library at its own types, readers and writers. Expected values come from the description of the format.
 #![tactic(auto)]
 
 #[cfg(test)]
 mod cells;
 #[cfg(test)]
-mod checks;
-#[cfg(test)]
 mod claims;
 #[cfg(test)]
 mod coders;
-#[cfg(test)]
-mod collected;
 #[cfg(test)]
 mod composites;
 #[cfg(test)]
@@ -27,8 +23,6 @@ mod limits;
 mod maps;
 #[cfg(test)]
 mod numbers;
-#[cfg(test)]
-mod own;
 #[cfg(test)]
 mod readers;
 #[cfg(test)]

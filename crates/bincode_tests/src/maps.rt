@@ -1,17 +1,43 @@
 //! Ordered sets and maps.
 
-use crate::checks::{decoded, is_written_as, keeps_value, made};
 use bincode::config;
 use bincode::error::DecodeError;
+use std::alloc::{AllocError, Global};
 use std::collections::{BTreeMap, BTreeSet};
+use test_helpers::checks::{decoded, is_written_as, keeps_value, made};
+
+/// The numbers from 0, the last put in first.
+fn set_of(alloc: Global, count: u32) -> Result<BTreeSet<u32>, AllocError> {
+    let mut set = BTreeSet::new(alloc);
+    for number in (0..count).rev() {
+        set.insert(number)?;
+    }
+    Ok(set)
+}
+
+/// The same as keys, each with the next number.
+fn map_of(alloc: Global, count: u32) -> Result<BTreeMap<u32, u32>, AllocError> {
+    let mut map = BTreeMap::new(alloc);
+    for number in (0..count).rev() {
+        map.insert(number, number.wrapping_add(1))?;
+    }
+    Ok(map)
+}
 
 #[test]
-fn keeps_sets_and_maps(rt: HostRuntime) {
+fn keeps_sets(rt: HostRuntime) {
     let alloc = rt.alloc();
-    let set = made(|| BTreeSet::from_array(alloc, [300u32, 5, 1]));
-    assert!(rt; keeps_value(alloc, set));
-    let map = made(|| BTreeMap::from_array(alloc, [(300u32, 1u8), (5, 2)]));
-    assert!(rt; keeps_value(alloc, map));
+    for count in [3, 10_000] {
+        assert!(rt; keeps_value(alloc, made(|| set_of(alloc, count))));
+    }
+}
+
+#[test]
+fn keeps_maps(rt: HostRuntime) {
+    let alloc = rt.alloc();
+    for count in [3, 10_000] {
+        assert!(rt; keeps_value(alloc, made(|| map_of(alloc, count))));
+    }
 }
 
 #[test]

@@ -1,8 +1,9 @@
 //! Numbers: types that no worked row has, of the `NonZero` ones some, and what a failed decode has taken.
 
-use crate::checks::{goes_on, keeps};
 use bincode::{config, encode_into_slice};
 use std::num::{NonZeroI32, NonZeroI64, NonZeroU16, NonZeroUsize};
+use test_helpers::checks::{goes_on, keeps};
+use test_helpers::rows::first_wrong;
 
 #[test]
 fn keeps_numbers(rt: HostRuntime) {
@@ -21,18 +22,25 @@ fn writes_the_highest_byte_first(rt: HostRuntime) {
 }
 
 #[test]
-fn goes_on_behind_a_wrong_tag(rt: HostRuntime) {
+fn goes_on_behind_no_number(rt: HostRuntime) {
     let alloc = rt.alloc();
-    assert!(rt; goes_on::<u32>(alloc, &[253, 77]));
-    assert!(rt; goes_on::<i16>(alloc, &[252, 77]));
-}
-
-#[test]
-fn goes_on_behind_a_wrong_scalar(rt: HostRuntime) {
-    let alloc = rt.alloc();
-    assert!(rt; goes_on::<NonZeroU16>(alloc, &[0, 77]));
-    assert!(rt; goes_on::<NonZeroU16>(alloc, &[251, 0, 0, 77]));
-    assert!(rt; goes_on::<bool>(alloc, &[2, 77]));
-    assert!(rt; goes_on::<char>(alloc, &[128, 77]));
-    assert!(rt; goes_on::<char>(alloc, &[237, 160, 128, 77]));
+    let rows = [
+        ("u32 with a tag of u64", goes_on::<u32>(alloc, &[253, 77])),
+        ("i16 with a tag of i32", goes_on::<i16>(alloc, &[252, 77])),
+        ("NonZeroU16", goes_on::<NonZeroU16>(alloc, &[0, 77])),
+        (
+            "NonZeroU16 in three bytes",
+            goes_on::<NonZeroU16>(alloc, &[251, 0, 0, 77]),
+        ),
+        ("bool", goes_on::<bool>(alloc, &[2, 77])),
+        (
+            "char that begins nothing",
+            goes_on::<char>(alloc, &[128, 77]),
+        ),
+        (
+            "char out of range",
+            goes_on::<char>(alloc, &[237, 160, 128, 77]),
+        ),
+    ];
+    assert_eq!(rt; first_wrong(&rows), None);
 }

@@ -1,11 +1,12 @@
-//! Reading from slices, from streams, and over a line that is cut.
+//! Reading from slices and from streams.
 
 use bincode::config::{self, Endianness};
 use bincode::de::read::{Reader, SliceReader};
 use bincode::de::{Decode, Decoder, DecoderImpl, IoReader, LentIoReader};
 use bincode::error::DecodeError;
 use bincode::varint::varint_decode_u32;
-use callers::cut::CutReader;
+use std::io;
+use std::io::{ErrorKind, Read};
 use std::process::Abort;
 
 /// Of 1, 2 and 3 the first two are shown, and taken.
@@ -70,17 +71,46 @@ fn leaves_a_lent_stream_behind_a_word(rt: HostRuntime) {
     assert!(rt; stream == [7, 9].as_slice());
 }
 
-/// The first number is read, and each after it answers the error of the line.
-fn fails_behind_the_first<D: Decoder<Context = ()>>(rt: &impl Abort, decoder: &mut D) {
+/// A stream that is interrupted so many times before each byte.
+#[derive(Drop)]
+struct Interrupted<'a> {
+    bytes: &'a [u8],
+    times: u8,
+    left: u8,
+}
+
+impl Read for Interrupted<'_> {
+    fn read(&mut self, buf: &mut [u8]) -> io::Result<usize> {
+        if self.left > 0 {
+            self.left -= 1;
+            return Err(ErrorKind::Interrupted.into());
+        }
+        self.left = self.times;
+        if self.bytes.is_empty() || buf.is_empty() {
+            return Ok(0);
+        }
+        buf[0] = self.bytes[0];
+        self.bytes = &self.bytes[1..];
+        Ok(1)
+    }
+}
+
+/// A number of three bytes is read, and one of one byte.
+fn reads_two<D: Decoder<Context = ()>>(rt: &impl Abort, decoder: &mut D) {
+    assert!(rt; matches!(u32::decode(decoder), Ok(300)));
     assert!(rt; matches!(u8::decode(decoder), Ok(7)));
-    assert!(rt; matches!(u16::decode(decoder), Err(DecodeError::Other(_))));
-    assert!(rt; matches!(u8::decode(decoder), Err(DecodeError::Other(_))));
 }
 
 #[test]
-fn answers_the_error_of_a_cut_line(rt: HostRuntime) {
-    let reader = CutReader::new(&[7, 251, 44, 1, 9], 2);
-    let mut decoder = DecoderImpl::new(rt.alloc(), reader, config::standard(), ());
-    fails_behind_the_first(&rt, &mut decoder);
-    assert!(rt; decoder.reader().failures() == 2);
+fn reads_on_where_a_stream_is_interrupted(rt: HostRuntime) {
+    for times in [1, 2] {
+        let stream = Interrupted {
+            bytes: &[251, 44, 1, 7],
+            times,
+            left: times,
+        };
+        let reader = IoReader::new(rt.alloc(), stream);
+        let mut decoder = DecoderImpl::new(rt.alloc(), reader, config::standard(), ());
+        reads_two(&rt, &mut decoder);
+    }
 }

@@ -1,8 +1,8 @@
 //! Arrays of bytes, which are written and read in one piece, beside arrays that are not.
 
-use crate::checks::within;
 use bincode::error::{DecodeError, EncodeError};
 use bincode::{config, encode_into_slice};
+use test_helpers::checks::within;
 
 #[test]
 fn writes_bytes_whole_or_not_at_all(rt: HostRuntime) {

@@ -1,27 +1,71 @@
 //! Texts.
 
-use crate::checks::{is_written_as, keeps_value, made};
 use bincode::config;
 use bincode::de::read::SliceReader;
 use bincode::de::{Decode, DecoderImpl};
 use bincode::error::DecodeError;
-use std::alloc::Global;
+use std::alloc::{AllocError, Global};
 use std::borrow::CowStr;
 use std::boxed::BoxedStr;
 use std::rc::RcStr;
+use test_helpers::checks::{is_written_as, keeps_value, made};
+use test_helpers::rows::first_wrong;
 
 /// A text of one character, which has four bytes.
 const FACE: &str = "\u{1F600}";
 
+/// A text of this many bytes, or a few more, in characters of four.
+fn text_of(alloc: Global, count: usize) -> Result<String, AllocError> {
+    let mut text = String::new(alloc);
+    for _ in 0..count.div_ceil(FACE.len()) {
+        text.push_str(FACE)?;
+    }
+    Ok(text)
+}
+
+/// The same with one owner.
+fn boxed(alloc: Global, count: usize) -> Result<BoxedStr, AllocError> {
+    BoxedStr::from_str(alloc, text_of(alloc, count)?.as_str())
+}
+
+/// The same with more.
+fn shared(alloc: Global, count: usize) -> Result<RcStr, AllocError> {
+    RcStr::from_str(alloc, text_of(alloc, count)?.as_str())
+}
+
+#[test]
+fn writes_a_text(rt: HostRuntime) {
+    assert!(rt; is_written_as(rt.alloc(), Some(FACE), &[4, 240, 159, 152, 128]));
+}
+
 #[test]
 fn keeps_texts(rt: HostRuntime) {
     let alloc = rt.alloc();
-    assert!(rt; is_written_as(alloc, Some(FACE), &[4, 240, 159, 152, 128]));
-    assert!(rt; keeps_value(alloc, made(|| String::from_str(alloc, FACE))));
-    assert!(rt; keeps_value(alloc, made(|| BoxedStr::from_str(alloc, FACE))));
-    assert!(rt; keeps_value(alloc, made(|| RcStr::from_str(alloc, FACE))));
+    for count in [4, 100_000] {
+        assert!(rt; keeps_value(alloc, made(|| text_of(alloc, count))));
+    }
+}
+
+#[test]
+fn keeps_boxed_texts(rt: HostRuntime) {
+    let alloc = rt.alloc();
+    for count in [4, 100_000] {
+        assert!(rt; keeps_value(alloc, made(|| boxed(alloc, count))));
+    }
+}
+
+#[test]
+fn keeps_shared_texts(rt: HostRuntime) {
+    let alloc = rt.alloc();
+    for count in [4, 100_000] {
+        assert!(rt; keeps_value(alloc, made(|| shared(alloc, count))));
+    }
+}
+
+#[test]
+fn keeps_borrowed_texts(rt: HostRuntime) {
     let borrowed: CowStr<'_> = CowStr::Borrowed(FACE);
-    assert!(rt; keeps_value(alloc, Some(borrowed)));
+    assert!(rt; keeps_value(rt.alloc(), Some(borrowed)));
 }
 
 /// The fault of two bytes that are no text, and the byte that is read behind them.
@@ -44,8 +88,11 @@ fn goes_on_behind_no_text<T: Decode<()>>(alloc: Global) -> bool {
 #[test]
 fn refuses_bytes_that_are_no_text(rt: HostRuntime) {
     let alloc = rt.alloc();
-    assert!(rt; goes_on_behind_no_text::<String>(alloc));
-    assert!(rt; goes_on_behind_no_text::<BoxedStr>(alloc));
-    assert!(rt; goes_on_behind_no_text::<RcStr>(alloc));
-    assert!(rt; goes_on_behind_no_text::<CowStr<'_>>(alloc));
+    let rows = [
+        ("String", goes_on_behind_no_text::<String>(alloc)),
+        ("BoxedStr", goes_on_behind_no_text::<BoxedStr>(alloc)),
+        ("RcStr", goes_on_behind_no_text::<RcStr>(alloc)),
+        ("CowStr", goes_on_behind_no_text::<CowStr<'_>>(alloc)),
+    ];
+    assert_eq!(rt; first_wrong(&rows), None);
 }

@@ -1,14 +1,11 @@
-//! Writing into slices, into a fixed room, into a count, and over a line that is cut.
+//! Writing into slices, and counting.
 
-use crate::checks::made;
+use bincode::enc::Encode;
 use bincode::enc::write::{SizeWriter, SliceWriter, Writer};
-use bincode::enc::{Encode, Encoder, EncoderImpl};
 use bincode::error::EncodeError;
-use bincode::{config, encode_into_slice, encode_into_writer};
-use callers::cut::CutWriter;
-use callers::fixed::Fixed;
-use callers::lengths::encoded_length;
+use bincode::{config, encode_into_slice};
 use std::process::Abort;
+use test_helpers::checks::made;
 
 /// 1 is written, three more bytes are not, and then two are.
 fn writes_one_and_two<W: Writer>(rt: &impl Abort, mut writer: W) {
@@ -27,39 +24,23 @@ fn refuses_a_piece_whole(rt: HostRuntime) {
     assert!(rt; slice == [1, 5, 6]);
 }
 
-/// The first number is written, and each after it answers the error of the line.
-fn fails_behind_the_first<E: Encoder>(rt: &impl Abort, encoder: &mut E) {
-    assert!(rt; 7u8.encode(encoder).is_ok());
-    assert!(rt; matches!(300u16.encode(encoder), Err(EncodeError::Other(_))));
-    assert!(rt; matches!(9u8.encode(encoder), Err(EncodeError::Other(_))));
+/// A piece is written.
+fn writes<W: Writer>(rt: &impl Abort, writer: &mut W, piece: &[u8]) {
+    assert!(rt; writer.write(piece).is_ok());
 }
 
 #[test]
-fn answers_the_error_of_a_cut_line(rt: HostRuntime) {
-    let mut encoder = EncoderImpl::new(CutWriter::new(2), config::standard());
-    fails_behind_the_first(&rt, &mut encoder);
-    let writer = encoder.writer();
-    assert!(rt; writer.sent() == 2);
-    assert!(rt; writer.failures() == 2);
-}
-
-/// A pair whose parts are written in one byte and in three.
-const PAIR: (u8, u32) = (1, 300);
-
-#[test]
-fn writes_into_a_fixed_room(rt: HostRuntime) {
-    let mut enough: Fixed<4> = Fixed::new();
-    assert!(rt; encode_into_writer(PAIR, &mut enough, config::standard()).is_ok());
-    assert!(rt; enough.held() == [1, 251, 44, 1].as_slice());
-    let mut short: Fixed<3> = Fixed::new();
-    let outcome = encode_into_writer(PAIR, &mut short, config::standard());
-    assert!(rt; matches!(outcome, Err(EncodeError::UnexpectedEnd)));
-    assert!(rt; short.held() == [1, 251].as_slice());
+fn writes_into_the_front_of_a_slice(rt: HostRuntime) {
+    let mut slice = [0u8; 100];
+    let mut writer = SliceWriter::new(&mut slice);
+    writes(&rt, &mut writer, &[1, 2, 3, 4, 5]);
+    assert!(rt; writer.bytes_written() == 5);
+    drop(writer);
+    assert!(rt; slice.starts_with(&[1, 2, 3, 4, 5, 0]));
 }
 
 #[test]
 fn counts_no_further_than_it_can(rt: HostRuntime) {
-    assert!(rt; matches!(encoded_length(&PAIR, config::standard()), Ok(4)));
     let mut counter = SizeWriter {
         bytes_written: usize::MAX,
     };

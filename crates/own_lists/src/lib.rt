@@ -4,4 +4,5 @@
 pub mod arena;
 pub mod arenas;
 pub mod framed;
+pub mod looped;
 pub mod pack;

@@ -2,6 +2,7 @@
 #![tactic(auto)]
 
 pub mod case;
+pub mod claims;
 pub mod formats;
 pub mod rows;
 pub mod run;

@@ -2,7 +2,7 @@
 
 use bincode::config::Config;
 use bincode::de::read::SliceReader;
-use bincode::de::{Decode, DecoderImpl};
+use bincode::de::{Decode, Decoder, DecoderImpl};
 use bincode::enc::Encode;
 use bincode::enc::write::SizeWriter;
 use bincode::error::{DecodeError, EncodeError};
@@ -39,6 +39,28 @@ pub fn goes_on<T: Decode<()>>(alloc: Global, input: &[u8]) -> bool {
     T::decode(&mut decoder).is_err() && matches!(u8::decode(&mut decoder), Ok(77))
 }
 
+/// The error of decoding within a hundred, and whether this much of it is left and no more.
+fn left_behind<T: Decode<()>>(
+    alloc: Global,
+    input: &[u8],
+    left: usize,
+) -> (Option<DecodeError>, bool) {
+    let hundred = config::standard().with_limit::<100>();
+    let mut decoder = DecoderImpl::new(alloc, SliceReader::new(input), hundred, ());
+    let fault = T::decode(&mut decoder).err();
+    let is_left = decoder.claim_bytes_read(left).is_ok() && decoder.claim_bytes_read(1).is_err();
+    (fault, is_left)
+}
+
+/// Whether a fault leaves this much of a hundred. Where memory is refused the input is decoded once more.
+pub fn leaves<T: Decode<()>>(alloc: Global, input: &[u8], left: usize) -> bool {
+    let (mut fault, mut is_left) = left_behind::<T>(alloc, input, left);
+    if matches!(fault, Some(DecodeError::Memory)) {
+        (fault, is_left) = left_behind::<T>(alloc, input, left);
+    }
+    fault.is_some() && is_left
+}
+
 /// What is read of the front of the input, if it has this length.
 pub fn read_front<T: Decode<()>>(alloc: Global, input: &[u8], length: usize) -> Option<T> {
     let outcome: Result<(T, usize), DecodeError> = decode_from_slice(
@@ -58,6 +80,14 @@ pub fn within<T: Decode<()>, const N: usize>(
     input: &[u8],
 ) -> Result<(T, usize), DecodeError> {
     decode_from_slice(alloc, input, config::standard().with_limit::<N>())
+}
+
+/// The same. Where memory is refused it is decoded once more.
+pub fn decoded_within<T: Decode<()>, const N: usize>(
+    alloc: Global,
+    input: &[u8],
+) -> Result<(T, usize), DecodeError> {
+    decoded(alloc, input, config::standard().with_limit::<N>())
 }
 
 /// The fault of the input, if it has one.
@@ -196,15 +226,15 @@ pub fn is_written_as<T: Encode>(alloc: Global, value: Option<T>, word: &[u8]) ->
     bytes.as_slice() == word
 }
 
-/// What is read of the word of a value, with bytes behind it, if so many bytes are taken as the word has.
+/// What is read of the word of a value, with a byte behind it, if so many bytes are taken as the word has.
 pub fn comes_back<T: Encode + Decode<()>>(alloc: Global, value: &T) -> Option<T> {
-    let word = written(alloc, value)?;
-    let mut input = [99u8; 100];
-    input
-        .get_mut(..word.len())?
-        .copy_from_slice(word.as_slice());
-    match decoded(alloc, &input, config::standard()) {
-        Ok((read, taken)) if taken == word.len() => Some(read),
+    let mut input = written(alloc, value)?;
+    let length = input.len();
+    if input.push(99).is_err() && input.push(99).is_err() {
+        return None;
+    }
+    match decoded(alloc, input.as_slice(), config::standard()) {
+        Ok((read, taken)) if taken == length => Some(read),
         _ => None,
     }
 }

@@ -1,6 +1,5 @@
 //! Lists of a user's own, which are filled item by item, and the arenas that some of them stand in.
 
-use crate::checks::{decoded_with, each_call_writes, ends_at_each_place, within};
 use bincode::config::{self, Config};
 use bincode::error::DecodeError;
 use bincode::{Wire, decode_from_slice_with_context};
@@ -10,6 +9,7 @@ use own_lists::arenas::count_numbers;
 use own_lists::framed::{Env, Framed};
 use own_lists::pack::Pack;
 use std::alloc::Global;
+use test_helpers::checks::{decoded_with, each_call_writes, ends_at_each_place, within};
 
 /// The numbers 1, 2 and 3.
 const NUMBERS: [u8; 4] = [3, 1, 2, 3];

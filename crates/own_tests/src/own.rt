@@ -1,6 +1,5 @@
 //! What comes of a user's own types, written and read.
 
-use crate::checks::{decoded, each_call_keeps, ends_at_each_place, fault_of, made, within};
 use bincode::de::Decode;
 use bincode::de::read::SliceReader;
 use bincode::enc::Encode;
@@ -18,6 +17,10 @@ use own_types::message::Message;
 use own_types::never::Never;
 use own_types::request::Request;
 use std::alloc::Global;
+use test_helpers::checks::{
+    decoded, each_call_keeps, ends_at_each_place, fault_of, goes_on, made, within,
+};
+use test_helpers::rows::{first_unequal, first_wrong};
 
 /// Whether this is a word of the type by each call, with bytes behind it, and no front of it is one.
 fn has_word<T: Encode + Decode<()>>(alloc: Global, word: &[u8]) -> bool {
@@ -26,10 +29,16 @@ fn has_word<T: Encode + Decode<()>>(alloc: Global, word: &[u8]) -> bool {
 
 #[test]
 fn keeps_structs(rt: HostRuntime) {
-    assert!(rt; has_word::<Foo>(rt.alloc(), &[5, 10]));
-    assert!(rt; has_word::<Message>(rt.alloc(), &[7, 251, 44, 1, 1, 4, 1, 5]));
-    assert!(rt; has_word::<Pack<u32>>(rt.alloc(), &[3, 1, 251, 44, 1, 7]));
-    assert!(rt; has_word::<Even>(rt.alloc(), &[4]));
+    let alloc = rt.alloc();
+    let rows = [
+        ("Foo", has_word::<Foo>(alloc, &[5, 10])),
+        (
+            "Message",
+            has_word::<Message>(alloc, &[7, 251, 44, 1, 1, 4, 1, 5]),
+        ),
+        ("Even", has_word::<Even>(alloc, &[4])),
+    ];
+    assert_eq!(rt; first_wrong(&rows), None);
 }
 
 #[test]
@@ -205,14 +214,23 @@ fn refuses_odd_numbers(rt: HostRuntime) {
     assert!(rt; is_other(within::<Even, 1>(rt.alloc(), &[3]), "odd"));
 }
 
+/// The byte of a number that fails its test is taken, and no other.
+#[test]
+fn goes_on_behind_an_odd_number(rt: HostRuntime) {
+    assert!(rt; goes_on::<Even>(rt.alloc(), &[3, 77]));
+}
+
 #[test]
 fn claims_what_own_types_claim(rt: HostRuntime) {
-    assert!(rt; Foo::claim_size() == 8);
-    assert!(rt; Pack::<u32>::claim_size() == 24);
-    assert!(rt; Event::claim_size() == 28);
-    assert!(rt; Code::claim_size() == 4);
-    assert!(rt; Never::claim_size() == 1);
-    assert!(rt; Even::claim_size() == 1);
-    assert!(rt; Track::claim_size() == 50);
-    assert!(rt; Entry::claim_size() == 54);
+    let rows = [
+        ("Foo", Foo::claim_size(), 8),
+        ("Pack", Pack::<u32>::claim_size(), 24),
+        ("Event", Event::claim_size(), 28),
+        ("Code", Code::claim_size(), 4),
+        ("Never", Never::claim_size(), 1),
+        ("Even", Even::claim_size(), 1),
+        ("Track", Track::claim_size(), 50),
+        ("Entry", Entry::claim_size(), 54),
+    ];
+    assert_eq!(rt; first_unequal(&rows), None);
 }

@@ -1,0 +1,87 @@
+-- The number that a list begins with, and the share that is released before an item.
+use Rattle.std.specs.Prelude.{◌≡◌, ℕ, pos, List, Option, Result, Ok, Err, refl}
+use Rattle.std.specs.Borrow.{GName}
+use Rattle.std.proofs.Common.{◌∙◌, sym}
+use Rattle.std.proofs.lemmas.Result.{IfOk-weaker, IfErr-weaker}
+use Rattle.bincode_base.specs.declared.error.DecodeError.{DecodeError}
+use Rattle.bincode_format.specs.Device.{DeviceErrors}
+use Rattle.bincode_format.specs.Fault.{Fault}
+use Rattle.bincode_format.specs.Format.{Format, done, map_format}
+use Rattle.bincode_format.specs.Meaning.{Meaning, Number, IsNumber}
+use Rattle.bincode_format.specs.Answer.{Answer, answer, and_then, Gave, Refused, PassedLimit, unclaimed}
+use Rattle.bincode_format.specs.Claims.{MakesRelease}
+use Rattle.bincode_format.specs.Decoding.{Decodes, Stops, by_fault, by_limit, by_memory, by_failure, by_device}
+use Rattle.bincode_format.specs.Values.{Reads}
+use Rattle.bincode_laws.specs.AnswerLaws.{answer-then, answer-done}
+use Rattle.bincode_decoder.proofs.ReadAnswers.{read-as}
+
+-- what a number means
+abbrev number : ℕ → Meaning
+number n = Number (pos n)
+
+module _ (limit : Option ℕ) where
+  -- the answer behind which a number is named
+  abbrev named : Answer ℕ → Answer Meaning
+  named x = and_then x (λ n rest after. answer limit (done (number n)) rest after)
+
+  named-gave : (x : Answer ℕ) (v : ℕ) (rest : List ℕ) (d : ℕ) → named x ≡ Gave (number v) rest d → x ≡ Gave v rest d
+  named-gave (Gave n r after) v rest d e = let k : Gave (number n) r after ≡ Gave (number v) rest d = sym (answer-done limit (number n) r after) ∙ e in cc
+  named-gave (Refused why) v rest d e = absurd (cc)
+  named-gave PassedLimit v rest d e = absurd (cc)
+
+  named-refused : (x : Answer ℕ) (why : Fault) → named x ≡ Refused why → x ≡ Refused why
+  named-refused (Gave n r after) why e = let k : Gave (number n) r after ≡ Refused why = sym (answer-done limit (number n) r after) ∙ e in absurd (cc)
+  named-refused (Refused w) why e = cc
+  named-refused PassedLimit why e = absurd (cc)
+
+  named-passed : (x : Answer ℕ) → named x ≡ PassedLimit → x ≡ PassedLimit
+  named-passed (Gave n r after) e = let k : Gave (number n) r after ≡ PassedLimit = sym (answer-done limit (number n) r after) ∙ e in absurd (cc)
+  named-passed (Refused w) e = absurd (cc)
+  named-passed PassedLimit e = refl
+
+  module _ (F : Format ℕ) (input : List ℕ) (c : ℕ) where
+    length-decodes : (v : ℕ) (rest : List ℕ) (d : ℕ) → Decodes (IsNumber (pos v)) (answer limit (map_format number F) input c) rest d →
+        Decodes (λ n. n ≡ v) (answer limit F input c) rest d
+    length-decodes v rest d h = record {
+      meaning = v;
+      answer_is = named-gave (answer limit F input c) v rest d (sym (answer-then limit F (λ n. done (number n)) input c) ∙ rw h.is_given at h.answer_is);
+      is_given = refl;
+    }
+
+    length-stops : (ended : ℕ → DecodeError → Type 0) (device : DeviceErrors) (H : Type 0) (before after : ℕ) (rest : List ℕ) (e : DecodeError) →
+        Stops ended device H (answer limit (map_format number F) input c) before after input rest e →
+        Stops ended device H (answer limit F input c) before after input rest e
+    length-stops ended device H before after rest e (by_fault why h t k) =
+        by_fault why (named-refused (answer limit F input c) why (sym (answer-then limit F (λ n. done (number n)) input c) ∙ h)) t k
+    length-stops ended device H before after rest e (by_limit h t k) =
+        by_limit (named-passed (answer limit F input c) (sym (answer-then limit F (λ n. done (number n)) input c) ∙ h)) t k
+    length-stops ended device H before after rest e (by_memory h t k) = by_memory h t k
+    length-stops ended device H before after rest e (by_failure d h k) = by_failure d h k
+    length-stops ended device H before after rest e (by_device h) = by_device h
+
+module _ {D : Type 0} {told : D → Type 0} {rest : D → List ℕ} {charge failures : D → ℕ} {place : D → List GName} {limit : Option ℕ}
+    {ended : ℕ → DecodeError → Type 0} {device : DeviceErrors} {G : Type 0} where
+  -- a number that was read is the length of what follows
+  pub length-read : {F : Format ℕ} {start : ℕ} (r : Result ℕ DecodeError) {old new : D} →
+      Reads told rest charge failures place limit ended device G (map_format number F) (λ m v. IsNumber (pos v) m) start r old new →
+      Reads told rest charge failures place limit ended device G F (λ n v. n ≡ v) start r old new
+  length-read {F = F} r read =
+      read-as
+      (λ known. IfOk-weaker r _ _ (λ v d. length-decodes limit F _ _ v _ _ d) (read.ok known))
+      (λ known. IfErr-weaker r _ _ (λ e s. length-stops limit F _ _ ended device G _ _ _ e s) (read.err known))
+      read
+
+  -- an item is read behind the release of its share
+  pub item-read : {R C T : Type 0} {reader_of : D → R} {context_of : D → C} {format : Format Meaning} {given : Meaning → T → Type 0} {n claim : ℕ}
+      {r : Result T DecodeError} {old middle new : D} →
+      MakesRelease told rest charge failures reader_of context_of place limit n old middle → n ≡ claim →
+      Reads told rest charge failures place limit ended device G format given (charge middle) r middle new →
+      Reads told rest charge failures place limit ended device G format given (unclaimed limit (charge old) claim) r old new
+  item-read before same read = record {
+    ok = λ known. rw (before.kept.same_rest, before.released, same) at (read.ok (before.kept.tells known));
+    err = λ known. rw (before.kept.same_rest, before.released, before.kept.same_failures, same) at (read.err (before.kept.tells known));
+    counted = rw before.kept.same_failures at read.counted;
+    tells = λ known. read.tells (before.kept.tells known);
+    held = rw (before.released, same) at read.held;
+    same_place = read.same_place ∙ before.kept.same_place;
+  }

@@ -1,0 +1,5 @@
+//! What the crates of tests share: each of these is proved once, for every type that is tested.
+#![tactic(auto)]
+
+pub mod checks;
+pub mod rows;
