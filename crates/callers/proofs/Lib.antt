@@ -1,4 +1,4 @@
 mod Counts
+mod Fits
 mod Refusals
-mod Rooms
 mod Short

@@ -1,4 +1,4 @@
-use Rattle.callers.proofs.Rooms.{exact-fit}
+use Rattle.callers.proofs.Fits.{exact-fit}
 use Rattle.callers.proofs.rooms.fits_exactly.Goals as goal
 
 pub returns : goal.returns
