@@ -28,8 +28,8 @@ impl<D, Context: Drop> Drop for WithContext<'_, D, Context> {
 
 /// Decoders that can be lent with another context: all of them.
 pub trait LendInContext: Decoder {
-    /// Lends the decoder with this context. When the borrow ends, the decoder is as the last call through it left it. Of
-    /// its own context no contract says that such a call leaves it as it was.
+    /// Lends the decoder with this context. When the borrow ends, the decoder is as the last call left it. No contract
+    /// says that a call through the loan leaves the decoder's own context as it was.
     fn with_context<'a, Context: Drop>(
         &'a mut self,
         context: Context,
