@@ -1,5 +1,5 @@
 -- The number that a list begins with, and the share that is released before an item.
-use Rattle.std.specs.Prelude.{◌≡◌, ℕ, pos, List, Option, Result, Ok, Err, refl}
+use Rattle.std.specs.Prelude.{◌≡◌, ℕ, pos, List, Option, Result, refl}
 use Rattle.std.specs.Borrow.{GName}
 use Rattle.std.proofs.Common.{◌∙◌, sym}
 use Rattle.std.proofs.lemmas.Result.{IfOk-weaker, IfErr-weaker}
