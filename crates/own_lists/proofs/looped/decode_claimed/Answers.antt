@@ -39,5 +39,6 @@ returns-in_default g c = record {
   counted = omega arith;
   tells = λ known. known;
   held = held-still _ _ _;
+  within = λ _. tt;
   same_place = refl;
 }
