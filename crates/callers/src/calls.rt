@@ -28,7 +28,7 @@ pub fn read<D: Decode<()>, C: Config>(
     src: &[u8],
     config: C,
 ) -> Result<(D, usize), DecodeError>
-    ensures memory { (D.grows → ⊥) → IfErr result (λ e. ¬ (e ≡ Memory)) }
+    ensures memory { (D.its.grows → ⊥) → IfErr result (λ e. ¬ (e ≡ Memory)) }
 {
     decode_from_slice(alloc, src, config)
 }
@@ -49,9 +49,9 @@ pub fn round_trip<T: Encode + Decode<()> + Exact, C: Config>(
     slice: &mut [u8],
     config: C,
 ) -> Result<RoundTrip<T>, EncodeError>
-    ensures back { FitsLimit (T.means value.now) (T.format C.setting) C.bound → IfOk result (λ trip.
-        MatchResult trip.read (λ x. (T.eq value.now x.0 ≡ true) × (x.1 ≡ trip.written)) (IsRefused T.grows)) }
-    ensures short { IfErr result (TooShort (AllowedWord (T.means value.now) (T.format C.setting)) (length slice.old)) }
+    ensures back { FitsLimit (T.its.means value.now) (T.its.format C.setting) C.bound → IfOk result (λ trip.
+        MatchResult trip.read (λ x. (T.eq value.now x.0 ≡ true) × (x.1 ≡ trip.written)) (IsRefused T.its.grows)) }
+    ensures short { IfErr result (TooShort (AllowedWord (T.its.means value.now) (T.its.format C.setting)) (length slice.old)) }
 {
     value.tell_valid();
     let written = encode_into_slice(value, slice, config)?;
@@ -68,8 +68,8 @@ pub fn round_trip_within<T: Encode + Decode<()> + Exact + ConstantCharge, C: Con
     config: C,
 ) -> Result<RoundTrip<T>, EncodeError>
     ensures back { Allows C.bound T.peak → IfOk result (λ trip.
-        MatchResult trip.read (λ x. (T.eq value.now x.0 ≡ true) × (x.1 ≡ trip.written)) (IsRefused T.grows)) }
-    ensures short { IfErr result (TooShort (AllowedWord (T.means value.now) (T.format C.setting)) (length slice.old)) }
+        MatchResult trip.read (λ x. (T.eq value.now x.0 ≡ true) × (x.1 ≡ trip.written)) (IsRefused T.its.grows)) }
+    ensures short { IfErr result (TooShort (AllowedWord (T.its.means value.now) (T.its.format C.setting)) (length slice.old)) }
 {
     round_trip(alloc, value, slice, config)
 }
@@ -83,9 +83,9 @@ pub fn round_trip_of_numbers<C: Config>(
 ) -> Result<RoundTrip<(u64, [u32; 4])>, EncodeError>
     ensures back { Allows C.bound 24 → IfOk result (λ trip. MatchResult trip.read
         (λ x. (⟦<(u64, [u32; 4]) as PartialEq>⟧.eq value.now x.0 ≡ true) × (x.1 ≡ trip.written))
-        (IsRefused (⟦<(u64, [u32; 4]) as Wire>⟧.grows))) }
-    ensures short { IfErr result (TooShort (AllowedWord (⟦<(u64, [u32; 4]) as Wire>⟧.means value.now)
-        (⟦<(u64, [u32; 4]) as Wire>⟧.format C.setting)) (length slice.old)) }
+        (IsRefused (⟦<(u64, [u32; 4]) as Wire>⟧.its.grows))) }
+    ensures short { IfErr result (TooShort (AllowedWord (⟦<(u64, [u32; 4]) as Wire>⟧.its.means value.now)
+        (⟦<(u64, [u32; 4]) as Wire>⟧.its.format C.setting)) (length slice.old)) }
 {
     round_trip_within(alloc, value, slice, config)
 }
@@ -114,24 +114,24 @@ pub fn read_cell<C: Config>(
 
 /// Types of each family that take no memory, so that `read` is never refused some at them.
 pub fn types_without_memory()
-    ensures number { ⟦<u64 as Wire>⟧.grows → ⊥ }
-    ensures number_other_than_zero { ⟦<NonZeroU16 as Wire>⟧.grows → ⊥ }
-    ensures truth { ⟦<bool as Wire>⟧.grows → ⊥ }
-    ensures character { ⟦<char as Wire>⟧.grows → ⊥ }
-    ensures pair { ⟦<(u8, u32) as Wire>⟧.grows → ⊥ }
+    ensures number { ⟦<u64 as Wire>⟧.its.grows → ⊥ }
+    ensures number_other_than_zero { ⟦<NonZeroU16 as Wire>⟧.its.grows → ⊥ }
+    ensures truth { ⟦<bool as Wire>⟧.its.grows → ⊥ }
+    ensures character { ⟦<char as Wire>⟧.its.grows → ⊥ }
+    ensures pair { ⟦<(u8, u32) as Wire>⟧.its.grows → ⊥ }
     // its slots fit
-    ensures array { ⟦<[u8; 4] as Wire>⟧.grows → ⊥ }
-    ensures option { ⟦<Option<u32> as Wire>⟧.grows → ⊥ }
-    ensures outcome { ⟦<Result<u8, u16> as Wire>⟧.grows → ⊥ }
-    ensures bound { ⟦<Bound<u8> as Wire>⟧.grows → ⊥ }
-    ensures range { ⟦<Range<u16> as Wire>⟧.grows → ⊥ }
-    ensures inclusive_range { ⟦<RangeInclusive<u16> as Wire>⟧.grows → ⊥ }
-    ensures wrapping { ⟦<Wrapping<u32> as Wire>⟧.grows → ⊥ }
-    ensures reverse { ⟦<Reverse<u32> as Wire>⟧.grows → ⊥ }
-    ensures nothing { ⟦<PhantomData<u8> as Wire>⟧.grows → ⊥ }
-    ensures span { ⟦<Duration as Wire>⟧.grows → ⊥ }
-    ensures cell { ⟦<Cell<u32> as Wire>⟧.grows → ⊥ }
-    ensures ref_cell { ⟦<RefCell<u32> as Wire>⟧.grows → ⊥ }
+    ensures array { ⟦<[u8; 4] as Wire>⟧.its.grows → ⊥ }
+    ensures option { ⟦<Option<u32> as Wire>⟧.its.grows → ⊥ }
+    ensures outcome { ⟦<Result<u8, u16> as Wire>⟧.its.grows → ⊥ }
+    ensures bound { ⟦<Bound<u8> as Wire>⟧.its.grows → ⊥ }
+    ensures range { ⟦<Range<u16> as Wire>⟧.its.grows → ⊥ }
+    ensures inclusive_range { ⟦<RangeInclusive<u16> as Wire>⟧.its.grows → ⊥ }
+    ensures wrapping { ⟦<Wrapping<u32> as Wire>⟧.its.grows → ⊥ }
+    ensures reverse { ⟦<Reverse<u32> as Wire>⟧.its.grows → ⊥ }
+    ensures nothing { ⟦<PhantomData<u8> as Wire>⟧.its.grows → ⊥ }
+    ensures span { ⟦<Duration as Wire>⟧.its.grows → ⊥ }
+    ensures cell { ⟦<Cell<u32> as Wire>⟧.its.grows → ⊥ }
+    ensures ref_cell { ⟦<RefCell<u32> as Wire>⟧.its.grows → ⊥ }
 {}
 
 /// Writes a value of a type whose every valid value can be written. After a failure a front of an allowed word stands
@@ -141,7 +141,7 @@ pub fn write<T: Encode + Writable, C: Config>(
     slice: &mut [u8],
     config: C,
 ) -> Result<usize, EncodeError>
-    ensures { IfErr result (FrontWritten (AllowedWord (T.means value.now) (T.format C.setting)) slice.old slice.new) }
+    ensures { IfErr result (FrontWritten (AllowedWord (T.its.means value.now) (T.its.format C.setting)) slice.old slice.new) }
 {
     value.tell_valid();
     encode_into_slice(value, slice, config)
@@ -153,8 +153,8 @@ pub fn write_cell<C: Config>(
     slice: &mut [u8],
     config: C,
 ) -> Result<usize, EncodeError>
-    ensures { IfErr result (FrontWritten (AllowedWord (⟦<Cell<u8> as Wire>⟧.means value.now)
-        (⟦<Cell<u8> as Wire>⟧.format C.setting)) slice.old slice.new) }
+    ensures { IfErr result (FrontWritten (AllowedWord (⟦<Cell<u8> as Wire>⟧.its.means value.now)
+        (⟦<Cell<u8> as Wire>⟧.its.format C.setting)) slice.old slice.new) }
 {
     write(value, slice, config)
 }
