@@ -1,5 +1,5 @@
 -- Why a value is not put into a writer, by the writer's room.
-use Rattle.std.specs.Prelude.{◌≡◌, ◌⊎◌, ◌≤◌, ◌<◌, ◌^◌, ◌-◌, ◌++◌, ℕ, List, Option, Result, Ok, Err}
+use Rattle.std.specs.Prelude.{◌⊎◌, ◌≤◌, ◌++◌, ℕ, List, Option, Result, Ok, Err}
 use Rattle.std.proofs.Common.{inl, inr, arith}
 use Rattle.std.specs.Borrow.{GName}
 use Rattle.bincode_base.specs.declared.error.EncodeError.{EncodeError}
