@@ -65,9 +65,9 @@ pub fn encode_deque<V: WriteValues, E: Encoder>(
     encode_run::<V, E>(second, encoder)
 }
 
-/// Writes the length of a heap, and then its items one by one, as the original does, in the order in which it holds them,
-/// though any order would be a word of it. Fails where the writer refuses a piece of the length or an item fails; what was
-/// written before begins a word of the heap.
+/// Writes the length of a heap, and then its items one by one, as the original does, in the order in which it holds
+/// them, though any order would be a word of it. Fails where the writer refuses a piece of the length or an item fails;
+/// what was written before begins a word of the heap.
 #[inline]
 pub fn encode_bag<V: WriteValues, E: Encoder>(
     heap: &BinaryHeap<V::Value>,

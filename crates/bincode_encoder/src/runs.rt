@@ -60,8 +60,8 @@ pub fn encode_run<V: WriteValues, E: Encoder>(
     encode_each::<V, E>(items, encoder)
 }
 
-/// The same one by one, also where the items are the bytes of their words: so where the writer has too little room, those
-/// that it has room for are written.
+/// The same one by one, also where the items are the bytes of their words: so a writer with too little room holds those
+/// that it has room for.
 #[inline]
 pub(crate) fn encode_each<V: WriteValues, E: Encoder>(
     items: &[V::Value],

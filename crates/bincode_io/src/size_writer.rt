@@ -1,5 +1,6 @@
 //! A writer that counts.
-ghost use Rattle.std.specs.Prelude.{◌≡◌, ◌+◌, ◌-◌, ◌^◌, ◌<◌, ◌≤◌, ◌++◌, Some, [], length};
+ghost use Rattle.std.specs.Prelude.{◌≡◌, ◌+◌, ◌-◌, ◌^◌, ◌<◌, ◌≤◌, ◌++◌};
+ghost use Rattle.std.specs.Prelude.{Some, [], length};
 ghost use Rattle.std.proofs.Common.{arith, inl, le_refl, zero-le, ap, ◌∙◌, add-zero, length-append};
 ghost use Rattle.bincode_base.specs.declared.error.EncodeError.TheVariants.{UnexpectedEnd};
 

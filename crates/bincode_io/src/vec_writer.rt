@@ -20,8 +20,8 @@ pub struct VecWriter {
 impl VecWriter {
     ghost use Rattle.bincode_io.specs.Vectors.{held_by, capacity_of};
 
-    /// A writer with room for so many bytes and no more, of which none is written. Fails with `Memory` where the room is
-    /// refused.
+    /// A writer with room for so many bytes and no more, of which none is written. Fails with `Memory` where the room
+    /// is refused.
     pub fn with_capacity(alloc: Global, capacity: usize) -> Result<VecWriter, EncodeError>
         ensures start { IfOk result (λ w. held_by w ≡ []) }
         ensures room { IfOk result (λ w. capacity_of w ≡ capacity) }

@@ -1,5 +1,6 @@
 //! Callers that rest on the contracts of the two calls alone.
-ghost use Rattle.std.specs.Prelude.{◌≡◌, ◌*◌, ◌≤◌, ℕ, true, IfErr, IfOk, MatchResult, Some, false, length, take, vec_capacity};
+ghost use Rattle.std.specs.Prelude.{◌≡◌, ◌*◌, ◌≤◌, ℕ, true, IfErr, IfOk};
+ghost use Rattle.std.specs.Prelude.{MatchResult, Some, false, length, take, vec_capacity};
 ghost use Rattle.bincode_base.specs.declared.error.DecodeError.TheVariants.{Memory};
 ghost use Rattle.bincode_format.specs.Allowed.{AllowedWord};
 ghost use Rattle.bincode_format.specs.Answer.{Allows};

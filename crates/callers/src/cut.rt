@@ -1,5 +1,6 @@
 //! A reader and a writer of a user's own, over a line that is cut after so many calls.
-ghost use Rattle.std.specs.Prelude.{◌≡◌, ◌+◌, ◌-◌, ◌^◌, ◌<◌, ◌≤◌, ◌⊎◌, ◌++◌, [], length};
+ghost use Rattle.std.specs.Prelude.{◌≡◌, ◌+◌, ◌-◌, ◌^◌, ◌<◌, ◌≤◌};
+ghost use Rattle.std.specs.Prelude.{◌⊎◌, ◌++◌, [], length};
 ghost use Rattle.std.specs.Prelude.{⊤, Some};
 ghost use Rattle.std.proofs.Common.{zero-le, le_refl, inl, inr, arith, length-append, refl, ap, ◌∙◌};
 ghost use Rattle.bincode_format.specs.Device.{Rose};

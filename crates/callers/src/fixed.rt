@@ -1,6 +1,7 @@
 //! A writer of a user's own, into a vector of a fixed capacity.
 ghost use Rattle.std.specs.Prelude.{◌≡◌, ◌+◌, ◌-◌, ◌<◌, ◌≤◌, ◌++◌, Some, [], length};
-ghost use Rattle.std.proofs.Common.{◌∙◌, ap, sym, inl, le_refl, zero-le, append_assoc, arith, refl, length-append};
+ghost use Rattle.std.proofs.Common.{◌∙◌, ap, sym, inl};
+ghost use Rattle.std.proofs.Common.{le_refl, zero-le, append_assoc, arith, refl, length-append};
 ghost use Rattle.std.proofs.lemmas.List.{append-nil};
 ghost use Rattle.bincode_base.specs.declared.error.EncodeError.TheVariants.{UnexpectedEnd};
 ghost use Rattle.bincode_io.specs.RoomLaws.{first-empty, second-empty};

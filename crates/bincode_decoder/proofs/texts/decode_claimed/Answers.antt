@@ -2,7 +2,6 @@ use Rattle.std.specs.Prelude.{◌≡◌, length}
 use Rattle.std.proofs.Common.{◌∙◌, sym, ap}
 use Rattle.std.proofs.lemmas.List.{with_items_is}
 use Rattle.std.proofs.lemmas.Result.{err_from_is_err_and}
-use Rattle.bincode_format.specs.Decoding.{by_memory}
 use Rattle.bincode_laws.specs.DecodingLaws.{charged-passed}
 use Rattle.bincode_decoder.proofs.ReadAnswers.{claim-passed, charge-refused, charged-reads, made-of, read-as}
 use Rattle.bincode_decoder.proofs.PartAnswers.{reads-besides}
