@@ -1,4 +1,5 @@
-//! Tests of the library at its own types, readers and writers. Expected values come from the description of the format.
+//! Tests of the library at scalars and composites, and of its encoders, decoders, readers and writers. Expected values
+//! come from the description of the format.
 #![tactic(auto)]
 
 #[cfg(test)]
@@ -12,25 +13,15 @@ mod composites;
 #[cfg(test)]
 mod configurations;
 #[cfg(test)]
-mod containers;
-#[cfg(test)]
 mod contexts;
 #[cfg(test)]
 mod faults;
-#[cfg(test)]
-mod limits;
-#[cfg(test)]
-mod maps;
 #[cfg(test)]
 mod numbers;
 #[cfg(test)]
 mod readers;
 #[cfg(test)]
 mod runs;
-#[cfg(test)]
-mod tables;
-#[cfg(test)]
-mod texts;
 #[cfg(test)]
 mod varints;
 #[cfg(test)]

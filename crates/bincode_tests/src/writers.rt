@@ -5,7 +5,7 @@ use bincode::enc::write::{SizeWriter, SliceWriter, Writer};
 use bincode::error::EncodeError;
 use bincode::{config, encode_into_slice};
 use std::process::Abort;
-use test_helpers::checks::made;
+use test_helpers::checks::either;
 
 /// 1 is written, three more bytes are not, and then two are.
 fn writes_one_and_two<W: Writer>(rt: &impl Abort, mut writer: W) {
@@ -63,9 +63,15 @@ fn left_by<T: Encode>(value: Option<T>) -> Option<[u8; 2]> {
 #[test]
 fn leaves_a_front_of_a_list(rt: HostRuntime) {
     let alloc = rt.alloc();
-    let bytes = made(|| Vec::from_array(alloc, [1u8, 2, 3]));
+    let bytes = either(
+        Vec::from_array(alloc, [1u8, 2, 3]),
+        Vec::from_array(alloc, [1u8, 2, 3]),
+    );
     assert!(rt; left_by(bytes) == Some([3, 9]));
-    let numbers = made(|| Vec::from_array(alloc, [1i8, 2, 3]));
+    let numbers = either(
+        Vec::from_array(alloc, [1i8, 2, 3]),
+        Vec::from_array(alloc, [1i8, 2, 3]),
+    );
     assert!(rt; left_by(numbers) == Some([3, 1]));
     assert!(rt; left_by(Some([1u8, 2, 3])) == Some([9, 9]));
 }

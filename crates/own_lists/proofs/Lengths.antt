@@ -1,5 +1,5 @@
 -- The number that a list begins with, and the share that is released before an item.
-use Rattle.std.specs.Prelude.{◌≡◌, ℕ, pos, List, Option, Result, Ok, Err, refl}
+use Rattle.std.specs.Prelude.{◌≡◌, ℕ, pos, List, Option, Result, refl}
 use Rattle.std.specs.Borrow.{GName}
 use Rattle.std.proofs.Common.{◌∙◌, sym}
 use Rattle.std.proofs.lemmas.Result.{IfOk-weaker, IfErr-weaker}
@@ -26,17 +26,17 @@ module _ (limit : Option ℕ) where
 
   named-gave : (x : Answer ℕ) (v : ℕ) (rest : List ℕ) (d : ℕ) → named x ≡ Gave (number v) rest d → x ≡ Gave v rest d
   named-gave (Gave n r after) v rest d e = let k : Gave (number n) r after ≡ Gave (number v) rest d = sym (answer-done limit (number n) r after) ∙ e in cc
-  named-gave (Refused why) v rest d e = absurd (cc)
+  named-gave (Refused why c) v rest d e = absurd (cc)
   named-gave PassedLimit v rest d e = absurd (cc)
 
-  named-refused : (x : Answer ℕ) (why : Fault) → named x ≡ Refused why → x ≡ Refused why
-  named-refused (Gave n r after) why e = let k : Gave (number n) r after ≡ Refused why = sym (answer-done limit (number n) r after) ∙ e in absurd (cc)
-  named-refused (Refused w) why e = cc
-  named-refused PassedLimit why e = absurd (cc)
+  named-refused : (x : Answer ℕ) (why : Fault) (d : ℕ) → named x ≡ Refused why d → x ≡ Refused why d
+  named-refused (Gave n r after) why d e = let k : Gave (number n) r after ≡ Refused why d = sym (answer-done limit (number n) r after) ∙ e in absurd (cc)
+  named-refused (Refused w c) why d e = cc
+  named-refused PassedLimit why d e = absurd (cc)
 
   named-passed : (x : Answer ℕ) → named x ≡ PassedLimit → x ≡ PassedLimit
   named-passed (Gave n r after) e = let k : Gave (number n) r after ≡ PassedLimit = sym (answer-done limit (number n) r after) ∙ e in absurd (cc)
-  named-passed (Refused w) e = absurd (cc)
+  named-passed (Refused w c) e = absurd (cc)
   named-passed PassedLimit e = refl
 
   module _ (F : Format ℕ) (input : List ℕ) (c : ℕ) where
@@ -48,11 +48,11 @@ module _ (limit : Option ℕ) where
       is_given = refl;
     }
 
-    length-stops : (ended : ℕ → DecodeError → Type 0) (device : DeviceErrors) (H : Type 0) (before after : ℕ) (rest : List ℕ) (e : DecodeError) →
-        Stops ended device H (answer limit (map_format number F) input c) before after input rest e →
-        Stops ended device H (answer limit F input c) before after input rest e
+    length-stops : (ended : ℕ → DecodeError → Type 0) (device : DeviceErrors) (H : Type 0) (before after : ℕ) (rest : List ℕ) {now : ℕ} (e : DecodeError) →
+        Stops ended device H (answer limit (map_format number F) input c) before after input rest now e →
+        Stops ended device H (answer limit F input c) before after input rest now e
     length-stops ended device H before after rest e (by_fault why h t k) =
-        by_fault why (named-refused (answer limit F input c) why (sym (answer-then limit F (λ n. done (number n)) input c) ∙ h)) t k
+        by_fault why (named-refused (answer limit F input c) why _ (sym (answer-then limit F (λ n. done (number n)) input c) ∙ h)) t k
     length-stops ended device H before after rest e (by_limit h t k) =
         by_limit (named-passed (answer limit F input c) (sym (answer-then limit F (λ n. done (number n)) input c) ∙ h)) t k
     length-stops ended device H before after rest e (by_memory h t k) = by_memory h t k
@@ -69,6 +69,7 @@ module _ {D : Type 0} {told : D → Type 0} {rest : D → List ℕ} {charge fail
       read-as
       (λ known. IfOk-weaker r _ _ (λ v d. length-decodes limit F _ _ v _ _ d) (read.ok known))
       (λ known. IfErr-weaker r _ _ (λ e s. length-stops limit F _ _ ended device G _ _ _ e s) (read.err known))
+      read.within
       read
 
   -- an item is read behind the release of its share
@@ -83,5 +84,6 @@ module _ {D : Type 0} {told : D → Type 0} {rest : D → List ℕ} {charge fail
     counted = rw before.kept.same_failures at read.counted;
     tells = λ known. read.tells (before.kept.tells known);
     held = rw (before.released, same) at read.held;
+    within = rw (before.released, same) at read.within;
     same_place = read.same_place ∙ before.kept.same_place;
   }

@@ -1,9 +1,11 @@
-//! Tests of the library at users' own types, lists, readers and writers. Expected values come from the description of
-//! the format.
+//! Tests of the library at types that own memory, and at users' own types, lists, readers and writers. Expected values
+//! come from the description of the format.
 #![tactic(auto)]
 
 #[cfg(test)]
 mod collected;
+#[cfg(test)]
+mod containers;
 #[cfg(test)]
 mod counted;
 #[cfg(test)]
@@ -11,8 +13,14 @@ mod limits;
 #[cfg(test)]
 mod looped;
 #[cfg(test)]
+mod maps;
+#[cfg(test)]
 mod own;
 #[cfg(test)]
 mod readers;
+#[cfg(test)]
+mod tables;
+#[cfg(test)]
+mod texts;
 #[cfg(test)]
 mod writers;

@@ -32,17 +32,32 @@ fn is_no_list<T: Encode + Decode<()>>(alloc: Global) -> Option<&'static str> {
     let rows = [
         ("word", each_call_keeps::<T>(alloc, &WORD)),
         ("front", ends_at_each_place::<(), T>(alloc, &WORD, ())),
-        ("limit", matches!(decoded_within::<T, 20>(alloc, &WORD), Ok((_, 6)))),
+        (
+            "limit",
+            matches!(decoded_within::<T, 20>(alloc, &WORD), Ok((_, 6))),
+        ),
         (
             "lower limit",
-            matches!(within::<T, 19>(alloc, &WORD), Err(DecodeError::LimitExceeded)),
+            matches!(
+                within::<T, 19>(alloc, &WORD),
+                Err(DecodeError::LimitExceeded)
+            ),
         ),
         (
             "room",
-            matches!(within::<T, 20>(alloc, &HUGE), Err(DecodeError::LimitExceeded)),
+            matches!(
+                within::<T, 20>(alloc, &HUGE),
+                Err(DecodeError::LimitExceeded)
+            ),
         ),
-        ("item", is_of_type(second, IntegerType::U32, IntegerType::Reserved)),
-        ("length", is_of_type(length, IntegerType::U64, IntegerType::U128)),
+        (
+            "item",
+            is_of_type(second, IntegerType::U32, IntegerType::Reserved),
+        ),
+        (
+            "length",
+            is_of_type(length, IntegerType::U64, IntegerType::U128),
+        ),
         ("charge of a fault", leaves::<T>(alloc, &[3, 1, 255], 80)),
     ];
     first_wrong(&rows)

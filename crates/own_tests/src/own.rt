@@ -18,7 +18,7 @@ use own_types::never::Never;
 use own_types::request::Request;
 use std::alloc::Global;
 use test_helpers::checks::{
-    decoded, each_call_keeps, ends_at_each_place, fault_of, goes_on, made, within,
+    decoded, decoded_within, each_call_keeps, ends_at_each_place, fault_of, goes_on, within,
 };
 use test_helpers::rows::{first_unequal, first_wrong};
 
@@ -70,7 +70,7 @@ fn keeps_types_that_hold_others(rt: HostRuntime) {
 
 #[test]
 fn reads_types_that_hold_others(rt: HostRuntime) {
-    let Some((album, 25)) = made(|| within::<Album, 1000>(rt.alloc(), &ALBUM)) else {
+    let Ok((album, 25)) = decoded_within::<Album, 1000>(rt.alloc(), &ALBUM) else {
         assert!(rt; false);
         return;
     };
@@ -130,8 +130,8 @@ fn reads_events(rt: HostRuntime) {
 fn claims_for_events_in_lists(rt: HostRuntime) {
     let refused = within::<Vec<Event>, 35>(rt.alloc(), &[1, 0]);
     assert!(rt; matches!(refused, Err(DecodeError::LimitExceeded)));
-    let read = made(|| within::<Vec<Event>, 36>(rt.alloc(), &[1, 0]));
-    let Some((events, 2)) = read else {
+    let read = decoded_within::<Vec<Event>, 36>(rt.alloc(), &[1, 0]);
+    let Ok((events, 2)) = read else {
         assert!(rt; false);
         return;
     };

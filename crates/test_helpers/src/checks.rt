@@ -96,13 +96,11 @@ pub fn fault_of<T: Decode<()>>(alloc: Global, input: &[u8]) -> Option<DecodeErro
     outcome.err()
 }
 
-/// What a call makes. Where memory is refused it is called once more.
-pub fn made<T, E: Drop, F: Fn() -> Result<T, E>>(make: F) -> Option<T>
-    requires { F.IsAlwaysCallable make }
-{
-    match make() {
+/// What one of two equal calls makes, so that either may be refused memory.
+pub fn either<T: Drop, E: Drop>(first: Result<T, E>, second: Result<T, E>) -> Option<T> {
+    match first {
         Ok(value) => Some(value),
-        Err(_) => make().ok(),
+        Err(_) => second.ok(),
     }
 }
 
@@ -180,13 +178,19 @@ pub fn each_call_keeps<T: Encode + Decode<()>>(alloc: Global, word: &[u8]) -> bo
         return false;
     };
     front.copy_from_slice(word);
-    let read: Option<(T, usize)> = made(|| decode_from_slice(alloc, &input, config::standard()));
-    let with_context: Option<(T, usize)> = made(|| {
-        decode_from_slice_with_context(alloc, &input, config::standard(), ())
-    });
-    let in_turn: Option<(T, usize)> = made(|| read_in_turn(alloc, &input));
-    is_read_of(alloc, read, word)
-        && is_read_of(alloc, with_context, word)
+    let read: Result<(T, usize), DecodeError> = decoded(alloc, &input, config::standard());
+    let with_context: Result<(T, usize), DecodeError> = decoded_with(
+        alloc,
+        &input,
+        config::standard(),
+        (),
+    );
+    let in_turn: Option<(T, usize)> = either(
+        read_in_turn(alloc, &input),
+        read_in_turn(alloc, &input),
+    );
+    is_read_of(alloc, read.ok(), word)
+        && is_read_of(alloc, with_context.ok(), word)
         && is_read_of(alloc, in_turn, word)
 }
 

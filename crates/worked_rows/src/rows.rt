@@ -25,7 +25,7 @@ pub fn table() -> &'static [Row] {
     &TABLE
 }
 
-static TABLE: [Row; 73] = [
+static TABLE: [Row; 58] = [
     Row {
         label: "1",
         case: Case::Keep(Kept::Five(Encoding {
@@ -554,6 +554,14 @@ static TABLE: [Row; 73] = [
             answer: Answer::Fault(Fault::UnexpectedVariant { found: 3, max: 2 }),
         })),
     },
+];
+
+/// Cases that the program leaves out: signed numbers of one byte, and words of each kind with other bytes behind them.
+pub fn more_cases() -> &'static [Row] {
+    &MORE
+}
+
+static MORE: [Row; 15] = [
     Row {
         label: "i16 of 1",
         case: Case::Decode(Input::I16(Decoding {

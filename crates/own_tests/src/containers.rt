@@ -7,7 +7,7 @@ use std::boxed::BoxedSlice;
 use std::collections::{BinaryHeap, VecDeque};
 use std::rc::{Rc, RcSlice};
 use std::sync::Arc;
-use test_helpers::checks::{comes_back, decoded, is_written_as, keeps_value, made, written};
+use test_helpers::checks::{comes_back, decoded, either, is_written_as, keeps_value, written};
 use test_helpers::rows::first_wrong;
 
 /// The numbers from 0, of which those from 251 on take three bytes or five.
@@ -30,21 +30,24 @@ fn bytes(alloc: Global, count: u32) -> Result<Vec<u8>, AllocError> {
     Ok(list)
 }
 
-/// A list in one piece, of which there is one owner.
-fn boxed(alloc: Global, count: u32) -> Result<BoxedSlice<u32>, AllocError> {
-    BoxedSlice::from_slice(alloc, numbers(alloc, count)?.as_slice())
+/// The numbers of a list.
+fn list_of(alloc: Global, count: u32) -> Option<Vec<u32>> {
+    either(numbers(alloc, count), numbers(alloc, count))
 }
 
-/// A list in one piece, of which there are more.
-fn shared(alloc: Global, count: u32) -> Result<RcSlice<u32>, AllocError> {
-    RcSlice::from_slice(alloc, numbers(alloc, count)?.as_slice())
+/// The same in one piece, of which there may be more owners.
+fn shared(alloc: Global, count: u32) -> Option<RcSlice<u32>> {
+    let list = list_of(alloc, count)?;
+    either(
+        RcSlice::from_slice(alloc, list.as_slice()),
+        RcSlice::from_slice(alloc, list.as_slice()),
+    )
 }
 
 #[test]
 fn keeps_lists(rt: HostRuntime) {
-    let alloc = rt.alloc();
     for count in [3, 100_000] {
-        assert!(rt; keeps_value(alloc, made(|| numbers(alloc, count))));
+        assert!(rt; keeps_value(rt.alloc(), list_of(rt.alloc(), count)));
     }
 }
 
@@ -52,32 +55,31 @@ fn keeps_lists(rt: HostRuntime) {
 fn keeps_lists_of_bytes(rt: HostRuntime) {
     let alloc = rt.alloc();
     for count in [3, 100_000] {
-        assert!(rt; keeps_value(alloc, made(|| bytes(alloc, count))));
+        let list = either(bytes(alloc, count), bytes(alloc, count));
+        assert!(rt; keeps_value(alloc, list));
     }
 }
 
 #[test]
 fn keeps_queues(rt: HostRuntime) {
-    let alloc = rt.alloc();
     for count in [3, 100_000] {
-        let queue = made(|| numbers(alloc, count)).map(VecDeque::from);
-        assert!(rt; keeps_value(alloc, queue));
+        let queue = list_of(rt.alloc(), count).map(VecDeque::from);
+        assert!(rt; keeps_value(rt.alloc(), queue));
     }
 }
 
 #[test]
 fn keeps_boxed_slices(rt: HostRuntime) {
-    let alloc = rt.alloc();
     for count in [3, 10_000] {
-        assert!(rt; keeps_value(alloc, made(|| boxed(alloc, count))));
+        let boxed = list_of(rt.alloc(), count).map(BoxedSlice::from);
+        assert!(rt; keeps_value(rt.alloc(), boxed));
     }
 }
 
 #[test]
 fn keeps_shared_slices(rt: HostRuntime) {
-    let alloc = rt.alloc();
     for count in [3, 10_000] {
-        assert!(rt; keeps_value(alloc, made(|| shared(alloc, count))));
+        assert!(rt; keeps_value(rt.alloc(), shared(rt.alloc(), count)));
     }
 }
 
@@ -91,9 +93,27 @@ fn keeps_borrowed_slices(rt: HostRuntime) {
 fn keeps_pointers(rt: HostRuntime) {
     let alloc = rt.alloc();
     let rows = [
-        ("Box", keeps_value(alloc, made(|| Box::new(alloc, 300u32)))),
-        ("Rc", keeps_value(alloc, made(|| Rc::new(alloc, 300u32)))),
-        ("Arc", keeps_value(alloc, made(|| Arc::new(alloc, 300u32)))),
+        (
+            "Box",
+            keeps_value(
+                alloc,
+                either(Box::new(alloc, 300u32), Box::new(alloc, 300u32)),
+            ),
+        ),
+        (
+            "Rc",
+            keeps_value(
+                alloc,
+                either(Rc::new(alloc, 300u32), Rc::new(alloc, 300u32)),
+            ),
+        ),
+        (
+            "Arc",
+            keeps_value(
+                alloc,
+                either(Arc::new(alloc, 300u32), Arc::new(alloc, 300u32)),
+            ),
+        ),
         ("Cow", keeps_value(alloc, Some(Cow::Borrowed(&300u32)))),
     ];
     assert_eq!(rt; first_wrong(&rows), None);
@@ -121,8 +141,8 @@ fn wrapped(alloc: Global) -> Result<VecDeque<u8>, AllocError> {
 #[test]
 fn writes_queues_in_their_order(rt: HostRuntime) {
     let alloc = rt.alloc();
-    assert!(rt; is_written_as(alloc, made(|| pushed(alloc)), &[2, 5, 15]));
-    let queue = made(|| wrapped(alloc));
+    assert!(rt; is_written_as(alloc, either(pushed(alloc), pushed(alloc)), &[2, 5, 15]));
+    let queue = either(wrapped(alloc), wrapped(alloc));
     assert!(rt; matches!(&queue, Some(queue) if queue.as_slices().1 == [3].as_slice()));
     assert!(rt; is_written_as(alloc, queue, &[3, 1, 2, 3]));
 }
@@ -132,7 +152,7 @@ fn writes_queues_in_their_order(rt: HostRuntime) {
 fn keeps_the_bag_of_a_heap(rt: HostRuntime) {
     let alloc = rt.alloc();
     for count in [5, 10_000] {
-        let Some(heap) = made(|| numbers(alloc, count)).map(BinaryHeap::from) else {
+        let Some(heap) = list_of(alloc, count).map(BinaryHeap::from) else {
             assert!(rt; false);
             return;
         };
@@ -140,16 +160,18 @@ fn keeps_the_bag_of_a_heap(rt: HostRuntime) {
             assert!(rt; false);
             return;
         };
-        let wanted = made(|| numbers(alloc, count));
-        assert!(rt; Some(read.into_sorted_vec()) == wanted);
+        assert!(rt; Some(read.into_sorted_vec()) == list_of(alloc, count));
     }
 }
 
 #[test]
 fn writes_a_heap_behind_its_length(rt: HostRuntime) {
     let alloc = rt.alloc();
-    let heap = made(|| BinaryHeap::from_array(alloc, [3u32, 1, 5, 2, 4]));
-    let word = heap.and_then(|heap| written(alloc, &heap));
+    let Some(heap) = list_of(alloc, 5).map(BinaryHeap::from) else {
+        assert!(rt; false);
+        return;
+    };
+    let word = written(alloc, &heap);
     assert!(rt; matches!(&word, Some(word) if word.len() == 6 && word.first() == Some(&5)));
 }
 

@@ -8,7 +8,7 @@ use std::alloc::{AllocError, Global};
 use std::borrow::CowStr;
 use std::boxed::BoxedStr;
 use std::rc::RcStr;
-use test_helpers::checks::{is_written_as, keeps_value, made};
+use test_helpers::checks::{either, is_written_as, keeps_value};
 use test_helpers::rows::first_wrong;
 
 /// A text of one character, which has four bytes.
@@ -23,14 +23,18 @@ fn text_of(alloc: Global, count: usize) -> Result<String, AllocError> {
     Ok(text)
 }
 
-/// The same with one owner.
-fn boxed(alloc: Global, count: usize) -> Result<BoxedStr, AllocError> {
-    BoxedStr::from_str(alloc, text_of(alloc, count)?.as_str())
+/// The text.
+fn text(alloc: Global, count: usize) -> Option<String> {
+    either(text_of(alloc, count), text_of(alloc, count))
 }
 
-/// The same with more.
-fn shared(alloc: Global, count: usize) -> Result<RcStr, AllocError> {
-    RcStr::from_str(alloc, text_of(alloc, count)?.as_str())
+/// The same, of which there may be more owners.
+fn shared(alloc: Global, count: usize) -> Option<RcStr> {
+    let text = text(alloc, count)?;
+    either(
+        RcStr::from_str(alloc, text.as_str()),
+        RcStr::from_str(alloc, text.as_str()),
+    )
 }
 
 #[test]
@@ -42,7 +46,7 @@ fn writes_a_text(rt: HostRuntime) {
 fn keeps_texts(rt: HostRuntime) {
     let alloc = rt.alloc();
     for count in [4, 100_000] {
-        assert!(rt; keeps_value(alloc, made(|| text_of(alloc, count))));
+        assert!(rt; keeps_value(alloc, text(alloc, count)));
     }
 }
 
@@ -50,7 +54,7 @@ fn keeps_texts(rt: HostRuntime) {
 fn keeps_boxed_texts(rt: HostRuntime) {
     let alloc = rt.alloc();
     for count in [4, 100_000] {
-        assert!(rt; keeps_value(alloc, made(|| boxed(alloc, count))));
+        assert!(rt; keeps_value(alloc, text(alloc, count).map(BoxedStr::from)));
     }
 }
 
@@ -58,7 +62,7 @@ fn keeps_boxed_texts(rt: HostRuntime) {
 fn keeps_shared_texts(rt: HostRuntime) {
     let alloc = rt.alloc();
     for count in [4, 100_000] {
-        assert!(rt; keeps_value(alloc, made(|| shared(alloc, count))));
+        assert!(rt; keeps_value(alloc, shared(alloc, count)));
     }
 }
 

@@ -1,7 +1,7 @@
 //! What is told of a table of worked rows, one of which doesn't hold.
 
 use worked_rows::case::{Case, Encoding, Setting, Value};
-use worked_rows::rows::{Row, run};
+use worked_rows::rows::{Row, more_cases, run};
 
 /// A row that holds, and one that does not.
 const TWO: [Row; 2] = [
@@ -37,4 +37,16 @@ fn tells_a_wrong_word(rt: HostRuntime) {
         assert!(rt; failed == wanted);
     }
     assert!(rt; bytes.as_slice() == TEXT.as_bytes());
+}
+
+/// The cases that the program leaves out hold. Where memory is refused they are run once more.
+#[test]
+fn holds_more_cases(rt: HostRuntime) {
+    let mut bytes = [0u8; 400];
+    let first = run(rt.alloc(), more_cases(), &mut &mut bytes[..]).ok();
+    let failed = match first {
+        Some(failed) => Some(failed),
+        None => run(rt.alloc(), more_cases(), &mut &mut bytes[..]).ok(),
+    };
+    assert!(rt; failed == Some(0));
 }
