@@ -32,7 +32,7 @@ pub use bincode_wire::parted::{Parted, SameParts};
 pub use bincode_wire::passed::{Passed, Tested};
 pub use bincode_wire::sums::{NoOther, OneOf, Or};
 pub use bincode_wire::wire::Wire;
-pub use bincode_wire::written::{MadeOf, WrittenAs};
+pub use bincode_wire::written::MadeOf;
 pub use reader::decode_from_reader;
 pub use slice::{decode_from_slice, decode_from_slice_with_context, encode_into_slice};
 pub use vec::encode_to_vec;

@@ -20,17 +20,17 @@ pub fn decode_from_reader<D: Decode<()>, R: Reader, C: Config>(
     config: C,
 ) -> Result<D, DecodeError>
     // What is taken is a word within the limit, and the value is given for its meaning.
-    ensures word { R.told reader.old → IfOk result (λ v. WordRead (D.format C.setting) C.bound (R.rest reader.old)
-        (R.rest reader.new) (λ m. D.given m v)) }
+    ensures word { R.told reader.old → IfOk result (λ v. WordRead (D.its.format C.setting) C.bound (R.rest reader.old)
+        (R.rest reader.new) (λ m. D.its.given m v)) }
     // Each word within the limit is read,
-    ensures found { R.told reader.old → Finds (D.format C.setting) C.bound
-        (IsExcused R.device D.grows (R.failures reader.old) (R.failures reader.new)) (R.rest reader.old) result }
+    ensures found { R.told reader.old → Finds (D.its.format C.setting) C.bound
+        (IsExcused R.device D.its.grows (R.failures reader.old) (R.failures reader.new)) (R.rest reader.old) result }
     // each fault within the limit is told,
-    ensures fault { R.told reader.old → TellsEach R.ended (D.format C.setting) C.bound
-        (IsExcused R.device D.grows (R.failures reader.old) (R.failures reader.new)) (R.rest reader.old) result }
+    ensures fault { R.told reader.old → TellsEach R.ended (D.its.format C.setting) C.bound
+        (IsExcused R.device D.its.grows (R.failures reader.old) (R.failures reader.new)) (R.rest reader.old) result }
     // and charges that pass the limit are refused.
-    ensures limit { R.told reader.old → KeepsWithin (D.format C.setting) C.bound
-        (IsExcused R.device D.grows (R.failures reader.old) (R.failures reader.new)) (R.rest reader.old) result }
+    ensures limit { R.told reader.old → KeepsWithin (D.its.format C.setting) C.bound
+        (IsExcused R.device D.its.grows (R.failures reader.old) (R.failures reader.new)) (R.rest reader.old) result }
     // A failure leaves a rest of the input, unless the device lost it.
     ensures left { R.told reader.old → IfErr result (λ e. R.device.uncounted e
         ⊎ Takes (R.rest reader.old) (R.rest reader.new)) }
@@ -49,10 +49,10 @@ pub(crate) fn decode_with<Context: Drop, D: Decode<Context>, R: Reader, C: Confi
     context: &mut Context,
 ) -> Result<D, DecodeError>
     ensures ok { R.told reader.old → IfOk result (λ v. (charge : ℕ)
-        × Decodes (λ m. D.given m v) (answer C.bound (D.format C.setting) (R.rest reader.old) 0)
+        × Decodes (λ m. D.its.given m v) (answer C.bound (D.its.format C.setting) (R.rest reader.old) 0)
         (R.rest reader.new) charge) }
-    ensures err { R.told reader.old → IfErr result (λ e. (charge : ℕ) × Stops R.ended R.device D.grows
-        (answer C.bound (D.format C.setting) (R.rest reader.old) 0) (R.failures reader.old) (R.failures reader.new)
+    ensures err { R.told reader.old → IfErr result (λ e. (charge : ℕ) × Stops R.ended R.device D.its.grows
+        (answer C.bound (D.its.format C.setting) (R.rest reader.old) 0) (R.failures reader.old) (R.failures reader.new)
         (R.rest reader.old) (R.rest reader.new) charge e) }
     ensures count { R.failures reader.old ≤ R.failures reader.new }
     ensures told { R.told reader.old → R.told reader.new }

@@ -24,15 +24,15 @@ pub fn encode_into_slice<E: Encode, C: Config>(
     config: C,
 ) -> Result<usize, EncodeError>
     // A word that the value allows is written, of so many bytes, and the bytes after it stay.
-    ensures word { IfOk result (λ n. WordWritten (AllowedWord (E.means val) (E.format C.setting)) n dst.old dst.new) }
+    ensures word { IfOk result (λ n. WordWritten (AllowedWord (E.its.means val) (E.its.format C.setting)) n dst.old dst.new) }
     // No other errors come,
-    ensures fault { IfErr result (λ e. (e ≡ UnexpectedEnd) ⊎ E.names e) }
+    ensures fault { IfErr result (λ e. (e ≡ UnexpectedEnd) ⊎ E.its.names e) }
     // the first of them only for want of room,
-    ensures room { FitsExactly (Ready (E.writable C.setting val) (AllowedWord (E.means val) (E.format C.setting)))
-        E.names (length dst.old) result }
+    ensures room { FitsExactly (Ready (E.its.writable C.setting val) (AllowedWord (E.its.means val) (E.its.format C.setting)))
+        E.its.names (length dst.old) result }
     // and they leave a front of an allowed word.
-    ensures left { IfErr result (FrontWritten (Ready (E.writable C.setting val)
-        (AllowedWord (E.means val) (E.format C.setting))) dst.old dst.new) }
+    ensures left { IfErr result (FrontWritten (Ready (E.its.writable C.setting val)
+        (AllowedWord (E.its.means val) (E.its.format C.setting))) dst.old dst.new) }
 {
     let mut writer = SliceWriter::new(dst);
     encode_with(&val, &mut writer, &config)?;
@@ -48,13 +48,13 @@ pub fn decode_from_slice<D: Decode<()>, C: Config>(
     config: C,
 ) -> Result<(D, usize), DecodeError>
     // What is read is a word within the limit, of so many bytes, and the value is given for its meaning.
-    ensures word { IfOk result (λ x. Decoded (D.format C.setting) C.bound src.now (λ m. D.given m x.0) x.1) }
+    ensures word { IfOk result (λ x. Decoded (D.its.format C.setting) C.bound src.now (λ m. D.its.given m x.0) x.1) }
     // Each word within the limit is read,
-    ensures found { FindsWords (D.format C.setting) C.bound D.grows src.now result }
+    ensures found { FindsWords (D.its.format C.setting) C.bound D.its.grows src.now result }
     // each fault within the limit is told,
-    ensures fault { TellsFaults (D.format C.setting) C.bound D.grows src.now result }
+    ensures fault { TellsFaults (D.its.format C.setting) C.bound D.its.grows src.now result }
     // and charges that pass the limit are refused.
-    ensures limit { KeepsLimit (D.format C.setting) C.bound D.grows src.now result }
+    ensures limit { KeepsLimit (D.its.format C.setting) C.bound D.its.grows src.now result }
 {
     decode_from_slice_with_context(alloc, src, config, ())
 }
@@ -68,13 +68,13 @@ pub fn decode_from_slice_with_context<Context: Drop, D: Decode<Context>, C: Conf
     context: Context,
 ) -> Result<(D, usize), DecodeError>
     // What is read is a word within the limit, of so many bytes, and the value is given for its meaning.
-    ensures word { IfOk result (λ x. Decoded (D.format C.setting) C.bound src.now (λ m. D.given m x.0) x.1) }
+    ensures word { IfOk result (λ x. Decoded (D.its.format C.setting) C.bound src.now (λ m. D.its.given m x.0) x.1) }
     // Each word within the limit is read,
-    ensures found { FindsWords (D.format C.setting) C.bound D.grows src.now result }
+    ensures found { FindsWords (D.its.format C.setting) C.bound D.its.grows src.now result }
     // each fault within the limit is told,
-    ensures fault { TellsFaults (D.format C.setting) C.bound D.grows src.now result }
+    ensures fault { TellsFaults (D.its.format C.setting) C.bound D.its.grows src.now result }
     // and charges that pass the limit are refused.
-    ensures limit { KeepsLimit (D.format C.setting) C.bound D.grows src.now result }
+    ensures limit { KeepsLimit (D.its.format C.setting) C.bound D.its.grows src.now result }
 {
     let mut context = context;
     let mut reader = SliceReader::new(src);

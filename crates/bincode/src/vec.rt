@@ -19,16 +19,16 @@ pub fn encode_to_vec<E: Encode, C: Config>(
     config: C,
 ) -> Result<Vec<u8>, EncodeError>
     // The bytes are a word that the value allows.
-    ensures word { IfOk result (λ v. AllowedWord (E.means val) (E.format C.setting) v.items) }
+    ensures word { IfOk result (λ v. AllowedWord (E.its.means val) (E.its.format C.setting) v.items) }
     // No other errors come than these, unless there are too many bytes to count,
-    ensures fault { IfErr result (FailsVec (Ready (E.writable C.setting val)
-        (AllowedWord (E.means val) (E.format C.setting))) E.names) }
+    ensures fault { IfErr result (FailsVec (Ready (E.its.writable C.setting val)
+        (AllowedWord (E.its.means val) (E.its.format C.setting))) E.its.names) }
     // which words of one length are not.
-    ensures counted { FailsCounted (Ready (E.writable C.setting val) (AllowedWord (E.means val) (E.format C.setting)))
-        E.names result }
+    ensures counted { FailsCounted (Ready (E.its.writable C.setting val) (AllowedWord (E.its.means val) (E.its.format C.setting)))
+        E.its.names result }
     // A value without bytes takes no memory.
-    ensures empty { FailsEmpty (Ready (E.writable C.setting val) (AllowedWord (E.means val) (E.format C.setting)))
-        E.names result }
+    ensures empty { FailsEmpty (Ready (E.its.writable C.setting val) (AllowedWord (E.its.means val) (E.its.format C.setting)))
+        E.its.names result }
 {
     let mut counter = SizeWriter::default();
     encode_with(&val, &mut counter, &config)?;

@@ -17,8 +17,8 @@ pub trait Decode<Context: Drop>: Wire + Drop + Sized {
     /// error is one that the device does not count. Nothing that was charged before is given back; a fault leaves what
     /// was charged before it, and after a success the charge is within the limit, if it was before.
     fn decode<D: Decoder<Context = Context>>(decoder: &mut D) -> Result<Self, DecodeError>
-        ensures { Reads D.told D.rest D.charge D.failures D.place D.C.bound D.R.ended D.R.device Self.grows
-            (Self.format D.C.setting) Self.given (D.charge decoder.old) result decoder.old decoder.new };
+        ensures { Reads D.told D.rest D.charge D.failures D.place D.C.bound D.R.ended D.R.device Self.its.grows
+            (Self.its.format D.C.setting) Self.its.given (D.charge decoder.old) result decoder.old decoder.new };
 
     /// An array to read values over, whatever it holds, if the type has one at hand: numbers have zeros. With `None` an
     /// array is made of slots, which takes longer.
@@ -35,11 +35,11 @@ pub trait Decode<Context: Drop>: Wire + Drop + Sized {
         decoder: &mut D,
         values: &mut [Self],
     ) -> Option<Result<(), DecodeError>>
-        requires { CanRelease D.C.bound (D.charge decoder.old) (length values.old * Self.claim)
+        requires { CanRelease D.C.bound (D.charge decoder.old) (length values.old * Self.its.claim)
             × Allows D.C.bound (D.charge decoder.old) }
         ensures { MatchOption result (decoder.new ≡ decoder.old) (λ r. RunRead D.told D.rest D.charge D.failures
-            D.place D.C.bound D.R.ended D.R.device (Self.grows × (0 < length values.old)) Self.claim
-            (Self.format D.C.setting) Self.given (length values.old) (λ _. values.new) r decoder.old decoder.new) }
+            D.place D.C.bound D.R.ended D.R.device (Self.its.grows × (0 < length values.old)) Self.its.claim
+            (Self.its.format D.C.setting) Self.its.given (length values.old) (λ _. values.new) r decoder.old decoder.new) }
     {
         let _ = &*decoder;
         let _ = &*values;

@@ -14,8 +14,8 @@ pub trait FromParts: Parted {
     /// The value with these parts.
     fn from_parts(parts: Self::Parts) -> Self
         ensures parts { Self.parts result ≡ parts }
-        ensures promise { (m : Meaning) → Self.Parts.given m parts
-            → (Self.promised result (Self.Parts.given m parts)).Promised };
+        ensures promise { (m : Meaning) → Self.Parts.its.given m parts
+            → (Self.promised result (Self.Parts.its.given m parts)).Promised };
 }
 
 /// Reads values by their parts.

@@ -46,9 +46,9 @@ pub fn decode_run<Context: Drop, T: Decode<Context>, D: Decoder<Context = Contex
     decoder: &mut D,
     values: &mut [T],
 ) -> Result<(), DecodeError>
-    requires { CanRelease D.C.bound (D.charge decoder.old) (length values.old * T.claim) }
+    requires { CanRelease D.C.bound (D.charge decoder.old) (length values.old * T.its.claim) }
     ensures { RunRead D.told D.rest D.charge D.failures D.place D.C.bound D.R.ended D.R.device
-        (T.grows × (0 < length values.old)) T.claim (T.format D.C.setting) T.given (length values.old)
+        (T.its.grows × (0 < length values.old)) T.its.claim (T.its.format D.C.setting) T.its.given (length values.old)
         (λ _. values.new) result decoder.old decoder.new }
 {
     runs::decode_run::<Context, ByDecode<T>, D>(decoder, values)
@@ -61,11 +61,11 @@ pub fn decode_vec<Context: Drop, T: Decode<Context>, D: Decoder<Context = Contex
     decoder: &mut D,
     len: usize,
 ) -> Result<Vec<T>, DecodeError>
-    requires { CanRelease D.C.bound (D.charge decoder.old) (len * T.claim) }
+    requires { CanRelease D.C.bound (D.charge decoder.old) (len * T.its.claim) }
     ensures length { IfOk result (λ v. length v.items ≡ len) }
     ensures room { IfOk result (λ v. vec_capacity v ≡ len) }
-    ensures read { RunRead D.told D.rest D.charge D.failures D.place D.C.bound D.R.ended D.R.device (0 < len) T.claim
-        (T.format D.C.setting) T.given len (λ v. v.items) result decoder.old decoder.new }
+    ensures read { RunRead D.told D.rest D.charge D.failures D.place D.C.bound D.R.ended D.R.device (0 < len) T.its.claim
+        (T.its.format D.C.setting) T.its.given len (λ v. v.items) result decoder.old decoder.new }
 {
     runs::decode_vec::<Context, ByDecode<T>, D>(decoder, len)
 }
@@ -80,12 +80,12 @@ pub fn decode_array<
     D: Decoder<Context = Context>,
     const N: usize,
 >(decoder: &mut D) -> Result<[T; N], DecodeError>
-    requires { CanRelease D.C.bound (D.charge decoder.old) (N * T.claim) }
+    requires { CanRelease D.C.bound (D.charge decoder.old) (N * T.its.claim) }
     ensures read { RunRead D.told D.rest D.charge D.failures D.place D.C.bound D.R.ended D.R.device
-        (T.grows ⊎ ¬ (SlotsFit T.row N)) T.claim (T.format D.C.setting) T.given N
+        (T.its.grows ⊎ ¬ (SlotsFit T.row N)) T.its.claim (T.its.format D.C.setting) T.its.given N
         (λ v. v) result decoder.old decoder.new }
     ensures charge { D.told decoder.old → IfOk result (λ _. RoomReturned D.C.bound
-        (elements N T.claim (T.format D.C.setting)) (N * T.claim) (D.rest decoder.old) (D.rest decoder.new)
+        (elements N T.its.claim (T.its.format D.C.setting)) (N * T.its.claim) (D.rest decoder.old) (D.rest decoder.new)
         (D.charge decoder.old) (D.charge decoder.new)) }
 {
     arrays::decode_array::<Context, ByDecode<T>, D, N>(decoder)

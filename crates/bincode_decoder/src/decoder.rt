@@ -135,7 +135,7 @@ pub trait ClaimContainer: Decoder {
     /// that does not fit 64 bits is above each limit, and then the charge stays.
     fn claim_container_read<T: Wire>(&mut self, len: usize) -> Result<(), DecodeError>
         ensures { MakesClaim Self.told Self.rest Self.charge Self.failures Self.reader_of Self.context_of Self.place
-            Self.C.bound (len * T.claim) result self.old self.new };
+            Self.C.bound (len * T.its.claim) result self.old self.new };
 }
 
 impl<D: Decoder> ClaimContainer for D {

@@ -20,7 +20,7 @@ use bincode_wire::wire::Wire;
 /// limit, and where `Integer::read` does. A fault leaves what was charged before it.
 #[inline(always)]
 pub fn decode_integer<T: Integer + Wire, D: Decoder>(decoder: &mut D) -> Result<T, DecodeError>
-    requires { T.claim ≡ T.width }
+    requires { T.its.claim ≡ T.width }
     ensures { ReadsInteger D.told D.rest D.charge D.failures D.place D.C.bound D.R.ended D.R.device
         (T.spelling.words D.C.setting) T.spelling.integer T.width result decoder.old decoder.new }
 {

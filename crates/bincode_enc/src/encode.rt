@@ -15,14 +15,14 @@ use bincode_wire::wire::Wire;
 pub trait Encode: Wire + Drop {
     /// Says of the value in hand that it is valid.
     fn tell_valid(&self)
-        ensures { Self.valid self.now };
+        ensures { Self.its.valid self.now };
 
     /// Writes a word that the value allows. Fails where the writer refuses a piece, or by an error that the type names.
     /// Then what was written before begins an allowed word, if the inner type of each cell that the value holds has
     /// one, and unless the error is one of a user's type.
     fn encode<E: Encoder>(&self, encoder: &mut E) -> Result<(), EncodeError>
-        ensures { Encodes E.W.adds E.W.refuses E.writer_of E.place (Self.writable E.C.setting self.now)
-            (AllowedWord (Self.means self.now) (Self.format E.C.setting)) Self.names result encoder.old
+        ensures { Encodes E.W.adds E.W.refuses E.writer_of E.place (Self.its.writable E.C.setting self.now)
+            (AllowedWord (Self.its.means self.now) (Self.its.format E.C.setting)) Self.its.names result encoder.old
             encoder.new };
 
     /// The bytes of a run of values, if the type's values are the bytes of their words: `encode_run` writes them in one
@@ -30,8 +30,8 @@ pub trait Encode: Wire + Drop {
     fn as_bytes(_items: &[Self]) -> Option<&[u8]>
     where
         Self: Sized,
-        ensures { IfSome result (λ bytes. (s : Setting) → Ready (All (Self.writable s) _items.now)
-            (AllowedWord (IsListOf Self.means _items.now) (array (length _items.now) Self.claim (Self.format s)))
+        ensures { IfSome result (λ bytes. (s : Setting) → Ready (All (Self.its.writable s) _items.now)
+            (AllowedWord (IsListOf Self.its.means _items.now) (array (length _items.now) Self.its.claim (Self.its.format s)))
             bytes.now) }
     {
         None

@@ -13,14 +13,14 @@ use bincode_wire::parted::Parted;
 pub trait EncodeParts: Parted + Drop {
     /// Says of the value in hand that its parts are valid.
     fn tell_valid_parts(&self)
-        ensures { Self.Parts.valid (Self.parts self.now) };
+        ensures { Self.Parts.its.valid (Self.parts self.now) };
 
     /// Writes a word of the parts. It does, fails and leaves what `Encode::encode` does.
     fn encode_parts<E: Encoder>(&self, encoder: &mut E) -> Result<(), EncodeError>
         ensures { Encodes E.W.adds E.W.refuses E.writer_of E.place
-            (Self.Parts.writable E.C.setting (Self.parts self.now))
-            (AllowedWord (Self.Parts.means (Self.parts self.now)) (Self.Parts.format E.C.setting))
-            Self.Parts.names result encoder.old encoder.new };
+            (Self.Parts.its.writable E.C.setting (Self.parts self.now))
+            (AllowedWord (Self.Parts.its.means (Self.parts self.now)) (Self.Parts.its.format E.C.setting))
+            Self.Parts.its.names result encoder.old encoder.new };
 }
 
 impl<T: EncodeParts> Encode for T {

@@ -20,8 +20,8 @@ pub trait EncodeRow: Drop {
     /// Writes a word of the parts. It does, fails and leaves what `Encode::encode` does.
     fn encode_row<E: Encoder>(&self, encoder: &mut E) -> Result<(), EncodeError>
         ensures { Encodes E.W.adds E.W.refuses E.writer_of E.place
-            (Self.Parts.writable E.C.setting (Self.lent self.now))
-            (AllowedWord (Self.Parts.means (Self.lent self.now)) (Self.Parts.format E.C.setting)) Self.Parts.names
+            (Self.Parts.its.writable E.C.setting (Self.lent self.now))
+            (AllowedWord (Self.Parts.its.means (Self.lent self.now)) (Self.Parts.its.format E.C.setting)) Self.Parts.its.names
             result encoder.old encoder.new };
 }
 

@@ -39,9 +39,9 @@ impl<T: Encode> WriteValues for ByEncode<T> {
 /// where an item does, and then leaves what `Encode::encode` does: what was written before begins a word of the run.
 #[inline]
 pub fn encode_run<T: Encode, E: Encoder>(items: &[T], encoder: &mut E) -> Result<(), EncodeError>
-    ensures { Encodes E.W.adds E.W.refuses E.writer_of E.place (All (T.writable E.C.setting) items.now)
-        (AllowedWord (IsListOf T.means items.now) (array (length items.now) T.claim (T.format E.C.setting)))
-        T.names result encoder.old encoder.new }
+    ensures { Encodes E.W.adds E.W.refuses E.writer_of E.place (All (T.its.writable E.C.setting) items.now)
+        (AllowedWord (IsListOf T.its.means items.now) (array (length items.now) T.its.claim (T.its.format E.C.setting)))
+        T.its.names result encoder.old encoder.new }
 {
     runs::encode_run::<ByEncode<T>, E>(items, encoder)
 }

@@ -28,14 +28,14 @@ pub fn encode_variant<Parts: Choice, T: MadeOf<Parts>, A: Encode, E: Encoder>(
 where
     Parts::Tag: EncodeTag,
     requires fits { Parts.Tag.Fits tag }
-    requires picks { WrittenAlike (map_format (Choice tag) (A.format E.C.setting))
+    requires picks { WrittenAlike (map_format (Choice tag) (A.its.format E.C.setting))
         (behind_tag Parts.variants E.C.setting tag) }
-    requires names { (e : EncodeError) → A.names e → Parts.names e }
-    requires means { SameMeanings (IsChoice tag (A.means part.now)) (Parts.means (T.parts value.now)) }
-    requires writable { Parts.writable E.C.setting (T.parts value.now) → A.writable E.C.setting part.now }
-    ensures { Encodes E.W.adds E.W.refuses E.writer_of E.place (Parts.writable E.C.setting (T.parts value.now))
-        (AllowedWord (Parts.means (T.parts value.now)) (chosen Parts.Tag.tags Parts.variants E.C.setting))
-        Parts.names result encoder.old encoder.new }
+    requires names { (e : EncodeError) → A.its.names e → Parts.its.names e }
+    requires means { SameMeanings (IsChoice tag (A.its.means part.now)) (Parts.its.means (T.parts value.now)) }
+    requires writable { Parts.its.writable E.C.setting (T.parts value.now) → A.its.writable E.C.setting part.now }
+    ensures { Encodes E.W.adds E.W.refuses E.writer_of E.place (Parts.its.writable E.C.setting (T.parts value.now))
+        (AllowedWord (Parts.its.means (T.parts value.now)) (chosen Parts.Tag.tags Parts.variants E.C.setting))
+        Parts.its.names result encoder.old encoder.new }
 {
     variants::encode_variant::<Parts, T, ByEncode<A>, E>(value, tag, part, encoder)
 }

@@ -24,7 +24,7 @@ pub fn encode_length<E: Encoder>(encoder: &mut E, len: usize) -> Result<(), Enco
 
 /// Says of the items in hand that each is valid, and that their number is a length.
 pub fn tell_list_valid<V: WriteValues>(items: &[V::Value])
-    ensures { AreValid V.Value.valid items.now }
+    ensures { AreValid V.Value.its.valid items.now }
 {
     let _len = items.len();
     tell_each_valid::<V>(items);
@@ -37,10 +37,10 @@ pub fn encode_list<V: WriteValues, E: Encoder>(
     items: &[V::Value],
     encoder: &mut E,
 ) -> Result<(), EncodeError>
-    ensures { Encodes E.W.adds E.W.refuses E.writer_of E.place (All (V.Value.writable E.C.setting) items.now)
-        (AllowedWord (IsListOf V.Value.means items.now)
-        (list E.C.setting V.Value.claim (V.Value.format E.C.setting)))
-        V.Value.names result encoder.old encoder.new }
+    ensures { Encodes E.W.adds E.W.refuses E.writer_of E.place (All (V.Value.its.writable E.C.setting) items.now)
+        (AllowedWord (IsListOf V.Value.its.means items.now)
+        (list E.C.setting V.Value.its.claim (V.Value.its.format E.C.setting)))
+        V.Value.its.names result encoder.old encoder.new }
 {
     encode_length(encoder, items.len())?;
     encode_run::<V, E>(items, encoder)
@@ -53,10 +53,10 @@ pub fn encode_deque<V: WriteValues, E: Encoder>(
     queue: &VecDeque<V::Value>,
     encoder: &mut E,
 ) -> Result<(), EncodeError>
-    ensures { Encodes E.W.adds E.W.refuses E.writer_of E.place (All (V.Value.writable E.C.setting) queue.now.items)
-        (AllowedWord (IsListOf V.Value.means queue.now.items)
-        (list E.C.setting V.Value.claim (V.Value.format E.C.setting)))
-        V.Value.names result encoder.old encoder.new }
+    ensures { Encodes E.W.adds E.W.refuses E.writer_of E.place (All (V.Value.its.writable E.C.setting) queue.now.items)
+        (AllowedWord (IsListOf V.Value.its.means queue.now.items)
+        (list E.C.setting V.Value.its.claim (V.Value.its.format E.C.setting)))
+        V.Value.its.names result encoder.old encoder.new }
 {
     let len = queue.len();
     let (first, second) = queue.as_slices();
@@ -76,10 +76,10 @@ pub fn encode_bag<V: WriteValues, E: Encoder>(
 where
     V::Value: Ord,
     ensures { Encodes E.W.adds E.W.refuses E.writer_of E.place
-        (All (V.Value.writable E.C.setting) (heap_items heap.now))
-        (AllowedWord (IsMadeOf MakesBag V.Value.means (heap_items heap.now))
-        (list E.C.setting V.Value.claim (V.Value.format E.C.setting)))
-        V.Value.names result encoder.old encoder.new }
+        (All (V.Value.its.writable E.C.setting) (heap_items heap.now))
+        (AllowedWord (IsMadeOf MakesBag V.Value.its.means (heap_items heap.now))
+        (list E.C.setting V.Value.its.claim (V.Value.its.format E.C.setting)))
+        V.Value.its.names result encoder.old encoder.new }
 {
     let items = heap.as_slice();
     let count = items.len();

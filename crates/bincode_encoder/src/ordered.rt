@@ -20,7 +20,7 @@ use std::collections::{BTreeMap, BTreeSet};
 pub fn tell_set_valid<V: WriteValues>(set: &BTreeSet<V::Value>)
 where
     V::Value: Ord,
-    ensures valid { AreValid V.Value.valid set.now.keys }
+    ensures valid { AreValid V.Value.its.valid set.now.keys }
     ensures sorted { IsStrictlySortedBy V.Value.cmp set.now.keys }
 {
     for key in set.iter() {
@@ -32,7 +32,7 @@ where
 pub fn tell_map_valid<K: WriteValues, V: WriteValues>(map: &BTreeMap<K::Value, V::Value>)
 where
     K::Value: Ord,
-    ensures valid { AreValid ⟦<(K::Value, V::Value) as Wire>⟧.valid map.now.entries }
+    ensures valid { AreValid ⟦<(K::Value, V::Value) as Wire>⟧.its.valid map.now.entries }
     ensures sorted { IsStrictlySortedBy K.Value.cmp (keys_of map.now.entries) }
 {
     for (key, value) in map.iter() {
@@ -50,10 +50,10 @@ pub fn encode_set<V: WriteValues, E: Encoder>(
 ) -> Result<(), EncodeError>
 where
     V::Value: Ord,
-    ensures { Encodes E.W.adds E.W.refuses E.writer_of E.place (All (V.Value.writable E.C.setting) set.now.keys)
-        (AllowedWord (IsListOf V.Value.means set.now.keys)
-        (list E.C.setting V.Value.claim (V.Value.format E.C.setting)))
-        V.Value.names result encoder.old encoder.new }
+    ensures { Encodes E.W.adds E.W.refuses E.writer_of E.place (All (V.Value.its.writable E.C.setting) set.now.keys)
+        (AllowedWord (IsListOf V.Value.its.means set.now.keys)
+        (list E.C.setting V.Value.its.claim (V.Value.its.format E.C.setting)))
+        V.Value.its.names result encoder.old encoder.new }
 {
     encode_length(encoder, set.len())?;
     encode_keys::<V, E>(set, encoder)
@@ -67,10 +67,10 @@ fn encode_keys<V: WriteValues, E: Encoder>(
 ) -> Result<(), EncodeError>
 where
     V::Value: Ord,
-    ensures { Encodes E.W.adds E.W.refuses E.writer_of E.place (All (V.Value.writable E.C.setting) set.now.keys)
-        (AllowedWord (IsListOf V.Value.means set.now.keys)
-        (array (length set.now.keys) V.Value.claim (V.Value.format E.C.setting)))
-        V.Value.names result encoder.old encoder.new }
+    ensures { Encodes E.W.adds E.W.refuses E.writer_of E.place (All (V.Value.its.writable E.C.setting) set.now.keys)
+        (AllowedWord (IsListOf V.Value.its.means set.now.keys)
+        (array (length set.now.keys) V.Value.its.claim (V.Value.its.format E.C.setting)))
+        V.Value.its.names result encoder.old encoder.new }
 {
     for key in set.iter() {
         V::write_value(key, encoder)?;
@@ -89,11 +89,11 @@ pub fn encode_map<K: WriteValues, V: WriteValues, E: Encoder>(
 where
     K::Value: Ord,
     ensures { Encodes E.W.adds E.W.refuses E.writer_of E.place
-        (All (⟦<(K::Value, V::Value) as Wire>⟧.writable E.C.setting) map.now.entries)
-        (AllowedWord (IsListOf ⟦<(K::Value, V::Value) as Wire>⟧.means map.now.entries)
-        (list E.C.setting ⟦<(K::Value, V::Value) as Wire>⟧.claim
-        (⟦<(K::Value, V::Value) as Wire>⟧.format E.C.setting)))
-        ⟦<(K::Value, V::Value) as Wire>⟧.names result encoder.old encoder.new }
+        (All (⟦<(K::Value, V::Value) as Wire>⟧.its.writable E.C.setting) map.now.entries)
+        (AllowedWord (IsListOf ⟦<(K::Value, V::Value) as Wire>⟧.its.means map.now.entries)
+        (list E.C.setting ⟦<(K::Value, V::Value) as Wire>⟧.its.claim
+        (⟦<(K::Value, V::Value) as Wire>⟧.its.format E.C.setting)))
+        ⟦<(K::Value, V::Value) as Wire>⟧.its.names result encoder.old encoder.new }
 {
     encode_length(encoder, map.len())?;
     encode_entries::<K, V, E>(map, encoder)
@@ -108,11 +108,11 @@ fn encode_entries<K: WriteValues, V: WriteValues, E: Encoder>(
 where
     K::Value: Ord,
     ensures { Encodes E.W.adds E.W.refuses E.writer_of E.place
-        (All (⟦<(K::Value, V::Value) as Wire>⟧.writable E.C.setting) map.now.entries)
-        (AllowedWord (IsListOf ⟦<(K::Value, V::Value) as Wire>⟧.means map.now.entries)
-        (array (length map.now.entries) ⟦<(K::Value, V::Value) as Wire>⟧.claim
-        (⟦<(K::Value, V::Value) as Wire>⟧.format E.C.setting)))
-        ⟦<(K::Value, V::Value) as Wire>⟧.names result encoder.old encoder.new }
+        (All (⟦<(K::Value, V::Value) as Wire>⟧.its.writable E.C.setting) map.now.entries)
+        (AllowedWord (IsListOf ⟦<(K::Value, V::Value) as Wire>⟧.its.means map.now.entries)
+        (array (length map.now.entries) ⟦<(K::Value, V::Value) as Wire>⟧.its.claim
+        (⟦<(K::Value, V::Value) as Wire>⟧.its.format E.C.setting)))
+        ⟦<(K::Value, V::Value) as Wire>⟧.its.names result encoder.old encoder.new }
 {
     for (key, value) in map.iter() {
         encode_entry::<K, V, E>(key, value, encoder)?;
@@ -128,10 +128,10 @@ pub fn encode_entry<K: WriteValues, V: WriteValues, E: Encoder>(
     encoder: &mut E,
 ) -> Result<(), EncodeError>
     ensures { Encodes E.W.adds E.W.refuses E.writer_of E.place
-        (⟦<(K::Value, V::Value) as Wire>⟧.writable E.C.setting (key.now, value.now))
-        (AllowedWord (⟦<(K::Value, V::Value) as Wire>⟧.means (key.now, value.now))
-        (⟦<(K::Value, V::Value) as Wire>⟧.format E.C.setting))
-        ⟦<(K::Value, V::Value) as Wire>⟧.names result encoder.old encoder.new }
+        (⟦<(K::Value, V::Value) as Wire>⟧.its.writable E.C.setting (key.now, value.now))
+        (AllowedWord (⟦<(K::Value, V::Value) as Wire>⟧.its.means (key.now, value.now))
+        (⟦<(K::Value, V::Value) as Wire>⟧.its.format E.C.setting))
+        ⟦<(K::Value, V::Value) as Wire>⟧.its.names result encoder.old encoder.new }
 {
     K::write_value(key, encoder)?;
     V::write_value(value, encoder)

@@ -18,24 +18,24 @@ pub trait WriteValues {
 
     /// Says of a value in hand that it is valid.
     fn tell_valid(value: &Self::Value)
-        ensures { Self.Value.valid value.now };
+        ensures { Self.Value.its.valid value.now };
 
     /// Writes a word that the value allows. It does, fails and leaves what `Encode::encode` does.
     fn write_value<E: Encoder>(value: &Self::Value, encoder: &mut E) -> Result<(), EncodeError>
-        ensures { Encodes E.W.adds E.W.refuses E.writer_of E.place (Self.Value.writable E.C.setting value.now)
-            (AllowedWord (Self.Value.means value.now) (Self.Value.format E.C.setting)) Self.Value.names result
+        ensures { Encodes E.W.adds E.W.refuses E.writer_of E.place (Self.Value.its.writable E.C.setting value.now)
+            (AllowedWord (Self.Value.its.means value.now) (Self.Value.its.format E.C.setting)) Self.Value.its.names result
             encoder.old encoder.new };
 
     /// The bytes of a run of values, if the values are the bytes of their words.
     fn as_bytes(items: &[Self::Value]) -> Option<&[u8]>
-        ensures { IfSome result (λ bytes. (s : Setting) → Ready (All (Self.Value.writable s) items.now)
-            (AllowedWord (IsListOf Self.Value.means items.now)
-            (array (length items.now) Self.Value.claim (Self.Value.format s))) bytes.now) };
+        ensures { IfSome result (λ bytes. (s : Setting) → Ready (All (Self.Value.its.writable s) items.now)
+            (AllowedWord (IsListOf Self.Value.its.means items.now)
+            (array (length items.now) Self.Value.its.claim (Self.Value.its.format s))) bytes.now) };
 }
 
 /// Says of each of the values in hand that it is valid.
 pub fn tell_each_valid<V: WriteValues>(items: &[V::Value])
-    ensures { All V.Value.valid items.now }
+    ensures { All V.Value.its.valid items.now }
 {
     for value in items {
         V::tell_valid(value);
@@ -49,10 +49,10 @@ pub fn encode_run<V: WriteValues, E: Encoder>(
     items: &[V::Value],
     encoder: &mut E,
 ) -> Result<(), EncodeError>
-    ensures { Encodes E.W.adds E.W.refuses E.writer_of E.place (All (V.Value.writable E.C.setting) items.now)
-        (AllowedWord (IsListOf V.Value.means items.now)
-        (array (length items.now) V.Value.claim (V.Value.format E.C.setting)))
-        V.Value.names result encoder.old encoder.new }
+    ensures { Encodes E.W.adds E.W.refuses E.writer_of E.place (All (V.Value.its.writable E.C.setting) items.now)
+        (AllowedWord (IsListOf V.Value.its.means items.now)
+        (array (length items.now) V.Value.its.claim (V.Value.its.format E.C.setting)))
+        V.Value.its.names result encoder.old encoder.new }
 {
     if let Some(bytes) = V::as_bytes(items) {
         return write_from(encoder, bytes);
@@ -67,10 +67,10 @@ pub(crate) fn encode_each<V: WriteValues, E: Encoder>(
     items: &[V::Value],
     encoder: &mut E,
 ) -> Result<(), EncodeError>
-    ensures { Encodes E.W.adds E.W.refuses E.writer_of E.place (All (V.Value.writable E.C.setting) items.now)
-        (AllowedWord (IsListOf V.Value.means items.now)
-        (array (length items.now) V.Value.claim (V.Value.format E.C.setting)))
-        V.Value.names result encoder.old encoder.new }
+    ensures { Encodes E.W.adds E.W.refuses E.writer_of E.place (All (V.Value.its.writable E.C.setting) items.now)
+        (AllowedWord (IsListOf V.Value.its.means items.now)
+        (array (length items.now) V.Value.its.claim (V.Value.its.format E.C.setting)))
+        V.Value.its.names result encoder.old encoder.new }
 {
     for item in items {
         V::write_value(item, encoder)?;

@@ -17,10 +17,10 @@ fn decode_slots<Context: Drop, V: ReadValues<Context>, D: Decoder<Context = Cont
     decoder: &mut D,
     slots: &mut [Option<V::Value>],
 ) -> Result<(), DecodeError>
-    requires { CanRelease D.C.bound (D.charge decoder.old) (length slots.old * V.Value.claim) }
+    requires { CanRelease D.C.bound (D.charge decoder.old) (length slots.old * V.Value.its.claim) }
     ensures { (vs : List V.Value) × OnOk result (slots.new ≡ map Some vs)
-        × RunRead D.told D.rest D.charge D.failures D.place D.C.bound D.R.ended D.R.device V.Value.grows
-        V.Value.claim (V.Value.format D.C.setting) V.Value.given (length slots.old) (λ _. vs) result
+        × RunRead D.told D.rest D.charge D.failures D.place D.C.bound D.R.ended D.R.device V.Value.its.grows
+        V.Value.its.claim (V.Value.its.format D.C.setting) V.Value.its.given (length slots.old) (λ _. vs) result
         decoder.old decoder.new }
 {
     for index in 0..slots.len() {
@@ -36,9 +36,9 @@ fn decode_into<
     D: Decoder<Context = Context>,
     const N: usize,
 >(decoder: &mut D, mut slots: [Option<V::Value>; N]) -> Result<[V::Value; N], DecodeError>
-    requires { CanRelease D.C.bound (D.charge decoder.old) (N * V.Value.claim) }
-    ensures { RunRead D.told D.rest D.charge D.failures D.place D.C.bound D.R.ended D.R.device V.Value.grows
-        V.Value.claim (V.Value.format D.C.setting) V.Value.given N (λ v. v) result decoder.old decoder.new }
+    requires { CanRelease D.C.bound (D.charge decoder.old) (N * V.Value.its.claim) }
+    ensures { RunRead D.told D.rest D.charge D.failures D.place D.C.bound D.R.ended D.R.device V.Value.its.grows
+        V.Value.its.claim (V.Value.its.format D.C.setting) V.Value.its.given N (λ v. v) result decoder.old decoder.new }
 {
     decode_slots::<Context, V, D>(decoder, &mut slots[..])?;
     Ok(unwrap_all(slots))
@@ -52,9 +52,9 @@ fn decode_over<
     D: Decoder<Context = Context>,
     const N: usize,
 >(decoder: &mut D, mut values: [V::Value; N]) -> Result<[V::Value; N], DecodeError>
-    requires { CanRelease D.C.bound (D.charge decoder.old) (N * V.Value.claim) }
-    ensures { RunRead D.told D.rest D.charge D.failures D.place D.C.bound D.R.ended D.R.device V.Value.grows
-        V.Value.claim (V.Value.format D.C.setting) V.Value.given N (λ v. v) result decoder.old decoder.new }
+    requires { CanRelease D.C.bound (D.charge decoder.old) (N * V.Value.its.claim) }
+    ensures { RunRead D.told D.rest D.charge D.failures D.place D.C.bound D.R.ended D.R.device V.Value.its.grows
+        V.Value.its.claim (V.Value.its.format D.C.setting) V.Value.its.given N (λ v. v) result decoder.old decoder.new }
 {
     decode_run::<Context, V, D>(decoder, &mut values[..])?;
     Ok(values)
@@ -69,12 +69,12 @@ pub fn decode_array<
     D: Decoder<Context = Context>,
     const N: usize,
 >(decoder: &mut D) -> Result<[V::Value; N], DecodeError>
-    requires { CanRelease D.C.bound (D.charge decoder.old) (N * V.Value.claim) }
+    requires { CanRelease D.C.bound (D.charge decoder.old) (N * V.Value.its.claim) }
     ensures read { RunRead D.told D.rest D.charge D.failures D.place D.C.bound D.R.ended D.R.device
-        (V.Value.grows ⊎ ¬ (SlotsFit V.Value.row N)) V.Value.claim (V.Value.format D.C.setting) V.Value.given N
+        (V.Value.its.grows ⊎ ¬ (SlotsFit V.Value.row N)) V.Value.its.claim (V.Value.its.format D.C.setting) V.Value.its.given N
         (λ v. v) result decoder.old decoder.new }
     ensures charge { D.told decoder.old → IfOk result (λ _. RoomReturned D.C.bound
-        (elements N V.Value.claim (V.Value.format D.C.setting)) (N * V.Value.claim)
+        (elements N V.Value.its.claim (V.Value.its.format D.C.setting)) (N * V.Value.its.claim)
         (D.rest decoder.old) (D.rest decoder.new) (D.charge decoder.old) (D.charge decoder.new)) }
 {
     if let Some(values) = V::blank_array::<[V::Value; N]>() {

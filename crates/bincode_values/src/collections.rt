@@ -50,9 +50,9 @@ fn decode_items<
     K: Collect<Context, Item = V::Value>,
     D: Decoder<Context = Context>,
 >(decoder: &mut D, len: usize) -> Result<K, DecodeError>
-    requires { CanRelease D.C.bound (D.charge decoder.old) (len * V.Value.claim) }
+    requires { CanRelease D.C.bound (D.charge decoder.old) (len * V.Value.its.claim) }
     ensures { RunRead D.told D.rest D.charge D.failures D.place D.C.bound D.R.ended D.R.device (Unit {0})
-        V.Value.claim (V.Value.format D.C.setting) V.Value.given len K.items result decoder.old decoder.new }
+        V.Value.its.claim (V.Value.its.format D.C.setting) V.Value.its.given len K.items result decoder.old decoder.new }
 {
     let mut filling = K::start(decoder.alloc(), decoder.context(), len)?;
     for _ in 0..len {
@@ -71,8 +71,8 @@ fn decode_claimed_items<
     D: Decoder<Context = Context>,
 >(decoder: &mut D, len: usize) -> Result<K, DecodeError>
     ensures { Reads D.told D.rest D.charge D.failures D.place D.C.bound D.R.ended D.R.device (Unit {0})
-        (array len V.Value.claim (V.Value.format D.C.setting))
-        (λ m v. IsListOf (λ x n. V.Value.given n x) (K.items v) m)
+        (array len V.Value.its.claim (V.Value.its.format D.C.setting))
+        (λ m v. IsListOf (λ x n. V.Value.its.given n x) (K.items v) m)
         (D.charge decoder.old) result decoder.old decoder.new }
 {
     decoder.claim_container_read::<V::Value>(len)?;
@@ -89,8 +89,8 @@ pub fn decode_collection<
     D: Decoder<Context = Context>,
 >(decoder: &mut D) -> Result<K, DecodeError>
     ensures { Reads D.told D.rest D.charge D.failures D.place D.C.bound D.R.ended D.R.device (Unit {0})
-        (list D.C.setting V.Value.claim (V.Value.format D.C.setting))
-        (λ m v. IsListOf (λ x n. V.Value.given n x) (K.items v) m)
+        (list D.C.setting V.Value.its.claim (V.Value.its.format D.C.setting))
+        (λ m v. IsListOf (λ x n. V.Value.its.given n x) (K.items v) m)
         (D.charge decoder.old) result decoder.old decoder.new }
 {
     let len = decode_length(decoder)?;

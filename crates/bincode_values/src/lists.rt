@@ -21,7 +21,7 @@ fn decode_claimed<Context: Drop, V: ReadValues<Context>, D: Decoder<Context = Co
 ) -> Result<Vec<V::Value>, DecodeError>
     ensures room { IfOk result (λ v. vec_capacity v ≡ length v.items) }
     ensures read { Reads D.told D.rest D.charge D.failures D.place D.C.bound D.R.ended D.R.device (Unit {0})
-        (array len V.Value.claim (V.Value.format D.C.setting)) (λ m v. IsListOf (λ x n. V.Value.given n x) v.items m)
+        (array len V.Value.its.claim (V.Value.its.format D.C.setting)) (λ m v. IsListOf (λ x n. V.Value.its.given n x) v.items m)
         (D.charge decoder.old) result decoder.old decoder.new }
 {
     decoder.claim_container_read::<V::Value>(len)?;
@@ -35,8 +35,8 @@ pub fn decode_list<Context: Drop, V: ReadValues<Context>, D: Decoder<Context = C
     decoder: &mut D,
 ) -> Result<Vec<V::Value>, DecodeError>
     ensures { Reads D.told D.rest D.charge D.failures D.place D.C.bound D.R.ended D.R.device (Unit {0})
-        (list D.C.setting V.Value.claim (V.Value.format D.C.setting))
-        (λ m v. IsListOf (λ x n. V.Value.given n x) v.items m × (vec_capacity v ≡ length v.items))
+        (list D.C.setting V.Value.its.claim (V.Value.its.format D.C.setting))
+        (λ m v. IsListOf (λ x n. V.Value.its.given n x) v.items m × (vec_capacity v ≡ length v.items))
         (D.charge decoder.old) result decoder.old decoder.new }
 {
     let len = decode_length(decoder)?;
@@ -50,8 +50,8 @@ pub fn decode_heap<Context: Drop, V: ReadValues<Context>, D: Decoder<Context = C
 where
     V::Value: Ord,
     ensures { Reads D.told D.rest D.charge D.failures D.place D.C.bound D.R.ended D.R.device (Unit {0})
-        (list D.C.setting V.Value.claim (V.Value.format D.C.setting))
-        (λ m v. IsMadeOf MakesBag (λ x n. V.Value.given n x) (heap_items v) m) (D.charge decoder.old) result
+        (list D.C.setting V.Value.its.claim (V.Value.its.format D.C.setting))
+        (λ m v. IsMadeOf MakesBag (λ x n. V.Value.its.given n x) (heap_items v) m) (D.charge decoder.old) result
         decoder.old decoder.new }
 {
     let values = decode_list::<Context, V, D>(decoder)?;

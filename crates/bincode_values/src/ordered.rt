@@ -21,10 +21,10 @@ fn decode_keys<Context: Drop, K: ReadValues<Context>, D: Decoder<Context = Conte
 ) -> Result<BTreeSet<K::Value>, DecodeError>
 where
     K::Value: Ord,
-    requires { CanRelease D.C.bound (D.charge decoder.old) (len * K.Value.claim) }
+    requires { CanRelease D.C.bound (D.charge decoder.old) (len * K.Value.its.claim) }
     ensures { (items : List K.Value) × IfOk result (λ v. MakesSet K.Value.cmp items v.keys)
-        × RunRead D.told D.rest D.charge D.failures D.place D.C.bound D.R.ended D.R.device (Unit {0}) K.Value.claim
-        (K.Value.format D.C.setting) K.Value.given len (λ _. items) result decoder.old decoder.new }
+        × RunRead D.told D.rest D.charge D.failures D.place D.C.bound D.R.ended D.R.device (Unit {0}) K.Value.its.claim
+        (K.Value.its.format D.C.setting) K.Value.its.given len (λ _. items) result decoder.old decoder.new }
 {
     let mut keys = BTreeSet::new(decoder.alloc());
     for _ in 0..len {
@@ -45,8 +45,8 @@ fn decode_claimed_keys<Context: Drop, K: ReadValues<Context>, D: Decoder<Context
 where
     K::Value: Ord,
     ensures { Reads D.told D.rest D.charge D.failures D.place D.C.bound D.R.ended D.R.device (Unit {0})
-        (array len K.Value.claim (K.Value.format D.C.setting))
-        (λ m v. IsMadeOf (MakesSet K.Value.cmp) (λ x n. K.Value.given n x) v.keys m) (D.charge decoder.old) result
+        (array len K.Value.its.claim (K.Value.its.format D.C.setting))
+        (λ m v. IsMadeOf (MakesSet K.Value.cmp) (λ x n. K.Value.its.given n x) v.keys m) (D.charge decoder.old) result
         decoder.old decoder.new }
 {
     decoder.claim_container_read::<K::Value>(len)?;
@@ -63,8 +63,8 @@ pub fn decode_set<Context: Drop, K: ReadValues<Context>, D: Decoder<Context = Co
 where
     K::Value: Ord,
     ensures { Reads D.told D.rest D.charge D.failures D.place D.C.bound D.R.ended D.R.device (Unit {0})
-        (list D.C.setting K.Value.claim (K.Value.format D.C.setting))
-        (λ m v. IsMadeOf (MakesSet K.Value.cmp) (λ x n. K.Value.given n x) v.keys m) (D.charge decoder.old) result
+        (list D.C.setting K.Value.its.claim (K.Value.its.format D.C.setting))
+        (λ m v. IsMadeOf (MakesSet K.Value.cmp) (λ x n. K.Value.its.given n x) v.keys m) (D.charge decoder.old) result
         decoder.old decoder.new }
 {
     let len = decode_length(decoder)?;
@@ -80,10 +80,10 @@ fn decode_entries<
     E: ReadValues<Context, Value = (K, V)>,
     D: Decoder<Context = Context>,
 >(decoder: &mut D, len: usize) -> Result<BTreeMap<K, V>, DecodeError>
-    requires { CanRelease D.C.bound (D.charge decoder.old) (len * ⟦<(K, V) as Wire>⟧.claim) }
+    requires { CanRelease D.C.bound (D.charge decoder.old) (len * ⟦<(K, V) as Wire>⟧.its.claim) }
     ensures { (items : List _) × IfOk result (λ v. MakesMap K.cmp items v.entries)
         × RunRead D.told D.rest D.charge D.failures D.place D.C.bound D.R.ended D.R.device (Unit {0})
-        ⟦<(K, V) as Wire>⟧.claim (⟦<(K, V) as Wire>⟧.format D.C.setting) ⟦<(K, V) as Wire>⟧.given len
+        ⟦<(K, V) as Wire>⟧.its.claim (⟦<(K, V) as Wire>⟧.its.format D.C.setting) ⟦<(K, V) as Wire>⟧.its.given len
         (λ _. items) result decoder.old decoder.new }
 {
     let mut entries = BTreeMap::new(decoder.alloc());
@@ -106,8 +106,8 @@ fn decode_claimed_entries<
     D: Decoder<Context = Context>,
 >(decoder: &mut D, len: usize) -> Result<BTreeMap<K, V>, DecodeError>
     ensures { Reads D.told D.rest D.charge D.failures D.place D.C.bound D.R.ended D.R.device (Unit {0})
-        (array len ⟦<(K, V) as Wire>⟧.claim (⟦<(K, V) as Wire>⟧.format D.C.setting))
-        (λ m v. IsMadeOf (MakesMap K.cmp) (λ x n. ⟦<(K, V) as Wire>⟧.given n x) v.entries m)
+        (array len ⟦<(K, V) as Wire>⟧.its.claim (⟦<(K, V) as Wire>⟧.its.format D.C.setting))
+        (λ m v. IsMadeOf (MakesMap K.cmp) (λ x n. ⟦<(K, V) as Wire>⟧.its.given n x) v.entries m)
         (D.charge decoder.old) result decoder.old decoder.new }
 {
     decoder.claim_container_read::<(K, V)>(len)?;
@@ -126,8 +126,8 @@ pub fn decode_map<
     D: Decoder<Context = Context>,
 >(decoder: &mut D) -> Result<BTreeMap<K, V>, DecodeError>
     ensures { Reads D.told D.rest D.charge D.failures D.place D.C.bound D.R.ended D.R.device (Unit {0})
-        (list D.C.setting ⟦<(K, V) as Wire>⟧.claim (⟦<(K, V) as Wire>⟧.format D.C.setting))
-        (λ m v. IsMadeOf (MakesMap K.cmp) (λ x n. ⟦<(K, V) as Wire>⟧.given n x) v.entries m)
+        (list D.C.setting ⟦<(K, V) as Wire>⟧.its.claim (⟦<(K, V) as Wire>⟧.its.format D.C.setting))
+        (λ m v. IsMadeOf (MakesMap K.cmp) (λ x n. ⟦<(K, V) as Wire>⟧.its.given n x) v.entries m)
         (D.charge decoder.old) result decoder.old decoder.new }
 {
     let len = decode_length(decoder)?;

@@ -20,9 +20,9 @@ pub fn decode_run<Context: Drop, V: ReadValues<Context>, D: Decoder<Context = Co
     decoder: &mut D,
     values: &mut [V::Value],
 ) -> Result<(), DecodeError>
-    requires { CanRelease D.C.bound (D.charge decoder.old) (length values.old * V.Value.claim) }
+    requires { CanRelease D.C.bound (D.charge decoder.old) (length values.old * V.Value.its.claim) }
     ensures { RunRead D.told D.rest D.charge D.failures D.place D.C.bound D.R.ended D.R.device
-        (V.Value.grows × (0 < length values.old)) V.Value.claim (V.Value.format D.C.setting) V.Value.given
+        (V.Value.its.grows × (0 < length values.old)) V.Value.its.claim (V.Value.its.format D.C.setting) V.Value.its.given
         (length values.old) (λ _. values.new) result decoder.old decoder.new }
 {
     if !decoder.is_within_limit() {
@@ -40,9 +40,9 @@ fn decode_each<Context: Drop, V: ReadValues<Context>, D: Decoder<Context = Conte
     decoder: &mut D,
     values: &mut [V::Value],
 ) -> Result<(), DecodeError>
-    requires { CanRelease D.C.bound (D.charge decoder.old) (length values.old * V.Value.claim) }
+    requires { CanRelease D.C.bound (D.charge decoder.old) (length values.old * V.Value.its.claim) }
     ensures { RunRead D.told D.rest D.charge D.failures D.place D.C.bound D.R.ended D.R.device
-        (V.Value.grows × (0 < length values.old)) V.Value.claim (V.Value.format D.C.setting) V.Value.given
+        (V.Value.its.grows × (0 < length values.old)) V.Value.its.claim (V.Value.its.format D.C.setting) V.Value.its.given
         (length values.old) (λ _. values.new) result decoder.old decoder.new }
 {
     for index in 0..values.len() {
@@ -56,9 +56,9 @@ fn decode_each<Context: Drop, V: ReadValues<Context>, D: Decoder<Context = Conte
 pub(crate) fn decode_next<Context: Drop, V: ReadValues<Context>, D: Decoder<Context = Context>>(
     decoder: &mut D,
 ) -> Result<V::Value, DecodeError>
-    requires { CanRelease D.C.bound (D.charge decoder.old) V.Value.claim }
-    ensures { Reads D.told D.rest D.charge D.failures D.place D.C.bound D.R.ended D.R.device V.Value.grows
-        (V.Value.format D.C.setting) V.Value.given (unclaimed D.C.bound (D.charge decoder.old) V.Value.claim) result
+    requires { CanRelease D.C.bound (D.charge decoder.old) V.Value.its.claim }
+    ensures { Reads D.told D.rest D.charge D.failures D.place D.C.bound D.R.ended D.R.device V.Value.its.grows
+        (V.Value.its.format D.C.setting) V.Value.its.given (unclaimed D.C.bound (D.charge decoder.old) V.Value.its.claim) result
         decoder.old decoder.new }
 {
     decoder.unclaim_bytes_read(V::Value::claim_size());
@@ -71,11 +71,11 @@ pub fn decode_vec<Context: Drop, V: ReadValues<Context>, D: Decoder<Context = Co
     decoder: &mut D,
     len: usize,
 ) -> Result<Vec<V::Value>, DecodeError>
-    requires { CanRelease D.C.bound (D.charge decoder.old) (len * V.Value.claim) }
+    requires { CanRelease D.C.bound (D.charge decoder.old) (len * V.Value.its.claim) }
     ensures length { IfOk result (λ v. length v.items ≡ len) }
     ensures room { IfOk result (λ v. vec_capacity v ≡ len) }
     ensures read { RunRead D.told D.rest D.charge D.failures D.place D.C.bound D.R.ended D.R.device (0 < len)
-        V.Value.claim (V.Value.format D.C.setting) V.Value.given len (λ v. v.items) result decoder.old decoder.new }
+        V.Value.its.claim (V.Value.its.format D.C.setting) V.Value.its.given len (λ v. v.items) result decoder.old decoder.new }
 {
     let Some(mut values) = blank_values::<Context, V>(decoder.alloc(), len)? else {
         return decode_by_pushes::<Context, V, D>(decoder, len);
@@ -89,11 +89,11 @@ fn decode_by_pushes<Context: Drop, V: ReadValues<Context>, D: Decoder<Context = 
     decoder: &mut D,
     len: usize,
 ) -> Result<Vec<V::Value>, DecodeError>
-    requires { CanRelease D.C.bound (D.charge decoder.old) (len * V.Value.claim) }
+    requires { CanRelease D.C.bound (D.charge decoder.old) (len * V.Value.its.claim) }
     ensures length { IfOk result (λ v. length v.items ≡ len) }
     ensures room { IfOk result (λ v. vec_capacity v ≡ len) }
     ensures read { RunRead D.told D.rest D.charge D.failures D.place D.C.bound D.R.ended D.R.device (0 < len)
-        V.Value.claim (V.Value.format D.C.setting) V.Value.given len (λ v. v.items) result decoder.old decoder.new }
+        V.Value.its.claim (V.Value.its.format D.C.setting) V.Value.its.given len (λ v. v.items) result decoder.old decoder.new }
 {
     let Ok(mut values) = Vec::with_capacity(decoder.alloc(), len) else {
         return Err(DecodeError::Memory);

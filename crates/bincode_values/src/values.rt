@@ -18,8 +18,8 @@ pub trait ReadValues<Context: Drop> {
     fn read_value<D: Decoder<Context = Context>>(
         decoder: &mut D,
     ) -> Result<Self::Value, DecodeError>
-        ensures { Reads D.told D.rest D.charge D.failures D.place D.C.bound D.R.ended D.R.device Self.Value.grows
-            (Self.Value.format D.C.setting) Self.Value.given (D.charge decoder.old) result decoder.old decoder.new };
+        ensures { Reads D.told D.rest D.charge D.failures D.place D.C.bound D.R.ended D.R.device Self.Value.its.grows
+            (Self.Value.its.format D.C.setting) Self.Value.its.given (D.charge decoder.old) result decoder.old decoder.new };
 
     /// An array to read values over, whatever it holds, if there is one at hand.
     fn blank_array<A: ArrayOf<Self::Value>>() -> Option<A>;
@@ -30,11 +30,11 @@ pub trait ReadValues<Context: Drop> {
         decoder: &mut D,
         values: &mut [Self::Value],
     ) -> Option<Result<(), DecodeError>>
-        requires { CanRelease D.C.bound (D.charge decoder.old) (length values.old * Self.Value.claim)
+        requires { CanRelease D.C.bound (D.charge decoder.old) (length values.old * Self.Value.its.claim)
             × Allows D.C.bound (D.charge decoder.old) }
         ensures { MatchOption result (decoder.new ≡ decoder.old) (λ r. RunRead D.told D.rest D.charge D.failures
-            D.place D.C.bound D.R.ended D.R.device (Self.Value.grows × (0 < length values.old)) Self.Value.claim
-            (Self.Value.format D.C.setting) Self.Value.given (length values.old) (λ _. values.new) r
+            D.place D.C.bound D.R.ended D.R.device (Self.Value.its.grows × (0 < length values.old)) Self.Value.its.claim
+            (Self.Value.its.format D.C.setting) Self.Value.its.given (length values.old) (λ _. values.new) r
             decoder.old decoder.new) };
 }
 

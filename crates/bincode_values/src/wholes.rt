@@ -17,14 +17,14 @@ pub trait MakeWhole<Context: Drop> {
         decoder: &mut D,
     ) -> Result<<Self::Whole as Parted>::Parts, DecodeError>
         ensures { Reads D.told D.rest D.charge D.failures D.place D.C.bound D.R.ended D.R.device
-            Self.Whole.Parts.grows (Self.Whole.Parts.format D.C.setting) Self.Whole.Parts.given
+            Self.Whole.Parts.its.grows (Self.Whole.Parts.its.format D.C.setting) Self.Whole.Parts.its.given
             (D.charge decoder.old) result decoder.old decoder.new };
 
     /// The value with these parts.
     fn make(parts: <Self::Whole as Parted>::Parts) -> Self::Whole
         ensures parts { Self.Whole.parts result ≡ parts }
-        ensures promise { (m : Meaning) → Self.Whole.Parts.given m parts
-            → (Self.Whole.promised result (Self.Whole.Parts.given m parts)).Promised };
+        ensures promise { (m : Meaning) → Self.Whole.Parts.its.given m parts
+            → (Self.Whole.promised result (Self.Whole.Parts.its.given m parts)).Promised };
 }
 
 /// Reads the parts of a value, and makes it. Fails where a part does.
@@ -35,8 +35,8 @@ pub fn decode_whole<Context: Drop, W: MakeWhole<Context>, D: Decoder<Context = C
 where
     <W::Whole as Parted>::Parts: Drop,
     ensures { Reads D.told D.rest D.charge D.failures D.place D.C.bound D.R.ended D.R.device
-        W.Whole.Parts.grows (W.Whole.Parts.format D.C.setting)
-        (λ m v. (W.Whole.promised v (W.Whole.Parts.given m (W.Whole.parts v))).Promised) (D.charge decoder.old) result
+        W.Whole.Parts.its.grows (W.Whole.Parts.its.format D.C.setting)
+        (λ m v. (W.Whole.promised v (W.Whole.Parts.its.given m (W.Whole.parts v))).Promised) (D.charge decoder.old) result
         decoder.old decoder.new }
 {
     let parts = W::read_parts(decoder)?;

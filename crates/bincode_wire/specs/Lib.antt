@@ -1,2 +1,3 @@
 pub mod Durations
 pub mod Rows
+pub mod Words

@@ -17,56 +17,47 @@ pub struct Bag<T> {
 }
 
 impl<T: Wire> Wire for Bag<T> {
-    ghost format = { λ s. list s T.claim (T.format s) };
-
-    ghost valid = { λ v. AreValid T.valid v.items };
-
-    ghost means = { λ v. IsMadeOf MakesBag T.means v.items };
-
-    ghost given = { λ m v. IsMadeOf MakesBag (λ x n. T.given n x) v.items m };
-
-    ghost writable = { λ s v. All (T.writable s) v.items };
-
-    ghost names = { T.names };
-
-    ghost grows = { Unit {0} };
-
-    ghost claim = { 24 };
+    ghost its = { record {
+      format = λ s. list s T.its.claim (T.its.format s);
+      valid = λ v. AreValid T.its.valid v.items;
+      means = λ v. IsMadeOf MakesBag T.its.means v.items;
+      given = λ m v. IsMadeOf MakesBag (λ x n. T.its.given n x) v.items m;
+      writable = λ s v. All (T.its.writable s) v.items;
+      names = T.its.names;
+      grows = Unit {0};
+      claim = 24;
+      lawful = λ s. list-lawful s T.its.claim (T.its.format s) (T.its.lawful s);
+      balanced = λ s. list-balanced s T.its.claim (T.its.format s) (T.its.balanced s);
+      has_word = λ s v h w.
+          let x = list-has_word T.its.means s T.its.claim (T.its.format s) T.its.valid (T.its.writable s) (T.its.has_word s) v.items h w in
+          record {
+            bytes = x.bytes;
+            are_bytes = x.are_bytes;
+            is_allowed = bag-has_word T.its.means s T.its.claim (T.its.format s) v.items x.bytes x.is_allowed;
+          };
+      names_own = T.its.names_own;
+    } };
 
     fn claim_size() -> usize {
         24
     }
-
-    ghost lawful = { λ s. list-lawful s T.claim (T.format s) (T.lawful s) };
-
-    ghost balanced = { λ s. list-balanced s T.claim (T.format s) (T.balanced s) };
-
-    ghost has_word = { λ s v h w.
-        let x = list-has_word T.means s T.claim (T.format s) T.valid (T.writable s) (T.has_word s) v.items h w in
-        record {
-          bytes = x.bytes;
-          are_bytes = x.are_bytes;
-          is_allowed = bag-has_word T.means s T.claim (T.format s) v.items x.bytes x.is_allowed;
-        } };
-
-    ghost names_own = { T.names_own };
 }
 
 impl<T: Wire> Inhabited for Bag<T> {
-    ghost some_word = { λ s. list-some_word s T.claim (T.format s) };
+    ghost some_word = { λ s. list-some_word s T.its.claim (T.its.format s) };
 }
 
 impl<T: Writable> Writable for Bag<T> {
-    ghost always_writable = { λ s v h. All-weaker T.valid (T.writable s) (T.always_writable s) v.items h.1 };
+    ghost always_writable = { λ s v h. All-weaker T.its.valid (T.its.writable s) (T.always_writable s) v.items h.1 };
 }
 
 impl<T: Plain> Plain for Bag<T> {
-    ghost one_length = { λ s v h. bag-one_length T.means s T.claim (T.format s) T.valid (T.one_length s) v.items h.1 };
+    ghost one_length = { λ s v h. bag-one_length T.its.means s T.its.claim (T.its.format s) T.its.valid (T.one_length s) v.items h.1 };
 
     ghost names_none = { T.names_none };
 }
 
 impl<T: Canonical> Canonical for Bag<T> {
-    ghost shortest = { λ s v w h. bag-shortest T.means s T.claim (T.format s) (λ x n. T.given n x) T.valid
+    ghost shortest = { λ s v w h. bag-shortest T.its.means s T.its.claim (T.its.format s) (λ x n. T.its.given n x) T.its.valid
         (T.shortest s) v.items w.items h.1 };
 }

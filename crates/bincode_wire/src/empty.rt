@@ -15,33 +15,24 @@ use std::marker::PhantomData;
 pub struct NoVariants<Of>(Infallible, PhantomData<Of>);
 
 impl<Of> Wire for NoVariants<Of> {
-    ghost format = { λ s. refused EmptyEnum };
-
-    ghost valid = { λ v. ⊥ };
-
-    ghost means = { λ v m. ⊥ };
-
-    ghost given = { λ m v. ⊥ };
-
-    ghost writable = { λ s v. ⊥ };
-
-    ghost names = { λ e. ⊥ };
-
-    ghost grows = { ⊥ };
-
-    ghost claim = { 1 };
+    ghost its = { record {
+      format = λ s. refused EmptyEnum;
+      valid = λ v. ⊥;
+      means = λ v m. ⊥;
+      given = λ m v. ⊥;
+      writable = λ s v. ⊥;
+      names = λ e. ⊥;
+      grows = ⊥;
+      claim = 1;
+      lawful = λ s. refused-lawful EmptyEnum (λ h. h);
+      balanced = λ s. refused-holds 0 0 EmptyEnum;
+      has_word = λ s v h w. absurd h;
+      names_own = λ e h. absurd h;
+    } };
 
     fn claim_size() -> usize {
         1
     }
-
-    ghost lawful = { λ s. refused-lawful EmptyEnum (λ h. h) };
-
-    ghost balanced = { λ s. refused-holds 0 0 EmptyEnum };
-
-    ghost has_word = { λ s v h w. absurd h };
-
-    ghost names_own = { λ e h. absurd h };
 }
 
 impl<Of> Writable for NoVariants<Of> {

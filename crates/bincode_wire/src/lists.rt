@@ -20,62 +20,53 @@ pub struct Items<T, const SIZE: usize> {
 }
 
 impl<T: Wire, const SIZE: usize> Wire for Items<T, SIZE> {
-    ghost format = { λ s. list s T.claim (T.format s) };
-
-    ghost valid = { λ v. AreValid T.valid v.items };
-
-    ghost means = { λ v. IsListOf T.means v.items };
-
-    ghost given = { λ m v. IsListOf (λ x n. T.given n x) v.items m };
-
-    ghost writable = { λ s v. All (T.writable s) v.items };
-
-    ghost names = { T.names };
-
-    ghost grows = { Unit {0} };
-
-    ghost claim = { SIZE };
+    ghost its = { record {
+      format = λ s. list s T.its.claim (T.its.format s);
+      valid = λ v. AreValid T.its.valid v.items;
+      means = λ v. IsListOf T.its.means v.items;
+      given = λ m v. IsListOf (λ x n. T.its.given n x) v.items m;
+      writable = λ s v. All (T.its.writable s) v.items;
+      names = T.its.names;
+      grows = Unit {0};
+      claim = SIZE;
+      lawful = λ s. list-lawful s T.its.claim (T.its.format s) (T.its.lawful s);
+      balanced = λ s. list-balanced s T.its.claim (T.its.format s) (T.its.balanced s);
+      has_word = λ s v h w. list-has_word T.its.means s T.its.claim (T.its.format s) T.its.valid (T.its.writable s)
+          (T.its.has_word s) v.items h w;
+      names_own = T.its.names_own;
+    } };
 
     fn claim_size() -> usize {
         SIZE
     }
-
-    ghost lawful = { λ s. list-lawful s T.claim (T.format s) (T.lawful s) };
-
-    ghost balanced = { λ s. list-balanced s T.claim (T.format s) (T.balanced s) };
-
-    ghost has_word = { λ s v h w. list-has_word T.means s T.claim (T.format s) T.valid (T.writable s)
-        (T.has_word s) v.items h w };
-
-    ghost names_own = { T.names_own };
 }
 
 impl<T: Wire, const SIZE: usize> Inhabited for Items<T, SIZE> {
-    ghost some_word = { λ s. list-some_word s T.claim (T.format s) };
+    ghost some_word = { λ s. list-some_word s T.its.claim (T.its.format s) };
 }
 
 impl<T: Writable, const SIZE: usize> Writable for Items<T, SIZE> {
-    ghost always_writable = { λ s v h. All-weaker T.valid (T.writable s) (T.always_writable s) v.items h.1 };
+    ghost always_writable = { λ s v h. All-weaker T.its.valid (T.its.writable s) (T.always_writable s) v.items h.1 };
 }
 
 impl<T: Plain, const SIZE: usize> Plain for Items<T, SIZE> {
-    ghost one_length = { λ s v h. list-one_length T.means s T.claim (T.format s) T.valid (T.one_length s)
+    ghost one_length = { λ s v h. list-one_length T.its.means s T.its.claim (T.its.format s) T.its.valid (T.one_length s)
         v.items h.1 };
 
     ghost names_none = { T.names_none };
 }
 
 impl<T: Exact, const SIZE: usize> Exact for Items<T, SIZE> {
-    ghost one_value = { λ v w m h k. run-same T.means T.means T.valid T.valid T.eq T.one_value v.items w.items
+    ghost one_value = { λ v w m h k. run-same T.its.means T.its.means T.its.valid T.its.valid T.eq T.one_value v.items w.items
         h.1 k.1 m };
 
     ghost comes_back = { λ v w m h.
-        run-same T.means (λ x n. T.given n x) T.valid (λ x. Unit {0}) T.eq
+        run-same T.its.means (λ x n. T.its.given n x) T.its.valid (λ x. Unit {0}) T.eq
         (λ x y n p q. T.comes_back x y n p) v.items w.items h.1
         (λ k d lt. tt) m };
 }
 
 impl<T: Canonical, const SIZE: usize> Canonical for Items<T, SIZE> {
-    ghost shortest = { λ s v w h. list-shortest T.means s T.claim (T.format s) (λ x n. T.given n x) T.valid
+    ghost shortest = { λ s v w h. list-shortest T.its.means s T.its.claim (T.its.format s) (λ x n. T.its.given n x) T.its.valid
         (T.shortest s) v.items w.items h.1 };
 }

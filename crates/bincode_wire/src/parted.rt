@@ -21,33 +21,24 @@ pub trait Parted {
 }
 
 impl<T: Parted> Wire for T {
-    ghost format = { T.Parts.format };
-
-    ghost valid = { λ v. T.Parts.valid (T.parts v) };
-
-    ghost means = { λ v. T.Parts.means (T.parts v) };
-
-    ghost given = { λ m v. (T.promised v (T.Parts.given m (T.parts v))).Promised };
-
-    ghost writable = { λ s v. T.Parts.writable s (T.parts v) };
-
-    ghost names = { T.Parts.names };
-
-    ghost grows = { T.Parts.grows };
-
-    ghost claim = { T.Parts.claim };
+    ghost its = { record {
+      format = T.Parts.its.format;
+      valid = λ v. T.Parts.its.valid (T.parts v);
+      means = λ v. T.Parts.its.means (T.parts v);
+      given = λ m v. (T.promised v (T.Parts.its.given m (T.parts v))).Promised;
+      writable = λ s v. T.Parts.its.writable s (T.parts v);
+      names = T.Parts.its.names;
+      grows = T.Parts.its.grows;
+      claim = T.Parts.its.claim;
+      lawful = T.Parts.its.lawful;
+      balanced = T.Parts.its.balanced;
+      has_word = λ s v. T.Parts.its.has_word s (T.parts v);
+      names_own = T.Parts.its.names_own;
+    } };
 
     fn claim_size() -> usize {
         T::Parts::claim_size()
     }
-
-    ghost lawful = { T.Parts.lawful };
-
-    ghost balanced = { T.Parts.balanced };
-
-    ghost has_word = { λ s v. T.Parts.has_word s (T.parts v) };
-
-    ghost names_own = { T.Parts.names_own };
 }
 
 impl<T: Parted> Inhabited for T
@@ -78,8 +69,8 @@ where
     T::Parts: Canonical,
 {
     ghost shortest = { λ s v w h.
-        fewer-none_shorter (λ m p. (p.0, (T.promised w (T.Parts.given m (T.parts w))).keeps p.1))
-        (λ m p. (T.promised w (T.Parts.given m (T.parts w))).keeps p)
+        fewer-none_shorter (λ m p. (p.0, (T.promised w (T.Parts.its.given m (T.parts w))).keeps p.1))
+        (λ m p. (T.promised w (T.Parts.its.given m (T.parts w))).keeps p)
         (T.Parts.shortest s (T.parts v) (T.parts w) h) };
 }
 
@@ -106,5 +97,5 @@ impl<P: Exact, T: Parted<Parts = P> + SameParts<P>> Exact for T {
     ghost one_value = { λ v w m h k p q. T.same_parts v w (P.one_value (T.parts v) (T.parts w) m h k p q) };
 
     ghost comes_back = { λ v w m h p q. T.same_parts v w (P.comes_back (T.parts v) (T.parts w) m h p
-        ((T.promised w (P.given m (T.parts w))).keeps q)) };
+        ((T.promised w (P.its.given m (T.parts w))).keeps q)) };
 }

@@ -39,11 +39,11 @@ pub trait Tested: Sized {
     /// the value is given for.
     fn test(value: Self::Of) -> Result<Self, DecodeError>
         ensures holds { IfOk result (λ v. of v ≡ value) }
-        ensures passes { (m : Meaning) → Self.Of.given m value → passes m ≡ is_ok result }
+        ensures passes { (m : Meaning) → Self.Of.its.given m value → passes m ≡ is_ok result }
         ensures tells { IfErr result (TellsOwn fault) };
 
     /// Each value passes the test, whatever it means.
-    ghost each_passes: { (v : Self) (m : Meaning) → Self.Of.means (of v) m → passes m ≡ true };
+    ghost each_passes: { (v : Self) (m : Meaning) → Self.Of.its.means (of v) m → passes m ≡ true };
 }
 
 /// A value of a type that passed its test, in place of what it holds: what a `Tested` type is written as.
@@ -64,35 +64,26 @@ where
 }
 
 impl<T: Tested> Wire for Passed<T> {
-    ghost format = { λ s. passed T.passes T.fault (T.Of.format s) };
-
-    ghost valid = { λ v. T.Of.valid (T.of v.0)
-        × ((m : Meaning) → T.Of.means (T.of v.0) m → T.passes m ≡ true) };
-
-    ghost means = { λ v. T.Of.means (T.of v.0) };
-
-    ghost given = { λ m v. T.Of.given m (T.of v.0) × (T.passes m ≡ true) };
-
-    ghost writable = { λ s v. T.Of.writable s (T.of v.0) };
-
-    ghost names = { T.Of.names };
-
-    ghost grows = { T.Of.grows };
-
-    ghost claim = { T.Of.claim };
+    ghost its = { record {
+      format = λ s. passed T.passes T.fault (T.Of.its.format s);
+      valid = λ v. T.Of.its.valid (T.of v.0)
+          × ((m : Meaning) → T.Of.its.means (T.of v.0) m → T.passes m ≡ true);
+      means = λ v. T.Of.its.means (T.of v.0);
+      given = λ m v. T.Of.its.given m (T.of v.0) × (T.passes m ≡ true);
+      writable = λ s v. T.Of.its.writable s (T.of v.0);
+      names = T.Of.its.names;
+      grows = T.Of.its.grows;
+      claim = T.Of.its.claim;
+      lawful = λ s. passed-lawful T.passes T.fault (T.Of.its.format s) T.is_no_end (T.Of.its.lawful s);
+      balanced = λ s. passed-balanced T.passes T.fault (T.Of.its.format s) (T.Of.its.balanced s);
+      has_word = λ s v h w. passed-has_word T.passes T.fault (T.Of.its.format s) (T.Of.its.means (T.of v.0))
+          h.1 (T.Of.its.has_word s (T.of v.0) h.0 w);
+      names_own = T.Of.its.names_own;
+    } };
 
     fn claim_size() -> usize {
         T::Of::claim_size()
     }
-
-    ghost lawful = { λ s. passed-lawful T.passes T.fault (T.Of.format s) T.is_no_end (T.Of.lawful s) };
-
-    ghost balanced = { λ s. passed-balanced T.passes T.fault (T.Of.format s) (T.Of.balanced s) };
-
-    ghost has_word = { λ s v h w. passed-has_word T.passes T.fault (T.Of.format s) (T.Of.means (T.of v.0))
-        h.1 (T.Of.has_word s (T.of v.0) h.0 w) };
-
-    ghost names_own = { T.Of.names_own };
 }
 
 impl<T: Tested> Writable for Passed<T>
@@ -106,7 +97,7 @@ impl<T: Tested> Plain for Passed<T>
 where
     T::Of: Plain,
 {
-    ghost one_length = { λ s v h. passed-one_length T.passes T.fault (T.Of.format s) (T.Of.means (T.of v.0))
+    ghost one_length = { λ s v h. passed-one_length T.passes T.fault (T.Of.its.format s) (T.Of.its.means (T.of v.0))
         (T.Of.one_length s (T.of v.0) h.0) };
 
     ghost names_none = { T.Of.names_none };
@@ -125,6 +116,6 @@ impl<T: Tested> Canonical for Passed<T>
 where
     T::Of: Canonical,
 {
-    ghost shortest = { λ s v w h. passed-shortest T.passes T.fault (T.Of.format s) (T.Of.means (T.of v.0))
-        (λ m. T.Of.given m (T.of w.0)) (T.Of.shortest s (T.of v.0) (T.of w.0) h.0) };
+    ghost shortest = { λ s v w h. passed-shortest T.passes T.fault (T.Of.its.format s) (T.Of.its.means (T.of v.0))
+        (λ m. T.Of.its.given m (T.of w.0)) (T.Of.shortest s (T.of v.0) (T.of w.0) h.0) };
 }

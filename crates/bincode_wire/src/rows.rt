@@ -51,33 +51,24 @@ impl ConstantCharge for Alone<()> {
 pub struct Row<A, Others>(pub A, pub Others);
 
 impl<A: Wire, Others: Wire> Wire for Row<A, Others> {
-    ghost format = { λ s. first_and (A.format s) (Others.format s) };
-
-    ghost valid = { λ v. A.valid v.0 × Others.valid v.1 };
-
-    ghost means = { λ v. IsThen (A.means v.0) (Others.means v.1) };
-
-    ghost given = { λ m v. IsThen (λ p. A.given p v.0) (λ p. Others.given p v.1) m };
-
-    ghost writable = { λ s v. A.writable s v.0 × Others.writable s v.1 };
-
-    ghost names = { λ e. A.names e ⊎ Others.names e };
-
-    ghost grows = { A.grows ⊎ Others.grows };
-
-    ghost claim = { min (A.claim + Others.claim) (2 ^ 64 - 1) };
+    ghost its = { record {
+      format = λ s. first_and (A.its.format s) (Others.its.format s);
+      valid = λ v. A.its.valid v.0 × Others.its.valid v.1;
+      means = λ v. IsThen (A.its.means v.0) (Others.its.means v.1);
+      given = λ m v. IsThen (λ p. A.its.given p v.0) (λ p. Others.its.given p v.1) m;
+      writable = λ s v. A.its.writable s v.0 × Others.its.writable s v.1;
+      names = λ e. A.its.names e ⊎ Others.its.names e;
+      grows = A.its.grows ⊎ Others.its.grows;
+      claim = min (A.its.claim + Others.its.claim) (2 ^ 64 - 1);
+      lawful = λ s. then-lawful (A.its.lawful s) (Others.its.lawful s);
+      balanced = λ s. then-balanced (A.its.balanced s) (Others.its.balanced s);
+      has_word = λ s v h w. then-has_word (A.its.has_word s v.0 h.0 w.0) (Others.its.has_word s v.1 h.1 w.1);
+      names_own = λ e. either (A.its.names_own e) (Others.its.names_own e);
+    } };
 
     fn claim_size() -> usize {
         A::claim_size().saturating_add(Others::claim_size())
     }
-
-    ghost lawful = { λ s. then-lawful (A.lawful s) (Others.lawful s) };
-
-    ghost balanced = { λ s. then-balanced (A.balanced s) (Others.balanced s) };
-
-    ghost has_word = { λ s v h w. then-has_word (A.has_word s v.0 h.0 w.0) (Others.has_word s v.1 h.1 w.1) };
-
-    ghost names_own = { λ e. either (A.names_own e) (Others.names_own e) };
 }
 
 impl<A: Inhabited, Others: Inhabited> Inhabited for Row<A, Others> {
@@ -121,39 +112,30 @@ impl<A: ConstantCharge, Others: ConstantCharge> ConstantCharge for Row<A, Others
 pub struct LongRow<A, B, C, D, Others>(pub A, pub B, pub C, pub D, pub Others);
 
 impl<A: Wire, B: Wire, C: Wire, D: Wire, Others: Wire> Wire for LongRow<A, B, C, D, Others> {
-    ghost format = { λ s. four_and (A.format s) (B.format s) (C.format s) (D.format s) (Others.format s) };
-
-    ghost valid = { λ v. A.valid v.0 × (B.valid v.1 × (C.valid v.2 × (D.valid v.3 × Others.valid v.4))) };
-
-    ghost means = { λ v. IsFourThen (A.means v.0) (B.means v.1) (C.means v.2) (D.means v.3) (Others.means v.4) };
-
-    ghost given = { λ m v. IsFourThen (λ p. A.given p v.0) (λ p. B.given p v.1) (λ p. C.given p v.2)
-        (λ p. D.given p v.3) (λ p. Others.given p v.4) m };
-
-    ghost writable = { λ s v. A.writable s v.0 × (B.writable s v.1
-        × (C.writable s v.2 × (D.writable s v.3 × Others.writable s v.4))) };
-
-    ghost names = { λ e. A.names e ⊎ (B.names e ⊎ (C.names e ⊎ (D.names e ⊎ Others.names e))) };
-
-    ghost grows = { A.grows ⊎ (B.grows ⊎ (C.grows ⊎ (D.grows ⊎ Others.grows))) };
-
-    ghost claim = { ⟦<Row<A, Row<B, Row<C, Row<D, Others>>>> as Wire>⟧.claim };
+    ghost its = { record {
+      format = λ s. four_and (A.its.format s) (B.its.format s) (C.its.format s) (D.its.format s) (Others.its.format s);
+      valid = λ v. A.its.valid v.0 × (B.its.valid v.1 × (C.its.valid v.2 × (D.its.valid v.3 × Others.its.valid v.4)));
+      means = λ v. IsFourThen (A.its.means v.0) (B.its.means v.1) (C.its.means v.2) (D.its.means v.3) (Others.its.means v.4);
+      given = λ m v. IsFourThen (λ p. A.its.given p v.0) (λ p. B.its.given p v.1) (λ p. C.its.given p v.2)
+          (λ p. D.its.given p v.3) (λ p. Others.its.given p v.4) m;
+      writable = λ s v. A.its.writable s v.0 × (B.its.writable s v.1
+          × (C.its.writable s v.2 × (D.its.writable s v.3 × Others.its.writable s v.4)));
+      names = λ e. A.its.names e ⊎ (B.its.names e ⊎ (C.its.names e ⊎ (D.its.names e ⊎ Others.its.names e)));
+      grows = A.its.grows ⊎ (B.its.grows ⊎ (C.its.grows ⊎ (D.its.grows ⊎ Others.its.grows)));
+      claim = ⟦<Row<A, Row<B, Row<C, Row<D, Others>>>> as Wire>⟧.its.claim;
+      lawful = λ s. four-lawful (A.its.lawful s) (B.its.lawful s) (C.its.lawful s) (D.its.lawful s) (Others.its.lawful s);
+      balanced = λ s. four-balanced (A.its.balanced s) (B.its.balanced s) (C.its.balanced s) (D.its.balanced s)
+          (Others.its.balanced s);
+      has_word = λ s v h w.
+          four-has_word (A.its.has_word s v.0 h.0 w.0) (B.its.has_word s v.1 h.1.0 w.1.0) (C.its.has_word s v.2 h.1.1.0 w.1.1.0)
+          (D.its.has_word s v.3 h.1.1.1.0 w.1.1.1.0) (Others.its.has_word s v.4 h.1.1.1.1 w.1.1.1.1);
+      names_own = λ e. either (A.its.names_own e) (either (B.its.names_own e)
+          (either (C.its.names_own e) (either (D.its.names_own e) (Others.its.names_own e))));
+    } };
 
     fn claim_size() -> usize {
         Row::<A, Row<B, Row<C, Row<D, Others>>>>::claim_size()
     }
-
-    ghost lawful = { λ s. four-lawful (A.lawful s) (B.lawful s) (C.lawful s) (D.lawful s) (Others.lawful s) };
-
-    ghost balanced = { λ s. four-balanced (A.balanced s) (B.balanced s) (C.balanced s) (D.balanced s)
-        (Others.balanced s) };
-
-    ghost has_word = { λ s v h w.
-        four-has_word (A.has_word s v.0 h.0 w.0) (B.has_word s v.1 h.1.0 w.1.0) (C.has_word s v.2 h.1.1.0 w.1.1.0)
-        (D.has_word s v.3 h.1.1.1.0 w.1.1.1.0) (Others.has_word s v.4 h.1.1.1.1 w.1.1.1.1) };
-
-    ghost names_own = { λ e. either (A.names_own e) (either (B.names_own e)
-        (either (C.names_own e) (either (D.names_own e) (Others.names_own e)))) };
 }
 
 impl<A: Inhabited, B: Inhabited, C: Inhabited, D: Inhabited, Others: Inhabited> Inhabited

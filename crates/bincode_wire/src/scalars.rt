@@ -32,33 +32,24 @@ pub struct Alone<T> {
 }
 
 impl<T: Scalar> Wire for Alone<T> {
-    ghost format = { T.form.format };
-
-    ghost valid = { λ v. T.form.Bounds v.value };
-
-    ghost means = { λ v. T.form.means v.value };
-
-    ghost given = { λ m v. T.form.means v.value m };
-
-    ghost writable = { λ s v. Unit {0} };
-
-    ghost names = { λ e. ⊥ };
-
-    ghost grows = { ⊥ };
-
-    ghost claim = { T.SIZE };
+    ghost its = { record {
+      format = T.form.format;
+      valid = λ v. T.form.Bounds v.value;
+      means = λ v. T.form.means v.value;
+      given = λ m v. T.form.means v.value m;
+      writable = λ s v. Unit {0};
+      names = λ e. ⊥;
+      grows = ⊥;
+      claim = T.SIZE;
+      lawful = T.form_laws.lawful;
+      balanced = T.form_laws.balanced;
+      has_word = λ s v h w. (T.form_laws.spelled s v.value h).has_word;
+      names_own = λ e h. absurd h;
+    } };
 
     fn claim_size() -> usize {
         T::SIZE
     }
-
-    ghost lawful = { T.form_laws.lawful };
-
-    ghost balanced = { T.form_laws.balanced };
-
-    ghost has_word = { λ s v h w. (T.form_laws.spelled s v.value h).has_word };
-
-    ghost names_own = { λ e h. absurd h };
 }
 
 impl<T: Scalar> Inhabited for Alone<T> {

@@ -138,7 +138,7 @@ impl<Of, T: Tag> Variants for NoOther<Of, T> {
 
     ghost variants = { [] };
 
-    ghost variant = { λ v. (0, λ s. T.format s) };
+    ghost variant = { λ v. (0, λ s. T.its.format s) };
 
     ghost valid = { λ v. ⊥ };
 
@@ -201,47 +201,47 @@ impl<const TAG: u32, A: Wire, Others: Variants> Variants for Or<TAG, A, Others> 
 
     type Tag = Others::Tag;
 
-    ghost variants = { (TAG, A.format) ∷ Others.variants };
+    ghost variants = { (TAG, A.its.format) ∷ Others.variants };
 
-    ghost variant = { elim [ This a ↦ (TAG, A.format) | Other o ↦ Others.variant o ] };
+    ghost variant = { elim [ This a ↦ (TAG, A.its.format) | Other o ↦ Others.variant o ] };
 
     ghost valid = { elim [
-      | This a ↦ A.valid a
+      | This a ↦ A.its.valid a
       | Other o ↦ (((Others.variant o).0 == TAG) ≡ false) × Others.valid o
     ] };
 
     ghost picked = { λ s allowed. elim [
-      | This a ↦ λ h. part-here s allowed TAG A.format Others.variants
-      | Other o ↦ λ h. part-there s allowed (Others.variant o).0 TAG A.format Others.variants h.0
+      | This a ↦ λ h. part-here s allowed TAG A.its.format Others.variants
+      | Other o ↦ λ h. part-there s allowed (Others.variant o).0 TAG A.its.format Others.variants h.0
           ∙ Others.picked s allowed o h.1
     ] };
 
-    ghost means = { elim [ This a ↦ A.means a | Other o ↦ Others.means o ] };
+    ghost means = { elim [ This a ↦ A.its.means a | Other o ↦ Others.means o ] };
 
     ghost given = { elim [
-      | This a ↦ λ m. A.given m a
+      | This a ↦ λ m. A.its.given m a
       | Other o ↦ λ m. (((Others.variant o).0 == TAG) ≡ false) × Others.given o m
     ] };
 
-    ghost writable = { elim [ This a ↦ λ s. A.writable s a | Other o ↦ Others.writable o ] };
+    ghost writable = { elim [ This a ↦ λ s. A.its.writable s a | Other o ↦ Others.writable o ] };
 
-    ghost names = { λ e. A.names e ⊎ Others.names e };
+    ghost names = { λ e. A.its.names e ⊎ Others.names e };
 
-    ghost grows = { A.grows ⊎ Others.grows };
+    ghost grows = { A.its.grows ⊎ Others.grows };
 
-    ghost claim = { max A.claim Others.claim };
+    ghost claim = { max A.its.claim Others.claim };
 
     fn claim_size() -> usize {
         A::claim_size().max(Others::claim_size())
     }
 
-    ghost lawful = { λ s. (A.lawful s, Others.lawful s) };
+    ghost lawful = { λ s. (A.its.lawful s, Others.lawful s) };
 
-    ghost balanced = { λ s. (A.balanced s, Others.balanced s) };
+    ghost balanced = { λ s. (A.its.balanced s, Others.balanced s) };
 
-    ghost has_word = { λ s. elim [ This a ↦ A.has_word s a | Other o ↦ λ h w. Others.has_word s o h.1 w ] };
+    ghost has_word = { λ s. elim [ This a ↦ A.its.has_word s a | Other o ↦ λ h w. Others.has_word s o h.1 w ] };
 
-    ghost names_own = { λ e. either (A.names_own e) (Others.names_own e) };
+    ghost names_own = { λ e. either (A.its.names_own e) (Others.names_own e) };
 }
 
 impl<const TAG: u32, A: Writable, Others: WritableVariants> WritableVariants
@@ -309,40 +309,31 @@ impl<const TAG: u32, A: Canonical, Others: CanonicalVariants> CanonicalVariants
 pub struct OneOf<Of>(pub Of);
 
 impl<Of: Variants> Wire for OneOf<Of> {
-    ghost format = { chosen Of.Tag.tags Of.variants };
-
-    ghost valid = { λ v. Of.Tag.Fits (Of.variant v.0).0 × Of.valid v.0 };
-
-    ghost means = { λ v. IsChoice (Of.variant v.0).0 (Of.means v.0) };
-
-    ghost given = { λ m v. IsChoice (Of.variant v.0).0 (Of.given v.0) m };
-
-    ghost writable = { λ s v. Of.writable v.0 s };
-
-    ghost names = { Of.names };
-
-    ghost grows = { (in_order 0 (tags_of Of.variants) ≡ false) ⊎ Of.grows };
-
-    ghost claim = { min (Of.Tag.claim + Of.claim) (2 ^ 64 - 1) };
+    ghost its = { record {
+      format = chosen Of.Tag.tags Of.variants;
+      valid = λ v. Of.Tag.Fits (Of.variant v.0).0 × Of.valid v.0;
+      means = λ v. IsChoice (Of.variant v.0).0 (Of.means v.0);
+      given = λ m v. IsChoice (Of.variant v.0).0 (Of.given v.0) m;
+      writable = λ s v. Of.writable v.0 s;
+      names = Of.names;
+      grows = (in_order 0 (tags_of Of.variants) ≡ false) ⊎ Of.grows;
+      claim = min (Of.Tag.its.claim + Of.claim) (2 ^ 64 - 1);
+      lawful = λ s. chosen-lawful Of.Tag.tags Of.variants s (Of.Tag.numerals.lawful s) (Of.lawful s);
+      balanced = λ s. chosen-balanced Of.Tag.tags Of.variants s (Of.Tag.numerals.balanced s) (Of.balanced s);
+      has_word = λ s v h w. choice-has_word Of.Tag.tags Of.variants s _ _ (same-alike (Of.picked s _ v.0 h.1))
+          (Of.means v.0) (Of.Tag.numerals.spelled s _ h.0).has_word (Of.has_word s v.0 h.1 w);
+      names_own = Of.names_own;
+    } };
 
     fn claim_size() -> usize {
         Of::Tag::claim_size().saturating_add(Of::claim_size())
     }
-
-    ghost lawful = { λ s. chosen-lawful Of.Tag.tags Of.variants s (Of.Tag.numerals.lawful s) (Of.lawful s) };
-
-    ghost balanced = { λ s. chosen-balanced Of.Tag.tags Of.variants s (Of.Tag.numerals.balanced s) (Of.balanced s) };
-
-    ghost has_word = { λ s v h w. choice-has_word Of.Tag.tags Of.variants s _ _ (same-alike (Of.picked s _ v.0 h.1))
-        (Of.means v.0) (Of.Tag.numerals.spelled s _ h.0).has_word (Of.has_word s v.0 h.1 w) };
-
-    ghost names_own = { Of.names_own };
 }
 
 // An enum whose first tag is 0 has some word, if its first part has.
 impl<A: Inhabited, Others: Variants> Inhabited for OneOf<Or<0, A, Others>> {
-    ghost some_word = { λ s. choice-some_word Others.Tag.tags ((0, A.format) ∷ Others.variants) s 0 (A.format s)
-        (part-here s (allowed_tags (tags_of ((0, A.format) ∷ Others.variants))) 0 A.format Others.variants)
+    ghost some_word = { λ s. choice-some_word Others.Tag.tags ((0, A.its.format) ∷ Others.variants) s 0 (A.its.format s)
+        (part-here s (allowed_tags (tags_of ((0, A.its.format) ∷ Others.variants))) 0 A.its.format Others.variants)
         (Others.Tag.numerals.lawful s) (Others.Tag.numerals.spelled s 0 Others.Tag.zero_fits).has_word
         (A.some_word s) };
 }

@@ -16,33 +16,24 @@ pub struct TextBytes<const SIZE: usize> {
 }
 
 impl<const SIZE: usize> Wire for TextBytes<SIZE> {
-    ghost format = { text };
-
-    ghost valid = { λ v. IsUtf8 v.bytes × (length v.bytes < 2 ^ 64) };
-
-    ghost means = { λ v. IsBytes v.bytes };
-
-    ghost given = { λ m v. IsBytes v.bytes m };
-
-    ghost writable = { λ s v. Unit {0} };
-
-    ghost names = { λ e. ⊥ };
-
-    ghost grows = { Unit {0} };
-
-    ghost claim = { SIZE };
+    ghost its = { record {
+      format = text;
+      valid = λ v. IsUtf8 v.bytes × (length v.bytes < 2 ^ 64);
+      means = λ v. IsBytes v.bytes;
+      given = λ m v. IsBytes v.bytes m;
+      writable = λ s v. Unit {0};
+      names = λ e. ⊥;
+      grows = Unit {0};
+      claim = SIZE;
+      lawful = text-lawful;
+      balanced = text-balanced;
+      has_word = λ s v h w. text-has_word s v.bytes h.0 h.1;
+      names_own = λ e h. absurd h;
+    } };
 
     fn claim_size() -> usize {
         SIZE
     }
-
-    ghost lawful = { text-lawful };
-
-    ghost balanced = { text-balanced };
-
-    ghost has_word = { λ s v h w. text-has_word s v.bytes h.0 h.1 };
-
-    ghost names_own = { λ e h. absurd h };
 }
 
 impl<const SIZE: usize> Inhabited for TextBytes<SIZE> {

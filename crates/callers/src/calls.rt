@@ -30,7 +30,7 @@ pub fn read<D: Decode<()>, C: Config>(
     src: &[u8],
     config: C,
 ) -> Result<(D, usize), DecodeError>
-    ensures memory { (D.grows → ⊥) → IfErr result (λ e. ¬ (e ≡ Memory)) }
+    ensures memory { (D.its.grows → ⊥) → IfErr result (λ e. ¬ (e ≡ Memory)) }
 {
     decode_from_slice(alloc, src, config)
 }
@@ -51,9 +51,9 @@ pub fn round_trip<T: Encode + Decode<()> + Exact, C: Config>(
     slice: &mut [u8],
     config: C,
 ) -> Result<RoundTrip<T>, EncodeError>
-    ensures back { IfOk result (λ trip. FitsLimit (T.format C.setting) C.bound (take trip.written slice.new) →
-        MatchResult trip.read (λ x. (T.eq value.now x.0 ≡ true) × (x.1 ≡ trip.written)) (IsRefused T.grows)) }
-    ensures short { IfErr result (TooShort (AllowedWord (T.means value.now) (T.format C.setting)) (length slice.old)) }
+    ensures back { IfOk result (λ trip. FitsLimit (T.its.format C.setting) C.bound (take trip.written slice.new) →
+        MatchResult trip.read (λ x. (T.eq value.now x.0 ≡ true) × (x.1 ≡ trip.written)) (IsRefused T.its.grows)) }
+    ensures short { IfErr result (TooShort (AllowedWord (T.its.means value.now) (T.its.format C.setting)) (length slice.old)) }
 {
     value.tell_valid();
     let written = encode_into_slice(value, slice, config)?;
@@ -76,9 +76,9 @@ pub fn round_trip_by_vec<T: Encode + Decode<()> + Exact, C: Config>(
     value: &T,
     config: C,
 ) -> Result<VecTrip<T>, EncodeError>
-    ensures { IfOk result (λ trip. FitsLimit (T.format C.setting) C.bound trip.bytes.items →
+    ensures { IfOk result (λ trip. FitsLimit (T.its.format C.setting) C.bound trip.bytes.items →
         MatchResult trip.read (λ x. (T.eq value.now x.0 ≡ true) × (x.1 ≡ length trip.bytes.items))
-        (IsRefused T.grows)) }
+        (IsRefused T.its.grows)) }
 {
     value.tell_valid();
     let bytes = encode_to_vec(alloc, value, config)?;
@@ -95,8 +95,8 @@ pub fn round_trip_within<T: Encode + Decode<()> + Exact + ConstantCharge, C: Con
     config: C,
 ) -> Result<RoundTrip<T>, EncodeError>
     ensures back { Allows C.bound T.peak → IfOk result (λ trip.
-        MatchResult trip.read (λ x. (T.eq value.now x.0 ≡ true) × (x.1 ≡ trip.written)) (IsRefused T.grows)) }
-    ensures short { IfErr result (TooShort (AllowedWord (T.means value.now) (T.format C.setting)) (length slice.old)) }
+        MatchResult trip.read (λ x. (T.eq value.now x.0 ≡ true) × (x.1 ≡ trip.written)) (IsRefused T.its.grows)) }
+    ensures short { IfErr result (TooShort (AllowedWord (T.its.means value.now) (T.its.format C.setting)) (length slice.old)) }
 {
     round_trip(alloc, value, slice, config)
 }
@@ -110,9 +110,9 @@ pub fn round_trip_of_numbers<C: Config>(
 ) -> Result<RoundTrip<(u64, [u32; 4])>, EncodeError>
     ensures back { Allows C.bound 24 → IfOk result (λ trip. MatchResult trip.read
         (λ x. (⟦<(u64, [u32; 4]) as PartialEq>⟧.eq value.now x.0 ≡ true) × (x.1 ≡ trip.written))
-        (IsRefused (⟦<(u64, [u32; 4]) as Wire>⟧.grows))) }
-    ensures short { IfErr result (TooShort (AllowedWord (⟦<(u64, [u32; 4]) as Wire>⟧.means value.now)
-        (⟦<(u64, [u32; 4]) as Wire>⟧.format C.setting)) (length slice.old)) }
+        (IsRefused (⟦<(u64, [u32; 4]) as Wire>⟧.its.grows))) }
+    ensures short { IfErr result (TooShort (AllowedWord (⟦<(u64, [u32; 4]) as Wire>⟧.its.means value.now)
+        (⟦<(u64, [u32; 4]) as Wire>⟧.its.format C.setting)) (length slice.old)) }
 {
     round_trip_within(alloc, value, slice, config)
 }
@@ -123,7 +123,7 @@ pub fn read_list<T: Decode<()>, C: Config>(
     src: &[u8],
     config: C,
 ) -> Result<(Vec<T>, usize), DecodeError>
-    ensures { (limit : ℕ) → C.bound ≡ Some limit → IfOk result (λ x. vec_capacity x.0 * T.claim ≤ limit) }
+    ensures { (limit : ℕ) → C.bound ≡ Some limit → IfOk result (λ x. vec_capacity x.0 * T.its.claim ≤ limit) }
 {
     decode_from_slice(alloc, src, config)
 }
@@ -163,24 +163,24 @@ pub fn read_cell<C: Config>(
 
 /// Types of each family that take no memory, so that `read` is never refused some at them.
 pub fn types_without_memory()
-    ensures number { ⟦<u64 as Wire>⟧.grows → ⊥ }
-    ensures number_other_than_zero { ⟦<NonZeroU16 as Wire>⟧.grows → ⊥ }
-    ensures truth { ⟦<bool as Wire>⟧.grows → ⊥ }
-    ensures character { ⟦<char as Wire>⟧.grows → ⊥ }
-    ensures pair { ⟦<(u8, u32) as Wire>⟧.grows → ⊥ }
+    ensures number { ⟦<u64 as Wire>⟧.its.grows → ⊥ }
+    ensures number_other_than_zero { ⟦<NonZeroU16 as Wire>⟧.its.grows → ⊥ }
+    ensures truth { ⟦<bool as Wire>⟧.its.grows → ⊥ }
+    ensures character { ⟦<char as Wire>⟧.its.grows → ⊥ }
+    ensures pair { ⟦<(u8, u32) as Wire>⟧.its.grows → ⊥ }
     // its slots fit
-    ensures array { ⟦<[u8; 4] as Wire>⟧.grows → ⊥ }
-    ensures option { ⟦<Option<u32> as Wire>⟧.grows → ⊥ }
-    ensures outcome { ⟦<Result<u8, u16> as Wire>⟧.grows → ⊥ }
-    ensures bound { ⟦<Bound<u8> as Wire>⟧.grows → ⊥ }
-    ensures range { ⟦<Range<u16> as Wire>⟧.grows → ⊥ }
-    ensures inclusive_range { ⟦<RangeInclusive<u16> as Wire>⟧.grows → ⊥ }
-    ensures wrapping { ⟦<Wrapping<u32> as Wire>⟧.grows → ⊥ }
-    ensures reverse { ⟦<Reverse<u32> as Wire>⟧.grows → ⊥ }
-    ensures nothing { ⟦<PhantomData<u8> as Wire>⟧.grows → ⊥ }
-    ensures span { ⟦<Duration as Wire>⟧.grows → ⊥ }
-    ensures cell { ⟦<Cell<u32> as Wire>⟧.grows → ⊥ }
-    ensures ref_cell { ⟦<RefCell<u32> as Wire>⟧.grows → ⊥ }
+    ensures array { ⟦<[u8; 4] as Wire>⟧.its.grows → ⊥ }
+    ensures option { ⟦<Option<u32> as Wire>⟧.its.grows → ⊥ }
+    ensures outcome { ⟦<Result<u8, u16> as Wire>⟧.its.grows → ⊥ }
+    ensures bound { ⟦<Bound<u8> as Wire>⟧.its.grows → ⊥ }
+    ensures range { ⟦<Range<u16> as Wire>⟧.its.grows → ⊥ }
+    ensures inclusive_range { ⟦<RangeInclusive<u16> as Wire>⟧.its.grows → ⊥ }
+    ensures wrapping { ⟦<Wrapping<u32> as Wire>⟧.its.grows → ⊥ }
+    ensures reverse { ⟦<Reverse<u32> as Wire>⟧.its.grows → ⊥ }
+    ensures nothing { ⟦<PhantomData<u8> as Wire>⟧.its.grows → ⊥ }
+    ensures span { ⟦<Duration as Wire>⟧.its.grows → ⊥ }
+    ensures cell { ⟦<Cell<u32> as Wire>⟧.its.grows → ⊥ }
+    ensures ref_cell { ⟦<RefCell<u32> as Wire>⟧.its.grows → ⊥ }
 {}
 
 /// Writes a value of a type whose every valid value can be written. After a failure a front of an allowed word stands
@@ -190,7 +190,7 @@ pub fn write<T: Encode + Writable, C: Config>(
     slice: &mut [u8],
     config: C,
 ) -> Result<usize, EncodeError>
-    ensures { IfErr result (FrontWritten (AllowedWord (T.means value.now) (T.format C.setting)) slice.old slice.new) }
+    ensures { IfErr result (FrontWritten (AllowedWord (T.its.means value.now) (T.its.format C.setting)) slice.old slice.new) }
 {
     value.tell_valid();
     encode_into_slice(value, slice, config)
@@ -202,8 +202,8 @@ pub fn write_cell<C: Config>(
     slice: &mut [u8],
     config: C,
 ) -> Result<usize, EncodeError>
-    ensures { IfErr result (FrontWritten (AllowedWord (⟦<Cell<u8> as Wire>⟧.means value.now)
-        (⟦<Cell<u8> as Wire>⟧.format C.setting)) slice.old slice.new) }
+    ensures { IfErr result (FrontWritten (AllowedWord (⟦<Cell<u8> as Wire>⟧.its.means value.now)
+        (⟦<Cell<u8> as Wire>⟧.its.format C.setting)) slice.old slice.new) }
 {
     write(value, slice, config)
 }

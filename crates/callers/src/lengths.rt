@@ -14,7 +14,7 @@ pub fn encoded_length<E: Encode + Plain, C: Config>(
     value: &E,
     config: C,
 ) -> Result<usize, EncodeError>
-    ensures { IfOk result (λ n. (word : List ℕ) → AllowedWord (E.means value.now) (E.format C.setting) word
+    ensures { IfOk result (λ n. (word : List ℕ) → AllowedWord (E.its.means value.now) (E.its.format C.setting) word
         → length word ≡ n) }
 {
     value.tell_valid();

@@ -16,9 +16,9 @@ pub fn fits_exactly<E: Encode + Plain, W: Writer, C: Config>(
     writer: &mut W,
     config: C,
 ) -> Result<(), EncodeError>
-    ensures within { (word : List ℕ) → AllowedWord (E.means value.now) (E.format C.setting) word
+    ensures within { (word : List ℕ) → AllowedWord (E.its.means value.now) (E.its.format C.setting) word
         → OnOk result (WithinRoom (W.room writer.old) word) }
-    ensures fits { (word : List ℕ) → AllowedWord (E.means value.now) (E.format C.setting) word
+    ensures fits { (word : List ℕ) → AllowedWord (E.its.means value.now) (E.its.format C.setting) word
         → WithinRoom (W.room writer.old) word
         → IfErr result (WriterFails W.device (W.failures writer.old) (W.failures writer.new)) }
 {

@@ -37,8 +37,8 @@ pub fn count_numbers<C: Config>(
     config: C,
 ) -> Result<usize, DecodeError>
     ensures { IfOk result (λ n. (taken : ℕ)
-        × Decoded (⟦<ArenaList<'static, u32> as Wire>⟧.format C.setting) C.bound bytes.now
-        (λ m. (items : List ℕ) × IsListOf (λ x k. ⟦<u32 as Wire>⟧.given k x) items m × (n ≡ length items))
+        × Decoded (⟦<ArenaList<'static, u32> as Wire>⟧.its.format C.setting) C.bound bytes.now
+        (λ m. (items : List ℕ) × IsListOf (λ x k. ⟦<u32 as Wire>⟧.its.given k x) items m × (n ≡ length items))
         taken) }
 {
     let (list, _taken): (ArenaList<u32>, usize) = decode_from_slice_with_context(

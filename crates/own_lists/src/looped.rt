@@ -41,9 +41,9 @@ fn decode_claimed<Context: Drop, T: Decode<Context>, D: Decoder<Context = Contex
     decoder: &mut D,
     len: usize,
 ) -> Result<Looped<T>, DecodeError>
-    requires { CanRelease D.C.bound (D.charge decoder.old) (len * T.claim) }
-    ensures { RunRead D.told D.rest D.charge D.failures D.place D.C.bound D.R.ended D.R.device (Unit {0}) T.claim
-        (T.format D.C.setting) T.given len (λ v. v.items.items) result decoder.old decoder.new }
+    requires { CanRelease D.C.bound (D.charge decoder.old) (len * T.its.claim) }
+    ensures { RunRead D.told D.rest D.charge D.failures D.place D.C.bound D.R.ended D.R.device (Unit {0}) T.its.claim
+        (T.its.format D.C.setting) T.its.given len (λ v. v.items.items) result decoder.old decoder.new }
 {
     let Ok(mut items) = Vec::with_capacity(decoder.alloc(), len) else {
         return Err(DecodeError::Memory);

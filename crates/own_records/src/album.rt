@@ -5,7 +5,7 @@ use crate::track::Track;
 use bincode::de::{Decode, Decoder};
 use bincode::enc::{Encode, Encoder};
 use bincode::error::{DecodeError, EncodeError};
-use bincode::{MadeOf, Wire, WrittenAs};
+use bincode::{MadeOf, Wire};
 
 type Parts = (String, Vec<Entry>, Option<Box<Track>>);
 
@@ -22,29 +22,9 @@ impl MadeOf<Parts> for Album {
 }
 
 impl Wire for Album {
-    ghost format = { ⟦<Album as WrittenAs<Parts>>⟧.format };
+    ghost use Rattle.bincode_wire.specs.Words.{words_by};
 
-    ghost valid = { ⟦<Album as WrittenAs<Parts>>⟧.valid };
-
-    ghost means = { ⟦<Album as WrittenAs<Parts>>⟧.means };
-
-    ghost given = { ⟦<Album as WrittenAs<Parts>>⟧.given };
-
-    ghost writable = { ⟦<Album as WrittenAs<Parts>>⟧.writable };
-
-    ghost names = { ⟦<Album as WrittenAs<Parts>>⟧.names };
-
-    ghost grows = { ⟦<Album as WrittenAs<Parts>>⟧.grows };
-
-    ghost claim = { ⟦<Album as WrittenAs<Parts>>⟧.claim };
-
-    ghost lawful = { ⟦<Album as WrittenAs<Parts>>⟧.lawful };
-
-    ghost balanced = { ⟦<Album as WrittenAs<Parts>>⟧.balanced };
-
-    ghost has_word = { ⟦<Album as WrittenAs<Parts>>⟧.has_word };
-
-    ghost names_own = { ⟦<Album as WrittenAs<Parts>>⟧.names_own };
+    ghost its = { words_by ⟦<Parts as Wire>⟧.its ⟦<Album as MadeOf<Parts>>⟧.parts };
 
     fn claim_size() -> usize {
         Parts::claim_size()

@@ -5,7 +5,7 @@ use bincode::de::{Decode, Decoder, Named};
 use bincode::enc::{Encode, Encoder, encode_variant};
 use bincode::error::{DecodeError, EncodeError};
 use bincode::short_text::TypeName;
-use bincode::{MadeOf, NoOther, OneOf, Or, Wire, WrittenAs};
+use bincode::{MadeOf, NoOther, OneOf, Or, Wire};
 
 type Parts = OneOf<Or<0, Track, Or<1, u32, Or<2, (String, u64), NoOther<Entry>>>>>;
 
@@ -29,29 +29,9 @@ impl MadeOf<Parts> for Entry {
 }
 
 impl Wire for Entry {
-    ghost format = { ⟦<Entry as WrittenAs<Parts>>⟧.format };
+    ghost use Rattle.bincode_wire.specs.Words.{words_by};
 
-    ghost valid = { ⟦<Entry as WrittenAs<Parts>>⟧.valid };
-
-    ghost means = { ⟦<Entry as WrittenAs<Parts>>⟧.means };
-
-    ghost given = { ⟦<Entry as WrittenAs<Parts>>⟧.given };
-
-    ghost writable = { ⟦<Entry as WrittenAs<Parts>>⟧.writable };
-
-    ghost names = { ⟦<Entry as WrittenAs<Parts>>⟧.names };
-
-    ghost grows = { ⟦<Entry as WrittenAs<Parts>>⟧.grows };
-
-    ghost claim = { ⟦<Entry as WrittenAs<Parts>>⟧.claim };
-
-    ghost lawful = { ⟦<Entry as WrittenAs<Parts>>⟧.lawful };
-
-    ghost balanced = { ⟦<Entry as WrittenAs<Parts>>⟧.balanced };
-
-    ghost has_word = { ⟦<Entry as WrittenAs<Parts>>⟧.has_word };
-
-    ghost names_own = { ⟦<Entry as WrittenAs<Parts>>⟧.names_own };
+    ghost its = { words_by ⟦<Parts as Wire>⟧.its ⟦<Entry as MadeOf<Parts>>⟧.parts };
 
     fn claim_size() -> usize {
         Parts::claim_size()

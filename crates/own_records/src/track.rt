@@ -3,7 +3,7 @@
 use bincode::de::{Decode, Decoder};
 use bincode::enc::{Encode, Encoder};
 use bincode::error::{DecodeError, EncodeError};
-use bincode::{MadeOf, Wire, WrittenAs};
+use bincode::{MadeOf, Wire};
 
 type Parts = (String, Vec<u16>, u8, bool);
 
@@ -21,29 +21,9 @@ impl MadeOf<Parts> for Track {
 }
 
 impl Wire for Track {
-    ghost format = { ⟦<Track as WrittenAs<Parts>>⟧.format };
+    ghost use Rattle.bincode_wire.specs.Words.{words_by};
 
-    ghost valid = { ⟦<Track as WrittenAs<Parts>>⟧.valid };
-
-    ghost means = { ⟦<Track as WrittenAs<Parts>>⟧.means };
-
-    ghost given = { ⟦<Track as WrittenAs<Parts>>⟧.given };
-
-    ghost writable = { ⟦<Track as WrittenAs<Parts>>⟧.writable };
-
-    ghost names = { ⟦<Track as WrittenAs<Parts>>⟧.names };
-
-    ghost grows = { ⟦<Track as WrittenAs<Parts>>⟧.grows };
-
-    ghost claim = { ⟦<Track as WrittenAs<Parts>>⟧.claim };
-
-    ghost lawful = { ⟦<Track as WrittenAs<Parts>>⟧.lawful };
-
-    ghost balanced = { ⟦<Track as WrittenAs<Parts>>⟧.balanced };
-
-    ghost has_word = { ⟦<Track as WrittenAs<Parts>>⟧.has_word };
-
-    ghost names_own = { ⟦<Track as WrittenAs<Parts>>⟧.names_own };
+    ghost its = { words_by ⟦<Parts as Wire>⟧.its ⟦<Track as MadeOf<Parts>>⟧.parts };
 
     fn claim_size() -> usize {
         Parts::claim_size()

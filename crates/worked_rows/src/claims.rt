@@ -20,84 +20,84 @@ use std::sync::Arc;
 
 /// Of numbers.
 pub fn number_claims()
-    ensures of_u8 { ⟦<u8 as Wire>⟧.claim ≡ 1 }
-    ensures of_u16 { ⟦<u16 as Wire>⟧.claim ≡ 2 }
-    ensures of_u32 { ⟦<u32 as Wire>⟧.claim ≡ 4 }
-    ensures of_u64 { ⟦<u64 as Wire>⟧.claim ≡ 8 }
-    ensures of_u128 { ⟦<u128 as Wire>⟧.claim ≡ 16 }
-    ensures of_usize { ⟦<usize as Wire>⟧.claim ≡ 8 }
-    ensures of_i8 { ⟦<i8 as Wire>⟧.claim ≡ 1 }
-    ensures of_i16 { ⟦<i16 as Wire>⟧.claim ≡ 2 }
-    ensures of_i32 { ⟦<i32 as Wire>⟧.claim ≡ 4 }
-    ensures of_i64 { ⟦<i64 as Wire>⟧.claim ≡ 8 }
-    ensures of_i128 { ⟦<i128 as Wire>⟧.claim ≡ 16 }
-    ensures of_isize { ⟦<isize as Wire>⟧.claim ≡ 8 }
+    ensures of_u8 { ⟦<u8 as Wire>⟧.its.claim ≡ 1 }
+    ensures of_u16 { ⟦<u16 as Wire>⟧.its.claim ≡ 2 }
+    ensures of_u32 { ⟦<u32 as Wire>⟧.its.claim ≡ 4 }
+    ensures of_u64 { ⟦<u64 as Wire>⟧.its.claim ≡ 8 }
+    ensures of_u128 { ⟦<u128 as Wire>⟧.its.claim ≡ 16 }
+    ensures of_usize { ⟦<usize as Wire>⟧.its.claim ≡ 8 }
+    ensures of_i8 { ⟦<i8 as Wire>⟧.its.claim ≡ 1 }
+    ensures of_i16 { ⟦<i16 as Wire>⟧.its.claim ≡ 2 }
+    ensures of_i32 { ⟦<i32 as Wire>⟧.its.claim ≡ 4 }
+    ensures of_i64 { ⟦<i64 as Wire>⟧.its.claim ≡ 8 }
+    ensures of_i128 { ⟦<i128 as Wire>⟧.its.claim ≡ 16 }
+    ensures of_isize { ⟦<isize as Wire>⟧.its.claim ≡ 8 }
 {}
 
 /// Of numbers other than 0.
 pub fn not_zero_claims()
-    ensures of_not_zero_u8 { ⟦<NonZeroU8 as Wire>⟧.claim ≡ 1 }
-    ensures of_not_zero_u16 { ⟦<NonZeroU16 as Wire>⟧.claim ≡ 2 }
-    ensures of_not_zero_u32 { ⟦<NonZeroU32 as Wire>⟧.claim ≡ 4 }
-    ensures of_not_zero_u64 { ⟦<NonZeroU64 as Wire>⟧.claim ≡ 8 }
-    ensures of_not_zero_u128 { ⟦<NonZeroU128 as Wire>⟧.claim ≡ 16 }
-    ensures of_not_zero_usize { ⟦<NonZeroUsize as Wire>⟧.claim ≡ 8 }
-    ensures of_not_zero_i8 { ⟦<NonZeroI8 as Wire>⟧.claim ≡ 1 }
-    ensures of_not_zero_i16 { ⟦<NonZeroI16 as Wire>⟧.claim ≡ 2 }
-    ensures of_not_zero_i32 { ⟦<NonZeroI32 as Wire>⟧.claim ≡ 4 }
-    ensures of_not_zero_i64 { ⟦<NonZeroI64 as Wire>⟧.claim ≡ 8 }
-    ensures of_not_zero_i128 { ⟦<NonZeroI128 as Wire>⟧.claim ≡ 16 }
-    ensures of_not_zero_isize { ⟦<NonZeroIsize as Wire>⟧.claim ≡ 8 }
+    ensures of_not_zero_u8 { ⟦<NonZeroU8 as Wire>⟧.its.claim ≡ 1 }
+    ensures of_not_zero_u16 { ⟦<NonZeroU16 as Wire>⟧.its.claim ≡ 2 }
+    ensures of_not_zero_u32 { ⟦<NonZeroU32 as Wire>⟧.its.claim ≡ 4 }
+    ensures of_not_zero_u64 { ⟦<NonZeroU64 as Wire>⟧.its.claim ≡ 8 }
+    ensures of_not_zero_u128 { ⟦<NonZeroU128 as Wire>⟧.its.claim ≡ 16 }
+    ensures of_not_zero_usize { ⟦<NonZeroUsize as Wire>⟧.its.claim ≡ 8 }
+    ensures of_not_zero_i8 { ⟦<NonZeroI8 as Wire>⟧.its.claim ≡ 1 }
+    ensures of_not_zero_i16 { ⟦<NonZeroI16 as Wire>⟧.its.claim ≡ 2 }
+    ensures of_not_zero_i32 { ⟦<NonZeroI32 as Wire>⟧.its.claim ≡ 4 }
+    ensures of_not_zero_i64 { ⟦<NonZeroI64 as Wire>⟧.its.claim ≡ 8 }
+    ensures of_not_zero_i128 { ⟦<NonZeroI128 as Wire>⟧.its.claim ≡ 16 }
+    ensures of_not_zero_isize { ⟦<NonZeroIsize as Wire>⟧.its.claim ≡ 8 }
 {}
 
 /// Of truth values, characters and spans of time, and of what has no bytes.
 pub fn scalar_claims()
-    ensures truth { ⟦<bool as Wire>⟧.claim ≡ 1 }
-    ensures character { ⟦<char as Wire>⟧.claim ≡ 4 }
-    ensures nothing { ⟦<() as Wire>⟧.claim ≡ 0 }
-    ensures phantom { ⟦<PhantomData<u64> as Wire>⟧.claim ≡ 0 }
-    ensures span { ⟦<Duration as Wire>⟧.claim ≡ 12 }
+    ensures truth { ⟦<bool as Wire>⟧.its.claim ≡ 1 }
+    ensures character { ⟦<char as Wire>⟧.its.claim ≡ 4 }
+    ensures nothing { ⟦<() as Wire>⟧.its.claim ≡ 0 }
+    ensures phantom { ⟦<PhantomData<u64> as Wire>⟧.its.claim ≡ 0 }
+    ensures span { ⟦<Duration as Wire>⟧.its.claim ≡ 12 }
 {}
 
 /// Of wholes, by what their parts claim.
 pub fn whole_claims()
-    ensures one { ⟦<(u8,) as Wire>⟧.claim ≡ 1 }
-    ensures four { ⟦<(u8, u16, u32, u64) as Wire>⟧.claim ≡ 15 }
-    ensures array { ⟦<[u64; 3] as Wire>⟧.claim ≡ 24 }
-    ensures units { ⟦<[(); 5] as Wire>⟧.claim ≡ 0 }
-    ensures option { ⟦<Option<u64> as Wire>⟧.claim ≡ 9 }
-    ensures option_of_unit { ⟦<Option<()> as Wire>⟧.claim ≡ 1 }
-    ensures first_outcome { ⟦<Result<u64, u16> as Wire>⟧.claim ≡ 12 }
-    ensures second_outcome { ⟦<Result<u16, u64> as Wire>⟧.claim ≡ 12 }
-    ensures bound { ⟦<Bound<u64> as Wire>⟧.claim ≡ 12 }
-    ensures bound_of_unit { ⟦<Bound<()> as Wire>⟧.claim ≡ 4 }
-    ensures range { ⟦<Range<u64> as Wire>⟧.claim ≡ 16 }
-    ensures inclusive_range { ⟦<RangeInclusive<u64> as Wire>⟧.claim ≡ 16 }
-    ensures wrapping { ⟦<Wrapping<u64> as Wire>⟧.claim ≡ 8 }
-    ensures reverse { ⟦<Reverse<u64> as Wire>⟧.claim ≡ 8 }
-    ensures cell { ⟦<Cell<u64> as Wire>⟧.claim ≡ 8 }
-    ensures ref_cell { ⟦<RefCell<u64> as Wire>⟧.claim ≡ 8 }
-    ensures cow { ⟦<Cow<'static, u16> as Wire>⟧.claim ≡ 2 }
+    ensures one { ⟦<(u8,) as Wire>⟧.its.claim ≡ 1 }
+    ensures four { ⟦<(u8, u16, u32, u64) as Wire>⟧.its.claim ≡ 15 }
+    ensures array { ⟦<[u64; 3] as Wire>⟧.its.claim ≡ 24 }
+    ensures units { ⟦<[(); 5] as Wire>⟧.its.claim ≡ 0 }
+    ensures option { ⟦<Option<u64> as Wire>⟧.its.claim ≡ 9 }
+    ensures option_of_unit { ⟦<Option<()> as Wire>⟧.its.claim ≡ 1 }
+    ensures first_outcome { ⟦<Result<u64, u16> as Wire>⟧.its.claim ≡ 12 }
+    ensures second_outcome { ⟦<Result<u16, u64> as Wire>⟧.its.claim ≡ 12 }
+    ensures bound { ⟦<Bound<u64> as Wire>⟧.its.claim ≡ 12 }
+    ensures bound_of_unit { ⟦<Bound<()> as Wire>⟧.its.claim ≡ 4 }
+    ensures range { ⟦<Range<u64> as Wire>⟧.its.claim ≡ 16 }
+    ensures inclusive_range { ⟦<RangeInclusive<u64> as Wire>⟧.its.claim ≡ 16 }
+    ensures wrapping { ⟦<Wrapping<u64> as Wire>⟧.its.claim ≡ 8 }
+    ensures reverse { ⟦<Reverse<u64> as Wire>⟧.its.claim ≡ 8 }
+    ensures cell { ⟦<Cell<u64> as Wire>⟧.its.claim ≡ 8 }
+    ensures ref_cell { ⟦<RefCell<u64> as Wire>⟧.its.claim ≡ 8 }
+    ensures cow { ⟦<Cow<'static, u16> as Wire>⟧.its.claim ≡ 2 }
 {}
 
 /// Of pointers, lists, texts, sets and maps, whatever they hold.
 pub fn owner_claims()
-    ensures lent { ⟦<&'static u16 as Wire>⟧.claim ≡ 8 }
-    ensures boxed { ⟦<Box<u16> as Wire>⟧.claim ≡ 8 }
-    ensures counted { ⟦<Rc<u16> as Wire>⟧.claim ≡ 8 }
-    ensures counted_by_threads { ⟦<Arc<u16> as Wire>⟧.claim ≡ 8 }
-    ensures slice { ⟦<&'static [u8] as Wire>⟧.claim ≡ 16 }
-    ensures boxed_slice { ⟦<BoxedSlice<u8> as Wire>⟧.claim ≡ 16 }
-    ensures shared_slice { ⟦<RcSlice<u8> as Wire>⟧.claim ≡ 16 }
-    ensures text_slice { ⟦<&'static str as Wire>⟧.claim ≡ 16 }
-    ensures boxed_text { ⟦<BoxedStr as Wire>⟧.claim ≡ 16 }
-    ensures shared_text { ⟦<RcStr as Wire>⟧.claim ≡ 16 }
-    ensures vector { ⟦<Vec<u8> as Wire>⟧.claim ≡ 24 }
-    ensures queue { ⟦<VecDeque<u8> as Wire>⟧.claim ≡ 24 }
-    ensures heap { ⟦<BinaryHeap<u8> as Wire>⟧.claim ≡ 24 }
-    ensures set { ⟦<BTreeSet<u8> as Wire>⟧.claim ≡ 24 }
-    ensures map { ⟦<BTreeMap<u8, u8> as Wire>⟧.claim ≡ 24 }
-    ensures cow_slice { ⟦<CowSlice<'static, u8> as Wire>⟧.claim ≡ 24 }
-    ensures text { ⟦<String as Wire>⟧.claim ≡ 24 }
-    ensures cow_text { ⟦<CowStr<'static> as Wire>⟧.claim ≡ 24 }
+    ensures lent { ⟦<&'static u16 as Wire>⟧.its.claim ≡ 8 }
+    ensures boxed { ⟦<Box<u16> as Wire>⟧.its.claim ≡ 8 }
+    ensures counted { ⟦<Rc<u16> as Wire>⟧.its.claim ≡ 8 }
+    ensures counted_by_threads { ⟦<Arc<u16> as Wire>⟧.its.claim ≡ 8 }
+    ensures slice { ⟦<&'static [u8] as Wire>⟧.its.claim ≡ 16 }
+    ensures boxed_slice { ⟦<BoxedSlice<u8> as Wire>⟧.its.claim ≡ 16 }
+    ensures shared_slice { ⟦<RcSlice<u8> as Wire>⟧.its.claim ≡ 16 }
+    ensures text_slice { ⟦<&'static str as Wire>⟧.its.claim ≡ 16 }
+    ensures boxed_text { ⟦<BoxedStr as Wire>⟧.its.claim ≡ 16 }
+    ensures shared_text { ⟦<RcStr as Wire>⟧.its.claim ≡ 16 }
+    ensures vector { ⟦<Vec<u8> as Wire>⟧.its.claim ≡ 24 }
+    ensures queue { ⟦<VecDeque<u8> as Wire>⟧.its.claim ≡ 24 }
+    ensures heap { ⟦<BinaryHeap<u8> as Wire>⟧.its.claim ≡ 24 }
+    ensures set { ⟦<BTreeSet<u8> as Wire>⟧.its.claim ≡ 24 }
+    ensures map { ⟦<BTreeMap<u8, u8> as Wire>⟧.its.claim ≡ 24 }
+    ensures cow_slice { ⟦<CowSlice<'static, u8> as Wire>⟧.its.claim ≡ 24 }
+    ensures text { ⟦<String as Wire>⟧.its.claim ≡ 24 }
+    ensures cow_text { ⟦<CowStr<'static> as Wire>⟧.its.claim ≡ 24 }
 {}

@@ -10,26 +10,26 @@ use std::ops::Bound;
 
 /// What unsigned numbers are read from.
 pub fn unsigned_rows()
-    ensures { UnsignedRows ⟦<u8 as Wire>⟧.format ⟦<u16 as Wire>⟧.format ⟦<u32 as Wire>⟧.format
-        ⟦<u64 as Wire>⟧.format ⟦<u128 as Wire>⟧.format ⟦<NonZeroU16 as Wire>⟧.format }
+    ensures { UnsignedRows ⟦<u8 as Wire>⟧.its.format ⟦<u16 as Wire>⟧.its.format ⟦<u32 as Wire>⟧.its.format
+        ⟦<u64 as Wire>⟧.its.format ⟦<u128 as Wire>⟧.its.format ⟦<NonZeroU16 as Wire>⟧.its.format }
 {}
 
 /// What signed numbers are read from.
 pub fn signed_rows()
-    ensures { SignedRows ⟦<i8 as Wire>⟧.format ⟦<i16 as Wire>⟧.format ⟦<i32 as Wire>⟧.format
-        ⟦<i64 as Wire>⟧.format ⟦<i128 as Wire>⟧.format ⟦<isize as Wire>⟧.format
-        ⟦<NonZeroI16 as Wire>⟧.format }
+    ensures { SignedRows ⟦<i8 as Wire>⟧.its.format ⟦<i16 as Wire>⟧.its.format ⟦<i32 as Wire>⟧.its.format
+        ⟦<i64 as Wire>⟧.its.format ⟦<i128 as Wire>⟧.its.format ⟦<isize as Wire>⟧.its.format
+        ⟦<NonZeroI16 as Wire>⟧.its.format }
 {}
 
 /// What truth values, tuples and arrays are read from.
 pub fn whole_rows()
-    ensures { WholeRows ⟦<bool as Wire>⟧.format ⟦<() as Wire>⟧.format ⟦<(u8, u32) as Wire>⟧.format
-        ⟦<(u8, u32, i128, char, [u8; 4]) as Wire>⟧.format ⟦<[u16; 2] as Wire>⟧.format }
+    ensures { WholeRows ⟦<bool as Wire>⟧.its.format ⟦<() as Wire>⟧.its.format ⟦<(u8, u32) as Wire>⟧.its.format
+        ⟦<(u8, u32, i128, char, [u8; 4]) as Wire>⟧.its.format ⟦<[u16; 2] as Wire>⟧.its.format }
 {}
 
 /// What characters are read from.
 pub fn character_rows()
-    ensures { CharacterRows ⟦<char as Wire>⟧.format }
+    ensures { CharacterRows ⟦<char as Wire>⟧.its.format }
 {}
 
 /// Three variants whose tags are not in order.
@@ -37,20 +37,20 @@ pub type Far = OneOf<Or<1, (), Or<5, u8, Or<300, u8, NoOther<()>>>>>;
 
 /// What choices are read from.
 pub fn choice_rows()
-    ensures { ChoiceRows ⟦<Option<u8> as Wire>⟧.format ⟦<Option<u32> as Wire>⟧.format
-        ⟦<Option<bool> as Wire>⟧.format ⟦<Result<u8, u8> as Wire>⟧.format ⟦<Result<(), u8> as Wire>⟧.format
-        ⟦<Bound<u8> as Wire>⟧.format ⟦<Far as Wire>⟧.format }
+    ensures { ChoiceRows ⟦<Option<u8> as Wire>⟧.its.format ⟦<Option<u32> as Wire>⟧.its.format
+        ⟦<Option<bool> as Wire>⟧.its.format ⟦<Result<u8, u8> as Wire>⟧.its.format ⟦<Result<(), u8> as Wire>⟧.its.format
+        ⟦<Bound<u8> as Wire>⟧.its.format ⟦<Far as Wire>⟧.its.format }
 {}
 
 /// What spans of time are read from.
 pub fn duration_rows()
-    ensures { DurationRows ⟦<Duration as Wire>⟧.format }
+    ensures { DurationRows ⟦<Duration as Wire>⟧.its.format }
 {}
 
 /// What lists of such are read from.
 pub fn list_rows()
-    ensures { ListRows ⟦<u8 as Wire>⟧.format ⟦<u16 as Wire>⟧.format ⟦<u32 as Wire>⟧.format
-        ⟦<() as Wire>⟧.format ⟦<Option<u8> as Wire>⟧.format }
+    ensures { ListRows ⟦<u8 as Wire>⟧.its.format ⟦<u16 as Wire>⟧.its.format ⟦<u32 as Wire>⟧.its.format
+        ⟦<() as Wire>⟧.its.format ⟦<Option<u8> as Wire>⟧.its.format }
 {}
 
 /// What texts are read from.
@@ -60,13 +60,13 @@ pub fn text_rows()
 
 /// What unsigned numbers are written as.
 pub fn unsigned_words()
-    ensures { UnsignedWords ⟦<u32 as Wire>⟧.format ⟦<u64 as Wire>⟧.format ⟦<u128 as Wire>⟧.format }
+    ensures { UnsignedWords ⟦<u32 as Wire>⟧.its.format ⟦<u64 as Wire>⟧.its.format ⟦<u128 as Wire>⟧.its.format }
 {}
 
 /// What signed numbers are written as.
 pub fn signed_words()
-    ensures { SignedWords ⟦<i8 as Wire>⟧.format ⟦<i16 as Wire>⟧.format ⟦<i32 as Wire>⟧.format
-        ⟦<i64 as Wire>⟧.format ⟦<i128 as Wire>⟧.format }
+    ensures { SignedWords ⟦<i8 as Wire>⟧.its.format ⟦<i16 as Wire>⟧.its.format ⟦<i32 as Wire>⟧.its.format
+        ⟦<i64 as Wire>⟧.its.format ⟦<i128 as Wire>⟧.its.format }
 {}
 
 /// The numbers that stand for integers.

@@ -26,7 +26,7 @@ impl<T: Encode> EncodeParts for Vec<T> {
 
 /// Says of the items of a queue in hand that each is valid, and that their number is a length.
 fn tell_deque_valid<T: Encode>(queue: &VecDeque<T>)
-    ensures { AreValid T.valid queue.now.items }
+    ensures { AreValid T.its.valid queue.now.items }
 {
     let _len = queue.len();
     let (first, second) = queue.as_slices();

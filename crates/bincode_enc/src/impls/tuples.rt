@@ -19,10 +19,10 @@ impl Encode for () {
 
 /// Says of four values in hand that they are valid.
 fn tell_four_valid<A: Encode, B: Encode, C: Encode, D: Encode>(a: &A, b: &B, c: &C, d: &D)
-    ensures first { A.valid a.now }
-    ensures second { B.valid b.now }
-    ensures third { C.valid c.now }
-    ensures fourth { D.valid d.now }
+    ensures first { A.its.valid a.now }
+    ensures second { B.its.valid b.now }
+    ensures third { C.its.valid c.now }
+    ensures fourth { D.its.valid d.now }
 {
     a.tell_valid();
     b.tell_valid();

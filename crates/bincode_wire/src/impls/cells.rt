@@ -11,37 +11,28 @@ use crate::wire::Wire;
 use std::cell::{Cell, RefCell};
 
 impl<T: Wire> Wire for Cell<T> {
-    ghost format = { λ s. of_cell (T.format s) };
-
-    ghost valid = { λ v. Unit {0} };
-
-    ghost means = { λ v. IsAny };
-
-    ghost given = { λ m v. IsAny m };
-
-    ghost writable = { λ s v. IsHeld (T.format s) T.valid (T.writable s) };
-
-    ghost names = { T.names };
-
-    ghost grows = { T.grows };
-
-    ghost claim = { T.claim };
+    ghost its = { record {
+      format = λ s. of_cell (T.its.format s);
+      valid = λ v. Unit {0};
+      means = λ v. IsAny;
+      given = λ m v. IsAny m;
+      writable = λ s v. IsHeld (T.its.format s) T.its.valid (T.its.writable s);
+      names = T.its.names;
+      grows = T.its.grows;
+      claim = T.its.claim;
+      lawful = λ s. cell-lawful (T.its.format s) (T.its.lawful s);
+      balanced = λ s. cell-balanced (T.its.format s) (T.its.balanced s);
+      has_word = λ s v h w. w.some_word;
+      names_own = T.its.names_own;
+    } };
 
     fn claim_size() -> usize {
         T::claim_size()
     }
-
-    ghost lawful = { λ s. cell-lawful (T.format s) (T.lawful s) };
-
-    ghost balanced = { λ s. cell-balanced (T.format s) (T.balanced s) };
-
-    ghost has_word = { λ s v h w. w.some_word };
-
-    ghost names_own = { T.names_own };
 }
 
 impl<T: Inhabited> Inhabited for Cell<T> {
-    ghost some_word = { λ s. cell-some_word (T.format s) (T.some_word s) };
+    ghost some_word = { λ s. cell-some_word (T.its.format s) (T.some_word s) };
 }
 
 impl<T: Writable + Inhabited> Writable for Cell<T> {
@@ -49,37 +40,28 @@ impl<T: Writable + Inhabited> Writable for Cell<T> {
 }
 
 impl<T: Wire> Wire for RefCell<T> {
-    ghost format = { λ s. of_cell (T.format s) };
-
-    ghost valid = { λ v. Unit {0} };
-
-    ghost means = { λ v. IsAny };
-
-    ghost given = { λ m v. IsAny m };
-
-    ghost writable = { λ s v. IsHeld (T.format s) T.valid (T.writable s) };
-
-    ghost names = { λ e. IsBorrowed e ⊎ T.names e };
-
-    ghost grows = { T.grows };
-
-    ghost claim = { T.claim };
+    ghost its = { record {
+      format = λ s. of_cell (T.its.format s);
+      valid = λ v. Unit {0};
+      means = λ v. IsAny;
+      given = λ m v. IsAny m;
+      writable = λ s v. IsHeld (T.its.format s) T.its.valid (T.its.writable s);
+      names = λ e. IsBorrowed e ⊎ T.its.names e;
+      grows = T.its.grows;
+      claim = T.its.claim;
+      lawful = λ s. cell-lawful (T.its.format s) (T.its.lawful s);
+      balanced = λ s. cell-balanced (T.its.format s) (T.its.balanced s);
+      has_word = λ s v h w. w.some_word;
+      names_own = λ e. either (borrowed-named e) (T.its.names_own e);
+    } };
 
     fn claim_size() -> usize {
         Cell::<T>::claim_size()
     }
-
-    ghost lawful = { λ s. cell-lawful (T.format s) (T.lawful s) };
-
-    ghost balanced = { λ s. cell-balanced (T.format s) (T.balanced s) };
-
-    ghost has_word = { λ s v h w. w.some_word };
-
-    ghost names_own = { λ e. either (borrowed-named e) (T.names_own e) };
 }
 
 impl<T: Inhabited> Inhabited for RefCell<T> {
-    ghost some_word = { λ s. cell-some_word (T.format s) (T.some_word s) };
+    ghost some_word = { λ s. cell-some_word (T.its.format s) (T.some_word s) };
 }
 
 impl<T: Writable + Inhabited> Writable for RefCell<T> {

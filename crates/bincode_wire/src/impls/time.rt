@@ -16,33 +16,24 @@ use crate::own::time::Duration;
 use crate::wire::Wire;
 
 impl Wire for Duration {
-    ghost format = { duration };
-
-    ghost valid = { λ v. (secs_of v < 2 ^ 64) × (nanos_of v < second_in_nanos) };
-
-    ghost means = { λ v. IsThen (IsNumber (pos (secs_of v))) (IsThen (IsNumber (pos (nanos_of v))) IsNothing) };
-
-    ghost given = { λ m v. IsThen (IsNumber (pos (secs_of v))) (IsThen (IsNumber (pos (nanos_of v))) IsNothing) m };
-
-    ghost writable = { λ s v. Unit {0} };
-
-    ghost names = { λ e. ⊥ };
-
-    ghost grows = { ⊥ };
-
-    ghost claim = { 12 };
+    ghost its = { record {
+      format = duration;
+      valid = λ v. (secs_of v < 2 ^ 64) × (nanos_of v < second_in_nanos);
+      means = λ v. IsThen (IsNumber (pos (secs_of v))) (IsThen (IsNumber (pos (nanos_of v))) IsNothing);
+      given = λ m v. IsThen (IsNumber (pos (secs_of v))) (IsThen (IsNumber (pos (nanos_of v))) IsNothing) m;
+      writable = λ s v. Unit {0};
+      names = λ e. ⊥;
+      grows = ⊥;
+      claim = 12;
+      lawful = duration-lawful;
+      balanced = duration-balanced;
+      has_word = λ s v h w. duration-has_word s (secs_of v) (nanos_of v) h.0 h.1;
+      names_own = λ e h. absurd h;
+    } };
 
     fn claim_size() -> usize {
         12
     }
-
-    ghost lawful = { duration-lawful };
-
-    ghost balanced = { duration-balanced };
-
-    ghost has_word = { λ s v h w. duration-has_word s (secs_of v) (nanos_of v) h.0 h.1 };
-
-    ghost names_own = { λ e h. absurd h };
 }
 
 impl Inhabited for Duration {

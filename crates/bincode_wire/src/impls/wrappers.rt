@@ -52,33 +52,24 @@ pub struct Pointed<T> {
 }
 
 impl<T: Wire> Wire for Pointed<T> {
-    ghost format = { T.format };
-
-    ghost valid = { λ v. T.valid v.to };
-
-    ghost means = { λ v. T.means v.to };
-
-    ghost given = { λ m v. T.given m v.to };
-
-    ghost writable = { λ s v. T.writable s v.to };
-
-    ghost names = { T.names };
-
-    ghost grows = { Unit {0} };
-
-    ghost claim = { 8 };
+    ghost its = { record {
+      format = T.its.format;
+      valid = λ v. T.its.valid v.to;
+      means = λ v. T.its.means v.to;
+      given = λ m v. T.its.given m v.to;
+      writable = λ s v. T.its.writable s v.to;
+      names = T.its.names;
+      grows = Unit {0};
+      claim = 8;
+      lawful = T.its.lawful;
+      balanced = T.its.balanced;
+      has_word = λ s v. T.its.has_word s v.to;
+      names_own = T.its.names_own;
+    } };
 
     fn claim_size() -> usize {
         8
     }
-
-    ghost lawful = { T.lawful };
-
-    ghost balanced = { T.balanced };
-
-    ghost has_word = { λ s v. T.has_word s v.to };
-
-    ghost names_own = { T.names_own };
 }
 
 impl<T: Inhabited> Inhabited for Pointed<T> {

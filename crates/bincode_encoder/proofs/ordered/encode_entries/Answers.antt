@@ -15,7 +15,7 @@ returns-in_err-encode_entry g c =
     rw (p.1, p.2) (record {
       ok = tt;
       err = written-halts _ _ _ _ g.met.E.W.Writer.adds_join _
-          (λ e. g.K.Value.Wire.writable s e.0 × (g.V.Value.Wire.writable s e.1 × Unit {0})) _ i.0 c.in-Some.ensures.steps halted.err;
+          (λ e. g.K.Value.Wire.its.writable s e.0 × (g.V.Value.Wire.its.writable s e.1 × Unit {0})) _ i.0 c.in-Some.ensures.steps halted.err;
       same_place = halted.same_place ∙ i.1;
     })
 

@@ -13,7 +13,7 @@ returns-in_err-write_value g c =
     let i = c.loop-key.invariant in
     rw (p.1, p.2) (record {
       ok = tt;
-      err = written-halts _ _ _ _ g.met.E.W.Writer.adds_join _ (g.V.Value.Wire.writable g.E.C.Config.setting) _ i.0 c.in-Some.ensures.steps halted.err;
+      err = written-halts _ _ _ _ g.met.E.W.Writer.adds_join _ (g.V.Value.Wire.its.writable g.E.C.Config.setting) _ i.0 c.in-Some.ensures.steps halted.err;
       same_place = halted.same_place ∙ i.1;
     })
 

@@ -10,7 +10,7 @@ returns-in_err-write_value g c =
     rw (p.1, p.2) (record {
       ok = tt;
       err = halts_array _ _ _ _ _ _ _ _ _ _ _ _ refl (halts-at _ _ g.met.E.W.Writer.adds_join
-          (g.V.Value.Wire.writable g.E.C.Config.setting) _ _ _ _ _ c.args.items.now c.loop-item.item-index _ _ (omega arith) c.item-item.is c.loop-item.invariant.0 halted.err);
+          (g.V.Value.Wire.its.writable g.E.C.Config.setting) _ _ _ _ _ c.args.items.now c.loop-item.item-index _ _ (omega arith) c.item-item.is c.loop-item.invariant.0 halted.err);
       same_place = halted.same_place ∙ c.loop-item.invariant.1;
     })
 

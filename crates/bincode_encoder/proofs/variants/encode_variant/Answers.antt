@@ -21,7 +21,7 @@ returns-in_err-encode_tag g c =
     let alike = c.requires.picks in
     rw (p.1, p.2)
     (encodes-as (allows-as c.requires.means) (allows-back c.requires.means) c.requires.writable (λ e n. n)
-    (first-halts {R = Unit {0}} (λ _ r. r) (λ r. (tt, r)) (choice-allows _ _ _ _ _ alike _) (allowed-choice _ _ _ _ _ alike _) {M = g.V.Value.Wire.names}
+    (first-halts {R = Unit {0}} (λ _ r. r) (λ r. (tt, r)) (choice-allows _ _ _ _ _ alike _) (allowed-choice _ _ _ _ _ alike _) {M = g.V.Value.Wire.its.names}
     (λ e. elim [ inl k ↦ absurd k | inr k ↦ c.requires.names e k ]) c.in_err-encode_tag.ensures))
 
 pub returns : goal.returns

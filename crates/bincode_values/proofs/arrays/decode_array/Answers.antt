@@ -10,7 +10,7 @@ returns-in-Some-clause-read g c = read-widened _ inl c.decode_over.ensures
 pub returns-in-Some-clause-charge : goal.returns-in-Some-clause-charge
 returns-in-Some-clause-charge g c =
     λ known. IfOk-weaker c.decode_over.result _ _
-    (λ v d. run-returns _ g.row.N _ _ (g.V.Value.Wire.lawful _) (g.V.Value.Wire.balanced _) _ _ d.meaning _ _ c.requires d.answer_is)
+    (λ v d. run-returns _ g.row.N _ _ (g.V.Value.Wire.its.lawful _) (g.V.Value.Wire.its.balanced _) _ _ d.meaning _ _ c.requires d.answer_is)
     (c.decode_over.ensures.ok known)
 
 pub returns-clause-read : goal.returns-clause-read
@@ -19,5 +19,5 @@ returns-clause-read g c = read-widened _ inl c.decode_into.ensures
 pub returns-clause-charge : goal.returns-clause-charge
 returns-clause-charge g c =
     λ known. IfOk-weaker c.decode_into.result _ _
-    (λ v d. run-returns _ g.row.N _ _ (g.V.Value.Wire.lawful _) (g.V.Value.Wire.balanced _) _ _ d.meaning _ _ c.requires d.answer_is)
+    (λ v d. run-returns _ g.row.N _ _ (g.V.Value.Wire.its.lawful _) (g.V.Value.Wire.its.balanced _) _ _ d.meaning _ _ c.requires d.answer_is)
     (c.decode_into.ensures.ok known)

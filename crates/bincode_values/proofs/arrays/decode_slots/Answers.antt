@@ -21,7 +21,7 @@ loop-index-preserved g c =
     let v = c.in_ok-decode_next.field-0 in (
       h.0 ++ v ∷ [],
       take_more_set _ _ _ (omega arith) ∙ (ap (λ z. z ++ Some v ∷ []) h.1 ∙ sym (map-append Some h.0 (v ∷ []))),
-      next-so_far h.2 (omega arith) (g.V.Value.Wire.lawful _) (g.V.Value.Wire.balanced _) refl c.in_ok-decode_next.ensures,
+      next-so_far h.2 (omega arith) (g.V.Value.Wire.its.lawful _) (g.V.Value.Wire.its.balanced _) refl c.in_ok-decode_next.ensures,
     )
 
 pub returns : goal.returns

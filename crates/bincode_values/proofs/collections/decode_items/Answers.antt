@@ -20,12 +20,12 @@ returns-in_err-item g c =
 pub returns-in_err-put : goal.returns-in_err-put
 returns-in_err-put g c =
     let p = err_from_is_err_and c.from_residual-in_err-put.result c.from_residual-in_err-put.ensures.1 in
-    let read = next-so_far c.loop.invariant (omega arith) (g.V.Value.Wire.lawful _) (g.V.Value.Wire.balanced _) refl c.in_ok-item.ensures in
+    let read = next-so_far c.loop.invariant (omega arith) (g.V.Value.Wire.its.lawful _) (g.V.Value.Wire.its.balanced _) refl c.in_ok-item.ensures in
     rw (p.1, p.2, c.in_err-put.ensures) (refused-so_far read (omega arith))
 
 pub loop-preserved : goal.loop-preserved
 loop-preserved g c =
-    next-so_far c.loop.invariant (omega arith) (g.V.Value.Wire.lawful _) (g.V.Value.Wire.balanced _) c.in_ok-put.ensures c.in_ok-item.ensures
+    next-so_far c.loop.invariant (omega arith) (g.V.Value.Wire.its.lawful _) (g.V.Value.Wire.its.balanced _) c.in_ok-put.ensures c.in_ok-item.ensures
 
 pub returns : goal.returns
 returns g c = finished-so_far c.finish.result c.loop.invariant (omega arith) c.finish.ensures

@@ -19,7 +19,7 @@ returns-in_err-key g c =
 pub returns-in_default : goal.returns-in_default
 returns-in_default g c =
     let i = c.loop.invariant in
-    let read = next-so_far i.2 (omega arith) (g.K.Value.Wire.lawful _) (g.K.Value.Wire.balanced _) refl c.in_ok-key.ensures in
+    let read = next-so_far i.2 (omega arith) (g.K.Value.Wire.its.lawful _) (g.K.Value.Wire.its.balanced _) refl c.in_ok-key.ensures in
     (i.0 ++ c.in_ok-key.key ∷ [], tt, refused-so_far read (omega arith))
 
 pub loop-preserved : goal.loop-preserved
@@ -28,7 +28,7 @@ loop-preserved g c =
     let k = c.in_ok-key.key in (
       i.0 ++ k ∷ [],
       c.in-Ok.ensures.keys ∙ (ap (λ keys. insert_key g.K.Value.Ord.cmp keys k) i.1 ∙ sym (keys-push g.K.Value.Ord.cmp [] i.0 k)),
-      next-so_far i.2 (omega arith) (g.K.Value.Wire.lawful _) (g.K.Value.Wire.balanced _) refl c.in_ok-key.ensures,
+      next-so_far i.2 (omega arith) (g.K.Value.Wire.its.lawful _) (g.K.Value.Wire.its.balanced _) refl c.in_ok-key.ensures,
     )
 
 pub returns : goal.returns

@@ -7,5 +7,5 @@ abbrev pub invariant-loop : goal.invariant-loop
 invariant-loop g l =
     (items : List g.row.K-Value.Denot)
     × MakesSet g.K.Value.Ord.cmp items l.keys.keys
-    × RunSoFar g.D.Decoder.told g.D.Decoder.rest g.D.Decoder.charge g.D.Decoder.failures g.D.Decoder.place g.D.C.Config.bound g.K.Value.Wire.claim
-    (g.K.Value.Wire.format g.D.C.Config.setting) g.K.Value.Wire.given l.fn.len l.counter items l.fn.decoder l.decoder
+    × RunSoFar g.D.Decoder.told g.D.Decoder.rest g.D.Decoder.charge g.D.Decoder.failures g.D.Decoder.place g.D.C.Config.bound g.K.Value.Wire.its.claim
+    (g.K.Value.Wire.its.format g.D.C.Config.setting) g.K.Value.Wire.its.given l.fn.len l.counter items l.fn.decoder l.decoder

@@ -21,7 +21,7 @@ pub loop-preserved : goal.loop-preserved
 loop-preserved g c =
     let h = c.loop.invariant in
     let v = c.in_ok-decode_next.field-0 in (
-      next-so_far h.0 (omega arith) (g.V.Value.Wire.lawful _) (g.V.Value.Wire.balanced _) c.push_reserved.ensures.items c.in_ok-decode_next.ensures,
+      next-so_far h.0 (omega arith) (g.V.Value.Wire.its.lawful _) (g.V.Value.Wire.its.balanced _) c.push_reserved.ensures.items c.in_ok-decode_next.ensures,
       ap length c.push_reserved.ensures.items ∙ length-append c.loop.values.items (v ∷ []) ∙ ap (λ z. z + 1) h.1,
       c.push_reserved.ensures.len ∙ ap (λ z. z + 1) h.2,
       c.push_reserved.ensures.capacity ∙ h.3,

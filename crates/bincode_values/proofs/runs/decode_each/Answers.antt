@@ -17,7 +17,7 @@ returns-in_err-values g c =
 
 pub loop-index-preserved : goal.loop-index-preserved
 loop-index-preserved g c =
-    next-so_far c.loop-index.invariant (omega arith) (g.V.Value.Wire.lawful _) (g.V.Value.Wire.balanced _) (take_more_set _ _ _ (omega arith)) c.in_ok-values.ensures
+    next-so_far c.loop-index.invariant (omega arith) (g.V.Value.Wire.its.lawful _) (g.V.Value.Wire.its.balanced _) (take_more_set _ _ _ (omega arith)) c.in_ok-values.ensures
 
 pub returns : goal.returns
 returns g c = all-so_far c.loop-index.invariant (omega arith) (sym (take_all c.loop-index.index c.loop-index.values (omega arith)))

@@ -3,5 +3,5 @@ use Rattle.callers.proofs.calls.read.Goals as goal
 
 pub returns : goal.returns
 returns g c = record {
-  memory = λ none. no-memory _ (g.D.Wire.lawful _) (g.D.Wire.balanced _) _ _ _ none _ c.decode_from_slice.ensures.found c.decode_from_slice.ensures.fault c.decode_from_slice.ensures.limit;
+  memory = λ none. no-memory _ (g.D.Wire.its.lawful _) (g.D.Wire.its.balanced _) _ _ _ none _ c.decode_from_slice.ensures.found c.decode_from_slice.ensures.fault c.decode_from_slice.ensures.limit;
 }

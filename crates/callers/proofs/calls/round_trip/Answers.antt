@@ -6,7 +6,7 @@ use Rattle.callers.proofs.calls.round_trip.Goals as goal
 
 pub returns-clause-back : goal.returns-clause-back
 returns-clause-back g c = λ fits.
-    read-back_slice _ (g.T.Wire.lawful _) _ _ _ (λ w. g.T.PartialEq.eq c.args.value.now w ≡ true)
+    read-back_slice _ (g.T.Wire.its.lawful _) _ _ _ (λ w. g.T.PartialEq.eq c.args.value.now w ≡ true)
     (λ w m. g.met.T.Exact.comes_back c.args.value.now w m c.tell_valid.ensures)
     _ _ _ c.in_ok-written.ensures.word fits _ _ c.decode_from_slice-read.ensures.word c.decode_from_slice-read.ensures.found
 

@@ -23,7 +23,7 @@ push_reserved-requires g c = let h = c.loop.invariant in omega (arith, h.1, h.2)
 pub loop-preserved : goal.loop-preserved
 loop-preserved g c =
     let h = c.loop.invariant in (
-      next-so_far h.0 (omega arith) (g.T.Wire.lawful _) (g.T.Wire.balanced _) c.push_reserved.ensures.items
+      next-so_far h.0 (omega arith) (g.T.Wire.its.lawful _) (g.T.Wire.its.balanced _) c.push_reserved.ensures.items
           (item-read c.unclaim_bytes_read.ensures c.claim_size.ensures c.in_ok-decode.ensures),
       c.push_reserved.ensures.len ∙ ap (λ z. z + 1) h.1,
       rw c.push_reserved.ensures.capacity h.2,

@@ -5,7 +5,7 @@ use Rattle.own_lists.proofs.looped.decode_claimed.Given as goal
 
 abbrev pub invariant-loop : goal.invariant-loop
 invariant-loop g l =
-    RunSoFar g.D.Decoder.told g.D.Decoder.rest g.D.Decoder.charge g.D.Decoder.failures g.D.Decoder.place g.D.C.Config.bound g.T.Wire.claim
-    (g.T.Wire.format g.D.C.Config.setting) g.T.Wire.given l.fn.len l.counter l.items.items l.fn.decoder l.decoder
+    RunSoFar g.D.Decoder.told g.D.Decoder.rest g.D.Decoder.charge g.D.Decoder.failures g.D.Decoder.place g.D.C.Config.bound g.T.Wire.its.claim
+    (g.T.Wire.its.format g.D.C.Config.setting) g.T.Wire.its.given l.fn.len l.counter l.items.items l.fn.decoder l.decoder
     × (vec_len l.items ≡ l.counter)
     × (l.fn.len ≤ vec_capacity l.items)

@@ -12,7 +12,7 @@ pub returns-in_err-passed : goal.returns-in_err-passed
 returns-in_err-passed g c =
     let p = err_from_is_err_and c.from_residual-in_err-passed.result c.from_residual-in_err-passed.ensures.1 in
     let test = c.in_err-passed.ensures in
-    rw (p.1, p.2) (read-failing g.T.Tested.passes g.T.Tested.fault c.in_ok-of.ensures (g.T.Of.Wire.lawful _) test.passes test.tells)
+    rw (p.1, p.2) (read-failing g.T.Tested.passes g.T.Tested.fault c.in_ok-of.ensures (g.T.Of.Wire.its.lawful _) test.passes test.tells)
 
 pub returns : goal.returns
 returns g c =

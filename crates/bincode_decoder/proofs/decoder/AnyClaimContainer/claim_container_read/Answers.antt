@@ -10,7 +10,7 @@ returns g c =
       | in-Some w ↦ rw (w.self-is, w.result-is) (rw (w.in-Some.ensures.1, c.claim_size.ensures) at w.claim_bytes_read.ensures)
       | in-None w ↦ rw (w.self-is, w.result-is) (record { claimed = unlimited-claims _ _ _ (rw w.limit.ensures at w.if-is_none.ensures); kept = charged-still _ })
       | in-None-2 w ↦
-          let q : 2 ^ 64 ≤ c.args.len * g.T.Wire.claim = rw (← c.claim_size.ensures) (omega (arith, w.in-None-2.ensures)) in
+          let q : 2 ^ 64 ≤ c.args.len * g.T.Wire.its.claim = rw (← c.claim_size.ensures) (omega (arith, w.in-None-2.ensures)) in
           rw (w.self-is, w.result-is) (record {
             claimed = over-claims _ _ _ (rw w.limit.ensures at w.if-is_none.ensures)
                 (λ l e. let k : w.limit.result ≡ Some l = w.limit.ensures ∙ e in let t = rw k at w.limit.type_inv in omega (arith, t)) q;

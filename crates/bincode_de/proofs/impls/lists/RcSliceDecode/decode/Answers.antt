@@ -13,4 +13,4 @@ pub returns : goal.returns
 returns g c = read-made (λ m h. rw c.in-Ok.ensures h.0) c.in_ok-list.ensures
 
 pub returns-in_default : goal.returns-in_default
-returns-in_default g c = read-refused (list-lawful _ _ _ (g.T.Wire.lawful _)) refl c.in_ok-list.ensures
+returns-in_default g c = read-refused (list-lawful _ _ _ (g.T.Wire.its.lawful _)) refl c.in_ok-list.ensures

@@ -9,7 +9,7 @@ returns-in_err-value g c =
     rw (p.1, p.2) (read-failed c.in_err-value.ensures)
 
 pub returns-in_default : goal.returns-in_default
-returns-in_default g c = read-refused (g.T.Wire.lawful _) refl c.in_ok-value.ensures
+returns-in_default g c = read-refused (g.T.Wire.its.lawful _) refl c.in_ok-value.ensures
 
 pub returns : goal.returns
 returns g c = read-made (λ m h. rw c.in-Ok.ensures.ok h) c.in_ok-value.ensures

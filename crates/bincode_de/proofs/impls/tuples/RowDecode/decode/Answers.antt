@@ -15,7 +15,7 @@ returns-in_err-others g c =
     let a = c.in_ok-first.ensures in
     let b = c.in_err-others.ensures in
     rw (p.1, p.2)
-    (read-behind (λ known. tt) (λ known. tuple-stops_next _ _ _ _ _ _ _ _ _ (g.A.Wire.lawful _) _ _ _ _ _ _ _ _ (a.ok known) a.counted (b.err (a.tells known))) (λ _. tt) a b)
+    (read-behind (λ known. tt) (λ known. tuple-stops_next _ _ _ _ _ _ _ _ _ (g.A.Wire.its.lawful _) _ _ _ _ _ _ _ _ (a.ok known) a.counted (b.err (a.tells known))) (λ _. tt) a b)
 
 pub returns : goal.returns
 returns g c =

@@ -1,0 +1,51 @@
+-- What a type says of its words.
+use Rattle.std.specs.Prelude.{ℕ}
+use Rattle.bincode_base.specs.Setting.{Setting}
+use Rattle.bincode_base.specs.declared.error.EncodeError.{EncodeError}
+use Rattle.bincode_format.specs.Format.{Format}
+use Rattle.bincode_format.specs.Laws.{Lawful, Balanced}
+use Rattle.bincode_format.specs.Meaning.{Meaning}
+use Rattle.bincode_format.specs.Allowed.{AllowedWord, SomeWord, MayName}
+
+pub record Words (A : Type 0) : Type 1 where
+  -- the words, what they mean and cost, and the faults of all other inputs. They depend on the setting alone
+  pub format : Setting → Format Meaning
+  -- what each value of the type keeps
+  pub valid : A → Type 0
+  -- what a value means
+  pub means : A → Meaning → Type 0
+  -- the values that decoding gives for a meaning
+  pub given : Meaning → A → Type 0
+  -- the inner type of each cell that the value holds has a word, and each valid value of it can be written
+  pub writable : Setting → A → Type 0
+  -- the errors that encoding may answer beside the writer's
+  pub names : EncodeError → Type 0
+  -- decoding takes memory
+  pub grows : Type 0
+  -- how many bytes a container claims for an element
+  pub claim : ℕ
+  -- no word begins another, each has one meaning, and each input has one front that is a word or one fault
+  pub lawful : (s : Setting) → Lawful (format s)
+  -- what the steps of a word reserve they release
+  pub balanced : (s : Setting) → Balanced (format s)
+  -- each valid value that can be written allows a word of bytes
+  pub has_word : (s : Setting) (v : A) → valid v → writable s v → SomeWord (AllowedWord (means v) (format s))
+  -- no error that a writer has is named
+  pub names_own : (e : EncodeError) → names e → MayName e
+
+-- the words of a value are those of its parts
+abbrev pub words_by : {A B : Type 0} → Words B → (A → B) → Words A
+words_by W parts = record {
+  format = W.format;
+  valid = λ v. W.valid (parts v);
+  means = λ v. W.means (parts v);
+  given = λ m v. W.given m (parts v);
+  writable = λ s v. W.writable s (parts v);
+  names = W.names;
+  grows = W.grows;
+  claim = W.claim;
+  lawful = W.lawful;
+  balanced = W.balanced;
+  has_word = λ s v. W.has_word s (parts v);
+  names_own = W.names_own;
+}
