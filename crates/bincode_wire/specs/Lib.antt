@@ -1,3 +1,4 @@
 pub mod Durations
+pub mod Laws
 pub mod Rows
 pub mod Words

@@ -1,11 +1,9 @@
 //! Bags: items whose order is not told.
-ghost use Rattle.std.specs.Prelude.{◌≡◌};
 ghost use Rattle.std.specs.List.{All};
-ghost use Rattle.std.proofs.lemmas.List.Elements.{All-weaker};
 ghost use Rattle.bincode_format.specs.Collections.{AreValid, IsMadeOf, MakesBag};
 ghost use Rattle.bincode_format.specs.Words.{list};
-ghost use Rattle.bincode_laws.specs.ListLaws.{list-lawful, list-balanced, list-has_word, list-some_word};
-ghost use Rattle.bincode_laws.specs.BagLaws.{bag-has_word, bag-one_length, bag-shortest};
+ghost use Rattle.bincode_laws.specs.ListLaws.{list-lawful, list-balanced, list-has_word};
+ghost use Rattle.bincode_laws.specs.BagLaws.{bag-has_word};
 
 use crate::laws::{Canonical, Inhabited, Plain, Writable};
 use crate::wire::Wire;
@@ -44,20 +42,23 @@ impl<T: Wire> Wire for Bag<T> {
 }
 
 impl<T: Wire> Inhabited for Bag<T> {
-    ghost some_word = { λ s. list-some_word s T.its.claim (T.its.format s) };
+    fn tell_inhabited() {}
 }
 
 impl<T: Writable> Writable for Bag<T> {
-    ghost always_writable = { λ s v h. All-weaker T.its.valid (T.its.writable s) (T.always_writable s) v.items h.1 };
+    fn tell_writable() {
+        T::tell_writable();
+    }
 }
 
 impl<T: Plain> Plain for Bag<T> {
-    ghost one_length = { λ s v h. bag-one_length T.its.means s T.its.claim (T.its.format s) T.its.valid (T.one_length s) v.items h.1 };
-
-    ghost names_none = { T.names_none };
+    fn tell_plain() {
+        T::tell_plain();
+    }
 }
 
 impl<T: Canonical> Canonical for Bag<T> {
-    ghost shortest = { λ s v w h. bag-shortest T.its.means s T.its.claim (T.its.format s) (λ x n. T.its.given n x) T.its.valid
-        (T.shortest s) v.items w.items h.1 };
+    fn tell_canonical() {
+        T::tell_canonical();
+    }
 }

@@ -1,8 +1,6 @@
 //! Types that have the words of their parts.
 ghost use Rattle.std.specs.Prelude.{◌≡◌, true};
-ghost use Rattle.bincode_format.specs.Meaning.{Meaning};
 ghost use Rattle.bincode_format.specs.Promises.{Promise, no_more};
-ghost use Rattle.bincode_laws.specs.AllowedLaws.{fewer-none_shorter};
 
 use crate::laws::{Canonical, ConstantCharge, Exact, Inhabited, Plain, Writable};
 use crate::wire::Wire;
@@ -45,33 +43,36 @@ impl<T: Parted> Inhabited for T
 where
     T::Parts: Inhabited,
 {
-    ghost some_word = { T.Parts.some_word };
+    fn tell_inhabited() {
+        T::Parts::tell_inhabited();
+    }
 }
 
 impl<T: Parted> Writable for T
 where
     T::Parts: Writable,
 {
-    ghost always_writable = { λ s v. T.Parts.always_writable s (T.parts v) };
+    fn tell_writable() {
+        T::Parts::tell_writable();
+    }
 }
 
 impl<T: Parted> Plain for T
 where
     T::Parts: Plain,
 {
-    ghost one_length = { λ s v. T.Parts.one_length s (T.parts v) };
-
-    ghost names_none = { T.Parts.names_none };
+    fn tell_plain() {
+        T::Parts::tell_plain();
+    }
 }
 
 impl<T: Parted> Canonical for T
 where
     T::Parts: Canonical,
 {
-    ghost shortest = { λ s v w h.
-        fewer-none_shorter (λ m p. (p.0, (T.promised w (T.Parts.its.given m (T.parts w))).keeps p.1))
-        (λ m p. (T.promised w (T.Parts.its.given m (T.parts w))).keeps p)
-        (T.Parts.shortest s (T.parts v) (T.parts w) h) };
+    fn tell_canonical() {
+        T::Parts::tell_canonical();
+    }
 }
 
 impl<T: Parted> ConstantCharge for T
@@ -82,9 +83,9 @@ where
 
     ghost peak = { T.Parts.peak };
 
-    ghost costs = { T.Parts.costs };
-
-    ghost cost_fits = { T.Parts.cost_fits };
+    fn tell_costs() {
+        T::Parts::tell_costs();
+    }
 }
 
 /// A type whose values are equal where their parts are. It is `Exact`, if the type of its parts is.
@@ -94,8 +95,7 @@ pub trait SameParts<Parts: Wire + PartialEq>: Parted<Parts = Parts> + PartialEq 
 }
 
 impl<P: Exact, T: Parted<Parts = P> + SameParts<P>> Exact for T {
-    ghost one_value = { λ v w m h k p q. T.same_parts v w (P.one_value (T.parts v) (T.parts w) m h k p q) };
-
-    ghost comes_back = { λ v w m h p q. T.same_parts v w (P.comes_back (T.parts v) (T.parts w) m h p
-        ((T.promised w (P.its.given m (T.parts w))).keeps q)) };
+    fn tell_exact() {
+        P::tell_exact();
+    }
 }

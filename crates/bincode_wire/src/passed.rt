@@ -6,7 +6,6 @@ ghost use Rattle.bincode_format.specs.Fault.{Fault, IsEnd};
 ghost use Rattle.bincode_format.specs.Meaning.{Meaning};
 ghost use Rattle.bincode_format.specs.Passed.{passed, TellsOwn};
 ghost use Rattle.bincode_laws.specs.PassedLaws.{passed-lawful, passed-balanced, passed-has_word};
-ghost use Rattle.bincode_laws.specs.PassedLaws.{passed-one_length, passed-shortest};
 
 use crate::laws::{Canonical, Exact, Plain, Writable};
 use crate::wire::Wire;
@@ -90,32 +89,34 @@ impl<T: Tested> Writable for Passed<T>
 where
     T::Of: Writable,
 {
-    ghost always_writable = { λ s v h. T.Of.always_writable s (T.of v.0) h.0 };
+    fn tell_writable() {
+        T::Of::tell_writable();
+    }
 }
 
 impl<T: Tested> Plain for Passed<T>
 where
     T::Of: Plain,
 {
-    ghost one_length = { λ s v h. passed-one_length T.passes T.fault (T.Of.its.format s) (T.Of.its.means (T.of v.0))
-        (T.Of.one_length s (T.of v.0) h.0) };
-
-    ghost names_none = { T.Of.names_none };
+    fn tell_plain() {
+        T::Of::tell_plain();
+    }
 }
 
 impl<T: Tested> Exact for Passed<T>
 where
     T::Of: Exact,
 {
-    ghost one_value = { λ v w m h k. T.Of.one_value (T.of v.0) (T.of w.0) m h.0 k.0 };
-
-    ghost comes_back = { λ v w m h p q. T.Of.comes_back (T.of v.0) (T.of w.0) m h.0 p q.0 };
+    fn tell_exact() {
+        T::Of::tell_exact();
+    }
 }
 
 impl<T: Tested> Canonical for Passed<T>
 where
     T::Of: Canonical,
 {
-    ghost shortest = { λ s v w h. passed-shortest T.passes T.fault (T.Of.its.format s) (T.Of.its.means (T.of v.0))
-        (λ m. T.Of.its.given m (T.of w.0)) (T.Of.shortest s (T.of v.0) (T.of w.0) h.0) };
+    fn tell_canonical() {
+        T::Of::tell_canonical();
+    }
 }

@@ -1,17 +1,16 @@
 //! Parts in a row: what tuples are written as.
-ghost use Rattle.std.specs.Prelude.{◌≡◌, ◌⊎◌, ◌+◌, ◌-◌, ◌^◌, min, max, refl};
-ghost use Rattle.std.proofs.Common.{arith, le_refl};
+ghost use Rattle.std.specs.Prelude.{◌⊎◌, ◌+◌, ◌-◌, ◌^◌, min, max, refl};
 ghost use Rattle.bincode_format.specs.Meaning.{IsThen, IsFourThen};
 ghost use Rattle.bincode_format.specs.Words.{first_and, four_and};
 ghost use Rattle.bincode_format.specs.Forms.{units};
-ghost use Rattle.bincode_laws.specs.CostLaws.{nothing-costs, then-costs, four-costs};
-ghost use Rattle.bincode_laws.specs.TupleLaws.{units-laws, then-some_word, then-lawful, then-balanced, then-has_word};
-ghost use Rattle.bincode_laws.specs.TupleLaws.{then-one_length, then-same, then-shortest, either, four-lawful};
-ghost use Rattle.bincode_laws.specs.TupleLaws.{four-balanced, four-has_word, four-one_length, four-same, four-shortest};
+ghost use Rattle.bincode_laws.specs.CostLaws.{nothing-costs};
+ghost use Rattle.bincode_laws.specs.TupleLaws.{units-laws, then-lawful, then-balanced, then-has_word};
+ghost use Rattle.bincode_laws.specs.TupleLaws.{either, four-lawful};
+ghost use Rattle.bincode_laws.specs.TupleLaws.{four-balanced, four-has_word};
 
 use crate::laws::{Canonical, ConstantCharge, Exact, Inhabited, Plain, Writable};
 use crate::parted::{Parted, SameParts};
-use crate::scalars::{Alone, Scalar};
+use crate::scalars::{Alone, FixedCharge, Scalar};
 use crate::wire::Wire;
 
 impl Scalar for () {
@@ -36,14 +35,8 @@ impl SameParts<Alone<()>> for () {
     ghost same_parts = { λ v w e. e };
 }
 
-impl ConstantCharge for Alone<()> {
-    ghost cost = { 0 };
-
-    ghost peak = { 0 };
-
-    ghost costs = { λ s. nothing-costs };
-
-    ghost cost_fits = { le_refl 0 };
+impl FixedCharge for () {
+    ghost charges = { λ s. nothing-costs };
 }
 
 /// A part, and the others: a row too, or `()` behind the last. What they claim is a sum, at most the greatest `usize`.
@@ -72,29 +65,38 @@ impl<A: Wire, Others: Wire> Wire for Row<A, Others> {
 }
 
 impl<A: Inhabited, Others: Inhabited> Inhabited for Row<A, Others> {
-    ghost some_word = { λ s. then-some_word _ _ (A.some_word s) (Others.some_word s) };
+    fn tell_inhabited() {
+        A::tell_inhabited();
+        Others::tell_inhabited();
+    }
 }
 
 impl<A: Writable, Others: Writable> Writable for Row<A, Others> {
-    ghost always_writable = { λ s v h. (A.always_writable s v.0 h.0, Others.always_writable s v.1 h.1) };
+    fn tell_writable() {
+        A::tell_writable();
+        Others::tell_writable();
+    }
 }
 
 impl<A: Plain, Others: Plain> Plain for Row<A, Others> {
-    ghost one_length = { λ s v h. then-one_length (A.one_length s v.0 h.0) (Others.one_length s v.1 h.1) };
-
-    ghost names_none = { λ e. either (A.names_none e) (Others.names_none e) };
+    fn tell_plain() {
+        A::tell_plain();
+        Others::tell_plain();
+    }
 }
 
 impl<A: Exact, Others: Exact> Exact for Row<A, Others> {
-    ghost one_value = { λ v w m h k. then-same (λ n. A.one_value v.0 w.0 n h.0 k.0)
-        (λ n. Others.one_value v.1 w.1 n h.1 k.1) m };
-
-    ghost comes_back = { λ v w m h. then-same (λ n. A.comes_back v.0 w.0 n h.0)
-        (λ n. Others.comes_back v.1 w.1 n h.1) m };
+    fn tell_exact() {
+        A::tell_exact();
+        Others::tell_exact();
+    }
 }
 
 impl<A: Canonical, Others: Canonical> Canonical for Row<A, Others> {
-    ghost shortest = { λ s v w h. then-shortest (A.shortest s v.0 w.0 h.0) (Others.shortest s v.1 w.1 h.1) };
+    fn tell_canonical() {
+        A::tell_canonical();
+        Others::tell_canonical();
+    }
 }
 
 impl<A: ConstantCharge, Others: ConstantCharge> ConstantCharge for Row<A, Others> {
@@ -102,9 +104,10 @@ impl<A: ConstantCharge, Others: ConstantCharge> ConstantCharge for Row<A, Others
 
     ghost peak = { max A.peak (A.cost + Others.peak) };
 
-    ghost costs = { λ s. then-costs (A.costs s) (Others.costs s) };
-
-    ghost cost_fits = { omega (arith, Others.cost_fits) };
+    fn tell_costs() {
+        A::tell_costs();
+        Others::tell_costs();
+    }
 }
 
 /// Four parts, and the others.
@@ -140,51 +143,55 @@ impl<A: Wire, B: Wire, C: Wire, D: Wire, Others: Wire> Wire for LongRow<A, B, C,
 
 impl<A: Inhabited, B: Inhabited, C: Inhabited, D: Inhabited, Others: Inhabited> Inhabited
     for LongRow<A, B, C, D, Others> {
-    ghost some_word = { λ s. then-some_word _ _ (A.some_word s)
-        (then-some_word _ _ (B.some_word s) (then-some_word _ _ (C.some_word s)
-        (then-some_word _ _ (D.some_word s) (Others.some_word s)))) };
+    fn tell_inhabited() {
+        A::tell_inhabited();
+        B::tell_inhabited();
+        C::tell_inhabited();
+        D::tell_inhabited();
+        Others::tell_inhabited();
+    }
 }
 
 impl<A: Writable, B: Writable, C: Writable, D: Writable, Others: Writable> Writable
     for LongRow<A, B, C, D, Others> {
-    ghost always_writable = { λ s v h. (
-      A.always_writable s v.0 h.0,
-      (
-        B.always_writable s v.1 h.1.0,
-        (
-          C.always_writable s v.2 h.1.1.0,
-          (D.always_writable s v.3 h.1.1.1.0, Others.always_writable s v.4 h.1.1.1.1),
-        ),
-      ),
-    ) };
+    fn tell_writable() {
+        A::tell_writable();
+        B::tell_writable();
+        C::tell_writable();
+        D::tell_writable();
+        Others::tell_writable();
+    }
 }
 
 impl<A: Plain, B: Plain, C: Plain, D: Plain, Others: Plain> Plain for LongRow<A, B, C, D, Others> {
-    ghost one_length = { λ s v h.
-        four-one_length (A.one_length s v.0 h.0) (B.one_length s v.1 h.1.0) (C.one_length s v.2 h.1.1.0)
-        (D.one_length s v.3 h.1.1.1.0) (Others.one_length s v.4 h.1.1.1.1) };
-
-    ghost names_none = { λ e. either (A.names_none e) (either (B.names_none e)
-        (either (C.names_none e) (either (D.names_none e) (Others.names_none e)))) };
+    fn tell_plain() {
+        A::tell_plain();
+        B::tell_plain();
+        C::tell_plain();
+        D::tell_plain();
+        Others::tell_plain();
+    }
 }
 
 impl<A: Exact, B: Exact, C: Exact, D: Exact, Others: Exact> Exact for LongRow<A, B, C, D, Others> {
-    ghost one_value = { λ v w m h k.
-        four-same (λ n. A.one_value v.0 w.0 n h.0 k.0) (λ n. B.one_value v.1 w.1 n h.1.0 k.1.0)
-        (λ n. C.one_value v.2 w.2 n h.1.1.0 k.1.1.0)
-        (λ n. D.one_value v.3 w.3 n h.1.1.1.0 k.1.1.1.0) (λ n. Others.one_value v.4 w.4 n h.1.1.1.1 k.1.1.1.1) m };
-
-    ghost comes_back = { λ v w m h.
-        four-same (λ n. A.comes_back v.0 w.0 n h.0) (λ n. B.comes_back v.1 w.1 n h.1.0)
-        (λ n. C.comes_back v.2 w.2 n h.1.1.0)
-        (λ n. D.comes_back v.3 w.3 n h.1.1.1.0) (λ n. Others.comes_back v.4 w.4 n h.1.1.1.1) m };
+    fn tell_exact() {
+        A::tell_exact();
+        B::tell_exact();
+        C::tell_exact();
+        D::tell_exact();
+        Others::tell_exact();
+    }
 }
 
 impl<A: Canonical, B: Canonical, C: Canonical, D: Canonical, Others: Canonical> Canonical
     for LongRow<A, B, C, D, Others> {
-    ghost shortest = { λ s v w h.
-        four-shortest (A.shortest s v.0 w.0 h.0) (B.shortest s v.1 w.1 h.1.0) (C.shortest s v.2 w.2 h.1.1.0)
-        (D.shortest s v.3 w.3 h.1.1.1.0) (Others.shortest s v.4 w.4 h.1.1.1.1) };
+    fn tell_canonical() {
+        A::tell_canonical();
+        B::tell_canonical();
+        C::tell_canonical();
+        D::tell_canonical();
+        Others::tell_canonical();
+    }
 }
 
 impl<
@@ -198,7 +205,11 @@ impl<
 
     ghost peak = { ⟦<Row<A, Row<B, Row<C, Row<D, Others>>>> as ConstantCharge>⟧.peak };
 
-    ghost costs = { λ s. four-costs (A.costs s) (B.costs s) (C.costs s) (D.costs s) (Others.costs s) };
-
-    ghost cost_fits = { omega (arith, Others.cost_fits) };
+    fn tell_costs() {
+        A::tell_costs();
+        B::tell_costs();
+        C::tell_costs();
+        D::tell_costs();
+        Others::tell_costs();
+    }
 }

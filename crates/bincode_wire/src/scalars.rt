@@ -1,11 +1,12 @@
 //! Types of one word each that is written: numbers, truth values and characters.
 ghost use Rattle.std.specs.Prelude.{◌≡◌, ℕ, true};
 ghost use Rattle.bincode_format.specs.Meaning.{Meaning};
-ghost use Rattle.bincode_laws.specs.AllowedLaws.{more-allowed};
+ghost use Rattle.bincode_base.specs.Setting.{Setting};
 ghost use Rattle.bincode_format.specs.Forms.{Form};
+ghost use Rattle.bincode_format.specs.Limits.{Costs};
 ghost use Rattle.bincode_laws.specs.FormLaws.{FormLaws};
 
-use crate::laws::{Canonical, Exact, Inhabited, Plain, Writable};
+use crate::laws::{Canonical, ConstantCharge, Exact, Inhabited, Plain, Writable};
 use crate::wire::Wire;
 
 /// A type whose values are written in one way each, and are equal if they mean the same.
@@ -23,6 +24,11 @@ pub trait Scalar: PartialEq {
 
     /// Values of one meaning are equal.
     ghost same: { (v w : Self) (m : Meaning) → form.means v m → form.means w m → Self.eq v w ≡ true };
+}
+
+/// A scalar of which every word charges the size in memory.
+pub trait FixedCharge: Scalar {
+    ghost charges: { (s : Setting) → Costs Self.SIZE Self.SIZE (Self.form.format s) };
 }
 
 /// A value that is written by itself. It stands in proofs alone.
@@ -53,27 +59,29 @@ impl<T: Scalar> Wire for Alone<T> {
 }
 
 impl<T: Scalar> Inhabited for Alone<T> {
-    ghost some_word = { T.form_laws.some_word };
+    fn tell_inhabited() {}
 }
 
 impl<T: Scalar> Writable for Alone<T> {
-    ghost always_writable = { λ s v h. tt };
+    fn tell_writable() {}
 }
 
 impl<T: Scalar> Plain for Alone<T> {
-    ghost one_length = { λ s v h. (T.form_laws.spelled s v.value h).one_length };
-
-    ghost names_none = { λ e h. h };
+    fn tell_plain() {}
 }
 
 impl<T: Scalar> Canonical for Alone<T> {
-    ghost shortest = { λ s v w h written bytes m steps a b u g.
-        (T.form_laws.spelled s v.value h).none_shorter written bytes m steps (more-allowed (λ n p. p.0) written a) b u
-        (T.form_laws.one_meaning v.value w.value a.meaning m a.is_meant.0 a.is_meant.1 g) };
+    fn tell_canonical() {}
 }
 
 impl<T: Scalar> Exact for Alone<T> {
-    ghost one_value = { λ v w m h k. T.same v.value w.value m };
+    fn tell_exact() {}
+}
 
-    ghost comes_back = { λ v w m h. T.same v.value w.value m };
+impl<T: FixedCharge> ConstantCharge for Alone<T> {
+    ghost cost = { T.SIZE };
+
+    ghost peak = { T.SIZE };
+
+    fn tell_costs() {}
 }

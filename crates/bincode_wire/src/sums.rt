@@ -1,7 +1,7 @@
 //! One of several variants: what enums are written as.
 ghost use Rattle.std.specs.Prelude.{◌≡◌, ◌⊎◌, ◌<◌, ◌+◌, ◌-◌, ◌^◌, ◌==◌, min, max, pos};
-ghost use Rattle.std.specs.Prelude.{ℕ, Bool, true, false, List, [], ◌∷◌, refl};
-ghost use Rattle.std.proofs.Common.{sym, ◌∙◌, arith};
+ghost use Rattle.std.specs.Prelude.{ℕ, true, false, List, [], ◌∷◌, refl};
+ghost use Rattle.std.proofs.Common.{◌∙◌, arith};
 ghost use Rattle.bincode_base.specs.Setting.{Setting};
 ghost use Rattle.bincode_format.specs.Format.{Format, map_format};
 ghost use Rattle.bincode_format.specs.Integers.{unsigned_byte};
@@ -9,15 +9,13 @@ ghost use Rattle.bincode_format.specs.Integers.{Four};
 ghost use Rattle.bincode_format.specs.Fault.{Allowed};
 ghost use Rattle.bincode_base.specs.declared.error.IntegerType.TheVariants.{U32};
 ghost use Rattle.bincode_base.specs.declared.error.EncodeError.{EncodeError};
-ghost use Rattle.bincode_format.specs.Meaning.{Meaning, Choice, IsNumber};
-ghost use Rattle.bincode_format.specs.Words.{natural, tag, Variant, tags_of, allowed_tags, in_order, part, chosen};
+ghost use Rattle.bincode_format.specs.Meaning.{Meaning, Choice};
+ghost use Rattle.bincode_format.specs.Words.{tag, Variant, tags_of, in_order, part, chosen};
 ghost use Rattle.bincode_laws.specs.FormLaws.{Numerals, byte-numerals, unsigned-numerals};
 ghost use Rattle.bincode_format.specs.Allowed.{AllowedWord, SomeWord, MayName, Shortest, OneLength};
-ghost use Rattle.bincode_laws.specs.AllowedLaws.{fewer-none_shorter};
 ghost use Rattle.bincode_format.specs.Choices.{IsChoice, AllLawful, AllBalanced};
 ghost use Rattle.bincode_laws.specs.ChoiceLaws.{part-here, part-there, same-alike};
-ghost use Rattle.bincode_laws.specs.ChoiceLaws.{chosen-lawful, chosen-balanced, choice-has_word, choice-one_length};
-ghost use Rattle.bincode_laws.specs.ChoiceLaws.{choice-shortest, choice-some_word, choice-same, tags-differ};
+ghost use Rattle.bincode_laws.specs.ChoiceLaws.{chosen-lawful, chosen-balanced, choice-has_word};
 ghost use Rattle.bincode_laws.specs.TupleLaws.{either};
 
 use crate::laws::{Canonical, Exact, Inhabited, Plain, Writable};
@@ -104,30 +102,37 @@ pub trait Variants {
 
 /// Variants whose every valid value can be written in every setting.
 pub trait WritableVariants: Variants {
-    ghost always_writable: { (s : Setting) (v : Self) → Self.valid v → Self.writable v s };
+    /// Tells so.
+    fn tell_writable()
+        ensures { (s : Setting) (v : Self) → Self.valid v → Self.writable v s };
 }
 
 /// Variants without cells.
-pub trait PlainVariants: WritableVariants {
-    ghost one_length: { (s : Setting) (v : Self) → Self.valid v
-        → OneLength (AllowedWord (Self.means v) ((Self.variant v).1 s)) };
-
-    ghost names_none: { (e : EncodeError) → Self.names e → ⊥ };
+pub trait PlainVariants: Variants {
+    /// Tells so.
+    fn tell_plain()
+        ensures always_writable { (s : Setting) (v : Self) → Self.valid v → Self.writable v s }
+        ensures one_length { (s : Setting) (v : Self) → Self.valid v
+            → OneLength (AllowedWord (Self.means v) ((Self.variant v).1 s)) }
+        ensures names_none { (e : EncodeError) → Self.names e → ⊥ };
 }
 
 /// Variants whose words keep all of their parts.
 pub trait ExactVariants: PlainVariants + PartialEq {
-    ghost one_value: { (v w : Self) (m : Meaning) → Self.valid v → Self.valid w → (Self.variant v).0
-        ≡ (Self.variant w).0 → Self.means v m → Self.means w m → Self.eq v w ≡ true };
-
-    ghost comes_back: { (v w : Self) (m : Meaning) → Self.valid v → (Self.variant v).0 ≡ (Self.variant w).0
-        → Self.means v m → Self.given w m → Self.eq v w ≡ true };
+    /// Tells so.
+    fn tell_exact()
+        ensures one_value { (v w : Self) (m : Meaning) → Self.valid v → Self.valid w → (Self.variant v).0
+            ≡ (Self.variant w).0 → Self.means v m → Self.means w m → Self.eq v w ≡ true }
+        ensures comes_back { (v w : Self) (m : Meaning) → Self.valid v → (Self.variant v).0 ≡ (Self.variant w).0
+            → Self.means v m → Self.given w m → Self.eq v w ≡ true };
 }
 
 /// Variants whose words are canonical.
 pub trait CanonicalVariants: PlainVariants {
-    ghost shortest: { (s : Setting) (v w : Self) → Self.valid v → (Self.variant v).0 ≡ (Self.variant w).0
-        → Shortest (Self.means v) (Self.given w) ((Self.variant v).1 s) };
+    /// Tells so.
+    fn tell_canonical()
+        ensures { (s : Setting) (v w : Self) → Self.valid v → (Self.variant v).0 ≡ (Self.variant w).0
+            → Shortest (Self.means v) (Self.given w) ((Self.variant v).1 s) };
 }
 
 /// No variant: the end of those of the enum `Of`, with tags of type `T`. It has no values.
@@ -170,23 +175,19 @@ impl<Of, T: Tag> Variants for NoOther<Of, T> {
 }
 
 impl<Of, T: Tag> WritableVariants for NoOther<Of, T> {
-    ghost always_writable = { λ s v h. absurd h };
+    fn tell_writable() {}
 }
 
 impl<Of, T: Tag> PlainVariants for NoOther<Of, T> {
-    ghost one_length = { λ s v h. absurd h };
-
-    ghost names_none = { λ e h. h };
+    fn tell_plain() {}
 }
 
 impl<Of, T: Tag> ExactVariants for NoOther<Of, T> {
-    ghost one_value = { λ v w m h. absurd h };
-
-    ghost comes_back = { λ v w m h. absurd h };
+    fn tell_exact() {}
 }
 
 impl<Of, T: Tag> CanonicalVariants for NoOther<Of, T> {
-    ghost shortest = { λ s v w h. absurd h };
+    fn tell_canonical() {}
 }
 
 /// The variant with this tag, by its part, or one of the others.
@@ -246,62 +247,32 @@ impl<const TAG: u32, A: Wire, Others: Variants> Variants for Or<TAG, A, Others> 
 
 impl<const TAG: u32, A: Writable, Others: WritableVariants> WritableVariants
     for Or<TAG, A, Others> {
-    ghost use Rattle.bincode_wire.specs.declared.sums.Or.TheVariants.{This, Other};
-
-    ghost always_writable = { λ s. elim [
-      | This a ↦ A.always_writable s a
-      | Other o ↦ λ h. Others.always_writable s o h.1
-    ] };
+    fn tell_writable() {
+        A::tell_writable();
+        Others::tell_writable();
+    }
 }
 
 impl<const TAG: u32, A: Plain, Others: PlainVariants> PlainVariants for Or<TAG, A, Others> {
-    ghost use Rattle.bincode_wire.specs.declared.sums.Or.TheVariants.{This, Other};
-
-    ghost one_length = { λ s. elim [ This a ↦ A.one_length s a | Other o ↦ λ h. Others.one_length s o h.1 ] };
-
-    ghost names_none = { λ e. either (A.names_none e) (Others.names_none e) };
+    fn tell_plain() {
+        A::tell_plain();
+        Others::tell_plain();
+    }
 }
 
 impl<const TAG: u32, A: Exact, Others: ExactVariants> ExactVariants for Or<TAG, A, Others> {
-    ghost use Rattle.bincode_wire.specs.declared.sums.Or.TheVariants.{This, Other};
-
-    ghost one_value = { elim [
-      | This a ↦ elim [
-        | This b ↦ λ m h k e. A.one_value a b m h k
-        | Other o ↦ λ m h k e. absurd (tags-differ TAG (Others.variant o).0 k.0 e)
-      ]
-      | Other p ↦ elim [
-        | This b ↦ λ m h k e. absurd (tags-differ TAG (Others.variant p).0 h.0 (sym e))
-        | Other o ↦ λ m h k. Others.one_value p o m h.1 k.1
-      ]
-    ] };
-
-    ghost comes_back = { elim [
-      | This a ↦ elim [
-        | This b ↦ λ m h e. A.comes_back a b m h
-        | Other o ↦ λ m h e p q. absurd (tags-differ TAG (Others.variant o).0 q.0 e)
-      ]
-      | Other p ↦ elim [
-        | This b ↦ λ m h e. absurd (tags-differ TAG (Others.variant p).0 h.0 (sym e))
-        | Other o ↦ λ m h e r q. Others.comes_back p o m h.1 e r q.1
-      ]
-    ] };
+    fn tell_exact() {
+        A::tell_exact();
+        Others::tell_exact();
+    }
 }
 
 impl<const TAG: u32, A: Canonical, Others: CanonicalVariants> CanonicalVariants
     for Or<TAG, A, Others> {
-    ghost use Rattle.bincode_wire.specs.declared.sums.Or.TheVariants.{This, Other};
-
-    ghost shortest = { λ s. elim [
-      | This a ↦ elim [
-        | This b ↦ λ h e. A.shortest s a b h
-        | Other o ↦ λ h e written bytes m steps w. absurd (tags-differ TAG (Others.variant o).0 w.is_meant.1.0 e)
-      ]
-      | Other p ↦ elim [
-        | This b ↦ λ h e. absurd (tags-differ TAG (Others.variant p).0 h.0 (sym e))
-        | Other o ↦ λ h e. fewer-none_shorter (λ m p. (p.0, p.1.1)) (λ m p. p.1) (Others.shortest s p o h.1 e)
-      ]
-    ] };
+    fn tell_canonical() {
+        A::tell_canonical();
+        Others::tell_canonical();
+    }
 }
 
 /// What an enum is written as: the tag of a variant, and then its part.
@@ -332,14 +303,15 @@ impl<Of: Variants> Wire for OneOf<Of> {
 
 // An enum whose first tag is 0 has some word, if its first part has.
 impl<A: Inhabited, Others: Variants> Inhabited for OneOf<Or<0, A, Others>> {
-    ghost some_word = { λ s. choice-some_word Others.Tag.tags ((0, A.its.format) ∷ Others.variants) s 0 (A.its.format s)
-        (part-here s (allowed_tags (tags_of ((0, A.its.format) ∷ Others.variants))) 0 A.its.format Others.variants)
-        (Others.Tag.numerals.lawful s) (Others.Tag.numerals.spelled s 0 Others.Tag.zero_fits).has_word
-        (A.some_word s) };
+    fn tell_inhabited() {
+        A::tell_inhabited();
+    }
 }
 
 impl<Of: WritableVariants> Writable for OneOf<Of> {
-    ghost always_writable = { λ s v h. Of.always_writable s v.0 h.1 };
+    fn tell_writable() {
+        Of::tell_writable();
+    }
 }
 
 /// What enums are written as: `OneOf` some variants.
@@ -358,19 +330,19 @@ impl<Of: Variants> Choice for OneOf<Of> {
 }
 
 impl<Of: PlainVariants> Plain for OneOf<Of> {
-    ghost one_length = { λ s v h. choice-one_length Of.Tag.tags Of.variants s _ _ (same-alike (Of.picked s _ v.0 h.1))
-        (Of.means v.0) (Of.Tag.numerals.spelled s _ h.0).one_length (Of.one_length s v.0 h.1) };
-
-    ghost names_none = { Of.names_none };
+    fn tell_plain() {
+        Of::tell_plain();
+    }
 }
 
 impl<Of: ExactVariants> Exact for OneOf<Of> {
-    ghost one_value = { λ v w m h k. choice-same (λ n e p q. Of.one_value v.0 w.0 n h.1 k.1 e p q) m };
-
-    ghost comes_back = { λ v w m h. choice-same (λ n e p q. Of.comes_back v.0 w.0 n h.1 e p q) m };
+    fn tell_exact() {
+        Of::tell_exact();
+    }
 }
 
 impl<Of: CanonicalVariants> Canonical for OneOf<Of> {
-    ghost shortest = { λ s v w h. choice-shortest Of.Tag.tags Of.variants s _ _ _ (Of.picked s _ v.0 h.1)
-        (Of.means v.0) (Of.given w.0) (Of.Tag.numerals.spelled s _ h.0).none_shorter (Of.shortest s v.0 w.0 h.1) };
+    fn tell_canonical() {
+        Of::tell_canonical();
+    }
 }

@@ -1,7 +1,14 @@
-//! Types whose values have parts.
-use crate::parted::Parted;
+//! Types that are made of others: what they are written as, and the laws that they have by it.
+ghost use Rattle.std.specs.Prelude.{◌≡◌, true};
+ghost use Rattle.bincode_wire.specs.Laws.{AlwaysWritable, PlainWords, ExactWords, CanonicalWords};
+ghost use Rattle.bincode_wire.specs.Words.{words_by};
 
-/// A type whose values have parts, which are of the type `Parts`.
+use crate::laws::{Canonical, Exact, Plain, Writable};
+use crate::parted::Parted;
+use crate::wire::Wire;
+
+/// A type whose values have parts, which are of the type `Parts`: a struct has the tuple of its fields, and an enum
+/// `OneOf` its variants.
 pub trait MadeOf<Parts> {
     /// The parts of a value.
     ghost parts: { Self → Parts };
@@ -9,4 +16,33 @@ pub trait MadeOf<Parts> {
 
 impl<T: Parted> MadeOf<T::Parts> for T {
     ghost parts = { T.parts };
+}
+
+/// Tells that a type is writable, since its parts are.
+pub fn writable_by_parts<Parts: Writable, T: MadeOf<Parts>>()
+    ensures { AlwaysWritable (words_by Parts.its T.parts) }
+{
+    Parts::tell_writable();
+}
+
+/// Tells that a type is plain, since its parts are.
+pub fn plain_by_parts<Parts: Plain, T: MadeOf<Parts>>()
+    ensures { PlainWords (words_by Parts.its T.parts) }
+{
+    Parts::tell_plain();
+}
+
+/// Tells that a type is exact, since its parts are, and its values are equal where their parts are.
+pub fn exact_by_parts<Parts: Exact, T: MadeOf<Parts> + PartialEq>()
+    requires { (v w : T) → Parts.eq (T.parts v) (T.parts w) ≡ true → T.eq v w ≡ true }
+    ensures { ExactWords (words_by Parts.its T.parts) T.eq }
+{
+    Parts::tell_exact();
+}
+
+/// Tells that a type is canonical, since its parts are.
+pub fn canonical_by_parts<Parts: Canonical, T: MadeOf<Parts>>()
+    ensures { CanonicalWords (words_by Parts.its T.parts) }
+{
+    Parts::tell_canonical();
 }

@@ -2,8 +2,7 @@
 ghost use Rattle.std.specs.Prelude.{◌⊎◌};
 ghost use Rattle.bincode_format.specs.Format.{of_cell};
 ghost use Rattle.bincode_format.specs.Cells.{IsAny, IsBorrowed, IsHeld};
-ghost use Rattle.bincode_format.specs.Allowed.{MayName};
-ghost use Rattle.bincode_laws.specs.CellLaws.{cell-lawful, cell-balanced, cell-some_word, borrowed-named};
+ghost use Rattle.bincode_laws.specs.CellLaws.{cell-lawful, cell-balanced, borrowed-named};
 ghost use Rattle.bincode_laws.specs.TupleLaws.{either};
 
 use crate::laws::{Inhabited, Writable};
@@ -32,11 +31,16 @@ impl<T: Wire> Wire for Cell<T> {
 }
 
 impl<T: Inhabited> Inhabited for Cell<T> {
-    ghost some_word = { λ s. cell-some_word (T.its.format s) (T.some_word s) };
+    fn tell_inhabited() {
+        T::tell_inhabited();
+    }
 }
 
 impl<T: Writable + Inhabited> Writable for Cell<T> {
-    ghost always_writable = { λ s v h. record { some_word = T.some_word s; each_writable = T.always_writable s } };
+    fn tell_writable() {
+        T::tell_inhabited();
+        T::tell_writable();
+    }
 }
 
 impl<T: Wire> Wire for RefCell<T> {
@@ -61,9 +65,14 @@ impl<T: Wire> Wire for RefCell<T> {
 }
 
 impl<T: Inhabited> Inhabited for RefCell<T> {
-    ghost some_word = { λ s. cell-some_word (T.its.format s) (T.some_word s) };
+    fn tell_inhabited() {
+        T::tell_inhabited();
+    }
 }
 
 impl<T: Writable + Inhabited> Writable for RefCell<T> {
-    ghost always_writable = { λ s v h. record { some_word = T.some_word s; each_writable = T.always_writable s } };
+    fn tell_writable() {
+        T::tell_inhabited();
+        T::tell_writable();
+    }
 }

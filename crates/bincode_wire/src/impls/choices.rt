@@ -1,14 +1,12 @@
 //! The words of truth values, `Option`, `Result` and `Bound`.
-ghost use Rattle.std.specs.Prelude.{refl};
-ghost use Rattle.std.proofs.Common.{le_refl};
 ghost use Rattle.bincode_laws.specs.AllowedLaws.{truth-same};
 ghost use Rattle.bincode_format.specs.Forms.{truths};
 ghost use Rattle.bincode_laws.specs.CostLaws.{truth-costs};
 ghost use Rattle.bincode_laws.specs.FormLaws.{truths-laws};
 
-use crate::laws::{ConstantCharge, Exact};
+use crate::laws::Exact;
 use crate::parted::{Parted, SameParts};
-use crate::scalars::{Alone, Scalar};
+use crate::scalars::{Alone, FixedCharge, Scalar};
 use crate::sums::{NoOther, OneOf, Or};
 use crate::wire::Wire;
 use std::ops::Bound;
@@ -35,14 +33,8 @@ impl SameParts<Alone<bool>> for bool {
     ghost same_parts = { λ v w e. e };
 }
 
-impl ConstantCharge for Alone<bool> {
-    ghost cost = { 1 };
-
-    ghost peak = { 1 };
-
-    ghost costs = { λ s. truth-costs };
-
-    ghost cost_fits = { le_refl 1 };
+impl FixedCharge for bool {
+    ghost charges = { λ s. truth-costs };
 }
 
 type OptionParts<T> = OneOf<Or<0, (), Or<1, T, NoOther<Option<T>, u8>>>>;

@@ -1,7 +1,6 @@
 //! The words of integers other than 0.
 ghost use Rattle.std.specs.Prelude.{refl};
 ghost use Rattle.std.specs.Int.{w16, w32, w64, w128};
-ghost use Rattle.std.proofs.Common.{le_refl};
 ghost use Rattle.std.specs.Int.NonZero.{non_zero_u8_get, non_zero_u16_get, non_zero_u32_get, non_zero_u64_get};
 ghost use Rattle.std.specs.Int.NonZero.{non_zero_u128_get, non_zero_usize_get, non_zero_i8_get, non_zero_i16_get};
 ghost use Rattle.std.specs.Int.NonZero.{non_zero_i32_get, non_zero_i64_get, non_zero_i128_get, non_zero_isize_get};
@@ -15,9 +14,8 @@ ghost use Rattle.bincode_laws.specs.CostLaws.{unsigned_byte-costs, signed_byte-c
 ghost use Rattle.bincode_laws.specs.FormLaws.{bytes_not_zero-laws, unsigned_not_zero-laws};
 ghost use Rattle.bincode_laws.specs.FormLaws.{signed_bytes_not_zero-laws, signed_not_zero-laws};
 
-use crate::laws::ConstantCharge;
 use crate::parted::{Parted, SameParts};
-use crate::scalars::{Alone, Scalar};
+use crate::scalars::{Alone, FixedCharge, Scalar};
 use std::num::{
     NonZeroI8, NonZeroI16, NonZeroI32, NonZeroI64, NonZeroI128, NonZeroIsize, NonZeroU8,
     NonZeroU16, NonZeroU32, NonZeroU64, NonZeroU128, NonZeroUsize,
@@ -45,14 +43,8 @@ impl SameParts<Alone<NonZeroU8>> for NonZeroU8 {
     ghost same_parts = { λ v w e. e };
 }
 
-impl ConstantCharge for Alone<NonZeroU8> {
-    ghost cost = { 1 };
-
-    ghost peak = { 1 };
-
-    ghost costs = { λ s. map-costs 1 1 _ _ (not_zero-costs _ U8 1 _ unsigned_byte-costs) };
-
-    ghost cost_fits = { le_refl 1 };
+impl FixedCharge for NonZeroU8 {
+    ghost charges = { λ s. map-costs 1 1 _ _ (not_zero-costs _ U8 1 _ unsigned_byte-costs) };
 }
 
 impl Scalar for NonZeroU16 {
@@ -77,14 +69,8 @@ impl SameParts<Alone<NonZeroU16>> for NonZeroU16 {
     ghost same_parts = { λ v w e. e };
 }
 
-impl ConstantCharge for Alone<NonZeroU16> {
-    ghost cost = { 2 };
-
-    ghost peak = { 2 };
-
-    ghost costs = { λ s. map-costs 2 2 _ _ (not_zero-costs _ U16 2 _ (unsigned-costs U16 2 s)) };
-
-    ghost cost_fits = { le_refl 2 };
+impl FixedCharge for NonZeroU16 {
+    ghost charges = { λ s. map-costs 2 2 _ _ (not_zero-costs _ U16 2 _ (unsigned-costs U16 2 s)) };
 }
 
 impl Scalar for NonZeroU32 {
@@ -109,14 +95,8 @@ impl SameParts<Alone<NonZeroU32>> for NonZeroU32 {
     ghost same_parts = { λ v w e. e };
 }
 
-impl ConstantCharge for Alone<NonZeroU32> {
-    ghost cost = { 4 };
-
-    ghost peak = { 4 };
-
-    ghost costs = { λ s. map-costs 4 4 _ _ (not_zero-costs _ U32 4 _ (unsigned-costs U32 4 s)) };
-
-    ghost cost_fits = { le_refl 4 };
+impl FixedCharge for NonZeroU32 {
+    ghost charges = { λ s. map-costs 4 4 _ _ (not_zero-costs _ U32 4 _ (unsigned-costs U32 4 s)) };
 }
 
 impl Scalar for NonZeroU64 {
@@ -141,14 +121,8 @@ impl SameParts<Alone<NonZeroU64>> for NonZeroU64 {
     ghost same_parts = { λ v w e. e };
 }
 
-impl ConstantCharge for Alone<NonZeroU64> {
-    ghost cost = { 8 };
-
-    ghost peak = { 8 };
-
-    ghost costs = { λ s. map-costs 8 8 _ _ (not_zero-costs _ U64 8 _ (unsigned-costs U64 8 s)) };
-
-    ghost cost_fits = { le_refl 8 };
+impl FixedCharge for NonZeroU64 {
+    ghost charges = { λ s. map-costs 8 8 _ _ (not_zero-costs _ U64 8 _ (unsigned-costs U64 8 s)) };
 }
 
 impl Scalar for NonZeroU128 {
@@ -173,14 +147,8 @@ impl SameParts<Alone<NonZeroU128>> for NonZeroU128 {
     ghost same_parts = { λ v w e. e };
 }
 
-impl ConstantCharge for Alone<NonZeroU128> {
-    ghost cost = { 16 };
-
-    ghost peak = { 16 };
-
-    ghost costs = { λ s. map-costs 16 16 _ _ (not_zero-costs _ U128 16 _ (unsigned-costs U128 16 s)) };
-
-    ghost cost_fits = { le_refl 16 };
+impl FixedCharge for NonZeroU128 {
+    ghost charges = { λ s. map-costs 16 16 _ _ (not_zero-costs _ U128 16 _ (unsigned-costs U128 16 s)) };
 }
 
 impl Scalar for NonZeroUsize {
@@ -205,14 +173,8 @@ impl SameParts<Alone<NonZeroUsize>> for NonZeroUsize {
     ghost same_parts = { λ v w e. e };
 }
 
-impl ConstantCharge for Alone<NonZeroUsize> {
-    ghost cost = { 8 };
-
-    ghost peak = { 8 };
-
-    ghost costs = { λ s. map-costs 8 8 _ _ (not_zero-costs _ Usize 8 _ (unsigned-costs Usize 8 s)) };
-
-    ghost cost_fits = { le_refl 8 };
+impl FixedCharge for NonZeroUsize {
+    ghost charges = { λ s. map-costs 8 8 _ _ (not_zero-costs _ Usize 8 _ (unsigned-costs Usize 8 s)) };
 }
 
 impl Scalar for NonZeroI8 {
@@ -237,14 +199,8 @@ impl SameParts<Alone<NonZeroI8>> for NonZeroI8 {
     ghost same_parts = { λ v w e. e };
 }
 
-impl ConstantCharge for Alone<NonZeroI8> {
-    ghost cost = { 1 };
-
-    ghost peak = { 1 };
-
-    ghost costs = { λ s. map-costs 1 1 _ _ (not_zero-costs _ I8 1 _ signed_byte-costs) };
-
-    ghost cost_fits = { le_refl 1 };
+impl FixedCharge for NonZeroI8 {
+    ghost charges = { λ s. map-costs 1 1 _ _ (not_zero-costs _ I8 1 _ signed_byte-costs) };
 }
 
 impl Scalar for NonZeroI16 {
@@ -269,14 +225,8 @@ impl SameParts<Alone<NonZeroI16>> for NonZeroI16 {
     ghost same_parts = { λ v w e. e };
 }
 
-impl ConstantCharge for Alone<NonZeroI16> {
-    ghost cost = { 2 };
-
-    ghost peak = { 2 };
-
-    ghost costs = { λ s. map-costs 2 2 _ _ (not_zero-costs _ I16 2 _ (signed-costs I16 2 s)) };
-
-    ghost cost_fits = { le_refl 2 };
+impl FixedCharge for NonZeroI16 {
+    ghost charges = { λ s. map-costs 2 2 _ _ (not_zero-costs _ I16 2 _ (signed-costs I16 2 s)) };
 }
 
 impl Scalar for NonZeroI32 {
@@ -301,14 +251,8 @@ impl SameParts<Alone<NonZeroI32>> for NonZeroI32 {
     ghost same_parts = { λ v w e. e };
 }
 
-impl ConstantCharge for Alone<NonZeroI32> {
-    ghost cost = { 4 };
-
-    ghost peak = { 4 };
-
-    ghost costs = { λ s. map-costs 4 4 _ _ (not_zero-costs _ I32 4 _ (signed-costs I32 4 s)) };
-
-    ghost cost_fits = { le_refl 4 };
+impl FixedCharge for NonZeroI32 {
+    ghost charges = { λ s. map-costs 4 4 _ _ (not_zero-costs _ I32 4 _ (signed-costs I32 4 s)) };
 }
 
 impl Scalar for NonZeroI64 {
@@ -333,14 +277,8 @@ impl SameParts<Alone<NonZeroI64>> for NonZeroI64 {
     ghost same_parts = { λ v w e. e };
 }
 
-impl ConstantCharge for Alone<NonZeroI64> {
-    ghost cost = { 8 };
-
-    ghost peak = { 8 };
-
-    ghost costs = { λ s. map-costs 8 8 _ _ (not_zero-costs _ I64 8 _ (signed-costs I64 8 s)) };
-
-    ghost cost_fits = { le_refl 8 };
+impl FixedCharge for NonZeroI64 {
+    ghost charges = { λ s. map-costs 8 8 _ _ (not_zero-costs _ I64 8 _ (signed-costs I64 8 s)) };
 }
 
 impl Scalar for NonZeroI128 {
@@ -365,14 +303,8 @@ impl SameParts<Alone<NonZeroI128>> for NonZeroI128 {
     ghost same_parts = { λ v w e. e };
 }
 
-impl ConstantCharge for Alone<NonZeroI128> {
-    ghost cost = { 16 };
-
-    ghost peak = { 16 };
-
-    ghost costs = { λ s. map-costs 16 16 _ _ (not_zero-costs _ I128 16 _ (signed-costs I128 16 s)) };
-
-    ghost cost_fits = { le_refl 16 };
+impl FixedCharge for NonZeroI128 {
+    ghost charges = { λ s. map-costs 16 16 _ _ (not_zero-costs _ I128 16 _ (signed-costs I128 16 s)) };
 }
 
 impl Scalar for NonZeroIsize {
@@ -397,12 +329,6 @@ impl SameParts<Alone<NonZeroIsize>> for NonZeroIsize {
     ghost same_parts = { λ v w e. e };
 }
 
-impl ConstantCharge for Alone<NonZeroIsize> {
-    ghost cost = { 8 };
-
-    ghost peak = { 8 };
-
-    ghost costs = { λ s. map-costs 8 8 _ _ (not_zero-costs _ Isize 8 _ (signed-costs Isize 8 s)) };
-
-    ghost cost_fits = { le_refl 8 };
+impl FixedCharge for NonZeroIsize {
+    ghost charges = { λ s. map-costs 8 8 _ _ (not_zero-costs _ Isize 8 _ (signed-costs Isize 8 s)) };
 }

@@ -1,7 +1,6 @@
 //! The words of integers.
 ghost use Rattle.std.specs.Prelude.{refl};
 ghost use Rattle.std.specs.Int.{w16, w32, w64, w128};
-ghost use Rattle.std.proofs.Common.{le_refl};
 ghost use Rattle.bincode_base.specs.declared.error.IntegerType.TheVariants.{U16, U32, U64, U128, Usize, I16, I32, I64};
 ghost use Rattle.bincode_base.specs.declared.error.IntegerType.TheVariants.{I128, Isize};
 ghost use Rattle.bincode_format.specs.Integers.{Two, Four, Eight, Sixteen};
@@ -13,9 +12,8 @@ ghost use Rattle.bincode_laws.specs.CostLaws.{signed_byte-costs};
 ghost use Rattle.bincode_laws.specs.FormLaws.{bytes-laws, unsigned_numbers-laws};
 ghost use Rattle.bincode_laws.specs.FormLaws.{signed_bytes-laws, signed_numbers-laws};
 
-use crate::laws::ConstantCharge;
 use crate::parted::{Parted, SameParts};
-use crate::scalars::{Alone, Scalar};
+use crate::scalars::{Alone, FixedCharge, Scalar};
 
 impl Scalar for u8 {
     ghost form = { bytes };
@@ -39,14 +37,8 @@ impl SameParts<Alone<u8>> for u8 {
     ghost same_parts = { λ v w e. e };
 }
 
-impl ConstantCharge for Alone<u8> {
-    ghost cost = { 1 };
-
-    ghost peak = { 1 };
-
-    ghost costs = { λ s. map-costs 1 1 _ (unsigned_byte) unsigned_byte-costs };
-
-    ghost cost_fits = { le_refl 1 };
+impl FixedCharge for u8 {
+    ghost charges = { λ s. map-costs 1 1 _ (unsigned_byte) unsigned_byte-costs };
 }
 
 impl Scalar for u16 {
@@ -71,14 +63,8 @@ impl SameParts<Alone<u16>> for u16 {
     ghost same_parts = { λ v w e. e };
 }
 
-impl ConstantCharge for Alone<u16> {
-    ghost cost = { 2 };
-
-    ghost peak = { 2 };
-
-    ghost costs = { λ s. map-costs 2 2 _ (unsigned U16 2 s) (unsigned-costs U16 2 s) };
-
-    ghost cost_fits = { le_refl 2 };
+impl FixedCharge for u16 {
+    ghost charges = { λ s. map-costs 2 2 _ (unsigned U16 2 s) (unsigned-costs U16 2 s) };
 }
 
 impl Scalar for u32 {
@@ -103,14 +89,8 @@ impl SameParts<Alone<u32>> for u32 {
     ghost same_parts = { λ v w e. e };
 }
 
-impl ConstantCharge for Alone<u32> {
-    ghost cost = { 4 };
-
-    ghost peak = { 4 };
-
-    ghost costs = { λ s. map-costs 4 4 _ (unsigned U32 4 s) (unsigned-costs U32 4 s) };
-
-    ghost cost_fits = { le_refl 4 };
+impl FixedCharge for u32 {
+    ghost charges = { λ s. map-costs 4 4 _ (unsigned U32 4 s) (unsigned-costs U32 4 s) };
 }
 
 impl Scalar for u64 {
@@ -135,14 +115,8 @@ impl SameParts<Alone<u64>> for u64 {
     ghost same_parts = { λ v w e. e };
 }
 
-impl ConstantCharge for Alone<u64> {
-    ghost cost = { 8 };
-
-    ghost peak = { 8 };
-
-    ghost costs = { λ s. map-costs 8 8 _ (unsigned U64 8 s) (unsigned-costs U64 8 s) };
-
-    ghost cost_fits = { le_refl 8 };
+impl FixedCharge for u64 {
+    ghost charges = { λ s. map-costs 8 8 _ (unsigned U64 8 s) (unsigned-costs U64 8 s) };
 }
 
 impl Scalar for u128 {
@@ -167,14 +141,8 @@ impl SameParts<Alone<u128>> for u128 {
     ghost same_parts = { λ v w e. e };
 }
 
-impl ConstantCharge for Alone<u128> {
-    ghost cost = { 16 };
-
-    ghost peak = { 16 };
-
-    ghost costs = { λ s. map-costs 16 16 _ (unsigned U128 16 s) (unsigned-costs U128 16 s) };
-
-    ghost cost_fits = { le_refl 16 };
+impl FixedCharge for u128 {
+    ghost charges = { λ s. map-costs 16 16 _ (unsigned U128 16 s) (unsigned-costs U128 16 s) };
 }
 
 impl Scalar for usize {
@@ -199,14 +167,8 @@ impl SameParts<Alone<usize>> for usize {
     ghost same_parts = { λ v w e. e };
 }
 
-impl ConstantCharge for Alone<usize> {
-    ghost cost = { 8 };
-
-    ghost peak = { 8 };
-
-    ghost costs = { λ s. map-costs 8 8 _ (unsigned Usize 8 s) (unsigned-costs Usize 8 s) };
-
-    ghost cost_fits = { le_refl 8 };
+impl FixedCharge for usize {
+    ghost charges = { λ s. map-costs 8 8 _ (unsigned Usize 8 s) (unsigned-costs Usize 8 s) };
 }
 
 impl Scalar for i8 {
@@ -231,14 +193,8 @@ impl SameParts<Alone<i8>> for i8 {
     ghost same_parts = { λ v w e. e };
 }
 
-impl ConstantCharge for Alone<i8> {
-    ghost cost = { 1 };
-
-    ghost peak = { 1 };
-
-    ghost costs = { λ s. map-costs 1 1 _ (signed_byte) signed_byte-costs };
-
-    ghost cost_fits = { le_refl 1 };
+impl FixedCharge for i8 {
+    ghost charges = { λ s. map-costs 1 1 _ (signed_byte) signed_byte-costs };
 }
 
 impl Scalar for i16 {
@@ -263,14 +219,8 @@ impl SameParts<Alone<i16>> for i16 {
     ghost same_parts = { λ v w e. e };
 }
 
-impl ConstantCharge for Alone<i16> {
-    ghost cost = { 2 };
-
-    ghost peak = { 2 };
-
-    ghost costs = { λ s. map-costs 2 2 _ (signed I16 2 s) (signed-costs I16 2 s) };
-
-    ghost cost_fits = { le_refl 2 };
+impl FixedCharge for i16 {
+    ghost charges = { λ s. map-costs 2 2 _ (signed I16 2 s) (signed-costs I16 2 s) };
 }
 
 impl Scalar for i32 {
@@ -295,14 +245,8 @@ impl SameParts<Alone<i32>> for i32 {
     ghost same_parts = { λ v w e. e };
 }
 
-impl ConstantCharge for Alone<i32> {
-    ghost cost = { 4 };
-
-    ghost peak = { 4 };
-
-    ghost costs = { λ s. map-costs 4 4 _ (signed I32 4 s) (signed-costs I32 4 s) };
-
-    ghost cost_fits = { le_refl 4 };
+impl FixedCharge for i32 {
+    ghost charges = { λ s. map-costs 4 4 _ (signed I32 4 s) (signed-costs I32 4 s) };
 }
 
 impl Scalar for i64 {
@@ -327,14 +271,8 @@ impl SameParts<Alone<i64>> for i64 {
     ghost same_parts = { λ v w e. e };
 }
 
-impl ConstantCharge for Alone<i64> {
-    ghost cost = { 8 };
-
-    ghost peak = { 8 };
-
-    ghost costs = { λ s. map-costs 8 8 _ (signed I64 8 s) (signed-costs I64 8 s) };
-
-    ghost cost_fits = { le_refl 8 };
+impl FixedCharge for i64 {
+    ghost charges = { λ s. map-costs 8 8 _ (signed I64 8 s) (signed-costs I64 8 s) };
 }
 
 impl Scalar for i128 {
@@ -359,14 +297,8 @@ impl SameParts<Alone<i128>> for i128 {
     ghost same_parts = { λ v w e. e };
 }
 
-impl ConstantCharge for Alone<i128> {
-    ghost cost = { 16 };
-
-    ghost peak = { 16 };
-
-    ghost costs = { λ s. map-costs 16 16 _ (signed I128 16 s) (signed-costs I128 16 s) };
-
-    ghost cost_fits = { le_refl 16 };
+impl FixedCharge for i128 {
+    ghost charges = { λ s. map-costs 16 16 _ (signed I128 16 s) (signed-costs I128 16 s) };
 }
 
 impl Scalar for isize {
@@ -391,12 +323,6 @@ impl SameParts<Alone<isize>> for isize {
     ghost same_parts = { λ v w e. e };
 }
 
-impl ConstantCharge for Alone<isize> {
-    ghost cost = { 8 };
-
-    ghost peak = { 8 };
-
-    ghost costs = { λ s. map-costs 8 8 _ (signed Isize 8 s) (signed-costs Isize 8 s) };
-
-    ghost cost_fits = { le_refl 8 };
+impl FixedCharge for isize {
+    ghost charges = { λ s. map-costs 8 8 _ (signed Isize 8 s) (signed-costs Isize 8 s) };
 }

@@ -1,15 +1,10 @@
 //! The words of spans of time.
-ghost use Rattle.std.specs.Prelude.{◌≡◌, ◌<◌, ◌^◌, ◌++◌, pos, refl};
-ghost use Rattle.bincode_base.specs.declared.error.IntegerType.TheVariants.{U32, U64};
+ghost use Rattle.std.specs.Prelude.{◌<◌, ◌^◌, pos};
 ghost use Rattle.bincode_format.specs.Meaning.{IsNumber, IsThen, IsNothing};
 ghost use Rattle.bincode_format.specs.Words.{second_in_nanos, duration};
 ghost use Rattle.bincode_wire.specs.Durations.{secs_of, nanos_of};
-ghost use Rattle.bincode_laws.specs.AllowedLaws.{both-one_length, same-one_length};
-ghost use Rattle.bincode_laws.specs.SpelledLaws.{unsigned-spelled};
-ghost use Rattle.std.proofs.Common.{le_refl};
-ghost use Rattle.bincode_laws.specs.CostLaws.{duration-costs};
-ghost use Rattle.bincode_laws.specs.DurationLaws.{duration-lawful, duration-balanced, duration-some_word};
-ghost use Rattle.bincode_laws.specs.DurationLaws.{duration-has_word, allowed-duration, nanos-fit, span-same};
+ghost use Rattle.bincode_laws.specs.DurationLaws.{duration-lawful, duration-balanced};
+ghost use Rattle.bincode_laws.specs.DurationLaws.{duration-has_word};
 
 use crate::laws::{ConstantCharge, Exact, Inhabited, Plain, Writable};
 use crate::own::time::Duration;
@@ -37,26 +32,19 @@ impl Wire for Duration {
 }
 
 impl Inhabited for Duration {
-    ghost some_word = { λ s. duration-some_word s };
+    fn tell_inhabited() {}
 }
 
 impl Writable for Duration {
-    ghost always_writable = { λ s v h. tt };
+    fn tell_writable() {}
 }
 
 impl Plain for Duration {
-    ghost one_length = { λ s v h.
-        same-one_length _ _ (allowed-duration s (secs_of v) (nanos_of v))
-        (both-one_length _ _ (unsigned-spelled U64 8 (secs_of v) s h.0).one_length
-        (unsigned-spelled U32 4 (nanos_of v) s (nanos-fit (nanos_of v) h.1)).one_length) };
-
-    ghost names_none = { λ e h. h };
+    fn tell_plain() {}
 }
 
 impl Exact for Duration {
-    ghost one_value = { λ v w m h k. span-same (secs_of v) (nanos_of v) (secs_of w) (nanos_of w) m };
-
-    ghost comes_back = { λ v w m h. span-same (secs_of v) (nanos_of v) (secs_of w) (nanos_of w) m };
+    fn tell_exact() {}
 }
 
 impl ConstantCharge for Duration {
@@ -64,7 +52,5 @@ impl ConstantCharge for Duration {
 
     ghost peak = { 12 };
 
-    ghost costs = { duration-costs };
-
-    ghost cost_fits = { le_refl 12 };
+    fn tell_costs() {}
 }

@@ -73,27 +73,33 @@ impl<T: Wire> Wire for Pointed<T> {
 }
 
 impl<T: Inhabited> Inhabited for Pointed<T> {
-    ghost some_word = { T.some_word };
+    fn tell_inhabited() {
+        T::tell_inhabited();
+    }
 }
 
 impl<T: Writable> Writable for Pointed<T> {
-    ghost always_writable = { λ s v. T.always_writable s v.to };
+    fn tell_writable() {
+        T::tell_writable();
+    }
 }
 
 impl<T: Plain> Plain for Pointed<T> {
-    ghost one_length = { λ s v. T.one_length s v.to };
-
-    ghost names_none = { T.names_none };
+    fn tell_plain() {
+        T::tell_plain();
+    }
 }
 
 impl<T: Exact> Exact for Pointed<T> {
-    ghost one_value = { λ v w. T.one_value v.to w.to };
-
-    ghost comes_back = { λ v w. T.comes_back v.to w.to };
+    fn tell_exact() {
+        T::tell_exact();
+    }
 }
 
 impl<T: Canonical> Canonical for Pointed<T> {
-    ghost shortest = { λ s v w. T.shortest s v.to w.to };
+    fn tell_canonical() {
+        T::tell_canonical();
+    }
 }
 
 impl<T: ConstantCharge> ConstantCharge for Pointed<T> {
@@ -101,9 +107,9 @@ impl<T: ConstantCharge> ConstantCharge for Pointed<T> {
 
     ghost peak = { T.peak };
 
-    ghost costs = { T.costs };
-
-    ghost cost_fits = { T.cost_fits };
+    fn tell_costs() {
+        T::tell_costs();
+    }
 }
 
 impl<T: Wire> Parted for &T {
