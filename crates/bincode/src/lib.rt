@@ -14,9 +14,17 @@ mod slice;
 mod vec;
 mod writer;
 
+/// Laws that some types keep, and what tells them of a type by its parts.
+pub mod laws {
+    pub use bincode_wire::laws::{Canonical, ConstantCharge, Exact, Inhabited, Plain, Writable};
+    pub use bincode_wire::written::{
+        canonical_by_parts, exact_by_parts, plain_by_parts, writable_by_parts,
+    };
+}
+
 /// What proofs know of a type: what it is written as, and the laws that it keeps.
 pub mod model {
-    pub use bincode_wire::laws::{Canonical, ConstantCharge, Exact, Inhabited, Plain, Writable};
+    pub use crate::laws::{Canonical, ConstantCharge, Exact, Inhabited, Plain, Writable};
     pub use bincode_wire::wire::Wire;
 }
 
@@ -25,7 +33,6 @@ pub use bincode_de::decode::Decode;
 pub use bincode_enc::encode::Encode;
 pub use bincode_varint::varint;
 pub use bincode_wire::empty::NoVariants;
-pub use bincode_wire::laws;
 pub use bincode_wire::lists::Items;
 pub use bincode_wire::own::time;
 pub use bincode_wire::parted::{Parted, SameParts};

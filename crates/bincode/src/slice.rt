@@ -24,11 +24,13 @@ pub fn encode_into_slice<E: Encode, C: Config>(
     config: C,
 ) -> Result<usize, EncodeError>
     // A word that the value allows is written, of so many bytes, and the bytes after it stay.
-    ensures word { IfOk result (λ n. WordWritten (AllowedWord (E.its.means val) (E.its.format C.setting)) n dst.old dst.new) }
+    ensures word { IfOk result (λ n. WordWritten (AllowedWord (E.its.means val) (E.its.format C.setting))
+        n dst.old dst.new) }
     // No other errors come,
     ensures fault { IfErr result (λ e. (e ≡ UnexpectedEnd) ⊎ E.its.names e) }
     // the first of them only for want of room,
-    ensures room { FitsExactly (Ready (E.its.writable C.setting val) (AllowedWord (E.its.means val) (E.its.format C.setting)))
+    ensures room { FitsExactly (Ready (E.its.writable C.setting val)
+        (AllowedWord (E.its.means val) (E.its.format C.setting)))
         E.its.names (length dst.old) result }
     // and they leave a front of an allowed word.
     ensures left { IfErr result (FrontWritten (Ready (E.its.writable C.setting val)

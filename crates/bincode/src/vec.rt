@@ -24,10 +24,12 @@ pub fn encode_to_vec<E: Encode, C: Config>(
     ensures fault { IfErr result (FailsVec (Ready (E.its.writable C.setting val)
         (AllowedWord (E.its.means val) (E.its.format C.setting))) E.its.names) }
     // which words of one length are not.
-    ensures counted { FailsCounted (Ready (E.its.writable C.setting val) (AllowedWord (E.its.means val) (E.its.format C.setting)))
+    ensures counted { FailsCounted (Ready (E.its.writable C.setting val)
+        (AllowedWord (E.its.means val) (E.its.format C.setting)))
         E.its.names result }
     // A value without bytes takes no memory.
-    ensures empty { FailsEmpty (Ready (E.its.writable C.setting val) (AllowedWord (E.its.means val) (E.its.format C.setting)))
+    ensures empty { FailsEmpty (Ready (E.its.writable C.setting val)
+        (AllowedWord (E.its.means val) (E.its.format C.setting)))
         E.its.names result }
 {
     let mut counter = SizeWriter::default();

@@ -22,8 +22,8 @@ pub fn decode_collection<
     D: Decoder<Context = Context>,
 >(decoder: &mut D) -> Result<K, DecodeError>
     ensures { Reads D.told D.rest D.charge D.failures D.place D.C.bound D.R.ended D.R.device (Unit {0})
-        (list D.C.setting T.its.claim (T.its.format D.C.setting)) (λ m v. IsListOf (λ x n. T.its.given n x) (K.items v) m)
-        (D.charge decoder.old) result decoder.old decoder.new }
+        (list D.C.setting T.its.claim (T.its.format D.C.setting)) (λ m v. IsListOf (λ x n. T.its.given n x)
+        (K.items v) m) (D.charge decoder.old) result decoder.old decoder.new }
 {
     collections::decode_collection::<Context, ByDecode<T>, K, D>(decoder)
 }

@@ -39,7 +39,8 @@ pub trait Decode<Context: Drop>: Wire + Drop + Sized {
             × Allows D.C.bound (D.charge decoder.old) }
         ensures { MatchOption result (decoder.new ≡ decoder.old) (λ r. RunRead D.told D.rest D.charge D.failures
             D.place D.C.bound D.R.ended D.R.device (Self.its.grows × (0 < length values.old)) Self.its.claim
-            (Self.its.format D.C.setting) Self.its.given (length values.old) (λ _. values.new) r decoder.old decoder.new) }
+            (Self.its.format D.C.setting) Self.its.given (length values.old) (λ _. values.new) r decoder.old
+            decoder.new) }
     {
         let _ = &*decoder;
         let _ = &*values;

@@ -64,8 +64,8 @@ pub fn decode_vec<Context: Drop, T: Decode<Context>, D: Decoder<Context = Contex
     requires { CanRelease D.C.bound (D.charge decoder.old) (len * T.its.claim) }
     ensures length { IfOk result (λ v. length v.items ≡ len) }
     ensures room { IfOk result (λ v. vec_capacity v ≡ len) }
-    ensures read { RunRead D.told D.rest D.charge D.failures D.place D.C.bound D.R.ended D.R.device (0 < len) T.its.claim
-        (T.its.format D.C.setting) T.its.given len (λ v. v.items) result decoder.old decoder.new }
+    ensures read { RunRead D.told D.rest D.charge D.failures D.place D.C.bound D.R.ended D.R.device (0 < len)
+        T.its.claim (T.its.format D.C.setting) T.its.given len (λ v. v.items) result decoder.old decoder.new }
 {
     runs::decode_vec::<Context, ByDecode<T>, D>(decoder, len)
 }

@@ -31,7 +31,8 @@ pub trait Encode: Wire + Drop {
     where
         Self: Sized,
         ensures { IfSome result (λ bytes. (s : Setting) → Ready (All (Self.its.writable s) _items.now)
-            (AllowedWord (IsListOf Self.its.means _items.now) (array (length _items.now) Self.its.claim (Self.its.format s)))
+            (AllowedWord (IsListOf Self.its.means _items.now)
+            (array (length _items.now) Self.its.claim (Self.its.format s)))
             bytes.now) }
     {
         None

@@ -16,8 +16,8 @@ pub fn encode_passed<T: Tested, E: Encoder>(value: &T, encoder: &mut E) -> Resul
 where
     T::Of: Encode,
     ensures { Encodes E.W.adds E.W.refuses E.writer_of E.place (T.Of.its.writable E.C.setting (T.of value.now))
-        (AllowedWord (T.Of.its.means (T.of value.now)) (passed T.passes T.fault (T.Of.its.format E.C.setting))) T.Of.its.names
-        result encoder.old encoder.new }
+        (AllowedWord (T.Of.its.means (T.of value.now)) (passed T.passes T.fault (T.Of.its.format E.C.setting)))
+        T.Of.its.names result encoder.old encoder.new }
 {
     value.of().encode(encoder)
 }
@@ -27,7 +27,8 @@ where
 pub fn tell_passed<T: Tested>(value: &T)
 where
     T::Of: Encode,
-    ensures { T.Of.its.valid (T.of value.now) × ((m : Meaning) → T.Of.its.means (T.of value.now) m → T.passes m ≡ true) }
+    ensures { T.Of.its.valid (T.of value.now)
+        × ((m : Meaning) → T.Of.its.means (T.of value.now) m → T.passes m ≡ true) }
 {
     value.of().tell_valid();
 }

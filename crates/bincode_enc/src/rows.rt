@@ -21,8 +21,8 @@ pub trait EncodeRow: Drop {
     fn encode_row<E: Encoder>(&self, encoder: &mut E) -> Result<(), EncodeError>
         ensures { Encodes E.W.adds E.W.refuses E.writer_of E.place
             (Self.Parts.its.writable E.C.setting (Self.lent self.now))
-            (AllowedWord (Self.Parts.its.means (Self.lent self.now)) (Self.Parts.its.format E.C.setting)) Self.Parts.its.names
-            result encoder.old encoder.new };
+            (AllowedWord (Self.Parts.its.means (Self.lent self.now)) (Self.Parts.its.format E.C.setting))
+            Self.Parts.its.names result encoder.old encoder.new };
 }
 
 // Always inlined: LLVM takes a call behind several `?` for a rare one, and a call hands on a result with room for an

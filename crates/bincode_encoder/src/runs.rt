@@ -23,8 +23,8 @@ pub trait WriteValues {
     /// Writes a word that the value allows. It does, fails and leaves what `Encode::encode` does.
     fn write_value<E: Encoder>(value: &Self::Value, encoder: &mut E) -> Result<(), EncodeError>
         ensures { Encodes E.W.adds E.W.refuses E.writer_of E.place (Self.Value.its.writable E.C.setting value.now)
-            (AllowedWord (Self.Value.its.means value.now) (Self.Value.its.format E.C.setting)) Self.Value.its.names result
-            encoder.old encoder.new };
+            (AllowedWord (Self.Value.its.means value.now) (Self.Value.its.format E.C.setting)) Self.Value.its.names
+            result encoder.old encoder.new };
 
     /// The bytes of a run of values, if the values are the bytes of their words.
     fn as_bytes(items: &[Self::Value]) -> Option<&[u8]>

@@ -71,8 +71,8 @@ pub fn decode_array<
 >(decoder: &mut D) -> Result<[V::Value; N], DecodeError>
     requires { CanRelease D.C.bound (D.charge decoder.old) (N * V.Value.its.claim) }
     ensures read { RunRead D.told D.rest D.charge D.failures D.place D.C.bound D.R.ended D.R.device
-        (V.Value.its.grows ⊎ ¬ (SlotsFit V.Value.row N)) V.Value.its.claim (V.Value.its.format D.C.setting) V.Value.its.given N
-        (λ v. v) result decoder.old decoder.new }
+        (V.Value.its.grows ⊎ ¬ (SlotsFit V.Value.row N)) V.Value.its.claim (V.Value.its.format D.C.setting)
+        V.Value.its.given N (λ v. v) result decoder.old decoder.new }
     ensures charge { D.told decoder.old → IfOk result (λ _. RoomReturned D.C.bound
         (elements N V.Value.its.claim (V.Value.its.format D.C.setting)) (N * V.Value.its.claim)
         (D.rest decoder.old) (D.rest decoder.new) (D.charge decoder.old) (D.charge decoder.new)) }

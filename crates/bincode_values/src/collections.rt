@@ -52,7 +52,8 @@ fn decode_items<
 >(decoder: &mut D, len: usize) -> Result<K, DecodeError>
     requires { CanRelease D.C.bound (D.charge decoder.old) (len * V.Value.its.claim) }
     ensures { RunRead D.told D.rest D.charge D.failures D.place D.C.bound D.R.ended D.R.device (Unit {0})
-        V.Value.its.claim (V.Value.its.format D.C.setting) V.Value.its.given len K.items result decoder.old decoder.new }
+        V.Value.its.claim (V.Value.its.format D.C.setting) V.Value.its.given len K.items result decoder.old
+        decoder.new }
 {
     let mut filling = K::start(decoder.alloc(), decoder.context(), len)?;
     for _ in 0..len {

@@ -21,7 +21,8 @@ fn decode_claimed<Context: Drop, V: ReadValues<Context>, D: Decoder<Context = Co
 ) -> Result<Vec<V::Value>, DecodeError>
     ensures room { IfOk result (λ v. vec_capacity v ≡ length v.items) }
     ensures read { Reads D.told D.rest D.charge D.failures D.place D.C.bound D.R.ended D.R.device (Unit {0})
-        (array len V.Value.its.claim (V.Value.its.format D.C.setting)) (λ m v. IsListOf (λ x n. V.Value.its.given n x) v.items m)
+        (array len V.Value.its.claim (V.Value.its.format D.C.setting))
+        (λ m v. IsListOf (λ x n. V.Value.its.given n x) v.items m)
         (D.charge decoder.old) result decoder.old decoder.new }
 {
     decoder.claim_container_read::<V::Value>(len)?;

@@ -22,8 +22,8 @@ pub fn decode_run<Context: Drop, V: ReadValues<Context>, D: Decoder<Context = Co
 ) -> Result<(), DecodeError>
     requires { CanRelease D.C.bound (D.charge decoder.old) (length values.old * V.Value.its.claim) }
     ensures { RunRead D.told D.rest D.charge D.failures D.place D.C.bound D.R.ended D.R.device
-        (V.Value.its.grows × (0 < length values.old)) V.Value.its.claim (V.Value.its.format D.C.setting) V.Value.its.given
-        (length values.old) (λ _. values.new) result decoder.old decoder.new }
+        (V.Value.its.grows × (0 < length values.old)) V.Value.its.claim (V.Value.its.format D.C.setting)
+        V.Value.its.given (length values.old) (λ _. values.new) result decoder.old decoder.new }
 {
     if !decoder.is_within_limit() {
         return decode_each::<Context, V, D>(decoder, values);
@@ -42,8 +42,8 @@ fn decode_each<Context: Drop, V: ReadValues<Context>, D: Decoder<Context = Conte
 ) -> Result<(), DecodeError>
     requires { CanRelease D.C.bound (D.charge decoder.old) (length values.old * V.Value.its.claim) }
     ensures { RunRead D.told D.rest D.charge D.failures D.place D.C.bound D.R.ended D.R.device
-        (V.Value.its.grows × (0 < length values.old)) V.Value.its.claim (V.Value.its.format D.C.setting) V.Value.its.given
-        (length values.old) (λ _. values.new) result decoder.old decoder.new }
+        (V.Value.its.grows × (0 < length values.old)) V.Value.its.claim (V.Value.its.format D.C.setting)
+        V.Value.its.given (length values.old) (λ _. values.new) result decoder.old decoder.new }
 {
     for index in 0..values.len() {
         values[index] = decode_next::<Context, V, D>(decoder)?;
@@ -58,8 +58,8 @@ pub(crate) fn decode_next<Context: Drop, V: ReadValues<Context>, D: Decoder<Cont
 ) -> Result<V::Value, DecodeError>
     requires { CanRelease D.C.bound (D.charge decoder.old) V.Value.its.claim }
     ensures { Reads D.told D.rest D.charge D.failures D.place D.C.bound D.R.ended D.R.device V.Value.its.grows
-        (V.Value.its.format D.C.setting) V.Value.its.given (unclaimed D.C.bound (D.charge decoder.old) V.Value.its.claim) result
-        decoder.old decoder.new }
+        (V.Value.its.format D.C.setting) V.Value.its.given (unclaimed D.C.bound (D.charge decoder.old)
+        V.Value.its.claim) result decoder.old decoder.new }
 {
     decoder.unclaim_bytes_read(V::Value::claim_size());
     V::read_value(decoder)
@@ -75,7 +75,8 @@ pub fn decode_vec<Context: Drop, V: ReadValues<Context>, D: Decoder<Context = Co
     ensures length { IfOk result (λ v. length v.items ≡ len) }
     ensures room { IfOk result (λ v. vec_capacity v ≡ len) }
     ensures read { RunRead D.told D.rest D.charge D.failures D.place D.C.bound D.R.ended D.R.device (0 < len)
-        V.Value.its.claim (V.Value.its.format D.C.setting) V.Value.its.given len (λ v. v.items) result decoder.old decoder.new }
+        V.Value.its.claim (V.Value.its.format D.C.setting) V.Value.its.given len (λ v. v.items) result decoder.old
+        decoder.new }
 {
     let Some(mut values) = blank_values::<Context, V>(decoder.alloc(), len)? else {
         return decode_by_pushes::<Context, V, D>(decoder, len);
@@ -93,7 +94,8 @@ fn decode_by_pushes<Context: Drop, V: ReadValues<Context>, D: Decoder<Context = 
     ensures length { IfOk result (λ v. length v.items ≡ len) }
     ensures room { IfOk result (λ v. vec_capacity v ≡ len) }
     ensures read { RunRead D.told D.rest D.charge D.failures D.place D.C.bound D.R.ended D.R.device (0 < len)
-        V.Value.its.claim (V.Value.its.format D.C.setting) V.Value.its.given len (λ v. v.items) result decoder.old decoder.new }
+        V.Value.its.claim (V.Value.its.format D.C.setting) V.Value.its.given len (λ v. v.items) result decoder.old
+        decoder.new }
 {
     let Ok(mut values) = Vec::with_capacity(decoder.alloc(), len) else {
         return Err(DecodeError::Memory);

@@ -19,7 +19,8 @@ pub trait ReadValues<Context: Drop> {
         decoder: &mut D,
     ) -> Result<Self::Value, DecodeError>
         ensures { Reads D.told D.rest D.charge D.failures D.place D.C.bound D.R.ended D.R.device Self.Value.its.grows
-            (Self.Value.its.format D.C.setting) Self.Value.its.given (D.charge decoder.old) result decoder.old decoder.new };
+            (Self.Value.its.format D.C.setting) Self.Value.its.given (D.charge decoder.old) result decoder.old
+            decoder.new };
 
     /// An array to read values over, whatever it holds, if there is one at hand.
     fn blank_array<A: ArrayOf<Self::Value>>() -> Option<A>;

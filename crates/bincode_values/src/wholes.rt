@@ -36,8 +36,8 @@ where
     <W::Whole as Parted>::Parts: Drop,
     ensures { Reads D.told D.rest D.charge D.failures D.place D.C.bound D.R.ended D.R.device
         W.Whole.Parts.its.grows (W.Whole.Parts.its.format D.C.setting)
-        (λ m v. (W.Whole.promised v (W.Whole.Parts.its.given m (W.Whole.parts v))).Promised) (D.charge decoder.old) result
-        decoder.old decoder.new }
+        (λ m v. (W.Whole.promised v (W.Whole.Parts.its.given m (W.Whole.parts v))).Promised) (D.charge decoder.old)
+        result decoder.old decoder.new }
 {
     let parts = W::read_parts(decoder)?;
     Ok(W::make(parts))

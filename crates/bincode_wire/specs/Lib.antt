@@ -1,4 +1,5 @@
 pub mod Durations
-pub mod Laws
 pub mod Rows
-pub mod Words
+pub mod Sums
+pub mod TypeLaws
+pub mod TypeWords

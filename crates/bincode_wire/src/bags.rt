@@ -27,7 +27,8 @@ impl<T: Wire> Wire for Bag<T> {
       lawful = λ s. list-lawful s T.its.claim (T.its.format s) (T.its.lawful s);
       balanced = λ s. list-balanced s T.its.claim (T.its.format s) (T.its.balanced s);
       has_word = λ s v h w.
-          let x = list-has_word T.its.means s T.its.claim (T.its.format s) T.its.valid (T.its.writable s) (T.its.has_word s) v.items h w in
+          let x = list-has_word T.its.means s T.its.claim (T.its.format s) T.its.valid (T.its.writable s)
+          (T.its.has_word s) v.items h w in
           record {
             bytes = x.bytes;
             are_bytes = x.are_bytes;

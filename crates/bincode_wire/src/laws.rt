@@ -1,9 +1,9 @@
-//! Laws that some types keep beside those of `Wire`. Each is told by a function, which does nothing when it runs: a type
-//! that is made of others tells its law by calling those of the others.
+//! Laws that some types keep beside those of `Wire`. Each is told by a function, which does nothing when it runs: a
+//! type that is made of others tells its law by calling those of the others.
 ghost use Rattle.std.specs.Prelude.{◌≤◌, ℕ};
 ghost use Rattle.bincode_base.specs.Setting.{Setting};
 ghost use Rattle.bincode_format.specs.Limits.{Costs};
-ghost use Rattle.bincode_wire.specs.Laws.{HasSomeWord, AlwaysWritable, PlainWords, ExactWords, CanonicalWords};
+ghost use Rattle.bincode_wire.specs.TypeLaws.{HasSomeWord, AlwaysWritable, PlainWords, ExactWords, CanonicalWords};
 
 use crate::wire::Wire;
 

@@ -31,8 +31,8 @@ impl<K: Wire + Ord> Wire for Keys<K> {
       claim = 24;
       lawful = λ s. list-lawful s K.its.claim (K.its.format s) (K.its.lawful s);
       balanced = λ s. list-balanced s K.its.claim (K.its.format s) (K.its.balanced s);
-      has_word = λ s v h. list-has_word K.its.means s K.its.claim (K.its.format s) K.its.valid (K.its.writable s) (K.its.has_word s)
-          v.keys h.0;
+      has_word = λ s v h. list-has_word K.its.means s K.its.claim (K.its.format s) K.its.valid (K.its.writable s)
+          (K.its.has_word s) v.keys h.0;
       names_own = K.its.names_own;
     } };
 

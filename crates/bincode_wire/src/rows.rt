@@ -118,7 +118,8 @@ impl<A: Wire, B: Wire, C: Wire, D: Wire, Others: Wire> Wire for LongRow<A, B, C,
     ghost its = { record {
       format = λ s. four_and (A.its.format s) (B.its.format s) (C.its.format s) (D.its.format s) (Others.its.format s);
       valid = λ v. A.its.valid v.0 × (B.its.valid v.1 × (C.its.valid v.2 × (D.its.valid v.3 × Others.its.valid v.4)));
-      means = λ v. IsFourThen (A.its.means v.0) (B.its.means v.1) (C.its.means v.2) (D.its.means v.3) (Others.its.means v.4);
+      means = λ v. IsFourThen (A.its.means v.0) (B.its.means v.1) (C.its.means v.2) (D.its.means v.3)
+          (Others.its.means v.4);
       given = λ m v. IsFourThen (λ p. A.its.given p v.0) (λ p. B.its.given p v.1) (λ p. C.its.given p v.2)
           (λ p. D.its.given p v.3) (λ p. Others.its.given p v.4) m;
       writable = λ s v. A.its.writable s v.0 × (B.its.writable s v.1
@@ -126,11 +127,13 @@ impl<A: Wire, B: Wire, C: Wire, D: Wire, Others: Wire> Wire for LongRow<A, B, C,
       names = λ e. A.its.names e ⊎ (B.its.names e ⊎ (C.its.names e ⊎ (D.its.names e ⊎ Others.its.names e)));
       grows = A.its.grows ⊎ (B.its.grows ⊎ (C.its.grows ⊎ (D.its.grows ⊎ Others.its.grows)));
       claim = ⟦<Row<A, Row<B, Row<C, Row<D, Others>>>> as Wire>⟧.its.claim;
-      lawful = λ s. four-lawful (A.its.lawful s) (B.its.lawful s) (C.its.lawful s) (D.its.lawful s) (Others.its.lawful s);
+      lawful = λ s. four-lawful (A.its.lawful s) (B.its.lawful s) (C.its.lawful s) (D.its.lawful s)
+          (Others.its.lawful s);
       balanced = λ s. four-balanced (A.its.balanced s) (B.its.balanced s) (C.its.balanced s) (D.its.balanced s)
           (Others.its.balanced s);
       has_word = λ s v h w.
-          four-has_word (A.its.has_word s v.0 h.0 w.0) (B.its.has_word s v.1 h.1.0 w.1.0) (C.its.has_word s v.2 h.1.1.0 w.1.1.0)
+          four-has_word (A.its.has_word s v.0 h.0 w.0) (B.its.has_word s v.1 h.1.0 w.1.0)
+          (C.its.has_word s v.2 h.1.1.0 w.1.1.0)
           (D.its.has_word s v.3 h.1.1.1.0 w.1.1.1.0) (Others.its.has_word s v.4 h.1.1.1.1 w.1.1.1.1);
       names_own = λ e. either (A.its.names_own e) (either (B.its.names_own e)
           (either (C.its.names_own e) (either (D.its.names_own e) (Others.its.names_own e))));

@@ -1,6 +1,6 @@
 //! The trait of all types that have words.
 ghost use Rattle.std.specs.Prelude.{◌≡◌};
-ghost use Rattle.bincode_wire.specs.Words.{Words};
+ghost use Rattle.bincode_wire.specs.TypeWords.{Words};
 
 /// What a type says of its words, so that encoding and decoding speak of the same. `Encode` and `Decode` stand on it. A
 /// type that is made of others has it by `Parted`.

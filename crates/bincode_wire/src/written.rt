@@ -1,7 +1,7 @@
 //! Types that are made of others: what they are written as, and the laws that they have by it.
 ghost use Rattle.std.specs.Prelude.{◌≡◌, true};
-ghost use Rattle.bincode_wire.specs.Laws.{AlwaysWritable, PlainWords, ExactWords, CanonicalWords};
-ghost use Rattle.bincode_wire.specs.Words.{words_by};
+ghost use Rattle.bincode_wire.specs.TypeLaws.{AlwaysWritable, PlainWords, ExactWords, CanonicalWords};
+ghost use Rattle.bincode_wire.specs.TypeWords.{words_by};
 
 use crate::laws::{Canonical, Exact, Plain, Writable};
 use crate::parted::Parted;

@@ -53,7 +53,8 @@ pub fn round_trip<T: Encode + Decode<()> + Exact, C: Config>(
 ) -> Result<RoundTrip<T>, EncodeError>
     ensures back { IfOk result (λ trip. FitsLimit (T.its.format C.setting) C.bound (take trip.written slice.new) →
         MatchResult trip.read (λ x. (T.eq value.now x.0 ≡ true) × (x.1 ≡ trip.written)) (IsRefused T.its.grows)) }
-    ensures short { IfErr result (TooShort (AllowedWord (T.its.means value.now) (T.its.format C.setting)) (length slice.old)) }
+    ensures short { IfErr result (TooShort (AllowedWord (T.its.means value.now) (T.its.format C.setting))
+        (length slice.old)) }
 {
     value.tell_valid();
     let written = encode_into_slice(value, slice, config)?;
@@ -96,7 +97,8 @@ pub fn round_trip_within<T: Encode + Decode<()> + Exact + ConstantCharge, C: Con
 ) -> Result<RoundTrip<T>, EncodeError>
     ensures back { Allows C.bound T.peak → IfOk result (λ trip.
         MatchResult trip.read (λ x. (T.eq value.now x.0 ≡ true) × (x.1 ≡ trip.written)) (IsRefused T.its.grows)) }
-    ensures short { IfErr result (TooShort (AllowedWord (T.its.means value.now) (T.its.format C.setting)) (length slice.old)) }
+    ensures short { IfErr result (TooShort (AllowedWord (T.its.means value.now) (T.its.format C.setting))
+        (length slice.old)) }
 {
     round_trip(alloc, value, slice, config)
 }
@@ -190,7 +192,8 @@ pub fn write<T: Encode + Writable, C: Config>(
     slice: &mut [u8],
     config: C,
 ) -> Result<usize, EncodeError>
-    ensures { IfErr result (FrontWritten (AllowedWord (T.its.means value.now) (T.its.format C.setting)) slice.old slice.new) }
+    ensures { IfErr result (FrontWritten (AllowedWord (T.its.means value.now) (T.its.format C.setting)) slice.old
+        slice.new) }
 {
     value.tell_valid();
     encode_into_slice(value, slice, config)

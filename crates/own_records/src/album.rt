@@ -22,7 +22,7 @@ impl MadeOf<Parts> for Album {
 }
 
 impl Wire for Album {
-    ghost use Rattle.bincode_wire.specs.Words.{words_by};
+    ghost use Rattle.bincode_wire.specs.TypeWords.{words_by};
 
     ghost its = { words_by ⟦<Parts as Wire>⟧.its ⟦<Album as MadeOf<Parts>>⟧.parts };
 

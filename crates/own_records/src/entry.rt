@@ -29,7 +29,7 @@ impl MadeOf<Parts> for Entry {
 }
 
 impl Wire for Entry {
-    ghost use Rattle.bincode_wire.specs.Words.{words_by};
+    ghost use Rattle.bincode_wire.specs.TypeWords.{words_by};
 
     ghost its = { words_by ⟦<Parts as Wire>⟧.its ⟦<Entry as MadeOf<Parts>>⟧.parts };
 

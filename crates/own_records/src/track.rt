@@ -21,7 +21,7 @@ impl MadeOf<Parts> for Track {
 }
 
 impl Wire for Track {
-    ghost use Rattle.bincode_wire.specs.Words.{words_by};
+    ghost use Rattle.bincode_wire.specs.TypeWords.{words_by};
 
     ghost its = { words_by ⟦<Parts as Wire>⟧.its ⟦<Track as MadeOf<Parts>>⟧.parts };
 

@@ -20,7 +20,7 @@ impl MadeOf<Parts> for Book {
 }
 
 impl Wire for Book {
-    ghost use Rattle.bincode_wire.specs.Words.{words_by};
+    ghost use Rattle.bincode_wire.specs.TypeWords.{words_by};
 
     ghost its = { words_by ⟦<Parts as Wire>⟧.its ⟦<Book as MadeOf<Parts>>⟧.parts };
 

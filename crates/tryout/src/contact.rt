@@ -22,7 +22,7 @@ impl MadeOf<Parts> for Contact {
 }
 
 impl Wire for Contact {
-    ghost use Rattle.bincode_wire.specs.Words.{words_by};
+    ghost use Rattle.bincode_wire.specs.TypeWords.{words_by};
 
     ghost its = { words_by ⟦<Parts as Wire>⟧.its ⟦<Contact as MadeOf<Parts>>⟧.parts };
 

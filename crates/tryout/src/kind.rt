@@ -27,7 +27,7 @@ impl MadeOf<Parts> for Kind {
 }
 
 impl Wire for Kind {
-    ghost use Rattle.bincode_wire.specs.Words.{words_by};
+    ghost use Rattle.bincode_wire.specs.TypeWords.{words_by};
 
     ghost its = { words_by ⟦<Parts as Wire>⟧.its ⟦<Kind as MadeOf<Parts>>⟧.parts };
 

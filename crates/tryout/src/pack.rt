@@ -17,7 +17,7 @@ impl<T: Wire> MadeOf<Items<T, 24>> for Pack<T> {
 }
 
 impl<T: Wire> Wire for Pack<T> {
-    ghost use Rattle.bincode_wire.specs.Words.{words_by};
+    ghost use Rattle.bincode_wire.specs.TypeWords.{words_by};
 
     ghost its = { words_by ⟦<Items<T, 24> as Wire>⟧.its ⟦<Pack<T> as MadeOf<Items<T, 24>>>⟧.parts };
 
@@ -62,7 +62,7 @@ impl<K: Ord, V> Wire for Shelf<K, V>
 where
     Parts<K, V>: Wire,
 {
-    ghost use Rattle.bincode_wire.specs.Words.{words_by};
+    ghost use Rattle.bincode_wire.specs.TypeWords.{words_by};
 
     ghost its = { words_by ⟦<Parts<K, V> as Wire>⟧.its ⟦<Shelf<K, V> as MadeOf<Parts<K, V>>>⟧.parts };
 

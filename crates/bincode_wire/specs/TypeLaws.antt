@@ -5,7 +5,7 @@ use Rattle.bincode_base.specs.declared.error.EncodeError.{EncodeError}
 use Rattle.bincode_format.specs.Allowed.{AllowedWord, Shortest, OneLength}
 use Rattle.bincode_format.specs.Cells.{HasWord}
 use Rattle.bincode_format.specs.Meaning.{Meaning}
-use Rattle.bincode_wire.specs.Words.{Words}
+use Rattle.bincode_wire.specs.TypeWords.{Words}
 
 -- there is some word in every setting
 abbrev pub HasSomeWord : {A : Type 0} → Words A → Type 0
