@@ -18,7 +18,7 @@ mod writer;
 pub mod laws {
     pub use bincode_wire::laws::{Canonical, ConstantCharge, Exact, Inhabited, Plain, Writable};
     pub use bincode_wire::written::{
-        canonical_by_parts, exact_by_parts, plain_by_parts, writable_by_parts,
+        canonical_by_parts, exact_by_fields, exact_by_parts, plain_by_parts, writable_by_parts,
     };
 }
 

@@ -40,6 +40,17 @@ pub fn exact_by_parts<Parts: Exact, T: MadeOf<Parts> + PartialEq>()
     Parts::tell_exact();
 }
 
+/// Tells that a struct is exact, since its fields are, and its values are equal where their fields are, one after the
+/// other. `Fields` is their tuple.
+pub fn exact_by_fields<Fields: Parted, T: MadeOf<Fields> + PartialEq>()
+where
+    Fields::Parts: Exact,
+    requires { (v w : T) → Fields.Parts.eq (Fields.parts (T.parts v)) (Fields.parts (T.parts w)) ≡ true → T.eq v w ≡ true }
+    ensures { ExactWords (words_by ⟦<Fields as Wire>⟧.its T.parts) T.eq }
+{
+    Fields::Parts::tell_exact();
+}
+
 /// Tells that a type is canonical, since its parts are.
 pub fn canonical_by_parts<Parts: Canonical, T: MadeOf<Parts>>()
     ensures { CanonicalWords (words_by Parts.its T.parts) }

@@ -1,4 +1,5 @@
 mod Counts
 mod Fits
+mod Lengths
 mod Refusals
 mod Short

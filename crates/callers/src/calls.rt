@@ -56,6 +56,8 @@ pub fn round_trip<T: Encode + Decode<()> + Exact, C: Config>(
     ensures short { IfErr result (TooShort (AllowedWord (T.its.means value.now) (T.its.format C.setting))
         (length slice.old)) }
 {
+    T::tell_plain();
+    T::tell_exact();
     value.tell_valid();
     let written = encode_into_slice(value, slice, config)?;
     let read = decode_from_slice(alloc, slice, config);
@@ -81,6 +83,7 @@ pub fn round_trip_by_vec<T: Encode + Decode<()> + Exact, C: Config>(
         MatchResult trip.read (λ x. (T.eq value.now x.0 ≡ true) × (x.1 ≡ length trip.bytes.items))
         (IsRefused T.its.grows)) }
 {
+    T::tell_exact();
     value.tell_valid();
     let bytes = encode_to_vec(alloc, value, config)?;
     let read = decode_from_slice(alloc, &bytes, config);
@@ -100,6 +103,7 @@ pub fn round_trip_within<T: Encode + Decode<()> + Exact + ConstantCharge, C: Con
     ensures short { IfErr result (TooShort (AllowedWord (T.its.means value.now) (T.its.format C.setting))
         (length slice.old)) }
 {
+    T::tell_costs();
     round_trip(alloc, value, slice, config)
 }
 
@@ -195,6 +199,7 @@ pub fn write<T: Encode + Writable, C: Config>(
     ensures { IfErr result (FrontWritten (AllowedWord (T.its.means value.now) (T.its.format C.setting)) slice.old
         slice.new) }
 {
+    T::tell_writable();
     value.tell_valid();
     encode_into_slice(value, slice, config)
 }

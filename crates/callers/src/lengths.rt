@@ -17,6 +17,7 @@ pub fn encoded_length<E: Encode + Plain, C: Config>(
     ensures { IfOk result (λ n. (word : List ℕ) → AllowedWord (E.its.means value.now) (E.its.format C.setting) word
         → length word ≡ n) }
 {
+    E::tell_plain();
     value.tell_valid();
     let mut counter = SizeWriter::default();
     encode_into_writer(value, &mut counter, config)?;

@@ -5,4 +5,5 @@ pub mod calls;
 pub mod cut;
 pub mod fixed;
 pub mod lengths;
+pub mod looped;
 pub mod rooms;

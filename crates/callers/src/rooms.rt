@@ -22,6 +22,7 @@ pub fn fits_exactly<E: Encode + Plain, W: Writer, C: Config>(
         → WithinRoom (W.room writer.old) word
         → IfErr result (WriterFails W.device (W.failures writer.old) (W.failures writer.new)) }
 {
+    E::tell_plain();
     value.tell_valid();
     encode_into_writer(value, writer, config)
 }

@@ -4,10 +4,10 @@ use bincode::config::{self, Config};
 use bincode::error::DecodeError;
 use bincode::{Wire, decode_from_slice_with_context};
 use bumpalo::Bump;
-use own_lists::arena::ArenaList;
-use own_lists::arenas::count_numbers;
-use own_lists::framed::{Env, Framed};
-use own_lists::pack::Pack;
+use examples::arena::ArenaList;
+use examples::arenas::count_numbers;
+use examples::framed::{Env, Framed};
+use examples::pack::Pack;
 use std::alloc::Global;
 use test_helpers::checks::{decoded_with, each_call_writes, ends_at_each_place, within};
 

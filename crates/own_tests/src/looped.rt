@@ -3,8 +3,8 @@
 use bincode::de::Decode;
 use bincode::enc::Encode;
 use bincode::error::{DecodeError, IntegerType};
-use own_lists::looped::Looped;
-use own_lists::pack::Pack;
+use callers::looped::Looped;
+use examples::pack::Pack;
 use std::alloc::Global;
 use test_helpers::checks::{
     decoded_within, each_call_keeps, ends_at_each_place, fault_of, leaves, within,

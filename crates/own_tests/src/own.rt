@@ -5,20 +5,20 @@ use bincode::de::read::SliceReader;
 use bincode::enc::Encode;
 use bincode::error::DecodeError;
 use bincode::{Wire, config, decode_from_reader, encode_into_slice};
-use own_lists::pack::Pack;
-use own_records::album::Album;
-use own_records::entry::Entry;
-use own_records::track::Track;
-use own_types::code::Code;
-use own_types::even::Even;
-use own_types::event::Event;
-use own_types::foo::Foo;
-use own_types::message::Message;
-use own_types::never::Never;
-use own_types::request::Request;
+use callers::calls::round_trip;
+use callers::lengths::encoded_length;
+use examples::book::Book;
+use examples::code::Code;
+use examples::contact::Contact;
+use examples::even::Even;
+use examples::foo::Foo;
+use examples::kind::Kind;
+use examples::never::Never;
+use examples::pack::Pack;
+use examples::track::Track;
 use std::alloc::Global;
 use test_helpers::checks::{
-    decoded, decoded_within, each_call_keeps, ends_at_each_place, fault_of, goes_on, within,
+    decoded_within, each_call_keeps, ends_at_each_place, fault_of, goes_on, within,
 };
 use test_helpers::rows::{first_unequal, first_wrong};
 
@@ -30,62 +30,82 @@ fn has_word<T: Encode + Decode<()>>(alloc: Global, word: &[u8]) -> bool {
 #[test]
 fn keeps_structs(rt: HostRuntime) {
     let alloc = rt.alloc();
+    let track = [1, 99, 2, 1, 251, 44, 1, 2, 1];
     let rows = [
         ("Foo", has_word::<Foo>(alloc, &[5, 10])),
-        (
-            "Message",
-            has_word::<Message>(alloc, &[7, 251, 44, 1, 1, 4, 1, 5]),
-        ),
+        ("Track", has_word::<Track>(alloc, &track)),
         ("Even", has_word::<Even>(alloc, &[4])),
+        ("Book", has_word::<Book>(alloc, &BOOK)),
     ];
     assert_eq!(rt; first_wrong(&rows), None);
 }
 
 #[test]
 fn keeps_each_variant(rt: HostRuntime) {
-    for word in [[0].as_slice(), &[1, 251, 44, 1], &[2, 5, 6]] {
-        assert!(rt; has_word::<Request>(rt.alloc(), word));
-    }
-    for word in [[0].as_slice(), &[1, 5], &[2, 2, 97, 98]] {
-        assert!(rt; has_word::<Event>(rt.alloc(), word));
+    for word in [
+        [0].as_slice(),
+        &[1, 2, 97, 98, 251, 44, 1],
+        &[2, 1, 1, 99, 5],
+    ] {
+        assert!(rt; has_word::<Kind>(rt.alloc(), word));
     }
     for word in [[1].as_slice(), &[5], &[251, 44, 1]] {
         assert!(rt; has_word::<Code>(rt.alloc(), word));
     }
 }
 
-/// The word of an album of three entries, one of each variant, and a hidden track.
-const ALBUM: [u8; 25] = [
-    2, 97, 98, 3, 0, 1, 99, 2, 1, 251, 44, 1, 2, 1, 1, 5, 2, 1, 100, 6, 1, 0, 0, 0, 0,
+/// The word of a book of one contact, who works at `d` since 300 and was born in 1990, and of one note.
+const BOOK: [u8; 24] = [
+    1, 7, 2, 97, 98, 1, 1, 99, 1, 251, 198, 7, 2, 29, 1, 1, 100, 251, 44, 1, 1, 5, 1, 101,
 ];
 
-#[test]
-fn keeps_types_that_hold_others(rt: HostRuntime) {
-    assert!(rt; has_word::<Album>(rt.alloc(), &ALBUM));
-    assert!(rt; has_word::<Track>(rt.alloc(), &[1, 99, 2, 1, 251, 44, 1, 2, 1]));
-    for word in [[0, 0, 0, 0, 0].as_slice(), &[1, 5], &[2, 1, 100, 6]] {
-        assert!(rt; has_word::<Entry>(rt.alloc(), word));
-    }
+/// Whether this is the contact of `BOOK`.
+fn is_contact(contact: &Contact) -> bool {
+    let Kind::Work {
+        company,
+        since: 300,
+    } = &contact.kind
+    else {
+        return false;
+    };
+    let [email] = contact.emails.as_slice() else {
+        return false;
+    };
+    contact.id == 7
+        && contact.name.as_str() == "ab"
+        && email.as_str() == "c"
+        && contact.birthday == Some((1990, 2, 29))
+        && company.as_str() == "d"
 }
 
 #[test]
-fn reads_types_that_hold_others(rt: HostRuntime) {
-    let Ok((album, 25)) = decoded_within::<Album, 1000>(rt.alloc(), &ALBUM) else {
+fn reads_a_book(rt: HostRuntime) {
+    let Ok((book, 24)) = decoded_within::<Book, 1000>(rt.alloc(), &BOOK) else {
         assert!(rt; false);
         return;
     };
-    assert!(rt; album.name.as_str() == "ab" && album.hidden.is_some());
-    let [
-        Entry::Song(track),
-        Entry::Pause(5),
-        Entry::Note { text, at: 6 },
-    ] = album.entries.as_slice()
-    else {
+    let [contact] = book.contacts.as_slice() else {
         assert!(rt; false);
         return;
     };
-    assert!(rt; track.title.as_str() == "c" && track.beats.as_slice() == [1, 300].as_slice());
-    assert!(rt; track.side == 2 && track.live && text.as_str() == "d");
+    assert!(rt; is_contact(contact));
+    assert!(rt; matches!(encoded_length(contact, config::standard()), Ok(19)));
+    assert!(rt; matches!(book.notes.get(&5), Some(note) if note.as_str() == "e"));
+}
+
+#[test]
+fn brings_a_book_back(rt: HostRuntime) {
+    let Ok((book, 24)) = decoded_within::<Book, 1000>(rt.alloc(), &BOOK) else {
+        assert!(rt; false);
+        return;
+    };
+    let mut slice = [0; 30];
+    let Ok(trip) = round_trip(rt.alloc(), &book, &mut slice, config::standard()) else {
+        assert!(rt; false);
+        return;
+    };
+    assert!(rt; trip.written == 24);
+    assert!(rt; matches!(trip.read, Ok((again, 24)) if again == book));
 }
 
 #[test]
@@ -101,42 +121,31 @@ fn reads_from_a_reader(rt: HostRuntime) {
 }
 
 #[test]
-fn writes_events(rt: HostRuntime) {
-    let mut slice = [9u8; 9];
-    let length = encode_into_slice(Event::Stop(5), &mut slice, config::legacy());
-    assert!(rt; matches!(length, Ok(8)));
-    assert!(rt; slice == [1, 0, 0, 0, 5, 0, 0, 0, 9]);
+fn writes_a_code(rt: HostRuntime) {
+    let mut slice = [9u8; 5];
+    let length = encode_into_slice(Code::Late, &mut slice, config::legacy());
+    assert!(rt; matches!(length, Ok(4)));
+    assert!(rt; slice == [5, 0, 0, 0, 9]);
 }
 
 #[test]
-fn reads_events(rt: HostRuntime) {
-    let stop = within::<Event, 8>(rt.alloc(), &[1, 5]);
-    assert!(rt; matches!(stop, Ok((Event::Stop(5), 2))));
-    let refused = within::<Event, 7>(rt.alloc(), &[1, 5]);
+fn reads_kinds_within_a_limit(rt: HostRuntime) {
+    let private = within::<Kind, 4>(rt.alloc(), &[0]);
+    assert!(rt; matches!(private, Ok((Kind::Private, 1))));
+    let refused = within::<Kind, 3>(rt.alloc(), &[0]);
     assert!(rt; matches!(refused, Err(DecodeError::LimitExceeded)));
-    let note: Result<(Event, usize), DecodeError> = decoded(
-        rt.alloc(),
-        &[2, 2, 97, 98],
-        config::standard(),
-    );
-    let Ok((Event::Note(text), 4)) = note else {
-        assert!(rt; false);
-        return;
-    };
-    assert!(rt; text.as_str() == "ab");
 }
 
 #[test]
-fn claims_for_events_in_lists(rt: HostRuntime) {
-    let refused = within::<Vec<Event>, 35>(rt.alloc(), &[1, 0]);
+fn claims_for_kinds_in_lists(rt: HostRuntime) {
+    let refused = within::<Vec<Kind>, 37>(rt.alloc(), &[1, 0]);
     assert!(rt; matches!(refused, Err(DecodeError::LimitExceeded)));
-    let read = decoded_within::<Vec<Event>, 36>(rt.alloc(), &[1, 0]);
-    let Ok((events, 2)) = read else {
+    let Ok((kinds, 2)) = decoded_within::<Vec<Kind>, 38>(rt.alloc(), &[1, 0]) else {
         assert!(rt; false);
         return;
     };
-    assert!(rt; events.len() == 1);
-    assert!(rt; matches!(events.first(), Some(Event::Start)));
+    assert!(rt; kinds.len() == 1);
+    assert!(rt; matches!(kinds.first(), Some(Kind::Private)));
 }
 
 /// Whether the tag 3 is refused of a type whose tags are 0 to 2, under this name.
@@ -157,8 +166,7 @@ fn refuses_tag_three<T: Decode<()>>(alloc: Global, name: &str) -> bool {
 
 #[test]
 fn names_a_tag_that_no_variant_has(rt: HostRuntime) {
-    assert!(rt; refuses_tag_three::<Request>(rt.alloc(), "Request"));
-    assert!(rt; refuses_tag_three::<Event>(rt.alloc(), "Event"));
+    assert!(rt; refuses_tag_three::<Kind>(rt.alloc(), "Kind"));
 }
 
 #[test]
@@ -225,12 +233,13 @@ fn claims_what_own_types_claim(rt: HostRuntime) {
     let rows = [
         ("Foo", Foo::claim_size(), 8),
         ("Pack", Pack::<u32>::claim_size(), 24),
-        ("Event", Event::claim_size(), 28),
         ("Code", Code::claim_size(), 4),
         ("Never", Never::claim_size(), 1),
         ("Even", Even::claim_size(), 1),
         ("Track", Track::claim_size(), 50),
-        ("Entry", Entry::claim_size(), 54),
+        ("Kind", Kind::claim_size(), 30),
+        ("Contact", Contact::claim_size(), 91),
+        ("Book", Book::claim_size(), 48),
     ];
     assert_eq!(rt; first_unequal(&rows), None);
 }

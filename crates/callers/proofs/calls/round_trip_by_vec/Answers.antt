@@ -5,6 +5,6 @@ use Rattle.callers.proofs.calls.round_trip_by_vec.Goals as goal
 pub returns : goal.returns
 returns g c = λ fits.
     read-back_vec _ (g.T.Wire.its.lawful _) _ _ _ (λ w. g.T.PartialEq.eq c.args.value.now w ≡ true)
-    (λ w m. g.met.T.Exact.comes_back c.args.value.now w m c.tell_valid.ensures)
+    (λ w m. c.tell_exact.ensures.comes_back c.args.value.now w m c.tell_valid.ensures)
     c.in_ok-bytes.bytes.items c.in_ok-bytes.ensures.word fits _ _
     (rw c.deref.ensures.value at c.decode_from_slice-read.ensures.word) (rw c.deref.ensures.value at c.decode_from_slice-read.ensures.found)

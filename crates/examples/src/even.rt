@@ -1,0 +1,94 @@
+//! A number that has to pass a test.
+ghost use Rattle.std.specs.Prelude.{◌≡◌, ◌==◌, ◌%◌, true};
+
+use bincode::de::{Decode, Decoder, other_error};
+use bincode::enc::{Encode, Encoder, encode_passed, tell_passed};
+use bincode::error::{DecodeError, EncodeError};
+use bincode::laws::{Canonical, Exact, Plain, canonical_by_parts, exact_by_parts, plain_by_parts};
+use bincode::{MadeOf, Passed, Tested, Wire};
+
+/// An even number.
+#[derive(Clone, Copy, Debug, PartialEq)]
+pub struct Even {
+    number: u8,
+    ghost even: { (number % 2 == 0) ≡ true },
+}
+
+impl Tested for Even {
+    ghost use Rattle.std.specs.Prelude.{codes};
+    ghost use Rattle.bincode.specs.Fault.{Other};
+    ghost use Rattle.bincode.specs.Passed.{number_passes};
+
+    type Of = u8;
+
+    ghost of = { λ v. v.number };
+
+    ghost passes = { number_passes (λ n. n % 2 == 0) };
+
+    ghost fault = { Other (codes "odd") };
+
+    fn of(&self) -> &u8 {
+        &self.number
+    }
+
+    fn test(number: u8) -> Result<Even, DecodeError> {
+        if number % 2 == 0 {
+            Ok(Even { number })
+        } else {
+            Err(other_error("odd"))
+        }
+    }
+
+    ghost each_passes = { λ v m h. rw h v.even };
+
+    ghost is_no_end = { λ h. h };
+}
+
+impl MadeOf<Passed<Even>> for Even {
+    ghost parts = { λ v. record { 0 = v } };
+}
+
+impl Wire for Even {
+    ghost use Rattle.bincode.specs.TypeWords.{words_by};
+
+    ghost its = { words_by ⟦<Passed<Even> as Wire>⟧.its ⟦<Even as MadeOf<Passed<Even>>>⟧.parts };
+
+    fn claim_size() -> usize {
+        Passed::<Even>::claim_size()
+    }
+}
+
+impl Plain for Even {
+    fn tell_plain() {
+        plain_by_parts::<Passed<Even>, Even>();
+    }
+}
+
+impl Exact for Even {
+    fn tell_exact() {
+        exact_by_parts::<Passed<Even>, Even>();
+    }
+}
+
+impl Canonical for Even {
+    fn tell_canonical() {
+        canonical_by_parts::<Passed<Even>, Even>();
+    }
+}
+
+impl Encode for Even {
+    fn tell_valid(&self) {
+        tell_passed(self);
+    }
+
+    fn encode<E: Encoder>(&self, encoder: &mut E) -> Result<(), EncodeError> {
+        encode_passed(self, encoder)
+    }
+}
+
+impl<Context: Drop> Decode<Context> for Even {
+    fn decode<D: Decoder<Context = Context>>(decoder: &mut D) -> Result<Even, DecodeError> {
+        let passed: Passed<Even> = Decode::decode(decoder)?;
+        Ok(passed.0)
+    }
+}

@@ -1,0 +1,65 @@
+//! A struct without memory.
+
+use bincode::de::{Decode, Decoder};
+use bincode::enc::{Encode, Encoder};
+use bincode::error::{DecodeError, EncodeError};
+use bincode::laws::{Canonical, Exact, Plain, canonical_by_parts, exact_by_parts, plain_by_parts};
+use bincode::{MadeOf, Wire};
+
+type Parts = (u32, u32);
+
+/// Two numbers.
+#[derive(Clone, Copy, Debug, PartialEq)]
+pub struct Foo {
+    pub a: u32,
+    pub b: u32,
+}
+
+impl MadeOf<Parts> for Foo {
+    ghost parts = { λ v. (v.a, v.b) };
+}
+
+impl Wire for Foo {
+    ghost use Rattle.bincode.specs.TypeWords.{words_by};
+
+    ghost its = { words_by ⟦<Parts as Wire>⟧.its ⟦<Foo as MadeOf<Parts>>⟧.parts };
+
+    fn claim_size() -> usize {
+        Parts::claim_size()
+    }
+}
+
+impl Plain for Foo {
+    fn tell_plain() {
+        plain_by_parts::<Parts, Foo>();
+    }
+}
+
+impl Exact for Foo {
+    fn tell_exact() {
+        exact_by_parts::<Parts, Foo>();
+    }
+}
+
+impl Canonical for Foo {
+    fn tell_canonical() {
+        canonical_by_parts::<Parts, Foo>();
+    }
+}
+
+impl Encode for Foo {
+    fn tell_valid(&self) {
+        (&self.a, &self.b).tell_valid();
+    }
+
+    fn encode<E: Encoder>(&self, encoder: &mut E) -> Result<(), EncodeError> {
+        (&self.a, &self.b).encode(encoder)
+    }
+}
+
+impl<Context: Drop> Decode<Context> for Foo {
+    fn decode<D: Decoder<Context = Context>>(decoder: &mut D) -> Result<Foo, DecodeError> {
+        let (a, b): Parts = Decode::decode(decoder)?;
+        Ok(Foo { a, b })
+    }
+}

@@ -1,0 +1,15 @@
+//! Types of one's own, each written as docs/OWN_TYPES.md says.
+#![tactic(auto)]
+
+pub mod arena;
+pub mod arenas;
+pub mod book;
+pub mod code;
+pub mod contact;
+pub mod even;
+pub mod foo;
+pub mod framed;
+pub mod kind;
+pub mod never;
+pub mod pack;
+pub mod track;
