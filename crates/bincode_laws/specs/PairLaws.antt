@@ -1,4 +1,5 @@
 -- What pairs keep, if their parts do.
+use Rattle.std.proofs.Common.{sym, ◌∙◌}
 use Rattle.std.specs.Prelude.{Bool, true, ◌&&◌, [], ◌∷◌, refl}
 use Rattle.std.proofs.lemmas.Bool.{and_parts}
 use Rattle.bincode_base.specs.Setting.{Setting}
@@ -42,7 +43,7 @@ module _ {F G : Format Meaning} (s : Setting) where
 
 -- pairs are equal where their parts are
 pub pair-same : {P Q P' Q' : Meaning → Type 0} {x y : Bool} → SameIn P P' x → SameIn Q Q' y → SameIn (IsPair P Q) (IsPair P' Q') (x && y)
-pair-same {x = x} {y = y} f g m p q = row-same x (y ∷ []) (then-same f (then-same {x = y} {y = true} g (λ n h k. refl)) m p q)
+pair-same {x = x} {y = y} f g m p q = sym (row-same x (y ∷ [])) ∙ then-same f (then-same {x = y} {y = true} g (λ n h k. refl)) m p q
 
 -- and their first parts are, whatever the second
 pub pair-first_same : {P Q P' Q' : Meaning → Type 0} {x : Bool} → SameIn P P' x → SameIn (IsPair P Q) (IsPair P' Q') x

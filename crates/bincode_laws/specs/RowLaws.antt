@@ -1,5 +1,6 @@
 -- Parts are equal in a row where they are in a tuple.
-use Rattle.std.specs.Prelude.{◌≡◌, Bool, true, false, ◌&&◌, List, [], ◌∷◌}
+use Rattle.std.specs.Prelude.{◌≡◌, refl, Bool, true, false, ◌&&◌, List, [], ◌∷◌}
+use Rattle.std.proofs.Common.{◌∙◌}
 
 -- tests joined from the last on, as those of a row's parts, and from the first on, as those of a tuple
 abbrev pub from_last : List Bool → Bool
@@ -10,12 +11,12 @@ abbrev pub from_first : Bool → List Bool → Bool
 from_first a [] = a
 from_first a (b ∷ bs) = from_first (a && b) bs
 
-regrouped : (a b c : Bool) → a && (b && c) ≡ true → (a && b) && c ≡ true
-regrouped true b c h = h
-regrouped false b c h = h
+regrouped : (a b c : Bool) → a && (b && c) ≡ (a && b) && c
+regrouped true b c = refl
+regrouped false b c = refl
 
--- if the row passes, the tuple does
-pub row-same : (a : Bool) (bs : List Bool) → a && from_last bs ≡ true → from_first a bs ≡ true
-row-same true [] h = h
-row-same false [] h = h
-row-same a (b ∷ bs) h = row-same (a && b) bs (regrouped a b (from_last bs) h)
+-- the row passes where the tuple does
+pub row-same : (a : Bool) (bs : List Bool) → a && from_last bs ≡ from_first a bs
+row-same true [] = refl
+row-same false [] = refl
+row-same a (b ∷ bs) = regrouped a b (from_last bs) ∙ row-same (a && b) bs

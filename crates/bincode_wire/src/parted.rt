@@ -1,5 +1,5 @@
 //! Types that have the words of their parts.
-ghost use Rattle.std.specs.Prelude.{◌≡◌, true};
+ghost use Rattle.std.specs.Prelude.{◌≡◌};
 ghost use Rattle.bincode_format.specs.Promises.{Promise, no_more};
 
 use crate::laws::{Canonical, ConstantCharge, Exact, Inhabited, Plain, Writable};
@@ -88,10 +88,10 @@ where
     }
 }
 
-/// A type whose values are equal where their parts are. It is `Exact`, if the type of its parts is.
+/// A type whose values are equal just where their parts are. It is `Exact`, if the type of its parts is.
 pub trait SameParts<Parts: Wire + PartialEq>: Parted<Parts = Parts> + PartialEq {
-    /// Values with equal parts are equal.
-    ghost same_parts: { (v w : Self) → Parts.eq (Self.parts v) (Self.parts w) ≡ true → Self.eq v w ≡ true };
+    /// Values are equal just where their parts are.
+    ghost same_parts: { (v w : Self) → Parts.eq (Self.parts v) (Self.parts w) ≡ Self.eq v w };
 }
 
 impl<P: Exact, T: Parted<Parts = P> + SameParts<P>> Exact for T {

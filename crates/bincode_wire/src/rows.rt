@@ -32,7 +32,7 @@ impl Parted for () {
 }
 
 impl SameParts<Alone<()>> for () {
-    ghost same_parts = { λ v w e. e };
+    ghost same_parts = { λ v w. refl };
 }
 
 impl FixedCharge for () {

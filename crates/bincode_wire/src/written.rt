@@ -4,7 +4,7 @@ ghost use Rattle.bincode_wire.specs.TypeLaws.{AlwaysWritable, PlainWords, ExactW
 ghost use Rattle.bincode_wire.specs.TypeWords.{words_by};
 
 use crate::laws::{Canonical, Exact, Plain, Writable};
-use crate::parted::Parted;
+use crate::parted::{Parted, SameParts};
 use crate::wire::Wire;
 
 /// A type whose values have parts, which are of the type `Parts`: a struct has the tuple of its fields, and an enum
@@ -40,15 +40,17 @@ pub fn exact_by_parts<Parts: Exact, T: MadeOf<Parts> + PartialEq>()
     Parts::tell_exact();
 }
 
-/// Tells that a struct is exact, since its fields are, and its values are equal where their fields are, one after the
-/// other. `Fields` is their tuple.
-pub fn exact_by_fields<Fields: Parted, T: MadeOf<Fields> + PartialEq>()
-where
-    Fields::Parts: Exact,
-    requires { (v w : T) → Fields.Parts.eq (Fields.parts (T.parts v)) (Fields.parts (T.parts w)) ≡ true → T.eq v w ≡ true }
-    ensures { ExactWords (words_by ⟦<Fields as Wire>⟧.its T.parts) T.eq }
+/// Tells that a struct is exact, since its fields are, and its values are equal where each field is. `Fields` is the
+/// tuple of them, and `Row` what that is written as, which is found by it.
+pub fn exact_by_fields<
+    Fields: Exact + SameParts<Row>,
+    T: MadeOf<Fields> + PartialEq,
+    Row: Wire + PartialEq,
+>()
+    requires { (v w : T) → Row.eq (Fields.parts (T.parts v)) (Fields.parts (T.parts w)) ≡ true → T.eq v w ≡ true }
+    ensures { ExactWords (words_by Fields.its T.parts) T.eq }
 {
-    Fields::Parts::tell_exact();
+    Fields::tell_exact();
 }
 
 /// Tells that a type is canonical, since its parts are.

@@ -1,5 +1,5 @@
 mod Counts
 mod Fits
-mod Lengths
+mod LengthReads
 mod Refusals
 mod Short

@@ -4,7 +4,7 @@ use crate::contact::Contact;
 use bincode::de::{Decode, Decoder};
 use bincode::enc::{Encode, Encoder};
 use bincode::error::{DecodeError, EncodeError};
-use bincode::laws::{Canonical, Exact, Plain, canonical_by_parts, exact_by_parts, plain_by_parts};
+use bincode::laws::{Canonical, Exact, Plain, canonical_by_parts, exact_by_fields, plain_by_parts};
 use bincode::{MadeOf, Wire};
 use std::collections::BTreeMap;
 
@@ -39,7 +39,7 @@ impl Plain for Book {
 
 impl Exact for Book {
     fn tell_exact() {
-        exact_by_parts::<Parts, Book>();
+        exact_by_fields::<Parts, Book, _>();
     }
 }
 

@@ -4,7 +4,7 @@ use crate::kind::Kind;
 use bincode::de::{Decode, Decoder};
 use bincode::enc::{Encode, Encoder};
 use bincode::error::{DecodeError, EncodeError};
-use bincode::laws::{Canonical, Exact, Plain, canonical_by_parts, exact_by_parts, plain_by_parts};
+use bincode::laws::{Canonical, Exact, Plain, canonical_by_parts, exact_by_fields, plain_by_parts};
 use bincode::{MadeOf, Wire};
 
 type Parts = (u64, String, Vec<String>, Option<(u16, u8, u8)>, Kind);
@@ -41,7 +41,7 @@ impl Plain for Contact {
 
 impl Exact for Contact {
     fn tell_exact() {
-        exact_by_parts::<Parts, Contact>();
+        exact_by_fields::<Parts, Contact, _>();
     }
 }
 

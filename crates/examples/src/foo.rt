@@ -3,7 +3,7 @@
 use bincode::de::{Decode, Decoder};
 use bincode::enc::{Encode, Encoder};
 use bincode::error::{DecodeError, EncodeError};
-use bincode::laws::{Canonical, Exact, Plain, canonical_by_parts, exact_by_parts, plain_by_parts};
+use bincode::laws::{Canonical, Exact, Plain, canonical_by_parts, exact_by_fields, plain_by_parts};
 use bincode::{MadeOf, Wire};
 
 type Parts = (u32, u32);
@@ -37,7 +37,7 @@ impl Plain for Foo {
 
 impl Exact for Foo {
     fn tell_exact() {
-        exact_by_parts::<Parts, Foo>();
+        exact_by_fields::<Parts, Foo, _>();
     }
 }
 

@@ -3,7 +3,7 @@
 use bincode::de::{Decode, Decoder};
 use bincode::enc::{Encode, Encoder};
 use bincode::error::{DecodeError, EncodeError};
-use bincode::laws::{Canonical, Exact, Plain, canonical_by_parts, exact_by_parts, plain_by_parts};
+use bincode::laws::{Canonical, Exact, Plain, canonical_by_parts, exact_by_fields, plain_by_parts};
 use bincode::{MadeOf, Wire};
 
 type Parts = (String, Vec<u16>, u8, bool);
@@ -39,7 +39,7 @@ impl Plain for Track {
 
 impl Exact for Track {
     fn tell_exact() {
-        exact_by_parts::<Parts, Track>();
+        exact_by_fields::<Parts, Track, _>();
     }
 }
 

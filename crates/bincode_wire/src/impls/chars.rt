@@ -1,4 +1,5 @@
 //! The words of characters.
+ghost use Rattle.std.specs.Prelude.{refl};
 ghost use Rattle.bincode_format.specs.Forms.{characters};
 ghost use Rattle.bincode_laws.specs.CharLaws.{characters-laws, character-same};
 
@@ -24,5 +25,5 @@ impl Parted for char {
 }
 
 impl SameParts<Alone<char>> for char {
-    ghost same_parts = { λ v w e. e };
+    ghost same_parts = { λ v w. refl };
 }

@@ -1,4 +1,5 @@
 //! The words of truth values, `Option`, `Result` and `Bound`.
+ghost use Rattle.std.specs.Prelude.{refl};
 ghost use Rattle.bincode_laws.specs.AllowedLaws.{truth-same};
 ghost use Rattle.bincode_format.specs.Forms.{truths};
 ghost use Rattle.bincode_laws.specs.CostLaws.{truth-costs};
@@ -30,7 +31,7 @@ impl Parted for bool {
 }
 
 impl SameParts<Alone<bool>> for bool {
-    ghost same_parts = { λ v w e. e };
+    ghost same_parts = { λ v w. refl };
 }
 
 impl FixedCharge for bool {
@@ -52,8 +53,8 @@ impl<T: Exact> SameParts<OptionParts<T>> for Option<T> {
     ghost use Rattle.std.specs.Prelude.{Some, None};
 
     ghost same_parts = { elim [
-      | None ↦ elim [ None ↦ λ e. e | Some w ↦ λ e. e ]
-      | Some v ↦ elim [ None ↦ λ e. e | Some w ↦ λ e. e ]
+      | None ↦ elim [ None ↦ refl | Some w ↦ refl ]
+      | Some v ↦ elim [ None ↦ refl | Some w ↦ refl ]
     ] };
 }
 
@@ -72,8 +73,8 @@ impl<T: Exact, U: Exact> SameParts<ResultParts<T, U>> for Result<T, U> {
     ghost use Rattle.std.specs.Prelude.{Ok, Err};
 
     ghost same_parts = { elim [
-      | Ok v ↦ elim [ Ok w ↦ λ e. e | Err w ↦ λ e. e ]
-      | Err v ↦ elim [ Ok w ↦ λ e. e | Err w ↦ λ e. e ]
+      | Ok v ↦ elim [ Ok w ↦ refl | Err w ↦ refl ]
+      | Err v ↦ elim [ Ok w ↦ refl | Err w ↦ refl ]
     ] };
 }
 
@@ -96,8 +97,8 @@ impl<T: Exact> SameParts<BoundParts<T>> for Bound<T> {
     ghost use Rattle.std.specs.declared.ops.Bound.TheVariants.{Included, Excluded, Unbounded};
 
     ghost same_parts = { elim [
-      | Unbounded ↦ elim [ Unbounded ↦ λ e. e | Included w ↦ λ e. e | Excluded w ↦ λ e. e ]
-      | Included v ↦ elim [ Unbounded ↦ λ e. e | Included w ↦ λ e. e | Excluded w ↦ λ e. e ]
-      | Excluded v ↦ elim [ Unbounded ↦ λ e. e | Included w ↦ λ e. e | Excluded w ↦ λ e. e ]
+      | Unbounded ↦ elim [ Unbounded ↦ refl | Included w ↦ refl | Excluded w ↦ refl ]
+      | Included v ↦ elim [ Unbounded ↦ refl | Included w ↦ refl | Excluded w ↦ refl ]
+      | Excluded v ↦ elim [ Unbounded ↦ refl | Included w ↦ refl | Excluded w ↦ refl ]
     ] };
 }

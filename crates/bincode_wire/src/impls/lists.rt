@@ -1,5 +1,5 @@
 //! The words of lists.
-ghost use Rattle.std.specs.Prelude.{◌≡◌, length, vec_capacity};
+ghost use Rattle.std.specs.Prelude.{◌≡◌, length, vec_capacity, refl};
 ghost use Rattle.std.specs.Box.{boxed_slice_items};
 ghost use Rattle.std.specs.Cow.{cow_slice_items};
 ghost use Rattle.std.specs.Rc.{rc_slice_items};
@@ -26,7 +26,7 @@ impl<T: Wire> Parted for Vec<T> {
 }
 
 impl<T: Exact> SameParts<Items<T, 24>> for Vec<T> {
-    ghost same_parts = { λ v w e. e };
+    ghost same_parts = { λ v w. refl };
 }
 
 impl<T: Wire> Parted for VecDeque<T> {
@@ -36,7 +36,7 @@ impl<T: Wire> Parted for VecDeque<T> {
 }
 
 impl<T: Exact> SameParts<Items<T, 24>> for VecDeque<T> {
-    ghost same_parts = { λ v w e. e };
+    ghost same_parts = { λ v w. refl };
 }
 
 impl<T: Wire> Parted for &[T] {
@@ -46,7 +46,7 @@ impl<T: Wire> Parted for &[T] {
 }
 
 impl<T: Exact> SameParts<Items<T, 16>> for &[T] {
-    ghost same_parts = { λ v w e. e };
+    ghost same_parts = { λ v w. refl };
 }
 
 impl<T: Wire> Parted for BoxedSlice<T> {
@@ -56,7 +56,7 @@ impl<T: Wire> Parted for BoxedSlice<T> {
 }
 
 impl<T: Exact> SameParts<Items<T, 16>> for BoxedSlice<T> {
-    ghost same_parts = { λ v w e. e };
+    ghost same_parts = { λ v w. refl };
 }
 
 impl<T: Wire> Parted for RcSlice<T> {
@@ -66,7 +66,7 @@ impl<T: Wire> Parted for RcSlice<T> {
 }
 
 impl<T: Exact> SameParts<Items<T, 16>> for RcSlice<T> {
-    ghost same_parts = { λ v w e. e };
+    ghost same_parts = { λ v w. refl };
 }
 
 impl<T: Wire> Parted for CowSlice<'_, T> {
@@ -76,5 +76,5 @@ impl<T: Wire> Parted for CowSlice<'_, T> {
 }
 
 impl<T: Exact> SameParts<Items<T, 24>> for CowSlice<'_, T> {
-    ghost same_parts = { λ v w e. e };
+    ghost same_parts = { λ v w. refl };
 }

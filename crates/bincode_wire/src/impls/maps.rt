@@ -1,4 +1,5 @@
 //! The words of sets, maps and heaps.
+ghost use Rattle.std.specs.Prelude.{refl};
 ghost use Rattle.std.specs.BinaryHeap.{heap_items};
 
 use crate::bags::Bag;
@@ -15,7 +16,7 @@ impl<K: Wire + Ord> Parted for BTreeSet<K> {
 }
 
 impl<K: Exact + Ord> SameParts<Keys<K>> for BTreeSet<K> {
-    ghost same_parts = { λ v w e. e };
+    ghost same_parts = { λ v w. refl };
 }
 
 impl<K: Wire + Ord, V: Wire> Parted for BTreeMap<K, V> {
@@ -25,7 +26,7 @@ impl<K: Wire + Ord, V: Wire> Parted for BTreeMap<K, V> {
 }
 
 impl<K: Exact + Ord, V: Exact> SameParts<Entries<K, V>> for BTreeMap<K, V> {
-    ghost same_parts = { λ v w e. e };
+    ghost same_parts = { λ v w. refl };
 }
 
 impl<T: Wire + Ord> Parted for BinaryHeap<T> {

@@ -40,7 +40,7 @@ impl Parted for NonZeroU8 {
 }
 
 impl SameParts<Alone<NonZeroU8>> for NonZeroU8 {
-    ghost same_parts = { λ v w e. e };
+    ghost same_parts = { λ v w. refl };
 }
 
 impl FixedCharge for NonZeroU8 {
@@ -66,7 +66,7 @@ impl Parted for NonZeroU16 {
 }
 
 impl SameParts<Alone<NonZeroU16>> for NonZeroU16 {
-    ghost same_parts = { λ v w e. e };
+    ghost same_parts = { λ v w. refl };
 }
 
 impl FixedCharge for NonZeroU16 {
@@ -92,7 +92,7 @@ impl Parted for NonZeroU32 {
 }
 
 impl SameParts<Alone<NonZeroU32>> for NonZeroU32 {
-    ghost same_parts = { λ v w e. e };
+    ghost same_parts = { λ v w. refl };
 }
 
 impl FixedCharge for NonZeroU32 {
@@ -118,7 +118,7 @@ impl Parted for NonZeroU64 {
 }
 
 impl SameParts<Alone<NonZeroU64>> for NonZeroU64 {
-    ghost same_parts = { λ v w e. e };
+    ghost same_parts = { λ v w. refl };
 }
 
 impl FixedCharge for NonZeroU64 {
@@ -144,7 +144,7 @@ impl Parted for NonZeroU128 {
 }
 
 impl SameParts<Alone<NonZeroU128>> for NonZeroU128 {
-    ghost same_parts = { λ v w e. e };
+    ghost same_parts = { λ v w. refl };
 }
 
 impl FixedCharge for NonZeroU128 {
@@ -170,7 +170,7 @@ impl Parted for NonZeroUsize {
 }
 
 impl SameParts<Alone<NonZeroUsize>> for NonZeroUsize {
-    ghost same_parts = { λ v w e. e };
+    ghost same_parts = { λ v w. refl };
 }
 
 impl FixedCharge for NonZeroUsize {
@@ -196,7 +196,7 @@ impl Parted for NonZeroI8 {
 }
 
 impl SameParts<Alone<NonZeroI8>> for NonZeroI8 {
-    ghost same_parts = { λ v w e. e };
+    ghost same_parts = { λ v w. refl };
 }
 
 impl FixedCharge for NonZeroI8 {
@@ -222,7 +222,7 @@ impl Parted for NonZeroI16 {
 }
 
 impl SameParts<Alone<NonZeroI16>> for NonZeroI16 {
-    ghost same_parts = { λ v w e. e };
+    ghost same_parts = { λ v w. refl };
 }
 
 impl FixedCharge for NonZeroI16 {
@@ -248,7 +248,7 @@ impl Parted for NonZeroI32 {
 }
 
 impl SameParts<Alone<NonZeroI32>> for NonZeroI32 {
-    ghost same_parts = { λ v w e. e };
+    ghost same_parts = { λ v w. refl };
 }
 
 impl FixedCharge for NonZeroI32 {
@@ -274,7 +274,7 @@ impl Parted for NonZeroI64 {
 }
 
 impl SameParts<Alone<NonZeroI64>> for NonZeroI64 {
-    ghost same_parts = { λ v w e. e };
+    ghost same_parts = { λ v w. refl };
 }
 
 impl FixedCharge for NonZeroI64 {
@@ -300,7 +300,7 @@ impl Parted for NonZeroI128 {
 }
 
 impl SameParts<Alone<NonZeroI128>> for NonZeroI128 {
-    ghost same_parts = { λ v w e. e };
+    ghost same_parts = { λ v w. refl };
 }
 
 impl FixedCharge for NonZeroI128 {
@@ -326,7 +326,7 @@ impl Parted for NonZeroIsize {
 }
 
 impl SameParts<Alone<NonZeroIsize>> for NonZeroIsize {
-    ghost same_parts = { λ v w e. e };
+    ghost same_parts = { λ v w. refl };
 }
 
 impl FixedCharge for NonZeroIsize {

@@ -34,7 +34,7 @@ impl Parted for u8 {
 }
 
 impl SameParts<Alone<u8>> for u8 {
-    ghost same_parts = { λ v w e. e };
+    ghost same_parts = { λ v w. refl };
 }
 
 impl FixedCharge for u8 {
@@ -60,7 +60,7 @@ impl Parted for u16 {
 }
 
 impl SameParts<Alone<u16>> for u16 {
-    ghost same_parts = { λ v w e. e };
+    ghost same_parts = { λ v w. refl };
 }
 
 impl FixedCharge for u16 {
@@ -86,7 +86,7 @@ impl Parted for u32 {
 }
 
 impl SameParts<Alone<u32>> for u32 {
-    ghost same_parts = { λ v w e. e };
+    ghost same_parts = { λ v w. refl };
 }
 
 impl FixedCharge for u32 {
@@ -112,7 +112,7 @@ impl Parted for u64 {
 }
 
 impl SameParts<Alone<u64>> for u64 {
-    ghost same_parts = { λ v w e. e };
+    ghost same_parts = { λ v w. refl };
 }
 
 impl FixedCharge for u64 {
@@ -138,7 +138,7 @@ impl Parted for u128 {
 }
 
 impl SameParts<Alone<u128>> for u128 {
-    ghost same_parts = { λ v w e. e };
+    ghost same_parts = { λ v w. refl };
 }
 
 impl FixedCharge for u128 {
@@ -164,7 +164,7 @@ impl Parted for usize {
 }
 
 impl SameParts<Alone<usize>> for usize {
-    ghost same_parts = { λ v w e. e };
+    ghost same_parts = { λ v w. refl };
 }
 
 impl FixedCharge for usize {
@@ -190,7 +190,7 @@ impl Parted for i8 {
 }
 
 impl SameParts<Alone<i8>> for i8 {
-    ghost same_parts = { λ v w e. e };
+    ghost same_parts = { λ v w. refl };
 }
 
 impl FixedCharge for i8 {
@@ -216,7 +216,7 @@ impl Parted for i16 {
 }
 
 impl SameParts<Alone<i16>> for i16 {
-    ghost same_parts = { λ v w e. e };
+    ghost same_parts = { λ v w. refl };
 }
 
 impl FixedCharge for i16 {
@@ -242,7 +242,7 @@ impl Parted for i32 {
 }
 
 impl SameParts<Alone<i32>> for i32 {
-    ghost same_parts = { λ v w e. e };
+    ghost same_parts = { λ v w. refl };
 }
 
 impl FixedCharge for i32 {
@@ -268,7 +268,7 @@ impl Parted for i64 {
 }
 
 impl SameParts<Alone<i64>> for i64 {
-    ghost same_parts = { λ v w e. e };
+    ghost same_parts = { λ v w. refl };
 }
 
 impl FixedCharge for i64 {
@@ -294,7 +294,7 @@ impl Parted for i128 {
 }
 
 impl SameParts<Alone<i128>> for i128 {
-    ghost same_parts = { λ v w e. e };
+    ghost same_parts = { λ v w. refl };
 }
 
 impl FixedCharge for i128 {
@@ -320,7 +320,7 @@ impl Parted for isize {
 }
 
 impl SameParts<Alone<isize>> for isize {
-    ghost same_parts = { λ v w e. e };
+    ghost same_parts = { λ v w. refl };
 }
 
 impl FixedCharge for isize {

@@ -1,5 +1,5 @@
 //! The words of ranges.
-ghost use Rattle.std.specs.Prelude.{◌≡◌, false};
+ghost use Rattle.std.specs.Prelude.{◌≡◌, false, refl};
 ghost use Rattle.std.specs.Range.{range_inclusive_start, range_inclusive_end, range_inclusive_exhausted};
 
 use crate::laws::Exact;
@@ -14,7 +14,7 @@ impl<T: Wire> Parted for Range<T> {
 }
 
 impl<T: Exact> SameParts<(T, T)> for Range<T> {
-    ghost same_parts = { λ v w e. e };
+    ghost same_parts = { λ v w. refl };
 }
 
 impl<T: Wire> Parted for RangeInclusive<T> {

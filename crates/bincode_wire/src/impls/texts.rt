@@ -1,5 +1,5 @@
 //! The words of texts.
-ghost use Rattle.std.specs.Prelude.{◌≡◌, length};
+ghost use Rattle.std.specs.Prelude.{◌≡◌, length, refl};
 ghost use Rattle.std.specs.String.{string_bytes, string_capacity};
 ghost use Rattle.std.specs.Box.{boxed_str_bytes};
 ghost use Rattle.std.specs.Rc.{rc_str_bytes};
@@ -24,7 +24,7 @@ impl Parted for String {
 }
 
 impl SameParts<TextBytes<24>> for String {
-    ghost same_parts = { λ v w e. e };
+    ghost same_parts = { λ v w. refl };
 }
 
 impl Parted for &str {
@@ -34,7 +34,7 @@ impl Parted for &str {
 }
 
 impl SameParts<TextBytes<16>> for &str {
-    ghost same_parts = { λ v w e. e };
+    ghost same_parts = { λ v w. refl };
 }
 
 impl Parted for BoxedStr {
@@ -44,7 +44,7 @@ impl Parted for BoxedStr {
 }
 
 impl SameParts<TextBytes<16>> for BoxedStr {
-    ghost same_parts = { λ v w e. e };
+    ghost same_parts = { λ v w. refl };
 }
 
 impl Parted for RcStr {
@@ -54,7 +54,7 @@ impl Parted for RcStr {
 }
 
 impl SameParts<TextBytes<16>> for RcStr {
-    ghost same_parts = { λ v w e. e };
+    ghost same_parts = { λ v w. refl };
 }
 
 impl Parted for CowStr<'_> {
@@ -64,5 +64,5 @@ impl Parted for CowStr<'_> {
 }
 
 impl SameParts<TextBytes<24>> for CowStr<'_> {
-    ghost same_parts = { λ v w e. e };
+    ghost same_parts = { λ v w. refl };
 }

@@ -156,23 +156,23 @@ where
 }
 
 impl<A: Wire + PartialEq> SameParts<Row<A, ()>> for (A,) {
-    ghost same_parts = { λ v w e. row-same (A.eq v.0 w.0) [] e };
+    ghost same_parts = { λ v w. row-same (A.eq v.0 w.0) [] };
 }
 
 impl<A: Wire + PartialEq, B: Wire + PartialEq> SameParts<Row<A, Row<B, ()>>> for (A, B) {
-    ghost same_parts = { λ v w e. row-same (A.eq v.0 w.0) (B.eq v.1 w.1 ∷ []) e };
+    ghost same_parts = { λ v w. row-same (A.eq v.0 w.0) (B.eq v.1 w.1 ∷ []) };
 }
 
 impl<A: Wire + PartialEq, B: Wire + PartialEq, C: Wire + PartialEq> SameParts<
     Row<A, Row<B, Row<C, ()>>>,
 > for (A, B, C) {
-    ghost same_parts = { λ v w e. row-same (A.eq v.0 w.0) (B.eq v.1 w.1 ∷ C.eq v.2 w.2 ∷ []) e };
+    ghost same_parts = { λ v w. row-same (A.eq v.0 w.0) (B.eq v.1 w.1 ∷ C.eq v.2 w.2 ∷ []) };
 }
 
 impl<A: Wire + PartialEq, B: Wire + PartialEq, C: Wire + PartialEq, D: Wire + PartialEq> SameParts<
     LongRow<A, B, C, D, ()>,
 > for (A, B, C, D) {
-    ghost same_parts = { λ v w e. row-same (A.eq v.0 w.0) (B.eq v.1 w.1 ∷ C.eq v.2 w.2 ∷ D.eq v.3 w.3 ∷ []) e };
+    ghost same_parts = { λ v w. row-same (A.eq v.0 w.0) (B.eq v.1 w.1 ∷ C.eq v.2 w.2 ∷ D.eq v.3 w.3 ∷ []) };
 }
 
 impl<
@@ -182,9 +182,9 @@ impl<
     D: Wire + PartialEq,
     E: Wire + PartialEq,
 > SameParts<LongRow<A, B, C, D, Row<E, ()>>> for (A, B, C, D, E) {
-    ghost same_parts = { λ v w e. row-same (A.eq v.0 w.0) (B.eq v.1 w.1 ∷ C.eq v.2 w.2 ∷ D.eq v.3 w.3
+    ghost same_parts = { λ v w. row-same (A.eq v.0 w.0) (B.eq v.1 w.1 ∷ C.eq v.2 w.2 ∷ D.eq v.3 w.3
         ∷ E.eq v.4 w.4
-        ∷ []) e };
+        ∷ []) };
 }
 
 impl<
@@ -195,9 +195,9 @@ impl<
     E: Wire + PartialEq,
     F: Wire + PartialEq,
 > SameParts<LongRow<A, B, C, D, Row<E, Row<F, ()>>>> for (A, B, C, D, E, F) {
-    ghost same_parts = { λ v w e. row-same (A.eq v.0 w.0) (B.eq v.1 w.1 ∷ C.eq v.2 w.2 ∷ D.eq v.3 w.3
+    ghost same_parts = { λ v w. row-same (A.eq v.0 w.0) (B.eq v.1 w.1 ∷ C.eq v.2 w.2 ∷ D.eq v.3 w.3
         ∷ E.eq v.4 w.4 ∷ F.eq v.5 w.5
-        ∷ []) e };
+        ∷ []) };
 }
 
 impl<
@@ -209,9 +209,9 @@ impl<
     F: Wire + PartialEq,
     G: Wire + PartialEq,
 > SameParts<LongRow<A, B, C, D, Row<E, Row<F, Row<G, ()>>>>> for (A, B, C, D, E, F, G) {
-    ghost same_parts = { λ v w e. row-same (A.eq v.0 w.0) (B.eq v.1 w.1 ∷ C.eq v.2 w.2 ∷ D.eq v.3 w.3
+    ghost same_parts = { λ v w. row-same (A.eq v.0 w.0) (B.eq v.1 w.1 ∷ C.eq v.2 w.2 ∷ D.eq v.3 w.3
         ∷ E.eq v.4 w.4 ∷ F.eq v.5 w.5
-        ∷ G.eq v.6 w.6 ∷ []) e };
+        ∷ G.eq v.6 w.6 ∷ []) };
 }
 
 impl<
@@ -224,9 +224,9 @@ impl<
     G: Wire + PartialEq,
     H: Wire + PartialEq,
 > SameParts<LongRow<A, B, C, D, LongRow<E, F, G, H, ()>>> for (A, B, C, D, E, F, G, H) {
-    ghost same_parts = { λ v w e. row-same (A.eq v.0 w.0) (B.eq v.1 w.1 ∷ C.eq v.2 w.2 ∷ D.eq v.3 w.3
+    ghost same_parts = { λ v w. row-same (A.eq v.0 w.0) (B.eq v.1 w.1 ∷ C.eq v.2 w.2 ∷ D.eq v.3 w.3
         ∷ E.eq v.4 w.4 ∷ F.eq v.5 w.5
-        ∷ G.eq v.6 w.6 ∷ H.eq v.7 w.7 ∷ []) e };
+        ∷ G.eq v.6 w.6 ∷ H.eq v.7 w.7 ∷ []) };
 }
 
 impl<
@@ -240,9 +240,9 @@ impl<
     H: Wire + PartialEq,
     I: Wire + PartialEq,
 > SameParts<LongRow<A, B, C, D, LongRow<E, F, G, H, Row<I, ()>>>> for (A, B, C, D, E, F, G, H, I) {
-    ghost same_parts = { λ v w e. row-same (A.eq v.0 w.0) (B.eq v.1 w.1 ∷ C.eq v.2 w.2 ∷ D.eq v.3 w.3
+    ghost same_parts = { λ v w. row-same (A.eq v.0 w.0) (B.eq v.1 w.1 ∷ C.eq v.2 w.2 ∷ D.eq v.3 w.3
         ∷ E.eq v.4 w.4 ∷ F.eq v.5 w.5
-        ∷ G.eq v.6 w.6 ∷ H.eq v.7 w.7 ∷ I.eq v.8 w.8 ∷ []) e };
+        ∷ G.eq v.6 w.6 ∷ H.eq v.7 w.7 ∷ I.eq v.8 w.8 ∷ []) };
 }
 
 impl<
@@ -258,9 +258,9 @@ impl<
     J: Wire + PartialEq,
 > SameParts<LongRow<A, B, C, D, LongRow<E, F, G, H, Row<I, Row<J, ()>>>>>
     for (A, B, C, D, E, F, G, H, I, J) {
-    ghost same_parts = { λ v w e. row-same (A.eq v.0 w.0) (B.eq v.1 w.1 ∷ C.eq v.2 w.2 ∷ D.eq v.3 w.3
+    ghost same_parts = { λ v w. row-same (A.eq v.0 w.0) (B.eq v.1 w.1 ∷ C.eq v.2 w.2 ∷ D.eq v.3 w.3
         ∷ E.eq v.4 w.4 ∷ F.eq v.5 w.5
-        ∷ G.eq v.6 w.6 ∷ H.eq v.7 w.7 ∷ I.eq v.8 w.8 ∷ J.eq v.9 w.9 ∷ []) e };
+        ∷ G.eq v.6 w.6 ∷ H.eq v.7 w.7 ∷ I.eq v.8 w.8 ∷ J.eq v.9 w.9 ∷ []) };
 }
 
 impl<
@@ -277,9 +277,9 @@ impl<
     K: Wire + PartialEq,
 > SameParts<LongRow<A, B, C, D, LongRow<E, F, G, H, Row<I, Row<J, Row<K, ()>>>>>>
     for (A, B, C, D, E, F, G, H, I, J, K) {
-    ghost same_parts = { λ v w e. row-same (A.eq v.0 w.0) (B.eq v.1 w.1 ∷ C.eq v.2 w.2 ∷ D.eq v.3 w.3
+    ghost same_parts = { λ v w. row-same (A.eq v.0 w.0) (B.eq v.1 w.1 ∷ C.eq v.2 w.2 ∷ D.eq v.3 w.3
         ∷ E.eq v.4 w.4 ∷ F.eq v.5 w.5
-        ∷ G.eq v.6 w.6 ∷ H.eq v.7 w.7 ∷ I.eq v.8 w.8 ∷ J.eq v.9 w.9 ∷ K.eq v.10 w.10 ∷ []) e };
+        ∷ G.eq v.6 w.6 ∷ H.eq v.7 w.7 ∷ I.eq v.8 w.8 ∷ J.eq v.9 w.9 ∷ K.eq v.10 w.10 ∷ []) };
 }
 
 impl<
@@ -297,8 +297,8 @@ impl<
     L: Wire + PartialEq,
 > SameParts<LongRow<A, B, C, D, LongRow<E, F, G, H, LongRow<I, J, K, L, ()>>>>
     for (A, B, C, D, E, F, G, H, I, J, K, L) {
-    ghost same_parts = { λ v w e. row-same (A.eq v.0 w.0) (B.eq v.1 w.1 ∷ C.eq v.2 w.2 ∷ D.eq v.3 w.3
+    ghost same_parts = { λ v w. row-same (A.eq v.0 w.0) (B.eq v.1 w.1 ∷ C.eq v.2 w.2 ∷ D.eq v.3 w.3
         ∷ E.eq v.4 w.4 ∷ F.eq v.5 w.5
         ∷ G.eq v.6 w.6 ∷ H.eq v.7 w.7 ∷ I.eq v.8 w.8 ∷ J.eq v.9 w.9 ∷ K.eq v.10 w.10 ∷ L.eq v.11 w.11
-        ∷ []) e };
+        ∷ []) };
 }

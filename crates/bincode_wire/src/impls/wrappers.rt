@@ -1,4 +1,5 @@
 //! The words of wrappers, pointers and references.
+ghost use Rattle.std.specs.Prelude.{refl};
 ghost use Rattle.std.specs.Cow.{cow_value};
 ghost use Rattle.std.specs.Arc.{arc_value};
 
@@ -20,7 +21,7 @@ impl<T: Wire> Parted for Wrapping<T> {
 }
 
 impl<T: Exact> SameParts<T> for Wrapping<T> {
-    ghost same_parts = { λ v w e. e };
+    ghost same_parts = { λ v w. refl };
 }
 
 impl<T: Wire> Parted for Reverse<T> {
@@ -30,7 +31,7 @@ impl<T: Wire> Parted for Reverse<T> {
 }
 
 impl<T: Exact> SameParts<T> for Reverse<T> {
-    ghost same_parts = { λ v w e. e };
+    ghost same_parts = { λ v w. refl };
 }
 
 impl<T> Parted for PhantomData<T> {
@@ -42,7 +43,7 @@ impl<T> Parted for PhantomData<T> {
 impl<T> SameParts<()> for PhantomData<T> {
     ghost use Rattle.std.specs.Prelude.{refl};
 
-    ghost same_parts = { λ v w e. refl };
+    ghost same_parts = { λ v w. refl };
 }
 
 /// What a pointer points to, of which a container claims the pointer alone. It stands in proofs alone.
@@ -119,7 +120,7 @@ impl<T: Wire> Parted for &T {
 }
 
 impl<T: Exact> SameParts<Pointed<T>> for &T {
-    ghost same_parts = { λ v w e. e };
+    ghost same_parts = { λ v w. refl };
 }
 
 impl<T: Wire> Parted for Box<T> {
@@ -129,7 +130,7 @@ impl<T: Wire> Parted for Box<T> {
 }
 
 impl<T: Exact> SameParts<Pointed<T>> for Box<T> {
-    ghost same_parts = { λ v w e. e };
+    ghost same_parts = { λ v w. refl };
 }
 
 impl<T: Wire> Parted for Rc<T> {
@@ -139,7 +140,7 @@ impl<T: Wire> Parted for Rc<T> {
 }
 
 impl<T: Exact> SameParts<Pointed<T>> for Rc<T> {
-    ghost same_parts = { λ v w e. e };
+    ghost same_parts = { λ v w. refl };
 }
 
 impl<T: Wire> Parted for Arc<T> {
@@ -149,7 +150,7 @@ impl<T: Wire> Parted for Arc<T> {
 }
 
 impl<T: Exact> SameParts<Pointed<T>> for Arc<T> {
-    ghost same_parts = { λ v w e. e };
+    ghost same_parts = { λ v w. refl };
 }
 
 impl<T: Scalar + Wire + Clone> Parted for Cow<'_, T> {
@@ -159,5 +160,5 @@ impl<T: Scalar + Wire + Clone> Parted for Cow<'_, T> {
 }
 
 impl<T: Scalar + Exact + Clone> SameParts<T> for Cow<'_, T> {
-    ghost same_parts = { λ v w e. e };
+    ghost same_parts = { λ v w. refl };
 }

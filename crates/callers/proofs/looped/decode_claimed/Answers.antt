@@ -3,7 +3,7 @@ use Rattle.std.proofs.lemmas.Result.{err_from_is_err_and}
 use Rattle.bincode_format.specs.Decoding.{by_memory}
 use Rattle.bincode_decoder.proofs.Rooms.{held-still}
 use Rattle.bincode_values.proofs.Reading.{none-so_far, next-releases, next-so_far, stops-so_far, all-so_far}
-use Rattle.callers.proofs.Lengths.{item-read}
+use Rattle.callers.proofs.LengthReads.{item-read}
 use Rattle.callers.proofs.looped.decode_claimed.Goals as goal
 
 pub loop-init : goal.loop-init

@@ -2,7 +2,7 @@ use Rattle.std.proofs.lemmas.Result.{err_from_is_err_and}
 use Rattle.bincode_laws.specs.RunLaws.{array-passed}
 use Rattle.bincode_decoder.proofs.ReadAnswers.{claim-passed}
 use Rattle.bincode_values.proofs.Containers.{array-reads, length-stops, length-reads}
-use Rattle.callers.proofs.Lengths.{length-read}
+use Rattle.callers.proofs.LengthReads.{length-read}
 use Rattle.callers.proofs.looped.LoopedDecode.decode.Goals as goal
 
 pub returns-in_err-len : goal.returns-in_err-len
