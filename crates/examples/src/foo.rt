@@ -1,9 +1,12 @@
-//! A struct without memory.
+//! A struct without memory, with each law that there is.
 
 use bincode::de::{Decode, Decoder};
 use bincode::enc::{Encode, Encoder};
 use bincode::error::{DecodeError, EncodeError};
-use bincode::laws::{Canonical, Exact, Plain, canonical_by_parts, exact_by_fields, plain_by_parts};
+use bincode::laws::{
+    Canonical, ConstantCharge, Exact, Inhabited, Plain, Writable, canonical_by_parts,
+    exact_by_fields, plain_by_parts, writable_by_parts,
+};
 use bincode::{MadeOf, Wire};
 
 type Parts = (u32, u32);
@@ -44,6 +47,28 @@ impl Exact for Foo {
 impl Canonical for Foo {
     fn tell_canonical() {
         canonical_by_parts::<Parts, Foo>();
+    }
+}
+
+impl Writable for Foo {
+    fn tell_writable() {
+        writable_by_parts::<Parts, Foo>();
+    }
+}
+
+impl Inhabited for Foo {
+    fn tell_inhabited() {
+        Parts::tell_inhabited();
+    }
+}
+
+impl ConstantCharge for Foo {
+    ghost cost = { ⟦<Parts as ConstantCharge>⟧.cost };
+
+    ghost peak = { ⟦<Parts as ConstantCharge>⟧.peak };
+
+    fn tell_costs() {
+        Parts::tell_costs();
     }
 }
 
