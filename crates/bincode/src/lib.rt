@@ -7,6 +7,7 @@
 //! ```
 #![tactic(auto)]
 
+mod borrow;
 pub mod de;
 pub mod enc;
 mod reader;
@@ -29,6 +30,7 @@ pub mod model {
 }
 
 pub use bincode_base::{config, error, short_text};
+pub use bincode_de::borrow_decode::BorrowDecode;
 pub use bincode_de::decode::Decode;
 pub use bincode_enc::encode::Encode;
 pub use bincode_varint::varint;
@@ -40,6 +42,7 @@ pub use bincode_wire::passed::{Passed, Tested};
 pub use bincode_wire::sums::{NoOther, OneOf, Or};
 pub use bincode_wire::wire::Wire;
 pub use bincode_wire::written::MadeOf;
+pub use borrow::{borrow_decode_from_slice, borrow_decode_from_slice_with_context};
 pub use reader::decode_from_reader;
 pub use slice::{decode_from_slice, decode_from_slice_with_context, encode_into_slice};
 pub use vec::encode_to_vec;

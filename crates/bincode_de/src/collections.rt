@@ -4,7 +4,7 @@ ghost use Rattle.bincode_format.specs.Values.{Reads};
 ghost use Rattle.bincode_format.specs.Words.{list};
 
 use crate::decode::Decode;
-use crate::runs::ByDecode;
+use crate::ways::ByDecode;
 use bincode_base::error::DecodeError;
 use bincode_decoder::decoder::Decoder;
 use bincode_values::collections;
@@ -25,5 +25,5 @@ pub fn decode_collection<
         (list D.C.setting T.its.claim (T.its.format D.C.setting)) (λ m v. IsListOf (λ x n. T.its.given n x)
         (K.items v) m) (D.charge decoder.old) result decoder.old decoder.new }
 {
-    collections::decode_collection::<Context, ByDecode<T>, K, D>(decoder)
+    collections::decode_collection::<D, ByDecode<T>, K>(decoder)
 }

@@ -2,14 +2,18 @@
 ghost use Rattle.std.specs.Prelude.{◌≡◌};
 ghost use Rattle.bincode_format.specs.Meaning.{Meaning};
 
+use crate::borrow_decode::BorrowDecode;
 use crate::decode::Decode;
+use crate::ways::{ByBorrowDecode, ByDecode};
 use bincode_base::error::DecodeError;
-use bincode_decoder::decoder::Decoder;
+use bincode_decoder::decoder::{BorrowDecoder, BorrowedBytes, Decoder};
+use bincode_values::values::ReadValues;
 use bincode_values::wholes::{MakeWhole, decode_whole};
 use bincode_wire::parted::Parted;
 use std::marker::PhantomData;
 
-/// A type whose values are made of their parts. It has `Decode` by this, where the type of the parts has.
+/// A type whose values are made of their parts. It has `Decode` and `BorrowDecode` by
+/// this, where the type of the parts has.
 pub trait FromParts: Parted {
     /// The value with these parts.
     fn from_parts(parts: Self::Parts) -> Self
@@ -18,18 +22,16 @@ pub trait FromParts: Parted {
             → (Self.promised result (Self.Parts.its.given m parts)).Promised };
 }
 
-/// Reads values by their parts.
-struct ByParts<T>(PhantomData<T>);
+/// Reads values by their parts, which are read by `V`.
+struct ByParts<V, T>(PhantomData<(V, T)>);
 
-impl<Context: Drop, T: FromParts + Drop> MakeWhole<Context> for ByParts<T>
-where
-    T::Parts: Decode<Context>,
-{
+impl<D: Decoder, V: ReadValues<D>, T: FromParts + Parted<Parts = V::Value> + Drop> MakeWhole<D>
+    for ByParts<V, T> {
     type Whole = T;
 
     #[inline(always)]
-    fn read_parts<D: Decoder<Context = Context>>(decoder: &mut D) -> Result<T::Parts, DecodeError> {
-        T::Parts::decode(decoder)
+    fn read_parts(decoder: &mut D) -> Result<T::Parts, DecodeError> {
+        V::read_value(decoder)
     }
 
     #[inline(always)]
@@ -44,6 +46,18 @@ where
 {
     #[inline]
     fn decode<D: Decoder<Context = Context>>(decoder: &mut D) -> Result<T, DecodeError> {
-        decode_whole::<Context, ByParts<T>, D>(decoder)
+        decode_whole::<D, ByParts<ByDecode<T::Parts>, T>>(decoder)
+    }
+}
+
+impl<B: BorrowedBytes, Context: Drop, T: FromParts + Drop> BorrowDecode<B, Context> for T
+where
+    T::Parts: BorrowDecode<B, Context>,
+{
+    #[inline]
+    fn borrow_decode<D: BorrowDecoder<B, Context = Context>>(
+        decoder: &mut D,
+    ) -> Result<T, DecodeError> {
+        decode_whole::<D, ByParts<ByBorrowDecode<B, T::Parts>, T>>(decoder)
     }
 }

@@ -1,6 +1,8 @@
 //! Decoding.
 #![tactic(auto)]
 
+pub mod borrow_decode;
+pub mod borrow_runs;
 pub mod collections;
 pub mod decode;
 mod empty;
@@ -9,3 +11,4 @@ mod impls;
 pub mod passed;
 pub mod runs;
 pub mod variants;
+mod ways;

@@ -2,10 +2,13 @@
 ghost use Rattle.std.specs.Prelude.{◌≤◌, length};
 ghost use Rattle.bincode_format.specs.Fault.{IsOther};
 
+use crate::borrow_decode::BorrowDecode;
 use crate::decode::Decode;
+use crate::ways::{ByBorrowDecode, ByDecode};
 use bincode_base::error::DecodeError;
 use bincode_base::short_text::ShortText;
-use bincode_decoder::decoder::Decoder;
+use bincode_decoder::decoder::{BorrowDecoder, BorrowedBytes, Decoder};
+use bincode_values::passed::decode_passed;
 use bincode_wire::passed::{Passed, Tested};
 
 impl<Context: Drop, T: Tested + Drop> Decode<Context> for Passed<T>
@@ -14,9 +17,19 @@ where
 {
     #[inline]
     fn decode<D: Decoder<Context = Context>>(decoder: &mut D) -> Result<Self, DecodeError> {
-        let of = T::Of::decode(decoder)?;
-        let passed = T::test(of)?;
-        Ok(Passed(passed))
+        decode_passed::<D, ByDecode<T::Of>, T>(decoder)
+    }
+}
+
+impl<B: BorrowedBytes, Context: Drop, T: Tested + Drop> BorrowDecode<B, Context> for Passed<T>
+where
+    T::Of: BorrowDecode<B, Context>,
+{
+    #[inline]
+    fn borrow_decode<D: BorrowDecoder<B, Context = Context>>(
+        decoder: &mut D,
+    ) -> Result<Self, DecodeError> {
+        decode_passed::<D, ByBorrowDecode<B, T::Of>, T>(decoder)
     }
 }
 

@@ -6,36 +6,10 @@ ghost use Rattle.bincode_format.specs.Run.{CanRelease, RoomReturned};
 ghost use Rattle.bincode_format.specs.Values.{RunRead};
 
 use crate::decode::Decode;
+use crate::ways::ByDecode;
 use bincode_base::error::DecodeError;
 use bincode_decoder::decoder::Decoder;
-use bincode_values::values::{ArrayOf, ReadValues};
 use bincode_values::{arrays, runs};
-use std::marker::PhantomData;
-
-/// Reads values by their `Decode`.
-pub(crate) struct ByDecode<T>(PhantomData<T>);
-
-impl<Context: Drop, T: Decode<Context>> ReadValues<Context> for ByDecode<T> {
-    type Value = T;
-
-    #[inline(always)]
-    fn read_value<D: Decoder<Context = Context>>(decoder: &mut D) -> Result<T, DecodeError> {
-        T::decode(decoder)
-    }
-
-    #[inline(always)]
-    fn blank_array<A: ArrayOf<T>>() -> Option<A> {
-        T::blank_array()
-    }
-
-    #[inline(always)]
-    fn read_at_once<D: Decoder<Context = Context>>(
-        decoder: &mut D,
-        values: &mut [T],
-    ) -> Option<Result<(), DecodeError>> {
-        T::decode_at_once(decoder, values)
-    }
-}
 
 /// Reads as many values as `values` has, over them, whose room `claim_container_read` has reserved: each one's share is
 /// released before it is read. A type may read them otherwise (`Decode::decode_at_once`), with the same answer. Fails
@@ -51,7 +25,7 @@ pub fn decode_run<Context: Drop, T: Decode<Context>, D: Decoder<Context = Contex
         (T.its.grows × (0 < length values.old)) T.its.claim (T.its.format D.C.setting) T.its.given (length values.old)
         (λ _. values.new) result decoder.old decoder.new }
 {
-    runs::decode_run::<Context, ByDecode<T>, D>(decoder, values)
+    runs::decode_run::<D, ByDecode<T>>(decoder, values)
 }
 
 /// Reads `len` values, as `decode_run` does, into a vector with room for just so many. Fails where a value does, or
@@ -67,7 +41,7 @@ pub fn decode_vec<Context: Drop, T: Decode<Context>, D: Decoder<Context = Contex
     ensures read { RunRead D.told D.rest D.charge D.failures D.place D.C.bound D.R.ended D.R.device (0 < len)
         T.its.claim (T.its.format D.C.setting) T.its.given len (λ v. v.items) result decoder.old decoder.new }
 {
-    runs::decode_vec::<Context, ByDecode<T>, D>(decoder, len)
+    runs::decode_vec::<D, ByDecode<T>>(decoder, len)
 }
 
 /// Reads `N` elements in turn, whose room `claim_container_read` has reserved, and releases each one's share before it.
@@ -88,5 +62,5 @@ pub fn decode_array<
         (elements N T.its.claim (T.its.format D.C.setting)) (N * T.its.claim) (D.rest decoder.old) (D.rest decoder.new)
         (D.charge decoder.old) (D.charge decoder.new)) }
 {
-    arrays::decode_array::<Context, ByDecode<T>, D, N>(decoder)
+    arrays::decode_array::<D, ByDecode<T>, N>(decoder)
 }

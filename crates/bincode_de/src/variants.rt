@@ -4,10 +4,13 @@ ghost use Rattle.bincode_format.specs.Words.{tags_of, in_order, allowed_tags, pa
 ghost use Rattle.bincode_format.specs.Choices.{IsChoice};
 ghost use Rattle.bincode_format.specs.Values.{Reads};
 
+use crate::borrow_decode::{BorrowDecode, BorrowDecodeVariants};
 use crate::decode::Decode;
+use crate::ways::{ByBorrowDecode, ByDecode, PartByBorrowDecode, PartByDecode};
 use bincode_base::error::DecodeError;
-use bincode_decoder::decoder::Decoder;
-use bincode_decoder::tags::{DecodeTag, Listed, Named, unexpected_tag};
+use bincode_decoder::decoder::{BorrowDecoder, BorrowedBytes, Decoder};
+use bincode_decoder::tags::{DecodeTag, Listed, Named};
+use bincode_values::variants::{decode_none, decode_one_of, decode_or};
 use bincode_wire::sums::{NoOther, OneOf, Or, Tag, Variants};
 use bincode_wire::wire::Wire;
 
@@ -31,7 +34,7 @@ impl<Context: Drop, Of: Named, T: Tag> DecodeVariants<Context> for NoOther<Of, T
         found: u32,
         decoder: &mut D,
     ) -> Result<Self, DecodeError> {
-        Err(unexpected_tag::<Of, All, D>(decoder, found))
+        decode_none::<D, Of, T, All>(found, decoder)
     }
 }
 
@@ -46,12 +49,7 @@ impl<
         found: u32,
         decoder: &mut D,
     ) -> Result<Self, DecodeError> {
-        if found == TAG {
-            let this = A::decode(decoder)?;
-            return Ok(Or::This(this));
-        }
-        let other = Others::decode_part::<All, D>(found, decoder)?;
-        Ok(Or::Other(other))
+        decode_or::<D, TAG, ByDecode<A>, PartByDecode<All, Others>>(found, decoder)
     }
 }
 
@@ -67,8 +65,51 @@ where
 {
     #[inline]
     fn decode<D: Decoder<Context = Context>>(decoder: &mut D) -> Result<Self, DecodeError> {
-        let found = Of::Tag::decode_tag(decoder)?;
-        let of = Of::decode_part::<Of, D>(found, decoder)?;
-        Ok(OneOf(of))
+        decode_one_of::<D, Of, PartByDecode<Of, Of>>(decoder)
+    }
+}
+
+impl<B: BorrowedBytes, Context: Drop, Of: Named, T: Tag> BorrowDecodeVariants<B, Context>
+    for NoOther<Of, T> {
+    #[inline]
+    fn borrow_decode_part<All: Listed, D: BorrowDecoder<B, Context = Context>>(
+        found: u32,
+        decoder: &mut D,
+    ) -> Result<Self, DecodeError> {
+        decode_none::<D, Of, T, All>(found, decoder)
+    }
+}
+
+impl<
+    B: BorrowedBytes,
+    Context: Drop,
+    const TAG: u32,
+    A: BorrowDecode<B, Context>,
+    Others: BorrowDecodeVariants<B, Context>,
+> BorrowDecodeVariants<B, Context> for Or<TAG, A, Others> {
+    #[inline]
+    fn borrow_decode_part<All: Listed, D: BorrowDecoder<B, Context = Context>>(
+        found: u32,
+        decoder: &mut D,
+    ) -> Result<Self, DecodeError> {
+        decode_or::<D, TAG, ByBorrowDecode<B, A>, PartByBorrowDecode<B, All, Others>>(
+            found, decoder,
+        )
+    }
+}
+
+impl<
+    B: BorrowedBytes,
+    Context: Drop,
+    Of: BorrowDecodeVariants<B, Context> + SomeVariants,
+> BorrowDecode<B, Context> for OneOf<Of>
+where
+    Of::Tag: DecodeTag,
+{
+    #[inline]
+    fn borrow_decode<D: BorrowDecoder<B, Context = Context>>(
+        decoder: &mut D,
+    ) -> Result<Self, DecodeError> {
+        decode_one_of::<D, Of, PartByBorrowDecode<B, Of, Of>>(decoder)
     }
 }

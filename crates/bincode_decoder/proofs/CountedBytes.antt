@@ -21,7 +21,7 @@ use Rattle.bincode_laws.specs.TextLaws.{text_of-passes}
 use Rattle.bincode_varint.proofs.Words.{raw-read}
 use Rattle.bincode_decoder.proofs.BytesAtOnce.{both-of_err}
 
-took : (bytes rest input : List ℕ) (n : ℕ) → length bytes ≡ n → input ≡ bytes ++ rest → (unsure (raw n)).read input ≡ Took bytes rest []
+pub took : (bytes rest input : List ℕ) (n : ℕ) → length bytes ≡ n → input ≡ bytes ++ rest → (unsure (raw n)).read input ≡ Took bytes rest []
 unfolding unsure
 took bytes rest input n k e = ap vague_reading (ap (raw n).read e ∙ raw-read bytes rest n k)
 
@@ -29,7 +29,7 @@ short : (input : List ℕ) (n : ℕ) → length input < n → (unsure (raw n)).r
 unfolding unsure raw
 short input n h = ap vague_reading ((raw-lawful n).fault_read input (End (Some (n - length input))) [] (h, refl, refl))
 
-misread : (ended : ℕ → DecodeError → Type 0) (device : DeviceErrors) (rest rest' : List ℕ) (n before after : ℕ) (e : DecodeError) →
+pub misread : (ended : ℕ → DecodeError → Type 0) (device : DeviceErrors) (rest rest' : List ℕ) (n before after : ℕ) (e : DecodeError) →
     FallsShort ended rest n e ⊎ (device.uncounted e ⊎ (device.counted e × Rose before after)) → device.uncounted e ⊎ Takes rest rest' →
     Misreads ended device ((unsure (raw n)).read rest) before after rest rest' e
 misread ended device rest rest' n before after e why (inl d) = by_device d

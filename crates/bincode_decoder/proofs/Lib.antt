@@ -6,3 +6,4 @@ pub mod BytesAtOnce
 pub mod ReadAnswers
 pub mod PartAnswers
 pub mod CountedBytes
+pub mod Lending

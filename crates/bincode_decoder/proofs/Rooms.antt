@@ -22,7 +22,7 @@ held-still None room charge = omega arith
 held-still (Some limit) room charge = omega arith
 
 -- the charge behind a claim that stands
-claimed_by : (b : Bool) (raised after : ℕ) → (if b then Some raised else None) ≡ Some after → after ≡ raised
+pub claimed_by : (b : Bool) (raised after : ℕ) → (if b then Some raised else None) ≡ Some after → after ≡ raised
 claimed_by true raised after e = cc
 claimed_by false raised after e = absurd (cc)
 

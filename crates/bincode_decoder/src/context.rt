@@ -3,8 +3,8 @@ ghost use Rattle.std.specs.Prelude.{◌≡◌, ◌∷◌, refl};
 ghost use Rattle.std.proofs.Common.{ap};
 ghost use Rattle.bincode_decoder.specs.Contexts.{lender_of};
 
-use crate::decoder::Decoder;
 use crate::decoder::sealed::Sealed;
+use crate::decoder::{BorrowDecoder, BorrowedBytes, Decoder};
 use bincode_base::error::DecodeError;
 use std::alloc::Global;
 
@@ -139,4 +139,11 @@ impl<D: Decoder, Context: Drop> Decoder for WithContext<'_, D, Context> {
     ghost context_charge = { λ d x. refl };
 
     ghost context_place = { λ d x. refl };
+}
+
+impl<B: BorrowedBytes, D: BorrowDecoder<B>, Context: Drop> BorrowDecoder<B>
+    for WithContext<'_, D, Context> {
+    fn take_bytes(&mut self, count: usize) -> Result<B, DecodeError> {
+        self.decoder.take_bytes(count)
+    }
 }

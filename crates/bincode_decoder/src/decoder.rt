@@ -7,6 +7,10 @@ ghost use Rattle.bincode_format.specs.Answer.{Allows, unclaimed};
 ghost use Rattle.bincode_format.specs.Run.{CanRelease};
 ghost use Rattle.bincode_format.specs.Claims.{Claims, MakesClaim, MakesRelease};
 
+mod borrow;
+
+pub use borrow::{BorrowDecoder, BorrowedBytes};
+
 use bincode_base::config::Config;
 use bincode_base::error::DecodeError;
 use bincode_io::read::Reader;

@@ -1,6 +1,7 @@
 //! Decoders, and what is read through any of them: numbers, characters, truth values, spans of time, tags and texts.
 #![tactic(auto)]
 
+pub mod borrow;
 pub mod bytes;
 pub mod chars;
 pub mod context;

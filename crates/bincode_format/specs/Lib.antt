@@ -21,6 +21,7 @@ pub mod Passed
 pub mod Put
 pub mod Device
 pub mod Reads
+pub mod Lending
 pub mod Decoding
 pub mod Values
 pub mod Encoding

@@ -10,6 +10,10 @@ ghost use Rattle.bincode_format.specs.Device.{FallsShort, Fills, TakesShown, Unm
 ghost use Rattle.bincode_base.specs.declared.error.DecodeError.{DecodeError};
 ghost use Rattle.bincode_base.specs.declared.error.DecodeError.TheVariants.{UnexpectedEnd};
 
+mod borrow;
+
+pub use borrow::BorrowReader;
+
 use bincode_base::error::DecodeError;
 
 /// A source of bytes, which are taken in order.

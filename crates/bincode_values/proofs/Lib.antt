@@ -2,3 +2,6 @@
 pub mod Reading
 pub mod Containers
 pub mod Putting
+pub mod MadeAnswers
+pub mod PassedAnswers
+pub mod CellAnswers

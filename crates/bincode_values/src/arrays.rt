@@ -13,7 +13,7 @@ use bincode_decoder::decoder::Decoder;
 use bincode_wire::wire::Wire;
 
 /// Fills each slot with an element, before which it releases the element's share.
-fn decode_slots<Context: Drop, V: ReadValues<Context>, D: Decoder<Context = Context>>(
+fn decode_slots<D: Decoder, V: ReadValues<D>>(
     decoder: &mut D,
     slots: &mut [Option<V::Value>],
 ) -> Result<(), DecodeError>
@@ -24,39 +24,35 @@ fn decode_slots<Context: Drop, V: ReadValues<Context>, D: Decoder<Context = Cont
         decoder.old decoder.new }
 {
     for index in 0..slots.len() {
-        slots[index] = Some(decode_next::<Context, V, D>(decoder)?);
+        slots[index] = Some(decode_next::<D, V>(decoder)?);
     }
     Ok(())
 }
 
 /// Fills the slots, and makes an array of their values.
 fn decode_into<
-    Context: Drop,
-    V: ReadValues<Context>,
-    D: Decoder<Context = Context>,
+    D: Decoder, V: ReadValues<D>,
     const N: usize,
 >(decoder: &mut D, mut slots: [Option<V::Value>; N]) -> Result<[V::Value; N], DecodeError>
     requires { CanRelease D.C.bound (D.charge decoder.old) (N * V.Value.its.claim) }
     ensures { RunRead D.told D.rest D.charge D.failures D.place D.C.bound D.R.ended D.R.device V.Value.its.grows
         V.Value.its.claim (V.Value.its.format D.C.setting) V.Value.its.given N (λ v. v) result decoder.old decoder.new }
 {
-    decode_slots::<Context, V, D>(decoder, &mut slots[..])?;
+    decode_slots::<D, V>(decoder, &mut slots[..])?;
     Ok(unwrap_all(slots))
 }
 
 /// Reads the elements over those of an array.
 #[inline]
 fn decode_over<
-    Context: Drop,
-    V: ReadValues<Context>,
-    D: Decoder<Context = Context>,
+    D: Decoder, V: ReadValues<D>,
     const N: usize,
 >(decoder: &mut D, mut values: [V::Value; N]) -> Result<[V::Value; N], DecodeError>
     requires { CanRelease D.C.bound (D.charge decoder.old) (N * V.Value.its.claim) }
     ensures { RunRead D.told D.rest D.charge D.failures D.place D.C.bound D.R.ended D.R.device V.Value.its.grows
         V.Value.its.claim (V.Value.its.format D.C.setting) V.Value.its.given N (λ v. v) result decoder.old decoder.new }
 {
-    decode_run::<Context, V, D>(decoder, &mut values[..])?;
+    decode_run::<D, V>(decoder, &mut values[..])?;
     Ok(values)
 }
 
@@ -64,9 +60,7 @@ fn decode_over<
 /// So the charge at the end is that at the start, with the full widths of the elements in place of their room. Fails
 /// where an element does, or with `Memory` where `N` slots of `Option<V::Value>` can't exist (`slots_fit`).
 pub fn decode_array<
-    Context: Drop,
-    V: ReadValues<Context>,
-    D: Decoder<Context = Context>,
+    D: Decoder, V: ReadValues<D>,
     const N: usize,
 >(decoder: &mut D) -> Result<[V::Value; N], DecodeError>
     requires { CanRelease D.C.bound (D.charge decoder.old) (N * V.Value.its.claim) }
@@ -78,10 +72,10 @@ pub fn decode_array<
         (D.rest decoder.old) (D.rest decoder.new) (D.charge decoder.old) (D.charge decoder.new)) }
 {
     if let Some(values) = V::blank_array::<[V::Value; N]>() {
-        return decode_over::<Context, V, D, N>(decoder, values);
+        return decode_over::<D, V, N>(decoder, values);
     }
     if !slots_fit::<V::Value, N>() {
         return Err(DecodeError::Memory);
     }
-    decode_into::<Context, V, D, N>(decoder, empty_slots())
+    decode_into::<D, V, N>(decoder, empty_slots())
 }

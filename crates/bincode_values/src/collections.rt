@@ -45,10 +45,7 @@ pub trait Collect<Context: Drop>: Sized {
 /// Reads `len` items, whose room `claim_container_read` has reserved, and puts each into the list: its share is
 /// released before it is read. Fails where an item does, or with `Memory` where the list does.
 fn decode_items<
-    Context: Drop,
-    V: ReadValues<Context>,
-    K: Collect<Context, Item = V::Value>,
-    D: Decoder<Context = Context>,
+    D: Decoder, V: ReadValues<D>, K: Collect<D::Context, Item = V::Value>,
 >(decoder: &mut D, len: usize) -> Result<K, DecodeError>
     requires { CanRelease D.C.bound (D.charge decoder.old) (len * V.Value.its.claim) }
     ensures { RunRead D.told D.rest D.charge D.failures D.place D.C.bound D.R.ended D.R.device (Unit {0})
@@ -57,7 +54,7 @@ fn decode_items<
 {
     let mut filling = K::start(decoder.alloc(), decoder.context(), len)?;
     for _ in 0..len {
-        let item = decode_next::<Context, V, D>(decoder)?;
+        let item = decode_next::<D, V>(decoder)?;
         K::put(&mut filling, item)?;
     }
     K::finish(filling)
@@ -66,10 +63,7 @@ fn decode_items<
 /// Claims the room of `len` items, and reads them. Fails with `LimitExceeded` where the claim passes the limit, before
 /// the list is begun, and where `decode_items` does. A fault leaves what was charged before it.
 fn decode_claimed_items<
-    Context: Drop,
-    V: ReadValues<Context>,
-    K: Collect<Context, Item = V::Value>,
-    D: Decoder<Context = Context>,
+    D: Decoder, V: ReadValues<D>, K: Collect<D::Context, Item = V::Value>,
 >(decoder: &mut D, len: usize) -> Result<K, DecodeError>
     ensures { Reads D.told D.rest D.charge D.failures D.place D.C.bound D.R.ended D.R.device (Unit {0})
         (array len V.Value.its.claim (V.Value.its.format D.C.setting))
@@ -77,17 +71,14 @@ fn decode_claimed_items<
         (D.charge decoder.old) result decoder.old decoder.new }
 {
     decoder.claim_container_read::<V::Value>(len)?;
-    decode_items::<Context, V, K, D>(decoder, len)
+    decode_items::<D, V, K>(decoder, len)
 }
 
 /// Reads a length and so many items, whose room is claimed before the list is begun. Fails where the length can't be
 /// read, with `LimitExceeded` where the room passes the limit, with `Memory` where the list does, and where an item
 /// does. A fault leaves what was charged before it.
 pub fn decode_collection<
-    Context: Drop,
-    V: ReadValues<Context>,
-    K: Collect<Context, Item = V::Value>,
-    D: Decoder<Context = Context>,
+    D: Decoder, V: ReadValues<D>, K: Collect<D::Context, Item = V::Value>,
 >(decoder: &mut D) -> Result<K, DecodeError>
     ensures { Reads D.told D.rest D.charge D.failures D.place D.C.bound D.R.ended D.R.device (Unit {0})
         (list D.C.setting V.Value.its.claim (V.Value.its.format D.C.setting))
@@ -95,5 +86,5 @@ pub fn decode_collection<
         (D.charge decoder.old) result decoder.old decoder.new }
 {
     let len = decode_length(decoder)?;
-    decode_claimed_items::<Context, V, K, D>(decoder, len)
+    decode_claimed_items::<D, V, K>(decoder, len)
 }

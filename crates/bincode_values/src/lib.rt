@@ -2,9 +2,14 @@
 #![tactic(auto)]
 
 pub mod arrays;
+pub mod borrow;
 pub mod collections;
 pub mod lists;
 pub mod ordered;
+pub mod passed;
+pub mod pointers;
+pub mod rows;
 pub mod runs;
 pub mod values;
+pub mod variants;
 pub mod wholes;

@@ -1,6 +1,8 @@
 //! Lists behind their length, whose room is reserved at once.
 ghost use Rattle.std.specs.Prelude.{◌≡◌, length, IfOk, vec_capacity};
 ghost use Rattle.std.specs.BinaryHeap.{heap_items};
+ghost use Rattle.std.specs.Box.{boxed_slice_items};
+ghost use Rattle.std.specs.Rc.{rc_slice_items};
 ghost use Rattle.bincode_format.specs.Collections.{IsMadeOf, MakesBag};
 ghost use Rattle.bincode_format.specs.Run.{IsListOf};
 ghost use Rattle.bincode_format.specs.Values.{Reads};
@@ -11,11 +13,13 @@ use crate::values::ReadValues;
 use bincode_base::error::DecodeError;
 use bincode_decoder::decoder::{ClaimContainer, Decoder};
 use bincode_decoder::lists::decode_length;
-use std::collections::BinaryHeap;
+use std::boxed::BoxedSlice;
+use std::collections::{BinaryHeap, VecDeque};
+use std::rc::RcSlice;
 
 /// Claims the room of `len` values, and reads them. Fails with `LimitExceeded` where the claim passes the limit, before
 /// any room is made, and where `decode_vec` does. A fault leaves what was charged before it.
-fn decode_claimed<Context: Drop, V: ReadValues<Context>, D: Decoder<Context = Context>>(
+fn decode_claimed<D: Decoder, V: ReadValues<D>>(
     decoder: &mut D,
     len: usize,
 ) -> Result<Vec<V::Value>, DecodeError>
@@ -26,13 +30,13 @@ fn decode_claimed<Context: Drop, V: ReadValues<Context>, D: Decoder<Context = Co
         (D.charge decoder.old) result decoder.old decoder.new }
 {
     decoder.claim_container_read::<V::Value>(len)?;
-    decode_vec::<Context, V, D>(decoder, len)
+    decode_vec::<D, V>(decoder, len)
 }
 
 /// Reads a length and so many values, whose room is claimed before any is made: the vector has room for just so many.
 /// Fails where the length can't be read, with `LimitExceeded` where the room passes the limit, with `Memory` where it
 /// is refused, and where a value does. A fault leaves what was charged before it.
-pub fn decode_list<Context: Drop, V: ReadValues<Context>, D: Decoder<Context = Context>>(
+pub fn decode_list<D: Decoder, V: ReadValues<D>>(
     decoder: &mut D,
 ) -> Result<Vec<V::Value>, DecodeError>
     ensures { Reads D.told D.rest D.charge D.failures D.place D.C.bound D.R.ended D.R.device (Unit {0})
@@ -41,11 +45,11 @@ pub fn decode_list<Context: Drop, V: ReadValues<Context>, D: Decoder<Context = C
         (D.charge decoder.old) result decoder.old decoder.new }
 {
     let len = decode_length(decoder)?;
-    decode_claimed::<Context, V, D>(decoder, len)
+    decode_claimed::<D, V>(decoder, len)
 }
 
 /// Reads a list as `decode_list` does, and makes a heap of its values.
-pub fn decode_heap<Context: Drop, V: ReadValues<Context>, D: Decoder<Context = Context>>(
+pub fn decode_heap<D: Decoder, V: ReadValues<D>>(
     decoder: &mut D,
 ) -> Result<BinaryHeap<V::Value>, DecodeError>
 where
@@ -55,6 +59,52 @@ where
         (λ m v. IsMadeOf MakesBag (λ x n. V.Value.its.given n x) (heap_items v) m) (D.charge decoder.old) result
         decoder.old decoder.new }
 {
-    let values = decode_list::<Context, V, D>(decoder)?;
+    let values = decode_list::<D, V>(decoder)?;
     Ok(BinaryHeap::from(values))
+}
+
+/// Reads a list as `decode_list` does, and makes a queue of its values.
+#[inline]
+pub fn decode_queue<D: Decoder, V: ReadValues<D>>(
+    decoder: &mut D,
+) -> Result<VecDeque<V::Value>, DecodeError>
+    ensures { Reads D.told D.rest D.charge D.failures D.place D.C.bound D.R.ended D.R.device (Unit {0})
+        (list D.C.setting V.Value.its.claim (V.Value.its.format D.C.setting))
+        (λ m v. IsListOf (λ x n. V.Value.its.given n x) v.items m) (D.charge decoder.old) result decoder.old
+        decoder.new }
+{
+    let list = decode_list::<D, V>(decoder)?;
+    Ok(VecDeque::from(list))
+}
+
+/// Reads a list as `decode_list` does, and makes a boxed slice of its values.
+#[inline]
+pub fn decode_boxed_slice<D: Decoder, V: ReadValues<D>>(
+    decoder: &mut D,
+) -> Result<BoxedSlice<V::Value>, DecodeError>
+    ensures { Reads D.told D.rest D.charge D.failures D.place D.C.bound D.R.ended D.R.device (Unit {0})
+        (list D.C.setting V.Value.its.claim (V.Value.its.format D.C.setting))
+        (λ m v. IsListOf (λ x n. V.Value.its.given n x) (boxed_slice_items v) m) (D.charge decoder.old) result
+        decoder.old decoder.new }
+{
+    let list = decode_list::<D, V>(decoder)?;
+    Ok(list.into_boxed_slice())
+}
+
+/// Reads a list as `decode_list` does, and makes a shared slice of its values. Fails where the list does, or with
+/// `Memory` where the room for the shared slice is refused.
+#[inline]
+pub fn decode_rc_slice<D: Decoder, V: ReadValues<D>>(
+    decoder: &mut D,
+) -> Result<RcSlice<V::Value>, DecodeError>
+    ensures { Reads D.told D.rest D.charge D.failures D.place D.C.bound D.R.ended D.R.device (Unit {0})
+        (list D.C.setting V.Value.its.claim (V.Value.its.format D.C.setting))
+        (λ m v. IsListOf (λ x n. V.Value.its.given n x) (rc_slice_items v) m) (D.charge decoder.old) result
+        decoder.old decoder.new }
+{
+    let list = decode_list::<D, V>(decoder)?;
+    let Ok(shared) = RcSlice::from_vec(list) else {
+        return Err(DecodeError::Memory);
+    };
+    Ok(shared)
 }

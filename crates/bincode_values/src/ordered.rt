@@ -15,7 +15,7 @@ use std::collections::{BTreeMap, BTreeSet};
 
 /// Reads `len` keys, whose room `claim_container_read` has reserved, and puts them into a set in turn: each one's share
 /// is released before it is read. Fails where a key does, or with `Memory` where the room for a key is refused.
-fn decode_keys<Context: Drop, K: ReadValues<Context>, D: Decoder<Context = Context>>(
+fn decode_keys<D: Decoder, K: ReadValues<D>>(
     decoder: &mut D,
     len: usize,
 ) -> Result<BTreeSet<K::Value>, DecodeError>
@@ -28,7 +28,7 @@ where
 {
     let mut keys = BTreeSet::new(decoder.alloc());
     for _ in 0..len {
-        let key = decode_next::<Context, K, D>(decoder)?;
+        let key = decode_next::<D, K>(decoder)?;
         let Ok(_) = keys.insert(key) else {
             return Err(DecodeError::Memory);
         };
@@ -38,7 +38,7 @@ where
 
 /// Claims the room of `len` keys, and reads them into a set. Fails with `LimitExceeded` where the claim passes the
 /// limit, and where `decode_keys` does. A fault leaves what was charged before it.
-fn decode_claimed_keys<Context: Drop, K: ReadValues<Context>, D: Decoder<Context = Context>>(
+fn decode_claimed_keys<D: Decoder, K: ReadValues<D>>(
     decoder: &mut D,
     len: usize,
 ) -> Result<BTreeSet<K::Value>, DecodeError>
@@ -50,14 +50,14 @@ where
         decoder.old decoder.new }
 {
     decoder.claim_container_read::<K::Value>(len)?;
-    decode_keys::<Context, K, D>(decoder, len)
+    decode_keys::<D, K>(decoder, len)
 }
 
 /// Reads a length, and so many keys, which are put into a set in turn: of equal keys the first stays. The room of the
 /// keys is claimed as that of a list, and none of it is reserved. Fails where the length can't be read, with
 /// `LimitExceeded` where the claim passes the limit, with `Memory` where the room for a key is refused, and where a key
 /// does. A fault leaves what was charged before it.
-pub fn decode_set<Context: Drop, K: ReadValues<Context>, D: Decoder<Context = Context>>(
+pub fn decode_set<D: Decoder, K: ReadValues<D>>(
     decoder: &mut D,
 ) -> Result<BTreeSet<K::Value>, DecodeError>
 where
@@ -68,17 +68,16 @@ where
         decoder.old decoder.new }
 {
     let len = decode_length(decoder)?;
-    decode_claimed_keys::<Context, K, D>(decoder, len)
+    decode_claimed_keys::<D, K>(decoder, len)
 }
 
 /// Reads `len` entries, whose room `claim_container_read` has reserved, and puts them into a map in turn: each one's
 /// share is released before it is read. Fails where an entry does, or with `Memory` where the room for one is refused.
 fn decode_entries<
-    Context: Drop,
+    D: Decoder,
     K: Ord + Wire + Drop,
     V: Wire + Drop,
-    E: ReadValues<Context, Value = (K, V)>,
-    D: Decoder<Context = Context>,
+    E: ReadValues<D, Value = (K, V)>,
 >(decoder: &mut D, len: usize) -> Result<BTreeMap<K, V>, DecodeError>
     requires { CanRelease D.C.bound (D.charge decoder.old) (len * ⟦<(K, V) as Wire>⟧.its.claim) }
     ensures { (items : List _) × IfOk result (λ v. MakesMap K.cmp items v.entries)
@@ -88,7 +87,7 @@ fn decode_entries<
 {
     let mut entries = BTreeMap::new(decoder.alloc());
     for _ in 0..len {
-        let (key, value) = decode_next::<Context, E, D>(decoder)?;
+        let (key, value) = decode_next::<D, E>(decoder)?;
         let Ok(_) = entries.insert(key, value) else {
             return Err(DecodeError::Memory);
         };
@@ -99,11 +98,10 @@ fn decode_entries<
 /// Claims the room of `len` entries, and reads them into a map. Fails with `LimitExceeded` where the claim passes the
 /// limit, and where `decode_entries` does. A fault leaves what was charged before it.
 fn decode_claimed_entries<
-    Context: Drop,
+    D: Decoder,
     K: Ord + Wire + Drop,
     V: Wire + Drop,
-    E: ReadValues<Context, Value = (K, V)>,
-    D: Decoder<Context = Context>,
+    E: ReadValues<D, Value = (K, V)>,
 >(decoder: &mut D, len: usize) -> Result<BTreeMap<K, V>, DecodeError>
     ensures { Reads D.told D.rest D.charge D.failures D.place D.C.bound D.R.ended D.R.device (Unit {0})
         (array len ⟦<(K, V) as Wire>⟧.its.claim (⟦<(K, V) as Wire>⟧.its.format D.C.setting))
@@ -111,7 +109,7 @@ fn decode_claimed_entries<
         (D.charge decoder.old) result decoder.old decoder.new }
 {
     decoder.claim_container_read::<(K, V)>(len)?;
-    decode_entries::<Context, K, V, E, D>(decoder, len)
+    decode_entries::<D, K, V, E>(decoder, len)
 }
 
 /// Reads a length, and so many entries, which are put into a map in turn: of equal keys the first stays, with the last
@@ -119,11 +117,10 @@ fn decode_claimed_entries<
 /// can't be read, with `LimitExceeded` where the claim passes the limit, with `Memory` where the room for an entry is
 /// refused, and where an entry does. A fault leaves what was charged before it.
 pub fn decode_map<
-    Context: Drop,
+    D: Decoder,
     K: Ord + Wire + Drop,
     V: Wire + Drop,
-    E: ReadValues<Context, Value = (K, V)>,
-    D: Decoder<Context = Context>,
+    E: ReadValues<D, Value = (K, V)>,
 >(decoder: &mut D) -> Result<BTreeMap<K, V>, DecodeError>
     ensures { Reads D.told D.rest D.charge D.failures D.place D.C.bound D.R.ended D.R.device (Unit {0})
         (list D.C.setting ⟦<(K, V) as Wire>⟧.its.claim (⟦<(K, V) as Wire>⟧.its.format D.C.setting))
@@ -131,5 +128,5 @@ pub fn decode_map<
         (D.charge decoder.old) result decoder.old decoder.new }
 {
     let len = decode_length(decoder)?;
-    decode_claimed_entries::<Context, K, V, E, D>(decoder, len)
+    decode_claimed_entries::<D, K, V, E>(decoder, len)
 }

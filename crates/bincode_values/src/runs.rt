@@ -16,7 +16,7 @@ use std::alloc::Global;
 /// where a value does. Then some front of the input is taken, unless the error is one that the device does not count,
 /// and no more than the room of the values is given back; what `values` has then is not said.
 #[inline]
-pub fn decode_run<Context: Drop, V: ReadValues<Context>, D: Decoder<Context = Context>>(
+pub fn decode_run<D: Decoder, V: ReadValues<D>>(
     decoder: &mut D,
     values: &mut [V::Value],
 ) -> Result<(), DecodeError>
@@ -26,17 +26,17 @@ pub fn decode_run<Context: Drop, V: ReadValues<Context>, D: Decoder<Context = Co
         V.Value.its.given (length values.old) (λ _. values.new) result decoder.old decoder.new }
 {
     if !decoder.is_within_limit() {
-        return decode_each::<Context, V, D>(decoder, values);
+        return decode_each::<D, V>(decoder, values);
     }
     if let Some(outcome) = V::read_at_once(decoder, values) {
         return outcome;
     }
-    decode_each::<Context, V, D>(decoder, values)
+    decode_each::<D, V>(decoder, values)
 }
 
 /// The same, one by one.
 #[inline]
-fn decode_each<Context: Drop, V: ReadValues<Context>, D: Decoder<Context = Context>>(
+fn decode_each<D: Decoder, V: ReadValues<D>>(
     decoder: &mut D,
     values: &mut [V::Value],
 ) -> Result<(), DecodeError>
@@ -46,14 +46,14 @@ fn decode_each<Context: Drop, V: ReadValues<Context>, D: Decoder<Context = Conte
         V.Value.its.given (length values.old) (λ _. values.new) result decoder.old decoder.new }
 {
     for index in 0..values.len() {
-        values[index] = decode_next::<Context, V, D>(decoder)?;
+        values[index] = decode_next::<D, V>(decoder)?;
     }
     Ok(())
 }
 
 /// Releases the share of one value, of the room that is reserved, and reads it.
 #[inline(always)]
-pub(crate) fn decode_next<Context: Drop, V: ReadValues<Context>, D: Decoder<Context = Context>>(
+pub(crate) fn decode_next<D: Decoder, V: ReadValues<D>>(
     decoder: &mut D,
 ) -> Result<V::Value, DecodeError>
     requires { CanRelease D.C.bound (D.charge decoder.old) V.Value.its.claim }
@@ -67,7 +67,7 @@ pub(crate) fn decode_next<Context: Drop, V: ReadValues<Context>, D: Decoder<Cont
 
 /// Reads `len` values, as `decode_run` does, into a vector with room for just so many. Fails where a value does, or
 /// with `Memory` where the room for the values is refused; of no values it is never refused.
-pub fn decode_vec<Context: Drop, V: ReadValues<Context>, D: Decoder<Context = Context>>(
+pub fn decode_vec<D: Decoder, V: ReadValues<D>>(
     decoder: &mut D,
     len: usize,
 ) -> Result<Vec<V::Value>, DecodeError>
@@ -78,15 +78,15 @@ pub fn decode_vec<Context: Drop, V: ReadValues<Context>, D: Decoder<Context = Co
         V.Value.its.claim (V.Value.its.format D.C.setting) V.Value.its.given len (λ v. v.items) result decoder.old
         decoder.new }
 {
-    let Some(mut values) = blank_values::<Context, V>(decoder.alloc(), len)? else {
-        return decode_by_pushes::<Context, V, D>(decoder, len);
+    let Some(mut values) = blank_values::<D, V>(decoder.alloc(), len)? else {
+        return decode_by_pushes::<D, V>(decoder, len);
     };
-    decode_run::<Context, V, D>(decoder, &mut values)?;
+    decode_run::<D, V>(decoder, &mut values)?;
     Ok(values)
 }
 
 /// The same for a type without blank values.
-fn decode_by_pushes<Context: Drop, V: ReadValues<Context>, D: Decoder<Context = Context>>(
+fn decode_by_pushes<D: Decoder, V: ReadValues<D>>(
     decoder: &mut D,
     len: usize,
 ) -> Result<Vec<V::Value>, DecodeError>
@@ -101,7 +101,7 @@ fn decode_by_pushes<Context: Drop, V: ReadValues<Context>, D: Decoder<Context = 
         return Err(DecodeError::Memory);
     };
     for _ in 0..len {
-        values.push_reserved(decode_next::<Context, V, D>(decoder)?);
+        values.push_reserved(decode_next::<D, V>(decoder)?);
     }
     Ok(values)
 }
@@ -109,7 +109,7 @@ fn decode_by_pushes<Context: Drop, V: ReadValues<Context>, D: Decoder<Context = 
 /// So many values to read over, if the type has such at hand and its values claim a byte each, as those do that are
 /// read at once: others are pushed, which takes less than zeros first. Fails with `Memory` where the room for them is
 /// refused.
-fn blank_values<Context: Drop, V: ReadValues<Context>>(
+fn blank_values<D: Decoder, V: ReadValues<D>>(
     alloc: Global,
     len: usize,
 ) -> Result<Option<Vec<V::Value>>, DecodeError>

@@ -9,13 +9,13 @@ use bincode_base::error::DecodeError;
 use bincode_decoder::decoder::Decoder;
 use bincode_wire::wire::Wire;
 
-/// A way to read the values of a type, in a context.
-pub trait ReadValues<Context: Drop> {
+/// A way to read the values of a type, by a decoder.
+pub trait ReadValues<D: Decoder> {
     /// What is read.
     type Value: Wire + Drop + Sized;
 
     /// Reads a word and gives a value for its meaning. It does, fails and leaves what `Decode::decode` does.
-    fn read_value<D: Decoder<Context = Context>>(
+    fn read_value(
         decoder: &mut D,
     ) -> Result<Self::Value, DecodeError>
         ensures { Reads D.told D.rest D.charge D.failures D.place D.C.bound D.R.ended D.R.device Self.Value.its.grows
@@ -27,7 +27,7 @@ pub trait ReadValues<Context: Drop> {
 
     /// Reads as many values as `values` has, over them and in one piece, if the values are the bytes of their words.
     /// Otherwise nothing is read.
-    fn read_at_once<D: Decoder<Context = Context>>(
+    fn read_at_once(
         decoder: &mut D,
         values: &mut [Self::Value],
     ) -> Option<Result<(), DecodeError>>

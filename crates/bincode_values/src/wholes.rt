@@ -7,13 +7,13 @@ use bincode_base::error::DecodeError;
 use bincode_decoder::decoder::Decoder;
 use bincode_wire::parted::Parted;
 
-/// A way to read the parts of a type's values, in a context, and to make values of them.
-pub trait MakeWhole<Context: Drop> {
+/// A way to read the parts of a type's values, by a decoder, and to make values of them.
+pub trait MakeWhole<D: Decoder> {
     /// What is made.
     type Whole: Parted + Drop;
 
     /// Reads the parts. It does, fails and leaves what `Decode::decode` does.
-    fn read_parts<D: Decoder<Context = Context>>(
+    fn read_parts(
         decoder: &mut D,
     ) -> Result<<Self::Whole as Parted>::Parts, DecodeError>
         ensures { Reads D.told D.rest D.charge D.failures D.place D.C.bound D.R.ended D.R.device
@@ -29,7 +29,7 @@ pub trait MakeWhole<Context: Drop> {
 
 /// Reads the parts of a value, and makes it. Fails where a part does.
 #[inline(always)]
-pub fn decode_whole<Context: Drop, W: MakeWhole<Context>, D: Decoder<Context = Context>>(
+pub fn decode_whole<D: Decoder, W: MakeWhole<D>>(
     decoder: &mut D,
 ) -> Result<W::Whole, DecodeError>
 where

@@ -3,3 +3,4 @@ pub mod Rows
 pub mod Sums
 pub mod TypeLaws
 pub mod TypeWords
+pub mod Memory

@@ -4,18 +4,22 @@ ghost use Rattle.bincode_format.specs.Words.{list};
 ghost use Rattle.bincode_format.specs.Run.{IsListOf};
 ghost use Rattle.bincode_format.specs.Collections.{AreValid};
 ghost use Rattle.bincode_laws.specs.ListLaws.{list-lawful, list-balanced, list-has_word};
+ghost use Rattle.bincode_wire.specs.Memory.{Allocates};
 
 use crate::laws::{Canonical, Exact, Inhabited, Plain, Writable};
 use crate::wire::Wire;
 
 /// The items of a list, of which a container claims `SIZE` bytes. It stands in proofs alone: there it has any number of
-/// items.
+/// items. `ALLOCATES` says whether decoding takes memory for the list.
 #[derive(Drop, PartialEq)]
-pub struct Items<T, const SIZE: usize> {
+pub struct ListItems<T, const SIZE: usize, const ALLOCATES: bool> {
     pub items: [T; 0],
 }
 
-impl<T: Wire, const SIZE: usize> Wire for Items<T, SIZE> {
+/// The items of a list for which decoding takes memory.
+pub type Items<T, const SIZE: usize> = ListItems<T, SIZE, true>;
+
+impl<T: Wire, const SIZE: usize, const ALLOCATES: bool> Wire for ListItems<T, SIZE, ALLOCATES> {
     ghost its = { record {
       format = λ s. list s T.its.claim (T.its.format s);
       valid = λ v. AreValid T.its.valid v.items;
@@ -23,7 +27,7 @@ impl<T: Wire, const SIZE: usize> Wire for Items<T, SIZE> {
       given = λ m v. IsListOf (λ x n. T.its.given n x) v.items m;
       writable = λ s v. All (T.its.writable s) v.items;
       names = T.its.names;
-      grows = Unit {0};
+      grows = Allocates ALLOCATES;
       claim = SIZE;
       lawful = λ s. list-lawful s T.its.claim (T.its.format s) (T.its.lawful s);
       balanced = λ s. list-balanced s T.its.claim (T.its.format s) (T.its.balanced s);
@@ -37,29 +41,34 @@ impl<T: Wire, const SIZE: usize> Wire for Items<T, SIZE> {
     }
 }
 
-impl<T: Wire, const SIZE: usize> Inhabited for Items<T, SIZE> {
+impl<T: Wire, const SIZE: usize, const ALLOCATES: bool> Inhabited
+    for ListItems<T, SIZE, ALLOCATES> {
     fn tell_inhabited() {}
 }
 
-impl<T: Writable, const SIZE: usize> Writable for Items<T, SIZE> {
+impl<T: Writable, const SIZE: usize, const ALLOCATES: bool> Writable
+    for ListItems<T, SIZE, ALLOCATES> {
     fn tell_writable() {
         T::tell_writable();
     }
 }
 
-impl<T: Plain, const SIZE: usize> Plain for Items<T, SIZE> {
+impl<T: Plain, const SIZE: usize, const ALLOCATES: bool> Plain
+    for ListItems<T, SIZE, ALLOCATES> {
     fn tell_plain() {
         T::tell_plain();
     }
 }
 
-impl<T: Exact, const SIZE: usize> Exact for Items<T, SIZE> {
+impl<T: Exact, const SIZE: usize, const ALLOCATES: bool> Exact
+    for ListItems<T, SIZE, ALLOCATES> {
     fn tell_exact() {
         T::tell_exact();
     }
 }
 
-impl<T: Canonical, const SIZE: usize> Canonical for Items<T, SIZE> {
+impl<T: Canonical, const SIZE: usize, const ALLOCATES: bool> Canonical
+    for ListItems<T, SIZE, ALLOCATES> {
     fn tell_canonical() {
         T::tell_canonical();
     }

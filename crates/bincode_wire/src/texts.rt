@@ -4,17 +4,19 @@ ghost use Rattle.std.specs.Str.{IsUtf8};
 ghost use Rattle.bincode_format.specs.Meaning.{IsBytes};
 ghost use Rattle.bincode_format.specs.Words.{text};
 ghost use Rattle.bincode_laws.specs.TextLaws.{text-lawful, text-balanced, text-has_word};
+ghost use Rattle.bincode_wire.specs.Memory.{Allocates};
 
 use crate::laws::{Canonical, Exact, Inhabited, Plain, Writable};
 use crate::wire::Wire;
 
-/// What a text holds: bytes that are UTF-8. A container claims `SIZE` bytes for it. It stands in proofs alone.
+/// What a text holds: bytes that are UTF-8. A container claims `SIZE` bytes for it, and `ALLOCATES` says whether decoding
+/// takes memory for it. It stands in proofs alone.
 #[derive(Drop, PartialEq)]
-pub struct TextBytes<const SIZE: usize> {
+pub struct TextBytes<const SIZE: usize, const ALLOCATES: bool> {
     pub bytes: [u8; 0],
 }
 
-impl<const SIZE: usize> Wire for TextBytes<SIZE> {
+impl<const SIZE: usize, const ALLOCATES: bool> Wire for TextBytes<SIZE, ALLOCATES> {
     ghost its = { record {
       format = text;
       valid = λ v. IsUtf8 v.bytes × (length v.bytes < 2 ^ 64);
@@ -22,7 +24,7 @@ impl<const SIZE: usize> Wire for TextBytes<SIZE> {
       given = λ m v. IsBytes v.bytes m;
       writable = λ s v. Unit {0};
       names = λ e. ⊥;
-      grows = Unit {0};
+      grows = Allocates ALLOCATES;
       claim = SIZE;
       lawful = text-lawful;
       balanced = text-balanced;
@@ -35,22 +37,22 @@ impl<const SIZE: usize> Wire for TextBytes<SIZE> {
     }
 }
 
-impl<const SIZE: usize> Inhabited for TextBytes<SIZE> {
+impl<const SIZE: usize, const ALLOCATES: bool> Inhabited for TextBytes<SIZE, ALLOCATES> {
     fn tell_inhabited() {}
 }
 
-impl<const SIZE: usize> Writable for TextBytes<SIZE> {
+impl<const SIZE: usize, const ALLOCATES: bool> Writable for TextBytes<SIZE, ALLOCATES> {
     fn tell_writable() {}
 }
 
-impl<const SIZE: usize> Plain for TextBytes<SIZE> {
+impl<const SIZE: usize, const ALLOCATES: bool> Plain for TextBytes<SIZE, ALLOCATES> {
     fn tell_plain() {}
 }
 
-impl<const SIZE: usize> Exact for TextBytes<SIZE> {
+impl<const SIZE: usize, const ALLOCATES: bool> Exact for TextBytes<SIZE, ALLOCATES> {
     fn tell_exact() {}
 }
 
-impl<const SIZE: usize> Canonical for TextBytes<SIZE> {
+impl<const SIZE: usize, const ALLOCATES: bool> Canonical for TextBytes<SIZE, ALLOCATES> {
     fn tell_canonical() {}
 }

@@ -1,3 +1,4 @@
+mod Agree
 mod Counts
 mod Fits
 mod LengthReads

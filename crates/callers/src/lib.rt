@@ -1,6 +1,7 @@
 //! What a user writes beside types: callers that rest on the contracts of the two calls, and devices that may fail.
 #![tactic(auto)]
 
+pub mod borrowed;
 pub mod calls;
 pub mod cut;
 pub mod fixed;

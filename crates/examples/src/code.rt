@@ -1,6 +1,6 @@
 //! An enum with tags of its own.
 
-use bincode::de::{Decode, Decoder, Named};
+use bincode::de::{BorrowDecode, BorrowDecoder, BorrowedBytes, Decode, Decoder, Named};
 use bincode::enc::{Encode, Encoder, encode_variant};
 use bincode::error::{DecodeError, EncodeError};
 use bincode::laws::{Canonical, Exact, Plain, canonical_by_parts, exact_by_parts, plain_by_parts};
@@ -82,5 +82,13 @@ impl<Context: Drop> Decode<Context> for Code {
             Or::Other(Or::This(())) => Code::Late,
             Or::Other(Or::Other(Or::This(()))) => Code::Refused,
         })
+    }
+}
+
+impl<B: BorrowedBytes, Context: Drop> BorrowDecode<B, Context> for Code {
+    fn borrow_decode<D: BorrowDecoder<B, Context = Context>>(
+        decoder: &mut D,
+    ) -> Result<Code, DecodeError> {
+        Code::decode(decoder)
     }
 }

@@ -34,9 +34,9 @@ impl<'b> Wire for Framed<'b> {
     ghost its = { words_by ⟦<Parts<'b> as Wire>⟧.its ⟦<Framed<'b> as MadeOf<Parts<'b>>>⟧.parts };
 
     fn claim_size() -> usize
-        ensures { result ≡ 17 }
+        ensures { result ≡ ⟦<Parts<'b> as Wire>⟧.its.claim }
     {
-        17
+        Parts::claim_size()
     }
 }
 

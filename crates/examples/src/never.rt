@@ -1,6 +1,8 @@
 //! An enum without variants.
 
-use bincode::de::{Decode, Decoder, Named, decode_no_variants};
+use bincode::de::{
+    BorrowDecode, BorrowDecoder, BorrowedBytes, Decode, Decoder, Named, decode_no_variants,
+};
 use bincode::error::DecodeError;
 use bincode::short_text::TypeName;
 use bincode::{MadeOf, NoVariants, Wire};
@@ -34,5 +36,13 @@ impl Named for Never {
 impl<Context: Drop> Decode<Context> for Never {
     fn decode<D: Decoder<Context = Context>>(decoder: &mut D) -> Result<Never, DecodeError> {
         decode_no_variants::<Never, Never, D>(decoder)
+    }
+}
+
+impl<B: BorrowedBytes, Context: Drop> BorrowDecode<B, Context> for Never {
+    fn borrow_decode<D: BorrowDecoder<B, Context = Context>>(
+        decoder: &mut D,
+    ) -> Result<Never, DecodeError> {
+        Never::decode(decoder)
     }
 }

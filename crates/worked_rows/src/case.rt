@@ -13,6 +13,7 @@ pub enum Case {
     Varint(Number),
     Decode(Input),
     DecodeWithin(Limited),
+    Borrow(Borrowed),
 }
 
 /// A value that is written.
@@ -94,6 +95,15 @@ pub enum Limited {
     UnitsTo8(Decoding<usize, Limit<8>>),
 }
 
+/// An input whose texts are read as pieces of it.
+#[derive(Drop)]
+pub enum Borrowed {
+    /// As a list.
+    List(Lending),
+    /// As an array of three.
+    Three(Lending),
+}
+
 /// A value, and the word that it is written as under a setting.
 #[derive(Drop)]
 pub struct Encoding<T> {
@@ -125,6 +135,14 @@ pub struct Decoding<T, L> {
     pub limit: L,
     pub input: &'static [u8],
     pub answer: Answer<T>,
+}
+
+/// An input, the texts that it lends, each with the place where its bytes begin, and the length of their word.
+#[derive(Drop)]
+pub struct Lending {
+    pub input: &'static [u8],
+    pub texts: &'static [(&'static str, usize)],
+    pub length: usize,
 }
 
 /// What decoding answers.

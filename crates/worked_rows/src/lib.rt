@@ -1,8 +1,11 @@
-//! Worked rows of the format: of the formats that types name, and of the two calls, with the loop that runs them.
+//! Worked rows of the format: of the formats that types name, and of the calls that write and read, with the loop that
+//! runs them.
 #![tactic(auto)]
 
+mod borrow;
 pub mod case;
 pub mod claims;
 pub mod formats;
+mod more;
 pub mod rows;
 pub mod run;

@@ -2,8 +2,8 @@
 ghost use Rattle.std.specs.Prelude.{◌≤◌, length, IfOk};
 
 use crate::case::{
-    Answer, Case, Decoding, Encoding, Fault, Input, Kept, Limited, Number, Refusal, Setting,
-    Spelling, Value,
+    Answer, Borrowed, Case, Decoding, Encoding, Fault, Input, Kept, Lending, Limited, Number,
+    Refusal, Setting, Spelling, Value,
 };
 use crate::run::holds;
 use bincode::config::{Endianness, Limit, NoLimit};
@@ -12,6 +12,8 @@ use std::alloc::Global;
 use std::io;
 use std::io::Write;
 use std::ops::Bound;
+
+pub use crate::more::more_cases;
 
 /// A case with its label.
 #[derive(Drop)]
@@ -25,7 +27,7 @@ pub fn table() -> &'static [Row] {
     &TABLE
 }
 
-static TABLE: [Row; 58] = [
+static TABLE: [Row; 60] = [
     Row {
         label: "1",
         case: Case::Keep(Kept::Five(Encoding {
@@ -435,6 +437,22 @@ static TABLE: [Row; 58] = [
         })),
     },
     Row {
+        label: "15a",
+        case: Case::Borrow(Borrowed::List(Lending {
+            input: &[3, 3, 97, 98, 99, 3, 100, 101, 102, 3, 103, 104, 105],
+            texts: &[("abc", 2), ("def", 6), ("ghi", 10)],
+            length: 13,
+        })),
+    },
+    Row {
+        label: "15b",
+        case: Case::Borrow(Borrowed::Three(Lending {
+            input: &[3, 97, 98, 99, 3, 100, 101, 102, 3, 103, 104, 105],
+            texts: &[("abc", 1), ("def", 5), ("ghi", 9)],
+            length: 12,
+        })),
+    },
+    Row {
         label: "16a",
         case: Case::Encode(Value::Pair(Encoding {
             setting: Setting::Standard,
@@ -552,149 +570,6 @@ static TABLE: [Row; 58] = [
             limit: NoLimit,
             input: &[3],
             answer: Answer::Fault(Fault::UnexpectedVariant { found: 3, max: 2 }),
-        })),
-    },
-];
-
-/// Cases that the program leaves out: signed numbers of one byte, and words of each kind with other bytes behind them.
-pub fn more_cases() -> &'static [Row] {
-    &MORE
-}
-
-static MORE: [Row; 15] = [
-    Row {
-        label: "i16 of 1",
-        case: Case::Decode(Input::I16(Decoding {
-            setting: Setting::Standard,
-            limit: NoLimit,
-            input: &[1],
-            answer: Answer::Value(-1, 1),
-        })),
-    },
-    Row {
-        label: "i16 of 3",
-        case: Case::Decode(Input::I16(Decoding {
-            setting: Setting::Standard,
-            limit: NoLimit,
-            input: &[3],
-            answer: Answer::Value(-2, 1),
-        })),
-    },
-    Row {
-        label: "u16 and more",
-        case: Case::Decode(Input::U16(Decoding {
-            setting: Setting::Standard,
-            limit: NoLimit,
-            input: &[251, 0, 10, 99, 99],
-            answer: Answer::Value(2560, 3),
-        })),
-    },
-    Row {
-        label: "u64 and more",
-        case: Case::Decode(Input::U64(Decoding {
-            setting: Setting::Standard,
-            limit: NoLimit,
-            input: &[253, 0, 0, 0, 0, 0, 0, 0, 10, 99],
-            answer: Answer::Value(720_575_940_379_279_360, 9),
-        })),
-    },
-    Row {
-        label: "u128 and more",
-        case: Case::Decode(Input::U128(Decoding {
-            setting: Setting::Standard,
-            limit: NoLimit,
-            input: &[7, 99],
-            answer: Answer::Value(7, 1),
-        })),
-    },
-    Row {
-        label: "i16 and more",
-        case: Case::Decode(Input::I16(Decoding {
-            setting: Setting::Standard,
-            limit: NoLimit,
-            input: &[3, 99],
-            answer: Answer::Value(-2, 1),
-        })),
-    },
-    Row {
-        label: "isize and more",
-        case: Case::Decode(Input::Isize(Decoding {
-            setting: Setting::Standard,
-            limit: NoLimit,
-            input: &[1, 99],
-            answer: Answer::Value(-1, 1),
-        })),
-    },
-    Row {
-        label: "nonzero and more",
-        case: Case::Decode(Input::NonZeroU16(Decoding {
-            setting: Setting::Standard,
-            limit: NoLimit,
-            input: &[5, 99],
-            answer: Answer::Value(5, 1),
-        })),
-    },
-    Row {
-        label: "bool and more",
-        case: Case::Decode(Input::Bool(Decoding {
-            setting: Setting::Standard,
-            limit: NoLimit,
-            input: &[1, 99],
-            answer: Answer::Value(true, 1),
-        })),
-    },
-    Row {
-        label: "char and more",
-        case: Case::Decode(Input::Char(Decoding {
-            setting: Setting::Standard,
-            limit: NoLimit,
-            input: &[226, 130, 172, 99],
-            answer: Answer::Value('€', 3),
-        })),
-    },
-    Row {
-        label: "option and more",
-        case: Case::Decode(Input::Option(Decoding {
-            setting: Setting::Standard,
-            limit: NoLimit,
-            input: &[1, 7, 99],
-            answer: Answer::Value(Some(7), 2),
-        })),
-    },
-    Row {
-        label: "bound and more",
-        case: Case::Decode(Input::Bound(Decoding {
-            setting: Setting::Standard,
-            limit: NoLimit,
-            input: &[2, 7, 99],
-            answer: Answer::Value(Bound::Excluded(7), 2),
-        })),
-    },
-    Row {
-        label: "span and more",
-        case: Case::Decode(Input::Duration(Decoding {
-            setting: Setting::Standard,
-            limit: NoLimit,
-            input: &[1, 2, 99],
-            answer: Answer::Value((1, 2), 2),
-        })),
-    },
-    Row {
-        label: "text and more",
-        case: Case::Decode(Input::Text(Decoding {
-            setting: Setting::Standard,
-            limit: NoLimit,
-            input: &[2, 97, 98, 99],
-            answer: Answer::Value("ab", 3),
-        })),
-    },
-    Row {
-        label: "map and more",
-        case: Case::Decode(Input::Map(Decoding {
-            setting: Setting::Standard,
-            limit: NoLimit,
-            input: &[1, 5, 6, 99],
-            answer: Answer::Value(&[(5, 6)], 3),
         })),
     },
 ];

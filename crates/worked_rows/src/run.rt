@@ -1,5 +1,6 @@
 //! How each kind of case is run.
 
+use crate::borrow::borrows;
 use crate::case::{
     Answer, Case, Decoding, Encoding, Fault, Input, Kept, Limited, Number, Refusal, Setting,
     Spelling, Value,
@@ -29,6 +30,7 @@ pub fn holds(alloc: Global, case: &Case) -> Result<bool, AllocError> {
         Case::Varint(number) => spells_number(alloc, number),
         Case::Decode(input) => decodes_input(alloc, input),
         Case::DecodeWithin(limited) => decodes_within(alloc, limited),
+        Case::Borrow(borrowed) => Ok(borrows(alloc, borrowed)),
     }
 }
 

@@ -1,8 +1,9 @@
 //! Decoding of arrays.
+use crate::borrow_decode::BorrowDecode;
 use crate::decode::Decode;
-use crate::runs::ByDecode;
+use crate::ways::{ByBorrowDecode, ByDecode};
 use bincode_base::error::DecodeError;
-use bincode_decoder::decoder::{ClaimContainer, Decoder};
+use bincode_decoder::decoder::{BorrowDecoder, BorrowedBytes, ClaimContainer, Decoder};
 use bincode_values::arrays::decode_array;
 use bincode_values::values::ArrayOf;
 
@@ -10,12 +11,22 @@ impl<Context: Drop, T: Decode<Context>, const N: usize> Decode<Context> for [T; 
     fn decode<D: Decoder<Context = Context>>(decoder: &mut D) -> Result<[T; N], DecodeError> {
         decoder.claim_container_read::<T>(N)?;
         // Not by `runs::decode_array`: each call that hands on a whole array copies it.
-        decode_array::<Context, ByDecode<T>, D, N>(decoder)
+        decode_array::<D, ByDecode<T>, N>(decoder)
     }
 
     // Written out, since the provided one isn't proved for arrays of any size.
     #[inline(always)]
     fn blank_array<A: ArrayOf<Self>>() -> Option<A> {
         None
+    }
+}
+
+impl<B: BorrowedBytes, Context: Drop, T: BorrowDecode<B, Context>, const N: usize>
+    BorrowDecode<B, Context> for [T; N] {
+    fn borrow_decode<D: BorrowDecoder<B, Context = Context>>(
+        decoder: &mut D,
+    ) -> Result<[T; N], DecodeError> {
+        decoder.claim_container_read::<T>(N)?;
+        decode_array::<D, ByBorrowDecode<B, T>, N>(decoder)
     }
 }

@@ -1,9 +1,10 @@
 //! Decoding of characters.
 
+use crate::borrow_decode::BorrowDecode;
 use crate::decode::Decode;
 use bincode_base::error::DecodeError;
 use bincode_decoder::chars::decode_rest_of_char;
-use bincode_decoder::decoder::Decoder;
+use bincode_decoder::decoder::{BorrowDecoder, BorrowedBytes, Decoder};
 use bincode_decoder::integers::read_byte_from;
 use bincode_values::values::ArrayOf;
 use bincode_wire::chars::width_of_char;
@@ -21,5 +22,14 @@ impl<Context: Drop> Decode<Context> for char {
     #[inline(always)]
     fn blank_array<A: ArrayOf<Self>>() -> Option<A> {
         Some(A::of_defaults())
+    }
+}
+
+impl<B: BorrowedBytes, Context: Drop> BorrowDecode<B, Context> for char {
+    #[inline(always)]
+    fn borrow_decode<D: BorrowDecoder<B, Context = Context>>(
+        decoder: &mut D,
+    ) -> Result<char, DecodeError> {
+        char::decode(decoder)
     }
 }

@@ -1,9 +1,10 @@
 //! Decoding of truth values, `Option`, `Result` and `Bound`.
 
+use crate::borrow_decode::BorrowDecode;
 use crate::decode::Decode;
 use crate::from_parts::FromParts;
 use bincode_base::error::DecodeError;
-use bincode_decoder::decoder::Decoder;
+use bincode_decoder::decoder::{BorrowDecoder, BorrowedBytes, Decoder};
 use bincode_decoder::truth::decode_truth;
 use bincode_values::values::ArrayOf;
 use bincode_wire::sums::Or;
@@ -19,6 +20,15 @@ impl<Context: Drop> Decode<Context> for bool {
     #[inline(always)]
     fn blank_array<A: ArrayOf<Self>>() -> Option<A> {
         Some(A::of_defaults())
+    }
+}
+
+impl<B: BorrowedBytes, Context: Drop> BorrowDecode<B, Context> for bool {
+    #[inline]
+    fn borrow_decode<D: BorrowDecoder<B, Context = Context>>(
+        decoder: &mut D,
+    ) -> Result<bool, DecodeError> {
+        bool::decode(decoder)
     }
 }
 

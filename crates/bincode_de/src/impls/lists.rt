@@ -1,9 +1,13 @@
 //! Decoding of lists, and of heaps.
+use crate::borrow_decode::BorrowDecode;
 use crate::decode::Decode;
-use crate::runs::ByDecode;
+use crate::ways::{ByBorrowDecode, ByDecode};
 use bincode_base::error::DecodeError;
-use bincode_decoder::decoder::Decoder;
-use bincode_values::lists::{decode_heap, decode_list};
+use bincode_decoder::decoder::{BorrowDecoder, BorrowedBytes, Decoder};
+use bincode_values::borrow::take_list;
+use bincode_values::lists::{
+    decode_boxed_slice, decode_heap, decode_list, decode_queue, decode_rc_slice,
+};
 use std::borrow::CowSlice;
 use std::boxed::BoxedSlice;
 use std::collections::{BinaryHeap, VecDeque};
@@ -12,15 +16,34 @@ use std::rc::RcSlice;
 impl<Context: Drop, T: Decode<Context>> Decode<Context> for Vec<T> {
     #[inline]
     fn decode<D: Decoder<Context = Context>>(decoder: &mut D) -> Result<Vec<T>, DecodeError> {
-        decode_list::<Context, ByDecode<T>, D>(decoder)
+        decode_list::<D, ByDecode<T>>(decoder)
+    }
+}
+
+impl<B: BorrowedBytes, Context: Drop, T: BorrowDecode<B, Context>> BorrowDecode<B, Context>
+    for Vec<T> {
+    #[inline]
+    fn borrow_decode<D: BorrowDecoder<B, Context = Context>>(
+        decoder: &mut D,
+    ) -> Result<Vec<T>, DecodeError> {
+        decode_list::<D, ByBorrowDecode<B, T>>(decoder)
     }
 }
 
 impl<Context: Drop, T: Decode<Context>> Decode<Context> for VecDeque<T> {
     #[inline]
     fn decode<D: Decoder<Context = Context>>(decoder: &mut D) -> Result<VecDeque<T>, DecodeError> {
-        let list = decode_list::<Context, ByDecode<T>, D>(decoder)?;
-        Ok(VecDeque::from(list))
+        decode_queue::<D, ByDecode<T>>(decoder)
+    }
+}
+
+impl<B: BorrowedBytes, Context: Drop, T: BorrowDecode<B, Context>> BorrowDecode<B, Context>
+    for VecDeque<T> {
+    #[inline]
+    fn borrow_decode<D: BorrowDecoder<B, Context = Context>>(
+        decoder: &mut D,
+    ) -> Result<VecDeque<T>, DecodeError> {
+        decode_queue::<D, ByBorrowDecode<B, T>>(decoder)
     }
 }
 
@@ -29,7 +52,17 @@ impl<Context: Drop, T: Decode<Context> + Ord> Decode<Context> for BinaryHeap<T> 
     fn decode<D: Decoder<Context = Context>>(
         decoder: &mut D,
     ) -> Result<BinaryHeap<T>, DecodeError> {
-        decode_heap::<Context, ByDecode<T>, D>(decoder)
+        decode_heap::<D, ByDecode<T>>(decoder)
+    }
+}
+
+impl<B: BorrowedBytes, Context: Drop, T: BorrowDecode<B, Context> + Ord> BorrowDecode<B, Context>
+    for BinaryHeap<T> {
+    #[inline]
+    fn borrow_decode<D: BorrowDecoder<B, Context = Context>>(
+        decoder: &mut D,
+    ) -> Result<BinaryHeap<T>, DecodeError> {
+        decode_heap::<D, ByBorrowDecode<B, T>>(decoder)
     }
 }
 
@@ -38,19 +71,34 @@ impl<Context: Drop, T: Decode<Context>> Decode<Context> for BoxedSlice<T> {
     fn decode<D: Decoder<Context = Context>>(
         decoder: &mut D,
     ) -> Result<BoxedSlice<T>, DecodeError> {
-        let list = decode_list::<Context, ByDecode<T>, D>(decoder)?;
-        Ok(list.into_boxed_slice())
+        decode_boxed_slice::<D, ByDecode<T>>(decoder)
+    }
+}
+
+impl<B: BorrowedBytes, Context: Drop, T: BorrowDecode<B, Context>> BorrowDecode<B, Context>
+    for BoxedSlice<T> {
+    #[inline]
+    fn borrow_decode<D: BorrowDecoder<B, Context = Context>>(
+        decoder: &mut D,
+    ) -> Result<BoxedSlice<T>, DecodeError> {
+        decode_boxed_slice::<D, ByBorrowDecode<B, T>>(decoder)
     }
 }
 
 impl<Context: Drop, T: Decode<Context>> Decode<Context> for RcSlice<T> {
     #[inline]
     fn decode<D: Decoder<Context = Context>>(decoder: &mut D) -> Result<RcSlice<T>, DecodeError> {
-        let list = decode_list::<Context, ByDecode<T>, D>(decoder)?;
-        let Ok(shared) = RcSlice::from_vec(list) else {
-            return Err(DecodeError::Memory);
-        };
-        Ok(shared)
+        decode_rc_slice::<D, ByDecode<T>>(decoder)
+    }
+}
+
+impl<B: BorrowedBytes, Context: Drop, T: BorrowDecode<B, Context>> BorrowDecode<B, Context>
+    for RcSlice<T> {
+    #[inline]
+    fn borrow_decode<D: BorrowDecoder<B, Context = Context>>(
+        decoder: &mut D,
+    ) -> Result<RcSlice<T>, DecodeError> {
+        decode_rc_slice::<D, ByBorrowDecode<B, T>>(decoder)
     }
 }
 
@@ -59,7 +107,26 @@ impl<'a, Context: Drop, T: Decode<Context> + 'a> Decode<Context> for CowSlice<'a
     fn decode<D: Decoder<Context = Context>>(
         decoder: &mut D,
     ) -> Result<CowSlice<'a, T>, DecodeError> {
-        let list = decode_list::<Context, ByDecode<T>, D>(decoder)?;
+        let list = decode_list::<D, ByDecode<T>>(decoder)?;
         Ok(CowSlice::Owned(list))
+    }
+}
+
+impl<'de, Context: Drop> BorrowDecode<&'de [u8], Context> for &'de [u8] {
+    #[inline]
+    fn borrow_decode<D: BorrowDecoder<&'de [u8], Context = Context>>(
+        decoder: &mut D,
+    ) -> Result<&'de [u8], DecodeError> {
+        take_list(decoder)
+    }
+}
+
+impl<'de, Context: Drop> BorrowDecode<&'de [u8], Context> for CowSlice<'de, u8> {
+    #[inline]
+    fn borrow_decode<D: BorrowDecoder<&'de [u8], Context = Context>>(
+        decoder: &mut D,
+    ) -> Result<CowSlice<'de, u8>, DecodeError> {
+        let list = take_list(decoder)?;
+        Ok(CowSlice::Borrowed(list))
     }
 }

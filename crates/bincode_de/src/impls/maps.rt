@@ -1,8 +1,9 @@
 //! Decoding of ordered sets and maps.
+use crate::borrow_decode::BorrowDecode;
 use crate::decode::Decode;
-use crate::runs::ByDecode;
+use crate::ways::{ByBorrowDecode, ByDecode};
 use bincode_base::error::DecodeError;
-use bincode_decoder::decoder::Decoder;
+use bincode_decoder::decoder::{BorrowDecoder, BorrowedBytes, Decoder};
 use bincode_values::ordered::{decode_map, decode_set};
 use bincode_values::values::ArrayOf;
 use std::collections::{BTreeMap, BTreeSet};
@@ -10,7 +11,17 @@ use std::collections::{BTreeMap, BTreeSet};
 impl<Context: Drop, K: Decode<Context> + Ord> Decode<Context> for BTreeSet<K> {
     #[inline]
     fn decode<D: Decoder<Context = Context>>(decoder: &mut D) -> Result<BTreeSet<K>, DecodeError> {
-        decode_set::<Context, ByDecode<K>, D>(decoder)
+        decode_set::<D, ByDecode<K>>(decoder)
+    }
+}
+
+impl<B: BorrowedBytes, Context: Drop, K: BorrowDecode<B, Context> + Ord> BorrowDecode<B, Context>
+    for BTreeSet<K> {
+    #[inline]
+    fn borrow_decode<D: BorrowDecoder<B, Context = Context>>(
+        decoder: &mut D,
+    ) -> Result<BTreeSet<K>, DecodeError> {
+        decode_set::<D, ByBorrowDecode<B, K>>(decoder)
     }
 }
 
@@ -20,7 +31,7 @@ impl<Context: Drop, K: Decode<Context> + Ord, V: Decode<Context>> Decode<Context
     fn decode<D: Decoder<Context = Context>>(
         decoder: &mut D,
     ) -> Result<BTreeMap<K, V>, DecodeError> {
-        decode_map::<Context, K, V, ByDecode<(K, V)>, D>(decoder)
+        decode_map::<D, K, V, ByDecode<(K, V)>>(decoder)
     }
 
     // Written out, since the provided ones aren't proved for entries of any size.
@@ -37,5 +48,19 @@ impl<Context: Drop, K: Decode<Context> + Ord, V: Decode<Context>> Decode<Context
         let _ = &*decoder;
         let _ = &*values;
         None
+    }
+}
+
+impl<
+    B: BorrowedBytes,
+    Context: Drop,
+    K: BorrowDecode<B, Context> + Ord,
+    V: BorrowDecode<B, Context>,
+> BorrowDecode<B, Context> for BTreeMap<K, V> {
+    #[inline]
+    fn borrow_decode<D: BorrowDecoder<B, Context = Context>>(
+        decoder: &mut D,
+    ) -> Result<BTreeMap<K, V>, DecodeError> {
+        decode_map::<D, K, V, ByBorrowDecode<B, (K, V)>>(decoder)
     }
 }

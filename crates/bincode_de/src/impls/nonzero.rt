@@ -1,8 +1,9 @@
 //! Decoding of integers other than 0.
 
+use crate::borrow_decode::BorrowDecode;
 use crate::decode::Decode;
 use bincode_base::error::{DecodeError, IntegerType};
-use bincode_decoder::decoder::Decoder;
+use bincode_decoder::decoder::{BorrowDecoder, BorrowedBytes, Decoder};
 use bincode_decoder::integers::not_zero;
 use std::num::{
     NonZeroI8, NonZeroI16, NonZeroI32, NonZeroI64, NonZeroI128, NonZeroIsize, NonZeroU8,
@@ -17,11 +18,29 @@ impl<Context: Drop> Decode<Context> for NonZeroU8 {
     }
 }
 
+impl<B: BorrowedBytes, Context: Drop> BorrowDecode<B, Context> for NonZeroU8 {
+    #[inline]
+    fn borrow_decode<D: BorrowDecoder<B, Context = Context>>(
+        decoder: &mut D,
+    ) -> Result<NonZeroU8, DecodeError> {
+        NonZeroU8::decode(decoder)
+    }
+}
+
 impl<Context: Drop> Decode<Context> for NonZeroU16 {
     #[inline]
     fn decode<D: Decoder<Context = Context>>(decoder: &mut D) -> Result<NonZeroU16, DecodeError> {
         let n = u16::decode(decoder)?;
         not_zero(NonZeroU16::new(n), IntegerType::U16)
+    }
+}
+
+impl<B: BorrowedBytes, Context: Drop> BorrowDecode<B, Context> for NonZeroU16 {
+    #[inline]
+    fn borrow_decode<D: BorrowDecoder<B, Context = Context>>(
+        decoder: &mut D,
+    ) -> Result<NonZeroU16, DecodeError> {
+        NonZeroU16::decode(decoder)
     }
 }
 
@@ -33,11 +52,29 @@ impl<Context: Drop> Decode<Context> for NonZeroU32 {
     }
 }
 
+impl<B: BorrowedBytes, Context: Drop> BorrowDecode<B, Context> for NonZeroU32 {
+    #[inline]
+    fn borrow_decode<D: BorrowDecoder<B, Context = Context>>(
+        decoder: &mut D,
+    ) -> Result<NonZeroU32, DecodeError> {
+        NonZeroU32::decode(decoder)
+    }
+}
+
 impl<Context: Drop> Decode<Context> for NonZeroU64 {
     #[inline]
     fn decode<D: Decoder<Context = Context>>(decoder: &mut D) -> Result<NonZeroU64, DecodeError> {
         let n = u64::decode(decoder)?;
         not_zero(NonZeroU64::new(n), IntegerType::U64)
+    }
+}
+
+impl<B: BorrowedBytes, Context: Drop> BorrowDecode<B, Context> for NonZeroU64 {
+    #[inline]
+    fn borrow_decode<D: BorrowDecoder<B, Context = Context>>(
+        decoder: &mut D,
+    ) -> Result<NonZeroU64, DecodeError> {
+        NonZeroU64::decode(decoder)
     }
 }
 
@@ -49,11 +86,29 @@ impl<Context: Drop> Decode<Context> for NonZeroU128 {
     }
 }
 
+impl<B: BorrowedBytes, Context: Drop> BorrowDecode<B, Context> for NonZeroU128 {
+    #[inline]
+    fn borrow_decode<D: BorrowDecoder<B, Context = Context>>(
+        decoder: &mut D,
+    ) -> Result<NonZeroU128, DecodeError> {
+        NonZeroU128::decode(decoder)
+    }
+}
+
 impl<Context: Drop> Decode<Context> for NonZeroUsize {
     #[inline]
     fn decode<D: Decoder<Context = Context>>(decoder: &mut D) -> Result<NonZeroUsize, DecodeError> {
         let n = usize::decode(decoder)?;
         not_zero(NonZeroUsize::new(n), IntegerType::Usize)
+    }
+}
+
+impl<B: BorrowedBytes, Context: Drop> BorrowDecode<B, Context> for NonZeroUsize {
+    #[inline]
+    fn borrow_decode<D: BorrowDecoder<B, Context = Context>>(
+        decoder: &mut D,
+    ) -> Result<NonZeroUsize, DecodeError> {
+        NonZeroUsize::decode(decoder)
     }
 }
 
@@ -65,11 +120,29 @@ impl<Context: Drop> Decode<Context> for NonZeroI8 {
     }
 }
 
+impl<B: BorrowedBytes, Context: Drop> BorrowDecode<B, Context> for NonZeroI8 {
+    #[inline]
+    fn borrow_decode<D: BorrowDecoder<B, Context = Context>>(
+        decoder: &mut D,
+    ) -> Result<NonZeroI8, DecodeError> {
+        NonZeroI8::decode(decoder)
+    }
+}
+
 impl<Context: Drop> Decode<Context> for NonZeroI16 {
     #[inline]
     fn decode<D: Decoder<Context = Context>>(decoder: &mut D) -> Result<NonZeroI16, DecodeError> {
         let n = i16::decode(decoder)?;
         not_zero(NonZeroI16::new(n), IntegerType::I16)
+    }
+}
+
+impl<B: BorrowedBytes, Context: Drop> BorrowDecode<B, Context> for NonZeroI16 {
+    #[inline]
+    fn borrow_decode<D: BorrowDecoder<B, Context = Context>>(
+        decoder: &mut D,
+    ) -> Result<NonZeroI16, DecodeError> {
+        NonZeroI16::decode(decoder)
     }
 }
 
@@ -81,11 +154,29 @@ impl<Context: Drop> Decode<Context> for NonZeroI32 {
     }
 }
 
+impl<B: BorrowedBytes, Context: Drop> BorrowDecode<B, Context> for NonZeroI32 {
+    #[inline]
+    fn borrow_decode<D: BorrowDecoder<B, Context = Context>>(
+        decoder: &mut D,
+    ) -> Result<NonZeroI32, DecodeError> {
+        NonZeroI32::decode(decoder)
+    }
+}
+
 impl<Context: Drop> Decode<Context> for NonZeroI64 {
     #[inline]
     fn decode<D: Decoder<Context = Context>>(decoder: &mut D) -> Result<NonZeroI64, DecodeError> {
         let n = i64::decode(decoder)?;
         not_zero(NonZeroI64::new(n), IntegerType::I64)
+    }
+}
+
+impl<B: BorrowedBytes, Context: Drop> BorrowDecode<B, Context> for NonZeroI64 {
+    #[inline]
+    fn borrow_decode<D: BorrowDecoder<B, Context = Context>>(
+        decoder: &mut D,
+    ) -> Result<NonZeroI64, DecodeError> {
+        NonZeroI64::decode(decoder)
     }
 }
 
@@ -97,10 +188,28 @@ impl<Context: Drop> Decode<Context> for NonZeroI128 {
     }
 }
 
+impl<B: BorrowedBytes, Context: Drop> BorrowDecode<B, Context> for NonZeroI128 {
+    #[inline]
+    fn borrow_decode<D: BorrowDecoder<B, Context = Context>>(
+        decoder: &mut D,
+    ) -> Result<NonZeroI128, DecodeError> {
+        NonZeroI128::decode(decoder)
+    }
+}
+
 impl<Context: Drop> Decode<Context> for NonZeroIsize {
     #[inline]
     fn decode<D: Decoder<Context = Context>>(decoder: &mut D) -> Result<NonZeroIsize, DecodeError> {
         let n = isize::decode(decoder)?;
         not_zero(NonZeroIsize::new(n), IntegerType::Isize)
+    }
+}
+
+impl<B: BorrowedBytes, Context: Drop> BorrowDecode<B, Context> for NonZeroIsize {
+    #[inline]
+    fn borrow_decode<D: BorrowDecoder<B, Context = Context>>(
+        decoder: &mut D,
+    ) -> Result<NonZeroIsize, DecodeError> {
+        NonZeroIsize::decode(decoder)
     }
 }

@@ -1,9 +1,10 @@
 //! Decoding of integers.
 
+use crate::borrow_decode::BorrowDecode;
 use crate::decode::Decode;
 use bincode_base::error::DecodeError;
 use bincode_decoder::bytes::decode_bytes;
-use bincode_decoder::decoder::Decoder;
+use bincode_decoder::decoder::{BorrowDecoder, BorrowedBytes, Decoder};
 use bincode_decoder::integers::{decode_byte, decode_integer, decode_signed_byte};
 use bincode_values::values::ArrayOf;
 
@@ -27,6 +28,15 @@ impl<Context: Drop> Decode<Context> for u8 {
     }
 }
 
+impl<B: BorrowedBytes, Context: Drop> BorrowDecode<B, Context> for u8 {
+    #[inline(always)]
+    fn borrow_decode<D: BorrowDecoder<B, Context = Context>>(
+        decoder: &mut D,
+    ) -> Result<u8, DecodeError> {
+        u8::decode(decoder)
+    }
+}
+
 impl<Context: Drop> Decode<Context> for u16 {
     #[inline(always)]
     fn decode<D: Decoder<Context = Context>>(decoder: &mut D) -> Result<u16, DecodeError> {
@@ -36,6 +46,15 @@ impl<Context: Drop> Decode<Context> for u16 {
     #[inline(always)]
     fn blank_array<A: ArrayOf<Self>>() -> Option<A> {
         Some(A::of_defaults())
+    }
+}
+
+impl<B: BorrowedBytes, Context: Drop> BorrowDecode<B, Context> for u16 {
+    #[inline(always)]
+    fn borrow_decode<D: BorrowDecoder<B, Context = Context>>(
+        decoder: &mut D,
+    ) -> Result<u16, DecodeError> {
+        u16::decode(decoder)
     }
 }
 
@@ -51,6 +70,15 @@ impl<Context: Drop> Decode<Context> for u32 {
     }
 }
 
+impl<B: BorrowedBytes, Context: Drop> BorrowDecode<B, Context> for u32 {
+    #[inline(always)]
+    fn borrow_decode<D: BorrowDecoder<B, Context = Context>>(
+        decoder: &mut D,
+    ) -> Result<u32, DecodeError> {
+        u32::decode(decoder)
+    }
+}
+
 impl<Context: Drop> Decode<Context> for u64 {
     #[inline(always)]
     fn decode<D: Decoder<Context = Context>>(decoder: &mut D) -> Result<u64, DecodeError> {
@@ -60,6 +88,15 @@ impl<Context: Drop> Decode<Context> for u64 {
     #[inline(always)]
     fn blank_array<A: ArrayOf<Self>>() -> Option<A> {
         Some(A::of_defaults())
+    }
+}
+
+impl<B: BorrowedBytes, Context: Drop> BorrowDecode<B, Context> for u64 {
+    #[inline(always)]
+    fn borrow_decode<D: BorrowDecoder<B, Context = Context>>(
+        decoder: &mut D,
+    ) -> Result<u64, DecodeError> {
+        u64::decode(decoder)
     }
 }
 
@@ -75,6 +112,15 @@ impl<Context: Drop> Decode<Context> for u128 {
     }
 }
 
+impl<B: BorrowedBytes, Context: Drop> BorrowDecode<B, Context> for u128 {
+    #[inline(always)]
+    fn borrow_decode<D: BorrowDecoder<B, Context = Context>>(
+        decoder: &mut D,
+    ) -> Result<u128, DecodeError> {
+        u128::decode(decoder)
+    }
+}
+
 impl<Context: Drop> Decode<Context> for usize {
     #[inline(always)]
     fn decode<D: Decoder<Context = Context>>(decoder: &mut D) -> Result<usize, DecodeError> {
@@ -84,6 +130,15 @@ impl<Context: Drop> Decode<Context> for usize {
     #[inline(always)]
     fn blank_array<A: ArrayOf<Self>>() -> Option<A> {
         Some(A::of_defaults())
+    }
+}
+
+impl<B: BorrowedBytes, Context: Drop> BorrowDecode<B, Context> for usize {
+    #[inline(always)]
+    fn borrow_decode<D: BorrowDecoder<B, Context = Context>>(
+        decoder: &mut D,
+    ) -> Result<usize, DecodeError> {
+        usize::decode(decoder)
     }
 }
 
@@ -99,6 +154,15 @@ impl<Context: Drop> Decode<Context> for i8 {
     }
 }
 
+impl<B: BorrowedBytes, Context: Drop> BorrowDecode<B, Context> for i8 {
+    #[inline(always)]
+    fn borrow_decode<D: BorrowDecoder<B, Context = Context>>(
+        decoder: &mut D,
+    ) -> Result<i8, DecodeError> {
+        i8::decode(decoder)
+    }
+}
+
 impl<Context: Drop> Decode<Context> for i16 {
     #[inline(always)]
     fn decode<D: Decoder<Context = Context>>(decoder: &mut D) -> Result<i16, DecodeError> {
@@ -108,6 +172,15 @@ impl<Context: Drop> Decode<Context> for i16 {
     #[inline(always)]
     fn blank_array<A: ArrayOf<Self>>() -> Option<A> {
         Some(A::of_defaults())
+    }
+}
+
+impl<B: BorrowedBytes, Context: Drop> BorrowDecode<B, Context> for i16 {
+    #[inline(always)]
+    fn borrow_decode<D: BorrowDecoder<B, Context = Context>>(
+        decoder: &mut D,
+    ) -> Result<i16, DecodeError> {
+        i16::decode(decoder)
     }
 }
 
@@ -123,6 +196,15 @@ impl<Context: Drop> Decode<Context> for i32 {
     }
 }
 
+impl<B: BorrowedBytes, Context: Drop> BorrowDecode<B, Context> for i32 {
+    #[inline(always)]
+    fn borrow_decode<D: BorrowDecoder<B, Context = Context>>(
+        decoder: &mut D,
+    ) -> Result<i32, DecodeError> {
+        i32::decode(decoder)
+    }
+}
+
 impl<Context: Drop> Decode<Context> for i64 {
     #[inline(always)]
     fn decode<D: Decoder<Context = Context>>(decoder: &mut D) -> Result<i64, DecodeError> {
@@ -132,6 +214,15 @@ impl<Context: Drop> Decode<Context> for i64 {
     #[inline(always)]
     fn blank_array<A: ArrayOf<Self>>() -> Option<A> {
         Some(A::of_defaults())
+    }
+}
+
+impl<B: BorrowedBytes, Context: Drop> BorrowDecode<B, Context> for i64 {
+    #[inline(always)]
+    fn borrow_decode<D: BorrowDecoder<B, Context = Context>>(
+        decoder: &mut D,
+    ) -> Result<i64, DecodeError> {
+        i64::decode(decoder)
     }
 }
 
@@ -147,6 +238,15 @@ impl<Context: Drop> Decode<Context> for i128 {
     }
 }
 
+impl<B: BorrowedBytes, Context: Drop> BorrowDecode<B, Context> for i128 {
+    #[inline(always)]
+    fn borrow_decode<D: BorrowDecoder<B, Context = Context>>(
+        decoder: &mut D,
+    ) -> Result<i128, DecodeError> {
+        i128::decode(decoder)
+    }
+}
+
 impl<Context: Drop> Decode<Context> for isize {
     #[inline(always)]
     fn decode<D: Decoder<Context = Context>>(decoder: &mut D) -> Result<isize, DecodeError> {
@@ -156,5 +256,14 @@ impl<Context: Drop> Decode<Context> for isize {
     #[inline(always)]
     fn blank_array<A: ArrayOf<Self>>() -> Option<A> {
         Some(A::of_defaults())
+    }
+}
+
+impl<B: BorrowedBytes, Context: Drop> BorrowDecode<B, Context> for isize {
+    #[inline(always)]
+    fn borrow_decode<D: BorrowDecoder<B, Context = Context>>(
+        decoder: &mut D,
+    ) -> Result<isize, DecodeError> {
+        isize::decode(decoder)
     }
 }

@@ -1,8 +1,11 @@
 //! Decoding of pointers, each of which takes memory for what it points to.
+use crate::borrow_decode::BorrowDecode;
 use crate::decode::Decode;
 use crate::from_parts::FromParts;
+use crate::ways::{ByBorrowDecode, ByDecode};
 use bincode_base::error::DecodeError;
-use bincode_decoder::decoder::Decoder;
+use bincode_decoder::decoder::{BorrowDecoder, BorrowedBytes, Decoder};
+use bincode_values::pointers::{decode_arc, decode_box, decode_rc};
 use bincode_wire::scalars::Scalar;
 use bincode_wire::wire::Wire;
 use std::borrow::Cow;
@@ -12,33 +15,51 @@ use std::sync::Arc;
 impl<Context: Drop, T: Decode<Context>> Decode<Context> for Box<T> {
     #[inline]
     fn decode<D: Decoder<Context = Context>>(decoder: &mut D) -> Result<Box<T>, DecodeError> {
-        let value = T::decode(decoder)?;
-        let Ok(pointer) = Box::new(decoder.alloc(), value) else {
-            return Err(DecodeError::Memory);
-        };
-        Ok(pointer)
+        decode_box::<D, ByDecode<T>>(decoder)
+    }
+}
+
+impl<B: BorrowedBytes, Context: Drop, T: BorrowDecode<B, Context>> BorrowDecode<B, Context>
+    for Box<T> {
+    #[inline]
+    fn borrow_decode<D: BorrowDecoder<B, Context = Context>>(
+        decoder: &mut D,
+    ) -> Result<Box<T>, DecodeError> {
+        decode_box::<D, ByBorrowDecode<B, T>>(decoder)
     }
 }
 
 impl<Context: Drop, T: Decode<Context>> Decode<Context> for Rc<T> {
     #[inline]
     fn decode<D: Decoder<Context = Context>>(decoder: &mut D) -> Result<Rc<T>, DecodeError> {
-        let value = T::decode(decoder)?;
-        let Ok(pointer) = Rc::new(decoder.alloc(), value) else {
-            return Err(DecodeError::Memory);
-        };
-        Ok(pointer)
+        decode_rc::<D, ByDecode<T>>(decoder)
+    }
+}
+
+impl<B: BorrowedBytes, Context: Drop, T: BorrowDecode<B, Context>> BorrowDecode<B, Context>
+    for Rc<T> {
+    #[inline]
+    fn borrow_decode<D: BorrowDecoder<B, Context = Context>>(
+        decoder: &mut D,
+    ) -> Result<Rc<T>, DecodeError> {
+        decode_rc::<D, ByBorrowDecode<B, T>>(decoder)
     }
 }
 
 impl<Context: Drop, T: Decode<Context>> Decode<Context> for Arc<T> {
     #[inline]
     fn decode<D: Decoder<Context = Context>>(decoder: &mut D) -> Result<Arc<T>, DecodeError> {
-        let value = T::decode(decoder)?;
-        let Ok(pointer) = Arc::new(decoder.alloc(), value) else {
-            return Err(DecodeError::Memory);
-        };
-        Ok(pointer)
+        decode_arc::<D, ByDecode<T>>(decoder)
+    }
+}
+
+impl<B: BorrowedBytes, Context: Drop, T: BorrowDecode<B, Context>> BorrowDecode<B, Context>
+    for Arc<T> {
+    #[inline]
+    fn borrow_decode<D: BorrowDecoder<B, Context = Context>>(
+        decoder: &mut D,
+    ) -> Result<Arc<T>, DecodeError> {
+        decode_arc::<D, ByBorrowDecode<B, T>>(decoder)
     }
 }
 

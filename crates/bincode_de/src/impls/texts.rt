@@ -1,7 +1,9 @@
 //! Decoding of texts, each of which takes memory for its bytes.
+use crate::borrow_decode::BorrowDecode;
 use crate::decode::Decode;
 use bincode_base::error::DecodeError;
-use bincode_decoder::decoder::Decoder;
+use bincode_decoder::borrow::take_text;
+use bincode_decoder::decoder::{BorrowDecoder, BorrowedBytes, Decoder};
 use bincode_decoder::texts::decode_text;
 use std::borrow::CowStr;
 use std::boxed::BoxedStr;
@@ -14,11 +16,29 @@ impl<Context: Drop> Decode<Context> for String {
     }
 }
 
+impl<B: BorrowedBytes, Context: Drop> BorrowDecode<B, Context> for String {
+    #[inline]
+    fn borrow_decode<D: BorrowDecoder<B, Context = Context>>(
+        decoder: &mut D,
+    ) -> Result<String, DecodeError> {
+        String::decode(decoder)
+    }
+}
+
 impl<Context: Drop> Decode<Context> for BoxedStr {
     #[inline]
     fn decode<D: Decoder<Context = Context>>(decoder: &mut D) -> Result<BoxedStr, DecodeError> {
         let text = decode_text(decoder)?;
         Ok(text.into_boxed_str())
+    }
+}
+
+impl<B: BorrowedBytes, Context: Drop> BorrowDecode<B, Context> for BoxedStr {
+    #[inline]
+    fn borrow_decode<D: BorrowDecoder<B, Context = Context>>(
+        decoder: &mut D,
+    ) -> Result<BoxedStr, DecodeError> {
+        BoxedStr::decode(decoder)
     }
 }
 
@@ -33,10 +53,38 @@ impl<Context: Drop> Decode<Context> for RcStr {
     }
 }
 
+impl<B: BorrowedBytes, Context: Drop> BorrowDecode<B, Context> for RcStr {
+    #[inline]
+    fn borrow_decode<D: BorrowDecoder<B, Context = Context>>(
+        decoder: &mut D,
+    ) -> Result<RcStr, DecodeError> {
+        RcStr::decode(decoder)
+    }
+}
+
 impl<'a, Context: Drop> Decode<Context> for CowStr<'a> {
     #[inline]
     fn decode<D: Decoder<Context = Context>>(decoder: &mut D) -> Result<CowStr<'a>, DecodeError> {
         let text = decode_text(decoder)?;
         Ok(CowStr::Owned(text))
+    }
+}
+
+impl<'de, Context: Drop> BorrowDecode<&'de [u8], Context> for &'de str {
+    #[inline]
+    fn borrow_decode<D: BorrowDecoder<&'de [u8], Context = Context>>(
+        decoder: &mut D,
+    ) -> Result<&'de str, DecodeError> {
+        take_text(decoder)
+    }
+}
+
+impl<'de, Context: Drop> BorrowDecode<&'de [u8], Context> for CowStr<'de> {
+    #[inline]
+    fn borrow_decode<D: BorrowDecoder<&'de [u8], Context = Context>>(
+        decoder: &mut D,
+    ) -> Result<CowStr<'de>, DecodeError> {
+        let text = take_text(decoder)?;
+        Ok(CowStr::Borrowed(text))
     }
 }

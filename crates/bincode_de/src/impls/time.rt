@@ -1,12 +1,22 @@
 //! Decoding of spans of time.
+use crate::borrow_decode::BorrowDecode;
 use crate::decode::Decode;
 use bincode_base::error::DecodeError;
-use bincode_decoder::decoder::Decoder;
+use bincode_decoder::decoder::{BorrowDecoder, BorrowedBytes, Decoder};
 use bincode_decoder::time::decode_duration;
 use bincode_wire::own::time::Duration;
 
 impl<Context: Drop> Decode<Context> for Duration {
     fn decode<D: Decoder<Context = Context>>(decoder: &mut D) -> Result<Duration, DecodeError> {
         decode_duration(decoder)
+    }
+}
+
+impl<B: BorrowedBytes, Context: Drop> BorrowDecode<B, Context> for Duration {
+    #[inline]
+    fn borrow_decode<D: BorrowDecoder<B, Context = Context>>(
+        decoder: &mut D,
+    ) -> Result<Duration, DecodeError> {
+        Duration::decode(decoder)
     }
 }

@@ -1,8 +1,11 @@
 //! Decoding of tuples.
+use crate::borrow_decode::BorrowDecode;
 use crate::decode::Decode;
 use crate::from_parts::FromParts;
+use crate::ways::{ByBorrowDecode, ByDecode};
 use bincode_base::error::DecodeError;
-use bincode_decoder::decoder::Decoder;
+use bincode_decoder::decoder::{BorrowDecoder, BorrowedBytes, Decoder};
+use bincode_values::rows::decode_row;
 use bincode_values::values::ArrayOf;
 use bincode_wire::rows::{LongRow, Row};
 use bincode_wire::wire::Wire;
@@ -19,13 +22,34 @@ impl<Context: Drop> Decode<Context> for () {
     }
 }
 
+impl<B: BorrowedBytes, Context: Drop> BorrowDecode<B, Context> for () {
+    #[inline]
+    fn borrow_decode<D: BorrowDecoder<B, Context = Context>>(
+        decoder: &mut D,
+    ) -> Result<(), DecodeError> {
+        <()>::decode(decoder)
+    }
+}
+
 impl<Context: Drop, A: Decode<Context>, Others: Decode<Context>> Decode<Context>
     for Row<A, Others> {
     #[inline]
     fn decode<D: Decoder<Context = Context>>(decoder: &mut D) -> Result<Self, DecodeError> {
-        let first = A::decode(decoder)?;
-        let others = Others::decode(decoder)?;
-        Ok(Row(first, others))
+        decode_row::<D, ByDecode<A>, ByDecode<Others>>(decoder)
+    }
+}
+
+impl<
+    B: BorrowedBytes,
+    Context: Drop,
+    A: BorrowDecode<B, Context>,
+    Others: BorrowDecode<B, Context>,
+> BorrowDecode<B, Context> for Row<A, Others> {
+    #[inline]
+    fn borrow_decode<D: BorrowDecoder<B, Context = Context>>(
+        decoder: &mut D,
+    ) -> Result<Self, DecodeError> {
+        decode_row::<D, ByBorrowDecode<B, A>, ByBorrowDecode<B, Others>>(decoder)
     }
 }
 
@@ -40,6 +64,24 @@ impl<
     #[inline]
     fn decode<Z: Decoder<Context = Context>>(decoder: &mut Z) -> Result<Self, DecodeError> {
         let Row(a, Row(b, Row(c, Row(d, others)))) = Decode::decode(decoder)?;
+        Ok(LongRow(a, b, c, d, others))
+    }
+}
+
+impl<
+    Z: BorrowedBytes,
+    Context: Drop,
+    A: BorrowDecode<Z, Context>,
+    B: BorrowDecode<Z, Context>,
+    C: BorrowDecode<Z, Context>,
+    D: BorrowDecode<Z, Context>,
+    Others: BorrowDecode<Z, Context>,
+> BorrowDecode<Z, Context> for LongRow<A, B, C, D, Others> {
+    #[inline]
+    fn borrow_decode<Y: BorrowDecoder<Z, Context = Context>>(
+        decoder: &mut Y,
+    ) -> Result<Self, DecodeError> {
+        let Row(a, Row(b, Row(c, Row(d, others)))) = BorrowDecode::borrow_decode(decoder)?;
         Ok(LongRow(a, b, c, d, others))
     }
 }

@@ -5,7 +5,7 @@ ghost use Rattle.std.specs.Cow.{cow_slice_items};
 ghost use Rattle.std.specs.Rc.{rc_slice_items};
 
 use crate::laws::Exact;
-use crate::lists::Items;
+use crate::lists::{Items, ListItems};
 use crate::parted::{Parted, SameParts};
 use crate::wire::Wire;
 use std::borrow::CowSlice;
@@ -40,12 +40,12 @@ impl<T: Exact> SameParts<Items<T, 24>> for VecDeque<T> {
 }
 
 impl<T: Wire> Parted for &[T] {
-    type Parts = Items<T, 16>;
+    type Parts = ListItems<T, 16, false>;
 
     ghost parts = { λ v. record { items = v.now } };
 }
 
-impl<T: Exact> SameParts<Items<T, 16>> for &[T] {
+impl<T: Exact> SameParts<ListItems<T, 16, false>> for &[T] {
     ghost same_parts = { λ v w. refl };
 }
 

@@ -12,7 +12,7 @@ use std::boxed::BoxedStr;
 use std::rc::RcStr;
 
 impl Parted for String {
-    type Parts = TextBytes<24>;
+    type Parts = TextBytes<24, true>;
 
     ghost parts = { λ v. record { bytes = string_bytes v } };
 
@@ -23,46 +23,46 @@ impl Parted for String {
     } };
 }
 
-impl SameParts<TextBytes<24>> for String {
+impl SameParts<TextBytes<24, true>> for String {
     ghost same_parts = { λ v w. refl };
 }
 
 impl Parted for &str {
-    type Parts = TextBytes<16>;
+    type Parts = TextBytes<16, false>;
 
     ghost parts = { λ v. record { bytes = v.now } };
 }
 
-impl SameParts<TextBytes<16>> for &str {
+impl SameParts<TextBytes<16, false>> for &str {
     ghost same_parts = { λ v w. refl };
 }
 
 impl Parted for BoxedStr {
-    type Parts = TextBytes<16>;
+    type Parts = TextBytes<16, true>;
 
     ghost parts = { λ v. record { bytes = boxed_str_bytes v } };
 }
 
-impl SameParts<TextBytes<16>> for BoxedStr {
+impl SameParts<TextBytes<16, true>> for BoxedStr {
     ghost same_parts = { λ v w. refl };
 }
 
 impl Parted for RcStr {
-    type Parts = TextBytes<16>;
+    type Parts = TextBytes<16, true>;
 
     ghost parts = { λ v. record { bytes = rc_str_bytes v } };
 }
 
-impl SameParts<TextBytes<16>> for RcStr {
+impl SameParts<TextBytes<16, true>> for RcStr {
     ghost same_parts = { λ v w. refl };
 }
 
 impl Parted for CowStr<'_> {
-    type Parts = TextBytes<24>;
+    type Parts = TextBytes<24, true>;
 
     ghost parts = { λ v. record { bytes = cow_str_bytes v } };
 }
 
-impl SameParts<TextBytes<24>> for CowStr<'_> {
+impl SameParts<TextBytes<24, true>> for CowStr<'_> {
     ghost same_parts = { λ v w. refl };
 }

@@ -19,7 +19,7 @@ returns-in_err-key g c =
 pub returns-in_default : goal.returns-in_default
 returns-in_default g c =
     let i = c.loop.invariant in
-    let read = next-so_far i.2 (omega arith) (g.bound-8.its.lawful _) (g.bound-8.its.balanced _) refl c.in_ok-key.ensures in
+    let read = next-so_far i.2 (omega arith) (g.bound-13.its.lawful _) (g.bound-13.its.balanced _) refl c.in_ok-key.ensures in
     (i.0 ++ (c.in_ok-key.key, c.in_ok-key.value) ∷ [], tt, refused-so_far read (omega arith))
 
 pub loop-preserved : goal.loop-preserved
@@ -29,7 +29,7 @@ loop-preserved g c =
     let v = c.in_ok-key.value in (
       i.0 ++ (k, v) ∷ [],
       c.in-Ok.ensures.entries ∙ (ap (λ entries. insert_entry g.K.Ord.cmp entries k v) i.1 ∙ sym (entries-push g.K.Ord.cmp [] i.0 k v)),
-      next-so_far i.2 (omega arith) (g.bound-8.its.lawful _) (g.bound-8.its.balanced _) refl c.in_ok-key.ensures,
+      next-so_far i.2 (omega arith) (g.bound-13.its.lawful _) (g.bound-13.its.balanced _) refl c.in_ok-key.ensures,
     )
 
 pub returns : goal.returns

@@ -7,5 +7,5 @@ abbrev pub invariant-loop : goal.invariant-loop
 invariant-loop g l =
     (items : List (g.row.K.Denot × g.row.V.Denot))
     × MakesMap g.K.Ord.cmp items l.entries.entries
-    × RunSoFar g.D.Decoder.told g.D.Decoder.rest g.D.Decoder.charge g.D.Decoder.failures g.D.Decoder.place g.D.C.Config.bound g.bound-8.its.claim
-    (g.bound-8.its.format g.D.C.Config.setting) g.bound-8.its.given l.fn.len l.counter items l.fn.decoder l.decoder
+    × RunSoFar g.D.Decoder.told g.D.Decoder.rest g.D.Decoder.charge g.D.Decoder.failures g.D.Decoder.place g.D.C.Config.bound g.bound-13.its.claim
+    (g.bound-13.its.format g.D.C.Config.setting) g.bound-13.its.given l.fn.len l.counter items l.fn.decoder l.decoder

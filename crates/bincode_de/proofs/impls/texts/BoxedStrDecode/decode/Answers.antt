@@ -1,5 +1,5 @@
 use Rattle.std.proofs.lemmas.Result.{err_from_is_err_and}
-use Rattle.bincode_de.proofs.MadeAnswers.{read-made, read-failed}
+use Rattle.bincode_values.proofs.MadeAnswers.{read-made, read-failed}
 use Rattle.bincode_de.proofs.impls.texts.BoxedStrDecode.decode.Goals as goal
 
 pub returns-in_err-text : goal.returns-in_err-text

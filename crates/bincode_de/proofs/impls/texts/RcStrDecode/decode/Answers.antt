@@ -1,7 +1,7 @@
 use Rattle.std.proofs.Common.{refl}
 use Rattle.std.proofs.lemmas.Result.{err_from_is_err_and}
 use Rattle.bincode_laws.specs.TextLaws.{text-lawful}
-use Rattle.bincode_de.proofs.MadeAnswers.{read-made, read-refused, read-failed}
+use Rattle.bincode_values.proofs.MadeAnswers.{read-made, read-refused, read-failed}
 use Rattle.bincode_de.proofs.impls.texts.RcStrDecode.decode.Goals as goal
 
 pub returns-in_err-text : goal.returns-in_err-text

@@ -1,0 +1,78 @@
+//! Decoding of values that may hold bytes of the slice that they are read from.
+ghost use Rattle.std.specs.Prelude.{◌≡◌, ◌≤◌, ℕ, IfOk, IfErr};
+ghost use Rattle.bincode_format.specs.Answer.{answer};
+ghost use Rattle.bincode_format.specs.Decoding.{Decodes, Stops};
+ghost use Rattle.bincode_format.specs.Slice.{Decoded, FindsWords, TellsFaults, KeepsLimit};
+
+use crate::slice::count_taken;
+use bincode_base::config::Config;
+use bincode_base::error::DecodeError;
+use bincode_de::borrow_decode::BorrowDecode;
+use bincode_decoder::decoder::LentDecoder;
+use bincode_io::read::{BorrowReader, SliceReader};
+use std::alloc::Global;
+
+/// Reads a value from the front of a slice, as `decode_from_slice` does. The value may hold bytes of the slice, which
+/// are lent and not copied, and so it lives no longer than the slice. Fails as `decode_from_slice` does, and never with
+/// `Memory` where the type takes no memory, as `&[u8]`, `&str` and what is made of such.
+pub fn borrow_decode_from_slice<'a, D: BorrowDecode<&'a [u8], ()>, C: Config>(
+    alloc: Global,
+    src: &'a [u8],
+    config: C,
+) -> Result<(D, usize), DecodeError>
+    // What is read is a word within the limit, of so many bytes, and the value is given for its meaning.
+    ensures word { IfOk result (λ x. Decoded (D.its.format C.setting) C.bound src.now (λ m. D.its.given m x.0) x.1) }
+    // Each word within the limit is read,
+    ensures found { FindsWords (D.its.format C.setting) C.bound D.its.grows src.now result }
+    // each fault within the limit is told,
+    ensures fault { TellsFaults (D.its.format C.setting) C.bound D.its.grows src.now result }
+    // and charges that pass the limit are refused.
+    ensures limit { KeepsLimit (D.its.format C.setting) C.bound D.its.grows src.now result }
+{
+    borrow_decode_from_slice_with_context(alloc, src, config, ())
+}
+
+/// `borrow_decode_from_slice` for a type that decodes with a context, of which its decoder asks. What is read is the
+/// same whatever the context.
+pub fn borrow_decode_from_slice_with_context<
+    'a,
+    Context: Drop,
+    D: BorrowDecode<&'a [u8], Context>,
+    C: Config,
+>(alloc: Global, src: &'a [u8], config: C, context: Context) -> Result<(D, usize), DecodeError>
+    // What is read is a word within the limit, of so many bytes, and the value is given for its meaning.
+    ensures word { IfOk result (λ x. Decoded (D.its.format C.setting) C.bound src.now (λ m. D.its.given m x.0) x.1) }
+    // Each word within the limit is read,
+    ensures found { FindsWords (D.its.format C.setting) C.bound D.its.grows src.now result }
+    // each fault within the limit is told,
+    ensures fault { TellsFaults (D.its.format C.setting) C.bound D.its.grows src.now result }
+    // and charges that pass the limit are refused.
+    ensures limit { KeepsLimit (D.its.format C.setting) C.bound D.its.grows src.now result }
+{
+    let mut context = context;
+    let mut reader = SliceReader::new(src);
+    let read = borrow_decode_with(alloc, &mut reader, &config, &mut context);
+    count_taken::<D, C>(src, &reader, read)
+}
+
+/// Reads a value by a decoder that borrows its reader, its configuration and its context.
+fn borrow_decode_with<
+    'a,
+    Context: Drop,
+    D: BorrowDecode<&'a [u8], Context>,
+    R: BorrowReader<'a>,
+    C: Config,
+>(alloc: Global, reader: &mut R, config: &C, context: &mut Context) -> Result<D, DecodeError>
+    ensures ok { R.told reader.old → IfOk result (λ v. (charge : ℕ)
+        × Decodes (λ m. D.its.given m v) (answer C.bound (D.its.format C.setting) (R.rest reader.old) 0)
+        (R.rest reader.new) charge) }
+    ensures err { R.told reader.old → IfErr result (λ e. (charge : ℕ) × Stops R.ended R.device D.its.grows
+        (answer C.bound (D.its.format C.setting) (R.rest reader.old) 0) (R.failures reader.old) (R.failures reader.new)
+        (R.rest reader.old) (R.rest reader.new) charge e) }
+    ensures count { R.failures reader.old ≤ R.failures reader.new }
+    ensures told { R.told reader.old → R.told reader.new }
+    ensures place { R.place reader.new ≡ R.place reader.old }
+{
+    let mut decoder = LentDecoder::new(alloc, reader, config, context);
+    D::borrow_decode(&mut decoder)
+}

@@ -1,0 +1,47 @@
+//! Decoders that lend what they read.
+ghost use Rattle.std.specs.Prelude.{ℕ, List};
+ghost use Rattle.bincode_format.specs.Lending.{LendsBytes};
+
+use super::{Decoder, DecoderImpl, LentDecoder};
+use bincode_base::config::Config;
+use bincode_base::error::DecodeError;
+use bincode_io::read::BorrowReader;
+
+/// Bytes that a decoder lends of its source: `&'de [u8]`, which stands for the lifetime `'de` of the source.
+pub trait BorrowedBytes: Drop {
+    /// The bytes.
+    ghost bytes: { Self → List ℕ };
+}
+
+impl<'de> BorrowedBytes for &'de [u8] {
+    ghost bytes = { λ s. s.now };
+}
+
+/// A decoder over bytes that outlive it.
+pub trait BorrowDecoder<B: BorrowedBytes>: Decoder {
+    /// Takes the next `count` bytes, which are the source's own and not a copy, and charges nothing. Fails where its
+    /// reader does (`BorrowReader::take_bytes`).
+    fn take_bytes(&mut self, count: usize) -> Result<B, DecodeError>
+        ensures { LendsBytes Self.told Self.rest Self.charge Self.failures Self.place Self.R.ended Self.R.device
+            B.bytes count result self.old self.new };
+}
+
+impl<'de, R: BorrowReader<'de>, C: Config, Context: Drop> BorrowDecoder<&'de [u8]>
+    for DecoderImpl<R, C, Context> {
+    fn take_bytes(&mut self, count: usize) -> Result<&'de [u8], DecodeError> {
+        self.reader.take_bytes(count)
+    }
+}
+
+impl<'de, R: BorrowReader<'de>, C: Config, Context: Drop> BorrowDecoder<&'de [u8]>
+    for LentDecoder<'_, R, C, Context> {
+    fn take_bytes(&mut self, count: usize) -> Result<&'de [u8], DecodeError> {
+        self.reader.take_bytes(count)
+    }
+}
+
+impl<B: BorrowedBytes, D: BorrowDecoder<B>> BorrowDecoder<B> for &mut D {
+    fn take_bytes(&mut self, count: usize) -> Result<B, DecodeError> {
+        (**self).take_bytes(count)
+    }
+}

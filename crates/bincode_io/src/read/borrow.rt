@@ -1,0 +1,47 @@
+//! Readers that lend what they read.
+ghost use Rattle.std.specs.Prelude.{◌≡◌, ◌++◌, length, IfOk, IfErr};
+ghost use Rattle.bincode_format.specs.Device.{FallsShort};
+ghost use Rattle.bincode_format.specs.Lending.{TakesBytes};
+ghost use Rattle.bincode_base.specs.declared.error.DecodeError.TheVariants.{UnexpectedEnd};
+
+use super::{Reader, SliceReader};
+use bincode_base::error::DecodeError;
+
+/// A reader of bytes that outlive it.
+pub trait BorrowReader<'storage>: Reader {
+    /// Takes the next `count` bytes, which are the source's own and not a copy. Fails where too few are left, or where
+    /// the device fails; then some front of them is taken, unless the error is one that the device does not count.
+    fn take_bytes(&mut self, count: usize) -> Result<&'storage [u8], DecodeError>
+        ensures { TakesBytes Self.told Self.rest Self.failures Self.place Self.ended Self.device (λ s. s.now) count
+            result self.old self.new };
+}
+
+impl<'storage> BorrowReader<'storage> for SliceReader<'storage> {
+    ghost use Rattle.bincode_io.specs.Slices.{left_of};
+
+    /// Fails exactly where too few bytes are left, and then takes none.
+    fn take_bytes(&mut self, count: usize) -> Result<&'storage [u8], DecodeError>
+        ensures next { IfOk result (λ s. (left_of self.old ≡ s.now ++ left_of self.new)
+            × (length s.now ≡ count)) }
+        ensures why { IfErr result (λ e. FallsShort (λ missing d. d ≡ UnexpectedEnd missing) (left_of self.old)
+            count e) }
+        ensures left { IfErr result (λ _. left_of self.new ≡ left_of self.old) }
+    {
+        let slice = self.slice;
+        if slice.len() < count || slice.len() - count < self.taken {
+            return Err(DecodeError::UnexpectedEnd {
+                additional: count - self.bytes_left(),
+            });
+        }
+        let end = self.taken + count;
+        let bytes = &slice[self.taken..end];
+        self.taken = end;
+        Ok(bytes)
+    }
+}
+
+impl<'storage, R: BorrowReader<'storage>> BorrowReader<'storage> for &mut R {
+    fn take_bytes(&mut self, count: usize) -> Result<&'storage [u8], DecodeError> {
+        (**self).take_bytes(count)
+    }
+}

@@ -1,0 +1,327 @@
+//! Borrowed decoding: what is lent lies at its place in the source, and each kind of type is read.
+
+use bincode::config::{self, Config};
+use bincode::de::read::{BorrowReader, SliceReader};
+use bincode::de::{
+    BorrowDecode, BorrowDecoder, ClaimContainer, DecoderImpl, LendInContext, borrow_decode_array,
+    borrow_decode_vec,
+};
+use bincode::enc::Encode;
+use bincode::error::DecodeError;
+use bincode::time::Duration;
+use bincode::{
+    borrow_decode_from_slice, borrow_decode_from_slice_with_context, encode_into_slice,
+};
+use std::alloc::{AllocError, Global};
+use std::borrow::{CowSlice, CowStr};
+use std::boxed::{BoxedSlice, BoxedStr};
+use std::cell::{Cell, RefCell};
+use std::cmp::Reverse;
+use std::collections::{BTreeMap, BTreeSet, BinaryHeap, VecDeque};
+use std::num::{NonZeroU16, Wrapping};
+use std::ops::{Bound, Range, RangeInclusive};
+use std::process::Abort;
+use std::rc::{Rc, RcSlice, RcStr};
+use std::sync::Arc;
+use test_helpers::checks::either;
+use test_helpers::rows::first_wrong;
+
+/// The word of the list of abc, def and ghi.
+static WORD: [u8; 13] = [3, 3, 97, 98, 99, 3, 100, 101, 102, 3, 103, 104, 105];
+
+/// How many bytes are missing, by how many of the word are there: of a length one, and of a text what is left of it.
+const MISSING: [usize; 13] = [1, 1, 3, 2, 1, 1, 3, 2, 1, 1, 3, 2, 1];
+
+/// What comes of borrowed decoding. Where memory is refused it is decoded once more.
+fn borrowed<'a, T: BorrowDecode<&'a [u8], ()>, C: Config>(
+    alloc: Global,
+    source: &'a [u8],
+    config: C,
+) -> Result<(T, usize), DecodeError> {
+    match borrow_decode_from_slice(alloc, source, config) {
+        Err(DecodeError::Memory) => borrow_decode_from_slice(alloc, source, config),
+        outcome => outcome,
+    }
+}
+
+/// Whether the texts lie in these bytes, each behind its length, and no bytes are left.
+fn lie_in(bytes: &[u8], texts: &[&str]) -> bool {
+    let mut left = bytes;
+    for text in texts {
+        let [length, behind @ ..] = left else {
+            return false;
+        };
+        if *length as usize != text.len() || behind.as_ptr() != text.as_ptr() {
+            return false;
+        }
+        let Some(rest) = behind.get(text.len()..) else {
+            return false;
+        };
+        left = rest;
+    }
+    left.is_empty()
+}
+
+/// Whether what is lent is all of the source but its first byte, at its place.
+fn is_behind_one(source: &[u8], lent: &[u8]) -> bool {
+    let [_, behind @ ..] = source else {
+        return false;
+    };
+    behind.as_ptr() == lent.as_ptr() && behind.len() == lent.len()
+}
+
+#[test]
+fn lends_texts_within_the_limit(rt: HostRuntime) {
+    let less = config::standard().with_limit::<55>();
+    let refused = borrowed::<Vec<&str>, _>(rt.alloc(), &WORD, less);
+    assert!(rt; matches!(refused, Err(DecodeError::LimitExceeded)));
+    let enough = config::standard().with_limit::<56>();
+    let Ok((texts, 13)) = borrowed::<Vec<&str>, _>(rt.alloc(), &WORD, enough) else {
+        assert!(rt; false);
+        return;
+    };
+    assert!(rt; texts.as_slice() == ["abc", "def", "ghi"].as_slice());
+    assert!(rt; lie_in(&WORD[1..], &texts));
+}
+
+#[test]
+fn ends_at_each_place(rt: HostRuntime) {
+    for count in 0..13 {
+        let ended = borrowed::<Vec<&str>, _>(rt.alloc(), &WORD[..count], config::standard());
+        let Err(DecodeError::UnexpectedEnd { additional }) = ended else {
+            assert!(rt; false);
+            return;
+        };
+        assert!(rt; additional == MISSING[count]);
+    }
+}
+
+/// The word of ten thousand texts of three bytes.
+fn many_texts(alloc: Global) -> Result<Vec<u8>, AllocError> {
+    let mut word = [251, 16, 39].to_vec(alloc)?;
+    for _ in 0..10_000 {
+        word.extend_from_slice(&[3, 97, 98, 99])?;
+    }
+    Ok(word)
+}
+
+#[test]
+fn lends_ten_thousand_texts(rt: HostRuntime) {
+    let alloc = rt.alloc();
+    let Some(word) = either(many_texts(alloc), many_texts(alloc)) else {
+        assert!(rt; false);
+        return;
+    };
+    let read = borrowed::<Vec<&str>, _>(alloc, word.as_slice(), config::standard());
+    let Ok((texts, 40_003)) = read else {
+        assert!(rt; false);
+        return;
+    };
+    assert!(rt; texts.len() == 10_000);
+    assert!(rt; matches!(word.as_slice(), [251, 16, 39, bytes @ ..] if lie_in(bytes, &texts)));
+}
+
+#[test]
+fn lends_bytes_within_the_limit(rt: HostRuntime) {
+    let source = [3, 1, 2, 3];
+    let less = config::standard().with_limit::<10>();
+    let refused = borrowed::<&[u8], _>(rt.alloc(), &source, less);
+    assert!(rt; matches!(refused, Err(DecodeError::LimitExceeded)));
+    let enough = config::standard().with_limit::<11>();
+    let read = borrowed::<&[u8], _>(rt.alloc(), &source, enough);
+    assert!(rt; matches!(read, Ok((lent, 4)) if is_behind_one(&source, lent)));
+}
+
+#[test]
+fn lends_what_may_be_owned(rt: HostRuntime) {
+    let source = [3, 70, 111, 111];
+    let text = borrowed::<CowStr<'_>, _>(rt.alloc(), &source, config::standard());
+    let Ok((CowStr::Borrowed(lent), 4)) = text else {
+        assert!(rt; false);
+        return;
+    };
+    assert!(rt; lent == "Foo" && is_behind_one(&source, lent.as_bytes()));
+    let bytes = borrowed::<CowSlice<'_, u8>, _>(rt.alloc(), &source, config::standard());
+    assert!(rt; matches!(bytes, Ok((CowSlice::Borrowed(lent), 4)) if is_behind_one(&source, lent)));
+}
+
+#[test]
+fn lends_under_fixed_numbers(rt: HostRuntime) {
+    let source = [1, 1, 0, 0, 0, 0, 0, 0, 0, 65];
+    let read = borrowed::<Option<&str>, _>(rt.alloc(), &source, config::legacy());
+    assert!(rt; matches!(read, Ok((Some("A"), 10))));
+}
+
+#[test]
+fn tells_faults_of_texts(rt: HostRuntime) {
+    let ended = borrowed::<&str, _>(rt.alloc(), &[2, 195], config::standard());
+    assert!(rt; matches!(ended, Err(DecodeError::UnexpectedEnd { additional: 1 })));
+    let misspelled = borrowed::<&str, _>(rt.alloc(), &[2, 195, 40], config::standard());
+    assert!(rt; matches!(misspelled, Err(DecodeError::Utf8 { inner: _ })));
+}
+
+#[test]
+fn lends_with_a_context(rt: HostRuntime) {
+    let read: Result<((u8, &str), usize), DecodeError> = borrow_decode_from_slice_with_context(
+        rt.alloc(),
+        &[7, 2, 97, 98, 99],
+        config::standard(),
+        5u16,
+    );
+    assert!(rt; matches!(read, Ok(((7, "ab"), 4))));
+}
+
+/// The next bytes of a reader, which outlive it.
+fn next_bytes<'a, R: BorrowReader<'a>>(
+    mut reader: R,
+    count: usize,
+) -> Result<&'a [u8], DecodeError> {
+    reader.take_bytes(count)
+}
+
+/// Of 1, 2 and 3 one is lent, of three more none, and then the two that are left.
+#[test]
+fn takes_bytes(rt: HostRuntime) {
+    let source = [1, 2, 3];
+    let mut reader = SliceReader::new(&source);
+    let first = next_bytes(&mut reader, 1);
+    assert!(rt; matches!(first, Ok([1])));
+    let ended = reader.take_bytes(3);
+    assert!(rt; matches!(ended, Err(DecodeError::UnexpectedEnd { additional: 1 })));
+    let others = next_bytes(reader, 2);
+    assert!(rt; matches!(others, Ok(lent) if is_behind_one(&source, lent)));
+}
+
+/// A text is lent by a reference to the decoder's own, and two bytes in another context. Of two more one is missing.
+fn lends_in_turn<'a, D: BorrowDecoder<&'a [u8], Context = ()>>(
+    rt: &impl Abort,
+    mut decoder: &mut D,
+) {
+    assert!(rt; matches!(<&str>::borrow_decode(&mut decoder), Ok("ab")));
+    assert!(rt; matches!(decoder.with_context(3u8).take_bytes(2), Ok([5, 6])));
+    let ended = decoder.take_bytes(2);
+    assert!(rt; matches!(ended, Err(DecodeError::UnexpectedEnd { additional: 1 })));
+}
+
+#[test]
+fn borrows_in_turn(rt: HostRuntime) {
+    let reader = SliceReader::new(&[2, 97, 98, 5, 6, 9]);
+    let mut decoder = DecoderImpl::new(rt.alloc(), reader, config::standard(), ());
+    lends_in_turn(&rt, &mut decoder);
+}
+
+/// What is read of two texts, whose room is claimed.
+fn read_vec<'a, D: BorrowDecoder<&'a [u8], Context = ()>>(
+    decoder: &mut D,
+) -> Result<Vec<&'a str>, DecodeError> {
+    decoder.claim_container_read::<&str>(2)?;
+    borrow_decode_vec(decoder, 2)
+}
+
+/// The same as an array.
+fn read_array<'a, D: BorrowDecoder<&'a [u8], Context = ()>>(
+    decoder: &mut D,
+) -> Result<[&'a str; 2], DecodeError> {
+    decoder.claim_container_read::<&str>(2)?;
+    borrow_decode_array(decoder)
+}
+
+/// What is read of two texts as an array, and of two more as a vector: 32 bytes of room beside 18 that are charged.
+fn read_four<'a>(
+    alloc: Global,
+    source: &'a [u8],
+) -> Result<([&'a str; 2], Vec<&'a str>), DecodeError> {
+    let fifty = config::standard().with_limit::<50>();
+    let mut decoder = DecoderImpl::new(alloc, SliceReader::new(source), fifty, ());
+    let array = read_array(&mut decoder)?;
+    let vec = read_vec(&mut decoder)?;
+    Ok((array, vec))
+}
+
+#[test]
+fn borrows_runs(rt: HostRuntime) {
+    let source = [1, 97, 1, 98, 1, 99, 1, 100];
+    let read = either(read_four(rt.alloc(), &source), read_four(rt.alloc(), &source));
+    let Some((array, vec)) = read else {
+        assert!(rt; false);
+        return;
+    };
+    assert!(rt; array == ["a", "b"]);
+    assert!(rt; vec.as_slice() == ["c", "d"].as_slice());
+}
+
+/// Whether all of the source but its last byte, which is 99, is read as a value, and the value is written so.
+fn keeps<'a, T: Encode + BorrowDecode<&'a [u8], ()>>(alloc: Global, source: &'a [u8]) -> bool {
+    let Ok((value, taken)) = borrowed::<T, _>(alloc, source, config::standard()) else {
+        return false;
+    };
+    let mut slice = [99u8; 100];
+    let written = encode_into_slice(value, &mut slice, config::standard());
+    let [word @ .., 99] = source else {
+        return false;
+    };
+    taken == word.len()
+        && matches!(written, Ok(count) if count == taken)
+        && slice.starts_with(source)
+}
+
+#[test]
+fn keeps_lists(rt: HostRuntime) {
+    let alloc = rt.alloc();
+    let word = [2, 1, 97, 1, 98, 99];
+    let rows = [
+        ("VecDeque", keeps::<VecDeque<&str>>(alloc, &word)),
+        ("BoxedSlice", keeps::<BoxedSlice<&str>>(alloc, &word)),
+        ("RcSlice", keeps::<RcSlice<&str>>(alloc, &word)),
+        ("BTreeSet", keeps::<BTreeSet<&str>>(alloc, &word)),
+        (
+            "BTreeMap",
+            keeps::<BTreeMap<&str, u8>>(alloc, &[2, 1, 97, 5, 1, 98, 7, 99]),
+        ),
+        (
+            "BinaryHeap",
+            keeps::<BinaryHeap<&str>>(alloc, &[1, 1, 97, 99]),
+        ),
+    ];
+    assert_eq!(rt; first_wrong(&rows), None);
+}
+
+/// Types of each kind, in tuples.
+type Scalars = (u32, NonZeroU16, bool, char, (), Duration);
+
+type Choices<'a> = (Option<&'a str>, Result<&'a str, u8>, Bound<&'a str>);
+
+type Wrappers<'a> = (Wrapping<u16>, Reverse<&'a str>, Range<u8>, RangeInclusive<u8>);
+
+type Holders<'a> = (Cell<&'a str>, RefCell<&'a str>, [&'a str; 1]);
+
+type Pointers<'a> = (Box<&'a str>, Rc<&'a str>, Arc<&'a str>);
+
+type Texts<'a> = (String, BoxedStr, RcStr, CowStr<'a>, CowSlice<'a, u8>);
+
+#[test]
+fn keeps_tuples(rt: HostRuntime) {
+    let alloc = rt.alloc();
+    let texts = [1, 97, 1, 98, 1, 97, 99];
+    let rows = [
+        (
+            "scalars",
+            keeps::<Scalars>(alloc, &[251, 44, 1, 5, 1, 65, 7, 8, 99]),
+        ),
+        (
+            "choices",
+            keeps::<Choices<'_>>(alloc, &[1, 1, 97, 1, 6, 2, 1, 98, 99]),
+        ),
+        (
+            "wrappers",
+            keeps::<Wrappers<'_>>(alloc, &[5, 1, 97, 1, 9, 2, 8, 99]),
+        ),
+        ("holders", keeps::<Holders<'_>>(alloc, &texts)),
+        ("pointers", keeps::<Pointers<'_>>(alloc, &texts)),
+        (
+            "texts",
+            keeps::<Texts<'_>>(alloc, &[1, 97, 1, 98, 0, 1, 97, 2, 5, 6, 99]),
+        ),
+    ];
+    assert_eq!(rt; first_wrong(&rows), None);
+}
