@@ -17,4 +17,4 @@ pub use bincode_decoder::tags::Named;
 pub use bincode_io::io_read::{IoReader, LentIoReader};
 pub use bincode_io::read;
 pub use bincode_values::collections::Collect;
-pub use bincode_values::values::ArrayOf;
+pub use bincode_values::values::{ArrayOf, AtOnce, OneByOne, OverDefaults, RunOf};

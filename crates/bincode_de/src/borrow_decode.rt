@@ -7,11 +7,15 @@ ghost use Rattle.bincode_format.specs.Values.{Reads};
 use bincode_base::error::DecodeError;
 use bincode_decoder::decoder::{BorrowDecoder, BorrowedBytes};
 use bincode_decoder::tags::Listed;
+use bincode_values::values::RunOf;
 use bincode_wire::wire::Wire;
 
 /// A type whose values can be read by a decoder that lends bytes of its source, in a context. `B` is `&'de [u8]`, and
 /// stands for the lifetime `'de` of the source.
 pub trait BorrowDecode<B: BorrowedBytes, Context: Drop>: Wire + Drop + Sized {
+    /// How many values in a row are read, as `Decode::Run` says.
+    type Run: RunOf<Self>;
+
     /// Reads a word and gives a value for its meaning, which may hold bytes of the source. Fails and leaves what
     /// `Decode::decode` does.
     fn borrow_decode<D: BorrowDecoder<B, Context = Context>>(

@@ -6,9 +6,12 @@ use bincode_base::error::DecodeError;
 use bincode_decoder::decoder::{BorrowDecoder, BorrowedBytes, Decoder};
 use bincode_decoder::empty::decode_no_variants;
 use bincode_decoder::tags::Named;
+use bincode_values::values::OneByOne;
 use bincode_wire::empty::NoVariants;
 
 impl<Context: Drop, Of: Named> Decode<Context> for NoVariants<Of> {
+    type Run = OneByOne;
+
     #[inline]
     fn decode<D: Decoder<Context = Context>>(decoder: &mut D) -> Result<Self, DecodeError> {
         decode_no_variants::<Of, Self, D>(decoder)
@@ -16,6 +19,8 @@ impl<Context: Drop, Of: Named> Decode<Context> for NoVariants<Of> {
 }
 
 impl<B: BorrowedBytes, Context: Drop, Of: Named> BorrowDecode<B, Context> for NoVariants<Of> {
+    type Run = OneByOne;
+
     #[inline]
     fn borrow_decode<D: BorrowDecoder<B, Context = Context>>(
         decoder: &mut D,

@@ -7,6 +7,7 @@ use crate::decode::Decode;
 use crate::ways::{ByBorrowDecode, ByDecode};
 use bincode_base::error::DecodeError;
 use bincode_decoder::decoder::{BorrowDecoder, BorrowedBytes, Decoder};
+use bincode_values::values::OneByOne;
 use bincode_values::values::ReadValues;
 use bincode_values::wholes::{MakeWhole, decode_whole};
 use bincode_wire::parted::Parted;
@@ -44,6 +45,8 @@ impl<Context: Drop, T: FromParts + Drop> Decode<Context> for T
 where
     T::Parts: Decode<Context>,
 {
+    type Run = OneByOne;
+
     #[inline]
     fn decode<D: Decoder<Context = Context>>(decoder: &mut D) -> Result<T, DecodeError> {
         decode_whole::<D, ByParts<ByDecode<T::Parts>, T>>(decoder)
@@ -54,6 +57,8 @@ impl<B: BorrowedBytes, Context: Drop, T: FromParts + Drop> BorrowDecode<B, Conte
 where
     T::Parts: BorrowDecode<B, Context>,
 {
+    type Run = OneByOne;
+
     #[inline]
     fn borrow_decode<D: BorrowDecoder<B, Context = Context>>(
         decoder: &mut D,

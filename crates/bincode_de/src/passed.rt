@@ -9,12 +9,15 @@ use bincode_base::error::DecodeError;
 use bincode_base::short_text::ShortText;
 use bincode_decoder::decoder::{BorrowDecoder, BorrowedBytes, Decoder};
 use bincode_values::passed::decode_passed;
+use bincode_values::values::OneByOne;
 use bincode_wire::passed::{Passed, Tested};
 
 impl<Context: Drop, T: Tested + Drop> Decode<Context> for Passed<T>
 where
     T::Of: Decode<Context>,
 {
+    type Run = OneByOne;
+
     #[inline]
     fn decode<D: Decoder<Context = Context>>(decoder: &mut D) -> Result<Self, DecodeError> {
         decode_passed::<D, ByDecode<T::Of>, T>(decoder)
@@ -25,6 +28,8 @@ impl<B: BorrowedBytes, Context: Drop, T: Tested + Drop> BorrowDecode<B, Context>
 where
     T::Of: BorrowDecode<B, Context>,
 {
+    type Run = OneByOne;
+
     #[inline]
     fn borrow_decode<D: BorrowDecoder<B, Context = Context>>(
         decoder: &mut D,

@@ -12,7 +12,7 @@ use bincode_decoder::decoder::Decoder;
 use bincode_values::{arrays, runs};
 
 /// Reads as many values as `values` has, over them, whose room `claim_container_read` has reserved: each one's share is
-/// released before it is read. A type may read them otherwise (`Decode::decode_at_once`), with the same answer. Fails
+/// released before it is read. A type may read them otherwise (`Decode::Run`), with the same answer. Fails
 /// where a value does. Then some front of the input is taken, unless the error is one that the device does not count,
 /// and no more than the room of the values is given back; what `values` has then is not said.
 #[inline]

@@ -10,6 +10,7 @@ use crate::ways::{ByBorrowDecode, ByDecode, PartByBorrowDecode, PartByDecode};
 use bincode_base::error::DecodeError;
 use bincode_decoder::decoder::{BorrowDecoder, BorrowedBytes, Decoder};
 use bincode_decoder::tags::{DecodeTag, Listed, Named};
+use bincode_values::values::OneByOne;
 use bincode_values::variants::{decode_none, decode_one_of, decode_or};
 use bincode_wire::sums::{NoOther, OneOf, Or, Tag, Variants};
 use bincode_wire::wire::Wire;
@@ -63,6 +64,8 @@ impl<Context: Drop, Of: DecodeVariants<Context> + SomeVariants> Decode<Context> 
 where
     Of::Tag: DecodeTag,
 {
+    type Run = OneByOne;
+
     #[inline]
     fn decode<D: Decoder<Context = Context>>(decoder: &mut D) -> Result<Self, DecodeError> {
         decode_one_of::<D, Of, PartByDecode<Of, Of>>(decoder)
@@ -106,6 +109,8 @@ impl<
 where
     Of::Tag: DecodeTag,
 {
+    type Run = OneByOne;
+
     #[inline]
     fn borrow_decode<D: BorrowDecoder<B, Context = Context>>(
         decoder: &mut D,

@@ -6,7 +6,7 @@ use crate::variants::DecodeVariants;
 use bincode_base::error::DecodeError;
 use bincode_decoder::decoder::{BorrowDecoder, BorrowedBytes, Decoder};
 use bincode_decoder::tags::Listed;
-use bincode_values::values::{ArrayOf, ReadValues};
+use bincode_values::values::ReadValues;
 use bincode_values::variants::ReadVariants;
 use std::marker::PhantomData;
 
@@ -16,19 +16,11 @@ pub(crate) struct ByDecode<T>(PhantomData<T>);
 impl<D: Decoder, T: Decode<D::Context>> ReadValues<D> for ByDecode<T> {
     type Value = T;
 
+    type Run = T::Run;
+
     #[inline(always)]
     fn read_value(decoder: &mut D) -> Result<T, DecodeError> {
         T::decode(decoder)
-    }
-
-    #[inline(always)]
-    fn blank_array<A: ArrayOf<T>>() -> Option<A> {
-        T::blank_array()
-    }
-
-    #[inline(always)]
-    fn read_at_once(decoder: &mut D, values: &mut [T]) -> Option<Result<(), DecodeError>> {
-        T::decode_at_once(decoder, values)
     }
 }
 
@@ -54,21 +46,11 @@ impl<B: BorrowedBytes, D: BorrowDecoder<B>, T: BorrowDecode<B, D::Context>> Read
     for ByBorrowDecode<B, T> {
     type Value = T;
 
+    type Run = T::Run;
+
     #[inline(always)]
     fn read_value(decoder: &mut D) -> Result<T, DecodeError> {
         T::borrow_decode(decoder)
-    }
-
-    #[inline(always)]
-    fn blank_array<A: ArrayOf<T>>() -> Option<A> {
-        None
-    }
-
-    #[inline(always)]
-    fn read_at_once(decoder: &mut D, values: &mut [T]) -> Option<Result<(), DecodeError>> {
-        let _ = &*decoder;
-        let _ = &*values;
-        None
     }
 }
 

@@ -6,7 +6,7 @@ ghost use Rattle.bincode_format.specs.Run.{CanRelease, RoomReturned};
 ghost use Rattle.bincode_format.specs.Values.{RunRead};
 
 use crate::runs::{decode_next, decode_run};
-use crate::values::ReadValues;
+use crate::values::{ReadValues, RunOf};
 use bincode_base::error::DecodeError;
 use bincode_base::slots::{empty_slots, slots_fit, unwrap_all};
 use bincode_decoder::decoder::Decoder;
@@ -71,7 +71,7 @@ pub fn decode_array<
         (elements N V.Value.its.claim (V.Value.its.format D.C.setting)) (N * V.Value.its.claim)
         (D.rest decoder.old) (D.rest decoder.new) (D.charge decoder.old) (D.charge decoder.new)) }
 {
-    if let Some(values) = V::blank_array::<[V::Value; N]>() {
+    if let Some(values) = V::Run::blank_array::<[V::Value; N]>() {
         return decode_over::<D, V, N>(decoder, values);
     }
     if !slots_fit::<V::Value, N>() {

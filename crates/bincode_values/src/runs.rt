@@ -5,14 +5,14 @@ ghost use Rattle.bincode_format.specs.Answer.{unclaimed};
 ghost use Rattle.bincode_format.specs.Run.{CanRelease};
 ghost use Rattle.bincode_format.specs.Values.{Reads, RunRead};
 
-use crate::values::ReadValues;
+use crate::values::{ReadValues, RunOf};
 use bincode_base::error::DecodeError;
 use bincode_decoder::decoder::Decoder;
 use bincode_wire::wire::Wire;
 use std::alloc::Global;
 
 /// Reads as many values as `values` has, over them, whose room `claim_container_read` has reserved: each one's share is
-/// released before it is read. A type may read them otherwise (`ReadValues::read_at_once`), with the same answer. Fails
+/// released before it is read. A type may read them otherwise (`RunOf`), with the same answer. Fails
 /// where a value does. Then some front of the input is taken, unless the error is one that the device does not count,
 /// and no more than the room of the values is given back; what `values` has then is not said.
 #[inline]
@@ -28,7 +28,7 @@ pub fn decode_run<D: Decoder, V: ReadValues<D>>(
     if !decoder.is_within_limit() {
         return decode_each::<D, V>(decoder, values);
     }
-    if let Some(outcome) = V::read_at_once(decoder, values) {
+    if let Some(outcome) = V::Run::decode_at_once(decoder, values) {
         return outcome;
     }
     decode_each::<D, V>(decoder, values)
@@ -117,14 +117,14 @@ fn blank_values<D: Decoder, V: ReadValues<D>>(
     ensures room { IfOk result (λ blank. IfSome blank (λ v. vec_capacity v ≡ len)) }
     ensures err { IfErr result (λ e. (0 < len) × (e ≡ Memory)) }
 {
-    if V::Value::claim_size() > 1 || V::blank_array::<[V::Value; 0]>().is_none() {
+    if V::Value::claim_size() > 1 || V::Run::blank_array::<[V::Value; 0]>().is_none() {
         return Ok(None);
     }
     let Ok(mut values) = Vec::with_capacity(alloc, len) else {
         return Err(DecodeError::Memory);
     };
     for _ in 0..len {
-        let Some([blank]) = V::blank_array::<[V::Value; 1]>() else {
+        let Some([blank]) = V::Run::blank_array::<[V::Value; 1]>() else {
             return Ok(None);
         };
         values.push_reserved(blank);

@@ -6,6 +6,7 @@ ghost use Rattle.bincode_format.specs.Run.{CanRelease};
 ghost use Rattle.bincode_format.specs.Values.{Reads, RunRead};
 
 use bincode_base::error::DecodeError;
+use bincode_decoder::bytes::decode_bytes;
 use bincode_decoder::decoder::Decoder;
 use bincode_wire::wire::Wire;
 
@@ -22,21 +23,85 @@ pub trait ReadValues<D: Decoder> {
             (Self.Value.its.format D.C.setting) Self.Value.its.given (D.charge decoder.old) result decoder.old
             decoder.new };
 
-    /// An array to read values over, whatever it holds, if there is one at hand.
-    fn blank_array<A: ArrayOf<Self::Value>>() -> Option<A>;
+    /// How a run of them is read.
+    type Run: RunOf<Self::Value>;
+}
+
+/// How the values of a type are read where many stand in a row.
+pub trait RunOf<T: Wire> {
+    /// An array to read values over, whatever it holds, if there is one at hand. With `None` an array is made of slots,
+    /// which takes longer.
+    fn blank_array<A: ArrayOf<T>>() -> Option<A>;
 
     /// Reads as many values as `values` has, over them and in one piece, if the values are the bytes of their words.
-    /// Otherwise nothing is read.
-    fn read_at_once(
+    /// `decode_run` calls it, with a charge within the limit. With `None` nothing is read.
+    fn decode_at_once<D: Decoder>(
         decoder: &mut D,
-        values: &mut [Self::Value],
+        values: &mut [T],
     ) -> Option<Result<(), DecodeError>>
-        requires { CanRelease D.C.bound (D.charge decoder.old) (length values.old * Self.Value.its.claim)
+        requires { CanRelease D.C.bound (D.charge decoder.old) (length values.old * T.its.claim)
             × Allows D.C.bound (D.charge decoder.old) }
         ensures { MatchOption result (decoder.new ≡ decoder.old) (λ r. RunRead D.told D.rest D.charge D.failures
-            D.place D.C.bound D.R.ended D.R.device (Self.Value.its.grows × (0 < length values.old)) Self.Value.its.claim
-            (Self.Value.its.format D.C.setting) Self.Value.its.given (length values.old) (λ _. values.new) r
-            decoder.old decoder.new) };
+            D.place D.C.bound D.R.ended D.R.device (T.its.grows × (0 < length values.old)) T.its.claim
+            (T.its.format D.C.setting) T.its.given (length values.old) (λ _. values.new) r decoder.old decoder.new) };
+}
+
+/// Values that are read one by one, and put where they stand: all but numbers and bytes.
+pub struct OneByOne;
+
+impl<T: Wire> RunOf<T> for OneByOne {
+    #[inline(always)]
+    fn blank_array<A: ArrayOf<T>>() -> Option<A> {
+        None
+    }
+
+    #[inline(always)]
+    fn decode_at_once<D: Decoder>(
+        decoder: &mut D,
+        values: &mut [T],
+    ) -> Option<Result<(), DecodeError>> {
+        let _ = &*decoder;
+        let _ = &*values;
+        None
+    }
+}
+
+/// Values that are read one by one, over default values: numbers and such.
+pub struct OverDefaults;
+
+impl<T: Wire + Default> RunOf<T> for OverDefaults {
+    #[inline(always)]
+    fn blank_array<A: ArrayOf<T>>() -> Option<A> {
+        Some(A::of_defaults())
+    }
+
+    #[inline(always)]
+    fn decode_at_once<D: Decoder>(
+        decoder: &mut D,
+        values: &mut [T],
+    ) -> Option<Result<(), DecodeError>> {
+        let _ = &*decoder;
+        let _ = &*values;
+        None
+    }
+}
+
+/// Bytes, which are read in one piece.
+pub struct AtOnce;
+
+impl RunOf<u8> for AtOnce {
+    #[inline(always)]
+    fn blank_array<A: ArrayOf<u8>>() -> Option<A> {
+        Some(A::of_defaults())
+    }
+
+    #[inline(always)]
+    fn decode_at_once<D: Decoder>(
+        decoder: &mut D,
+        values: &mut [u8],
+    ) -> Option<Result<(), DecodeError>> {
+        Some(decode_bytes(decoder, values))
+    }
 }
 
 /// An array of a type's values.

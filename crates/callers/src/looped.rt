@@ -3,7 +3,7 @@ ghost use Rattle.std.specs.Prelude.{◌≡◌, ◌*◌};
 ghost use Rattle.bincode.specs.Run.{CanRelease};
 ghost use Rattle.bincode.specs.Values.{RunRead};
 
-use bincode::de::{ClaimContainer, Decode, Decoder};
+use bincode::de::{ClaimContainer, Decode, Decoder, OneByOne};
 use bincode::enc::{Encode, Encoder};
 use bincode::error::{DecodeError, EncodeError};
 use bincode::{Items, MadeOf, Wire};
@@ -59,6 +59,8 @@ fn decode_claimed<Context: Drop, T: Decode<Context>, D: Decoder<Context = Contex
 }
 
 impl<Context: Drop, T: Decode<Context>> Decode<Context> for Looped<T> {
+    type Run = OneByOne;
+
     fn decode<D: Decoder<Context = Context>>(decoder: &mut D) -> Result<Looped<T>, DecodeError> {
         let len = u64::decode(decoder)? as usize;
         decoder.claim_container_read::<T>(len)?;

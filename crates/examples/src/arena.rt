@@ -1,7 +1,7 @@
 //! A list in an arena.
 ghost use Rattle.std.specs.Prelude.{◌≡◌};
 
-use bincode::de::{Collect, Decode, Decoder, decode_collection};
+use bincode::de::{Collect, Decode, Decoder, OneByOne, decode_collection};
 use bincode::enc::{Encode, Encoder};
 use bincode::error::{DecodeError, EncodeError};
 use bincode::{Items, MadeOf, Wire};
@@ -74,6 +74,8 @@ impl<'b, T: Wire + Copy + Drop> Collect<&'b Bump> for ArenaList<'b, T> {
 }
 
 impl<'b, T: Decode<&'b Bump> + Copy + 'b> Decode<&'b Bump> for ArenaList<'b, T> {
+    type Run = OneByOne;
+
     fn decode<D: Decoder<Context = &'b Bump>>(
         decoder: &mut D,
     ) -> Result<ArenaList<'b, T>, DecodeError> {

@@ -1,7 +1,7 @@
 //! A struct with a list and a map.
 
 use crate::contact::Contact;
-use bincode::de::{Decode, Decoder};
+use bincode::de::{Decode, Decoder, OneByOne};
 use bincode::enc::{Encode, Encoder};
 use bincode::error::{DecodeError, EncodeError};
 use bincode::laws::{Canonical, Exact, Plain, canonical_by_parts, exact_by_fields, plain_by_parts};
@@ -60,6 +60,8 @@ impl Encode for Book {
 }
 
 impl<Context: Drop> Decode<Context> for Book {
+    type Run = OneByOne;
+
     fn decode<D: Decoder<Context = Context>>(decoder: &mut D) -> Result<Book, DecodeError> {
         let (contacts, notes): Parts = Decode::decode(decoder)?;
         Ok(Book { contacts, notes })

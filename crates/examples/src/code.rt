@@ -1,6 +1,6 @@
 //! An enum with tags of its own.
 
-use bincode::de::{BorrowDecode, BorrowDecoder, BorrowedBytes, Decode, Decoder, Named};
+use bincode::de::{BorrowDecode, BorrowDecoder, BorrowedBytes, Decode, Decoder, Named, OneByOne};
 use bincode::enc::{Encode, Encoder, encode_variant};
 use bincode::error::{DecodeError, EncodeError};
 use bincode::laws::{Canonical, Exact, Plain, canonical_by_parts, exact_by_parts, plain_by_parts};
@@ -75,6 +75,8 @@ impl Encode for Code {
 }
 
 impl<Context: Drop> Decode<Context> for Code {
+    type Run = OneByOne;
+
     fn decode<D: Decoder<Context = Context>>(decoder: &mut D) -> Result<Code, DecodeError> {
         let parts: Parts = Decode::decode(decoder)?;
         Ok(match parts.0 {
@@ -86,6 +88,8 @@ impl<Context: Drop> Decode<Context> for Code {
 }
 
 impl<B: BorrowedBytes, Context: Drop> BorrowDecode<B, Context> for Code {
+    type Run = OneByOne;
+
     fn borrow_decode<D: BorrowDecoder<B, Context = Context>>(
         decoder: &mut D,
     ) -> Result<Code, DecodeError> {

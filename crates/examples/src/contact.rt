@@ -1,7 +1,7 @@
 //! A struct that holds another type of its user's.
 
 use crate::kind::Kind;
-use bincode::de::{Decode, Decoder};
+use bincode::de::{Decode, Decoder, OneByOne};
 use bincode::enc::{Encode, Encoder};
 use bincode::error::{DecodeError, EncodeError};
 use bincode::laws::{Canonical, Exact, Plain, canonical_by_parts, exact_by_fields, plain_by_parts};
@@ -76,6 +76,8 @@ impl Encode for Contact {
 }
 
 impl<Context: Drop> Decode<Context> for Contact {
+    type Run = OneByOne;
+
     fn decode<D: Decoder<Context = Context>>(decoder: &mut D) -> Result<Contact, DecodeError> {
         let (id, name, emails, birthday, kind): Parts = Decode::decode(decoder)?;
         Ok(Contact {

@@ -1,7 +1,9 @@
 //! A number that has to pass a test.
 ghost use Rattle.std.specs.Prelude.{◌≡◌, ◌==◌, ◌%◌, true};
 
-use bincode::de::{BorrowDecode, BorrowDecoder, BorrowedBytes, Decode, Decoder, other_error};
+use bincode::de::{
+    BorrowDecode, BorrowDecoder, BorrowedBytes, Decode, Decoder, OneByOne, other_error,
+};
 use bincode::enc::{Encode, Encoder, encode_passed, tell_passed};
 use bincode::error::{DecodeError, EncodeError};
 use bincode::laws::{Canonical, Exact, Plain, canonical_by_parts, exact_by_parts, plain_by_parts};
@@ -87,6 +89,8 @@ impl Encode for Even {
 }
 
 impl<Context: Drop> Decode<Context> for Even {
+    type Run = OneByOne;
+
     fn decode<D: Decoder<Context = Context>>(decoder: &mut D) -> Result<Even, DecodeError> {
         let passed: Passed<Even> = Decode::decode(decoder)?;
         Ok(passed.0)
@@ -94,6 +98,8 @@ impl<Context: Drop> Decode<Context> for Even {
 }
 
 impl<B: BorrowedBytes, Context: Drop> BorrowDecode<B, Context> for Even {
+    type Run = OneByOne;
+
     fn borrow_decode<D: BorrowDecoder<B, Context = Context>>(
         decoder: &mut D,
     ) -> Result<Even, DecodeError> {

@@ -1,7 +1,7 @@
 //! An enum that holds text of what it is decoded from.
 ghost use Rattle.std.specs.Prelude.{◌≡◌};
 
-use bincode::de::{BorrowDecode, BorrowDecoder, Named};
+use bincode::de::{BorrowDecode, BorrowDecoder, Named, OneByOne};
 use bincode::enc::{Encode, Encoder, encode_variant};
 use bincode::error::{DecodeError, EncodeError};
 use bincode::laws::{Canonical, Exact, Plain, canonical_by_parts, exact_by_parts, plain_by_parts};
@@ -83,6 +83,8 @@ impl<'a> Encode for Event<'a> {
 }
 
 impl<'a, Context: Drop> BorrowDecode<&'a [u8], Context> for Event<'a> {
+    type Run = OneByOne;
+
     fn borrow_decode<D: BorrowDecoder<&'a [u8], Context = Context>>(
         decoder: &mut D,
     ) -> Result<Event<'a>, DecodeError> {

@@ -1,6 +1,6 @@
 //! A struct without memory, with each law that there is.
 
-use bincode::de::{Decode, Decoder};
+use bincode::de::{Decode, Decoder, OneByOne};
 use bincode::enc::{Encode, Encoder};
 use bincode::error::{DecodeError, EncodeError};
 use bincode::laws::{
@@ -83,6 +83,8 @@ impl Encode for Foo {
 }
 
 impl<Context: Drop> Decode<Context> for Foo {
+    type Run = OneByOne;
+
     fn decode<D: Decoder<Context = Context>>(decoder: &mut D) -> Result<Foo, DecodeError> {
         let (a, b): Parts = Decode::decode(decoder)?;
         Ok(Foo { a, b })

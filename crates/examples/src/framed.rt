@@ -2,7 +2,7 @@
 ghost use Rattle.std.specs.Prelude.{◌≡◌};
 
 use crate::arena::ArenaList;
-use bincode::de::{Decode, Decoder, LendInContext};
+use bincode::de::{Decode, Decoder, LendInContext, OneByOne};
 use bincode::enc::{Encode, Encoder};
 use bincode::error::{DecodeError, EncodeError};
 use bincode::{MadeOf, Wire};
@@ -51,6 +51,8 @@ impl<'b> Encode for Framed<'b> {
 }
 
 impl<'b> Decode<Env<'b>> for ArenaList<'b, u32> {
+    type Run = OneByOne;
+
     fn decode<D: Decoder<Context = Env<'b>>>(
         decoder: &mut D,
     ) -> Result<ArenaList<'b, u32>, DecodeError> {
@@ -60,6 +62,8 @@ impl<'b> Decode<Env<'b>> for ArenaList<'b, u32> {
 }
 
 impl<'b> Decode<Env<'b>> for Framed<'b> {
+    type Run = OneByOne;
+
     fn decode<D: Decoder<Context = Env<'b>>>(decoder: &mut D) -> Result<Framed<'b>, DecodeError> {
         let (kind, list): Parts<'b> = Decode::decode(decoder)?;
         Ok(Framed { kind, list })

@@ -1,6 +1,6 @@
 //! An enum.
 
-use bincode::de::{Decode, Decoder, Named};
+use bincode::de::{Decode, Decoder, Named, OneByOne};
 use bincode::enc::{Encode, Encoder, encode_variant};
 use bincode::error::{DecodeError, EncodeError};
 use bincode::laws::{Canonical, Exact, Plain, canonical_by_parts, exact_by_parts, plain_by_parts};
@@ -81,6 +81,8 @@ impl Encode for Kind {
 }
 
 impl<Context: Drop> Decode<Context> for Kind {
+    type Run = OneByOne;
+
     fn decode<D: Decoder<Context = Context>>(decoder: &mut D) -> Result<Kind, DecodeError> {
         let parts: Parts = Decode::decode(decoder)?;
         Ok(match parts.0 {

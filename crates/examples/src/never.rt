@@ -1,7 +1,7 @@
 //! An enum without variants.
 
 use bincode::de::{
-    BorrowDecode, BorrowDecoder, BorrowedBytes, Decode, Decoder, Named, decode_no_variants,
+    BorrowDecode, BorrowDecoder, BorrowedBytes, Decode, Decoder, Named, OneByOne, decode_no_variants,
 };
 use bincode::error::DecodeError;
 use bincode::short_text::TypeName;
@@ -34,12 +34,16 @@ impl Named for Never {
 }
 
 impl<Context: Drop> Decode<Context> for Never {
+    type Run = OneByOne;
+
     fn decode<D: Decoder<Context = Context>>(decoder: &mut D) -> Result<Never, DecodeError> {
         decode_no_variants::<Never, Never, D>(decoder)
     }
 }
 
 impl<B: BorrowedBytes, Context: Drop> BorrowDecode<B, Context> for Never {
+    type Run = OneByOne;
+
     fn borrow_decode<D: BorrowDecoder<B, Context = Context>>(
         decoder: &mut D,
     ) -> Result<Never, DecodeError> {

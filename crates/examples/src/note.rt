@@ -1,7 +1,7 @@
 //! A struct that holds bytes of what it is decoded from.
 ghost use Rattle.std.specs.Prelude.{◌≡◌};
 
-use bincode::de::{BorrowDecode, BorrowDecoder};
+use bincode::de::{BorrowDecode, BorrowDecoder, OneByOne};
 use bincode::enc::{Encode, Encoder};
 use bincode::error::{DecodeError, EncodeError};
 use bincode::laws::{Canonical, Exact, Plain, canonical_by_parts, exact_by_fields, plain_by_parts};
@@ -61,6 +61,8 @@ impl<'a> Encode for Note<'a> {
 }
 
 impl<'a, Context: Drop> BorrowDecode<&'a [u8], Context> for Note<'a> {
+    type Run = OneByOne;
+
     fn borrow_decode<D: BorrowDecoder<&'a [u8], Context = Context>>(
         decoder: &mut D,
     ) -> Result<Note<'a>, DecodeError> {

@@ -1,7 +1,7 @@
 //! A list around a vector.
 ghost use Rattle.std.specs.Prelude.{◌≡◌};
 
-use bincode::de::{Collect, Decode, Decoder, decode_collection};
+use bincode::de::{Collect, Decode, Decoder, OneByOne, decode_collection};
 use bincode::enc::{Encode, Encoder};
 use bincode::error::{DecodeError, EncodeError};
 use bincode::laws::{Canonical, Exact, Plain, canonical_by_parts, exact_by_parts, plain_by_parts};
@@ -85,6 +85,8 @@ impl<Context: Drop, T: Wire + Drop> Collect<Context> for Pack<T> {
 }
 
 impl<Context: Drop, T: Decode<Context>> Decode<Context> for Pack<T> {
+    type Run = OneByOne;
+
     fn decode<D: Decoder<Context = Context>>(decoder: &mut D) -> Result<Pack<T>, DecodeError> {
         decode_collection(decoder)
     }

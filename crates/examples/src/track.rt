@@ -1,6 +1,6 @@
 //! A struct.
 
-use bincode::de::{Decode, Decoder};
+use bincode::de::{Decode, Decoder, OneByOne};
 use bincode::enc::{Encode, Encoder};
 use bincode::error::{DecodeError, EncodeError};
 use bincode::laws::{Canonical, Exact, Plain, canonical_by_parts, exact_by_fields, plain_by_parts};
@@ -60,6 +60,8 @@ impl Encode for Track {
 }
 
 impl<Context: Drop> Decode<Context> for Track {
+    type Run = OneByOne;
+
     fn decode<D: Decoder<Context = Context>>(decoder: &mut D) -> Result<Track, DecodeError> {
         let (title, beats, side, live): Parts = Decode::decode(decoder)?;
         Ok(Track {

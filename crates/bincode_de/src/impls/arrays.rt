@@ -5,24 +5,22 @@ use crate::ways::{ByBorrowDecode, ByDecode};
 use bincode_base::error::DecodeError;
 use bincode_decoder::decoder::{BorrowDecoder, BorrowedBytes, ClaimContainer, Decoder};
 use bincode_values::arrays::decode_array;
-use bincode_values::values::ArrayOf;
+use bincode_values::values::OneByOne;
 
 impl<Context: Drop, T: Decode<Context>, const N: usize> Decode<Context> for [T; N] {
+    type Run = OneByOne;
+
     fn decode<D: Decoder<Context = Context>>(decoder: &mut D) -> Result<[T; N], DecodeError> {
         decoder.claim_container_read::<T>(N)?;
         // Not by `runs::decode_array`: each call that hands on a whole array copies it.
         decode_array::<D, ByDecode<T>, N>(decoder)
     }
-
-    // Written out, since the provided one isn't proved for arrays of any size.
-    #[inline(always)]
-    fn blank_array<A: ArrayOf<Self>>() -> Option<A> {
-        None
-    }
 }
 
 impl<B: BorrowedBytes, Context: Drop, T: BorrowDecode<B, Context>, const N: usize>
     BorrowDecode<B, Context> for [T; N] {
+    type Run = OneByOne;
+
     fn borrow_decode<D: BorrowDecoder<B, Context = Context>>(
         decoder: &mut D,
     ) -> Result<[T; N], DecodeError> {

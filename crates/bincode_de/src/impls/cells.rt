@@ -5,9 +5,12 @@ use crate::ways::{ByBorrowDecode, ByDecode};
 use bincode_base::error::DecodeError;
 use bincode_decoder::decoder::{BorrowDecoder, BorrowedBytes, Decoder};
 use bincode_values::pointers::{decode_cell, decode_ref_cell};
+use bincode_values::values::OneByOne;
 use std::cell::{Cell, RefCell};
 
 impl<Context: Drop, T: Decode<Context>> Decode<Context> for Cell<T> {
+    type Run = OneByOne;
+
     fn decode<D: Decoder<Context = Context>>(decoder: &mut D) -> Result<Cell<T>, DecodeError> {
         decode_cell::<D, ByDecode<T>>(decoder)
     }
@@ -15,6 +18,8 @@ impl<Context: Drop, T: Decode<Context>> Decode<Context> for Cell<T> {
 
 impl<B: BorrowedBytes, Context: Drop, T: BorrowDecode<B, Context>> BorrowDecode<B, Context>
     for Cell<T> {
+    type Run = OneByOne;
+
     fn borrow_decode<D: BorrowDecoder<B, Context = Context>>(
         decoder: &mut D,
     ) -> Result<Cell<T>, DecodeError> {
@@ -23,6 +28,8 @@ impl<B: BorrowedBytes, Context: Drop, T: BorrowDecode<B, Context>> BorrowDecode<
 }
 
 impl<Context: Drop, T: Decode<Context>> Decode<Context> for RefCell<T> {
+    type Run = OneByOne;
+
     fn decode<D: Decoder<Context = Context>>(decoder: &mut D) -> Result<RefCell<T>, DecodeError> {
         decode_ref_cell::<D, ByDecode<T>>(decoder)
     }
@@ -30,6 +37,8 @@ impl<Context: Drop, T: Decode<Context>> Decode<Context> for RefCell<T> {
 
 impl<B: BorrowedBytes, Context: Drop, T: BorrowDecode<B, Context>> BorrowDecode<B, Context>
     for RefCell<T> {
+    type Run = OneByOne;
+
     fn borrow_decode<D: BorrowDecoder<B, Context = Context>>(
         decoder: &mut D,
     ) -> Result<RefCell<T>, DecodeError> {

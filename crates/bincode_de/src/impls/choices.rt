@@ -6,24 +6,23 @@ use crate::from_parts::FromParts;
 use bincode_base::error::DecodeError;
 use bincode_decoder::decoder::{BorrowDecoder, BorrowedBytes, Decoder};
 use bincode_decoder::truth::decode_truth;
-use bincode_values::values::ArrayOf;
+use bincode_values::values::OverDefaults;
 use bincode_wire::sums::Or;
 use bincode_wire::wholes::bound_from_parts;
 use bincode_wire::wire::Wire;
 use std::ops::Bound;
 
 impl<Context: Drop> Decode<Context> for bool {
+    type Run = OverDefaults;
+
     fn decode<D: Decoder<Context = Context>>(decoder: &mut D) -> Result<bool, DecodeError> {
         decode_truth(decoder)
-    }
-
-    #[inline(always)]
-    fn blank_array<A: ArrayOf<Self>>() -> Option<A> {
-        Some(A::of_defaults())
     }
 }
 
 impl<B: BorrowedBytes, Context: Drop> BorrowDecode<B, Context> for bool {
+    type Run = OverDefaults;
+
     #[inline]
     fn borrow_decode<D: BorrowDecoder<B, Context = Context>>(
         decoder: &mut D,

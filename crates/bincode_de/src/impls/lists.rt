@@ -8,12 +8,15 @@ use bincode_values::borrow::take_list;
 use bincode_values::lists::{
     decode_boxed_slice, decode_heap, decode_list, decode_queue, decode_rc_slice,
 };
+use bincode_values::values::OneByOne;
 use std::borrow::CowSlice;
 use std::boxed::BoxedSlice;
 use std::collections::{BinaryHeap, VecDeque};
 use std::rc::RcSlice;
 
 impl<Context: Drop, T: Decode<Context>> Decode<Context> for Vec<T> {
+    type Run = OneByOne;
+
     #[inline]
     fn decode<D: Decoder<Context = Context>>(decoder: &mut D) -> Result<Vec<T>, DecodeError> {
         decode_list::<D, ByDecode<T>>(decoder)
@@ -22,6 +25,8 @@ impl<Context: Drop, T: Decode<Context>> Decode<Context> for Vec<T> {
 
 impl<B: BorrowedBytes, Context: Drop, T: BorrowDecode<B, Context>> BorrowDecode<B, Context>
     for Vec<T> {
+    type Run = OneByOne;
+
     #[inline]
     fn borrow_decode<D: BorrowDecoder<B, Context = Context>>(
         decoder: &mut D,
@@ -31,6 +36,8 @@ impl<B: BorrowedBytes, Context: Drop, T: BorrowDecode<B, Context>> BorrowDecode<
 }
 
 impl<Context: Drop, T: Decode<Context>> Decode<Context> for VecDeque<T> {
+    type Run = OneByOne;
+
     #[inline]
     fn decode<D: Decoder<Context = Context>>(decoder: &mut D) -> Result<VecDeque<T>, DecodeError> {
         decode_queue::<D, ByDecode<T>>(decoder)
@@ -39,6 +46,8 @@ impl<Context: Drop, T: Decode<Context>> Decode<Context> for VecDeque<T> {
 
 impl<B: BorrowedBytes, Context: Drop, T: BorrowDecode<B, Context>> BorrowDecode<B, Context>
     for VecDeque<T> {
+    type Run = OneByOne;
+
     #[inline]
     fn borrow_decode<D: BorrowDecoder<B, Context = Context>>(
         decoder: &mut D,
@@ -48,6 +57,8 @@ impl<B: BorrowedBytes, Context: Drop, T: BorrowDecode<B, Context>> BorrowDecode<
 }
 
 impl<Context: Drop, T: Decode<Context> + Ord> Decode<Context> for BinaryHeap<T> {
+    type Run = OneByOne;
+
     #[inline]
     fn decode<D: Decoder<Context = Context>>(
         decoder: &mut D,
@@ -58,6 +69,8 @@ impl<Context: Drop, T: Decode<Context> + Ord> Decode<Context> for BinaryHeap<T> 
 
 impl<B: BorrowedBytes, Context: Drop, T: BorrowDecode<B, Context> + Ord> BorrowDecode<B, Context>
     for BinaryHeap<T> {
+    type Run = OneByOne;
+
     #[inline]
     fn borrow_decode<D: BorrowDecoder<B, Context = Context>>(
         decoder: &mut D,
@@ -67,6 +80,8 @@ impl<B: BorrowedBytes, Context: Drop, T: BorrowDecode<B, Context> + Ord> BorrowD
 }
 
 impl<Context: Drop, T: Decode<Context>> Decode<Context> for BoxedSlice<T> {
+    type Run = OneByOne;
+
     #[inline]
     fn decode<D: Decoder<Context = Context>>(
         decoder: &mut D,
@@ -77,6 +92,8 @@ impl<Context: Drop, T: Decode<Context>> Decode<Context> for BoxedSlice<T> {
 
 impl<B: BorrowedBytes, Context: Drop, T: BorrowDecode<B, Context>> BorrowDecode<B, Context>
     for BoxedSlice<T> {
+    type Run = OneByOne;
+
     #[inline]
     fn borrow_decode<D: BorrowDecoder<B, Context = Context>>(
         decoder: &mut D,
@@ -86,6 +103,8 @@ impl<B: BorrowedBytes, Context: Drop, T: BorrowDecode<B, Context>> BorrowDecode<
 }
 
 impl<Context: Drop, T: Decode<Context>> Decode<Context> for RcSlice<T> {
+    type Run = OneByOne;
+
     #[inline]
     fn decode<D: Decoder<Context = Context>>(decoder: &mut D) -> Result<RcSlice<T>, DecodeError> {
         decode_rc_slice::<D, ByDecode<T>>(decoder)
@@ -94,6 +113,8 @@ impl<Context: Drop, T: Decode<Context>> Decode<Context> for RcSlice<T> {
 
 impl<B: BorrowedBytes, Context: Drop, T: BorrowDecode<B, Context>> BorrowDecode<B, Context>
     for RcSlice<T> {
+    type Run = OneByOne;
+
     #[inline]
     fn borrow_decode<D: BorrowDecoder<B, Context = Context>>(
         decoder: &mut D,
@@ -103,6 +124,8 @@ impl<B: BorrowedBytes, Context: Drop, T: BorrowDecode<B, Context>> BorrowDecode<
 }
 
 impl<'a, Context: Drop, T: Decode<Context> + 'a> Decode<Context> for CowSlice<'a, T> {
+    type Run = OneByOne;
+
     #[inline]
     fn decode<D: Decoder<Context = Context>>(
         decoder: &mut D,
@@ -113,6 +136,8 @@ impl<'a, Context: Drop, T: Decode<Context> + 'a> Decode<Context> for CowSlice<'a
 }
 
 impl<'de, Context: Drop> BorrowDecode<&'de [u8], Context> for &'de [u8] {
+    type Run = OneByOne;
+
     #[inline]
     fn borrow_decode<D: BorrowDecoder<&'de [u8], Context = Context>>(
         decoder: &mut D,
@@ -122,6 +147,8 @@ impl<'de, Context: Drop> BorrowDecode<&'de [u8], Context> for &'de [u8] {
 }
 
 impl<'de, Context: Drop> BorrowDecode<&'de [u8], Context> for CowSlice<'de, u8> {
+    type Run = OneByOne;
+
     #[inline]
     fn borrow_decode<D: BorrowDecoder<&'de [u8], Context = Context>>(
         decoder: &mut D,

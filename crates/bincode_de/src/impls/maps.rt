@@ -5,10 +5,12 @@ use crate::ways::{ByBorrowDecode, ByDecode};
 use bincode_base::error::DecodeError;
 use bincode_decoder::decoder::{BorrowDecoder, BorrowedBytes, Decoder};
 use bincode_values::ordered::{decode_map, decode_set};
-use bincode_values::values::ArrayOf;
+use bincode_values::values::OneByOne;
 use std::collections::{BTreeMap, BTreeSet};
 
 impl<Context: Drop, K: Decode<Context> + Ord> Decode<Context> for BTreeSet<K> {
+    type Run = OneByOne;
+
     #[inline]
     fn decode<D: Decoder<Context = Context>>(decoder: &mut D) -> Result<BTreeSet<K>, DecodeError> {
         decode_set::<D, ByDecode<K>>(decoder)
@@ -17,6 +19,8 @@ impl<Context: Drop, K: Decode<Context> + Ord> Decode<Context> for BTreeSet<K> {
 
 impl<B: BorrowedBytes, Context: Drop, K: BorrowDecode<B, Context> + Ord> BorrowDecode<B, Context>
     for BTreeSet<K> {
+    type Run = OneByOne;
+
     #[inline]
     fn borrow_decode<D: BorrowDecoder<B, Context = Context>>(
         decoder: &mut D,
@@ -27,27 +31,13 @@ impl<B: BorrowedBytes, Context: Drop, K: BorrowDecode<B, Context> + Ord> BorrowD
 
 impl<Context: Drop, K: Decode<Context> + Ord, V: Decode<Context>> Decode<Context>
     for BTreeMap<K, V> {
+    type Run = OneByOne;
+
     #[inline]
     fn decode<D: Decoder<Context = Context>>(
         decoder: &mut D,
     ) -> Result<BTreeMap<K, V>, DecodeError> {
         decode_map::<D, K, V, ByDecode<(K, V)>>(decoder)
-    }
-
-    // Written out, since the provided ones aren't proved for entries of any size.
-    #[inline(always)]
-    fn blank_array<A: ArrayOf<Self>>() -> Option<A> {
-        None
-    }
-
-    #[inline(always)]
-    fn decode_at_once<D: Decoder<Context = Context>>(
-        decoder: &mut D,
-        values: &mut [Self],
-    ) -> Option<Result<(), DecodeError>> {
-        let _ = &*decoder;
-        let _ = &*values;
-        None
     }
 }
 
@@ -57,6 +47,8 @@ impl<
     K: BorrowDecode<B, Context> + Ord,
     V: BorrowDecode<B, Context>,
 > BorrowDecode<B, Context> for BTreeMap<K, V> {
+    type Run = OneByOne;
+
     #[inline]
     fn borrow_decode<D: BorrowDecoder<B, Context = Context>>(
         decoder: &mut D,

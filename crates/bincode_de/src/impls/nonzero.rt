@@ -5,12 +5,15 @@ use crate::decode::Decode;
 use bincode_base::error::{DecodeError, IntegerType};
 use bincode_decoder::decoder::{BorrowDecoder, BorrowedBytes, Decoder};
 use bincode_decoder::integers::not_zero;
+use bincode_values::values::OneByOne;
 use std::num::{
     NonZeroI8, NonZeroI16, NonZeroI32, NonZeroI64, NonZeroI128, NonZeroIsize, NonZeroU8,
     NonZeroU16, NonZeroU32, NonZeroU64, NonZeroU128, NonZeroUsize,
 };
 
 impl<Context: Drop> Decode<Context> for NonZeroU8 {
+    type Run = OneByOne;
+
     #[inline]
     fn decode<D: Decoder<Context = Context>>(decoder: &mut D) -> Result<NonZeroU8, DecodeError> {
         let n = u8::decode(decoder)?;
@@ -19,6 +22,8 @@ impl<Context: Drop> Decode<Context> for NonZeroU8 {
 }
 
 impl<B: BorrowedBytes, Context: Drop> BorrowDecode<B, Context> for NonZeroU8 {
+    type Run = OneByOne;
+
     #[inline]
     fn borrow_decode<D: BorrowDecoder<B, Context = Context>>(
         decoder: &mut D,
@@ -28,6 +33,8 @@ impl<B: BorrowedBytes, Context: Drop> BorrowDecode<B, Context> for NonZeroU8 {
 }
 
 impl<Context: Drop> Decode<Context> for NonZeroU16 {
+    type Run = OneByOne;
+
     #[inline]
     fn decode<D: Decoder<Context = Context>>(decoder: &mut D) -> Result<NonZeroU16, DecodeError> {
         let n = u16::decode(decoder)?;
@@ -36,6 +43,8 @@ impl<Context: Drop> Decode<Context> for NonZeroU16 {
 }
 
 impl<B: BorrowedBytes, Context: Drop> BorrowDecode<B, Context> for NonZeroU16 {
+    type Run = OneByOne;
+
     #[inline]
     fn borrow_decode<D: BorrowDecoder<B, Context = Context>>(
         decoder: &mut D,
@@ -45,6 +54,8 @@ impl<B: BorrowedBytes, Context: Drop> BorrowDecode<B, Context> for NonZeroU16 {
 }
 
 impl<Context: Drop> Decode<Context> for NonZeroU32 {
+    type Run = OneByOne;
+
     #[inline]
     fn decode<D: Decoder<Context = Context>>(decoder: &mut D) -> Result<NonZeroU32, DecodeError> {
         let n = u32::decode(decoder)?;
@@ -53,6 +64,8 @@ impl<Context: Drop> Decode<Context> for NonZeroU32 {
 }
 
 impl<B: BorrowedBytes, Context: Drop> BorrowDecode<B, Context> for NonZeroU32 {
+    type Run = OneByOne;
+
     #[inline]
     fn borrow_decode<D: BorrowDecoder<B, Context = Context>>(
         decoder: &mut D,
@@ -62,6 +75,8 @@ impl<B: BorrowedBytes, Context: Drop> BorrowDecode<B, Context> for NonZeroU32 {
 }
 
 impl<Context: Drop> Decode<Context> for NonZeroU64 {
+    type Run = OneByOne;
+
     #[inline]
     fn decode<D: Decoder<Context = Context>>(decoder: &mut D) -> Result<NonZeroU64, DecodeError> {
         let n = u64::decode(decoder)?;
@@ -70,6 +85,8 @@ impl<Context: Drop> Decode<Context> for NonZeroU64 {
 }
 
 impl<B: BorrowedBytes, Context: Drop> BorrowDecode<B, Context> for NonZeroU64 {
+    type Run = OneByOne;
+
     #[inline]
     fn borrow_decode<D: BorrowDecoder<B, Context = Context>>(
         decoder: &mut D,
@@ -79,6 +96,8 @@ impl<B: BorrowedBytes, Context: Drop> BorrowDecode<B, Context> for NonZeroU64 {
 }
 
 impl<Context: Drop> Decode<Context> for NonZeroU128 {
+    type Run = OneByOne;
+
     #[inline]
     fn decode<D: Decoder<Context = Context>>(decoder: &mut D) -> Result<NonZeroU128, DecodeError> {
         let n = u128::decode(decoder)?;
@@ -87,6 +106,8 @@ impl<Context: Drop> Decode<Context> for NonZeroU128 {
 }
 
 impl<B: BorrowedBytes, Context: Drop> BorrowDecode<B, Context> for NonZeroU128 {
+    type Run = OneByOne;
+
     #[inline]
     fn borrow_decode<D: BorrowDecoder<B, Context = Context>>(
         decoder: &mut D,
@@ -96,6 +117,8 @@ impl<B: BorrowedBytes, Context: Drop> BorrowDecode<B, Context> for NonZeroU128 {
 }
 
 impl<Context: Drop> Decode<Context> for NonZeroUsize {
+    type Run = OneByOne;
+
     #[inline]
     fn decode<D: Decoder<Context = Context>>(decoder: &mut D) -> Result<NonZeroUsize, DecodeError> {
         let n = usize::decode(decoder)?;
@@ -104,6 +127,8 @@ impl<Context: Drop> Decode<Context> for NonZeroUsize {
 }
 
 impl<B: BorrowedBytes, Context: Drop> BorrowDecode<B, Context> for NonZeroUsize {
+    type Run = OneByOne;
+
     #[inline]
     fn borrow_decode<D: BorrowDecoder<B, Context = Context>>(
         decoder: &mut D,
@@ -113,6 +138,8 @@ impl<B: BorrowedBytes, Context: Drop> BorrowDecode<B, Context> for NonZeroUsize 
 }
 
 impl<Context: Drop> Decode<Context> for NonZeroI8 {
+    type Run = OneByOne;
+
     #[inline]
     fn decode<D: Decoder<Context = Context>>(decoder: &mut D) -> Result<NonZeroI8, DecodeError> {
         let n = i8::decode(decoder)?;
@@ -121,6 +148,8 @@ impl<Context: Drop> Decode<Context> for NonZeroI8 {
 }
 
 impl<B: BorrowedBytes, Context: Drop> BorrowDecode<B, Context> for NonZeroI8 {
+    type Run = OneByOne;
+
     #[inline]
     fn borrow_decode<D: BorrowDecoder<B, Context = Context>>(
         decoder: &mut D,
@@ -130,6 +159,8 @@ impl<B: BorrowedBytes, Context: Drop> BorrowDecode<B, Context> for NonZeroI8 {
 }
 
 impl<Context: Drop> Decode<Context> for NonZeroI16 {
+    type Run = OneByOne;
+
     #[inline]
     fn decode<D: Decoder<Context = Context>>(decoder: &mut D) -> Result<NonZeroI16, DecodeError> {
         let n = i16::decode(decoder)?;
@@ -138,6 +169,8 @@ impl<Context: Drop> Decode<Context> for NonZeroI16 {
 }
 
 impl<B: BorrowedBytes, Context: Drop> BorrowDecode<B, Context> for NonZeroI16 {
+    type Run = OneByOne;
+
     #[inline]
     fn borrow_decode<D: BorrowDecoder<B, Context = Context>>(
         decoder: &mut D,
@@ -147,6 +180,8 @@ impl<B: BorrowedBytes, Context: Drop> BorrowDecode<B, Context> for NonZeroI16 {
 }
 
 impl<Context: Drop> Decode<Context> for NonZeroI32 {
+    type Run = OneByOne;
+
     #[inline]
     fn decode<D: Decoder<Context = Context>>(decoder: &mut D) -> Result<NonZeroI32, DecodeError> {
         let n = i32::decode(decoder)?;
@@ -155,6 +190,8 @@ impl<Context: Drop> Decode<Context> for NonZeroI32 {
 }
 
 impl<B: BorrowedBytes, Context: Drop> BorrowDecode<B, Context> for NonZeroI32 {
+    type Run = OneByOne;
+
     #[inline]
     fn borrow_decode<D: BorrowDecoder<B, Context = Context>>(
         decoder: &mut D,
@@ -164,6 +201,8 @@ impl<B: BorrowedBytes, Context: Drop> BorrowDecode<B, Context> for NonZeroI32 {
 }
 
 impl<Context: Drop> Decode<Context> for NonZeroI64 {
+    type Run = OneByOne;
+
     #[inline]
     fn decode<D: Decoder<Context = Context>>(decoder: &mut D) -> Result<NonZeroI64, DecodeError> {
         let n = i64::decode(decoder)?;
@@ -172,6 +211,8 @@ impl<Context: Drop> Decode<Context> for NonZeroI64 {
 }
 
 impl<B: BorrowedBytes, Context: Drop> BorrowDecode<B, Context> for NonZeroI64 {
+    type Run = OneByOne;
+
     #[inline]
     fn borrow_decode<D: BorrowDecoder<B, Context = Context>>(
         decoder: &mut D,
@@ -181,6 +222,8 @@ impl<B: BorrowedBytes, Context: Drop> BorrowDecode<B, Context> for NonZeroI64 {
 }
 
 impl<Context: Drop> Decode<Context> for NonZeroI128 {
+    type Run = OneByOne;
+
     #[inline]
     fn decode<D: Decoder<Context = Context>>(decoder: &mut D) -> Result<NonZeroI128, DecodeError> {
         let n = i128::decode(decoder)?;
@@ -189,6 +232,8 @@ impl<Context: Drop> Decode<Context> for NonZeroI128 {
 }
 
 impl<B: BorrowedBytes, Context: Drop> BorrowDecode<B, Context> for NonZeroI128 {
+    type Run = OneByOne;
+
     #[inline]
     fn borrow_decode<D: BorrowDecoder<B, Context = Context>>(
         decoder: &mut D,
@@ -198,6 +243,8 @@ impl<B: BorrowedBytes, Context: Drop> BorrowDecode<B, Context> for NonZeroI128 {
 }
 
 impl<Context: Drop> Decode<Context> for NonZeroIsize {
+    type Run = OneByOne;
+
     #[inline]
     fn decode<D: Decoder<Context = Context>>(decoder: &mut D) -> Result<NonZeroIsize, DecodeError> {
         let n = isize::decode(decoder)?;
@@ -206,6 +253,8 @@ impl<Context: Drop> Decode<Context> for NonZeroIsize {
 }
 
 impl<B: BorrowedBytes, Context: Drop> BorrowDecode<B, Context> for NonZeroIsize {
+    type Run = OneByOne;
+
     #[inline]
     fn borrow_decode<D: BorrowDecoder<B, Context = Context>>(
         decoder: &mut D,

@@ -3,32 +3,22 @@
 use crate::borrow_decode::BorrowDecode;
 use crate::decode::Decode;
 use bincode_base::error::DecodeError;
-use bincode_decoder::bytes::decode_bytes;
 use bincode_decoder::decoder::{BorrowDecoder, BorrowedBytes, Decoder};
 use bincode_decoder::integers::{decode_byte, decode_integer, decode_signed_byte};
-use bincode_values::values::ArrayOf;
+use bincode_values::values::{AtOnce, OverDefaults};
 
 impl<Context: Drop> Decode<Context> for u8 {
+    type Run = AtOnce;
+
     #[inline(always)]
     fn decode<D: Decoder<Context = Context>>(decoder: &mut D) -> Result<u8, DecodeError> {
         decode_byte(decoder)
     }
-
-    #[inline(always)]
-    fn blank_array<A: ArrayOf<Self>>() -> Option<A> {
-        Some(A::of_defaults())
-    }
-
-    #[inline(always)]
-    fn decode_at_once<D: Decoder<Context = Context>>(
-        decoder: &mut D,
-        values: &mut [u8],
-    ) -> Option<Result<(), DecodeError>> {
-        Some(decode_bytes(decoder, values))
-    }
 }
 
 impl<B: BorrowedBytes, Context: Drop> BorrowDecode<B, Context> for u8 {
+    type Run = AtOnce;
+
     #[inline(always)]
     fn borrow_decode<D: BorrowDecoder<B, Context = Context>>(
         decoder: &mut D,
@@ -38,18 +28,17 @@ impl<B: BorrowedBytes, Context: Drop> BorrowDecode<B, Context> for u8 {
 }
 
 impl<Context: Drop> Decode<Context> for u16 {
+    type Run = OverDefaults;
+
     #[inline(always)]
     fn decode<D: Decoder<Context = Context>>(decoder: &mut D) -> Result<u16, DecodeError> {
         decode_integer(decoder)
     }
-
-    #[inline(always)]
-    fn blank_array<A: ArrayOf<Self>>() -> Option<A> {
-        Some(A::of_defaults())
-    }
 }
 
 impl<B: BorrowedBytes, Context: Drop> BorrowDecode<B, Context> for u16 {
+    type Run = OverDefaults;
+
     #[inline(always)]
     fn borrow_decode<D: BorrowDecoder<B, Context = Context>>(
         decoder: &mut D,
@@ -59,18 +48,17 @@ impl<B: BorrowedBytes, Context: Drop> BorrowDecode<B, Context> for u16 {
 }
 
 impl<Context: Drop> Decode<Context> for u32 {
+    type Run = OverDefaults;
+
     #[inline(always)]
     fn decode<D: Decoder<Context = Context>>(decoder: &mut D) -> Result<u32, DecodeError> {
         decode_integer(decoder)
     }
-
-    #[inline(always)]
-    fn blank_array<A: ArrayOf<Self>>() -> Option<A> {
-        Some(A::of_defaults())
-    }
 }
 
 impl<B: BorrowedBytes, Context: Drop> BorrowDecode<B, Context> for u32 {
+    type Run = OverDefaults;
+
     #[inline(always)]
     fn borrow_decode<D: BorrowDecoder<B, Context = Context>>(
         decoder: &mut D,
@@ -80,18 +68,17 @@ impl<B: BorrowedBytes, Context: Drop> BorrowDecode<B, Context> for u32 {
 }
 
 impl<Context: Drop> Decode<Context> for u64 {
+    type Run = OverDefaults;
+
     #[inline(always)]
     fn decode<D: Decoder<Context = Context>>(decoder: &mut D) -> Result<u64, DecodeError> {
         decode_integer(decoder)
     }
-
-    #[inline(always)]
-    fn blank_array<A: ArrayOf<Self>>() -> Option<A> {
-        Some(A::of_defaults())
-    }
 }
 
 impl<B: BorrowedBytes, Context: Drop> BorrowDecode<B, Context> for u64 {
+    type Run = OverDefaults;
+
     #[inline(always)]
     fn borrow_decode<D: BorrowDecoder<B, Context = Context>>(
         decoder: &mut D,
@@ -101,18 +88,17 @@ impl<B: BorrowedBytes, Context: Drop> BorrowDecode<B, Context> for u64 {
 }
 
 impl<Context: Drop> Decode<Context> for u128 {
+    type Run = OverDefaults;
+
     #[inline(always)]
     fn decode<D: Decoder<Context = Context>>(decoder: &mut D) -> Result<u128, DecodeError> {
         decode_integer(decoder)
     }
-
-    #[inline(always)]
-    fn blank_array<A: ArrayOf<Self>>() -> Option<A> {
-        Some(A::of_defaults())
-    }
 }
 
 impl<B: BorrowedBytes, Context: Drop> BorrowDecode<B, Context> for u128 {
+    type Run = OverDefaults;
+
     #[inline(always)]
     fn borrow_decode<D: BorrowDecoder<B, Context = Context>>(
         decoder: &mut D,
@@ -122,18 +108,17 @@ impl<B: BorrowedBytes, Context: Drop> BorrowDecode<B, Context> for u128 {
 }
 
 impl<Context: Drop> Decode<Context> for usize {
+    type Run = OverDefaults;
+
     #[inline(always)]
     fn decode<D: Decoder<Context = Context>>(decoder: &mut D) -> Result<usize, DecodeError> {
         decode_integer(decoder)
     }
-
-    #[inline(always)]
-    fn blank_array<A: ArrayOf<Self>>() -> Option<A> {
-        Some(A::of_defaults())
-    }
 }
 
 impl<B: BorrowedBytes, Context: Drop> BorrowDecode<B, Context> for usize {
+    type Run = OverDefaults;
+
     #[inline(always)]
     fn borrow_decode<D: BorrowDecoder<B, Context = Context>>(
         decoder: &mut D,
@@ -143,18 +128,17 @@ impl<B: BorrowedBytes, Context: Drop> BorrowDecode<B, Context> for usize {
 }
 
 impl<Context: Drop> Decode<Context> for i8 {
+    type Run = OverDefaults;
+
     #[inline(always)]
     fn decode<D: Decoder<Context = Context>>(decoder: &mut D) -> Result<i8, DecodeError> {
         decode_signed_byte(decoder)
     }
-
-    #[inline(always)]
-    fn blank_array<A: ArrayOf<Self>>() -> Option<A> {
-        Some(A::of_defaults())
-    }
 }
 
 impl<B: BorrowedBytes, Context: Drop> BorrowDecode<B, Context> for i8 {
+    type Run = OverDefaults;
+
     #[inline(always)]
     fn borrow_decode<D: BorrowDecoder<B, Context = Context>>(
         decoder: &mut D,
@@ -164,18 +148,17 @@ impl<B: BorrowedBytes, Context: Drop> BorrowDecode<B, Context> for i8 {
 }
 
 impl<Context: Drop> Decode<Context> for i16 {
+    type Run = OverDefaults;
+
     #[inline(always)]
     fn decode<D: Decoder<Context = Context>>(decoder: &mut D) -> Result<i16, DecodeError> {
         decode_integer(decoder)
     }
-
-    #[inline(always)]
-    fn blank_array<A: ArrayOf<Self>>() -> Option<A> {
-        Some(A::of_defaults())
-    }
 }
 
 impl<B: BorrowedBytes, Context: Drop> BorrowDecode<B, Context> for i16 {
+    type Run = OverDefaults;
+
     #[inline(always)]
     fn borrow_decode<D: BorrowDecoder<B, Context = Context>>(
         decoder: &mut D,
@@ -185,18 +168,17 @@ impl<B: BorrowedBytes, Context: Drop> BorrowDecode<B, Context> for i16 {
 }
 
 impl<Context: Drop> Decode<Context> for i32 {
+    type Run = OverDefaults;
+
     #[inline(always)]
     fn decode<D: Decoder<Context = Context>>(decoder: &mut D) -> Result<i32, DecodeError> {
         decode_integer(decoder)
     }
-
-    #[inline(always)]
-    fn blank_array<A: ArrayOf<Self>>() -> Option<A> {
-        Some(A::of_defaults())
-    }
 }
 
 impl<B: BorrowedBytes, Context: Drop> BorrowDecode<B, Context> for i32 {
+    type Run = OverDefaults;
+
     #[inline(always)]
     fn borrow_decode<D: BorrowDecoder<B, Context = Context>>(
         decoder: &mut D,
@@ -206,18 +188,17 @@ impl<B: BorrowedBytes, Context: Drop> BorrowDecode<B, Context> for i32 {
 }
 
 impl<Context: Drop> Decode<Context> for i64 {
+    type Run = OverDefaults;
+
     #[inline(always)]
     fn decode<D: Decoder<Context = Context>>(decoder: &mut D) -> Result<i64, DecodeError> {
         decode_integer(decoder)
     }
-
-    #[inline(always)]
-    fn blank_array<A: ArrayOf<Self>>() -> Option<A> {
-        Some(A::of_defaults())
-    }
 }
 
 impl<B: BorrowedBytes, Context: Drop> BorrowDecode<B, Context> for i64 {
+    type Run = OverDefaults;
+
     #[inline(always)]
     fn borrow_decode<D: BorrowDecoder<B, Context = Context>>(
         decoder: &mut D,
@@ -227,18 +208,17 @@ impl<B: BorrowedBytes, Context: Drop> BorrowDecode<B, Context> for i64 {
 }
 
 impl<Context: Drop> Decode<Context> for i128 {
+    type Run = OverDefaults;
+
     #[inline(always)]
     fn decode<D: Decoder<Context = Context>>(decoder: &mut D) -> Result<i128, DecodeError> {
         decode_integer(decoder)
     }
-
-    #[inline(always)]
-    fn blank_array<A: ArrayOf<Self>>() -> Option<A> {
-        Some(A::of_defaults())
-    }
 }
 
 impl<B: BorrowedBytes, Context: Drop> BorrowDecode<B, Context> for i128 {
+    type Run = OverDefaults;
+
     #[inline(always)]
     fn borrow_decode<D: BorrowDecoder<B, Context = Context>>(
         decoder: &mut D,
@@ -248,18 +228,17 @@ impl<B: BorrowedBytes, Context: Drop> BorrowDecode<B, Context> for i128 {
 }
 
 impl<Context: Drop> Decode<Context> for isize {
+    type Run = OverDefaults;
+
     #[inline(always)]
     fn decode<D: Decoder<Context = Context>>(decoder: &mut D) -> Result<isize, DecodeError> {
         decode_integer(decoder)
     }
-
-    #[inline(always)]
-    fn blank_array<A: ArrayOf<Self>>() -> Option<A> {
-        Some(A::of_defaults())
-    }
 }
 
 impl<B: BorrowedBytes, Context: Drop> BorrowDecode<B, Context> for isize {
+    type Run = OverDefaults;
+
     #[inline(always)]
     fn borrow_decode<D: BorrowDecoder<B, Context = Context>>(
         decoder: &mut D,

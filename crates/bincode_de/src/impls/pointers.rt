@@ -6,6 +6,7 @@ use crate::ways::{ByBorrowDecode, ByDecode};
 use bincode_base::error::DecodeError;
 use bincode_decoder::decoder::{BorrowDecoder, BorrowedBytes, Decoder};
 use bincode_values::pointers::{decode_arc, decode_box, decode_rc};
+use bincode_values::values::OneByOne;
 use bincode_wire::scalars::Scalar;
 use bincode_wire::wire::Wire;
 use std::borrow::Cow;
@@ -13,6 +14,8 @@ use std::rc::Rc;
 use std::sync::Arc;
 
 impl<Context: Drop, T: Decode<Context>> Decode<Context> for Box<T> {
+    type Run = OneByOne;
+
     #[inline]
     fn decode<D: Decoder<Context = Context>>(decoder: &mut D) -> Result<Box<T>, DecodeError> {
         decode_box::<D, ByDecode<T>>(decoder)
@@ -21,6 +24,8 @@ impl<Context: Drop, T: Decode<Context>> Decode<Context> for Box<T> {
 
 impl<B: BorrowedBytes, Context: Drop, T: BorrowDecode<B, Context>> BorrowDecode<B, Context>
     for Box<T> {
+    type Run = OneByOne;
+
     #[inline]
     fn borrow_decode<D: BorrowDecoder<B, Context = Context>>(
         decoder: &mut D,
@@ -30,6 +35,8 @@ impl<B: BorrowedBytes, Context: Drop, T: BorrowDecode<B, Context>> BorrowDecode<
 }
 
 impl<Context: Drop, T: Decode<Context>> Decode<Context> for Rc<T> {
+    type Run = OneByOne;
+
     #[inline]
     fn decode<D: Decoder<Context = Context>>(decoder: &mut D) -> Result<Rc<T>, DecodeError> {
         decode_rc::<D, ByDecode<T>>(decoder)
@@ -38,6 +45,8 @@ impl<Context: Drop, T: Decode<Context>> Decode<Context> for Rc<T> {
 
 impl<B: BorrowedBytes, Context: Drop, T: BorrowDecode<B, Context>> BorrowDecode<B, Context>
     for Rc<T> {
+    type Run = OneByOne;
+
     #[inline]
     fn borrow_decode<D: BorrowDecoder<B, Context = Context>>(
         decoder: &mut D,
@@ -47,6 +56,8 @@ impl<B: BorrowedBytes, Context: Drop, T: BorrowDecode<B, Context>> BorrowDecode<
 }
 
 impl<Context: Drop, T: Decode<Context>> Decode<Context> for Arc<T> {
+    type Run = OneByOne;
+
     #[inline]
     fn decode<D: Decoder<Context = Context>>(decoder: &mut D) -> Result<Arc<T>, DecodeError> {
         decode_arc::<D, ByDecode<T>>(decoder)
@@ -55,6 +66,8 @@ impl<Context: Drop, T: Decode<Context>> Decode<Context> for Arc<T> {
 
 impl<B: BorrowedBytes, Context: Drop, T: BorrowDecode<B, Context>> BorrowDecode<B, Context>
     for Arc<T> {
+    type Run = OneByOne;
+
     #[inline]
     fn borrow_decode<D: BorrowDecoder<B, Context = Context>>(
         decoder: &mut D,

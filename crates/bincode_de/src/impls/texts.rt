@@ -5,11 +5,14 @@ use bincode_base::error::DecodeError;
 use bincode_decoder::borrow::take_text;
 use bincode_decoder::decoder::{BorrowDecoder, BorrowedBytes, Decoder};
 use bincode_decoder::texts::decode_text;
+use bincode_values::values::OneByOne;
 use std::borrow::CowStr;
 use std::boxed::BoxedStr;
 use std::rc::RcStr;
 
 impl<Context: Drop> Decode<Context> for String {
+    type Run = OneByOne;
+
     #[inline]
     fn decode<D: Decoder<Context = Context>>(decoder: &mut D) -> Result<String, DecodeError> {
         decode_text(decoder)
@@ -17,6 +20,8 @@ impl<Context: Drop> Decode<Context> for String {
 }
 
 impl<B: BorrowedBytes, Context: Drop> BorrowDecode<B, Context> for String {
+    type Run = OneByOne;
+
     #[inline]
     fn borrow_decode<D: BorrowDecoder<B, Context = Context>>(
         decoder: &mut D,
@@ -26,6 +31,8 @@ impl<B: BorrowedBytes, Context: Drop> BorrowDecode<B, Context> for String {
 }
 
 impl<Context: Drop> Decode<Context> for BoxedStr {
+    type Run = OneByOne;
+
     #[inline]
     fn decode<D: Decoder<Context = Context>>(decoder: &mut D) -> Result<BoxedStr, DecodeError> {
         let text = decode_text(decoder)?;
@@ -34,6 +41,8 @@ impl<Context: Drop> Decode<Context> for BoxedStr {
 }
 
 impl<B: BorrowedBytes, Context: Drop> BorrowDecode<B, Context> for BoxedStr {
+    type Run = OneByOne;
+
     #[inline]
     fn borrow_decode<D: BorrowDecoder<B, Context = Context>>(
         decoder: &mut D,
@@ -43,6 +52,8 @@ impl<B: BorrowedBytes, Context: Drop> BorrowDecode<B, Context> for BoxedStr {
 }
 
 impl<Context: Drop> Decode<Context> for RcStr {
+    type Run = OneByOne;
+
     #[inline]
     fn decode<D: Decoder<Context = Context>>(decoder: &mut D) -> Result<RcStr, DecodeError> {
         let text = decode_text(decoder)?;
@@ -54,6 +65,8 @@ impl<Context: Drop> Decode<Context> for RcStr {
 }
 
 impl<B: BorrowedBytes, Context: Drop> BorrowDecode<B, Context> for RcStr {
+    type Run = OneByOne;
+
     #[inline]
     fn borrow_decode<D: BorrowDecoder<B, Context = Context>>(
         decoder: &mut D,
@@ -63,6 +76,8 @@ impl<B: BorrowedBytes, Context: Drop> BorrowDecode<B, Context> for RcStr {
 }
 
 impl<'a, Context: Drop> Decode<Context> for CowStr<'a> {
+    type Run = OneByOne;
+
     #[inline]
     fn decode<D: Decoder<Context = Context>>(decoder: &mut D) -> Result<CowStr<'a>, DecodeError> {
         let text = decode_text(decoder)?;
@@ -71,6 +86,8 @@ impl<'a, Context: Drop> Decode<Context> for CowStr<'a> {
 }
 
 impl<'de, Context: Drop> BorrowDecode<&'de [u8], Context> for &'de str {
+    type Run = OneByOne;
+
     #[inline]
     fn borrow_decode<D: BorrowDecoder<&'de [u8], Context = Context>>(
         decoder: &mut D,
@@ -80,6 +97,8 @@ impl<'de, Context: Drop> BorrowDecode<&'de [u8], Context> for &'de str {
 }
 
 impl<'de, Context: Drop> BorrowDecode<&'de [u8], Context> for CowStr<'de> {
+    type Run = OneByOne;
+
     #[inline]
     fn borrow_decode<D: BorrowDecoder<&'de [u8], Context = Context>>(
         decoder: &mut D,

@@ -6,23 +6,22 @@ use crate::ways::{ByBorrowDecode, ByDecode};
 use bincode_base::error::DecodeError;
 use bincode_decoder::decoder::{BorrowDecoder, BorrowedBytes, Decoder};
 use bincode_values::rows::decode_row;
-use bincode_values::values::ArrayOf;
+use bincode_values::values::{OneByOne, OverDefaults};
 use bincode_wire::rows::{LongRow, Row};
 use bincode_wire::wire::Wire;
 
 impl<Context: Drop> Decode<Context> for () {
+    type Run = OverDefaults;
+
     #[inline]
     fn decode<D: Decoder<Context = Context>>(_decoder: &mut D) -> Result<(), DecodeError> {
         Ok(())
     }
-
-    #[inline(always)]
-    fn blank_array<A: ArrayOf<Self>>() -> Option<A> {
-        Some(A::of_defaults())
-    }
 }
 
 impl<B: BorrowedBytes, Context: Drop> BorrowDecode<B, Context> for () {
+    type Run = OverDefaults;
+
     #[inline]
     fn borrow_decode<D: BorrowDecoder<B, Context = Context>>(
         decoder: &mut D,
@@ -33,6 +32,8 @@ impl<B: BorrowedBytes, Context: Drop> BorrowDecode<B, Context> for () {
 
 impl<Context: Drop, A: Decode<Context>, Others: Decode<Context>> Decode<Context>
     for Row<A, Others> {
+    type Run = OneByOne;
+
     #[inline]
     fn decode<D: Decoder<Context = Context>>(decoder: &mut D) -> Result<Self, DecodeError> {
         decode_row::<D, ByDecode<A>, ByDecode<Others>>(decoder)
@@ -45,6 +46,8 @@ impl<
     A: BorrowDecode<B, Context>,
     Others: BorrowDecode<B, Context>,
 > BorrowDecode<B, Context> for Row<A, Others> {
+    type Run = OneByOne;
+
     #[inline]
     fn borrow_decode<D: BorrowDecoder<B, Context = Context>>(
         decoder: &mut D,
@@ -61,6 +64,8 @@ impl<
     D: Decode<Context>,
     Others: Decode<Context>,
 > Decode<Context> for LongRow<A, B, C, D, Others> {
+    type Run = OneByOne;
+
     #[inline]
     fn decode<Z: Decoder<Context = Context>>(decoder: &mut Z) -> Result<Self, DecodeError> {
         let Row(a, Row(b, Row(c, Row(d, others)))) = Decode::decode(decoder)?;
@@ -77,6 +82,8 @@ impl<
     D: BorrowDecode<Z, Context>,
     Others: BorrowDecode<Z, Context>,
 > BorrowDecode<Z, Context> for LongRow<A, B, C, D, Others> {
+    type Run = OneByOne;
+
     #[inline]
     fn borrow_decode<Y: BorrowDecoder<Z, Context = Context>>(
         decoder: &mut Y,

@@ -28,9 +28,10 @@ impl<'storage> BorrowReader<'storage> for SliceReader<'storage> {
         ensures left { IfErr result (λ _. left_of self.new ≡ left_of self.old) }
     {
         let slice = self.slice;
-        if slice.len() < count || slice.len() - count < self.taken {
+        let left = self.bytes_left();
+        if left < count {
             return Err(DecodeError::UnexpectedEnd {
-                additional: count - self.bytes_left(),
+                additional: count - left,
             });
         }
         let end = self.taken + count;
