@@ -1,5 +1,6 @@
 //! An enum that holds text of what it is decoded from.
 ghost use Rattle.std.specs.Prelude.{◌≡◌};
+ghost use Rattle.bincode.specs.TypeLaws.{CanonicalWords, ExactWords, PlainWords};
 
 use bincode::de::{BorrowDecode, BorrowDecoder, Named, OneByOne};
 use bincode::enc::{Encode, Encoder, encode_variant};
@@ -42,19 +43,25 @@ impl<'a> Wire for Event<'a> {
 }
 
 impl<'a> Plain for Event<'a> {
-    fn tell_plain() {
+    fn tell_plain()
+        ensures { PlainWords ⟦<Event<'a> as Wire>⟧.its }
+    {
         plain_by_parts::<Parts<'a>, Event<'a>>();
     }
 }
 
 impl<'a> Exact for Event<'a> {
-    fn tell_exact() {
+    fn tell_exact()
+        ensures { ExactWords ⟦<Event<'a> as Wire>⟧.its ⟦<Event<'a> as PartialEq>⟧.eq }
+    {
         exact_by_parts::<Parts<'a>, Event<'a>>();
     }
 }
 
 impl<'a> Canonical for Event<'a> {
-    fn tell_canonical() {
+    fn tell_canonical()
+        ensures { CanonicalWords ⟦<Event<'a> as Wire>⟧.its }
+    {
         canonical_by_parts::<Parts<'a>, Event<'a>>();
     }
 }
@@ -68,7 +75,8 @@ impl<'a> Named for Event<'a> {
 impl<'a> Encode for Event<'a> {
     fn tell_valid(&self) {
         match self {
-            Event::Start | Event::Stop(_) => {}
+            Event::Start => {}
+            Event::Stop(code) => code.tell_valid(),
             Event::Note(text) => text.tell_valid(),
         }
     }

@@ -1,5 +1,6 @@
 //! A struct that holds bytes of what it is decoded from.
 ghost use Rattle.std.specs.Prelude.{◌≡◌};
+ghost use Rattle.bincode.specs.TypeLaws.{CanonicalWords, ExactWords, PlainWords};
 
 use bincode::de::{BorrowDecode, BorrowDecoder, OneByOne};
 use bincode::enc::{Encode, Encoder};
@@ -33,19 +34,25 @@ impl<'a> Wire for Note<'a> {
 }
 
 impl<'a> Plain for Note<'a> {
-    fn tell_plain() {
+    fn tell_plain()
+        ensures { PlainWords ⟦<Note<'a> as Wire>⟧.its }
+    {
         plain_by_parts::<Parts<'a>, Note<'a>>();
     }
 }
 
 impl<'a> Exact for Note<'a> {
-    fn tell_exact() {
+    fn tell_exact()
+        ensures { ExactWords ⟦<Note<'a> as Wire>⟧.its ⟦<Note<'a> as PartialEq>⟧.eq }
+    {
         exact_by_fields::<Parts<'a>, Note<'a>, _>();
     }
 }
 
 impl<'a> Canonical for Note<'a> {
-    fn tell_canonical() {
+    fn tell_canonical()
+        ensures { CanonicalWords ⟦<Note<'a> as Wire>⟧.its }
+    {
         canonical_by_parts::<Parts<'a>, Note<'a>>();
     }
 }
