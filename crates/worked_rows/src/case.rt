@@ -137,11 +137,11 @@ pub struct Decoding<T, L> {
     pub answer: Answer<T>,
 }
 
-/// An input, the texts that it lends, each with the place where its bytes begin, and the length of their word.
+/// An input, the texts that it lends, and the length of their word.
 #[derive(Drop)]
 pub struct Lending {
     pub input: &'static [u8],
-    pub texts: &'static [(&'static str, usize)],
+    pub texts: &'static [&'static str],
     pub length: usize,
 }
 

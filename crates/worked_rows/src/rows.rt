@@ -440,7 +440,7 @@ static TABLE: [Row; 60] = [
         label: "15a",
         case: Case::Borrow(Borrowed::List(Lending {
             input: &[3, 3, 97, 98, 99, 3, 100, 101, 102, 3, 103, 104, 105],
-            texts: &[("abc", 2), ("def", 6), ("ghi", 10)],
+            texts: &["abc", "def", "ghi"],
             length: 13,
         })),
     },
@@ -448,7 +448,7 @@ static TABLE: [Row; 60] = [
         label: "15b",
         case: Case::Borrow(Borrowed::Three(Lending {
             input: &[3, 97, 98, 99, 3, 100, 101, 102, 3, 103, 104, 105],
-            texts: &[("abc", 1), ("def", 5), ("ghi", 9)],
+            texts: &["abc", "def", "ghi"],
             length: 12,
         })),
     },
