@@ -1,5 +1,5 @@
 -- Bytes that are taken of a source, as the words that they are.
-use Rattle.std.specs.Prelude.{if◌then◌else◌, ◌≡◌, ℕ, ◌+◌, ◌*◌, ◌≤◌, pos, List, Bool, true, false, nat_le, Option, Some, None, Result, Ok, Err, IfOk, refl}
+use Rattle.std.specs.Prelude.{◌≡◌, ℕ, ◌+◌, ◌*◌, pos, List, nat_le, Option, Some, None, Result, Ok, Err, IfOk}
 use Rattle.std.specs.Borrow.{GName}
 use Rattle.std.proofs.Common.{arith}
 use Rattle.std.proofs.lemmas.Result.{IfOk-weaker, IfErr-weaker}
@@ -16,7 +16,7 @@ use Rattle.bincode_format.specs.Values.{RunRead}
 use Rattle.bincode_format.specs.Words.{natural}
 use Rattle.bincode_decoder.proofs.BytesAtOnce.{bytes-decode, bytes-stop, both-of_err}
 use Rattle.bincode_decoder.proofs.CountedBytes.{took, misread}
-use Rattle.bincode_decoder.proofs.Rooms.{claimed_by, claimed-within, held-still, whatever_given}
+use Rattle.bincode_decoder.proofs.Rooms.{claimed_by, held-still, whatever_given}
 
 -- two facts of a value
 pub both-of_ok : {T E : Type 0} (r : Result T E) (P Q : T → Type 0) → IfOk r P → IfOk r Q → IfOk r (λ v. P v × Q v)

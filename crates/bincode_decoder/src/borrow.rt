@@ -39,9 +39,7 @@ pub fn take_counted<B: BorrowedBytes, D: BorrowDecoder<B>>(
 /// Reads a length, and takes so many bytes of the source as a text, without a copy. Fails where `take_counted` does, or
 /// with `Utf8` where the bytes, all of which are taken, are no text. A fault leaves what was charged before it. It
 /// takes no memory.
-pub fn take_text<'de, D: BorrowDecoder<&'de [u8]>>(
-    decoder: &mut D,
-) -> Result<&'de str, DecodeError>
+pub fn take_text<'de, D: BorrowDecoder<&'de [u8]>>(decoder: &mut D) -> Result<&'de str, DecodeError>
     ensures { Reads D.told D.rest D.charge D.failures D.place D.C.bound D.R.ended D.R.device ⊥ (text D.C.setting)
         (λ m v. IsBytes v.now m) (D.charge decoder.old) result decoder.old decoder.new }
 {

@@ -9,12 +9,11 @@ ghost use Rattle.bincode_format.specs.Claims.{Claims, MakesClaim, MakesRelease};
 
 mod borrow;
 
-pub use borrow::{BorrowDecoder, BorrowedBytes};
-
 use bincode_base::config::Config;
 use bincode_base::error::DecodeError;
 use bincode_io::read::Reader;
 use bincode_wire::wire::Wire;
+pub use borrow::{BorrowDecoder, BorrowedBytes};
 use std::alloc::Global;
 
 pub(crate) mod sealed {

@@ -12,9 +12,8 @@ ghost use Rattle.bincode_base.specs.declared.error.DecodeError.TheVariants.{Unex
 
 mod borrow;
 
-pub use borrow::BorrowReader;
-
 use bincode_base::error::DecodeError;
+pub use borrow::BorrowReader;
 
 /// A source of bytes, which are taken in order.
 pub trait Reader: Drop {

@@ -30,10 +30,10 @@ fn decode_slots<D: Decoder, V: ReadValues<D>>(
 }
 
 /// Fills the slots, and makes an array of their values.
-fn decode_into<
-    D: Decoder, V: ReadValues<D>,
-    const N: usize,
->(decoder: &mut D, mut slots: [Option<V::Value>; N]) -> Result<[V::Value; N], DecodeError>
+fn decode_into<D: Decoder, V: ReadValues<D>, const N: usize>(
+    decoder: &mut D,
+    mut slots: [Option<V::Value>; N],
+) -> Result<[V::Value; N], DecodeError>
     requires { CanRelease D.C.bound (D.charge decoder.old) (N * V.Value.its.claim) }
     ensures { RunRead D.told D.rest D.charge D.failures D.place D.C.bound D.R.ended D.R.device V.Value.its.grows
         V.Value.its.claim (V.Value.its.format D.C.setting) V.Value.its.given N (λ v. v) result decoder.old decoder.new }
@@ -44,10 +44,10 @@ fn decode_into<
 
 /// Reads the elements over those of an array.
 #[inline]
-fn decode_over<
-    D: Decoder, V: ReadValues<D>,
-    const N: usize,
->(decoder: &mut D, mut values: [V::Value; N]) -> Result<[V::Value; N], DecodeError>
+fn decode_over<D: Decoder, V: ReadValues<D>, const N: usize>(
+    decoder: &mut D,
+    mut values: [V::Value; N],
+) -> Result<[V::Value; N], DecodeError>
     requires { CanRelease D.C.bound (D.charge decoder.old) (N * V.Value.its.claim) }
     ensures { RunRead D.told D.rest D.charge D.failures D.place D.C.bound D.R.ended D.R.device V.Value.its.grows
         V.Value.its.claim (V.Value.its.format D.C.setting) V.Value.its.given N (λ v. v) result decoder.old decoder.new }
@@ -59,10 +59,9 @@ fn decode_over<
 /// Reads `N` elements in turn, whose room `claim_container_read` has reserved, and releases each one's share before it.
 /// So the charge at the end is that at the start, with the full widths of the elements in place of their room. Fails
 /// where an element does, or with `Memory` where `N` slots of `Option<V::Value>` can't exist (`slots_fit`).
-pub fn decode_array<
-    D: Decoder, V: ReadValues<D>,
-    const N: usize,
->(decoder: &mut D) -> Result<[V::Value; N], DecodeError>
+pub fn decode_array<D: Decoder, V: ReadValues<D>, const N: usize>(
+    decoder: &mut D,
+) -> Result<[V::Value; N], DecodeError>
     requires { CanRelease D.C.bound (D.charge decoder.old) (N * V.Value.its.claim) }
     ensures read { RunRead D.told D.rest D.charge D.failures D.place D.C.bound D.R.ended D.R.device
         (V.Value.its.grows ⊎ ¬ (SlotsFit V.Value.row N)) V.Value.its.claim (V.Value.its.format D.C.setting)

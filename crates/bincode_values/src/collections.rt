@@ -44,9 +44,10 @@ pub trait Collect<Context: Drop>: Sized {
 
 /// Reads `len` items, whose room `claim_container_read` has reserved, and puts each into the list: its share is
 /// released before it is read. Fails where an item does, or with `Memory` where the list does.
-fn decode_items<
-    D: Decoder, V: ReadValues<D>, K: Collect<D::Context, Item = V::Value>,
->(decoder: &mut D, len: usize) -> Result<K, DecodeError>
+fn decode_items<D: Decoder, V: ReadValues<D>, K: Collect<D::Context, Item = V::Value>>(
+    decoder: &mut D,
+    len: usize,
+) -> Result<K, DecodeError>
     requires { CanRelease D.C.bound (D.charge decoder.old) (len * V.Value.its.claim) }
     ensures { RunRead D.told D.rest D.charge D.failures D.place D.C.bound D.R.ended D.R.device (Unit {0})
         V.Value.its.claim (V.Value.its.format D.C.setting) V.Value.its.given len K.items result decoder.old
@@ -62,9 +63,10 @@ fn decode_items<
 
 /// Claims the room of `len` items, and reads them. Fails with `LimitExceeded` where the claim passes the limit, before
 /// the list is begun, and where `decode_items` does. A fault leaves what was charged before it.
-fn decode_claimed_items<
-    D: Decoder, V: ReadValues<D>, K: Collect<D::Context, Item = V::Value>,
->(decoder: &mut D, len: usize) -> Result<K, DecodeError>
+fn decode_claimed_items<D: Decoder, V: ReadValues<D>, K: Collect<D::Context, Item = V::Value>>(
+    decoder: &mut D,
+    len: usize,
+) -> Result<K, DecodeError>
     ensures { Reads D.told D.rest D.charge D.failures D.place D.C.bound D.R.ended D.R.device (Unit {0})
         (array len V.Value.its.claim (V.Value.its.format D.C.setting))
         (λ m v. IsListOf (λ x n. V.Value.its.given n x) (K.items v) m)
@@ -77,9 +79,9 @@ fn decode_claimed_items<
 /// Reads a length and so many items, whose room is claimed before the list is begun. Fails where the length can't be
 /// read, with `LimitExceeded` where the room passes the limit, with `Memory` where the list does, and where an item
 /// does. A fault leaves what was charged before it.
-pub fn decode_collection<
-    D: Decoder, V: ReadValues<D>, K: Collect<D::Context, Item = V::Value>,
->(decoder: &mut D) -> Result<K, DecodeError>
+pub fn decode_collection<D: Decoder, V: ReadValues<D>, K: Collect<D::Context, Item = V::Value>>(
+    decoder: &mut D,
+) -> Result<K, DecodeError>
     ensures { Reads D.told D.rest D.charge D.failures D.place D.C.bound D.R.ended D.R.device (Unit {0})
         (list D.C.setting V.Value.its.claim (V.Value.its.format D.C.setting))
         (λ m v. IsListOf (λ x n. V.Value.its.given n x) (K.items v) m)

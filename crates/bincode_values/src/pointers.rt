@@ -30,9 +30,7 @@ pub fn decode_box<D: Decoder, V: ReadValues<D>>(
 
 /// Reads a value, and makes a shared pointer to it. Fails as `decode_box` does.
 #[inline]
-pub fn decode_rc<D: Decoder, V: ReadValues<D>>(
-    decoder: &mut D,
-) -> Result<Rc<V::Value>, DecodeError>
+pub fn decode_rc<D: Decoder, V: ReadValues<D>>(decoder: &mut D) -> Result<Rc<V::Value>, DecodeError>
     ensures { Reads D.told D.rest D.charge D.failures D.place D.C.bound D.R.ended D.R.device (Unit {0})
         (V.Value.its.format D.C.setting) (λ m v. V.Value.its.given m v.value) (D.charge decoder.old) result decoder.old
         decoder.new }

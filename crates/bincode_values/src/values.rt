@@ -16,9 +16,7 @@ pub trait ReadValues<D: Decoder> {
     type Value: Wire + Drop + Sized;
 
     /// Reads a word and gives a value for its meaning. It does, fails and leaves what `Decode::decode` does.
-    fn read_value(
-        decoder: &mut D,
-    ) -> Result<Self::Value, DecodeError>
+    fn read_value(decoder: &mut D) -> Result<Self::Value, DecodeError>
         ensures { Reads D.told D.rest D.charge D.failures D.place D.C.bound D.R.ended D.R.device Self.Value.its.grows
             (Self.Value.its.format D.C.setting) Self.Value.its.given (D.charge decoder.old) result decoder.old
             decoder.new };

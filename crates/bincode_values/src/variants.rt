@@ -53,7 +53,7 @@ pub fn decode_or<D: Decoder, const TAG: u32, A: ReadValues<D>, Others: ReadVaria
 ) -> Result<Or<TAG, A::Value, Others::Left>, DecodeError>
     ensures reads { Reads D.told D.rest D.charge D.failures D.place D.C.bound D.R.ended D.R.device
         ((in_order 0 (tags_of Others.All.variants) ≡ false)
-            ⊎ ⟦<Or<TAG, A::Value, Others::Left> as Variants>⟧.grows)
+        ⊎ ⟦<Or<TAG, A::Value, Others::Left> as Variants>⟧.grows)
         (part D.C.setting ⟦<Or<TAG, A::Value, Others::Left> as Variants>⟧.variants
         (allowed_tags (tags_of Others.All.variants)) found)
         (λ m v. IsChoice found (⟦<Or<TAG, A::Value, Others::Left> as Variants>⟧.given v) m) (D.charge decoder.old)
@@ -70,11 +70,9 @@ pub fn decode_or<D: Decoder, const TAG: u32, A: ReadValues<D>, Others: ReadVaria
 
 /// Reads a tag, and the part of the variant that has it. Fails where one of them does.
 #[inline]
-pub fn decode_one_of<
-    D: Decoder,
-    Of: Listed + Drop,
-    W: ReadVariants<D, All = Of, Left = Of>,
->(decoder: &mut D) -> Result<OneOf<Of>, DecodeError>
+pub fn decode_one_of<D: Decoder, Of: Listed + Drop, W: ReadVariants<D, All = Of, Left = Of>>(
+    decoder: &mut D,
+) -> Result<OneOf<Of>, DecodeError>
 where
     Of::Tag: DecodeTag,
     ensures { Reads D.told D.rest D.charge D.failures D.place D.C.bound D.R.ended D.R.device

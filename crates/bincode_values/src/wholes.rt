@@ -13,9 +13,7 @@ pub trait MakeWhole<D: Decoder> {
     type Whole: Parted + Drop;
 
     /// Reads the parts. It does, fails and leaves what `Decode::decode` does.
-    fn read_parts(
-        decoder: &mut D,
-    ) -> Result<<Self::Whole as Parted>::Parts, DecodeError>
+    fn read_parts(decoder: &mut D) -> Result<<Self::Whole as Parted>::Parts, DecodeError>
         ensures { Reads D.told D.rest D.charge D.failures D.place D.C.bound D.R.ended D.R.device
             Self.Whole.Parts.its.grows (Self.Whole.Parts.its.format D.C.setting) Self.Whole.Parts.its.given
             (D.charge decoder.old) result decoder.old decoder.new };
@@ -29,9 +27,7 @@ pub trait MakeWhole<D: Decoder> {
 
 /// Reads the parts of a value, and makes it. Fails where a part does.
 #[inline(always)]
-pub fn decode_whole<D: Decoder, W: MakeWhole<D>>(
-    decoder: &mut D,
-) -> Result<W::Whole, DecodeError>
+pub fn decode_whole<D: Decoder, W: MakeWhole<D>>(decoder: &mut D) -> Result<W::Whole, DecodeError>
 where
     <W::Whole as Parted>::Parts: Drop,
     ensures { Reads D.told D.rest D.charge D.failures D.place D.C.bound D.R.ended D.R.device

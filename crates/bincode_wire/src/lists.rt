@@ -53,15 +53,13 @@ impl<T: Writable, const SIZE: usize, const ALLOCATES: bool> Writable
     }
 }
 
-impl<T: Plain, const SIZE: usize, const ALLOCATES: bool> Plain
-    for ListItems<T, SIZE, ALLOCATES> {
+impl<T: Plain, const SIZE: usize, const ALLOCATES: bool> Plain for ListItems<T, SIZE, ALLOCATES> {
     fn tell_plain() {
         T::tell_plain();
     }
 }
 
-impl<T: Exact, const SIZE: usize, const ALLOCATES: bool> Exact
-    for ListItems<T, SIZE, ALLOCATES> {
+impl<T: Exact, const SIZE: usize, const ALLOCATES: bool> Exact for ListItems<T, SIZE, ALLOCATES> {
     fn tell_exact() {
         T::tell_exact();
     }

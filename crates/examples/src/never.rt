@@ -1,7 +1,8 @@
 //! An enum without variants.
 
 use bincode::de::{
-    BorrowDecode, BorrowDecoder, BorrowedBytes, Decode, Decoder, Named, OneByOne, decode_no_variants,
+    BorrowDecode, BorrowDecoder, BorrowedBytes, Decode, Decoder, Named, OneByOne,
+    decode_no_variants,
 };
 use bincode::error::DecodeError;
 use bincode::short_text::TypeName;

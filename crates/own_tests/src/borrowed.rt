@@ -29,7 +29,12 @@ fn lends_to_a_struct(rt: HostRuntime) {
     };
     assert!(rt; note.title == "ab" && note.data == [5, 6, 7].as_slice());
     let mut word = [0; 7];
-    assert!(rt; matches!(encode_into_slice(note, &mut word, config::standard()), Ok(7)));
+    assert!(rt;
+        matches!(
+            encode_into_slice(note, &mut word, config::standard()),
+            Ok(7)
+        )
+    );
     assert!(rt; word.as_slice() == &input[..7]);
 }
 
@@ -62,8 +67,18 @@ fn tells_a_tag_without_a_variant(rt: HostRuntime) {
 fn borrows_types_that_own(rt: HostRuntime) {
     let alloc = rt.alloc();
     assert!(rt; matches!(borrowed(alloc, &[251, 44, 1]), Ok((Code::Refused, 3))));
-    assert!(rt; matches!(borrowed::<Code>(alloc, &[2]), Err(DecodeError::UnlistedVariant { found: 2, .. })));
-    assert!(rt; matches!(borrowed::<Never>(alloc, &[]), Err(DecodeError::EmptyEnum { .. })));
+    assert!(rt;
+        matches!(
+            borrowed::<Code>(alloc, &[2]),
+            Err(DecodeError::UnlistedVariant { found: 2, .. })
+        )
+    );
+    assert!(rt;
+        matches!(
+            borrowed::<Never>(alloc, &[]),
+            Err(DecodeError::EmptyEnum { .. })
+        )
+    );
     assert!(rt; matches!(borrowed::<Even>(alloc, &[4]), Ok((_, 1))));
     assert!(rt; matches!(borrowed::<Even>(alloc, &[3]), Err(DecodeError::Other(_))));
 }

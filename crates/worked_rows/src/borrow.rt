@@ -33,8 +33,8 @@ fn borrows_list(alloc: Global, input: &[u8], row: &Lending) -> bool {
 
 /// Whether it lends them to an array of three.
 fn borrows_three(alloc: Global, input: &[u8], row: &Lending) -> bool {
-    let Ok((texts, taken)) = three_of(alloc, input) else {
-        return false;
-    };
-    taken == row.length && texts.as_slice() == row.texts
+    match three_of(alloc, input) {
+        Ok(read) => read.1 == row.length && read.0.as_slice() == row.texts,
+        Err(_) => false,
+    }
 }

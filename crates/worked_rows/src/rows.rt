@@ -5,6 +5,7 @@ use crate::case::{
     Answer, Borrowed, Case, Decoding, Encoding, Fault, Input, Kept, Lending, Limited, Number,
     Refusal, Setting, Spelling, Value,
 };
+pub use crate::more::more_cases;
 use crate::run::holds;
 use bincode::config::{Endianness, Limit, NoLimit};
 use bincode::error::IntegerType;
@@ -12,8 +13,6 @@ use std::alloc::Global;
 use std::io;
 use std::io::Write;
 use std::ops::Bound;
-
-pub use crate::more::more_cases;
 
 /// A case with its label.
 #[derive(Drop)]

@@ -17,8 +17,10 @@ impl<Context: Drop, T: Decode<Context>, const N: usize> Decode<Context> for [T; 
     }
 }
 
-impl<B: BorrowedBytes, Context: Drop, T: BorrowDecode<B, Context>, const N: usize>
-    BorrowDecode<B, Context> for [T; N] {
+impl<B: BorrowedBytes, Context: Drop, T: BorrowDecode<B, Context>, const N: usize> BorrowDecode<
+    B,
+    Context,
+> for [T; N] {
     type Run = OneByOne;
 
     fn borrow_decode<D: BorrowDecoder<B, Context = Context>>(

@@ -16,4 +16,4 @@ returns-in_err-claim_container_read g c =
 pub returns : goal.returns
 returns g c =
     let claim = c.in_ok-claim_container_read.ensures.claimed.ok in
-        array-reads c.claim_container_read.ensures.kept claim (taken-run (claimed-within _ _ _ _ claim) (claimed-room _ _ _ _ claim) c.take_bytes.ensures.takes c.take_bytes.ensures.same_charge)
+    array-reads c.claim_container_read.ensures.kept claim (taken-run (claimed-within _ _ _ _ claim) (claimed-room _ _ _ _ claim) c.take_bytes.ensures.takes c.take_bytes.ensures.same_charge)
