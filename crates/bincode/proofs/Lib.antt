@@ -3,3 +3,4 @@ pub mod Decoded
 pub mod Empty
 pub mod Filled
 pub mod Room
+mod StreamHalted

@@ -12,6 +12,7 @@ pub mod de;
 pub mod enc;
 mod reader;
 mod slice;
+mod streams;
 mod vec;
 mod writer;
 
@@ -45,5 +46,6 @@ pub use bincode_wire::written::MadeOf;
 pub use borrow::{borrow_decode_from_slice, borrow_decode_from_slice_with_context};
 pub use reader::decode_from_reader;
 pub use slice::{decode_from_slice, decode_from_slice_with_context, encode_into_slice};
+pub use streams::{decode_from_std_read, decode_from_std_read_with_context, encode_into_std_write};
 pub use vec::encode_to_vec;
 pub use writer::encode_into_writer;

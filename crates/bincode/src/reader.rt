@@ -38,7 +38,31 @@ pub fn decode_from_reader<D: Decode<()>, R: Reader, C: Config>(
     ensures told { R.told reader.old → R.told reader.new }
     ensures place { R.place reader.new ≡ R.place reader.old }
 {
-    decode_with(alloc, reader, &config, &mut ())
+    decode_from_reader_with(alloc, reader, &config, &mut ())
+}
+
+/// The same with a context.
+pub(crate) fn decode_from_reader_with<Context: Drop, D: Decode<Context>, R: Reader, C: Config>(
+    alloc: Global,
+    reader: &mut R,
+    config: &C,
+    context: &mut Context,
+) -> Result<D, DecodeError>
+    ensures word { R.told reader.old → IfOk result (λ v. WordRead (D.its.format C.setting) C.bound (R.rest reader.old)
+        (R.rest reader.new) (λ m. D.its.given m v)) }
+    ensures found { R.told reader.old → Finds (D.its.format C.setting) C.bound
+        (IsExcused R.device D.its.grows (R.failures reader.old) (R.failures reader.new)) (R.rest reader.old) result }
+    ensures fault { R.told reader.old → TellsEach R.ended (D.its.format C.setting) C.bound
+        (IsExcused R.device D.its.grows (R.failures reader.old) (R.failures reader.new)) (R.rest reader.old) result }
+    ensures limit { R.told reader.old → KeepsWithin (D.its.format C.setting) C.bound
+        (IsExcused R.device D.its.grows (R.failures reader.old) (R.failures reader.new)) (R.rest reader.old) result }
+    ensures left { R.told reader.old → IfErr result (λ e. R.device.uncounted e
+        ⊎ Takes (R.rest reader.old) (R.rest reader.new)) }
+    ensures count { R.failures reader.old ≤ R.failures reader.new }
+    ensures told { R.told reader.old → R.told reader.new }
+    ensures place { R.place reader.new ≡ R.place reader.old }
+{
+    decode_with(alloc, reader, config, context)
 }
 
 /// Reads a value by a decoder that borrows its reader, its configuration and its context.

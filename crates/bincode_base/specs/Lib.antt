@@ -3,3 +3,4 @@ pub mod Setting
 pub mod ShortText
 pub mod SignedNames
 pub mod Slots
+pub mod StreamError

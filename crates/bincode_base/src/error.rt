@@ -6,6 +6,7 @@ ghost use Rattle.bincode_base.specs.SignedNames.{signed_name, signed_error};
 use crate::short_text::{ShortText, TypeName};
 use std::alloc::{AllocError, Global};
 use std::error::Error;
+use std::io::ErrorKind;
 use std::mem::size_of;
 use std::str::Utf8Error;
 use std::{fmt, io};
@@ -28,7 +29,7 @@ pub enum EncodeError {
     /// A std writer failed.
     Io {
         /// What it answered.
-        inner: Box<io::Error>,
+        inner: StreamError,
         /// How many bytes were written before.
         index: usize,
     },
@@ -122,7 +123,7 @@ pub enum DecodeError {
     /// A std reader failed or ended where more bytes were expected.
     Io {
         /// What it answered.
-        inner: Box<io::Error>,
+        inner: StreamError,
         /// By how many bytes the read fell short.
         additional: usize,
     },
@@ -138,6 +139,45 @@ pub enum DecodeError {
 const _: () = prove!(size_of::<EncodeError>() <= 24);
 
 const _: () = prove!(size_of::<DecodeError>() <= 24);
+
+/// What a stream of `std::io` answered when it failed: the kind of its error and, where the system gave one, its number.
+#[derive(Clone, Copy, Debug, PartialEq)]
+pub struct StreamError {
+    kind: ErrorKind,
+    code: Option<i32>,
+}
+
+impl StreamError {
+    ghost use Rattle.bincode_base.specs.StreamError.{kind_of, code_of};
+
+    /// The kind of the error.
+    pub fn kind(&self) -> ErrorKind
+        ensures { result ≡ kind_of self.now }
+    {
+        self.kind
+    }
+
+    /// The number of the system's error, where the system answered it.
+    pub fn raw_os_error(&self) -> Option<i32>
+        ensures { result ≡ code_of self.now }
+    {
+        self.code
+    }
+}
+
+impl From<io::Error> for StreamError {
+    ghost use Rattle.std.specs.IoError.{error_kind, raw_os_error};
+    ghost use Rattle.bincode_base.specs.StreamError.{kind_of, code_of};
+
+    ghost from_gives = { λ e s. (kind_of s ≡ error_kind e) × (code_of s ≡ raw_os_error e) };
+
+    fn from(error: io::Error) -> StreamError {
+        StreamError {
+            kind: error.kind(),
+            code: error.raw_os_error(),
+        }
+    }
+}
 
 /// Which tags an enum allows.
 #[derive(Clone, Copy, Debug, PartialEq, Eq)]

@@ -1,9 +1,8 @@
 -- What readers and writers do and leave.
-use Rattle.std.specs.Prelude.{Box, ◌≡◌, ◌-◌, ◌^◌, ◌<◌, ◌⊎◌, ℕ, List, [], ◌∷◌, ◌++◌, ◌≤◌, length, drop, Option, Some, None, Result, OnOk, IfErr}
+use Rattle.std.specs.Prelude.{◌≡◌, ◌-◌, ◌^◌, ◌<◌, ◌⊎◌, ℕ, List, [], ◌∷◌, ◌++◌, ◌≤◌, length, drop, Option, Some, None, Result, OnOk, IfErr}
 use Rattle.std.specs.Borrow.{GName}
-use Rattle.std.specs.declared.alloc.Global.{Global}
-use Rattle.std.specs.declared.io.Error.{Error}
 use Rattle.bincode_base.specs.declared.error.DecodeError.{DecodeError}
+use Rattle.bincode_base.specs.declared.error.StreamError.{StreamError}
 use Rattle.bincode_base.specs.declared.error.DecodeError.TheVariants.{UnexpectedEnd, Io}
 use Rattle.bincode_base.specs.declared.error.EncodeError.{EncodeError}
 use Rattle.bincode_base.specs.declared.error.EncodeError.TheVariants.{Memory}
@@ -20,7 +19,7 @@ no_device = record { counted = λ _. ⊥; uncounted = λ _. ⊥ }
 
 -- the error that tells that so many bytes are missing
 abbrev pub IsEndError : ℕ → DecodeError → Type 0
-IsEndError missing e = (e ≡ UnexpectedEnd missing) ⊎ ((inner : Box Error Global) × (e ≡ Io inner missing))
+IsEndError missing e = (e ≡ UnexpectedEnd missing) ⊎ ((inner : StreamError) × (e ≡ Io inner missing))
 
 -- a count of failures rose; one that stands at its last value is taken for one that rose
 abbrev pub Rose : ℕ → ℕ → Type 0

@@ -1,4 +1,5 @@
 pub mod RoomLaws
 pub mod Slices
 pub mod Stream
+pub mod StreamLaws
 pub mod Vectors

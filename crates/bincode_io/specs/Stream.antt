@@ -1,12 +1,18 @@
--- What a stream of `std::io` tells of the bytes that are left, and what its reader answers.
-use Rattle.std.specs.Prelude.{◌≡◌, ◌⊎◌, Box, ℕ, List, [], Option, Some, None, ⊤}
-use Rattle.std.specs.declared.alloc.Global.{Global}
-use Rattle.std.specs.declared.io.Error.{Error}
+-- What a stream of `std::io` tells of the bytes that are left, and what its readers and writers answer.
+use Rattle.std.specs.Prelude.{◌≡◌, ◌⊎◌, ◌+◌, ◌-◌, ◌^◌, ◌<◌, ◌≤◌, ◌++◌, ℕ, List, [], length, Option, Some, None, ⊤}
+use Rattle.std.specs.Io.Buffered.{reader_buffer}
+use Rattle.std.specs.Io.KnownBytes.{Appends}
+use Rattle.std.specs.declared.io.buffered.BufReader.{BufReader}
+use Rattle.bincode_base.specs.declared.error.StreamError.{StreamError}
 use Rattle.bincode_base.specs.declared.error.DecodeError.{DecodeError}
-use Rattle.bincode_base.specs.declared.error.DecodeError.TheVariants.{Io, Memory}
+use Rattle.bincode_base.specs.declared.error.DecodeError.TheVariants as decoding
+use Rattle.bincode_base.specs.declared.error.EncodeError.{EncodeError}
+use Rattle.bincode_base.specs.declared.error.EncodeError.TheVariants as encoding
 use Rattle.bincode_format.specs.Device.{DeviceErrors}
+use Rattle.bincode_format.specs.Encoding.{Begins, IsOwn}
 use Rattle.bincode_io.specs.declared.io_read.IoReader.{IoReader}
 use Rattle.bincode_io.specs.declared.io_read.LentIoReader.{LentIoReader}
+use Rattle.bincode_io.specs.declared.io_write.IoWriter.{IoWriter}
 
 -- the bytes that are left are known
 abbrev pub TellsBytes : Option (List ℕ) → Type 0
@@ -28,16 +34,63 @@ lent_stream r = r.stream.now
 
 -- an error of the stream, or of its end
 abbrev pub IsIo : DecodeError → Type 0
-IsIo e = (inner : Box Error Global) × (additional : ℕ) × (e ≡ Io inner additional)
-
--- such an error, or the memory to tell it was refused
-abbrev pub FailsStream : DecodeError → Type 0
-FailsStream e = IsIo e ⊎ (e ≡ Memory)
+IsIo e = (inner : StreamError) × (additional : ℕ) × (e ≡ decoding.Io inner additional)
 
 -- it may come at any call, and is not counted
 abbrev pub stream_errors : DeviceErrors
-stream_errors = record { counted = λ _. ⊥; uncounted = FailsStream }
+stream_errors = record { counted = λ _. ⊥; uncounted = IsIo }
 
 -- the stream ended with so many bytes missing
 abbrev pub EndsShort : ℕ → DecodeError → Type 0
-EndsShort missing e = (inner : Box Error Global) × (e ≡ Io inner missing)
+EndsShort missing e = (inner : StreamError) × (e ≡ decoding.Io inner missing)
+
+-- how many bytes the buffer of a reader shows
+abbrev pub buffered : {R A : Type 0} → BufReader R A → ℕ
+buffered r = length (reader_buffer r)
+
+-- the stream that it writes to
+abbrev pub target_of : {W : Type 0} → IoWriter W → W
+target_of w = w.stream.now
+
+-- how many bytes it wrote
+abbrev pub count_of : {W : Type 0} → IoWriter W → ℕ
+count_of w = w.written
+
+-- an error of the stream that is written to, behind so many bytes
+abbrev pub IsWriteIo : ℕ → EncodeError → Type 0
+IsWriteIo written e = (inner : StreamError) × (e ≡ encoding.Io inner written)
+
+-- a piece was taken: the bytes that the stream holds, where they are known, grew by it, and so did the count; the empty piece
+-- changes nothing
+pub record StreamAdds {W : Type 0} (contents : W → Option (List ℕ)) (a : IoWriter W) (piece : List ℕ) (b : IoWriter W) : Type 0 where
+  pub appended : Appends (contents (target_of a)) (contents (target_of b)) piece
+  pub counted : count_of b ≡ count_of a + length piece
+  pub within : length piece ≤ 2 ^ 64 - 1 - count_of a
+  pub nothing : piece ≡ [] → b ≡ a
+
+-- a front of a piece went out
+pub record FrontOut {W : Type 0} (contents : W → Option (List ℕ)) (a : W) (piece : List ℕ) (b : W) : Type 0 where
+  pub front : List ℕ
+  pub back : List ℕ
+  pub piece_is : piece ≡ front ++ back
+  pub appended : Appends (contents a) (contents b) front
+
+-- a piece was refused: it would pass the last count, and nothing was written; or the stream failed, and a front of it went out
+abbrev pub StreamRefuses : {W : Type 0} → (W → Option (List ℕ)) → IoWriter W → List ℕ → EncodeError → IoWriter W → Type 0
+StreamRefuses contents a piece e b = ((e ≡ encoding.UnexpectedEnd) × (2 ^ 64 - 1 - count_of a < length piece) × (b ≡ a))
+    ⊎ (IsWriteIo (count_of a) e × (count_of b ≡ count_of a) × FrontOut contents (target_of a) piece (target_of b))
+
+-- an allowed word of so many bytes was written to a stream
+pub record StreamWritten {W : Type 0} (contents : W → Option (List ℕ)) (Allowed : List ℕ → Type 0) (n : ℕ) (old new : W) : Type 0 where
+  pub word : List ℕ
+  pub is_allowed : Allowed word
+  pub count : n ≡ length word
+  pub appended : Appends (contents old) (contents new) word
+
+-- a front of an allowed word was written to it, unless the error is one of a user's type; the type names the error, or the
+-- stream failed, or a front of an allowed word has more bytes than 64 bits count
+pub record StreamHalts {W : Type 0} (contents : W → Option (List ℕ)) (Allowed : List ℕ → Type 0) (Names : EncodeError → Type 0) (old new : W) (e : EncodeError) : Type 0 where
+  pub front : List ℕ
+  pub appended : Appends (contents old) (contents new) front
+  pub begins : IsOwn e ⊎ Begins Allowed front
+  pub why : Names e ⊎ (((written : ℕ) × IsWriteIo written e) ⊎ ((e ≡ encoding.UnexpectedEnd) × ((long : List ℕ) × Begins Allowed long × (2 ^ 64 - 1 < length long))))

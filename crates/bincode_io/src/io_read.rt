@@ -3,14 +3,14 @@ ghost use Rattle.std.specs.Prelude.{◌≡◌, ◌<◌, ◌≤◌, List, ℕ, []
 ghost use Rattle.std.specs.Prelude.{OnOk, IfOk, IfErr, OnErr};
 ghost use Rattle.std.proofs.Common.{zero-le, inr};
 ghost use Rattle.std.specs.Io.{ReadsAtMost};
+ghost use Rattle.std.specs.Io.Buffered.{reader_remaining};
 ghost use Rattle.std.specs.Io.KnownBytes.{Consumes, IsAtEnd, Keeps};
-ghost use Rattle.bincode_io.specs.Stream.{TellsBytes, known, EndsShort, FailsStream, stream_errors};
+ghost use Rattle.bincode_io.specs.Stream.{TellsBytes, known, EndsShort, IsIo, stream_errors};
 
 use crate::read::Reader;
-use bincode_base::error::DecodeError;
-use std::alloc::Global;
+use bincode_base::error::{DecodeError, StreamError};
 use std::io;
-use std::io::{ErrorKind, Read};
+use std::io::{BufRead, BufReader, ErrorKind, Read};
 
 /// One read, tried again where a signal interrupts it.
 fn read_some<R: Read>(stream: &mut R, bytes: &mut [u8]) -> io::Result<usize>
@@ -28,23 +28,22 @@ fn read_some<R: Read>(stream: &mut R, bytes: &mut [u8]) -> io::Result<usize>
     stream.read(bytes)
 }
 
-/// The error of a stream that failed with so many bytes missing: `Io`, or `Memory` where none is left to hold its
-/// cause.
+/// The error of a stream that failed with so many bytes missing.
 #[cold]
-fn failure(alloc: Global, cause: io::Error, additional: usize) -> DecodeError
-    ensures { FailsStream result }
+fn failure(cause: io::Error, additional: usize) -> DecodeError
+    ensures { IsIo result }
 {
-    match Box::new(alloc, cause) {
-        Ok(inner) => DecodeError::Io { inner, additional },
-        Err(_) => DecodeError::Memory,
+    DecodeError::Io {
+        inner: StreamError::from(cause),
+        additional,
     }
 }
 
-/// Fills all of `bytes` from a stream. Fails with `Io` where the stream fails or ends before, or with `Memory` where
-/// its error finds none; the stream is then behind what it gave, which is lost.
-fn fill<R: Read>(alloc: Global, stream: &mut R, bytes: &mut [u8]) -> Result<(), DecodeError>
+/// Fills all of `bytes` from a stream. Fails with `Io` where the stream fails or ends before; the stream is then behind
+/// what it gave, which is lost.
+fn fill<R: Read>(stream: &mut R, bytes: &mut [u8]) -> Result<(), DecodeError>
     ensures ok { OnOk result (Consumes (R.remaining stream.old) (R.remaining stream.new) bytes.new) }
-    ensures err { IfErr result FailsStream }
+    ensures err { IfErr result IsIo }
     ensures told { TellsBytes (R.remaining stream.old) → TellsBytes (R.remaining stream.new) }
 {
     let mut at = 0;
@@ -52,40 +51,35 @@ fn fill<R: Read>(alloc: Global, stream: &mut R, bytes: &mut [u8]) -> Result<(), 
         match read_some(stream, &mut bytes[at..]) {
             Ok(0) => {
                 let cause = io::Error::from(ErrorKind::UnexpectedEof);
-                return Err(failure(alloc, cause, bytes.len() - at));
+                return Err(failure(cause, bytes.len() - at));
             }
             Ok(n) => at += n,
-            Err(cause) => return Err(failure(alloc, cause, bytes.len() - at)),
+            Err(cause) => return Err(failure(cause, bytes.len() - at)),
         }
     }
     Ok(())
 }
 
-/// A reader of a stream. It shows nothing, and fails with `Io`, also where the stream ends, or with `Memory` where its
-/// error finds none. A stream that does not tell its bytes, as a file or the standard input, is read alike, but nothing
+/// A reader of a stream. It shows nothing, and fails with `Io`, also where the stream ends. A stream that does not tell its bytes, as a file or the standard input, is read alike, but nothing
 /// is promised of the bytes.
 pub struct IoReader<R> {
     stream: R,
-    alloc: Global,
 }
 
 impl<R: Drop> Drop for IoReader<R> {
     fn drop(self) {
-        let IoReader {
-            stream: _,
-            alloc: _,
-        } = self;
+        let IoReader { stream: _ } = self;
     }
 }
 
 impl<R: Read> IoReader<R> {
     ghost use Rattle.bincode_io.specs.Stream.{stream_of};
 
-    /// A reader of this stream, whose errors are held on the heap.
-    pub fn new(alloc: Global, stream: R) -> IoReader<R>
+    /// A reader of this stream.
+    pub fn new(stream: R) -> IoReader<R>
         ensures { stream_of result ≡ stream }
     {
-        IoReader { stream, alloc }
+        IoReader { stream }
     }
 }
 
@@ -107,7 +101,7 @@ impl<R: Read + Drop> Reader for IoReader<R> {
     ghost place = { λ _. [] };
 
     fn read(&mut self, bytes: &mut [u8]) -> Result<(), DecodeError> {
-        fill(self.alloc, &mut self.stream, bytes)
+        fill(&mut self.stream, bytes)
     }
 
     fn peek_read(&mut self, _n: usize) -> Option<&[u8]> {
@@ -124,29 +118,25 @@ impl<R: Read + Drop> Reader for IoReader<R> {
 /// A reader of a stream that is lent: `IoReader`, whose stream is known to its lender afterwards.
 pub struct LentIoReader<'a, R> {
     stream: &'a mut R,
-    alloc: Global,
 }
 
 impl<R> Drop for LentIoReader<'_, R> {
     fn drop(self)
         ensures { self.exit.0.now ≡ self.entry.stream.now }
     {
-        let LentIoReader {
-            stream: _,
-            alloc: _,
-        } = self;
+        let LentIoReader { stream: _ } = self;
     }
 }
 
 impl<'a, R: Read> LentIoReader<'a, R> {
     ghost use Rattle.bincode_io.specs.Stream.{lent_stream};
 
-    /// A reader of this stream, whose errors are held on the heap.
-    pub fn new(alloc: Global, stream: &'a mut R) -> LentIoReader<'a, R>
+    /// A reader of this stream.
+    pub fn new(stream: &'a mut R) -> LentIoReader<'a, R>
         ensures place { ⟦<LentIoReader<'a, R> as Reader>⟧.place result ≡ stream.entry.ghost_name ∷ [] }
         ensures stream { lent_stream result ≡ stream.old }
     {
-        LentIoReader { stream, alloc }
+        LentIoReader { stream }
     }
 }
 
@@ -168,7 +158,7 @@ impl<R: Read> Reader for LentIoReader<'_, R> {
     ghost place = { λ r. r.stream.ghost_name ∷ [] };
 
     fn read(&mut self, bytes: &mut [u8]) -> Result<(), DecodeError> {
-        fill(self.alloc, self.stream, bytes)
+        fill(self.stream, bytes)
     }
 
     fn peek_read(&mut self, _n: usize) -> Option<&[u8]> {
@@ -178,6 +168,43 @@ impl<R: Read> Reader for LentIoReader<'_, R> {
     fn consume(&mut self, _n: usize) {}
 
     ghost shown_left = { λ r _. zero-le };
+
+    ghost ended_is = { λ missing e h. inr h };
+}
+
+/// A buffer before a stream is a reader that shows what it holds. It fails as `IoReader` does. One without room tells
+/// nothing of its bytes.
+impl<R: Read + Drop> Reader for BufReader<R> {
+    ghost use Rattle.bincode_io.specs.Stream.{buffered};
+    ghost use Rattle.bincode_io.specs.StreamLaws.{buffered-left};
+
+    ghost told = { λ r. TellsBytes (reader_remaining R.remaining r) };
+
+    ghost rest = { λ r. known (reader_remaining R.remaining r) };
+
+    ghost shown = { λ r. buffered r };
+
+    ghost failures = { λ _. 0 };
+
+    ghost ended = { EndsShort };
+
+    ghost device = { stream_errors };
+
+    ghost place = { λ _. [] };
+
+    fn read(&mut self, bytes: &mut [u8]) -> Result<(), DecodeError> {
+        fill(self, bytes)
+    }
+
+    fn peek_read(&mut self, n: usize) -> Option<&[u8]> {
+        self.buffer().get(..n)
+    }
+
+    fn consume(&mut self, n: usize) {
+        BufRead::consume(self, n);
+    }
+
+    ghost shown_left = { λ r. buffered-left R.remaining r };
 
     ghost ended_is = { λ missing e h. inr h };
 }

@@ -2,6 +2,7 @@
 #![tactic(auto)]
 
 pub mod io_read;
+pub mod io_write;
 pub mod read;
 mod size_writer;
 mod vec_writer;

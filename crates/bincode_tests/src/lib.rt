@@ -25,6 +25,8 @@ mod readers;
 #[cfg(test)]
 mod runs;
 #[cfg(test)]
+mod streams;
+#[cfg(test)]
 mod varints;
 #[cfg(test)]
 mod writers;

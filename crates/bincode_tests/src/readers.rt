@@ -52,7 +52,7 @@ fn reads_one_and_misses_three<D: Decoder<Context = ()>>(rt: &impl Abort, decoder
 #[test]
 fn reads_a_stream(rt: HostRuntime) {
     let bytes = [44, 1, 7];
-    let reader = IoReader::new(rt.alloc(), &bytes[..]);
+    let reader = IoReader::new(&bytes[..]);
     let mut decoder = DecoderImpl::new(rt.alloc(), reader, config::legacy(), ());
     reads_one_and_misses_three(&rt, &mut decoder);
 }
@@ -67,7 +67,7 @@ fn reads_one_and_shows_nothing<R: Reader>(rt: &impl Abort, reader: &mut R) {
 fn leaves_a_lent_stream_behind_a_word(rt: HostRuntime) {
     let bytes = [251, 251, 0, 7, 9];
     let mut stream = &bytes[..];
-    reads_one_and_shows_nothing(&rt, &mut LentIoReader::new(rt.alloc(), &mut stream));
+    reads_one_and_shows_nothing(&rt, &mut LentIoReader::new(&mut stream));
     assert!(rt; stream == [7, 9].as_slice());
 }
 
@@ -109,7 +109,7 @@ fn reads_on_where_a_stream_is_interrupted(rt: HostRuntime) {
             times,
             left: times,
         };
-        let reader = IoReader::new(rt.alloc(), stream);
+        let reader = IoReader::new(stream);
         let mut decoder = DecoderImpl::new(rt.alloc(), reader, config::standard(), ());
         reads_two(&rt, &mut decoder);
     }

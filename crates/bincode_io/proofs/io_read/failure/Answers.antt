@@ -1,5 +1,5 @@
-use Rattle.std.proofs.Common.{refl, inl}
+use Rattle.std.proofs.Common.{refl}
 use Rattle.bincode_io.proofs.io_read.failure.Goals as goal
 
-pub returns-in-Ok : goal.returns-in-Ok
-returns-in-Ok c = inl (_, _, refl)
+pub returns : goal.returns
+returns c = (_, _, refl)

@@ -1,5 +1,5 @@
 use Rattle.bincode.proofs.Decoded.{answer-word, answer-found, answer-fault, answer-limit, answer-left}
-use Rattle.bincode.proofs.reader.decode_from_reader.Goals as goal
+use Rattle.bincode.proofs.reader.decode_from_reader_with.Goals as goal
 
 pub returns-clause-word : goal.returns-clause-word
 returns-clause-word g c = λ known. answer-word _ (g.D.Wire.its.lawful _) (g.D.Wire.its.balanced _) _ _ _ (λ m v. g.D.Wire.its.given m v) _ (c.decode_with.ensures.ok known)

@@ -1,0 +1,126 @@
+//! Writers to the streams of `std::io`.
+ghost use Rattle.std.specs.Prelude.{ℕ, ◌≡◌, ◌+◌, ◌-◌, ◌^◌, ◌∷◌, [], length, take, Some, OnOk, OnErr, IfOk, refl};
+ghost use Rattle.std.proofs.Common.{zero-le};
+ghost use Rattle.std.specs.Io.{WritesAtMost};
+ghost use Rattle.std.specs.Io.KnownBytes.{Appends, Keeps};
+ghost use Rattle.bincode_io.specs.Stream.{target_of, count_of, FrontOut, StreamAdds, StreamRefuses};
+
+use crate::write::Writer;
+use bincode_base::error::{EncodeError, StreamError};
+use std::io;
+use std::io::{ErrorKind, Write};
+
+/// One write, tried again where a signal interrupts it.
+fn write_some<W: Write>(stream: &mut W, bytes: &[u8]) -> io::Result<usize>
+    ensures bound { WritesAtMost result bytes.now }
+    ensures ok { IfOk result (λ n. Appends (W.contents stream.old) (W.contents stream.new) (take n bytes.now)) }
+    ensures err { OnErr result (Keeps (W.contents stream.old) (W.contents stream.new)) }
+{
+    for _ in 0..usize::MAX {
+        match stream.write(bytes) {
+            Err(e) if e.kind() == ErrorKind::Interrupted => {}
+            outcome => return outcome,
+        }
+    }
+    stream.write(bytes)
+}
+
+/// Writes all of `bytes` to a stream. Fails where the stream fails or takes no more; then a front of the bytes went out.
+fn write_out<W: Write>(stream: &mut W, bytes: &[u8]) -> io::Result<()>
+    ensures ok { OnOk result (Appends (W.contents stream.old) (W.contents stream.new) bytes.now) }
+    ensures left { OnErr result (FrontOut W.contents stream.old bytes.now stream.new) }
+{
+    let mut at = 0;
+    while at < bytes.len() {
+        match write_some(stream, &bytes[at..])? {
+            0 => return Err(io::Error::from(ErrorKind::WriteZero)),
+            n => at += n,
+        }
+    }
+    Ok(())
+}
+
+/// A writer to a stream that is lent. It counts what it wrote, and fails with `Io` where the stream fails, which may have
+/// taken a front of the piece, or with `UnexpectedEnd` before a write that would pass the last count of 64 bits.
+pub struct IoWriter<'a, W> {
+    stream: &'a mut W,
+    written: usize,
+}
+
+impl<W> Drop for IoWriter<'_, W> {
+    fn drop(self)
+        ensures { self.exit.0.now ≡ self.entry.stream.now }
+    {
+        let IoWriter {
+            stream: _,
+            written: _,
+        } = self;
+    }
+}
+
+impl<'a, W: Write> IoWriter<'a, W> {
+    /// A writer to this stream, which wrote nothing yet.
+    pub fn new(stream: &'a mut W) -> IoWriter<'a, W>
+        ensures place { ⟦<IoWriter<'a, W> as Writer>⟧.place result ≡ stream.entry.ghost_name ∷ [] }
+        ensures stream { target_of result ≡ stream.old }
+        ensures start { count_of result ≡ 0 }
+    {
+        IoWriter { stream, written: 0 }
+    }
+
+    /// How many bytes were written by calls that succeeded.
+    pub fn bytes_written(&self) -> usize
+        ensures { result ≡ count_of self.now }
+    {
+        self.written
+    }
+}
+
+impl<W: Write> Writer for IoWriter<'_, W> {
+    ghost use Rattle.bincode_io.specs.Stream.{IsWriteIo};
+    ghost use Rattle.bincode_io.specs.StreamLaws.{adds-none, adds-join, refuses-why, adds-room};
+    ghost use Rattle.bincode_base.specs.declared.error.EncodeError.{EncodeError};
+
+    ghost adds = { StreamAdds W.contents };
+
+    ghost refuses = { StreamRefuses W.contents };
+
+    ghost room = { λ w. Some (2 ^ 64 - 1 - count_of w) };
+
+    ghost failures = { λ _. 0 };
+
+    ghost device = { λ e. (written : ℕ) × IsWriteIo written e };
+
+    ghost place = { λ w. w.stream.ghost_name ∷ [] };
+
+    fn write(&mut self, bytes: &[u8]) -> Result<(), EncodeError> {
+        if bytes.is_empty() {
+            return Ok(());
+        }
+        let Some(written) = self.written.checked_add(bytes.len()) else {
+            return Err(EncodeError::UnexpectedEnd);
+        };
+        if let Err(cause) = write_out(self.stream, bytes) {
+            return Err(EncodeError::Io {
+                inner: StreamError::from(cause),
+                index: self.written,
+            });
+        }
+        self.written = written;
+        Ok(())
+    }
+
+    ghost adds_none = { adds-none W.contents };
+
+    ghost adds_join = { adds-join W.contents };
+
+    ghost adds_count = { λ a b piece h. zero-le };
+
+    ghost refuses_count = { λ a b piece e h. zero-le };
+
+    ghost refuses_why = { refuses-why W.contents };
+
+    ghost adds_nothing = { λ a b h. h.nothing refl };
+
+    ghost adds_room = { adds-room W.contents };
+}

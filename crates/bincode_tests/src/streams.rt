@@ -1,0 +1,153 @@
+//! Standard streams: what is read from them and written to them, and how they fail.
+
+use bincode::de::read::Reader;
+use bincode::error::{DecodeError, EncodeError};
+use bincode::{
+    config, decode_from_std_read, decode_from_std_read_with_context, encode_into_std_write,
+};
+use std::alloc::Global;
+use std::io;
+use std::io::{BufReader, ErrorKind, Read, Write};
+use std::process::Abort;
+
+/// Gives one byte a call.
+#[derive(Drop)]
+struct Slow<'s>(&'s [u8]);
+
+impl Read for Slow<'_> {
+    fn read(&mut self, bytes: &mut [u8]) -> io::Result<usize> {
+        let most = bytes.len().min(1);
+        self.0.read(&mut bytes[..most])
+    }
+}
+
+/// Of 1, 2 and 3 two are read, and of three more two are missing.
+fn reads_two_and_ends<R: Reader>(rt: &impl Abort, reader: &mut R) {
+    let mut two = [0u8; 2];
+    assert!(rt; reader.read(&mut two).is_ok());
+    assert!(rt; two == [1, 2]);
+    let mut three = [0u8; 3];
+    let ended = reader.read(&mut three);
+    assert!(rt;
+        matches!(ended, Err(DecodeError::Io { inner, additional: 2 }) if inner.kind() == ErrorKind::UnexpectedEof)
+    );
+}
+
+#[test]
+fn reads_through_a_buffer(rt: HostRuntime) -> io::Result<()> {
+    for room in [1usize, 4, 64] {
+        let mut buffered = BufReader::with_capacity(rt.alloc(), room, Slow(&[1, 2, 3]))?;
+        reads_two_and_ends(&rt, &mut buffered);
+    }
+    Ok(())
+}
+
+#[test]
+fn shows_what_is_buffered(rt: HostRuntime) -> io::Result<()> {
+    let mut buffered = BufReader::with_capacity(rt.alloc(), 4, &[1u8, 2, 3, 4, 5][..])?;
+    assert!(rt; buffered.peek_read(1).is_none());
+    let mut one = [0u8; 1];
+    assert!(rt; Reader::read(&mut buffered, &mut one).is_ok());
+    assert!(rt; buffered.peek_read(4).is_none());
+    assert!(rt; matches!(buffered.peek_read(3), Some([2, 3, 4])));
+    Reader::consume(&mut buffered, 2);
+    assert!(rt; matches!(buffered.peek_read(1), Some([4])));
+    Ok(())
+}
+
+#[test]
+fn reads_from_a_stream(rt: HostRuntime) {
+    let alloc = rt.alloc();
+    let mut stream = &[251u8, 44, 1, 7, 9][..];
+    let number = decode_from_std_read::<u32, _, _>(alloc, &mut stream, config::standard());
+    assert!(rt; matches!(number, Ok(300)));
+    let other = decode_from_std_read_with_context::<u16, u8, _, _>(
+        alloc,
+        &mut stream,
+        config::standard(),
+        5,
+    );
+    assert!(rt; matches!(other, Ok(7)));
+    assert!(rt; stream == [9].as_slice());
+}
+
+#[test]
+fn writes_to_a_stream(rt: HostRuntime) {
+    let mut room = [9u8; 4];
+    let mut stream = &mut room[..];
+    let written = encode_into_std_write((30u32, 50u32), &mut stream, config::standard());
+    assert!(rt; matches!(written, Ok(2)));
+    assert!(rt; room == [30, 50, 9, 9]);
+}
+
+/// Takes so many pieces, each after an interruption, and fails from then on.
+#[derive(Drop)]
+struct Failing {
+    held: Vec<u8>,
+    pieces: usize,
+    interrupts: bool,
+}
+
+impl Write for Failing {
+    fn write(&mut self, bytes: &[u8]) -> io::Result<usize> {
+        if self.interrupts {
+            self.interrupts = false;
+            return Err(ErrorKind::Interrupted.into());
+        }
+        if self.pieces == 0 {
+            return Err(ErrorKind::BrokenPipe.into());
+        }
+        self.pieces -= 1;
+        self.interrupts = true;
+        self.held.write(bytes)
+    }
+
+    fn flush(&mut self) -> io::Result<()> {
+        Ok(())
+    }
+}
+
+/// Whether a stream that fails behind so many pieces of a word has taken these bytes.
+fn fails_behind(alloc: Global, pieces: usize, taken: &[u8]) -> bool {
+    let mut stream = Failing {
+        held: Vec::new(alloc),
+        pieces,
+        interrupts: true,
+    };
+    let outcome = encode_into_std_write((1u8, 300u32), &mut stream, config::standard());
+    let Err(EncodeError::Io { inner, index }) = outcome else {
+        return false;
+    };
+    let is_memory = inner.kind() == ErrorKind::OutOfMemory;
+    is_memory || (index == taken.len() && stream.held.as_slice() == taken)
+}
+
+#[test]
+fn leaves_what_a_stream_took(rt: HostRuntime) {
+    let alloc = rt.alloc();
+    assert!(rt; fails_behind(alloc, 0, &[]));
+    assert!(rt; fails_behind(alloc, 1, &[1]));
+    assert!(rt; fails_behind(alloc, 2, &[1, 251]));
+}
+
+/// Takes nothing.
+#[derive(Drop)]
+struct Full;
+
+impl Write for Full {
+    fn write(&mut self, _bytes: &[u8]) -> io::Result<usize> {
+        Ok(0)
+    }
+
+    fn flush(&mut self) -> io::Result<()> {
+        Ok(())
+    }
+}
+
+#[test]
+fn fails_where_a_stream_takes_nothing(rt: HostRuntime) {
+    let outcome = encode_into_std_write(5u8, &mut Full, config::standard());
+    assert!(rt;
+        matches!(outcome, Err(EncodeError::Io { inner, index: 0 }) if inner.kind() == ErrorKind::WriteZero)
+    );
+}
