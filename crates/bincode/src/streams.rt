@@ -26,7 +26,7 @@ pub fn decode_from_std_read<D: Decode<()>, C: Config, R: Read>(
     src: &mut R,
     config: C,
 ) -> Result<D, DecodeError>
-    // Of a stream that tells its bytes: what is taken is a word within the limit, and the value is given for its meaning.
+    // Of a stream that tells its bytes: what is taken is a word within the limit, and the value is given for it.
     ensures word { TellsBytes (R.remaining src.old) → IfOk result (λ v. WordRead (D.its.format C.setting) C.bound
         (known (R.remaining src.old)) (known (R.remaining src.new)) (λ m. D.its.given m v)) }
     // Each word within the limit is read,
@@ -54,7 +54,7 @@ pub fn decode_from_std_read_with_context<Context: Drop, D: Decode<Context>, C: C
     config: C,
     context: Context,
 ) -> Result<D, DecodeError>
-    // Of a stream that tells its bytes: what is taken is a word within the limit, and the value is given for its meaning.
+    // Of a stream that tells its bytes: what is taken is a word within the limit, and the value is given for it.
     ensures word { TellsBytes (R.remaining src.old) → IfOk result (λ v. WordRead (D.its.format C.setting) C.bound
         (known (R.remaining src.old)) (known (R.remaining src.new)) (λ m. D.its.given m v)) }
     // Each word within the limit is read,
@@ -77,8 +77,8 @@ pub fn decode_from_std_read_with_context<Context: Drop, D: Decode<Context>, C: C
 }
 
 /// Writes a value to a stream, and answers how many bytes it took. Fails with `Io` where the stream fails, with
-/// `UnexpectedEnd` where the bytes are more than 64 bits count, and with the errors that the type names; then a front of
-/// the word may have been written.
+/// `UnexpectedEnd` where the bytes are more than 64 bits count, and with the errors that the type names; then a front
+/// of the word may have been written.
 pub fn encode_into_std_write<E: Encode, C: Config, W: Write>(
     val: E,
     dst: &mut W,

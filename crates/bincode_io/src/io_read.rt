@@ -60,8 +60,8 @@ fn fill<R: Read>(stream: &mut R, bytes: &mut [u8]) -> Result<(), DecodeError>
     Ok(())
 }
 
-/// A reader of a stream. It shows nothing, and fails with `Io`, also where the stream ends. A stream that does not tell its bytes, as a file or the standard input, is read alike, but nothing
-/// is promised of the bytes.
+/// A reader of a stream. It shows nothing, and fails with `Io`, also where the stream ends. A stream that does not tell
+/// its bytes, as a file or the standard input, is read alike, but nothing is promised of the bytes.
 pub struct IoReader<R> {
     stream: R,
 }

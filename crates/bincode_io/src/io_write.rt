@@ -25,7 +25,7 @@ fn write_some<W: Write>(stream: &mut W, bytes: &[u8]) -> io::Result<usize>
     stream.write(bytes)
 }
 
-/// Writes all of `bytes` to a stream. Fails where the stream fails or takes no more; then a front of the bytes went out.
+/// Writes all of `bytes` to a stream. Fails where the stream fails or takes no more; a front of the bytes is out then.
 fn write_out<W: Write>(stream: &mut W, bytes: &[u8]) -> io::Result<()>
     ensures ok { OnOk result (Appends (W.contents stream.old) (W.contents stream.new) bytes.now) }
     ensures left { OnErr result (FrontOut W.contents stream.old bytes.now stream.new) }
@@ -40,8 +40,8 @@ fn write_out<W: Write>(stream: &mut W, bytes: &[u8]) -> io::Result<()>
     Ok(())
 }
 
-/// A writer to a stream that is lent. It counts what it wrote, and fails with `Io` where the stream fails, which may have
-/// taken a front of the piece, or with `UnexpectedEnd` before a write that would pass the last count of 64 bits.
+/// A writer to a stream that is lent. It counts what it wrote, and fails with `Io` where the stream fails, which may
+/// have taken a front of the piece, or with `UnexpectedEnd` before a write that would pass the last count of 64 bits.
 pub struct IoWriter<'a, W> {
     stream: &'a mut W,
     written: usize,

@@ -80,6 +80,47 @@ fn writes_to_a_stream(rt: HostRuntime) {
     assert!(rt; room == [30, 50, 9, 9]);
 }
 
+/// Gives one byte a call, and fails from the call on that is told.
+#[derive(Drop)]
+struct Breaking<'s> {
+    bytes: &'s [u8],
+    calls: usize,
+}
+
+impl Read for Breaking<'_> {
+    fn read(&mut self, bytes: &mut [u8]) -> io::Result<usize> {
+        if self.calls == 0 {
+            return Err(ErrorKind::BrokenPipe.into());
+        }
+        self.calls -= 1;
+        let most = bytes.len().min(1);
+        self.bytes.read(&mut bytes[..most])
+    }
+}
+
+/// What is read of a word of eight bytes and another byte, from a stream that gives so many of them and fails then.
+fn read_of(alloc: Global, calls: usize) -> Result<(u8, String, [u16; 2]), DecodeError> {
+    let mut stream = Breaking {
+        bytes: &[7, 2, 97, 98, 251, 0, 1, 5, 9],
+        calls,
+    };
+    decode_from_std_read(alloc, &mut stream, config::standard())
+}
+
+#[test]
+fn tells_where_a_stream_breaks(rt: HostRuntime) {
+    let alloc = rt.alloc();
+    for calls in 0..8 {
+        assert!(rt;
+            matches!(
+                read_of(alloc, calls),
+                Err(DecodeError::Io { inner, additional: _ }) if inner.kind() == ErrorKind::BrokenPipe
+            )
+        );
+    }
+    assert!(rt; matches!(read_of(alloc, 8), Ok(read) if read.0 == 7 && read.2 == [256, 5]));
+}
+
 /// Takes so many pieces, each after an interruption, and fails from then on.
 #[derive(Drop)]
 struct Failing {
@@ -122,12 +163,28 @@ fn fails_behind(alloc: Global, pieces: usize, taken: &[u8]) -> bool {
     is_memory || (index == taken.len() && stream.held.as_slice() == taken)
 }
 
+/// Whether a stream that takes three pieces takes the word whole.
+fn writes_in_three_pieces(alloc: Global) -> bool {
+    let mut stream = Failing {
+        held: Vec::new(alloc),
+        pieces: 3,
+        interrupts: true,
+    };
+    let outcome = encode_into_std_write((1u8, 300u32), &mut stream, config::standard());
+    match outcome {
+        Ok(4) => stream.held.as_slice() == [1, 251, 44, 1].as_slice(),
+        Err(EncodeError::Io { inner, index: _ }) => inner.kind() == ErrorKind::OutOfMemory,
+        _ => false,
+    }
+}
+
 #[test]
 fn leaves_what_a_stream_took(rt: HostRuntime) {
     let alloc = rt.alloc();
     assert!(rt; fails_behind(alloc, 0, &[]));
     assert!(rt; fails_behind(alloc, 1, &[1]));
     assert!(rt; fails_behind(alloc, 2, &[1, 251]));
+    assert!(rt; writes_in_three_pieces(alloc));
 }
 
 /// Takes nothing.

@@ -4,9 +4,10 @@
 use anyhow::ensure;
 use std::io;
 use worked_rows::rows;
+use worked_rows::sources::Slice;
 
 fn main(rt: HostRuntime) -> anyhow::Result<()> {
-    let failed = rows::run(rt.alloc(), rows::table(), &mut io::writer(&rt))?;
+    let failed = rows::run::<Slice, _>(rt.alloc(), rows::table(), &mut io::writer(&rt))?;
     ensure!(failed == 0, "{failed} rows failed");
     Ok(())
 }

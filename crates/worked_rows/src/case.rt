@@ -13,6 +13,8 @@ pub enum Case {
     Varint(Number),
     Decode(Input),
     DecodeWithin(Limited),
+    /// A pair that is read from a stream of one byte a call.
+    DecodeBytewise(Decoding<(u32, u32), NoLimit>),
     Borrow(Borrowed),
 }
 
@@ -156,10 +158,11 @@ pub enum Answer<T> {
 /// The errors that are told apart, with their fields.
 #[derive(Clone, Copy)]
 pub enum Fault {
+    /// The input ends too early: `Io` where it is a stream.
     UnexpectedEnd {
         additional: usize,
     },
-    /// The input ends too early; by how many bytes is not said.
+    /// The same; by how many bytes is not said.
     EndsEarly,
     LimitExceeded,
     Utf8,

@@ -9,3 +9,4 @@ pub mod formats;
 mod more;
 pub mod rows;
 pub mod run;
+pub mod sources;

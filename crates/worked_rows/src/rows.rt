@@ -7,6 +7,7 @@ use crate::case::{
 };
 pub use crate::more::more_cases;
 use crate::run::holds;
+use crate::sources::Source;
 use bincode::config::{Endianness, Limit, NoLimit};
 use bincode::error::IntegerType;
 use std::alloc::Global;
@@ -26,7 +27,7 @@ pub fn table() -> &'static [Row] {
     &TABLE
 }
 
-static TABLE: [Row; 60] = [
+static TABLE: [Row; 62] = [
     Row {
         label: "1",
         case: Case::Keep(Kept::Five(Encoding {
@@ -531,6 +532,24 @@ static TABLE: [Row; 60] = [
         })),
     },
     Row {
+        label: "20a",
+        case: Case::DecodeBytewise(Decoding {
+            setting: Setting::Standard,
+            limit: NoLimit,
+            input: &[5, 10],
+            answer: Answer::Value((5, 10), 2),
+        }),
+    },
+    Row {
+        label: "20b",
+        case: Case::DecodeBytewise(Decoding {
+            setting: Setting::Standard,
+            limit: NoLimit,
+            input: &[5],
+            answer: Answer::Fault(Fault::UnexpectedEnd { additional: 1 }),
+        }),
+    },
+    Row {
         label: "21a",
         case: Case::Keep(Kept::Unit(Encoding {
             setting: Setting::Standard,
@@ -573,15 +592,15 @@ static TABLE: [Row; 60] = [
     },
 ];
 
-/// Runs the cases of a table in turn. Writes a line for each, whether it holds, and a last line with their number and
-/// how many failed, and answers the latter.
-pub fn run<W: Write>(alloc: Global, table: &[Row], out: &mut W) -> io::Result<usize>
+/// Runs the cases of a table in turn; what is decoded as an owned type is read from `S`. Writes a line for each,
+/// whether it holds, and a last line with their number and how many failed, and answers the latter.
+pub fn run<S: Source, W: Write>(alloc: Global, table: &[Row], out: &mut W) -> io::Result<usize>
     ensures { IfOk result (λ failed. failed ≤ length table.now) }
 {
     let mut failed = 0;
     for row in table {
         let label = row.label;
-        if holds(alloc, &row.case)? {
+        if holds::<S>(alloc, &row.case)? {
             writeln!(out, "{label} ok")?;
         } else {
             writeln!(out, "{label} FAIL")?;

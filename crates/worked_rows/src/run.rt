@@ -5,31 +5,33 @@ use crate::case::{
     Answer, Case, Decoding, Encoding, Fault, Input, Kept, Limited, Number, Refusal, Setting,
     Spelling, Value,
 };
+use crate::sources::{Bytewise, Source};
 use bincode::config::{
     self, Configuration, Endianness, Fixint, InternalLimitConfig, LittleEndian, NoLimit, Varint,
 };
 use bincode::de::Decode;
 use bincode::enc::Encode;
 use bincode::enc::write::{SliceWriter, Writer};
+use bincode::encode_into_slice;
 use bincode::error::{DecodeError, EncodeError};
 use bincode::time::Duration;
 use bincode::varint::{
     varint_encode_i16, varint_encode_i64, varint_encode_i128, varint_encode_u32, varint_encode_u128,
 };
-use bincode::{decode_from_slice, encode_into_slice};
 use std::alloc::{AllocError, Global};
 use std::collections::BTreeMap;
 use std::num::NonZeroU16;
 
 /// Whether what the case says comes of it.
-pub fn holds(alloc: Global, case: &Case) -> Result<bool, AllocError> {
+pub fn holds<S: Source>(alloc: Global, case: &Case) -> Result<bool, AllocError> {
     match case {
         Case::Encode(value) => encodes_value(alloc, value),
-        Case::Keep(kept) => keeps_value(alloc, kept),
+        Case::Keep(kept) => keeps_value::<S>(alloc, kept),
         Case::RefusePair(row) => refuses(alloc, row),
         Case::Varint(number) => spells_number(alloc, number),
-        Case::Decode(input) => decodes_input(alloc, input),
-        Case::DecodeWithin(limited) => decodes_within(alloc, limited),
+        Case::Decode(input) => decodes_input::<S>(alloc, input),
+        Case::DecodeWithin(limited) => decodes_within::<S>(alloc, limited),
+        Case::DecodeBytewise(row) => Ok(decodes::<Bytewise, _, _>(alloc, row)),
         Case::Borrow(borrowed) => Ok(borrows(alloc, borrowed)),
     }
 }
@@ -51,10 +53,10 @@ fn encodes_value(alloc: Global, value: &Value) -> Result<bool, AllocError> {
     }
 }
 
-fn keeps_value(alloc: Global, kept: &Kept) -> Result<bool, AllocError> {
+fn keeps_value<S: Source>(alloc: Global, kept: &Kept) -> Result<bool, AllocError> {
     match kept {
-        Kept::Unit(row) => keeps(alloc, row),
-        Kept::Five(row) => keeps(alloc, row),
+        Kept::Unit(row) => keeps::<S, _>(alloc, row),
+        Kept::Five(row) => keeps::<S, _>(alloc, row),
     }
 }
 
@@ -69,38 +71,38 @@ fn spells_number(alloc: Global, number: &Number) -> Result<bool, AllocError> {
     }
 }
 
-fn decodes_input(alloc: Global, input: &Input) -> Result<bool, AllocError> {
+fn decodes_input<S: Source>(alloc: Global, input: &Input) -> Result<bool, AllocError> {
     Ok(match input {
-        Input::U16(row) => decodes(alloc, row),
-        Input::U64(row) => decodes(alloc, row),
-        Input::U128(row) => decodes(alloc, row),
-        Input::I16(row) => decodes(alloc, row),
-        Input::Isize(row) => decodes(alloc, row),
-        Input::NonZeroU16(row) => decodes_nonzero(alloc, row),
-        Input::Bool(row) => decodes(alloc, row),
-        Input::Char(row) => decodes(alloc, row),
-        Input::Option(row) => decodes(alloc, row),
-        Input::Bound(row) => decodes(alloc, row),
-        Input::Duration(row) => decodes_duration(alloc, row),
-        Input::Text(row) => decodes_text(alloc, row)?,
-        Input::Map(row) => decodes_map(alloc, row)?,
+        Input::U16(row) => decodes::<S, _, _>(alloc, row),
+        Input::U64(row) => decodes::<S, _, _>(alloc, row),
+        Input::U128(row) => decodes::<S, _, _>(alloc, row),
+        Input::I16(row) => decodes::<S, _, _>(alloc, row),
+        Input::Isize(row) => decodes::<S, _, _>(alloc, row),
+        Input::NonZeroU16(row) => decodes_nonzero::<S>(alloc, row),
+        Input::Bool(row) => decodes::<S, _, _>(alloc, row),
+        Input::Char(row) => decodes::<S, _, _>(alloc, row),
+        Input::Option(row) => decodes::<S, _, _>(alloc, row),
+        Input::Bound(row) => decodes::<S, _, _>(alloc, row),
+        Input::Duration(row) => decodes_duration::<S>(alloc, row),
+        Input::Text(row) => decodes_text::<S, _>(alloc, row)?,
+        Input::Map(row) => decodes_map::<S>(alloc, row)?,
     })
 }
 
-fn decodes_within(alloc: Global, limited: &Limited) -> Result<bool, AllocError> {
+fn decodes_within<S: Source>(alloc: Global, limited: &Limited) -> Result<bool, AllocError> {
     Ok(match limited {
-        Limited::U16To2(row) => decodes(alloc, row),
-        Limited::U64To7(row) => decodes(alloc, row),
-        Limited::U64To8(row) => decodes(alloc, row),
-        Limited::CharTo0(row) => decodes(alloc, row),
-        Limited::PairTo15(row) => decodes(alloc, row),
-        Limited::PairTo16(row) => decodes(alloc, row),
-        Limited::TextTo100000(row) => decodes_text(alloc, row)?,
-        Limited::ListTo100000(row) => decodes_list(alloc, row)?,
-        Limited::ListsTo31(row) => decodes_lists(alloc, row)?,
-        Limited::ListsTo32(row) => decodes_lists(alloc, row)?,
-        Limited::UnitsTo7(row) => decodes_units(alloc, row),
-        Limited::UnitsTo8(row) => decodes_units(alloc, row),
+        Limited::U16To2(row) => decodes::<S, _, _>(alloc, row),
+        Limited::U64To7(row) => decodes::<S, _, _>(alloc, row),
+        Limited::U64To8(row) => decodes::<S, _, _>(alloc, row),
+        Limited::CharTo0(row) => decodes::<S, _, _>(alloc, row),
+        Limited::PairTo15(row) => decodes::<S, _, _>(alloc, row),
+        Limited::PairTo16(row) => decodes::<S, _, _>(alloc, row),
+        Limited::TextTo100000(row) => decodes_text::<S, _>(alloc, row)?,
+        Limited::ListTo100000(row) => decodes_list::<S, _>(alloc, row)?,
+        Limited::ListsTo31(row) => decodes_lists::<S, _>(alloc, row)?,
+        Limited::ListsTo32(row) => decodes_lists::<S, _>(alloc, row)?,
+        Limited::UnitsTo7(row) => decodes_units::<S, _>(alloc, row),
+        Limited::UnitsTo8(row) => decodes_units::<S, _>(alloc, row),
     })
 }
 
@@ -216,8 +218,9 @@ fn map_of(alloc: Global, entries: &[(u8, u8)]) -> Result<BTreeMap<u8, u8>, Alloc
 }
 
 /// Whether the value is written as the word, and the word read as the value.
-fn keeps<T>(alloc: Global, row: &Encoding<T>) -> Result<bool, AllocError>
+fn keeps<S, T>(alloc: Global, row: &Encoding<T>) -> Result<bool, AllocError>
 where
+    S: Source,
     T: Encode + Decode<()> + Copy + PartialEq,
 {
     let decoding = Decoding {
@@ -226,7 +229,7 @@ where
         input: row.word,
         answer: Answer::Value(row.value, row.word.len()),
     };
-    Ok(encodes(alloc, row)? && decodes(alloc, &decoding))
+    Ok(encodes(alloc, row)? && decodes::<S, _, _>(alloc, &decoding))
 }
 
 /// Whether the slice is too short for the value, and holds what it should then.
@@ -256,89 +259,93 @@ fn spells<T: VarintNumber>(alloc: Global, row: &Spelling<T>) -> Result<bool, All
 }
 
 /// Whether decoding the input gives the answer.
-fn decodes<T, L>(alloc: Global, row: &Decoding<T, L>) -> bool
+fn decodes<S, T, L>(alloc: Global, row: &Decoding<T, L>) -> bool
 where
+    S: Source,
     T: Decode<()> + PartialEq,
     L: InternalLimitConfig + Copy,
 {
-    answers(
-        decode_under(alloc, row.setting, row.limit, row.input),
+    answers::<S, _>(
+        decode_under::<S, _, _>(alloc, row.setting, row.limit, row.input),
         &row.answer,
     )
 }
 
 /// Whether decoding the input as a number that is not 0 gives the answer.
-fn decodes_nonzero(alloc: Global, row: &Decoding<u16, NoLimit>) -> bool {
-    let outcome: Result<(NonZeroU16, usize), DecodeError> = decode_under(
+fn decodes_nonzero<S: Source>(alloc: Global, row: &Decoding<u16, NoLimit>) -> bool {
+    let outcome: Result<(NonZeroU16, usize), DecodeError> = decode_under::<S, _, _>(
         alloc,
         row.setting,
         row.limit,
         row.input,
     );
-    answers(
+    answers::<S, _>(
         outcome.map(|(value, taken)| (value.get(), taken)),
         &row.answer,
     )
 }
 
 /// Whether decoding the input as a span of time gives the answer.
-fn decodes_duration(alloc: Global, row: &Decoding<(u64, u32), NoLimit>) -> bool {
-    let outcome: Result<(Duration, usize), DecodeError> = decode_under(
+fn decodes_duration<S: Source>(alloc: Global, row: &Decoding<(u64, u32), NoLimit>) -> bool {
+    let outcome: Result<(Duration, usize), DecodeError> = decode_under::<S, _, _>(
         alloc,
         row.setting,
         row.limit,
         row.input,
     );
-    answers(
+    answers::<S, _>(
         outcome.map(|(value, taken)| ((value.as_secs(), value.subsec_nanos()), taken)),
         &row.answer,
     )
 }
 
 /// Whether decoding the input as a text gives the answer.
-fn decodes_text<L>(alloc: Global, row: &Decoding<&'static str, L>) -> Result<bool, AllocError>
+fn decodes_text<S, L>(alloc: Global, row: &Decoding<&'static str, L>) -> Result<bool, AllocError>
 where
+    S: Source,
     L: InternalLimitConfig + Copy,
 {
     let answer = match row.answer {
         Answer::Value(text, length) => Answer::Value(String::from_str(alloc, text)?, length),
         Answer::Fault(fault) => Answer::Fault(fault),
     };
-    Ok(answers(
-        decode_under(alloc, row.setting, row.limit, row.input),
+    Ok(answers::<S, _>(
+        decode_under::<S, _, _>(alloc, row.setting, row.limit, row.input),
         &answer,
     ))
 }
 
 /// Whether decoding the input as a list gives the answer.
-fn decodes_list<L>(alloc: Global, row: &Decoding<&'static [u32], L>) -> Result<bool, AllocError>
+fn decodes_list<S, L>(alloc: Global, row: &Decoding<&'static [u32], L>) -> Result<bool, AllocError>
 where
+    S: Source,
     L: InternalLimitConfig + Copy,
 {
     let answer = match row.answer {
         Answer::Value(items, length) => Answer::Value(items.to_vec(alloc)?, length),
         Answer::Fault(fault) => Answer::Fault(fault),
     };
-    Ok(answers(
-        decode_under(alloc, row.setting, row.limit, row.input),
+    Ok(answers::<S, _>(
+        decode_under::<S, _, _>(alloc, row.setting, row.limit, row.input),
         &answer,
     ))
 }
 
 /// Whether decoding the input as a list of lists gives the answer.
-fn decodes_lists<L>(
+fn decodes_lists<S, L>(
     alloc: Global,
     row: &Decoding<&'static [&'static [u8]], L>,
 ) -> Result<bool, AllocError>
 where
+    S: Source,
     L: InternalLimitConfig + Copy,
 {
     let answer = match row.answer {
         Answer::Value(lists, length) => Answer::Value(lists_of(alloc, lists)?, length),
         Answer::Fault(fault) => Answer::Fault(fault),
     };
-    Ok(answers(
-        decode_under(alloc, row.setting, row.limit, row.input),
+    Ok(answers::<S, _>(
+        decode_under::<S, _, _>(alloc, row.setting, row.limit, row.input),
         &answer,
     ))
 }
@@ -353,24 +360,25 @@ fn lists_of(alloc: Global, lists: &[&'static [u8]]) -> Result<Vec<Vec<u8>>, Allo
 }
 
 /// Whether decoding the input as a list of `()` gives one of the answer's length.
-fn decodes_units<L>(alloc: Global, row: &Decoding<usize, L>) -> bool
+fn decodes_units<S, L>(alloc: Global, row: &Decoding<usize, L>) -> bool
 where
+    S: Source,
     L: InternalLimitConfig + Copy,
 {
-    let outcome: Result<(Vec<()>, usize), DecodeError> = decode_under(
+    let outcome: Result<(Vec<()>, usize), DecodeError> = decode_under::<S, _, _>(
         alloc,
         row.setting,
         row.limit,
         row.input,
     );
-    answers(
+    answers::<S, _>(
         outcome.map(|(units, taken)| (units.len(), taken)),
         &row.answer,
     )
 }
 
 /// Whether decoding the input as a map gives the answer.
-fn decodes_map(
+fn decodes_map<S: Source>(
     alloc: Global,
     row: &Decoding<&'static [(u8, u8)], NoLimit>,
 ) -> Result<bool, AllocError> {
@@ -378,32 +386,30 @@ fn decodes_map(
         Answer::Value(entries, length) => Answer::Value(map_of(alloc, entries)?, length),
         Answer::Fault(fault) => Answer::Fault(fault),
     };
-    Ok(answers(
-        decode_under(alloc, row.setting, row.limit, row.input),
+    Ok(answers::<S, _>(
+        decode_under::<S, _, _>(alloc, row.setting, row.limit, row.input),
         &answer,
     ))
 }
 
 /// Whether the outcome is the answer.
-fn answers<T: PartialEq + Drop>(
+fn answers<S: Source, T: PartialEq + Drop>(
     outcome: Result<(T, usize), DecodeError>,
     answer: &Answer<T>,
 ) -> bool {
     match (outcome, answer) {
         (Ok((value, taken)), Answer::Value(wanted, length)) => value == *wanted && taken == *length,
-        (Err(error), Answer::Fault(fault)) => tells(&error, *fault),
+        (Err(error), Answer::Fault(fault)) => tells::<S>(&error, *fault),
         _ => false,
     }
 }
 
 /// Whether the error is the fault, with its fields.
-fn tells(error: &DecodeError, fault: Fault) -> bool {
+fn tells<S: Source>(error: &DecodeError, fault: Fault) -> bool {
     match (error, fault) {
-        (DecodeError::UnexpectedEnd { additional: a }, Fault::UnexpectedEnd { additional }) => {
-            *a == additional
-        }
-        (DecodeError::UnexpectedEnd { additional: _ }, Fault::EndsEarly)
-        | (DecodeError::LimitExceeded, Fault::LimitExceeded)
+        (_, Fault::UnexpectedEnd { additional }) => S::missing(error) == Some(additional),
+        (_, Fault::EndsEarly) => S::missing(error).is_some(),
+        (DecodeError::LimitExceeded, Fault::LimitExceeded)
         | (DecodeError::Utf8 { inner: _ }, Fault::Utf8) => true,
         (
             DecodeError::InvalidIntegerType {
@@ -456,22 +462,23 @@ fn encode_under<T: Encode>(
 }
 
 /// Decodes a value from the input under the setting and the limit.
-fn decode_under<T, L>(
+fn decode_under<S, T, L>(
     alloc: Global,
     setting: Setting,
     _limit: L,
     input: &[u8],
 ) -> Result<(T, usize), DecodeError>
 where
+    S: Source,
     T: Decode<()>,
     L: InternalLimitConfig + Copy,
 {
     let standard = Configuration::<LittleEndian, Varint, L>::default();
     let legacy = Configuration::<LittleEndian, Fixint, L>::default();
     match setting {
-        Setting::Standard => decode_from_slice(alloc, input, standard),
-        Setting::StandardBig => decode_from_slice(alloc, input, standard.with_big_endian()),
-        Setting::Legacy => decode_from_slice(alloc, input, legacy),
-        Setting::LegacyBig => decode_from_slice(alloc, input, legacy.with_big_endian()),
+        Setting::Standard => S::decode(alloc, input, standard),
+        Setting::StandardBig => S::decode(alloc, input, standard.with_big_endian()),
+        Setting::Legacy => S::decode(alloc, input, legacy),
+        Setting::LegacyBig => S::decode(alloc, input, legacy.with_big_endian()),
     }
 }
