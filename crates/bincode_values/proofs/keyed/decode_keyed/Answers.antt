@@ -1,6 +1,6 @@
 use Rattle.std.proofs.lemmas.Result.{err_from_is_err_and}
 use Rattle.bincode_values.proofs.Containers.{length-stops, length-reads}
-use Rattle.bincode_values.proofs.ordered.decode_set.Goals as goal
+use Rattle.bincode_values.proofs.keyed.decode_keyed.Goals as goal
 
 pub returns-in_err-len : goal.returns-in_err-len
 returns-in_err-len g c =
@@ -8,4 +8,4 @@ returns-in_err-len g c =
     rw (p.1, p.2) (length-stops g.D.C.Config.setting _ _ c.in_err-len.ensures.reads)
 
 pub returns : goal.returns
-returns g c = length-reads g.D.C.Config.setting _ _ c.in_ok-len.ensures.reads c.decode_claimed_keys.ensures
+returns g c = length-reads g.D.C.Config.setting _ _ c.in_ok-len.ensures.reads c.decode_claimed.ensures

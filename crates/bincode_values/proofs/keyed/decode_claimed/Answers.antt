@@ -1,9 +1,8 @@
 use Rattle.std.proofs.lemmas.Result.{err_from_is_err_and}
-use Rattle.bincode_format.specs.Collections.{MakesSet}
 use Rattle.bincode_laws.specs.RunLaws.{array-passed}
 use Rattle.bincode_decoder.proofs.ReadAnswers.{claim-passed}
 use Rattle.bincode_values.proofs.Containers.{made-reads}
-use Rattle.bincode_values.proofs.ordered.decode_claimed_keys.Goals as goal
+use Rattle.bincode_values.proofs.keyed.decode_claimed.Goals as goal
 
 pub returns-in_err-claim_container_read : goal.returns-in_err-claim_container_read
 returns-in_err-claim_container_read g c =
@@ -14,5 +13,5 @@ returns-in_err-claim_container_read g c =
 
 pub returns : goal.returns
 returns g c =
-    let read = c.decode_keys.ensures in
-    made-reads (MakesSet g.K.Value.Ord.cmp) (λ v. v.keys) c.claim_container_read.ensures.kept c.in_ok-claim_container_read.ensures.claimed.ok read.0 read.1 read.2
+    let read = c.decode_items.ensures in
+    made-reads g.M.Puts.makes g.M.Puts.held c.claim_container_read.ensures.kept c.in_ok-claim_container_read.ensures.claimed.ok read.0 read.1 read.2
