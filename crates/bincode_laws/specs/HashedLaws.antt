@@ -1,18 +1,19 @@
 -- Hashed sets and maps: no order of theirs is told, and what a word has, put in turn, is what it decodes to.
-use Rattle.std.specs.Prelude.{◌≡◌, ℕ, ◌+◌, ◌≤◌, cond, Bool, true, false, List, [], ◌∷◌, ◌++◌, length, map, Option, MatchOption, refl}
+use Rattle.std.specs.Prelude.{◌≡◌, ℕ, ◌+◌, ◌≤◌, ◌||◌, ◌&&◌, ◌⊎◌, cond, Bool, true, false, List, [], ◌∷◌, ◌++◌, length, map, Option, MatchOption, refl}
 use Rattle.std.specs.declared.option.Option.TheVariants.{None, Some}
 use Rattle.std.specs.Bool.{MatchBool}
+use Rattle.std.specs.Option.{option_eq}
 use Rattle.std.specs.Cmp.{IsEquivalence}
 use Rattle.std.specs.Cmp.Lexicographic.{pointwise, as_long}
 use Rattle.std.specs.Cmp.Derive.Mapped.{pointwise-map}
 use Rattle.std.specs.List.{All, AllByRecursion, IsDistinct, list_any, sum_by}
 use Rattle.std.specs.List.Sorted.{IsPermutation}
 use Rattle.std.specs.Map.{keys_of, lookup, set_value}
-use Rattle.std.proofs.Common.{sym, ◌∙◌, ap, subst, arith, length-append, append-nil}
+use Rattle.std.proofs.Common.{sym, ◌∙◌, ap, subst, arith, inl, inr, length-append, append-nil}
 use Rattle.std.proofs.lemmas.Bool.{and_parts}
 use Rattle.std.proofs.lemmas.List.Elements.{All-nil, All-cons, All-head, All-tail}
 use Rattle.std.proofs.lemmas.List.Sums.{sum_by-cons}
-use Rattle.std.proofs.lemmas.List.Sorted.{IsPermutation-refl, IsPermutation-sym, IsPermutation-trans, IsPermutation-map, IsPermutation-middle, IsPermutation-append_left, length_permutation, All-permutation, sum_by-IsPermutation}
+use Rattle.std.proofs.lemmas.List.Sorted.{IsPermutation-refl, IsPermutation-sym, IsPermutation-trans, IsPermutation-map, IsPermutation-middle, IsPermutation-append_left, length_permutation, list_any-IsPermutation, All-permutation, sum_by-IsPermutation}
 use Rattle.std.proofs.lemmas.Map.{length-set_value}
 use Rattle.std.proofs.lemmas.Map.Keys.{IsDistinct-IsPermutation, IsDistinct-head, IsDistinct-tail, IsDistinct-cons}
 use Rattle.bincode_base.specs.Setting.{Setting}
@@ -199,6 +200,94 @@ module _ {K : Type 0} (eq : K → K → Bool) (laws : IsEquivalence eq) where
       (IsDistinct-IsPermutation eq laws.symm (keys_of (e ∷ (before ++ items))) (keys_of (between ++ items)) (IsPermutation-map (λ x. x.0) (e ∷ (before ++ items)) (between ++ items) others) apart) q in
       IsPermutation-trans (before ++ e ∷ items) (e ∷ (before ++ items)) after first (IsPermutation-trans (e ∷ (before ++ items)) (between ++ items) after others rest)
 
+-- what is equal, in any order
+
+module _ {K : Type 0} (eq : K → K → Bool) (laws : IsEquivalence eq) where
+  same-as : (q x y : K) → eq x y ≡ true → eq q x ≡ eq q y
+  same-as q x y e = laws.symm q x ∙ laws.congr x y q e ∙ laws.symm y q
+
+  members-equal : (q : K) (xs ys : List K) → pointwise eq xs ys ≡ true → list_any (eq q) xs ≡ list_any (eq q) ys
+  members-equal q [] [] p = refl
+  members-equal q [] (y ∷ ys) p = absurd (cc)
+  members-equal q (x ∷ xs) [] p = absurd (cc)
+  members-equal q (x ∷ xs) (y ∷ ys) p =
+      let r = and_parts (eq x y) (pointwise eq xs ys) p in
+      λ i. same-as q x y r.0 i || members-equal q xs ys r.1 i
+
+  -- keys of one meaning, in any order, are the same
+  pub members-same : (Is Is' : K → Meaning → Type 0) (P Q : K → Type 0) → ((v w : K) (m : Meaning) → P v → Q w → Is v m → Is' w m → eq v w ≡ true) →
+      (keys others : List K) (m : Meaning) → All P keys → All Q others → IsMadeOf MakesBag Is keys m → IsMadeOf MakesBag Is' others m → (q : K) → list_any (eq q) keys ≡ list_any (eq q) others
+  members-same Is Is' P Q f keys others m h k (vs, a, i) (ws, b, j) q =
+      let same = run-same Is Is' P Q eq f vs ws (All-permutation P keys vs (IsPermutation-sym vs keys a) h) (All-permutation Q others ws (IsPermutation-sym ws others b) k) m i j in
+      sym (list_any-IsPermutation (eq q) vs keys a) ∙ members-equal q vs ws same ∙ list_any-IsPermutation (eq q) ws others b
+
+  module _ {V : Type 0} where
+    -- each entry is found at its key, if the keys differ
+    module _ (q : K) where
+      abbrev IsFound : Option V → K × V → Type 0
+      IsFound found e = eq q e.0 ≡ true → found ≡ Some e.1
+
+      found-later : (x : K × V) (xs es : List (K × V)) → AllByRecursion (λ y. eq x.0 y ≡ false) (keys_of es) → All (IsFound (lookup (eq q) xs)) es → All (IsFound (lookup (eq q) (x ∷ xs))) es
+      found-later x xs [] apart h = All-nil (IsFound (lookup (eq q) (x ∷ xs)))
+      found-later x xs (e ∷ es) apart h =
+          let here : IsFound (lookup (eq q) (x ∷ xs)) e = λ at.
+          let other : eq q x.0 ≡ false = laws.congr q e.0 x.0 at ∙ laws.symm e.0 x.0 ∙ apart.0 in
+          rw other (All-head (IsFound (lookup (eq q) xs)) e es h at) in
+          All-cons (IsFound (lookup (eq q) (x ∷ xs))) e es here (found-later x xs es apart.1 (All-tail (IsFound (lookup (eq q) xs)) e es h))
+
+      all-found : (es : List (K × V)) → IsDistinct eq (keys_of es) → All (IsFound (lookup (eq q) es)) es
+      all-found [] d = All-nil (IsFound None)
+      all-found (e ∷ es) d =
+          let here : IsFound (lookup (eq q) (e ∷ es)) e = λ at. ap (λ b. cond b (Some e.1) (lookup (eq q) es)) at in
+          All-cons (IsFound (lookup (eq q) (e ∷ es))) e es here
+          (found-later e es es (IsDistinct-head eq e.0 (keys_of es) d) (all-found es (IsDistinct-tail eq e.0 (keys_of es) d)))
+
+      found-at : (found : Option V) (b : Bool) (e : K × V) (rest : Option V) → (b ≡ true → found ≡ Some e.1) → (rest ≡ None) ⊎ (found ≡ rest) →
+          (cond b (Some e.1) rest ≡ None) ⊎ (found ≡ cond b (Some e.1) rest)
+      found-at found true e rest h r = inr (h refl)
+      found-at found false e rest h r = r
+
+      found-or_none : (found : Option V) (es : List (K × V)) → All (IsFound found) es → (lookup (eq q) es ≡ None) ⊎ (found ≡ lookup (eq q) es)
+      found-or_none found [] h = inl refl
+      found-or_none found (e ∷ es) h = found-at found (eq q e.0) e (lookup (eq q) es) (All-head (IsFound found) e es h) (found-or_none found es (All-tail (IsFound found) e es h))
+
+      one-found : (a b : Option V) → (b ≡ None) ⊎ (a ≡ b) → (a ≡ None) ⊎ (b ≡ a) → a ≡ b
+      one-found a b (inr e) k = e
+      one-found a b (inl e) (inr k) = sym k
+      one-found a b (inl e) (inl k) = k ∙ sym e
+
+      -- entries of different keys are found alike in any order
+      lookup-permuted : (es fs : List (K × V)) → IsPermutation es fs → IsDistinct eq (keys_of es) → lookup (eq q) es ≡ lookup (eq q) fs
+      lookup-permuted es fs p d =
+          let apart = IsDistinct-IsPermutation eq laws.symm (keys_of es) (keys_of fs) (IsPermutation-map (λ x. x.0) es fs p) d in
+          one-found (lookup (eq q) es) (lookup (eq q) fs)
+          (found-or_none (lookup (eq q) es) fs (All-permutation (IsFound (lookup (eq q) es)) es fs p (all-found es d)))
+          (found-or_none (lookup (eq q) fs) es (All-permutation (IsFound (lookup (eq q) fs)) fs es (IsPermutation-sym es fs p) (all-found fs apart)))
+
+    module _ (same : V → V → Bool) where
+      both-found : (b : Bool) (x y : V) (o p : Option V) → same x y ≡ true → option_eq same o p ≡ true → option_eq same (cond b (Some x) o) (cond b (Some y) p) ≡ true
+      both-found true x y o p e k = e
+      both-found false x y o p e k = k
+
+      lookups-equal : (q : K) (es fs : List (K × V)) → pointwise (λ x y. eq x.0 y.0 && same x.1 y.1) es fs ≡ true → option_eq same (lookup (eq q) es) (lookup (eq q) fs) ≡ true
+      lookups-equal q [] [] p = refl
+      lookups-equal q [] (f ∷ fs) p = absurd (cc)
+      lookups-equal q (e ∷ es) [] p = absurd (cc)
+      lookups-equal q (e ∷ es) (f ∷ fs) p =
+          let r = and_parts (eq e.0 f.0 && same e.1 f.1) (pointwise (λ x y. eq x.0 y.0 && same x.1 y.1) es fs) p in
+          let t = and_parts (eq e.0 f.0) (same e.1 f.1) r.0 in
+          rw (same-as q e.0 f.0 t.0) (both-found (eq q f.0) e.1 f.1 (lookup (eq q) es) (lookup (eq q) fs) t.1 (lookups-equal q es fs r.1))
+
+      -- entries of one meaning, in any order, are the same, if their keys differ
+      pub entries-same : (Is Is' : K × V → Meaning → Type 0) (P Q : K × V → Type 0) → ((v w : K × V) (m : Meaning) → P v → Q w → Is v m → Is' w m → eq v.0 w.0 && same v.1 w.1 ≡ true) →
+          (entries others : List (K × V)) (m : Meaning) → IsDistinct eq (keys_of entries) → IsDistinct eq (keys_of others) → All P entries → All Q others →
+          IsMadeOf MakesBag Is entries m → IsMadeOf MakesBag Is' others m → (q : K) → option_eq same (lookup (eq q) entries) (lookup (eq q) others) ≡ true
+      entries-same Is Is' P Q f entries others m d e h k (vs, a, i) (ws, b, j) q =
+          let first = IsPermutation-sym vs entries a in
+          let second = IsPermutation-sym ws others b in
+          let alike = run-same Is Is' P Q (λ x y. eq x.0 y.0 && same x.1 y.1) f vs ws (All-permutation P entries vs first h) (All-permutation Q others ws second k) m i j in
+          rw (lookup-permuted q entries vs first d, lookup-permuted q others ws second e) (lookups-equal q vs ws alike)
+
 -- sets
 module _ {K : Type 0} (eq : K → K → Bool) (laws : IsEquivalence eq) (Means Given : K → Meaning → Type 0) (Valid : K → Type 0)
     (comes_back : (v w : K) (m : Meaning) → Valid v → Means v m → Given w m → eq v w ≡ true) where
@@ -209,6 +298,13 @@ module _ {K : Type 0} (eq : K → K → Bool) (laws : IsEquivalence eq) (Means G
       let moved = IsPermutation-sym meant.0 keys meant.1 in
       let same = run-same Means Given Valid (λ k. Unit {0}) eq (λ v w n p q. comes_back v w n p) meant.0 given.0 (All-permutation Valid keys meant.0 moved h) (λ k e lt. tt) m meant.2 given.2 in
       (same, distinct-put_keys eq laws [] given.0 others (distinct-equal eq laws meant.0 given.0 same (IsDistinct-IsPermutation eq laws.symm keys meant.0 moved d)) given.1)
+
+  -- a set comes back with the same keys
+  pub hashed_set-comes_back : (keys others : List K) (m : Meaning) → IsDistinct eq keys → All Valid keys → IsMadeOf MakesBag Means keys m → IsMadeOf (MakesHashedSet eq) Given others m →
+      (q : K) → list_any (eq q) keys ≡ list_any (eq q) others
+  hashed_set-comes_back keys others m d h meant given =
+      let g = given_keys keys others m d h meant given in
+      members-same eq laws Means Given Valid (λ k. Unit {0}) (λ v w n p q. comes_back v w n p) keys others m h (λ k e lt. tt) meant (given.0, g.1, given.2)
 
   -- no word that decodes to it is shorter, if none of a key is
   pub hashed_set-shortest : (s : Setting) (share : ℕ) (F : Format Meaning) → ((v w : K) → Valid v → Shortest (Means v) (Given w) F) →
@@ -231,7 +327,7 @@ module _ {K V : Type 0} (eq : K → K → Bool) (laws : IsEquivalence eq) (Means
   pub given_entries : (same : K × V → K × V → Bool) → ((x y : K × V) → same x y ≡ true → eq x.0 y.0 ≡ true) →
       ((v w : K × V) (m : Meaning) → Valid v → Means v m → Given w m → same v w ≡ true) → (entries others : List (K × V)) (m : Meaning) → IsDistinct eq (keys_of entries) → All Valid entries →
       (meant : IsMadeOf MakesBag Means entries m) → (given : IsMadeOf (MakesHashedMap eq) Given others m) →
-      (pointwise same meant.0 given.0 ≡ true) × (pointwise eq (keys_of meant.0) (keys_of given.0) ≡ true) × IsPermutation given.0 others
+      (pointwise same meant.0 given.0 ≡ true) × IsDistinct eq (keys_of others) × IsPermutation given.0 others
   given_entries same keys_same comes_back entries others m d h meant given =
       let moved = IsPermutation-sym meant.0 entries meant.1 in
       let all = All-permutation Valid entries meant.0 moved h in
@@ -239,7 +335,17 @@ module _ {K V : Type 0} (eq : K → K → Bool) (laws : IsEquivalence eq) (Means
       let first = run-same Means Given Valid (λ k. Unit {0}) (λ x y. eq x.0 y.0) (λ v w n p q i j. keys_same v w (comes_back v w n p i j)) meant.0 given.0 all (λ k e lt. tt) m meant.2 given.2 in
       let keys = pointwise-map (λ x. x.0) eq meant.0 given.0 ∙ first in
       let apart = IsDistinct-IsPermutation eq laws.symm (keys_of entries) (keys_of meant.0) (IsPermutation-map (λ x. x.0) entries meant.0 moved) d in
-      (alike, keys, distinct-put_entries eq laws [] given.0 others (distinct-equal eq laws (keys_of meant.0) (keys_of given.0) keys apart) given.1)
+      let differ = distinct-equal eq laws (keys_of meant.0) (keys_of given.0) keys apart in
+      let put = distinct-put_entries eq laws [] given.0 others differ given.1 in
+      (alike, IsDistinct-IsPermutation eq laws.symm (keys_of given.0) (keys_of others) (IsPermutation-map (λ x. x.0) given.0 others put) differ, put)
+
+  -- a map comes back with the same entries, if its keys and its values do
+  pub hashed_map-comes_back : (same : V → V → Bool) → ((v w : K × V) (m : Meaning) → Valid v → Means v m → Given w m → eq v.0 w.0 && same v.1 w.1 ≡ true) →
+      (entries others : List (K × V)) (m : Meaning) → IsDistinct eq (keys_of entries) → All Valid entries → IsMadeOf MakesBag Means entries m → IsMadeOf (MakesHashedMap eq) Given others m →
+      (q : K) → option_eq same (lookup (eq q) entries) (lookup (eq q) others) ≡ true
+  hashed_map-comes_back same comes_back entries others m d h meant given =
+      let g = given_entries (λ x y. eq x.0 y.0 && same x.1 y.1) (λ x y p. (and_parts (eq x.0 y.0) (same x.1 y.1) p).0) comes_back entries others m d h meant given in
+      entries-same eq laws same Means Given Valid (λ k. Unit {0}) (λ v w n p q. comes_back v w n p) entries others m d g.1 h (λ k e lt. tt) meant (given.0, g.2, given.2)
 
 module _ {K V : Type 0} (eq : K → K → Bool) (laws : IsEquivalence eq) (Valid : K × V → Type 0) (Means : K × V → Meaning → Type 0) (GivenKey : K → Meaning → Type 0) (GivenValue : V → Meaning → Type 0) where
   abbrev Given : K × V → Meaning → Type 0

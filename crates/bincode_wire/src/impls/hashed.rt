@@ -1,5 +1,6 @@
 //! The words of hashed sets and maps.
 use crate::hashed::{HashedEntries, HashedKeys};
+use crate::laws::Exact;
 use crate::parted::Parted;
 use crate::wire::Wire;
 use std::collections::{HashMap, HashSet};
@@ -11,8 +12,21 @@ impl<K: Wire + Eq + Hash, S: BuildHasher> Parted for HashSet<K, S> {
     ghost parts = { λ v. record { keys = v.keys } };
 }
 
+impl<K: Exact + Eq + Hash, S: BuildHasher> Exact for HashSet<K, S> {
+    fn tell_exact() {
+        K::tell_exact();
+    }
+}
+
 impl<K: Wire + Eq + Hash, V: Wire, S: BuildHasher> Parted for HashMap<K, V, S> {
     type Parts = HashedEntries<K, V>;
 
     ghost parts = { λ v. record { entries = v.entries } };
+}
+
+impl<K: Exact + Eq + Hash, V: Exact, S: BuildHasher> Exact for HashMap<K, V, S> {
+    fn tell_exact() {
+        K::tell_exact();
+        V::tell_exact();
+    }
 }
