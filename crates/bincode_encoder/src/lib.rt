@@ -5,6 +5,7 @@
 pub mod cells;
 pub mod chars;
 pub mod encoder;
+pub mod hashed;
 pub mod integers;
 pub mod lists;
 pub mod ordered;

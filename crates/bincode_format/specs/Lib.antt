@@ -13,6 +13,7 @@ pub mod Allowed
 pub mod Choices
 pub mod Run
 pub mod Collections
+pub mod Hashed
 pub mod Cells
 pub mod Answer
 pub mod Limits

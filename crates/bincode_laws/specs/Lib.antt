@@ -18,6 +18,7 @@ pub mod Fronts
 pub mod IntegerLaws
 pub mod LaidLaws
 pub mod LimitLaws
+pub mod HashedLaws
 pub mod MapLaws
 pub mod OrderLaws
 pub mod PairLaws

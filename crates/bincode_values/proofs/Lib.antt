@@ -2,6 +2,7 @@
 pub mod Reading
 pub mod Containers
 pub mod Putting
+pub mod InTurn
 pub mod MadeAnswers
 pub mod PassedAnswers
 pub mod CellAnswers

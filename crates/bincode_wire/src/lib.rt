@@ -4,6 +4,7 @@
 pub mod bags;
 pub mod chars;
 pub mod empty;
+pub mod hashed;
 pub mod impls;
 pub mod laws;
 pub mod lists;

@@ -4,7 +4,7 @@ use crate::decode::Decode;
 use crate::ways::{ByBorrowDecode, ByDecode};
 use bincode_base::error::DecodeError;
 use bincode_decoder::decoder::{BorrowDecoder, BorrowedBytes, Decoder};
-use bincode_values::ordered::{decode_map, decode_set};
+use bincode_values::keyed::decode_keyed;
 use bincode_values::values::OneByOne;
 use std::collections::{BTreeMap, BTreeSet};
 
@@ -13,7 +13,7 @@ impl<Context: Drop, K: Decode<Context> + Ord> Decode<Context> for BTreeSet<K> {
 
     #[inline]
     fn decode<D: Decoder<Context = Context>>(decoder: &mut D) -> Result<BTreeSet<K>, DecodeError> {
-        decode_set::<D, ByDecode<K>>(decoder)
+        decode_keyed::<D, ByDecode<K>, BTreeSet<K>>(decoder)
     }
 }
 
@@ -25,7 +25,7 @@ impl<B: BorrowedBytes, Context: Drop, K: BorrowDecode<B, Context> + Ord> BorrowD
     fn borrow_decode<D: BorrowDecoder<B, Context = Context>>(
         decoder: &mut D,
     ) -> Result<BTreeSet<K>, DecodeError> {
-        decode_set::<D, ByBorrowDecode<B, K>>(decoder)
+        decode_keyed::<D, ByBorrowDecode<B, K>, BTreeSet<K>>(decoder)
     }
 }
 
@@ -37,7 +37,7 @@ impl<Context: Drop, K: Decode<Context> + Ord, V: Decode<Context>> Decode<Context
     fn decode<D: Decoder<Context = Context>>(
         decoder: &mut D,
     ) -> Result<BTreeMap<K, V>, DecodeError> {
-        decode_map::<D, K, V, ByDecode<(K, V)>>(decoder)
+        decode_keyed::<D, ByDecode<(K, V)>, BTreeMap<K, V>>(decoder)
     }
 }
 
@@ -53,6 +53,6 @@ impl<
     fn borrow_decode<D: BorrowDecoder<B, Context = Context>>(
         decoder: &mut D,
     ) -> Result<BTreeMap<K, V>, DecodeError> {
-        decode_map::<D, K, V, ByBorrowDecode<B, (K, V)>>(decoder)
+        decode_keyed::<D, ByBorrowDecode<B, (K, V)>, BTreeMap<K, V>>(decoder)
     }
 }

@@ -1,0 +1,6 @@
+use Rattle.std.specs.List.{All}
+use Rattle.bincode_encoder.proofs.IterAnswers.{SoFar}
+use Rattle.bincode_encoder.proofs.hashed.tell_map_valid.Given as goal
+
+abbrev pub invariant-loop-key : goal.invariant-loop-key
+invariant-loop-key g l = SoFar (All (λ e. g.K.Value.Wire.its.valid e.0 × (g.V.Value.Wire.its.valid e.1 × Unit {0}))) l.map.entries l.key-iterator

@@ -1,0 +1,184 @@
+//! Sets and maps behind their length, into which what is read is put in turn.
+ghost use Rattle.std.specs.Prelude.{◌≡◌, ◌*◌, ◌++◌, ◌∷◌, List, [], IfOk, MatchResult};
+ghost use Rattle.bincode_base.specs.declared.error.DecodeError.TheVariants.{Memory};
+ghost use Rattle.bincode_format.specs.Collections.{IsMadeOf, Makes, MakesMap, MakesSet};
+ghost use Rattle.bincode_format.specs.Hashed.{MakesHashedMap, MakesHashedSet};
+ghost use Rattle.bincode_format.specs.Run.{CanRelease};
+ghost use Rattle.bincode_format.specs.Values.{Reads, RunRead};
+ghost use Rattle.bincode_format.specs.Words.{array, list};
+
+use crate::runs::decode_next;
+use crate::values::ReadValues;
+use bincode_base::error::DecodeError;
+use bincode_decoder::decoder::{ClaimContainer, Decoder};
+use bincode_decoder::lists::decode_length;
+use bincode_wire::wire::Wire;
+use std::alloc::Global;
+use std::collections::{BTreeMap, BTreeSet, HashMap, HashSet};
+use std::hash::{BuildHasher, Hash};
+
+/// A set or a map, into which items are put in turn: keys, or entries.
+pub trait Puts: Drop + Sized {
+    /// What is put.
+    type Item: Wire;
+
+    /// What it holds.
+    ghost held: { Self → List Self.Item };
+
+    /// What holds just those, when these were put one after the other.
+    ghost makes: { Makes Self.Item };
+
+    /// One that holds nothing, with room for `len` items if it reserves any. Fails with `Memory` where the room is
+    /// refused.
+    fn start(alloc: Global, len: usize) -> Result<Self, DecodeError>
+        ensures { MatchResult result (λ v. makes [] (held v)) (λ e. e ≡ Memory) };
+
+    /// Puts an item. Fails with `Memory` where its room is refused.
+    fn put(&mut self, item: Self::Item) -> Result<(), DecodeError>
+        ensures { MatchResult result
+            (λ _. (items : List _) → makes items (held self.old) → makes (items ++ item ∷ []) (held self.new))
+            (λ e. e ≡ Memory) };
+}
+
+impl<K: Wire + Ord + Drop> Puts for BTreeSet<K> {
+    type Item = K;
+
+    ghost held = { λ v. v.keys };
+
+    ghost makes = { MakesSet K.cmp };
+
+    #[inline(always)]
+    fn start(alloc: Global, _len: usize) -> Result<BTreeSet<K>, DecodeError> {
+        Ok(BTreeSet::new(alloc))
+    }
+
+    #[inline(always)]
+    fn put(&mut self, item: K) -> Result<(), DecodeError> {
+        let Ok(_) = self.insert(item) else {
+            return Err(DecodeError::Memory);
+        };
+        Ok(())
+    }
+}
+
+impl<K: Wire + Ord + Drop, V: Wire + Drop> Puts for BTreeMap<K, V> {
+    type Item = (K, V);
+
+    ghost held = { λ v. v.entries };
+
+    ghost makes = { MakesMap K.cmp };
+
+    #[inline(always)]
+    fn start(alloc: Global, _len: usize) -> Result<BTreeMap<K, V>, DecodeError> {
+        Ok(BTreeMap::new(alloc))
+    }
+
+    #[inline(always)]
+    fn put(&mut self, item: (K, V)) -> Result<(), DecodeError> {
+        let (key, value) = item;
+        let Ok(_) = self.insert(key, value) else {
+            return Err(DecodeError::Memory);
+        };
+        Ok(())
+    }
+}
+
+impl<K: Wire + Eq + Hash + Drop, S: BuildHasher + Default + Drop> Puts for HashSet<K, S> {
+    type Item = K;
+
+    ghost held = { λ v. v.keys };
+
+    ghost makes = { MakesHashedSet K.eq };
+
+    #[inline(always)]
+    fn start(alloc: Global, len: usize) -> Result<HashSet<K, S>, DecodeError> {
+        let Ok(started) = HashSet::with_capacity_and_hasher(alloc, len, S::default()) else {
+            return Err(DecodeError::Memory);
+        };
+        Ok(started)
+    }
+
+    #[inline(always)]
+    fn put(&mut self, item: K) -> Result<(), DecodeError> {
+        let Ok(_) = self.insert(item) else {
+            return Err(DecodeError::Memory);
+        };
+        Ok(())
+    }
+}
+
+impl<K: Wire + Eq + Hash + Drop, V: Wire + Drop, S: BuildHasher + Default + Drop> Puts
+    for HashMap<K, V, S> {
+    type Item = (K, V);
+
+    ghost held = { λ v. v.entries };
+
+    ghost makes = { MakesHashedMap K.eq };
+
+    #[inline(always)]
+    fn start(alloc: Global, len: usize) -> Result<HashMap<K, V, S>, DecodeError> {
+        let Ok(started) = HashMap::with_capacity_and_hasher(alloc, len, S::default()) else {
+            return Err(DecodeError::Memory);
+        };
+        Ok(started)
+    }
+
+    #[inline(always)]
+    fn put(&mut self, item: (K, V)) -> Result<(), DecodeError> {
+        let (key, value) = item;
+        match self.insert(key, value) {
+            Ok(_) => Ok(()),
+            Err(_) => Err(DecodeError::Memory),
+        }
+    }
+}
+
+/// Reads `len` items, whose room `claim_container_read` has reserved, and puts them in turn: each one's share is
+/// released before it is read. Fails where an item does, or with `Memory` where room is refused.
+fn decode_items<D: Decoder, V: ReadValues<D>, M: Puts<Item = V::Value>>(
+    decoder: &mut D,
+    len: usize,
+) -> Result<M, DecodeError>
+    requires { CanRelease D.C.bound (D.charge decoder.old) (len * V.Value.its.claim) }
+    ensures { (items : List V.Value) × IfOk result (λ v. M.makes items (M.held v))
+        × RunRead D.told D.rest D.charge D.failures D.place D.C.bound D.R.ended D.R.device (Unit {0}) V.Value.its.claim
+        (V.Value.its.format D.C.setting) V.Value.its.given len (λ _. items) result decoder.old decoder.new }
+{
+    let mut filling = M::start(decoder.alloc(), len)?;
+    for _ in 0..len {
+        let item = decode_next::<D, V>(decoder)?;
+        filling.put(item)?;
+    }
+    Ok(filling)
+}
+
+/// Claims the room of `len` items, and reads them. Fails with `LimitExceeded` where the claim passes the limit, before
+/// any room is made, and where `decode_items` does. A fault leaves what was charged before it.
+fn decode_claimed<D: Decoder, V: ReadValues<D>, M: Puts<Item = V::Value>>(
+    decoder: &mut D,
+    len: usize,
+) -> Result<M, DecodeError>
+    ensures { Reads D.told D.rest D.charge D.failures D.place D.C.bound D.R.ended D.R.device (Unit {0})
+        (array len V.Value.its.claim (V.Value.its.format D.C.setting))
+        (λ m v. IsMadeOf M.makes (λ x n. V.Value.its.given n x) (M.held v) m) (D.charge decoder.old) result decoder.old
+        decoder.new }
+{
+    decoder.claim_container_read::<V::Value>(len)?;
+    decode_items::<D, V, M>(decoder, len)
+}
+
+/// Reads a length, and so many keys or entries, which are put into a set or a map in turn: of equal keys the first
+/// stays, with the last value. Their room is claimed as that of a list; ordered ones reserve none of it, and hashed
+/// ones all of it at once. Fails where the length can't be read, with `LimitExceeded` where the claim passes the limit,
+/// with `Memory` where room is refused, and where an item does. A fault leaves what was charged before it.
+pub fn decode_keyed<D: Decoder, V: ReadValues<D>, M: Puts<Item = V::Value>>(
+    decoder: &mut D,
+) -> Result<M, DecodeError>
+    ensures { Reads D.told D.rest D.charge D.failures D.place D.C.bound D.R.ended D.R.device (Unit {0})
+        (list D.C.setting V.Value.its.claim (V.Value.its.format D.C.setting))
+        (λ m v. IsMadeOf M.makes (λ x n. V.Value.its.given n x) (M.held v) m) (D.charge decoder.old) result decoder.old
+        decoder.new }
+{
+    let len = decode_length(decoder)?;
+    decode_claimed::<D, V, M>(decoder, len)
+}

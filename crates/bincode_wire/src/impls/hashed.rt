@@ -1,0 +1,32 @@
+//! The words of hashed sets and maps.
+use crate::hashed::{HashedEntries, HashedKeys};
+use crate::laws::Exact;
+use crate::parted::Parted;
+use crate::wire::Wire;
+use std::collections::{HashMap, HashSet};
+use std::hash::{BuildHasher, Hash};
+
+impl<K: Wire + Eq + Hash, S: BuildHasher> Parted for HashSet<K, S> {
+    type Parts = HashedKeys<K>;
+
+    ghost parts = { λ v. record { keys = v.keys } };
+}
+
+impl<K: Exact + Eq + Hash, S: BuildHasher> Exact for HashSet<K, S> {
+    fn tell_exact() {
+        K::tell_exact();
+    }
+}
+
+impl<K: Wire + Eq + Hash, V: Wire, S: BuildHasher> Parted for HashMap<K, V, S> {
+    type Parts = HashedEntries<K, V>;
+
+    ghost parts = { λ v. record { entries = v.entries } };
+}
+
+impl<K: Exact + Eq + Hash, V: Exact, S: BuildHasher> Exact for HashMap<K, V, S> {
+    fn tell_exact() {
+        K::tell_exact();
+        V::tell_exact();
+    }
+}
