@@ -19,6 +19,7 @@ pub mod IntegerLaws
 pub mod LaidLaws
 pub mod LimitLaws
 pub mod MapLaws
+pub mod OctetLaws
 pub mod OrderLaws
 pub mod PairLaws
 pub mod PassedLaws

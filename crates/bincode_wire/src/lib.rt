@@ -7,6 +7,7 @@ pub mod empty;
 pub mod impls;
 pub mod laws;
 pub mod lists;
+pub mod octets;
 pub mod ordered;
 pub mod own;
 pub mod parted;
