@@ -13,6 +13,7 @@ pub use Rattle.bincode_format.specs.Integers
 pub use Rattle.bincode_format.specs.Spelling
 pub use Rattle.bincode_format.specs.Meaning
 pub use Rattle.bincode_format.specs.Words
+pub use Rattle.bincode_format.specs.Octets
 pub use Rattle.bincode_format.specs.Forms
 pub use Rattle.bincode_format.specs.Allowed
 pub use Rattle.bincode_format.specs.Choices

@@ -1,5 +1,5 @@
-//! Encoders, and the integers, characters, truth values, texts, runs, lists and variants that are written through any
-//! of them.
+//! Encoders, and the integers, characters, truth values, octets, texts, runs, lists and variants that are written
+//! through any of them.
 #![tactic(auto)]
 
 pub mod cells;
@@ -8,6 +8,7 @@ pub mod encoder;
 pub mod hashed;
 pub mod integers;
 pub mod lists;
+pub mod octets;
 pub mod ordered;
 pub mod runs;
 pub mod texts;

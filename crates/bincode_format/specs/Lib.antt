@@ -8,6 +8,7 @@ pub mod Integers
 pub mod Spelling
 pub mod Meaning
 pub mod Words
+pub mod Octets
 pub mod Forms
 pub mod Allowed
 pub mod Choices

@@ -20,6 +20,7 @@ pub mod LaidLaws
 pub mod LimitLaws
 pub mod HashedLaws
 pub mod MapLaws
+pub mod OctetLaws
 pub mod OrderLaws
 pub mod PairLaws
 pub mod PassedLaws

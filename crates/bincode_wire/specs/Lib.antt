@@ -1,3 +1,4 @@
+pub mod Addresses
 pub mod Durations
 pub mod Rows
 pub mod Sums

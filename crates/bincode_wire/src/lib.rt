@@ -8,6 +8,7 @@ pub mod hashed;
 pub mod impls;
 pub mod laws;
 pub mod lists;
+pub mod octets;
 pub mod ordered;
 pub mod own;
 pub mod parted;

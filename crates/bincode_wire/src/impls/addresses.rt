@@ -1,0 +1,82 @@
+//! The words of addresses.
+ghost use Rattle.std.specs.Prelude.{◌≡◌, refl};
+ghost use Rattle.std.specs.Net.Addr.{ipv4_octets, ipv6_octets, ipv6_segments};
+ghost use Rattle.std.specs.Net.Socket.{v4_ip, v4_port, v6_ip, v6_port, v6_flowinfo, v6_scope_id};
+ghost use Rattle.bincode_wire.specs.Addresses.{segments-alike};
+
+use crate::octets::Octets;
+use crate::parted::{Parted, SameParts};
+use crate::sums::{NoOther, OneOf, Or};
+use std::net::{IpAddr, Ipv4Addr, Ipv6Addr, SocketAddr, SocketAddrV4, SocketAddrV6};
+
+impl Parted for Ipv4Addr {
+    type Parts = Octets<4>;
+
+    ghost parts = { λ v. record { octets = ipv4_octets v } };
+}
+
+impl SameParts<Octets<4>> for Ipv4Addr {
+    ghost same_parts = { λ v w. refl };
+}
+
+impl Parted for Ipv6Addr {
+    type Parts = Octets<16>;
+
+    ghost parts = { λ v. record { octets = ipv6_octets v } };
+}
+
+impl SameParts<Octets<16>> for Ipv6Addr {
+    ghost same_parts = { λ v w. segments-alike (ipv6_segments v) (ipv6_segments w) };
+}
+
+type IpParts = OneOf<Or<0, Ipv4Addr, Or<1, Ipv6Addr, NoOther<IpAddr>>>>;
+
+impl Parted for IpAddr {
+    ghost use Rattle.std.specs.declared.net.ip_addr.IpAddr.TheVariants.{V4, V6};
+    ghost use Rattle.bincode_wire.specs.declared.sums.Or.TheVariants.{This, Other};
+
+    type Parts = IpParts;
+
+    ghost parts = { elim [ V4 v ↦ record { 0 = This v } | V6 v ↦ record { 0 = Other (This v) } ] };
+}
+
+impl SameParts<IpParts> for IpAddr {
+    ghost use Rattle.std.specs.declared.net.ip_addr.IpAddr.TheVariants.{V4, V6};
+
+    ghost same_parts = { elim [
+      | V4 v ↦ elim [ V4 w ↦ refl | V6 w ↦ refl ]
+      | V6 v ↦ elim [ V4 w ↦ refl | V6 w ↦ refl ]
+    ] };
+}
+
+impl Parted for SocketAddrV4 {
+    type Parts = (Ipv4Addr, u16);
+
+    ghost parts = { λ v. (v4_ip v, v4_port v) };
+}
+
+impl SameParts<(Ipv4Addr, u16)> for SocketAddrV4 {
+    ghost same_parts = { λ v w. refl };
+}
+
+// It has no `SameParts`: its flow and its scope are not written, and `==` looks at them.
+impl Parted for SocketAddrV6 {
+    type Parts = (Ipv6Addr, u16);
+
+    ghost parts = { λ v. (v6_ip v, v6_port v) };
+
+    // What is decoded has neither flow nor scope.
+    ghost promised = { λ v of_parts. record {
+      Promised = (v6_flowinfo v ≡ 0) × (v6_scope_id v ≡ 0) × of_parts;
+      keeps = λ h. h.2;
+    } };
+}
+
+impl Parted for SocketAddr {
+    ghost use Rattle.std.specs.declared.net.socket_addr.SocketAddr.TheVariants.{V4, V6};
+    ghost use Rattle.bincode_wire.specs.declared.sums.Or.TheVariants.{This, Other};
+
+    type Parts = OneOf<Or<0, SocketAddrV4, Or<1, SocketAddrV6, NoOther<SocketAddr>>>>;
+
+    ghost parts = { elim [ V4 v ↦ record { 0 = This v } | V6 v ↦ record { 0 = Other (This v) } ] };
+}

@@ -1,0 +1,64 @@
+//! Octets: the bytes that addresses are made of.
+ghost use Rattle.std.specs.Prelude.{◌≡◌, ◌<◌, length};
+ghost use Rattle.std.specs.List.{All};
+ghost use Rattle.bincode_format.specs.Meaning.{IsBytes};
+ghost use Rattle.bincode_format.specs.Octets.{octets};
+ghost use Rattle.bincode_laws.specs.OctetLaws.{octets-lawful, octets-balanced, octets-has_word};
+
+use crate::laws::{Canonical, ConstantCharge, Exact, Inhabited, Plain, Writable};
+use crate::wire::Wire;
+
+/// So many bytes of an address, as they are in every setting: the highest comes first.
+#[derive(Drop, PartialEq)]
+pub struct Octets<const N: usize> {
+    pub octets: [u8; N],
+}
+
+impl<const N: usize> Wire for Octets<N> {
+    ghost its = { record {
+      format = λ s. octets N;
+      valid = λ v. (length v.octets ≡ N) × All (λ b. b < 256) v.octets;
+      means = λ v. IsBytes v.octets;
+      given = λ m v. IsBytes v.octets m;
+      writable = λ s v. Unit {0};
+      names = λ e. ⊥;
+      grows = ⊥;
+      claim = N;
+      lawful = λ s. octets-lawful N;
+      balanced = λ s. octets-balanced N;
+      has_word = λ s v h w. octets-has_word N v.octets h.0 h.1;
+      names_own = λ e h. absurd h;
+    } };
+
+    fn claim_size() -> usize {
+        N
+    }
+}
+
+impl<const N: usize> Inhabited for Octets<N> {
+    fn tell_inhabited() {}
+}
+
+impl<const N: usize> Writable for Octets<N> {
+    fn tell_writable() {}
+}
+
+impl<const N: usize> Plain for Octets<N> {
+    fn tell_plain() {}
+}
+
+impl<const N: usize> Exact for Octets<N> {
+    fn tell_exact() {}
+}
+
+impl<const N: usize> Canonical for Octets<N> {
+    fn tell_canonical() {}
+}
+
+impl<const N: usize> ConstantCharge for Octets<N> {
+    ghost cost = { N };
+
+    ghost peak = { N };
+
+    fn tell_costs() {}
+}
