@@ -1,3 +1,4 @@
+pub mod CStrings
 pub mod Durations
 pub mod Rows
 pub mod Sums
