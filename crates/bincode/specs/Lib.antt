@@ -12,6 +12,7 @@ pub use Rattle.bincode_format.specs.Laws
 pub use Rattle.bincode_format.specs.Integers
 pub use Rattle.bincode_format.specs.Spelling
 pub use Rattle.bincode_format.specs.Meaning
+pub use Rattle.bincode_format.specs.NoZero
 pub use Rattle.bincode_format.specs.Words
 pub use Rattle.bincode_format.specs.Octets
 pub use Rattle.bincode_format.specs.Forms
@@ -43,6 +44,7 @@ pub use Rattle.bincode_io.specs.RoomLaws
 pub use Rattle.bincode_io.specs.Slices
 pub use Rattle.bincode_io.specs.Stream
 pub use Rattle.bincode_io.specs.Vectors
+pub use Rattle.bincode_wire.specs.CStrings
 pub use Rattle.bincode_wire.specs.Durations
 pub use Rattle.bincode_wire.specs.Sums
 pub use Rattle.bincode_wire.specs.TypeLaws

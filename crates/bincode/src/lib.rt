@@ -37,7 +37,7 @@ pub use bincode_enc::encode::Encode;
 pub use bincode_varint::varint;
 pub use bincode_wire::empty::NoVariants;
 pub use bincode_wire::lists::Items;
-pub use bincode_wire::own::time;
+pub use bincode_wire::own::{ffi, time};
 pub use bincode_wire::parted::{Parted, SameParts};
 pub use bincode_wire::passed::{Passed, Tested};
 pub use bincode_wire::sums::{NoOther, OneOf, Or};

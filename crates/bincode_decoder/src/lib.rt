@@ -3,6 +3,7 @@
 
 pub mod borrow;
 pub mod bytes;
+pub mod c_strings;
 pub mod chars;
 pub mod context;
 pub mod decoder;

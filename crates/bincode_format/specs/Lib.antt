@@ -7,6 +7,7 @@ pub mod Laws
 pub mod Integers
 pub mod Spelling
 pub mod Meaning
+pub mod NoZero
 pub mod Words
 pub mod Octets
 pub mod Forms

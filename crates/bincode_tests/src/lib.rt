@@ -5,6 +5,8 @@
 #[cfg(test)]
 mod borrowed;
 #[cfg(test)]
+mod c_strings;
+#[cfg(test)]
 mod cells;
 #[cfg(test)]
 mod claims;
@@ -20,6 +22,8 @@ mod contexts;
 mod faults;
 #[cfg(test)]
 mod numbers;
+#[cfg(test)]
+mod paths;
 #[cfg(test)]
 mod readers;
 #[cfg(test)]

@@ -1,4 +1,5 @@
 pub mod Addresses
+pub mod CStrings
 pub mod Durations
 pub mod Rows
 pub mod Sums

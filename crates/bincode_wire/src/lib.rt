@@ -2,6 +2,7 @@
 #![tactic(auto)]
 
 pub mod bags;
+pub mod c_strings;
 pub mod chars;
 pub mod empty;
 pub mod hashed;

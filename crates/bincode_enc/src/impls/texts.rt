@@ -11,7 +11,7 @@ use std::boxed::BoxedStr;
 use std::rc::RcStr;
 
 /// Says of the text in hand that its bytes are UTF-8, and that their number is a length.
-fn tell_text_valid(text: &str)
+pub(super) fn tell_text_valid(text: &str)
     ensures { IsUtf8 text.now × (length text.now < 2 ^ 64) }
 {
     let _len = text.len();

@@ -1,0 +1,29 @@
+//! C strings behind their length, read through any decoder.
+ghost use Rattle.std.specs.Prelude.{◌≡◌, length, vec_capacity};
+ghost use Rattle.bincode_format.specs.Meaning.{IsBytes};
+ghost use Rattle.bincode_format.specs.Words.{without_nul};
+ghost use Rattle.bincode_format.specs.Values.{Reads};
+ghost use Rattle.bincode_wire.specs.CStrings.{c_string_vec, c_string_bytes};
+
+use crate::decoder::Decoder;
+use crate::texts::decode_counted;
+use bincode_base::error::DecodeError;
+use bincode_wire::own::ffi::CString;
+
+/// Reads a length, and so many bytes as a C string, with room for just so many. Fails where `decode_counted` does, or
+/// with `CStringNulError` where one of the bytes, all of which are read, is zero, with the place of the first. A fault
+/// leaves what was charged before it.
+pub fn decode_c_string<D: Decoder>(decoder: &mut D) -> Result<CString, DecodeError>
+    ensures { Reads D.told D.rest D.charge D.failures D.place D.C.bound D.R.ended D.R.device (Unit {0})
+        (without_nul D.C.setting)
+        (λ m v. IsBytes (c_string_bytes v) m × (vec_capacity (c_string_vec v) ≡ length (c_string_bytes v)))
+        (D.charge decoder.old) result decoder.old decoder.new }
+{
+    let bytes = decode_counted(decoder)?;
+    match CString::new(bytes) {
+        Ok(text) => Ok(text),
+        Err(fault) => Err(DecodeError::CStringNulError {
+            position: fault.nul_position(),
+        }),
+    }
+}

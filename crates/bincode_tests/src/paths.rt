@@ -1,0 +1,102 @@
+//! Paths.
+
+use bincode::error::DecodeError;
+use bincode::laws::{Canonical, Exact, Inhabited};
+use bincode::{Wire, borrow_decode_from_slice, config};
+use std::collections::{BTreeMap, BTreeSet};
+use std::path::{Path, PathBuf};
+use test_helpers::checks::{decoded, each_call_keeps, fault_of, is_written_as};
+
+/// The text of a path.
+const FOO: &str = "C:/Program Files/Foo";
+
+/// Its word.
+static WORD: [u8; 21] = [
+    20, 67, 58, 47, 80, 114, 111, 103, 114, 97, 109, 32, 70, 105, 108, 101, 115, 47, 70, 111, 111,
+];
+
+#[test]
+fn writes_a_path(rt: HostRuntime) {
+    assert!(rt; is_written_as(rt.alloc(), Some(Path::new(FOO)), &WORD));
+}
+
+#[test]
+fn each_call_keeps_a_path(rt: HostRuntime) {
+    assert!(rt; each_call_keeps::<PathBuf>(rt.alloc(), &WORD));
+    assert!(rt; PathBuf::claim_size() == 24 && Path::<'_>::claim_size() == 16);
+}
+
+#[test]
+fn reads_a_path(rt: HostRuntime) {
+    let read: Result<(PathBuf, usize), DecodeError> = decoded(
+        rt.alloc(),
+        &WORD,
+        config::standard(),
+    );
+    let Ok((path, 21)) = read else {
+        assert!(rt; false);
+        return;
+    };
+    assert!(rt; path.as_str() == FOO);
+}
+
+#[test]
+fn lends_a_path(rt: HostRuntime) {
+    let read: Result<(Path<'_>, usize), DecodeError> = borrow_decode_from_slice(
+        rt.alloc(),
+        &WORD,
+        config::standard(),
+    );
+    assert!(rt; matches!(read, Ok((path, 21)) if path.as_str() == FOO));
+}
+
+#[test]
+fn refuses_bytes_that_are_no_text(rt: HostRuntime) {
+    let fault = fault_of::<PathBuf>(rt.alloc(), &[2, 195, 40]);
+    assert!(rt; matches!(fault, Some(DecodeError::Utf8 { inner: _ })));
+}
+
+/// `a` and `a/` are equal, so the second is not put in.
+#[test]
+fn keeps_the_first_of_equal_paths(rt: HostRuntime) {
+    let read: Result<(BTreeSet<PathBuf>, usize), DecodeError> = decoded(
+        rt.alloc(),
+        &[2, 1, 97, 2, 97, 47],
+        config::standard(),
+    );
+    let Ok((set, 6)) = read else {
+        assert!(rt; false);
+        return;
+    };
+    assert!(rt; set.len() == 1);
+    assert!(rt; matches!(set.first(), Some(path) if path.as_str() == "a"));
+}
+
+/// The first of two equal keys stays, with the value of the second.
+#[test]
+fn keeps_the_last_value_of_equal_paths(rt: HostRuntime) {
+    let read: Result<(BTreeMap<PathBuf, u8>, usize), DecodeError> = decoded(
+        rt.alloc(),
+        &[2, 2, 97, 47, 1, 1, 97, 2],
+        config::standard(),
+    );
+    let Ok((map, 8)) = read else {
+        assert!(rt; false);
+        return;
+    };
+    assert!(rt; map.len() == 1);
+    let first = map.first_key_value();
+    assert!(rt; matches!(first, Some((path, 2)) if path.as_str() == "a/"));
+}
+
+/// Tells the laws of a type that has them.
+fn tell_laws<T: Exact + Canonical + Inhabited>() {
+    T::tell_exact();
+    T::tell_canonical();
+    T::tell_inhabited();
+}
+
+#[test]
+fn has_each_law(_rt: HostRuntime) {
+    tell_laws::<(PathBuf, Path<'_>)>();
+}

@@ -1,0 +1,33 @@
+//! The words of C strings.
+ghost use Rattle.std.specs.Prelude.{◌≡◌, length, refl, vec_capacity};
+ghost use Rattle.bincode_wire.specs.CStrings.{c_string_vec, c_string_bytes, c_str_bytes};
+
+use crate::c_strings::BytesWithoutZero;
+use crate::own::ffi::{CStr, CString};
+use crate::parted::{Parted, SameParts};
+
+impl Parted for CString {
+    type Parts = BytesWithoutZero<24, true>;
+
+    ghost parts = { λ v. record { bytes = c_string_bytes v } };
+
+    // What is decoded has room for just its bytes.
+    ghost promised = { λ v of_parts. record {
+      Promised = of_parts × (vec_capacity (c_string_vec v) ≡ length (c_string_bytes v));
+      keeps = λ h. h.0;
+    } };
+}
+
+impl SameParts<BytesWithoutZero<24, true>> for CString {
+    ghost same_parts = { λ v w. refl };
+}
+
+impl Parted for CStr<'_> {
+    type Parts = BytesWithoutZero<16, false>;
+
+    ghost parts = { λ v. record { bytes = c_str_bytes v } };
+}
+
+impl SameParts<BytesWithoutZero<16, false>> for CStr<'_> {
+    ghost same_parts = { λ v w. refl };
+}
