@@ -21,6 +21,8 @@ mod contexts;
 #[cfg(test)]
 mod faults;
 #[cfg(test)]
+mod hashed;
+#[cfg(test)]
 mod numbers;
 #[cfg(test)]
 mod paths;
