@@ -6,7 +6,7 @@ use bincode::laws::{Canonical, Exact, Inhabited};
 use bincode::{Wire, borrow_decode_from_slice, config};
 use std::alloc::Global;
 use test_helpers::checks::{
-    decoded_within, each_call_keeps, either, fault_of, is_written_as, read_front,
+    decoded, decoded_within, each_call_keeps, either, fault_of, is_written_as,
 };
 
 /// The word of Hello world.
@@ -17,15 +17,12 @@ fn reads_what_was_lent(rt: HostRuntime) {
     let alloc = rt.alloc();
     let lent = CStr::from_bytes(b"Hello world").ok();
     assert!(rt; is_written_as(alloc, lent, &WORD));
-    let read: Option<CString> = either(
-        read_front(alloc, &WORD, 12).ok_or(()),
-        read_front(alloc, &WORD, 12).ok_or(()),
-    );
-    let Some(text) = read else {
+    let read: Result<(CString, usize), DecodeError> = decoded(alloc, &WORD, config::standard());
+    let Ok((text, 12)) = read else {
         assert!(rt; false);
         return;
     };
-    assert!(rt; text.as_bytes() == b"Hello world");
+    assert!(rt; text.as_bytes() == b"Hello world".as_slice());
     assert!(rt; Some(text.as_c_str()) == lent);
 }
 
@@ -63,7 +60,7 @@ fn is_owned_by_borrowed_decoding(rt: HostRuntime) {
         assert!(rt; false);
         return;
     };
-    assert!(rt; text.into_bytes().as_slice() == b"Hello world");
+    assert!(rt; text.into_bytes().as_slice() == b"Hello world".as_slice());
 }
 
 /// What is refused of bytes with a zero, if memory was there for them.

@@ -3,6 +3,8 @@ ghost use Rattle.std.specs.Prelude.{◌≡◌, Some, None, MatchResult};
 ghost use Rattle.bincode_format.specs.NoZero.{first_zero, HasNoZero};
 ghost use Rattle.std.proofs.Props.{props};
 
+use std::alloc::AllocError;
+
 /// A C string that is owned: bytes of which none is zero.
 ///
 /// It stands for the standard library's `CString`, which takes memory for a zero behind the bytes. This one holds the
@@ -69,6 +71,17 @@ impl CString {
         ensures { result ≡ c_string_vec self }
     {
         self.bytes
+    }
+}
+
+impl Clone for CString {
+    ghost use Rattle.bincode_wire.specs.CStrings.{c_string_bytes};
+
+    ghost is_clone = { λ s copy. c_string_bytes copy ≡ c_string_bytes s };
+
+    fn clone(&self) -> Result<CString, AllocError> {
+        let bytes = self.bytes.clone()?;
+        Ok(CString { bytes })
     }
 }
 
