@@ -1,0 +1,22 @@
+-- What was read back is an entry.
+use Rattle.std.specs.Prelude.{◌≡◌, ◌++◌, ℕ, List, [], Option}
+use Rattle.std.proofs.Common.{◌∙◌, sym, subst, append-nil}
+use Rattle.bincode_base.specs.Setting.{Setting}
+use Rattle.bincode_format.specs.Allowed.{AllowedWord}
+use Rattle.bincode_format.specs.Charge.{StaysWithin}
+use Rattle.bincode_format.specs.Meaning.{Meaning}
+use Rattle.bincode_format.specs.Slice.{Decoded}
+use Rattle.bincode_laws.specs.FormatLaws.{one-word}
+use Rattle.bincode_wire.specs.TypeWords.{Words}
+use Rattle.record_store.specs.Stores.{IsEntry}
+
+-- a word that is read within the limit stays within it
+pub read-entry : {A : Type 0} (W : Words A) (s : Setting) (limit : Option ℕ) (v : A) (word : List ℕ) → W.valid v → AllowedWord (W.means v) (W.format s) word →
+    (Given : Meaning → Type 0) (n : ℕ) → Decoded (W.format s) limit word Given n → IsEntry W s limit v word
+read-entry W s limit v word valid allowed Given n d = record {
+  is_valid = valid;
+  is_written = allowed;
+  is_within = λ m steps w.
+      let one = one-word (W.lawful s) word d.word [] d.rest m d.meaning steps d.steps w d.is_word (append-nil word ∙ d.input_is) in
+      subst (StaysWithin limit 0) (sym one.2) d.within;
+}
