@@ -1,5 +1,5 @@
 -- What was read back is an entry.
-use Rattle.std.specs.Prelude.{◌≡◌, ◌++◌, ℕ, List, [], Option}
+use Rattle.std.specs.Prelude.{◌≡◌, ◌++◌, ℕ, List, [], Option, refl}
 use Rattle.std.proofs.Common.{◌∙◌, sym, subst, append-nil}
 use Rattle.bincode_base.specs.Setting.{Setting}
 use Rattle.bincode_format.specs.Allowed.{AllowedWord}
@@ -8,7 +8,9 @@ use Rattle.bincode_format.specs.Meaning.{Meaning}
 use Rattle.bincode_format.specs.Slice.{Decoded}
 use Rattle.bincode_laws.specs.FormatLaws.{one-word}
 use Rattle.bincode_wire.specs.TypeWords.{Words}
-use Rattle.record_store.specs.Stores.{IsEntry}
+use Rattle.record_store.specs.Stores.{IsEntry, WritesNothing, Leaves}
+use Rattle.record_store.specs.declared.store.AppendError.{AppendError}
+use Rattle.record_store.specs.declared.store.AppendError.TheVariants as failures
 
 -- a word that is read within the limit stays within it
 pub read-entry : {A : Type 0} (W : Words A) (s : Setting) (limit : Option ℕ) (v : A) (word : List ℕ) → W.valid v → AllowedWord (W.means v) (W.format s) word →
@@ -20,3 +22,10 @@ read-entry W s limit v word valid allowed Given n d = record {
       let one = one-word (W.lawful s) word d.word [] d.rest m d.meaning steps d.steps w d.is_word (append-nil word ∙ d.input_is) in
       subst (StaysWithin limit 0) (sym one.2) d.within;
 }
+
+-- what is refused before anything is written leaves the store
+pub nothing-written : {A S : Type 0} (W : Words A) (s : Setting) (limit : Option ℕ) (v : A) (contents : S → Option (List ℕ)) (store : S) (e : AppendError) → WritesNothing e →
+    Leaves W s limit v contents store store e
+nothing-written W s limit v contents store (failures.Encode _) h = refl
+nothing-written W s limit v contents store (failures.ReadBack _) h = refl
+nothing-written W s limit v contents store (failures.Write _) h = absurd h

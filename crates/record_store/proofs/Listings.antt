@@ -1,7 +1,7 @@
 -- What is listed of a store, by what was appended to it.
-use Rattle.std.specs.Prelude.{◌≡◌, ◌+◌, ◌<◌, ◌≤◌, ◌⊎◌, ◌++◌, ℕ, List, [], ◌∷◌, length, drop, Option, Some, None, Err, Bool, true, refl}
+use Rattle.std.specs.Prelude.{◌≡◌, ◌+◌, ◌-◌, ◌<◌, ◌≤◌, ◌⊎◌, ◌++◌, ℕ, List, [], ◌∷◌, length, take, drop, Option, Some, None, Err, Bool, true, refl}
 use Rattle.std.proofs.Common.{◌∙◌, ap, sym, subst, inl, inr, arith, append_assoc, append-nil, length-append}
-use Rattle.std.proofs.lemmas.List.{length-drop, drop-drop, drop_at}
+use Rattle.std.proofs.lemmas.List.{length-drop, drop-drop, drop_at, take_all}
 use Rattle.bincode_base.specs.Setting.{Setting}
 use Rattle.bincode_base.specs.declared.error.DecodeError.{DecodeError}
 use Rattle.bincode_base.specs.declared.error.DecodeError.TheVariants.{UnexpectedEnd, Memory}
@@ -55,35 +55,41 @@ end_told (LengthMismatch _ _) e h t = absurd h
 end_told EmptyEnum e h t = absurd h
 end_told (OutsideUsize _) e h t = absurd h
 
+stopped_there : (offset here : ℕ) (why : DecodeError) (missing : ℕ) → offset ≡ here → why ≡ UnexpectedEnd missing →
+    (missing : ℕ) × (Stopped offset why ≡ Stopped here (UnexpectedEnd missing))
+stopped_there offset here why missing p q = (missing, rw (p, q) refl)
+
 -- a front of steps that stay within a limit does so too
 front-within : (limit : Option ℕ) (front back : List Step) → StaysWithin limit 0 (front ++ back) → StaysWithin limit 0 front
 front-within None front back h = tt
 front-within (Some n) front back h = λ a b e. h a (b ++ back) (ap (λ z. z ++ back) e ∙ append_assoc a b back)
 
--- where a word that was read from an offset ends, and what is behind it
-pub moved : (F : Format Meaning) (limit : Option ℕ) (Given : Meaning → Type 0) (store : List ℕ) (at n : ℕ) → at ≤ length store →
-    (d : Decoded F limit (drop at store) Given n) → (at + n ≤ length store) × (d.rest ≡ drop (at + n) store)
-moved F limit Given store at n h d =
-    let total : length (drop at store) ≡ length d.word + length d.rest = ap length d.input_is ∙ length-append d.word d.rest in
-    let left = length-drop at store in
-    let count = d.count in (
-      omega (arith, total, left, count, h),
-      sym (drop_at d.word d.rest n (sym d.count)) ∙ ap (λ z. drop n z) (sym d.input_is) ∙ drop-drop n at store,
-    )
+-- what is sliced from an offset on is all behind it
+abbrev sliced : List ℕ → ℕ → List ℕ
+sliced store at = take (length store - at) (drop at store)
+
+slice-rest : (store : List ℕ) (at : ℕ) → sliced store at ≡ drop at store
+slice-rest store at = let left = length-drop at store in take_all (length store - at) (drop at store) (omega (arith, left))
 
 some_of : (n : ℕ) (word : List ℕ) → n ≡ length word → (word ≡ [] → ⊥) → 0 < n
 some_of n [] e h = absurd (h refl)
 some_of n (b ∷ word) e h = omega (arith, e)
 
--- an error other than a refusal of memory tells why no word begins the bytes
-pub refused-for : {A : Type 0} (F : Format Meaning) (limit : Option ℕ) (Grows : Type 0) (input : List ℕ) (e : DecodeError) → ¬ (e ≡ Memory) →
-    FindsWords {A = A} F limit Grows input (Err e) → TellsFaults {A = A} F limit Grows input (Err e) → KeepsLimit {A = A} F limit Grows input (Err e) →
-    IsRefusedFor F limit input e
-refused-for F limit Grows input e other found tells keeps = record {
-  no_word = λ word behind m steps i w h. other (found word behind m steps i w h).1;
-  tells = λ fault steps h w. elim (tells fault steps h w) [ inl t ↦ t | inr r ↦ absurd (other r.1) ];
-  keeps = λ steps h p. elim (keeps steps h p) [ inl t ↦ t | inr r ↦ absurd (other r.1) ];
-}
+-- an error other than a refusal of memory tells why no word begins there
+pub stopped-at : (F : Format Meaning) (limit : Option ℕ) (Grows : Type 0) (store : List ℕ) (at : ℕ) (e : DecodeError) → ¬ (e ≡ Memory) → at < length store →
+    FindsWords {A = Unit {0}} F limit Grows (sliced store at) (Err e) → TellsFaults {A = Unit {0}} F limit Grows (sliced store at) (Err e) →
+    KeepsLimit {A = Unit {0}} F limit Grows (sliced store at) (Err e) → EndsAt F limit at (drop at store) (Stopped at e)
+stopped-at F limit Grows store at e other h found tells keeps =
+    let left = length-drop at store in
+    let refused : IsRefusedFor F limit (sliced store at) e = record {
+      no_word = λ word behind m steps i w h. other (found word behind m steps i w h).1;
+      tells = λ fault steps h w. elim (tells fault steps h w) [ inl t ↦ t | inr r ↦ absurd (other r.1) ];
+      keeps = λ steps h p. elim (keeps steps h p) [ inl t ↦ t | inr r ↦ absurd (other r.1) ];
+    } in (
+      refl,
+      λ none. let none : length (drop at store) ≡ 0 = ap length none in omega (arith, h, left, none),
+      subst (λ z. IsRefusedFor F limit z e) (slice-rest store at) refused,
+    )
 
 module _ {A : Type 0} (W : Words A) (s : Setting) (limit : Option ℕ) where
   -- a word that was read has a byte at least
@@ -91,7 +97,7 @@ module _ {A : Type 0} (W : Words A) (s : Setting) (limit : Option ℕ) where
   some-taken never input Given n d = some_of n d.word d.count (λ e. never s d.meaning d.steps (subst (λ z. (W.format s).Word z d.meaning d.steps) e d.is_word))
 
   -- one more word behind those that were read
-  pub next-read : (at : ℕ) (input : List ℕ) (listed : List (Listed A)) (end : ℕ) (rest : List ℕ) → ReadFrom W s limit at input listed end rest →
+  next-read : (at : ℕ) (input : List ℕ) (listed : List (Listed A)) (end : ℕ) (rest : List ℕ) → ReadFrom W s limit at input listed end rest →
       (n : ℕ) (v : A) (d : Decoded (W.format s) limit rest (λ m. W.given m v) n) →
       ReadFrom W s limit at input (listed ++ (record { offset = end; size = n; value = v }) ∷ []) (end + n) d.rest
   next-read at input [] end rest r n v d = (
@@ -100,6 +106,20 @@ module _ {A : Type 0} (W : Words A) (s : Setting) (limit : Option ℕ) where
     (ap (λ z. z + n) r.0, refl),
   )
   next-read at input (l ∷ listed) end rest r n v d = (r.0, r.1, next-read (at + l.size) r.0.rest listed end rest r.2 n v d)
+
+  -- the same of what was sliced from the end of those
+  pub read-on : (store : List ℕ) (at : ℕ) (listed : List (Listed A)) (n : ℕ) (v : A) → at ≤ length store → ReadFrom W s limit 0 store listed at (drop at store) →
+      Decoded (W.format s) limit (sliced store at) (λ m. W.given m v) n →
+      (at + n ≤ length store) × ReadFrom W s limit 0 store (listed ++ (record { offset = at; size = n; value = v }) ∷ []) (at + n) (drop (at + n) store)
+  read-on store at listed n v h r word =
+      let d = subst (λ z. Decoded (W.format s) limit z (λ m. W.given m v) n) (slice-rest store at) word in
+      let total : length (drop at store) ≡ length d.word + length d.rest = ap length d.input_is ∙ length-append d.word d.rest in
+      let left = length-drop at store in
+      let count = d.count in
+      let rest : d.rest ≡ drop (at + n) store = sym (drop_at d.word d.rest n (sym d.count)) ∙ ap (λ z. drop n z) (sym d.input_is) ∙ drop-drop n at store in (
+        omega (arith, total, left, count, h),
+        subst (λ z. ReadFrom W s limit 0 store (listed ++ (record { offset = at; size = n; value = v }) ∷ []) (at + n) z) rest (next-read 0 store listed at (drop at store) r n v d),
+      )
 
 module _ {A : Type 0} (W : Words A) (s : Setting) (limit : Option ℕ) (never : NeverEmpty W) (eq : A → A → Bool) (exact : ExactWords W eq) where
   abbrev F : Format Meaning
@@ -236,7 +256,7 @@ module _ {A : Type 0} (W : Words A) (s : Setting) (limit : Option ℕ) (never : 
     torn-behind at entries listed first [] end rest (Stopped offset why) e all here r h =
         let told = torn_of why (subst (λ z. IsRefusedFor F limit z why) r.1 h.2) (F.read front) refl in
         let place : offset ≡ here = h.0 ∙ r.0 in
-        (subst (λ z. ListedFor eq at entries z) (sym (e ∙ append-nil first)) all, (told.0, rw (place, told.1) refl))
+        (subst (λ z. ListedFor eq at entries z) (sym (e ∙ append-nil first)) all, stopped_there offset here why told.0 place told.1)
     torn-behind at entries listed first (l ∷ others) end rest ending e all here r h =
         let d = r.0 in absurd (no-word d.word d.rest d.meaning d.steps d.is_word d.input_is)
 

@@ -19,9 +19,13 @@ use Rattle.record_store.specs.declared.store.Ending.{Ending}
 use Rattle.record_store.specs.declared.store.Ending.TheVariants.{Whole, Stopped}
 use Rattle.record_store.specs.declared.store.Listed.{Listed}
 
--- no word is empty, in any setting
+-- no word is empty
+abbrev pub NoEmptyWord : {A : Type 0} → Format A → Type 0
+NoEmptyWord {A} F = (meaning : A) (steps : List Step) → F.Word [] meaning steps → ⊥
+
+-- of no setting
 abbrev pub NeverEmpty : {A : Type 0} → Words A → Type 0
-NeverEmpty W = (s : Setting) (meaning : Meaning) (steps : List Step) → (W.format s).Word [] meaning steps → ⊥
+NeverEmpty W = (s : Setting) → NoEmptyWord (W.format s)
 
 -- what is appended
 
@@ -44,6 +48,12 @@ pub record FrontAdded {A : Type 0} (W : Words A) (s : Setting) (limit : Option �
   pub back : List ℕ
   pub is_entry : IsEntry W s limit value (front ++ back)
   pub appended : Appends old new front
+
+-- an error that comes before anything is written
+abbrev pub WritesNothing : AppendError → Type 0
+WritesNothing (failures.Encode _) = Unit {0}
+WritesNothing (failures.ReadBack _) = Unit {0}
+WritesNothing (failures.Write _) = ⊥
 
 -- what a store is after each error
 abbrev pub Leaves : {A S : Type 0} → Words A → Setting → Option ℕ → A → (S → Option (List ℕ)) → S → S → AppendError → Type 0

@@ -1,7 +1,8 @@
 //! Stores: the words of values, each behind the one before, and nothing between them. A value is appended behind all
 //! others, so that a write that is cut loses no earlier one.
-ghost use Rattle.std.specs.Prelude.{◌≡◌, ◌++◌, ℕ, List, IfOk, IfErr};
-ghost use Rattle.record_store.specs.Stores.{NeverEmpty, IsEntry, Entry, AreEntries, words_of, Added, Leaves};
+ghost use Rattle.std.specs.Prelude.{◌≡◌, ◌↔◌, ◌++◌, ℕ, List, IfOk, IfErr, IsTrue};
+ghost use Rattle.bincode_base.specs.declared.error.DecodeError.TheVariants.{Memory};
+ghost use Rattle.record_store.specs.Stores.{NeverEmpty, IsEntry, Entry, AreEntries, words_of, Added, WritesNothing, Leaves};
 ghost use Rattle.record_store.specs.Stores.{Lists, ListsFirst, ListsAll, ListsBeforeTorn, IsTorn};
 
 use bincode::config::Config;
@@ -89,6 +90,7 @@ fn readable_word<T: Stored, C: Config>(
     value: &T,
     config: C,
 ) -> Result<Vec<u8>, AppendError>
+    ensures unwritten { IfErr result WritesNothing }
     ensures entry { IfOk result (λ word. IsEntry T.its C.setting C.bound value.now word.items) }
 {
     value.tell_valid();
@@ -149,8 +151,10 @@ fn list_words<T: Stored, C: Config>(
                 })?;
                 offset += size;
             }
-            Err(DecodeError::Memory) => return Err(AllocError),
             Err(why) => {
+                if is_memory(&why) {
+                    return Err(AllocError);
+                }
                 return Ok(Listing {
                     values,
                     ending: Ending::Stopped { offset, why },
@@ -162,4 +166,11 @@ fn list_words<T: Stored, C: Config>(
         values,
         ending: Ending::Whole,
     })
+}
+
+/// Whether memory was refused.
+fn is_memory(error: &DecodeError) -> bool
+    ensures { IsTrue result ↔ (error.now ≡ Memory) }
+{
+    matches!(error, DecodeError::Memory)
 }
