@@ -71,10 +71,6 @@ sliced store at = take (length store - at) (drop at store)
 slice-rest : (store : List ℕ) (at : ℕ) → sliced store at ≡ drop at store
 slice-rest store at = let left = length-drop at store in take_all (length store - at) (drop at store) (omega (arith, left))
 
-some_of : (n : ℕ) (word : List ℕ) → n ≡ length word → (word ≡ [] → ⊥) → 0 < n
-some_of n [] e h = absurd (h refl)
-some_of n (b ∷ word) e h = omega (arith, e)
-
 -- an error other than a refusal of memory tells why no word begins there
 pub stopped-at : (F : Format Meaning) (limit : Option ℕ) (Grows : Type 0) (store : List ℕ) (at : ℕ) (e : DecodeError) → ¬ (e ≡ Memory) → at < length store →
     FindsWords {A = Unit {0}} F limit Grows (sliced store at) (Err e) → TellsFaults {A = Unit {0}} F limit Grows (sliced store at) (Err e) →
@@ -92,10 +88,6 @@ stopped-at F limit Grows store at e other h found tells keeps =
     )
 
 module _ {A : Type 0} (W : Words A) (s : Setting) (limit : Option ℕ) where
-  -- a word that was read has a byte at least
-  pub some-taken : NeverEmpty W → (input : List ℕ) (Given : Meaning → Type 0) (n : ℕ) → Decoded (W.format s) limit input Given n → 0 < n
-  some-taken never input Given n d = some_of n d.word d.count (λ e. never s d.meaning d.steps (subst (λ z. (W.format s).Word z d.meaning d.steps) e d.is_word))
-
   -- one more word behind those that were read
   next-read : (at : ℕ) (input : List ℕ) (listed : List (Listed A)) (end : ℕ) (rest : List ℕ) → ReadFrom W s limit at input listed end rest →
       (n : ℕ) (v : A) (d : Decoded (W.format s) limit rest (λ m. W.given m v) n) →

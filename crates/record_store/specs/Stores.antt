@@ -1,9 +1,10 @@
 -- What a store holds: the words of values, one behind the other.
-use Rattle.std.specs.Prelude.{◌≡◌, ◌+◌, ◌++◌, ℕ, List, [], ◌∷◌, length, Option, Bool, true}
+use Rattle.std.specs.Prelude.{◌≡◌, ◌+◌, ◌^◌, ◌<◌, ◌++◌, ℕ, List, [], ◌∷◌, length, Option, Bool, true}
 use Rattle.std.specs.Io.KnownBytes.{Appends}
 use Rattle.bincode_base.specs.Setting.{Setting}
 use Rattle.bincode_base.specs.declared.error.DecodeError.{DecodeError}
-use Rattle.bincode_base.specs.declared.error.DecodeError.TheVariants.{LimitExceeded, UnexpectedEnd}
+use Rattle.bincode_base.specs.declared.error.DecodeError.TheVariants as decoding
+use Rattle.bincode_base.specs.declared.error.EncodeError.TheVariants as encoding
 use Rattle.bincode_format.specs.Allowed.{AllowedWord}
 use Rattle.bincode_format.specs.Answer.{StepsOf}
 use Rattle.bincode_format.specs.Charge.{Step, StaysWithin, Passes}
@@ -12,6 +13,7 @@ use Rattle.bincode_format.specs.Format.{Format}
 use Rattle.bincode_format.specs.Limits.{FitsLimit}
 use Rattle.bincode_format.specs.Meaning.{Meaning}
 use Rattle.bincode_format.specs.Slice.{Decoded, EndsSlice}
+use Rattle.bincode_io.specs.Stream.{IsWriteIo}
 use Rattle.bincode_wire.specs.TypeWords.{Words}
 use Rattle.record_store.specs.declared.store.AppendError.{AppendError}
 use Rattle.record_store.specs.declared.store.AppendError.TheVariants as failures
@@ -48,6 +50,16 @@ pub record FrontAdded {A : Type 0} (W : Words A) (s : Setting) (limit : Option �
   pub back : List ℕ
   pub is_entry : IsEntry W s limit value (front ++ back)
   pub appended : Appends old new front
+
+-- each word of the value stays within the limit, and 64 bits count its bytes
+abbrev pub FitsStore : {A : Type 0} → Words A → Setting → Option ℕ → A → Type 0
+FitsStore W s limit value = (word : List ℕ) → AllowedWord (W.means value) (W.format s) word → FitsLimit (W.format s) limit word × (length word < 2 ^ 64)
+
+-- memory was refused, or the stream failed
+abbrev pub IsOutside : AppendError → Type 0
+IsOutside (failures.Encode e) = e ≡ encoding.Memory
+IsOutside (failures.ReadBack e) = e ≡ decoding.Memory
+IsOutside (failures.Write e) = (written : ℕ) × IsWriteIo written e
 
 -- an error that comes before anything is written
 abbrev pub WritesNothing : AppendError → Type 0
@@ -96,7 +108,7 @@ ReadFrom W s limit at input (l ∷ listed) end rest =
 pub record IsRefusedFor (F : Format Meaning) (limit : Option ℕ) (bytes : List ℕ) (why : DecodeError) : Type 0 where
   pub no_word : (word behind : List ℕ) (meaning : Meaning) (steps : List Step) → bytes ≡ word ++ behind → F.Word word meaning steps → StaysWithin limit 0 steps → ⊥
   pub tells : (fault : Fault) (steps : List Step) → F.Faults bytes fault steps → StaysWithin limit 0 steps → Tells EndsSlice fault why
-  pub keeps : (steps : List Step) → StepsOf F bytes steps → Passes limit 0 steps → why ≡ LimitExceeded
+  pub keeps : (steps : List Step) → StepsOf F bytes steps → Passes limit 0 steps → why ≡ decoding.LimitExceeded
 
 -- the ending is that of a store whose rest stands at this offset
 abbrev pub EndsAt : Format Meaning → Option ℕ → ℕ → List ℕ → Ending → Type 0
@@ -131,4 +143,4 @@ ListsAll eq entries listed ending = ListedFor eq 0 entries listed × (ending ≡
 
 -- these are all, and the store ends too early behind them
 abbrev pub ListsBeforeTorn : {A : Type 0} → (A → A → Bool) → List (Entry A) → List (Listed A) → Ending → Type 0
-ListsBeforeTorn eq entries listed ending = ListedFor eq 0 entries listed × ((missing : ℕ) × (ending ≡ Stopped (length (words_of entries)) (UnexpectedEnd missing)))
+ListsBeforeTorn eq entries listed ending = ListedFor eq 0 entries listed × ((missing : ℕ) × (ending ≡ Stopped (length (words_of entries)) (decoding.UnexpectedEnd missing)))

@@ -3,6 +3,7 @@
 ghost use Rattle.std.specs.Prelude.{◌≡◌, ◌↔◌, ◌++◌, ℕ, List, IfOk, IfErr, IsTrue};
 ghost use Rattle.bincode_base.specs.declared.error.DecodeError.TheVariants.{Memory};
 ghost use Rattle.record_store.specs.Stores.{NeverEmpty, IsEntry, Entry, AreEntries, words_of, Added, WritesNothing, Leaves};
+ghost use Rattle.record_store.specs.Stores.{FitsStore, IsOutside};
 ghost use Rattle.record_store.specs.Stores.{Lists, ListsFirst, ListsAll, ListsBeforeTorn, IsTorn};
 
 use bincode::config::Config;
@@ -30,7 +31,7 @@ pub enum AppendError {
     #[error("{0}")]
     Encode(EncodeError),
     /// Its word could not be read back: it passes the limit, or memory was refused. Nothing was written.
-    #[error("{0}")]
+    #[error("it cannot be read back: {0}")]
     ReadBack(DecodeError),
     /// The stream failed. A front of the word may stand in it.
     #[error("{0}")]
@@ -63,8 +64,9 @@ pub struct Listing<T> {
     pub ending: Ending,
 }
 
-/// Appends the word of a value to a store, and answers how many bytes it has. A value that could not be read back under
-/// the limit is refused before anything is written.
+/// Appends the word of a value to a store, and answers how many bytes it has. Fails before anything is written with
+/// `Encode` where memory is refused, and with `ReadBack` where memory is or where the word passes the limit; and with
+/// `Write` where the stream fails, in which a front of the word may stand then.
 pub fn append<T: Stored, C: Config, W: Write>(
     alloc: Global,
     store: &mut W,
@@ -76,6 +78,8 @@ pub fn append<T: Stored, C: Config, W: Write>(
         (W.contents store.new)) }
     // An error leaves what the store held, and at most a front of the word behind it.
     ensures left { IfErr result (Leaves T.its C.setting C.bound value.now W.contents store.old store.new) }
+    // A value that can be read under the limit is refused only where memory is, or where the stream fails.
+    ensures fits { FitsStore T.its C.setting C.bound value.now → IfErr result IsOutside }
 {
     let word = readable_word(alloc, value, config)?;
     match IoWriter::new(store).write(&word) {
@@ -91,8 +95,10 @@ fn readable_word<T: Stored, C: Config>(
     config: C,
 ) -> Result<Vec<u8>, AppendError>
     ensures unwritten { IfErr result WritesNothing }
+    ensures fits { FitsStore T.its C.setting C.bound value.now → IfErr result IsOutside }
     ensures entry { IfOk result (λ word. IsEntry T.its C.setting C.bound value.now word.items) }
 {
+    T::tell_plain();
     value.tell_valid();
     let word = match encode_to_vec(alloc, value, config) {
         Ok(word) => word,
