@@ -21,6 +21,8 @@ mod own;
 #[cfg(test)]
 mod readers;
 #[cfg(test)]
+mod stores;
+#[cfg(test)]
 mod tables;
 #[cfg(test)]
 mod texts;

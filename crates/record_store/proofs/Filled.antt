@@ -1,0 +1,50 @@
+-- Formats without an empty word: what begins with a text has a byte at least.
+use Rattle.std.specs.Prelude.{◌≡◌, ◌<◌, ℕ, List, [], length}
+use Rattle.std.proofs.Common.{sym, subst, arith}
+use Rattle.bincode_base.specs.Setting.{Setting}
+use Rattle.bincode_base.specs.declared.config.Endianness.{Endianness}
+use Rattle.bincode_base.specs.declared.config.IntEncoding.{IntEncoding}
+use Rattle.bincode_base.specs.declared.config.IntEncoding.TheVariants.{Fixed, Variable}
+use Rattle.bincode_base.specs.declared.error.IntegerType.{IntegerType}
+use Rattle.bincode_format.specs.Format.{Format, raw, ◌>>=◌, written_as, map_format, charged}
+use Rattle.bincode_format.specs.Integers.{digits, byte, varint, number_by, unsigned}
+use Rattle.bincode_format.specs.Meaning.{Meaning}
+use Rattle.bincode_format.specs.Words.{first_and, text}
+use Rattle.bincode_io.specs.RoomLaws.{first-empty, second-empty}
+use Rattle.record_store.specs.Stores.{NoEmptyWord}
+
+then-filled : {A B : Type 0} (F : Format A) (G : A → Format B) → NoEmptyWord F → NoEmptyWord (F >>= G)
+unfolding ◌>>=◌
+then-filled F G none m steps w =
+    none w.head w.first_steps (subst (λ z. F.Word z w.head w.first_steps) (first-empty w.first w.second (sym w.bytes_are)) w.first_word)
+
+behind-filled : {A B : Type 0} (F : Format A) (G : A → Format B) → ((a : A) → NoEmptyWord (G a)) → NoEmptyWord (F >>= G)
+unfolding ◌>>=◌
+behind-filled F G none m steps w =
+    none w.head m w.second_steps (subst (λ z. (G w.head).Word z m w.second_steps) (second-empty w.first w.second (sym w.bytes_are)) w.second_word)
+
+written-filled : {A : Type 0} (Chosen : List ℕ → A → Type 0) (F : Format A) → NoEmptyWord F → NoEmptyWord (written_as Chosen F)
+unfolding written_as
+written-filled Chosen F none = none
+
+raw-filled : (n : ℕ) → 0 < n → NoEmptyWord (raw n)
+unfolding raw
+raw-filled n h m steps w = let e : 0 ≡ n = w.0 in omega (arith, e, h)
+
+number-filled : (tags : ℕ → IntegerType) (name : IntegerType) (order : Endianness) (width : ℕ) → 0 < width → (encoding : IntEncoding) →
+    NoEmptyWord (number_by tags name order width encoding)
+unfolding digits varint byte
+number-filled tags name order width h Fixed = written-filled _ _ (then-filled _ _ (raw-filled width h))
+number-filled tags name order width h Variable = written-filled _ _ (then-filled _ _ (then-filled _ _ (raw-filled 1 (omega arith))))
+
+length-filled : (name : IntegerType) (width : ℕ) → 0 < width → (s : Setting) → NoEmptyWord (unsigned name width s)
+unfolding unsigned
+length-filled name width h s = behind-filled _ _ (λ _. number-filled _ name s.order width h s.encoding)
+
+text-filled : (s : Setting) → NoEmptyWord (text s)
+text-filled s = then-filled _ _ (then-filled _ _ (length-filled _ 8 (omega arith) s))
+
+-- what begins with a text
+pub text-first-filled : (s : Setting) (others : Format Meaning) → NoEmptyWord (first_and (text s) others)
+unfolding first_and
+text-first-filled s others = then-filled _ _ (text-filled s)

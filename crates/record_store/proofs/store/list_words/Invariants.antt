@@ -1,0 +1,11 @@
+use Rattle.std.proofs.Common.{◌≤◌, ◌-◌, length, drop}
+use Rattle.record_store.specs.Stores.{ReadFrom}
+use Rattle.record_store.proofs.store.list_words.Given as goal
+
+abbrev pub invariant-loop-offset : goal.invariant-loop-offset
+invariant-loop-offset g l =
+    (l.offset ≤ length l.store)
+    × ReadFrom g.T.Wire.its g.C.Config.setting g.C.Config.bound 0 l.store l.values.items l.offset (drop l.offset l.store)
+
+abbrev pub decreases-loop-offset : goal.decreases-loop-offset
+decreases-loop-offset g l = length l.store - l.offset

@@ -1,0 +1,146 @@
+-- What a store holds: the words of values, one behind the other.
+use Rattle.std.specs.Prelude.{◌≡◌, ◌+◌, ◌^◌, ◌<◌, ◌++◌, ℕ, List, [], ◌∷◌, length, Option, Bool, true}
+use Rattle.std.specs.Io.KnownBytes.{Appends}
+use Rattle.bincode_base.specs.Setting.{Setting}
+use Rattle.bincode_base.specs.declared.error.DecodeError.{DecodeError}
+use Rattle.bincode_base.specs.declared.error.DecodeError.TheVariants as decoding
+use Rattle.bincode_base.specs.declared.error.EncodeError.TheVariants as encoding
+use Rattle.bincode_format.specs.Allowed.{AllowedWord}
+use Rattle.bincode_format.specs.Answer.{StepsOf}
+use Rattle.bincode_format.specs.Charge.{Step, StaysWithin, Passes}
+use Rattle.bincode_format.specs.Fault.{Fault, Tells}
+use Rattle.bincode_format.specs.Format.{Format}
+use Rattle.bincode_format.specs.Limits.{FitsLimit}
+use Rattle.bincode_format.specs.Meaning.{Meaning}
+use Rattle.bincode_format.specs.Slice.{Decoded, EndsSlice}
+use Rattle.bincode_io.specs.Stream.{IsWriteIo}
+use Rattle.bincode_wire.specs.TypeWords.{Words}
+use Rattle.record_store.specs.declared.store.AppendError.{AppendError}
+use Rattle.record_store.specs.declared.store.AppendError.TheVariants as failures
+use Rattle.record_store.specs.declared.store.Ending.{Ending}
+use Rattle.record_store.specs.declared.store.Ending.TheVariants.{Whole, Stopped}
+use Rattle.record_store.specs.declared.store.Listed.{Listed}
+
+-- no word is empty
+abbrev pub NoEmptyWord : {A : Type 0} → Format A → Type 0
+NoEmptyWord {A} F = (meaning : A) (steps : List Step) → F.Word [] meaning steps → ⊥
+
+-- of no setting
+abbrev pub NeverEmpty : {A : Type 0} → Words A → Type 0
+NeverEmpty W = (s : Setting) → NoEmptyWord (W.format s)
+
+-- what is appended
+
+-- a word that is written for the value, and whose steps stay within the limit
+pub record IsEntry {A : Type 0} (W : Words A) (s : Setting) (limit : Option ℕ) (value : A) (word : List ℕ) : Type 0 where
+  pub is_valid : W.valid value
+  pub is_written : AllowedWord (W.means value) (W.format s) word
+  pub is_within : FitsLimit (W.format s) limit word
+
+-- the bytes, where they are known, grew by such a word, which has so many bytes
+pub record Added {A : Type 0} (W : Words A) (s : Setting) (limit : Option ℕ) (value : A) (n : ℕ) (old new : Option (List ℕ)) : Type 0 where
+  pub word : List ℕ
+  pub is_entry : IsEntry W s limit value word
+  pub count : n ≡ length word
+  pub appended : Appends old new word
+
+-- they grew by a front of such a word
+pub record FrontAdded {A : Type 0} (W : Words A) (s : Setting) (limit : Option ℕ) (value : A) (old new : Option (List ℕ)) : Type 0 where
+  pub front : List ℕ
+  pub back : List ℕ
+  pub is_entry : IsEntry W s limit value (front ++ back)
+  pub appended : Appends old new front
+
+-- each word of the value stays within the limit, and 64 bits count its bytes
+abbrev pub FitsStore : {A : Type 0} → Words A → Setting → Option ℕ → A → Type 0
+FitsStore W s limit value = (word : List ℕ) → AllowedWord (W.means value) (W.format s) word → FitsLimit (W.format s) limit word × (length word < 2 ^ 64)
+
+-- memory was refused, or the stream failed
+abbrev pub IsOutside : AppendError → Type 0
+IsOutside (failures.Encode e) = e ≡ encoding.Memory
+IsOutside (failures.ReadBack e) = e ≡ decoding.Memory
+IsOutside (failures.Write e) = (written : ℕ) × IsWriteIo written e
+
+-- an error that comes before anything is written
+abbrev pub WritesNothing : AppendError → Type 0
+WritesNothing (failures.Encode _) = Unit {0}
+WritesNothing (failures.ReadBack _) = Unit {0}
+WritesNothing (failures.Write _) = ⊥
+
+-- what a store is after each error
+abbrev pub Leaves : {A S : Type 0} → Words A → Setting → Option ℕ → A → (S → Option (List ℕ)) → S → S → AppendError → Type 0
+Leaves W s limit value contents old new (failures.Encode _) = new ≡ old
+Leaves W s limit value contents old new (failures.ReadBack _) = new ≡ old
+Leaves W s limit value contents old new (failures.Write _) = FrontAdded W s limit value (contents old) (contents new)
+
+-- a value, and the word that was appended for it
+pub record Entry (A : Type 0) : Type 0 where
+  pub value : A
+  pub word : List ℕ
+
+-- these are words of their values
+abbrev pub AreEntries : {A : Type 0} → Words A → Setting → Option ℕ → List (Entry A) → Type 0
+AreEntries W s limit [] = Unit {0}
+AreEntries W s limit (e ∷ entries) = IsEntry W s limit e.value e.word × AreEntries W s limit entries
+
+-- their words, one behind the other
+abbrev pub words_of : {A : Type 0} → List (Entry A) → List ℕ
+words_of [] = []
+words_of (e ∷ entries) = e.word ++ words_of entries
+
+-- a front of some value's word, neither empty nor whole
+pub record IsTorn {A : Type 0} (W : Words A) (s : Setting) (limit : Option ℕ) (front : List ℕ) : Type 0 where
+  pub value : A
+  pub back : List ℕ
+  pub is_entry : IsEntry W s limit value (front ++ back)
+  pub some_written : front ≡ [] → ⊥
+  pub some_missing : back ≡ [] → ⊥
+
+-- what is listed
+
+-- what begins at an offset is the words of the listed values, in turn; behind them, at `end`, is the rest
+abbrev pub ReadFrom : {A : Type 0} → Words A → Setting → Option ℕ → ℕ → List ℕ → List (Listed A) → ℕ → List ℕ → Type 0
+ReadFrom W s limit at input [] end rest = (end ≡ at) × (rest ≡ input)
+ReadFrom W s limit at input (l ∷ listed) end rest =
+    (d : Decoded (W.format s) limit input (λ m. W.given m l.value) l.size) × (l.offset ≡ at) × ReadFrom W s limit (at + l.size) d.rest listed end rest
+
+-- no word within the limit begins the bytes, and the error tells why
+pub record IsRefusedFor (F : Format Meaning) (limit : Option ℕ) (bytes : List ℕ) (why : DecodeError) : Type 0 where
+  pub no_word : (word behind : List ℕ) (meaning : Meaning) (steps : List Step) → bytes ≡ word ++ behind → F.Word word meaning steps → StaysWithin limit 0 steps → ⊥
+  pub tells : (fault : Fault) (steps : List Step) → F.Faults bytes fault steps → StaysWithin limit 0 steps → Tells EndsSlice fault why
+  pub keeps : (steps : List Step) → StepsOf F bytes steps → Passes limit 0 steps → why ≡ decoding.LimitExceeded
+
+-- the ending is that of a store whose rest stands at this offset
+abbrev pub EndsAt : Format Meaning → Option ℕ → ℕ → List ℕ → Ending → Type 0
+EndsAt F limit at rest Whole = rest ≡ []
+EndsAt F limit at rest (Stopped offset why) = (offset ≡ at) × (rest ≡ [] → ⊥) × IsRefusedFor F limit rest why
+
+-- the values are those of the words of the store, up to its end or to the first bytes that are no word
+pub record Lists {A : Type 0} (W : Words A) (s : Setting) (limit : Option ℕ) (store : List ℕ) (listed : List (Listed A)) (ending : Ending) : Type 0 where
+  pub end : ℕ
+  pub rest : List ℕ
+  pub values : ReadFrom W s limit 0 store listed end rest
+  pub ends : EndsAt (W.format s) limit end rest ending
+
+-- values are listed for entries that begin at an offset: equal ones, each behind the words of those before it, and of as many
+-- bytes as its word has
+abbrev pub ListedFor : {A : Type 0} → (A → A → Bool) → ℕ → List (Entry A) → List (Listed A) → Type 0
+ListedFor eq at [] [] = Unit {0}
+ListedFor eq at (e ∷ entries) (l ∷ listed) = (eq e.value l.value ≡ true) × (l.offset ≡ at) × (l.size ≡ length e.word) × ListedFor eq (at + length e.word) entries listed
+ListedFor eq at [] (_ ∷ _) = ⊥
+ListedFor eq at (_ ∷ _) [] = ⊥
+
+-- the first values that are listed are those of the entries
+pub record ListsFirst {A : Type 0} (eq : A → A → Bool) (entries : List (Entry A)) (listed : List (Listed A)) : Type 0 where
+  pub first : List (Listed A)
+  pub others : List (Listed A)
+  pub listed_are : listed ≡ first ++ others
+  pub for_entries : ListedFor eq 0 entries first
+
+-- these are all, and the store is whole
+abbrev pub ListsAll : {A : Type 0} → (A → A → Bool) → List (Entry A) → List (Listed A) → Ending → Type 0
+ListsAll eq entries listed ending = ListedFor eq 0 entries listed × (ending ≡ Whole)
+
+-- these are all, and the store ends too early behind them
+abbrev pub ListsBeforeTorn : {A : Type 0} → (A → A → Bool) → List (Entry A) → List (Listed A) → Ending → Type 0
+ListsBeforeTorn eq entries listed ending = ListedFor eq 0 entries listed × ((missing : ℕ) × (ending ≡ Stopped (length (words_of entries)) (decoding.UnexpectedEnd missing)))

@@ -1,0 +1,81 @@
+//! What a stock keeps of an article.
+ghost use Rattle.record_store.specs.Stores.{NeverEmpty};
+
+use crate::store::Stored;
+use bincode::de::{Decode, Decoder, OneByOne};
+use bincode::enc::{Encode, Encoder};
+use bincode::error::{DecodeError, EncodeError};
+use bincode::laws::{Canonical, Exact, Plain, canonical_by_parts, exact_by_fields, plain_by_parts};
+use bincode::{MadeOf, Wire};
+use std::collections::BTreeMap;
+
+type Parts = (String, u64, Option<u32>, BTreeMap<String, String>);
+
+/// An article: its name, its price in cents, its weight in grams where it is known, and notes by their names.
+#[derive(Debug, Drop, PartialEq)]
+pub struct Article {
+    pub name: String,
+    pub price: u64,
+    pub weight: Option<u32>,
+    pub notes: BTreeMap<String, String>,
+}
+
+impl MadeOf<Parts> for Article {
+    ghost parts = { λ v. (v.name, v.price, v.weight, v.notes) };
+}
+
+impl Wire for Article {
+    ghost use Rattle.bincode.specs.TypeWords.{words_by};
+
+    ghost its = { words_by ⟦<Parts as Wire>⟧.its ⟦<Article as MadeOf<Parts>>⟧.parts };
+
+    fn claim_size() -> usize {
+        Parts::claim_size()
+    }
+}
+
+impl Plain for Article {
+    fn tell_plain() {
+        plain_by_parts::<Parts, Article>();
+    }
+}
+
+impl Exact for Article {
+    fn tell_exact() {
+        exact_by_fields::<Parts, Article, _>();
+    }
+}
+
+impl Canonical for Article {
+    fn tell_canonical() {
+        canonical_by_parts::<Parts, Article>();
+    }
+}
+
+impl Encode for Article {
+    fn tell_valid(&self) {
+        (&self.name, &self.price, &self.weight, &self.notes).tell_valid();
+    }
+
+    fn encode<E: Encoder>(&self, encoder: &mut E) -> Result<(), EncodeError> {
+        (&self.name, &self.price, &self.weight, &self.notes).encode(encoder)
+    }
+}
+
+impl<Context: Drop> Decode<Context> for Article {
+    type Run = OneByOne;
+
+    fn decode<D: Decoder<Context = Context>>(decoder: &mut D) -> Result<Article, DecodeError> {
+        let (name, price, weight, notes): Parts = Decode::decode(decoder)?;
+        Ok(Article {
+            name,
+            price,
+            weight,
+            notes,
+        })
+    }
+}
+
+impl Stored for Article {
+    fn tell_never_empty() {}
+}

@@ -1,0 +1,6 @@
+//! Values in a row in a file, each behind the one before, and the articles of a stock, of which the program `records`
+//! keeps such a file.
+#![tactic(auto)]
+
+pub mod article;
+pub mod store;
