@@ -4,7 +4,7 @@ use crate::encode_parts::EncodeParts;
 use crate::variants::encode_variant;
 use bincode_base::error::EncodeError;
 use bincode_encoder::encoder::Encoder;
-use bincode_encoder::octets::encode_octets;
+use bincode_encoder::octets::{encode_octets, encode_socket};
 use std::net::{IpAddr, Ipv4Addr, Ipv6Addr, SocketAddr, SocketAddrV4, SocketAddrV6};
 
 impl EncodeParts for Ipv4Addr {
@@ -51,7 +51,7 @@ impl EncodeParts for SocketAddrV4 {
     }
 
     fn encode_parts<E: Encoder>(&self, encoder: &mut E) -> Result<(), EncodeError> {
-        (*self.ip(), self.port()).encode(encoder)
+        encode_socket(encoder, &self.ip().octets(), self.port())
     }
 }
 
@@ -61,7 +61,7 @@ impl EncodeParts for SocketAddrV6 {
     }
 
     fn encode_parts<E: Encoder>(&self, encoder: &mut E) -> Result<(), EncodeError> {
-        (*self.ip(), self.port()).encode(encoder)
+        encode_socket(encoder, &self.ip().octets(), self.port())
     }
 }
 
