@@ -6,4 +6,5 @@ pub mod BytesAtOnce
 pub mod ReadAnswers
 pub mod PartAnswers
 pub mod CountedBytes
+pub mod OctetAnswers
 pub mod Lending

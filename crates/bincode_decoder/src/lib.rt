@@ -1,4 +1,5 @@
-//! Decoders, and what is read through any of them: numbers, characters, truth values, spans of time, tags and texts.
+//! Decoders, and what is read through any of them: numbers, characters, truth values, spans of time, octets, tags and
+//! texts.
 #![tactic(auto)]
 
 pub mod borrow;
@@ -10,6 +11,7 @@ pub mod decoder;
 pub mod empty;
 pub mod integers;
 pub mod lists;
+pub mod octets;
 pub mod tags;
 pub mod texts;
 pub mod time;

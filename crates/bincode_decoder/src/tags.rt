@@ -12,6 +12,7 @@ use bincode_base::short_text::TypeName;
 use bincode_wire::sums::{NoOther, Or, Tag, Variants};
 use bincode_wire::wire::Wire;
 use std::alloc::{AllocError, Global};
+use std::net::{IpAddr, SocketAddr};
 use std::ops::Bound;
 
 /// A type that errors name.
@@ -34,6 +35,18 @@ impl<T, U> Named for Result<T, U> {
 impl<T> Named for Bound<T> {
     fn type_name() -> TypeName {
         TypeName::new("Bound")
+    }
+}
+
+impl Named for IpAddr {
+    fn type_name() -> TypeName {
+        TypeName::new("IpAddr")
+    }
+}
+
+impl Named for SocketAddr {
+    fn type_name() -> TypeName {
+        TypeName::new("SocketAddr")
     }
 }
 

@@ -1,10 +1,15 @@
 //! Octets of addresses, written through any encoder.
-ghost use Rattle.bincode_format.specs.Meaning.{IsBytes};
+ghost use Rattle.std.specs.Prelude.{pos};
+ghost use Rattle.bincode_base.specs.declared.error.IntegerType.TheVariants.{U16};
+ghost use Rattle.bincode_format.specs.Integers.{unsigned};
+ghost use Rattle.bincode_format.specs.Meaning.{IsBytes, IsNumber, IsThen, IsNothing};
 ghost use Rattle.bincode_format.specs.Octets.{octets};
+ghost use Rattle.bincode_format.specs.Words.{natural, nothing, first_and};
 ghost use Rattle.bincode_format.specs.Allowed.{AllowedWord};
 ghost use Rattle.bincode_format.specs.Encoding.{Encodes};
 
 use crate::encoder::{Encoder, write_from};
+use crate::integers::encode_integer;
 use bincode_base::error::EncodeError;
 
 /// Writes octets as they are, in one piece. Fails where the writer refuses it.
@@ -17,4 +22,21 @@ pub fn encode_octets<E: Encoder, const N: usize>(
         (λ _. ⊥) result encoder.old encoder.new }
 {
     write_from(encoder, val)
+}
+
+/// Writes the octets of an address in one piece, and then a port. Fails where the writer refuses a piece; those before
+/// it stay written.
+#[inline]
+pub fn encode_socket<E: Encoder, const N: usize>(
+    encoder: &mut E,
+    address: &[u8; N],
+    port: u16,
+) -> Result<(), EncodeError>
+    ensures { Encodes E.W.adds E.W.refuses E.writer_of E.place (Unit {0})
+        (AllowedWord (IsThen (IsBytes address.now) (IsThen (IsNumber (pos port)) IsNothing))
+        (first_and (octets N) (first_and (natural (unsigned U16 2 E.C.setting)) nothing)))
+        (λ _. ⊥) result encoder.old encoder.new }
+{
+    encode_octets(encoder, address)?;
+    encode_integer(encoder, port)
 }
