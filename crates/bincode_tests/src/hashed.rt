@@ -46,7 +46,9 @@ fn set_of(alloc: Global, count: u32) -> Result<HashSet<u32>, AllocError> {
 }
 
 /// Ten to 1, twenty to 2 and thirty to 3, the last put in first.
-fn map_of<S: BuildHasher + Default + Drop>(alloc: Global) -> Result<HashMap<u8, u8, S>, AllocError> {
+fn map_of<S: BuildHasher + Default + Drop>(
+    alloc: Global,
+) -> Result<HashMap<u8, u8, S>, AllocError> {
     let mut map = HashMap::with_hasher(alloc, S::default());
     for (key, value) in [(3, 30), (2, 20), (1, 10)] {
         map.insert(key, value)?;

@@ -17,7 +17,7 @@ use std::alloc::Global;
 use std::collections::{BTreeMap, BTreeSet, HashMap, HashSet};
 use std::hash::{BuildHasher, Hash};
 
-/// A set or a map, into which items are put in turn: keys, or entries.
+/// A set or a map, into which items are put in turn: keys into a set, entries into a map.
 pub trait Puts: Drop + Sized {
     /// What is put.
     type Item: Wire;
@@ -25,7 +25,7 @@ pub trait Puts: Drop + Sized {
     /// What it holds.
     ghost held: { Self → List Self.Item };
 
-    /// What holds just those, when these were put one after the other.
+    /// These items, put one after the other into one that holds nothing, make it hold those.
     ghost makes: { Makes Self.Item };
 
     /// One that holds nothing, with room for `len` items if it reserves any. Fails with `Memory` where the room is
