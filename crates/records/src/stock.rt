@@ -1,5 +1,5 @@
 //! Files of articles.
-use anyhow::{Context, Result, bail, ensure};
+use anyhow::{Context, Error, Result, anyhow, ensure};
 use bincode::config;
 use bincode::config::{Configuration, Limit, LittleEndian, Varint};
 use bincode::error::DecodeError;
@@ -39,19 +39,22 @@ pub fn add(rt: &HostRuntime, path: &str, article: &Article) -> Result<()> {
 /// How many bytes a file has, which may be missing. Fails where it is not whole.
 fn whole_length(rt: &HostRuntime, path: &str) -> Result<usize> {
     let bytes = match fs::read(rt, path) {
-        Ok(bytes) => bytes,
         Err(e) if e.kind() == ErrorKind::NotFound => return Ok(0),
-        Err(e) => bail!("{path}: {e}"),
+        outcome => outcome.context(format_args!("{path}"))?,
     };
-    match listing_of(rt, &bytes)?.ending {
+    let listing = listing_of(rt, &bytes)?;
+    match &listing.ending {
         Ending::Whole => Ok(bytes.len()),
-        Ending::Stopped { offset, why } => {
-            let what = what_stands(&why);
-            bail!(
-                "{path}: {what} at byte {offset} ({why}), so nothing is added. `head -c {offset} {path}` prints what is whole"
-            )
-        }
+        Ending::Stopped { offset, why } => Err(refusal(path, *offset, why)),
     }
+}
+
+/// Says that nothing is added to a file, in which no whole article begins at this byte.
+fn refusal(path: &str, offset: usize, why: &DecodeError) -> Error {
+    let what = what_stands(why);
+    anyhow!(
+        "{path}: {what} at byte {offset} ({why}), so nothing is added. `head -c {offset} {path}` prints what is whole"
+    )
 }
 
 /// Prints the articles of each file, and how it ends. Fails behind the last one where one is not whole, and at once where
