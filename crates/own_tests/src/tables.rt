@@ -2,7 +2,7 @@
 
 use std::alloc::Global;
 use worked_rows::case::{Case, Encoding, Setting, Value};
-use worked_rows::rows::{Row, more_cases, run, table};
+use worked_rows::rows::{Row, more_cases, run, tables};
 use worked_rows::sources::{Buffered, Bytewise, Slice, Source};
 
 /// A row that holds, and one that does not.
@@ -34,7 +34,7 @@ fn tells_a_wrong_word(rt: HostRuntime) {
     let mut bytes = [0u8; 36];
     for room in 0..=TEXT.len() {
         let mut device = &mut bytes[..room];
-        let failed = run::<Slice, _>(rt.alloc(), &TWO, &mut device).ok();
+        let failed = run::<Slice, _>(rt.alloc(), &[&TWO], &mut device).ok();
         let wanted = if room == TEXT.len() { Some(1) } else { None };
         assert!(rt; failed == wanted);
     }
@@ -45,10 +45,10 @@ fn tells_a_wrong_word(rt: HostRuntime) {
 /// more.
 fn all_hold<S: Source>(alloc: Global, rows: &[Row]) -> bool {
     let mut bytes = [0u8; 1_000];
-    let first = run::<S, _>(alloc, rows, &mut &mut bytes[..]).ok();
+    let first = run::<S, _>(alloc, &[rows], &mut &mut bytes[..]).ok();
     let failed = match first {
         Some(failed) => Some(failed),
-        None => run::<S, _>(alloc, rows, &mut &mut bytes[..]).ok(),
+        None => run::<S, _>(alloc, &[rows], &mut &mut bytes[..]).ok(),
     };
     failed == Some(0)
 }
@@ -63,7 +63,8 @@ fn holds_more_cases(rt: HostRuntime) {
 #[test]
 fn reads_the_rows_from_streams(rt: HostRuntime) {
     let alloc = rt.alloc();
-    for rows in [table(), more_cases()] {
+    let [first, second] = tables();
+    for rows in [first, second, more_cases()] {
         assert!(rt; all_hold::<Bytewise>(alloc, rows));
         assert!(rt; all_hold::<Buffered<1>>(alloc, rows));
         assert!(rt; all_hold::<Buffered<4>>(alloc, rows));

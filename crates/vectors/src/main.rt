@@ -7,7 +7,7 @@ use worked_rows::rows;
 use worked_rows::sources::Slice;
 
 fn main(rt: HostRuntime) -> anyhow::Result<()> {
-    let failed = rows::run::<Slice, _>(rt.alloc(), rows::table(), &mut io::writer(&rt))?;
+    let failed = rows::run::<Slice, _>(rt.alloc(), &rows::tables(), &mut io::writer(&rt))?;
     ensure!(failed == 0, "{failed} rows failed");
     Ok(())
 }

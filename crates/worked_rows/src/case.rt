@@ -1,5 +1,6 @@
 //! The kinds of cases.
 
+use crate::addresses::Address;
 use bincode::config::{Endianness, Limit, NoLimit};
 use bincode::error::IntegerType;
 use std::ops::Bound;
@@ -16,6 +17,7 @@ pub enum Case {
     /// A pair that is read from a stream of one byte a call.
     DecodeBytewise(Decoding<(u32, u32), NoLimit>),
     Borrow(Borrowed),
+    Address(Address),
 }
 
 /// A value that is written.
@@ -75,6 +77,8 @@ pub enum Input {
     Text(Decoding<&'static str, NoLimit>),
     /// As a map; the answer has its entries.
     Map(Decoding<&'static [(u8, u8)], NoLimit>),
+    /// As a C string; the answer has its bytes.
+    CString(Decoding<&'static [u8], NoLimit>),
 }
 
 /// An input that is read within a limit.
@@ -183,6 +187,9 @@ pub enum Fault {
     InvalidDuration {
         secs: u64,
         nanos: u32,
+    },
+    CStringNulError {
+        position: usize,
     },
 }
 

@@ -2,11 +2,14 @@
 //! runs them.
 #![tactic(auto)]
 
+pub mod addresses;
 mod borrow;
 pub mod case;
 pub mod claims;
+mod first;
 pub mod formats;
 mod more;
 pub mod rows;
 pub mod run;
+mod second;
 pub mod sources;

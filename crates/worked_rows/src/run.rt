@@ -1,5 +1,6 @@
 //! How each kind of case is run.
 
+use crate::addresses::address_holds;
 use crate::borrow::borrows;
 use crate::case::{
     Answer, Case, Decoding, Encoding, Fault, Input, Kept, Limited, Number, Refusal, Setting,
@@ -14,6 +15,7 @@ use bincode::enc::Encode;
 use bincode::enc::write::{SliceWriter, Writer};
 use bincode::encode_into_slice;
 use bincode::error::{DecodeError, EncodeError};
+use bincode::ffi::CString;
 use bincode::time::Duration;
 use bincode::varint::{
     varint_encode_i16, varint_encode_i64, varint_encode_i128, varint_encode_u32, varint_encode_u128,
@@ -33,6 +35,7 @@ pub fn holds<S: Source>(alloc: Global, case: &Case) -> Result<bool, AllocError> 
         Case::DecodeWithin(limited) => decodes_within::<S>(alloc, limited),
         Case::DecodeBytewise(row) => Ok(decodes::<Bytewise, _, _>(alloc, row)),
         Case::Borrow(borrowed) => Ok(borrows(alloc, borrowed)),
+        Case::Address(address) => address_holds::<S>(alloc, address),
     }
 }
 
@@ -86,6 +89,7 @@ fn decodes_input<S: Source>(alloc: Global, input: &Input) -> Result<bool, AllocE
         Input::Duration(row) => decodes_duration::<S>(alloc, row),
         Input::Text(row) => decodes_text::<S, _>(alloc, row)?,
         Input::Map(row) => decodes_map::<S>(alloc, row)?,
+        Input::CString(row) => decodes_c_string::<S>(alloc, row)?,
     })
 }
 
@@ -166,7 +170,10 @@ impl VarintNumber for i128 {
 }
 
 /// Whether the value is written as the word, into a slice of just its length.
-fn encodes<T: Encode + Copy>(alloc: Global, row: &Encoding<T>) -> Result<bool, AllocError> {
+pub(crate) fn encodes<T: Encode + Copy>(
+    alloc: Global,
+    row: &Encoding<T>,
+) -> Result<bool, AllocError> {
     let mut slice = vec![in alloc; 0u8; row.word.len()]?;
     let written = encode_under(row.setting, row.value, &mut slice);
     Ok(matches!(written, Ok(count) if count == row.word.len()) && slice.as_slice() == row.word)
@@ -259,7 +266,7 @@ fn spells<T: VarintNumber>(alloc: Global, row: &Spelling<T>) -> Result<bool, All
 }
 
 /// Whether decoding the input gives the answer.
-fn decodes<S, T, L>(alloc: Global, row: &Decoding<T, L>) -> bool
+pub(crate) fn decodes<S, T, L>(alloc: Global, row: &Decoding<T, L>) -> bool
 where
     S: Source,
     T: Decode<()> + PartialEq,
@@ -392,6 +399,27 @@ fn decodes_map<S: Source>(
     ))
 }
 
+/// Whether decoding the input as a C string gives the answer.
+fn decodes_c_string<S: Source>(
+    alloc: Global,
+    row: &Decoding<&'static [u8], NoLimit>,
+) -> Result<bool, AllocError> {
+    let answer = match row.answer {
+        Answer::Value(bytes, length) => Answer::Value(bytes.to_vec(alloc)?, length),
+        Answer::Fault(fault) => Answer::Fault(fault),
+    };
+    let outcome: Result<(CString, usize), DecodeError> = decode_under::<S, _, _>(
+        alloc,
+        row.setting,
+        row.limit,
+        row.input,
+    );
+    Ok(answers::<S, _>(
+        outcome.map(|(text, taken)| (text.into_bytes(), taken)),
+        &answer,
+    ))
+}
+
 /// Whether the outcome is the answer.
 fn answers<S: Source, T: PartialEq + Drop>(
     outcome: Result<(T, usize), DecodeError>,
@@ -424,6 +452,9 @@ fn tells<S: Source>(error: &DecodeError, fault: Fault) -> bool {
         ) => *n == non_zero_type,
         (DecodeError::InvalidCharEncoding(read), Fault::InvalidCharEncoding(bytes)) => {
             *read == bytes
+        }
+        (DecodeError::CStringNulError { position: p }, Fault::CStringNulError { position }) => {
+            *p == position
         }
         (DecodeError::InvalidBooleanValue(read), Fault::InvalidBooleanValue(byte)) => *read == byte,
         (
