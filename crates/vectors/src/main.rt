@@ -6,7 +6,12 @@ use std::io;
 use worked_rows::rows;
 
 fn main(rt: HostRuntime) -> anyhow::Result<()> {
-    let failed = rows::run(rt.alloc(), rows::table(), &mut io::writer(&rt))?;
-    ensure!(failed == 0, "{failed} rows failed");
+    let out = &mut io::writer(&rt);
+    let first = rows::run(rt.alloc(), rows::table(), out)?;
+    let second = rows::run(rt.alloc(), rows::second_table(), out)?;
+    ensure!(
+        first == 0 && second == 0,
+        "{first} and {second} rows failed"
+    );
     Ok(())
 }

@@ -150,6 +150,18 @@ DurationRows duration = AllHold (
     (duration standard).read (253 ∷ replicate 8 255 ++ 252 ∷ 0 ∷ 202 ∷ 154 ∷ 59 ∷ []) gives Failed (InvalidDuration 18446744073709551615 1000000000) (Charge 8 ∷ Charge 4 ∷ []) ∷
     [])
 
+-- addresses
+abbrev pub AddressRows : Formats → Formats → Formats → Formats → Type 0
+AddressRows ipv4 ip socket_v6 socket = AllHold (
+    (ipv4 standard_big).read (1 ∷ 2 ∷ 3 ∷ 4 ∷ 9 ∷ []) gives Took (Bytes (1 ∷ 2 ∷ 3 ∷ 4 ∷ [])) (9 ∷ []) (Charge 4 ∷ []) ∷
+    (ipv4 standard).read (127 ∷ []) gives Failed (End (Some 3)) (Charge 4 ∷ []) ∷
+    (ip standard).read (0 ∷ 127 ∷ 0 ∷ 0 ∷ 1 ∷ []) gives Took (Choice 0 (Bytes (127 ∷ 0 ∷ 0 ∷ 1 ∷ []))) [] (Charge 4 ∷ Charge 4 ∷ []) ∷
+    (ip legacy).read (0 ∷ 0 ∷ 0 ∷ 0 ∷ 127 ∷ 0 ∷ 0 ∷ 1 ∷ []) gives Took (Choice 0 (Bytes (127 ∷ 0 ∷ 0 ∷ 1 ∷ []))) [] (Charge 4 ∷ Charge 4 ∷ []) ∷
+    (ip standard).read (2 ∷ []) gives Failed (UnexpectedVariant (Between 0 1) 2) (Charge 4 ∷ []) ∷
+    (socket_v6 standard).read (replicate 15 0 ++ 1 ∷ 251 ∷ 57 ∷ 48 ∷ []) gives Took (listed (Bytes (replicate 15 0 ++ 1 ∷ []) ∷ number 12345 ∷ [])) [] (Charge 16 ∷ Charge 2 ∷ []) ∷
+    (socket standard).read (0 ∷ 1 ∷ 2 ∷ 3 ∷ 4 ∷ 80 ∷ []) gives Took (Choice 0 (listed (Bytes (1 ∷ 2 ∷ 3 ∷ 4 ∷ []) ∷ number 80 ∷ []))) [] (Charge 4 ∷ Charge 4 ∷ Charge 2 ∷ []) ∷
+    [])
+
 -- lists of elements in these formats
 abbrev pub ListRows : Formats → Formats → Formats → Formats → Formats → Type 0
 ListRows u8 u16 u32 unit option_u8 = AllHold (

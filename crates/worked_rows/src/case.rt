@@ -1,5 +1,6 @@
 //! The kinds of cases.
 
+use crate::addresses::Address;
 use bincode::config::{Endianness, Limit, NoLimit};
 use bincode::error::IntegerType;
 use std::ops::Bound;
@@ -14,6 +15,7 @@ pub enum Case {
     Decode(Input),
     DecodeWithin(Limited),
     Borrow(Borrowed),
+    Address(Address),
 }
 
 /// A value that is written.

@@ -10,6 +10,7 @@ use std::cell::{Cell, RefCell};
 use std::cmp::Reverse;
 use std::collections::{BTreeMap, BTreeSet, BinaryHeap, VecDeque};
 use std::marker::PhantomData;
+use std::net::{IpAddr, Ipv4Addr, Ipv6Addr, SocketAddr, SocketAddrV4, SocketAddrV6};
 use std::num::{
     NonZeroI8, NonZeroI16, NonZeroI32, NonZeroI64, NonZeroI128, NonZeroIsize, NonZeroU8,
     NonZeroU16, NonZeroU32, NonZeroU64, NonZeroU128, NonZeroUsize, Wrapping,
@@ -57,6 +58,16 @@ pub fn scalar_claims()
     ensures nothing { ⟦<() as Wire>⟧.its.claim ≡ 0 }
     ensures phantom { ⟦<PhantomData<u64> as Wire>⟧.its.claim ≡ 0 }
     ensures span { ⟦<Duration as Wire>⟧.its.claim ≡ 12 }
+{}
+
+/// Of addresses.
+pub fn address_claims()
+    ensures of_ipv4 { ⟦<Ipv4Addr as Wire>⟧.its.claim ≡ 4 }
+    ensures of_ipv6 { ⟦<Ipv6Addr as Wire>⟧.its.claim ≡ 16 }
+    ensures of_ip { ⟦<IpAddr as Wire>⟧.its.claim ≡ 20 }
+    ensures of_socket_v4 { ⟦<SocketAddrV4 as Wire>⟧.its.claim ≡ 6 }
+    ensures of_socket_v6 { ⟦<SocketAddrV6 as Wire>⟧.its.claim ≡ 18 }
+    ensures of_socket { ⟦<SocketAddr as Wire>⟧.its.claim ≡ 22 }
 {}
 
 /// Of wholes, by what their parts claim.

@@ -1,10 +1,12 @@
 //! Worked rows of the types' own formats: what each `impl` says of its words is what the description of the format
 //! expects.
 ghost use Rattle.worked_rows.specs.Formats.{UnsignedRows, SignedRows, WholeRows, CharacterRows, ChoiceRows};
-ghost use Rattle.worked_rows.specs.Formats.{DurationRows, ListRows, TextRows, UnsignedWords, SignedWords, ZigzagRows};
+ghost use Rattle.worked_rows.specs.Formats.{DurationRows, AddressRows, ListRows, TextRows, UnsignedWords};
+ghost use Rattle.worked_rows.specs.Formats.{SignedWords, ZigzagRows};
 
 use bincode::time::Duration;
 use bincode::{NoOther, OneOf, Or, Wire};
+use std::net::{IpAddr, Ipv4Addr, SocketAddr, SocketAddrV6};
 use std::num::{NonZeroI16, NonZeroU16};
 use std::ops::Bound;
 
@@ -45,6 +47,12 @@ pub fn choice_rows()
 /// What spans of time are read from.
 pub fn duration_rows()
     ensures { DurationRows ⟦<Duration as Wire>⟧.its.format }
+{}
+
+/// What addresses are read from.
+pub fn address_rows()
+    ensures { AddressRows ⟦<Ipv4Addr as Wire>⟧.its.format ⟦<IpAddr as Wire>⟧.its.format
+        ⟦<SocketAddrV6 as Wire>⟧.its.format ⟦<SocketAddr as Wire>⟧.its.format }
 {}
 
 /// What lists of such are read from.

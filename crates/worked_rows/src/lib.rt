@@ -2,6 +2,7 @@
 //! runs them.
 #![tactic(auto)]
 
+pub mod addresses;
 mod borrow;
 pub mod case;
 pub mod claims;
@@ -9,3 +10,4 @@ pub mod formats;
 mod more;
 pub mod rows;
 pub mod run;
+mod second;

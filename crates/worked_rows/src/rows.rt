@@ -7,6 +7,7 @@ use crate::case::{
 };
 pub use crate::more::more_cases;
 use crate::run::holds;
+pub use crate::second::second_table;
 use bincode::config::{Endianness, Limit, NoLimit};
 use bincode::error::IntegerType;
 use std::alloc::Global;

@@ -1,5 +1,6 @@
 //! How each kind of case is run.
 
+use crate::addresses::address_holds;
 use crate::borrow::borrows;
 use crate::case::{
     Answer, Case, Decoding, Encoding, Fault, Input, Kept, Limited, Number, Refusal, Setting,
@@ -31,6 +32,7 @@ pub fn holds(alloc: Global, case: &Case) -> Result<bool, AllocError> {
         Case::Decode(input) => decodes_input(alloc, input),
         Case::DecodeWithin(limited) => decodes_within(alloc, limited),
         Case::Borrow(borrowed) => Ok(borrows(alloc, borrowed)),
+        Case::Address(address) => address_holds(alloc, address),
     }
 }
 
@@ -164,7 +166,10 @@ impl VarintNumber for i128 {
 }
 
 /// Whether the value is written as the word, into a slice of just its length.
-fn encodes<T: Encode + Copy>(alloc: Global, row: &Encoding<T>) -> Result<bool, AllocError> {
+pub(crate) fn encodes<T: Encode + Copy>(
+    alloc: Global,
+    row: &Encoding<T>,
+) -> Result<bool, AllocError> {
     let mut slice = vec![in alloc; 0u8; row.word.len()]?;
     let written = encode_under(row.setting, row.value, &mut slice);
     Ok(matches!(written, Ok(count) if count == row.word.len()) && slice.as_slice() == row.word)
@@ -256,7 +261,7 @@ fn spells<T: VarintNumber>(alloc: Global, row: &Spelling<T>) -> Result<bool, All
 }
 
 /// Whether decoding the input gives the answer.
-fn decodes<T, L>(alloc: Global, row: &Decoding<T, L>) -> bool
+pub(crate) fn decodes<T, L>(alloc: Global, row: &Decoding<T, L>) -> bool
 where
     T: Decode<()> + PartialEq,
     L: InternalLimitConfig + Copy,

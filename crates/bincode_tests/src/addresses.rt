@@ -1,0 +1,198 @@
+//! Addresses.
+
+use bincode::config::{self, Config};
+use bincode::de::Decode;
+use bincode::enc::Encode;
+use bincode::error::DecodeError;
+use bincode::{BorrowDecode, Wire, borrow_decode_from_slice, encode_into_slice};
+use std::alloc::Global;
+use std::net::{IpAddr, Ipv4Addr, Ipv6Addr, SocketAddr, SocketAddrV4, SocketAddrV6};
+use test_helpers::checks::{fault_of, keeps, within};
+use test_helpers::rows::{first_unequal, first_wrong};
+
+/// The word of ::1 with the port 12345.
+static SOCKET: [u8; 19] = [0, 0, 0, 0, 0, 0, 0, 0, 0, 0, 0, 0, 0, 0, 0, 1, 251, 57, 48];
+
+/// An address of which each octet is another.
+const OCTETS: [u8; 16] = [1, 2, 3, 4, 5, 6, 7, 8, 9, 10, 11, 12, 13, 14, 15, 16];
+
+/// Whether the address is written as this word, into a slice of just its length.
+fn is_written<T: Encode, C: Config>(address: T, word: &[u8], config: C) -> bool {
+    let mut slice = [99u8; 20];
+    let Some(front) = slice.get_mut(..word.len()) else {
+        return false;
+    };
+    let written = encode_into_slice(address, front, config);
+    matches!(written, Ok(count) if count == word.len()) && slice.starts_with(word)
+}
+
+#[test]
+fn writes_addresses(rt: HostRuntime) {
+    let socket = SocketAddrV6::new(Ipv6Addr::LOCALHOST, 12345, 7, 9);
+    assert!(rt; is_written(socket, &SOCKET, config::standard()));
+    let ip = IpAddr::V4(Ipv4Addr::LOCALHOST);
+    assert!(rt; is_written(ip, &[0, 127, 0, 0, 1], config::standard()));
+    assert!(rt; is_written(ip, &[0, 0, 0, 0, 127, 0, 0, 1], config::legacy()));
+}
+
+/// The first octet comes first in either order of bytes, and the port's bytes do not.
+#[test]
+fn leaves_octets_in_their_order(rt: HostRuntime) {
+    let big = config::standard().with_big_endian();
+    let address = Ipv6Addr::from_octets(OCTETS);
+    assert!(rt; is_written(address, &OCTETS, config::standard()));
+    assert!(rt; is_written(address, &OCTETS, big));
+    assert!(rt; is_written(address, &OCTETS, config::legacy().with_big_endian()));
+    let socket = SocketAddrV4::new(Ipv4Addr::new(1, 2, 3, 4), 12345);
+    assert!(rt; is_written(socket, &[1, 2, 3, 4, 251, 48, 57], big));
+}
+
+/// Whether what was read is this value, of as many bytes.
+fn is_read<T: PartialEq + Drop>(
+    outcome: Result<(T, usize), DecodeError>,
+    value: T,
+    length: usize,
+) -> bool {
+    matches!(outcome, Ok((read, taken)) if read == value && taken == length)
+}
+
+/// Whether the limit was passed.
+fn is_passed<T: Drop>(outcome: Result<(T, usize), DecodeError>) -> bool {
+    matches!(outcome, Err(DecodeError::LimitExceeded))
+}
+
+/// Octets are charged before they are read, and a tag before them.
+#[test]
+fn charges_octets_before_it_reads(rt: HostRuntime) {
+    let alloc = rt.alloc();
+    let ip = Ipv4Addr::LOCALHOST;
+    let socket = SocketAddrV6::new(Ipv6Addr::LOCALHOST, 12345, 0, 0);
+    let rows = [
+        (
+            "SocketAddrV6 within 18",
+            is_read(within::<SocketAddrV6, 18>(alloc, &SOCKET), socket, 19),
+        ),
+        (
+            "SocketAddrV6 within 17",
+            is_passed(within::<SocketAddrV6, 17>(alloc, &SOCKET)),
+        ),
+        (
+            "Ipv4Addr within 4",
+            is_read(within::<Ipv4Addr, 4>(alloc, &[127, 0, 0, 1]), ip, 4),
+        ),
+        (
+            "Ipv4Addr within 3",
+            is_passed(within::<Ipv4Addr, 3>(alloc, &[127, 0, 0, 1])),
+        ),
+        (
+            "no octet within 3",
+            is_passed(within::<Ipv4Addr, 3>(alloc, &[])),
+        ),
+        (
+            "IpAddr within 8",
+            is_read(
+                within::<IpAddr, 8>(alloc, &[0, 127, 0, 0, 1]),
+                IpAddr::V4(ip),
+                5,
+            ),
+        ),
+        (
+            "IpAddr within 7",
+            is_passed(within::<IpAddr, 7>(alloc, &[0, 127, 0, 0, 1])),
+        ),
+    ];
+    assert_eq!(rt; first_wrong(&rows), None);
+    let ended = within::<Ipv4Addr, 4>(alloc, &[127]);
+    assert!(rt; matches!(ended, Err(DecodeError::UnexpectedEnd { additional: 3 })));
+}
+
+/// Whether 2 is refused as a tag, under this name.
+fn refuses_two<T: Decode<()>>(alloc: Global, name: &str) -> bool {
+    let Some(
+        DecodeError::UnexpectedVariant {
+            type_name,
+            found: 2,
+            min: 0,
+            max: 1,
+        },
+    ) = fault_of::<T>(alloc, &[2])
+    else {
+        return false;
+    };
+    type_name.as_str() == name
+}
+
+#[test]
+fn names_a_tag_that_no_address_has(rt: HostRuntime) {
+    assert!(rt; refuses_two::<IpAddr>(rt.alloc(), "IpAddr"));
+    assert!(rt; refuses_two::<SocketAddr>(rt.alloc(), "SocketAddr"));
+}
+
+/// Whether the word is read as an address, owned and lent, and the address is written so.
+fn keeps_both_ways<T>(alloc: Global, word: &'static [u8]) -> bool
+where
+    T: Encode + Decode<()> + BorrowDecode<&'static [u8], ()> + Copy,
+{
+    let lent: Result<(T, usize), DecodeError> = borrow_decode_from_slice(
+        alloc,
+        word,
+        config::standard(),
+    );
+    let Ok((address, taken)) = lent else {
+        return false;
+    };
+    taken == word.len() && is_written(address, word, config::standard()) && keeps::<T>(alloc, word)
+}
+
+#[test]
+fn keeps_addresses(rt: HostRuntime) {
+    let alloc = rt.alloc();
+    let rows = [
+        ("Ipv4Addr", keeps_both_ways::<Ipv4Addr>(alloc, &OCTETS[..4])),
+        ("Ipv6Addr", keeps_both_ways::<Ipv6Addr>(alloc, &OCTETS)),
+        (
+            "IpAddr of V4",
+            keeps_both_ways::<IpAddr>(alloc, &[0, 1, 2, 3, 4]),
+        ),
+        (
+            "IpAddr of V6",
+            keeps_both_ways::<IpAddr>(
+                alloc,
+                &[1, 1, 2, 3, 4, 5, 6, 7, 8, 9, 10, 11, 12, 13, 14, 15, 16],
+            ),
+        ),
+        (
+            "SocketAddrV4",
+            keeps_both_ways::<SocketAddrV4>(alloc, &[1, 2, 3, 4, 251, 57, 48]),
+        ),
+        (
+            "SocketAddrV6",
+            keeps_both_ways::<SocketAddrV6>(alloc, &SOCKET),
+        ),
+        (
+            "SocketAddr of V4",
+            keeps_both_ways::<SocketAddr>(alloc, &[0, 1, 2, 3, 4, 80]),
+        ),
+        (
+            "SocketAddr of V6",
+            keeps_both_ways::<SocketAddr>(
+                alloc,
+                &[1, 1, 2, 3, 4, 5, 6, 7, 8, 9, 10, 11, 12, 13, 14, 15, 16, 80],
+            ),
+        ),
+    ];
+    assert_eq!(rt; first_wrong(&rows), None);
+}
+
+#[test]
+fn claims_what_addresses_take(rt: HostRuntime) {
+    let rows = [
+        ("Ipv4Addr", Ipv4Addr::claim_size(), 4),
+        ("Ipv6Addr", Ipv6Addr::claim_size(), 16),
+        ("IpAddr", IpAddr::claim_size(), 20),
+        ("SocketAddrV4", SocketAddrV4::claim_size(), 6),
+        ("SocketAddrV6", SocketAddrV6::claim_size(), 18),
+        ("SocketAddr", SocketAddr::claim_size(), 22),
+    ];
+    assert_eq!(rt; first_unequal(&rows), None);
+}
