@@ -5,9 +5,10 @@ use bincode::de::Decode;
 use bincode::enc::Encode;
 use bincode::error::DecodeError;
 use bincode::{BorrowDecode, Wire, borrow_decode_from_slice, encode_into_slice};
-use std::alloc::Global;
+use std::alloc::{AllocError, Global};
+use std::collections::BTreeMap;
 use std::net::{IpAddr, Ipv4Addr, Ipv6Addr, SocketAddr, SocketAddrV4, SocketAddrV6};
-use test_helpers::checks::{fault_of, keeps, within};
+use test_helpers::checks::{either, fault_of, is_written_as, keeps, read_front, within};
 use test_helpers::rows::{first_unequal, first_wrong};
 
 /// The word of ::1 with the port 12345.
@@ -33,6 +34,10 @@ fn writes_addresses(rt: HostRuntime) {
     let ip = IpAddr::V4(Ipv4Addr::LOCALHOST);
     assert!(rt; is_written(ip, &[0, 127, 0, 0, 1], config::standard()));
     assert!(rt; is_written(ip, &[0, 0, 0, 0, 127, 0, 0, 1], config::legacy()));
+    let legacy = config::legacy().with_big_endian();
+    let socket = SocketAddr::V4(SocketAddrV4::new(Ipv4Addr::LOCALHOST, 80));
+    assert!(rt; is_written(socket, &[0, 127, 0, 0, 1, 80], config::standard()));
+    assert!(rt; is_written(socket, &[0, 0, 0, 0, 127, 0, 0, 1, 0, 80], legacy));
 }
 
 /// The first octet comes first in either order of bytes, and the port's bytes do not.
@@ -195,4 +200,34 @@ fn claims_what_addresses_take(rt: HostRuntime) {
         ("SocketAddr", SocketAddr::claim_size(), 22),
     ];
     assert_eq!(rt; first_unequal(&rows), None);
+}
+
+/// Twice the address ::1 with the port 1, and behind each a number.
+const TWICE: [u8; 37] = [
+    2, 0, 0, 0, 0, 0, 0, 0, 0, 0, 0, 0, 0, 0, 0, 0, 1, 1, 10, 0, 0, 0, 0, 0, 0, 0, 0, 0, 0, 0, 0,
+    0, 0, 0, 1, 1, 20,
+];
+
+/// Two addresses that differ in their scope alone, 10 to the first and 20 to the second.
+fn scopes(alloc: Global) -> Result<BTreeMap<SocketAddrV6, u8>, AllocError> {
+    let mut map = BTreeMap::new(alloc);
+    map.insert(SocketAddrV6::new(Ipv6Addr::LOCALHOST, 1, 0, 2), 20)?;
+    map.insert(SocketAddrV6::new(Ipv6Addr::LOCALHOST, 1, 0, 1), 10)?;
+    Ok(map)
+}
+
+/// A scope is no part of the word: keys that differ by it are written twice, and read as one.
+#[test]
+fn reads_one_key_where_scopes_differ(rt: HostRuntime) {
+    let alloc = rt.alloc();
+    let map = either(scopes(alloc), scopes(alloc));
+    assert!(rt; is_written_as(alloc, map, &TWICE));
+    let read: Option<BTreeMap<SocketAddrV6, u8>> = read_front(alloc, &TWICE, 37);
+    let Some(map) = read else {
+        assert!(rt; false);
+        return;
+    };
+    assert!(rt; map.len() == 1);
+    let key = SocketAddrV6::new(Ipv6Addr::LOCALHOST, 1, 0, 0);
+    assert!(rt; map.get(&key) == Some(&20));
 }

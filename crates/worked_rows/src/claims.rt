@@ -3,12 +3,13 @@
 ghost use Rattle.std.specs.Prelude.{◌≡◌};
 
 use bincode::Wire;
+use bincode::ffi::{CStr, CString};
 use bincode::time::Duration;
 use std::borrow::{Cow, CowSlice, CowStr};
 use std::boxed::{BoxedSlice, BoxedStr};
 use std::cell::{Cell, RefCell};
 use std::cmp::Reverse;
-use std::collections::{BTreeMap, BTreeSet, BinaryHeap, VecDeque};
+use std::collections::{BTreeMap, BTreeSet, BinaryHeap, HashMap, HashSet, VecDeque};
 use std::marker::PhantomData;
 use std::net::{IpAddr, Ipv4Addr, Ipv6Addr, SocketAddr, SocketAddrV4, SocketAddrV6};
 use std::num::{
@@ -16,6 +17,7 @@ use std::num::{
     NonZeroU16, NonZeroU32, NonZeroU64, NonZeroU128, NonZeroUsize, Wrapping,
 };
 use std::ops::{Bound, Range, RangeInclusive};
+use std::path::{Path, PathBuf};
 use std::rc::{Rc, RcSlice, RcStr};
 use std::sync::Arc;
 
@@ -101,6 +103,8 @@ pub fn owner_claims()
     ensures boxed_slice { ⟦<BoxedSlice<u8> as Wire>⟧.its.claim ≡ 16 }
     ensures shared_slice { ⟦<RcSlice<u8> as Wire>⟧.its.claim ≡ 16 }
     ensures text_slice { ⟦<&'static str as Wire>⟧.its.claim ≡ 16 }
+    ensures path { ⟦<Path<'static> as Wire>⟧.its.claim ≡ 16 }
+    ensures c_string_slice { ⟦<CStr<'static> as Wire>⟧.its.claim ≡ 16 }
     ensures boxed_text { ⟦<BoxedStr as Wire>⟧.its.claim ≡ 16 }
     ensures shared_text { ⟦<RcStr as Wire>⟧.its.claim ≡ 16 }
     ensures vector { ⟦<Vec<u8> as Wire>⟧.its.claim ≡ 24 }
@@ -108,7 +112,11 @@ pub fn owner_claims()
     ensures heap { ⟦<BinaryHeap<u8> as Wire>⟧.its.claim ≡ 24 }
     ensures set { ⟦<BTreeSet<u8> as Wire>⟧.its.claim ≡ 24 }
     ensures map { ⟦<BTreeMap<u8, u8> as Wire>⟧.its.claim ≡ 24 }
+    ensures hashed_set { ⟦<HashSet<u8> as Wire>⟧.its.claim ≡ 24 }
+    ensures hashed_map { ⟦<HashMap<u8, u8> as Wire>⟧.its.claim ≡ 24 }
     ensures cow_slice { ⟦<CowSlice<'static, u8> as Wire>⟧.its.claim ≡ 24 }
     ensures text { ⟦<String as Wire>⟧.its.claim ≡ 24 }
+    ensures owned_path { ⟦<PathBuf as Wire>⟧.its.claim ≡ 24 }
+    ensures c_string { ⟦<CString as Wire>⟧.its.claim ≡ 24 }
     ensures cow_text { ⟦<CowStr<'static> as Wire>⟧.its.claim ≡ 24 }
 {}
