@@ -1,6 +1,6 @@
 -- What was read back is an entry.
-use Rattle.std.specs.Prelude.{◌≡◌, ◌-◌, ◌^◌, ◌<◌, ◌++◌, ℕ, List, [], length, Option, Err, refl}
-use Rattle.std.proofs.Common.{◌∙◌, sym, subst, inl, inr, arith, append-nil}
+use Rattle.std.specs.Prelude.{◌≡◌, ℕ, List, [], Option, Err, refl}
+use Rattle.std.proofs.Common.{◌∙◌, sym, subst, inl, inr, append-nil}
 use Rattle.bincode_base.specs.Setting.{Setting}
 use Rattle.bincode_format.specs.Allowed.{AllowedWord}
 use Rattle.bincode_format.specs.Charge.{StaysWithin}
@@ -8,8 +8,6 @@ use Rattle.bincode_format.specs.Meaning.{Meaning}
 use Rattle.bincode_format.specs.Slice.{Decoded, FindsWords}
 use Rattle.bincode_format.specs.Encoding.{Ready}
 use Rattle.bincode_format.specs.Vec.{FailsCounted}
-use Rattle.bincode_io.specs.Stream.{StreamRefuses, IsWriteIo, count_of}
-use Rattle.bincode_io.specs.declared.io_write.IoWriter.{IoWriter}
 use Rattle.bincode_base.specs.declared.error.DecodeError.{DecodeError}
 use Rattle.bincode_base.specs.declared.error.DecodeError.TheVariants as decoding
 use Rattle.bincode_base.specs.declared.error.EncodeError.{EncodeError}

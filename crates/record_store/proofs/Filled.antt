@@ -1,12 +1,12 @@
 -- Formats without an empty word: what begins with a text has a byte at least.
-use Rattle.std.specs.Prelude.{◌≡◌, ◌<◌, ℕ, List, [], length}
+use Rattle.std.specs.Prelude.{◌≡◌, ◌<◌, ℕ, List}
 use Rattle.std.proofs.Common.{sym, subst, arith}
 use Rattle.bincode_base.specs.Setting.{Setting}
 use Rattle.bincode_base.specs.declared.config.Endianness.{Endianness}
 use Rattle.bincode_base.specs.declared.config.IntEncoding.{IntEncoding}
 use Rattle.bincode_base.specs.declared.config.IntEncoding.TheVariants.{Fixed, Variable}
 use Rattle.bincode_base.specs.declared.error.IntegerType.{IntegerType}
-use Rattle.bincode_format.specs.Format.{Format, raw, ◌>>=◌, written_as, map_format, charged}
+use Rattle.bincode_format.specs.Format.{Format, raw, ◌>>=◌, written_as}
 use Rattle.bincode_format.specs.Integers.{digits, byte, varint, number_by, unsigned}
 use Rattle.bincode_format.specs.Meaning.{Meaning}
 use Rattle.bincode_format.specs.Words.{first_and, text}

@@ -28,7 +28,7 @@ pub fn command_of(alloc: Global, words: Vec<String>) -> Result<Command> {
         "add" => add_command(alloc, words),
         "list" => Ok(Command::List(some_files(words)?)),
         "check" => Ok(Command::Check(some_files(words)?)),
-        _ => bail!("no command {verb:?}: {USAGE}"),
+        _ => bail!("no command {verb:?}: there are add, list and check"),
     }
 }
 
@@ -45,10 +45,10 @@ fn add_command(alloc: Global, words: Vec<String>) -> Result<Command> {
         bail!("which file? {USAGE}");
     };
     let Some(name) = words.next() else {
-        bail!("an article has a name: {USAGE}");
+        bail!("add FILE NAME PRICE: the name is missing");
     };
     let Some(price) = words.next() else {
-        bail!("an article has a price: {USAGE}");
+        bail!("add FILE NAME PRICE: the price is missing");
     };
     let Ok(price) = price.parse::<u64>() else {
         bail!("a price is a number below 2^64, and not {price:?}");

@@ -1,5 +1,5 @@
 //! Files of articles.
-use anyhow::{Context, Error, Result, anyhow, ensure};
+use anyhow::{Context, Result, bail, ensure};
 use bincode::config;
 use bincode::config::{Configuration, Limit, LittleEndian, Varint};
 use bincode::error::DecodeError;
@@ -45,16 +45,14 @@ fn whole_length(rt: &HostRuntime, path: &str) -> Result<usize> {
     let listing = listing_of(rt, &bytes)?;
     match &listing.ending {
         Ending::Whole => Ok(bytes.len()),
-        Ending::Stopped { offset, why } => Err(refusal(path, *offset, why)),
+        Ending::Stopped { offset, why } => {
+            let what = what_stands(why);
+            eprintln!(rt;
+                "{path}: {what} at byte {offset} ({why}). `head -c {offset} {path}` prints what is whole."
+            )?;
+            bail!("nothing was added")
+        }
     }
-}
-
-/// Says that nothing is added to a file, in which no whole article begins at this byte.
-fn refusal(path: &str, offset: usize, why: &DecodeError) -> Error {
-    let what = what_stands(why);
-    anyhow!(
-        "{path}: {what} at byte {offset} ({why}), so nothing is added. `head -c {offset} {path}` prints what is whole"
-    )
 }
 
 /// Prints the articles of each file, and how it ends. Fails behind the last one where one is not whole, and at once where
