@@ -20,6 +20,7 @@ pub use Rattle.bincode_format.specs.Allowed
 pub use Rattle.bincode_format.specs.Choices
 pub use Rattle.bincode_format.specs.Run
 pub use Rattle.bincode_format.specs.Collections
+pub use Rattle.bincode_format.specs.Hashed
 pub use Rattle.bincode_format.specs.Cells
 pub use Rattle.bincode_format.specs.Answer
 pub use Rattle.bincode_format.specs.Limits
@@ -34,9 +35,11 @@ pub use Rattle.bincode_format.specs.Encoding
 pub use Rattle.bincode_format.specs.Claims
 pub use Rattle.bincode_format.specs.Slice
 pub use Rattle.bincode_format.specs.Vec
+pub use Rattle.bincode_format.specs.Agree
 pub use Rattle.bincode_laws.specs.AllowedLaws
 pub use Rattle.bincode_laws.specs.AnswerLaws
 pub use Rattle.bincode_laws.specs.CostLaws
+pub use Rattle.bincode_laws.specs.CutLaws
 pub use Rattle.bincode_laws.specs.Fronts
 pub use Rattle.bincode_laws.specs.LimitLaws
 pub use Rattle.bincode_laws.specs.RunLaws

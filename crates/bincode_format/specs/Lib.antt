@@ -31,3 +31,4 @@ pub mod Encoding
 pub mod Claims
 pub mod Slice
 pub mod Vec
+pub mod Agree

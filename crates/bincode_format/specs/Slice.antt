@@ -1,5 +1,5 @@
 -- Encoding into a slice, and decoding from one.
-use Rattle.std.specs.Prelude.{◌≡◌, ◌≤◌, ◌<◌, ◌⊎◌, ◌↔◌, ◌++◌, ℕ, List, length, drop, Option, Result, IsOk, IfErr}
+use Rattle.std.specs.Prelude.{◌≡◌, ◌≤◌, ◌<◌, ◌⊎◌, ◌↔◌, ◌++◌, ℕ, List, length, drop, Option, Result, IfOk, IsOk, IfErr}
 use Rattle.bincode_base.specs.declared.error.EncodeError.{EncodeError}
 use Rattle.bincode_base.specs.declared.error.DecodeError.{DecodeError}
 use Rattle.bincode_base.specs.declared.error.DecodeError.TheVariants.{UnexpectedEnd}
@@ -60,3 +60,10 @@ TellsFaults F limit Grows input result = TellsEach EndsSlice F limit (IsRefused 
 -- charges that pass the limit are refused as such, unless memory is refused
 abbrev pub KeepsLimit : {A : Type 0} → Format Meaning → Option ℕ → Type 0 → List ℕ → Result A DecodeError → Type 0
 KeepsLimit F limit Grows input result = KeepsWithin F limit (IsRefused Grows) input result
+
+-- all that a call that decodes promises of its answer to a slice
+pub record IsAnswer {T : Type 0} (F : Format Meaning) (limit : Option ℕ) (Grows : Type 0) (Given : Meaning → T → Type 0) (input : List ℕ) (result : Result (T × ℕ) DecodeError) : Type 0 where
+  pub word : IfOk result (λ x. Decoded F limit input (λ m. Given m x.0) x.1)
+  pub found : FindsWords F limit Grows input result
+  pub fault : TellsFaults F limit Grows input result
+  pub keeps : KeepsLimit F limit Grows input result

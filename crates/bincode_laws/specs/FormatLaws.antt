@@ -173,20 +173,20 @@ raw-lawful n = record {
   written_is_word = λ word m w. ([], (w.0, w.1, refl));
 }
 
-end_or_other : (fault : Fault) → IsEnd fault ⊎ ¬ (IsEnd fault)
-end_or_other (End _) = inl tt
-end_or_other (InvalidInteger _ _) = inr (λ h. h)
-end_or_other (Zero _) = inr (λ h. h)
-end_or_other (UnexpectedVariant _ _) = inr (λ h. h)
-end_or_other Utf8 = inr (λ h. h)
-end_or_other (InvalidChar _) = inr (λ h. h)
-end_or_other (InvalidBool _) = inr (λ h. h)
-end_or_other (InvalidDuration _ _) = inr (λ h. h)
-end_or_other (NulAt _) = inr (λ h. h)
-end_or_other (Other _) = inr (λ h. h)
-end_or_other (LengthMismatch _ _) = inr (λ h. h)
-end_or_other EmptyEnum = inr (λ h. h)
-end_or_other (OutsideUsize _) = inr (λ h. h)
+pub end-or-other : (fault : Fault) → IsEnd fault ⊎ ¬ (IsEnd fault)
+end-or-other (End _) = inl tt
+end-or-other (InvalidInteger _ _) = inr (λ h. h)
+end-or-other (Zero _) = inr (λ h. h)
+end-or-other (UnexpectedVariant _ _) = inr (λ h. h)
+end-or-other Utf8 = inr (λ h. h)
+end-or-other (InvalidChar _) = inr (λ h. h)
+end-or-other (InvalidBool _) = inr (λ h. h)
+end-or-other (InvalidDuration _ _) = inr (λ h. h)
+end-or-other (NulAt _) = inr (λ h. h)
+end-or-other (Other _) = inr (λ h. h)
+end-or-other (LengthMismatch _ _) = inr (λ h. h)
+end-or-other EmptyEnum = inr (λ h. h)
+end-or-other (OutsideUsize _) = inr (λ h. h)
 
 -- what is answered stays answered behind more steps
 answered_after : {B : Type 0} (s : List Step) (r : Reading B) → IsAnswered r → IsAnswered (after_steps s r)
@@ -307,7 +307,7 @@ module _ {A B : Type 0} (F : Format A) (G : A → Format B) (f : Lawful F) (g : 
   -- an input that is answered wants no more bytes, and one that ends too early is mended
   second_mended : (head : A) (middle : List ℕ) (r : Reading B) → (G head).read middle ≡ r → Mended (G head).read middle
   second_mended head middle (Took m rest t) e = record { more = []; are_bytes = All-nil (λ b. b < 256); answered = rw (append-nil middle) (rw e tt) }
-  second_mended head middle (Failed why t) e = failed_mended head middle why t (end_or_other why) e
+  second_mended head middle (Failed why t) e = failed_mended head middle why t (end-or-other why) e
 
   first_mended : (input more : List ℕ) → All (λ b. b < 256) more → (r : Reading A) → F.read (input ++ more) ≡ r → IsAnswered r → Mended (F >>= G).read input
   unfolding ◌>>=◌

@@ -8,6 +8,7 @@ pub mod CharLaws
 pub mod ChoiceDecodingLaws
 pub mod ChoiceLaws
 pub mod CostLaws
+pub mod CutLaws
 pub mod DecodingLaws
 pub mod DigitLaws
 pub mod DurationLaws

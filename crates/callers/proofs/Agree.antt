@@ -2,12 +2,12 @@
 use Rattle.std.specs.Prelude.{◌≡◌, ◌+◌, ◌++◌, ℕ, List, length, Option, Result, Ok, Err, IfOk, MatchResult}
 use Rattle.std.proofs.Common.{◌∙◌, ap, sym, subst, arith, length-append}
 use Rattle.bincode_base.specs.declared.error.DecodeError.{DecodeError}
+use Rattle.bincode_format.specs.Agree.{SameReading}
 use Rattle.bincode_format.specs.Decoding.{IsRefused}
 use Rattle.bincode_format.specs.Format.{Format, Took}
 use Rattle.bincode_format.specs.Laws.{Lawful}
 use Rattle.bincode_format.specs.Meaning.{Meaning}
 use Rattle.bincode_format.specs.Slice.{Decoded, FindsWords}
-use Rattle.callers.specs.Agree.{SameReading}
 
 module _ {T : Type 0} (F : Format Meaning) (f : Lawful F) (limit : Option ℕ) (Grows : Type 0) (input : List ℕ) (Given : Meaning → T → Type 0) where
   same-reading : (x y : T × ℕ) → Decoded F limit input (λ m. Given m x.0) x.1 → Decoded F limit input (λ m. Given m y.0) y.1 → SameReading Given x y

@@ -1,4 +1,5 @@
 mod Agree
+mod Longer
 mod Counts
 mod Fits
 mod LengthReads

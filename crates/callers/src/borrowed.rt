@@ -1,8 +1,8 @@
 //! Callers that rest on the contracts of borrowed decoding alone.
 ghost use Rattle.std.specs.Prelude.{◌≡◌, IfErr, IfOk, MatchResult};
 ghost use Rattle.bincode_base.specs.declared.error.DecodeError.TheVariants.{Memory};
+ghost use Rattle.bincode_format.specs.Agree.{SameReading};
 ghost use Rattle.bincode_format.specs.Decoding.{IsRefused};
-ghost use Rattle.callers.specs.Agree.{SameReading};
 
 use bincode::config::Config;
 use bincode::de::{BorrowDecode, Decode};

@@ -6,5 +6,6 @@ pub mod calls;
 pub mod cut;
 pub mod fixed;
 pub mod lengths;
+pub mod longer;
 pub mod looped;
 pub mod rooms;

@@ -6,14 +6,14 @@ use Rattle.bincode_base.specs.Setting.{Setting}
 use Rattle.bincode_base.specs.declared.error.DecodeError.{DecodeError}
 use Rattle.bincode_base.specs.declared.error.DecodeError.TheVariants.{UnexpectedEnd, Memory}
 use Rattle.bincode_format.specs.Charge.{Step, StaysWithin}
-use Rattle.bincode_format.specs.Fault.{Fault, Tells, IsEnd, End, InvalidInteger, Zero, UnexpectedVariant, Utf8, InvalidChar, InvalidBool}
-use Rattle.bincode_format.specs.Fault.{InvalidDuration, NulAt, Other, LengthMismatch, EmptyEnum, OutsideUsize}
+use Rattle.bincode_format.specs.Fault.{Fault, IsEnd}
 use Rattle.bincode_format.specs.Format.{Format, Reading, Took, Failed}
 use Rattle.bincode_format.specs.Laws.{Lawful, Begun, steps_of}
 use Rattle.bincode_format.specs.Meaning.{Meaning}
 use Rattle.bincode_format.specs.Slice.{Decoded, EndsSlice, FindsWords, TellsFaults, KeepsLimit}
 use Rattle.bincode_io.specs.RoomLaws.{first-empty, second-empty}
-use Rattle.bincode_laws.specs.FormatLaws.{one-word}
+use Rattle.bincode_laws.specs.CutLaws.{end-told, front-within}
+use Rattle.bincode_laws.specs.FormatLaws.{one-word, end-or-other}
 use Rattle.bincode_wire.specs.TypeLaws.{ExactWords}
 use Rattle.bincode_wire.specs.TypeWords.{Words}
 use Rattle.record_store.specs.declared.store.Ending.{Ending}
@@ -22,47 +22,9 @@ use Rattle.record_store.specs.declared.store.Listed.{Listed}
 use Rattle.record_store.specs.Stores.{NeverEmpty, IsEntry, Entry, AreEntries, words_of, IsTorn, ReadFrom, IsRefusedFor, EndsAt, Lists}
 use Rattle.record_store.specs.Stores.{ListedFor, ListsFirst, ListsAll, ListsBeforeTorn}
 
--- an end of the input, or another fault
-end_or_other : (fault : Fault) → IsEnd fault ⊎ ¬ (IsEnd fault)
-end_or_other (End _) = inl tt
-end_or_other (InvalidInteger _ _) = inr (λ h. h)
-end_or_other (Zero _) = inr (λ h. h)
-end_or_other (UnexpectedVariant _ _) = inr (λ h. h)
-end_or_other Utf8 = inr (λ h. h)
-end_or_other (InvalidChar _) = inr (λ h. h)
-end_or_other (InvalidBool _) = inr (λ h. h)
-end_or_other (InvalidDuration _ _) = inr (λ h. h)
-end_or_other (NulAt _) = inr (λ h. h)
-end_or_other (Other _) = inr (λ h. h)
-end_or_other (LengthMismatch _ _) = inr (λ h. h)
-end_or_other EmptyEnum = inr (λ h. h)
-end_or_other (OutsideUsize _) = inr (λ h. h)
-
--- an end is told by how many bytes are missing
-end_told : (fault : Fault) (e : DecodeError) → IsEnd fault → Tells EndsSlice fault e → (missing : ℕ) × (e ≡ UnexpectedEnd missing)
-end_told (End (Some missing)) e h t = (missing, t)
-end_told (End None) e h t = t
-end_told (InvalidInteger _ _) e h t = absurd h
-end_told (Zero _) e h t = absurd h
-end_told (UnexpectedVariant _ _) e h t = absurd h
-end_told Utf8 e h t = absurd h
-end_told (InvalidChar _) e h t = absurd h
-end_told (InvalidBool _) e h t = absurd h
-end_told (InvalidDuration _ _) e h t = absurd h
-end_told (NulAt _) e h t = absurd h
-end_told (Other _) e h t = absurd h
-end_told (LengthMismatch _ _) e h t = absurd h
-end_told EmptyEnum e h t = absurd h
-end_told (OutsideUsize _) e h t = absurd h
-
 stopped_there : (offset here : ℕ) (why : DecodeError) (missing : ℕ) → offset ≡ here → why ≡ UnexpectedEnd missing →
     (missing : ℕ) × (Stopped offset why ≡ Stopped here (UnexpectedEnd missing))
 stopped_there offset here why missing p q = (missing, rw (p, q) refl)
-
--- a front of steps that stay within a limit does so too
-front-within : (limit : Option ℕ) (front back : List Step) → StaysWithin limit 0 (front ++ back) → StaysWithin limit 0 front
-front-within None front back h = tt
-front-within (Some n) front back h = λ a b e. h a (b ++ back) (ap (λ z. z ++ back) e ∙ append_assoc a b back)
 
 -- what is sliced from an offset on is all behind it
 abbrev sliced : List ℕ → ℕ → List ℕ
@@ -232,14 +194,14 @@ module _ {A : Type 0} (W : Words A) (s : Setting) (limit : Option ℕ) (never : 
         let begun : Begun u (steps_of (F.read whole)) = f.begun front t.back fault u end e in
         let same : steps.0 ≡ u ++ begun.0 = sym (ap steps_of whole-read) ∙ begun.1 in
         let within : StaysWithin limit 0 steps.0 = t.is_entry.is_within meaning steps.0 steps.1 in
-        end_told fault why end (h.tells fault u (f.read_fault front fault u e) (front-within limit u begun.0 (subst (StaysWithin limit 0) same within)))
+        end-told fault why end (h.tells fault u (f.read_fault front fault u e) (front-within limit u begun.0 (subst (StaysWithin limit 0) same within)))
     torn_by why h fault u e (inr other) =
         let p : Took meaning [] steps.0 ≡ Failed fault u = sym whole-read ∙ f.stays front t.back fault u other e in
         absurd (cc)
 
     torn_of : (why : DecodeError) → IsRefusedFor F limit front why → (r : Reading Meaning) → F.read front ≡ r → (missing : ℕ) × (why ≡ UnexpectedEnd missing)
     torn_of why h (Took m rest u) e = let w = f.read_word front rest m u e in absurd (no-word w.word rest m u w.is_word w.input_is)
-    torn_of why h (Failed fault u) e = torn_by why h fault u e (end_or_other fault)
+    torn_of why h (Failed fault u) e = torn_by why h fault u e (end-or-other fault)
 
     torn-behind : (at : ℕ) (entries : List (Entry A)) (listed first others : List (Listed A)) (end : ℕ) (rest : List ℕ) (ending : Ending) → listed ≡ first ++ others →
         ListedFor eq at entries first → (here : ℕ) → ReadFrom W s limit here front others end rest → EndsAt F limit end rest ending →

@@ -1,0 +1,35 @@
+//! Callers that read of more bytes and of fewer, and rest on the contracts of the two calls alone.
+ghost use Rattle.std.specs.Prelude.{◌≤◌, ◌<◌, ◌⊎◌, length, IfOk};
+ghost use Rattle.bincode_format.specs.Agree.{SameAnswer, WasCut, WasRefused};
+
+use bincode::config::Config;
+use bincode::de::Decode;
+use bincode::decode_from_slice;
+use bincode::error::DecodeError;
+use std::alloc::Global;
+
+/// What came of reading a value from the first of some bytes, and from all of them.
+#[derive(Drop)]
+pub struct ReadLonger<T> {
+    pub front: Result<(T, usize), DecodeError>,
+    pub whole: Result<(T, usize), DecodeError>,
+}
+
+/// Reads a value from the first `count` bytes, and from all. What is answered to the first is answered to all, unless it
+/// is that the input ended too early or that memory was refused. Bytes with a front of a word and no more are told as
+/// such an end.
+pub fn read_longer<T: Decode<()>, C: Config>(
+    alloc: Global,
+    bytes: &[u8],
+    count: usize,
+    config: C,
+) -> ReadLonger<T>
+    requires { count ≤ length bytes.now }
+    ensures same { ¬ (WasCut result.front) → WasRefused T.its.grows result.front
+        ⊎ (WasRefused T.its.grows result.whole ⊎ SameAnswer T.its.given result.front result.whole) }
+    ensures cut { IfOk result.whole (λ x. count < x.1 → WasCut result.front ⊎ WasRefused T.its.grows result.front) }
+{
+    let front = decode_from_slice(alloc, &bytes[..count], config);
+    let whole = decode_from_slice(alloc, bytes, config);
+    ReadLonger { front, whole }
+}
