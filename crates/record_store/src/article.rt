@@ -5,14 +5,14 @@ use crate::store::Stored;
 use bincode::de::{Decode, Decoder, OneByOne};
 use bincode::enc::{Encode, Encoder};
 use bincode::error::{DecodeError, EncodeError};
-use bincode::laws::{Canonical, Exact, Plain, canonical_by_parts, exact_by_fields, plain_by_parts};
+use bincode::laws::{Exact, Plain, exact_by_fields, plain_by_parts};
 use bincode::{MadeOf, Wire};
 use std::collections::BTreeMap;
 
 type Parts = (String, u64, Option<u32>, BTreeMap<String, String>);
 
 /// An article: its name, its price in cents, its weight in grams where it is known, and notes by their names.
-#[derive(Debug, Drop, PartialEq)]
+#[derive(Drop, PartialEq)]
 pub struct Article {
     pub name: String,
     pub price: u64,
@@ -43,12 +43,6 @@ impl Plain for Article {
 impl Exact for Article {
     fn tell_exact() {
         exact_by_fields::<Parts, Article, _>();
-    }
-}
-
-impl Canonical for Article {
-    fn tell_canonical() {
-        canonical_by_parts::<Parts, Article>();
     }
 }
 
