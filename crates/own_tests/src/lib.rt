@@ -13,6 +13,8 @@ mod counted;
 #[cfg(test)]
 mod limits;
 #[cfg(test)]
+mod longer;
+#[cfg(test)]
 mod looped;
 #[cfg(test)]
 mod maps;
