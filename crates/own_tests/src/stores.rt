@@ -68,16 +68,24 @@ fn tells_where_a_store_is_cut(rt: HostRuntime) {
     }
 }
 
+/// What comes of appending a value under a limit, tried once more where it fails, since memory may be refused once.
+fn appended<const N: usize>(
+    alloc: Global,
+    store: &mut Vec<u8>,
+    value: &Article,
+) -> Result<usize, AppendError> {
+    let settings = config::standard().with_limit::<N>();
+    match append(alloc, store, value, settings) {
+        Ok(size) => Ok(size),
+        Err(_) => append(alloc, store, value, settings),
+    }
+}
+
 /// The bytes of a store to which the values of another were appended.
 fn copied(alloc: Global, store: &[u8]) -> Option<Vec<u8>> {
     let mut copy = Vec::new(alloc);
     for listed in &listed(alloc, store)?.values {
-        let size = append(
-            alloc,
-            &mut copy,
-            &listed.value,
-            config::standard().with_limit::<4096>(),
-        );
+        let size = appended::<4096>(alloc, &mut copy, &listed.value);
         if !matches!(size, Ok(n) if n == listed.size) {
             return None;
         }
@@ -101,12 +109,7 @@ fn refuses_a_value_beyond_the_limit(rt: HostRuntime) {
     };
     let mut store = Vec::new(alloc);
     for listed in &listing.values {
-        let outcome = append(
-            alloc,
-            &mut store,
-            &listed.value,
-            config::standard().with_limit::<30>(),
-        );
+        let outcome = appended::<30>(alloc, &mut store, &listed.value);
         assert!(rt;
             matches!(
                 (listed.offset, outcome),

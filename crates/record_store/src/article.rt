@@ -11,12 +11,16 @@ use std::collections::BTreeMap;
 
 type Parts = (String, u64, Option<u32>, BTreeMap<String, String>);
 
-/// An article: its name, its price in cents, its weight in grams where it is known, and notes by their names.
+/// An article.
 #[derive(Drop, PartialEq)]
 pub struct Article {
+    /// What it is called.
     pub name: String,
+    /// Its price, in cents.
     pub price: u64,
+    /// Its weight in grams, where it is known.
     pub weight: Option<u32>,
+    /// Texts about it, by their names.
     pub notes: BTreeMap<String, String>,
 }
 

@@ -45,6 +45,7 @@ pub struct Listed<T> {
     pub offset: usize,
     /// How many bytes its word has.
     pub size: usize,
+    /// The value that was read for it.
     pub value: T,
 }
 
@@ -53,14 +54,21 @@ pub struct Listed<T> {
 pub enum Ending {
     /// Behind a word.
     Whole,
-    /// No word begins behind so many bytes, of which this error tells why.
-    Stopped { offset: usize, why: DecodeError },
+    /// Before bytes that no word within the limit begins.
+    Stopped {
+        /// How many bytes are before it.
+        offset: usize,
+        /// What decoding answered there.
+        why: DecodeError,
+    },
 }
 
 /// What a store holds.
 #[derive(Drop)]
 pub struct Listing<T> {
+    /// The values of its words, in turn.
     pub values: Vec<Listed<T>>,
+    /// Why no more were read.
     pub ending: Ending,
 }
 
