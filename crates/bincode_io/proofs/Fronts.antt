@@ -1,5 +1,5 @@
 -- What went out of a piece before a stream failed.
-use Rattle.std.specs.Prelude.{◌≡◌, ℕ, List, take, drop, Option, Some, None}
+use Rattle.std.specs.Prelude.{ℕ, List, take, drop, Option, Some, None}
 use Rattle.std.proofs.Common.{◌∙◌, sym}
 use Rattle.std.proofs.lemmas.List.{take-append-drop}
 use Rattle.std.specs.Io.KnownBytes.{Appends, Keeps}

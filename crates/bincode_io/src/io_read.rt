@@ -13,7 +13,23 @@ use std::io;
 use std::io::{BufRead, BufReader, ErrorKind, Read};
 
 /// One read, tried again where a signal interrupts it.
+#[inline(always)]
 fn read_some<R: Read>(stream: &mut R, bytes: &mut [u8]) -> io::Result<usize>
+    ensures bound { ReadsAtMost result bytes.new }
+    ensures ok { IfOk result (λ n. Consumes (R.remaining stream.old) (R.remaining stream.new) (take n bytes.new)) }
+    ensures end { IfOk result (λ n. n ≡ 0 → 0 < length bytes.old → IsAtEnd (R.remaining stream.new)) }
+    ensures err { OnErr result (Keeps (R.remaining stream.old) (R.remaining stream.new)) }
+{
+    match stream.read(bytes) {
+        Err(e) if e.kind() == ErrorKind::Interrupted => read_again(stream, bytes),
+        outcome => outcome,
+    }
+}
+
+/// The same. It stands apart, so that a read that is not interrupted is inlined.
+#[cold]
+#[inline(never)]
+fn read_again<R: Read>(stream: &mut R, bytes: &mut [u8]) -> io::Result<usize>
     ensures bound { ReadsAtMost result bytes.new }
     ensures ok { IfOk result (λ n. Consumes (R.remaining stream.old) (R.remaining stream.new) (take n bytes.new)) }
     ensures end { IfOk result (λ n. n ≡ 0 → 0 < length bytes.old → IsAtEnd (R.remaining stream.new)) }
@@ -41,6 +57,7 @@ fn failure(cause: io::Error, additional: usize) -> DecodeError
 
 /// Fills all of `bytes` from a stream. Fails with `Io` where the stream fails or ends before; the stream is then behind
 /// what it gave, which is lost.
+#[inline(always)]
 fn fill<R: Read>(stream: &mut R, bytes: &mut [u8]) -> Result<(), DecodeError>
     ensures ok { OnOk result (Consumes (R.remaining stream.old) (R.remaining stream.new) bytes.new) }
     ensures err { IfErr result IsIo }

@@ -11,7 +11,22 @@ use std::io;
 use std::io::{ErrorKind, Write};
 
 /// One write, tried again where a signal interrupts it.
+#[inline(always)]
 fn write_some<W: Write>(stream: &mut W, bytes: &[u8]) -> io::Result<usize>
+    ensures bound { WritesAtMost result bytes.now }
+    ensures ok { IfOk result (λ n. Appends (W.contents stream.old) (W.contents stream.new) (take n bytes.now)) }
+    ensures err { OnErr result (Keeps (W.contents stream.old) (W.contents stream.new)) }
+{
+    match stream.write(bytes) {
+        Err(e) if e.kind() == ErrorKind::Interrupted => write_again(stream, bytes),
+        outcome => outcome,
+    }
+}
+
+/// The same. It stands apart, so that a write that is not interrupted is inlined.
+#[cold]
+#[inline(never)]
+fn write_again<W: Write>(stream: &mut W, bytes: &[u8]) -> io::Result<usize>
     ensures bound { WritesAtMost result bytes.now }
     ensures ok { IfOk result (λ n. Appends (W.contents stream.old) (W.contents stream.new) (take n bytes.now)) }
     ensures err { OnErr result (Keeps (W.contents stream.old) (W.contents stream.new)) }
@@ -26,6 +41,7 @@ fn write_some<W: Write>(stream: &mut W, bytes: &[u8]) -> io::Result<usize>
 }
 
 /// Writes all of `bytes` to a stream. Fails where the stream fails or takes no more; a front of the bytes is out then.
+#[inline(always)]
 fn write_out<W: Write>(stream: &mut W, bytes: &[u8]) -> io::Result<()>
     ensures ok { OnOk result (Appends (W.contents stream.old) (W.contents stream.new) bytes.now) }
     ensures left { OnErr result (FrontOut W.contents stream.old bytes.now stream.new) }
@@ -93,6 +109,7 @@ impl<W: Write> Writer for IoWriter<'_, W> {
 
     ghost place = { λ w. w.stream.ghost_name ∷ [] };
 
+    #[inline(always)]
     fn write(&mut self, bytes: &[u8]) -> Result<(), EncodeError> {
         if bytes.is_empty() {
             return Ok(());
