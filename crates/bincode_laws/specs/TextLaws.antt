@@ -1,5 +1,5 @@
--- Bytes behind their length that pass a test keep the laws: texts, and C strings. One allows a word of its length and then
--- its bytes, which no other word of it is shorter than.
+-- Bytes behind their length that pass a test keep the laws: texts, and C strings. They allow a word of their length and
+-- then the bytes, which no other word of them is shorter than.
 use Rattle.std.specs.Prelude.{◌≡◌, ℕ, nat_eq, ◌<◌, ◌^◌, Bool, true, false, if◌then◌else◌, Option, Some, None, Result, Ok, Err, List, [], ◌∷◌, ◌++◌, length, refl}
 use Rattle.std.specs.List.{All}
 use Rattle.std.specs.Char.{encode_utf8}
