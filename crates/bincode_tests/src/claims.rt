@@ -6,7 +6,7 @@ use std::borrow::{Cow, CowSlice, CowStr};
 use std::boxed::{BoxedSlice, BoxedStr};
 use std::cell::{Cell, RefCell};
 use std::cmp::Reverse;
-use std::collections::{BTreeMap, BTreeSet, BinaryHeap, VecDeque};
+use std::collections::{BTreeMap, BTreeSet, BinaryHeap, HashMap, HashSet, VecDeque};
 use std::marker::PhantomData;
 use std::num::{
     NonZeroI8, NonZeroI16, NonZeroI32, NonZeroI64, NonZeroI128, NonZeroIsize, NonZeroU8,
@@ -103,6 +103,8 @@ fn claims_what_owners_take(rt: HostRuntime) {
         ("BinaryHeap<u8>", BinaryHeap::<u8>::claim_size(), 24),
         ("BTreeSet<u8>", BTreeSet::<u8>::claim_size(), 24),
         ("BTreeMap<u8, u8>", BTreeMap::<u8, u8>::claim_size(), 24),
+        ("HashSet<u8>", HashSet::<u8>::claim_size(), 24),
+        ("HashMap<u8, u8>", HashMap::<u8, u8>::claim_size(), 24),
         ("CowSlice<u8>", CowSlice::<u8>::claim_size(), 24),
         ("String", String::claim_size(), 24),
         ("CowStr", CowStr::claim_size(), 24),

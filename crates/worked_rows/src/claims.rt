@@ -8,7 +8,7 @@ use std::borrow::{Cow, CowSlice, CowStr};
 use std::boxed::{BoxedSlice, BoxedStr};
 use std::cell::{Cell, RefCell};
 use std::cmp::Reverse;
-use std::collections::{BTreeMap, BTreeSet, BinaryHeap, VecDeque};
+use std::collections::{BTreeMap, BTreeSet, BinaryHeap, HashMap, HashSet, VecDeque};
 use std::marker::PhantomData;
 use std::num::{
     NonZeroI8, NonZeroI16, NonZeroI32, NonZeroI64, NonZeroI128, NonZeroIsize, NonZeroU8,
@@ -97,6 +97,8 @@ pub fn owner_claims()
     ensures heap { ⟦<BinaryHeap<u8> as Wire>⟧.its.claim ≡ 24 }
     ensures set { ⟦<BTreeSet<u8> as Wire>⟧.its.claim ≡ 24 }
     ensures map { ⟦<BTreeMap<u8, u8> as Wire>⟧.its.claim ≡ 24 }
+    ensures hashed_set { ⟦<HashSet<u8> as Wire>⟧.its.claim ≡ 24 }
+    ensures hashed_map { ⟦<HashMap<u8, u8> as Wire>⟧.its.claim ≡ 24 }
     ensures cow_slice { ⟦<CowSlice<'static, u8> as Wire>⟧.its.claim ≡ 24 }
     ensures text { ⟦<String as Wire>⟧.its.claim ≡ 24 }
     ensures cow_text { ⟦<CowStr<'static> as Wire>⟧.its.claim ≡ 24 }
