@@ -58,7 +58,10 @@ fn is_read<T: PartialEq + Drop>(
     value: T,
     length: usize,
 ) -> bool {
-    matches!(outcome, Ok((read, taken)) if read == value && taken == length)
+    let Ok((read, taken)) = outcome else {
+        return false;
+    };
+    read == value && taken == length
 }
 
 /// Whether the limit was passed.
@@ -133,11 +136,8 @@ fn names_a_tag_that_no_address_has(rt: HostRuntime) {
     assert!(rt; refuses_two::<SocketAddr>(rt.alloc(), "SocketAddr"));
 }
 
-/// Whether the word is read as an address, owned and lent, and the address is written so.
-fn keeps_both_ways<T>(alloc: Global, word: &'static [u8]) -> bool
-where
-    T: Encode + Decode<()> + BorrowDecode<&'static [u8], ()> + Copy,
-{
+/// Whether the word is read as an address by a decoder that lends, and the address is written so.
+fn keeps_lent<'a, T: Encode + BorrowDecode<&'a [u8], ()>>(alloc: Global, word: &'a [u8]) -> bool {
     let lent: Result<(T, usize), DecodeError> = borrow_decode_from_slice(
         alloc,
         word,
@@ -146,7 +146,15 @@ where
     let Ok((address, taken)) = lent else {
         return false;
     };
-    taken == word.len() && is_written(address, word, config::standard()) && keeps::<T>(alloc, word)
+    taken == word.len() && is_written(address, word, config::standard())
+}
+
+/// The same, and by a decoder that does not.
+fn keeps_both_ways<'a, T>(alloc: Global, word: &'a [u8]) -> bool
+where
+    T: Encode + Decode<()> + BorrowDecode<&'a [u8], ()>,
+{
+    keeps_lent::<T>(alloc, word) && keeps::<T>(alloc, word)
 }
 
 #[test]
