@@ -12,45 +12,54 @@ use bincode_base::error::{DecodeError, StreamError};
 use std::io;
 use std::io::{BufRead, BufReader, ErrorKind, Read};
 
+/// A read that failed by this cause, tried again while a signal interrupts it. It stands apart, so that a read that
+/// does not fail is inlined.
+#[cold]
+#[inline(never)]
+fn read_again<R: Read>(
+    stream: &mut R,
+    bytes: &mut [u8],
+    cause: io::Error,
+) -> Result<usize, StreamError>
+    ensures bound { ReadsAtMost result bytes.new }
+    ensures ok { IfOk result (λ n. Consumes (R.remaining stream.old) (R.remaining stream.new) (take n bytes.new)) }
+    ensures end { IfOk result (λ n. n ≡ 0 → 0 < length bytes.old → IsAtEnd (R.remaining stream.new)) }
+    ensures err { OnErr result (Keeps (R.remaining stream.old) (R.remaining stream.new)) }
+{
+    let mut cause = cause;
+    for _ in 0..usize::MAX {
+        if cause.kind() != ErrorKind::Interrupted {
+            return Err(StreamError::from(cause));
+        }
+        match stream.read(bytes) {
+            Ok(n) => return Ok(n),
+            Err(next) => cause = next,
+        }
+    }
+    Err(StreamError::from(cause))
+}
+
 /// One read, tried again where a signal interrupts it.
 #[inline(always)]
-fn read_some<R: Read>(stream: &mut R, bytes: &mut [u8]) -> io::Result<usize>
+fn read_some<R: Read>(stream: &mut R, bytes: &mut [u8]) -> Result<usize, StreamError>
     ensures bound { ReadsAtMost result bytes.new }
     ensures ok { IfOk result (λ n. Consumes (R.remaining stream.old) (R.remaining stream.new) (take n bytes.new)) }
     ensures end { IfOk result (λ n. n ≡ 0 → 0 < length bytes.old → IsAtEnd (R.remaining stream.new)) }
     ensures err { OnErr result (Keeps (R.remaining stream.old) (R.remaining stream.new)) }
 {
     match stream.read(bytes) {
-        Err(e) if e.kind() == ErrorKind::Interrupted => read_again(stream, bytes),
-        outcome => outcome,
+        Ok(n) => Ok(n),
+        Err(cause) => read_again(stream, bytes, cause),
     }
 }
 
-/// The same. It stands apart, so that a read that is not interrupted is inlined.
+/// The error of a stream that ended with so many bytes missing.
 #[cold]
-#[inline(never)]
-fn read_again<R: Read>(stream: &mut R, bytes: &mut [u8]) -> io::Result<usize>
-    ensures bound { ReadsAtMost result bytes.new }
-    ensures ok { IfOk result (λ n. Consumes (R.remaining stream.old) (R.remaining stream.new) (take n bytes.new)) }
-    ensures end { IfOk result (λ n. n ≡ 0 → 0 < length bytes.old → IsAtEnd (R.remaining stream.new)) }
-    ensures err { OnErr result (Keeps (R.remaining stream.old) (R.remaining stream.new)) }
-{
-    for _ in 0..usize::MAX {
-        match stream.read(bytes) {
-            Err(e) if e.kind() == ErrorKind::Interrupted => {}
-            outcome => return outcome,
-        }
-    }
-    stream.read(bytes)
-}
-
-/// The error of a stream that failed with so many bytes missing.
-#[cold]
-fn failure(cause: io::Error, additional: usize) -> DecodeError
+fn end_of_stream(additional: usize) -> DecodeError
     ensures { IsIo result }
 {
     DecodeError::Io {
-        inner: StreamError::from(cause),
+        inner: StreamError::from(io::Error::from(ErrorKind::UnexpectedEof)),
         additional,
     }
 }
@@ -66,12 +75,12 @@ fn fill<R: Read>(stream: &mut R, bytes: &mut [u8]) -> Result<(), DecodeError>
     let mut at = 0;
     while at < bytes.len() {
         match read_some(stream, &mut bytes[at..]) {
-            Ok(0) => {
-                let cause = io::Error::from(ErrorKind::UnexpectedEof);
-                return Err(failure(cause, bytes.len() - at));
-            }
+            Ok(0) => return Err(end_of_stream(bytes.len() - at)),
             Ok(n) => at += n,
-            Err(cause) => return Err(failure(cause, bytes.len() - at)),
+            Err(inner) => {
+                let additional = bytes.len() - at;
+                return Err(DecodeError::Io { inner, additional });
+            }
         }
     }
     Ok(())

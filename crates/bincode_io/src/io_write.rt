@@ -10,46 +10,55 @@ use bincode_base::error::{EncodeError, StreamError};
 use std::io;
 use std::io::{ErrorKind, Write};
 
+/// A write that failed by this cause, tried again while a signal interrupts it. It stands apart, so that a write that
+/// does not fail is inlined.
+#[cold]
+#[inline(never)]
+fn write_again<W: Write>(
+    stream: &mut W,
+    bytes: &[u8],
+    cause: io::Error,
+) -> Result<usize, StreamError>
+    ensures bound { WritesAtMost result bytes.now }
+    ensures ok { IfOk result (λ n. Appends (W.contents stream.old) (W.contents stream.new) (take n bytes.now)) }
+    ensures err { OnErr result (Keeps (W.contents stream.old) (W.contents stream.new)) }
+{
+    let mut cause = cause;
+    for _ in 0..usize::MAX {
+        if cause.kind() != ErrorKind::Interrupted {
+            return Err(StreamError::from(cause));
+        }
+        match stream.write(bytes) {
+            Ok(n) => return Ok(n),
+            Err(next) => cause = next,
+        }
+    }
+    Err(StreamError::from(cause))
+}
+
 /// One write, tried again where a signal interrupts it.
 #[inline(always)]
-fn write_some<W: Write>(stream: &mut W, bytes: &[u8]) -> io::Result<usize>
+fn write_some<W: Write>(stream: &mut W, bytes: &[u8]) -> Result<usize, StreamError>
     ensures bound { WritesAtMost result bytes.now }
     ensures ok { IfOk result (λ n. Appends (W.contents stream.old) (W.contents stream.new) (take n bytes.now)) }
     ensures err { OnErr result (Keeps (W.contents stream.old) (W.contents stream.new)) }
 {
     match stream.write(bytes) {
-        Err(e) if e.kind() == ErrorKind::Interrupted => write_again(stream, bytes),
-        outcome => outcome,
+        Ok(n) => Ok(n),
+        Err(cause) => write_again(stream, bytes, cause),
     }
-}
-
-/// The same. It stands apart, so that a write that is not interrupted is inlined.
-#[cold]
-#[inline(never)]
-fn write_again<W: Write>(stream: &mut W, bytes: &[u8]) -> io::Result<usize>
-    ensures bound { WritesAtMost result bytes.now }
-    ensures ok { IfOk result (λ n. Appends (W.contents stream.old) (W.contents stream.new) (take n bytes.now)) }
-    ensures err { OnErr result (Keeps (W.contents stream.old) (W.contents stream.new)) }
-{
-    for _ in 0..usize::MAX {
-        match stream.write(bytes) {
-            Err(e) if e.kind() == ErrorKind::Interrupted => {}
-            outcome => return outcome,
-        }
-    }
-    stream.write(bytes)
 }
 
 /// Writes all of `bytes` to a stream. Fails where the stream fails or takes no more; a front of the bytes is out then.
 #[inline(always)]
-fn write_out<W: Write>(stream: &mut W, bytes: &[u8]) -> io::Result<()>
+fn write_out<W: Write>(stream: &mut W, bytes: &[u8]) -> Result<(), StreamError>
     ensures ok { OnOk result (Appends (W.contents stream.old) (W.contents stream.new) bytes.now) }
     ensures left { OnErr result (FrontOut W.contents stream.old bytes.now stream.new) }
 {
     let mut at = 0;
     while at < bytes.len() {
         match write_some(stream, &bytes[at..])? {
-            0 => return Err(io::Error::from(ErrorKind::WriteZero)),
+            0 => return Err(StreamError::from(io::Error::from(ErrorKind::WriteZero))),
             n => at += n,
         }
     }
@@ -117,9 +126,9 @@ impl<W: Write> Writer for IoWriter<'_, W> {
         let Some(written) = self.written.checked_add(bytes.len()) else {
             return Err(EncodeError::UnexpectedEnd);
         };
-        if let Err(cause) = write_out(self.stream, bytes) {
+        if let Err(inner) = write_out(self.stream, bytes) {
             return Err(EncodeError::Io {
-                inner: StreamError::from(cause),
+                inner,
                 index: self.written,
             });
         }
