@@ -1,5 +1,5 @@
 mod Agree
-mod Longer
+mod MoreBytes
 mod Counts
 mod Fits
 mod LengthReads

@@ -1,4 +1,4 @@
-use Rattle.callers.proofs.Longer.{same-longer, front-cut}
+use Rattle.callers.proofs.MoreBytes.{same-longer, front-cut}
 use Rattle.callers.proofs.longer.read_longer.Goals as goal
 
 pub returns-clause-same : goal.returns-clause-same
