@@ -140,7 +140,8 @@ const _: () = prove!(size_of::<EncodeError>() <= 24);
 
 const _: () = prove!(size_of::<DecodeError>() <= 24);
 
-/// What a stream of `std::io` answered when it failed: the kind of its error and the system's number, where it gave one.
+/// What a stream of `std::io` answered when it failed: the kind of its error, and the system's number where it gave
+/// one.
 #[derive(Clone, Copy, Debug, PartialEq)]
 pub struct StreamError {
     kind: ErrorKind,

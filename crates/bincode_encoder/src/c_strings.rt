@@ -15,7 +15,8 @@ use bincode_wire::own::ffi::CStr;
 #[inline]
 pub fn encode_c_string<E: Encoder>(encoder: &mut E, val: CStr<'_>) -> Result<(), EncodeError>
     ensures { Encodes E.W.adds E.W.refuses E.writer_of E.place (Unit {0})
-        (AllowedWord (IsBytes (c_str_bytes val.entry)) (without_nul E.C.setting)) (λ _. ⊥) result encoder.old encoder.new }
+        (AllowedWord (IsBytes (c_str_bytes val.entry)) (without_nul E.C.setting)) (λ _. ⊥) result encoder.old
+        encoder.new }
 {
     let bytes = val.to_bytes();
     encode_length(encoder, bytes.len())?;

@@ -9,8 +9,8 @@ ghost use Rattle.bincode_wire.specs.Memory.{Allocates};
 use crate::laws::{Canonical, Exact, Inhabited, Plain, Writable};
 use crate::wire::Wire;
 
-/// What a text holds: bytes that are UTF-8. A container claims `SIZE` bytes for it, and `ALLOCATES` says whether decoding
-/// takes memory for it. It stands in proofs alone.
+/// What a text holds: bytes that are UTF-8. A container claims `SIZE` bytes for it, and `ALLOCATES` says whether
+/// decoding takes memory for it. It stands in proofs alone.
 #[derive(Drop, PartialEq)]
 pub struct TextBytes<const SIZE: usize, const ALLOCATES: bool> {
     pub bytes: [u8; 0],

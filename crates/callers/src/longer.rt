@@ -15,9 +15,9 @@ pub struct ReadLonger<T> {
     pub whole: Result<(T, usize), DecodeError>,
 }
 
-/// Reads a value from the first `count` bytes, and from all. What is answered to the first is answered to all, unless it
-/// is that the input ended too early or that memory was refused. Bytes with a front of a word and no more are told as
-/// such an end.
+/// Reads a value from the first `count` bytes, and from all. What is answered to the first is answered to all, unless
+/// it is that the input ended too early or that memory was refused. Bytes with a front of a word and no more are told
+/// as such an end.
 pub fn read_longer<T: Decode<()>, C: Config>(
     alloc: Global,
     bytes: &[u8],

@@ -2,8 +2,8 @@
 //! others, so that a write that is cut loses no earlier one.
 ghost use Rattle.std.specs.Prelude.{◌≡◌, ◌↔◌, ◌++◌, ℕ, List, IfOk, IfErr, IsTrue};
 ghost use Rattle.bincode_base.specs.declared.error.DecodeError.TheVariants.{Memory};
-ghost use Rattle.record_store.specs.Stores.{NeverEmpty, IsEntry, Entry, AreEntries, words_of, Added, WritesNothing, Leaves};
-ghost use Rattle.record_store.specs.Stores.{FitsStore, IsOutside};
+ghost use Rattle.record_store.specs.Stores.{NeverEmpty, IsEntry, Entry, AreEntries, words_of, Added, WritesNothing};
+ghost use Rattle.record_store.specs.Stores.{Leaves, FitsStore, IsOutside};
 ghost use Rattle.record_store.specs.Stores.{Lists, ListsFirst, ListsAll, ListsBeforeTorn, IsTorn};
 
 use bincode::config::Config;

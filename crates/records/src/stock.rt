@@ -55,8 +55,8 @@ fn whole_length(rt: &HostRuntime, path: &str) -> Result<usize> {
     }
 }
 
-/// Prints the articles of each file, and how it ends. Fails behind the last one where one is not whole, and at once where
-/// one cannot be read.
+/// Prints the articles of each file, and how it ends. Fails behind the last one where one is not whole, and at once
+/// where one cannot be read.
 pub fn list(rt: &HostRuntime, paths: &[String]) -> Result<()> {
     let mut all_whole = true;
     for path in paths {
