@@ -5,14 +5,14 @@ ghost use Rattle.bincode_format.specs.Encoding.{Encodes};
 use crate::encode::Encode;
 use bincode_base::error::EncodeError;
 use bincode_encoder::encoder::Encoder;
-use bincode_wire::rows::{LongRow, Row};
+use bincode_wire::rows::{LongRow, Rest, Row};
 use bincode_wire::wire::Wire;
 
 /// Parts that were lent in a row. A row is no `Encode` itself: the proof for a tuple would then show of the reference
 /// to each part all that `Encode` stands on, which takes long.
 pub trait EncodeRow: Drop {
     /// The row of the parts themselves.
-    type Parts: Wire;
+    type Parts: Rest;
 
     /// The parts that were lent.
     ghost lent: { Self → Self.Parts };

@@ -1,5 +1,5 @@
 -- What decoding answers, by a format, a limit, and the charge at the start.
-use Rattle.std.specs.Prelude.{◌≡◌, ℕ, ◌+◌, ◌-◌, ◌≤◌, ◌⊎◌, ◌^◌, nat_le, nat_lt, if◌then◌else◌, List, [], ◌∷◌, ◌++◌, Option, Some, None}
+use Rattle.std.specs.Prelude.{◌≡◌, ℕ, ◌+◌, ◌*◌, ◌-◌, ◌≤◌, ◌⊎◌, ◌^◌, nat_le, nat_lt, if◌then◌else◌, List, [], ◌∷◌, ◌++◌, Option, Some, None}
 use Rattle.bincode_format.specs.Fault.{Fault}
 use Rattle.bincode_format.specs.Charge.{Step, Charge, Reserve, Release}
 use Rattle.bincode_format.specs.Format.{Format, Reading, Took, Failed}
@@ -34,7 +34,7 @@ unclaimed (Some limit) charge n = charge - n
 -- the charge after one step, if the limit allows it
 abbrev pub after_step : Option ℕ → ℕ → Step → Option ℕ
 after_step limit charge (Charge n) = claimed limit charge n
-after_step limit charge (Reserve n) = claimed limit charge n
+after_step limit charge (Reserve n share) = claimed limit charge (n * share)
 after_step limit charge (Release n) = Some (unclaimed limit charge n)
 
 abbrev pub on_some : Option ℕ → (ℕ → Option ℕ) → Option ℕ

@@ -1,32 +1,32 @@
 -- What reading costs under a limit.
-use Rattle.std.specs.Prelude.{◌≡◌, ℕ, ◌+◌, ◌-◌, ◌<◌, ◌≤◌, List, [], ◌∷◌, ◌++◌, Option, Some, None}
+use Rattle.std.specs.Prelude.{◌≡◌, ℕ, ◌+◌, ◌*◌, ◌-◌, ◌<◌, ◌≤◌, List, [], ◌∷◌, ◌++◌, Option, Some, None}
 
--- A change of the charge. A part that is read is charged. A container reserves room for its elements, and releases
--- it element by element.
+-- A change of the charge. A part that is read is charged. A container reserves room for so many elements of so many bytes
+-- each, and releases it element by element.
 pub data Step : Type 0 where
   Charge : ℕ → Step
-  Reserve : ℕ → Step
+  Reserve : ℕ → ℕ → Step
   Release : ℕ → Step
 
 -- the full width of all that is read
 abbrev pub full : List Step → ℕ
 full [] = 0
 full ((Charge n) ∷ steps) = n + full steps
-full ((Reserve n) ∷ steps) = full steps
+full ((Reserve n share) ∷ steps) = full steps
 full ((Release n) ∷ steps) = full steps
 
 -- all that is reserved
 abbrev pub reserved : List Step → ℕ
 reserved [] = 0
 reserved ((Charge n) ∷ steps) = reserved steps
-reserved ((Reserve n) ∷ steps) = n + reserved steps
+reserved ((Reserve n share) ∷ steps) = n * share + reserved steps
 reserved ((Release n) ∷ steps) = reserved steps
 
 -- all that is released
 abbrev pub released : List Step → ℕ
 released [] = 0
 released ((Charge n) ∷ steps) = released steps
-released ((Reserve n) ∷ steps) = released steps
+released ((Reserve n share) ∷ steps) = released steps
 released ((Release n) ∷ steps) = n + released steps
 
 -- the charge behind these steps

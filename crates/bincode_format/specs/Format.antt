@@ -1,7 +1,7 @@
 -- A format is a language: its words, each with a meaning and its steps, which of them is written, and the fault of
 -- each input that begins with no word. Beside these relations stands the plain program that reads a word or a fault
 -- from an input; the laws say that the two agree. All formats are made of the few below.
-use Rattle.std.specs.Prelude.{◌≡◌, ℕ, zero, suc, ◌*◌, ◌-◌, ◌<◌, ◌⊎◌, List, [], ◌∷◌, ◌++◌, length, take, drop, nat_lt, if◌then◌else◌, Result, Ok, Err, Some, None}
+use Rattle.std.specs.Prelude.{◌≡◌, ℕ, zero, suc, ◌-◌, ◌<◌, ◌⊎◌, List, [], ◌∷◌, ◌++◌, length, take, drop, nat_lt, if◌then◌else◌, Result, Ok, Err, Some, None}
 use Rattle.bincode_format.specs.Fault.{Fault, End, InvalidInteger, Zero, UnexpectedVariant, Utf8, InvalidChar, InvalidBool, InvalidDuration, NulAt, Other, LengthMismatch, EmptyEnum, OutsideUsize}
 use Rattle.bincode_format.specs.Charge.{Step, Charge, Reserve, Release}
 
@@ -166,4 +166,4 @@ elements (suc n) share F = step (Release share) >>= λ _. unsure F >>= λ a. map
 
 -- room for n elements is reserved, and then they come
 abbrev pub sequence : {A : Type 0} → ℕ → ℕ → Format A → Format (List A)
-sequence n share F = step (Reserve (n * share)) >>= λ _. elements n share F
+sequence n share F = step (Reserve n share) >>= λ _. elements n share F

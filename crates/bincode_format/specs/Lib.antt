@@ -13,12 +13,15 @@ pub mod Octets
 pub mod Forms
 pub mod Allowed
 pub mod Choices
+pub mod Room
 pub mod Run
 pub mod Collections
 pub mod Hashed
 pub mod Cells
 pub mod Answer
 pub mod Limits
+pub mod Limited
+pub mod Need
 pub mod Promises
 pub mod Passed
 pub mod Put

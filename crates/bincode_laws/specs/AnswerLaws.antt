@@ -1,5 +1,5 @@
 -- What decoding answers, part by part, and what each answer says of the words, the faults and the limit.
-use Rattle.std.specs.Prelude.{◌≡◌, ℕ, ◌+◌, ◌-◌, ◌<◌, ◌≤◌, ◌⊎◌, List, [], ◌∷◌, ◌++◌, refl, Option, Some, None}
+use Rattle.std.specs.Prelude.{◌≡◌, ℕ, ◌+◌, ◌*◌, ◌-◌, ◌<◌, ◌≤◌, ◌⊎◌, List, [], ◌∷◌, ◌++◌, refl, Option, Some, None}
 use Rattle.std.proofs.Common.{sym, ◌∙◌, ap, subst, inl, inr, arith}
 use Rattle.std.proofs.lemmas.Bool.{cases_lt, le-leb, lt-leb}
 use Rattle.bincode_format.specs.Fault.{Fault}
@@ -123,7 +123,7 @@ data Weighing (limit : Option ℕ) (charge : ℕ) (steps : List Step) : Type 0 w
 unlimited : (charge : ℕ) (steps : List Step) → charge_behind None charge steps ≡ Some charge
 unlimited charge [] = refl
 unlimited charge ((Charge n) ∷ steps) = unlimited charge steps
-unlimited charge ((Reserve n) ∷ steps) = unlimited charge steps
+unlimited charge ((Reserve n share) ∷ steps) = unlimited charge steps
 unlimited charge ((Release n) ∷ steps) = unlimited charge steps
 
 module _ (limit charge : ℕ) where
@@ -160,8 +160,8 @@ module _ (held n : ℕ) (steps : List Step) where
   backed_charge : IsBacked held ((Charge n) ∷ steps) → IsBacked held steps
   backed_charge h front back e = h ((Charge n) ∷ front) back (cc)
 
-  backed_reserve : IsBacked held ((Reserve n) ∷ steps) → IsBacked (held + n) steps
-  backed_reserve h front back e = let k : released front ≤ held + (n + reserved front) = h ((Reserve n) ∷ front) back (cc) in omega arith
+  backed_reserve : (share : ℕ) → IsBacked held ((Reserve n share) ∷ steps) → IsBacked (held + n * share) steps
+  backed_reserve share h front back e = let k : released front ≤ held + (n * share + reserved front) = h ((Reserve n share) ∷ front) back (cc) in omega arith
 
   backed_held : IsBacked held ((Release n) ∷ steps) → n ≤ held
   backed_held h = let k : n + 0 ≤ held + 0 = h ((Release n) ∷ []) steps refl in omega arith
@@ -175,9 +175,9 @@ weigh_limited : (limit charge held : ℕ) (steps : List Step) → IsBacked held 
 weigh_limited limit charge held [] h k = let e : charge_after charge [] ≡ charge = omega arith in stays (ap Some (sym e)) (within_none limit charge)
 weigh_limited limit charge held ((Charge n) ∷ steps) h k =
     weigh_claim limit charge n (Charge n) steps refl (λ front. omega arith) (cases_lt limit (charge + n)) (weigh_limited limit (charge + n) held steps (backed_charge held n steps h) (omega arith))
-weigh_limited limit charge held ((Reserve n) ∷ steps) h k =
-    weigh_claim limit charge n (Reserve n) steps refl (λ front. omega arith) (cases_lt limit (charge + n))
-    (weigh_limited limit (charge + n) (held + n) steps (backed_reserve held n steps h) (omega arith))
+weigh_limited limit charge held ((Reserve n share) ∷ steps) h k =
+    weigh_claim limit charge (n * share) (Reserve n share) steps refl (λ front. omega arith) (cases_lt limit (charge + n * share))
+    (weigh_limited limit (charge + n * share) (held + n * share) steps (backed_reserve held n steps share h) (omega arith))
 weigh_limited limit charge held ((Release n) ∷ steps) h k =
     let l = backed_held held n steps h in
     weigh_step limit charge (charge - n) (Release n) steps refl (λ front. omega arith) (λ m. omega arith)
@@ -381,7 +381,7 @@ gave-uncounted F f input rest m charge after e =
     uncounted : (charge : ℕ) (steps : List Step) (after : ℕ) → charge_behind None charge steps ≡ Some after → after ≡ charge
     uncounted charge [] after e = cc
     uncounted charge ((Charge n) ∷ steps) after e = uncounted charge steps after e
-    uncounted charge ((Reserve n) ∷ steps) after e = uncounted charge steps after e
+    uncounted charge ((Reserve n share) ∷ steps) after e = uncounted charge steps after e
     uncounted charge ((Release n) ∷ steps) after e = uncounted charge steps after e
 
 -- A balanced one is charged its full width.

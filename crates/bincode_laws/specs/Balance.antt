@@ -2,21 +2,27 @@
 use Rattle.std.specs.Prelude.{◌≡◌, ℕ, zero, suc, ◌+◌, ◌*◌, ◌≤◌, List, [], ◌∷◌, ◌++◌, length, take, drop, refl, nat_lt, Bool, true, false, if◌then◌else◌, Result, Ok, Err}
 use Rattle.std.proofs.Common.{subst, arith}
 use Rattle.bincode_format.specs.Fault.{Fault}
-use Rattle.bincode_format.specs.Charge.{Step, Charge, Reserve, Release, reserved, released}
+use Rattle.bincode_format.specs.Charge.{Step, Charge, Reserve, Release, full, reserved, released}
 use Rattle.bincode_format.specs.Format.{Format, Reading, Took, Failed, after_steps, then_read, done, refused, raw, step, ◌>>=◌, vague_reading, unsure}
 use Rattle.bincode_format.specs.Format.{written_as, settled, map_format, charged, elements, sequence}
 use Rattle.bincode_format.specs.Laws.{Lawful, IsBacked, Settles, Holds, Balanced}
 
+pub full_append : (s t : List Step) → full (s ++ t) ≡ full s + full t
+full_append [] t = omega arith
+full_append ((Charge n) ∷ s) t = omega (arith, full_append s t)
+full_append ((Reserve n share) ∷ s) t = full_append s t
+full_append ((Release n) ∷ s) t = full_append s t
+
 pub reserved_append : (s t : List Step) → reserved (s ++ t) ≡ reserved s + reserved t
 reserved_append [] t = omega arith
 reserved_append ((Charge n) ∷ s) t = reserved_append s t
-reserved_append ((Reserve n) ∷ s) t = omega (arith, reserved_append s t)
+reserved_append ((Reserve n share) ∷ s) t = omega (arith, reserved_append s t)
 reserved_append ((Release n) ∷ s) t = reserved_append s t
 
 pub released_append : (s t : List Step) → released (s ++ t) ≡ released s + released t
 released_append [] t = omega arith
 released_append ((Charge n) ∷ s) t = released_append s t
-released_append ((Reserve n) ∷ s) t = released_append s t
+released_append ((Reserve n share) ∷ s) t = released_append s t
 released_append ((Release n) ∷ s) t = omega (arith, released_append s t)
 
 -- a front of two lists of steps is a front of the first, or all of it and a front of the second
@@ -68,9 +74,9 @@ unfolding step
 charge-holds held n = record { settles = λ input. (backed_one held (Charge n) (omega arith), omega arith) }
 
 -- what is reserved is held
-pub reserve-holds : (held n : ℕ) → Holds held (held + n) (step (Reserve n))
+pub reserve-holds : (held n share : ℕ) → Holds held (held + n * share) (step (Reserve n share))
 unfolding step
-reserve-holds held n = record { settles = λ input. (backed_one held (Reserve n) (omega arith), omega arith) }
+reserve-holds held n share = record { settles = λ input. (backed_one held (Reserve n share) (omega arith), omega arith) }
 
 -- what is released was held
 pub release-holds : (held n : ℕ) → Holds (held + n) held (step (Release n))
@@ -156,7 +162,7 @@ elements-holds (suc n) share F f =
 -- a sequence releases all that it reserves
 pub sequence-balanced : {A : Type 0} (n share : ℕ) (F : Format A) → Balanced F → Balanced (sequence n share F)
 sequence-balanced n share F f =
-    turn-holds 0 (0 + n * share) 0 (step (Reserve (n * share))) (λ _. elements n share F) (reserve-holds 0 (n * share))
+    turn-holds 0 (0 + n * share) 0 (step (Reserve n share)) (λ _. elements n share F) (reserve-holds 0 n share)
     (λ _. let e : 0 + n * share ≡ n * share = omega arith in rw e (elements-holds n share F f))
 
 -- a word releases all that it reserves, and never before

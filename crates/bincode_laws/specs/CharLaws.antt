@@ -25,6 +25,8 @@ use Rattle.bincode_laws.specs.CellLaws.{cell-has_word}
 use Rattle.bincode_laws.specs.AllowedLaws.{alone-one_length}
 use Rattle.bincode_format.specs.Forms.{characters}
 use Rattle.bincode_laws.specs.FormLaws.{FormLaws}
+use Rattle.bincode_laws.specs.NeedLaws.{character-needs}
+use Rattle.bincode_laws.specs.RoomLaws.{character-weighs}
 use Rattle.bincode_format.specs.Words.{Spells, char_width, code_point, four_bytes, char_of, rest_of_char, behind_char, character}
 
 -- the laws
@@ -367,6 +369,8 @@ characters-laws = record {
   spelled = λ s c h. record { has_word = character-has_word c h; one_length = alone-one_length _ (encode_utf8 c) (allowed-character c); none_shorter = character-none_shorter c };
   one_meaning = λ v w m n h k l. l ∙ sym k ∙ h;
   some_word = λ s. cell-has_word character character-lawful _ (character-has_word 65 refl);
+  needs = λ s. character-needs;
+  weighs = λ s. character-weighs;
 }
 
 -- characters of one meaning are equal

@@ -21,13 +21,7 @@ use Rattle.bincode_format.specs.Number.{number_of, from_two_complement}
 use Rattle.bincode_format.specs.Words.{truth, truth_of, not_zero_by, not_zero_of, duration, duration_of, seconds_and_nanos, nothing, first_and, four_and, array, list}
 use Rattle.bincode_format.specs.Run.{IsListOf}
 use Rattle.bincode_laws.specs.ListLaws.{array-word_length}
-use Rattle.bincode_laws.specs.Balance.{reserved_append, released_append, FrontOfBoth, in_first, in_second, front_of_both}
-
-full_append : (s t : List Step) → full (s ++ t) ≡ full s + full t
-full_append [] t = omega arith
-full_append ((Charge n) ∷ s) t = omega (arith, full_append s t)
-full_append ((Reserve n) ∷ s) t = full_append s t
-full_append ((Release n) ∷ s) t = full_append s t
+use Rattle.bincode_laws.specs.Balance.{full_append, reserved_append, released_append, FrontOfBoth, in_first, in_second, front_of_both}
 
 -- the limit allows the steps of a word, where it allows the peak
 pub cost-within : {A : Type 0} (F : Format A) (peak cost : ℕ) → Costs peak cost F → (limit : Option ℕ) (charge : ℕ) → Allows limit (charge + peak) →
@@ -312,35 +306,35 @@ module _ {A : Type 0} (F : Format A) (share p c most : ℕ) (f : Costs p c F) (s
       (λ a. turn_frees (elements n share F) (λ others. done (a ∷ others)) (n * most) (n * share) (n * most) (n * c) 0 0 0 (omega arith) (omega (arith, mul-le-mul_left n cost_fits))
       (elements_free n) (λ others. costs_free 0 0 0 0 (done (a ∷ others)) refl (omega arith) (done-costs (a ∷ others))))))
 
-stays_behind : (k peak : ℕ) (s more front : List Step) → s ≡ Reserve k ∷ [] → full more + reserved more + k ≤ peak + released more → front ≡ s ++ more →
+stays_behind : (n share k peak : ℕ) (s more front : List Step) → n * share ≡ k → s ≡ Reserve n share ∷ [] → full more + reserved more + k ≤ peak + released more → front ≡ s ++ more →
     full front + reserved front ≤ peak + released front
-stays_behind k peak s more front e a i =
-    let b : reserved s ≡ k + 0 = ap reserved e in
+stays_behind n share k peak s more front same e a i =
+    let b : reserved s ≡ n * share + 0 = ap reserved e in
     let c : full s ≡ 0 = ap full e in
     let d : released s ≡ 0 = ap released e in
     rw i (omega (arith, full_append s more, reserved_append s more, released_append s more))
 
-sequence_stays : (k peak : ℕ) (s t front : List Step) → k ≤ peak → s ≡ Reserve k ∷ [] → ((front back : List Step) → t ≡ front ++ back → full front + reserved front + k ≤ peak + released front) →
+sequence_stays : (n share k peak : ℕ) (s t front : List Step) → n * share ≡ k → k ≤ peak → s ≡ Reserve n share ∷ [] → ((front back : List Step) → t ≡ front ++ back → full front + reserved front + k ≤ peak + released front) →
     FrontOfBoth s t front → full front + reserved front ≤ peak + released front
-sequence_stays k peak s t [] h e y f = omega arith
-sequence_stays k peak s t (x ∷ []) h e y (in_first back i) = let p : x ≡ Reserve k = cc in rw p (omega arith)
-sequence_stays k peak s t (x ∷ (z ∷ front)) h e y (in_first back i) = absurd (cc)
-sequence_stays k peak s t (x ∷ front) h e y (in_second more back i j) = stays_behind k peak s more (x ∷ front) e (y more back j) i
+sequence_stays n share k peak s t [] same h e y f = omega arith
+sequence_stays n share k peak s t (x ∷ []) same h e y (in_first back i) = let p : x ≡ Reserve n share = cc in rw p (omega arith)
+sequence_stays n share k peak s t (x ∷ (z ∷ front)) same h e y (in_first back i) = absurd (cc)
+sequence_stays n share k peak s t (x ∷ front) same h e y (in_second more back i j) = stays_behind n share k peak s more (x ∷ front) same e (y more back j) i
 
-reserve_costs : {A : Type 0} (k peak cost : ℕ) (F : Format A) → k ≤ peak → Frees k peak cost F → Costs peak cost (step (Reserve k) >>= λ _. F)
+reserve_costs : {A : Type 0} (n share peak cost : ℕ) (F : Format A) → n * share ≤ peak → Frees (n * share) peak cost F → Costs peak cost (step (Reserve n share) >>= λ _. F)
 unfolding ◌>>=◌ step
-reserve_costs k peak cost F h f = record {
+reserve_costs n share peak cost F h f = record {
   charges = λ word m s w.
       let a = f.charges w.second m w.second_steps w.second_word in
       let b : full w.first_steps ≡ 0 = ap full w.first_word.1 in
       rw w.steps_are (omega (arith, full_append w.first_steps w.second_steps));
   evens = λ word m s w.
       let a = f.evens w.second m w.second_steps w.second_word in
-      let b : reserved w.first_steps ≡ k + 0 = ap reserved w.first_word.1 in
+      let b : reserved w.first_steps ≡ n * share + 0 = ap reserved w.first_word.1 in
       let c : released w.first_steps ≡ 0 = ap released w.first_word.1 in
       rw w.steps_are (omega (arith, reserved_append w.first_steps w.second_steps, released_append w.first_steps w.second_steps));
   stays = λ word m s w front back e.
-      sequence_stays k peak w.first_steps w.second_steps front h w.first_word.1 (f.stays w.second m w.second_steps w.second_word)
+      sequence_stays n share (n * share) peak w.first_steps w.second_steps front refl h w.first_word.1 (f.stays w.second m w.second_steps w.second_word)
       (front_of_both w.first_steps w.second_steps front back (sym w.steps_are ∙ e));
 }
 
@@ -348,7 +342,7 @@ reserve_costs k peak cost F h f = record {
 pub array-costs : (F : Format Meaning) (n share peak cost most : ℕ) → share ≤ most → peak ≤ most → cost ≤ most → Costs peak cost F → Costs (n * most) (n * cost) (array n share F)
 array-costs F n share peak cost most h i j f =
     map-costs (n * most) (n * cost) listed (sequence n share F)
-    (reserve_costs (n * share) (n * most) (n * cost) (elements n share F) (mul-le-mul_left n h) (elements_free F share peak cost most f h i j n))
+    (reserve_costs n share (n * most) (n * cost) (elements n share F) (mul-le-mul_left n h) (elements_free F share peak cost most f h i j n))
 
 -- under a limit the room of a list's items is within it
 pub list-room : {A : Type 0} (s : Setting) (share : ℕ) (F : Format Meaning) (limit : ℕ) (word : List ℕ) (m : Meaning) (steps : List Step) → (list s share F).Word word m steps →
@@ -358,7 +352,7 @@ list-room s share F limit word m steps w within Given vs given =
     let n : length vs ≡ w.head = array-word_length share F Given vs w.head w.second m w.second_steps w.second_word given in
     let a = w.second_word in
     let q = a.first_word in
-    let room = Reserve (w.head * share) in
+    let room = Reserve w.head share in
     let front = w.first_steps ++ room ∷ [] in
     let back = q.second_steps ++ a.second_steps in
     let begun : a.first_steps ≡ room ∷ q.second_steps = q.steps_are ∙ ap (λ z. z ++ q.second_steps) q.first_word.1 in

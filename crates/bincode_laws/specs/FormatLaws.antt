@@ -1,5 +1,5 @@
 -- Each way to make a format keeps the laws, so every format of `Words` does.
-use Rattle.std.specs.Prelude.{Some, ◌≡◌, ℕ, zero, suc, ◌*◌, ◌-◌, ◌<◌, ◌≤◌, ◌⊎◌, List, [], ◌∷◌, ◌++◌, length, take, drop, refl, Result, Ok, Err, replicate, All}
+use Rattle.std.specs.Prelude.{Some, ◌≡◌, ℕ, zero, suc, ◌-◌, ◌<◌, ◌≤◌, ◌⊎◌, List, [], ◌∷◌, ◌++◌, length, take, drop, refl, Result, Ok, Err, replicate, All}
 use Rattle.std.proofs.Common.{sym, ◌∙◌, ap, subst, inl, inr, append_assoc, arith, append-nil, lit<}
 use Rattle.std.proofs.Math.Seq.{take-append_seam, drop-append_seam}
 use Rattle.std.proofs.lemmas.List.Elements.{All-nil, All-append, All-replicate}
@@ -463,4 +463,4 @@ elements-lawful (suc n) share F f =
     (λ a. map-lawful (λ others. a ∷ others) (elements n share F) (elements-lawful n share F f)))
 
 pub sequence-lawful : {A : Type 0} (n share : ℕ) (F : Format A) → Lawful F → Lawful (sequence n share F)
-sequence-lawful n share F f = turn-lawful (step (Reserve (n * share))) (λ _. elements n share F) (step-lawful (Reserve (n * share))) (λ _. elements-lawful n share F f)
+sequence-lawful n share F f = turn-lawful (step (Reserve n share)) (λ _. elements n share F) (step-lawful (Reserve n share)) (λ _. elements-lawful n share F f)

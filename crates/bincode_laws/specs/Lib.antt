@@ -20,7 +20,10 @@ pub mod IntegerLaws
 pub mod LaidLaws
 pub mod LimitLaws
 pub mod HashedLaws
+pub mod LimitedLaws
 pub mod MapLaws
+pub mod NeedLaws
+pub mod NeedRows
 pub mod OctetLaws
 pub mod OrderLaws
 pub mod PairLaws
@@ -36,5 +39,6 @@ pub mod SpelledLaws
 pub mod SpellingLaws
 pub mod TextLaws
 pub mod TupleLaws
+pub mod RoomLaws
 pub mod RowLaws
 pub mod WordsLaws

@@ -1,5 +1,5 @@
 -- Lists behind their length keep the laws, and what they allow, by what their values do.
-use Rattle.std.specs.Prelude.{◌≡◌, ℕ, zero, suc, ◌*◌, ◌<◌, ◌^◌, pos, Result, Ok, List, [], ◌∷◌, ◌++◌, length, refl}
+use Rattle.std.specs.Prelude.{◌≡◌, ℕ, zero, suc, ◌<◌, ◌^◌, pos, Result, Ok, List, [], ◌∷◌, ◌++◌, length, refl}
 use Rattle.std.specs.List.{All}
 use Rattle.std.proofs.Common.{sym, ◌∙◌, ap, subst, arith, append-nil}
 use Rattle.std.proofs.lemmas.List.Elements.{All-append}
@@ -166,19 +166,19 @@ module _ {A : Type 0} (Means : A → Meaning → Type 0) (s : Setting) (share : 
 no_elements : (share : ℕ) (F : Format Meaning) → (steps : List Step) × (array 0 share F).Word [] (listed []) steps
 unfolding done step ◌>>=◌
 no_elements share F =
-    let run : (sequence 0 share F).Word [] [] (Reserve (0 * share) ∷ []) =
+    let run : (sequence 0 share F).Word [] [] (Reserve 0 share ∷ []) =
     record {
       first = [];
       second = [];
       head = tt;
-      first_steps = Reserve (0 * share) ∷ [];
+      first_steps = Reserve 0 share ∷ [];
       second_steps = [];
       bytes_are = refl;
       steps_are = refl;
       first_word = (refl, refl);
       second_word = (refl, refl, refl);
     } in
-    (Reserve (0 * share) ∷ [], settled-word (λ ms. Ok (listed ms)) (sequence 0 share F) [] [] (listed []) (Reserve (0 * share) ∷ []) refl run)
+    (Reserve 0 share ∷ [], settled-word (λ ms. Ok (listed ms)) (sequence 0 share F) [] [] (listed []) (Reserve 0 share ∷ []) refl run)
 
 -- a list may be empty
 pub list-some_word : (s : Setting) (share : ℕ) (F : Format Meaning) → HasWord (list s share F)

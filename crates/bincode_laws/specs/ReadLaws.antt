@@ -1,5 +1,5 @@
 -- What words of lists decode to, by what those of their values do.
-use Rattle.std.specs.Prelude.{◌≡◌, ℕ, ◌<◌, ◌≤◌, ◌^◌, ◌*◌, ◌⊎◌, pos, Result, Ok, List, [], ◌∷◌, ◌++◌, length, refl}
+use Rattle.std.specs.Prelude.{◌≡◌, ℕ, ◌<◌, ◌≤◌, ◌^◌, ◌⊎◌, pos, Result, Ok, List, [], ◌∷◌, ◌++◌, length, refl}
 use Rattle.std.specs.List.{All}
 use Rattle.std.proofs.Common.{sym, ◌∙◌, ap, subst, inl, inr, arith, append-nil, length-append}
 use Rattle.std.proofs.Math.Seq.{take-append_seam, drop-append_seam}
@@ -104,13 +104,13 @@ module _ {A : Type 0} (Given : A → Meaning → Type 0) (share : ℕ) (F : Form
   unfolding step ◌>>=◌
   read_array vs bytes a =
       let p = read_elements vs bytes a in
-      let steps = Reserve (length vs * share) ∷ p.1 in
+      let steps = Reserve (length vs) share ∷ p.1 in
       let run : (sequence (length vs) share F).Word bytes p.0 steps =
       record {
         first = [];
         second = bytes;
         head = tt;
-        first_steps = Reserve (length vs * share) ∷ [];
+        first_steps = Reserve (length vs) share ∷ [];
         second_steps = p.1;
         bytes_are = refl;
         steps_are = refl;

@@ -1,5 +1,5 @@
 -- What a run of values allows, by what each value does.
-use Rattle.std.specs.Prelude.{◌≡◌, ℕ, zero, suc, ◌*◌, ◌<◌, ◌≤◌, Bool, true, Result, Ok, List, [], ◌∷◌, ◌++◌, length, refl}
+use Rattle.std.specs.Prelude.{◌≡◌, ℕ, zero, suc, ◌<◌, ◌≤◌, Bool, true, Result, Ok, List, [], ◌∷◌, ◌++◌, length, refl}
 use Rattle.std.specs.List.{All}
 use Rattle.std.specs.Cmp.Lexicographic.{pointwise}
 use Rattle.std.proofs.Common.{sym, ◌∙◌, ap, subst, arith, append_assoc}
@@ -109,9 +109,9 @@ module _ (share : ℕ) (F : Format Meaning) (x : HasWord F) where
   unfolding step ◌>>=◌
   array-some_word n =
       let a = each_word n in
-      let run : (sequence n share F).Word a.0 a.1 (Reserve (n * share) ∷ a.2) =
-      record { first = []; second = a.0; head = tt; first_steps = Reserve (n * share) ∷ []; second_steps = a.2; bytes_are = refl; steps_are = refl; first_word = (refl, refl); second_word = a.4 } in
-      word-held (array n share F) a.0 (listed a.1) (Reserve (n * share) ∷ a.2) a.3 (settled-word (λ ms. Ok (listed ms)) (sequence n share F) a.0 a.1 (listed a.1) (Reserve (n * share) ∷ a.2) refl run)
+      let run : (sequence n share F).Word a.0 a.1 (Reserve n share ∷ a.2) =
+      record { first = []; second = a.0; head = tt; first_steps = Reserve n share ∷ []; second_steps = a.2; bytes_are = refl; steps_are = refl; first_word = (refl, refl); second_word = a.4 } in
+      word-held (array n share F) a.0 (listed a.1) (Reserve n share ∷ a.2) a.3 (settled-word (λ ms. Ok (listed ms)) (sequence n share F) a.0 a.1 (listed a.1) (Reserve n share ∷ a.2) refl run)
 
 -- a run in two parts
 

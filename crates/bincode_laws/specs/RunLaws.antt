@@ -73,11 +73,11 @@ tells_vague ended EmptyEnum e h = h
 tells_vague ended (OutsideUsize _) e h = h
 
 -- a claim of room that stands, and one that passes the limit
-reserved_answer : (limit : Option ℕ) (c n d : ℕ) (input : List ℕ) → Claimed limit c n d → answer limit (step (Reserve n)) input c ≡ Gave tt input d
-reserved_answer limit c n d input h = step-answered limit (Reserve n) input c (Some d) h
+reserved_answer : (limit : Option ℕ) (c n share d : ℕ) (input : List ℕ) → Claimed limit c (n * share) d → answer limit (step (Reserve n share)) input c ≡ Gave tt input d
+reserved_answer limit c n share d input h = step-answered limit (Reserve n share) input c (Some d) h
 
-over_reserved_answer : (limit : Option ℕ) (c n d : ℕ) (input : List ℕ) → OverClaimed limit c n d → answer limit (step (Reserve n)) input c ≡ PassedLimit
-over_reserved_answer limit c n d input h = step-answered limit (Reserve n) input c None h.0
+over_reserved_answer : (limit : Option ℕ) (c n share d : ℕ) (input : List ℕ) → OverClaimed limit c (n * share) d → answer limit (step (Reserve n share)) input c ≡ PassedLimit
+over_reserved_answer limit c n share d input h = step-answered limit (Reserve n share) input c None h.0
 
 still_reserved : (limit : Option ℕ) (share : ℕ) (F : Format Meaning) → Lawful F → Balanced F →
     (n : ℕ) (rest : List ℕ) (c : ℕ) (m : Meaning) (rest' : List ℕ) (d : ℕ) → CanRelease limit c (suc n * share) →
@@ -166,7 +166,7 @@ module _ (limit : Option ℕ) (share : ℕ) (F : Format Meaning) where
     array-decodes Given rest after h p = record {
       meaning = listed p.meaning;
       answer_is = map-gave listed limit (sequence n share F) input c p.meaning rest after
-          (answer-next limit (step (Reserve (n * share))) (λ _. elements n share F) input c tt input d (reserved_answer limit c (n * share) d input h) ∙ p.answer_is);
+          (answer-next limit (step (Reserve n share)) (λ _. elements n share F) input c tt input d (reserved_answer limit c n share d input h) ∙ p.answer_is);
       is_given = p.is_given;
     }
 
@@ -176,7 +176,7 @@ module _ (limit : Option ℕ) (share : ℕ) (F : Format Meaning) where
     array-stops ended device H before after rest {now} e h s =
         map-stops listed ended device H limit (sequence n share F) input c before after rest e
         (subst (λ a. Stops ended device H a before after input rest now e)
-        (sym (answer-next limit (step (Reserve (n * share))) (λ _. elements n share F) input c tt input d (reserved_answer limit c (n * share) d input h))) s)
+        (sym (answer-next limit (step (Reserve n share)) (λ _. elements n share F) input c tt input d (reserved_answer limit c n share d input h))) s)
 
     -- whose claim passes the limit
     pub array-passed : (ended : ℕ → DecodeError → Type 0) (device : DeviceErrors) (H : Type 0) (before after : ℕ) (rest : List ℕ) {now : ℕ} (e : DecodeError) →
@@ -184,8 +184,8 @@ module _ (limit : Option ℕ) (share : ℕ) (F : Format Meaning) where
         Stops ended device H (answer limit (array n share F) input c) before after input rest now e
     array-passed ended device H before after rest e h k same =
         map-stops listed ended device H limit (sequence n share F) input c before after rest e
-        (by_limit (answer-then limit (step (Reserve (n * share))) (λ _. elements n share F) input c ∙ ap (λ o. and_then o (λ _ r after. answer limit (elements n share F) r after))
-        (over_reserved_answer limit c (n * share) d input h)) k ([], sym same))
+        (by_limit (answer-then limit (step (Reserve n share)) (λ _. elements n share F) input c ∙ ap (λ o. and_then o (λ _ r after. answer limit (elements n share F) r after))
+        (over_reserved_answer limit c n share d input h)) k ([], sym same))
 
 -- one share of several
 pub one-releases : (limit : Option ℕ) (c share n : ℕ) → CanRelease limit c (suc n * share) → CanRelease limit c share

@@ -1,11 +1,13 @@
 -- What a type says of its words.
-use Rattle.std.specs.Prelude.{ℕ}
+use Rattle.std.specs.Prelude.{ℕ, ◌≤◌, List}
 use Rattle.bincode_base.specs.Setting.{Setting}
 use Rattle.bincode_base.specs.declared.error.EncodeError.{EncodeError}
 use Rattle.bincode_format.specs.Format.{Format}
 use Rattle.bincode_format.specs.Laws.{Lawful, Balanced}
 use Rattle.bincode_format.specs.Meaning.{Meaning}
 use Rattle.bincode_format.specs.Allowed.{AllowedWord, SomeWord, MayName}
+use Rattle.bincode_laws.specs.NeedLaws.{Needs}
+use Rattle.bincode_laws.specs.RoomLaws.{Weighs}
 
 pub record Words (A : Type 0) : Type 1 where
   -- the words, what they mean and cost, and the faults of all other inputs. They depend on the setting alone
@@ -24,6 +26,8 @@ pub record Words (A : Type 0) : Type 1 where
   pub grows : Type 0
   -- how many bytes a container claims for an element
   pub claim : ℕ
+  -- how large a limit has to be for an input, by its parts: for the word that it begins with, or up to its first fault
+  pub need : Setting → List ℕ → ℕ
   -- no word begins another, each has one meaning, and each input has one front that is a word or one fault
   pub lawful : (s : Setting) → Lawful (format s)
   -- what the steps of a word reserve they release
@@ -32,6 +36,12 @@ pub record Words (A : Type 0) : Type 1 where
   pub has_word : (s : Setting) (v : A) → valid v → writable s v → SomeWord (AllowedWord (means v) (format s))
   -- no error that a writer has is named
   pub names_own : (e : EncodeError) → names e → MayName e
+  -- it claims something for each element
+  pub claims : 1 ≤ claim
+  -- what an input needs is the most that is charged and held for it at once
+  pub needs : (s : Setting) → Needs (need s) (format s)
+  -- no word has more bytes than one and a half times what it charges, and all that it holds claims something
+  pub weighs : (s : Setting) → Weighs (format s)
 
 -- the words of a value are those of its parts
 abbrev pub words_by : {A B : Type 0} → Words B → (A → B) → Words A
@@ -44,8 +54,33 @@ words_by W parts = record {
   names = W.names;
   grows = W.grows;
   claim = W.claim;
+  need = W.need;
   lawful = W.lawful;
   balanced = W.balanced;
   has_word = λ s v. W.has_word s (parts v);
   names_own = W.names_own;
+  claims = W.claims;
+  needs = W.needs;
+  weighs = W.weighs;
+}
+
+-- the same words, of which a container claims another number of bytes for an element
+abbrev pub claiming : {A : Type 0} (n : ℕ) → 1 ≤ n → Words A → Words A
+claiming n some W = record {
+  format = W.format;
+  valid = W.valid;
+  means = W.means;
+  given = W.given;
+  writable = W.writable;
+  names = W.names;
+  grows = W.grows;
+  claim = n;
+  need = W.need;
+  lawful = W.lawful;
+  balanced = W.balanced;
+  has_word = W.has_word;
+  names_own = W.names_own;
+  claims = some;
+  needs = W.needs;
+  weighs = W.weighs;
 }

@@ -1,4 +1,8 @@
 //! Bags: items whose order is not told.
+ghost use Rattle.std.proofs.Common.{arith};
+ghost use Rattle.bincode_format.specs.Need.{list_needs};
+ghost use Rattle.bincode_laws.specs.NeedLaws.{list-needs};
+ghost use Rattle.bincode_laws.specs.RoomLaws.{list-weighs};
 ghost use Rattle.std.specs.List.{All};
 ghost use Rattle.bincode_format.specs.Collections.{AreValid, IsMadeOf, MakesBag};
 ghost use Rattle.bincode_format.specs.Words.{list};
@@ -24,6 +28,7 @@ impl<T: Wire> Wire for Bag<T> {
       names = T.its.names;
       grows = Unit {0};
       claim = 24;
+      need = λ s. list_needs s T.its.claim (T.its.format s) (T.its.need s);
       lawful = λ s. list-lawful s T.its.claim (T.its.format s) (T.its.lawful s);
       balanced = λ s. list-balanced s T.its.claim (T.its.format s) (T.its.balanced s);
       has_word = λ s v h w.
@@ -35,6 +40,10 @@ impl<T: Wire> Wire for Bag<T> {
             is_allowed = bag-has_word T.its.means s T.its.claim (T.its.format s) v.items x.bytes x.is_allowed;
           };
       names_own = T.its.names_own;
+      claims = omega arith;
+      needs = λ s. list-needs s T.its.claim (T.its.format s) (T.its.need s) (T.its.balanced s)
+          (T.its.needs s);
+      weighs = λ s. list-weighs s T.its.claim (T.its.format s) T.its.claims (T.its.weighs s);
     } };
 
     fn claim_size() -> usize {

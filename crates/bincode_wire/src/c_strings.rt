@@ -1,4 +1,9 @@
 //! C strings: the bytes that stand for what a C string holds.
+ghost use Rattle.std.proofs.Common.{arith};
+ghost use Rattle.std.specs.Prelude.{max};
+ghost use Rattle.bincode_format.specs.Need.{text_needs};
+ghost use Rattle.bincode_laws.specs.NeedLaws.{c_string-needs};
+ghost use Rattle.bincode_laws.specs.RoomLaws.{c_string-weighs};
 ghost use Rattle.std.specs.Prelude.{◌<◌, ◌^◌, length};
 ghost use Rattle.std.specs.List.{All};
 ghost use Rattle.bincode_format.specs.Meaning.{IsBytes};
@@ -26,15 +31,19 @@ impl<const SIZE: usize, const ALLOCATES: bool> Wire for BytesWithoutZero<SIZE, A
       writable = λ s v. Unit {0};
       names = λ e. ⊥;
       grows = Allocates ALLOCATES;
-      claim = SIZE;
+      claim = max SIZE 1;
+      need = text_needs;
       lawful = c_string-lawful;
       balanced = c_string-balanced;
       has_word = λ s v h w. c_string-has_word s v.bytes h.0 h.1 h.2;
       names_own = λ e h. absurd h;
+      claims = omega arith;
+      needs = c_string-needs;
+      weighs = c_string-weighs;
     } };
 
     fn claim_size() -> usize {
-        SIZE
+        SIZE.max(1)
     }
 }
 

@@ -1,8 +1,11 @@
 //! What enums without variants are written as.
+ghost use Rattle.std.proofs.Common.{arith};
 ghost use Rattle.bincode_format.specs.Fault.{EmptyEnum};
 ghost use Rattle.bincode_format.specs.Format.{refused};
 ghost use Rattle.bincode_laws.specs.FormatLaws.{refused-lawful};
 ghost use Rattle.bincode_laws.specs.Balance.{refused-holds};
+ghost use Rattle.bincode_laws.specs.NeedLaws.{refused-needs};
+ghost use Rattle.bincode_laws.specs.RoomLaws.{refused-weighs};
 
 use crate::laws::{Canonical, Plain, Writable};
 use crate::wire::Wire;
@@ -24,10 +27,14 @@ impl<Of> Wire for NoVariants<Of> {
       names = λ e. ⊥;
       grows = ⊥;
       claim = 1;
+      need = λ s input. 0;
       lawful = λ s. refused-lawful EmptyEnum (λ h. h);
       balanced = λ s. refused-holds 0 0 EmptyEnum;
       has_word = λ s v h w. absurd h;
       names_own = λ e h. absurd h;
+      claims = omega arith;
+      needs = λ s. refused-needs EmptyEnum;
+      weighs = λ s. refused-weighs EmptyEnum;
     } };
 
     fn claim_size() -> usize {

@@ -1,4 +1,8 @@
 //! Keys and entries in any order: what hashed sets and maps are written as.
+ghost use Rattle.std.proofs.Common.{arith};
+ghost use Rattle.bincode_format.specs.Need.{list_needs};
+ghost use Rattle.bincode_laws.specs.NeedLaws.{list-needs};
+ghost use Rattle.bincode_laws.specs.RoomLaws.{list-weighs};
 ghost use Rattle.std.specs.List.{All, IsDistinct};
 ghost use Rattle.std.specs.Map.{keys_of};
 ghost use Rattle.bincode_format.specs.Collections.{AreValid, IsMadeOf, MakesBag};
@@ -29,6 +33,7 @@ impl<K: Wire + Eq> Wire for HashedKeys<K> {
       names = K.its.names;
       grows = Unit {0};
       claim = 24;
+      need = λ s. list_needs s K.its.claim (K.its.format s) (K.its.need s);
       lawful = λ s. list-lawful s K.its.claim (K.its.format s) (K.its.lawful s);
       balanced = λ s. list-balanced s K.its.claim (K.its.format s) (K.its.balanced s);
       has_word = λ s v h w.
@@ -40,6 +45,10 @@ impl<K: Wire + Eq> Wire for HashedKeys<K> {
             is_allowed = bag-has_word K.its.means s K.its.claim (K.its.format s) v.keys x.bytes x.is_allowed;
           };
       names_own = K.its.names_own;
+      claims = omega arith;
+      needs = λ s. list-needs s K.its.claim (K.its.format s) (K.its.need s) (K.its.balanced s)
+          (K.its.needs s);
+      weighs = λ s. list-weighs s K.its.claim (K.its.format s) K.its.claims (K.its.weighs s);
     } };
 
     fn claim_size() -> usize {
@@ -87,6 +96,7 @@ impl<K: Wire + Eq, V: Wire> Wire for HashedEntries<K, V> {
       names = ⟦<(K, V) as Wire>⟧.its.names;
       grows = Unit {0};
       claim = 24;
+      need = λ s. list_needs s ⟦<(K, V) as Wire>⟧.its.claim (⟦<(K, V) as Wire>⟧.its.format s) (⟦<(K, V) as Wire>⟧.its.need s);
       lawful = λ s. list-lawful s ⟦<(K, V) as Wire>⟧.its.claim (⟦<(K, V) as Wire>⟧.its.format s)
           (pair-lawful s (K.its.lawful s) (V.its.lawful s));
       balanced = λ s. list-balanced s ⟦<(K, V) as Wire>⟧.its.claim (⟦<(K, V) as Wire>⟧.its.format s)
@@ -103,6 +113,11 @@ impl<K: Wire + Eq, V: Wire> Wire for HashedEntries<K, V> {
                 (⟦<(K, V) as Wire>⟧.its.format s) v.entries x.bytes x.is_allowed;
           };
       names_own = λ e. either (K.its.names_own e) (either (V.its.names_own e) (λ h. absurd h));
+      claims = omega arith;
+      needs = λ s. list-needs s ⟦<(K, V) as Wire>⟧.its.claim (⟦<(K, V) as Wire>⟧.its.format s)
+          (⟦<(K, V) as Wire>⟧.its.need s) (⟦<(K, V) as Wire>⟧.its.balanced s) (⟦<(K, V) as Wire>⟧.its.needs s);
+      weighs = λ s. list-weighs s ⟦<(K, V) as Wire>⟧.its.claim (⟦<(K, V) as Wire>⟧.its.format s) ⟦<(K, V) as Wire>⟧.its.claims
+          (⟦<(K, V) as Wire>⟧.its.weighs s);
     } };
 
     fn claim_size() -> usize {

@@ -1,4 +1,9 @@
 //! Lists: what is written for a collection whose items come one after the other.
+ghost use Rattle.std.proofs.Common.{arith};
+ghost use Rattle.std.specs.Prelude.{max};
+ghost use Rattle.bincode_format.specs.Need.{list_needs};
+ghost use Rattle.bincode_laws.specs.NeedLaws.{list-needs};
+ghost use Rattle.bincode_laws.specs.RoomLaws.{list-weighs};
 ghost use Rattle.std.specs.List.{All};
 ghost use Rattle.bincode_format.specs.Words.{list};
 ghost use Rattle.bincode_format.specs.Run.{IsListOf};
@@ -28,16 +33,21 @@ impl<T: Wire, const SIZE: usize, const ALLOCATES: bool> Wire for ListItems<T, SI
       writable = λ s v. All (T.its.writable s) v.items;
       names = T.its.names;
       grows = Allocates ALLOCATES;
-      claim = SIZE;
+      claim = max SIZE 1;
+      need = λ s. list_needs s T.its.claim (T.its.format s) (T.its.need s);
       lawful = λ s. list-lawful s T.its.claim (T.its.format s) (T.its.lawful s);
       balanced = λ s. list-balanced s T.its.claim (T.its.format s) (T.its.balanced s);
       has_word = λ s v h w. list-has_word T.its.means s T.its.claim (T.its.format s) T.its.valid (T.its.writable s)
           (T.its.has_word s) v.items h w;
       names_own = T.its.names_own;
+      claims = omega arith;
+      needs = λ s. list-needs s T.its.claim (T.its.format s) (T.its.need s) (T.its.balanced s)
+          (T.its.needs s);
+      weighs = λ s. list-weighs s T.its.claim (T.its.format s) T.its.claims (T.its.weighs s);
     } };
 
     fn claim_size() -> usize {
-        SIZE
+        SIZE.max(1)
     }
 }
 

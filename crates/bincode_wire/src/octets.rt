@@ -1,4 +1,8 @@
 //! Octets: the bytes that addresses are made of.
+ghost use Rattle.std.proofs.Common.{arith};
+ghost use Rattle.std.specs.Prelude.{max};
+ghost use Rattle.bincode_laws.specs.NeedLaws.{octets-needs};
+ghost use Rattle.bincode_laws.specs.RoomLaws.{octets-weighs};
 ghost use Rattle.std.specs.Prelude.{◌≡◌, ◌<◌, length};
 ghost use Rattle.std.specs.List.{All};
 ghost use Rattle.bincode_format.specs.Meaning.{IsBytes};
@@ -23,15 +27,19 @@ impl<const N: usize> Wire for Octets<N> {
       writable = λ s v. Unit {0};
       names = λ e. ⊥;
       grows = ⊥;
-      claim = N;
+      claim = max N 1;
+      need = λ s input. N;
       lawful = λ s. octets-lawful N;
       balanced = λ s. octets-balanced N;
       has_word = λ s v h w. octets-has_word N v.octets h.0 h.1;
       names_own = λ e h. absurd h;
+      claims = omega arith;
+      needs = λ s. octets-needs N;
+      weighs = λ s. octets-weighs N;
     } };
 
     fn claim_size() -> usize {
-        N
+        N.max(1)
     }
 }
 

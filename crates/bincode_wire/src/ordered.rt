@@ -1,4 +1,8 @@
 //! Keys and entries in their order: what sets and maps are written as.
+ghost use Rattle.std.proofs.Common.{arith};
+ghost use Rattle.bincode_format.specs.Need.{list_needs};
+ghost use Rattle.bincode_laws.specs.NeedLaws.{list-needs};
+ghost use Rattle.bincode_laws.specs.RoomLaws.{list-weighs};
 ghost use Rattle.std.specs.List.{All};
 ghost use Rattle.std.specs.List.Sorted.{IsStrictlySortedBy};
 ghost use Rattle.std.specs.Map.{keys_of};
@@ -29,11 +33,16 @@ impl<K: Wire + Ord> Wire for Keys<K> {
       names = K.its.names;
       grows = Unit {0};
       claim = 24;
+      need = λ s. list_needs s K.its.claim (K.its.format s) (K.its.need s);
       lawful = λ s. list-lawful s K.its.claim (K.its.format s) (K.its.lawful s);
       balanced = λ s. list-balanced s K.its.claim (K.its.format s) (K.its.balanced s);
       has_word = λ s v h. list-has_word K.its.means s K.its.claim (K.its.format s) K.its.valid (K.its.writable s)
           (K.its.has_word s) v.keys h.0;
       names_own = K.its.names_own;
+      claims = omega arith;
+      needs = λ s. list-needs s K.its.claim (K.its.format s) (K.its.need s) (K.its.balanced s)
+          (K.its.needs s);
+      weighs = λ s. list-weighs s K.its.claim (K.its.format s) K.its.claims (K.its.weighs s);
     } };
 
     fn claim_size() -> usize {
@@ -88,6 +97,7 @@ impl<K: Wire + Ord, V: Wire> Wire for Entries<K, V> {
       names = ⟦<(K, V) as Wire>⟧.its.names;
       grows = Unit {0};
       claim = 24;
+      need = λ s. list_needs s ⟦<(K, V) as Wire>⟧.its.claim (⟦<(K, V) as Wire>⟧.its.format s) (⟦<(K, V) as Wire>⟧.its.need s);
       lawful = λ s. list-lawful s ⟦<(K, V) as Wire>⟧.its.claim (⟦<(K, V) as Wire>⟧.its.format s)
           (pair-lawful s (K.its.lawful s) (V.its.lawful s));
       balanced = λ s. list-balanced s ⟦<(K, V) as Wire>⟧.its.claim (⟦<(K, V) as Wire>⟧.its.format s)
@@ -96,6 +106,11 @@ impl<K: Wire + Ord, V: Wire> Wire for Entries<K, V> {
           (⟦<(K, V) as Wire>⟧.its.format s) ⟦<(K, V) as Wire>⟧.its.valid (⟦<(K, V) as Wire>⟧.its.writable s)
           (λ e a w. pair-has_word s (K.its.has_word s e.0 a.0 w.0) (V.its.has_word s e.1 a.1.0 w.1.0)) v.entries h.0;
       names_own = λ e. either (K.its.names_own e) (either (V.its.names_own e) (λ h. absurd h));
+      claims = omega arith;
+      needs = λ s. list-needs s ⟦<(K, V) as Wire>⟧.its.claim (⟦<(K, V) as Wire>⟧.its.format s)
+          (⟦<(K, V) as Wire>⟧.its.need s) (⟦<(K, V) as Wire>⟧.its.balanced s) (⟦<(K, V) as Wire>⟧.its.needs s);
+      weighs = λ s. list-weighs s ⟦<(K, V) as Wire>⟧.its.claim (⟦<(K, V) as Wire>⟧.its.format s) ⟦<(K, V) as Wire>⟧.its.claims
+          (⟦<(K, V) as Wire>⟧.its.weighs s);
     } };
 
     fn claim_size() -> usize {

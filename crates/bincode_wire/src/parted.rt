@@ -28,10 +28,14 @@ impl<T: Parted> Wire for T {
       names = T.Parts.its.names;
       grows = T.Parts.its.grows;
       claim = T.Parts.its.claim;
+      need = T.Parts.its.need;
       lawful = T.Parts.its.lawful;
       balanced = T.Parts.its.balanced;
       has_word = λ s v. T.Parts.its.has_word s (T.parts v);
       names_own = T.Parts.its.names_own;
+      claims = T.Parts.its.claims;
+      needs = T.Parts.its.needs;
+      weighs = T.Parts.its.weighs;
     } };
 
     fn claim_size() -> usize {

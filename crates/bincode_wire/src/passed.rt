@@ -4,7 +4,9 @@ ghost use Rattle.std.proofs.Common.{rules};
 ghost use Rattle.std.specs.Cmp.Rules.{comparing};
 ghost use Rattle.bincode_format.specs.Fault.{Fault, IsEnd};
 ghost use Rattle.bincode_format.specs.Meaning.{Meaning};
-ghost use Rattle.bincode_format.specs.Passed.{passed, TellsOwn};
+ghost use Rattle.bincode_format.specs.Passed.{passed, passed_of, TellsOwn};
+ghost use Rattle.bincode_laws.specs.NeedLaws.{test-needs};
+ghost use Rattle.bincode_laws.specs.RoomLaws.{test-weighs};
 ghost use Rattle.bincode_laws.specs.PassedLaws.{passed-lawful, passed-balanced, passed-has_word};
 
 use crate::laws::{Canonical, Exact, Plain, Writable};
@@ -73,11 +75,15 @@ impl<T: Tested> Wire for Passed<T> {
       names = T.Of.its.names;
       grows = T.Of.its.grows;
       claim = T.Of.its.claim;
+      need = T.Of.its.need;
       lawful = λ s. passed-lawful T.passes T.fault (T.Of.its.format s) T.is_no_end (T.Of.its.lawful s);
       balanced = λ s. passed-balanced T.passes T.fault (T.Of.its.format s) (T.Of.its.balanced s);
       has_word = λ s v h w. passed-has_word T.passes T.fault (T.Of.its.format s) (T.Of.its.means (T.of v.0))
           h.1 (T.Of.its.has_word s (T.of v.0) h.0 w);
       names_own = T.Of.its.names_own;
+      claims = T.Of.its.claims;
+      needs = λ s. test-needs _ (T.Of.its.format s) (passed_of T.passes T.fault) (T.Of.its.needs s);
+      weighs = λ s. test-weighs (T.Of.its.format s) (passed_of T.passes T.fault) (T.Of.its.weighs s);
     } };
 
     fn claim_size() -> usize {

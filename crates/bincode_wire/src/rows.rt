@@ -1,9 +1,13 @@
 //! Parts in a row: what tuples are written as.
-ghost use Rattle.std.specs.Prelude.{◌⊎◌, ◌+◌, ◌-◌, ◌^◌, min, max, refl};
+ghost use Rattle.std.specs.Prelude.{◌≡◌, ℕ, ◌⊎◌, ◌+◌, ◌-◌, ◌^◌, min, max, refl};
+ghost use Rattle.std.proofs.Common.{arith};
 ghost use Rattle.bincode_format.specs.Meaning.{IsThen, IsFourThen};
+ghost use Rattle.bincode_format.specs.Need.{then_needs};
 ghost use Rattle.bincode_format.specs.Words.{first_and, four_and};
 ghost use Rattle.bincode_format.specs.Forms.{units};
 ghost use Rattle.bincode_laws.specs.CostLaws.{nothing-costs};
+ghost use Rattle.bincode_laws.specs.NeedLaws.{then-needs};
+ghost use Rattle.bincode_laws.specs.RoomLaws.{then-weighs};
 ghost use Rattle.bincode_laws.specs.TupleLaws.{units-laws, then-lawful, then-balanced, then-has_word};
 ghost use Rattle.bincode_laws.specs.TupleLaws.{either, four-lawful};
 ghost use Rattle.bincode_laws.specs.TupleLaws.{four-balanced, four-has_word};
@@ -39,11 +43,29 @@ impl FixedCharge for () {
     ghost charges = { λ s. nothing-costs };
 }
 
-/// A part, and the others: a row too, or `()` behind the last. What they claim is a sum, at most the greatest `usize`.
+/// What stands behind a part of a row: a row too, or `()` behind the last.
+pub trait Rest: Wire {
+    /// What it adds to the claim of the row: `()` behind the last part is no part, and adds nothing.
+    ghost more: { ℕ };
+
+    /// So much.
+    fn more_size() -> usize
+        ensures { result ≡ more };
+}
+
+impl Rest for () {
+    ghost more = { 0 };
+
+    fn more_size() -> usize {
+        0
+    }
+}
+
+/// A part, and the others. What they claim is a sum, at most the greatest `usize`.
 #[derive(Drop, PartialEq)]
 pub struct Row<A, Others>(pub A, pub Others);
 
-impl<A: Wire, Others: Wire> Wire for Row<A, Others> {
+impl<A: Wire, Others: Rest> Wire for Row<A, Others> {
     ghost its = { record {
       format = λ s. first_and (A.its.format s) (Others.its.format s);
       valid = λ v. A.its.valid v.0 × Others.its.valid v.1;
@@ -52,54 +74,66 @@ impl<A: Wire, Others: Wire> Wire for Row<A, Others> {
       writable = λ s v. A.its.writable s v.0 × Others.its.writable s v.1;
       names = λ e. A.its.names e ⊎ Others.its.names e;
       grows = A.its.grows ⊎ Others.its.grows;
-      claim = min (A.its.claim + Others.its.claim) (2 ^ 64 - 1);
+      claim = min (A.its.claim + Others.more) (2 ^ 64 - 1);
+      need = λ s. then_needs (A.its.format s) (A.its.need s) (λ _. Others.its.need s);
       lawful = λ s. then-lawful (A.its.lawful s) (Others.its.lawful s);
       balanced = λ s. then-balanced (A.its.balanced s) (Others.its.balanced s);
       has_word = λ s v h w. then-has_word (A.its.has_word s v.0 h.0 w.0) (Others.its.has_word s v.1 h.1 w.1);
       names_own = λ e. either (A.its.names_own e) (Others.its.names_own e);
+      claims = omega (arith, A.its.claims);
+      needs = λ s. then-needs (A.its.balanced s) (A.its.needs s) (Others.its.needs s);
+      weighs = λ s. then-weighs (A.its.weighs s) (Others.its.weighs s);
     } };
 
     fn claim_size() -> usize {
-        A::claim_size().saturating_add(Others::claim_size())
+        A::claim_size().saturating_add(Others::more_size())
     }
 }
 
-impl<A: Inhabited, Others: Inhabited> Inhabited for Row<A, Others> {
+impl<A: Wire, Others: Rest> Rest for Row<A, Others> {
+    ghost more = { ⟦<Row<A, Others> as Wire>⟧.its.claim };
+
+    fn more_size() -> usize {
+        Row::<A, Others>::claim_size()
+    }
+}
+
+impl<A: Inhabited, Others: Inhabited + Rest> Inhabited for Row<A, Others> {
     fn tell_inhabited() {
         A::tell_inhabited();
         Others::tell_inhabited();
     }
 }
 
-impl<A: Writable, Others: Writable> Writable for Row<A, Others> {
+impl<A: Writable, Others: Writable + Rest> Writable for Row<A, Others> {
     fn tell_writable() {
         A::tell_writable();
         Others::tell_writable();
     }
 }
 
-impl<A: Plain, Others: Plain> Plain for Row<A, Others> {
+impl<A: Plain, Others: Plain + Rest> Plain for Row<A, Others> {
     fn tell_plain() {
         A::tell_plain();
         Others::tell_plain();
     }
 }
 
-impl<A: Exact, Others: Exact> Exact for Row<A, Others> {
+impl<A: Exact, Others: Exact + Rest> Exact for Row<A, Others> {
     fn tell_exact() {
         A::tell_exact();
         Others::tell_exact();
     }
 }
 
-impl<A: Canonical, Others: Canonical> Canonical for Row<A, Others> {
+impl<A: Canonical, Others: Canonical + Rest> Canonical for Row<A, Others> {
     fn tell_canonical() {
         A::tell_canonical();
         Others::tell_canonical();
     }
 }
 
-impl<A: ConstantCharge, Others: ConstantCharge> ConstantCharge for Row<A, Others> {
+impl<A: ConstantCharge, Others: ConstantCharge + Rest> ConstantCharge for Row<A, Others> {
     ghost cost = { A.cost + Others.cost };
 
     ghost peak = { max A.peak (A.cost + Others.peak) };
@@ -114,7 +148,7 @@ impl<A: ConstantCharge, Others: ConstantCharge> ConstantCharge for Row<A, Others
 #[derive(Drop, PartialEq)]
 pub struct LongRow<A, B, C, D, Others>(pub A, pub B, pub C, pub D, pub Others);
 
-impl<A: Wire, B: Wire, C: Wire, D: Wire, Others: Wire> Wire for LongRow<A, B, C, D, Others> {
+impl<A: Wire, B: Wire, C: Wire, D: Wire, Others: Rest> Wire for LongRow<A, B, C, D, Others> {
     ghost its = { record {
       format = λ s. four_and (A.its.format s) (B.its.format s) (C.its.format s) (D.its.format s) (Others.its.format s);
       valid = λ v. A.its.valid v.0 × (B.its.valid v.1 × (C.its.valid v.2 × (D.its.valid v.3 × Others.its.valid v.4)));
@@ -127,6 +161,9 @@ impl<A: Wire, B: Wire, C: Wire, D: Wire, Others: Wire> Wire for LongRow<A, B, C,
       names = λ e. A.its.names e ⊎ (B.its.names e ⊎ (C.its.names e ⊎ (D.its.names e ⊎ Others.its.names e)));
       grows = A.its.grows ⊎ (B.its.grows ⊎ (C.its.grows ⊎ (D.its.grows ⊎ Others.its.grows)));
       claim = ⟦<Row<A, Row<B, Row<C, Row<D, Others>>>> as Wire>⟧.its.claim;
+      need = λ s. then_needs (A.its.format s) (A.its.need s) (λ _. then_needs (B.its.format s) (B.its.need s)
+          (λ _. then_needs (C.its.format s) (C.its.need s) (λ _. then_needs (D.its.format s) (D.its.need s)
+          (λ _. Others.its.need s))));
       lawful = λ s. four-lawful (A.its.lawful s) (B.its.lawful s) (C.its.lawful s) (D.its.lawful s)
           (Others.its.lawful s);
       balanced = λ s. four-balanced (A.its.balanced s) (B.its.balanced s) (C.its.balanced s) (D.its.balanced s)
@@ -137,6 +174,12 @@ impl<A: Wire, B: Wire, C: Wire, D: Wire, Others: Wire> Wire for LongRow<A, B, C,
           (D.its.has_word s v.3 h.1.1.1.0 w.1.1.1.0) (Others.its.has_word s v.4 h.1.1.1.1 w.1.1.1.1);
       names_own = λ e. either (A.its.names_own e) (either (B.its.names_own e)
           (either (C.its.names_own e) (either (D.its.names_own e) (Others.its.names_own e))));
+      claims = ⟦<Row<A, Row<B, Row<C, Row<D, Others>>>> as Wire>⟧.its.claims;
+      needs = λ s. then-needs (A.its.balanced s) (A.its.needs s) (then-needs (B.its.balanced s) (B.its.needs s)
+          (then-needs (C.its.balanced s) (C.its.needs s) (then-needs (D.its.balanced s) (D.its.needs s)
+          (Others.its.needs s))));
+      weighs = λ s. then-weighs (A.its.weighs s) (then-weighs (B.its.weighs s) (then-weighs (C.its.weighs s)
+          (then-weighs (D.its.weighs s) (Others.its.weighs s))));
     } };
 
     fn claim_size() -> usize {
@@ -144,7 +187,15 @@ impl<A: Wire, B: Wire, C: Wire, D: Wire, Others: Wire> Wire for LongRow<A, B, C,
     }
 }
 
-impl<A: Inhabited, B: Inhabited, C: Inhabited, D: Inhabited, Others: Inhabited> Inhabited
+impl<A: Wire, B: Wire, C: Wire, D: Wire, Others: Rest> Rest for LongRow<A, B, C, D, Others> {
+    ghost more = { ⟦<LongRow<A, B, C, D, Others> as Wire>⟧.its.claim };
+
+    fn more_size() -> usize {
+        LongRow::<A, B, C, D, Others>::claim_size()
+    }
+}
+
+impl<A: Inhabited, B: Inhabited, C: Inhabited, D: Inhabited, Others: Inhabited + Rest> Inhabited
     for LongRow<A, B, C, D, Others> {
     fn tell_inhabited() {
         A::tell_inhabited();
@@ -155,7 +206,7 @@ impl<A: Inhabited, B: Inhabited, C: Inhabited, D: Inhabited, Others: Inhabited> 
     }
 }
 
-impl<A: Writable, B: Writable, C: Writable, D: Writable, Others: Writable> Writable
+impl<A: Writable, B: Writable, C: Writable, D: Writable, Others: Writable + Rest> Writable
     for LongRow<A, B, C, D, Others> {
     fn tell_writable() {
         A::tell_writable();
@@ -166,7 +217,7 @@ impl<A: Writable, B: Writable, C: Writable, D: Writable, Others: Writable> Writa
     }
 }
 
-impl<A: Plain, B: Plain, C: Plain, D: Plain, Others: Plain> Plain for LongRow<A, B, C, D, Others> {
+impl<A: Plain, B: Plain, C: Plain, D: Plain, Others: Plain + Rest> Plain for LongRow<A, B, C, D, Others> {
     fn tell_plain() {
         A::tell_plain();
         B::tell_plain();
@@ -176,7 +227,7 @@ impl<A: Plain, B: Plain, C: Plain, D: Plain, Others: Plain> Plain for LongRow<A,
     }
 }
 
-impl<A: Exact, B: Exact, C: Exact, D: Exact, Others: Exact> Exact for LongRow<A, B, C, D, Others> {
+impl<A: Exact, B: Exact, C: Exact, D: Exact, Others: Exact + Rest> Exact for LongRow<A, B, C, D, Others> {
     fn tell_exact() {
         A::tell_exact();
         B::tell_exact();
@@ -186,7 +237,7 @@ impl<A: Exact, B: Exact, C: Exact, D: Exact, Others: Exact> Exact for LongRow<A,
     }
 }
 
-impl<A: Canonical, B: Canonical, C: Canonical, D: Canonical, Others: Canonical> Canonical
+impl<A: Canonical, B: Canonical, C: Canonical, D: Canonical, Others: Canonical + Rest> Canonical
     for LongRow<A, B, C, D, Others> {
     fn tell_canonical() {
         A::tell_canonical();
@@ -202,7 +253,7 @@ impl<
     B: ConstantCharge,
     C: ConstantCharge,
     D: ConstantCharge,
-    Others: ConstantCharge,
+    Others: ConstantCharge + Rest,
 > ConstantCharge for LongRow<A, B, C, D, Others> {
     ghost cost = { ⟦<Row<A, Row<B, Row<C, Row<D, Others>>>> as ConstantCharge>⟧.cost };
 

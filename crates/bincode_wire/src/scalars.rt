@@ -1,5 +1,6 @@
 //! Types of one word each that is written: numbers, truth values and characters.
-ghost use Rattle.std.specs.Prelude.{◌≡◌, ℕ, true};
+ghost use Rattle.std.specs.Prelude.{◌≡◌, ℕ, max, true};
+ghost use Rattle.std.proofs.Common.{arith};
 ghost use Rattle.bincode_format.specs.Meaning.{Meaning};
 ghost use Rattle.bincode_base.specs.Setting.{Setting};
 ghost use Rattle.bincode_format.specs.Forms.{Form};
@@ -17,7 +18,7 @@ pub trait Scalar: PartialEq {
     /// Each value in bounds is written in one way, which is the shortest.
     ghost form_laws: { FormLaws form };
 
-    /// Its size in memory, which a container claims for it.
+    /// Its size in memory. A container claims it, and at least 1.
     ghost SIZE: { ℕ };
 
     const SIZE: usize;
@@ -46,15 +47,19 @@ impl<T: Scalar> Wire for Alone<T> {
       writable = λ s v. Unit {0};
       names = λ e. ⊥;
       grows = ⊥;
-      claim = T.SIZE;
+      claim = max T.SIZE 1;
+      need = λ s. T.form.need;
       lawful = T.form_laws.lawful;
       balanced = T.form_laws.balanced;
       has_word = λ s v h w. (T.form_laws.spelled s v.value h).has_word;
       names_own = λ e h. absurd h;
+      claims = omega arith;
+      needs = T.form_laws.needs;
+      weighs = T.form_laws.weighs;
     } };
 
     fn claim_size() -> usize {
-        T::SIZE
+        T::SIZE.max(1)
     }
 }
 

@@ -6,11 +6,14 @@ ghost use Rattle.bincode_base.specs.Setting.{Setting};
 ghost use Rattle.bincode_format.specs.Format.{Format, map_format};
 ghost use Rattle.bincode_format.specs.Integers.{unsigned_byte};
 ghost use Rattle.bincode_format.specs.Integers.{Four};
-ghost use Rattle.bincode_format.specs.Fault.{Allowed};
+ghost use Rattle.bincode_format.specs.Fault.{Allowed, UnexpectedVariant};
+ghost use Rattle.bincode_format.specs.Need.{then_needs, picked_needs};
+ghost use Rattle.bincode_laws.specs.NeedLaws.{Needs, picked-needs, refused-needs, map-needs, chosen-needs};
+ghost use Rattle.bincode_laws.specs.RoomLaws.{Weighs, picked-weighs, refused-weighs, map-weighs, chosen-weighs};
 ghost use Rattle.bincode_base.specs.declared.error.IntegerType.TheVariants.{U32};
 ghost use Rattle.bincode_base.specs.declared.error.EncodeError.{EncodeError};
 ghost use Rattle.bincode_format.specs.Meaning.{Meaning, Choice};
-ghost use Rattle.bincode_format.specs.Words.{tag, Variant, tags_of, in_order, part, chosen};
+ghost use Rattle.bincode_format.specs.Words.{tag, Variant, tags_of, allowed_tags, in_order, part, chosen};
 ghost use Rattle.bincode_laws.specs.FormLaws.{Numerals, byte-numerals, unsigned-numerals};
 ghost use Rattle.bincode_format.specs.Allowed.{AllowedWord, SomeWord, MayName, Shortest, OneLength};
 ghost use Rattle.bincode_format.specs.Choices.{IsChoice, AllLawful, AllBalanced};
@@ -28,16 +31,21 @@ pub trait Tag: Wire {
     /// The words of a tag, as a number.
     ghost tags: { Setting → Format ℕ };
 
+    /// What a tag charges.
+    ghost width: { ℕ };
+
     /// The tags that it can hold.
     ghost Fits: { ℕ → Type 0 };
 
-    ghost numerals: { Numerals Fits pos tags };
+    ghost numerals: { Numerals width Fits pos tags };
 
     ghost zero_fits: { Fits 0 };
 }
 
 impl Tag for u8 {
     ghost tags = { λ s. unsigned_byte };
+
+    ghost width = { 1 };
 
     ghost Fits = { λ n. n < 2 ^ 8 };
 
@@ -48,6 +56,8 @@ impl Tag for u8 {
 
 impl Tag for u32 {
     ghost tags = { tag };
+
+    ghost width = { 4 };
 
     ghost Fits = { λ n. n < 2 ^ 32 };
 
@@ -94,6 +104,13 @@ pub trait Variants {
         → SomeWord (AllowedWord (means v) ((variant v).1 s)) };
 
     ghost names_own: { (e : EncodeError) → names e → MayName e };
+
+    /// How large a limit has to be for the part that a tag picks.
+    ghost need: { Setting → ℕ → List ℕ → ℕ };
+
+    ghost needs: { (s : Setting) (allowed : Allowed) (found : ℕ) → Needs (need s found) (part s variants allowed found) };
+
+    ghost weighs: { (s : Setting) (allowed : Allowed) (found : ℕ) → Weighs (part s variants allowed found) };
 
     /// What the widest part claims.
     fn claim_size() -> usize
@@ -172,6 +189,12 @@ impl<Of, T: Tag> Variants for NoOther<Of, T> {
     ghost has_word = { λ s v h w. absurd h };
 
     ghost names_own = { λ e h. absurd h };
+
+    ghost need = { λ s found input. 0 };
+
+    ghost needs = { λ s allowed found. refused-needs (UnexpectedVariant allowed found) };
+
+    ghost weighs = { λ s allowed found. refused-weighs (UnexpectedVariant allowed found) };
 }
 
 impl<Of, T: Tag> WritableVariants for NoOther<Of, T> {
@@ -243,6 +266,14 @@ impl<const TAG: u32, A: Wire, Others: Variants> Variants for Or<TAG, A, Others> 
     ghost has_word = { λ s. elim [ This a ↦ A.its.has_word s a | Other o ↦ λ h w. Others.has_word s o h.1 w ] };
 
     ghost names_own = { λ e. either (A.its.names_own e) (Others.names_own e) };
+
+    ghost need = { λ s found. picked_needs (found == TAG) (A.its.need s) (Others.need s found) };
+
+    ghost needs = { λ s allowed found. picked-needs (found == TAG) _ _ _ _
+        (map-needs (A.its.need s) (Choice found) (A.its.format s) (A.its.needs s)) (Others.needs s allowed found) };
+
+    ghost weighs = { λ s allowed found. picked-weighs (found == TAG) _ _
+        (map-weighs (Choice found) (A.its.format s) (A.its.weighs s)) (Others.weighs s allowed found) };
 }
 
 impl<const TAG: u32, A: Writable, Others: WritableVariants> WritableVariants
@@ -289,11 +320,17 @@ impl<Of: Variants> Wire for OneOf<Of> {
       names = Of.names;
       grows = (in_order 0 (tags_of Of.variants) ≡ false) ⊎ Of.grows;
       claim = min (Of.Tag.its.claim + Of.claim) (2 ^ 64 - 1);
+      need = λ s. then_needs (Of.Tag.tags s) (λ _. Of.Tag.width) (Of.need s);
       lawful = λ s. chosen-lawful Of.Tag.tags Of.variants s (Of.Tag.numerals.lawful s) (Of.lawful s);
       balanced = λ s. chosen-balanced Of.Tag.tags Of.variants s (Of.Tag.numerals.balanced s) (Of.balanced s);
       has_word = λ s v h w. choice-has_word Of.Tag.tags Of.variants s _ _ (same-alike (Of.picked s _ v.0 h.1))
           (Of.means v.0) (Of.Tag.numerals.spelled s _ h.0).has_word (Of.has_word s v.0 h.1 w);
       names_own = Of.names_own;
+      claims = omega (arith, Of.Tag.its.claims);
+      needs = λ s. chosen-needs Of.Tag.tags Of.variants s Of.Tag.width (Of.need s) (Of.Tag.numerals.balanced s)
+          (Of.Tag.numerals.needs s) (Of.needs s (allowed_tags (tags_of Of.variants)));
+      weighs = λ s. chosen-weighs Of.Tag.tags Of.variants s (Of.Tag.numerals.weighs s)
+          (Of.weighs s (allowed_tags (tags_of Of.variants)));
     } };
 
     fn claim_size() -> usize {

@@ -1,4 +1,9 @@
 //! Texts: the bytes that stand for what a text holds.
+ghost use Rattle.std.proofs.Common.{arith};
+ghost use Rattle.std.specs.Prelude.{max};
+ghost use Rattle.bincode_format.specs.Need.{text_needs};
+ghost use Rattle.bincode_laws.specs.NeedLaws.{text-needs};
+ghost use Rattle.bincode_laws.specs.RoomLaws.{text-weighs};
 ghost use Rattle.std.specs.Prelude.{◌<◌, ◌^◌, length};
 ghost use Rattle.std.specs.Str.{IsUtf8};
 ghost use Rattle.bincode_format.specs.Meaning.{IsBytes};
@@ -25,15 +30,19 @@ impl<const SIZE: usize, const ALLOCATES: bool> Wire for TextBytes<SIZE, ALLOCATE
       writable = λ s v. Unit {0};
       names = λ e. ⊥;
       grows = Allocates ALLOCATES;
-      claim = SIZE;
+      claim = max SIZE 1;
+      need = text_needs;
       lawful = text-lawful;
       balanced = text-balanced;
       has_word = λ s v h w. text-has_word s v.bytes h.0 h.1;
       names_own = λ e h. absurd h;
+      claims = omega arith;
+      needs = text-needs;
+      weighs = text-weighs;
     } };
 
     fn claim_size() -> usize {
-        SIZE
+        SIZE.max(1)
     }
 }
 

@@ -7,7 +7,7 @@ use bincode_base::error::DecodeError;
 use bincode_decoder::decoder::{BorrowDecoder, BorrowedBytes, Decoder};
 use bincode_values::rows::decode_row;
 use bincode_values::values::{OneByOne, OverDefaults};
-use bincode_wire::rows::{LongRow, Row};
+use bincode_wire::rows::{LongRow, Rest, Row};
 use bincode_wire::wire::Wire;
 
 impl<Context: Drop> Decode<Context> for () {
@@ -30,7 +30,7 @@ impl<B: BorrowedBytes, Context: Drop> BorrowDecode<B, Context> for () {
     }
 }
 
-impl<Context: Drop, A: Decode<Context>, Others: Decode<Context>> Decode<Context>
+impl<Context: Drop, A: Decode<Context>, Others: Decode<Context> + Rest> Decode<Context>
     for Row<A, Others> {
     type Run = OneByOne;
 
@@ -44,7 +44,7 @@ impl<
     B: BorrowedBytes,
     Context: Drop,
     A: BorrowDecode<B, Context>,
-    Others: BorrowDecode<B, Context>,
+    Others: BorrowDecode<B, Context> + Rest,
 > BorrowDecode<B, Context> for Row<A, Others> {
     type Run = OneByOne;
 
@@ -62,7 +62,7 @@ impl<
     B: Decode<Context>,
     C: Decode<Context>,
     D: Decode<Context>,
-    Others: Decode<Context>,
+    Others: Decode<Context> + Rest,
 > Decode<Context> for LongRow<A, B, C, D, Others> {
     type Run = OneByOne;
 
@@ -80,7 +80,7 @@ impl<
     B: BorrowDecode<Z, Context>,
     C: BorrowDecode<Z, Context>,
     D: BorrowDecode<Z, Context>,
-    Others: BorrowDecode<Z, Context>,
+    Others: BorrowDecode<Z, Context> + Rest,
 > BorrowDecode<Z, Context> for LongRow<A, B, C, D, Others> {
     type Run = OneByOne;
 

@@ -1,4 +1,8 @@
 //! The words of arrays.
+ghost use Rattle.std.proofs.Common.{arith};
+ghost use Rattle.bincode_format.specs.Need.{array_needs};
+ghost use Rattle.bincode_laws.specs.NeedLaws.{array-needs};
+ghost use Rattle.bincode_laws.specs.RoomLaws.{array-weighs};
 ghost use Rattle.std.specs.Prelude.{◌≡◌, ◌*◌, ◌-◌, ◌^◌, ◌⊎◌, min, max, length};
 ghost use Rattle.std.specs.List.{All};
 ghost use Rattle.bincode_base.specs.Slots.{SlotsFit};
@@ -20,7 +24,8 @@ impl<T: Wire, const N: usize> Wire for [T; N] {
       writable = λ s v. All (T.its.writable s) v;
       names = T.its.names;
       grows = T.its.grows ⊎ ¬ (SlotsFit T.row N);
-      claim = min (N * T.its.claim) (2 ^ 64 - 1);
+      claim = max (min (N * T.its.claim) (2 ^ 64 - 1)) 1;
+      need = λ s. array_needs N T.its.claim (T.its.format s) (T.its.need s);
       lawful = λ s. array-lawful N T.its.claim (T.its.format s) (T.its.lawful s);
       balanced = λ s. array-balanced N T.its.claim (T.its.format s) (T.its.balanced s);
       has_word = λ s v h w.
@@ -32,10 +37,13 @@ impl<T: Wire, const N: usize> Wire for [T; N] {
                 (T.its.format s) N v x.bytes h.0 x.is_allowed;
           };
       names_own = T.its.names_own;
+      claims = omega arith;
+      needs = λ s. array-needs N T.its.claim (T.its.format s) (T.its.need s) (T.its.balanced s) (T.its.needs s);
+      weighs = λ s. array-weighs N T.its.claim (T.its.format s) T.its.claims (T.its.weighs s);
     } };
 
     fn claim_size() -> usize {
-        N.saturating_mul(T::claim_size())
+        N.saturating_mul(T::claim_size()).max(1)
     }
 }
 

@@ -1,4 +1,6 @@
 //! The words of cells.
+ghost use Rattle.bincode_laws.specs.NeedLaws.{rewritten-needs};
+ghost use Rattle.bincode_laws.specs.RoomLaws.{rewritten-weighs};
 ghost use Rattle.std.specs.Prelude.{◌⊎◌};
 ghost use Rattle.bincode_format.specs.Format.{of_cell};
 ghost use Rattle.bincode_format.specs.Cells.{IsAny, IsBorrowed, IsHeld};
@@ -19,10 +21,14 @@ impl<T: Wire> Wire for Cell<T> {
       names = T.its.names;
       grows = T.its.grows;
       claim = T.its.claim;
+      need = T.its.need;
       lawful = λ s. cell-lawful (T.its.format s) (T.its.lawful s);
       balanced = λ s. cell-balanced (T.its.format s) (T.its.balanced s);
       has_word = λ s v h w. w.some_word;
       names_own = T.its.names_own;
+      claims = T.its.claims;
+      needs = λ s. rewritten-needs (T.its.need s) _ (T.its.format s) (T.its.needs s);
+      weighs = λ s. rewritten-weighs _ (T.its.format s) (T.its.weighs s);
     } };
 
     fn claim_size() -> usize {
@@ -53,10 +59,14 @@ impl<T: Wire> Wire for RefCell<T> {
       names = λ e. IsBorrowed e ⊎ T.its.names e;
       grows = T.its.grows;
       claim = T.its.claim;
+      need = T.its.need;
       lawful = λ s. cell-lawful (T.its.format s) (T.its.lawful s);
       balanced = λ s. cell-balanced (T.its.format s) (T.its.balanced s);
       has_word = λ s v h w. w.some_word;
       names_own = λ e. either (borrowed-named e) (T.its.names_own e);
+      claims = T.its.claims;
+      needs = λ s. rewritten-needs (T.its.need s) _ (T.its.format s) (T.its.needs s);
+      weighs = λ s. rewritten-weighs _ (T.its.format s) (T.its.weighs s);
     } };
 
     fn claim_size() -> usize {

@@ -1,4 +1,8 @@
 //! The words of spans of time.
+ghost use Rattle.std.proofs.Common.{arith};
+ghost use Rattle.bincode_format.specs.Need.{duration_needs};
+ghost use Rattle.bincode_laws.specs.NeedLaws.{duration-needs};
+ghost use Rattle.bincode_laws.specs.RoomLaws.{duration-weighs};
 ghost use Rattle.std.specs.Prelude.{◌<◌, ◌^◌, pos};
 ghost use Rattle.bincode_format.specs.Meaning.{IsNumber, IsThen, IsNothing};
 ghost use Rattle.bincode_format.specs.Words.{second_in_nanos, duration};
@@ -20,10 +24,14 @@ impl Wire for Duration {
       names = λ e. ⊥;
       grows = ⊥;
       claim = 12;
+      need = duration_needs;
       lawful = duration-lawful;
       balanced = duration-balanced;
       has_word = λ s v h w. duration-has_word s (secs_of v) (nanos_of v) h.0 h.1;
       names_own = λ e h. absurd h;
+      claims = omega arith;
+      needs = duration-needs;
+      weighs = duration-weighs;
     } };
 
     fn claim_size() -> usize {

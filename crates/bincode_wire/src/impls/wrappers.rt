@@ -1,4 +1,5 @@
 //! The words of wrappers, pointers and references.
+ghost use Rattle.std.proofs.Common.{arith};
 ghost use Rattle.std.specs.Prelude.{refl};
 ghost use Rattle.std.specs.Cow.{cow_value};
 ghost use Rattle.std.specs.Arc.{arc_value};
@@ -62,10 +63,14 @@ impl<T: Wire> Wire for Pointed<T> {
       names = T.its.names;
       grows = Unit {0};
       claim = 8;
+      need = T.its.need;
       lawful = T.its.lawful;
       balanced = T.its.balanced;
       has_word = λ s v. T.its.has_word s v.to;
       names_own = T.its.names_own;
+      claims = omega arith;
+      needs = T.its.needs;
+      weighs = T.its.weighs;
     } };
 
     fn claim_size() -> usize {

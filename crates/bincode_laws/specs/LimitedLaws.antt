@@ -1,0 +1,103 @@
+-- What the calls that decode answer under a limit, of types whose need is told, and of those that are charged for.
+use Rattle.std.specs.Prelude.{◌≡◌, ◌⊎◌, ◌≤◌, ◌++◌, ℕ, List, refl, Option, Some, None, Result, Ok, Err, IfOk, IfErr}
+use Rattle.std.proofs.Common.{◌∙◌, ap, subst, inl, inr}
+use Rattle.bincode_base.specs.declared.error.DecodeError.{DecodeError}
+use Rattle.bincode_base.specs.declared.error.DecodeError.TheVariants.{LimitExceeded}
+use Rattle.bincode_format.specs.Answer.{StepsOf, of_word, of_fault}
+use Rattle.bincode_format.specs.Charge.{Step, StaysWithin}
+use Rattle.bincode_format.specs.Decoding.{IsRefused, Finds, TellsEach, KeepsWithin}
+use Rattle.bincode_format.specs.Fault.{Fault, Tells, End, InvalidInteger, Zero, UnexpectedVariant, Utf8, InvalidChar, InvalidBool, InvalidDuration, NulAt}
+use Rattle.bincode_format.specs.Fault.{Other, LengthMismatch, EmptyEnum, OutsideUsize, short, long, Between, OneOf}
+use Rattle.bincode_format.specs.Format.{Format, Reading, Took, Failed}
+use Rattle.bincode_format.specs.Laws.{Lawful, Balanced, steps_of}
+use Rattle.bincode_format.specs.Meaning.{Meaning}
+use Rattle.bincode_format.specs.Slice.{Decoded, EndsSlice, FindsWords, TellsFaults, KeepsLimit}
+use Rattle.bincode_laws.specs.NeedLaws.{Needs, peak-passes, peak-stays}
+use Rattle.bincode_laws.specs.RoomLaws.{Weighs, within-bounded}
+use Rattle.bincode_format.specs.Limited.{LimitedBy, WordBounded}
+
+-- no fault is told by that the limit was passed, unless the end of the input is
+module _ (ended : ℕ → DecodeError → Type 0) (never : (missing : ℕ) (e : DecodeError) → ended missing e → e ≡ LimitExceeded → ⊥) where
+  tells_limit : (why : Fault) (e : DecodeError) → e ≡ LimitExceeded → Tells ended why e → ⊥
+  tells_limit (End (Some missing)) e i h = never missing e h i
+  tells_limit (End None) e i h = never h.0 e h.1 i
+  tells_limit (InvalidInteger expected found) e i h = cc
+  tells_limit (Zero name) e i h = cc
+  tells_limit (UnexpectedVariant (Between min max) found) e i h = let k = h.1 in cc
+  tells_limit (UnexpectedVariant (OneOf tags) found) e i h = let k = h.1.1 in cc
+  tells_limit Utf8 e i h = let k = h.1 in cc
+  tells_limit (InvalidChar bytes) e i h = cc
+  tells_limit (InvalidBool byte) e i h = cc
+  tells_limit (InvalidDuration seconds nanos) e i h = cc
+  tells_limit (NulAt place) e i h = cc
+  tells_limit (Other text) e i (short t k l) = cc
+  tells_limit (Other text) e i (long t k l) = cc
+  tells_limit (LengthMismatch required found) e i h = cc
+  tells_limit EmptyEnum e i h = let k = h.1 in cc
+  tells_limit (OutsideUsize n) e i h = cc
+
+module _ (F : Format Meaning) (f : Lawful F) (input : List ℕ) where
+  steps_by : (r : Reading Meaning) → F.read input ≡ r → StepsOf F input (steps_of r)
+  steps_by (Took m rest steps) e = let q = f.read_word input rest m steps e in of_word q.word rest m q.is_word q.input_is
+  steps_by (Failed why steps) e = of_fault why (f.read_fault input why steps e)
+
+  -- the steps of a word that the input begins with, and those before its fault, are those that the program finds
+  word_steps : (word rest : List ℕ) (m : Meaning) (s : List Step) → input ≡ word ++ rest → F.Word word m s → steps_of (F.read input) ≡ s
+  word_steps word rest m s e w = ap (λ z. steps_of (F.read z)) e ∙ ap (λ r. steps_of r) (f.word_read word rest m s w)
+
+  fault_steps : (why : Fault) (s : List Step) → F.Faults input why s → steps_of (F.read input) ≡ s
+  fault_steps why s h = ap (λ r. steps_of r) (f.fault_read input why s h)
+
+  module _ (need : List ℕ → ℕ) (n : Needs need F) (limit : ℕ) where
+    stays_by : (s : List Step) → steps_of (F.read input) ≡ s → need input ≤ limit → StaysWithin (Some limit) 0 s
+    stays_by s e h = subst (StaysWithin (Some limit) 0) e (peak-stays limit (need input) (steps_of (F.read input)) (n.peaks input) h)
+
+    module _ (ended : ℕ → DecodeError → Type 0) (never : (missing : ℕ) (e : DecodeError) → ended missing e → e ≡ LimitExceeded → ⊥) (Excused : DecodeError → Type 0) where
+      told_not : (why : Fault) (e : DecodeError) → e ≡ LimitExceeded → Tells ended why e ⊎ Excused e → Excused e
+      told_not why e l (inl t) = absurd (tells_limit ended never why e l t)
+      told_not why e l (inr t) = t
+
+      kept_by : {A : Type 0} (r : Reading Meaning) → F.read input ≡ r → (result : Result A DecodeError) → Finds F (Some limit) Excused input result → TellsEach ended F (Some limit) Excused input result →
+          need input ≤ limit → IfErr result (λ e. e ≡ LimitExceeded → Excused e)
+      kept_by r i (Ok a) found told h = tt
+      kept_by (Took m rest s) i (Err e) found told h = λ l.
+          let q = f.read_word input rest m s i in
+          found q.word rest m s q.input_is q.is_word (stays_by s (ap (λ r. steps_of r) i) h)
+      kept_by (Failed why s) i (Err e) found told h = λ l.
+          let q = f.read_fault input why s i in
+          told_not why e l (told why s q (stays_by s (ap (λ r. steps_of r) i) h))
+
+      pub limited : {A : Type 0} (result : Result A DecodeError) → Finds F (Some limit) Excused input result → TellsEach ended F (Some limit) Excused input result → KeepsWithin F (Some limit) Excused input result →
+          LimitedBy ended F need limit Excused input result
+      limited result found told over = record {
+        passed = λ h. over (steps_of (F.read input)) (steps_by (F.read input) refl) (peak-passes limit (need input) (steps_of (F.read input)) (n.peaks input) h);
+        kept = kept_by (F.read input) refl result found told;
+        words = λ h word rest m s e w u. found word rest m s e w (stays_by s (word_steps word rest m s e w) h);
+        faults = λ h why s w u. told why s w (stays_by s (fault_steps why s w) h);
+      }
+
+-- the same of a slice, by the bound of a configuration
+pub limited-at : {A : Type 0} (F : Format Meaning) → Lawful F → (input : List ℕ) (need : List ℕ → ℕ) → Needs need F → (Grows : Type 0) (bound : Option ℕ) (result : Result A DecodeError) →
+    FindsWords F bound Grows input result → TellsFaults F bound Grows input result → KeepsLimit F bound Grows input result → (limit : ℕ) → bound ≡ Some limit →
+    LimitedBy EndsSlice F need limit (IsRefused Grows) input result
+limited-at F f input need n Grows bound result found told over limit e =
+    limited F f input need n limit EndsSlice (λ missing e h l. cc) (IsRefused Grows) result (subst (λ b. FindsWords F b Grows input result) e found)
+    (subst (λ b. TellsFaults F b Grows input result) e told) (subst (λ b. KeepsLimit F b Grows input result) e over)
+
+-- what was decoded under a limit is bounded by it
+pub decoded-bounded : (F : Format Meaning) → Lawful F → Balanced F → Weighs F → (limit : ℕ) (input : List ℕ) (Given : Meaning → Type 0) (n : ℕ) → Decoded F (Some limit) input Given n → WordBounded F limit input n
+decoded-bounded F f b w limit input Given n d = record {
+  word = d.word;
+  rest = d.rest;
+  meaning = d.meaning;
+  steps = d.steps;
+  input_is = d.input_is;
+  is_word = d.is_word;
+  count = d.count;
+  bounded = within-bounded F f b w limit d.word d.meaning d.steps d.is_word d.within;
+}
+
+pub bounded-at : {A : Type 0} (F : Format Meaning) → Lawful F → Balanced F → Weighs F → (input : List ℕ) (Given : Meaning → A → Type 0) (bound : Option ℕ) (result : Result (A × ℕ) DecodeError) →
+    IfOk result (λ x. Decoded F bound input (λ m. Given m x.0) x.1) → IfOk result (λ x. (limit : ℕ) → bound ≡ Some limit → WordBounded F limit input x.1)
+bounded-at F f b w input Given bound (Ok x) d = λ limit e. decoded-bounded F f b w limit input (λ m. Given m x.0) x.1 (subst (λ o. Decoded F o input (λ m. Given m x.0) x.1) e d)
+bounded-at F f b w input Given bound (Err e) d = tt
