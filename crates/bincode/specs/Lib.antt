@@ -24,6 +24,9 @@ pub use Rattle.bincode_format.specs.Hashed
 pub use Rattle.bincode_format.specs.Cells
 pub use Rattle.bincode_format.specs.Answer
 pub use Rattle.bincode_format.specs.Limits
+pub use Rattle.bincode_format.specs.Need
+pub use Rattle.bincode_format.specs.Room
+pub use Rattle.bincode_format.specs.Limited
 pub use Rattle.bincode_format.specs.Promises
 pub use Rattle.bincode_format.specs.Passed
 pub use Rattle.bincode_format.specs.Put
@@ -39,9 +42,12 @@ pub use Rattle.bincode_format.specs.Agree
 pub use Rattle.bincode_laws.specs.AllowedLaws
 pub use Rattle.bincode_laws.specs.AnswerLaws
 pub use Rattle.bincode_laws.specs.CostLaws
+pub use Rattle.bincode_laws.specs.ChargedLaws
 pub use Rattle.bincode_laws.specs.CutLaws
 pub use Rattle.bincode_laws.specs.Fronts
 pub use Rattle.bincode_laws.specs.LimitLaws
+pub use Rattle.bincode_laws.specs.LimitedLaws
+pub use Rattle.bincode_laws.specs.NeedLaws
 pub use Rattle.bincode_laws.specs.RunLaws
 pub use Rattle.bincode_io.specs.RoomLaws
 pub use Rattle.bincode_io.specs.Slices

@@ -26,7 +26,7 @@ use Rattle.bincode_laws.specs.AllowedLaws.{alone-one_length}
 use Rattle.bincode_format.specs.Forms.{characters}
 use Rattle.bincode_laws.specs.FormLaws.{FormLaws}
 use Rattle.bincode_laws.specs.NeedLaws.{character-needs}
-use Rattle.bincode_laws.specs.RoomLaws.{character-weighs}
+use Rattle.bincode_laws.specs.ChargedLaws.{character-charged}
 use Rattle.bincode_format.specs.Words.{Spells, char_width, code_point, four_bytes, char_of, rest_of_char, behind_char, character}
 
 -- the laws
@@ -370,7 +370,7 @@ characters-laws = record {
   one_meaning = λ v w m n h k l. l ∙ sym k ∙ h;
   some_word = λ s. cell-has_word character character-lawful _ (character-has_word 65 refl);
   needs = λ s. character-needs;
-  weighs = λ s. character-weighs;
+  charged = λ s. character-charged;
 }
 
 -- characters of one meaning are equal

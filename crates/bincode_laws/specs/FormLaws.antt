@@ -21,7 +21,7 @@ use Rattle.bincode_format.specs.Cells.{HasWord}
 use Rattle.bincode_format.specs.Forms.{Form, numbers, numbers_not_zero, bytes, unsigned_numbers, signed_bytes, signed_numbers}
 use Rattle.bincode_format.specs.Forms.{bytes_not_zero, unsigned_not_zero, signed_bytes_not_zero, signed_not_zero, truths}
 use Rattle.bincode_laws.specs.NeedLaws.{Needs, map-needs, test-needs, unsigned-needs, signed-needs, unsigned_byte-needs, signed_byte-needs}
-use Rattle.bincode_laws.specs.RoomLaws.{Weighs, map-weighs, test-weighs, unsigned-weighs, signed-weighs, unsigned_byte-weighs, signed_byte-weighs}
+use Rattle.bincode_laws.specs.ChargedLaws.{Charged, map-charged, test-charged, unsigned-charged, signed-charged, unsigned_byte-charged, signed_byte-charged}
 use Rattle.bincode_laws.specs.CellLaws.{cell-has_word}
 use Rattle.bincode_laws.specs.AllowedLaws.{natural-one}
 use Rattle.bincode_laws.specs.SpelledLaws.{unsigned-spelled, byte-spelled, signed-spelled, signed_byte-spelled, truth-spelled, number-not_zero}
@@ -33,7 +33,7 @@ pub record FormLaws {A : Type 0} (form : Form A) : Type 0 where
   pub one_meaning : (v w : A) (m n : Meaning) → form.means v m → form.means w m → form.means w n → form.means v n
   pub some_word : (s : Setting) → HasWord (form.format s)
   pub needs : (s : Setting) → Needs form.need (form.format s)
-  pub weighs : (s : Setting) → Weighs (form.format s)
+  pub charged : (s : Setting) → Charged (form.format s)
 
 -- the same of numbers, before they are taken as meanings
 pub record Numerals {A : Type 0} (width : ℕ) (Bounds : A → Type 0) (integer : A → ℤ) (F : Setting → Format A) : Type 0 where
@@ -41,7 +41,7 @@ pub record Numerals {A : Type 0} (width : ℕ) (Bounds : A → Type 0) (integer 
   pub balanced : (s : Setting) → Balanced (F s)
   pub spelled : (s : Setting) (n : A) → Bounds n → Spelled (IsNumber (integer n)) (map_format (λ k. Number (integer k)) (F s))
   pub needs : (s : Setting) → Needs (λ _. width) (F s)
-  pub weighs : (s : Setting) → Weighs (F s)
+  pub charged : (s : Setting) → Charged (F s)
 
 pub width-least : (width : ℕ) → IsWidth width → 2 ≤ width
 width-least width (Two e) = omega arith
@@ -63,7 +63,7 @@ signed-above_one w64 = omega arith
 signed-above_one w128 = omega arith
 
 pub byte-numerals : Numerals 1 (λ n. n < 2 ^ 8) pos (λ s. unsigned_byte)
-byte-numerals = record { lawful = λ s. unsigned_byte-lawful; balanced = λ s. unsigned_byte-balanced; spelled = λ s n h. byte-spelled n h; needs = λ s. unsigned_byte-needs; weighs = λ s. unsigned_byte-weighs }
+byte-numerals = record { lawful = λ s. unsigned_byte-lawful; balanced = λ s. unsigned_byte-balanced; spelled = λ s n h. byte-spelled n h; needs = λ s. unsigned_byte-needs; charged = λ s. unsigned_byte-charged }
 
 pub unsigned-numerals : (name : IntegerType) (width : ℕ) → IsWidth width → Numerals width (λ n. n < 256 ^ width) pos (unsigned name width)
 unsigned-numerals name width w = record {
@@ -71,11 +71,11 @@ unsigned-numerals name width w = record {
   balanced = λ s. unsigned-balanced name width s;
   spelled = λ s n h. unsigned-spelled name width n s h;
   needs = unsigned-needs name width;
-  weighs = λ s. unsigned-weighs name width s (width-least width w);
+  charged = λ s. unsigned-charged name width s (width-least width w);
 }
 
 pub signed_byte-numerals : Numerals 1 (FitsSigned w8) (λ z. z) (λ s. signed_byte)
-signed_byte-numerals = record { lawful = λ s. signed_byte-lawful; balanced = λ s. signed_byte-balanced; spelled = λ s z h. signed_byte-spelled z h; needs = λ s. signed_byte-needs; weighs = λ s. signed_byte-weighs }
+signed_byte-numerals = record { lawful = λ s. signed_byte-lawful; balanced = λ s. signed_byte-balanced; spelled = λ s z h. signed_byte-spelled z h; needs = λ s. signed_byte-needs; charged = λ s. signed_byte-charged }
 
 pub signed-numerals : (name : IntegerType) (w : Width) → IsWidth (width_in_bytes w) → Numerals (width_in_bytes w) (FitsSigned w) (λ z. z) (signed name (width_in_bytes w))
 signed-numerals name w more = record {
@@ -83,7 +83,7 @@ signed-numerals name w more = record {
   balanced = λ s. signed-balanced name (width_in_bytes w) s;
   spelled = λ s z h. signed-spelled name w z s more h;
   needs = signed-needs name (width_in_bytes w);
-  weighs = λ s. signed-weighs name (width_in_bytes w) s (width-least (width_in_bytes w) more);
+  charged = λ s. signed-charged name (width_in_bytes w) s (width-least (width_in_bytes w) more);
 }
 
 module _ {A B : Type 0} (width : ℕ) (integer : A → ℤ) (Bounds : A → Type 0) (F : Setting → Format A) (get : B → A) (p : Numerals width Bounds integer F) (some : A) (bounded : Bounds some) where
@@ -95,7 +95,7 @@ module _ {A B : Type 0} (width : ℕ) (integer : A → ℤ) (Bounds : A → Type
     one_meaning = λ v w m n h k l. l ∙ sym k ∙ h;
     some_word = λ s. cell-has_word _ (map-lawful _ _ (p.lawful s)) _ (p.spelled s some bounded).has_word;
     needs = λ s. map-needs _ _ _ (p.needs s);
-    weighs = λ s. map-weighs _ _ (p.weighs s);
+    charged = λ s. map-charged _ _ (p.charged s);
   }
 
   numbers_not_zero_laws : ((a b : A) → integer a ≡ integer b → a ≡ b) → (size : A → ℕ) → 0 < size some → (name : IntegerType) → FormLaws (numbers_not_zero width integer Bounds F get size name)
@@ -106,7 +106,7 @@ module _ {A B : Type 0} (width : ℕ) (integer : A → ℤ) (Bounds : A → Type
     one_meaning = λ v w m n h k l. l ∙ sym k ∙ h;
     some_word = λ s. cell-has_word _ (map-lawful _ _ (not_zero-lawful size name (F s) (p.lawful s))) _ (number-not_zero integer one size name (F s) some above (p.spelled s some bounded)).has_word;
     needs = λ s. map-needs _ _ _ (test-needs _ (F s) (λ a. not_zero_of name (size a) a) (p.needs s));
-    weighs = λ s. map-weighs _ _ (test-weighs (F s) (λ a. not_zero_of name (size a) a) (p.weighs s));
+    charged = λ s. map-charged _ _ (test-charged (F s) (λ a. not_zero_of name (size a) a) (p.charged s));
   }
 
 pub bytes-laws : FormLaws bytes
@@ -144,5 +144,5 @@ truths-laws = record {
   one_meaning = λ v w m n h k l. l ∙ sym k ∙ h;
   some_word = λ s. cell-has_word truth truth-lawful _ (truth-spelled true).has_word;
   needs = λ s. test-needs _ unsigned_byte truth_of unsigned_byte-needs;
-  weighs = λ s. test-weighs unsigned_byte truth_of unsigned_byte-weighs;
+  charged = λ s. test-charged unsigned_byte truth_of unsigned_byte-charged;
 }

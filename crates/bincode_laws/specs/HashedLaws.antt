@@ -36,7 +36,7 @@ puts-length : {A : Type 0} (Puts : List A → A → List A → Type 0) → ((bef
 puts-length Puts most before [] after p = omega (arith, ap length p)
 puts-length Puts most before (x ∷ items) after (between, p, q) = omega (arith, most before x between p, puts-length Puts most between items after q)
 
--- what is put, laid beside its words: what is left weighs no more
+-- what is put, laid beside its words: what is left charged no more
 module _ {A W : Type 0} (Puts : List A → A → List A → Type 0) (plain : W → A) (IsLaid : W → Type 0) (weight : W → ℕ) where
   abbrev Left : List A → ℕ → Type 0
   Left after most = (ys : List W) × (after ≡ map plain ys) × All IsLaid ys × (sum_by weight ys ≤ most)

@@ -39,6 +39,6 @@ pub mod SpelledLaws
 pub mod SpellingLaws
 pub mod TextLaws
 pub mod TupleLaws
-pub mod RoomLaws
+pub mod ChargedLaws
 pub mod RowLaws
 pub mod WordsLaws

@@ -1,19 +1,19 @@
 -- What the calls that decode answer under a limit, of types whose need is told, and of those that are charged for.
-use Rattle.std.specs.Prelude.{◌≡◌, ◌⊎◌, ◌≤◌, ◌++◌, ℕ, List, refl, Option, Some, None, Result, Ok, Err, IfOk, IfErr}
-use Rattle.std.proofs.Common.{◌∙◌, ap, subst, inl, inr}
+use Rattle.std.specs.Prelude.{◌≡◌, ◌⊎◌, ◌≤◌, ◌++◌, ◌-◌, length, ℕ, List, refl, Some, None, Result, Ok, Err, IfOk, IfErr}
+use Rattle.std.proofs.Common.{◌∙◌, ap, subst, arith, inl, inr, length-append}
 use Rattle.bincode_base.specs.declared.error.DecodeError.{DecodeError}
 use Rattle.bincode_base.specs.declared.error.DecodeError.TheVariants.{LimitExceeded}
 use Rattle.bincode_format.specs.Answer.{StepsOf, of_word, of_fault}
 use Rattle.bincode_format.specs.Charge.{Step, StaysWithin}
-use Rattle.bincode_format.specs.Decoding.{IsRefused, Finds, TellsEach, KeepsWithin}
+use Rattle.bincode_format.specs.Decoding.{IsRefused, Finds, TellsEach, KeepsWithin, WordRead}
 use Rattle.bincode_format.specs.Fault.{Fault, Tells, End, InvalidInteger, Zero, UnexpectedVariant, Utf8, InvalidChar, InvalidBool, InvalidDuration, NulAt}
 use Rattle.bincode_format.specs.Fault.{Other, LengthMismatch, EmptyEnum, OutsideUsize, short, long, Between, OneOf}
 use Rattle.bincode_format.specs.Format.{Format, Reading, Took, Failed}
 use Rattle.bincode_format.specs.Laws.{Lawful, Balanced, steps_of}
 use Rattle.bincode_format.specs.Meaning.{Meaning}
-use Rattle.bincode_format.specs.Slice.{Decoded, EndsSlice, FindsWords, TellsFaults, KeepsLimit}
+use Rattle.bincode_format.specs.Slice.{Decoded, EndsSlice, IsAnswer}
 use Rattle.bincode_laws.specs.NeedLaws.{Needs, peak-passes, peak-stays}
-use Rattle.bincode_laws.specs.RoomLaws.{Weighs, within-bounded}
+use Rattle.bincode_laws.specs.ChargedLaws.{Charged, within-bounded}
 use Rattle.bincode_format.specs.Limited.{LimitedBy, WordBounded}
 
 -- no fault is told by that the limit was passed, unless the end of the input is
@@ -76,28 +76,39 @@ module _ (F : Format Meaning) (f : Lawful F) (input : List ℕ) where
         faults = λ h why s w u. told why s w (stays_by s (fault_steps why s w) h);
       }
 
--- the same of a slice, by the bound of a configuration
-pub limited-at : {A : Type 0} (F : Format Meaning) → Lawful F → (input : List ℕ) (need : List ℕ → ℕ) → Needs need F → (Grows : Type 0) (bound : Option ℕ) (result : Result A DecodeError) →
-    FindsWords F bound Grows input result → TellsFaults F bound Grows input result → KeepsLimit F bound Grows input result → (limit : ℕ) → bound ≡ Some limit →
-    LimitedBy EndsSlice F need limit (IsRefused Grows) input result
-limited-at F f input need n Grows bound result found told over limit e =
-    limited F f input need n limit EndsSlice (λ missing e h l. cc) (IsRefused Grows) result (subst (λ b. FindsWords F b Grows input result) e found)
-    (subst (λ b. TellsFaults F b Grows input result) e told) (subst (λ b. KeepsLimit F b Grows input result) e over)
+-- the same of an answer to a slice
+pub answer-limited : {A : Type 0} (F : Format Meaning) → Lawful F → (need : List ℕ → ℕ) → Needs need F → (limit : ℕ) (Grows : Type 0) (Given : Meaning → A → Type 0) (input : List ℕ) (result : Result (A × ℕ) DecodeError) →
+    IsAnswer F (Some limit) Grows Given input result → LimitedBy EndsSlice F need limit (IsRefused Grows) input result
+answer-limited F f need n limit Grows Given input result a =
+    limited F f input need n limit EndsSlice (λ missing e h l. cc) (IsRefused Grows) result a.found a.fault a.keeps
 
 -- what was decoded under a limit is bounded by it
-pub decoded-bounded : (F : Format Meaning) → Lawful F → Balanced F → Weighs F → (limit : ℕ) (input : List ℕ) (Given : Meaning → Type 0) (n : ℕ) → Decoded F (Some limit) input Given n → WordBounded F limit input n
-decoded-bounded F f b w limit input Given n d = record {
-  word = d.word;
-  rest = d.rest;
-  meaning = d.meaning;
-  steps = d.steps;
-  input_is = d.input_is;
-  is_word = d.is_word;
-  count = d.count;
-  bounded = within-bounded F f b w limit d.word d.meaning d.steps d.is_word d.within;
-}
+module _ (F : Format Meaning) (f : Lawful F) (b : Balanced F) (h : Charged F) (limit : ℕ) (input : List ℕ) where
+  pub decoded-bounded : (Given : Meaning → Type 0) (n : ℕ) → Decoded F (Some limit) input Given n → WordBounded F limit input n
+  decoded-bounded Given n d = record {
+    word = d.word;
+    rest = d.rest;
+    meaning = d.meaning;
+    steps = d.steps;
+    input_is = d.input_is;
+    is_word = d.is_word;
+    count = d.count;
+    bounded = within-bounded F f b h limit d.word d.meaning d.steps d.is_word d.within;
+  }
 
-pub bounded-at : {A : Type 0} (F : Format Meaning) → Lawful F → Balanced F → Weighs F → (input : List ℕ) (Given : Meaning → A → Type 0) (bound : Option ℕ) (result : Result (A × ℕ) DecodeError) →
-    IfOk result (λ x. Decoded F bound input (λ m. Given m x.0) x.1) → IfOk result (λ x. (limit : ℕ) → bound ≡ Some limit → WordBounded F limit input x.1)
-bounded-at F f b w input Given bound (Ok x) d = λ limit e. decoded-bounded F f b w limit input (λ m. Given m x.0) x.1 (subst (λ o. Decoded F o input (λ m. Given m x.0) x.1) e d)
-bounded-at F f b w input Given bound (Err e) d = tt
+  pub answer-bounded : {A : Type 0} (Grows : Type 0) (Given : Meaning → A → Type 0) (result : Result (A × ℕ) DecodeError) → IsAnswer F (Some limit) Grows Given input result → IfOk result (λ x. WordBounded F limit input x.1)
+  answer-bounded Grows Given (Ok x) a = decoded-bounded (λ m. Given m x.0) x.1 a.word
+  answer-bounded Grows Given (Err e) a = tt
+
+  -- and what was read from a reader
+  pub read-bounded : (rest : List ℕ) (Given : Meaning → Type 0) → WordRead F (Some limit) input rest Given → WordBounded F limit input (length input - length rest)
+  read-bounded rest Given d = record {
+    word = d.word;
+    rest = rest;
+    meaning = d.meaning;
+    steps = d.steps;
+    input_is = d.input_is;
+    is_word = d.is_word;
+    count = let l = ap length d.input_is in let k = length-append d.word rest in omega (arith, l, k);
+    bounded = within-bounded F f b h limit d.word d.meaning d.steps d.is_word d.within;
+  }

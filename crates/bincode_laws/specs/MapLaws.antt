@@ -21,7 +21,7 @@ use Rattle.bincode_format.specs.Collections.{AreValid, IsMadeOf, MakesMap, put_e
 use Rattle.bincode_laws.specs.RunAllowedLaws.{run-same}
 use Rattle.bincode_laws.specs.ListLaws.{list-shortest}
 use Rattle.bincode_laws.specs.LaidLaws.{each-laid, laid-each}
-use Rattle.bincode_laws.specs.OrderLaws.{sorted-put_entries, sorted-equal, map-put_entries, All-put_entries, put_entries-weighs, length-put_entries}
+use Rattle.bincode_laws.specs.OrderLaws.{sorted-put_entries, sorted-equal, map-put_entries, All-put_entries, put_entries-charged, length-put_entries}
 use Rattle.bincode_laws.specs.PairLaws.{pair_of, IsPair}
 use Rattle.bincode_laws.specs.ReadLaws.{ReadsAs, fewer-read, pair-reads, reads-pair}
 
@@ -45,7 +45,7 @@ module _ {K V : Type 0} (cmp : K → K → Ordering) (Keys : K → List ℕ → 
       let r = laid-each Allowed plain IsLaid weight (λ x h. (x.0.1 ++ x.1.1, join (plain x) (x.0.1 ++ x.1.1) (x.0.1, x.1.1, refl, h.0, h.1), length-append x.0.1 x.1.1)) put
       (All-put_entries told IsKey IsValue [] p.0 (All-nil IsLaid) p.2) in
       let e : map plain put ≡ put_entries cmp [] items = map-put_entries cmp key value [] p.0 ∙ ap (put_entries cmp []) (sym p.1) in
-      (r.0, subst (λ l. AllowsEach Allowed l r.0) e r.1, omega (arith, r.2, p.3, put_entries-weighs told (λ x. length x.1) (λ x. length x.1) [] p.0))
+      (r.0, subst (λ l. AllowsEach Allowed l r.0) e r.1, omega (arith, r.2, p.3, put_entries-charged told (λ x. length x.1) (λ x. length x.1) [] p.0))
 
 module _ {K V : Type 0} (cmp : K → K → Ordering) (eq : K → K → Bool) (total : IsTotalOrder cmp) (matches : (x y : K) → eq x y ≡ is_eq (cmp x y)) (Valid : K × V → Type 0) where
   -- what decodes to what a map in order means are its entries, if keys come back equal

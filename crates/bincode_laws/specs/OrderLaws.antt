@@ -1,4 +1,4 @@
--- Keys and entries that are put in turn: those in order stay as they are, and what is left weighs no more.
+-- Keys and entries that are put in turn: those in order stay as they are, and what is left charged no more.
 use Rattle.std.specs.Prelude.{◌≡◌, ℕ, ◌+◌, ◌≤◌, Bool, true, List, [], ◌∷◌, ◌++◌, length, map, refl}
 use Rattle.std.specs.declared.cmp.Ordering.{Ordering}
 use Rattle.std.specs.declared.cmp.Ordering.TheVariants.{Less, Equal, Greater}
@@ -119,20 +119,20 @@ module _ {K : Type 0} (cmp : K → K → Ordering) where
   All-put_keys P keys (x ∷ items) h k = All-put_keys P (insert_key cmp keys x) items (All-insert_key cmp x P keys h (All-head P x items k)) (All-tail P x items k)
 
   module _ (weight : K → ℕ) where
-    chosen_weighs : (o : Ordering) (k x : K) (xs rest : List K) → sum_by weight rest ≤ sum_by weight xs + weight k →
+    chosen_charged : (o : Ordering) (k x : K) (xs rest : List K) → sum_by weight rest ≤ sum_by weight xs + weight k →
         sum_by weight (match_ordering o (k ∷ x ∷ xs) (x ∷ xs) (x ∷ rest)) ≤ sum_by weight (x ∷ xs) + weight k
-    chosen_weighs Less k x xs rest h = omega (arith, sum_by-cons weight k (x ∷ xs))
-    chosen_weighs Equal k x xs rest h = omega arith
-    chosen_weighs Greater k x xs rest h = omega (arith, h, sum_by-cons weight x xs, sum_by-cons weight x rest)
+    chosen_charged Less k x xs rest h = omega (arith, sum_by-cons weight k (x ∷ xs))
+    chosen_charged Equal k x xs rest h = omega arith
+    chosen_charged Greater k x xs rest h = omega (arith, h, sum_by-cons weight x xs, sum_by-cons weight x rest)
 
-    insert_weighs : (keys : List K) (k : K) → sum_by weight (insert_key cmp keys k) ≤ sum_by weight keys + weight k
-    insert_weighs [] k = omega (arith, sum_by-cons weight k [])
-    insert_weighs (x ∷ keys) k = chosen_weighs (cmp k x) k x keys (insert_key cmp keys k) (insert_weighs keys k)
+    insert_charged : (keys : List K) (k : K) → sum_by weight (insert_key cmp keys k) ≤ sum_by weight keys + weight k
+    insert_charged [] k = omega (arith, sum_by-cons weight k [])
+    insert_charged (x ∷ keys) k = chosen_charged (cmp k x) k x keys (insert_key cmp keys k) (insert_charged keys k)
 
     -- no more than what was put
-    pub put_keys-weighs : (keys items : List K) → sum_by weight (put_keys cmp keys items) ≤ sum_by weight keys + sum_by weight items
-    put_keys-weighs keys [] = omega arith
-    put_keys-weighs keys (x ∷ items) = omega (arith, put_keys-weighs (insert_key cmp keys x) items, insert_weighs keys x, sum_by-cons weight x items)
+    pub put_keys-charged : (keys items : List K) → sum_by weight (put_keys cmp keys items) ≤ sum_by weight keys + sum_by weight items
+    put_keys-charged keys [] = omega arith
+    put_keys-charged keys (x ∷ items) = omega (arith, put_keys-charged (insert_key cmp keys x) items, insert_charged keys x, sum_by-cons weight x items)
 
 -- entries whose keys and values are told by parts of what is put
 module _ {K V : Type 0} (cmp : K → K → Ordering) where
@@ -178,20 +178,20 @@ module _ {K V : Type 0} (cmp : K → K → Ordering) where
     abbrev total_of : K × V → ℕ
     total_of e = weight e.0 + burden e.1
 
-    entry_weighs : (o : Ordering) (k : K) (v : V) (e : K × V) (es rest : List (K × V)) → sum_by total_of rest ≤ sum_by total_of es + total_of (k, v) →
+    entry_charged : (o : Ordering) (k : K) (v : V) (e : K × V) (es rest : List (K × V)) → sum_by total_of rest ≤ sum_by total_of es + total_of (k, v) →
         sum_by total_of (match_ordering o ((k, v) ∷ e ∷ es) ((e.0, v) ∷ es) (e ∷ rest)) ≤ sum_by total_of (e ∷ es) + total_of (k, v)
-    entry_weighs Less k v e es rest h = omega (arith, sum_by-cons total_of (k, v) (e ∷ es))
-    entry_weighs Equal k v e es rest h = omega (arith, sum_by-cons total_of (e.0, v) es, sum_by-cons total_of e es)
-    entry_weighs Greater k v e es rest h = omega (arith, h, sum_by-cons total_of e es, sum_by-cons total_of e rest)
+    entry_charged Less k v e es rest h = omega (arith, sum_by-cons total_of (k, v) (e ∷ es))
+    entry_charged Equal k v e es rest h = omega (arith, sum_by-cons total_of (e.0, v) es, sum_by-cons total_of e es)
+    entry_charged Greater k v e es rest h = omega (arith, h, sum_by-cons total_of e es, sum_by-cons total_of e rest)
 
-    insert_entry_weighs : (es : List (K × V)) (k : K) (v : V) → sum_by total_of (insert_entry cmp es k v) ≤ sum_by total_of es + total_of (k, v)
-    insert_entry_weighs [] k v = omega (arith, sum_by-cons total_of (k, v) [])
-    insert_entry_weighs (e ∷ es) k v = entry_weighs (cmp k e.0) k v e es (insert_entry cmp es k v) (insert_entry_weighs es k v)
+    insert_entry_charged : (es : List (K × V)) (k : K) (v : V) → sum_by total_of (insert_entry cmp es k v) ≤ sum_by total_of es + total_of (k, v)
+    insert_entry_charged [] k v = omega (arith, sum_by-cons total_of (k, v) [])
+    insert_entry_charged (e ∷ es) k v = entry_charged (cmp k e.0) k v e es (insert_entry cmp es k v) (insert_entry_charged es k v)
 
     -- no more than what was put
-    pub put_entries-weighs : (es items : List (K × V)) → sum_by total_of (put_entries cmp es items) ≤ sum_by total_of es + sum_by total_of items
-    put_entries-weighs es [] = omega arith
-    put_entries-weighs es (e ∷ items) = omega (arith, put_entries-weighs (insert_entry cmp es e.0 e.1) items, insert_entry_weighs es e.0 e.1, sum_by-cons total_of e items)
+    pub put_entries-charged : (es items : List (K × V)) → sum_by total_of (put_entries cmp es items) ≤ sum_by total_of es + sum_by total_of items
+    put_entries-charged es [] = omega arith
+    put_entries-charged es (e ∷ items) = omega (arith, put_entries-charged (insert_entry cmp es e.0 e.1) items, insert_entry_charged es e.0 e.1, sum_by-cons total_of e items)
 
 -- no more than were put
 ones : {A : Type 0} (xs : List A) → sum_by (λ x. 1) xs ≡ length xs
@@ -199,7 +199,7 @@ ones [] = refl
 ones (x ∷ xs) = sum_by-cons (λ x. 1) x xs ∙ omega (arith, ones xs)
 
 pub length-put_keys : {K : Type 0} (cmp : K → K → Ordering) (items : List K) → length (put_keys cmp [] items) ≤ length items
-length-put_keys cmp items = omega (arith, put_keys-weighs cmp (λ x. 1) [] items, ones (put_keys cmp [] items), ones items)
+length-put_keys cmp items = omega (arith, put_keys-charged cmp (λ x. 1) [] items, ones (put_keys cmp [] items), ones items)
 
 pub length-put_entries : {K V : Type 0} (cmp : K → K → Ordering) (items : List (K × V)) → length (put_entries cmp [] items) ≤ length items
-length-put_entries cmp items = omega (arith, put_entries-weighs cmp (λ k. 1) (λ v. 0) [] items, ones (put_entries cmp [] items), ones items)
+length-put_entries cmp items = omega (arith, put_entries-charged cmp (λ k. 1) (λ v. 0) [] items, ones (put_entries cmp [] items), ones items)

@@ -18,7 +18,7 @@ use Rattle.bincode_format.specs.Collections.{AreValid, IsMadeOf, MakesSet, put_k
 use Rattle.bincode_laws.specs.RunAllowedLaws.{run-same}
 use Rattle.bincode_laws.specs.ListLaws.{list-shortest}
 use Rattle.bincode_laws.specs.LaidLaws.{each-laid, laid-each}
-use Rattle.bincode_laws.specs.OrderLaws.{sorted-put_keys, sorted-equal, map-put_keys, All-put_keys, put_keys-weighs, length-put_keys}
+use Rattle.bincode_laws.specs.OrderLaws.{sorted-put_keys, sorted-equal, map-put_keys, All-put_keys, put_keys-charged, length-put_keys}
 use Rattle.bincode_laws.specs.ReadLaws.{ReadsAs, fewer-read}
 
 -- keys that are put in turn have words that are no longer
@@ -33,7 +33,7 @@ put_keys-allowed {K} cmp Allowed items bytes a =
     let put = put_keys told [] p.0 in
     let r = laid-each Allowed plain IsLaid weight (λ x h. (x.1, h, refl)) put (All-put_keys told IsLaid [] p.0 (All-nil IsLaid) p.2) in
     let e : map plain put ≡ put_keys cmp [] items = map-put_keys cmp plain [] p.0 ∙ ap (put_keys cmp []) (sym p.1) in
-    (r.0, subst (λ l. AllowsEach Allowed l r.0) e r.1, omega (arith, r.2, p.3, put_keys-weighs told weight [] p.0))
+    (r.0, subst (λ l. AllowsEach Allowed l r.0) e r.1, omega (arith, r.2, p.3, put_keys-charged told weight [] p.0))
 
 module _ {K : Type 0} (cmp : K → K → Ordering) (eq : K → K → Bool) (total : IsTotalOrder cmp) (matches : (x y : K) → eq x y ≡ is_eq (cmp x y)) where
   module _ (Means Given : K → Meaning → Type 0) (Valid : K → Type 0) (comes_back : (v w : K) (m : Meaning) → Valid v → Means v m → Given w m → eq v w ≡ true) where

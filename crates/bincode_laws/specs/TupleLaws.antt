@@ -17,7 +17,7 @@ use Rattle.bincode_laws.specs.CellLaws.{cell-has_word, held-word, word-held}
 use Rattle.bincode_format.specs.Forms.{units}
 use Rattle.bincode_laws.specs.FormLaws.{FormLaws}
 use Rattle.bincode_laws.specs.NeedLaws.{nothing-needs}
-use Rattle.bincode_laws.specs.RoomLaws.{nothing-weighs}
+use Rattle.bincode_laws.specs.ChargedLaws.{nothing-charged}
 
 -- a tuple is lawful
 pub nothing-lawful : Lawful nothing
@@ -126,7 +126,7 @@ units-laws = record {
   one_meaning = λ v w m n h k l. l;
   some_word = λ s. cell-has_word nothing nothing-lawful _ (record { bytes = []; are_bytes = All-nil (λ b. b < 256); is_allowed = nothing-allows });
   needs = λ s. nothing-needs;
-  weighs = λ s. nothing-weighs;
+  charged = λ s. nothing-charged;
 }
 
 -- the same of four parts and the others

@@ -8,7 +8,7 @@ use bincode::{BorrowDecode, Wire, borrow_decode_from_slice, encode_into_slice};
 use std::alloc::{AllocError, Global};
 use std::collections::BTreeMap;
 use std::net::{IpAddr, Ipv4Addr, Ipv6Addr, SocketAddr, SocketAddrV4, SocketAddrV6};
-use test_helpers::checks::{either, fault_of, is_written_as, keeps, read_front, within};
+use test_helpers::checks::{either, fault_of, is_passed, is_written_as, keeps, read_front, within};
 use test_helpers::rows::{first_unequal, first_wrong};
 
 /// The word of ::1 with the port 12345.
@@ -62,11 +62,6 @@ fn is_read<T: PartialEq + Drop>(
         return false;
     };
     read == value && taken == length
-}
-
-/// Whether the limit was passed.
-fn is_passed<T: Drop>(outcome: Result<(T, usize), DecodeError>) -> bool {
-    matches!(outcome, Err(DecodeError::LimitExceeded))
 }
 
 /// Octets are charged before they are read, and a tag before them.

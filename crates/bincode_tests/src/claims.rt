@@ -46,7 +46,7 @@ fn claims_what_scalars_take(rt: HostRuntime) {
         ("NonZeroIsize", NonZeroIsize::claim_size(), 8),
         ("bool", bool::claim_size(), 1),
         ("char", char::claim_size(), 4),
-        ("()", <()>::claim_size(), 0),
+        ("()", <()>::claim_size(), 1),
         ("Duration", Duration::claim_size(), 12),
     ];
     assert_eq!(rt; first_unequal(&rows), None);
@@ -62,13 +62,16 @@ fn claims_what_parts_claim(rt: HostRuntime) {
             15,
         ),
         ("[u64; 3]", <[u64; 3]>::claim_size(), 24),
-        ("[(); 5]", <[(); 5]>::claim_size(), 0),
+        ("((), ())", <((), ())>::claim_size(), 2),
+        ("[(); 5]", <[(); 5]>::claim_size(), 5),
+        ("[u64; 0]", <[u64; 0]>::claim_size(), 1),
         ("Option<u64>", Option::<u64>::claim_size(), 9),
-        ("Option<()>", Option::<()>::claim_size(), 1),
+        ("Option<()>", Option::<()>::claim_size(), 2),
         ("Result<u64, u16>", Result::<u64, u16>::claim_size(), 12),
         ("Result<u16, u64>", Result::<u16, u64>::claim_size(), 12),
+        ("Result<(), ()>", Result::<(), ()>::claim_size(), 5),
         ("Bound<u64>", Bound::<u64>::claim_size(), 12),
-        ("Bound<()>", Bound::<()>::claim_size(), 4),
+        ("Bound<()>", Bound::<()>::claim_size(), 5),
         ("Range<u64>", Range::<u64>::claim_size(), 16),
         (
             "RangeInclusive<u64>",
@@ -79,7 +82,7 @@ fn claims_what_parts_claim(rt: HostRuntime) {
         ("Reverse<u64>", Reverse::<u64>::claim_size(), 8),
         ("Cell<u64>", Cell::<u64>::claim_size(), 8),
         ("RefCell<u64>", RefCell::<u64>::claim_size(), 8),
-        ("PhantomData<u64>", PhantomData::<u64>::claim_size(), 0),
+        ("PhantomData<u64>", PhantomData::<u64>::claim_size(), 1),
         ("Cow<u16>", Cow::<u16>::claim_size(), 2),
     ];
     assert_eq!(rt; first_unequal(&rows), None);

@@ -8,7 +8,7 @@ use bincode::{Decode, borrow_decode_from_slice, encode_to_vec};
 use std::alloc::{AllocError, Global};
 use std::collections::{HashMap, HashSet};
 use std::hash::{BuildHasher, Hasher};
-use test_helpers::checks::{decoded, decoded_within, each_call_keeps, either};
+use test_helpers::checks::{decoded, each_call_keeps, either};
 
 /// A hasher that gives each key the same hash.
 #[derive(Clone, Copy, Default, Drop)]
@@ -144,15 +144,6 @@ fn keeps_each_key_once(rt: HostRuntime) {
         return;
     };
     assert!(rt; set.len() == 2 && set.contains(&5) && set.contains(&1));
-}
-
-#[test]
-fn claims_before_it_reserves(rt: HostRuntime) {
-    let outcome: Result<(HashMap<u8, u8>, usize), DecodeError> = decoded_within::<_, 1000>(
-        rt.alloc(),
-        &[253, 255, 255, 255, 255, 255, 255, 255, 255],
-    );
-    assert!(rt; matches!(outcome, Err(DecodeError::LimitExceeded)));
 }
 
 #[test]

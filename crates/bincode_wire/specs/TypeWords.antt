@@ -7,7 +7,7 @@ use Rattle.bincode_format.specs.Laws.{Lawful, Balanced}
 use Rattle.bincode_format.specs.Meaning.{Meaning}
 use Rattle.bincode_format.specs.Allowed.{AllowedWord, SomeWord, MayName}
 use Rattle.bincode_laws.specs.NeedLaws.{Needs}
-use Rattle.bincode_laws.specs.RoomLaws.{Weighs}
+use Rattle.bincode_laws.specs.ChargedLaws.{Charged}
 
 pub record Words (A : Type 0) : Type 1 where
   -- the words, what they mean and cost, and the faults of all other inputs. They depend on the setting alone
@@ -41,7 +41,7 @@ pub record Words (A : Type 0) : Type 1 where
   -- what an input needs is the most that is charged and held for it at once
   pub needs : (s : Setting) → Needs (need s) (format s)
   -- no word has more bytes than one and a half times what it charges, and all that it holds claims something
-  pub weighs : (s : Setting) → Weighs (format s)
+  pub charged : (s : Setting) → Charged (format s)
 
 -- the words of a value are those of its parts
 abbrev pub words_by : {A B : Type 0} → Words B → (A → B) → Words A
@@ -61,7 +61,7 @@ words_by W parts = record {
   names_own = W.names_own;
   claims = W.claims;
   needs = W.needs;
-  weighs = W.weighs;
+  charged = W.charged;
 }
 
 -- the same words, of which a container claims another number of bytes for an element
@@ -82,5 +82,5 @@ claiming n some W = record {
   names_own = W.names_own;
   claims = some;
   needs = W.needs;
-  weighs = W.weighs;
+  charged = W.charged;
 }

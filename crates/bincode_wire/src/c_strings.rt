@@ -3,7 +3,7 @@ ghost use Rattle.std.proofs.Common.{arith};
 ghost use Rattle.std.specs.Prelude.{max};
 ghost use Rattle.bincode_format.specs.Need.{text_needs};
 ghost use Rattle.bincode_laws.specs.NeedLaws.{c_string-needs};
-ghost use Rattle.bincode_laws.specs.RoomLaws.{c_string-weighs};
+ghost use Rattle.bincode_laws.specs.ChargedLaws.{c_string-charged};
 ghost use Rattle.std.specs.Prelude.{◌<◌, ◌^◌, length};
 ghost use Rattle.std.specs.List.{All};
 ghost use Rattle.bincode_format.specs.Meaning.{IsBytes};
@@ -39,7 +39,7 @@ impl<const SIZE: usize, const ALLOCATES: bool> Wire for BytesWithoutZero<SIZE, A
       names_own = λ e h. absurd h;
       claims = omega arith;
       needs = c_string-needs;
-      weighs = c_string-weighs;
+      charged = c_string-charged;
     } };
 
     fn claim_size() -> usize {

@@ -5,7 +5,7 @@ ghost use Rattle.bincode_format.specs.Format.{refused};
 ghost use Rattle.bincode_laws.specs.FormatLaws.{refused-lawful};
 ghost use Rattle.bincode_laws.specs.Balance.{refused-holds};
 ghost use Rattle.bincode_laws.specs.NeedLaws.{refused-needs};
-ghost use Rattle.bincode_laws.specs.RoomLaws.{refused-weighs};
+ghost use Rattle.bincode_laws.specs.ChargedLaws.{refused-charged};
 
 use crate::laws::{Canonical, Plain, Writable};
 use crate::wire::Wire;
@@ -34,7 +34,7 @@ impl<Of> Wire for NoVariants<Of> {
       names_own = λ e h. absurd h;
       claims = omega arith;
       needs = λ s. refused-needs EmptyEnum;
-      weighs = λ s. refused-weighs EmptyEnum;
+      charged = λ s. refused-charged EmptyEnum;
     } };
 
     fn claim_size() -> usize {

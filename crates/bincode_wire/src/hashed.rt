@@ -2,7 +2,7 @@
 ghost use Rattle.std.proofs.Common.{arith};
 ghost use Rattle.bincode_format.specs.Need.{list_needs};
 ghost use Rattle.bincode_laws.specs.NeedLaws.{list-needs};
-ghost use Rattle.bincode_laws.specs.RoomLaws.{list-weighs};
+ghost use Rattle.bincode_laws.specs.ChargedLaws.{list-charged};
 ghost use Rattle.std.specs.List.{All, IsDistinct};
 ghost use Rattle.std.specs.Map.{keys_of};
 ghost use Rattle.bincode_format.specs.Collections.{AreValid, IsMadeOf, MakesBag};
@@ -48,7 +48,7 @@ impl<K: Wire + Eq> Wire for HashedKeys<K> {
       claims = omega arith;
       needs = λ s. list-needs s K.its.claim (K.its.format s) (K.its.need s) (K.its.balanced s)
           (K.its.needs s);
-      weighs = λ s. list-weighs s K.its.claim (K.its.format s) K.its.claims (K.its.weighs s);
+      charged = λ s. list-charged s K.its.claim (K.its.format s) K.its.claims (K.its.charged s);
     } };
 
     fn claim_size() -> usize {
@@ -116,8 +116,8 @@ impl<K: Wire + Eq, V: Wire> Wire for HashedEntries<K, V> {
       claims = omega arith;
       needs = λ s. list-needs s ⟦<(K, V) as Wire>⟧.its.claim (⟦<(K, V) as Wire>⟧.its.format s)
           (⟦<(K, V) as Wire>⟧.its.need s) (⟦<(K, V) as Wire>⟧.its.balanced s) (⟦<(K, V) as Wire>⟧.its.needs s);
-      weighs = λ s. list-weighs s ⟦<(K, V) as Wire>⟧.its.claim (⟦<(K, V) as Wire>⟧.its.format s) ⟦<(K, V) as Wire>⟧.its.claims
-          (⟦<(K, V) as Wire>⟧.its.weighs s);
+      charged = λ s. list-charged s ⟦<(K, V) as Wire>⟧.its.claim (⟦<(K, V) as Wire>⟧.its.format s) ⟦<(K, V) as Wire>⟧.its.claims
+          (⟦<(K, V) as Wire>⟧.its.charged s);
     } };
 
     fn claim_size() -> usize {

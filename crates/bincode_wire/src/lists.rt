@@ -3,7 +3,7 @@ ghost use Rattle.std.proofs.Common.{arith};
 ghost use Rattle.std.specs.Prelude.{max};
 ghost use Rattle.bincode_format.specs.Need.{list_needs};
 ghost use Rattle.bincode_laws.specs.NeedLaws.{list-needs};
-ghost use Rattle.bincode_laws.specs.RoomLaws.{list-weighs};
+ghost use Rattle.bincode_laws.specs.ChargedLaws.{list-charged};
 ghost use Rattle.std.specs.List.{All};
 ghost use Rattle.bincode_format.specs.Words.{list};
 ghost use Rattle.bincode_format.specs.Run.{IsListOf};
@@ -43,7 +43,7 @@ impl<T: Wire, const SIZE: usize, const ALLOCATES: bool> Wire for ListItems<T, SI
       claims = omega arith;
       needs = λ s. list-needs s T.its.claim (T.its.format s) (T.its.need s) (T.its.balanced s)
           (T.its.needs s);
-      weighs = λ s. list-weighs s T.its.claim (T.its.format s) T.its.claims (T.its.weighs s);
+      charged = λ s. list-charged s T.its.claim (T.its.format s) T.its.claims (T.its.charged s);
     } };
 
     fn claim_size() -> usize {

@@ -2,7 +2,7 @@
 ghost use Rattle.std.proofs.Common.{arith};
 ghost use Rattle.std.specs.Prelude.{max};
 ghost use Rattle.bincode_laws.specs.NeedLaws.{octets-needs};
-ghost use Rattle.bincode_laws.specs.RoomLaws.{octets-weighs};
+ghost use Rattle.bincode_laws.specs.ChargedLaws.{octets-charged};
 ghost use Rattle.std.specs.Prelude.{◌≡◌, ◌<◌, length};
 ghost use Rattle.std.specs.List.{All};
 ghost use Rattle.bincode_format.specs.Meaning.{IsBytes};
@@ -35,7 +35,7 @@ impl<const N: usize> Wire for Octets<N> {
       names_own = λ e h. absurd h;
       claims = omega arith;
       needs = λ s. octets-needs N;
-      weighs = λ s. octets-weighs N;
+      charged = λ s. octets-charged N;
     } };
 
     fn claim_size() -> usize {

@@ -35,7 +35,7 @@ impl<T: Parted> Wire for T {
       names_own = T.Parts.its.names_own;
       claims = T.Parts.its.claims;
       needs = T.Parts.its.needs;
-      weighs = T.Parts.its.weighs;
+      charged = T.Parts.its.charged;
     } };
 
     fn claim_size() -> usize {

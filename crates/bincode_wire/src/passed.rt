@@ -6,7 +6,7 @@ ghost use Rattle.bincode_format.specs.Fault.{Fault, IsEnd};
 ghost use Rattle.bincode_format.specs.Meaning.{Meaning};
 ghost use Rattle.bincode_format.specs.Passed.{passed, passed_of, TellsOwn};
 ghost use Rattle.bincode_laws.specs.NeedLaws.{test-needs};
-ghost use Rattle.bincode_laws.specs.RoomLaws.{test-weighs};
+ghost use Rattle.bincode_laws.specs.ChargedLaws.{test-charged};
 ghost use Rattle.bincode_laws.specs.PassedLaws.{passed-lawful, passed-balanced, passed-has_word};
 
 use crate::laws::{Canonical, Exact, Plain, Writable};
@@ -83,7 +83,7 @@ impl<T: Tested> Wire for Passed<T> {
       names_own = T.Of.its.names_own;
       claims = T.Of.its.claims;
       needs = λ s. test-needs _ (T.Of.its.format s) (passed_of T.passes T.fault) (T.Of.its.needs s);
-      weighs = λ s. test-weighs (T.Of.its.format s) (passed_of T.passes T.fault) (T.Of.its.weighs s);
+      charged = λ s. test-charged (T.Of.its.format s) (passed_of T.passes T.fault) (T.Of.its.charged s);
     } };
 
     fn claim_size() -> usize {

@@ -1,13 +1,14 @@
 //! Parts in a row: what tuples are written as.
-ghost use Rattle.std.specs.Prelude.{◌≡◌, ℕ, ◌⊎◌, ◌+◌, ◌-◌, ◌^◌, min, max, refl};
+ghost use Rattle.std.specs.Prelude.{◌≡◌, ◌⊎◌, ◌+◌, ◌-◌, ◌^◌, min, max, refl};
 ghost use Rattle.std.proofs.Common.{arith};
 ghost use Rattle.bincode_format.specs.Meaning.{IsThen, IsFourThen};
 ghost use Rattle.bincode_format.specs.Need.{then_needs};
 ghost use Rattle.bincode_format.specs.Words.{first_and, four_and};
 ghost use Rattle.bincode_format.specs.Forms.{units};
+ghost use Rattle.bincode_wire.specs.Rows.{claim_behind};
 ghost use Rattle.bincode_laws.specs.CostLaws.{nothing-costs};
 ghost use Rattle.bincode_laws.specs.NeedLaws.{then-needs};
-ghost use Rattle.bincode_laws.specs.RoomLaws.{then-weighs};
+ghost use Rattle.bincode_laws.specs.ChargedLaws.{then-charged};
 ghost use Rattle.bincode_laws.specs.TupleLaws.{units-laws, then-lawful, then-balanced, then-has_word};
 ghost use Rattle.bincode_laws.specs.TupleLaws.{either, four-lawful};
 ghost use Rattle.bincode_laws.specs.TupleLaws.{four-balanced, four-has_word};
@@ -43,29 +44,18 @@ impl FixedCharge for () {
     ghost charges = { λ s. nothing-costs };
 }
 
-/// What stands behind a part of a row: a row too, or `()` behind the last.
-pub trait Rest: Wire {
-    /// What it adds to the claim of the row: `()` behind the last part is no part, and adds nothing.
-    ghost more: { ℕ };
-
-    /// So much.
-    fn more_size() -> usize
-        ensures { result ≡ more };
-}
-
-impl Rest for () {
-    ghost more = { 0 };
-
-    fn more_size() -> usize {
-        0
-    }
-}
-
-/// A part, and the others. What they claim is a sum, at most the greatest `usize`.
+/// A part, and the others: a row too, or `()` behind the last part, as `LAST` says. What the parts claim is a sum, at most
+/// the greatest `usize`.
 #[derive(Drop, PartialEq)]
-pub struct Row<A, Others>(pub A, pub Others);
+pub struct Row<A, Others, const LAST: bool>(pub A, pub Others);
 
-impl<A: Wire, Others: Rest> Wire for Row<A, Others> {
+/// The last part.
+pub type Last<A> = Row<A, (), true>;
+
+/// A part before others.
+pub type Next<A, Others> = Row<A, Others, false>;
+
+impl<A: Wire, Others: Wire, const LAST: bool> Wire for Row<A, Others, LAST> {
     ghost its = { record {
       format = λ s. first_and (A.its.format s) (Others.its.format s);
       valid = λ v. A.its.valid v.0 × Others.its.valid v.1;
@@ -74,7 +64,7 @@ impl<A: Wire, Others: Rest> Wire for Row<A, Others> {
       writable = λ s v. A.its.writable s v.0 × Others.its.writable s v.1;
       names = λ e. A.its.names e ⊎ Others.its.names e;
       grows = A.its.grows ⊎ Others.its.grows;
-      claim = min (A.its.claim + Others.more) (2 ^ 64 - 1);
+      claim = min (A.its.claim + claim_behind LAST Others.its.claim) (2 ^ 64 - 1);
       need = λ s. then_needs (A.its.format s) (A.its.need s) (λ _. Others.its.need s);
       lawful = λ s. then-lawful (A.its.lawful s) (Others.its.lawful s);
       balanced = λ s. then-balanced (A.its.balanced s) (Others.its.balanced s);
@@ -82,58 +72,51 @@ impl<A: Wire, Others: Rest> Wire for Row<A, Others> {
       names_own = λ e. either (A.its.names_own e) (Others.its.names_own e);
       claims = omega (arith, A.its.claims);
       needs = λ s. then-needs (A.its.balanced s) (A.its.needs s) (Others.its.needs s);
-      weighs = λ s. then-weighs (A.its.weighs s) (Others.its.weighs s);
+      charged = λ s. then-charged (A.its.charged s) (Others.its.charged s);
     } };
 
     fn claim_size() -> usize {
-        A::claim_size().saturating_add(Others::more_size())
+        A::claim_size().saturating_add(claim_behind(LAST, Others::claim_size()))
     }
 }
 
-impl<A: Wire, Others: Rest> Rest for Row<A, Others> {
-    ghost more = { ⟦<Row<A, Others> as Wire>⟧.its.claim };
-
-    fn more_size() -> usize {
-        Row::<A, Others>::claim_size()
-    }
-}
-
-impl<A: Inhabited, Others: Inhabited + Rest> Inhabited for Row<A, Others> {
+impl<A: Inhabited, Others: Inhabited, const LAST: bool> Inhabited for Row<A, Others, LAST> {
     fn tell_inhabited() {
         A::tell_inhabited();
         Others::tell_inhabited();
     }
 }
 
-impl<A: Writable, Others: Writable + Rest> Writable for Row<A, Others> {
+impl<A: Writable, Others: Writable, const LAST: bool> Writable for Row<A, Others, LAST> {
     fn tell_writable() {
         A::tell_writable();
         Others::tell_writable();
     }
 }
 
-impl<A: Plain, Others: Plain + Rest> Plain for Row<A, Others> {
+impl<A: Plain, Others: Plain, const LAST: bool> Plain for Row<A, Others, LAST> {
     fn tell_plain() {
         A::tell_plain();
         Others::tell_plain();
     }
 }
 
-impl<A: Exact, Others: Exact + Rest> Exact for Row<A, Others> {
+impl<A: Exact, Others: Exact, const LAST: bool> Exact for Row<A, Others, LAST> {
     fn tell_exact() {
         A::tell_exact();
         Others::tell_exact();
     }
 }
 
-impl<A: Canonical, Others: Canonical + Rest> Canonical for Row<A, Others> {
+impl<A: Canonical, Others: Canonical, const LAST: bool> Canonical for Row<A, Others, LAST> {
     fn tell_canonical() {
         A::tell_canonical();
         Others::tell_canonical();
     }
 }
 
-impl<A: ConstantCharge, Others: ConstantCharge + Rest> ConstantCharge for Row<A, Others> {
+impl<A: ConstantCharge, Others: ConstantCharge, const LAST: bool> ConstantCharge
+    for Row<A, Others, LAST> {
     ghost cost = { A.cost + Others.cost };
 
     ghost peak = { max A.peak (A.cost + Others.peak) };
@@ -144,11 +127,25 @@ impl<A: ConstantCharge, Others: ConstantCharge + Rest> ConstantCharge for Row<A,
     }
 }
 
+/// What the others behind a part claim: nothing behind the last.
+fn claim_behind(last: bool, claim: usize) -> usize
+    ensures { result ≡ claim_behind last claim }
+{
+    if last { 0 } else { claim }
+}
+
 /// Four parts, and the others.
 #[derive(Drop, PartialEq)]
-pub struct LongRow<A, B, C, D, Others>(pub A, pub B, pub C, pub D, pub Others);
+pub struct LongRow<A, B, C, D, Others, const LAST: bool>(pub A, pub B, pub C, pub D, pub Others);
 
-impl<A: Wire, B: Wire, C: Wire, D: Wire, Others: Rest> Wire for LongRow<A, B, C, D, Others> {
+/// The last four parts.
+pub type LastFour<A, B, C, D> = LongRow<A, B, C, D, (), true>;
+
+/// Four parts before others.
+pub type NextFour<A, B, C, D, Others> = LongRow<A, B, C, D, Others, false>;
+
+impl<A: Wire, B: Wire, C: Wire, D: Wire, Others: Wire, const LAST: bool> Wire
+    for LongRow<A, B, C, D, Others, LAST> {
     ghost its = { record {
       format = λ s. four_and (A.its.format s) (B.its.format s) (C.its.format s) (D.its.format s) (Others.its.format s);
       valid = λ v. A.its.valid v.0 × (B.its.valid v.1 × (C.its.valid v.2 × (D.its.valid v.3 × Others.its.valid v.4)));
@@ -160,7 +157,7 @@ impl<A: Wire, B: Wire, C: Wire, D: Wire, Others: Rest> Wire for LongRow<A, B, C,
           × (C.its.writable s v.2 × (D.its.writable s v.3 × Others.its.writable s v.4)));
       names = λ e. A.its.names e ⊎ (B.its.names e ⊎ (C.its.names e ⊎ (D.its.names e ⊎ Others.its.names e)));
       grows = A.its.grows ⊎ (B.its.grows ⊎ (C.its.grows ⊎ (D.its.grows ⊎ Others.its.grows)));
-      claim = ⟦<Row<A, Row<B, Row<C, Row<D, Others>>>> as Wire>⟧.its.claim;
+      claim = ⟦<Next<A, Next<B, Next<C, Row<D, Others, LAST>>>> as Wire>⟧.its.claim;
       need = λ s. then_needs (A.its.format s) (A.its.need s) (λ _. then_needs (B.its.format s) (B.its.need s)
           (λ _. then_needs (C.its.format s) (C.its.need s) (λ _. then_needs (D.its.format s) (D.its.need s)
           (λ _. Others.its.need s))));
@@ -174,29 +171,30 @@ impl<A: Wire, B: Wire, C: Wire, D: Wire, Others: Rest> Wire for LongRow<A, B, C,
           (D.its.has_word s v.3 h.1.1.1.0 w.1.1.1.0) (Others.its.has_word s v.4 h.1.1.1.1 w.1.1.1.1);
       names_own = λ e. either (A.its.names_own e) (either (B.its.names_own e)
           (either (C.its.names_own e) (either (D.its.names_own e) (Others.its.names_own e))));
-      claims = ⟦<Row<A, Row<B, Row<C, Row<D, Others>>>> as Wire>⟧.its.claims;
+      claims = ⟦<Next<A, Next<B, Next<C, Row<D, Others, LAST>>>> as Wire>⟧.its.claims;
       needs = λ s. then-needs (A.its.balanced s) (A.its.needs s) (then-needs (B.its.balanced s) (B.its.needs s)
           (then-needs (C.its.balanced s) (C.its.needs s) (then-needs (D.its.balanced s) (D.its.needs s)
           (Others.its.needs s))));
-      weighs = λ s. then-weighs (A.its.weighs s) (then-weighs (B.its.weighs s) (then-weighs (C.its.weighs s)
-          (then-weighs (D.its.weighs s) (Others.its.weighs s))));
+      charged = λ s. then-charged (A.its.charged s) (then-charged (B.its.charged s) (then-charged (C.its.charged s)
+          (then-charged (D.its.charged s) (Others.its.charged s))));
     } };
 
     fn claim_size() -> usize {
-        Row::<A, Row<B, Row<C, Row<D, Others>>>>::claim_size()
+        let fourth = D::claim_size().saturating_add(claim_behind(LAST, Others::claim_size()));
+        let third = C::claim_size().saturating_add(fourth);
+        let second = B::claim_size().saturating_add(third);
+        A::claim_size().saturating_add(second)
     }
 }
 
-impl<A: Wire, B: Wire, C: Wire, D: Wire, Others: Rest> Rest for LongRow<A, B, C, D, Others> {
-    ghost more = { ⟦<LongRow<A, B, C, D, Others> as Wire>⟧.its.claim };
-
-    fn more_size() -> usize {
-        LongRow::<A, B, C, D, Others>::claim_size()
-    }
-}
-
-impl<A: Inhabited, B: Inhabited, C: Inhabited, D: Inhabited, Others: Inhabited + Rest> Inhabited
-    for LongRow<A, B, C, D, Others> {
+impl<
+    A: Inhabited,
+    B: Inhabited,
+    C: Inhabited,
+    D: Inhabited,
+    Others: Inhabited,
+    const LAST: bool,
+> Inhabited for LongRow<A, B, C, D, Others, LAST> {
     fn tell_inhabited() {
         A::tell_inhabited();
         B::tell_inhabited();
@@ -206,8 +204,14 @@ impl<A: Inhabited, B: Inhabited, C: Inhabited, D: Inhabited, Others: Inhabited +
     }
 }
 
-impl<A: Writable, B: Writable, C: Writable, D: Writable, Others: Writable + Rest> Writable
-    for LongRow<A, B, C, D, Others> {
+impl<
+    A: Writable,
+    B: Writable,
+    C: Writable,
+    D: Writable,
+    Others: Writable,
+    const LAST: bool,
+> Writable for LongRow<A, B, C, D, Others, LAST> {
     fn tell_writable() {
         A::tell_writable();
         B::tell_writable();
@@ -217,7 +221,8 @@ impl<A: Writable, B: Writable, C: Writable, D: Writable, Others: Writable + Rest
     }
 }
 
-impl<A: Plain, B: Plain, C: Plain, D: Plain, Others: Plain + Rest> Plain for LongRow<A, B, C, D, Others> {
+impl<A: Plain, B: Plain, C: Plain, D: Plain, Others: Plain, const LAST: bool> Plain
+    for LongRow<A, B, C, D, Others, LAST> {
     fn tell_plain() {
         A::tell_plain();
         B::tell_plain();
@@ -227,7 +232,8 @@ impl<A: Plain, B: Plain, C: Plain, D: Plain, Others: Plain + Rest> Plain for Lon
     }
 }
 
-impl<A: Exact, B: Exact, C: Exact, D: Exact, Others: Exact + Rest> Exact for LongRow<A, B, C, D, Others> {
+impl<A: Exact, B: Exact, C: Exact, D: Exact, Others: Exact, const LAST: bool> Exact
+    for LongRow<A, B, C, D, Others, LAST> {
     fn tell_exact() {
         A::tell_exact();
         B::tell_exact();
@@ -237,8 +243,14 @@ impl<A: Exact, B: Exact, C: Exact, D: Exact, Others: Exact + Rest> Exact for Lon
     }
 }
 
-impl<A: Canonical, B: Canonical, C: Canonical, D: Canonical, Others: Canonical + Rest> Canonical
-    for LongRow<A, B, C, D, Others> {
+impl<
+    A: Canonical,
+    B: Canonical,
+    C: Canonical,
+    D: Canonical,
+    Others: Canonical,
+    const LAST: bool,
+> Canonical for LongRow<A, B, C, D, Others, LAST> {
     fn tell_canonical() {
         A::tell_canonical();
         B::tell_canonical();
@@ -253,11 +265,12 @@ impl<
     B: ConstantCharge,
     C: ConstantCharge,
     D: ConstantCharge,
-    Others: ConstantCharge + Rest,
-> ConstantCharge for LongRow<A, B, C, D, Others> {
-    ghost cost = { ⟦<Row<A, Row<B, Row<C, Row<D, Others>>>> as ConstantCharge>⟧.cost };
+    Others: ConstantCharge,
+    const LAST: bool,
+> ConstantCharge for LongRow<A, B, C, D, Others, LAST> {
+    ghost cost = { ⟦<Next<A, Next<B, Next<C, Row<D, Others, LAST>>>> as ConstantCharge>⟧.cost };
 
-    ghost peak = { ⟦<Row<A, Row<B, Row<C, Row<D, Others>>>> as ConstantCharge>⟧.peak };
+    ghost peak = { ⟦<Next<A, Next<B, Next<C, Row<D, Others, LAST>>>> as ConstantCharge>⟧.peak };
 
     fn tell_costs() {
         A::tell_costs();

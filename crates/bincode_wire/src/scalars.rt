@@ -55,7 +55,7 @@ impl<T: Scalar> Wire for Alone<T> {
       names_own = λ e h. absurd h;
       claims = omega arith;
       needs = T.form_laws.needs;
-      weighs = T.form_laws.weighs;
+      charged = T.form_laws.charged;
     } };
 
     fn claim_size() -> usize {

@@ -9,7 +9,7 @@ ghost use Rattle.bincode_format.specs.Integers.{Four};
 ghost use Rattle.bincode_format.specs.Fault.{Allowed, UnexpectedVariant};
 ghost use Rattle.bincode_format.specs.Need.{then_needs, picked_needs};
 ghost use Rattle.bincode_laws.specs.NeedLaws.{Needs, picked-needs, refused-needs, map-needs, chosen-needs};
-ghost use Rattle.bincode_laws.specs.RoomLaws.{Weighs, picked-weighs, refused-weighs, map-weighs, chosen-weighs};
+ghost use Rattle.bincode_laws.specs.ChargedLaws.{Charged, picked-charged, refused-charged, map-charged, chosen-charged};
 ghost use Rattle.bincode_base.specs.declared.error.IntegerType.TheVariants.{U32};
 ghost use Rattle.bincode_base.specs.declared.error.EncodeError.{EncodeError};
 ghost use Rattle.bincode_format.specs.Meaning.{Meaning, Choice};
@@ -110,7 +110,7 @@ pub trait Variants {
 
     ghost needs: { (s : Setting) (allowed : Allowed) (found : ℕ) → Needs (need s found) (part s variants allowed found) };
 
-    ghost weighs: { (s : Setting) (allowed : Allowed) (found : ℕ) → Weighs (part s variants allowed found) };
+    ghost charged: { (s : Setting) (allowed : Allowed) (found : ℕ) → Charged (part s variants allowed found) };
 
     /// What the widest part claims.
     fn claim_size() -> usize
@@ -194,7 +194,7 @@ impl<Of, T: Tag> Variants for NoOther<Of, T> {
 
     ghost needs = { λ s allowed found. refused-needs (UnexpectedVariant allowed found) };
 
-    ghost weighs = { λ s allowed found. refused-weighs (UnexpectedVariant allowed found) };
+    ghost charged = { λ s allowed found. refused-charged (UnexpectedVariant allowed found) };
 }
 
 impl<Of, T: Tag> WritableVariants for NoOther<Of, T> {
@@ -272,8 +272,8 @@ impl<const TAG: u32, A: Wire, Others: Variants> Variants for Or<TAG, A, Others> 
     ghost needs = { λ s allowed found. picked-needs (found == TAG) _ _ _ _
         (map-needs (A.its.need s) (Choice found) (A.its.format s) (A.its.needs s)) (Others.needs s allowed found) };
 
-    ghost weighs = { λ s allowed found. picked-weighs (found == TAG) _ _
-        (map-weighs (Choice found) (A.its.format s) (A.its.weighs s)) (Others.weighs s allowed found) };
+    ghost charged = { λ s allowed found. picked-charged (found == TAG) _ _
+        (map-charged (Choice found) (A.its.format s) (A.its.charged s)) (Others.charged s allowed found) };
 }
 
 impl<const TAG: u32, A: Writable, Others: WritableVariants> WritableVariants
@@ -329,8 +329,8 @@ impl<Of: Variants> Wire for OneOf<Of> {
       claims = omega (arith, Of.Tag.its.claims);
       needs = λ s. chosen-needs Of.Tag.tags Of.variants s Of.Tag.width (Of.need s) (Of.Tag.numerals.balanced s)
           (Of.Tag.numerals.needs s) (Of.needs s (allowed_tags (tags_of Of.variants)));
-      weighs = λ s. chosen-weighs Of.Tag.tags Of.variants s (Of.Tag.numerals.weighs s)
-          (Of.weighs s (allowed_tags (tags_of Of.variants)));
+      charged = λ s. chosen-charged Of.Tag.tags Of.variants s (Of.Tag.numerals.charged s)
+          (Of.charged s (allowed_tags (tags_of Of.variants)));
     } };
 
     fn claim_size() -> usize {

@@ -3,7 +3,7 @@ ghost use Rattle.std.proofs.Common.{arith};
 ghost use Rattle.std.specs.Prelude.{max};
 ghost use Rattle.bincode_format.specs.Need.{text_needs};
 ghost use Rattle.bincode_laws.specs.NeedLaws.{text-needs};
-ghost use Rattle.bincode_laws.specs.RoomLaws.{text-weighs};
+ghost use Rattle.bincode_laws.specs.ChargedLaws.{text-charged};
 ghost use Rattle.std.specs.Prelude.{◌<◌, ◌^◌, length};
 ghost use Rattle.std.specs.Str.{IsUtf8};
 ghost use Rattle.bincode_format.specs.Meaning.{IsBytes};
@@ -38,7 +38,7 @@ impl<const SIZE: usize, const ALLOCATES: bool> Wire for TextBytes<SIZE, ALLOCATE
       names_own = λ e h. absurd h;
       claims = omega arith;
       needs = text-needs;
-      weighs = text-weighs;
+      charged = text-charged;
     } };
 
     fn claim_size() -> usize {

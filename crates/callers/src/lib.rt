@@ -6,6 +6,7 @@ pub mod calls;
 pub mod cut;
 pub mod fixed;
 pub mod lengths;
+pub mod limits;
 pub mod longer;
 pub mod looped;
 pub mod rooms;

@@ -29,12 +29,14 @@ impl MadeOf<Parts> for Code {
 }
 
 impl Wire for Code {
-    ghost use Rattle.bincode.specs.TypeWords.{words_by};
+    ghost use Rattle.std.proofs.Common.{arith};
+    ghost use Rattle.bincode.specs.TypeWords.{claiming, words_by};
 
-    ghost its = { words_by ⟦<Parts as Wire>⟧.its ⟦<Code as MadeOf<Parts>>⟧.parts };
+    // The tag alone: there are no parts.
+    ghost its = { claiming 4 (omega arith) (words_by ⟦<Parts as Wire>⟧.its ⟦<Code as MadeOf<Parts>>⟧.parts) };
 
     fn claim_size() -> usize {
-        Parts::claim_size()
+        4
     }
 }
 

@@ -14,4 +14,5 @@ pub mod kind;
 pub mod never;
 pub mod note;
 pub mod pack;
+pub mod requests;
 pub mod track;

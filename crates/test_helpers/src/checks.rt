@@ -194,8 +194,13 @@ pub fn each_call_keeps<T: Encode + Decode<()>>(alloc: Global, word: &[u8]) -> bo
         && is_read_of(alloc, in_turn, word)
 }
 
+/// Whether decoding answers that the limit is passed.
+pub fn is_passed<T: Drop>(outcome: Result<T, DecodeError>) -> bool {
+    matches!(outcome, Err(DecodeError::LimitExceeded))
+}
+
 /// Whether decoding answers that the input ends.
-fn is_cut<T: Drop>(outcome: Result<T, DecodeError>) -> bool {
+pub fn is_cut<T: Drop>(outcome: Result<T, DecodeError>) -> bool {
     matches!(outcome, Err(DecodeError::UnexpectedEnd { additional: _ }))
 }
 

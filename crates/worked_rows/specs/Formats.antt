@@ -101,8 +101,8 @@ SignedRows i8 i16 i32 i64 i128 isize non_zero_i16 = AllHold (
     [])
 
 -- truth values, and what has parts
-abbrev pub WholeRows : Formats → Formats → Formats → Formats → Formats → Type 0
-WholeRows bool unit pair five two_u16 = AllHold (
+abbrev pub WholeRows : Formats → Formats → Formats → Formats → Formats → Formats → Formats → Type 0
+WholeRows bool unit pair five two_u16 two_units no_u16 = AllHold (
     (bool standard).read (1 ∷ []) gives Took (Truth true) [] (Charge 1 ∷ []) ∷
     (bool standard).read (2 ∷ []) gives Failed (InvalidBool 2) (Charge 1 ∷ []) ∷
     (unit standard).read (5 ∷ []) gives Took Nothing (5 ∷ []) [] ∷
@@ -110,8 +110,10 @@ WholeRows bool unit pair five two_u16 = AllHold (
     (pair standard).read (1 ∷ []) gives Failed (End (Some 1)) (Charge 1 ∷ Charge 4 ∷ []) ∷
     (five standard).read (0 ∷ 10 ∷ 251 ∷ 32 ∷ 78 ∷ 97 ∷ 0 ∷ 1 ∷ 2 ∷ 3 ∷ [])
     gives Took (listed (number 0 ∷ number 10 ∷ number 10000 ∷ Character 97 ∷ listed (number 0 ∷ number 1 ∷ number 2 ∷ number 3 ∷ []) ∷ [])) []
-    (Charge 1 ∷ Charge 4 ∷ Charge 16 ∷ Charge 1 ∷ Reserve 4 ∷ Release 1 ∷ Charge 1 ∷ Release 1 ∷ Charge 1 ∷ Release 1 ∷ Charge 1 ∷ Release 1 ∷ Charge 1 ∷ []) ∷
-    (two_u16 standard).read (5 ∷ 6 ∷ []) gives Took (listed (number 5 ∷ number 6 ∷ [])) [] (Reserve 4 ∷ Release 2 ∷ Charge 2 ∷ Release 2 ∷ Charge 2 ∷ []) ∷
+    (Charge 1 ∷ Charge 4 ∷ Charge 16 ∷ Charge 1 ∷ Reserve 4 1 ∷ Release 1 ∷ Charge 1 ∷ Release 1 ∷ Charge 1 ∷ Release 1 ∷ Charge 1 ∷ Release 1 ∷ Charge 1 ∷ []) ∷
+    (two_u16 standard).read (5 ∷ 6 ∷ []) gives Took (listed (number 5 ∷ number 6 ∷ [])) [] (Reserve 2 2 ∷ Release 2 ∷ Charge 2 ∷ Release 2 ∷ Charge 2 ∷ []) ∷
+    (two_units standard).read (5 ∷ []) gives Took (listed (Nothing ∷ Nothing ∷ [])) (5 ∷ []) (Reserve 2 1 ∷ Release 1 ∷ Release 1 ∷ []) ∷
+    (no_u16 standard).read (5 ∷ []) gives Took Nothing (5 ∷ []) (Reserve 0 2 ∷ []) ∷
     [])
 
 -- characters
@@ -163,17 +165,19 @@ AddressRows ipv4 ip socket_v6 socket = AllHold (
     [])
 
 -- lists of elements in these formats
-abbrev pub ListRows : Formats → Formats → Formats → Formats → Formats → Type 0
-ListRows u8 u16 u32 unit option_u8 = AllHold (
+abbrev pub ListRows : Formats → Formats → Formats → Formats → Formats → Formats → Type 0
+ListRows u8 u16 u32 unit option_u8 option_unit = AllHold (
     (list standard 24 (list standard 1 (u8 standard))).read (1 ∷ 2 ∷ 7 ∷ 8 ∷ [])
-    gives Took (listed (listed (number 7 ∷ number 8 ∷ []) ∷ [])) [] (Charge 8 ∷ Reserve 24 ∷ Release 24 ∷ Charge 8 ∷ Reserve 2 ∷ Release 1 ∷ Charge 1 ∷ Release 1 ∷ Charge 1 ∷ []) ∷
+    gives Took (listed (listed (number 7 ∷ number 8 ∷ []) ∷ [])) [] (Charge 8 ∷ Reserve 1 24 ∷ Release 24 ∷ Charge 8 ∷ Reserve 2 1 ∷ Release 1 ∷ Charge 1 ∷ Release 1 ∷ Charge 1 ∷ []) ∷
     (list standard 24 (list standard 1 (u8 standard))).read (2 ∷ 1 ∷ 9 ∷ 1 ∷ [])
-    gives Failed (End None) (Charge 8 ∷ Reserve 48 ∷ Release 24 ∷ Charge 8 ∷ Reserve 1 ∷ Release 1 ∷ Charge 1 ∷ Release 24 ∷ Charge 8 ∷ Reserve 1 ∷ Release 1 ∷ Charge 1 ∷ []) ∷
-    (list standard 1 (u8 standard)).read (3 ∷ 1 ∷ []) gives Failed (End None) (Charge 8 ∷ Reserve 3 ∷ Release 1 ∷ Charge 1 ∷ Release 1 ∷ Charge 1 ∷ []) ∷
-    (list legacy 4 (u32 legacy)).read (replicate 8 0) gives Took Nothing [] (Charge 8 ∷ Reserve 0 ∷ []) ∷
-    (list standard 0 (unit standard)).read (3 ∷ []) gives Took (listed (Nothing ∷ Nothing ∷ Nothing ∷ [])) [] (Charge 8 ∷ Reserve 0 ∷ Release 0 ∷ Release 0 ∷ Release 0 ∷ []) ∷
-    (list standard 2 (u16 standard)).read (2 ∷ 255 ∷ []) gives Failed (InvalidInteger U16 Reserved) (Charge 8 ∷ Reserve 4 ∷ Release 2 ∷ Charge 2 ∷ []) ∷
-    (list standard 2 (option_u8 standard)).read (2 ∷ 0 ∷ 2 ∷ []) gives Failed (UnexpectedVariant (Between 0 1) 2) (Charge 8 ∷ Reserve 4 ∷ Release 2 ∷ Charge 1 ∷ Release 2 ∷ Charge 1 ∷ []) ∷
+    gives Failed (End None) (Charge 8 ∷ Reserve 2 24 ∷ Release 24 ∷ Charge 8 ∷ Reserve 1 1 ∷ Release 1 ∷ Charge 1 ∷ Release 24 ∷ Charge 8 ∷ Reserve 1 1 ∷ Release 1 ∷ Charge 1 ∷ []) ∷
+    (list standard 1 (u8 standard)).read (3 ∷ 1 ∷ []) gives Failed (End None) (Charge 8 ∷ Reserve 3 1 ∷ Release 1 ∷ Charge 1 ∷ Release 1 ∷ Charge 1 ∷ []) ∷
+    (list legacy 4 (u32 legacy)).read (replicate 8 0) gives Took Nothing [] (Charge 8 ∷ Reserve 0 4 ∷ []) ∷
+    (list standard 1 (unit standard)).read (3 ∷ []) gives Took (listed (Nothing ∷ Nothing ∷ Nothing ∷ [])) [] (Charge 8 ∷ Reserve 3 1 ∷ Release 1 ∷ Release 1 ∷ Release 1 ∷ []) ∷
+    (list standard 2 (option_unit standard)).read (2 ∷ 0 ∷ 1 ∷ [])
+    gives Took (listed (Choice 0 Nothing ∷ Choice 1 Nothing ∷ [])) [] (Charge 8 ∷ Reserve 2 2 ∷ Release 2 ∷ Charge 1 ∷ Release 2 ∷ Charge 1 ∷ []) ∷
+    (list standard 2 (u16 standard)).read (2 ∷ 255 ∷ []) gives Failed (InvalidInteger U16 Reserved) (Charge 8 ∷ Reserve 2 2 ∷ Release 2 ∷ Charge 2 ∷ []) ∷
+    (list standard 2 (option_u8 standard)).read (2 ∷ 0 ∷ 2 ∷ []) gives Failed (UnexpectedVariant (Between 0 1) 2) (Charge 8 ∷ Reserve 2 2 ∷ Release 2 ∷ Charge 1 ∷ Release 2 ∷ Charge 1 ∷ []) ∷
     [])
 
 -- texts

@@ -98,7 +98,11 @@ pub enum Limited {
     ListsTo32(Decoding<&'static [&'static [u8]], Limit<32>>),
     /// As a list of `()`; the answer has its length.
     UnitsTo7(Decoding<usize, Limit<7>>),
-    UnitsTo8(Decoding<usize, Limit<8>>),
+    UnitsTo10(Decoding<usize, Limit<10>>),
+    UnitsTo11(Decoding<usize, Limit<11>>),
+    /// As a list; the answer has its items.
+    OptionsTo11(Decoding<&'static [Option<()>], Limit<11>>),
+    OptionsTo12(Decoding<&'static [Option<()>], Limit<12>>),
 }
 
 /// An input whose texts are read as pieces of it.

@@ -53,12 +53,12 @@ pub fn not_zero_claims()
     ensures of_not_zero_isize { ⟦<NonZeroIsize as Wire>⟧.its.claim ≡ 8 }
 {}
 
-/// Of truth values, characters and spans of time, and of what has no bytes.
+/// Of truth values, characters and spans of time, and of what has no bytes: that counts 1.
 pub fn scalar_claims()
     ensures truth { ⟦<bool as Wire>⟧.its.claim ≡ 1 }
     ensures character { ⟦<char as Wire>⟧.its.claim ≡ 4 }
-    ensures nothing { ⟦<() as Wire>⟧.its.claim ≡ 0 }
-    ensures phantom { ⟦<PhantomData<u64> as Wire>⟧.its.claim ≡ 0 }
+    ensures nothing { ⟦<() as Wire>⟧.its.claim ≡ 1 }
+    ensures phantom { ⟦<PhantomData<u64> as Wire>⟧.its.claim ≡ 1 }
     ensures span { ⟦<Duration as Wire>⟧.its.claim ≡ 12 }
 {}
 
@@ -72,18 +72,21 @@ pub fn address_claims()
     ensures of_socket { ⟦<SocketAddr as Wire>⟧.its.claim ≡ 22 }
 {}
 
-/// Of wholes, by what their parts claim.
+/// Of wholes, by what their parts claim. An array without elements counts 1.
 pub fn whole_claims()
     ensures one { ⟦<(u8,) as Wire>⟧.its.claim ≡ 1 }
     ensures four { ⟦<(u8, u16, u32, u64) as Wire>⟧.its.claim ≡ 15 }
+    ensures two_units { ⟦<((), ()) as Wire>⟧.its.claim ≡ 2 }
     ensures array { ⟦<[u64; 3] as Wire>⟧.its.claim ≡ 24 }
-    ensures units { ⟦<[(); 5] as Wire>⟧.its.claim ≡ 0 }
+    ensures units { ⟦<[(); 5] as Wire>⟧.its.claim ≡ 5 }
+    ensures no_array { ⟦<[u64; 0] as Wire>⟧.its.claim ≡ 1 }
     ensures option { ⟦<Option<u64> as Wire>⟧.its.claim ≡ 9 }
-    ensures option_of_unit { ⟦<Option<()> as Wire>⟧.its.claim ≡ 1 }
+    ensures option_of_unit { ⟦<Option<()> as Wire>⟧.its.claim ≡ 2 }
     ensures first_outcome { ⟦<Result<u64, u16> as Wire>⟧.its.claim ≡ 12 }
     ensures second_outcome { ⟦<Result<u16, u64> as Wire>⟧.its.claim ≡ 12 }
+    ensures outcome_of_units { ⟦<Result<(), ()> as Wire>⟧.its.claim ≡ 5 }
     ensures bound { ⟦<Bound<u64> as Wire>⟧.its.claim ≡ 12 }
-    ensures bound_of_unit { ⟦<Bound<()> as Wire>⟧.its.claim ≡ 4 }
+    ensures bound_of_unit { ⟦<Bound<()> as Wire>⟧.its.claim ≡ 5 }
     ensures range { ⟦<Range<u64> as Wire>⟧.its.claim ≡ 16 }
     ensures inclusive_range { ⟦<RangeInclusive<u64> as Wire>⟧.its.claim ≡ 16 }
     ensures wrapping { ⟦<Wrapping<u64> as Wire>⟧.its.claim ≡ 8 }

@@ -457,7 +457,7 @@ static FIRST: [Row; 62] = [
     },
     Row {
         label: "17c",
-        case: Case::DecodeWithin(Limited::UnitsTo8(Decoding {
+        case: Case::DecodeWithin(Limited::UnitsTo11(Decoding {
             setting: Setting::Standard,
             limit: Limit,
             input: &[3],

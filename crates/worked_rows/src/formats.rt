@@ -26,7 +26,8 @@ pub fn signed_rows()
 /// What truth values, tuples and arrays are read from.
 pub fn whole_rows()
     ensures { WholeRows ⟦<bool as Wire>⟧.its.format ⟦<() as Wire>⟧.its.format ⟦<(u8, u32) as Wire>⟧.its.format
-        ⟦<(u8, u32, i128, char, [u8; 4]) as Wire>⟧.its.format ⟦<[u16; 2] as Wire>⟧.its.format }
+        ⟦<(u8, u32, i128, char, [u8; 4]) as Wire>⟧.its.format ⟦<[u16; 2] as Wire>⟧.its.format
+        ⟦<[(); 2] as Wire>⟧.its.format ⟦<[u16; 0] as Wire>⟧.its.format }
 {}
 
 /// What characters are read from.
@@ -58,7 +59,7 @@ pub fn address_rows()
 /// What lists of such are read from.
 pub fn list_rows()
     ensures { ListRows ⟦<u8 as Wire>⟧.its.format ⟦<u16 as Wire>⟧.its.format ⟦<u32 as Wire>⟧.its.format
-        ⟦<() as Wire>⟧.its.format ⟦<Option<u8> as Wire>⟧.its.format }
+        ⟦<() as Wire>⟧.its.format ⟦<Option<u8> as Wire>⟧.its.format ⟦<Option<()> as Wire>⟧.its.format }
 {}
 
 /// What texts are read from.

@@ -13,3 +13,4 @@ pub mod rows;
 pub mod run;
 mod second;
 pub mod sources;
+pub mod words;

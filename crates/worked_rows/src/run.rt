@@ -102,11 +102,14 @@ fn decodes_within<S: Source>(alloc: Global, limited: &Limited) -> Result<bool, A
         Limited::PairTo15(row) => decodes::<S, _, _>(alloc, row),
         Limited::PairTo16(row) => decodes::<S, _, _>(alloc, row),
         Limited::TextTo100000(row) => decodes_text::<S, _>(alloc, row)?,
-        Limited::ListTo100000(row) => decodes_list::<S, _>(alloc, row)?,
+        Limited::ListTo100000(row) => decodes_list::<S, _, _>(alloc, row)?,
         Limited::ListsTo31(row) => decodes_lists::<S, _>(alloc, row)?,
         Limited::ListsTo32(row) => decodes_lists::<S, _>(alloc, row)?,
         Limited::UnitsTo7(row) => decodes_units::<S, _>(alloc, row),
-        Limited::UnitsTo8(row) => decodes_units::<S, _>(alloc, row),
+        Limited::UnitsTo10(row) => decodes_units::<S, _>(alloc, row),
+        Limited::UnitsTo11(row) => decodes_units::<S, _>(alloc, row),
+        Limited::OptionsTo11(row) => decodes_list::<S, _, _>(alloc, row)?,
+        Limited::OptionsTo12(row) => decodes_list::<S, _, _>(alloc, row)?,
     })
 }
 
@@ -323,9 +326,10 @@ where
 }
 
 /// Whether decoding the input as a list gives the answer.
-fn decodes_list<S, L>(alloc: Global, row: &Decoding<&'static [u32], L>) -> Result<bool, AllocError>
+fn decodes_list<S, T, L>(alloc: Global, row: &Decoding<&'static [T], L>) -> Result<bool, AllocError>
 where
     S: Source,
+    T: Decode<()> + Copy + PartialEq,
     L: InternalLimitConfig + Copy,
 {
     let answer = match row.answer {
@@ -433,7 +437,7 @@ fn answers<S: Source, T: PartialEq + Drop>(
 }
 
 /// Whether the error is the fault, with its fields.
-fn tells<S: Source>(error: &DecodeError, fault: Fault) -> bool {
+pub fn tells<S: Source>(error: &DecodeError, fault: Fault) -> bool {
     match (error, fault) {
         (_, Fault::UnexpectedEnd { additional }) => S::missing(error) == Some(additional),
         (_, Fault::EndsEarly) => S::missing(error).is_some(),
@@ -493,7 +497,7 @@ fn encode_under<T: Encode>(
 }
 
 /// Decodes a value from the input under the setting and the limit.
-fn decode_under<S, T, L>(
+pub(crate) fn decode_under<S, T, L>(
     alloc: Global,
     setting: Setting,
     _limit: L,

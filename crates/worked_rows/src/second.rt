@@ -1,12 +1,12 @@
-//! The second table of the program: cases of addresses and C strings.
+//! The second table of the program: cases of addresses and C strings, and of elements without bytes.
 
 use crate::addresses::{Address, Socket};
-use crate::case::{Answer, Case, Decoding, Encoding, Fault, Input, Setting};
+use crate::case::{Answer, Case, Decoding, Encoding, Fault, Input, Limited, Setting};
 use crate::rows::Row;
 use bincode::config::{Limit, NoLimit};
 use std::net::{IpAddr, Ipv4Addr, Ipv6Addr};
 
-/// Cases of addresses, and of a C string.
+/// Cases of addresses, of a C string, and of elements that have no bytes of their own.
 pub fn second_table() -> &'static [Row] {
     &SECOND
 }
@@ -14,7 +14,7 @@ pub fn second_table() -> &'static [Row] {
 /// The word of ::1 with the port 12345.
 const SOCKET: [u8; 19] = [0, 0, 0, 0, 0, 0, 0, 0, 0, 0, 0, 0, 0, 0, 0, 1, 251, 57, 48];
 
-static SECOND: [Row; 12] = [
+static SECOND: [Row; 15] = [
     Row {
         label: "13c",
         case: Case::Decode(Input::CString(Decoding {
@@ -113,6 +113,33 @@ static SECOND: [Row; 12] = [
             limit: Limit,
             input: &SOCKET,
             answer: Answer::Fault(Fault::LimitExceeded),
+        })),
+    },
+    Row {
+        label: "25e",
+        case: Case::DecodeWithin(Limited::UnitsTo10(Decoding {
+            setting: Setting::Standard,
+            limit: Limit,
+            input: &[3],
+            answer: Answer::Fault(Fault::LimitExceeded),
+        })),
+    },
+    Row {
+        label: "25f",
+        case: Case::DecodeWithin(Limited::OptionsTo11(Decoding {
+            setting: Setting::Standard,
+            limit: Limit,
+            input: &[2, 0, 1],
+            answer: Answer::Fault(Fault::LimitExceeded),
+        })),
+    },
+    Row {
+        label: "25g",
+        case: Case::DecodeWithin(Limited::OptionsTo12(Decoding {
+            setting: Setting::Standard,
+            limit: Limit,
+            input: &[2, 0, 1],
+            answer: Answer::Value(&[None, Some(())], 3),
         })),
     },
     Row {

@@ -2,7 +2,7 @@
 ghost use Rattle.std.proofs.Common.{arith};
 ghost use Rattle.bincode_format.specs.Need.{array_needs};
 ghost use Rattle.bincode_laws.specs.NeedLaws.{array-needs};
-ghost use Rattle.bincode_laws.specs.RoomLaws.{array-weighs};
+ghost use Rattle.bincode_laws.specs.ChargedLaws.{array-charged};
 ghost use Rattle.std.specs.Prelude.{◌≡◌, ◌*◌, ◌-◌, ◌^◌, ◌⊎◌, min, max, length};
 ghost use Rattle.std.specs.List.{All};
 ghost use Rattle.bincode_base.specs.Slots.{SlotsFit};
@@ -39,7 +39,7 @@ impl<T: Wire, const N: usize> Wire for [T; N] {
       names_own = T.its.names_own;
       claims = omega arith;
       needs = λ s. array-needs N T.its.claim (T.its.format s) (T.its.need s) (T.its.balanced s) (T.its.needs s);
-      weighs = λ s. array-weighs N T.its.claim (T.its.format s) T.its.claims (T.its.weighs s);
+      charged = λ s. array-charged N T.its.claim (T.its.format s) T.its.claims (T.its.charged s);
     } };
 
     fn claim_size() -> usize {

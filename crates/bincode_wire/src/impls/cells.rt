@@ -1,6 +1,6 @@
 //! The words of cells.
 ghost use Rattle.bincode_laws.specs.NeedLaws.{rewritten-needs};
-ghost use Rattle.bincode_laws.specs.RoomLaws.{rewritten-weighs};
+ghost use Rattle.bincode_laws.specs.ChargedLaws.{rewritten-charged};
 ghost use Rattle.std.specs.Prelude.{◌⊎◌};
 ghost use Rattle.bincode_format.specs.Format.{of_cell};
 ghost use Rattle.bincode_format.specs.Cells.{IsAny, IsBorrowed, IsHeld};
@@ -28,7 +28,7 @@ impl<T: Wire> Wire for Cell<T> {
       names_own = T.its.names_own;
       claims = T.its.claims;
       needs = λ s. rewritten-needs (T.its.need s) _ (T.its.format s) (T.its.needs s);
-      weighs = λ s. rewritten-weighs _ (T.its.format s) (T.its.weighs s);
+      charged = λ s. rewritten-charged _ (T.its.format s) (T.its.charged s);
     } };
 
     fn claim_size() -> usize {
@@ -66,7 +66,7 @@ impl<T: Wire> Wire for RefCell<T> {
       names_own = λ e. either (borrowed-named e) (T.its.names_own e);
       claims = T.its.claims;
       needs = λ s. rewritten-needs (T.its.need s) _ (T.its.format s) (T.its.needs s);
-      weighs = λ s. rewritten-weighs _ (T.its.format s) (T.its.weighs s);
+      charged = λ s. rewritten-charged _ (T.its.format s) (T.its.charged s);
     } };
 
     fn claim_size() -> usize {

@@ -2,7 +2,7 @@
 ghost use Rattle.std.proofs.Common.{arith};
 ghost use Rattle.bincode_format.specs.Need.{duration_needs};
 ghost use Rattle.bincode_laws.specs.NeedLaws.{duration-needs};
-ghost use Rattle.bincode_laws.specs.RoomLaws.{duration-weighs};
+ghost use Rattle.bincode_laws.specs.ChargedLaws.{duration-charged};
 ghost use Rattle.std.specs.Prelude.{◌<◌, ◌^◌, pos};
 ghost use Rattle.bincode_format.specs.Meaning.{IsNumber, IsThen, IsNothing};
 ghost use Rattle.bincode_format.specs.Words.{second_in_nanos, duration};
@@ -31,7 +31,7 @@ impl Wire for Duration {
       names_own = λ e h. absurd h;
       claims = omega arith;
       needs = duration-needs;
-      weighs = duration-weighs;
+      charged = duration-charged;
     } };
 
     fn claim_size() -> usize {

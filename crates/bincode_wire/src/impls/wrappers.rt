@@ -70,7 +70,7 @@ impl<T: Wire> Wire for Pointed<T> {
       names_own = T.its.names_own;
       claims = omega arith;
       needs = T.its.needs;
-      weighs = T.its.weighs;
+      charged = T.its.charged;
     } };
 
     fn claim_size() -> usize {

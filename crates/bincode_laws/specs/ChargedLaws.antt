@@ -34,60 +34,60 @@ each_append P ((Charge n) ∷ s) t h k = each_append P s t h k
 each_append P ((Reserve n share) ∷ s) t h k = (h.0, each_append P s t h.1 k)
 each_append P ((Release n) ∷ s) t h k = each_append P s t h k
 
-pub record IsWeighed (word : List ℕ) (steps : List Step) : Type 0 where
+pub record IsCharged (word : List ℕ) (steps : List Step) : Type 0 where
   pub spans : length word * 2 ≤ full steps * 3
   pub claims : EachContainer (λ n share. 1 ≤ share) steps
 
-weighed_append : (x y : List ℕ) (s t : List Step) → IsWeighed x s → IsWeighed y t → IsWeighed (x ++ y) (s ++ t)
-weighed_append x y s t f g = record {
+charged_append : (x y : List ℕ) (s t : List Step) → IsCharged x s → IsCharged y t → IsCharged (x ++ y) (s ++ t)
+charged_append x y s t f g = record {
   spans = let a = f.spans in let b = g.spans in omega (arith, length-append x y, full_append s t);
   claims = each_append _ s t f.claims g.claims;
 }
 
 -- what each word of a format keeps
-pub record Weighs {A : Type 0} (F : Format A) : Type 0 where
-  pub weighs : (word : List ℕ) (m : A) (s : List Step) → F.Word word m s → IsWeighed word s
+pub record Charged {A : Type 0} (F : Format A) : Type 0 where
+  pub charged : (word : List ℕ) (m : A) (s : List Step) → F.Word word m s → IsCharged word s
 
-empty_weighed : (word : List ℕ) (s : List Step) → word ≡ [] → s ≡ [] → IsWeighed word s
-empty_weighed word s e f = subst (λ w. IsWeighed w s) (sym e) (subst (λ t. IsWeighed [] t) (sym f) (record { spans = omega arith; claims = tt }))
+empty_charged : (word : List ℕ) (s : List Step) → word ≡ [] → s ≡ [] → IsCharged word s
+empty_charged word s e f = subst (λ w. IsCharged w s) (sym e) (subst (λ t. IsCharged [] t) (sym f) (record { spans = omega arith; claims = tt }))
 
-done_weighs : {A : Type 0} (a : A) → Weighs (done a)
+done_charged : {A : Type 0} (a : A) → Charged (done a)
 unfolding done
-done_weighs a = record { weighs = λ word m s w. empty_weighed word s w.0 w.2 }
+done_charged a = record { charged = λ word m s w. empty_charged word s w.0 w.2 }
 
-refused_weighs : (A : Type 0) (why : Fault) → Weighs (refused {A = A} why)
+refused_charged : (A : Type 0) (why : Fault) → Charged (refused {A = A} why)
 unfolding refused
-refused_weighs A why = record { weighs = λ word m s w. absurd w }
+refused_charged A why = record { charged = λ word m s w. absurd w }
 
-settled_weighs : {A : Type 0} (r : Result A Fault) → Weighs (settled r)
-settled_weighs (Ok a) = done_weighs a
-settled_weighs (Err why) = refused_weighs _ why
+settled_charged : {A : Type 0} (r : Result A Fault) → Charged (settled r)
+settled_charged (Ok a) = done_charged a
+settled_charged (Err why) = refused_charged _ why
 
-step_weighs : (x : Step) → IsWeighed [] (x ∷ []) → Weighs (step x)
+step_charged : (x : Step) → IsCharged [] (x ∷ []) → Charged (step x)
 unfolding step
-step_weighs x h = record { weighs = λ word m s w. subst (λ v. IsWeighed v s) (sym w.0) (subst (λ t. IsWeighed [] t) (sym w.1) h) }
+step_charged x h = record { charged = λ word m s w. subst (λ v. IsCharged v s) (sym w.0) (subst (λ t. IsCharged [] t) (sym w.1) h) }
 
-pub rewritten-weighs : {A : Type 0} (Chosen : List ℕ → A → Type 0) (F : Format A) → Weighs F → Weighs (written_as Chosen F)
+pub rewritten-charged : {A : Type 0} (Chosen : List ℕ → A → Type 0) (F : Format A) → Charged F → Charged (written_as Chosen F)
 unfolding written_as
-rewritten-weighs Chosen F f = record { weighs = f.weighs }
+rewritten-charged Chosen F f = record { charged = f.charged }
 
-unsure_weighs : {A : Type 0} (F : Format A) → Weighs F → Weighs (unsure F)
+unsure_charged : {A : Type 0} (F : Format A) → Charged F → Charged (unsure F)
 unfolding unsure
-unsure_weighs F f = record { weighs = f.weighs }
+unsure_charged F f = record { charged = f.charged }
 
-turn_weighs : {A B : Type 0} (F : Format A) (G : A → Format B) → Weighs F → ((a : A) → Weighs (G a)) → Weighs (F >>= G)
+turn_charged : {A B : Type 0} (F : Format A) (G : A → Format B) → Charged F → ((a : A) → Charged (G a)) → Charged (F >>= G)
 unfolding ◌>>=◌
-turn_weighs F G f g = record {
-  weighs = λ word m s w.
-      subst (λ v. IsWeighed v s) (sym w.bytes_are) (subst (λ t. IsWeighed (w.first ++ w.second) t) (sym w.steps_are)
-      (weighed_append w.first w.second w.first_steps w.second_steps (f.weighs w.first w.head w.first_steps w.first_word) ((g w.head).weighs w.second m w.second_steps w.second_word)));
+turn_charged F G f g = record {
+  charged = λ word m s w.
+      subst (λ v. IsCharged v s) (sym w.bytes_are) (subst (λ t. IsCharged (w.first ++ w.second) t) (sym w.steps_are)
+      (charged_append w.first w.second w.first_steps w.second_steps (f.charged w.first w.head w.first_steps w.first_word) ((g w.head).charged w.second m w.second_steps w.second_word)));
 }
 
-pub map-weighs : {A B : Type 0} (f : A → B) (F : Format A) → Weighs F → Weighs (map_format f F)
-map-weighs f F h = turn_weighs F (λ a. done (f a)) h (λ a. done_weighs (f a))
+pub map-charged : {A B : Type 0} (f : A → B) (F : Format A) → Charged F → Charged (map_format f F)
+map-charged f F h = turn_charged F (λ a. done (f a)) h (λ a. done_charged (f a))
 
-pub test-weighs : {A B : Type 0} (F : Format A) (test : A → Result B Fault) → Weighs F → Weighs (F >>= λ a. settled (test a))
-test-weighs F test h = turn_weighs F (λ a. settled (test a)) h (λ a. settled_weighs (test a))
+pub test-charged : {A B : Type 0} (F : Format A) (test : A → Result B Fault) → Charged F → Charged (F >>= λ a. settled (test a))
+test-charged F test h = turn_charged F (λ a. settled (test a)) h (λ a. settled_charged (test a))
 
 -- words of at most so many bytes, without steps
 
@@ -134,18 +134,18 @@ turn_short n k most F G h f g = record {
 map_short : {A B : Type 0} (n : ℕ) (f : A → B) (F : Format A) → Short n F → Short n (map_format f F)
 map_short n f F h = turn_short n 0 n F (λ a. done (f a)) (omega arith) h (λ a. done_short 0 (f a))
 
-weighed_charge : (n k : ℕ) (word : List ℕ) (s : List Step) → k * 2 ≤ n * 3 → length word ≤ k → s ≡ [] → IsWeighed word (Charge n ∷ s)
-weighed_charge n k word s h l e = subst (λ t. IsWeighed word (Charge n ∷ t)) (sym e) (record { spans = omega arith; claims = tt })
+charged_once : (n k : ℕ) (word : List ℕ) (s : List Step) → k * 2 ≤ n * 3 → length word ≤ k → s ≡ [] → IsCharged word (Charge n ∷ s)
+charged_once n k word s h l e = subst (λ t. IsCharged word (Charge n ∷ t)) (sym e) (record { spans = omega arith; claims = tt })
 
 -- a charge that covers two thirds of the bytes
-charged_weighs : {A : Type 0} (n k : ℕ) (F : Format A) → k * 2 ≤ n * 3 → Short k F → Weighs (charged n F)
+charge_charged : {A : Type 0} (n k : ℕ) (F : Format A) → k * 2 ≤ n * 3 → Short k F → Charged (charged n F)
 unfolding step ◌>>=◌
-charged_weighs n k F h f = record {
-  weighs = λ word m s w.
+charge_charged n k F h f = record {
+  charged = λ word m s w.
       let e : word ≡ w.second = w.bytes_are ∙ ap (λ z. z ++ w.second) w.first_word.0 in
       let i : s ≡ Charge n ∷ w.second_steps = w.steps_are ∙ ap (λ z. z ++ w.second_steps) w.first_word.1 in
-      subst (λ v. IsWeighed v s) (sym e) (subst (λ t. IsWeighed w.second t) (sym i)
-      (weighed_charge n k w.second w.second_steps h (f.bytes w.second m w.second_steps w.second_word) (f.free w.second m w.second_steps w.second_word)));
+      subst (λ v. IsCharged v s) (sym e) (subst (λ t. IsCharged w.second t) (sym i)
+      (charged_once n k w.second w.second_steps h (f.bytes w.second m w.second_steps w.second_word) (f.free w.second m w.second_steps w.second_word)));
 }
 
 -- numbers
@@ -206,21 +206,21 @@ number_short : (tags : ℕ → IntegerType) (name : IntegerType) (order : Endian
 number_short tags name order width Fixed h = longer_short width (suc width) _ (omega arith) (digits_short order width)
 number_short tags name order width Variable h = varint_short tags name order width h
 
-pub unsigned-weighs : (name : IntegerType) (width : ℕ) (s : Setting) → 2 ≤ width → Weighs (unsigned name width s)
+pub unsigned-charged : (name : IntegerType) (width : ℕ) (s : Setting) → 2 ≤ width → Charged (unsigned name width s)
 unfolding unsigned
-unsigned-weighs name width s h = charged_weighs width (suc width) _ (omega arith) (number_short unsigned_tag name s.order width s.encoding h)
+unsigned-charged name width s h = charge_charged width (suc width) _ (omega arith) (number_short unsigned_tag name s.order width s.encoding h)
 
-pub signed-weighs : (name : IntegerType) (width : ℕ) (s : Setting) → 2 ≤ width → Weighs (signed name width s)
+pub signed-charged : (name : IntegerType) (width : ℕ) (s : Setting) → 2 ≤ width → Charged (signed name width s)
 unfolding signed
-signed-weighs name width s h = charged_weighs width (suc width) _ (omega arith) (map_short (suc width) (integer_by width s.encoding) _ (number_short signed_tag name s.order width s.encoding h))
+signed-charged name width s h = charge_charged width (suc width) _ (omega arith) (map_short (suc width) (integer_by width s.encoding) _ (number_short signed_tag name s.order width s.encoding h))
 
-pub unsigned_byte-weighs : Weighs unsigned_byte
+pub unsigned_byte-charged : Charged unsigned_byte
 unfolding unsigned_byte
-unsigned_byte-weighs = charged_weighs 1 1 byte (omega arith) byte_short
+unsigned_byte-charged = charge_charged 1 1 byte (omega arith) byte_short
 
-pub signed_byte-weighs : Weighs signed_byte
+pub signed_byte-charged : Charged signed_byte
 unfolding signed_byte
-signed_byte-weighs = charged_weighs 1 1 _ (omega arith) (map_short 1 (from_two_complement 1) byte byte_short)
+signed_byte-charged = charge_charged 1 1 _ (omega arith) (map_short 1 (from_two_complement 1) byte byte_short)
 
 -- characters
 
@@ -236,7 +236,7 @@ char_rest : (first : ℕ) (width : ℕ) → Short (width - 1) (rest_of_char firs
 char_rest first width =
     turn_short (width - 1) 0 (width - 1) (raw (width - 1)) (λ bytes. settled (char_of (first ∷ bytes))) (omega arith) (raw_short (width - 1)) (λ bytes. settled_short 0 (char_of (first ∷ bytes)))
 
-char_behind : (first : ℕ) (found : Option ℕ) → ((width : ℕ) → found ≡ Some width → 1 ≤ width) → (head word : List ℕ) (m : Meaning) (s : List Step) → length head ≤ 1 → (behind_char first found).Word word m s → IsWeighed (head ++ word) s
+char_behind : (first : ℕ) (found : Option ℕ) → ((width : ℕ) → found ≡ Some width → 1 ≤ width) → (head word : List ℕ) (m : Meaning) (s : List Step) → length head ≤ 1 → (behind_char first found).Word word m s → IsCharged (head ++ word) s
 unfolding refused step ◌>>=◌
 char_behind first None h head word m s l w = absurd w
 char_behind first (Some width) h head word m s l w =
@@ -246,79 +246,79 @@ char_behind first (Some width) h head word m s l w =
     let i : s ≡ Charge width ∷ w.second_steps = w.steps_are ∙ ap (λ z. z ++ w.second_steps) w.first_word.1 in
     let b = r.bytes w.second m w.second_steps w.second_word in
     let d = ap length e in
-    subst (λ t. IsWeighed (head ++ word) t) (sym i) (weighed_charge width width (head ++ word) w.second_steps (omega arith) (omega (arith, length-append head word)) (r.free w.second m w.second_steps w.second_word))
+    subst (λ t. IsCharged (head ++ word) t) (sym i) (charged_once width width (head ++ word) w.second_steps (omega arith) (omega (arith, length-append head word)) (r.free w.second m w.second_steps w.second_word))
 
-pub character-weighs : Weighs character
+pub character-charged : Charged character
 unfolding ◌>>=◌
-character-weighs = record {
-  weighs = λ word m s w.
+character-charged = record {
+  charged = λ word m s w.
       let f = byte_short.free w.first w.head w.first_steps w.first_word in
       let l = byte_short.bytes w.first w.head w.first_steps w.first_word in
       let e : s ≡ w.second_steps = w.steps_are ∙ ap (λ z. z ++ w.second_steps) f in
-      subst (λ v. IsWeighed v s) (sym w.bytes_are) (subst (λ t. IsWeighed (w.first ++ w.second) t) (sym e)
+      subst (λ v. IsCharged v s) (sym w.bytes_are) (subst (λ t. IsCharged (w.first ++ w.second) t) (sym e)
       (char_behind w.head (char_width w.head) (width_by (nat_lt w.head 128) (nat_lt w.head 194) (nat_lt w.head 224) (nat_lt w.head 240) (nat_lt w.head 245)) w.first w.second m w.second_steps l w.second_word));
 }
 
 -- parts in order, and elements
 
-pub nothing-weighs : Weighs nothing
+pub nothing-charged : Charged nothing
 unfolding nothing
-nothing-weighs = done_weighs _
+nothing-charged = done_charged _
 
-pub then-weighs : {F others : Format Meaning} → Weighs F → Weighs others → Weighs (first_and F others)
+pub then-charged : {F others : Format Meaning} → Charged F → Charged others → Charged (first_and F others)
 unfolding first_and
-then-weighs {F} {others} f g = turn_weighs F (λ m. map_format (Then m) others) f (λ m. map-weighs (Then m) others g)
+then-charged {F} {others} f g = turn_charged F (λ m. map_format (Then m) others) f (λ m. map-charged (Then m) others g)
 
-module _ {A : Type 0} (share : ℕ) (F : Format A) (some : 1 ≤ share) (f : Weighs F) where
-  elements_weighs : (n : ℕ) → Weighs (elements n share F)
-  elements_weighs zero = done_weighs []
-  elements_weighs (suc n) =
-      turn_weighs (step (Release share)) (λ _. unsure F >>= λ a. map_format (λ others. a ∷ others) (elements n share F)) (step_weighs (Release share) (record { spans = omega arith; claims = tt }))
-      (λ _. turn_weighs (unsure F) (λ a. map_format (λ others. a ∷ others) (elements n share F)) (unsure_weighs F f) (λ a. map-weighs (λ others. a ∷ others) (elements n share F) (elements_weighs n)))
+module _ {A : Type 0} (share : ℕ) (F : Format A) (some : 1 ≤ share) (f : Charged F) where
+  elements_charged : (n : ℕ) → Charged (elements n share F)
+  elements_charged zero = done_charged []
+  elements_charged (suc n) =
+      turn_charged (step (Release share)) (λ _. unsure F >>= λ a. map_format (λ others. a ∷ others) (elements n share F)) (step_charged (Release share) (record { spans = omega arith; claims = tt }))
+      (λ _. turn_charged (unsure F) (λ a. map_format (λ others. a ∷ others) (elements n share F)) (unsure_charged F f) (λ a. map-charged (λ others. a ∷ others) (elements n share F) (elements_charged n)))
 
-  sequence_weighs : (n : ℕ) → Weighs (sequence n share F)
-  sequence_weighs n = turn_weighs (step (Reserve n share)) (λ _. elements n share F) (step_weighs (Reserve n share) (record { spans = omega arith; claims = (some, tt) })) (λ _. elements_weighs n)
+  sequence_charged : (n : ℕ) → Charged (sequence n share F)
+  sequence_charged n = turn_charged (step (Reserve n share)) (λ _. elements n share F) (step_charged (Reserve n share) (record { spans = omega arith; claims = (some, tt) })) (λ _. elements_charged n)
 
-pub array-weighs : (n share : ℕ) (F : Format Meaning) → 1 ≤ share → Weighs F → Weighs (array n share F)
-array-weighs n share F h f = map-weighs listed (sequence n share F) (sequence_weighs share F h f n)
+pub array-charged : (n share : ℕ) (F : Format Meaning) → 1 ≤ share → Charged F → Charged (array n share F)
+array-charged n share F h f = map-charged listed (sequence n share F) (sequence_charged share F h f n)
 
-pub list-weighs : (s : Setting) (share : ℕ) (F : Format Meaning) → 1 ≤ share → Weighs F → Weighs (list s share F)
-list-weighs s share F h f = turn_weighs (len s) (λ n. array n share F) (unsigned-weighs integers.U64 8 s (omega arith)) (λ n. array-weighs n share F h f)
+pub list-charged : (s : Setting) (share : ℕ) (F : Format Meaning) → 1 ≤ share → Charged F → Charged (list s share F)
+list-charged s share F h f = turn_charged (len s) (λ n. array n share F) (unsigned-charged integers.U64 8 s (omega arith)) (λ n. array-charged n share F h f)
 
-pub counted-weighs : (s : Setting) → Weighs (counted s)
-counted-weighs s =
-    turn_weighs (len s) (λ n. charged n (unsure (raw n))) (unsigned-weighs integers.U64 8 s (omega arith)) (λ n. charged_weighs n n (unsure (raw n)) (omega arith) (unsure_short n (raw n) (raw_short n)))
+pub counted-charged : (s : Setting) → Charged (counted s)
+counted-charged s =
+    turn_charged (len s) (λ n. charged n (unsure (raw n))) (unsigned-charged integers.U64 8 s (omega arith)) (λ n. charge_charged n n (unsure (raw n)) (omega arith) (unsure_short n (raw n) (raw_short n)))
 
-pub text-weighs : (s : Setting) → Weighs (text s)
-text-weighs s = test-weighs (counted s) text_of (counted-weighs s)
+pub text-charged : (s : Setting) → Charged (text s)
+text-charged s = test-charged (counted s) text_of (counted-charged s)
 
 -- bytes without a zero
-pub c_string-weighs : (s : Setting) → Weighs (without_nul s)
-c_string-weighs s = test-weighs (counted s) (λ bytes. without_nul_of bytes (position (λ b. b == 0) bytes)) (counted-weighs s)
+pub c_string-charged : (s : Setting) → Charged (without_nul s)
+c_string-charged s = test-charged (counted s) (λ bytes. without_nul_of bytes (position (λ b. b == 0) bytes)) (counted-charged s)
 
 -- octets
-pub octets-weighs : (n : ℕ) → Weighs (octets n)
-octets-weighs n = map-weighs Bytes (charged n (raw n)) (charged_weighs n n (raw n) (omega arith) (raw_short n))
+pub octets-charged : (n : ℕ) → Charged (octets n)
+octets-charged n = map-charged Bytes (charged n (raw n)) (charge_charged n n (raw n) (omega arith) (raw_short n))
 
 -- choices
 
-pub picked-weighs : (picked : Bool) (F G : Format Meaning) → Weighs F → Weighs G → Weighs (if_picked picked F G)
-picked-weighs true F G f g = f
-picked-weighs false F G f g = g
+pub picked-charged : (picked : Bool) (F G : Format Meaning) → Charged F → Charged G → Charged (if_picked picked F G)
+picked-charged true F G f g = f
+picked-charged false F G f g = g
 
-pub refused-weighs : (why : Fault) → Weighs (refused {A = Meaning} why)
-refused-weighs why = refused_weighs Meaning why
+pub refused-charged : (why : Fault) → Charged (refused {A = Meaning} why)
+refused-charged why = refused_charged Meaning why
 
-pub chosen-weighs : (tags : Setting → Format ℕ) (variants : List Variant) (s : Setting) → Weighs (tags s) → ((found : ℕ) → Weighs (behind_tag variants s found)) → Weighs (chosen tags variants s)
+pub chosen-charged : (tags : Setting → Format ℕ) (variants : List Variant) (s : Setting) → Charged (tags s) → ((found : ℕ) → Charged (behind_tag variants s found)) → Charged (chosen tags variants s)
 unfolding chosen
-chosen-weighs tags variants s t g = turn_weighs (tags s) (behind_tag variants s) t g
+chosen-charged tags variants s t g = turn_charged (tags s) (behind_tag variants s) t g
 
 -- a span of time
-pub duration-weighs : (s : Setting) → Weighs (duration s)
-duration-weighs s =
-    rewritten-weighs _ _ (test-weighs (seconds_and_nanos s) (λ parts. duration_of parts.0 parts.1)
-    (turn_weighs (unsigned integers.U64 8 s) (λ seconds. map_format (λ nanos. (seconds, nanos)) (unsigned integers.U32 4 s)) (unsigned-weighs integers.U64 8 s (omega arith))
-    (λ seconds. map-weighs (λ nanos. (seconds, nanos)) (unsigned integers.U32 4 s) (unsigned-weighs integers.U32 4 s (omega arith)))))
+pub duration-charged : (s : Setting) → Charged (duration s)
+duration-charged s =
+    rewritten-charged _ _ (test-charged (seconds_and_nanos s) (λ parts. duration_of parts.0 parts.1)
+    (turn_charged (unsigned integers.U64 8 s) (λ seconds. map_format (λ nanos. (seconds, nanos)) (unsigned integers.U32 4 s)) (unsigned-charged integers.U64 8 s (omega arith))
+    (λ seconds. map-charged (λ nanos. (seconds, nanos)) (unsigned integers.U32 4 s) (unsigned-charged integers.U32 4 s (omega arith)))))
 
 -- what a limit bounds
 
@@ -372,9 +372,9 @@ lengths_within limit last ((Reserve n share) ∷ s) h =
 lengths_within limit last ((Release n) ∷ s) h = let p = lengths_within limit 0 s h in let a = p.1 in let b = p.2 in (p.0, a, omega arith)
 
 -- A word within a limit is bounded by it.
-pub within-bounded : {A : Type 0} (F : Format A) → Lawful F → Balanced F → Weighs F → (limit : ℕ) (word : List ℕ) (m : A) (s : List Step) → F.Word word m s → StaysWithin (Some limit) 0 s → Bounded limit word s
+pub within-bounded : {A : Type 0} (F : Format A) → Lawful F → Balanced F → Charged F → (limit : ℕ) (word : List ℕ) (m : A) (s : List Step) → F.Word word m s → StaysWithin (Some limit) 0 s → Bounded limit word s
 within-bounded F f b h limit word m s w stays =
-    let x = h.weighs word m s w in
+    let x = h.charged word m s w in
     let a = x.spans in
     let p = balanced-word F word m s f b w in
     let even = p.1 in
