@@ -5,14 +5,14 @@ ghost use Rattle.bincode_format.specs.Encoding.{Encodes};
 use crate::encode::Encode;
 use bincode_base::error::EncodeError;
 use bincode_encoder::encoder::Encoder;
-use bincode_wire::rows::{Last, LastFour, Next, NextFour};
+use bincode_wire::rows::{LongRow, Rest, Row};
 use bincode_wire::wire::Wire;
 
 /// Parts that were lent in a row. A row is no `Encode` itself: the proof for a tuple would then show of the reference
 /// to each part all that `Encode` stands on, which takes long.
 pub trait EncodeRow: Drop {
     /// The row of the parts themselves.
-    type Parts: Wire;
+    type Parts: Wire + Rest;
 
     /// The parts that were lent.
     ghost lent: { Self → Self.Parts };
@@ -28,28 +28,23 @@ pub trait EncodeRow: Drop {
 // Always inlined: LLVM takes a call behind several `?` for a rare one, and a call hands on a result with room for an
 // error.
 
-/// The last part.
-#[derive(Drop)]
-pub struct LastLent<'a, A>(pub &'a A);
+impl EncodeRow for () {
+    type Parts = ();
 
-impl<'a, A: Encode> EncodeRow for LastLent<'a, A> {
-    type Parts = Last<A>;
-
-    ghost lent = { λ v. record { 0 = v.0.now; 1 = tt } };
+    ghost lent = { λ v. v };
 
     #[inline(always)]
     fn encode_row<E: Encoder>(&self, encoder: &mut E) -> Result<(), EncodeError> {
-        self.0.encode(encoder)?;
-        ().encode(encoder)
+        self.encode(encoder)
     }
 }
 
-/// A part, and the others.
+/// A part, and the others: a row too, or `()` behind the last.
 #[derive(Drop)]
 pub struct LentRow<'a, A, Others>(pub &'a A, pub Others);
 
 impl<'a, A: Encode, Others: EncodeRow> EncodeRow for LentRow<'a, A, Others> {
-    type Parts = Next<A, Others::Parts>;
+    type Parts = Row<A, Others::Parts>;
 
     ghost lent = { λ v. record { 0 = v.0.now; 1 = Others.lent v.1 } };
 
@@ -57,25 +52,6 @@ impl<'a, A: Encode, Others: EncodeRow> EncodeRow for LentRow<'a, A, Others> {
     fn encode_row<E: Encoder>(&self, encoder: &mut E) -> Result<(), EncodeError> {
         self.0.encode(encoder)?;
         self.1.encode_row(encoder)
-    }
-}
-
-/// The last four parts.
-#[derive(Drop)]
-pub struct LastFourLent<'a, A, B, C, D>(pub &'a A, pub &'a B, pub &'a C, pub &'a D);
-
-impl<'a, A: Encode, B: Encode, C: Encode, D: Encode> EncodeRow for LastFourLent<'a, A, B, C, D> {
-    type Parts = LastFour<A, B, C, D>;
-
-    ghost lent = { λ v. record { 0 = v.0.now; 1 = v.1.now; 2 = v.2.now; 3 = v.3.now; 4 = tt } };
-
-    #[inline(always)]
-    fn encode_row<E: Encoder>(&self, encoder: &mut E) -> Result<(), EncodeError> {
-        self.0.encode(encoder)?;
-        self.1.encode(encoder)?;
-        self.2.encode(encoder)?;
-        self.3.encode(encoder)?;
-        ().encode(encoder)
     }
 }
 
@@ -91,7 +67,7 @@ pub struct LongLentRow<'a, A, B, C, D, Others>(
 
 impl<'a, A: Encode, B: Encode, C: Encode, D: Encode, Others: EncodeRow> EncodeRow
     for LongLentRow<'a, A, B, C, D, Others> {
-    type Parts = NextFour<A, B, C, D, Others::Parts>;
+    type Parts = LongRow<A, B, C, D, Others::Parts>;
 
     ghost lent = { λ v. record { 0 = v.0.now; 1 = v.1.now; 2 = v.2.now; 3 = v.3.now; 4 = Others.lent v.4 } };
 

@@ -11,9 +11,9 @@ use bincode_wire::rows::Row;
 
 /// Reads a part, and the others behind it. Fails where one of them does.
 #[inline(always)]
-pub fn decode_row<D: Decoder, A: ReadValues<D>, Others: ReadValues<D>, const LAST: bool>(
+pub fn decode_row<D: Decoder, A: ReadValues<D>, Others: ReadValues<D>>(
     decoder: &mut D,
-) -> Result<Row<A::Value, Others::Value, LAST>, DecodeError>
+) -> Result<Row<A::Value, Others::Value>, DecodeError>
     ensures { Reads D.told D.rest D.charge D.failures D.place D.C.bound D.R.ended D.R.device
         (A.Value.its.grows ⊎ Others.Value.its.grows)
         (first_and (A.Value.its.format D.C.setting) (Others.Value.its.format D.C.setting))

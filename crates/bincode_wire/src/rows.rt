@@ -1,11 +1,10 @@
 //! Parts in a row: what tuples are written as.
-ghost use Rattle.std.specs.Prelude.{◌≡◌, ◌⊎◌, ◌+◌, ◌-◌, ◌^◌, min, max, refl};
+ghost use Rattle.std.specs.Prelude.{◌≡◌, ℕ, ◌⊎◌, ◌+◌, ◌-◌, ◌^◌, min, max, refl};
 ghost use Rattle.std.proofs.Common.{arith};
 ghost use Rattle.bincode_format.specs.Meaning.{IsThen, IsFourThen};
 ghost use Rattle.bincode_format.specs.Need.{then_needs};
 ghost use Rattle.bincode_format.specs.Words.{first_and, four_and};
 ghost use Rattle.bincode_format.specs.Forms.{units};
-ghost use Rattle.bincode_wire.specs.Rows.{claim_behind};
 ghost use Rattle.bincode_laws.specs.CostLaws.{nothing-costs};
 ghost use Rattle.bincode_laws.specs.NeedLaws.{then-needs};
 ghost use Rattle.bincode_laws.specs.ChargedLaws.{then-charged};
@@ -44,18 +43,29 @@ impl FixedCharge for () {
     ghost charges = { λ s. nothing-costs };
 }
 
-/// A part, and the others: a row too, or `()` behind the last part, as `LAST` says. What the parts claim is a sum, at most
-/// the greatest `usize`.
+/// What stands behind a part of a row: a row too, or `()` behind the last.
+pub trait Rest {
+    /// What it adds to the claim of the row: `()` behind the last part is no part, and adds nothing.
+    ghost more: { ℕ };
+
+    /// So much.
+    fn more_size() -> usize
+        ensures { result ≡ more };
+}
+
+impl Rest for () {
+    ghost more = { 0 };
+
+    fn more_size() -> usize {
+        0
+    }
+}
+
+/// A part, and the others. What they claim is a sum, at most the greatest `usize`.
 #[derive(Drop, PartialEq)]
-pub struct Row<A, Others, const LAST: bool>(pub A, pub Others);
+pub struct Row<A, Others>(pub A, pub Others);
 
-/// The last part.
-pub type Last<A> = Row<A, (), true>;
-
-/// A part before others.
-pub type Next<A, Others> = Row<A, Others, false>;
-
-impl<A: Wire, Others: Wire, const LAST: bool> Wire for Row<A, Others, LAST> {
+impl<A: Wire, Others: Wire + Rest> Wire for Row<A, Others> {
     ghost its = { record {
       format = λ s. first_and (A.its.format s) (Others.its.format s);
       valid = λ v. A.its.valid v.0 × Others.its.valid v.1;
@@ -64,7 +74,7 @@ impl<A: Wire, Others: Wire, const LAST: bool> Wire for Row<A, Others, LAST> {
       writable = λ s v. A.its.writable s v.0 × Others.its.writable s v.1;
       names = λ e. A.its.names e ⊎ Others.its.names e;
       grows = A.its.grows ⊎ Others.its.grows;
-      claim = min (A.its.claim + claim_behind LAST Others.its.claim) (2 ^ 64 - 1);
+      claim = ⟦<Row<A, Others> as Rest>⟧.more;
       need = λ s. then_needs (A.its.format s) (A.its.need s) (λ _. Others.its.need s);
       lawful = λ s. then-lawful (A.its.lawful s) (Others.its.lawful s);
       balanced = λ s. then-balanced (A.its.balanced s) (Others.its.balanced s);
@@ -76,47 +86,54 @@ impl<A: Wire, Others: Wire, const LAST: bool> Wire for Row<A, Others, LAST> {
     } };
 
     fn claim_size() -> usize {
-        A::claim_size().saturating_add(claim_behind(LAST, Others::claim_size()))
+        Row::<A, Others>::more_size()
     }
 }
 
-impl<A: Inhabited, Others: Inhabited, const LAST: bool> Inhabited for Row<A, Others, LAST> {
+impl<A: Wire, Others: Rest> Rest for Row<A, Others> {
+    ghost more = { min (A.its.claim + Others.more) (2 ^ 64 - 1) };
+
+    fn more_size() -> usize {
+        A::claim_size().saturating_add(Others::more_size())
+    }
+}
+
+impl<A: Inhabited, Others: Inhabited + Rest> Inhabited for Row<A, Others> {
     fn tell_inhabited() {
         A::tell_inhabited();
         Others::tell_inhabited();
     }
 }
 
-impl<A: Writable, Others: Writable, const LAST: bool> Writable for Row<A, Others, LAST> {
+impl<A: Writable, Others: Writable + Rest> Writable for Row<A, Others> {
     fn tell_writable() {
         A::tell_writable();
         Others::tell_writable();
     }
 }
 
-impl<A: Plain, Others: Plain, const LAST: bool> Plain for Row<A, Others, LAST> {
+impl<A: Plain, Others: Plain + Rest> Plain for Row<A, Others> {
     fn tell_plain() {
         A::tell_plain();
         Others::tell_plain();
     }
 }
 
-impl<A: Exact, Others: Exact, const LAST: bool> Exact for Row<A, Others, LAST> {
+impl<A: Exact, Others: Exact + Rest> Exact for Row<A, Others> {
     fn tell_exact() {
         A::tell_exact();
         Others::tell_exact();
     }
 }
 
-impl<A: Canonical, Others: Canonical, const LAST: bool> Canonical for Row<A, Others, LAST> {
+impl<A: Canonical, Others: Canonical + Rest> Canonical for Row<A, Others> {
     fn tell_canonical() {
         A::tell_canonical();
         Others::tell_canonical();
     }
 }
 
-impl<A: ConstantCharge, Others: ConstantCharge, const LAST: bool> ConstantCharge
-    for Row<A, Others, LAST> {
+impl<A: ConstantCharge, Others: ConstantCharge + Rest> ConstantCharge for Row<A, Others> {
     ghost cost = { A.cost + Others.cost };
 
     ghost peak = { max A.peak (A.cost + Others.peak) };
@@ -127,25 +144,11 @@ impl<A: ConstantCharge, Others: ConstantCharge, const LAST: bool> ConstantCharge
     }
 }
 
-/// What the others behind a part claim: nothing behind the last.
-fn claim_behind(last: bool, claim: usize) -> usize
-    ensures { result ≡ claim_behind last claim }
-{
-    if last { 0 } else { claim }
-}
-
 /// Four parts, and the others.
 #[derive(Drop, PartialEq)]
-pub struct LongRow<A, B, C, D, Others, const LAST: bool>(pub A, pub B, pub C, pub D, pub Others);
+pub struct LongRow<A, B, C, D, Others>(pub A, pub B, pub C, pub D, pub Others);
 
-/// The last four parts.
-pub type LastFour<A, B, C, D> = LongRow<A, B, C, D, (), true>;
-
-/// Four parts before others.
-pub type NextFour<A, B, C, D, Others> = LongRow<A, B, C, D, Others, false>;
-
-impl<A: Wire, B: Wire, C: Wire, D: Wire, Others: Wire, const LAST: bool> Wire
-    for LongRow<A, B, C, D, Others, LAST> {
+impl<A: Wire, B: Wire, C: Wire, D: Wire, Others: Wire + Rest> Wire for LongRow<A, B, C, D, Others> {
     ghost its = { record {
       format = λ s. four_and (A.its.format s) (B.its.format s) (C.its.format s) (D.its.format s) (Others.its.format s);
       valid = λ v. A.its.valid v.0 × (B.its.valid v.1 × (C.its.valid v.2 × (D.its.valid v.3 × Others.its.valid v.4)));
@@ -157,7 +160,7 @@ impl<A: Wire, B: Wire, C: Wire, D: Wire, Others: Wire, const LAST: bool> Wire
           × (C.its.writable s v.2 × (D.its.writable s v.3 × Others.its.writable s v.4)));
       names = λ e. A.its.names e ⊎ (B.its.names e ⊎ (C.its.names e ⊎ (D.its.names e ⊎ Others.its.names e)));
       grows = A.its.grows ⊎ (B.its.grows ⊎ (C.its.grows ⊎ (D.its.grows ⊎ Others.its.grows)));
-      claim = ⟦<Next<A, Next<B, Next<C, Row<D, Others, LAST>>>> as Wire>⟧.its.claim;
+      claim = ⟦<LongRow<A, B, C, D, Others> as Rest>⟧.more;
       need = λ s. then_needs (A.its.format s) (A.its.need s) (λ _. then_needs (B.its.format s) (B.its.need s)
           (λ _. then_needs (C.its.format s) (C.its.need s) (λ _. then_needs (D.its.format s) (D.its.need s)
           (λ _. Others.its.need s))));
@@ -171,7 +174,7 @@ impl<A: Wire, B: Wire, C: Wire, D: Wire, Others: Wire, const LAST: bool> Wire
           (D.its.has_word s v.3 h.1.1.1.0 w.1.1.1.0) (Others.its.has_word s v.4 h.1.1.1.1 w.1.1.1.1);
       names_own = λ e. either (A.its.names_own e) (either (B.its.names_own e)
           (either (C.its.names_own e) (either (D.its.names_own e) (Others.its.names_own e))));
-      claims = ⟦<Next<A, Next<B, Next<C, Row<D, Others, LAST>>>> as Wire>⟧.its.claims;
+      claims = omega (arith, A.its.claims);
       needs = λ s. then-needs (A.its.balanced s) (A.its.needs s) (then-needs (B.its.balanced s) (B.its.needs s)
           (then-needs (C.its.balanced s) (C.its.needs s) (then-needs (D.its.balanced s) (D.its.needs s)
           (Others.its.needs s))));
@@ -180,21 +183,20 @@ impl<A: Wire, B: Wire, C: Wire, D: Wire, Others: Wire, const LAST: bool> Wire
     } };
 
     fn claim_size() -> usize {
-        let fourth = D::claim_size().saturating_add(claim_behind(LAST, Others::claim_size()));
-        let third = C::claim_size().saturating_add(fourth);
-        let second = B::claim_size().saturating_add(third);
-        A::claim_size().saturating_add(second)
+        LongRow::<A, B, C, D, Others>::more_size()
     }
 }
 
-impl<
-    A: Inhabited,
-    B: Inhabited,
-    C: Inhabited,
-    D: Inhabited,
-    Others: Inhabited,
-    const LAST: bool,
-> Inhabited for LongRow<A, B, C, D, Others, LAST> {
+impl<A: Wire, B: Wire, C: Wire, D: Wire, Others: Rest> Rest for LongRow<A, B, C, D, Others> {
+    ghost more = { ⟦<Row<A, Row<B, Row<C, Row<D, Others>>>> as Rest>⟧.more };
+
+    fn more_size() -> usize {
+        Row::<A, Row<B, Row<C, Row<D, Others>>>>::more_size()
+    }
+}
+
+impl<A: Inhabited, B: Inhabited, C: Inhabited, D: Inhabited, Others: Inhabited + Rest> Inhabited
+    for LongRow<A, B, C, D, Others> {
     fn tell_inhabited() {
         A::tell_inhabited();
         B::tell_inhabited();
@@ -204,14 +206,8 @@ impl<
     }
 }
 
-impl<
-    A: Writable,
-    B: Writable,
-    C: Writable,
-    D: Writable,
-    Others: Writable,
-    const LAST: bool,
-> Writable for LongRow<A, B, C, D, Others, LAST> {
+impl<A: Writable, B: Writable, C: Writable, D: Writable, Others: Writable + Rest> Writable
+    for LongRow<A, B, C, D, Others> {
     fn tell_writable() {
         A::tell_writable();
         B::tell_writable();
@@ -221,8 +217,8 @@ impl<
     }
 }
 
-impl<A: Plain, B: Plain, C: Plain, D: Plain, Others: Plain, const LAST: bool> Plain
-    for LongRow<A, B, C, D, Others, LAST> {
+impl<A: Plain, B: Plain, C: Plain, D: Plain, Others: Plain + Rest> Plain
+    for LongRow<A, B, C, D, Others> {
     fn tell_plain() {
         A::tell_plain();
         B::tell_plain();
@@ -232,8 +228,8 @@ impl<A: Plain, B: Plain, C: Plain, D: Plain, Others: Plain, const LAST: bool> Pl
     }
 }
 
-impl<A: Exact, B: Exact, C: Exact, D: Exact, Others: Exact, const LAST: bool> Exact
-    for LongRow<A, B, C, D, Others, LAST> {
+impl<A: Exact, B: Exact, C: Exact, D: Exact, Others: Exact + Rest> Exact
+    for LongRow<A, B, C, D, Others> {
     fn tell_exact() {
         A::tell_exact();
         B::tell_exact();
@@ -243,14 +239,8 @@ impl<A: Exact, B: Exact, C: Exact, D: Exact, Others: Exact, const LAST: bool> Ex
     }
 }
 
-impl<
-    A: Canonical,
-    B: Canonical,
-    C: Canonical,
-    D: Canonical,
-    Others: Canonical,
-    const LAST: bool,
-> Canonical for LongRow<A, B, C, D, Others, LAST> {
+impl<A: Canonical, B: Canonical, C: Canonical, D: Canonical, Others: Canonical + Rest> Canonical
+    for LongRow<A, B, C, D, Others> {
     fn tell_canonical() {
         A::tell_canonical();
         B::tell_canonical();
@@ -265,12 +255,11 @@ impl<
     B: ConstantCharge,
     C: ConstantCharge,
     D: ConstantCharge,
-    Others: ConstantCharge,
-    const LAST: bool,
-> ConstantCharge for LongRow<A, B, C, D, Others, LAST> {
-    ghost cost = { ⟦<Next<A, Next<B, Next<C, Row<D, Others, LAST>>>> as ConstantCharge>⟧.cost };
+    Others: ConstantCharge + Rest,
+> ConstantCharge for LongRow<A, B, C, D, Others> {
+    ghost cost = { ⟦<Row<A, Row<B, Row<C, Row<D, Others>>>> as ConstantCharge>⟧.cost };
 
-    ghost peak = { ⟦<Next<A, Next<B, Next<C, Row<D, Others, LAST>>>> as ConstantCharge>⟧.peak };
+    ghost peak = { ⟦<Row<A, Row<B, Row<C, Row<D, Others>>>> as ConstantCharge>⟧.peak };
 
     fn tell_costs() {
         A::tell_costs();

@@ -102,14 +102,14 @@ fn decodes_within<S: Source>(alloc: Global, limited: &Limited) -> Result<bool, A
         Limited::PairTo15(row) => decodes::<S, _, _>(alloc, row),
         Limited::PairTo16(row) => decodes::<S, _, _>(alloc, row),
         Limited::TextTo100000(row) => decodes_text::<S, _>(alloc, row)?,
-        Limited::ListTo100000(row) => decodes_list::<S, _, _>(alloc, row)?,
+        Limited::ListTo100000(row) => decodes_list::<S, _>(alloc, row)?,
         Limited::ListsTo31(row) => decodes_lists::<S, _>(alloc, row)?,
         Limited::ListsTo32(row) => decodes_lists::<S, _>(alloc, row)?,
         Limited::UnitsTo7(row) => decodes_units::<S, _>(alloc, row),
         Limited::UnitsTo10(row) => decodes_units::<S, _>(alloc, row),
         Limited::UnitsTo11(row) => decodes_units::<S, _>(alloc, row),
-        Limited::OptionsTo11(row) => decodes_list::<S, _, _>(alloc, row)?,
-        Limited::OptionsTo12(row) => decodes_list::<S, _, _>(alloc, row)?,
+        Limited::OptionsTo11(row) => decodes_options::<S, _>(alloc, row)?,
+        Limited::OptionsTo12(row) => decodes_options::<S, _>(alloc, row)?,
     })
 }
 
@@ -326,10 +326,9 @@ where
 }
 
 /// Whether decoding the input as a list gives the answer.
-fn decodes_list<S, T, L>(alloc: Global, row: &Decoding<&'static [T], L>) -> Result<bool, AllocError>
+fn decodes_list<S, L>(alloc: Global, row: &Decoding<&'static [u32], L>) -> Result<bool, AllocError>
 where
     S: Source,
-    T: Decode<()> + Copy + PartialEq,
     L: InternalLimitConfig + Copy,
 {
     let answer = match row.answer {
@@ -386,6 +385,25 @@ where
         outcome.map(|(units, taken)| (units.len(), taken)),
         &row.answer,
     )
+}
+
+/// Whether decoding the input as a list of `Option<()>` gives the answer.
+fn decodes_options<S, L>(
+    alloc: Global,
+    row: &Decoding<&'static [Option<()>], L>,
+) -> Result<bool, AllocError>
+where
+    S: Source,
+    L: InternalLimitConfig + Copy,
+{
+    let answer = match row.answer {
+        Answer::Value(items, length) => Answer::Value(items.to_vec(alloc)?, length),
+        Answer::Fault(fault) => Answer::Fault(fault),
+    };
+    Ok(answers::<S, _>(
+        decode_under::<S, _, _>(alloc, row.setting, row.limit, row.input),
+        &answer,
+    ))
 }
 
 /// Whether decoding the input as a map gives the answer.

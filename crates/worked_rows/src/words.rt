@@ -158,8 +158,8 @@ fn word_of_limited(limited: &Limited) -> Option<Word> {
         Limited::PairTo16(row) => front(Kind::TwoU64, row),
         Limited::TextTo100000(row) => front(Kind::Text, row),
         Limited::ListTo100000(row) => front(Kind::List, row),
-        Limited::ListsTo31(row) => front(Kind::Lists, row),
-        Limited::ListsTo32(row) => front(Kind::Lists, row),
+        Limited::ListsTo31(row) => front_of_lists(row),
+        Limited::ListsTo32(row) => front_of_lists(row),
         Limited::UnitsTo7(row) => front(Kind::Units, row),
         Limited::UnitsTo10(row) => front(Kind::Units, row),
         Limited::UnitsTo11(row) => front(Kind::Units, row),
@@ -217,6 +217,20 @@ fn front<T, L>(kind: Kind, row: &Decoding<T, L>) -> Option<Word> {
         Answer::Value(_, length) => {
             Some(Word {
                 kind,
+                setting: row.setting,
+                bytes: row.input.get(..*length)?,
+            })
+        }
+        Answer::Fault(_) => None,
+    }
+}
+
+/// The word of a list of lists that an input begins with, if one is read of it.
+fn front_of_lists<L>(row: &Decoding<&'static [&'static [u8]], L>) -> Option<Word> {
+    match &row.answer {
+        Answer::Value(_, length) => {
+            Some(Word {
+                kind: Kind::Lists,
                 setting: row.setting,
                 bytes: row.input.get(..*length)?,
             })

@@ -7,7 +7,7 @@ use bincode_base::error::DecodeError;
 use bincode_decoder::decoder::{BorrowDecoder, BorrowedBytes, Decoder};
 use bincode_values::rows::decode_row;
 use bincode_values::values::{OneByOne, OverDefaults};
-use bincode_wire::rows::{Last, LastFour, LongRow, Next, NextFour, Row};
+use bincode_wire::rows::{LongRow, Rest, Row};
 use bincode_wire::wire::Wire;
 
 impl<Context: Drop> Decode<Context> for () {
@@ -30,13 +30,13 @@ impl<B: BorrowedBytes, Context: Drop> BorrowDecode<B, Context> for () {
     }
 }
 
-impl<Context: Drop, A: Decode<Context>, Others: Decode<Context>, const LAST: bool> Decode<Context>
-    for Row<A, Others, LAST> {
+impl<Context: Drop, A: Decode<Context>, Others: Decode<Context> + Rest> Decode<Context>
+    for Row<A, Others> {
     type Run = OneByOne;
 
     #[inline]
     fn decode<D: Decoder<Context = Context>>(decoder: &mut D) -> Result<Self, DecodeError> {
-        decode_row::<D, ByDecode<A>, ByDecode<Others>, LAST>(decoder)
+        decode_row::<D, ByDecode<A>, ByDecode<Others>>(decoder)
     }
 }
 
@@ -44,16 +44,15 @@ impl<
     B: BorrowedBytes,
     Context: Drop,
     A: BorrowDecode<B, Context>,
-    Others: BorrowDecode<B, Context>,
-    const LAST: bool,
-> BorrowDecode<B, Context> for Row<A, Others, LAST> {
+    Others: BorrowDecode<B, Context> + Rest,
+> BorrowDecode<B, Context> for Row<A, Others> {
     type Run = OneByOne;
 
     #[inline]
     fn borrow_decode<D: BorrowDecoder<B, Context = Context>>(
         decoder: &mut D,
     ) -> Result<Self, DecodeError> {
-        decode_row::<D, ByBorrowDecode<B, A>, ByBorrowDecode<B, Others>, LAST>(decoder)
+        decode_row::<D, ByBorrowDecode<B, A>, ByBorrowDecode<B, Others>>(decoder)
     }
 }
 
@@ -63,15 +62,13 @@ impl<
     B: Decode<Context>,
     C: Decode<Context>,
     D: Decode<Context>,
-    Others: Decode<Context>,
-    const LAST: bool,
-> Decode<Context> for LongRow<A, B, C, D, Others, LAST> {
+    Others: Decode<Context> + Rest,
+> Decode<Context> for LongRow<A, B, C, D, Others> {
     type Run = OneByOne;
 
     #[inline]
     fn decode<Z: Decoder<Context = Context>>(decoder: &mut Z) -> Result<Self, DecodeError> {
-        let row: Next<A, Next<B, Next<C, Row<D, Others, LAST>>>> = Decode::decode(decoder)?;
-        let Row(a, Row(b, Row(c, Row(d, others)))) = row;
+        let Row(a, Row(b, Row(c, Row(d, others)))) = Decode::decode(decoder)?;
         Ok(LongRow(a, b, c, d, others))
     }
 }
@@ -83,19 +80,15 @@ impl<
     B: BorrowDecode<Z, Context>,
     C: BorrowDecode<Z, Context>,
     D: BorrowDecode<Z, Context>,
-    Others: BorrowDecode<Z, Context>,
-    const LAST: bool,
-> BorrowDecode<Z, Context> for LongRow<A, B, C, D, Others, LAST> {
+    Others: BorrowDecode<Z, Context> + Rest,
+> BorrowDecode<Z, Context> for LongRow<A, B, C, D, Others> {
     type Run = OneByOne;
 
     #[inline]
     fn borrow_decode<Y: BorrowDecoder<Z, Context = Context>>(
         decoder: &mut Y,
     ) -> Result<Self, DecodeError> {
-        let row: Next<A, Next<B, Next<C, Row<D, Others, LAST>>>> = BorrowDecode::borrow_decode(
-            decoder,
-        )?;
-        let Row(a, Row(b, Row(c, Row(d, others)))) = row;
+        let Row(a, Row(b, Row(c, Row(d, others)))) = BorrowDecode::borrow_decode(decoder)?;
         Ok(LongRow(a, b, c, d, others))
     }
 }
@@ -159,7 +152,7 @@ impl<A: Wire, B: Wire, C: Wire, D: Wire, E: Wire, F: Wire, G: Wire, H: Wire, I: 
 
 impl<A, B, C, D, E, F, G, H, I, J> FromParts for (A, B, C, D, E, F, G, H, I, J)
 where
-    NextFour<A, B, C, D, NextFour<E, F, G, H, Next<I, Last<J>>>>: Wire,
+    LongRow<A, B, C, D, LongRow<E, F, G, H, Row<I, Row<J, ()>>>>: Wire,
 {
     fn from_parts(
         LongRow(a, b, c, d, LongRow(e, f, g, h, Row(i, Row(j, ())))): Self::Parts,
@@ -170,7 +163,7 @@ where
 
 impl<A, B, C, D, E, F, G, H, I, J, K> FromParts for (A, B, C, D, E, F, G, H, I, J, K)
 where
-    NextFour<A, B, C, D, NextFour<E, F, G, H, Next<I, Next<J, Last<K>>>>>: Wire,
+    LongRow<A, B, C, D, LongRow<E, F, G, H, Row<I, Row<J, Row<K, ()>>>>>: Wire,
 {
     fn from_parts(
         LongRow(a, b, c, d, LongRow(e, f, g, h, Row(i, Row(j, Row(k, ()))))): Self::Parts,
@@ -181,7 +174,7 @@ where
 
 impl<A, B, C, D, E, F, G, H, I, J, K, L> FromParts for (A, B, C, D, E, F, G, H, I, J, K, L)
 where
-    NextFour<A, B, C, D, NextFour<E, F, G, H, LastFour<I, J, K, L>>>: Wire,
+    LongRow<A, B, C, D, LongRow<E, F, G, H, LongRow<I, J, K, L, ()>>>: Wire,
 {
     fn from_parts(
         LongRow(a, b, c, d, LongRow(e, f, g, h, LongRow(i, j, k, l, ()))): Self::Parts,
@@ -192,7 +185,7 @@ where
 
 impl<A, B, C, D, E, F, G, H, I, J, K, L, M> FromParts for (A, B, C, D, E, F, G, H, I, J, K, L, M)
 where
-    NextFour<A, B, C, D, NextFour<E, F, G, H, NextFour<I, J, K, L, Last<M>>>>: Wire,
+    LongRow<A, B, C, D, LongRow<E, F, G, H, LongRow<I, J, K, L, Row<M, ()>>>>: Wire,
 {
     fn from_parts(
         LongRow(a, b, c, d, LongRow(e, f, g, h, LongRow(i, j, k, l, Row(m, ())))): Self::Parts,
@@ -204,7 +197,7 @@ where
 impl<A, B, C, D, E, F, G, H, I, J, K, L, M, N> FromParts
     for (A, B, C, D, E, F, G, H, I, J, K, L, M, N)
 where
-    NextFour<A, B, C, D, NextFour<E, F, G, H, NextFour<I, J, K, L, Next<M, Last<N>>>>>: Wire,
+    LongRow<A, B, C, D, LongRow<E, F, G, H, LongRow<I, J, K, L, Row<M, Row<N, ()>>>>>: Wire,
 {
     fn from_parts(
         LongRow(
@@ -222,13 +215,7 @@ where
 impl<A, B, C, D, E, F, G, H, I, J, K, L, M, N, O> FromParts
     for (A, B, C, D, E, F, G, H, I, J, K, L, M, N, O)
 where
-    NextFour<
-        A,
-        B,
-        C,
-        D,
-        NextFour<E, F, G, H, NextFour<I, J, K, L, Next<M, Next<N, Last<O>>>>>,
-    >: Wire,
+    LongRow<A, B, C, D, LongRow<E, F, G, H, LongRow<I, J, K, L, Row<M, Row<N, Row<O, ()>>>>>>: Wire,
 {
     fn from_parts(
         LongRow(
@@ -246,7 +233,7 @@ where
 impl<A, B, C, D, E, F, G, H, I, J, K, L, M, N, O, P> FromParts
     for (A, B, C, D, E, F, G, H, I, J, K, L, M, N, O, P)
 where
-    NextFour<A, B, C, D, NextFour<E, F, G, H, NextFour<I, J, K, L, LastFour<M, N, O, P>>>>: Wire,
+    LongRow<A, B, C, D, LongRow<E, F, G, H, LongRow<I, J, K, L, LongRow<M, N, O, P, ()>>>>: Wire,
 {
     fn from_parts(
         LongRow(

@@ -1,7 +1,7 @@
 //! Encoding of tuples.
 use crate::encode::Encode;
 use crate::encode_parts::EncodeParts;
-use crate::rows::{EncodeRow, LastFourLent, LastLent, LentRow, LongLentRow};
+use crate::rows::{EncodeRow, LentRow, LongLentRow};
 use bincode_base::error::EncodeError;
 use bincode_encoder::encoder::Encoder;
 
@@ -38,7 +38,7 @@ impl<A: Encode> EncodeParts for (A,) {
     #[inline(always)]
     fn encode_parts<Z: Encoder>(&self, encoder: &mut Z) -> Result<(), EncodeError> {
         let (a,) = self;
-        LastLent(a).encode_row(encoder)
+        LentRow(a, ()).encode_row(encoder)
     }
 }
 
@@ -51,7 +51,7 @@ impl<A: Encode, B: Encode> EncodeParts for (A, B) {
     #[inline(always)]
     fn encode_parts<Z: Encoder>(&self, encoder: &mut Z) -> Result<(), EncodeError> {
         let (a, b) = self;
-        LentRow(a, LastLent(b)).encode_row(encoder)
+        LentRow(a, LentRow(b, ())).encode_row(encoder)
     }
 }
 
@@ -65,7 +65,7 @@ impl<A: Encode, B: Encode, C: Encode> EncodeParts for (A, B, C) {
     #[inline(always)]
     fn encode_parts<Z: Encoder>(&self, encoder: &mut Z) -> Result<(), EncodeError> {
         let (a, b, c) = self;
-        LentRow(a, LentRow(b, LastLent(c))).encode_row(encoder)
+        LentRow(a, LentRow(b, LentRow(c, ()))).encode_row(encoder)
     }
 }
 
@@ -80,7 +80,7 @@ impl<A: Encode, B: Encode, C: Encode, D: Encode> EncodeParts for (A, B, C, D) {
     #[inline(always)]
     fn encode_parts<Z: Encoder>(&self, encoder: &mut Z) -> Result<(), EncodeError> {
         let (a, b, c, d) = self;
-        LastFourLent(a, b, c, d).encode_row(encoder)
+        LongLentRow(a, b, c, d, ()).encode_row(encoder)
     }
 }
 
@@ -96,7 +96,7 @@ impl<A: Encode, B: Encode, C: Encode, D: Encode, E: Encode> EncodeParts for (A, 
     #[inline(always)]
     fn encode_parts<Z: Encoder>(&self, encoder: &mut Z) -> Result<(), EncodeError> {
         let (a, b, c, d, e) = self;
-        LongLentRow(a, b, c, d, LastLent(e)).encode_row(encoder)
+        LongLentRow(a, b, c, d, LentRow(e, ())).encode_row(encoder)
     }
 }
 
@@ -114,7 +114,7 @@ impl<A: Encode, B: Encode, C: Encode, D: Encode, E: Encode, F: Encode> EncodePar
     #[inline(always)]
     fn encode_parts<Z: Encoder>(&self, encoder: &mut Z) -> Result<(), EncodeError> {
         let (a, b, c, d, e, f) = self;
-        LongLentRow(a, b, c, d, LentRow(e, LastLent(f))).encode_row(encoder)
+        LongLentRow(a, b, c, d, LentRow(e, LentRow(f, ()))).encode_row(encoder)
     }
 }
 
@@ -133,7 +133,7 @@ impl<A: Encode, B: Encode, C: Encode, D: Encode, E: Encode, F: Encode, G: Encode
     #[inline(always)]
     fn encode_parts<Z: Encoder>(&self, encoder: &mut Z) -> Result<(), EncodeError> {
         let (a, b, c, d, e, f, g) = self;
-        LongLentRow(a, b, c, d, LentRow(e, LentRow(f, LastLent(g)))).encode_row(encoder)
+        LongLentRow(a, b, c, d, LentRow(e, LentRow(f, LentRow(g, ())))).encode_row(encoder)
     }
 }
 
@@ -155,7 +155,7 @@ impl<
     #[inline(always)]
     fn encode_parts<Z: Encoder>(&self, encoder: &mut Z) -> Result<(), EncodeError> {
         let (a, b, c, d, e, f, g, h) = self;
-        LongLentRow(a, b, c, d, LastFourLent(e, f, g, h)).encode_row(encoder)
+        LongLentRow(a, b, c, d, LongLentRow(e, f, g, h, ())).encode_row(encoder)
     }
 }
 
@@ -179,7 +179,7 @@ impl<
     #[inline(always)]
     fn encode_parts<Z: Encoder>(&self, encoder: &mut Z) -> Result<(), EncodeError> {
         let (a, b, c, d, e, f, g, h, i) = self;
-        LongLentRow(a, b, c, d, LongLentRow(e, f, g, h, LastLent(i))).encode_row(encoder)
+        LongLentRow(a, b, c, d, LongLentRow(e, f, g, h, LentRow(i, ()))).encode_row(encoder)
     }
 }
 
@@ -205,9 +205,14 @@ impl<
     #[inline(always)]
     fn encode_parts<Z: Encoder>(&self, encoder: &mut Z) -> Result<(), EncodeError> {
         let (a, b, c, d, e, f, g, h, i, j) = self;
-        LongLentRow(a, b, c, d, LongLentRow(e, f, g, h, LentRow(i, LastLent(j)))).encode_row(
-            encoder,
+        LongLentRow(
+            a,
+            b,
+            c,
+            d,
+            LongLentRow(e, f, g, h, LentRow(i, LentRow(j, ()))),
         )
+        .encode_row(encoder)
     }
 }
 
@@ -240,7 +245,7 @@ impl<
             b,
             c,
             d,
-            LongLentRow(e, f, g, h, LentRow(i, LentRow(j, LastLent(k)))),
+            LongLentRow(e, f, g, h, LentRow(i, LentRow(j, LentRow(k, ())))),
         )
         .encode_row(encoder)
     }
@@ -274,7 +279,7 @@ impl<
             b,
             c,
             d,
-            LongLentRow(e, f, g, h, LastFourLent(i, j, k, l)),
+            LongLentRow(e, f, g, h, LongLentRow(i, j, k, l, ())),
         )
         .encode_row(encoder)
     }
@@ -310,7 +315,7 @@ impl<
             b,
             c,
             d,
-            LongLentRow(e, f, g, h, LongLentRow(i, j, k, l, LastLent(m))),
+            LongLentRow(e, f, g, h, LongLentRow(i, j, k, l, LentRow(m, ()))),
         )
         .encode_row(encoder)
     }
@@ -348,7 +353,13 @@ impl<
             b,
             c,
             d,
-            LongLentRow(e, f, g, h, LongLentRow(i, j, k, l, LentRow(m, LastLent(n)))),
+            LongLentRow(
+                e,
+                f,
+                g,
+                h,
+                LongLentRow(i, j, k, l, LentRow(m, LentRow(n, ()))),
+            ),
         )
         .encode_row(encoder)
     }
@@ -393,7 +404,7 @@ impl<
                 f,
                 g,
                 h,
-                LongLentRow(i, j, k, l, LentRow(m, LentRow(n, LastLent(o)))),
+                LongLentRow(i, j, k, l, LentRow(m, LentRow(n, LentRow(o, ())))),
             ),
         )
         .encode_row(encoder)
@@ -438,7 +449,7 @@ impl<
                 f,
                 g,
                 h,
-                LongLentRow(i, j, k, l, LastFourLent(m, n, o, p)),
+                LongLentRow(i, j, k, l, LongLentRow(m, n, o, p, ())),
             ),
         )
         .encode_row(encoder)
