@@ -1,5 +1,5 @@
 -- What the calls that decode answer under a limit, of types whose need is told, and of those that are charged for.
-use Rattle.std.specs.Prelude.{◌≡◌, ◌⊎◌, ◌≤◌, ◌++◌, ◌-◌, length, ℕ, List, refl, Some, None, Result, Ok, Err, IfOk, IfErr}
+use Rattle.std.specs.Prelude.{◌≡◌, ◌⊎◌, ◌≤◌, ◌++◌, ◌-◌, length, ℕ, List, refl, Option, Some, None, Result, Ok, Err, IfOk, IfErr}
 use Rattle.std.proofs.Common.{◌∙◌, ap, subst, arith, inl, inr, length-append}
 use Rattle.bincode_base.specs.declared.error.DecodeError.{DecodeError}
 use Rattle.bincode_base.specs.declared.error.DecodeError.TheVariants.{LimitExceeded}
@@ -76,16 +76,23 @@ module _ (F : Format Meaning) (f : Lawful F) (input : List ℕ) where
         faults = λ h why s w u. told why s w (stays_by s (fault_steps why s w) h);
       }
 
--- the same of an answer to a slice
-pub answer-limited : {A : Type 0} (F : Format Meaning) → Lawful F → (need : List ℕ → ℕ) → Needs need F → (limit : ℕ) (Grows : Type 0) (Given : Meaning → A → Type 0) (input : List ℕ) (result : Result (A × ℕ) DecodeError) →
-    IsAnswer F (Some limit) Grows Given input result → LimitedBy EndsSlice F need limit (IsRefused Grows) input result
-answer-limited F f need n limit Grows Given input result a =
-    limited F f input need n limit EndsSlice (λ missing e h l. cc) (IsRefused Grows) result a.found a.fault a.keeps
+-- of what a call that reads promises, where its limit is this one
+pub read-limited : {A : Type 0} (F : Format Meaning) → Lawful F → (need : List ℕ → ℕ) → Needs need F → (ended : ℕ → DecodeError → Type 0) → ((missing : ℕ) (e : DecodeError) → ended missing e → e ≡ LimitExceeded → ⊥) →
+    (Excused : DecodeError → Type 0) (input : List ℕ) (bound : Option ℕ) (result : Result A DecodeError) → Finds F bound Excused input result → TellsEach ended F bound Excused input result → KeepsWithin F bound Excused input result →
+    (limit : ℕ) → bound ≡ Some limit → LimitedBy ended F need limit Excused input result
+read-limited F f need n ended never Excused input bound result found told over limit e =
+    limited F f input need n limit ended never Excused result (subst (λ b. Finds F b Excused input result) e found) (subst (λ b. TellsEach ended F b Excused input result) e told) (subst (λ b. KeepsWithin F b Excused input result) e over)
+
+-- and of an answer to a slice
+pub answer-limited : {A : Type 0} (F : Format Meaning) → Lawful F → (need : List ℕ → ℕ) → Needs need F → (Grows : Type 0) (Given : Meaning → A → Type 0) (input : List ℕ) (bound : Option ℕ) (result : Result (A × ℕ) DecodeError) →
+    IsAnswer F bound Grows Given input result → (limit : ℕ) → bound ≡ Some limit → LimitedBy EndsSlice F need limit (IsRefused Grows) input result
+answer-limited F f need n Grows Given input bound result a =
+    read-limited F f need n EndsSlice (λ missing e h l. cc) (IsRefused Grows) input bound result a.found a.fault a.keeps
 
 -- what was decoded under a limit is bounded by it
-module _ (F : Format Meaning) (f : Lawful F) (b : Balanced F) (h : Charged F) (limit : ℕ) (input : List ℕ) where
-  pub decoded-bounded : (Given : Meaning → Type 0) (n : ℕ) → Decoded F (Some limit) input Given n → WordBounded F limit input n
-  decoded-bounded Given n d = record {
+module _ (F : Format Meaning) (f : Lawful F) (b : Balanced F) (h : Charged F) where
+  decoded_bounded : (limit : ℕ) (input : List ℕ) (Given : Meaning → Type 0) (n : ℕ) → Decoded F (Some limit) input Given n → WordBounded F limit input n
+  decoded_bounded limit input Given n d = record {
     word = d.word;
     rest = d.rest;
     meaning = d.meaning;
@@ -96,13 +103,17 @@ module _ (F : Format Meaning) (f : Lawful F) (b : Balanced F) (h : Charged F) (l
     bounded = within-bounded F f b h limit d.word d.meaning d.steps d.is_word d.within;
   }
 
-  pub answer-bounded : {A : Type 0} (Grows : Type 0) (Given : Meaning → A → Type 0) (result : Result (A × ℕ) DecodeError) → IsAnswer F (Some limit) Grows Given input result → IfOk result (λ x. WordBounded F limit input x.1)
-  answer-bounded Grows Given (Ok x) a = decoded-bounded (λ m. Given m x.0) x.1 a.word
-  answer-bounded Grows Given (Err e) a = tt
+  pub decoded-bounded : (input : List ℕ) (Given : Meaning → Type 0) (n : ℕ) (bound : Option ℕ) → Decoded F bound input Given n → (limit : ℕ) → bound ≡ Some limit → WordBounded F limit input n
+  decoded-bounded input Given n bound d limit e = decoded_bounded limit input Given n (subst (λ o. Decoded F o input Given n) e d)
+
+  pub answer-bounded : {A : Type 0} (Grows : Type 0) (Given : Meaning → A → Type 0) (input : List ℕ) (bound : Option ℕ) (result : Result (A × ℕ) DecodeError) → IsAnswer F bound Grows Given input result →
+      (limit : ℕ) → bound ≡ Some limit → IfOk result (λ x. WordBounded F limit input x.1)
+  answer-bounded Grows Given input bound (Ok x) a limit e = decoded-bounded input (λ m. Given m x.0) x.1 bound a.word limit e
+  answer-bounded Grows Given input bound (Err why) a limit e = tt
 
   -- and what was read from a reader
-  pub read-bounded : (rest : List ℕ) (Given : Meaning → Type 0) → WordRead F (Some limit) input rest Given → WordBounded F limit input (length input - length rest)
-  read-bounded rest Given d = record {
+  read_bounded : (limit : ℕ) (input rest : List ℕ) (Given : Meaning → Type 0) → WordRead F (Some limit) input rest Given → WordBounded F limit input (length input - length rest)
+  read_bounded limit input rest Given d = record {
     word = d.word;
     rest = rest;
     meaning = d.meaning;
@@ -112,3 +123,8 @@ module _ (F : Format Meaning) (f : Lawful F) (b : Balanced F) (h : Charged F) (l
     count = let l = ap length d.input_is in let k = length-append d.word rest in omega (arith, l, k);
     bounded = within-bounded F f b h limit d.word d.meaning d.steps d.is_word d.within;
   }
+
+  pub read-bounded : {A : Type 0} (Given : Meaning → A → Type 0) (input rest : List ℕ) (bound : Option ℕ) (result : Result A DecodeError) → IfOk result (λ v. WordRead F bound input rest (λ m. Given m v)) →
+      (limit : ℕ) → bound ≡ Some limit → IfOk result (λ _. WordBounded F limit input (length input - length rest))
+  read-bounded Given input rest bound (Ok v) d limit e = read_bounded limit input rest (λ m. Given m v) (subst (λ o. WordRead F o input rest (λ m. Given m v)) e d)
+  read-bounded Given input rest bound (Err why) d limit e = tt

@@ -1,15 +1,14 @@
-use Rattle.std.proofs.Common.{subst}
-use Rattle.bincode_format.specs.Slice.{IsAnswer}
 use Rattle.bincode_laws.specs.LimitedLaws.{answer-limited, answer-bounded}
 use Rattle.callers.proofs.limits.read_within.Goals as goal
 
-pub returns : goal.returns
-returns g c =
+pub returns-clause-limited : goal.returns-clause-limited
+returns-clause-limited g c =
     let a = c.decode_from_slice.ensures in
-    let read = record { word = a.word; found = a.found; fault = a.fault; keeps = a.limit } in
-    record {
-      limited = λ limit bound. answer-limited _ (g.T.Wire.its.lawful _) _ (g.T.Wire.its.needs _) limit _ _ _ _
-          (subst (λ b. IsAnswer (g.T.Wire.its.format g.C.Config.setting) b g.T.Wire.its.grows g.T.Wire.its.given c.args.src.now c.decode_from_slice.result) bound read);
-      bounded = λ limit bound. answer-bounded _ (g.T.Wire.its.lawful _) (g.T.Wire.its.balanced _) (g.T.Wire.its.charged _) limit _ _ _ _
-          (subst (λ b. IsAnswer (g.T.Wire.its.format g.C.Config.setting) b g.T.Wire.its.grows g.T.Wire.its.given c.args.src.now c.decode_from_slice.result) bound read);
-    }
+    answer-limited (g.T.Wire.its.format g.C.Config.setting) (g.T.Wire.its.lawful g.C.Config.setting) (g.T.Wire.its.need g.C.Config.setting) (g.T.Wire.its.needs g.C.Config.setting)
+    g.T.Wire.its.grows g.T.Wire.its.given _ g.C.Config.bound _ (record { word = a.word; found = a.found; fault = a.fault; keeps = a.limit })
+
+pub returns-clause-bounded : goal.returns-clause-bounded
+returns-clause-bounded g c =
+    let a = c.decode_from_slice.ensures in
+    answer-bounded (g.T.Wire.its.format g.C.Config.setting) (g.T.Wire.its.lawful g.C.Config.setting) (g.T.Wire.its.balanced g.C.Config.setting) (g.T.Wire.its.charged g.C.Config.setting)
+    g.T.Wire.its.grows g.T.Wire.its.given _ g.C.Config.bound _ (record { word = a.word; found = a.found; fault = a.fault; keeps = a.limit })
