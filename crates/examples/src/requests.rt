@@ -1,7 +1,8 @@
 //! A server's loop: requests that came one behind the other, from anybody, read under a limit.
-ghost use Rattle.std.specs.Prelude.{IfOk, drop};
+ghost use Rattle.std.specs.Prelude.{◌≡◌, ℕ, Err, IfOk, MatchOption, Some, drop, length};
 ghost use Rattle.std.specs.List.{All};
-ghost use Rattle.examples.specs.Requests.{FollowOn, IsBounded, StopsFor};
+ghost use Rattle.bincode.specs.Slice.{IsAnswer};
+ghost use Rattle.examples.specs.Requests.{FollowOn, IsBounded, IsWithin};
 
 use bincode::config::{Config, Configuration, Limit, LittleEndian, Varint, standard};
 use bincode::de::Decode;
@@ -33,24 +34,22 @@ pub struct Requests<T> {
     pub stopped: Option<DecodeError>,
 }
 
-/// Reads at most so many requests. None of them takes more than 98304 bytes, or has a container that reserves more than
-/// 65536 bytes by its claim. Fails where memory is refused; the bytes that were received are as before.
-pub fn read_requests<T: Decode<()>>(
+/// Reads at most so many requests. Fails where memory is refused; the bytes that were received are as before.
+pub fn read_requests<T: Decode<()>, C: Config>(
     alloc: Global,
     received: &[u8],
     most: usize,
+    config: C,
 ) -> Result<Requests<T>, AllocError>
     // Each request is bounded by the limit,
-    ensures bounded { IfOk result (λ r.
-        All (IsBounded (T.its.format ⟦<ServerConfig as Config>⟧.setting) received.now) r.read.items) }
+    ensures bounded { (limit : ℕ) → C.bound ≡ Some limit
+        → IfOk result (λ r. All (IsBounded (T.its.format C.setting) limit received.now) r.read.items) }
     // they stand one behind the other,
     ensures in_turn { IfOk result (λ r. FollowOn 0 r.read.items r.end) }
-    // and it is told why no more were read.
-    ensures stopped { IfOk result (λ r. StopsFor (T.its.format ⟦<ServerConfig as Config>⟧.setting)
-        (T.its.need ⟦<ServerConfig as Config>⟧.setting) T.its.grows most (drop r.end received.now) r.read.items
-        r.stopped) }
+    // and where no more were read, decoding answered so to the bytes that are left.
+    ensures stopped { IfOk result (λ r. MatchOption r.stopped (length r.read.items ≡ most) (λ why.
+        IsAnswer (T.its.format C.setting) C.bound T.its.grows T.its.given (drop r.end received.now) (Err why))) }
 {
-    let config: ServerConfig = standard().with_limit::<65536>();
     let mut read = Vec::new(alloc);
     let mut end = 0;
     while read.len() < most {
@@ -77,4 +76,20 @@ pub fn read_requests<T: Decode<()>>(
         end,
         stopped: None,
     })
+}
+
+/// The loop of a server: no request takes more than 98304 bytes, and none has a list, a map or an array that reserves
+/// more than 65536 bytes by the claim size of its elements, whatever was received.
+pub fn serve<T: Decode<()>>(
+    alloc: Global,
+    received: &[u8],
+    most: usize,
+) -> Result<Requests<T>, AllocError>
+    ensures bytes { IfOk result (λ r. All (IsWithin 98304) r.read.items) }
+    ensures room { IfOk result (λ r. All (IsBounded (T.its.format ⟦<ServerConfig as Config>⟧.setting) 65536 received.now)
+        r.read.items) }
+    ensures in_turn { IfOk result (λ r. FollowOn 0 r.read.items r.end) }
+{
+    let config: ServerConfig = standard().with_limit::<65536>();
+    read_requests(alloc, received, most, config)
 }

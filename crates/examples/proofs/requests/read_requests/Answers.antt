@@ -1,0 +1,25 @@
+use Rattle.std.specs.Prelude.{ℕ, Err}
+use Rattle.std.proofs.Common.{arith}
+use Rattle.bincode.specs.Slice.{FindsWords, TellsFaults, KeepsLimit}
+use Rattle.examples.proofs.RequestsRead.{read-on, answer-left}
+use Rattle.examples.proofs.requests.read_requests.Goals as goal
+
+pub loop-alloc-preserved : goal.loop-alloc-preserved
+loop-alloc-preserved g c =
+    let so_far = c.loop-alloc.invariant in
+    rw c.in_ok-push-in-Ok.ensures.items
+    (read-on (g.T.Wire.its.format g.C.Config.setting) (g.T.Wire.its.lawful g.C.Config.setting) (g.T.Wire.its.balanced g.C.Config.setting) (g.T.Wire.its.charged g.C.Config.setting)
+    _ g.C.Config.bound c.args.received.now c.loop-alloc.read.items (record { start = c.loop-alloc.end; size = c.in-Ok.size; value = c.in-Ok.value })
+    c.args.most so_far.1 (omega (arith, c.len.ensures, c.loop-alloc-test.true)) c.in-Ok.ensures.word so_far.2 so_far.3)
+
+pub returns-in-Err-clause-stopped : goal.returns-in-Err-clause-stopped
+returns-in-Err-clause-stopped g c =
+    let read = c.in-Err.ensures in
+    let F = g.T.Wire.its.format g.C.Config.setting in
+    let Grows = g.T.Wire.its.grows in
+    record {
+      word = tt;
+      found = answer-left (λ bytes. FindsWords {A = g.row.T.Denot × ℕ} F g.C.Config.bound Grows bytes (Err c.in-Err.why)) c.args.received.now c.loop-alloc.end read.found;
+      fault = answer-left (λ bytes. TellsFaults {A = g.row.T.Denot × ℕ} F g.C.Config.bound Grows bytes (Err c.in-Err.why)) c.args.received.now c.loop-alloc.end read.fault;
+      keeps = answer-left (λ bytes. KeepsLimit {A = g.row.T.Denot × ℕ} F g.C.Config.bound Grows bytes (Err c.in-Err.why)) c.args.received.now c.loop-alloc.end read.limit;
+    }
