@@ -174,7 +174,7 @@ module _ {A B : Type 0} (held left : ℕ) (G : A → Format B) (next : A → Lis
       let e : held + reserved s ≡ left + released s = h.1 in
       let same : next a rest + full s ≡ full s + next a rest = omega arith in
       let y : IsPeak (left + full s) (full s + next a rest) (steps_of ((G a).read rest)) =
-          subst (λ n. IsPeak (left + full s) n (steps_of ((G a).read rest))) same (peak_more left (next a rest) (full s) (steps_of ((G a).read rest)) ((g a).peaks rest)) in
+      subst (λ n. IsPeak (left + full s) n (steps_of ((G a).read rest))) same (peak_more left (next a rest) (full s) (steps_of ((G a).read rest)) ((g a).peaks rest)) in
       subst (IsPeak held (max p (full s + next a rest))) (sym (steps_after s ((G a).read rest)))
       (peak_append held (left + full s) p (full s + next a rest) s (steps_of ((G a).read rest)) (omega arith) f y)
   then_peaks p (Failed why s) h f = let same : max p 0 ≡ p = omega arith in rw same f
