@@ -289,13 +289,21 @@ static PLACES: [Places; 22] = [
     },
 ];
 
+/// The row with this label.
+fn row_of<'r>(rows: &'r [Row], label: &str) -> Option<&'r Row> {
+    for row in rows {
+        if row.label == label {
+            return Some(row);
+        }
+    }
+    None
+}
+
 /// The words of the row with this label.
 fn words_of_row(label: &str) -> [Option<Word>; 2] {
     for rows in tables() {
-        for row in rows {
-            if row.label == label {
-                return words_of(&row.case);
-            }
+        if let Some(row) = row_of(rows, label) {
+            return words_of(&row.case);
         }
     }
     [None, None]
