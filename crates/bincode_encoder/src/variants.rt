@@ -26,14 +26,14 @@ pub trait EncodeTag: Tag {
 }
 
 impl EncodeTag for u8 {
-    #[inline]
+    #[inline(always)]
     fn encode_tag<E: Encoder>(tag: u32, encoder: &mut E) -> Result<(), EncodeError> {
         encode_byte(encoder, tag as u8)
     }
 }
 
 impl EncodeTag for u32 {
-    #[inline]
+    #[inline(always)]
     fn encode_tag<E: Encoder>(tag: u32, encoder: &mut E) -> Result<(), EncodeError> {
         encode_integer(encoder, tag)
     }
