@@ -1,0 +1,292 @@
+"""The rows: each is one loop around one call, written once and used as Rattle (over the port) and as Rust (over the original).
+
+A row gets the bytes of a list of values, and room for as many. It reads the values once, makes its call for each of them in so many
+turns, and leaves the bytes of what it made in the room: by these the two sides are compared.
+"""
+
+from typing import NamedTuple
+
+CONFIGURATIONS = {
+    "v": "config::standard()",
+    "f": "config::standard().with_fixed_int_encoding()",
+    "vl": "config::standard().with_limit::<67108864>()",
+}
+
+READ_ALL = """
+    let Ok((values, _)) = BORROWdecode_from_slice::<Vec<TYPE>, _>(alloc, input, CONFIG) else {
+        return 0;
+    };"""
+
+# encode_into_slice
+WRITE = READ_ALL + """
+    let mut at = 0usize;
+    for _turn in 0..turns {
+        at = 0;
+        for value in &values {
+            let Ok(count) = encode_into_slice(value, room(out, at), CONFIG) else {
+                return 0;
+            };
+            at = at.wrapping_add(count);
+        }
+    }
+    at"""
+
+# encode_to_vec: the last vector of each turn is kept, and in the end all are made once more
+TO_VECTOR = READ_ALL + """
+    let Ok(first) = encode_to_vec(alloc, &values, CONFIG) else {
+        return 0;
+    };
+    let mut last = first;
+    for _turn in 0..turns {
+        for value in &values {
+            let Ok(bytes) = encode_to_vec(alloc, value, CONFIG) else {
+                return 0;
+            };
+            last = bytes;
+        }
+    }
+    let mut at = put(out, 0, &last);
+    for value in &values {
+        let Ok(bytes) = encode_to_vec(alloc, value, CONFIG) else {
+            return 0;
+        };
+        at = put(out, at, &bytes);
+    }
+    at"""
+
+# encode_into_std_write, through a buffer over the room
+TO_STREAM = READ_ALL + """
+    let mut at = 0usize;
+    for _turn in 0..turns {
+        at = 0;
+        let Ok(mut stream) = writer(alloc, room(out, 0)) else {
+            return 0;
+        };
+        for value in &values {
+            let Ok(count) = encode_into_std_write(value, &mut stream, CONFIG) else {
+                return 0;
+            };
+            at = at.wrapping_add(count);
+        }
+        if stream.flush().is_err() {
+            return 0;
+        }
+    }
+    at"""
+
+SLOTS = READ_ALL + """
+    let mut values = values;
+    let Ok((_, start)) = decode_from_slice::<u64, _>(alloc, input, CONFIG) else {
+        return 0;
+    };
+    for _turn in 0..turns {"""
+
+WRITE_SLOTS = """
+    }
+    match encode_into_slice(&values, out, CONFIG) {
+        Ok(count) => count,
+        Err(_) => 0,
+    }"""
+
+# decode_from_slice and borrow_decode_from_slice
+READ = SLOTS + """
+        let mut at = start;
+        for slot in values.iter_mut() {
+            let Ok((value, taken)) = BORROWdecode_from_slice::<TYPE, _>(alloc, rest(input, at), CONFIG) else {
+                return 0;
+            };
+            *slot = value;
+            at = at.wrapping_add(taken);
+        }""" + WRITE_SLOTS
+
+# decode_from_std_read and decode_from_reader, from a buffer before the bytes
+READ_STREAM = SLOTS + """
+        let Ok(mut stream) = reader(alloc, rest(input, start)) else {
+            return 0;
+        };
+        for slot in values.iter_mut() {
+            let Ok(value) = CALL::<TYPE, _, _>(alloc, &mut stream, CONFIG) else {
+                return 0;
+            };
+            *slot = value;
+        }""" + WRITE_SLOTS
+
+FROM_STD_READ = READ_STREAM.replace("CALL::<TYPE, _, _>", "decode_from_std_read::<TYPE, _, _>")
+FROM_READER = READ_STREAM.replace("CALL::<TYPE, _, _>", "decode_from_reader::<TYPE, _, _>")
+
+HELPERS = """
+/// What of the bytes begins there.
+fn rest(input: &[u8], at: usize) -> &[u8] {
+    match input.get(at..) {
+        Some(rest) => rest,
+        None => input,
+    }
+}
+
+/// The room that begins there.
+fn room(out: &mut [u8], at: usize) -> &mut [u8] {
+    if at <= out.len() { &mut out[at..] } else { out }
+}
+
+/// Puts bytes into the room there, and answers where they end.
+fn put(out: &mut [u8], at: usize, bytes: &[u8]) -> usize {
+    let room = room(out, at);
+    if bytes.len() <= room.len() {
+        room[..bytes.len()].copy_from_slice(bytes);
+    }
+    at.wrapping_add(bytes.len())
+}
+"""
+
+NUMBERS = ", ".join(["u32"] * 16)
+CHARACTERS = ", ".join(["char"] * 8)
+
+# what is read and written; the kinds of values, or how many items one value has
+KINDS = ("one byte", "two bytes", "wide", "mixed")
+COUNTS = (1, 16, 1000, 100000)
+PLAIN = {
+    "u32": "u32",
+    "u64": "u64",
+    "i64": "i64",
+    "numbers": f"({NUMBERS})",
+    "mixed": "(u8, u32, u64, bool, i32, char, Option<u16>)",
+    "choices": "(Option<u32>, Result<u16, u64>, Option<Option<u8>>, Bound<u32>)",
+    "characters": f"({CHARACTERS})",
+    "array_u32": "[u32; 256]",
+    "array_u64": "[u64; 256]",
+    "array_u8": "[u8; 1024]",
+}
+HELD = {
+    "list_u32": "Vec<u32>",
+    "list_u64": "Vec<u64>",
+    "bytes": "Vec<u8>",
+    "text": "String",
+    "map": "BTreeMap<u32, u64>",
+    "hashed": "HashMap<u32, u64>",
+    "pairs": "Vec<(u32, String)>",
+    "lists": "Vec<Vec<u16>>",
+    "boxes": "Vec<Option<Box<(u8, u64)>>>",
+}
+LENT = {
+    "texts": "Vec<&str>",
+    "piece": "&[u8]",
+    "record": "(&str, u32, &str, u64, u16)",
+}
+STREAMED = {
+    "records": "Vec<(u32, u16, u64)>",
+}
+# these have no numbers, or are written as another row's type is, where numbers are fixed
+SAME_WHEN_FIXED = ("i64", "characters", "array_u8", "bytes", "text")
+# in these all values are of one kind
+ONE_KIND = ("array_u8",)
+
+
+class Row(NamedTuple):
+    group: str
+    way: str
+    configuration: str
+    shape: str
+    type: str
+    body: str
+
+    @property
+    def name(self):
+        return f"{self.configuration}_{self.way}_{self.shape}"
+
+
+def rows():
+    groups = (
+        ("plain", PLAIN, (("write", WRITE), ("read", READ))),
+        ("held", HELD, (("write", WRITE), ("read", READ), ("vector", TO_VECTOR))),
+        ("lent", LENT, (("borrow", READ),)),
+        ("streamed", STREAMED, (("stream", TO_STREAM), ("std_read", FROM_STD_READ), ("reader", FROM_READER))),
+    )
+    for group, types, ways in groups:
+        for way, body in ways:
+            for configuration, expression in CONFIGURATIONS.items():
+                # a limit is kept by what reads alone
+                if configuration == "vl" and way in ("write", "vector", "stream"):
+                    continue
+                for shape, of in types.items():
+                    if configuration == "f" and shape in SAME_WHEN_FIXED:
+                        continue
+                    # a hashed map is written in any order, so its bytes are compared as those of what was read alone
+                    if shape == "hashed" and way != "read":
+                        continue
+                    text = body.replace("BORROW", "borrow_" if group == "lent" else "")
+                    text = text.replace("TYPE", of).replace("CONFIG", expression)
+                    yield Row(group, way, configuration, shape, of, text)
+
+
+def cases_of(row):
+    """The kinds of values of a row, or how many items they have."""
+    if row.group != "plain":
+        return COUNTS
+    return KINDS[-1:] if row.shape in ONE_KIND or row.configuration == "f" else KINDS
+
+
+def rattle(built):
+    """The port's side: a library of one function a row."""
+    text = f"""//! The port's side of the rows of bench/rows.py.
+#![tactic(auto)]
+
+use bincode::{{borrow_decode_from_slice, config, decode_from_reader, decode_from_slice, decode_from_std_read}};
+use bincode::{{encode_into_slice, encode_into_std_write, encode_to_vec}};
+use std::alloc::Global;
+use std::collections::{{BTreeMap, HashMap}};
+use std::io;
+use std::io::{{BufReader, BufWriter, Write}};
+use std::ops::Bound;
+{HELPERS}
+fn writer(alloc: Global, out: &mut [u8]) -> io::Result<BufWriter<&mut [u8]>> {{
+    BufWriter::new(alloc, out)
+}}
+
+fn reader(alloc: Global, input: &[u8]) -> io::Result<BufReader<&[u8]>> {{
+    BufReader::new(alloc, input)
+}}
+"""
+    for row in built:
+        text += f"""
+#[unsafe(no_mangle)]
+pub extern "C" fn {row.name}(alloc: Global, input: &[u8], out: &mut [u8], turns: usize) -> usize {{{row.body}
+}}
+"""
+    return text
+
+
+def rust(built):
+    """The original's side, and the table of both."""
+    text = f"""// Both sides of the rows of bench/rows.py.
+mod original {{
+    use crate::calls::*;
+    use std::collections::{{BTreeMap, HashMap}};
+    use std::io::Write;
+    use std::ops::Bound;
+{HELPERS}"""
+    for row in built:
+        text += f"""
+#[inline(never)]
+pub fn {row.name}(alloc: Global, input: &[u8], out: &mut [u8], turns: usize) -> usize {{{row.body}
+}}
+"""
+    text += """}
+
+unsafe extern "C" {
+"""
+    for row in built:
+        text += f"    fn {row.name}(input: *const u8, length: usize, out: *mut u8, room: usize, turns: usize) -> usize;\n"
+    text += "}\n\nconst ROWS: &[Row] = &[\n"
+    for row in built:
+        owned = row.type.replace("&str", "String").replace("&[u8]", "Vec<u8>")
+        fixed = row.configuration == "f"
+        cases = {COUNTS: "COUNTS", KINDS: "KINDS"}.get(cases_of(row), "ONE_CASE")
+        same = "same_maps" if row.shape == "hashed" else "same_bytes"
+        text += (f'    Row {{ way: "{row.way}", configuration: "{row.configuration}", shape: "{row.shape}", cases: {cases}, '
+                 f"bytes: bytes_of::<{owned}, {str(fixed).lower()}>, same: {same}, original: original::{row.name}, port: {row.name} }},\n")
+    return text + "];\n"
+
+
+if __name__ == "__main__":
+    for row in rows():
+        print(row.name)
