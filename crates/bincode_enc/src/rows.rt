@@ -3,8 +3,10 @@ ghost use Rattle.bincode_format.specs.Allowed.{AllowedWord};
 ghost use Rattle.bincode_format.specs.Encoding.{Encodes};
 
 use crate::encode::Encode;
+use crate::runs::ByEncode;
 use bincode_base::error::EncodeError;
 use bincode_encoder::encoder::Encoder;
+use bincode_encoder::runs::WriteValues;
 use bincode_wire::rows::{LongRow, Rest, Row};
 use bincode_wire::wire::Wire;
 
@@ -50,7 +52,7 @@ impl<'a, A: Encode, Others: EncodeRow> EncodeRow for LentRow<'a, A, Others> {
 
     #[inline(always)]
     fn encode_row<E: Encoder>(&self, encoder: &mut E) -> Result<(), EncodeError> {
-        self.0.encode(encoder)?;
+        ByEncode::<A>::write_value(self.0, encoder)?;
         self.1.encode_row(encoder)
     }
 }
@@ -73,10 +75,10 @@ impl<'a, A: Encode, B: Encode, C: Encode, D: Encode, Others: EncodeRow> EncodeRo
 
     #[inline(always)]
     fn encode_row<E: Encoder>(&self, encoder: &mut E) -> Result<(), EncodeError> {
-        self.0.encode(encoder)?;
-        self.1.encode(encoder)?;
-        self.2.encode(encoder)?;
-        self.3.encode(encoder)?;
+        ByEncode::<A>::write_value(self.0, encoder)?;
+        ByEncode::<B>::write_value(self.1, encoder)?;
+        ByEncode::<C>::write_value(self.2, encoder)?;
+        ByEncode::<D>::write_value(self.3, encoder)?;
         self.4.encode_row(encoder)
     }
 }

@@ -8,6 +8,7 @@ ghost use Rattle.bincode_format.specs.Encoding.{Encodes};
 
 use crate::encode::Encode;
 use bincode_base::error::EncodeError;
+use bincode_encoder::answers::same_answer;
 use bincode_encoder::encoder::Encoder;
 use bincode_encoder::runs;
 use bincode_encoder::runs::WriteValues;
@@ -26,7 +27,7 @@ impl<T: Encode> WriteValues for ByEncode<T> {
 
     #[inline(always)]
     fn write_value<E: Encoder>(value: &T, encoder: &mut E) -> Result<(), EncodeError> {
-        value.encode(encoder)
+        same_answer(value.encode(encoder))
     }
 
     #[inline(always)]

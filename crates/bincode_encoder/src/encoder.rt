@@ -4,6 +4,7 @@ ghost use Rattle.std.proofs.Common.{ap};
 ghost use Rattle.std.specs.Borrow.{GName, Lends, sem};
 ghost use Rattle.bincode_format.specs.Device.{TakesPiece};
 
+use crate::answers::same_answer;
 use bincode_base::config::Config;
 use bincode_base::error::EncodeError;
 use bincode_io::write::Writer;
@@ -189,5 +190,5 @@ pub fn write_from<E: Encoder>(encoder: &mut E, bytes: &[u8]) -> Result<(), Encod
         (λ a piece e b. E.W.refuses (E.writer_of a) piece e (E.writer_of b)) (λ e. E.W.failures (E.writer_of e))
         E.place bytes.now result encoder.old encoder.new }
 {
-    encoder.writer().write(bytes)
+    same_answer(encoder.writer().write(bytes))
 }

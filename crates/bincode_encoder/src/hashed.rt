@@ -8,6 +8,7 @@ ghost use Rattle.bincode_format.specs.Allowed.{AllowedWord};
 ghost use Rattle.bincode_format.specs.Collections.{AreValid, IsMadeOf, MakesBag};
 ghost use Rattle.bincode_format.specs.Encoding.{Encodes};
 
+use crate::answers::same_answer;
 use crate::encoder::Encoder;
 use crate::lists::encode_length;
 use crate::ordered::encode_entry;
@@ -119,7 +120,7 @@ where
         ⟦<(K::Value, V::Value) as Wire>⟧.its.names result encoder.old encoder.new }
 {
     for (key, value) in map.iter() {
-        encode_entry::<K, V, E>(key, value, encoder)?;
+        same_answer(encode_entry::<K, V, E>(key, value, encoder))?;
     }
     Ok(())
 }

@@ -10,6 +10,7 @@ ghost use Rattle.bincode_format.specs.Run.{IsListOf};
 ghost use Rattle.bincode_format.specs.Allowed.{AllowedWord};
 ghost use Rattle.bincode_format.specs.Encoding.{Ready, Encodes};
 
+use crate::answers::same_answer;
 use crate::encoder::{Encoder, write_from};
 use bincode_base::config::Config;
 use bincode_base::error::EncodeError;
@@ -27,7 +28,7 @@ pub fn encode_integer<T: Integer, E: Encoder>(encoder: &mut E, val: T) -> Result
 {
     let endian = encoder.config().endianness();
     let encoding = encoder.config().int_encoding();
-    val.write(encoder.writer(), endian, encoding)
+    same_answer(val.write(encoder.writer(), endian, encoding))
 }
 
 /// Writes a byte as it is. Fails where the writer refuses it.

@@ -2,6 +2,7 @@
 //! through any of them.
 #![tactic(auto)]
 
+pub mod answers;
 pub mod c_strings;
 pub mod cells;
 pub mod chars;

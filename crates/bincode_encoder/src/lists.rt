@@ -7,6 +7,7 @@ ghost use Rattle.bincode_format.specs.Allowed.{AllowedWord};
 ghost use Rattle.bincode_format.specs.Collections.{LengthWord, AreValid, IsMadeOf, MakesBag};
 ghost use Rattle.bincode_format.specs.Encoding.{Encodes};
 
+use crate::answers::same_answer;
 use crate::encoder::Encoder;
 use crate::integers::encode_integer;
 use crate::runs::{WriteValues, encode_each, encode_run, tell_each_valid};
@@ -19,7 +20,7 @@ pub fn encode_length<E: Encoder>(encoder: &mut E, len: usize) -> Result<(), Enco
     ensures { Encodes E.W.adds E.W.refuses E.writer_of E.place (Unit {0}) (LengthWord E.C.setting len)
         (λ _. ⊥) result encoder.old encoder.new }
 {
-    encode_integer(encoder, len as u64)
+    same_answer(encode_integer(encoder, len as u64))
 }
 
 /// Says of the items in hand that each is valid, and that their number is a length.

@@ -9,6 +9,7 @@ ghost use Rattle.bincode_format.specs.Allowed.{AllowedWord};
 ghost use Rattle.bincode_format.specs.Collections.{AreValid};
 ghost use Rattle.bincode_format.specs.Encoding.{Encodes};
 
+use crate::answers::same_answer;
 use crate::encoder::Encoder;
 use crate::lists::encode_length;
 use crate::runs::WriteValues;
@@ -115,7 +116,7 @@ where
         ⟦<(K::Value, V::Value) as Wire>⟧.its.names result encoder.old encoder.new }
 {
     for (key, value) in map.iter() {
-        encode_entry::<K, V, E>(key, value, encoder)?;
+        same_answer(encode_entry::<K, V, E>(key, value, encoder))?;
     }
     Ok(())
 }

@@ -8,7 +8,7 @@ use crate::encoder::{Encoder, write_from};
 use bincode_base::error::EncodeError;
 
 /// Writes 0 or 1. Fails where the writer refuses the byte.
-#[inline]
+#[inline(always)]
 pub fn encode_truth<E: Encoder>(encoder: &mut E, val: bool) -> Result<(), EncodeError>
     ensures { Encodes E.W.adds E.W.refuses E.writer_of E.place (Unit {0}) (AllowedWord (IsTruth val) truth)
         (λ _. ⊥) result encoder.old encoder.new }

@@ -8,6 +8,7 @@ ghost use Rattle.bincode_format.specs.Choices.{IsChoice};
 ghost use Rattle.bincode_format.specs.Allowed.{AllowedWord, WrittenAlike, SameMeanings};
 ghost use Rattle.bincode_format.specs.Encoding.{Encodes};
 
+use crate::answers::same_answer;
 use crate::encoder::Encoder;
 use crate::integers::{encode_byte, encode_integer};
 use crate::runs::WriteValues;
@@ -26,16 +27,16 @@ pub trait EncodeTag: Tag {
 }
 
 impl EncodeTag for u8 {
-    #[inline]
+    #[inline(always)]
     fn encode_tag<E: Encoder>(tag: u32, encoder: &mut E) -> Result<(), EncodeError> {
-        encode_byte(encoder, tag as u8)
+        same_answer(encode_byte(encoder, tag as u8))
     }
 }
 
 impl EncodeTag for u32 {
-    #[inline]
+    #[inline(always)]
     fn encode_tag<E: Encoder>(tag: u32, encoder: &mut E) -> Result<(), EncodeError> {
-        encode_integer(encoder, tag)
+        same_answer(encode_integer(encoder, tag))
     }
 }
 

@@ -10,6 +10,7 @@ use std::ops::Bound;
 impl Encode for bool {
     fn tell_valid(&self) {}
 
+    #[inline(always)]
     fn encode<E: Encoder>(&self, encoder: &mut E) -> Result<(), EncodeError> {
         encode_truth(encoder, *self)
     }
@@ -22,6 +23,7 @@ impl<T: Encode> EncodeParts for Option<T> {
         }
     }
 
+    #[inline(always)]
     fn encode_parts<E: Encoder>(&self, encoder: &mut E) -> Result<(), EncodeError> {
         match self {
             None => encode_variant(&None::<&T>, 0, &(), encoder),
@@ -38,6 +40,7 @@ impl<T: Encode, U: Encode> EncodeParts for Result<T, U> {
         }
     }
 
+    #[inline(always)]
     fn encode_parts<E: Encoder>(&self, encoder: &mut E) -> Result<(), EncodeError> {
         match self {
             Ok(value) => encode_variant(&Ok::<&T, &U>(value), 0, value, encoder),
@@ -55,6 +58,7 @@ impl<T: Encode> EncodeParts for Bound<T> {
         }
     }
 
+    #[inline(always)]
     fn encode_parts<E: Encoder>(&self, encoder: &mut E) -> Result<(), EncodeError> {
         match self {
             Bound::Unbounded => encode_variant(&Bound::<&T>::Unbounded, 0, &(), encoder),

@@ -6,10 +6,10 @@ use Rattle.bincode_encoder.proofs.hashed.encode_entries.Goals as goal
 pub loop-key-init : goal.loop-key-init
 loop-key-init g c = (written-none _ _ _ g.met.E.W.Writer.adds_none (c.into_iter-key-iterator.ensures.into_iter_gives ∙ c.iter-key-items.ensures.rest), refl)
 
-pub returns-in_err-encode_entry : goal.returns-in_err-encode_entry
-returns-in_err-encode_entry g c =
+pub returns-in_err-same_answer : goal.returns-in_err-same_answer
+returns-in_err-same_answer g c =
     let p = err_from_is_err_and c.from_residual.result c.from_residual.ensures.1 in
-    let halted = c.in_err-encode_entry.ensures in
+    let halted = rw (← c.in_err-same_answer.ensures) at c.encode_entry.ensures in
     let i = c.loop-key.invariant in
     let s = g.E.C.Config.setting in
     rw (p.1, p.2) (record {
@@ -22,7 +22,7 @@ returns-in_err-encode_entry g c =
 pub loop-key-preserved : goal.loop-key-preserved
 loop-key-preserved g c =
     let i = c.loop-key.invariant in
-    let written = c.in_ok-encode_entry.ensures in
+    let written = rw (← c.in_ok-same_answer.ensures) at c.encode_entry.ensures in
     (written-more _ _ _ g.met.E.W.Writer.adds_join i.0 c.in-Some.ensures.steps written.ok, written.same_place ∙ i.1)
 
 pub returns : goal.returns
