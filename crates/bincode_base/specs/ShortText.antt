@@ -1,5 +1,5 @@
 -- What a short text holds.
-use Rattle.std.specs.Prelude.{ℕ, List, [], take, if◌then◌else◌}
+use Rattle.std.specs.Prelude.{ℕ, List, [], take, nat_lt, codes, if◌then◌else◌}
 use Rattle.std.specs.Str.{is_utf8}
 use Rattle.bincode_base.specs.declared.short_text.Text.{Text}
 
@@ -8,6 +8,6 @@ module _ {room : ℕ} where
   abbrev pub held_bytes : Text room → List ℕ
   held_bytes t = take t.length t.bytes
 
-  -- its bytes, which are UTF-8; what is none shows as the empty text
+  -- its bytes, which are UTF-8; what is none shows as the empty text. A length above the room stands for a longer text.
   abbrev pub text_bytes : Text room → List ℕ
-  text_bytes t = if is_utf8 (held_bytes t) then held_bytes t else []
+  text_bytes t = if nat_lt room t.length then codes "value does not fit the shape" else if is_utf8 (held_bytes t) then held_bytes t else []

@@ -1,9 +1,13 @@
 //! Short texts that are held inline.
-ghost use Rattle.std.specs.Prelude.{◌≡◌, ◌≤◌, ◌++◌, List, ℕ, length, min};
+ghost use Rattle.std.specs.Prelude.{◌≡◌, ◌≤◌, ◌++◌, List, ℕ, codes, length, min};
 
 use std::{fmt, str};
 
-/// A text of at most `ROOM` bytes and at most 255, held inline.
+/// What is answered to a value that does not fit a shape. It is longer than short texts are.
+const UNFIT: &str = "value does not fit the shape";
+
+/// A text of at most `ROOM` bytes and at most 255, held inline; or the library's own longer one, which is told by a
+/// length above the room.
 #[derive(Clone, Copy)]
 pub struct Text<const ROOM: usize> {
     length: u8,
@@ -37,8 +41,25 @@ impl<const ROOM: usize> Text<ROOM> {
     pub fn as_str(&self) -> &str
         ensures { result.now ≡ text_bytes self.now }
     {
-        let held = &self.bytes[..usize::from(self.length).min(ROOM)];
+        if usize::from(self.length) > ROOM {
+            return UNFIT;
+        }
+        let held = &self.bytes[..usize::from(self.length)];
         str::from_utf8(held).unwrap_or("")
+    }
+}
+
+impl ShortText {
+    ghost use Rattle.bincode_base.specs.ShortText.{text_bytes};
+
+    /// The text `value does not fit the shape`, which is longer than others.
+    pub fn unfit() -> ShortText
+        ensures { text_bytes result ≡ codes "value does not fit the shape" }
+    {
+        Text {
+            length: 255,
+            bytes: [0; 22],
+        }
     }
 }
 
