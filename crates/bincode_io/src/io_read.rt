@@ -86,6 +86,18 @@ fn fill<R: Read>(stream: &mut R, bytes: &mut [u8]) -> Result<(), DecodeError>
     Ok(())
 }
 
+/// `fill` from a buffer that shows fewer bytes than are asked. It stands apart, so that a copy of what is shown is
+/// inlined.
+#[cold]
+#[inline(never)]
+fn fill_past_buffer<R: Read>(stream: &mut R, bytes: &mut [u8]) -> Result<(), DecodeError>
+    ensures ok { OnOk result (Consumes (R.remaining stream.old) (R.remaining stream.new) bytes.new) }
+    ensures err { IfErr result IsIo }
+    ensures told { TellsBytes (R.remaining stream.old) → TellsBytes (R.remaining stream.new) }
+{
+    fill(stream, bytes)
+}
+
 /// A reader of a stream. It shows nothing, and fails with `Io`, also where the stream ends. A stream that does not tell
 /// its bytes, as a file or the standard input, is read alike, but nothing is promised of the bytes.
 pub struct IoReader<R> {
@@ -218,8 +230,14 @@ impl<R: Read + Drop> Reader for BufReader<R> {
 
     ghost place = { λ _. [] };
 
+    #[inline(always)]
     fn read(&mut self, bytes: &mut [u8]) -> Result<(), DecodeError> {
-        fill(self, bytes)
+        let Some(next) = self.buffer().get(..bytes.len()) else {
+            return fill_past_buffer(self, bytes);
+        };
+        bytes.copy_from_slice(next);
+        BufRead::consume(self, bytes.len());
+        Ok(())
     }
 
     fn peek_read(&mut self, n: usize) -> Option<&[u8]> {

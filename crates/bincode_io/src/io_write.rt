@@ -49,20 +49,41 @@ fn write_some<W: Write>(stream: &mut W, bytes: &[u8]) -> Result<usize, StreamErr
     }
 }
 
+/// The error of a stream that takes no more.
+#[cold]
+fn full_stream() -> StreamError {
+    StreamError::from(io::Error::from(ErrorKind::WriteZero))
+}
+
+/// Writes all that is left of a piece of which a write took a front. It stands apart, so that a write that takes a
+/// piece whole is inlined.
+#[cold]
+#[inline(never)]
+fn write_rest<W: Write>(stream: &mut W, rest: &[u8]) -> Result<(), StreamError>
+    ensures ok { OnOk result (Appends (W.contents stream.old) (W.contents stream.new) rest.now) }
+    ensures left { OnErr result (FrontOut W.contents stream.old rest.now stream.new) }
+{
+    let mut at = 0;
+    while at < rest.len() {
+        match write_some(stream, &rest[at..])? {
+            0 => return Err(full_stream()),
+            n => at += n,
+        }
+    }
+    Ok(())
+}
+
 /// Writes all of `bytes` to a stream. Fails where the stream fails or takes no more; a front of the bytes is out then.
 #[inline(always)]
 fn write_out<W: Write>(stream: &mut W, bytes: &[u8]) -> Result<(), StreamError>
     ensures ok { OnOk result (Appends (W.contents stream.old) (W.contents stream.new) bytes.now) }
     ensures left { OnErr result (FrontOut W.contents stream.old bytes.now stream.new) }
 {
-    let mut at = 0;
-    while at < bytes.len() {
-        match write_some(stream, &bytes[at..])? {
-            0 => return Err(StreamError::from(io::Error::from(ErrorKind::WriteZero))),
-            n => at += n,
-        }
+    match write_some(stream, bytes)? {
+        n if n == bytes.len() => Ok(()),
+        0 => Err(full_stream()),
+        n => write_rest(stream, &bytes[n..]),
     }
-    Ok(())
 }
 
 /// A writer to a stream that is lent. It counts what it wrote, and fails with `Io` where the stream fails, which may
