@@ -3,6 +3,5 @@
 
 pub mod claims;
 pub mod json;
-pub mod listing;
 mod scanner;
 pub mod text;

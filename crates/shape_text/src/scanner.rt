@@ -1,6 +1,7 @@
 //! What is left of a text while it is read from its front.
 
 /// The rest of a text, and how long the whole of it is.
+#[derive(Drop)]
 pub(crate) struct Scanner<'t> {
     rest: &'t str,
     length: usize,

@@ -14,7 +14,7 @@
 
 use crate::claims::claim_of;
 use crate::scanner::Scanner;
-use bincode::shape::Shape;
+use bincode_shape::shape::Shape;
 use std::alloc::{AllocError, AllocFailed, Global};
 use thiserror::Error;
 
@@ -126,11 +126,7 @@ fn one_shape(
 
 /// What stands behind `(`: nothing, a part in brackets, or a tuple.
 #[cycle(shapes)]
-fn parts(
-    alloc: Global,
-    scanner: &mut Scanner<'_>,
-    depth: u32,
-) -> Result<Shape, ShapeTextError> {
+fn parts(alloc: Global, scanner: &mut Scanner<'_>, depth: u32) -> Result<Shape, ShapeTextError> {
     if scanner.takes(')') {
         return Ok(Shape::Unit);
     }
@@ -157,11 +153,7 @@ fn parts(
 
 /// What stands behind `[`: a list, or an array with its length.
 #[cycle(shapes)]
-fn items(
-    alloc: Global,
-    scanner: &mut Scanner<'_>,
-    depth: u32,
-) -> Result<Shape, ShapeTextError> {
+fn items(alloc: Global, scanner: &mut Scanner<'_>, depth: u32) -> Result<Shape, ShapeTextError> {
     let shape = any_shape(alloc, scanner, depth)?;
     let claim = claim_of(&shape);
     let element = Box::new(alloc, shape)?;
