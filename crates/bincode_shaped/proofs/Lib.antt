@@ -1,0 +1,3 @@
+pub mod Writing
+pub mod Written
+pub mod Picked
