@@ -3,7 +3,7 @@ use Rattle.std.specs.Prelude.{◌≡◌, ℕ, List, [], ◌∷◌, ◌++◌, map
 use Rattle.std.proofs.Common.{sym, ◌∙◌, ap, subst, append_assoc}
 use Rattle.bincode_base.specs.Setting.{Setting}
 use Rattle.bincode_base.specs.declared.error.EncodeError.{EncodeError}
-use Rattle.bincode_format.specs.Allowed.{AllowedWord, Both}
+use Rattle.bincode_format.specs.Allowed.{Both}
 use Rattle.bincode_format.specs.Encoding.{Adds, Refuses, Writes, Ready, Begins, Halts, by_writer, by_name}
 use Rattle.bincode_format.specs.Meaning.{Meaning, listed}
 use Rattle.bincode_format.specs.Run.{IsListOf}

@@ -14,7 +14,7 @@ use Rattle.bincode_shape.specs.Shapes.{format_of, fits, is_unit, share, numbered
 use Rattle.bincode_shape.specs.Rows.{formats, tests, AllowsImage, AllowsImages, formats_of-vec, meanings_of-vec}
 use Rattle.bincode_shaped.proofs.Writing.{list-meant, meant-list, images-both, both-images, WritesSome, some-more, some-halts}
 use Rattle.bincode_format.specs.Encoding.{Writes, Ready, Halts}
-use Rattle.std.specs.Prelude.{◌≡◌, ◌⊎◌, ℕ, zero, suc, ◌+◌, ◌<◌, ◌≤◌, pos, ◌==◌, ◌&&◌, Bool, true, false, List, [], ◌∷◌, ◌++◌, length, get_or, drop, map, Box, Result, Ok, Err, refl}
+use Rattle.std.specs.Prelude.{◌≡◌, ◌⊎◌, ℕ, zero, suc, ◌+◌, ◌<◌, ◌≤◌, pos, ◌==◌, ◌&&◌, Bool, true, false, List, [], ◌∷◌, ◌++◌, length, get_or, drop, Box, Result, Ok, Err, refl}
 use Rattle.std.specs.List.{All, list_all}
 use Rattle.std.specs.Borrow.{GName}
 use Rattle.std.proofs.Common.{inl, inr, sym, ◌∙◌, ap, subst, arith, append-nil}
@@ -81,6 +81,7 @@ both_right false y k = absurd (cc)
 -- each of these items fits, that at a place and those behind it
 pub all-there : (test : Value → Bool) (vs : List Value) (i : ℕ) (v : Value) → i < length vs → v ≡ get_or vs i v → list_all test (drop i vs) ≡ true → test v ≡ true
 all-there test vs i v h e a = both_left (test v) (list_all test (drop (i + 1) vs)) (rw (drop_more vs i v h, ← e) at a)
+
 pub all-behind : (test : Value → Bool) (vs : List Value) (i : ℕ) (v : Value) → i < length vs → list_all test (drop i vs) ≡ true → list_all test (drop (i + 1) vs) ≡ true
 all-behind test vs i v h a = both_right (test (get_or vs i v)) (list_all test (drop (i + 1) vs)) (rw (drop_more vs i v h) at a)
 

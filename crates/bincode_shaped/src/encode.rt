@@ -10,8 +10,8 @@ ghost use Rattle.bincode_shape.specs.Shapes.{format_of, fits, is_optional, each_
 ghost use Rattle.bincode_shape.specs.Shapes.{byte_tag, one_of, numbered, optional, IsMeant};
 ghost use Rattle.bincode_shape.specs.Rows.{formats, tests, AllowsImage, AllowsImages};
 
+use crate::contents::{char_of, choice_for, items_for, items_of, option_of, text_of, truth_of};
 use crate::numbers::{byte_of, encode_number, signed_byte_of};
-use crate::parts::{char_of, choice_for, items_for, items_of, option_of, text_of, truth_of};
 use bincode_base::error::EncodeError;
 use bincode_encoder::chars::encode_char;
 use bincode_encoder::encoder::Encoder;

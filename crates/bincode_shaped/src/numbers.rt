@@ -5,13 +5,16 @@ ghost use Rattle.bincode_format.specs.Allowed.{AllowedWord};
 ghost use Rattle.bincode_format.specs.Encoding.{Encodes};
 ghost use Rattle.bincode_format.specs.Format.{map_format};
 ghost use Rattle.bincode_format.specs.Meaning.{Number};
+ghost use Rattle.bincode_format.specs.Values.{Reads};
 ghost use Rattle.bincode_shape.specs.declared.shape.Shape.{Shape};
 ghost use Rattle.bincode_shape.specs.declared.shape.Shape.TheVariants as shapes;
 ghost use Rattle.bincode_shape.specs.declared.shape.Value as values;
-ghost use Rattle.bincode_shape.specs.Shapes.{fits, meaning, IsImage, IsMeant};
+ghost use Rattle.bincode_shape.specs.Shapes.{format_of, fits, meaning, IsImage, IsMeant};
 
-use crate::parts::{signed_of, unsigned_of};
-use bincode_base::error::EncodeError;
+use crate::contents::{signed_of, unsigned_of};
+use bincode_base::error::{DecodeError, EncodeError};
+use bincode_decoder::decoder::Decoder;
+use bincode_decoder::integers::{decode_byte, decode_integer, decode_signed_byte};
 use bincode_encoder::encoder::Encoder;
 use bincode_encoder::integers::encode_integer;
 use bincode_shape::shape::Value;
@@ -182,4 +185,47 @@ pub(crate) fn encode_number<T: ShapedInteger, E: Encoder>(
         encoder.new }
 {
     encode_integer(encoder, T::of_value(value))
+}
+
+/// Charges for an integer, reads it, and gives its image.
+pub(crate) fn decode_number<T: ShapedInteger, D: Decoder>(
+    decoder: &mut D,
+) -> Result<Value, DecodeError>
+    requires { T.its.claim ≡ T.width }
+    ensures { Reads D.told D.rest D.charge D.failures D.place D.C.bound D.R.ended D.R.device (Unit {0})
+        (map_format (λ k. Number (T.spelling.integer k)) (T.spelling.words D.C.setting)) (IsImage T.shape)
+        (D.charge decoder.old) result decoder.old decoder.new }
+{
+    match decode_integer::<T, D>(decoder) {
+        Ok(number) => Ok(number.to_value()),
+        Err(e) => Err(e),
+    }
+}
+
+/// Reads a byte.
+pub(crate) fn decode_u8<D: Decoder>(decoder: &mut D) -> Result<Value, DecodeError>
+    ensures { Reads D.told D.rest D.charge D.failures D.place D.C.bound D.R.ended D.R.device (Unit {0})
+        (format_of shapes.U8 D.C.setting) (IsImage shapes.U8) (D.charge decoder.old) result decoder.old decoder.new }
+{
+    match decode_byte(decoder) {
+        Ok(number) => Ok(Value::Unsigned(number as u128)),
+        Err(e) => Err(e),
+    }
+}
+
+fn image_of_i8(number: i8) -> Value
+    ensures { IsImage shapes.I8 (Number number) result }
+{
+    Value::Signed(number as i128)
+}
+
+/// Reads a signed byte.
+pub(crate) fn decode_i8<D: Decoder>(decoder: &mut D) -> Result<Value, DecodeError>
+    ensures { Reads D.told D.rest D.charge D.failures D.place D.C.bound D.R.ended D.R.device (Unit {0})
+        (format_of shapes.I8 D.C.setting) (IsImage shapes.I8) (D.charge decoder.old) result decoder.old decoder.new }
+{
+    match decode_signed_byte(decoder) {
+        Ok(number) => Ok(image_of_i8(number)),
+        Err(e) => Err(e),
+    }
 }

@@ -1,4 +1,4 @@
-use Rattle.std.proofs.Common.{◌≡◌, true, rules, refl, sym, ap, ◌∙◌, arith}
+use Rattle.std.proofs.Common.{refl, sym, ◌∙◌, arith}
 use Rattle.std.specs.Int.{w8}
 use Rattle.std.proofs.lemmas.Int.{to_z-of_z}
 use denote.Param.Weighed.{at_most}
@@ -8,8 +8,8 @@ use Rattle.bincode_encoder.proofs.EncodingAnswers.{encodes-as}
 use Rattle.bincode_encoder.proofs.ListAnswers.{length-halts, list-encodes}
 use Rattle.bincode_encoder.proofs.RunAnswers.{writes-more, writes-array, halts-at, halts_array}
 use Rattle.bincode_format.specs.Words.{tag}
-use Rattle.bincode_shape.specs.Shapes.{share, byte_tag, optional, numbered, format_of, each_passes, picked_passes, IsMeant}
-use Rattle.bincode_shape.specs.Rows.{formats, tests, tests_of-vec}
+use Rattle.bincode_shape.specs.Shapes.{share, byte_tag, optional, numbered, format_of, IsMeant}
+use Rattle.bincode_shape.specs.Rows.{formats, tests_of-vec}
 use Rattle.bincode_shape.proofs.Fitting.{picked-at}
 use Rattle.bincode_shaped.proofs.Picked.{picked, picked-there, picked-within, one_of-some}
 use Rattle.bincode_shaped.proofs.Writing.{some-none}
@@ -109,8 +109,20 @@ encode_parts-encode_shape-requires g t c =
     let items = c.args.items.now in
     let same = written.each-length parts items c.requires in
     let small = rw (← c.index-parts-index.is) at (at_most (λ x. the_size x) parts c.loop-index.index c.index-parts-index.result (omega arith)) in
-    λ κs h. (omega (arith, c.decreases, small), (h.0, (h.1.0, (h.1.1, written.each-there g.E.C.Config.setting parts items c.loop-index.index _ _ (omega arith) (omega (arith, same))
-    c.index-parts-index.is c.index-items-index.is c.loop-index.invariant.2))))
+    λ κs h. (
+      omega (arith, c.decreases, small),
+      (
+        h.0,
+        (
+          h.1.0,
+          (
+            h.1.1,
+            written.each-there g.E.C.Config.setting parts items c.loop-index.index _ _ (omega arith) (omega (arith, same))
+                c.index-parts-index.is c.index-items-index.is c.loop-index.invariant.2,
+          ),
+        ),
+      ),
+    )
 
 pub encode_parts-returns-in_err-encode_shape : goal.encode_parts-returns-in_err-encode_shape
 encode_parts-returns-in_err-encode_shape g t c =
