@@ -21,6 +21,10 @@ share claim = max claim 1
 abbrev pub byte_tag : Setting → Format ℕ
 byte_tag s = unsigned_byte
 
+-- the variants of an option
+abbrev pub optional : (Setting → Format Meaning) → List Variant
+optional F = (0, λ s. nothing) ∷ (1, F) ∷ []
+
 -- of no variants there is no word
 abbrev pub one_of : List Variant → Setting → Format Meaning
 one_of [] s = refused EmptyEnum
@@ -58,7 +62,7 @@ abbrev mutual
   format_of (shapes.Seq' claim p element) s = list s (share claim) (format_of element s)
   format_of (shapes.Array' len claim p element) s = array len (share claim) (format_of element s)
   format_of (shapes.Tuple' v parts) s = tuple (at s (formats_of parts))
-  format_of (shapes.Optional' p part) s = chosen byte_tag ((0, λ s. nothing) ∷ (1, format_of part) ∷ []) s
+  format_of (shapes.Optional' p part) s = chosen byte_tag (optional (format_of part)) s
   format_of (shapes.Choice' v parts) s = one_of (numbered 0 (formats_of parts)) s
 
   pub formats_of : {m : _} → Row_of-Shape m → List (Setting → Format Meaning)
@@ -176,3 +180,7 @@ abbrev mutual
 -- it is this value of the shape that means this
 abbrev pub IsImage : Shape → Meaning → Value → Type 0
 IsImage shape m v = (fits shape v ≡ true) × (m ≡ meaning v)
+
+-- it is what the value means
+abbrev pub IsMeant : Value → Meaning → Type 0
+IsMeant v m = m ≡ meaning v

@@ -3,7 +3,7 @@ use Rattle.std.specs.Prelude.{◌≡◌, ℕ, List, [], ◌∷◌, ◌++◌, map
 use Rattle.std.proofs.Common.{sym, ◌∙◌, ap, subst, append_assoc}
 use Rattle.bincode_base.specs.Setting.{Setting}
 use Rattle.bincode_base.specs.declared.error.EncodeError.{EncodeError}
-use Rattle.bincode_format.specs.Allowed.{AllowedWord, Both}
+use Rattle.bincode_format.specs.Allowed.{Both}
 use Rattle.bincode_format.specs.Encoding.{Adds, Refuses, Writes, Ready, Begins, Halts, by_writer, by_name}
 use Rattle.bincode_format.specs.Meaning.{Meaning, listed}
 use Rattle.bincode_format.specs.Run.{IsListOf}
@@ -11,19 +11,8 @@ use Rattle.bincode_format.specs.Words.{tuple}
 use Rattle.bincode_laws.specs.AllowedLaws.{more-allowed, tuple-allows, allowed-tuple}
 use Rattle.bincode_shape.specs.declared.shape.Shape.{Shape}
 use Rattle.bincode_shape.specs.declared.shape.Value.{Value}
-use Rattle.bincode_shape.specs.Shapes.{format_of, at, meaning}
-use Rattle.bincode_shape.specs.Rows.{formats}
-
--- it is what the value means
-abbrev pub IsMeant : Value → Meaning → Type 0
-IsMeant v m = m ≡ meaning v
-
--- a word of the shape for the value, and one of the shapes for the values
-abbrev pub AllowsImage : Setting → Shape → Value → List ℕ → Type 0
-AllowsImage s shape v = AllowedWord (IsMeant v) (format_of shape s)
-
-abbrev pub AllowsImages : Setting → List Shape → List Value → List ℕ → Type 0
-AllowsImages s shapes vs = AllowedWord (λ m. m ≡ listed (map meaning vs)) (tuple (at s (formats shapes)))
+use Rattle.bincode_shape.specs.Shapes.{format_of, at, meaning, IsMeant}
+use Rattle.bincode_shape.specs.Rows.{formats, AllowsImage, AllowsImages}
 
 -- items of one kind
 pub list-meant : (vs : List Value) (m : Meaning) → IsListOf IsMeant vs m → m ≡ listed (map meaning vs)
