@@ -3,7 +3,7 @@ use Rattle.std.proofs.lemmas.Result.{IfOk-weaker, IfErr-weaker, err_from_is_err_
 use Rattle.bincode_format.specs.Words.{char_width}
 use Rattle.bincode_laws.specs.CharDecodingLaws.{character-stops_first, character-stops_none, character-stops_behind, character-decodes}
 use Rattle.bincode_decoder.proofs.ReadAnswers.{exactly}
-use Rattle.bincode_de.proofs.impls.chars.CharDecode.decode.Goals as goal
+use Rattle.bincode_decoder.proofs.chars.decode_char.Goals as goal
 
 pub returns-in_err-first : goal.returns-in_err-first
 returns-in_err-first g c =
