@@ -1,6 +1,6 @@
 //! How much a list claims for each element of a shape.
 
-use bincode_shape::shape::Shape;
+use bincode::shape::Shape;
 
 /// The claim size, in bytes, of the types that have this shape: that of `Vec` for a list, of `String` for a text, of
 /// `Option` and `Result` for an optional part and a choice, and the sum over the parts of a tuple.

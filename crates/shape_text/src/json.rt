@@ -1,6 +1,6 @@
 //! Values as JSON.
 
-use bincode_shape::shape::Value;
+use bincode::shape::Value;
 use serde_json::{Map, Number, Value as Json};
 use std::alloc::{AllocError, Global};
 

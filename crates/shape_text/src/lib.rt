@@ -3,5 +3,6 @@
 
 pub mod claims;
 pub mod json;
+pub mod listing;
 mod scanner;
 pub mod text;

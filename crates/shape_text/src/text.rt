@@ -14,7 +14,7 @@
 
 use crate::claims::claim_of;
 use crate::scanner::Scanner;
-use bincode_shape::shape::Shape;
+use bincode::shape::Shape;
 use std::alloc::{AllocError, AllocFailed, Global};
 use thiserror::Error;
 
