@@ -34,6 +34,7 @@ pub mod model {
 /// Types that are described at run time: their shapes, the images of their values, and what reads and writes them.
 pub mod shape {
     pub use crate::shaped::{decode_shaped, encode_shaped};
+    pub use bincode_described::described::Described;
     pub use bincode_shape::fits::does_fit;
     pub use bincode_shape::shape::{Shape, Value};
 }
