@@ -3,6 +3,7 @@ use anyhow::{Result, bail};
 use bincode::config::{Endianness, IntEncoding};
 
 /// Which file is described, and how it was written.
+#[derive(Drop)]
 pub struct Request {
     /// How its numbers were written.
     pub encoding: IntEncoding,

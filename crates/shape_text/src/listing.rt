@@ -4,9 +4,9 @@ ghost use Rattle.bincode_shape.specs.Shapes.{format_of, IsImage};
 ghost use Rattle.record_store.specs.Stores.{Lists};
 
 use bincode::config::Config;
-use bincode_shape::shape::{Shape, Value, decode_shaped};
+use bincode::shape::{Shape, Value, decode_shaped};
 use record_store::store::{Ending, Listed, Listing, is_memory};
-use std::alloc::{AllocError, Global};
+use std::alloc::{AllocFailed, Global};
 use thiserror::Error;
 
 /// Why nothing is listed.
@@ -20,8 +20,8 @@ pub enum ListError {
     Memory,
 }
 
-impl From<AllocError> for ListError {
-    fn from(_refused: AllocError) -> ListError {
+impl<T: Drop> From<AllocFailed<T>> for ListError {
+    fn from(_refused: AllocFailed<T>) -> ListError {
         ListError::Memory
     }
 }
