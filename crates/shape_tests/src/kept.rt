@@ -2,6 +2,7 @@
 
 use crate::shaped::{read_under, writes};
 use bincode::config::NoLimit;
+use bincode::error::DecodeError;
 use bincode::shape::{Described, Shape, Value};
 use examples::foo::Foo;
 use std::alloc::Global;
@@ -106,4 +107,26 @@ fn what_does_not_fit_is_refused(rt: HostRuntime) {
     assert!(rt; !keeps_some::<(u8, u8, u8)>(alloc, numbers(), &[5, 6]));
     let choice = choice_of(alloc, 2, Value::Unsigned(1));
     assert!(rt; !keeps_some::<Result<u8, u8>>(alloc, choice, &[2, 1]));
+}
+
+/// A list of wholes, each of which takes memory for its shape and for its value.
+type Wholes = Vec<(String, Option<u8>, Result<u8, bool>)>;
+
+/// Where memory is refused, for a shape or for a value, just that is told.
+#[test]
+fn refused_memory_is_told(rt: HostRuntime) {
+    let alloc = rt.alloc();
+    let word = [2, 1, 97, 1, 5, 1, 1, 0, 0, 0, 9];
+    let shape = match Wholes::shape(alloc) {
+        Some(shape) => Some(shape),
+        None => Wholes::shape(alloc),
+    };
+    assert!(rt; shape.is_some());
+    let Some(shape) = shape else {
+        return;
+    };
+    match read_under(alloc, &shape, Setting::Standard, NoLimit, &word) {
+        Ok((_, taken)) => assert_eq!(rt; taken, word.len()),
+        Err(error) => assert!(rt; matches!(error, DecodeError::Memory)),
+    }
 }

@@ -8,7 +8,12 @@ use std::alloc::{AllocError, Global};
 use worked_rows::case::Setting;
 
 /// Whether the input passes the limit.
-fn passes<L: InternalLimitConfig + Copy>(alloc: Global, shape: &Shape, limit: L, input: &[u8]) -> bool {
+fn passes<L: InternalLimitConfig + Copy>(
+    alloc: Global,
+    shape: &Shape,
+    limit: L,
+    input: &[u8],
+) -> bool {
     let read = read_under(alloc, shape, Setting::Standard, limit, input);
     matches!(read, Err(DecodeError::LimitExceeded))
 }

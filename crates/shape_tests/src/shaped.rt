@@ -1,6 +1,8 @@
 //! Shaped values under the settings and limits of the worked rows.
 
-use bincode::config::{self, Config, Configuration, Fixint, InternalLimitConfig, LittleEndian, Varint};
+use bincode::config::{
+    self, Config, Configuration, Fixint, InternalLimitConfig, LittleEndian, Varint,
+};
 use bincode::enc::write::SliceWriter;
 use bincode::error::{DecodeError, EncodeError};
 use bincode::shape::{Shape, Value, decode_shaped, encode_shaped};

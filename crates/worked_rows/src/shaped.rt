@@ -127,7 +127,10 @@ fn reads<L: InternalLimitConfig + Copy>(
 ) -> Result<bool, AllocError> {
     let limited = Configuration::<LittleEndian, Varint, L>::default();
     let shape = shape_of_images(alloc)?;
-    match (decode_shaped(alloc, &shape, row.input, limited), &row.answer) {
+    match (
+        decode_shaped(alloc, &shape, row.input, limited),
+        &row.answer,
+    ) {
         (Ok((value, taken)), Answer::Value(image, length)) => {
             Ok(value == value_of(alloc, *image)? && taken == *length)
         }
