@@ -10,3 +10,5 @@ mod limits;
 mod rows;
 #[cfg(test)]
 mod shaped;
+#[cfg(test)]
+mod texts;
