@@ -61,7 +61,7 @@ where
         V.Value.its.names result encoder.old encoder.new }
 {
     encode_length(encoder, set.len())?;
-    encode_keys::<V, S, E>(set, encoder)
+    same_answer(encode_keys::<V, S, E>(set, encoder))
 }
 
 /// Its keys alone.
@@ -101,7 +101,7 @@ where
         ⟦<(K::Value, V::Value) as Wire>⟧.its.names result encoder.old encoder.new }
 {
     encode_length(encoder, map.len())?;
-    encode_entries::<K, V, S, E>(map, encoder)
+    same_answer(encode_entries::<K, V, S, E>(map, encoder))
 }
 
 /// Its entries alone.

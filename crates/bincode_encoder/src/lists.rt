@@ -44,7 +44,7 @@ pub fn encode_list<V: WriteValues, E: Encoder>(
         V.Value.its.names result encoder.old encoder.new }
 {
     encode_length(encoder, items.len())?;
-    encode_run::<V, E>(items, encoder)
+    same_answer(encode_run::<V, E>(items, encoder))
 }
 
 /// Writes the length of a queue, and then its items: the two runs in which it holds them. Fails where the writer
@@ -63,7 +63,7 @@ pub fn encode_deque<V: WriteValues, E: Encoder>(
     let (first, second) = queue.as_slices();
     encode_length(encoder, len)?;
     encode_run::<V, E>(first, encoder)?;
-    encode_run::<V, E>(second, encoder)
+    same_answer(encode_run::<V, E>(second, encoder))
 }
 
 /// Writes the length of a heap, and then its items one by one, as the original does, in the order in which it holds
@@ -85,5 +85,5 @@ where
     let items = heap.as_slice();
     let count = items.len();
     encode_length(encoder, count)?;
-    encode_each::<V, E>(items, encoder)
+    same_answer(encode_each::<V, E>(items, encoder))
 }

@@ -8,4 +8,5 @@ returns-in_err-encode_length g c =
     rw (p.1, p.2) (bag-encodes _ _ _ _ _ (length-halts _ _ _ _ c.args.set.now.keys (rw c.len.ensures.len at c.in_err-encode_length.ensures)))
 
 pub returns : goal.returns
-returns g c = bag-encodes _ _ _ _ _ (list-encodes _ _ _ _ c.args.set.now.keys g.met.E.W.Writer.adds_join (rw c.len.ensures.len at c.in_ok-encode_length.ensures) c.encode_keys.ensures)
+returns g c =
+    rw c.same_answer.ensures (bag-encodes _ _ _ _ _ (list-encodes _ _ _ _ c.args.set.now.keys g.met.E.W.Writer.adds_join (rw c.len.ensures.len at c.in_ok-encode_length.ensures) c.encode_keys.ensures))

@@ -9,5 +9,5 @@ returns-in_err-encode_length g c =
 
 pub returns : goal.returns
 returns g c =
-    rw (← c.as_slice-items.ensures.value) (bag-encodes _ _ _ _ _
+    rw (c.same_answer.ensures, ← c.as_slice-items.ensures.value) (bag-encodes _ _ _ _ _
     (list-encodes _ _ _ _ c.as_slice-items.result.now g.met.E.W.Writer.adds_join c.in_ok-encode_length.ensures c.encode_each.ensures))

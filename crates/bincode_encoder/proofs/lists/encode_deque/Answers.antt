@@ -27,6 +27,6 @@ returns g c =
     let ws = c.as_slices.result.1.now in
     let len = c.len-len.ensures ∙ sym c.as_slices.ensures.len ∙ sym (length-append vs ws) in
     let join = g.met.E.W.Writer.adds_join in
-    rw (← c.as_slices.ensures.items)
+    rw (c.same_answer.ensures, ← c.as_slices.ensures.items)
     (list-encodes _ _ _ _ (vs ++ ws) join (rw len at c.in_ok-encode_length.ensures)
     (runs-encode _ _ _ (g.V.Value.Wire.its.writable g.E.C.Config.setting) vs ws join c.in_ok-encode_run.ensures c.encode_run-2.ensures))

@@ -8,4 +8,5 @@ returns-in_err-encode_length g c =
     rw (p.1, p.2) (length-halts _ _ _ _ c.args.items.now c.in_err-encode_length.ensures)
 
 pub returns : goal.returns
-returns g c = list-encodes _ _ _ _ c.args.items.now g.met.E.W.Writer.adds_join c.in_ok-encode_length.ensures c.encode_run.ensures
+returns g c =
+    rw c.same_answer.ensures (list-encodes _ _ _ _ c.args.items.now g.met.E.W.Writer.adds_join c.in_ok-encode_length.ensures c.encode_run.ensures)
