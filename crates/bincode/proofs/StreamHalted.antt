@@ -1,5 +1,5 @@
 -- What a stopped encoding leaves of a stream.
-use Rattle.std.specs.Prelude.{◌≡◌, ◌⊎◌, ◌+◌, ◌-◌, ◌^◌, ◌<◌, ◌++◌, ℕ, List, Option, length}
+use Rattle.std.specs.Prelude.{◌≡◌, ◌+◌, ◌-◌, ◌^◌, ◌<◌, ◌++◌, ℕ, List, Option, length}
 use Rattle.std.proofs.Common.{inl, inr, arith, ap, sym, ◌∙◌, subst, append_assoc, length-append}
 use Rattle.std.specs.Io.KnownBytes.{Appends}
 use Rattle.std.proofs.KnownBytes.{Appends-trans}

@@ -53,6 +53,11 @@ pub use Rattle.bincode_io.specs.RoomLaws
 pub use Rattle.bincode_io.specs.Slices
 pub use Rattle.bincode_io.specs.Stream
 pub use Rattle.bincode_io.specs.Vectors
+pub use Rattle.bincode_described.specs.Describing
+pub use Rattle.bincode_shape.specs.Shapes
+pub use Rattle.bincode_shape.specs.Rows
+pub use Rattle.bincode_shape.specs.Same
+pub use Rattle.bincode_shape.specs.Unfit
 pub use Rattle.bincode_wire.specs.CStrings
 pub use Rattle.bincode_wire.specs.Durations
 pub use Rattle.bincode_wire.specs.Sums

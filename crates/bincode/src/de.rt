@@ -6,6 +6,7 @@ pub use bincode_de::borrow_runs::{borrow_decode_array, borrow_decode_vec};
 pub use bincode_de::collections::decode_collection;
 pub use bincode_de::decode::Decode;
 pub use bincode_de::from_parts::FromParts;
+pub use bincode_de::made::{MakeFrom, decode_by_parts};
 pub use bincode_de::passed::other_error;
 pub use bincode_de::runs::{decode_array, decode_run, decode_vec};
 pub use bincode_decoder::context::{LendInContext, WithContext};

@@ -11,6 +11,7 @@ mod borrow;
 pub mod de;
 pub mod enc;
 mod reader;
+mod shaped;
 mod slice;
 mod streams;
 mod vec;
@@ -28,6 +29,14 @@ pub mod laws {
 pub mod model {
     pub use crate::laws::{Canonical, ConstantCharge, Exact, Inhabited, Plain, Writable};
     pub use bincode_wire::wire::Wire;
+}
+
+/// Types that are described at run time: their shapes, the images of their values, and what reads and writes them.
+pub mod shape {
+    pub use crate::shaped::{decode_shaped, encode_shaped};
+    pub use bincode_described::described::Described;
+    pub use bincode_shape::fits::does_fit;
+    pub use bincode_shape::shape::{Shape, Value};
 }
 
 pub use bincode_base::{config, error, short_text};

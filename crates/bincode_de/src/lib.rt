@@ -8,6 +8,7 @@ pub mod decode;
 mod empty;
 pub mod from_parts;
 mod impls;
+pub mod made;
 pub mod passed;
 pub mod runs;
 pub mod variants;

@@ -1,14 +1,15 @@
-//! Characters behind their first byte, read through any decoder.
+//! Characters, read through any decoder.
 ghost use Rattle.std.specs.Prelude.{◌≡◌, Some};
 ghost use Rattle.bincode_format.specs.Format.{charged};
 ghost use Rattle.bincode_format.specs.Reads.{ReadsUncharged};
-ghost use Rattle.bincode_format.specs.Meaning.{Character};
-ghost use Rattle.bincode_format.specs.Words.{char_width, rest_of_char};
-ghost use Rattle.bincode_format.specs.Values.{ReadsCharged};
+ghost use Rattle.bincode_format.specs.Meaning.{Character, IsCharacter};
+ghost use Rattle.bincode_format.specs.Words.{char_width, character, rest_of_char};
+ghost use Rattle.bincode_format.specs.Values.{Reads, ReadsCharged};
 
 use crate::decoder::Decoder;
+use crate::integers::read_byte_from;
 use bincode_base::error::DecodeError;
-use bincode_wire::chars::read_rest_of_char;
+use bincode_wire::chars::{read_rest_of_char, width_of_char};
 
 // Always inlined, as numbers are: a call hands on a result with room for an error.
 
@@ -39,4 +40,18 @@ pub fn decode_rest_of_char<D: Decoder>(
 {
     decoder.claim_bytes_read(width)?;
     read_rest_of_char_from(decoder, first, width)
+}
+
+/// Reads the first byte of a character, and then charges for all its bytes and reads the others. A fault leaves what
+/// was charged before it.
+#[inline(always)]
+pub fn decode_char<D: Decoder>(decoder: &mut D) -> Result<char, DecodeError>
+    ensures { Reads D.told D.rest D.charge D.failures D.place D.C.bound D.R.ended D.R.device ⊥ character
+        (λ m v. IsCharacter v m) (D.charge decoder.old) result decoder.old decoder.new }
+{
+    let first = read_byte_from(decoder)?;
+    let Some(width) = width_of_char(first) else {
+        return Err(DecodeError::InvalidCharEncoding([first, 0, 0, 0]));
+    };
+    decode_rest_of_char(decoder, first, width)
 }

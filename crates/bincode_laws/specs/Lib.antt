@@ -13,6 +13,7 @@ pub mod DecodingLaws
 pub mod DigitLaws
 pub mod DurationLaws
 pub mod EncodingLaws
+pub mod EqualLaws
 pub mod FormatLaws
 pub mod FormLaws
 pub mod Fronts

@@ -5,6 +5,7 @@ pub mod bags;
 pub mod c_strings;
 pub mod chars;
 pub mod empty;
+pub mod equal_parts;
 pub mod hashed;
 pub mod impls;
 pub mod laws;

@@ -3,6 +3,7 @@ ghost use Rattle.std.specs.Prelude.{◌≡◌, true};
 ghost use Rattle.bincode_wire.specs.TypeLaws.{AlwaysWritable, PlainWords, ExactWords, CanonicalWords};
 ghost use Rattle.bincode_wire.specs.TypeWords.{words_by};
 
+use crate::equal_parts::EqualParts;
 use crate::laws::{Canonical, Exact, Plain, Writable};
 use crate::parted::{Parted, SameParts};
 use crate::wire::Wire;
@@ -45,9 +46,9 @@ pub fn exact_by_parts<Parts: Exact, T: MadeOf<Parts> + PartialEq>()
 pub fn exact_by_fields<
     Fields: Exact + SameParts<Row>,
     T: MadeOf<Fields> + PartialEq,
-    Row: Wire + PartialEq,
+    Row: Wire + EqualParts,
 >()
-    requires { (v w : T) → Row.eq (Fields.parts (T.parts v)) (Fields.parts (T.parts w)) ≡ true → T.eq v w ≡ true }
+    requires { (v w : T) → Row.each_equal (Fields.parts (T.parts v)) (Fields.parts (T.parts w)) → T.eq v w ≡ true }
     ensures { ExactWords (words_by Fields.its T.parts) T.eq }
 {
     Fields::tell_exact();

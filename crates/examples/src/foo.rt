@@ -1,4 +1,4 @@
-//! A struct without memory, with each law that there is.
+//! A struct without memory, with each law that there is, and with a shape.
 
 use bincode::de::{Decode, Decoder, OneByOne};
 use bincode::enc::{Encode, Encoder};
@@ -7,7 +7,9 @@ use bincode::laws::{
     Canonical, ConstantCharge, Exact, Inhabited, Plain, Writable, canonical_by_parts,
     exact_by_fields, plain_by_parts, writable_by_parts,
 };
+use bincode::shape::{Described, Shape};
 use bincode::{MadeOf, Wire};
+use std::alloc::Global;
 
 type Parts = (u32, u32);
 
@@ -29,6 +31,12 @@ impl Wire for Foo {
 
     fn claim_size() -> usize {
         Parts::claim_size()
+    }
+}
+
+impl Described for Foo {
+    fn shape(alloc: Global) -> Option<Shape> {
+        Parts::shape(alloc)
     }
 }
 

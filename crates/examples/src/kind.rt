@@ -4,8 +4,10 @@ use bincode::de::{Decode, Decoder, Named, OneByOne};
 use bincode::enc::{Encode, Encoder, encode_variant};
 use bincode::error::{DecodeError, EncodeError};
 use bincode::laws::{Canonical, Exact, Plain, canonical_by_parts, exact_by_parts, plain_by_parts};
+use bincode::shape::{Described, Shape};
 use bincode::short_text::TypeName;
 use bincode::{MadeOf, NoOther, OneOf, Or, Wire};
+use std::alloc::Global;
 
 type Parts = OneOf<Or<0, (), Or<1, (String, u16), Or<2, Vec<(String, u32)>, NoOther<Kind>>>>>;
 
@@ -59,6 +61,12 @@ impl Canonical for Kind {
 impl Named for Kind {
     fn type_name() -> TypeName {
         TypeName::new("Kind")
+    }
+}
+
+impl Described for Kind {
+    fn shape(alloc: Global) -> Option<Shape> {
+        Parts::shape(alloc)
     }
 }
 

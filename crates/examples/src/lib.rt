@@ -14,5 +14,8 @@ pub mod kind;
 pub mod never;
 pub mod note;
 pub mod pack;
+pub mod pair;
+pub mod report;
 pub mod requests;
+pub mod table;
 pub mod track;

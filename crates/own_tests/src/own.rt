@@ -15,6 +15,9 @@ use examples::foo::Foo;
 use examples::kind::Kind;
 use examples::never::Never;
 use examples::pack::Pack;
+use examples::pair::Pair;
+use examples::report::Report;
+use examples::table::Table;
 use examples::track::Track;
 use std::alloc::Global;
 use test_helpers::checks::{
@@ -36,6 +39,12 @@ fn keeps_structs(rt: HostRuntime) {
         ("Track", has_word::<Track>(alloc, &track)),
         ("Even", has_word::<Even>(alloc, &[4])),
         ("Book", has_word::<Book>(alloc, &BOOK)),
+        ("Pair", has_word::<Pair<u8, u16>>(alloc, &[7, 251, 44, 1])),
+        (
+            "Table",
+            has_word::<Table<u16, bool>>(alloc, &[1, 97, 1, 2, 1, 1, 2]),
+        ),
+        ("Report", has_word::<Report>(alloc, &REPORT)),
     ];
     assert_eq!(rt; first_wrong(&rows), None);
 }
@@ -52,6 +61,23 @@ fn keeps_each_variant(rt: HostRuntime) {
     for word in [[1].as_slice(), &[5], &[251, 44, 1]] {
         assert!(rt; has_word::<Code>(rt.alloc(), word));
     }
+}
+
+/// The word of a report of the station 5, in twelve fields one behind the other.
+const REPORT: [u8; 19] = [
+    5, 251, 44, 1, 1, 1, 97, 5, 251, 148, 39, 80, 12, 251, 251, 0, 250, 8, 9,
+];
+
+#[test]
+fn reads_a_report(rt: HostRuntime) {
+    let Ok((report, 19)) = decoded_within::<Report, 1000>(rt.alloc(), &REPORT) else {
+        assert!(rt; false);
+        return;
+    };
+    assert!(rt; report.station == 5 && report.second == 300 && report.words.as_str() == "a");
+    assert!(rt; report.temperature == -3 && report.pressure == 10132 && report.rain == 12);
+    assert!(rt; report.wind_speed == 251 && report.wind_direction == 250 && report.sight == 9);
+    assert!(rt; Report::claim_size() == 53);
 }
 
 /// The word of a book of one contact, who works at `d` since 300 and was born in 1990, and of one note.

@@ -63,7 +63,7 @@ fn holds_more_cases(rt: HostRuntime) {
 #[test]
 fn reads_the_rows_from_streams(rt: HostRuntime) {
     let alloc = rt.alloc();
-    let [first, second] = tables();
+    let [first, second, _] = tables();
     for rows in [first, second, more_cases()] {
         assert!(rt; all_hold::<Bytewise>(alloc, rows));
         assert!(rt; all_hold::<Buffered<1>>(alloc, rows));

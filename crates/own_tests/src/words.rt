@@ -54,7 +54,7 @@ fn first_that_goes_on(alloc: Global, rows: &[Row]) -> Option<&'static str> {
 #[test]
 fn ends_where_words_are_cut(rt: HostRuntime) {
     let alloc = rt.alloc();
-    let [first, second] = tables();
+    let [first, second, _] = tables();
     for rows in [first, second, more_cases()] {
         assert_eq!(rt; first_that_goes_on(alloc, rows), None);
     }

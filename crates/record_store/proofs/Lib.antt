@@ -1,3 +1,3 @@
 mod Appends
 mod Filled
-mod Listings
+pub mod Listings

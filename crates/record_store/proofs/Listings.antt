@@ -49,11 +49,11 @@ stopped-at F limit Grows store at e other h found tells keeps =
       subst (λ z. IsRefusedFor F limit z e) (slice-rest store at) refused,
     )
 
-module _ {A : Type 0} (W : Words A) (s : Setting) (limit : Option ℕ) where
+module _ {A : Type 0} (F : Format Meaning) (limit : Option ℕ) (given : Meaning → A → Type 0) where
   -- one more word behind those that were read
-  next-read : (at : ℕ) (input : List ℕ) (listed : List (Listed A)) (end : ℕ) (rest : List ℕ) → ReadFrom W s limit at input listed end rest →
-      (n : ℕ) (v : A) (d : Decoded (W.format s) limit rest (λ m. W.given m v) n) →
-      ReadFrom W s limit at input (listed ++ (record { offset = end; size = n; value = v }) ∷ []) (end + n) d.rest
+  next-read : (at : ℕ) (input : List ℕ) (listed : List (Listed A)) (end : ℕ) (rest : List ℕ) → ReadFrom F limit given at input listed end rest →
+      (n : ℕ) (v : A) (d : Decoded F limit rest (λ m. given m v) n) →
+      ReadFrom F limit given at input (listed ++ (record { offset = end; size = n; value = v }) ∷ []) (end + n) d.rest
   next-read at input [] end rest r n v d = (
     record { word = d.word; rest = d.rest; meaning = d.meaning; steps = d.steps; input_is = sym r.1 ∙ d.input_is; is_word = d.is_word; within = d.within; count = d.count; is_given = d.is_given },
     r.0,
@@ -62,17 +62,17 @@ module _ {A : Type 0} (W : Words A) (s : Setting) (limit : Option ℕ) where
   next-read at input (l ∷ listed) end rest r n v d = (r.0, r.1, next-read (at + l.size) r.0.rest listed end rest r.2 n v d)
 
   -- the same of what was sliced from the end of those
-  pub read-on : (store : List ℕ) (at : ℕ) (listed : List (Listed A)) (n : ℕ) (v : A) → at ≤ length store → ReadFrom W s limit 0 store listed at (drop at store) →
-      Decoded (W.format s) limit (sliced store at) (λ m. W.given m v) n →
-      (at + n ≤ length store) × ReadFrom W s limit 0 store (listed ++ (record { offset = at; size = n; value = v }) ∷ []) (at + n) (drop (at + n) store)
+  pub read-on : (store : List ℕ) (at : ℕ) (listed : List (Listed A)) (n : ℕ) (v : A) → at ≤ length store → ReadFrom F limit given 0 store listed at (drop at store) →
+      Decoded F limit (sliced store at) (λ m. given m v) n →
+      (at + n ≤ length store) × ReadFrom F limit given 0 store (listed ++ (record { offset = at; size = n; value = v }) ∷ []) (at + n) (drop (at + n) store)
   read-on store at listed n v h r word =
-      let d = subst (λ z. Decoded (W.format s) limit z (λ m. W.given m v) n) (slice-rest store at) word in
+      let d = subst (λ z. Decoded F limit z (λ m. given m v) n) (slice-rest store at) word in
       let total : length (drop at store) ≡ length d.word + length d.rest = ap length d.input_is ∙ length-append d.word d.rest in
       let left = length-drop at store in
       let count = d.count in
       let rest : d.rest ≡ drop (at + n) store = sym (drop_at d.word d.rest n (sym d.count)) ∙ ap (λ z. drop n z) (sym d.input_is) ∙ drop-drop n at store in (
         omega (arith, total, left, count, h),
-        subst (λ z. ReadFrom W s limit 0 store (listed ++ (record { offset = at; size = n; value = v }) ∷ []) (at + n) z) rest (next-read 0 store listed at (drop at store) r n v d),
+        subst (λ z. ReadFrom F limit given 0 store (listed ++ (record { offset = at; size = n; value = v }) ∷ []) (at + n) z) rest (next-read 0 store listed at (drop at store) r n v d),
       )
 
 module _ {A : Type 0} (W : Words A) (s : Setting) (limit : Option ℕ) (never : NeverEmpty W) (eq : A → A → Bool) (exact : ExactWords W eq) where
@@ -88,7 +88,7 @@ module _ {A : Type 0} (W : Words A) (s : Setting) (limit : Option ℕ) (never : 
     others : List (Listed A)
     listed_are : listed ≡ first ++ others
     for_entries : ListedFor eq at entries first
-    read : ReadFrom W s limit (at + length (words_of entries)) behind others end rest
+    read : ReadFrom F limit W.given (at + length (words_of entries)) behind others end rest
 
   -- a store does not end where a word begins
   ends-no-word : (v : A) (word behind rest : List ℕ) → IsEntry W s limit v word → rest ≡ word ++ behind → (at : ℕ) (ending : Ending) → EndsAt F limit at rest ending → ⊥
@@ -111,11 +111,11 @@ module _ {A : Type 0} (W : Words A) (s : Setting) (limit : Option ℕ) (never : 
         others = b.others;
         listed_are = ap (λ z. l ∷ z) b.listed_are;
         for_entries = (same, offset, size, subst (λ z. ListedFor eq z entries b.first) here b.for_entries);
-        read = subst (λ z. ReadFrom W s limit z behind b.others end rest) there b.read;
+        read = subst (λ z. ReadFrom F limit W.given z behind b.others end rest) there b.read;
       }
 
   behind-entries : (at : ℕ) (entries : List (Entry A)) (behind input : List ℕ) (listed : List (Listed A)) (end : ℕ) (rest : List ℕ) (ending : Ending) →
-      AreEntries W s limit entries → input ≡ words_of entries ++ behind → ReadFrom W s limit at input listed end rest → EndsAt F limit end rest ending →
+      AreEntries W s limit entries → input ≡ words_of entries ++ behind → ReadFrom F limit W.given at input listed end rest → EndsAt F limit end rest ending →
       Behind at entries behind listed end rest
   behind-entries at [] behind input listed end rest ending are e r h =
       let here : at ≡ at + length (words_of {A = A} []) = omega arith in
@@ -124,7 +124,7 @@ module _ {A : Type 0} (W : Words A) (s : Setting) (limit : Option ℕ) (never : 
         others = listed;
         listed_are = refl;
         for_entries = tt;
-        read = subst (λ z. ReadFrom W s limit z behind listed end rest) here (subst (λ z. ReadFrom W s limit at z listed end rest) e r);
+        read = subst (λ z. ReadFrom F limit W.given z behind listed end rest) here (subst (λ z. ReadFrom F limit W.given at z listed end rest) e r);
       }
   behind-entries at (x ∷ entries) behind input [] end rest ending are e r h =
       absurd (ends-no-word x.value x.word (words_of entries ++ behind) rest are.0 (r.1 ∙ e ∙ append_assoc x.word (words_of entries) behind) end ending h)
@@ -143,7 +143,7 @@ module _ {A : Type 0} (W : Words A) (s : Setting) (limit : Option ℕ) (never : 
       r.1 (d.count ∙ ap length (sym one.0))
       (behind-entries (at + l.size) entries behind d.rest listed end rest ending are.1 q r.2 h)
 
-  module _ (store : List ℕ) (listed : List (Listed A)) (ending : Ending) (l : Lists W s limit store listed ending) (entries : List (Entry A)) (are : AreEntries W s limit entries) where
+  module _ (store : List ℕ) (listed : List (Listed A)) (ending : Ending) (l : Lists F limit W.given store listed ending) (entries : List (Entry A)) (are : AreEntries W s limit entries) where
     begin : (behind : List ℕ) → store ≡ words_of entries ++ behind → Behind 0 entries behind listed l.end l.rest
     begin behind e = behind-entries 0 entries behind store listed l.end l.rest ending are e l.values l.ends
 
@@ -153,7 +153,7 @@ module _ {A : Type 0} (W : Words A) (s : Setting) (limit : Option ℕ) (never : 
 
   -- nothing is read of nothing
   none-behind : (at : ℕ) (entries : List (Entry A)) (listed first others : List (Listed A)) (end : ℕ) (rest : List ℕ) (ending : Ending) → listed ≡ first ++ others →
-      ListedFor eq at entries first → (here : ℕ) → ReadFrom W s limit here [] others end rest → EndsAt F limit end rest ending → ListedFor eq at entries listed × (ending ≡ Whole)
+      ListedFor eq at entries first → (here : ℕ) → ReadFrom F limit W.given here [] others end rest → EndsAt F limit end rest ending → ListedFor eq at entries listed × (ending ≡ Whole)
   none-behind at entries listed first [] end rest Whole e all here r h = (subst (λ z. ListedFor eq at entries z) (sym (e ∙ append-nil first)) all, refl)
   none-behind at entries listed first [] end rest (Stopped offset why) e all here r h = absurd (h.1 r.1)
   none-behind at entries listed first (l ∷ others) end rest ending e all here r h =
@@ -161,7 +161,7 @@ module _ {A : Type 0} (W : Words A) (s : Setting) (limit : Option ℕ) (never : 
       let none : d.word ≡ [] = first-empty d.word d.rest (sym d.input_is) in
       absurd (never s d.meaning d.steps (subst (λ z. F.Word z d.meaning d.steps) none d.is_word))
 
-  pub lists-all : (store : List ℕ) (listed : List (Listed A)) (ending : Ending) → Lists W s limit store listed ending → (entries : List (Entry A)) → AreEntries W s limit entries →
+  pub lists-all : (store : List ℕ) (listed : List (Listed A)) (ending : Ending) → Lists F limit W.given store listed ending → (entries : List (Entry A)) → AreEntries W s limit entries →
       store ≡ words_of entries → ListsAll eq entries listed ending
   lists-all store listed ending l entries are e =
       let b = begin store listed ending l entries are [] (e ∙ sym (append-nil (words_of entries))) in
@@ -204,7 +204,7 @@ module _ {A : Type 0} (W : Words A) (s : Setting) (limit : Option ℕ) (never : 
     torn_of why h (Failed fault u) e = torn_by why h fault u e (end-or-other fault)
 
     torn-behind : (at : ℕ) (entries : List (Entry A)) (listed first others : List (Listed A)) (end : ℕ) (rest : List ℕ) (ending : Ending) → listed ≡ first ++ others →
-        ListedFor eq at entries first → (here : ℕ) → ReadFrom W s limit here front others end rest → EndsAt F limit end rest ending →
+        ListedFor eq at entries first → (here : ℕ) → ReadFrom F limit W.given here front others end rest → EndsAt F limit end rest ending →
         ListedFor eq at entries listed × ((missing : ℕ) × (ending ≡ Stopped here (UnexpectedEnd missing)))
     torn-behind at entries listed first [] end rest Whole e all here r h = absurd (t.some_written (sym r.1 ∙ h))
     torn-behind at entries listed first [] end rest (Stopped offset why) e all here r h =
@@ -214,10 +214,10 @@ module _ {A : Type 0} (W : Words A) (s : Setting) (limit : Option ℕ) (never : 
     torn-behind at entries listed first (l ∷ others) end rest ending e all here r h =
         let d = r.0 in absurd (no-word d.word d.rest d.meaning d.steps d.is_word d.input_is)
 
-    pub lists-before-torn : (store : List ℕ) (listed : List (Listed A)) (ending : Ending) → Lists W s limit store listed ending → (entries : List (Entry A)) → AreEntries W s limit entries →
+    pub lists-before-torn : (store : List ℕ) (listed : List (Listed A)) (ending : Ending) → Lists F limit W.given store listed ending → (entries : List (Entry A)) → AreEntries W s limit entries →
         store ≡ words_of entries ++ front → ListsBeforeTorn eq entries listed ending
     lists-before-torn store listed ending l entries are e =
         let b = begin store listed ending l entries are front e in
         let here : 0 + length (words_of entries) ≡ length (words_of entries) = omega arith in
         torn-behind 0 entries listed b.first b.others l.end l.rest ending b.listed_are b.for_entries _
-        (subst (λ z. ReadFrom W s limit z front b.others l.end l.rest) here b.read) l.ends
+        (subst (λ z. ReadFrom F limit W.given z front b.others l.end l.rest) here b.read) l.ends

@@ -99,10 +99,10 @@ pub record IsTorn {A : Type 0} (W : Words A) (s : Setting) (limit : Option ℕ) 
 -- what is listed
 
 -- what begins at an offset is the words of the listed values, in turn; behind them, at `end`, is the rest
-abbrev pub ReadFrom : {A : Type 0} → Words A → Setting → Option ℕ → ℕ → List ℕ → List (Listed A) → ℕ → List ℕ → Type 0
-ReadFrom W s limit at input [] end rest = (end ≡ at) × (rest ≡ input)
-ReadFrom W s limit at input (l ∷ listed) end rest =
-    (d : Decoded (W.format s) limit input (λ m. W.given m l.value) l.size) × (l.offset ≡ at) × ReadFrom W s limit (at + l.size) d.rest listed end rest
+abbrev pub ReadFrom : {A : Type 0} → Format Meaning → Option ℕ → (Meaning → A → Type 0) → ℕ → List ℕ → List (Listed A) → ℕ → List ℕ → Type 0
+ReadFrom F limit given at input [] end rest = (end ≡ at) × (rest ≡ input)
+ReadFrom F limit given at input (l ∷ listed) end rest =
+    (d : Decoded F limit input (λ m. given m l.value) l.size) × (l.offset ≡ at) × ReadFrom F limit given (at + l.size) d.rest listed end rest
 
 -- no word within the limit begins the bytes, and the error tells why
 pub record IsRefusedFor (F : Format Meaning) (limit : Option ℕ) (bytes : List ℕ) (why : DecodeError) : Type 0 where
@@ -116,11 +116,11 @@ EndsAt F limit at rest Whole = rest ≡ []
 EndsAt F limit at rest (Stopped offset why) = (offset ≡ at) × (rest ≡ [] → ⊥) × IsRefusedFor F limit rest why
 
 -- the values are those of the words of the store, up to its end or to the first bytes that are no word
-pub record Lists {A : Type 0} (W : Words A) (s : Setting) (limit : Option ℕ) (store : List ℕ) (listed : List (Listed A)) (ending : Ending) : Type 0 where
+pub record Lists {A : Type 0} (F : Format Meaning) (limit : Option ℕ) (given : Meaning → A → Type 0) (store : List ℕ) (listed : List (Listed A)) (ending : Ending) : Type 0 where
   pub end : ℕ
   pub rest : List ℕ
-  pub values : ReadFrom W s limit 0 store listed end rest
-  pub ends : EndsAt (W.format s) limit end rest ending
+  pub values : ReadFrom F limit given 0 store listed end rest
+  pub ends : EndsAt F limit end rest ending
 
 -- values are listed for entries that begin at an offset: equal ones, each behind the words of those before it, and of as many
 -- bytes as its word has

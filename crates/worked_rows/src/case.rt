@@ -1,6 +1,7 @@
 //! The kinds of cases.
 
 use crate::addresses::Address;
+use crate::shaped::Shaped;
 use bincode::config::{Endianness, Limit, NoLimit};
 use bincode::error::IntegerType;
 use std::ops::Bound;
@@ -18,6 +19,7 @@ pub enum Case {
     DecodeBytewise(Decoding<(u32, u32), NoLimit>),
     Borrow(Borrowed),
     Address(Address),
+    Shaped(Shaped),
 }
 
 /// A value that is written.
@@ -195,6 +197,7 @@ pub enum Fault {
     CStringNulError {
         position: usize,
     },
+    EmptyEnum,
 }
 
 /// A configuration without a limit.

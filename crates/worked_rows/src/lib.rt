@@ -12,5 +12,6 @@ mod more;
 pub mod rows;
 pub mod run;
 mod second;
+pub mod shaped;
 pub mod sources;
 pub mod words;

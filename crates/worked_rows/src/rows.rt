@@ -6,6 +6,7 @@ use crate::first::first_table;
 pub use crate::more::more_cases;
 use crate::run::holds;
 use crate::second::second_table;
+use crate::shaped::shaped_table;
 use crate::sources::Source;
 use std::alloc::Global;
 use std::io;
@@ -19,8 +20,8 @@ pub struct Row {
 }
 
 /// The tables of the cases that the program runs.
-pub fn tables() -> [&'static [Row]; 2] {
-    [first_table(), second_table()]
+pub fn tables() -> [&'static [Row]; 3] {
+    [first_table(), second_table(), shaped_table()]
 }
 
 /// Runs the cases of some tables in turn; what is decoded as an owned type is read from `S`. Writes a line for each,

@@ -6,6 +6,7 @@ use crate::case::{
     Answer, Case, Decoding, Encoding, Fault, Input, Kept, Limited, Number, Refusal, Setting,
     Spelling, Value,
 };
+use crate::shaped::shaped_holds;
 use crate::sources::{Bytewise, Source};
 use bincode::config::{
     self, Configuration, Endianness, Fixint, InternalLimitConfig, LittleEndian, NoLimit, Varint,
@@ -36,6 +37,7 @@ pub fn holds<S: Source>(alloc: Global, case: &Case) -> Result<bool, AllocError> 
         Case::DecodeBytewise(row) => Ok(decodes::<Bytewise, _, _>(alloc, row)),
         Case::Borrow(borrowed) => Ok(borrows(alloc, borrowed)),
         Case::Address(address) => address_holds::<S>(alloc, address),
+        Case::Shaped(shaped) => shaped_holds(alloc, shaped),
     }
 }
 
@@ -460,7 +462,8 @@ pub fn tells<S: Source>(error: &DecodeError, fault: Fault) -> bool {
         (_, Fault::UnexpectedEnd { additional }) => S::missing(error) == Some(additional),
         (_, Fault::EndsEarly) => S::missing(error).is_some(),
         (DecodeError::LimitExceeded, Fault::LimitExceeded)
-        | (DecodeError::Utf8 { inner: _ }, Fault::Utf8) => true,
+        | (DecodeError::Utf8 { inner: _ }, Fault::Utf8)
+        | (DecodeError::EmptyEnum { type_name: _ }, Fault::EmptyEnum) => true,
         (
             DecodeError::InvalidIntegerType {
                 expected: e,

@@ -84,7 +84,7 @@ pub fn words_of(case: &Case) -> [Option<Word>; 2] {
     match case {
         Case::Encode(value) => [word_of_value(value), None],
         Case::Keep(kept) => [word_of_kept(kept), None],
-        Case::RefusePair(_) => [None, None],
+        Case::RefusePair(_) | Case::Shaped(_) => [None, None],
         Case::Varint(number) => words_of_number(number),
         Case::Decode(input) => [word_of_input(input), None],
         Case::DecodeWithin(limited) => [word_of_limited(limited), None],

@@ -6,7 +6,7 @@ use Rattle.record_store.proofs.store.list_words.Goals as goal
 pub loop-offset-preserved : goal.loop-offset-preserved
 loop-offset-preserved g c =
     let so_far = c.loop-offset.invariant in
-    let next = read-on g.T.Wire.its g.C.Config.setting g.C.Config.bound c.args.store.now c.loop-offset.offset _ c.in-Ok.size c.in-Ok.value so_far.0 so_far.1 c.in-Ok.ensures.word in
+    let next = read-on (g.T.Wire.its.format g.C.Config.setting) g.C.Config.bound g.T.Wire.its.given c.args.store.now c.loop-offset.offset _ c.in-Ok.size c.in-Ok.value so_far.0 so_far.1 c.in-Ok.ensures.word in
     (next.0, rw c.in_ok-push-in-Ok.ensures.items next.1)
 
 pub returns-in-Err : goal.returns-in-Err

@@ -1,0 +1,75 @@
+-- The formats of shapes, by those of their parts.
+use Rattle.std.specs.Prelude.{◌≡◌, ◌≤◌, ◌+◌, ◌++◌, ℕ, max, List, [], ◌∷◌, Box, refl}
+use Rattle.std.specs.declared.alloc.Global.{Global}
+use Rattle.std.specs.declared.vec.Vec.{Vec}
+use Rattle.std.proofs.Common.{◌∙◌, ap, subst, sym, arith, append_assoc, append-nil}
+use Rattle.bincode_base.specs.Setting.{Setting}
+use Rattle.bincode_format.specs.Format.{Format}
+use Rattle.bincode_format.specs.Meaning.{Meaning}
+use Rattle.bincode_format.specs.Words.{nothing, first_and, tuple, list, array, Variant, tags_of, chosen, tag}
+use Rattle.bincode_shape.specs.declared.shape.Shape as shapes
+use Rattle.bincode_shape.specs.declared.shape.Shape.{Shape}
+use Rattle.bincode_shape.specs.Shapes.{format_of, at, share, byte_tag, one_of, numbered}
+use Rattle.bincode_shape.specs.Rows.{formats, formats_of-vec}
+use Rattle.bincode_shape.specs.Same.{SameWords, same-itself, list-same, array-same, first_and-same}
+use Rattle.bincode_shape.specs.SameChoices.{SameVariants, chosen-same}
+use Rattle.bincode_wire.specs.TypeWords.{Words}
+use Rattle.bincode_described.specs.Describing.{Describes, DescribesRow, CountFrom, CountFromZero, DescribesVariants}
+
+share-claims : (claim : ℕ) → 1 ≤ claim → share claim ≡ claim
+share-claims claim h = omega (arith, h)
+
+pub same_itself : (F : Format Meaning) → SameWords F F
+same_itself = same-itself
+
+-- a list of a type
+pub seq_described : (claim : ℕ) (b : Box Shape Global) (F : Setting → Format Meaning) (s : Setting) → 1 ≤ claim → SameWords (format_of b.value s) (F s) →
+    SameWords (format_of (shapes.Seq claim b) s) (list s claim (F s))
+seq_described claim b F s h f = rw (share-claims claim h) (list-same s claim f)
+
+-- an array
+pub array_described : (len claim : ℕ) (b : Box Shape Global) (F : Setting → Format Meaning) (s : Setting) → 1 ≤ claim → SameWords (format_of b.value s) (F s) →
+    SameWords (format_of (shapes.Array len claim b) s) (array len claim (F s))
+array_described len claim b F s h f = rw (share-claims claim h) (array-same len claim f)
+
+-- an option
+pub option_described : (b : Box Shape Global) (F : Setting → Format Meaning) (s : Setting) → SameWords (format_of b.value s) (F s) →
+    SameWords (format_of (shapes.Optional b) s) (chosen byte_tag ((0, λ s. nothing) ∷ (1, F) ∷ []) s)
+option_described b F s f = chosen-same byte_tag s _ _ (refl, same-itself nothing, (refl, f, tt))
+
+-- an enum whose tags count from 0
+pub choice_described : (v : Vec Shape Global) (variants : List Variant) (s : Setting) → DescribesVariants [] v.items variants → CountFromZero (tags_of variants) →
+    SameWords (format_of (shapes.Choice v) s) (chosen tag variants s)
+choice_described v variants s d count = rw (formats_of-vec v, d.1) (one_of-chosen d.0 variants s count (λ h. d.2 0 s h)) where
+  one_of-chosen : (parts : List Shape) (variants : List Variant) (s : Setting) → CountFromZero (tags_of variants) →
+      (CountFrom 0 (tags_of variants) → SameVariants s (numbered 0 (formats parts)) variants) → SameWords (one_of (numbered 0 (formats parts)) s) (chosen tag variants s)
+  one_of-chosen parts [] s count h = absurd count
+  one_of-chosen [] (w ∷ ws) s count h = absurd (h count)
+  one_of-chosen (p ∷ ps) (w ∷ ws) s count h = chosen-same tag s _ _ (h count)
+
+-- no variants
+pub no_variants_described : (before : List Shape) → DescribesVariants before before []
+no_variants_described before = ([], sym (append-nil before), λ n s h. tt)
+
+-- a variant before the others
+pub next_variant_described : (before with_part after : List Shape) (part : Shape) (n : ℕ) (F : Setting → Format Meaning) (others : List Variant) →
+    with_part ≡ before ++ part ∷ [] → ((s : Setting) → SameWords (format_of part s) (F s)) → DescribesVariants with_part after others →
+    DescribesVariants before after ((n, F) ∷ others)
+next_variant_described before with_part after part n F others e f d =
+    (part ∷ d.0, d.1 ∙ ap (λ z. z ++ d.0) e ∙ append_assoc before (part ∷ []) d.0, λ m s h. (h.0, f s, d.2 (m + 1) s h.1))
+
+-- a tuple, by its row
+pub tuple_described : {A : Type 0} (v : Vec Shape Global) (W : Words A) → DescribesRow [] v.items W → Describes (shapes.Tuple v) W
+tuple_described v W row s = rw (formats_of-vec v, row.1) (row.2 s)
+
+-- no parts
+pub none_described : {A : Type 0} (before : List Shape) (W : Words A) → ((s : Setting) → SameWords nothing (W.format s)) → DescribesRow before before W
+none_described before W h = ([], sym (append-nil before), h)
+
+-- a part before the others
+pub next_described : (before with_part after : List Shape) (part : Shape) (F rest : Setting → Format Meaning) →
+    with_part ≡ before ++ part ∷ [] → ((s : Setting) → SameWords (format_of part s) (F s)) →
+    ((parts : List Shape) × (after ≡ with_part ++ parts) × ((s : Setting) → SameWords (tuple (at s (formats parts))) (rest s))) →
+    (parts : List Shape) × (after ≡ before ++ parts) × ((s : Setting) → SameWords (tuple (at s (formats parts))) (first_and (F s) (rest s)))
+next_described before with_part after part F rest e f others =
+    (part ∷ others.0, others.1 ∙ ap (λ z. z ++ others.0) e ∙ append_assoc before (part ∷ []) others.0, λ s. first_and-same (f s) (others.2 s))

@@ -1,0 +1,101 @@
+//! The shapes of options, and of enums whose tags count from 0.
+ghost use Rattle.std.specs.Prelude.{IfSome, refl};
+ghost use Rattle.bincode_format.specs.Words.{tags_of};
+ghost use Rattle.bincode_described.specs.Describing.{CountFromZero, DescribesVariants};
+
+use crate::described::Described;
+use crate::rows::put_shape;
+use bincode_shape::shape::Shape;
+use bincode_wire::sums::{NoOther, OneOf, Or, Variants};
+use bincode_wire::wire::Wire;
+use std::alloc::Global;
+
+impl<T: Described> Described for Option<T> {
+    fn shape(alloc: Global) -> Option<Shape> {
+        let part = Box::new(alloc, T::shape(alloc)?).ok()?;
+        Some(Shape::Optional(part))
+    }
+}
+
+impl<T: Described, U: Described> Described for Result<T, U> {
+    fn shape(alloc: Global) -> Option<Shape> {
+        let parts = put_shape::<T>(alloc, Vec::new(alloc))?;
+        let parts = put_shape::<U>(alloc, parts)?;
+        Some(Shape::Choice(parts))
+    }
+}
+
+/// Variants of an enum, each of which holds what has a shape.
+pub trait DescribedVariants: Variants {
+    /// Puts the shapes of what they hold behind these. `None` where memory is refused.
+    fn put_shapes(alloc: Global, shapes: Vec<Shape>) -> Option<Vec<Shape>>
+        ensures { IfSome result (λ put. DescribesVariants shapes.items put.items Self.variants) };
+}
+
+impl<Of> DescribedVariants for NoOther<Of> {
+    fn put_shapes(_alloc: Global, shapes: Vec<Shape>) -> Option<Vec<Shape>> {
+        Some(shapes)
+    }
+}
+
+impl<const TAG: u32, A: Described, Others: DescribedVariants> DescribedVariants
+    for Or<TAG, A, Others> {
+    fn put_shapes(alloc: Global, shapes: Vec<Shape>) -> Option<Vec<Shape>> {
+        let shapes = put_shape::<A>(alloc, shapes)?;
+        Others::put_shapes(alloc, shapes)
+    }
+}
+
+/// Variants whose tags are 0, 1 and so on: of one to eight.
+pub trait CountedVariants: Variants<Tag = u32> {
+    ghost counted: { CountFromZero (tags_of Self.variants) };
+}
+
+/// An enum whose tags count from 0 is described as the choice of what its variants hold.
+impl<Of: DescribedVariants + CountedVariants> Described for OneOf<Of> {
+    fn shape(alloc: Global) -> Option<Shape> {
+        let parts = Of::put_shapes(alloc, Vec::new(alloc))?;
+        Some(Shape::Choice(parts))
+    }
+}
+
+impl<A: Wire, Of> CountedVariants for Or<0, A, NoOther<Of>> {
+    ghost counted = { (refl, tt) };
+}
+
+impl<A: Wire, B: Wire, Of> CountedVariants for Or<0, A, Or<1, B, NoOther<Of>>> {
+    ghost counted = { (refl, (refl, tt)) };
+}
+
+impl<A: Wire, B: Wire, C: Wire, Of> CountedVariants for Or<0, A, Or<1, B, Or<2, C, NoOther<Of>>>> {
+    ghost counted = { (refl, (refl, (refl, tt))) };
+}
+
+impl<A: Wire, B: Wire, C: Wire, D: Wire, Of> CountedVariants
+    for Or<0, A, Or<1, B, Or<2, C, Or<3, D, NoOther<Of>>>>> {
+    ghost counted = { (refl, (refl, (refl, (refl, tt)))) };
+}
+
+impl<A: Wire, B: Wire, C: Wire, D: Wire, E: Wire, Of> CountedVariants
+    for Or<0, A, Or<1, B, Or<2, C, Or<3, D, Or<4, E, NoOther<Of>>>>>> {
+    ghost counted = { (refl, (refl, (refl, (refl, (refl, tt))))) };
+}
+
+impl<A: Wire, B: Wire, C: Wire, D: Wire, E: Wire, F: Wire, Of> CountedVariants
+    for Or<0, A, Or<1, B, Or<2, C, Or<3, D, Or<4, E, Or<5, F, NoOther<Of>>>>>>> {
+    ghost counted = { (refl, (refl, (refl, (refl, (refl, (refl, tt)))))) };
+}
+
+impl<A: Wire, B: Wire, C: Wire, D: Wire, E: Wire, F: Wire, G: Wire, Of> CountedVariants
+    for Or<0, A, Or<1, B, Or<2, C, Or<3, D, Or<4, E, Or<5, F, Or<6, G, NoOther<Of>>>>>>>> {
+    ghost counted = { (refl, (refl, (refl, (refl, (refl, (refl, (refl, tt))))))) };
+}
+
+impl<A: Wire, B: Wire, C: Wire, D: Wire, E: Wire, F: Wire, G: Wire, H: Wire, Of> CountedVariants
+    for Or<
+        0,
+        A,
+        Or<1, B, Or<2, C, Or<3, D, Or<4, E, Or<5, F, Or<6, G, Or<7, H, NoOther<Of>>>>>>>>,
+    > {
+    ghost counted = { (refl, (refl, (refl, (refl, (refl, (refl, (refl, (refl, tt)))))))) };
+}

@@ -1,0 +1,38 @@
+//! The shapes of lists, arrays, texts and boxes.
+use crate::described::Described;
+use bincode_shape::shape::Shape;
+use bincode_wire::wire::Wire;
+use std::alloc::Global;
+
+impl<T: Described> Described for Vec<T> {
+    fn shape(alloc: Global) -> Option<Shape> {
+        let element = Box::new(alloc, T::shape(alloc)?).ok()?;
+        Some(Shape::Seq {
+            claim: T::claim_size(),
+            element,
+        })
+    }
+}
+
+impl<T: Described, const N: usize> Described for [T; N] {
+    fn shape(alloc: Global) -> Option<Shape> {
+        let element = Box::new(alloc, T::shape(alloc)?).ok()?;
+        Some(Shape::Array {
+            len: N,
+            claim: T::claim_size(),
+            element,
+        })
+    }
+}
+
+impl Described for String {
+    fn shape(_alloc: Global) -> Option<Shape> {
+        Some(Shape::Text)
+    }
+}
+
+impl<T: Described> Described for Box<T> {
+    fn shape(alloc: Global) -> Option<Shape> {
+        T::shape(alloc)
+    }
+}

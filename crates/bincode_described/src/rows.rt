@@ -1,0 +1,63 @@
+//! The shapes of tuples, by those of their parts.
+ghost use Rattle.std.specs.Prelude.{◌≡◌, ◌++◌, ◌∷◌, [], IfSome};
+ghost use Rattle.bincode_shape.specs.declared.shape.Shape.{Shape};
+ghost use Rattle.bincode_described.specs.Describing.{Describes, DescribesRow};
+
+use crate::described::Described;
+use bincode_shape::shape::Shape;
+use bincode_wire::rows::{LongRow, Rest, Row};
+use bincode_wire::wire::Wire;
+use std::alloc::Global;
+
+/// Parts in a row, each of which has a shape.
+pub trait DescribedRow: Wire {
+    /// Puts the shapes of the parts behind these. `None` where memory is refused.
+    fn put_shapes(alloc: Global, shapes: Vec<Shape>) -> Option<Vec<Shape>>
+        ensures { IfSome result (λ put. DescribesRow shapes.items put.items Self.its) };
+}
+
+impl DescribedRow for () {
+    fn put_shapes(_alloc: Global, shapes: Vec<Shape>) -> Option<Vec<Shape>> {
+        Some(shapes)
+    }
+}
+
+impl<A: Described, Others: DescribedRow + Rest> DescribedRow for Row<A, Others> {
+    fn put_shapes(alloc: Global, shapes: Vec<Shape>) -> Option<Vec<Shape>> {
+        let shapes = put_shape::<A>(alloc, shapes)?;
+        Others::put_shapes(alloc, shapes)
+    }
+}
+
+impl<
+    A: Described,
+    B: Described,
+    C: Described,
+    D: Described,
+    Others: DescribedRow + Rest,
+> DescribedRow for LongRow<A, B, C, D, Others> {
+    fn put_shapes(alloc: Global, shapes: Vec<Shape>) -> Option<Vec<Shape>> {
+        let shapes = put_shape::<A>(alloc, shapes)?;
+        let shapes = put_shape::<B>(alloc, shapes)?;
+        let shapes = put_shape::<C>(alloc, shapes)?;
+        let shapes = put_shape::<D>(alloc, shapes)?;
+        Others::put_shapes(alloc, shapes)
+    }
+}
+
+/// The shape of a tuple that is written as this row.
+pub fn tuple_shape<R: DescribedRow>(alloc: Global) -> Option<Shape>
+    ensures { IfSome result (λ shape. Describes shape R.its) }
+{
+    let parts = R::put_shapes(alloc, Vec::new(alloc))?;
+    Some(Shape::Tuple(parts))
+}
+
+/// Puts the shape of a type behind these. `None` where memory is refused.
+pub(crate) fn put_shape<T: Described>(alloc: Global, shapes: Vec<Shape>) -> Option<Vec<Shape>>
+    ensures { IfSome result (λ put. (part : Shape) × (put.items ≡ shapes.items ++ part ∷ []) × Describes part T.its) }
+{
+    let mut shapes = shapes;
+    shapes.push(T::shape(alloc)?).ok()?;
+    Some(shapes)
+}

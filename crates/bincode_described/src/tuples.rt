@@ -1,0 +1,243 @@
+//! The shapes of tuples.
+use crate::described::Described;
+use crate::rows::tuple_shape;
+use bincode_shape::shape::Shape;
+use bincode_wire::rows::{LongRow, Row};
+use std::alloc::Global;
+
+impl<A: Described> Described for (A,) {
+    fn shape(alloc: Global) -> Option<Shape> {
+        tuple_shape::<Row<A, ()>>(alloc)
+    }
+}
+
+impl<A: Described, B: Described> Described for (A, B) {
+    fn shape(alloc: Global) -> Option<Shape> {
+        tuple_shape::<Row<A, Row<B, ()>>>(alloc)
+    }
+}
+
+impl<A: Described, B: Described, C: Described> Described for (A, B, C) {
+    fn shape(alloc: Global) -> Option<Shape> {
+        tuple_shape::<Row<A, Row<B, Row<C, ()>>>>(alloc)
+    }
+}
+
+impl<A: Described, B: Described, C: Described, D: Described> Described for (A, B, C, D) {
+    fn shape(alloc: Global) -> Option<Shape> {
+        tuple_shape::<LongRow<A, B, C, D, ()>>(alloc)
+    }
+}
+
+impl<A: Described, B: Described, C: Described, D: Described, E: Described> Described
+    for (A, B, C, D, E) {
+    fn shape(alloc: Global) -> Option<Shape> {
+        tuple_shape::<LongRow<A, B, C, D, Row<E, ()>>>(alloc)
+    }
+}
+
+impl<A: Described, B: Described, C: Described, D: Described, E: Described, F: Described> Described
+    for (A, B, C, D, E, F) {
+    fn shape(alloc: Global) -> Option<Shape> {
+        tuple_shape::<LongRow<A, B, C, D, Row<E, Row<F, ()>>>>(alloc)
+    }
+}
+
+impl<
+    A: Described,
+    B: Described,
+    C: Described,
+    D: Described,
+    E: Described,
+    F: Described,
+    G: Described,
+> Described for (A, B, C, D, E, F, G) {
+    fn shape(alloc: Global) -> Option<Shape> {
+        tuple_shape::<LongRow<A, B, C, D, Row<E, Row<F, Row<G, ()>>>>>(alloc)
+    }
+}
+
+impl<
+    A: Described,
+    B: Described,
+    C: Described,
+    D: Described,
+    E: Described,
+    F: Described,
+    G: Described,
+    H: Described,
+> Described for (A, B, C, D, E, F, G, H) {
+    fn shape(alloc: Global) -> Option<Shape> {
+        tuple_shape::<LongRow<A, B, C, D, LongRow<E, F, G, H, ()>>>(alloc)
+    }
+}
+
+impl<
+    A: Described,
+    B: Described,
+    C: Described,
+    D: Described,
+    E: Described,
+    F: Described,
+    G: Described,
+    H: Described,
+    I: Described,
+> Described for (A, B, C, D, E, F, G, H, I) {
+    fn shape(alloc: Global) -> Option<Shape> {
+        tuple_shape::<LongRow<A, B, C, D, LongRow<E, F, G, H, Row<I, ()>>>>(alloc)
+    }
+}
+
+impl<
+    A: Described,
+    B: Described,
+    C: Described,
+    D: Described,
+    E: Described,
+    F: Described,
+    G: Described,
+    H: Described,
+    I: Described,
+    J: Described,
+> Described for (A, B, C, D, E, F, G, H, I, J) {
+    fn shape(alloc: Global) -> Option<Shape> {
+        tuple_shape::<LongRow<A, B, C, D, LongRow<E, F, G, H, Row<I, Row<J, ()>>>>>(alloc)
+    }
+}
+
+impl<
+    A: Described,
+    B: Described,
+    C: Described,
+    D: Described,
+    E: Described,
+    F: Described,
+    G: Described,
+    H: Described,
+    I: Described,
+    J: Described,
+    K: Described,
+> Described for (A, B, C, D, E, F, G, H, I, J, K) {
+    fn shape(alloc: Global) -> Option<Shape> {
+        tuple_shape::<LongRow<A, B, C, D, LongRow<E, F, G, H, Row<I, Row<J, Row<K, ()>>>>>>(alloc)
+    }
+}
+
+impl<
+    A: Described,
+    B: Described,
+    C: Described,
+    D: Described,
+    E: Described,
+    F: Described,
+    G: Described,
+    H: Described,
+    I: Described,
+    J: Described,
+    K: Described,
+    L: Described,
+> Described for (A, B, C, D, E, F, G, H, I, J, K, L) {
+    fn shape(alloc: Global) -> Option<Shape> {
+        tuple_shape::<LongRow<A, B, C, D, LongRow<E, F, G, H, LongRow<I, J, K, L, ()>>>>(alloc)
+    }
+}
+
+impl<
+    A: Described,
+    B: Described,
+    C: Described,
+    D: Described,
+    E: Described,
+    F: Described,
+    G: Described,
+    H: Described,
+    I: Described,
+    J: Described,
+    K: Described,
+    L: Described,
+    M: Described,
+> Described for (A, B, C, D, E, F, G, H, I, J, K, L, M) {
+    fn shape(alloc: Global) -> Option<Shape> {
+        tuple_shape::<LongRow<A, B, C, D, LongRow<E, F, G, H, LongRow<I, J, K, L, Row<M, ()>>>>>(
+            alloc,
+        )
+    }
+}
+
+impl<
+    A: Described,
+    B: Described,
+    C: Described,
+    D: Described,
+    E: Described,
+    F: Described,
+    G: Described,
+    H: Described,
+    I: Described,
+    J: Described,
+    K: Described,
+    L: Described,
+    M: Described,
+    N: Described,
+> Described for (A, B, C, D, E, F, G, H, I, J, K, L, M, N) {
+    fn shape(alloc: Global) -> Option<Shape> {
+        tuple_shape::<
+            LongRow<A, B, C, D, LongRow<E, F, G, H, LongRow<I, J, K, L, Row<M, Row<N, ()>>>>>,
+        >(alloc)
+    }
+}
+
+impl<
+    A: Described,
+    B: Described,
+    C: Described,
+    D: Described,
+    E: Described,
+    F: Described,
+    G: Described,
+    H: Described,
+    I: Described,
+    J: Described,
+    K: Described,
+    L: Described,
+    M: Described,
+    N: Described,
+    O: Described,
+> Described for (A, B, C, D, E, F, G, H, I, J, K, L, M, N, O) {
+    fn shape(alloc: Global) -> Option<Shape> {
+        tuple_shape::<
+            LongRow<
+                A,
+                B,
+                C,
+                D,
+                LongRow<E, F, G, H, LongRow<I, J, K, L, Row<M, Row<N, Row<O, ()>>>>>,
+            >,
+        >(alloc)
+    }
+}
+
+impl<
+    A: Described,
+    B: Described,
+    C: Described,
+    D: Described,
+    E: Described,
+    F: Described,
+    G: Described,
+    H: Described,
+    I: Described,
+    J: Described,
+    K: Described,
+    L: Described,
+    M: Described,
+    N: Described,
+    O: Described,
+    P: Described,
+> Described for (A, B, C, D, E, F, G, H, I, J, K, L, M, N, O, P) {
+    fn shape(alloc: Global) -> Option<Shape> {
+        tuple_shape::<
+            LongRow<A, B, C, D, LongRow<E, F, G, H, LongRow<I, J, K, L, LongRow<M, N, O, P, ()>>>>,
+        >(alloc)
+    }
+}

@@ -1,0 +1,114 @@
+-- The format of each shape keeps the laws.
+use Rattle.std.specs.Prelude.{ℕ, ◌+◌, List, [], ◌∷◌, refl}
+use Rattle.bincode_base.specs.declared.error.IntegerType.TheVariants as integers
+use Rattle.bincode_base.specs.Setting.{Setting}
+use Rattle.bincode_format.specs.Choices.{AllLawful, AllBalanced}
+use Rattle.bincode_format.specs.Fault.{EmptyEnum}
+use Rattle.bincode_format.specs.Format.{Format}
+use Rattle.bincode_format.specs.Integers.{Two, Four, Eight, Sixteen, unsigned, signed, unsigned_byte, signed_byte}
+use Rattle.bincode_format.specs.Laws.{Lawful, Balanced}
+use Rattle.bincode_format.specs.Meaning.{Meaning}
+use Rattle.bincode_format.specs.Words.{Variant, tuple}
+use Rattle.bincode_laws.specs.Balance.{refused-holds, map-balanced}
+use Rattle.bincode_laws.specs.ChoiceLaws.{chosen-lawful, chosen-balanced}
+use Rattle.bincode_laws.specs.FormatLaws.{refused-lawful, map-lawful}
+use Rattle.bincode_laws.specs.IntegerLaws.{unsigned-lawful, unsigned-balanced, signed-lawful, signed-balanced, unsigned_byte-lawful, unsigned_byte-balanced, signed_byte-lawful, signed_byte-balanced}
+use Rattle.bincode_laws.specs.ListLaws.{list-lawful, list-balanced}
+use Rattle.bincode_laws.specs.WordsLaws.{truth-lawful, truth-balanced, array-lawful, array-balanced}
+use Rattle.bincode_shape.specs.declared.shape.Shape as shapes
+use Rattle.bincode_shape.specs.declared.shape.Shape.{Shape, Row_of-Shape, end_of-Shape, more_of-Shape}
+use Rattle.bincode_shape.specs.Shapes.{share, byte_tag, one_of, at, numbered, format_of, formats_of}
+use Rattle.bincode_laws.specs.CharLaws.{character-lawful, character-balanced}
+use Rattle.bincode_laws.specs.TextLaws.{text-lawful, text-balanced}
+use Rattle.bincode_laws.specs.TupleLaws.{nothing-lawful, nothing-balanced, then-lawful, then-balanced}
+
+-- each of the formats keeps the laws, and is balanced
+abbrev EachLawful : Setting → List (Setting → Format Meaning) → Type 0
+EachLawful s [] = Unit {0}
+EachLawful s (F ∷ others) = Lawful (F s) × EachLawful s others
+
+abbrev EachBalanced : Setting → List (Setting → Format Meaning) → Type 0
+EachBalanced s [] = Unit {0}
+EachBalanced s (F ∷ others) = Balanced (F s) × EachBalanced s others
+
+tuple-lawful : (parts : List (Setting → Format Meaning)) (s : Setting) → EachLawful s parts → Lawful (tuple (at s parts))
+tuple-lawful [] s h = nothing-lawful
+tuple-lawful (F ∷ others) s h = then-lawful h.0 (tuple-lawful others s h.1)
+
+tuple-balanced : (parts : List (Setting → Format Meaning)) (s : Setting) → EachBalanced s parts → Balanced (tuple (at s parts))
+tuple-balanced [] s h = nothing-balanced
+tuple-balanced (F ∷ others) s h = then-balanced h.0 (tuple-balanced others s h.1)
+
+numbered-lawful : (n : ℕ) (parts : List (Setting → Format Meaning)) (s : Setting) → EachLawful s parts → AllLawful s (numbered n parts)
+numbered-lawful n [] s h = tt
+numbered-lawful n (F ∷ others) s h = (h.0, numbered-lawful (n + 1) others s h.1)
+
+numbered-balanced : (n : ℕ) (parts : List (Setting → Format Meaning)) (s : Setting) → EachBalanced s parts → AllBalanced s (numbered n parts)
+numbered-balanced n [] s h = tt
+numbered-balanced n (F ∷ others) s h = (h.0, numbered-balanced (n + 1) others s h.1)
+
+one_of-lawful : (variants : List Variant) (s : Setting) → AllLawful s variants → Lawful (one_of variants s)
+one_of-lawful [] s h = refused-lawful EmptyEnum (λ e. e)
+one_of-lawful (variant ∷ others) s h = chosen-lawful _ (variant ∷ others) s (unsigned-lawful integers.U32 4 s (Four refl)) h
+
+one_of-balanced : (variants : List Variant) (s : Setting) → AllBalanced s variants → Balanced (one_of variants s)
+one_of-balanced [] s h = refused-holds 0 0 EmptyEnum
+one_of-balanced (variant ∷ others) s h = chosen-balanced _ (variant ∷ others) s (unsigned-balanced integers.U32 4 s) h
+
+mutual
+  -- Each input begins with one word of a shape, or has one fault.
+  pub format_of-lawful : (shape : Shape) (s : Setting) → Lawful (format_of shape s)
+  format_of-lawful shapes.Unit s = nothing-lawful
+  format_of-lawful shapes.Bool s = truth-lawful
+  format_of-lawful shapes.Char s = character-lawful
+  format_of-lawful shapes.Text s = text-lawful s
+  format_of-lawful shapes.U8 s = map-lawful _ unsigned_byte unsigned_byte-lawful
+  format_of-lawful shapes.U16 s = map-lawful _ (unsigned integers.U16 2 s) (unsigned-lawful integers.U16 2 s (Two refl))
+  format_of-lawful shapes.U32 s = map-lawful _ (unsigned integers.U32 4 s) (unsigned-lawful integers.U32 4 s (Four refl))
+  format_of-lawful shapes.U64 s = map-lawful _ (unsigned integers.U64 8 s) (unsigned-lawful integers.U64 8 s (Eight refl))
+  format_of-lawful shapes.U128 s = map-lawful _ (unsigned integers.U128 16 s) (unsigned-lawful integers.U128 16 s (Sixteen refl))
+  format_of-lawful shapes.Usize s = map-lawful _ (unsigned integers.Usize 8 s) (unsigned-lawful integers.Usize 8 s (Eight refl))
+  format_of-lawful shapes.I8 s = map-lawful _ signed_byte signed_byte-lawful
+  format_of-lawful shapes.I16 s = map-lawful _ (signed integers.I16 2 s) (signed-lawful integers.I16 2 s (Two refl))
+  format_of-lawful shapes.I32 s = map-lawful _ (signed integers.I32 4 s) (signed-lawful integers.I32 4 s (Four refl))
+  format_of-lawful shapes.I64 s = map-lawful _ (signed integers.I64 8 s) (signed-lawful integers.I64 8 s (Eight refl))
+  format_of-lawful shapes.I128 s = map-lawful _ (signed integers.I128 16 s) (signed-lawful integers.I128 16 s (Sixteen refl))
+  format_of-lawful shapes.Isize s = map-lawful _ (signed integers.Isize 8 s) (signed-lawful integers.Isize 8 s (Eight refl))
+  format_of-lawful (shapes.Seq' claim p element) s = list-lawful s (share claim) (format_of element s) (format_of-lawful element s)
+  format_of-lawful (shapes.Array' len claim p element) s = array-lawful len (share claim) (format_of element s) (format_of-lawful element s)
+  format_of-lawful (shapes.Tuple' v parts) s = tuple-lawful (formats_of parts) s (parts-lawful parts s)
+  format_of-lawful (shapes.Optional' p part) s = chosen-lawful byte_tag _ s unsigned_byte-lawful (nothing-lawful, (format_of-lawful part s, tt))
+  format_of-lawful (shapes.Choice' v parts) s = one_of-lawful (numbered 0 (formats_of parts)) s (numbered-lawful 0 (formats_of parts) s (parts-lawful parts s))
+
+  parts-lawful : {m : _} → (parts : Row_of-Shape m) (s : Setting) → EachLawful s (formats_of parts)
+  parts-lawful end_of-Shape s = tt
+  parts-lawful (more_of-Shape part others) s = (format_of-lawful part s, parts-lawful others s)
+
+mutual
+  -- What the steps of a word reserve they release.
+  pub format_of-balanced : (shape : Shape) (s : Setting) → Balanced (format_of shape s)
+  format_of-balanced shapes.Unit s = nothing-balanced
+  format_of-balanced shapes.Bool s = truth-balanced
+  format_of-balanced shapes.Char s = character-balanced
+  format_of-balanced shapes.Text s = text-balanced s
+  format_of-balanced shapes.U8 s = map-balanced _ unsigned_byte unsigned_byte-balanced
+  format_of-balanced shapes.U16 s = map-balanced _ (unsigned integers.U16 2 s) (unsigned-balanced integers.U16 2 s)
+  format_of-balanced shapes.U32 s = map-balanced _ (unsigned integers.U32 4 s) (unsigned-balanced integers.U32 4 s)
+  format_of-balanced shapes.U64 s = map-balanced _ (unsigned integers.U64 8 s) (unsigned-balanced integers.U64 8 s)
+  format_of-balanced shapes.U128 s = map-balanced _ (unsigned integers.U128 16 s) (unsigned-balanced integers.U128 16 s)
+  format_of-balanced shapes.Usize s = map-balanced _ (unsigned integers.Usize 8 s) (unsigned-balanced integers.Usize 8 s)
+  format_of-balanced shapes.I8 s = map-balanced _ signed_byte signed_byte-balanced
+  format_of-balanced shapes.I16 s = map-balanced _ (signed integers.I16 2 s) (signed-balanced integers.I16 2 s)
+  format_of-balanced shapes.I32 s = map-balanced _ (signed integers.I32 4 s) (signed-balanced integers.I32 4 s)
+  format_of-balanced shapes.I64 s = map-balanced _ (signed integers.I64 8 s) (signed-balanced integers.I64 8 s)
+  format_of-balanced shapes.I128 s = map-balanced _ (signed integers.I128 16 s) (signed-balanced integers.I128 16 s)
+  format_of-balanced shapes.Isize s = map-balanced _ (signed integers.Isize 8 s) (signed-balanced integers.Isize 8 s)
+  format_of-balanced (shapes.Seq' claim p element) s = list-balanced s (share claim) (format_of element s) (format_of-balanced element s)
+  format_of-balanced (shapes.Array' len claim p element) s = array-balanced len (share claim) (format_of element s) (format_of-balanced element s)
+  format_of-balanced (shapes.Tuple' v parts) s = tuple-balanced (formats_of parts) s (parts-balanced parts s)
+  format_of-balanced (shapes.Optional' p part) s = chosen-balanced byte_tag _ s unsigned_byte-balanced (nothing-balanced, (format_of-balanced part s, tt))
+  format_of-balanced (shapes.Choice' v parts) s = one_of-balanced (numbered 0 (formats_of parts)) s (numbered-balanced 0 (formats_of parts) s (parts-balanced parts s))
+
+  parts-balanced : {m : _} → (parts : Row_of-Shape m) (s : Setting) → EachBalanced s (formats_of parts)
+  parts-balanced end_of-Shape s = tt
+  parts-balanced (more_of-Shape part others) s = (format_of-balanced part s, parts-balanced others s)

@@ -1,0 +1,5 @@
+//! Types that are described at run time: their shapes, and the images of their values.
+#![tactic(auto)]
+
+pub mod fits;
+pub mod shape;

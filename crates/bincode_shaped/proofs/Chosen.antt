@@ -1,0 +1,97 @@
+-- A choice is read by its tag and the part that it picks.
+use Rattle.std.specs.Prelude.{◌≡◌, ℕ, ◌+◌, ◌<◌, ◌≤◌, List, [], length, get_or, Box, Option, Ok, Err, refl}
+use Rattle.std.specs.Borrow.{GName}
+use Rattle.std.specs.declared.alloc.Global.{Global}
+use Rattle.std.proofs.Common.{◌∙◌, ap, arith}
+use Rattle.bincode_base.specs.Setting.{Setting}
+use Rattle.bincode_base.specs.declared.error.DecodeError.{DecodeError}
+use Rattle.bincode_base.specs.declared.error.IntegerType.TheVariants as integers
+use Rattle.bincode_format.specs.Decoding.{by_fault}
+use Rattle.bincode_format.specs.Device.{DeviceErrors}
+use Rattle.bincode_format.specs.Fault.{EmptyEnum, UnexpectedVariant, Between, Tells}
+use Rattle.bincode_format.specs.Integers.{Four}
+use Rattle.bincode_format.specs.Meaning.{Choice}
+use Rattle.bincode_format.specs.Values.{Reads}
+use Rattle.bincode_format.specs.Words.{tag, behind_tag, chosen}
+use Rattle.bincode_laws.specs.AnswerLaws.{answer-refused}
+use Rattle.bincode_laws.specs.IntegerLaws.{unsigned-lawful}
+use Rattle.bincode_decoder.proofs.PartAnswers.{first-stops, next-reads}
+use Rattle.bincode_decoder.proofs.ReadAnswers.{read-as, made-of}
+use Rattle.std.specs.declared.vec.Vec.{Vec}
+use Rattle.bincode_shape.specs.declared.shape.Shape as shapes
+use Rattle.bincode_shape.specs.declared.shape.Value as values
+use Rattle.bincode_shape.specs.declared.shape.Shape.{Shape}
+use Rattle.bincode_shape.specs.declared.shape.Value.{Value}
+use Rattle.bincode_shape.specs.Shapes.{format_of, numbered, one_of, IsImage}
+use Rattle.bincode_shape.specs.Rows.{formats, formats_of-vec, tests_of-vec}
+use Rattle.bincode_shape.proofs.Fitting.{picked-at}
+use Rattle.bincode_shaped.specs.Held.{IsChosen}
+use Rattle.bincode_shaped.proofs.Picked.{one_of-some, no-parts, picked, unpicked}
+use Rattle.bincode_shaped.proofs.Renamed.{map-reads, map-reads_none}
+
+module _ {D : Type 0} {told : D → Type 0} {rest : D → List ℕ} {charge failures : D → ℕ} {place : D → List GName} {limit : Option ℕ}
+    {ended : ℕ → DecodeError → Type 0} {device : DeviceErrors} (s : Setting) (ps : List Shape) where
+  pub none-stops : {e : DecodeError} {old : D} → length ps ≡ 0 → Tells ended EmptyEnum e →
+      Reads told rest charge failures place limit ended device (Unit {0}) (one_of (numbered 0 (formats ps)) s) (IsChosen ps) (charge old) (Err e) old old
+  none-stops none tells = rw (no-parts ps none) (record {
+    ok = λ known. tt;
+    err = λ known. by_fault EmptyEnum (answer-refused _ _ _ _) tells ([], refl);
+    counted = omega arith;
+    tells = λ known. known;
+    held = omega arith;
+    within = λ _. tt;
+    same_place = refl;
+  })
+
+  module _ {start : ℕ} (some : 0 < length ps) where
+    pub tag-stops : {e : DecodeError} {old new : D} →
+        Reads told rest charge failures place limit ended device ⊥ (tag s) (λ (n v : ℕ). n ≡ v) start (Err e) old new →
+        Reads told rest charge failures place limit ended device (Unit {0}) (one_of (numbered 0 (formats ps)) s) (IsChosen ps) start (Err e) old new
+    unfolding chosen
+    tag-stops read = rw (one_of-some ps s some) (first-stops (tag s) (behind_tag (numbered 0 (formats ps)) s) (λ none. absurd none) read)
+
+    pub held-reads : {found : ℕ} {p : Shape} {held : Box Value Global} {old middle new : D} → found < length ps → p ≡ get_or ps found p →
+        Reads told rest charge failures place limit ended device ⊥ (tag s) (λ n v. n ≡ v) start (Ok found) old middle →
+        Reads told rest charge failures place limit ended device (Unit {0}) (format_of p s) (λ m (v : Box Value Global). IsImage p m v.value) (charge middle) (Ok held) middle new →
+        Reads told rest charge failures place limit ended device (Unit {0}) (one_of (numbered 0 (formats ps)) s) (IsChosen ps) start (Ok (found, held)) old new
+    unfolding chosen
+    held-reads {found = found} {p = p} {held = held} h e first read =
+        rw (one_of-some ps s some) (next-reads (tag s) (behind_tag (numbered 0 (formats ps)) s) (unsigned-lawful integers.U32 4 s (Four refl)) first
+        (rw (picked s ps found p h e) (map-reads (Choice found) (λ m k. (picked-at ps found p held.value h e ∙ k.0, ap (Choice found) k.1)) read)))
+
+    pub held-stops : {found : ℕ} {p : Shape} {e : DecodeError} {old middle new : D} → found < length ps → p ≡ get_or ps found p →
+        Reads told rest charge failures place limit ended device ⊥ (tag s) (λ n v. n ≡ v) start (Ok found) old middle →
+        Reads told rest charge failures place limit ended device (Unit {0}) (format_of p s) (λ m (v : Box Value Global). IsImage p m v.value) (charge middle) (Err e) middle new →
+        Reads told rest charge failures place limit ended device (Unit {0}) (one_of (numbered 0 (formats ps)) s) (IsChosen ps) start (Err e) old new
+    unfolding chosen
+    held-stops {found = found} {p = p} h e first read =
+        rw (one_of-some ps s some) (next-reads (tag s) (behind_tag (numbered 0 (formats ps)) s) (unsigned-lawful integers.U32 4 s (Four refl)) first
+        (rw (picked s ps found p h e) (map-reads_none (Choice found) read)))
+
+    pub unpicked-stops : {found last : ℕ} {e : DecodeError} {old new : D} → length ps ≡ last + 1 → length ps ≤ found → Tells ended (UnexpectedVariant (Between 0 last) found) e →
+        Reads told rest charge failures place limit ended device ⊥ (tag s) (λ n v. n ≡ v) start (Ok found) old new →
+        Reads told rest charge failures place limit ended device (Unit {0}) (one_of (numbered 0 (formats ps)) s) (IsChosen ps) start (Err e) old new
+    unfolding chosen
+    unpicked-stops {found = found} {last = last} n h tells first =
+        rw (one_of-some ps s some) (next-reads (tag s) (behind_tag (numbered 0 (formats ps)) s) (unsigned-lawful integers.U32 4 s (Four refl)) first
+        (rw (unpicked s ps found last n h) (record {
+          ok = λ known. tt;
+          err = λ known. by_fault (UnexpectedVariant (Between 0 last) found) (answer-refused _ _ _ _) tells ([], refl);
+          counted = omega arith;
+          tells = λ known. known;
+          held = omega arith;
+          within = λ _. tt;
+          same_place = refl;
+        })))
+
+module _ {D : Type 0} {told : D → Type 0} {rest : D → List ℕ} {charge failures : D → ℕ} {place : D → List GName} {limit : Option ℕ}
+    {ended : ℕ → DecodeError → Type 0} {device : DeviceErrors} {start : ℕ} {old new : D} {grows : Type 0} (s : Setting) (parts : Vec Shape Global) where
+  pub choice-reads : (n : ℕ) (held : Box Value Global) →
+      Reads told rest charge failures place limit ended device grows (one_of (numbered 0 (formats parts.items)) s) (IsChosen parts.items) start (Ok (n, held)) old new →
+      Reads told rest charge failures place limit ended device grows (format_of (shapes.Choice parts) s) (IsImage (shapes.Choice parts)) start (Ok (values.Choice n held)) old new
+  choice-reads n held read = rw (formats_of-vec parts) (read-as (λ known. made-of (λ m h. rw (tests_of-vec parts) h) (read.ok known)) (λ known. tt) read.within read)
+
+  pub choice-stops : {e : DecodeError} →
+      Reads told rest charge failures place limit ended device grows (one_of (numbered 0 (formats parts.items)) s) (IsChosen parts.items) start (Err e) old new →
+      Reads told rest charge failures place limit ended device grows (format_of (shapes.Choice parts) s) (IsImage (shapes.Choice parts)) start (Err e) old new
+  choice-stops read = rw (formats_of-vec parts) (read-as (λ known. tt) read.err (λ _. tt) read)

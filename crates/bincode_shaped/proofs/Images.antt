@@ -1,0 +1,102 @@
+-- What was read of a shape, by what was read of its parts.
+use Rattle.bincode_format.specs.Number.{FitsIn}
+use Rattle.bincode_laws.specs.DecodingLaws.{stops-besides}
+use Rattle.std.specs.Prelude.{◌≡◌, ℕ, ◌*◌, ◌^◌, ℤ, pos, negsuc, true, List, [], ◌∷◌, map, length, Option, Ok, Err, Box, refl}
+use Rattle.std.specs.List.{list_all}
+use Rattle.std.specs.Borrow.{GName}
+use Rattle.std.specs.declared.alloc.Global.{Global}
+use Rattle.std.specs.declared.vec.Vec.{Vec}
+use Rattle.std.proofs.Common.{◌∙◌, arith}
+use Rattle.std.proofs.lemmas.Bool.{eq-eqb, lt-ltb}
+use Rattle.bincode_base.specs.Setting.{Setting}
+use Rattle.bincode_base.specs.declared.error.DecodeError.{DecodeError}
+use Rattle.bincode_format.specs.Device.{DeviceErrors}
+use Rattle.bincode_format.specs.Format.{Format}
+use Rattle.bincode_format.specs.Meaning.{Meaning, Nothing, listed}
+use Rattle.bincode_format.specs.Run.{IsListOf}
+use Rattle.bincode_format.specs.Values.{Reads}
+use Rattle.bincode_laws.specs.AnswerLaws.{answer-done}
+use Rattle.bincode_format.specs.Words.{nothing, array, list, tuple}
+use Rattle.bincode_decoder.proofs.ReadAnswers.{read-as, made-of}
+use Rattle.bincode_shape.specs.declared.shape.Shape as shapes
+use Rattle.bincode_shape.specs.declared.shape.Shape.{Shape}
+use Rattle.bincode_shape.specs.declared.shape.Value as values
+use Rattle.bincode_shape.specs.declared.shape.Value.{Value, items_hidden-the_row-Value-0}
+use Rattle.bincode_shape.specs.Shapes.{format_of, fits, has_sign_bit, share, at, meaning, IsImage}
+use Rattle.bincode_shape.specs.Rows.{formats, AreImages, formats_of-vec, tests_of-vec, meanings_of-vec}
+
+-- the images of elements, one by one
+pub images-of : (element : Shape) (vs : List Value) (m : Meaning) → IsListOf (λ x n. IsImage element n x) vs m → (list_all (fits element) vs ≡ true) × (m ≡ listed (map meaning vs))
+images-of element [] m h = (refl, h)
+images-of element (v ∷ vs) m h =
+    let rest = images-of element vs h.others h.are_others in
+    (rw (h.is_first.0, rest.0) refl, h.meaning_is ∙ rw (h.is_first.1, rest.1) refl)
+
+module _ {D : Type 0} {told : D → Type 0} {rest : D → List ℕ} {charge failures : D → ℕ} {place : D → List GName} {limit : Option ℕ}
+    {ended : ℕ → DecodeError → Type 0} {device : DeviceErrors} {start : ℕ} {old new : D} where
+  -- a fault of the parts is one of the whole
+  pub stops-alike : {A T U : Type 0} {H : Type 0} {F : Format A} {given : A → T → Type 0} {whole : A → U → Type 0} {e : DecodeError} →
+      Reads told rest charge failures place limit ended device H F given start (Err e) old new → Reads told rest charge failures place limit ended device H F whole start (Err e) old new
+  stops-alike read = read-as (λ known. tt) read.err (λ _. tt) read
+
+  -- a list
+  pub seq-reads : (s : Setting) (claim : ℕ) (b : Box Shape Global) (items : Vec Value Global) {grows : Type 0} →
+      Reads told rest charge failures place limit ended device grows (list s (share claim) (format_of b.value s)) (λ m (v : Vec Value Global). IsListOf (λ x n. IsImage b.value n x) v.items m) start (Ok items) old new →
+      Reads told rest charge failures place limit ended device grows (format_of (shapes.Seq claim b) s) (IsImage (shapes.Seq claim b)) start (Ok (values.List items)) old new
+  seq-reads s claim b items read =
+      read-as (λ known. made-of (λ m h. let p = images-of b.value items.items m h in rw (items_hidden-the_row-Value-0 items, meanings_of-vec items) p) (read.ok known)) (λ known. tt) read.within read
+
+  -- an array
+  pub array-reads : (s : Setting) (len claim : ℕ) (b : Box Shape Global) (items : Vec Value Global) {grows : Type 0} → length items.items ≡ len →
+      Reads told rest charge failures place limit ended device grows (array len (share claim) (format_of b.value s)) (λ m (v : Vec Value Global). IsListOf (λ x n. IsImage b.value n x) v.items m) start (Ok items) old new →
+      Reads told rest charge failures place limit ended device grows (format_of (shapes.Array len claim b) s) (IsImage (shapes.Array len claim b)) start (Ok (values.List items)) old new
+  array-reads s len claim b items many read =
+      read-as
+      (λ known. made-of (λ m h.
+      let p = images-of b.value items.items m h in
+      rw (items_hidden-the_row-Value-0 items, meanings_of-vec items, eq-eqb (length items.items) len many) p) (read.ok known)) (λ known. tt) read.within read
+
+  -- a tuple
+  pub tuple-reads : (s : Setting) (parts : Vec Shape Global) (items : Vec Value Global) {grows : Type 0} →
+      Reads told rest charge failures place limit ended device grows (tuple (at s (formats parts.items))) (λ m (v : Vec Value Global). AreImages parts.items m v.items) start (Ok items) old new →
+      Reads told rest charge failures place limit ended device grows (format_of (shapes.Tuple parts) s) (IsImage (shapes.Tuple parts)) start (Ok (values.List items)) old new
+  tuple-reads s parts items read =
+      rw (formats_of-vec parts)
+      (read-as (λ known. made-of (λ m h. rw (tests_of-vec parts, items_hidden-the_row-Value-0 items, meanings_of-vec items) h) (read.ok known)) (λ known. tt) read.within read)
+
+  pub tuple-stops : (s : Setting) (parts : Vec Shape Global) {T : Type 0} {grows : Type 0} {given : Meaning → T → Type 0} {e : DecodeError} →
+      Reads told rest charge failures place limit ended device grows (tuple (at s (formats parts.items))) given start (Err e) old new →
+      Reads told rest charge failures place limit ended device grows (format_of (shapes.Tuple parts) s) (IsImage (shapes.Tuple parts)) start (Err e) old new
+  tuple-stops s parts read = rw (formats_of-vec parts) (stops-alike read)
+
+-- what was read of a scalar is its image
+module _ {D A T U : Type 0} {told : D → Type 0} {rest : D → List ℕ} {charge failures : D → ℕ} {place : D → List GName} {limit : Option ℕ}
+    {ended : ℕ → DecodeError → Type 0} {device : DeviceErrors} {start : ℕ} {old new : D} {G H : Type 0} {F : Format A} {given : A → T → Type 0} {whole : A → U → Type 0} where
+  pub image-reads : {v : T} {w : U} → ((m : A) → given m v → whole m w) →
+      Reads told rest charge failures place limit ended device G F given start (Ok v) old new → Reads told rest charge failures place limit ended device H F whole start (Ok w) old new
+  image-reads f read = read-as (λ known. made-of f (read.ok known)) (λ known. tt) read.within read
+
+  pub image-stops : {e : DecodeError} → (G → H) →
+      Reads told rest charge failures place limit ended device G F given start (Err e) old new → Reads told rest charge failures place limit ended device H F whole start (Err e) old new
+  image-stops {e = e} widen read = read-as (λ known. tt) (λ known. stops-besides ended device G H widen _ _ _ _ _ e (read.err known)) (λ _. tt) read
+
+-- a signed number that fits its bytes
+pub sign-fits : (width : ℕ) (z : ℤ) → FitsIn width z → has_sign_bit width z ≡ true
+sign-fits width (pos n) h = lt-ltb (2 * n) (256 ^ width) h
+sign-fits width (negsuc n) h = lt-ltb (2 * n) (256 ^ width) h
+
+-- the one value of no parts
+pub unit-reads :
+    {D : Type 0} {told : D → Type 0} {rest : D → List ℕ} {charge failures : D → ℕ} {place : D → List GName} {limit : Option ℕ}
+    {ended : ℕ → DecodeError → Type 0} {device : DeviceErrors} {grows : Type 0} (s : Setting) (old : D) →
+    Reads told rest charge failures place limit ended device grows (format_of shapes.Unit s) (IsImage shapes.Unit) (charge old) (Ok values.Unit) old old
+unfolding nothing
+unit-reads {rest = rest} {charge = charge} {limit = limit} s old = record {
+  ok = λ known. record { meaning = Nothing; answer_is = answer-done limit Nothing (rest old) (charge old); is_given = (refl, refl) };
+  err = λ known. tt;
+  counted = omega arith;
+  tells = λ known. known;
+  held = omega arith;
+  within = λ a. a;
+  same_place = refl;
+}

@@ -1,0 +1,91 @@
+-- An option is read by its byte and its part.
+use Rattle.std.specs.Prelude.{◌≡◌, ℕ, List, [], Box, Option, Some, None, Ok, Err, refl}
+use Rattle.std.specs.Borrow.{GName}
+use Rattle.std.specs.declared.alloc.Global.{Global}
+use Rattle.std.proofs.Common.{ap, arith}
+use Rattle.std.proofs.lemmas.Bool.{ne_eqb}
+use Rattle.bincode_base.specs.Setting.{Setting}
+use Rattle.bincode_base.specs.declared.error.DecodeError.{DecodeError}
+use Rattle.bincode_base.specs.declared.error.DecodeError.TheVariants.{Memory}
+use Rattle.bincode_format.specs.Answer.{answer, Gave}
+use Rattle.bincode_format.specs.Decoding.{by_fault, by_memory}
+use Rattle.bincode_format.specs.Device.{DeviceErrors}
+use Rattle.bincode_format.specs.Fault.{UnexpectedVariant, Between, Tells}
+use Rattle.bincode_format.specs.Integers.{unsigned_byte}
+use Rattle.bincode_format.specs.Meaning.{Meaning, Nothing, Choice}
+use Rattle.bincode_format.specs.Values.{Reads}
+use Rattle.bincode_format.specs.Words.{nothing, behind_tag, chosen}
+use Rattle.bincode_laws.specs.AnswerLaws.{answer-done, answer-refused}
+use Rattle.bincode_laws.specs.DecodingLaws.{map-gave, gave-takes}
+use Rattle.bincode_laws.specs.IntegerLaws.{unsigned_byte-lawful}
+use Rattle.bincode_decoder.proofs.PartAnswers.{first-stops, next-reads}
+use Rattle.bincode_decoder.proofs.ReadAnswers.{read-as}
+use Rattle.bincode_shape.specs.declared.shape.Shape.{Shape}
+use Rattle.bincode_shape.specs.declared.shape.Value.{Value}
+use Rattle.bincode_shape.specs.Shapes.{format_of, byte_tag, optional, IsImage}
+use Rattle.bincode_shape.specs.ShapeLaws.{format_of-lawful}
+use Rattle.bincode_shaped.specs.Held.{IsOptional}
+use Rattle.bincode_shaped.proofs.Renamed.{map-reads, map-reads_none}
+
+nothing-gave : {A : Type 0} (f : Meaning → A) (limit : Option ℕ) (input : List ℕ) (c : ℕ) → answer limit nothing input c ≡ Gave Nothing input c
+unfolding nothing
+nothing-gave f limit input c = answer-done limit Nothing input c
+
+module _ {D : Type 0} {told : D → Type 0} {rest : D → List ℕ} {charge failures : D → ℕ} {place : D → List GName} {limit : Option ℕ}
+    {ended : ℕ → DecodeError → Type 0} {device : DeviceErrors} {start : ℕ} (s : Setting) (part : Shape) where
+  pub byte-stops : {e : DecodeError} {old new : D} →
+      Reads told rest charge failures place limit ended device ⊥ unsigned_byte (λ (n v : ℕ). n ≡ v) start (Err e) old new →
+      Reads told rest charge failures place limit ended device (Unit {0}) (chosen byte_tag (optional (format_of part)) s) (IsOptional part) start (Err e) old new
+  unfolding chosen
+  byte-stops read = first-stops (byte_tag s) (behind_tag (optional (format_of part)) s) (λ none. absurd none) read
+
+  pub none-reads : {b : ℕ} {old new : D} → b ≡ 0 →
+      Reads told rest charge failures place limit ended device ⊥ unsigned_byte (λ n v. n ≡ v) start (Ok b) old new →
+      Reads told rest charge failures place limit ended device (Unit {0}) (chosen byte_tag (optional (format_of part)) s) (IsOptional part) start (Ok None) old new
+  unfolding chosen
+  none-reads zero read = next-reads (byte_tag s) (behind_tag (optional (format_of part)) s) unsigned_byte-lawful read (rw zero (record {
+    ok = λ known. record { meaning = Choice 0 Nothing; answer_is = map-gave (Choice 0) limit nothing _ _ Nothing _ _ (nothing-gave (Choice 0) limit _ _); is_given = refl };
+    err = λ known. tt;
+    counted = omega arith;
+    tells = λ known. known;
+    held = omega arith;
+    within = λ a. a;
+    same_place = refl;
+  }))
+
+  pub some-reads : {b : ℕ} {held : Box Value Global} {old middle new : D} → b ≡ 1 →
+      Reads told rest charge failures place limit ended device ⊥ unsigned_byte (λ n v. n ≡ v) start (Ok b) old middle →
+      Reads told rest charge failures place limit ended device (Unit {0}) (format_of part s) (λ m (v : Box Value Global). IsImage part m v.value) (charge middle) (Ok held) middle new →
+      Reads told rest charge failures place limit ended device (Unit {0}) (chosen byte_tag (optional (format_of part)) s) (IsOptional part) start (Ok (Some held)) old new
+  unfolding chosen
+  some-reads one first read = next-reads (byte_tag s) (behind_tag (optional (format_of part)) s) unsigned_byte-lawful first
+      (rw one (map-reads (Choice 1) (λ m h. (h.0, ap (Choice 1) h.1)) read))
+
+  pub some-stops : {b : ℕ} {e : DecodeError} {old middle new : D} → b ≡ 1 →
+      Reads told rest charge failures place limit ended device ⊥ unsigned_byte (λ n v. n ≡ v) start (Ok b) old middle →
+      Reads told rest charge failures place limit ended device (Unit {0}) (format_of part s) (λ m (v : Box Value Global). IsImage part m v.value) (charge middle) (Err e) middle new →
+      Reads told rest charge failures place limit ended device (Unit {0}) (chosen byte_tag (optional (format_of part)) s) (IsOptional part) start (Err e) old new
+  unfolding chosen
+  some-stops one first read = next-reads (byte_tag s) (behind_tag (optional (format_of part)) s) unsigned_byte-lawful first (rw one (map-reads_none (Choice 1) read))
+
+  pub tag-stops : {b : ℕ} {e : DecodeError} {old new : D} → (b ≡ 0 → ⊥) → (b ≡ 1 → ⊥) → Tells ended (UnexpectedVariant (Between 0 1) b) e →
+      Reads told rest charge failures place limit ended device ⊥ unsigned_byte (λ n v. n ≡ v) start (Ok b) old new →
+      Reads told rest charge failures place limit ended device (Unit {0}) (chosen byte_tag (optional (format_of part)) s) (IsOptional part) start (Err e) old new
+  unfolding chosen
+  tag-stops {b = b} zero one tells first = next-reads (byte_tag s) (behind_tag (optional (format_of part)) s) unsigned_byte-lawful first
+      (rw (ne_eqb b 0 zero, ne_eqb b 1 one) (record {
+        ok = λ known. tt;
+        err = λ known. by_fault (UnexpectedVariant (Between 0 1) b) (answer-refused _ _ _ _) tells ([], refl);
+        counted = omega arith;
+        tells = λ known. known;
+        held = omega arith;
+        within = λ _. tt;
+        same_place = refl;
+      }))
+
+  -- the part is on the heap, or memory was refused for it
+  pub memory-stops : {T : Type 0} {given : Meaning → T → Type 0} {v : Value} {old new : D} →
+      Reads told rest charge failures place limit ended device (Unit {0}) (format_of part s) (IsImage part) start (Ok v) old new →
+      Reads told rest charge failures place limit ended device (Unit {0}) (format_of part s) given start (Err Memory) old new
+  memory-stops read = read-as (λ known. tt)
+      (λ known. let d = read.ok known in by_memory tt refl (gave-takes limit (format_of part s) (format_of-lawful part s) _ _ d.meaning _ _ d.answer_is)) (λ _. tt) read

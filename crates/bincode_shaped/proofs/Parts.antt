@@ -1,0 +1,192 @@
+-- How the parts of a tuple are read, one by one.
+use Rattle.std.proofs.lemmas.List.{drop_more}
+use Rattle.std.specs.Prelude.{◌≡◌, ℕ, zero, suc, ◌+◌, ◌<◌, ◌≤◌, length, get_or, drop, ◌&&◌, List, [], ◌∷◌, ◌++◌, map, Option, Ok, Err, refl}
+use Rattle.std.specs.Borrow.{GName}
+use Rattle.std.specs.declared.alloc.Global.{Global}
+use Rattle.std.specs.declared.vec.Vec.{Vec}
+use Rattle.std.proofs.Common.{sym, ◌∙◌, ap, arith, append_assoc, append-nil}
+use Rattle.bincode_base.specs.Setting.{Setting}
+use Rattle.bincode_base.specs.declared.error.DecodeError.{DecodeError}
+use Rattle.bincode_base.specs.declared.error.DecodeError.TheVariants.{Memory}
+use Rattle.bincode_format.specs.Answer.{Answer, Gave, Refused, PassedLimit, Allows, answer, and_then}
+use Rattle.bincode_format.specs.Decoding.{Stops, by_fault, by_limit, by_memory, by_failure, by_device}
+use Rattle.bincode_format.specs.Device.{DeviceErrors, Takes}
+use Rattle.bincode_format.specs.Format.{Format, done, map_format}
+use Rattle.bincode_format.specs.Meaning.{Meaning, Nothing, Then, listed}
+use Rattle.bincode_format.specs.Values.{Reads}
+use Rattle.bincode_format.specs.Words.{nothing, first_and, tuple}
+use Rattle.bincode_laws.specs.AnswerLaws.{answer-then, answer-done}
+use Rattle.bincode_laws.specs.DecodingLaws.{answer-next, stops-first, rose-then, takes-then, gave-takes}
+use Rattle.bincode_shape.specs.declared.shape.Shape.{Shape}
+use Rattle.bincode_shape.specs.declared.shape.Value.{Value}
+use Rattle.bincode_shape.specs.Shapes.{format_of, at, each_passes, meaning, IsImage}
+use Rattle.bincode_shape.specs.ShapeLaws.{format_of-lawful}
+use Rattle.bincode_shape.specs.Rows.{formats, tests, AreImages}
+
+-- these meanings, and then that of the others
+abbrev before : List Meaning → Meaning → Meaning
+before [] m = m
+before (x ∷ ms) m = Then x (before ms m)
+
+before-push : (ms : List Meaning) (x m : Meaning) → before (ms ++ x ∷ []) m ≡ before ms (Then x m)
+before-push [] x m = refl
+before-push (y ∷ ms) x m = ap (Then y) (before-push ms x m)
+
+before-none : (ms : List Meaning) → before ms Nothing ≡ listed ms
+before-none [] = refl
+before-none (y ∷ ms) = ap (Then y) (before-none ms)
+
+abbrev pub behind : List Meaning → Answer Meaning → Answer Meaning
+behind ms a = and_then a (λ m rest charge. Gave (before ms m) rest charge)
+
+behind-none : (a : Answer Meaning) → behind [] a ≡ a
+behind-none (Gave m rest c) = refl
+behind-none (Refused why c) = refl
+behind-none PassedLimit = refl
+
+behind-push : (ms : List Meaning) (x : Meaning) (a : Answer Meaning) → behind ms (and_then a (λ m rest charge. Gave (Then x m) rest charge)) ≡ behind (ms ++ x ∷ []) a
+behind-push ms x (Gave m rest c) = ap (λ z. Gave z rest c) (sym (before-push ms x m))
+behind-push ms x (Refused why c) = refl
+behind-push ms x PassedLimit = refl
+
+last-then : (limit : Option ℕ) (x : Meaning) (a : Answer Meaning) → and_then a (λ m rest c. answer limit (done (Then x m)) rest c) ≡ and_then a (λ m rest c. Gave (Then x m) rest c)
+last-then limit x (Gave m rest c) = answer-done limit (Then x m) rest c
+last-then limit x (Refused why c) = refl
+last-then limit x PassedLimit = refl
+
+-- the first part, and then the others
+part-then : (limit : Option ℕ) (F others : Format Meaning) (input rest : List ℕ) (c d : ℕ) (x : Meaning) → answer limit F input c ≡ Gave x rest d →
+    answer limit (first_and F others) input c ≡ and_then (answer limit others rest d) (λ m r e. Gave (Then x m) r e)
+unfolding first_and
+part-then limit F others input rest c d x h =
+    answer-next limit F (λ m. map_format (Then m) others) input c x rest d h
+    ∙ answer-then limit others (λ m. done (Then x m)) rest d
+    ∙ last-then limit x (answer limit others rest d)
+
+part-stops : (ended : ℕ → DecodeError → Type 0) (device : DeviceErrors) (H : Type 0) (limit : Option ℕ) (F others : Format Meaning) (input : List ℕ) (c before after : ℕ) (rest : List ℕ) {now : ℕ} (e : DecodeError) →
+    Stops ended device H (answer limit F input c) before after input rest now e → Stops ended device H (answer limit (first_and F others) input c) before after input rest now e
+unfolding first_and
+part-stops ended device H limit F others input c before after rest e s = stops-first ended device H H (λ h. h) limit F (λ m. map_format (Then m) others) input c before after rest e s
+
+stops-behind : (ended : ℕ → DecodeError → Type 0) (device : DeviceErrors) (H : Type 0) (ms : List Meaning) (a all : Answer Meaning) (before between after : ℕ) (input rest rest' : List ℕ) {now : ℕ} (e : DecodeError) →
+    behind ms a ≡ all → Takes input rest → before ≤ between → Stops ended device H a between after rest rest' now e → Stops ended device H all before after input rest' now e
+stops-behind ended device H ms a all before between after input rest rest' e same took le (by_fault why h t k) =
+    by_fault why (sym same ∙ ap (behind ms) h) t (takes-then input rest rest' took k)
+stops-behind ended device H ms a all before between after input rest rest' e same took le (by_limit h t k) = by_limit (sym same ∙ ap (behind ms) h) t (takes-then input rest rest' took k)
+stops-behind ended device H ms a all before between after input rest rest' e same took le (by_memory h t k) = by_memory h t (takes-then input rest rest' took k)
+stops-behind ended device H ms a all before between after input rest rest' e same took le (by_failure d r k) = by_failure d (rose-then before between after le r) (takes-then input rest rest' took k)
+stops-behind ended device H ms a all before between after input rest rest' e same took le (by_device h) = by_device h
+
+nothing-gives : (limit : Option ℕ) (input : List ℕ) (c : ℕ) → answer limit nothing input c ≡ Gave Nothing input c
+unfolding nothing
+nothing-gives limit input c = answer-done limit Nothing input c
+
+map-push : (vs : List Value) (v : Value) → map meaning (vs ++ v ∷ []) ≡ map meaning vs ++ meaning v ∷ []
+map-push [] v = refl
+map-push (w ∷ vs) v = ap (λ z. meaning w ∷ z) (map-push vs v)
+
+-- of the parts these are left, and these values were read
+pub record PartsSoFar {D : Type 0} (told : D → Type 0) (rest : D → List ℕ) (charge failures : D → ℕ) (place : D → List GName) (limit : Option ℕ)
+    (s : Setting) (parts left : List Shape) (vs : List Value) (old now : D) : Type 0 where
+  pub known : told old →
+      told now × (behind (map meaning vs) (answer limit (tuple (at s (formats left))) (rest now) (charge now)) ≡ answer limit (tuple (at s (formats parts))) (rest old) (charge old))
+      × Takes (rest old) (rest now) × ((ws : List Value) → each_passes (tests parts) (vs ++ ws) ≡ each_passes (tests left) ws)
+  pub held : charge old ≤ charge now
+  pub within : Allows limit (charge old) → Allows limit (charge now)
+  pub counted : failures old ≤ failures now
+  pub same_place : place now ≡ place old
+
+module _ {D : Type 0} {told : D → Type 0} {rest : D → List ℕ} {charge failures : D → ℕ} {place : D → List GName} {limit : Option ℕ}
+    {s : Setting} {parts : List Shape} {old : D} where
+  pub none-so_far : PartsSoFar told rest charge failures place limit s parts parts [] old old
+  none-so_far = record {
+    known = λ k. (k, behind-none (answer limit (tuple (at s (formats parts))) (rest old) (charge old)), ([], refl), λ ws. refl);
+    held = omega arith;
+    within = λ a. a;
+    counted = omega arith;
+    same_place = refl;
+  }
+
+  module _ {left : List Shape} {vs : List Value} {now : D} (h : PartsSoFar told rest charge failures place limit s parts left vs old now) where
+    pub all-so_far : {ended : ℕ → DecodeError → Type 0} {device : DeviceErrors} {grows : Type 0} {v : Vec Value Global} → left ≡ [] → v.items ≡ vs →
+        Reads told rest charge failures place limit ended device grows (tuple (at s (formats parts))) (λ m v. AreImages parts m v.items) (charge old) (Ok v) old now
+    all-so_far none same = record {
+      ok = λ k.
+          let p = h.known k in
+          record {
+            meaning = listed (map meaning vs);
+            answer_is = sym (rw none at p.1) ∙ ap (behind (map meaning vs)) (nothing-gives limit (rest now) (charge now))
+                ∙ ap (λ z. Gave z (rest now) (charge now)) (before-none (map meaning vs));
+            is_given = rw same (ap (each_passes (tests parts)) (sym (append-nil vs)) ∙ (rw none at p.3 []), refl);
+          };
+      err = λ k. tt;
+      counted = h.counted;
+      tells = λ k. (h.known k).0;
+      held = h.held;
+      within = h.within;
+      same_place = h.same_place;
+    }
+
+    pub refused-so_far : {ended : ℕ → DecodeError → Type 0} {device : DeviceErrors} →
+        Reads told rest charge failures place limit ended device (Unit {0}) (tuple (at s (formats parts))) (λ m (v : Vec Value Global). AreImages parts m v.items) (charge old) (Err Memory) old now
+    refused-so_far = record {
+      ok = λ k. tt;
+      err = λ k. by_memory tt refl (h.known k).2;
+      counted = h.counted;
+      tells = λ k. (h.known k).0;
+      held = h.held;
+      within = λ _. tt;
+      same_place = h.same_place;
+    }
+
+    module _ {part : Shape} {others : List Shape} (next : left ≡ part ∷ others) {ended : ℕ → DecodeError → Type 0} {device : DeviceErrors} {grows : Type 0} {after : D} where
+      pub next-so_far : {v : Value} {ws : List Value} → ws ≡ vs ++ v ∷ [] →
+          Reads told rest charge failures place limit ended device grows (format_of part s) (IsImage part) (charge now) (Ok v) now after →
+          PartsSoFar told rest charge failures place limit s parts others ws old after
+      next-so_far {v = v} same r = record {
+        known = λ k.
+            let p = h.known k in
+            let d = r.ok p.0 in
+            let is = rw next at p.1 in
+            let fit = rw next at p.3 in
+            let gave : answer limit (format_of part s) (rest now) (charge now) ≡ Gave (meaning v) (rest after) (charge after) = d.answer_is ∙ ap (λ z. Gave z (rest after) (charge after)) d.is_given.1 in
+            rw (same, map-push vs v) (
+              r.tells p.0,
+              sym (behind-push (map meaning vs) (meaning v) (answer limit (tuple (at s (formats others))) (rest after) (charge after)))
+                  ∙ ap (behind (map meaning vs)) (sym (part-then limit (format_of part s) (tuple (at s (formats others))) (rest now) (rest after) (charge now) (charge after) (meaning v) gave))
+                  ∙ is,
+              takes-then (rest old) (rest now) (rest after) p.2 (gave-takes limit (format_of part s) (format_of-lawful part s) (rest now) (charge now) (meaning v) (rest after) (charge after) gave),
+              λ us. ap (each_passes (tests parts)) (append_assoc vs (v ∷ []) us) ∙ (fit (v ∷ us) ∙ ap (λ b. b && each_passes (tests others) us) d.is_given.0),
+            );
+        within = λ a. r.within (h.within a);
+        held = let a = h.held in let b = r.held in omega (arith, a, b);
+        counted = let a = h.counted in let b = r.counted in omega (arith, a, b);
+        same_place = r.same_place ∙ h.same_place;
+      }
+
+      pub stops-so_far : {e : DecodeError} →
+          Reads told rest charge failures place limit ended device grows (format_of part s) (IsImage part) (charge now) (Err e) now after →
+          Reads told rest charge failures place limit ended device grows (tuple (at s (formats parts))) (λ m (v : Vec Value Global). AreImages parts m v.items) (charge old) (Err e) old after
+      stops-so_far {e = e} r = record {
+        ok = λ k. tt;
+        err = λ k.
+            let p = h.known k in
+            let is = rw next at p.1 in
+            stops-behind ended device grows (map meaning vs) _ _ (failures old) (failures now) (failures after) (rest old) (rest now) (rest after) e is p.2 h.counted
+            (part-stops ended device grows limit (format_of part s) (tuple (at s (formats others))) (rest now) (charge now) (failures now) (failures after) (rest after) e (r.err p.0));
+        counted = let a = h.counted in let b = r.counted in omega (arith, a, b);
+        tells = λ k. r.tells (h.known k).0;
+        within = λ _. tt;
+        held = let a = h.held in let b = r.held in omega (arith, a, b);
+        same_place = r.same_place ∙ h.same_place;
+      }
+
+-- what is left of the parts, at the next one and at the end
+pub next-part : (ps : List Shape) (i : ℕ) (p : Shape) → i < length ps → p ≡ get_or ps i p → drop i ps ≡ p ∷ drop (i + 1) ps
+next-part ps i p h e = drop_more ps i p h ∙ ap (λ z. z ∷ drop (i + 1) ps) (sym e)
+
+pub no-part : (ps : List Shape) (i : ℕ) → length ps ≤ i → drop i ps ≡ []
+no-part [] zero h = refl
+no-part [] (suc i) h = refl
+no-part (p ∷ ps) zero h = absurd (omega arith)
+no-part (p ∷ ps) (suc i) h = no-part ps i (omega (arith, h))

@@ -1,0 +1,8 @@
+//! Values of a shape, read and written through any decoder and encoder.
+#![tactic(auto)]
+
+mod contents;
+pub mod decode;
+pub mod encode;
+mod numbers;
+mod scalars;

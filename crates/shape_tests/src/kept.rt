@@ -1,0 +1,132 @@
+//! What each shape reads and writes.
+
+use crate::shaped::{read_under, writes};
+use bincode::config::NoLimit;
+use bincode::error::DecodeError;
+use bincode::shape::{Described, Shape, Value};
+use examples::foo::Foo;
+use std::alloc::Global;
+use worked_rows::case::Setting;
+
+/// Whether the value is written as the word, and the word read as the value.
+fn keeps(alloc: Global, shape: &Shape, value: &Value, word: &[u8]) -> bool {
+    let setting = Setting::Standard;
+    let read = read_under(alloc, shape, setting, NoLimit, word);
+    writes(shape, value, setting, word)
+        && matches!(read, Ok((held, taken)) if held == *value && taken == word.len())
+}
+
+/// The same of a type's own shape.
+fn keeps_of<T: Described>(alloc: Global, value: &Value, word: &[u8]) -> bool {
+    match T::shape(alloc) {
+        Some(shape) => keeps(alloc, &shape, value, word),
+        None => false,
+    }
+}
+
+/// A list of these values, of which the first comes last.
+fn list_of(alloc: Global, first: Value, second: Value) -> Option<Value> {
+    let mut items = Vec::new(alloc);
+    items.push(first).ok()?;
+    items.push(second).ok()?;
+    Some(Value::List(items))
+}
+
+/// An option that holds the value.
+fn some_of(alloc: Global, value: Value) -> Option<Value> {
+    Some(Value::Optional(Some(Box::new(alloc, value).ok()?)))
+}
+
+/// The part of this number of a choice.
+fn choice_of(alloc: Global, number: u32, value: Value) -> Option<Value> {
+    Some(Value::Choice(number, Box::new(alloc, value).ok()?))
+}
+
+/// Whether this value is there and kept by the shape of the type.
+fn keeps_some<T: Described>(alloc: Global, value: Option<Value>, word: &[u8]) -> bool {
+    match value {
+        Some(value) => keeps_of::<T>(alloc, &value, word),
+        None => false,
+    }
+}
+
+#[test]
+fn scalars_are_kept(rt: HostRuntime) {
+    let alloc = rt.alloc();
+    assert!(rt; keeps_of::<()>(alloc, &Value::Unit, &[]));
+    assert!(rt; keeps_of::<bool>(alloc, &Value::Bool(true), &[1]));
+    assert!(rt; keeps_of::<bool>(alloc, &Value::Bool(false), &[0]));
+    assert!(rt; keeps_of::<char>(alloc, &Value::Char('é'), &[195, 169]));
+    let text = String::from_str(alloc, "ab").map(Value::Text);
+    assert!(rt; keeps_some::<String>(alloc, text.ok(), &[2, 97, 98]));
+}
+
+#[test]
+fn numbers_are_kept(rt: HostRuntime) {
+    let alloc = rt.alloc();
+    assert!(rt; keeps_of::<u8>(alloc, &Value::Unsigned(200), &[200]));
+    assert!(rt; keeps_of::<u16>(alloc, &Value::Unsigned(300), &[251, 44, 1]));
+    assert!(rt; keeps_of::<u32>(alloc, &Value::Unsigned(70_000), &[252, 112, 17, 1, 0]));
+    assert!(rt; keeps_of::<u64>(alloc, &Value::Unsigned(7), &[7]));
+    let large = [254, 0, 0, 0, 0, 0, 0, 0, 0, 1, 0, 0, 0, 0, 0, 0, 0];
+    assert!(rt; keeps_of::<u128>(alloc, &Value::Unsigned(1 << 64), &large));
+    assert!(rt; keeps_of::<usize>(alloc, &Value::Unsigned(250), &[250]));
+    assert!(rt; keeps_of::<i8>(alloc, &Value::Signed(-1), &[255]));
+    assert!(rt; keeps_of::<i16>(alloc, &Value::Signed(-2), &[3]));
+    assert!(rt; keeps_of::<i32>(alloc, &Value::Signed(1), &[2]));
+    assert!(rt; keeps_of::<i64>(alloc, &Value::Signed(-3), &[5]));
+    assert!(rt; keeps_of::<i128>(alloc, &Value::Signed(5), &[10]));
+    assert!(rt; keeps_of::<isize>(alloc, &Value::Signed(-1), &[1]));
+}
+
+#[test]
+fn wholes_are_kept(rt: HostRuntime) {
+    let alloc = rt.alloc();
+    let numbers = || list_of(alloc, Value::Unsigned(5), Value::Unsigned(256));
+    assert!(rt; keeps_some::<Vec<u16>>(alloc, numbers(), &[2, 5, 251, 0, 1]));
+    assert!(rt; keeps_some::<[u16; 2]>(alloc, numbers(), &[5, 251, 0, 1]));
+    assert!(rt; keeps_some::<(u8, u16)>(alloc, numbers(), &[5, 251, 0, 1]));
+    assert!(rt; keeps_some::<Foo>(alloc, numbers(), &[5, 251, 0, 1]));
+    assert!(rt; keeps_of::<Option<u8>>(alloc, &Value::Optional(None), &[0]));
+    let some = || some_of(alloc, Value::Unsigned(9));
+    assert!(rt; keeps_some::<Option<u8>>(alloc, some(), &[1, 9]));
+    assert!(rt; keeps_some::<Box<Option<u8>>>(alloc, some(), &[1, 9]));
+    let choice = choice_of(alloc, 1, Value::Bool(true));
+    assert!(rt; keeps_some::<Result<u8, bool>>(alloc, choice, &[1, 1]));
+}
+
+/// Values that do not fit: of another kind, out of range, with an item too few, and of a part that is not there.
+#[test]
+fn what_does_not_fit_is_refused(rt: HostRuntime) {
+    let alloc = rt.alloc();
+    assert!(rt; !writes(&Shape::U8, &Value::Unsigned(256), Setting::Standard, &[0]));
+    assert!(rt; !writes(&Shape::U8, &Value::Signed(1), Setting::Standard, &[1]));
+    assert!(rt; !writes(&Shape::I8, &Value::Signed(128), Setting::Standard, &[128]));
+    let numbers = || list_of(alloc, Value::Unsigned(5), Value::Unsigned(6));
+    assert!(rt; !keeps_some::<[u16; 3]>(alloc, numbers(), &[5, 6]));
+    assert!(rt; !keeps_some::<(u8, u8, u8)>(alloc, numbers(), &[5, 6]));
+    let choice = choice_of(alloc, 2, Value::Unsigned(1));
+    assert!(rt; !keeps_some::<Result<u8, u8>>(alloc, choice, &[2, 1]));
+}
+
+/// A list of wholes, each of which takes memory for its shape and for its value.
+type Wholes = Vec<(String, Option<u8>, Result<u8, bool>)>;
+
+/// Where memory is refused, for a shape or for a value, just that is told.
+#[test]
+fn refused_memory_is_told(rt: HostRuntime) {
+    let alloc = rt.alloc();
+    let word = [2, 1, 97, 1, 5, 1, 1, 0, 0, 0, 9];
+    let shape = match Wholes::shape(alloc) {
+        Some(shape) => Some(shape),
+        None => Wholes::shape(alloc),
+    };
+    assert!(rt; shape.is_some());
+    let Some(shape) = shape else {
+        return;
+    };
+    match read_under(alloc, &shape, Setting::Standard, NoLimit, &word) {
+        Ok((_, taken)) => assert_eq!(rt; taken, word.len()),
+        Err(error) => assert!(rt; matches!(error, DecodeError::Memory)),
+    }
+}

@@ -1,0 +1,22 @@
+use Rattle.std.proofs.Common.{◌≡◌}
+use Rattle.bincode_base.specs.declared.error.DecodeError.TheVariants.{Memory}
+use Rattle.bincode_shape.specs.Shapes.{format_of, IsImage}
+use Rattle.record_store.proofs.Listings.{read-on, stopped-at}
+use Rattle.shape_text.proofs.listing.list.Goals as goal
+
+pub loop-offset-preserved : goal.loop-offset-preserved
+loop-offset-preserved g c =
+    let so_far = c.loop-offset.invariant in
+    let shape = c.args.shape.now in
+    let next = read-on (format_of shape g.C.Config.setting) g.C.Config.bound (λ m v. IsImage shape m v) c.args.bytes.now c.loop-offset.offset _ c.in-Ok.size c.in-Ok.value so_far.0 so_far.1 c.in-Ok.ensures.word in
+    (next.0, rw c.in_ok-push-in-Ok.ensures.items next.1)
+
+pub returns-in-Err : goal.returns-in-Err
+returns-in-Err g c =
+    let read = c.in-Err.ensures in
+    let other : ¬ (c.in-Err.why ≡ Memory) = λ e. let h = c.if-is_memory.ensures.1 e in cc in record {
+      end = c.loop-offset.offset;
+      rest = _;
+      values = c.loop-offset.invariant.1;
+      ends = stopped-at (format_of c.args.shape.now g.C.Config.setting) _ _ c.args.bytes.now c.loop-offset.offset c.in-Err.why other c.loop-offset-test.true read.found read.fault read.limit;
+    }

@@ -1,0 +1,28 @@
+use Rattle.std.proofs.Common.{◌≡◌, ◌+◌, ◌*◌}
+use Rattle.shape_text.proofs.text.+shapes.Given as goal
+
+-- the levels that are left, and the place of a function in the order in which they call one another
+
+abbrev pub decreases-any_shape : goal.decreases-any_shape
+decreases-any_shape l = 5 * l.depth + 3
+
+abbrev pub decreases-items : goal.decreases-items
+decreases-items l = 5 * l.depth + 4
+
+abbrev pub decreases-one_shape : goal.decreases-one_shape
+decreases-one_shape l = 5 * l.depth + 1
+
+abbrev pub decreases-optional_shape : goal.decreases-optional_shape
+decreases-optional_shape l = 5 * l.depth + 2
+
+abbrev pub decreases-parts : goal.decreases-parts
+decreases-parts l = 5 * l.depth + 4
+
+abbrev pub invariant-any_shape-loop : goal.invariant-any_shape-loop
+invariant-any_shape-loop l = l.depth ≡ l.fn.depth
+
+abbrev pub invariant-optional_shape-loop : goal.invariant-optional_shape-loop
+invariant-optional_shape-loop l = l.depth ≡ l.fn.depth
+
+abbrev pub invariant-parts-loop : goal.invariant-parts-loop
+invariant-parts-loop l = l.depth ≡ l.fn.depth
