@@ -15,8 +15,10 @@ pub returns-in-Err : goal.returns-in-Err
 returns-in-Err g c =
     let read = c.in-Err.ensures in
     let other : ¬ (c.in-Err.why ≡ Memory) = λ e. let h = c.if-is_memory.ensures.1 e in cc in record {
-      end = c.loop-offset.offset;
-      rest = _;
-      values = c.loop-offset.invariant.1;
-      ends = stopped-at (format_of c.args.shape.now g.C.Config.setting) _ _ c.args.bytes.now c.loop-offset.offset c.in-Err.why other c.loop-offset-test.true read.found read.fault read.limit;
+      words = record {
+        end = c.loop-offset.offset;
+        rest = _;
+        values = c.loop-offset.invariant.1;
+        ends = stopped-at (format_of c.args.shape.now g.C.Config.setting) _ _ c.args.bytes.now c.loop-offset.offset c.in-Err.why other c.loop-offset-test.true read.found read.fault read.limit;
+      };
     }
