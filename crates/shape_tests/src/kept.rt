@@ -1,6 +1,6 @@
 //! What each shape reads and writes.
 
-use crate::shaped::{read_under, writes};
+use crate::shaped::{read_once, read_under, shape_of, writes};
 use bincode::config::NoLimit;
 use bincode::error::DecodeError;
 use bincode::shape::{Described, Shape, Value};
@@ -18,28 +18,52 @@ fn keeps(alloc: Global, shape: &Shape, value: &Value, word: &[u8]) -> bool {
 
 /// The same of a type's own shape.
 fn keeps_of<T: Described>(alloc: Global, value: &Value, word: &[u8]) -> bool {
-    match T::shape(alloc) {
+    match shape_of::<T>(alloc) {
         Some(shape) => keeps(alloc, &shape, value, word),
         None => false,
     }
 }
 
-/// A list of these values, of which the first comes last.
-fn list_of(alloc: Global, first: Value, second: Value) -> Option<Value> {
+/// A list of these numbers.
+fn list_once(alloc: Global, first: u128, second: u128) -> Option<Value> {
     let mut items = Vec::new(alloc);
-    items.push(first).ok()?;
-    items.push(second).ok()?;
+    items.push(Value::Unsigned(first)).ok()?;
+    items.push(Value::Unsigned(second)).ok()?;
     Some(Value::List(items))
 }
 
-/// An option that holds the value.
-fn some_of(alloc: Global, value: Value) -> Option<Value> {
-    Some(Value::Optional(Some(Box::new(alloc, value).ok()?)))
+/// The same. Where memory is refused it is made once more.
+fn list_of(alloc: Global, first: u128, second: u128) -> Option<Value> {
+    match list_once(alloc, first, second) {
+        Some(list) => Some(list),
+        None => list_once(alloc, first, second),
+    }
 }
 
-/// The part of this number of a choice.
-fn choice_of(alloc: Global, number: u32, value: Value) -> Option<Value> {
-    Some(Value::Choice(number, Box::new(alloc, value).ok()?))
+/// A number in a box. Where memory is refused it is made once more.
+fn boxed(alloc: Global, number: u128) -> Option<Box<Value>> {
+    match Box::new(alloc, Value::Unsigned(number)) {
+        Ok(value) => Some(value),
+        Err(_) => Box::new(alloc, Value::Unsigned(number)).ok(),
+    }
+}
+
+/// An option that holds the number.
+fn some_of(alloc: Global, number: u128) -> Option<Value> {
+    Some(Value::Optional(Some(boxed(alloc, number)?)))
+}
+
+/// The part of this number of a choice, which holds a number.
+fn choice_of(alloc: Global, part: u32, number: u128) -> Option<Value> {
+    Some(Value::Choice(part, boxed(alloc, number)?))
+}
+
+/// A text. Where memory is refused it is made once more.
+fn text_of(alloc: Global, text: &str) -> Option<Value> {
+    match String::from_str(alloc, text) {
+        Ok(text) => Some(Value::Text(text)),
+        Err(_) => String::from_str(alloc, text).ok().map(Value::Text),
+    }
 }
 
 /// Whether this value is there and kept by the shape of the type.
@@ -57,8 +81,7 @@ fn scalars_are_kept(rt: HostRuntime) {
     assert!(rt; keeps_of::<bool>(alloc, &Value::Bool(true), &[1]));
     assert!(rt; keeps_of::<bool>(alloc, &Value::Bool(false), &[0]));
     assert!(rt; keeps_of::<char>(alloc, &Value::Char('é'), &[195, 169]));
-    let text = String::from_str(alloc, "ab").map(Value::Text);
-    assert!(rt; keeps_some::<String>(alloc, text.ok(), &[2, 97, 98]));
+    assert!(rt; keeps_some::<String>(alloc, text_of(alloc, "ab"), &[2, 97, 98]));
 }
 
 #[test]
@@ -82,17 +105,17 @@ fn numbers_are_kept(rt: HostRuntime) {
 #[test]
 fn wholes_are_kept(rt: HostRuntime) {
     let alloc = rt.alloc();
-    let numbers = || list_of(alloc, Value::Unsigned(5), Value::Unsigned(256));
+    let numbers = || list_of(alloc, 5, 256);
     assert!(rt; keeps_some::<Vec<u16>>(alloc, numbers(), &[2, 5, 251, 0, 1]));
     assert!(rt; keeps_some::<[u16; 2]>(alloc, numbers(), &[5, 251, 0, 1]));
     assert!(rt; keeps_some::<(u8, u16)>(alloc, numbers(), &[5, 251, 0, 1]));
     assert!(rt; keeps_some::<Foo>(alloc, numbers(), &[5, 251, 0, 1]));
     assert!(rt; keeps_of::<Option<u8>>(alloc, &Value::Optional(None), &[0]));
-    let some = || some_of(alloc, Value::Unsigned(9));
+    let some = || some_of(alloc, 9);
     assert!(rt; keeps_some::<Option<u8>>(alloc, some(), &[1, 9]));
     assert!(rt; keeps_some::<Box<Option<u8>>>(alloc, some(), &[1, 9]));
-    let choice = choice_of(alloc, 1, Value::Bool(true));
-    assert!(rt; keeps_some::<Result<u8, bool>>(alloc, choice, &[1, 1]));
+    let choice = choice_of(alloc, 1, 1);
+    assert!(rt; keeps_some::<Result<bool, u8>>(alloc, choice, &[1, 1]));
 }
 
 /// Values that do not fit: of another kind, out of range, with an item too few, and of a part that is not there.
@@ -102,10 +125,10 @@ fn what_does_not_fit_is_refused(rt: HostRuntime) {
     assert!(rt; !writes(&Shape::U8, &Value::Unsigned(256), Setting::Standard, &[0]));
     assert!(rt; !writes(&Shape::U8, &Value::Signed(1), Setting::Standard, &[1]));
     assert!(rt; !writes(&Shape::I8, &Value::Signed(128), Setting::Standard, &[128]));
-    let numbers = || list_of(alloc, Value::Unsigned(5), Value::Unsigned(6));
+    let numbers = || list_of(alloc, 5, 6);
     assert!(rt; !keeps_some::<[u16; 3]>(alloc, numbers(), &[5, 6]));
     assert!(rt; !keeps_some::<(u8, u8, u8)>(alloc, numbers(), &[5, 6]));
-    let choice = choice_of(alloc, 2, Value::Unsigned(1));
+    let choice = choice_of(alloc, 2, 1);
     assert!(rt; !keeps_some::<Result<u8, u8>>(alloc, choice, &[2, 1]));
 }
 
@@ -117,15 +140,12 @@ type Wholes = Vec<(String, Option<u8>, Result<u8, bool>)>;
 fn refused_memory_is_told(rt: HostRuntime) {
     let alloc = rt.alloc();
     let word = [2, 1, 97, 1, 5, 1, 1, 0, 0, 0, 9];
-    let shape = match Wholes::shape(alloc) {
-        Some(shape) => Some(shape),
-        None => Wholes::shape(alloc),
-    };
+    let shape = shape_of::<Wholes>(alloc);
     assert!(rt; shape.is_some());
     let Some(shape) = shape else {
         return;
     };
-    match read_under(alloc, &shape, Setting::Standard, NoLimit, &word) {
+    match read_once(alloc, &shape, Setting::Standard, NoLimit, &word) {
         Ok((_, taken)) => assert_eq!(rt; taken, word.len()),
         Err(error) => assert!(rt; matches!(error, DecodeError::Memory)),
     }

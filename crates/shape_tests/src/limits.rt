@@ -32,9 +32,12 @@ fn lists<L: InternalLimitConfig + Copy>(
     }
 }
 
-/// A list of nothings, each of which claims so much.
+/// A list of nothings, each of which claims so much. Where memory is refused it is made once more.
 fn nothings(alloc: Global, claim: usize) -> Result<Shape, AllocError> {
-    let element = Box::new(alloc, Shape::Unit)?;
+    let element = match Box::new(alloc, Shape::Unit) {
+        Ok(element) => element,
+        Err(_) => Box::new(alloc, Shape::Unit)?,
+    };
     Ok(Shape::Seq { claim, element })
 }
 
@@ -50,10 +53,14 @@ fn a_claim_of_0_is_one_of_1(rt: HostRuntime) -> Result<(), AllocError> {
 #[test]
 fn a_claim_that_overflows_passes_each_limit(rt: HostRuntime) -> Result<(), AllocError> {
     let alloc = rt.alloc();
+    let element = match Box::new(alloc, Shape::U8) {
+        Ok(element) => element,
+        Err(_) => Box::new(alloc, Shape::U8)?,
+    };
     let shape = Shape::Array {
         len: usize::MAX,
         claim: 2,
-        element: Box::new(alloc, Shape::U8)?,
+        element,
     };
     assert!(rt; passes(alloc, &shape, Limit::<{ usize::MAX }>, &[1, 2]));
     let read = read_under(alloc, &shape, Setting::Standard, NoLimit, &[]);

@@ -1,6 +1,6 @@
 //! The cases of the worked rows whose types are described, by the shapes of the types.
 
-use crate::shaped::{read_under, write_under, writes};
+use crate::shaped::{read_under, shape_of, write_under, writes};
 use bincode::config::{Endianness, InternalLimitConfig, NoLimit};
 use bincode::error::EncodeError;
 use bincode::shape::{Described, Value};
@@ -15,7 +15,7 @@ use worked_rows::sources::Slice;
 
 /// Whether the type's shape reads all of the word, and what it reads is written as the word.
 fn keeps<T: Described>(alloc: Global, setting: Setting, word: &[u8]) -> bool {
-    let Some(shape) = T::shape(alloc) else {
+    let Some(shape) = shape_of::<T>(alloc) else {
         return false;
     };
     match read_under(alloc, &shape, setting, NoLimit, word) {
@@ -43,7 +43,7 @@ fn answers<T: Described, V, L: InternalLimitConfig + Copy>(
     alloc: Global,
     row: &Decoding<V, L>,
 ) -> bool {
-    let Some(shape) = T::shape(alloc) else {
+    let Some(shape) = shape_of::<T>(alloc) else {
         return false;
     };
     let read = read_under(alloc, &shape, row.setting, row.limit, row.input);
@@ -54,21 +54,24 @@ fn answers<T: Described, V, L: InternalLimitConfig + Copy>(
     }
 }
 
-/// Whether a pair is too long for the slice by its shape too, and the slice holds what it should then.
-fn refuses(alloc: Global, row: &Refusal<(u8, u32)>) -> bool {
+/// Whether a pair is too long for the slice by its shape too, and the slice holds what it should then. `None` where
+/// memory is refused.
+fn refuses_once(alloc: Global, row: &Refusal<(u8, u32)>) -> Option<bool> {
     let mut parts = Vec::new(alloc);
-    let first = parts.push(Value::Unsigned(u128::from(row.value.0)));
-    let second = parts.push(Value::Unsigned(u128::from(row.value.1)));
-    let (Ok(()), Ok(()), Some(shape), Ok(mut slice)) = (
-        first,
-        second,
-        <(u8, u32) as Described>::shape(alloc),
-        row.before.to_vec(alloc),
-    ) else {
-        return false;
-    };
+    parts.push(Value::Unsigned(u128::from(row.value.0))).ok()?;
+    parts.push(Value::Unsigned(u128::from(row.value.1))).ok()?;
+    let shape = <(u8, u32) as Described>::shape(alloc)?;
+    let mut slice = row.before.to_vec(alloc).ok()?;
     let written = write_under(&shape, &Value::List(parts), Setting::Standard, &mut slice);
-    matches!(written, Err(EncodeError::UnexpectedEnd)) && slice.as_slice() == row.after
+    Some(matches!(written, Err(EncodeError::UnexpectedEnd)) && slice.as_slice() == row.after)
+}
+
+/// The same. Where memory is refused it is asked once more.
+fn refuses(alloc: Global, row: &Refusal<(u8, u32)>) -> bool {
+    match refuses_once(alloc, row) {
+        Some(is_refused) => is_refused,
+        None => refuses_once(alloc, row) == Some(true),
+    }
 }
 
 /// Whether the case holds by a shape; `None` where its type has none.

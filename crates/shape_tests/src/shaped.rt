@@ -5,12 +5,34 @@ use bincode::config::{
 };
 use bincode::enc::write::SliceWriter;
 use bincode::error::{DecodeError, EncodeError};
-use bincode::shape::{Shape, Value, decode_shaped, encode_shaped};
+use bincode::shape::{Described, Shape, Value, decode_shaped, encode_shaped};
 use std::alloc::Global;
 use worked_rows::case::Setting;
 
-/// Reads a value of a shape under the setting and the limit.
+/// The shape of a type. It is asked once more where memory is refused.
+pub fn shape_of<T: Described>(alloc: Global) -> Option<Shape> {
+    match T::shape(alloc) {
+        Some(shape) => Some(shape),
+        None => T::shape(alloc),
+    }
+}
+
+/// Reads a value of a shape under the setting and the limit. Where memory is refused it is read once more.
 pub fn read_under<L: InternalLimitConfig + Copy>(
+    alloc: Global,
+    shape: &Shape,
+    setting: Setting,
+    limit: L,
+    input: &[u8],
+) -> Result<(Value, usize), DecodeError> {
+    match read_once(alloc, shape, setting, limit, input) {
+        Err(DecodeError::Memory) => read_once(alloc, shape, setting, limit, input),
+        outcome => outcome,
+    }
+}
+
+/// Reads a value of a shape under the setting and the limit.
+pub fn read_once<L: InternalLimitConfig + Copy>(
     alloc: Global,
     shape: &Shape,
     setting: Setting,
