@@ -11,9 +11,10 @@ use worked_rows::case::Setting;
 /// Whether the value is written as the word, and the word read as the value.
 fn keeps(alloc: Global, shape: &Shape, value: &Value, word: &[u8]) -> bool {
     let setting = Setting::Standard;
-    let read = read_under(alloc, shape, setting, NoLimit, word);
-    writes(shape, value, setting, word)
-        && matches!(read, Ok((held, taken)) if held == *value && taken == word.len())
+    let Ok((held, taken)) = read_under(alloc, shape, setting, NoLimit, word) else {
+        return false;
+    };
+    held == *value && taken == word.len() && writes(shape, value, setting, word)
 }
 
 /// The same of a type's own shape.

@@ -6,8 +6,8 @@ use bincode::error::EncodeError;
 use bincode::shape::{Described, Value};
 use std::alloc::Global;
 use worked_rows::case::{
-    Answer, Case, Decoding, Encoding, Input, Kept, Limited, Number, Refusal, Setting, Spelling,
-    Value as Written,
+    Answer, Case, Decoding, Encoding, Fault, Input, Kept, Limited, Number, Refusal, Setting,
+    Spelling, Value as Written,
 };
 use worked_rows::rows::{Row, tables};
 use worked_rows::run::tells;
@@ -38,20 +38,55 @@ fn keeps_number<T: Described>(alloc: Global, row: &Spelling<T>) -> bool {
     keeps::<T>(alloc, setting, row.word)
 }
 
-/// Whether the type's shape answers what the type does: as many bytes, or the fault.
-fn answers<T: Described, V, L: InternalLimitConfig + Copy>(
+/// What a type answers: how many bytes it takes, or a fault.
+#[derive(Clone, Copy)]
+enum Told {
+    Length(usize),
+    Fault(Fault),
+}
+
+/// Whether the type's shape answers so.
+fn answers_so<T: Described, L: InternalLimitConfig + Copy>(
     alloc: Global,
-    row: &Decoding<V, L>,
+    setting: Setting,
+    limit: L,
+    input: &[u8],
+    told: Told,
 ) -> bool {
     let Some(shape) = shape_of::<T>(alloc) else {
         return false;
     };
-    let read = read_under(alloc, &shape, row.setting, row.limit, row.input);
-    match (read, &row.answer) {
-        (Ok((_, taken)), Answer::Value(_, length)) => taken == *length,
-        (Err(error), Answer::Fault(fault)) => tells::<Slice>(&error, *fault),
-        _ => false,
+    match read_under(alloc, &shape, setting, limit, input) {
+        Ok((_value, taken)) => matches!(told, Told::Length(length) if length == taken),
+        Err(error) => match told {
+            Told::Fault(fault) => tells::<Slice>(&error, fault),
+            Told::Length(_) => false,
+        },
     }
+}
+
+/// Whether the type's shape answers what the type does.
+fn answers<T: Described, V, L: InternalLimitConfig + Copy>(
+    alloc: Global,
+    row: &Decoding<V, L>,
+) -> bool {
+    let told = match &row.answer {
+        Answer::Value(_, length) => Told::Length(*length),
+        Answer::Fault(fault) => Told::Fault(*fault),
+    };
+    answers_so::<T, L>(alloc, row.setting, row.limit, row.input, told)
+}
+
+/// The same of lists of lists.
+fn answers_lists<L: InternalLimitConfig + Copy>(
+    alloc: Global,
+    row: &Decoding<&'static [&'static [u8]], L>,
+) -> bool {
+    let told = match row.answer {
+        Answer::Value(_, length) => Told::Length(length),
+        Answer::Fault(fault) => Told::Fault(fault),
+    };
+    answers_so::<Vec<Vec<u8>>, L>(alloc, row.setting, row.limit, row.input, told)
 }
 
 /// Whether a pair is too long for the slice by its shape too, and the slice holds what it should then. `None` where
@@ -146,8 +181,8 @@ fn holds_within(alloc: Global, limited: &Limited) -> bool {
         Limited::PairTo16(row) => answers::<(u64, u64), _, _>(alloc, row),
         Limited::TextTo100000(row) => answers::<String, _, _>(alloc, row),
         Limited::ListTo100000(row) => answers::<Vec<u32>, _, _>(alloc, row),
-        Limited::ListsTo31(row) => answers::<Vec<Vec<u8>>, _, _>(alloc, row),
-        Limited::ListsTo32(row) => answers::<Vec<Vec<u8>>, _, _>(alloc, row),
+        Limited::ListsTo31(row) => answers_lists(alloc, row),
+        Limited::ListsTo32(row) => answers_lists(alloc, row),
         Limited::UnitsTo7(row) => answers::<Vec<()>, _, _>(alloc, row),
         Limited::UnitsTo10(row) => answers::<Vec<()>, _, _>(alloc, row),
         Limited::UnitsTo11(row) => answers::<Vec<()>, _, _>(alloc, row),
