@@ -5,7 +5,7 @@ ghost use Rattle.bincode_format.specs.Decoding.{Decodes, Stops};
 ghost use Rattle.bincode_format.specs.Device.{WriterFails};
 ghost use Rattle.bincode_format.specs.Encoding.{Ready, Writes, Halts, Encodes, FitsRoom};
 ghost use Rattle.bincode_format.specs.Slice.{Decoded, FindsWords, TellsFaults, KeepsLimit};
-ghost use Rattle.bincode_shape.specs.Shapes.{format_of, fits, IsImage};
+ghost use Rattle.bincode_shape.specs.Shapes.{format_of, fits, IsImage, TakesMemory};
 ghost use Rattle.bincode_shape.specs.Rows.{AllowsImage};
 ghost use Rattle.bincode_shape.specs.Unfit.{IsUnfit};
 
@@ -69,7 +69,7 @@ fn encode_fitting<W: Writer, C: Config>(
 
 /// Reads a value of a shape from the front of a slice, and answers how many bytes its word has. The bytes after them
 /// decide nothing. Fails with the first fault of the bytes, with `LimitExceeded` where the charges pass the limit, and
-/// with `Memory` where memory is refused.
+/// with `Memory` where the shape has a text or holds parts and memory is refused.
 pub fn decode_shaped<C: Config>(
     alloc: Global,
     shape: &Shape,
@@ -80,11 +80,11 @@ pub fn decode_shaped<C: Config>(
     ensures word { IfOk result (λ x. Decoded (format_of shape.now C.setting) C.bound src.now
         (λ m. IsImage shape.now m x.0) x.1) }
     // Each word within the limit is read,
-    ensures found { FindsWords (format_of shape.now C.setting) C.bound (Unit {0}) src.now result }
+    ensures found { FindsWords (format_of shape.now C.setting) C.bound (TakesMemory shape.now) src.now result }
     // each fault within the limit is told,
-    ensures fault { TellsFaults (format_of shape.now C.setting) C.bound (Unit {0}) src.now result }
+    ensures fault { TellsFaults (format_of shape.now C.setting) C.bound (TakesMemory shape.now) src.now result }
     // and charges that pass the limit are refused.
-    ensures limit { KeepsLimit (format_of shape.now C.setting) C.bound (Unit {0}) src.now result }
+    ensures limit { KeepsLimit (format_of shape.now C.setting) C.bound (TakesMemory shape.now) src.now result }
 {
     let mut reader = SliceReader::new(src);
     let value = decode_shaped_with(alloc, shape, &mut reader, &config)?;
@@ -100,7 +100,7 @@ fn decode_shaped_with<R: Reader, C: Config>(
 ) -> Result<Value, DecodeError>
     ensures ok { R.told reader.old → IfOk result (λ v. (charge : ℕ) × Decodes (λ m. IsImage shape.now m v)
         (answer C.bound (format_of shape.now C.setting) (R.rest reader.old) 0) (R.rest reader.new) charge) }
-    ensures err { R.told reader.old → IfErr result (λ e. (charge : ℕ) × Stops R.ended R.device (Unit {0})
+    ensures err { R.told reader.old → IfErr result (λ e. (charge : ℕ) × Stops R.ended R.device (TakesMemory shape.now)
         (answer C.bound (format_of shape.now C.setting) (R.rest reader.old) 0) (R.failures reader.old)
         (R.failures reader.new) (R.rest reader.old) (R.rest reader.new) charge e) }
 {

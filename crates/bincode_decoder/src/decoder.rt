@@ -143,11 +143,20 @@ pub trait ClaimContainer: Decoder {
 
 impl<D: Decoder> ClaimContainer for D {
     fn claim_container_read<T: Wire>(&mut self, len: usize) -> Result<(), DecodeError> {
-        match len.checked_mul(T::claim_size()) {
-            Some(n) => self.claim_bytes_read(n),
-            None if self.config().limit().is_none() => Ok(()),
-            None => Err(DecodeError::LimitExceeded),
-        }
+        claim_room(self, len, T::claim_size())
+    }
+}
+
+/// Charges for `len` elements, each of which claims so many bytes. A product that does not fit 64 bits is above each
+/// limit, and then the charge stays.
+pub fn claim_room<D: Decoder>(decoder: &mut D, len: usize, claim: usize) -> Result<(), DecodeError>
+    ensures { MakesClaim D.told D.rest D.charge D.failures D.reader_of D.context_of D.place D.C.bound (len * claim)
+        result decoder.old decoder.new }
+{
+    match len.checked_mul(claim) {
+        Some(n) => decoder.claim_bytes_read(n),
+        None if decoder.config().limit().is_none() => Ok(()),
+        None => Err(DecodeError::LimitExceeded),
     }
 }
 

@@ -1,12 +1,14 @@
 -- The formats of shapes, by those of their parts.
-use Rattle.std.specs.Prelude.{◌≡◌, ◌≤◌, ◌+◌, ◌++◌, ℕ, max, List, [], ◌∷◌, Box, refl}
+use Rattle.std.specs.Prelude.{◌≡◌, ◌==◌, ◌<◌, ◌≤◌, ◌+◌, ◌++◌, true, ℕ, max, List, [], ◌∷◌, length, Box, refl}
 use Rattle.std.specs.declared.alloc.Global.{Global}
 use Rattle.std.specs.declared.vec.Vec.{Vec}
-use Rattle.std.proofs.Common.{◌∙◌, ap, subst, sym, arith, append_assoc, append-nil}
+use Rattle.std.proofs.Common.{◌∙◌, ap, sym, arith, append_assoc, append-nil}
+use Rattle.std.proofs.lemmas.Bool.{eqb-true}
 use Rattle.bincode_base.specs.Setting.{Setting}
 use Rattle.bincode_format.specs.Format.{Format}
 use Rattle.bincode_format.specs.Meaning.{Meaning}
-use Rattle.bincode_format.specs.Words.{nothing, first_and, tuple, list, array, Variant, tags_of, chosen, tag}
+use Rattle.bincode_format.specs.Words.{nothing, first_and, tuple, list, array, Variant, tags_of, in_order, chosen, tag}
+use Rattle.bincode_laws.specs.EqualLaws.{both-show}
 use Rattle.bincode_shape.specs.declared.shape.Shape as shapes
 use Rattle.bincode_shape.specs.declared.shape.Shape.{Shape}
 use Rattle.bincode_shape.specs.Shapes.{format_of, at, share, byte_tag, one_of, numbered}
@@ -14,7 +16,7 @@ use Rattle.bincode_shape.specs.Rows.{formats, formats_of-vec}
 use Rattle.bincode_shape.specs.Same.{SameWords, same-itself, list-same, array-same, first_and-same}
 use Rattle.bincode_shape.specs.SameChoices.{SameVariants, chosen-same}
 use Rattle.bincode_wire.specs.TypeWords.{Words}
-use Rattle.bincode_described.specs.Describing.{Describes, DescribesRow, CountFrom, CountFromZero, DescribesVariants}
+use Rattle.bincode_described.specs.Describing.{Describes, DescribesRow, DescribesVariants}
 
 share-claims : (claim : ℕ) → 1 ≤ claim → share claim ≡ claim
 share-claims claim h = omega (arith, h)
@@ -38,14 +40,14 @@ pub option_described : (b : Box Shape Global) (F : Setting → Format Meaning) (
 option_described b F s f = chosen-same byte_tag s _ _ (refl, same-itself nothing, (refl, f, tt))
 
 -- an enum whose tags count from 0
-pub choice_described : (v : Vec Shape Global) (variants : List Variant) (s : Setting) → DescribesVariants [] v.items variants → CountFromZero (tags_of variants) →
-    SameWords (format_of (shapes.Choice v) s) (chosen tag variants s)
-choice_described v variants s d count = rw (formats_of-vec v, d.1) (one_of-chosen d.0 variants s count (λ h. d.2 0 s h)) where
-  one_of-chosen : (parts : List Shape) (variants : List Variant) (s : Setting) → CountFromZero (tags_of variants) →
-      (CountFrom 0 (tags_of variants) → SameVariants s (numbered 0 (formats parts)) variants) → SameWords (one_of (numbered 0 (formats parts)) s) (chosen tag variants s)
-  one_of-chosen parts [] s count h = absurd count
-  one_of-chosen [] (w ∷ ws) s count h = absurd (h count)
-  one_of-chosen (p ∷ ps) (w ∷ ws) s count h = chosen-same tag s _ _ (h count)
+pub choice_described : (v : Vec Shape Global) (variants : List Variant) (s : Setting) → DescribesVariants [] v.items variants →
+    (0 < length variants) × (in_order 0 (tags_of variants) ≡ true) → SameWords (format_of (shapes.Choice v) s) (chosen tag variants s)
+choice_described v variants s d counted = rw (formats_of-vec v, d.1) (chosen-parts d.0 variants counted.0 (d.2 0 s counted.1)) where
+  chosen-parts : (parts : List Shape) (variants : List Variant) → 0 < length variants → SameVariants s (numbered 0 (formats parts)) variants →
+      SameWords (one_of (numbered 0 (formats parts)) s) (chosen tag variants s)
+  chosen-parts parts [] some h = absurd (omega (arith, some))
+  chosen-parts [] (w ∷ ws) some h = absurd h
+  chosen-parts (p ∷ ps) (w ∷ ws) some h = chosen-same tag s _ _ h
 
 -- no variants
 pub no_variants_described : (before : List Shape) → DescribesVariants before before []
@@ -55,8 +57,12 @@ no_variants_described before = ([], sym (append-nil before), λ n s h. tt)
 pub next_variant_described : (before with_part after : List Shape) (part : Shape) (n : ℕ) (F : Setting → Format Meaning) (others : List Variant) →
     with_part ≡ before ++ part ∷ [] → ((s : Setting) → SameWords (format_of part s) (F s)) → DescribesVariants with_part after others →
     DescribesVariants before after ((n, F) ∷ others)
-next_variant_described before with_part after part n F others e f d =
-    (part ∷ d.0, d.1 ∙ ap (λ z. z ++ d.0) e ∙ append_assoc before (part ∷ []) d.0, λ m s h. (h.0, f s, d.2 (m + 1) s h.1))
+next_variant_described before with_part after part n F others e f d = (
+  part ∷ d.0,
+  d.1 ∙ ap (λ z. z ++ d.0) e ∙ append_assoc before (part ∷ []) d.0,
+  λ m s h.
+      let p = both-show (n == m) _ (λ h. h) h in (sym (eqb-true n m p.0), f s, d.2 (m + 1) s p.1),
+)
 
 -- a tuple, by its row
 pub tuple_described : {A : Type 0} (v : Vec Shape Global) (W : Words A) → DescribesRow [] v.items W → Describes (shapes.Tuple v) W

@@ -1,9 +1,9 @@
 -- What it is for a shape to describe a type.
-use Rattle.std.specs.Prelude.{◌≡◌, ◌+◌, ℕ, List, [], ◌∷◌, ◌++◌}
+use Rattle.std.specs.Prelude.{◌≡◌, ℕ, List, ◌++◌, true}
 use Rattle.bincode_base.specs.Setting.{Setting}
 use Rattle.bincode_format.specs.Format.{Format}
 use Rattle.bincode_format.specs.Meaning.{Meaning}
-use Rattle.bincode_format.specs.Words.{Variant, tags_of, tuple}
+use Rattle.bincode_format.specs.Words.{Variant, tags_of, in_order, tuple}
 use Rattle.bincode_shape.specs.declared.shape.Shape.{Shape}
 use Rattle.bincode_shape.specs.Rows.{formats}
 use Rattle.bincode_shape.specs.Same.{SameWords}
@@ -19,17 +19,8 @@ Describes shape W = (s : Setting) → SameWords (format_of shape s) (W.format s)
 abbrev pub DescribesRow : {A : Type 0} → List Shape → List Shape → Words A → Type 0
 DescribesRow before after W = (parts : List Shape) × (after ≡ before ++ parts) × ((s : Setting) → SameWords (tuple (at s (formats parts))) (W.format s))
 
--- these tags count up from n
-abbrev pub CountFrom : ℕ → List ℕ → Type 0
-CountFrom n [] = Unit {0}
-CountFrom n (tag ∷ tags) = (n ≡ tag) × CountFrom (n + 1) tags
-
--- there are some, and they count up from 0
-abbrev pub CountFromZero : List ℕ → Type 0
-CountFromZero [] = ⊥
-CountFromZero (tag ∷ tags) = CountFrom 0 (tag ∷ tags)
-
--- behind the shapes before there stand such that, numbered by tags that count, have the words of variants
+-- behind the shapes before there stand such that, numbered in order, have the words of variants whose tags stand in order
 abbrev pub DescribesVariants : List Shape → List Shape → List Variant → Type 0
 DescribesVariants before after variants =
-    (parts : List Shape) × (after ≡ before ++ parts) × ((n : ℕ) (s : Setting) → CountFrom n (tags_of variants) → SameVariants s (numbered n (formats parts)) variants)
+    (parts : List Shape) × (after ≡ before ++ parts)
+    × ((n : ℕ) (s : Setting) → in_order n (tags_of variants) ≡ true → SameVariants s (numbered n (formats parts)) variants)

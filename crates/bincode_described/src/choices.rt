@@ -1,7 +1,8 @@
 //! The shapes of options, and of enums whose tags count from 0.
-ghost use Rattle.std.specs.Prelude.{IfSome, refl};
-ghost use Rattle.bincode_format.specs.Words.{tags_of};
-ghost use Rattle.bincode_described.specs.Describing.{CountFromZero, DescribesVariants};
+ghost use Rattle.std.specs.Prelude.{◌≡◌, ◌<◌, IfSome, true, length, refl};
+ghost use Rattle.std.proofs.Common.{arith};
+ghost use Rattle.bincode_format.specs.Words.{tags_of, in_order};
+ghost use Rattle.bincode_described.specs.Describing.{DescribesVariants};
 
 use crate::described::Described;
 use crate::rows::put_shape;
@@ -11,6 +12,7 @@ use bincode_wire::wire::Wire;
 use std::alloc::Global;
 
 impl<T: Described> Described for Option<T> {
+    #[tactic(auto, using(crate::proofs::Formats::option_described))]
     fn shape(alloc: Global) -> Option<Shape> {
         let part = Box::new(alloc, T::shape(alloc)?).ok()?;
         Some(Shape::Optional(part))
@@ -33,6 +35,7 @@ pub trait DescribedVariants: Variants {
 }
 
 impl<Of> DescribedVariants for NoOther<Of> {
+    #[tactic(auto, using(crate::proofs::Formats::no_variants_described))]
     fn put_shapes(_alloc: Global, shapes: Vec<Shape>) -> Option<Vec<Shape>> {
         Some(shapes)
     }
@@ -48,11 +51,12 @@ impl<const TAG: u32, A: Described, Others: DescribedVariants> DescribedVariants
 
 /// Variants whose tags are 0, 1 and so on: of one to eight.
 pub trait CountedVariants: Variants<Tag = u32> {
-    ghost counted: { CountFromZero (tags_of Self.variants) };
+    ghost counted: { (0 < length Self.variants) × (in_order 0 (tags_of Self.variants) ≡ true) };
 }
 
 /// An enum whose tags count from 0 is described as the choice of what its variants hold.
 impl<Of: DescribedVariants + CountedVariants> Described for OneOf<Of> {
+    #[tactic(auto, using(crate::proofs::Formats::choice_described))]
     fn shape(alloc: Global) -> Option<Shape> {
         let parts = Of::put_shapes(alloc, Vec::new(alloc))?;
         Some(Shape::Choice(parts))
@@ -60,35 +64,35 @@ impl<Of: DescribedVariants + CountedVariants> Described for OneOf<Of> {
 }
 
 impl<A: Wire, Of> CountedVariants for Or<0, A, NoOther<Of>> {
-    ghost counted = { (refl, tt) };
+    ghost counted = { (omega arith, refl) };
 }
 
 impl<A: Wire, B: Wire, Of> CountedVariants for Or<0, A, Or<1, B, NoOther<Of>>> {
-    ghost counted = { (refl, (refl, tt)) };
+    ghost counted = { (omega arith, refl) };
 }
 
 impl<A: Wire, B: Wire, C: Wire, Of> CountedVariants for Or<0, A, Or<1, B, Or<2, C, NoOther<Of>>>> {
-    ghost counted = { (refl, (refl, (refl, tt))) };
+    ghost counted = { (omega arith, refl) };
 }
 
 impl<A: Wire, B: Wire, C: Wire, D: Wire, Of> CountedVariants
     for Or<0, A, Or<1, B, Or<2, C, Or<3, D, NoOther<Of>>>>> {
-    ghost counted = { (refl, (refl, (refl, (refl, tt)))) };
+    ghost counted = { (omega arith, refl) };
 }
 
 impl<A: Wire, B: Wire, C: Wire, D: Wire, E: Wire, Of> CountedVariants
     for Or<0, A, Or<1, B, Or<2, C, Or<3, D, Or<4, E, NoOther<Of>>>>>> {
-    ghost counted = { (refl, (refl, (refl, (refl, (refl, tt))))) };
+    ghost counted = { (omega arith, refl) };
 }
 
 impl<A: Wire, B: Wire, C: Wire, D: Wire, E: Wire, F: Wire, Of> CountedVariants
     for Or<0, A, Or<1, B, Or<2, C, Or<3, D, Or<4, E, Or<5, F, NoOther<Of>>>>>>> {
-    ghost counted = { (refl, (refl, (refl, (refl, (refl, (refl, tt)))))) };
+    ghost counted = { (omega arith, refl) };
 }
 
 impl<A: Wire, B: Wire, C: Wire, D: Wire, E: Wire, F: Wire, G: Wire, Of> CountedVariants
     for Or<0, A, Or<1, B, Or<2, C, Or<3, D, Or<4, E, Or<5, F, Or<6, G, NoOther<Of>>>>>>>> {
-    ghost counted = { (refl, (refl, (refl, (refl, (refl, (refl, (refl, tt))))))) };
+    ghost counted = { (omega arith, refl) };
 }
 
 impl<A: Wire, B: Wire, C: Wire, D: Wire, E: Wire, F: Wire, G: Wire, H: Wire, Of> CountedVariants
@@ -97,5 +101,5 @@ impl<A: Wire, B: Wire, C: Wire, D: Wire, E: Wire, F: Wire, G: Wire, H: Wire, Of>
         A,
         Or<1, B, Or<2, C, Or<3, D, Or<4, E, Or<5, F, Or<6, G, Or<7, H, NoOther<Of>>>>>>>>,
     > {
-    ghost counted = { (refl, (refl, (refl, (refl, (refl, (refl, (refl, (refl, tt)))))))) };
+    ghost counted = { (omega arith, refl) };
 }

@@ -5,6 +5,7 @@ use bincode_wire::wire::Wire;
 use std::alloc::Global;
 
 impl<T: Described> Described for Vec<T> {
+    #[tactic(auto, using(crate::proofs::Formats::seq_described))]
     fn shape(alloc: Global) -> Option<Shape> {
         let element = Box::new(alloc, T::shape(alloc)?).ok()?;
         Some(Shape::Seq {
@@ -15,6 +16,7 @@ impl<T: Described> Described for Vec<T> {
 }
 
 impl<T: Described, const N: usize> Described for [T; N] {
+    #[tactic(auto, using(crate::proofs::Formats::array_described))]
     fn shape(alloc: Global) -> Option<Shape> {
         let element = Box::new(alloc, T::shape(alloc)?).ok()?;
         Some(Shape::Array {

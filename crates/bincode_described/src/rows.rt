@@ -5,6 +5,7 @@ ghost use Rattle.bincode_described.specs.Describing.{Describes, DescribesRow};
 
 use crate::described::Described;
 use bincode_shape::shape::Shape;
+use bincode_wire::parted::Parted;
 use bincode_wire::rows::{LongRow, Rest, Row};
 use bincode_wire::wire::Wire;
 use std::alloc::Global;
@@ -17,6 +18,7 @@ pub trait DescribedRow: Wire {
 }
 
 impl DescribedRow for () {
+    #[tactic(auto, using(crate::proofs::Formats::none_described, crate::proofs::Formats::same_itself))]
     fn put_shapes(_alloc: Global, shapes: Vec<Shape>) -> Option<Vec<Shape>> {
         Some(shapes)
     }
@@ -45,11 +47,14 @@ impl<
     }
 }
 
-/// The shape of a tuple that is written as this row.
-pub fn tuple_shape<R: DescribedRow>(alloc: Global) -> Option<Shape>
-    ensures { IfSome result (λ shape. Describes shape R.its) }
+/// The shape of a tuple, by the row that it is written as.
+#[tactic(auto, using(crate::proofs::Formats::tuple_described))]
+pub(crate) fn tuple_shape<T: Parted>(alloc: Global) -> Option<Shape>
+where
+    T::Parts: DescribedRow,
+    ensures { IfSome result (λ shape. Describes shape T.Parts.its) }
 {
-    let parts = R::put_shapes(alloc, Vec::new(alloc))?;
+    let parts = T::Parts::put_shapes(alloc, Vec::new(alloc))?;
     Some(Shape::Tuple(parts))
 }
 

@@ -2,44 +2,43 @@
 use crate::described::Described;
 use crate::rows::tuple_shape;
 use bincode_shape::shape::Shape;
-use bincode_wire::rows::{LongRow, Row};
 use std::alloc::Global;
 
 impl<A: Described> Described for (A,) {
     fn shape(alloc: Global) -> Option<Shape> {
-        tuple_shape::<Row<A, ()>>(alloc)
+        tuple_shape::<(A,)>(alloc)
     }
 }
 
 impl<A: Described, B: Described> Described for (A, B) {
     fn shape(alloc: Global) -> Option<Shape> {
-        tuple_shape::<Row<A, Row<B, ()>>>(alloc)
+        tuple_shape::<(A, B)>(alloc)
     }
 }
 
 impl<A: Described, B: Described, C: Described> Described for (A, B, C) {
     fn shape(alloc: Global) -> Option<Shape> {
-        tuple_shape::<Row<A, Row<B, Row<C, ()>>>>(alloc)
+        tuple_shape::<(A, B, C)>(alloc)
     }
 }
 
 impl<A: Described, B: Described, C: Described, D: Described> Described for (A, B, C, D) {
     fn shape(alloc: Global) -> Option<Shape> {
-        tuple_shape::<LongRow<A, B, C, D, ()>>(alloc)
+        tuple_shape::<(A, B, C, D)>(alloc)
     }
 }
 
 impl<A: Described, B: Described, C: Described, D: Described, E: Described> Described
     for (A, B, C, D, E) {
     fn shape(alloc: Global) -> Option<Shape> {
-        tuple_shape::<LongRow<A, B, C, D, Row<E, ()>>>(alloc)
+        tuple_shape::<(A, B, C, D, E)>(alloc)
     }
 }
 
 impl<A: Described, B: Described, C: Described, D: Described, E: Described, F: Described> Described
     for (A, B, C, D, E, F) {
     fn shape(alloc: Global) -> Option<Shape> {
-        tuple_shape::<LongRow<A, B, C, D, Row<E, Row<F, ()>>>>(alloc)
+        tuple_shape::<(A, B, C, D, E, F)>(alloc)
     }
 }
 
@@ -53,7 +52,7 @@ impl<
     G: Described,
 > Described for (A, B, C, D, E, F, G) {
     fn shape(alloc: Global) -> Option<Shape> {
-        tuple_shape::<LongRow<A, B, C, D, Row<E, Row<F, Row<G, ()>>>>>(alloc)
+        tuple_shape::<(A, B, C, D, E, F, G)>(alloc)
     }
 }
 
@@ -68,7 +67,7 @@ impl<
     H: Described,
 > Described for (A, B, C, D, E, F, G, H) {
     fn shape(alloc: Global) -> Option<Shape> {
-        tuple_shape::<LongRow<A, B, C, D, LongRow<E, F, G, H, ()>>>(alloc)
+        tuple_shape::<(A, B, C, D, E, F, G, H)>(alloc)
     }
 }
 
@@ -84,7 +83,7 @@ impl<
     I: Described,
 > Described for (A, B, C, D, E, F, G, H, I) {
     fn shape(alloc: Global) -> Option<Shape> {
-        tuple_shape::<LongRow<A, B, C, D, LongRow<E, F, G, H, Row<I, ()>>>>(alloc)
+        tuple_shape::<(A, B, C, D, E, F, G, H, I)>(alloc)
     }
 }
 
@@ -101,7 +100,7 @@ impl<
     J: Described,
 > Described for (A, B, C, D, E, F, G, H, I, J) {
     fn shape(alloc: Global) -> Option<Shape> {
-        tuple_shape::<LongRow<A, B, C, D, LongRow<E, F, G, H, Row<I, Row<J, ()>>>>>(alloc)
+        tuple_shape::<(A, B, C, D, E, F, G, H, I, J)>(alloc)
     }
 }
 
@@ -119,7 +118,7 @@ impl<
     K: Described,
 > Described for (A, B, C, D, E, F, G, H, I, J, K) {
     fn shape(alloc: Global) -> Option<Shape> {
-        tuple_shape::<LongRow<A, B, C, D, LongRow<E, F, G, H, Row<I, Row<J, Row<K, ()>>>>>>(alloc)
+        tuple_shape::<(A, B, C, D, E, F, G, H, I, J, K)>(alloc)
     }
 }
 
@@ -138,7 +137,7 @@ impl<
     L: Described,
 > Described for (A, B, C, D, E, F, G, H, I, J, K, L) {
     fn shape(alloc: Global) -> Option<Shape> {
-        tuple_shape::<LongRow<A, B, C, D, LongRow<E, F, G, H, LongRow<I, J, K, L, ()>>>>(alloc)
+        tuple_shape::<(A, B, C, D, E, F, G, H, I, J, K, L)>(alloc)
     }
 }
 
@@ -158,9 +157,7 @@ impl<
     M: Described,
 > Described for (A, B, C, D, E, F, G, H, I, J, K, L, M) {
     fn shape(alloc: Global) -> Option<Shape> {
-        tuple_shape::<LongRow<A, B, C, D, LongRow<E, F, G, H, LongRow<I, J, K, L, Row<M, ()>>>>>(
-            alloc,
-        )
+        tuple_shape::<(A, B, C, D, E, F, G, H, I, J, K, L, M)>(alloc)
     }
 }
 
@@ -181,9 +178,7 @@ impl<
     N: Described,
 > Described for (A, B, C, D, E, F, G, H, I, J, K, L, M, N) {
     fn shape(alloc: Global) -> Option<Shape> {
-        tuple_shape::<
-            LongRow<A, B, C, D, LongRow<E, F, G, H, LongRow<I, J, K, L, Row<M, Row<N, ()>>>>>,
-        >(alloc)
+        tuple_shape::<(A, B, C, D, E, F, G, H, I, J, K, L, M, N)>(alloc)
     }
 }
 
@@ -205,15 +200,7 @@ impl<
     O: Described,
 > Described for (A, B, C, D, E, F, G, H, I, J, K, L, M, N, O) {
     fn shape(alloc: Global) -> Option<Shape> {
-        tuple_shape::<
-            LongRow<
-                A,
-                B,
-                C,
-                D,
-                LongRow<E, F, G, H, LongRow<I, J, K, L, Row<M, Row<N, Row<O, ()>>>>>,
-            >,
-        >(alloc)
+        tuple_shape::<(A, B, C, D, E, F, G, H, I, J, K, L, M, N, O)>(alloc)
     }
 }
 
@@ -236,8 +223,6 @@ impl<
     P: Described,
 > Described for (A, B, C, D, E, F, G, H, I, J, K, L, M, N, O, P) {
     fn shape(alloc: Global) -> Option<Shape> {
-        tuple_shape::<
-            LongRow<A, B, C, D, LongRow<E, F, G, H, LongRow<I, J, K, L, LongRow<M, N, O, P, ()>>>>,
-        >(alloc)
+        tuple_shape::<(A, B, C, D, E, F, G, H, I, J, K, L, M, N, O, P)>(alloc)
     }
 }

@@ -69,6 +69,16 @@ abbrev mutual
   formats_of end_of-Shape = []
   formats_of (more_of-Shape part others) = format_of part ∷ formats_of others
 
+-- decoding takes memory for a text, and for what holds parts
+abbrev pub TakesMemory : Shape → Type 0
+TakesMemory shapes.Text = Unit {0}
+TakesMemory (shapes.Seq' _ _ _) = Unit {0}
+TakesMemory (shapes.Array' _ _ _ _) = Unit {0}
+TakesMemory (shapes.Tuple' _ _) = Unit {0}
+TakesMemory (shapes.Optional' _ _) = Unit {0}
+TakesMemory (shapes.Choice' _ _) = Unit {0}
+TakesMemory _ = ⊥
+
 abbrev mutual
   -- what a value means
   pub meaning : Value → Meaning

@@ -1,6 +1,6 @@
 -- What was read of a shape, by what was read of its parts.
 use Rattle.bincode_format.specs.Number.{FitsIn}
-use Rattle.bincode_laws.specs.DecodingLaws.{stops-besides}
+use Rattle.bincode_laws.specs.DecodingLaws.{stops-besides, nothing-decodes}
 use Rattle.std.specs.Prelude.{◌≡◌, ℕ, ◌*◌, ◌^◌, ℤ, pos, negsuc, true, List, [], ◌∷◌, map, length, Option, Ok, Err, Box, refl}
 use Rattle.std.specs.List.{list_all}
 use Rattle.std.specs.Borrow.{GName}
@@ -12,11 +12,10 @@ use Rattle.bincode_base.specs.Setting.{Setting}
 use Rattle.bincode_base.specs.declared.error.DecodeError.{DecodeError}
 use Rattle.bincode_format.specs.Device.{DeviceErrors}
 use Rattle.bincode_format.specs.Format.{Format}
-use Rattle.bincode_format.specs.Meaning.{Meaning, Nothing, listed}
+use Rattle.bincode_format.specs.Meaning.{Meaning, listed}
 use Rattle.bincode_format.specs.Run.{IsListOf}
 use Rattle.bincode_format.specs.Values.{Reads}
-use Rattle.bincode_laws.specs.AnswerLaws.{answer-done}
-use Rattle.bincode_format.specs.Words.{nothing, array, list, tuple}
+use Rattle.bincode_format.specs.Words.{array, list, tuple}
 use Rattle.bincode_decoder.proofs.ReadAnswers.{read-as, made-of}
 use Rattle.bincode_shape.specs.declared.shape.Shape as shapes
 use Rattle.bincode_shape.specs.declared.shape.Shape.{Shape}
@@ -32,13 +31,15 @@ images-of element (v ∷ vs) m h =
     let rest = images-of element vs h.others h.are_others in
     (rw (h.is_first.0, rest.0) refl, h.meaning_is ∙ rw (h.is_first.1, rest.1) refl)
 
+-- a fault of what was read is one of what is made of it
+module _ {D A T U : Type 0} {told : D → Type 0} {rest : D → List ℕ} {charge failures : D → ℕ} {place : D → List GName} {limit : Option ℕ}
+    {ended : ℕ → DecodeError → Type 0} {device : DeviceErrors} {start : ℕ} {old new : D} {G H : Type 0} {F : Format A} {given : A → T → Type 0} {whole : A → U → Type 0} where
+  pub stops-alike : {e : DecodeError} → (G → H) →
+      Reads told rest charge failures place limit ended device G F given start (Err e) old new → Reads told rest charge failures place limit ended device H F whole start (Err e) old new
+  stops-alike {e = e} widen read = read-as (λ known. tt) (λ known. stops-besides ended device G H widen _ _ _ _ _ e (read.err known)) (λ _. tt) read
+
 module _ {D : Type 0} {told : D → Type 0} {rest : D → List ℕ} {charge failures : D → ℕ} {place : D → List GName} {limit : Option ℕ}
     {ended : ℕ → DecodeError → Type 0} {device : DeviceErrors} {start : ℕ} {old new : D} where
-  -- a fault of the parts is one of the whole
-  pub stops-alike : {A T U : Type 0} {H : Type 0} {F : Format A} {given : A → T → Type 0} {whole : A → U → Type 0} {e : DecodeError} →
-      Reads told rest charge failures place limit ended device H F given start (Err e) old new → Reads told rest charge failures place limit ended device H F whole start (Err e) old new
-  stops-alike read = read-as (λ known. tt) read.err (λ _. tt) read
-
   -- a list
   pub seq-reads : (s : Setting) (claim : ℕ) (b : Box Shape Global) (items : Vec Value Global) {grows : Type 0} →
       Reads told rest charge failures place limit ended device grows (list s (share claim) (format_of b.value s)) (λ m (v : Vec Value Global). IsListOf (λ x n. IsImage b.value n x) v.items m) start (Ok items) old new →
@@ -67,18 +68,7 @@ module _ {D : Type 0} {told : D → Type 0} {rest : D → List ℕ} {charge fail
   pub tuple-stops : (s : Setting) (parts : Vec Shape Global) {T : Type 0} {grows : Type 0} {given : Meaning → T → Type 0} {e : DecodeError} →
       Reads told rest charge failures place limit ended device grows (tuple (at s (formats parts.items))) given start (Err e) old new →
       Reads told rest charge failures place limit ended device grows (format_of (shapes.Tuple parts) s) (IsImage (shapes.Tuple parts)) start (Err e) old new
-  tuple-stops s parts read = rw (formats_of-vec parts) (stops-alike read)
-
--- what was read of a scalar is its image
-module _ {D A T U : Type 0} {told : D → Type 0} {rest : D → List ℕ} {charge failures : D → ℕ} {place : D → List GName} {limit : Option ℕ}
-    {ended : ℕ → DecodeError → Type 0} {device : DeviceErrors} {start : ℕ} {old new : D} {G H : Type 0} {F : Format A} {given : A → T → Type 0} {whole : A → U → Type 0} where
-  pub image-reads : {v : T} {w : U} → ((m : A) → given m v → whole m w) →
-      Reads told rest charge failures place limit ended device G F given start (Ok v) old new → Reads told rest charge failures place limit ended device H F whole start (Ok w) old new
-  image-reads f read = read-as (λ known. made-of f (read.ok known)) (λ known. tt) read.within read
-
-  pub image-stops : {e : DecodeError} → (G → H) →
-      Reads told rest charge failures place limit ended device G F given start (Err e) old new → Reads told rest charge failures place limit ended device H F whole start (Err e) old new
-  image-stops {e = e} widen read = read-as (λ known. tt) (λ known. stops-besides ended device G H widen _ _ _ _ _ e (read.err known)) (λ _. tt) read
+  tuple-stops s parts read = rw (formats_of-vec parts) (stops-alike (λ h. h) read)
 
 -- a signed number that fits its bytes
 pub sign-fits : (width : ℕ) (z : ℤ) → FitsIn width z → has_sign_bit width z ≡ true
@@ -90,9 +80,8 @@ pub unit-reads :
     {D : Type 0} {told : D → Type 0} {rest : D → List ℕ} {charge failures : D → ℕ} {place : D → List GName} {limit : Option ℕ}
     {ended : ℕ → DecodeError → Type 0} {device : DeviceErrors} {grows : Type 0} (s : Setting) (old : D) →
     Reads told rest charge failures place limit ended device grows (format_of shapes.Unit s) (IsImage shapes.Unit) (charge old) (Ok values.Unit) old old
-unfolding nothing
 unit-reads {rest = rest} {charge = charge} {limit = limit} s old = record {
-  ok = λ known. record { meaning = Nothing; answer_is = answer-done limit Nothing (rest old) (charge old); is_given = (refl, refl) };
+  ok = λ known. made-of (λ m h. (refl, h)) (nothing-decodes limit (rest old) (charge old));
   err = λ known. tt;
   counted = omega arith;
   tells = λ known. known;

@@ -6,30 +6,24 @@ use Rattle.std.proofs.Common.{ap, arith}
 use Rattle.std.proofs.lemmas.Bool.{ne_eqb}
 use Rattle.bincode_base.specs.Setting.{Setting}
 use Rattle.bincode_base.specs.declared.error.DecodeError.{DecodeError}
-use Rattle.bincode_base.specs.declared.error.DecodeError.TheVariants.{Memory}
-use Rattle.bincode_format.specs.Answer.{answer, Gave}
-use Rattle.bincode_format.specs.Decoding.{by_fault, by_memory}
+use Rattle.bincode_format.specs.Answer.{answer}
+use Rattle.bincode_format.specs.Decoding.{by_fault}
 use Rattle.bincode_format.specs.Device.{DeviceErrors}
 use Rattle.bincode_format.specs.Fault.{UnexpectedVariant, Between, Tells}
 use Rattle.bincode_format.specs.Integers.{unsigned_byte}
 use Rattle.bincode_format.specs.Meaning.{Meaning, Nothing, Choice}
 use Rattle.bincode_format.specs.Values.{Reads}
 use Rattle.bincode_format.specs.Words.{nothing, behind_tag, chosen}
-use Rattle.bincode_laws.specs.AnswerLaws.{answer-done, answer-refused}
-use Rattle.bincode_laws.specs.DecodingLaws.{map-gave, gave-takes}
+use Rattle.bincode_laws.specs.AnswerLaws.{answer-refused}
+use Rattle.bincode_laws.specs.DecodingLaws.{map-gave}
 use Rattle.bincode_laws.specs.IntegerLaws.{unsigned_byte-lawful}
 use Rattle.bincode_decoder.proofs.PartAnswers.{first-stops, next-reads}
-use Rattle.bincode_decoder.proofs.ReadAnswers.{read-as}
 use Rattle.bincode_shape.specs.declared.shape.Shape.{Shape}
 use Rattle.bincode_shape.specs.declared.shape.Value.{Value}
 use Rattle.bincode_shape.specs.Shapes.{format_of, byte_tag, optional, IsImage}
-use Rattle.bincode_shape.specs.ShapeLaws.{format_of-lawful}
 use Rattle.bincode_shaped.specs.Held.{IsOptional}
+use Rattle.bincode_shaped.proofs.Parts.{nothing-gives}
 use Rattle.bincode_shaped.proofs.Renamed.{map-reads, map-reads_none}
-
-nothing-gave : {A : Type 0} (f : Meaning → A) (limit : Option ℕ) (input : List ℕ) (c : ℕ) → answer limit nothing input c ≡ Gave Nothing input c
-unfolding nothing
-nothing-gave f limit input c = answer-done limit Nothing input c
 
 module _ {D : Type 0} {told : D → Type 0} {rest : D → List ℕ} {charge failures : D → ℕ} {place : D → List GName} {limit : Option ℕ}
     {ended : ℕ → DecodeError → Type 0} {device : DeviceErrors} {start : ℕ} (s : Setting) (part : Shape) where
@@ -44,7 +38,7 @@ module _ {D : Type 0} {told : D → Type 0} {rest : D → List ℕ} {charge fail
       Reads told rest charge failures place limit ended device (Unit {0}) (chosen byte_tag (optional (format_of part)) s) (IsOptional part) start (Ok None) old new
   unfolding chosen
   none-reads zero read = next-reads (byte_tag s) (behind_tag (optional (format_of part)) s) unsigned_byte-lawful read (rw zero (record {
-    ok = λ known. record { meaning = Choice 0 Nothing; answer_is = map-gave (Choice 0) limit nothing _ _ Nothing _ _ (nothing-gave (Choice 0) limit _ _); is_given = refl };
+    ok = λ known. record { meaning = Choice 0 Nothing; answer_is = map-gave (Choice 0) limit nothing _ _ Nothing _ _ (nothing-gives limit _ _); is_given = refl };
     err = λ known. tt;
     counted = omega arith;
     tells = λ known. known;
@@ -82,10 +76,3 @@ module _ {D : Type 0} {told : D → Type 0} {rest : D → List ℕ} {charge fail
         within = λ _. tt;
         same_place = refl;
       }))
-
-  -- the part is on the heap, or memory was refused for it
-  pub memory-stops : {T : Type 0} {given : Meaning → T → Type 0} {v : Value} {old new : D} →
-      Reads told rest charge failures place limit ended device (Unit {0}) (format_of part s) (IsImage part) start (Ok v) old new →
-      Reads told rest charge failures place limit ended device (Unit {0}) (format_of part s) given start (Err Memory) old new
-  memory-stops read = read-as (λ known. tt)
-      (λ known. let d = read.ok known in by_memory tt refl (gave-takes limit (format_of part s) (format_of-lawful part s) _ _ d.meaning _ _ d.answer_is)) (λ _. tt) read

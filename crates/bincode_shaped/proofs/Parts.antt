@@ -16,7 +16,7 @@ use Rattle.bincode_format.specs.Meaning.{Meaning, Nothing, Then, listed}
 use Rattle.bincode_format.specs.Values.{Reads}
 use Rattle.bincode_format.specs.Words.{nothing, first_and, tuple}
 use Rattle.bincode_laws.specs.AnswerLaws.{answer-then, answer-done}
-use Rattle.bincode_laws.specs.DecodingLaws.{answer-next, stops-first, rose-then, takes-then, gave-takes}
+use Rattle.bincode_laws.specs.DecodingLaws.{answer-next, stops-first, stops-besides, rose-then, takes-then, gave-takes, nothing-decodes}
 use Rattle.bincode_shape.specs.declared.shape.Shape.{Shape}
 use Rattle.bincode_shape.specs.declared.shape.Value.{Value}
 use Rattle.bincode_shape.specs.Shapes.{format_of, at, each_passes, meaning, IsImage}
@@ -77,9 +77,8 @@ stops-behind ended device H ms a all before between after input rest rest' e sam
 stops-behind ended device H ms a all before between after input rest rest' e same took le (by_failure d r k) = by_failure d (rose-then before between after le r) (takes-then input rest rest' took k)
 stops-behind ended device H ms a all before between after input rest rest' e same took le (by_device h) = by_device h
 
-nothing-gives : (limit : Option ℕ) (input : List ℕ) (c : ℕ) → answer limit nothing input c ≡ Gave Nothing input c
-unfolding nothing
-nothing-gives limit input c = answer-done limit Nothing input c
+pub nothing-gives : (limit : Option ℕ) (input : List ℕ) (c : ℕ) → answer limit nothing input c ≡ Gave Nothing input c
+nothing-gives limit input c = let d = nothing-decodes limit input c in d.answer_is ∙ ap (λ m. Gave m input c) d.is_given
 
 map-push : (vs : List Value) (v : Value) → map meaning (vs ++ v ∷ []) ≡ map meaning vs ++ meaning v ∷ []
 map-push [] v = refl
@@ -164,16 +163,17 @@ module _ {D : Type 0} {told : D → Type 0} {rest : D → List ℕ} {charge fail
         same_place = r.same_place ∙ h.same_place;
       }
 
-      pub stops-so_far : {e : DecodeError} →
-          Reads told rest charge failures place limit ended device grows (format_of part s) (IsImage part) (charge now) (Err e) now after →
+      pub stops-so_far : {H : Type 0} {e : DecodeError} → (H → grows) →
+          Reads told rest charge failures place limit ended device H (format_of part s) (IsImage part) (charge now) (Err e) now after →
           Reads told rest charge failures place limit ended device grows (tuple (at s (formats parts))) (λ m (v : Vec Value Global). AreImages parts m v.items) (charge old) (Err e) old after
-      stops-so_far {e = e} r = record {
+      stops-so_far {H = H} {e = e} widen r = record {
         ok = λ k. tt;
         err = λ k.
             let p = h.known k in
             let is = rw next at p.1 in
             stops-behind ended device grows (map meaning vs) _ _ (failures old) (failures now) (failures after) (rest old) (rest now) (rest after) e is p.2 h.counted
-            (part-stops ended device grows limit (format_of part s) (tuple (at s (formats others))) (rest now) (charge now) (failures now) (failures after) (rest after) e (r.err p.0));
+            (part-stops ended device grows limit (format_of part s) (tuple (at s (formats others))) (rest now) (charge now) (failures now) (failures after) (rest after) e
+            (stops-besides ended device H grows widen _ _ _ _ _ e (r.err p.0)));
         counted = let a = h.counted in let b = r.counted in omega (arith, a, b);
         tells = λ k. r.tells (h.known k).0;
         within = λ _. tt;

@@ -88,22 +88,21 @@ pub(crate) fn option_of(value: &Value) -> &Option<Box<Value>>
 }
 
 /// The items of the list that it is, one for each of these parts.
-pub(crate) fn items_for<'a>(parts: &[Shape], value: &'a Value) -> &'a [Value]
-    requires { is_list (each_passes (tests parts.now)) value.now ≡ true }
+pub(crate) fn items_for<'a>(_parts: &[Shape], value: &'a Value) -> &'a [Value]
+    requires { is_list (each_passes (tests _parts.now)) value.now ≡ true }
     ensures list { (items : Vec Value Global) × (value.now ≡ values.List items) × (result.now ≡ items.items) }
-    ensures fit { each_passes (tests parts.now) result.now ≡ true }
+    ensures fit { each_passes (tests _parts.now) result.now ≡ true }
 {
-    let _ = parts;
     items_of(value)
 }
 
 /// The number of one of these parts, and the value of it.
-pub(crate) fn choice_for<'a>(parts: &[Shape], value: &'a Value) -> (u32, &'a Value)
-    requires { is_choice (picked_passes (tests parts.now)) value.now ≡ true }
-    ensures choice { (held : Box Value Global) × (value.now ≡ values.Choice result.0 held) × (result.1.now ≡ held.value) }
-    ensures fit { picked_passes (tests parts.now) result.0 result.1.now ≡ true }
+pub(crate) fn choice_for<'a>(_parts: &[Shape], value: &'a Value) -> (u32, &'a Value)
+    requires { is_choice (picked_passes (tests _parts.now)) value.now ≡ true }
+    ensures choice { (held : Box Value Global) × (value.now ≡ values.Choice result.0 held)
+        × (result.1.now ≡ held.value) }
+    ensures fit { picked_passes (tests _parts.now) result.0 result.1.now ≡ true }
 {
-    let _ = parts;
     match value {
         Value::Choice(index, held) => (*index, held),
         _ => unreachable!(),

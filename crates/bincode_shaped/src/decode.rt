@@ -1,20 +1,18 @@
 //! Values of a shape, read through any decoder.
 ghost use Rattle.std.specs.Prelude.{◌≡◌, ◌*◌, length, IfOk};
 ghost use Rattle.bincode_format.specs.Answer.{unclaimed};
-ghost use Rattle.bincode_format.specs.Claims.{MakesClaim};
 ghost use Rattle.bincode_format.specs.Run.{CanRelease, IsListOf};
 ghost use Rattle.bincode_format.specs.Values.{Reads, RunRead};
 ghost use Rattle.bincode_format.specs.Words.{array, list, tuple, chosen};
-ghost use Rattle.bincode_shape.specs.Shapes.{format_of, byte_tag, optional, at, numbered, one_of, IsImage};
+ghost use Rattle.bincode_shape.specs.Shapes.{format_of, byte_tag, optional, at, numbered, one_of, IsImage, TakesMemory};
 ghost use Rattle.bincode_shaped.specs.Held.{IsOptional, IsChosen};
 ghost use Rattle.bincode_shape.specs.Rows.{formats, AreImages};
 
 use crate::numbers::{decode_i8, decode_number, decode_u8};
 use crate::scalars::{decode_bool, decode_character, decode_string};
-use bincode_base::config::Config;
 use bincode_base::error::DecodeError;
 use bincode_base::short_text::{ShortText, TypeName};
-use bincode_decoder::decoder::Decoder;
+use bincode_decoder::decoder::{Decoder, claim_room};
 use bincode_decoder::integers::{decode_byte, decode_integer};
 use bincode_decoder::lists::decode_length;
 use bincode_shape::shape::{Shape, Value};
@@ -24,8 +22,8 @@ use bincode_shape::shape::{Shape, Value};
 /// was charged before it.
 #[cycle(decode)]
 pub fn decode_shape<D: Decoder>(shape: &Shape, decoder: &mut D) -> Result<Value, DecodeError>
-    ensures { Reads D.told D.rest D.charge D.failures D.place D.C.bound D.R.ended D.R.device (Unit {0})
-        (format_of shape.now D.C.setting) (IsImage shape.now) (D.charge decoder.old) result decoder.old decoder.new }
+    ensures { Reads D.told D.rest D.charge D.failures D.place D.C.bound D.R.ended D.R.device
+        (TakesMemory shape.now) (format_of shape.now D.C.setting) (IsImage shape.now) (D.charge decoder.old) result decoder.old decoder.new }
 {
     match shape {
         Shape::Unit => Ok(Value::Unit),
@@ -68,18 +66,6 @@ pub fn decode_shape<D: Decoder>(shape: &Shape, decoder: &mut D) -> Result<Value,
             Ok((index, held)) => Ok(Value::Choice(index, held)),
             Err(e) => Err(e),
         },
-    }
-}
-
-/// Claims the room of `len` elements, each of which claims so much.
-fn claim_room<D: Decoder>(decoder: &mut D, len: usize, claim: usize) -> Result<(), DecodeError>
-    ensures { MakesClaim D.told D.rest D.charge D.failures D.reader_of D.context_of D.place D.C.bound (len * claim)
-        result decoder.old decoder.new }
-{
-    match len.checked_mul(claim) {
-        Some(n) => decoder.claim_bytes_read(n),
-        None if decoder.config().limit().is_none() => Ok(()),
-        None => Err(DecodeError::LimitExceeded),
     }
 }
 
@@ -149,8 +135,8 @@ fn decode_element<D: Decoder>(
     decoder: &mut D,
 ) -> Result<Value, DecodeError>
     requires { CanRelease D.C.bound (D.charge decoder.old) claim }
-    ensures { Reads D.told D.rest D.charge D.failures D.place D.C.bound D.R.ended D.R.device (Unit {0})
-        (format_of element.now D.C.setting) (IsImage element.now)
+    ensures { Reads D.told D.rest D.charge D.failures D.place D.C.bound D.R.ended D.R.device
+        (TakesMemory element.now) (format_of element.now D.C.setting) (IsImage element.now)
         (unclaimed D.C.bound (D.charge decoder.old) claim) result decoder.old decoder.new }
 {
     decoder.unclaim_bytes_read(claim);

@@ -192,7 +192,7 @@ pub(crate) fn decode_number<T: ShapedInteger, D: Decoder>(
     decoder: &mut D,
 ) -> Result<Value, DecodeError>
     requires { T.its.claim ≡ T.width }
-    ensures { Reads D.told D.rest D.charge D.failures D.place D.C.bound D.R.ended D.R.device (Unit {0})
+    ensures { Reads D.told D.rest D.charge D.failures D.place D.C.bound D.R.ended D.R.device ⊥
         (map_format (λ k. Number (T.spelling.integer k)) (T.spelling.words D.C.setting)) (IsImage T.shape)
         (D.charge decoder.old) result decoder.old decoder.new }
 {
@@ -204,7 +204,7 @@ pub(crate) fn decode_number<T: ShapedInteger, D: Decoder>(
 
 /// Reads a byte.
 pub(crate) fn decode_u8<D: Decoder>(decoder: &mut D) -> Result<Value, DecodeError>
-    ensures { Reads D.told D.rest D.charge D.failures D.place D.C.bound D.R.ended D.R.device (Unit {0})
+    ensures { Reads D.told D.rest D.charge D.failures D.place D.C.bound D.R.ended D.R.device ⊥
         (format_of shapes.U8 D.C.setting) (IsImage shapes.U8) (D.charge decoder.old) result decoder.old decoder.new }
 {
     match decode_byte(decoder) {
@@ -221,7 +221,7 @@ fn image_of_i8(number: i8) -> Value
 
 /// Reads a signed byte.
 pub(crate) fn decode_i8<D: Decoder>(decoder: &mut D) -> Result<Value, DecodeError>
-    ensures { Reads D.told D.rest D.charge D.failures D.place D.C.bound D.R.ended D.R.device (Unit {0})
+    ensures { Reads D.told D.rest D.charge D.failures D.place D.C.bound D.R.ended D.R.device ⊥
         (format_of shapes.I8 D.C.setting) (IsImage shapes.I8) (D.charge decoder.old) result decoder.old decoder.new }
 {
     match decode_signed_byte(decoder) {

@@ -12,7 +12,7 @@ use bincode_shape::shape::Value;
 
 /// Reads a truth value.
 pub(crate) fn decode_bool<D: Decoder>(decoder: &mut D) -> Result<Value, DecodeError>
-    ensures { Reads D.told D.rest D.charge D.failures D.place D.C.bound D.R.ended D.R.device (Unit {0})
+    ensures { Reads D.told D.rest D.charge D.failures D.place D.C.bound D.R.ended D.R.device ⊥
         (format_of shapes.Bool D.C.setting) (IsImage shapes.Bool) (D.charge decoder.old) result decoder.old
         decoder.new }
 {
@@ -24,7 +24,7 @@ pub(crate) fn decode_bool<D: Decoder>(decoder: &mut D) -> Result<Value, DecodeEr
 
 /// Reads a character.
 pub(crate) fn decode_character<D: Decoder>(decoder: &mut D) -> Result<Value, DecodeError>
-    ensures { Reads D.told D.rest D.charge D.failures D.place D.C.bound D.R.ended D.R.device (Unit {0})
+    ensures { Reads D.told D.rest D.charge D.failures D.place D.C.bound D.R.ended D.R.device ⊥
         (format_of shapes.Char D.C.setting) (IsImage shapes.Char) (D.charge decoder.old) result decoder.old
         decoder.new }
 {

@@ -14,8 +14,8 @@ use Rattle.bincode_decoder.proofs.ReadAnswers.{read-as, made-of}
 module _ {D A T U : Type 0} {told : D → Type 0} {rest : D → List ℕ} {charge failures : D → ℕ} {place : D → List GName} {limit : Option ℕ}
     {ended : ℕ → DecodeError → Type 0} {device : DeviceErrors} {G : Type 0} {F : Format A} {given : A → T → Type 0} {other : A → U → Type 0} {charged : ℕ} {old new : D} where
   -- it is made
-  pub read-made : {v : T} {u : U} → ((m : A) → given m v → other m u) → Reads told rest charge failures place limit ended device G F given charged (Ok v) old new →
-      Reads told rest charge failures place limit ended device (Unit {0}) F other charged (Ok u) old new
+  pub read-made : {H : Type 0} {v : T} {u : U} → ((m : A) → given m v → other m u) → Reads told rest charge failures place limit ended device G F given charged (Ok v) old new →
+      Reads told rest charge failures place limit ended device H F other charged (Ok u) old new
   read-made made read = read-as (λ known. made-of made (read.ok known)) (λ known. tt) read.within read
 
   -- memory is refused

@@ -5,6 +5,7 @@ use Rattle.std.proofs.lemmas.Result.{err_from_is_err_and}
 use Rattle.bincode_laws.specs.RunLaws.{array-passed}
 use Rattle.bincode_decoder.proofs.ReadAnswers.{claim-passed}
 use Rattle.bincode_shape.specs.ShapeLaws.{format_of-lawful, format_of-balanced}
+use Rattle.bincode_values.proofs.MadeAnswers.{read-refused, read-failed}
 use Rattle.bincode_values.proofs.Containers.{array-reads, length-stops, length-reads}
 use Rattle.bincode_values.proofs.Putting.{refused-so_far}
 use Rattle.bincode_values.proofs.Reading.{none-so_far, next-releases, next-so_far, stops-so_far, all-so_far}
@@ -42,7 +43,7 @@ decode_elements-decode_element-requires g t c = λ κs h. (omega (arith, c.decre
 pub decode_elements-returns-in_err-value-clause-read : goal.decode_elements-returns-in_err-value-clause-read
 decode_elements-returns-in_err-value-clause-read g t c =
     let p = err_from_is_err_and c.from_residual.result c.from_residual.ensures.1 in
-    rw (p.1, p.2) (stops-so_far c.loop.invariant.0 (omega arith) (λ k. k) c.in_err-value.ensures)
+    rw (p.1, p.2) (stops-so_far c.loop.invariant.0 (omega arith) (λ _. tt) c.in_err-value.ensures)
 
 pub decode_elements-returns-in_default-clause-read : goal.decode_elements-returns-in_default-clause-read
 decode_elements-returns-in_default-clause-read g t c =
@@ -64,7 +65,7 @@ pub decode_parts-returns-in_err-value : goal.decode_parts-returns-in_err-value
 decode_parts-returns-in_err-value g t c =
     let p = err_from_is_err_and c.from_residual.result c.from_residual.ensures.1 in
     rw (p.1, p.2)
-    (parts.stops-so_far c.loop-part.invariant (parts.next-part c.args.parts.now c.loop-part.part-index _ (omega arith) c.part-item.is) c.in_err-value.ensures)
+    (parts.stops-so_far c.loop-part.invariant (parts.next-part c.args.parts.now c.loop-part.part-index _ (omega arith) c.part-item.is) (λ _. tt) c.in_err-value.ensures)
 
 pub decode_parts-returns-in_default : goal.decode_parts-returns-in_default
 decode_parts-returns-in_default g t c =
@@ -87,7 +88,7 @@ decode_shape-returns-in-Ok g t c =
     (images.seq-reads g.D.C.Config.setting c.in-Seq.claim c.in-Seq.element c.in-Ok.items (rw (c.max.ensures, c.deref.ensures) at c.in-Ok.ensures))
 
 pub decode_shape-returns-in-Err : goal.decode_shape-returns-in-Err
-decode_shape-returns-in-Err g t c = rw c.in-Seq.is (images.stops-alike (rw (c.max.ensures, c.deref.ensures) at c.in-Err.ensures))
+decode_shape-returns-in-Err g t c = rw c.in-Seq.is (images.stops-alike (λ h. h) (rw (c.max.ensures, c.deref.ensures) at c.in-Err.ensures))
 
 pub decode_shape-returns-in-Ok-decode_array : goal.decode_shape-returns-in-Ok-decode_array
 decode_shape-returns-in-Ok-decode_array g t c =
@@ -97,7 +98,7 @@ decode_shape-returns-in-Ok-decode_array g t c =
 
 pub decode_shape-returns-in-Err-decode_array : goal.decode_shape-returns-in-Err-decode_array
 decode_shape-returns-in-Err-decode_array g t c =
-    rw c.in-Array.is (images.stops-alike (rw (c.max-in-Array.ensures, c.deref-in-Array.ensures) at c.in-Err-decode_array.ensures.read))
+    rw c.in-Array.is (images.stops-alike (λ h. h) (rw (c.max-in-Array.ensures, c.deref-in-Array.ensures) at c.in-Err-decode_array.ensures.read))
 
 pub decode_shape-returns-in-Ok-decode_parts : goal.decode_shape-returns-in-Ok-decode_parts
 decode_shape-returns-in-Ok-decode_parts g t c =
@@ -108,8 +109,13 @@ pub decode_shape-returns-in-Err-decode_parts : goal.decode_shape-returns-in-Err-
 decode_shape-returns-in-Err-decode_parts g t c =
     rw c.in-Tuple.is (images.tuple-stops g.D.C.Config.setting c.in-Tuple.parts (rw c.deref-in-Tuple.ensures.value at c.in-Err-decode_parts.ensures))
 
+pub decode_held-returns-in_err-value : goal.decode_held-returns-in_err-value
+decode_held-returns-in_err-value g t c =
+    let p = err_from_is_err_and c.from_residual.result c.from_residual.ensures.1 in
+    rw (p.1, p.2) (read-failed c.in_err-value.ensures)
+
 pub decode_held-returns : goal.decode_held-returns
-decode_held-returns g t c = optional.memory-stops g.D.C.Config.setting c.args.part.now c.in_ok-value.ensures
+decode_held-returns g t c = read-refused (format_of-lawful c.args.part.now g.D.C.Config.setting) refl c.in_ok-value.ensures
 
 pub decode_optional-returns-in-Ok-eq0 : goal.decode_optional-returns-in-Ok-eq0
 decode_optional-returns-in-Ok-eq0 g t c = optional.none-reads g.D.C.Config.setting c.args.part.now (omega arith) c.in-Ok-eq0.ensures.reads
@@ -130,7 +136,7 @@ pub decode_optional-returns-in-Err : goal.decode_optional-returns-in-Err
 decode_optional-returns-in-Err g t c = optional.byte-stops g.D.C.Config.setting c.args.part.now c.in-Err.ensures.reads
 
 pub decode_shape-returns-in-Err-decode_optional : goal.decode_shape-returns-in-Err-decode_optional
-decode_shape-returns-in-Err-decode_optional g t c = rw c.in-Optional.is (images.stops-alike (rw c.deref-in-Optional.ensures at c.in-Err-decode_optional.ensures))
+decode_shape-returns-in-Err-decode_optional g t c = rw c.in-Optional.is (images.stops-alike (λ h. h) (rw c.deref-in-Optional.ensures at c.in-Err-decode_optional.ensures))
 
 pub decode_choice-returns-then-is_empty : goal.decode_choice-returns-then-is_empty
 decode_choice-returns-then-is_empty g t c = chosen.none-stops g.D.C.Config.setting c.args.parts.now (eqb-true (length c.args.parts.now) 0 (sym c.if-is_empty.ensures)) (c.new.result, refl)

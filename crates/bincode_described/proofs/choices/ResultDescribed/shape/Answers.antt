@@ -1,5 +1,4 @@
-use Rattle.std.proofs.Common.{◌++◌, ◌∷◌, [], ◌∙◌, ap, refl}
-use Rattle.bincode_described.specs.Describing.{CountFrom}
+use Rattle.std.proofs.Common.{◌++◌, ◌∷◌, [], ◌∙◌, ap, arith, refl}
 use Rattle.bincode_described.proofs.Formats.{choice_described, next_variant_described, no_variants_described}
 use Rattle.bincode_described.proofs.choices.ResultDescribed.shape.Goals as goal
 
@@ -8,8 +7,7 @@ returns g c =
     let first = c.in_ok-parts.ensures in
     let second = c.in_ok-parts-2.ensures in
     let from_none = first.1 ∙ ap (λ z. z ++ first.0 ∷ []) c.new.ensures.items in
-    let one : CountFrom 1 (1 ∷ []) = (refl, tt) in
     record {
       described = λ s. choice_described c.in_ok-parts-2.parts _ s
-          (next_variant_described [] _ _ first.0 0 _ _ from_none first.2 (next_variant_described _ _ _ second.0 1 _ _ second.1 second.2 (no_variants_described _))) (refl, one);
+          (next_variant_described [] _ _ first.0 0 _ _ from_none first.2 (next_variant_described _ _ _ second.0 1 _ _ second.1 second.2 (no_variants_described _))) (omega arith, refl);
     }
