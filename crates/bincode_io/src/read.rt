@@ -17,6 +17,10 @@ pub use borrow::BorrowReader;
 
 /// A source of bytes, which are taken in order.
 pub trait Reader: Drop {
+    /// Whether a number is read from the bytes that a peek shows, where it shows as many as the longest word of its type
+    /// has, and not by `read` alone. The answers are the same. It pays where `read` does more than to copy from a slice.
+    const PEEKS_FIRST: bool = true;
+
     /// That it tells the bytes that are left. What is said of `rest` is said where it does.
     ghost told: { Self → Type 0 };
 
@@ -105,6 +109,8 @@ impl Reader for SliceReader<'_> {
     ghost use Rattle.bincode_io.specs.contracts.read.SliceReader.{the_row};
     ghost use mir.Syntax.{named};
 
+    const PEEKS_FIRST: bool = false;
+
     ghost told = { λ _. ⊤ };
 
     ghost rest = { left_of };
@@ -160,6 +166,8 @@ impl Reader for SliceReader<'_> {
 }
 
 impl<R: Reader> Reader for &mut R {
+    const PEEKS_FIRST: bool = R::PEEKS_FIRST;
+
     ghost told = { λ r. R.told r.now };
 
     ghost rest = { λ r. R.rest r.now };

@@ -1,3 +1,4 @@
 pub mod StdBytes
 pub mod WordAnswers
 pub mod Words
+pub mod Windows

@@ -131,8 +131,26 @@ pub fn read_array<R: Reader, const N: usize>(read: &mut R) -> Result<[u8; N], De
     Ok(bytes)
 }
 
-/// Reads one byte.
+/// Reads one byte: the one that a peek shows, where the reader says that it peeks first.
+#[inline(always)]
 pub fn read_byte<R: Reader>(read: &mut R) -> Result<u8, DecodeError>
+    ensures { ReadsWord R.told R.rest R.failures R.place R.ended R.device byte (λ v. v) result read.old
+        read.new }
+{
+    if !R::PEEKS_FIRST {
+        return read_byte_plain(read);
+    }
+    match read.peek_read(1) {
+        Some(&[shown]) => {
+            read.consume(1);
+            Ok(shown)
+        }
+        _ => read_byte_plain(read),
+    }
+}
+
+/// The same by `read` alone.
+pub(crate) fn read_byte_plain<R: Reader>(read: &mut R) -> Result<u8, DecodeError>
     ensures { ReadsWord R.told R.rest R.failures R.place R.ended R.device byte (λ v. v) result read.old
         read.new }
 {

@@ -1,15 +1,16 @@
 //! Unsigned numbers, read in any spelling.
-ghost use Rattle.std.specs.Prelude.{◌≡◌, ◌<◌, ◌≤◌, ◌^◌, IfOk};
+ghost use Rattle.std.specs.Prelude.{◌≡◌, ◌<◌, ◌≤◌, ◌^◌, IfOk, IfErr, IfSome};
 ghost use Rattle.bincode_format.specs.Integers.{varint, unsigned_tag, tags_of};
 ghost use Rattle.bincode_format.specs.Reads.{ReadsWord};
+ghost use Rattle.bincode_varint.specs.Window.{FrontIs, FrontFails};
 ghost use Rattle.bincode_base.specs.declared.error.DecodeError.TheVariants.{InvalidIntegerType};
 ghost use Rattle.bincode_base.specs.declared.error.IntegerType.TheVariants.{U16, U32, U64, U128, Usize};
 
 use super::{SINGLE_BYTE_MAX, U16_BYTE, U32_BYTE, U64_BYTE, U128_BYTE};
-use crate::bytes::{read_byte, read_u16, read_u32, read_u64, read_u128};
+use crate::bytes::{read_byte_plain, read_u16, read_u32, read_u64, read_u128};
 use bincode_base::config::Endianness;
 use bincode_base::error::{DecodeError, IntegerType};
-use bincode_io::read::Reader;
+use bincode_io::read::{Reader, SliceReader};
 
 /// Reads a word of a number, also one that is longer than its shortest spelling. Fails where bytes are missing, and
 /// where the tag is too wide for the type or reserved.
@@ -59,8 +60,10 @@ pub fn varint_decode_usize<R: Reader>(
     Ok(n as usize)
 }
 
-/// The same for a number of so many bytes, of which a fault speaks by name.
-#[inline]
+/// The same for a number of so many bytes, of which a fault speaks by name. Where the reader says that it peeks first, and
+/// shows as many bytes as the longest word has, the number is read from these: just its word is taken, and nothing where
+/// its tag is refused.
+#[inline(always)]
 pub(crate) fn varint_decode<R: Reader>(
     read: &mut R,
     endian: Endianness,
@@ -71,7 +74,55 @@ pub(crate) fn varint_decode<R: Reader>(
         (varint (tags_of name) name endian width) (λ v. v) result read.old read.new }
     ensures fits { 2 ≤ width → IfOk result (λ v. v < 256 ^ width) }
 {
-    let tag = read_byte(read)?;
+    if !R::PEEKS_FIRST {
+        return varint_decode_plain(read, endian, name, width);
+    }
+    if let Some(window) = read.peek_read(width.saturating_add(1)) {
+        if let Some((n, taken)) = number_of_window(window, endian, name, width)? {
+            read.consume(taken);
+            return Ok(n);
+        }
+    }
+    varint_decode_plain(read, endian, name, width)
+}
+
+/// The number that a window begins with, and how many bytes its word has, if all of them stand there. Fails where the
+/// tag is too wide for the type or reserved.
+#[inline(always)]
+fn number_of_window(
+    window: &[u8],
+    endian: Endianness,
+    name: IntegerType,
+    width: usize,
+) -> Result<Option<(u128, usize)>, DecodeError>
+    ensures word { IfOk result (λ found. IfSome found (λ x. FrontIs (varint (tags_of name) name endian width)
+        window.now x.0 x.1)) }
+    ensures fits { 2 ≤ width → IfOk result (λ found. IfSome found (λ x. x.0 < 256 ^ width)) }
+    ensures tag { IfErr result (FrontFails (varint (tags_of name) name endian width) window.now) }
+{
+    let mut front = SliceReader::new(window);
+    match varint_decode_plain(&mut front, endian, name, width) {
+        Ok(n) => Ok(Some((n, window.len() - front.bytes_left()))),
+        Err(DecodeError::InvalidIntegerType { expected, found }) => {
+            Err(DecodeError::InvalidIntegerType { expected, found })
+        }
+        Err(_) => Ok(None),
+    }
+}
+
+/// The same by `read` alone: the tag, and then the bytes behind it.
+#[inline(always)]
+fn varint_decode_plain<R: Reader>(
+    read: &mut R,
+    endian: Endianness,
+    name: IntegerType,
+    width: usize,
+) -> Result<u128, DecodeError>
+    ensures word { ReadsWord R.told R.rest R.failures R.place R.ended R.device
+        (varint (tags_of name) name endian width) (λ v. v) result read.old read.new }
+    ensures fits { 2 ≤ width → IfOk result (λ v. v < 256 ^ width) }
+{
+    let tag = read_byte_plain(read)?;
     if tag <= SINGLE_BYTE_MAX {
         return Ok(u128::from(tag));
     }

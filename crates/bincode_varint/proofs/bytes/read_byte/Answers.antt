@@ -1,12 +1,7 @@
-use Rattle.std.proofs.lemmas.Result.{err_from_is_err_and}
-use Rattle.bincode_varint.proofs.Words.{byte-took, byte-failed}
-use Rattle.bincode_varint.proofs.WordAnswers.{part-fails, part-gives}
+use Rattle.bincode_varint.proofs.Windows.{byte-shown, window-reads}
 use Rattle.bincode_varint.proofs.bytes.read_byte.Goals as goal
 
-pub returns-in_err-bytes : goal.returns-in_err-bytes
-returns-in_err-bytes g c =
-    let p = err_from_is_err_and c.from_residual.result c.from_residual.ensures.1 in
-    rw (p.1, p.2) (part-fails (byte-failed _) c.in_err-bytes.ensures)
-
-pub returns : goal.returns
-returns g c = part-gives (byte-took _ _ _) c.in_ok-bytes.ensures
+pub returns-in-Some-len1 : goal.returns-in-Some-len1
+returns-in-Some-len1 g c =
+    window-reads 1 (byte-shown c.in-Some-len1.field-0.now c.in-Some-len1.ensures.next.0) (λ known. c.in-Some-len1.ensures.next.1 known)
+    c.peek_read.follows.holds-at-none.0 c.consume.ensures
