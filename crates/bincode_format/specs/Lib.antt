@@ -35,3 +35,4 @@ pub mod Claims
 pub mod Slice
 pub mod Vec
 pub mod Agree
+pub mod Alike

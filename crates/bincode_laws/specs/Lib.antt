@@ -43,3 +43,4 @@ pub mod TupleLaws
 pub mod ChargedLaws
 pub mod RowLaws
 pub mod WordsLaws
+pub mod AlikeLaws
