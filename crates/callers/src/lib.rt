@@ -10,3 +10,4 @@ pub mod limits;
 pub mod longer;
 pub mod looped;
 pub mod rooms;
+pub mod shows;

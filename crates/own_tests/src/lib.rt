@@ -23,6 +23,8 @@ mod own;
 #[cfg(test)]
 mod readers;
 #[cfg(test)]
+mod shown;
+#[cfg(test)]
 mod stores;
 #[cfg(test)]
 mod tables;
