@@ -8,7 +8,7 @@ use bincode::{BorrowDecode, Wire, borrow_decode_from_slice, encode_into_slice};
 use std::alloc::{AllocError, Global};
 use std::collections::BTreeMap;
 use std::net::{IpAddr, Ipv4Addr, Ipv6Addr, SocketAddr, SocketAddrV4, SocketAddrV6};
-use test_helpers::checks::{either, fault_of, is_passed, is_written_as, keeps, read_front, within};
+use test_helpers::checks::{decoded, either, fault_of, is_passed, is_written_as, keeps, within};
 use test_helpers::rows::{first_unequal, first_wrong};
 
 /// The word of ::1 with the port 12345.
@@ -225,8 +225,12 @@ fn reads_one_key_where_scopes_differ(rt: HostRuntime) {
     let alloc = rt.alloc();
     let map = either(scopes(alloc), scopes(alloc));
     assert!(rt; is_written_as(alloc, map, &TWICE));
-    let read: Option<BTreeMap<SocketAddrV6, u8>> = read_front(alloc, &TWICE, 37);
-    let Some(map) = read else {
+    let outcome: Result<(BTreeMap<SocketAddrV6, u8>, usize), DecodeError> = decoded(
+        alloc,
+        &TWICE,
+        config::standard(),
+    );
+    let Ok((map, 37)) = outcome else {
         assert!(rt; false);
         return;
     };

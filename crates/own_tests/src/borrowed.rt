@@ -11,12 +11,16 @@ use examples::never::Never;
 use examples::note::Note;
 use std::alloc::Global;
 
-/// What is read from the front of these bytes, and how many bytes that takes.
+/// What is read from the front of these bytes, and how many bytes that takes. Where memory is refused they are read once
+/// more.
 fn borrowed<'a, T: BorrowDecode<&'a [u8], ()>>(
     alloc: Global,
     input: &'a [u8],
 ) -> Result<(T, usize), DecodeError> {
-    borrow_decode_from_slice(alloc, input, config::standard())
+    match borrow_decode_from_slice(alloc, input, config::standard()) {
+        Err(DecodeError::Memory) => borrow_decode_from_slice(alloc, input, config::standard()),
+        outcome => outcome,
+    }
 }
 
 #[test]

@@ -5,6 +5,8 @@
 #[cfg(test)]
 mod borrowed;
 #[cfg(test)]
+mod broken;
+#[cfg(test)]
 mod collected;
 #[cfg(test)]
 mod containers;

@@ -68,7 +68,8 @@ fn tells_where_a_store_is_cut(rt: HostRuntime) {
     }
 }
 
-/// What comes of appending a value under a limit, tried once more where it fails, since memory may be refused once.
+/// What comes of appending a value under a limit, tried once more where it fails by something else, since memory may be
+/// refused once.
 fn appended<const N: usize>(
     alloc: Global,
     store: &mut Vec<u8>,
@@ -76,8 +77,11 @@ fn appended<const N: usize>(
 ) -> Result<usize, AppendError> {
     let settings = config::standard().with_limit::<N>();
     match append(alloc, store, value, settings) {
-        Ok(size) => Ok(size),
+        Err(AppendError::ReadBack(DecodeError::LimitExceeded)) => {
+            Err(AppendError::ReadBack(DecodeError::LimitExceeded))
+        }
         Err(_) => append(alloc, store, value, settings),
+        outcome => outcome,
     }
 }
 

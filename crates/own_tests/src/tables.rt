@@ -1,8 +1,15 @@
 //! What is told of a table of worked rows, one of which doesn't hold.
 
+use crate::broken::{Broken, BrokenBehind};
+use bincode::config::Config;
+use bincode::de::Decode;
+use bincode::error::DecodeError;
 use std::alloc::Global;
-use worked_rows::case::{Case, Encoding, Setting, Value};
+use std::marker::PhantomData;
+use test_helpers::checks::either;
+use worked_rows::case::{Case, Encoding, Input, Limited, Setting, Value};
 use worked_rows::rows::{Row, more_cases, run, tables};
+use worked_rows::run::holds;
 use worked_rows::sources::{Buffered, Bytewise, Slice, Source};
 
 /// A row that holds, and one that does not.
@@ -33,22 +40,43 @@ const TEXT: &str = "right ok\nwrong FAIL\nrows 2 failed 1\n";
 fn tells_a_wrong_word(rt: HostRuntime) {
     let mut bytes = [0u8; 36];
     for room in 0..=TEXT.len() {
-        let mut device = &mut bytes[..room];
-        let failed = run::<Slice, _>(rt.alloc(), &[&TWO], &mut device).ok();
+        let failed = either(
+            run::<Slice, _>(rt.alloc(), &[&TWO], &mut &mut bytes[..room]),
+            run::<Slice, _>(rt.alloc(), &[&TWO], &mut &mut bytes[..room]),
+        );
         let wanted = if room == TEXT.len() { Some(1) } else { None };
         assert!(rt; failed == wanted);
     }
     assert!(rt; bytes.as_slice() == TEXT.as_bytes());
 }
 
-/// Whether each case of a table holds where what is decoded is read from `S`. Where memory is refused they are run once
-/// more.
+/// A source from which is read once more where memory is refused.
+struct Again<S>(PhantomData<S>);
+
+impl<S: Source> Source for Again<S> {
+    fn decode<T: Decode<()>, C: Config>(
+        alloc: Global,
+        input: &[u8],
+        config: C,
+    ) -> Result<(T, usize), DecodeError> {
+        match S::decode(alloc, input, config) {
+            Err(DecodeError::Memory) => S::decode(alloc, input, config),
+            outcome => outcome,
+        }
+    }
+
+    fn missing(error: &DecodeError) -> Option<usize> {
+        S::missing(error)
+    }
+}
+
+/// Whether each case of a table holds where what is decoded is read from `S`. Where memory is refused to the cases they
+/// are run once more.
 fn all_hold<S: Source>(alloc: Global, rows: &[Row]) -> bool {
     let mut bytes = [0u8; 1_000];
-    let first = run::<S, _>(alloc, &[rows], &mut &mut bytes[..]).ok();
-    let failed = match first {
-        Some(failed) => Some(failed),
-        None => run::<S, _>(alloc, &[rows], &mut &mut bytes[..]).ok(),
+    let failed = match run::<Again<S>, _>(alloc, &[rows], &mut &mut bytes[..]) {
+        Ok(failed) => Some(failed),
+        Err(_) => run::<Again<S>, _>(alloc, &[rows], &mut &mut bytes[..]).ok(),
     };
     failed == Some(0)
 }
@@ -69,5 +97,57 @@ fn reads_the_rows_from_streams(rt: HostRuntime) {
         assert!(rt; all_hold::<Buffered<1>>(alloc, rows));
         assert!(rt; all_hold::<Buffered<4>>(alloc, rows));
         assert!(rt; all_hold::<Buffered<64>>(alloc, rows));
+    }
+}
+
+/// A stream that breaks is told as broken at each of its calls, until it has given what the answer rests on.
+#[test]
+fn reads_the_rows_from_broken_streams(rt: HostRuntime) {
+    let alloc = rt.alloc();
+    let [first, second, _] = tables();
+    for rows in [first, second, more_cases()] {
+        assert!(rt; all_hold::<Broken>(alloc, rows));
+        assert!(rt; all_hold::<BrokenBehind>(alloc, rows));
+    }
+}
+
+/// Whether a case is decoded from its slice without memory: it is of a number, a truth value, a character, a choice, a
+/// span of time or a pair, or its length passes the limit.
+fn takes_no_memory(case: &Case) -> bool {
+    match case {
+        Case::Decode(input) => {
+            !matches!(input, Input::Text(_) | Input::Map(_) | Input::CString(_))
+        }
+        Case::DecodeWithin(limited) => {
+            matches!(
+                limited,
+                Limited::U16To2(_)
+                    | Limited::U64To7(_)
+                    | Limited::U64To8(_)
+                    | Limited::CharTo0(_)
+                    | Limited::PairTo15(_)
+                    | Limited::PairTo16(_)
+                    | Limited::TextTo100000(_)
+                    | Limited::ListTo100000(_)
+            )
+        }
+        _ => false,
+    }
+}
+
+/// Those cases hold, and this asks for no memory.
+#[test]
+fn decodes_cases_without_memory(rt: HostRuntime) {
+    let [first, second, _] = tables();
+    for rows in [first, second] {
+        for row in rows {
+            let label = row.label;
+            if takes_no_memory(&row.case) {
+                assert!(rt;
+                    matches!(holds::<Slice>(rt.alloc(), &row.case), Ok(true)),
+                    "{label}"
+                );
+            }
+        }
     }
 }

@@ -13,9 +13,12 @@ pub fn borrows(alloc: Global, borrowed: &Borrowed) -> bool {
     }
 }
 
-/// What the input lends as a list.
+/// What the input lends as a list. Where memory is refused it is read once more.
 fn list_of(alloc: Global, input: &[u8]) -> Result<(Vec<&str>, usize), DecodeError> {
-    borrow_decode_from_slice(alloc, input, config::standard())
+    match borrow_decode_from_slice(alloc, input, config::standard()) {
+        Err(DecodeError::Memory) => borrow_decode_from_slice(alloc, input, config::standard()),
+        outcome => outcome,
+    }
 }
 
 /// What it lends as an array of three.

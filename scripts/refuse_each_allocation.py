@@ -1,0 +1,246 @@
+#!/usr/bin/env python3
+"""Refuses each allocation of each test in turn: a test has to pass whichever one of them is refused.
+
+usage: refuse_each_allocation.py [--jobs N] [--most N] [--only WORD] [CRATE ..]
+
+CRATE is a crate with tests, and by default each of bincode_tests, own_tests and shape_tests. --only leaves the tests whose names
+have WORD in them, --most leaves the first N allocations of each test, and --jobs says how many run at once (2 by default).
+It proves nothing.
+
+The tests of a crate are built once, by `rt try --test --fail-alloc`, which makes an executable that counts the allocations (each
+growth of a block counts as one) and refuses the one with a number that stands in its code. Here that number is changed in a copy.
+So it is known how many allocations a test asks for: the greatest number that is met, where meeting it is made to stop the test.
+Then the test runs once for each of them, with that one refused.
+
+The tests of WITHOUT_MEMORY run with every allocation refused, and fail here if they ask for one.
+
+It prints a line for each run that failed and one for each crate, and ends with status 1 if a run failed, and 2 if it could not
+read the executable.
+"""
+
+import argparse
+import glob
+import multiprocessing
+import os
+import shutil
+import subprocess
+import sys
+import tempfile
+import time
+from pathlib import Path
+
+CRATES = ["bincode_tests", "own_tests", "shape_tests"]
+
+# The calls of these tests take no memory: what builds configurations, the varint calls over a slice, the claims, the readers and
+# writers of a slice and the one that counts, encoding plain values into a slice, and decoding from a slice, owned what holds
+# nothing on the heap and borrowed bytes and texts. And a length that passes the limit is told before its room is asked for.
+WITHOUT_MEMORY = {
+    "bincode_tests": [
+        "configurations::changes_each_part",
+        "varints::writes_each_type",
+        "varints::reads_each_type",
+        "coders::claims_and_gives_back",
+        "coders::claims_without_a_limit",
+        "readers::shows_and_takes",
+        "writers::refuses_a_piece_whole",
+        "writers::writes_into_the_front_of_a_slice",
+        "writers::counts_no_further_than_it_can",
+        "numbers::keeps_numbers",
+        "numbers::writes_the_highest_byte_first",
+        "numbers::goes_on_behind_no_number",
+        "composites::keeps_tuples",
+        "composites::keeps_sixteen_bytes",
+        "composites::reserves_for_arrays",
+        "composites::keeps_an_array_of_none",
+        "composites::keeps_an_outcome",
+        "composites::keeps_wrappers",
+        "composites::reads_an_inclusive_range",
+        "composites::names_a_tag_that_no_choice_has",
+        "composites::goes_on_behind_no_value",
+        "addresses::keeps_addresses",
+        "addresses::writes_addresses",
+        "addresses::charges_octets_before_it_reads",
+        "runs::writes_bytes_whole_or_not_at_all",
+        "runs::writes_signed_bytes_in_turn",
+        "borrowed::takes_bytes",
+        "borrowed::borrows_in_turn",
+        "borrowed::lends_bytes_within_the_limit",
+        "borrowed::lends_under_fixed_numbers",
+        "borrowed::lends_what_may_be_owned",
+        "borrowed::lends_with_a_context",
+        "borrowed::tells_faults_of_texts",
+    ],
+    "own_tests": [
+        "tables::decodes_cases_without_memory",
+        "limits::claims_before_it_reserves",
+        "limits::reads_back_within_the_peak",
+        "borrowed::lends_to_a_struct",
+        "borrowed::lends_to_an_enum",
+        "borrowed::borrows_a_pair",
+    ],
+    "shape_tests": [],
+}
+
+# A number that no count of allocations comes to, and that stands nowhere else in the code.
+MARK = 1_234_567_891
+
+# `cmp rax, MARK`; then come `jne` over so many bytes, and what answers that there is no memory, which begins with `xor eax, eax`.
+COMPARES = b"\x48\x3d" + MARK.to_bytes(4, "little")
+JUMPS_UNLESS_EQUAL, JUMPS_IF_BELOW = b"\x75", b"\x72"
+ANSWERS_NOTHING, STOPS = b"\x31\xc0", b"\x0f\x0b"
+
+SECONDS = 60
+
+
+def stop(text):
+    """Ends the script, since it could judge nothing."""
+    print(f"refuse_each_allocation: {text}", file=sys.stderr)
+    sys.exit(2)
+
+
+def places_in(program):
+    """Where the number stands in the executable: once for new blocks, and once for those that grow."""
+    code = program.read_bytes()
+    places = []
+    start = code.find(COMPARES)
+    while start >= 0:
+        place = start + 2
+        is_known = code[place + 4 : place + 5] == JUMPS_UNLESS_EQUAL and code[place + 6 : place + 8] == ANSWERS_NOTHING
+        if not is_known:
+            stop("the executable has another form than this script knows: was another kit at work?")
+        places.append(place)
+        start = code.find(COMPARES, start + 1)
+    return places
+
+
+def build(crate, folder):
+    """Builds the tests of the crate in this folder, and answers the executable, which rt itself removes."""
+    words = ["rt", "try", "--test", "--fail-alloc", str(MARK)]
+    log = folder / "log"
+    kept = []
+    with log.open("wb") as out:
+        how = {"stdout": out, "stderr": out, "env": {**os.environ, "TMPDIR": str(folder)}}
+        tool = subprocess.Popen(words, cwd=crate, **how)
+        while tool.poll() is None:
+            for it in glob.glob(f"{folder}/**/program", recursive=True):
+                if len(kept) < 3:
+                    kept.append(folder / f"kept-{len(kept)}")
+                    try:
+                        os.link(it, kept[-1])
+                    except FileNotFoundError:
+                        kept.pop()
+            time.sleep(0.02)
+    if tool.returncode:
+        stop(f"the tests of {crate.name} do not pass:\n{log.read_text(errors='replace')[-2000:]}")
+    for it in kept:
+        if len(places_in(it)) == 2:
+            return it
+    stop(f"the executable of {crate.name} was not found")
+
+
+class Runner:
+    """A copy of the executable, whose number and code change from run to run."""
+
+    def __init__(self, program, places):
+        self.file = Path(tempfile.mkdtemp(dir=program.parent)) / "program"
+        shutil.copy(program, self.file)
+        self.places = places
+
+    def passes(self, test, number, jump=JUMPS_UNLESS_EQUAL, answer=ANSWERS_NOTHING):
+        """Whether the test passes with this number in the code."""
+        with self.file.open("r+b") as code:
+            for place in self.places:
+                code.seek(place)
+                code.write(number.to_bytes(4, "little") + jump)
+                code.seek(place + 6)
+                code.write(answer)
+        words = [self.file, test]
+        how = {"stdin": subprocess.DEVNULL, "stdout": subprocess.DEVNULL, "stderr": subprocess.DEVNULL, "env": {}}
+        try:
+            return subprocess.run(words, cwd=self.file.parent, timeout=SECONDS, **how).returncode == 0
+        except subprocess.TimeoutExpired:
+            return False
+
+    def asked(self, test):
+        """How many allocations the test asks for, where none is refused."""
+        least, most = 0, 1
+        while not self.passes(test, most, answer=STOPS):
+            least, most = most, most * 2
+            if most > MARK:
+                raise RuntimeError(f"{test} does not pass in {SECONDS} seconds, where no allocation is refused")
+        while most - least > 1:
+            middle = (least + most) // 2
+            if self.passes(test, middle, answer=STOPS):
+                most = middle
+            else:
+                least = middle
+        return least
+
+
+def begin(*words):
+    """Gives each process a runner of its own."""
+    global RUNNER
+    RUNNER = Runner(*words)
+
+
+def asked(test):
+    return test, RUNNER.asked(test)
+
+
+def passes_without(run):
+    test, number = run
+    return test, number, RUNNER.passes(test, number)
+
+
+def passes_without_any(test):
+    return test, RUNNER.passes(test, 1, jump=JUMPS_IF_BELOW)
+
+
+def sweep(crate, program, given):
+    """Runs each test of the crate without each of its allocations, and answers how many runs failed."""
+    listed = subprocess.run([program, "--list"], stdout=subprocess.PIPE, check=True, text=True).stdout
+    tests = [it.removesuffix(": test") for it in listed.splitlines() if it.endswith(": test")]
+    without = WITHOUT_MEMORY.get(crate.name, [])
+    gone = [it for it in without if it not in tests]
+    if gone:
+        stop(f"{crate.name} has no test {gone[0]}")
+    tests = [it for it in tests if given.only in it]
+    without = [it for it in without if given.only in it]
+    failed = 0
+    with multiprocessing.Pool(given.jobs, begin, (program, places_in(program))) as pool:
+        counts = dict(pool.imap_unordered(asked, tests))
+        for test, holds in pool.imap_unordered(passes_without_any, without):
+            if counts[test] or not holds:
+                failed += 1
+                print(f"FAILED {crate.name} {test}, with every allocation refused", flush=True)
+        runs = [(test, number + 1) for test in tests for number in range(counts[test]) if number < given.most]
+        for test, number, holds in pool.imap_unordered(passes_without, runs, 8):
+            if not holds:
+                failed += 1
+                print(f"FAILED {crate.name} {test}, with allocation {number} of {counts[test]} refused", flush=True)
+    print(
+        f"{crate.name}: {len(tests)} tests, {len(runs)} of {sum(counts.values())} allocations refused, each in a run of its own;"
+        f" {len(without)} tests with every allocation refused; {failed} runs failed",
+        flush=True,
+    )
+    return failed
+
+
+def main():
+    asks = argparse.ArgumentParser(description=__doc__, formatter_class=argparse.RawDescriptionHelpFormatter)
+    asks.add_argument("--jobs", type=int, default=2)
+    asks.add_argument("--most", type=int, default=MARK)
+    asks.add_argument("--only", default="")
+    asks.add_argument("crates", nargs="*", default=CRATES)
+    given = asks.parse_args()
+    top = Path(__file__).resolve().parent.parent / "crates"
+    failed = 0
+    for name in given.crates:
+        with tempfile.TemporaryDirectory(prefix="refused-") as folder:
+            crate = top / name
+            failed += sweep(crate, build(crate, Path(folder)), given)
+    sys.exit(1 if failed else 0)
+
+
+if __name__ == "__main__":
+    main()
