@@ -23,6 +23,7 @@ use std::alloc::Global;
 
 /// Writes a value into the front of a slice, and answers how many bytes it took. Fails with `UnexpectedEnd` where the
 /// slice is too short, and with the errors that the type names; then a front of the word may stand in the slice.
+#[inline]
 pub fn encode_into_slice<E: Encode, C: Config>(
     val: E,
     dst: &mut [u8],

@@ -8,7 +8,8 @@ use crate::writer::encode_with;
 use bincode_base::config::Config;
 use bincode_base::error::EncodeError;
 use bincode_enc::encode::Encode;
-use bincode_io::write::{SizeWriter, VecWriter};
+use bincode_io::room_counter::RoomCounter;
+use bincode_io::write::VecWriter;
 use std::alloc::Global;
 
 /// Writes a value into a new vector, which holds its word and nothing else. Fails with `Memory` where memory is
@@ -32,7 +33,7 @@ pub fn encode_to_vec<E: Encode, C: Config>(
         (AllowedWord (E.its.means val) (E.its.format C.setting)))
         E.its.names result }
 {
-    let mut counter = SizeWriter::default();
+    let mut counter = RoomCounter::default();
     encode_with(&val, &mut counter, &config)?;
     let mut writer = VecWriter::with_capacity(alloc, counter.bytes_written)?;
     encode_with(&val, &mut writer, &config)?;

@@ -4,6 +4,7 @@
 pub mod io_read;
 pub mod io_write;
 pub mod read;
+pub mod room_counter;
 mod size_writer;
 mod vec_writer;
 pub mod write;

@@ -1,5 +1,5 @@
 //! A writer into a vector.
-ghost use Rattle.std.specs.Prelude.{◌≡◌, ◌+◌, ◌<◌, ◌≤◌, ◌++◌, [], length};
+ghost use Rattle.std.specs.Prelude.{◌≡◌, ◌+◌, ◌-◌, ◌<◌, ◌≤◌, ◌⊎◌, ◌++◌, [], length, vec_capacity};
 ghost use Rattle.std.specs.Prelude.{IsOk, IfOk, IfErr, None};
 ghost use Rattle.std.proofs.Common.{◌∙◌, ap, sym, inl, inr, le_refl, le_trans, append_assoc, refl};
 ghost use Rattle.std.proofs.lemmas.List.{append-nil};
@@ -9,6 +9,7 @@ ghost use Rattle.bincode_io.specs.RoomLaws.{first-empty, second-empty};
 use crate::write::Writer;
 use bincode_base::error::EncodeError;
 use std::alloc::Global;
+use std::mem::replace;
 
 /// A writer into a vector, which grows where its room is too small. Fails with `Memory` where the memory to grow is
 /// refused; it then holds what it held.
@@ -41,6 +42,40 @@ impl VecWriter {
         let VecWriter { bytes } = self;
         bytes
     }
+
+    /// How many more bytes it has room for before it must grow.
+    #[inline(always)]
+    fn room_left(&self) -> usize
+        ensures { result ≡ capacity_of self.now - length (held_by self.now) }
+    {
+        self.bytes.capacity() - self.bytes.len()
+    }
+
+    /// Makes room for so many more bytes, unless memory is refused. The vector is handed over and back by value, for
+    /// speed: a vector that is lent to a call, here for its growth, stays in memory, also around writes that need none.
+    #[inline(always)]
+    fn grow(&mut self, additional: usize)
+        ensures bytes { held_by self.new ≡ held_by self.old }
+        ensures room { (length (held_by self.old) + additional ≤ capacity_of self.new)
+            ⊎ (capacity_of self.new ≡ capacity_of self.old) }
+        ensures capacity { capacity_of self.old ≤ capacity_of self.new }
+    {
+        let empty = Vec::new(*self.bytes.allocator());
+        let bytes = replace(&mut self.bytes, empty);
+        self.bytes = with_room(bytes, additional);
+    }
+}
+
+/// The same bytes with room for so many more, or as they were where memory is refused.
+#[cold]
+#[inline(never)]
+fn with_room(mut bytes: Vec<u8>, additional: usize) -> Vec<u8>
+    ensures bytes { result.items ≡ bytes.items }
+    ensures room { (length bytes.items + additional ≤ vec_capacity result) ⊎ (vec_capacity result ≡ vec_capacity bytes) }
+    ensures capacity { vec_capacity bytes ≤ vec_capacity result }
+{
+    let _refused = bytes.reserve(additional);
+    bytes
 }
 
 impl Writer for VecWriter {
@@ -65,7 +100,10 @@ impl Writer for VecWriter {
         if bytes.is_empty() {
             return Ok(());
         }
-        if self.bytes.reserve(bytes.len()).is_err() {
+        if self.room_left() < bytes.len() {
+            self.grow(bytes.len());
+        }
+        if self.room_left() < bytes.len() {
             return Err(EncodeError::Memory);
         }
         if let [byte] = bytes {

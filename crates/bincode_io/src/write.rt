@@ -1,5 +1,5 @@
 //! Writers.
-ghost use Rattle.std.specs.Prelude.{◌≡◌, ◌+◌, ◌-◌, ◌<◌, ◌≤◌, ◌⊎◌, ℕ, List, []};
+ghost use Rattle.std.specs.Prelude.{◌≡◌, ◌+◌, ◌-◌, ◌^◌, ◌<◌, ◌≤◌, ◌⊎◌, ℕ, List, []};
 ghost use Rattle.std.specs.Prelude.{◌∷◌, ◌++◌, length, Option, Some, OnOk, IfErr};
 ghost use Rattle.std.specs.Borrow.{GName};
 ghost use Rattle.std.proofs.Common.{rules, sym, ◌∙◌, ap, arith, le_refl, refl};
@@ -130,7 +130,7 @@ impl Writer for SliceWriter<'_> {
             return Err(EncodeError::UnexpectedEnd);
         }
         let end = self.written + bytes.len();
-        self.slice[self.written..end].copy_from_slice(bytes);
+        copy_piece(&mut self.slice[self.written..end], bytes);
         self.written = end;
         Ok(())
     }
@@ -155,6 +155,57 @@ impl Writer for SliceWriter<'_> {
 
     ghost adds_room = { λ a b piece h. room-taken (length (bytes_of a)) (count_of a) (length (bytes_of b)) (count_of b)
         piece h.0 h.2 b.within };
+}
+
+/// Copies a piece over as many bytes: a short one by its first and its last bytes, which may be the same ones.
+#[inline(always)]
+fn copy_piece(target: &mut [u8], piece: &[u8])
+    requires { length target.old ≡ length piece.now }
+    ensures { target.new ≡ piece.now }
+{
+    if piece.len() > 32 {
+        copy_long(target, piece);
+    } else if piece.len() >= 16 {
+        copy_ends::<16>(target, piece);
+    } else if piece.len() >= 8 {
+        copy_ends::<8>(target, piece);
+    } else if piece.len() >= 4 {
+        copy_ends::<4>(target, piece);
+    } else if piece.len() >= 2 {
+        copy_ends::<2>(target, piece);
+    } else if piece.len() == 1 {
+        copy_ends::<1>(target, piece);
+    }
+}
+
+/// The same for a long piece. It stands apart, so that `copy_piece` stays small where it is inlined.
+#[inline(never)]
+fn copy_long(target: &mut [u8], piece: &[u8])
+    requires { length target.old ≡ length piece.now }
+    ensures { target.new ≡ piece.now }
+{
+    target.copy_from_slice(piece);
+}
+
+/// The same for a piece of `N` to twice `N` bytes.
+#[inline(always)]
+fn copy_ends<const N: usize>(target: &mut [u8], piece: &[u8])
+    requires same { length target.old ≡ length piece.now }
+    requires enough { (N ≤ length piece.now) × (length piece.now ≤ N + N) × (N < 2 ^ 63) }
+    ensures { target.new ≡ piece.now }
+{
+    let Some(front) = piece.first_chunk::<N>() else {
+        return;
+    };
+    let Some(back) = piece.last_chunk::<N>() else {
+        return;
+    };
+    if let Some(place) = target.first_chunk_mut::<N>() {
+        *place = *front;
+    }
+    if let Some(place) = target.last_chunk_mut::<N>() {
+        *place = *back;
+    }
 }
 
 impl<W: Writer> Writer for &mut W {

@@ -1,22 +1,23 @@
 use Rattle.std.proofs.lemmas.Result.{err_from_is_err_and}
-use Rattle.bincode.proofs.Counted.{halted-count, fails-counted}
-use Rattle.bincode.proofs.Empty.{size-empty, vec-empty, counted-empty}
+use Rattle.std.proofs.Common.{inl, inr}
+use Rattle.bincode.proofs.Counted.{halted-named}
+use Rattle.bincode.proofs.Empty.{vec-empty, counted-empty}
 use Rattle.bincode.proofs.vec.encode_to_vec.Goals as goal
 
 pub returns-in_err-encode_with-clause-fault : goal.returns-in_err-encode_with-clause-fault
 returns-in_err-encode_with-clause-fault g c =
     let p = err_from_is_err_and c.from_residual.result c.from_residual.ensures.1 in
-    rw (p.1, p.2) (halted-count _ _ _ c.default-counter.result _ c.default-counter.ensures c.in_err-encode_with.ensures.err)
+    rw (p.1, p.2) (inl (inr (halted-named _ _ _ _ _ c.in_err-encode_with.ensures.err)))
 
 pub returns-in_err-encode_with-clause-counted : goal.returns-in_err-encode_with-clause-counted
 returns-in_err-encode_with-clause-counted g c =
     let p = err_from_is_err_and c.from_residual.result c.from_residual.ensures.1 in
-    fails-counted _ _ _ _ p.1 (rw p.2 (halted-count _ _ _ c.default-counter.result _ c.default-counter.ensures c.in_err-encode_with.ensures.err))
+    λ one word a fits. rw (p.1, p.2) (inr (halted-named _ _ _ _ _ c.in_err-encode_with.ensures.err))
 
 pub returns-in_err-encode_with-clause-empty : goal.returns-in_err-encode_with-clause-empty
 returns-in_err-encode_with-clause-empty g c =
     let p = err_from_is_err_and c.from_residual.result c.from_residual.ensures.1 in
-    λ one empty. rw (p.1, p.2) (size-empty _ one empty _ _ _ _ c.in_err-encode_with.ensures.err)
+    λ one empty. rw (p.1, p.2) (halted-named _ _ _ _ _ c.in_err-encode_with.ensures.err)
 
 pub returns-in_err-writer-clause-empty : goal.returns-in_err-writer-clause-empty
 returns-in_err-writer-clause-empty g c = λ one empty.

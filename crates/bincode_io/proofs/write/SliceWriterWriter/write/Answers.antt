@@ -11,7 +11,7 @@ returns c =
     let piece = c.args.bytes.now in
     let within : self.written + length piece ≤ length self.slice.now = omega arith in
     let counted : 0 ≤ 0 = le_refl 0 in
-    let same = copied self.written _ self.slice.now c.copy_from_slice.new.self piece c.copy_from_slice.ensures.after (omega arith) in
+    let same = copied self.written _ self.slice.now c.copy_piece.new.target piece c.copy_piece.ensures (omega arith) in
     record {
       ok = (refl, same, ap length same ∙ put-length self.written piece self.slice.now within, unwritten self _ piece _ _ same refl);
       err = tt;
