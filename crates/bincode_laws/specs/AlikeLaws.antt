@@ -3,13 +3,12 @@ use Rattle.std.specs.Prelude.{◌≡◌, ◌⊎◌, ℕ, List, [], Option, Resul
 use Rattle.std.specs.Borrow.{GName}
 use Rattle.std.proofs.Common.{sym, ◌∙◌, subst, inl, inr}
 use Rattle.bincode_base.specs.declared.error.DecodeError.{DecodeError}
-use Rattle.bincode_base.specs.declared.error.DecodeError.TheVariants.{LimitExceeded}
 use Rattle.bincode_format.specs.Alike.{TellAlike, DeviceFailed, ReadAlike, both_passed, both_tell}
-use Rattle.bincode_format.specs.Answer.{Answer, Gave, Refused, PassedLimit, answer}
-use Rattle.bincode_format.specs.Decoding.{Decodes, Stops, IsExcused, by_fault, by_limit, by_memory, by_failure, by_device}
+use Rattle.bincode_format.specs.Answer.{Answer, Gave}
+use Rattle.bincode_format.specs.Decoding.{Stops, IsExcused, by_fault, by_limit, by_memory, by_failure, by_device}
 use Rattle.bincode_format.specs.Device.{DeviceErrors}
-use Rattle.bincode_format.specs.Fault.{Fault, Tells}
-use Rattle.bincode_format.specs.Format.{Format, Reading, Took, Failed}
+use Rattle.bincode_format.specs.Fault.{Tells}
+use Rattle.bincode_format.specs.Format.{Format, Reading, Took}
 use Rattle.bincode_format.specs.Reads as reads
 use Rattle.bincode_format.specs.Reads.{Misreads, ReadsWord}
 use Rattle.bincode_format.specs.Values.{Reads}
