@@ -37,8 +37,10 @@ fn reads<T: Decode<()> + PartialEq, C: Config>(
 ) -> bool {
     for most in 0..=MOST {
         let (outcome, left) = read_shown::<T, C>(alloc, word, config, most);
-        let is_read = matches!(outcome, Ok(read) if read == number);
-        if !is_read || left != 2 {
+        let Ok(read) = outcome else {
+            return false;
+        };
+        if read != number || left != 2 {
             return false;
         }
     }
