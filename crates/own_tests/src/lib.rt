@@ -25,8 +25,6 @@ mod own;
 #[cfg(test)]
 mod readers;
 #[cfg(test)]
-mod shown;
-#[cfg(test)]
 mod stores;
 #[cfg(test)]
 mod tables;
