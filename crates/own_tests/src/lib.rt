@@ -25,6 +25,8 @@ mod own;
 #[cfg(test)]
 mod readers;
 #[cfg(test)]
+mod shown;
+#[cfg(test)]
 mod stores;
 #[cfg(test)]
 mod tables;

@@ -1,0 +1,160 @@
+//! Numbers are read alike, however many bytes a reader shows. Behind each word stand two 9s.
+
+use bincode::config::{self, Config};
+use bincode::de::Decode;
+use bincode::decode_from_reader;
+use bincode::error::{DecodeError, IntegerType};
+use callers::shows::Shows;
+use std::alloc::Global;
+
+/// The longest window that a number peeks.
+const MOST: usize = 17;
+
+/// What is read of a word by a reader that shows at most so many bytes, and how many bytes it leaves.
+fn read_shown<T: Decode<()>, C: Config>(
+    alloc: Global,
+    word: &[u8],
+    config: C,
+    most: usize,
+) -> (Result<T, DecodeError>, usize) {
+    let mut input = [9u8; 19];
+    let Some(front) = input.get_mut(..word.len()) else {
+        return (Err(DecodeError::LimitExceeded), 0);
+    };
+    front.copy_from_slice(word);
+    let length = word.len().saturating_add(2).min(19);
+    let mut reader = Shows::new(&input[..length], most);
+    let outcome = decode_from_reader(alloc, &mut reader, config);
+    (outcome, reader.bytes_left())
+}
+
+/// Whether the word is read as the number and no byte more is taken, however much is shown.
+fn reads<T: Decode<()> + PartialEq, C: Config>(
+    alloc: Global,
+    word: &[u8],
+    config: C,
+    number: T,
+) -> bool {
+    for most in 0..=MOST {
+        let (outcome, left) = read_shown::<T, C>(alloc, word, config, most);
+        let Ok(read) = outcome else {
+            return false;
+        };
+        if read != number || left != 2 {
+            return false;
+        }
+    }
+    true
+}
+
+/// Whether the first byte is refused under these names, however much is shown.
+fn refuses<T: Decode<()>>(
+    alloc: Global,
+    word: &[u8],
+    expected: IntegerType,
+    found: IntegerType,
+) -> bool {
+    for most in 0..=MOST {
+        let (outcome, _) = read_shown::<T, _>(alloc, word, config::standard(), most);
+        let Err(
+            DecodeError::InvalidIntegerType {
+                expected: of_type,
+                found: of_tag,
+            },
+        ) = outcome
+        else {
+            return false;
+        };
+        if of_type != expected || of_tag != found {
+            return false;
+        }
+    }
+    true
+}
+
+/// Whether the input ends too early, however much is shown.
+fn ends<T: Decode<()>>(alloc: Global, word: &[u8]) -> bool {
+    for most in 0..=MOST {
+        let (outcome, _) = read_shown::<T, _>(alloc, word, config::standard(), most);
+        if !matches!(outcome, Err(DecodeError::UnexpectedEnd { additional: _ })) {
+            return false;
+        }
+    }
+    true
+}
+
+#[test]
+fn reads_numbers_however_much_is_shown(rt: HostRuntime) {
+    let alloc = rt.alloc();
+    let little = config::standard();
+    let big = config::standard().with_big_endian();
+    assert!(rt; reads(alloc, &[251], little, 251u8));
+    assert!(rt; reads(alloc, &[10], little, 10u16));
+    assert!(rt; reads(alloc, &[251, 0, 10], little, 2_560u16));
+    assert!(rt; reads(alloc, &[251, 0, 10], big, 10u16));
+    assert!(rt; reads(alloc, &[250], little, 250u32));
+    assert!(rt; reads(alloc, &[251, 251, 0], little, 251u32));
+    assert!(rt; reads(alloc, &[252, 0, 0, 1, 0], little, 65_536u32));
+    assert!(rt;
+        reads(
+            alloc,
+            &[253, 0, 0, 0, 0, 0, 0, 0, 10],
+            little,
+            720_575_940_379_279_360u64
+        )
+    );
+    assert!(rt; reads(alloc, &[253, 0, 0, 0, 0, 0, 0, 0, 10], big, 10u64));
+    assert!(rt;
+        reads(
+            alloc,
+            &[254, 0, 0, 0, 0, 0, 0, 0, 0, 0, 0, 0, 0, 0, 0, 0, 10],
+            big,
+            10u128
+        )
+    );
+    assert!(rt; reads(alloc, &[1], little, -1i16));
+    assert!(rt; reads(alloc, &[251, 254, 255], little, i16::MAX));
+    assert!(rt; reads(alloc, &[252, 0, 1, 56, 128], big, 40_000i32));
+    assert!(rt;
+        reads(
+            alloc,
+            &[253, 0, 188, 160, 101, 1, 0, 0, 0],
+            little,
+            3_000_000_000i64
+        )
+    );
+    assert!(rt; reads(alloc, &[3], little, -2i128));
+}
+
+#[test]
+fn refuses_tags_however_much_is_shown(rt: HostRuntime) {
+    let alloc = rt.alloc();
+    assert!(rt; refuses::<u16>(alloc, &[252], IntegerType::U16, IntegerType::U32));
+    assert!(rt; refuses::<i16>(alloc, &[252], IntegerType::I16, IntegerType::I32));
+    assert!(rt;
+        refuses::<u64>(
+            alloc,
+            &[254, 0, 0, 0, 0, 0, 0, 0, 0],
+            IntegerType::U64,
+            IntegerType::U128
+        )
+    );
+    assert!(rt;
+        refuses::<u128>(
+            alloc,
+            &[255, 0, 0, 0, 0, 0, 0, 0, 0, 0, 0, 0, 0, 0, 0, 0, 0],
+            IntegerType::U128,
+            IntegerType::Reserved
+        )
+    );
+    assert!(rt; refuses::<isize>(alloc, &[254], IntegerType::Isize, IntegerType::I128));
+    assert!(rt; ends::<u64>(alloc, &[253, 0, 0, 0]));
+}
+
+/// A tag that is refused is taken only where it is not shown with what might follow it.
+#[test]
+fn leaves_a_tag_that_is_shown(rt: HostRuntime) {
+    let alloc = rt.alloc();
+    assert!(rt; read_shown::<u16, _>(alloc, &[252], config::standard(), 3).1 == 3);
+    assert!(rt; read_shown::<u16, _>(alloc, &[252], config::standard(), 0).1 == 2);
+}
