@@ -157,34 +157,52 @@ impl Writer for SliceWriter<'_> {
         piece h.0 h.2 b.within };
 }
 
-/// Copies a piece over as many bytes: a short one by its first and its last bytes, which may be the same ones.
+/// Copies a piece over as many bytes: a short one by its first and its last bytes, which may be the same ones. The tests
+/// go down to the shortest, so that a name or a key takes few of them.
 #[inline(always)]
 fn copy_piece(target: &mut [u8], piece: &[u8])
     requires { length target.old ≡ length piece.now }
     ensures { target.new ≡ piece.now }
 {
-    if piece.len() > 32 {
-        copy_long(target, piece);
-    } else if piece.len() >= 16 {
-        copy_ends::<16>(target, piece);
-    } else if piece.len() >= 8 {
+    if piece.len() < 8 {
+        copy_few(target, piece);
+    } else if piece.len() <= 16 {
         copy_ends::<8>(target, piece);
-    } else if piece.len() >= 4 {
-        copy_ends::<4>(target, piece);
-    } else if piece.len() >= 2 {
-        copy_ends::<2>(target, piece);
-    } else if piece.len() == 1 {
-        copy_ends::<1>(target, piece);
+    } else {
+        copy_long(target, piece);
     }
 }
 
-/// The same for a long piece. It stands apart, so that `copy_piece` stays small where it is inlined.
-#[inline(never)]
-fn copy_long(target: &mut [u8], piece: &[u8])
-    requires { length target.old ≡ length piece.now }
+/// The same for a piece of less than 8 bytes.
+#[inline(always)]
+fn copy_few(target: &mut [u8], piece: &[u8])
+    requires same { length target.old ≡ length piece.now }
+    requires few { length piece.now < 8 }
     ensures { target.new ≡ piece.now }
 {
-    target.copy_from_slice(piece);
+    if piece.len() < 2 {
+        if piece.len() == 1 {
+            copy_ends::<1>(target, piece);
+        }
+    } else if piece.len() < 4 {
+        copy_ends::<2>(target, piece);
+    } else {
+        copy_ends::<4>(target, piece);
+    }
+}
+
+/// The same for a piece of more than 16 bytes. It stands apart, so that `copy_piece` stays small where it is inlined.
+#[inline(never)]
+fn copy_long(target: &mut [u8], piece: &[u8])
+    requires same { length target.old ≡ length piece.now }
+    requires long { 16 < length piece.now }
+    ensures { target.new ≡ piece.now }
+{
+    if piece.len() <= 32 {
+        copy_ends::<16>(target, piece);
+    } else {
+        target.copy_from_slice(piece);
+    }
 }
 
 /// The same for a piece of `N` to twice `N` bytes.
