@@ -10,7 +10,7 @@ TYPES = {
     "Role": {"Guest": (), "Member": ("u32",), "Admin": ("Vec<String>",)},
     "Person": {"id": "u64", "name": "String", "age": "u8", "address": "Address", "role": "Role", "mail": "Option<String>"},
     "Item": {"name": "String", "count": "u32", "price": "u64"},
-    "Payment": {"Cash": (), "Card": ("[u8; 4]", "u16", "u8"), "Transfer": ("String",)},
+    "Payment": {"Cash": (), "Card": ("u64", "u16", "u8"), "Transfer": ("String",)},
     "Order": {"id": "u64", "buyer": "u64", "items": "Vec<Item>", "payment": "Payment", "paid": "bool"},
     "Stock": {"checked": "u64", "counts": "BTreeMap<String, u32>"},
     "Point": {"x": "i32", "y": "i32", "z": "i64"},
