@@ -172,8 +172,7 @@ LIBRARIES = {
     "bench_write": ("write",),
     "bench_vector": ("vector",),
     "bench_read": ("read",),
-    "bench_borrow": ("borrow",),
-    "bench_streams": ("stream", "std_read", "reader"),
+    "bench_others": ("borrow", "stream", "std_read", "reader"),
 }
 
 HELPERS = """
