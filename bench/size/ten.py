@@ -76,22 +76,9 @@ CALLS    Ok(())
 }
 """
 
-PORT_EMPTY = """//! Reads the file alone. Written by bench/size.
-#![tactic(auto)]
-
-use std::fs;
-
-fn main(rt: HostRuntime) -> anyhow::Result<()> {
-    let bytes = fs::read(&rt, "values")?;
-    println!(rt; "{}", bytes.len())?;
-    Ok(())
-}
-"""
-
-
-def calls(argument):
+def calls(argument, types):
     lines, at = [], "0"
-    for name in TYPES:
+    for name in types:
         lines.append(f"    let at = again::<{name}>({argument}&bytes, {at})?;\n")
         at = "at"
     lines[-1] = lines[-1].replace("let at = ", "")
@@ -180,8 +167,14 @@ impl<Context: Drop> Decode<Context> for {name} {{
 def port():
     """The files of the port's program."""
     types = PORT_TYPES + "".join(port_type(name, parts) for name, parts in TYPES.items())
-    main = PORT_MAIN.replace("NAMES", ", ".join(TYPES)).replace("CALLS", calls("&rt, "))
+    main = PORT_MAIN.replace("NAMES", ", ".join(TYPES)).replace("CALLS", calls("&rt, ", TYPES))
     return {"src/types.rt": types, "src/main.rt": main}
+
+
+def port_of_none():
+    """The port's program for a `u8` alone."""
+    main = PORT_MAIN.replace("mod types;\n\n", "").replace("use types::{NAMES};\n", "")
+    return {"src/main.rt": main.replace("CALLS", calls("&rt, ", ["u8"]))}
 
 
 ORIGINAL_MAIN = """// Reads a value of each type, and writes it again. Written by bench/size.
@@ -210,18 +203,6 @@ fn main() -> Result<(), Box<dyn Error>> {
 CALLS    Ok(())
 }
 """
-
-ORIGINAL_EMPTY = """// Reads the file alone. Written by bench/size.
-use std::error::Error;
-use std::fs;
-
-fn main() -> Result<(), Box<dyn Error>> {
-    let bytes = fs::read("values")?;
-    println!("{}", bytes.len());
-    Ok(())
-}
-"""
-
 
 def original_type(name, parts):
     text = declared(name, parts, "")
@@ -267,4 +248,13 @@ impl<Context> Decode<Context> for {name} {{
 def original():
     """The original's program."""
     types = "".join(original_type(name, parts) for name, parts in TYPES.items())
-    return ORIGINAL_MAIN.replace("CALLS", calls("")) + types
+    return ORIGINAL_MAIN.replace("CALLS", calls("", TYPES)) + types
+
+
+def original_of_none():
+    """The original's program for a `u8` alone."""
+    unused = "use bincode::error::{AllowedEnumVariants, DecodeError, EncodeError};\n", "use std::collections::BTreeMap;\n"
+    main = ORIGINAL_MAIN.replace("CALLS", calls("", ["u8"])).replace("{Decode, Decoder}", "Decode").replace("{Encode, Encoder}", "Encode")
+    for line in unused:
+        main = main.replace(line, "")
+    return main
