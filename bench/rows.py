@@ -1,4 +1,4 @@
-"""The rows: each is one loop around one call, written once and used as Rattle (over the port) and as Rust (over the original).
+"""The rows: each is a loop around one call for one type, written once and used as Rattle (over the port) and as Rust (over the original).
 
 A row gets the bytes of a list of values, and room for as many. It reads the values once, makes its call for each of them in so many
 turns, and leaves the bytes of what it made in the room: by these the two sides are compared.
@@ -12,34 +12,43 @@ CONFIGURATIONS = {
     "vl": "config::standard().with_limit::<67108864>()",
 }
 
-READ_ALL = """
-    let Ok((values, _)) = BORROWdecode_from_slice::<Vec<TYPE>, _>(alloc, input, CONFIG) else {
-        return 0;
-    };"""
+# Each loop is generic over the type and the configuration: it is proved once, and compiled for the type of each row. PARAMETERS are those of
+# a row, and LENT is the bound of a type that borrows its bytes, which the two sides write in two ways.
+PARAMETERS = "alloc: Global, input: &[u8], out: &mut [u8], turns: usize"
 
 # encode_into_slice
-WRITE = READ_ALL + """
+WRITE = """
+fn write<T: Decode<()> + Encode, C: Config>(PARAMETERS, config: C) -> usize {
+    let Ok((values, _)) = decode_from_slice::<Vec<T>, _>(alloc, input, config) else {
+        return 0;
+    };
     let mut at = 0usize;
     for _turn in 0..turns {
         at = 0;
         for value in &values {
-            let Ok(count) = encode_into_slice(value, room(out, at), CONFIG) else {
+            let Ok(count) = encode_into_slice(value, room(out, at), config) else {
                 return 0;
             };
             at = at.wrapping_add(count);
         }
     }
-    at"""
+    at
+}
+"""
 
 # encode_to_vec: the last vector of each turn is kept, and in the end all are made once more
-TO_VECTOR = READ_ALL + """
-    let Ok(first) = encode_to_vec(alloc, &values, CONFIG) else {
+VECTOR = """
+fn vector<T: Decode<()> + Encode, C: Config>(PARAMETERS, config: C) -> usize {
+    let Ok((values, _)) = decode_from_slice::<Vec<T>, _>(alloc, input, config) else {
+        return 0;
+    };
+    let Ok(first) = encode_to_vec(alloc, &values, config) else {
         return 0;
     };
     let mut last = first;
     for _turn in 0..turns {
         for value in &values {
-            let Ok(bytes) = encode_to_vec(alloc, value, CONFIG) else {
+            let Ok(bytes) = encode_to_vec(alloc, value, config) else {
                 return 0;
             };
             last = bytes;
@@ -47,15 +56,21 @@ TO_VECTOR = READ_ALL + """
     }
     let mut at = put(out, 0, &last);
     for value in &values {
-        let Ok(bytes) = encode_to_vec(alloc, value, CONFIG) else {
+        let Ok(bytes) = encode_to_vec(alloc, value, config) else {
             return 0;
         };
         at = put(out, at, &bytes);
     }
-    at"""
+    at
+}
+"""
 
 # encode_into_std_write, through a buffer over the room
-TO_STREAM = READ_ALL + """
+STREAM = """
+fn stream<T: Decode<()> + Encode, C: Config>(PARAMETERS, config: C) -> usize {
+    let Ok((values, _)) = decode_from_slice::<Vec<T>, _>(alloc, input, config) else {
+        return 0;
+    };
     let mut at = 0usize;
     for _turn in 0..turns {
         at = 0;
@@ -63,7 +78,7 @@ TO_STREAM = READ_ALL + """
             return 0;
         };
         for value in &values {
-            let Ok(count) = encode_into_std_write(value, &mut stream, CONFIG) else {
+            let Ok(count) = encode_into_std_write(value, &mut stream, config) else {
                 return 0;
             };
             at = at.wrapping_add(count);
@@ -72,47 +87,93 @@ TO_STREAM = READ_ALL + """
             return 0;
         }
     }
-    at"""
+    at
+}
+"""
 
-SLOTS = READ_ALL + """
-    let mut values = values;
-    let Ok((_, start)) = decode_from_slice::<u64, _>(alloc, input, CONFIG) else {
+# decode_from_slice
+READ = """
+fn read<T: Decode<()> + Encode, C: Config>(PARAMETERS, config: C) -> usize {
+    let Ok((values, _)) = decode_from_slice::<Vec<T>, _>(alloc, input, config) else {
         return 0;
     };
-    for _turn in 0..turns {"""
-
-WRITE_SLOTS = """
-    }
-    match encode_into_slice(&values, out, CONFIG) {
-        Ok(count) => count,
-        Err(_) => 0,
-    }"""
-
-# decode_from_slice and borrow_decode_from_slice
-READ = SLOTS + """
+    let mut values = values;
+    let Ok((_, start)) = decode_from_slice::<u64, _>(alloc, input, config) else {
+        return 0;
+    };
+    for _turn in 0..turns {
         let mut at = start;
         for slot in values.iter_mut() {
-            let Ok((value, taken)) = BORROWdecode_from_slice::<TYPE, _>(alloc, rest(input, at), CONFIG) else {
+            let Ok((value, taken)) = decode_from_slice::<T, _>(alloc, rest(input, at), config) else {
                 return 0;
             };
             *slot = value;
             at = at.wrapping_add(taken);
-        }""" + WRITE_SLOTS
+        }
+    }
+    match encode_into_slice(&values, out, config) {
+        Ok(count) => count,
+        Err(_) => 0,
+    }
+}
+"""
 
-# decode_from_std_read and decode_from_reader, from a buffer before the bytes
-READ_STREAM = SLOTS + """
-        let Ok(mut stream) = reader(alloc, rest(input, start)) else {
+# borrow_decode_from_slice
+BORROW = (
+    READ.replace("fn read<T: Decode<()>", "fn borrow<'a, T: LENT")
+    .replace("PARAMETERS", PARAMETERS.replace("&[u8]", "&'a [u8]"))
+    .replace("decode_from_slice::<Vec<T>", "borrow_decode_from_slice::<Vec<T>")
+    .replace("decode_from_slice::<T", "borrow_decode_from_slice::<T")
+)
+
+# decode_from_std_read, from a buffer before the bytes
+STD_READ = """
+fn std_read<T: Decode<()> + Encode, C: Config>(PARAMETERS, config: C) -> usize {
+    let Ok((values, _)) = decode_from_slice::<Vec<T>, _>(alloc, input, config) else {
+        return 0;
+    };
+    let mut values = values;
+    let Ok((_, start)) = decode_from_slice::<u64, _>(alloc, input, config) else {
+        return 0;
+    };
+    for _turn in 0..turns {
+        let Ok(mut stream) = reader_of(alloc, rest(input, start)) else {
             return 0;
         };
         for slot in values.iter_mut() {
-            let Ok(value) = CALL::<TYPE, _, _>(alloc, &mut stream, CONFIG) else {
+            let Ok(value) = decode_from_std_read::<T, _, _>(alloc, &mut stream, config) else {
                 return 0;
             };
             *slot = value;
-        }""" + WRITE_SLOTS
+        }
+    }
+    match encode_into_slice(&values, out, config) {
+        Ok(count) => count,
+        Err(_) => 0,
+    }
+}
+"""
 
-FROM_STD_READ = READ_STREAM.replace("CALL::<TYPE, _, _>", "decode_from_std_read::<TYPE, _, _>")
-FROM_READER = READ_STREAM.replace("CALL::<TYPE, _, _>", "decode_from_reader::<TYPE, _, _>")
+# decode_from_reader, from the same
+READER = STD_READ.replace("fn std_read", "fn reader").replace("decode_from_std_read", "decode_from_reader")
+
+LOOPS = {
+    "write": WRITE,
+    "vector": VECTOR,
+    "read": READ,
+    "borrow": BORROW,
+    "stream": STREAM,
+    "std_read": STD_READ,
+    "reader": READER,
+}
+
+# the port's libraries, which are proved one by one, and the calls of each
+LIBRARIES = {
+    "bench_write": ("write",),
+    "bench_vector": ("vector",),
+    "bench_read": ("read",),
+    "bench_others": ("borrow", "stream", "std_read", "reader"),
+}
 
 HELPERS = """
 /// What of the bytes begins there.
@@ -187,23 +248,26 @@ class Row(NamedTuple):
     configuration: str
     shape: str
     type: str
-    body: str
 
     @property
     def name(self):
         return f"{self.configuration}_{self.way}_{self.shape}"
 
+    @property
+    def body(self):
+        return f"{self.way}::<{self.type}, _>(alloc, input, out, turns, {CONFIGURATIONS[self.configuration]})"
+
 
 def rows():
     groups = (
-        ("plain", PLAIN, (("write", WRITE), ("read", READ))),
-        ("held", HELD, (("write", WRITE), ("read", READ), ("vector", TO_VECTOR))),
-        ("lent", LENT, (("borrow", READ),)),
-        ("streamed", STREAMED, (("stream", TO_STREAM), ("std_read", FROM_STD_READ), ("reader", FROM_READER))),
+        ("plain", PLAIN, ("write", "read")),
+        ("held", HELD, ("write", "read", "vector")),
+        ("lent", LENT, ("borrow",)),
+        ("streamed", STREAMED, ("stream", "std_read", "reader")),
     )
     for group, types, ways in groups:
-        for way, body in ways:
-            for configuration, expression in CONFIGURATIONS.items():
+        for way in ways:
+            for configuration in CONFIGURATIONS:
                 # a limit is kept by what reads alone
                 if configuration == "vl" and way in ("write", "vector", "stream"):
                     continue
@@ -213,9 +277,7 @@ def rows():
                     # a hashed map is written in any order, so its bytes are compared as those of what was read alone
                     if shape == "hashed" and way != "read":
                         continue
-                    text = body.replace("BORROW", "borrow_" if group == "lent" else "")
-                    text = text.replace("TYPE", of).replace("CONFIG", expression)
-                    yield Row(group, way, configuration, shape, of, text)
+                    yield Row(group, way, configuration, shape, of)
 
 
 def cases_of(row):
@@ -225,13 +287,25 @@ def cases_of(row):
     return KINDS[-1:] if row.shape in ONE_KIND or row.configuration == "f" else KINDS
 
 
+def loops_of(built, lent):
+    """The loops of these rows, with that bound for what borrows its bytes."""
+    ways = dict.fromkeys(row.way for row in built)
+    return "".join(LOOPS[way].replace("PARAMETERS", PARAMETERS).replace("LENT", lent) for way in ways)
+
+
 def rattle(built):
-    """The port's side: a library of one function a row."""
-    text = f"""//! The port's side of the rows of bench/rows.py.
+    """The port's libraries, by name: each has one function a row."""
+    return {library: rattle_of([row for row in built if row.way in ways])
+            for library, ways in LIBRARIES.items() if any(row.way in ways for row in built)}
+
+
+def rattle_of(built):
+    text = f"""//! The port's side of some of the rows of bench/rows.py.
 #![tactic(auto)]
 
-use bincode::{{borrow_decode_from_slice, config, decode_from_reader, decode_from_slice, decode_from_std_read}};
-use bincode::{{encode_into_slice, encode_into_std_write, encode_to_vec}};
+use bincode::config::Config;
+use bincode::{{BorrowDecode, Decode, Encode, borrow_decode_from_slice, config, decode_from_reader, decode_from_slice}};
+use bincode::{{decode_from_std_read, encode_into_slice, encode_into_std_write, encode_to_vec}};
 use std::alloc::Global;
 use std::collections::{{BTreeMap, HashMap}};
 use std::io;
@@ -242,14 +316,15 @@ fn writer(alloc: Global, out: &mut [u8]) -> io::Result<BufWriter<&mut [u8]>> {{
     BufWriter::new(alloc, out)
 }}
 
-fn reader(alloc: Global, input: &[u8]) -> io::Result<BufReader<&[u8]>> {{
+fn reader_of(alloc: Global, input: &[u8]) -> io::Result<BufReader<&[u8]>> {{
     BufReader::new(alloc, input)
 }}
-"""
+{loops_of(built, "BorrowDecode<&'a [u8], ()>")}"""
     for row in built:
         text += f"""
 #[unsafe(no_mangle)]
-pub extern "C" fn {row.name}(alloc: Global, input: &[u8], out: &mut [u8], turns: usize) -> usize {{{row.body}
+pub extern "C" fn {row.name}({PARAMETERS}) -> usize {{
+    {row.body}
 }}
 """
     return text
@@ -263,11 +338,12 @@ mod original {{
     use std::collections::{{BTreeMap, HashMap}};
     use std::io::Write;
     use std::ops::Bound;
-{HELPERS}"""
+{HELPERS}{loops_of(built, "BorrowDecode<'a, ()>")}"""
     for row in built:
         text += f"""
 #[inline(never)]
-pub fn {row.name}(alloc: Global, input: &[u8], out: &mut [u8], turns: usize) -> usize {{{row.body}
+pub fn {row.name}({PARAMETERS}) -> usize {{
+    {row.body}
 }}
 """
     text += """}
@@ -276,7 +352,7 @@ unsafe extern "C" {
 """
     for row in built:
         text += f"    fn {row.name}(input: *const u8, length: usize, out: *mut u8, room: usize, turns: usize) -> usize;\n"
-    text += "}\n\nconst ROWS: &[Row] = &[\n"
+    text += "}\n\npub const ROWS: &[Row] = &[\n"
     for row in built:
         owned = row.type.replace("&str", "String").replace("&[u8]", "Vec<u8>")
         fixed = row.configuration == "f"

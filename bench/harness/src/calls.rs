@@ -1,8 +1,8 @@
 //! The original's calls as the port has them: with an allocator, which says nothing here.
 pub use bincode::config;
-use bincode::config::Config;
+pub use bincode::config::Config;
 use bincode::error::{DecodeError, EncodeError};
-use bincode::{BorrowDecode, Decode, Encode};
+pub use bincode::{BorrowDecode, Decode, Encode};
 pub use bincode::{encode_into_slice, encode_into_std_write};
 use std::io;
 use std::io::{BufReader, BufWriter, Read};
@@ -61,6 +61,6 @@ pub fn writer(_alloc: Global, out: &mut [u8]) -> io::Result<BufWriter<&mut [u8]>
 }
 
 #[inline(always)]
-pub fn reader(_alloc: Global, input: &[u8]) -> io::Result<BufReader<&[u8]>> {
+pub fn reader_of(_alloc: Global, input: &[u8]) -> io::Result<BufReader<&[u8]>> {
     Ok(BufReader::new(input))
 }

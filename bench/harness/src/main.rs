@@ -4,66 +4,12 @@
 //!
 //! Of the rows whose name has one of the words, or of all; an answer that differs ends it with status 1.
 mod calls;
+mod trial;
 mod values;
 
-use std::collections::{BTreeMap, HashMap};
 use std::env;
-use std::hint::black_box;
-use std::ops::Bound;
 use std::process::ExitCode;
-use std::time::Instant;
-use values::{Kind, bytes_of, same_bytes, same_maps};
-
-/// One of the values of a row: their kind, how many there are, how many items each has.
-struct Case {
-    name: &'static str,
-    kind: Kind,
-    items: usize,
-}
-
-const fn case(name: &'static str, kind: Kind, items: usize) -> Case {
-    Case { name, kind, items }
-}
-
-const ONE_CASE: &[Case] = &[case("mixed", Kind::Mixed, 1)];
-const KINDS: &[Case] = &[
-    case("one byte", Kind::OneByte, 1),
-    case("two bytes", Kind::TwoBytes, 1),
-    case("wide", Kind::Wide, 1),
-    case("mixed", Kind::Mixed, 1),
-];
-const COUNTS: &[Case] = &[
-    case("1", Kind::Mixed, 1),
-    case("16", Kind::Mixed, 16),
-    case("1000", Kind::Mixed, 1000),
-    case("100000", Kind::Mixed, 100_000),
-];
-
-/// A loop around one call: it answers how many bytes it left in the room.
-type Original = fn(calls::Global, &[u8], &mut [u8], usize) -> usize;
-type Port = unsafe extern "C" fn(*const u8, usize, *mut u8, usize, usize) -> usize;
-
-struct Row {
-    way: &'static str,
-    configuration: &'static str,
-    shape: &'static str,
-    cases: &'static [Case],
-    bytes: fn(Kind, usize, usize) -> Vec<u8>,
-    same: fn(&[u8], &[u8]) -> bool,
-    original: Original,
-    port: Port,
-}
-
-include!(concat!(env!("BENCH_WORK"), "/rows.rs"));
-
-/// One row with one of its cases, and the room of both sides.
-struct Trial {
-    row: &'static Row,
-    case: &'static Case,
-    values: usize,
-    input: Vec<u8>,
-    rooms: [Vec<u8>; 2],
-}
+use trial::{ROWS, Trial};
 
 /// How many values are in a trial at most; so many items have all of them together, unless one has more.
 const VALUES: usize = 1000;
@@ -72,50 +18,6 @@ const VALUES: usize = 1000;
 const CALL: f64 = 200_000.0;
 
 impl Trial {
-    fn new(row: &'static Row, case: &'static Case) -> Trial {
-        let values = (VALUES / case.items).max(1);
-        let input = (row.bytes)(case.kind, values, case.items);
-        let room = vec![0; 2 * input.len() + 64];
-        Trial {
-            row,
-            case,
-            values,
-            input,
-            rooms: [room.clone(), room],
-        }
-    }
-
-    fn name(&self) -> String {
-        format!(
-            "{} {} {} {}",
-            self.row.way, self.row.configuration, self.row.shape, self.case.name
-        )
-    }
-
-    /// Calls the original (0) or the port (1), and answers how long it took, with its answer.
-    fn call(&mut self, side: usize, turns: usize) -> (f64, usize) {
-        let (input, room) = (
-            black_box(&self.input[..]),
-            black_box(&mut self.rooms[side][..]),
-        );
-        let start = Instant::now();
-        let answer = if side == 0 {
-            (self.row.original)(calls::Global, input, room, turns)
-        } else {
-            // SAFETY: both are slices, and the function keeps neither.
-            unsafe {
-                (self.row.port)(
-                    input.as_ptr(),
-                    input.len(),
-                    room.as_mut_ptr(),
-                    room.len(),
-                    turns,
-                )
-            }
-        };
-        (start.elapsed().as_nanos() as f64, black_box(answer))
-    }
-
     /// Whether both sides answer the same, and leave the same.
     fn agrees(&mut self) -> bool {
         let counts = [0, 1].map(|side| self.call(side, 1).1);
@@ -234,9 +136,12 @@ fn main() -> ExitCode {
                 .any(|word| trial.name().contains(word.as_str()))
     };
 
-    let trials = ROWS
-        .iter()
-        .flat_map(|row| row.cases.iter().map(move |case| Trial::new(row, case)));
+    let trials = ROWS.iter().flat_map(|row| {
+        let values = |items: usize| (VALUES / items).max(1);
+        row.cases
+            .iter()
+            .map(move |case| Trial::new(row, case, values(case.items)))
+    });
     let mut trials: Vec<Trial> = trials.filter(is_asked).collect();
     let mut agree = true;
     for trial in &mut trials {
