@@ -279,47 +279,59 @@ fn keeps_lists(rt: HostRuntime) {
     assert_eq!(rt; first_wrong(&rows), None);
 }
 
-/// Types of each kind, in tuples.
-type Scalars = (u32, NonZeroU16, bool, char, (), Duration);
-
-type Choices<'a> = (Option<&'a str>, Result<&'a str, u8>, Bound<&'a str>);
-
-type Wrappers<'a> = (
-    Wrapping<u16>,
-    Reverse<&'a str>,
-    Range<u8>,
-    RangeInclusive<u8>,
-);
-
-type Holders<'a> = (Cell<&'a str>, RefCell<&'a str>, [&'a str; 1]);
-
-type Pointers<'a> = (Box<&'a str>, Rc<&'a str>, Arc<&'a str>);
-
-type Texts<'a> = (String, BoxedStr, RcStr, CowStr<'a>, CowSlice<'a, u8>);
-
+/// Numbers, and what is kept as they are.
 #[test]
-fn keeps_tuples(rt: HostRuntime) {
+fn keeps_scalars(rt: HostRuntime) {
     let alloc = rt.alloc();
-    let texts = [1, 97, 1, 98, 1, 97, 99];
     let rows = [
+        ("u32", keeps::<u32>(alloc, &[251, 44, 1, 99])),
+        ("NonZeroU16", keeps::<NonZeroU16>(alloc, &[5, 99])),
+        ("bool", keeps::<bool>(alloc, &[1, 99])),
+        ("char", keeps::<char>(alloc, &[65, 99])),
+        ("()", keeps::<()>(alloc, &[99])),
+        ("Duration", keeps::<Duration>(alloc, &[7, 8, 99])),
+        ("(u8, u16)", keeps::<(u8, u16)>(alloc, &[7, 8, 99])),
+        ("Wrapping", keeps::<Wrapping<u16>>(alloc, &[5, 99])),
+        ("Range", keeps::<Range<u8>>(alloc, &[1, 9, 99])),
         (
-            "scalars",
-            keeps::<Scalars>(alloc, &[251, 44, 1, 5, 1, 65, 7, 8, 99]),
+            "RangeInclusive",
+            keeps::<RangeInclusive<u8>>(alloc, &[2, 8, 99]),
         ),
-        (
-            "choices",
-            keeps::<Choices<'_>>(alloc, &[1, 1, 97, 1, 6, 2, 1, 98, 99]),
-        ),
-        (
-            "wrappers",
-            keeps::<Wrappers<'_>>(alloc, &[5, 1, 97, 1, 9, 2, 8, 99]),
-        ),
-        ("holders", keeps::<Holders<'_>>(alloc, &texts)),
-        ("pointers", keeps::<Pointers<'_>>(alloc, &texts)),
-        (
-            "texts",
-            keeps::<Texts<'_>>(alloc, &[1, 97, 1, 98, 0, 1, 97, 2, 5, 6, 99]),
-        ),
+    ];
+    assert_eq!(rt; first_wrong(&rows), None);
+}
+
+/// What holds a text that is lent.
+#[test]
+fn keeps_holders(rt: HostRuntime) {
+    let alloc = rt.alloc();
+    let text = [1, 97, 99];
+    let rows = [
+        ("Option", keeps::<Option<&str>>(alloc, &[1, 1, 97, 99])),
+        ("Result", keeps::<Result<&str, u8>>(alloc, &[1, 6, 99])),
+        ("Bound", keeps::<Bound<&str>>(alloc, &[2, 1, 98, 99])),
+        ("Reverse", keeps::<Reverse<&str>>(alloc, &text)),
+        ("Cell", keeps::<Cell<&str>>(alloc, &text)),
+        ("RefCell", keeps::<RefCell<&str>>(alloc, &text)),
+        ("[&str; 1]", keeps::<[&str; 1]>(alloc, &text)),
+        ("Box", keeps::<Box<&str>>(alloc, &text)),
+        ("Rc", keeps::<Rc<&str>>(alloc, &text)),
+        ("Arc", keeps::<Arc<&str>>(alloc, &text)),
+    ];
+    assert_eq!(rt; first_wrong(&rows), None);
+}
+
+/// Texts and bytes, lent or owned.
+#[test]
+fn keeps_texts(rt: HostRuntime) {
+    let alloc = rt.alloc();
+    let text = [2, 97, 98, 99];
+    let rows = [
+        ("String", keeps::<String>(alloc, &text)),
+        ("BoxedStr", keeps::<BoxedStr>(alloc, &text)),
+        ("RcStr", keeps::<RcStr>(alloc, &text)),
+        ("CowStr", keeps::<CowStr<'_>>(alloc, &text)),
+        ("CowSlice", keeps::<CowSlice<'_, u8>>(alloc, &text)),
     ];
     assert_eq!(rt; first_wrong(&rows), None);
 }
