@@ -317,6 +317,10 @@ fn keeps_holders(rt: HostRuntime) {
         ("Box", keeps::<Box<&str>>(alloc, &text)),
         ("Rc", keeps::<Rc<&str>>(alloc, &text)),
         ("Arc", keeps::<Arc<&str>>(alloc, &text)),
+        (
+            "a tuple of five",
+            keeps::<(&str, u8, &str, bool, u16)>(alloc, &[1, 97, 7, 1, 98, 1, 5, 99]),
+        ),
     ];
     assert_eq!(rt; first_wrong(&rows), None);
 }
