@@ -91,9 +91,9 @@ fn stream<T: Decode<()> + Encode, C: Config>(PARAMETERS, config: C) -> usize {
 }
 """
 
-# decode_from_slice
-READ = """
-fn read<T: Decode<()> + Encode, C: Config>(PARAMETERS, config: C) -> usize {
+# Of the loops that read: all values are read once, TURN reads them again from where the first begins, and the last ones are written.
+READING = """
+fn NAME<T: Decode<()> + Encode, C: Config>(PARAMETERS, config: C) -> usize {
     let Ok((values, _)) = decode_from_slice::<Vec<T>, _>(alloc, input, config) else {
         return 0;
     };
@@ -102,6 +102,24 @@ fn read<T: Decode<()> + Encode, C: Config>(PARAMETERS, config: C) -> usize {
         return 0;
     };
     for _turn in 0..turns {
+TURN
+    }
+    match encode_into_slice(&values, out, config) {
+        Ok(count) => count,
+        Err(_) => 0,
+    }
+}
+"""
+
+
+def reading(name, turn):
+    return READING.replace("NAME", name).replace("\nTURN", turn.rstrip())
+
+
+# decode_from_slice
+READ = reading(
+    "read",
+    """
         let mut at = start;
         for slot in values.iter_mut() {
             let Ok((value, taken)) = decode_from_slice::<T, _>(alloc, rest(input, at), config) else {
@@ -110,13 +128,8 @@ fn read<T: Decode<()> + Encode, C: Config>(PARAMETERS, config: C) -> usize {
             *slot = value;
             at = at.wrapping_add(taken);
         }
-    }
-    match encode_into_slice(&values, out, config) {
-        Ok(count) => count,
-        Err(_) => 0,
-    }
-}
-"""
+""",
+)
 
 # borrow_decode_from_slice
 BORROW = (
@@ -127,16 +140,9 @@ BORROW = (
 )
 
 # decode_from_std_read, from a buffer before the bytes
-STD_READ = """
-fn std_read<T: Decode<()> + Encode, C: Config>(PARAMETERS, config: C) -> usize {
-    let Ok((values, _)) = decode_from_slice::<Vec<T>, _>(alloc, input, config) else {
-        return 0;
-    };
-    let mut values = values;
-    let Ok((_, start)) = decode_from_slice::<u64, _>(alloc, input, config) else {
-        return 0;
-    };
-    for _turn in 0..turns {
+STD_READ = reading(
+    "std_read",
+    """
         let Ok(mut stream) = reader_of(alloc, rest(input, start)) else {
             return 0;
         };
@@ -146,13 +152,8 @@ fn std_read<T: Decode<()> + Encode, C: Config>(PARAMETERS, config: C) -> usize {
             };
             *slot = value;
         }
-    }
-    match encode_into_slice(&values, out, config) {
-        Ok(count) => count,
-        Err(_) => 0,
-    }
-}
-"""
+""",
+)
 
 # decode_from_reader, from the same
 READER = STD_READ.replace("fn std_read", "fn reader").replace("decode_from_std_read", "decode_from_reader")
