@@ -10,11 +10,15 @@ use bincode_decoder::decoder::{BorrowDecoder, BorrowedBytes, Decoder};
 use bincode_values::values::{OneByOne, ReadValues};
 use bincode_values::wholes::{MakeWhole, decode_whole};
 use bincode_wire::parted::Parted;
+use bincode_wire::wire::Wire;
 use std::marker::PhantomData;
 
 /// A type whose values are made of their parts. It has `Decode` and `BorrowDecode` by
 /// this, where the type of the parts has.
-pub trait FromParts: Parted {
+pub trait FromParts: Parted
+where
+    Self::Parts: Wire,
+{
     /// The value with these parts.
     fn from_parts(parts: Self::Parts) -> Self
         ensures parts { Self.parts result ≡ parts }
@@ -27,6 +31,8 @@ struct ByParts<V, T>(PhantomData<(V, T)>);
 
 impl<D: Decoder, V: ReadValues<D>, T: FromParts + Parted<Parts = V::Value> + Drop> MakeWhole<D>
     for ByParts<V, T> {
+    type Parts = V::Value;
+
     type Whole = T;
 
     #[inline(always)]

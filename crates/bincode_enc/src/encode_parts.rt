@@ -6,11 +6,15 @@ use crate::encode::Encode;
 use bincode_base::error::EncodeError;
 use bincode_encoder::encoder::Encoder;
 use bincode_wire::parted::Parted;
+use bincode_wire::wire::Wire;
 
 /// A type whose values are written by their parts. It has `Encode` by this, and so have most types here that are made
 /// of others. An enum with type parameters has to go this way: `Encode::as_bytes` of the enum itself would ask that the
 /// sum of its variants takes less than 2^63 bytes, of which nothing is known for a parameter.
-pub trait EncodeParts: Parted + Drop {
+pub trait EncodeParts: Parted + Drop
+where
+    Self::Parts: Wire,
+{
     /// Says of the value in hand that its parts are valid.
     fn tell_valid_parts(&self)
         ensures { Self.Parts.its.valid (Self.parts self.now) };
@@ -23,7 +27,10 @@ pub trait EncodeParts: Parted + Drop {
             Self.Parts.its.names result encoder.old encoder.new };
 }
 
-impl<T: EncodeParts> Encode for T {
+impl<T: EncodeParts> Encode for T
+where
+    T::Parts: Wire,
+{
     #[inline]
     fn tell_valid(&self) {
         self.tell_valid_parts();

@@ -9,7 +9,7 @@ use crate::wire::Wire;
 /// this, and each law trait that the type of its parts has.
 pub trait Parted {
     /// What is written for a value.
-    type Parts: Wire;
+    type Parts;
 
     /// The parts of a value.
     ghost parts: { Self → Self.Parts };
@@ -18,7 +18,10 @@ pub trait Parted {
     ghost promised: { Self → (of_parts : Type 0) → Promise of_parts } = { λ v of_parts. no_more of_parts };
 }
 
-impl<T: Parted> Wire for T {
+impl<T: Parted> Wire for T
+where
+    T::Parts: Wire,
+{
     ghost its = { record {
       format = T.Parts.its.format;
       valid = λ v. T.Parts.its.valid (T.parts v);
@@ -93,7 +96,7 @@ where
 }
 
 /// A type whose values are equal just where their parts are. It is `Exact`, if the type of its parts is.
-pub trait SameParts<Parts: Wire + PartialEq>: Parted<Parts = Parts> + PartialEq {
+pub trait SameParts<Parts: PartialEq>: Parted<Parts = Parts> + PartialEq {
     /// Values are equal just where their parts are.
     ghost same_parts: { (v w : Self) → Parts.eq (Self.parts v) (Self.parts w) ≡ Self.eq v w };
 }

@@ -40,7 +40,7 @@ impl FixedCharge for bool {
 
 type OptionParts<T> = OneOf<Or<0, (), Or<1, T, NoOther<Option<T>, u8>>>>;
 
-impl<T: Wire> Parted for Option<T> {
+impl<T> Parted for Option<T> {
     ghost use Rattle.std.specs.Prelude.{Some, None};
     ghost use Rattle.bincode_wire.specs.declared.sums.Or.TheVariants.{This, Other};
 
@@ -60,7 +60,7 @@ impl<T: Exact> SameParts<OptionParts<T>> for Option<T> {
 
 type ResultParts<T, U> = OneOf<Or<0, T, Or<1, U, NoOther<Result<T, U>>>>>;
 
-impl<T: Wire, U: Wire> Parted for Result<T, U> {
+impl<T, U> Parted for Result<T, U> {
     ghost use Rattle.std.specs.Prelude.{Ok, Err};
     ghost use Rattle.bincode_wire.specs.declared.sums.Or.TheVariants.{This, Other};
 
@@ -80,7 +80,7 @@ impl<T: Exact, U: Exact> SameParts<ResultParts<T, U>> for Result<T, U> {
 
 type BoundParts<T> = OneOf<Or<0, (), Or<1, T, Or<2, T, NoOther<Bound<T>>>>>>;
 
-impl<T: Wire> Parted for Bound<T> {
+impl<T> Parted for Bound<T> {
     ghost use Rattle.std.specs.declared.ops.Bound.TheVariants.{Included, Excluded, Unbounded};
     ghost use Rattle.bincode_wire.specs.declared.sums.Or.TheVariants.{This, Other};
 

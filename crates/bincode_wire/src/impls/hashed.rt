@@ -6,7 +6,7 @@ use crate::wire::Wire;
 use std::collections::{HashMap, HashSet};
 use std::hash::{BuildHasher, Hash};
 
-impl<K: Wire + Eq + Hash, S: BuildHasher> Parted for HashSet<K, S> {
+impl<K: Eq + Hash, S: BuildHasher> Parted for HashSet<K, S> {
     type Parts = HashedKeys<K>;
 
     ghost parts = { λ v. record { keys = v.keys } };
@@ -18,7 +18,7 @@ impl<K: Exact + Eq + Hash, S: BuildHasher> Exact for HashSet<K, S> {
     }
 }
 
-impl<K: Wire + Eq + Hash, V: Wire, S: BuildHasher> Parted for HashMap<K, V, S> {
+impl<K: Eq + Hash, V, S: BuildHasher> Parted for HashMap<K, V, S> {
     type Parts = HashedEntries<K, V>;
 
     ghost parts = { λ v. record { entries = v.entries } };

@@ -13,7 +13,7 @@ use std::boxed::BoxedSlice;
 use std::collections::VecDeque;
 use std::rc::RcSlice;
 
-impl<T: Wire> Parted for Vec<T> {
+impl<T> Parted for Vec<T> {
     type Parts = Items<T, 24>;
 
     ghost parts = { λ v. record { items = v.items } };
@@ -29,7 +29,7 @@ impl<T: Exact> SameParts<Items<T, 24>> for Vec<T> {
     ghost same_parts = { λ v w. refl };
 }
 
-impl<T: Wire> Parted for VecDeque<T> {
+impl<T> Parted for VecDeque<T> {
     type Parts = Items<T, 24>;
 
     ghost parts = { λ v. record { items = v.items } };
@@ -39,7 +39,7 @@ impl<T: Exact> SameParts<Items<T, 24>> for VecDeque<T> {
     ghost same_parts = { λ v w. refl };
 }
 
-impl<T: Wire> Parted for &[T] {
+impl<T> Parted for &[T] {
     type Parts = ListItems<T, 16, false>;
 
     ghost parts = { λ v. record { items = v.now } };
@@ -49,7 +49,7 @@ impl<T: Exact> SameParts<ListItems<T, 16, false>> for &[T] {
     ghost same_parts = { λ v w. refl };
 }
 
-impl<T: Wire> Parted for BoxedSlice<T> {
+impl<T> Parted for BoxedSlice<T> {
     type Parts = Items<T, 16>;
 
     ghost parts = { λ v. record { items = boxed_slice_items v } };
@@ -59,7 +59,7 @@ impl<T: Exact> SameParts<Items<T, 16>> for BoxedSlice<T> {
     ghost same_parts = { λ v w. refl };
 }
 
-impl<T: Wire> Parted for RcSlice<T> {
+impl<T> Parted for RcSlice<T> {
     type Parts = Items<T, 16>;
 
     ghost parts = { λ v. record { items = rc_slice_items v } };
@@ -69,7 +69,7 @@ impl<T: Exact> SameParts<Items<T, 16>> for RcSlice<T> {
     ghost same_parts = { λ v w. refl };
 }
 
-impl<T: Wire> Parted for CowSlice<'_, T> {
+impl<T> Parted for CowSlice<'_, T> {
     type Parts = Items<T, 24>;
 
     ghost parts = { λ v. record { items = cow_slice_items v } };

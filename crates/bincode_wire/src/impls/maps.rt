@@ -9,7 +9,7 @@ use crate::parted::{Parted, SameParts};
 use crate::wire::Wire;
 use std::collections::{BTreeMap, BTreeSet, BinaryHeap};
 
-impl<K: Wire + Ord> Parted for BTreeSet<K> {
+impl<K: Ord> Parted for BTreeSet<K> {
     type Parts = Keys<K>;
 
     ghost parts = { λ v. record { keys = v.keys } };
@@ -19,7 +19,7 @@ impl<K: Exact + Ord> SameParts<Keys<K>> for BTreeSet<K> {
     ghost same_parts = { λ v w. refl };
 }
 
-impl<K: Wire + Ord, V: Wire> Parted for BTreeMap<K, V> {
+impl<K: Ord, V> Parted for BTreeMap<K, V> {
     type Parts = Entries<K, V>;
 
     ghost parts = { λ v. record { entries = v.entries } };
@@ -29,7 +29,7 @@ impl<K: Exact + Ord, V: Exact> SameParts<Entries<K, V>> for BTreeMap<K, V> {
     ghost same_parts = { λ v w. refl };
 }
 
-impl<T: Wire + Ord> Parted for BinaryHeap<T> {
+impl<T: Ord> Parted for BinaryHeap<T> {
     type Parts = Bag<T>;
 
     ghost parts = { λ v. record { items = heap_items v } };

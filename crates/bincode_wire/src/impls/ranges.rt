@@ -7,7 +7,7 @@ use crate::parted::{Parted, SameParts};
 use crate::wire::Wire;
 use std::ops::{Range, RangeInclusive};
 
-impl<T: Wire> Parted for Range<T> {
+impl<T> Parted for Range<T> {
     type Parts = (T, T);
 
     ghost parts = { λ v. (v.start, v.end) };
@@ -17,7 +17,7 @@ impl<T: Exact> SameParts<(T, T)> for Range<T> {
     ghost same_parts = { λ v w. refl };
 }
 
-impl<T: Wire> Parted for RangeInclusive<T> {
+impl<T> Parted for RangeInclusive<T> {
     type Parts = (T, T);
 
     ghost parts = { λ v. (range_inclusive_start v, range_inclusive_end v) };

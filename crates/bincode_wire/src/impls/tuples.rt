@@ -7,94 +7,79 @@ use crate::parted::{Parted, SameParts};
 use crate::rows::{LongRow, Row};
 use crate::wire::Wire;
 
-impl<A: Wire> Parted for (A,) {
+impl<A> Parted for (A,) {
     type Parts = Row<A, ()>;
 
     ghost parts = { λ v. row v.0 tt };
 }
 
-impl<A: Wire, B: Wire> Parted for (A, B) {
+impl<A, B> Parted for (A, B) {
     type Parts = Row<A, Row<B, ()>>;
 
     ghost parts = { λ v. row v.0 (row v.1 tt) };
 }
 
-impl<A: Wire, B: Wire, C: Wire> Parted for (A, B, C) {
+impl<A, B, C> Parted for (A, B, C) {
     type Parts = Row<A, Row<B, Row<C, ()>>>;
 
     ghost parts = { λ v. row v.0 (row v.1 (row v.2 tt)) };
 }
 
-impl<A: Wire, B: Wire, C: Wire, D: Wire> Parted for (A, B, C, D) {
+impl<A, B, C, D> Parted for (A, B, C, D) {
     type Parts = LongRow<A, B, C, D, ()>;
 
     ghost parts = { λ v. four v.0 v.1 v.2 v.3 tt };
 }
 
-impl<A: Wire, B: Wire, C: Wire, D: Wire, E: Wire> Parted for (A, B, C, D, E) {
+impl<A, B, C, D, E> Parted for (A, B, C, D, E) {
     type Parts = LongRow<A, B, C, D, Row<E, ()>>;
 
     ghost parts = { λ v. four v.0 v.1 v.2 v.3 (row v.4 tt) };
 }
 
-impl<A: Wire, B: Wire, C: Wire, D: Wire, E: Wire, F: Wire> Parted for (A, B, C, D, E, F) {
+impl<A, B, C, D, E, F> Parted for (A, B, C, D, E, F) {
     type Parts = LongRow<A, B, C, D, Row<E, Row<F, ()>>>;
 
     ghost parts = { λ v. four v.0 v.1 v.2 v.3 (row v.4 (row v.5 tt)) };
 }
 
-impl<A: Wire, B: Wire, C: Wire, D: Wire, E: Wire, F: Wire, G: Wire> Parted
-    for (A, B, C, D, E, F, G) {
+impl<A, B, C, D, E, F, G> Parted for (A, B, C, D, E, F, G) {
     type Parts = LongRow<A, B, C, D, Row<E, Row<F, Row<G, ()>>>>;
 
     ghost parts = { λ v. four v.0 v.1 v.2 v.3 (row v.4 (row v.5 (row v.6 tt))) };
 }
 
-impl<A: Wire, B: Wire, C: Wire, D: Wire, E: Wire, F: Wire, G: Wire, H: Wire> Parted
-    for (A, B, C, D, E, F, G, H) {
+impl<A, B, C, D, E, F, G, H> Parted for (A, B, C, D, E, F, G, H) {
     type Parts = LongRow<A, B, C, D, LongRow<E, F, G, H, ()>>;
 
     ghost parts = { λ v. four v.0 v.1 v.2 v.3 (four v.4 v.5 v.6 v.7 tt) };
 }
 
-impl<A: Wire, B: Wire, C: Wire, D: Wire, E: Wire, F: Wire, G: Wire, H: Wire, I: Wire> Parted
-    for (A, B, C, D, E, F, G, H, I) {
+impl<A, B, C, D, E, F, G, H, I> Parted for (A, B, C, D, E, F, G, H, I) {
     type Parts = LongRow<A, B, C, D, LongRow<E, F, G, H, Row<I, ()>>>;
 
     ghost parts = { λ v. four v.0 v.1 v.2 v.3 (four v.4 v.5 v.6 v.7 (row v.8 tt)) };
 }
 
-impl<A, B, C, D, E, F, G, H, I, J> Parted for (A, B, C, D, E, F, G, H, I, J)
-where
-    LongRow<A, B, C, D, LongRow<E, F, G, H, Row<I, Row<J, ()>>>>: Wire,
-{
+impl<A, B, C, D, E, F, G, H, I, J> Parted for (A, B, C, D, E, F, G, H, I, J) {
     type Parts = LongRow<A, B, C, D, LongRow<E, F, G, H, Row<I, Row<J, ()>>>>;
 
     ghost parts = { λ v. four v.0 v.1 v.2 v.3 (four v.4 v.5 v.6 v.7 (row v.8 (row v.9 tt))) };
 }
 
-impl<A, B, C, D, E, F, G, H, I, J, K> Parted for (A, B, C, D, E, F, G, H, I, J, K)
-where
-    LongRow<A, B, C, D, LongRow<E, F, G, H, Row<I, Row<J, Row<K, ()>>>>>: Wire,
-{
+impl<A, B, C, D, E, F, G, H, I, J, K> Parted for (A, B, C, D, E, F, G, H, I, J, K) {
     type Parts = LongRow<A, B, C, D, LongRow<E, F, G, H, Row<I, Row<J, Row<K, ()>>>>>;
 
     ghost parts = { λ v. four v.0 v.1 v.2 v.3 (four v.4 v.5 v.6 v.7 (row v.8 (row v.9 (row v.10 tt)))) };
 }
 
-impl<A, B, C, D, E, F, G, H, I, J, K, L> Parted for (A, B, C, D, E, F, G, H, I, J, K, L)
-where
-    LongRow<A, B, C, D, LongRow<E, F, G, H, LongRow<I, J, K, L, ()>>>: Wire,
-{
+impl<A, B, C, D, E, F, G, H, I, J, K, L> Parted for (A, B, C, D, E, F, G, H, I, J, K, L) {
     type Parts = LongRow<A, B, C, D, LongRow<E, F, G, H, LongRow<I, J, K, L, ()>>>;
 
     ghost parts = { λ v. four v.0 v.1 v.2 v.3 (four v.4 v.5 v.6 v.7 (four v.8 v.9 v.10 v.11 tt)) };
 }
 
-impl<A, B, C, D, E, F, G, H, I, J, K, L, M> Parted for (A, B, C, D, E, F, G, H, I, J, K, L, M)
-where
-    LongRow<A, B, C, D, LongRow<E, F, G, H, LongRow<I, J, K, L, Row<M, ()>>>>: Wire,
-{
+impl<A, B, C, D, E, F, G, H, I, J, K, L, M> Parted for (A, B, C, D, E, F, G, H, I, J, K, L, M) {
     type Parts = LongRow<A, B, C, D, LongRow<E, F, G, H, LongRow<I, J, K, L, Row<M, ()>>>>;
 
     ghost parts = { λ v. four v.0 v.1.0 v.1.1.0 v.1.1.1.0 (
@@ -103,10 +88,8 @@ where
         row v.1.1.1.1.1.1.1.1.1.1.1.1.0 tt))) };
 }
 
-impl<A, B, C, D, E, F, G, H, I, J, K, L, M, N> Parted for (A, B, C, D, E, F, G, H, I, J, K, L, M, N)
-where
-    LongRow<A, B, C, D, LongRow<E, F, G, H, LongRow<I, J, K, L, Row<M, Row<N, ()>>>>>: Wire,
-{
+impl<A, B, C, D, E, F, G, H, I, J, K, L, M, N> Parted
+    for (A, B, C, D, E, F, G, H, I, J, K, L, M, N) {
     type Parts = LongRow<A, B, C, D, LongRow<E, F, G, H, LongRow<I, J, K, L, Row<M, Row<N, ()>>>>>;
 
     ghost parts = { λ v. four v.0 v.1.0 v.1.1.0 v.1.1.1.0 (
@@ -116,10 +99,7 @@ where
 }
 
 impl<A, B, C, D, E, F, G, H, I, J, K, L, M, N, O> Parted
-    for (A, B, C, D, E, F, G, H, I, J, K, L, M, N, O)
-where
-    LongRow<A, B, C, D, LongRow<E, F, G, H, LongRow<I, J, K, L, Row<M, Row<N, Row<O, ()>>>>>>: Wire,
-{
+    for (A, B, C, D, E, F, G, H, I, J, K, L, M, N, O) {
     type Parts = LongRow<
         A,
         B,
@@ -136,10 +116,7 @@ where
 }
 
 impl<A, B, C, D, E, F, G, H, I, J, K, L, M, N, O, P> Parted
-    for (A, B, C, D, E, F, G, H, I, J, K, L, M, N, O, P)
-where
-    LongRow<A, B, C, D, LongRow<E, F, G, H, LongRow<I, J, K, L, LongRow<M, N, O, P, ()>>>>: Wire,
-{
+    for (A, B, C, D, E, F, G, H, I, J, K, L, M, N, O, P) {
     type Parts = LongRow<
         A,
         B,
@@ -155,59 +132,47 @@ where
         v.1.1.1.1.1.1.1.1.1.1.1.1.1.1.1.0 tt))) };
 }
 
-impl<A: Wire + PartialEq> SameParts<Row<A, ()>> for (A,) {
+impl<A: PartialEq> SameParts<Row<A, ()>> for (A,) {
     ghost same_parts = { λ v w. row-same (A.eq v.0 w.0) [] };
 }
 
-impl<A: Wire + PartialEq, B: Wire + PartialEq> SameParts<Row<A, Row<B, ()>>> for (A, B) {
+impl<A: PartialEq, B: PartialEq> SameParts<Row<A, Row<B, ()>>> for (A, B) {
     ghost same_parts = { λ v w. row-same (A.eq v.0 w.0) (B.eq v.1 w.1 ∷ []) };
 }
 
-impl<A: Wire + PartialEq, B: Wire + PartialEq, C: Wire + PartialEq> SameParts<
-    Row<A, Row<B, Row<C, ()>>>,
-> for (A, B, C) {
+impl<A: PartialEq, B: PartialEq, C: PartialEq> SameParts<Row<A, Row<B, Row<C, ()>>>> for (A, B, C) {
     ghost same_parts = { λ v w. row-same (A.eq v.0 w.0) (B.eq v.1 w.1 ∷ C.eq v.2 w.2 ∷ []) };
 }
 
-impl<A: Wire + PartialEq, B: Wire + PartialEq, C: Wire + PartialEq, D: Wire + PartialEq> SameParts<
-    LongRow<A, B, C, D, ()>,
-> for (A, B, C, D) {
+impl<A: PartialEq, B: PartialEq, C: PartialEq, D: PartialEq> SameParts<LongRow<A, B, C, D, ()>>
+    for (A, B, C, D) {
     ghost same_parts = { λ v w. row-same (A.eq v.0 w.0) (B.eq v.1 w.1 ∷ C.eq v.2 w.2 ∷ D.eq v.3 w.3 ∷ []) };
 }
 
-impl<
-    A: Wire + PartialEq,
-    B: Wire + PartialEq,
-    C: Wire + PartialEq,
-    D: Wire + PartialEq,
-    E: Wire + PartialEq,
-> SameParts<LongRow<A, B, C, D, Row<E, ()>>> for (A, B, C, D, E) {
+impl<A: PartialEq, B: PartialEq, C: PartialEq, D: PartialEq, E: PartialEq> SameParts<
+    LongRow<A, B, C, D, Row<E, ()>>,
+> for (A, B, C, D, E) {
     ghost same_parts = { λ v w. row-same (A.eq v.0 w.0) (B.eq v.1 w.1 ∷ C.eq v.2 w.2 ∷ D.eq v.3 w.3
         ∷ E.eq v.4 w.4
         ∷ []) };
 }
 
-impl<
-    A: Wire + PartialEq,
-    B: Wire + PartialEq,
-    C: Wire + PartialEq,
-    D: Wire + PartialEq,
-    E: Wire + PartialEq,
-    F: Wire + PartialEq,
-> SameParts<LongRow<A, B, C, D, Row<E, Row<F, ()>>>> for (A, B, C, D, E, F) {
+impl<A: PartialEq, B: PartialEq, C: PartialEq, D: PartialEq, E: PartialEq, F: PartialEq> SameParts<
+    LongRow<A, B, C, D, Row<E, Row<F, ()>>>,
+> for (A, B, C, D, E, F) {
     ghost same_parts = { λ v w. row-same (A.eq v.0 w.0) (B.eq v.1 w.1 ∷ C.eq v.2 w.2 ∷ D.eq v.3 w.3
         ∷ E.eq v.4 w.4 ∷ F.eq v.5 w.5
         ∷ []) };
 }
 
 impl<
-    A: Wire + PartialEq,
-    B: Wire + PartialEq,
-    C: Wire + PartialEq,
-    D: Wire + PartialEq,
-    E: Wire + PartialEq,
-    F: Wire + PartialEq,
-    G: Wire + PartialEq,
+    A: PartialEq,
+    B: PartialEq,
+    C: PartialEq,
+    D: PartialEq,
+    E: PartialEq,
+    F: PartialEq,
+    G: PartialEq,
 > SameParts<LongRow<A, B, C, D, Row<E, Row<F, Row<G, ()>>>>> for (A, B, C, D, E, F, G) {
     ghost same_parts = { λ v w. row-same (A.eq v.0 w.0) (B.eq v.1 w.1 ∷ C.eq v.2 w.2 ∷ D.eq v.3 w.3
         ∷ E.eq v.4 w.4 ∷ F.eq v.5 w.5
@@ -215,14 +180,14 @@ impl<
 }
 
 impl<
-    A: Wire + PartialEq,
-    B: Wire + PartialEq,
-    C: Wire + PartialEq,
-    D: Wire + PartialEq,
-    E: Wire + PartialEq,
-    F: Wire + PartialEq,
-    G: Wire + PartialEq,
-    H: Wire + PartialEq,
+    A: PartialEq,
+    B: PartialEq,
+    C: PartialEq,
+    D: PartialEq,
+    E: PartialEq,
+    F: PartialEq,
+    G: PartialEq,
+    H: PartialEq,
 > SameParts<LongRow<A, B, C, D, LongRow<E, F, G, H, ()>>> for (A, B, C, D, E, F, G, H) {
     ghost same_parts = { λ v w. row-same (A.eq v.0 w.0) (B.eq v.1 w.1 ∷ C.eq v.2 w.2 ∷ D.eq v.3 w.3
         ∷ E.eq v.4 w.4 ∷ F.eq v.5 w.5
@@ -230,15 +195,15 @@ impl<
 }
 
 impl<
-    A: Wire + PartialEq,
-    B: Wire + PartialEq,
-    C: Wire + PartialEq,
-    D: Wire + PartialEq,
-    E: Wire + PartialEq,
-    F: Wire + PartialEq,
-    G: Wire + PartialEq,
-    H: Wire + PartialEq,
-    I: Wire + PartialEq,
+    A: PartialEq,
+    B: PartialEq,
+    C: PartialEq,
+    D: PartialEq,
+    E: PartialEq,
+    F: PartialEq,
+    G: PartialEq,
+    H: PartialEq,
+    I: PartialEq,
 > SameParts<LongRow<A, B, C, D, LongRow<E, F, G, H, Row<I, ()>>>> for (A, B, C, D, E, F, G, H, I) {
     ghost same_parts = { λ v w. row-same (A.eq v.0 w.0) (B.eq v.1 w.1 ∷ C.eq v.2 w.2 ∷ D.eq v.3 w.3
         ∷ E.eq v.4 w.4 ∷ F.eq v.5 w.5
@@ -246,16 +211,16 @@ impl<
 }
 
 impl<
-    A: Wire + PartialEq,
-    B: Wire + PartialEq,
-    C: Wire + PartialEq,
-    D: Wire + PartialEq,
-    E: Wire + PartialEq,
-    F: Wire + PartialEq,
-    G: Wire + PartialEq,
-    H: Wire + PartialEq,
-    I: Wire + PartialEq,
-    J: Wire + PartialEq,
+    A: PartialEq,
+    B: PartialEq,
+    C: PartialEq,
+    D: PartialEq,
+    E: PartialEq,
+    F: PartialEq,
+    G: PartialEq,
+    H: PartialEq,
+    I: PartialEq,
+    J: PartialEq,
 > SameParts<LongRow<A, B, C, D, LongRow<E, F, G, H, Row<I, Row<J, ()>>>>>
     for (A, B, C, D, E, F, G, H, I, J) {
     ghost same_parts = { λ v w. row-same (A.eq v.0 w.0) (B.eq v.1 w.1 ∷ C.eq v.2 w.2 ∷ D.eq v.3 w.3
@@ -264,17 +229,17 @@ impl<
 }
 
 impl<
-    A: Wire + PartialEq,
-    B: Wire + PartialEq,
-    C: Wire + PartialEq,
-    D: Wire + PartialEq,
-    E: Wire + PartialEq,
-    F: Wire + PartialEq,
-    G: Wire + PartialEq,
-    H: Wire + PartialEq,
-    I: Wire + PartialEq,
-    J: Wire + PartialEq,
-    K: Wire + PartialEq,
+    A: PartialEq,
+    B: PartialEq,
+    C: PartialEq,
+    D: PartialEq,
+    E: PartialEq,
+    F: PartialEq,
+    G: PartialEq,
+    H: PartialEq,
+    I: PartialEq,
+    J: PartialEq,
+    K: PartialEq,
 > SameParts<LongRow<A, B, C, D, LongRow<E, F, G, H, Row<I, Row<J, Row<K, ()>>>>>>
     for (A, B, C, D, E, F, G, H, I, J, K) {
     ghost same_parts = { λ v w. row-same (A.eq v.0 w.0) (B.eq v.1 w.1 ∷ C.eq v.2 w.2 ∷ D.eq v.3 w.3
@@ -283,18 +248,18 @@ impl<
 }
 
 impl<
-    A: Wire + PartialEq,
-    B: Wire + PartialEq,
-    C: Wire + PartialEq,
-    D: Wire + PartialEq,
-    E: Wire + PartialEq,
-    F: Wire + PartialEq,
-    G: Wire + PartialEq,
-    H: Wire + PartialEq,
-    I: Wire + PartialEq,
-    J: Wire + PartialEq,
-    K: Wire + PartialEq,
-    L: Wire + PartialEq,
+    A: PartialEq,
+    B: PartialEq,
+    C: PartialEq,
+    D: PartialEq,
+    E: PartialEq,
+    F: PartialEq,
+    G: PartialEq,
+    H: PartialEq,
+    I: PartialEq,
+    J: PartialEq,
+    K: PartialEq,
+    L: PartialEq,
 > SameParts<LongRow<A, B, C, D, LongRow<E, F, G, H, LongRow<I, J, K, L, ()>>>>
     for (A, B, C, D, E, F, G, H, I, J, K, L) {
     ghost same_parts = { λ v w. row-same (A.eq v.0 w.0) (B.eq v.1 w.1 ∷ C.eq v.2 w.2 ∷ D.eq v.3 w.3

@@ -15,7 +15,7 @@ use std::num::Wrapping;
 use std::rc::Rc;
 use std::sync::Arc;
 
-impl<T: Wire> Parted for Wrapping<T> {
+impl<T> Parted for Wrapping<T> {
     type Parts = T;
 
     ghost parts = { λ v. v.0 };
@@ -25,7 +25,7 @@ impl<T: Exact> SameParts<T> for Wrapping<T> {
     ghost same_parts = { λ v w. refl };
 }
 
-impl<T: Wire> Parted for Reverse<T> {
+impl<T> Parted for Reverse<T> {
     type Parts = T;
 
     ghost parts = { λ v. v.0 };
@@ -118,7 +118,7 @@ impl<T: ConstantCharge> ConstantCharge for Pointed<T> {
     }
 }
 
-impl<T: Wire> Parted for &T {
+impl<T> Parted for &T {
     type Parts = Pointed<T>;
 
     ghost parts = { λ v. record { to = v.now } };
@@ -128,7 +128,7 @@ impl<T: Exact> SameParts<Pointed<T>> for &T {
     ghost same_parts = { λ v w. refl };
 }
 
-impl<T: Wire> Parted for Box<T> {
+impl<T> Parted for Box<T> {
     type Parts = Pointed<T>;
 
     ghost parts = { λ v. record { to = v.value } };
@@ -138,7 +138,7 @@ impl<T: Exact> SameParts<Pointed<T>> for Box<T> {
     ghost same_parts = { λ v w. refl };
 }
 
-impl<T: Wire> Parted for Rc<T> {
+impl<T> Parted for Rc<T> {
     type Parts = Pointed<T>;
 
     ghost parts = { λ v. record { to = v.value } };
@@ -148,7 +148,7 @@ impl<T: Exact> SameParts<Pointed<T>> for Rc<T> {
     ghost same_parts = { λ v w. refl };
 }
 
-impl<T: Wire> Parted for Arc<T> {
+impl<T> Parted for Arc<T> {
     type Parts = Pointed<T>;
 
     ghost parts = { λ v. record { to = arc_value v } };
@@ -158,7 +158,7 @@ impl<T: Exact> SameParts<Pointed<T>> for Arc<T> {
     ghost same_parts = { λ v w. refl };
 }
 
-impl<T: Scalar + Wire + Clone> Parted for Cow<'_, T> {
+impl<T: Scalar + Clone> Parted for Cow<'_, T> {
     type Parts = T;
 
     ghost parts = { λ v. cow_value v };
