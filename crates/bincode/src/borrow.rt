@@ -4,7 +4,6 @@ ghost use Rattle.bincode_format.specs.Answer.{answer};
 ghost use Rattle.bincode_format.specs.Decoding.{Decodes, Stops};
 ghost use Rattle.bincode_format.specs.Slice.{Decoded, FindsWords, TellsFaults, KeepsLimit};
 
-use crate::slice::count_taken;
 use bincode_base::config::Config;
 use bincode_base::error::DecodeError;
 use bincode_de::borrow_decode::BorrowDecode;
@@ -51,8 +50,9 @@ pub fn borrow_decode_from_slice_with_context<
 {
     let mut context = context;
     let mut reader = SliceReader::new(src);
-    let read = borrow_decode_with(alloc, &mut reader, &config, &mut context);
-    count_taken::<D, C>(src, &reader, read)
+    let value = borrow_decode_with(alloc, &mut reader, &config, &mut context)?;
+    let taken = src.len() - reader.bytes_left();
+    Ok((value, taken))
 }
 
 /// Reads a value by a decoder that borrows its reader, its configuration and its context.

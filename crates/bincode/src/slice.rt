@@ -1,14 +1,10 @@
 //! Encoding into a slice, and decoding from one.
-ghost use Rattle.std.specs.Prelude.{◌≡◌, ◌⊎◌, ℕ, IfOk, IfErr, length};
+ghost use Rattle.std.specs.Prelude.{◌≡◌, ◌⊎◌, IfOk, IfErr, length};
 ghost use Rattle.bincode_base.specs.declared.error.EncodeError.TheVariants.{UnexpectedEnd};
 ghost use Rattle.bincode_format.specs.Allowed.{AllowedWord};
-ghost use Rattle.bincode_format.specs.Answer.{answer};
-ghost use Rattle.bincode_format.specs.Decoding.{Decodes, Stops};
-ghost use Rattle.bincode_format.specs.Device.{no_device};
 ghost use Rattle.bincode_format.specs.Encoding.{Ready};
 ghost use Rattle.bincode_format.specs.Slice.{WordWritten, FrontWritten, FitsExactly, Decoded, FindsWords, TellsFaults};
-ghost use Rattle.bincode_format.specs.Slice.{EndsSlice, KeepsLimit};
-ghost use Rattle.bincode_io.specs.Slices.{left_of};
+ghost use Rattle.bincode_format.specs.Slice.{KeepsLimit};
 
 use crate::reader::decode_with;
 use crate::writer::encode_with;
@@ -18,7 +14,6 @@ use bincode_de::decode::Decode;
 use bincode_enc::encode::Encode;
 use bincode_io::read::SliceReader;
 use bincode_io::write::SliceWriter;
-use bincode_wire::wire::Wire;
 use std::alloc::Global;
 
 /// Writes a value into the front of a slice, and answers how many bytes it took. Fails with `UnexpectedEnd` where the
@@ -86,27 +81,7 @@ pub fn decode_from_slice_with_context<Context: Drop, D: Decode<Context>, C: Conf
 {
     let mut context = context;
     let mut reader = SliceReader::new(src);
-    let read = decode_with(alloc, &mut reader, &config, &mut context);
-    count_taken::<D, C>(src, &reader, read)
-}
-
-/// Counts the bytes that a reader of this slice took for a value. A failure stays.
-#[inline(always)]
-pub(crate) fn count_taken<D: Wire + Drop, C: Config>(
-    src: &[u8],
-    reader: &SliceReader<'_>,
-    read: Result<D, DecodeError>,
-) -> Result<(D, usize), DecodeError>
-    requires { IfOk read (λ v. (charge : ℕ) × Decodes (λ m. D.its.given m v)
-        (answer C.bound (D.its.format C.setting) src.now 0) (left_of reader.now) charge)
-        × IfErr read (λ e. (charge : ℕ) × Stops EndsSlice no_device D.its.grows
-        (answer C.bound (D.its.format C.setting) src.now 0) 0 0 src.now (left_of reader.now) charge e) }
-    ensures word { IfOk result (λ x. Decoded (D.its.format C.setting) C.bound src.now (λ m. D.its.given m x.0) x.1) }
-    ensures found { FindsWords (D.its.format C.setting) C.bound D.its.grows src.now result }
-    ensures fault { TellsFaults (D.its.format C.setting) C.bound D.its.grows src.now result }
-    ensures limit { KeepsLimit (D.its.format C.setting) C.bound D.its.grows src.now result }
-{
-    let value = read?;
+    let value = decode_with(alloc, &mut reader, &config, &mut context)?;
     let taken = src.len() - reader.bytes_left();
     Ok((value, taken))
 }

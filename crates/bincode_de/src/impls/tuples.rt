@@ -68,8 +68,14 @@ impl<
 
     #[inline]
     fn decode<Z: Decoder<Context = Context>>(decoder: &mut Z) -> Result<Self, DecodeError> {
-        let Row(a, Row(b, Row(c, Row(d, others)))) = Decode::decode(decoder)?;
-        Ok(LongRow(a, b, c, d, others))
+        // Not by `?`, which copies the parts once more: two numbers of four bytes are then one of eight.
+        match Decode::decode(decoder) {
+            Ok(parts) => {
+                let Row(a, Row(b, Row(c, Row(d, others)))) = parts;
+                Ok(LongRow(a, b, c, d, others))
+            }
+            Err(error) => Err(error),
+        }
     }
 }
 
@@ -88,8 +94,14 @@ impl<
     fn borrow_decode<Y: BorrowDecoder<Z, Context = Context>>(
         decoder: &mut Y,
     ) -> Result<Self, DecodeError> {
-        let Row(a, Row(b, Row(c, Row(d, others)))) = BorrowDecode::borrow_decode(decoder)?;
-        Ok(LongRow(a, b, c, d, others))
+        // Not by `?`, which copies the parts once more: two numbers of four bytes are then one of eight.
+        match BorrowDecode::borrow_decode(decoder) {
+            Ok(parts) => {
+                let Row(a, Row(b, Row(c, Row(d, others)))) = parts;
+                Ok(LongRow(a, b, c, d, others))
+            }
+            Err(error) => Err(error),
+        }
     }
 }
 
