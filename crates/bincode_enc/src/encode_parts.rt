@@ -4,6 +4,7 @@ ghost use Rattle.bincode_format.specs.Encoding.{Encodes};
 
 use crate::encode::Encode;
 use bincode_base::error::EncodeError;
+use bincode_encoder::answers::same_answer;
 use bincode_encoder::encoder::Encoder;
 use bincode_wire::parted::Parted;
 use bincode_wire::wire::Wire;
@@ -38,6 +39,6 @@ where
 
     #[inline(always)]
     fn encode<E: Encoder>(&self, encoder: &mut E) -> Result<(), EncodeError> {
-        self.encode_parts(encoder)
+        same_answer(self.encode_parts(encoder))
     }
 }

@@ -15,6 +15,8 @@ pub struct RoomCounter {
 }
 
 impl Writer for RoomCounter {
+    const COUNTS: bool = true;
+
     ghost adds = { λ a piece b. piece ≡ [] → b ≡ a };
 
     ghost refuses = { λ a piece e b. ⊥ };
@@ -30,6 +32,18 @@ impl Writer for RoomCounter {
     #[inline(always)]
     fn write(&mut self, bytes: &[u8]) -> Result<(), EncodeError> {
         self.bytes_written = self.bytes_written.wrapping_add(bytes.len());
+        Ok(())
+    }
+
+    #[inline(always)]
+    fn write_ahead(&mut self, _byte: u8, all: usize) -> Result<(), EncodeError> {
+        self.bytes_written = self.bytes_written.wrapping_add(all);
+        Ok(())
+    }
+
+    /// Counts nothing: `write_ahead` did.
+    #[inline(always)]
+    fn write_behind(&mut self, _bytes: &[u8]) -> Result<(), EncodeError> {
         Ok(())
     }
 

@@ -9,7 +9,7 @@ ghost use Rattle.bincode_io.specs.RoomLaws.{first-empty, second-empty};
 use crate::write::Writer;
 use bincode_base::error::EncodeError;
 use std::alloc::Global;
-use std::mem::replace;
+use std::mem::{forget, replace};
 
 /// A writer into a vector, which grows where its room is too small. Fails with `Memory` where the memory to grow is
 /// refused; it then holds what it held.
@@ -51,6 +51,24 @@ impl VecWriter {
         self.bytes.capacity() - self.bytes.len()
     }
 
+    /// The vector, which leaves an empty one.
+    #[inline(always)]
+    fn take_out(&mut self) -> Vec<u8>
+        ensures { result ≡ self.old.bytes }
+    {
+        let empty = Vec::new(*self.bytes.allocator());
+        replace(&mut self.bytes, empty)
+    }
+
+    /// The vector for the empty one that is there. That one has no memory: it is forgotten, so that no code tests whether
+    /// it has any.
+    #[inline(always)]
+    fn put_back(&mut self, bytes: Vec<u8>)
+        ensures { self.new.bytes ≡ bytes }
+    {
+        forget(replace(&mut self.bytes, bytes));
+    }
+
     /// Makes room for so many more bytes, unless memory is refused. The vector is handed over and back by value, for
     /// speed: a vector that is lent to a call, here for its growth, stays in memory, also around writes that need none.
     #[inline(always)]
@@ -60,9 +78,8 @@ impl VecWriter {
             ⊎ (capacity_of self.new ≡ capacity_of self.old) }
         ensures capacity { capacity_of self.old ≤ capacity_of self.new }
     {
-        let empty = Vec::new(*self.bytes.allocator());
-        let bytes = replace(&mut self.bytes, empty);
-        self.bytes = with_room(bytes, additional);
+        let bytes = self.take_out();
+        self.put_back(with_room(bytes, additional));
     }
 }
 
@@ -76,6 +93,20 @@ fn with_room(mut bytes: Vec<u8>, additional: usize) -> Vec<u8>
 {
     let _refused = bytes.reserve(additional);
     bytes
+}
+
+/// Bytes with a few more behind them, one by one: LLVM makes one store of as many as it knows, where the library's copy of a
+/// slice first tests whether it overlaps the vector.
+#[inline(always)]
+fn with_each(mut held: Vec<u8>, bytes: &[u8]) -> Vec<u8>
+    requires { length held.items + length bytes.now ≤ vec_capacity held }
+    ensures bytes { result.items ≡ held.items ++ bytes.now }
+    ensures capacity { vec_capacity result ≡ vec_capacity held }
+{
+    for byte in bytes {
+        held.push_reserved(*byte);
+    }
+    held
 }
 
 impl Writer for VecWriter {
@@ -113,6 +144,31 @@ impl Writer for VecWriter {
         if self.bytes.extend_from_slice(bytes).is_err() {
             return Err(EncodeError::Memory);
         }
+        Ok(())
+    }
+
+    #[inline(always)]
+    fn write_ahead(&mut self, byte: u8, all: usize) -> Result<(), EncodeError> {
+        if self.room_left() < all {
+            self.grow(all);
+        }
+        if self.room_left() == 0 {
+            return Err(EncodeError::Memory);
+        }
+        self.bytes.push_reserved(byte);
+        Ok(())
+    }
+
+    #[inline(always)]
+    fn write_behind(&mut self, bytes: &[u8]) -> Result<(), EncodeError> {
+        if bytes.is_empty() {
+            return Ok(());
+        }
+        if self.room_left() < bytes.len() {
+            return Err(EncodeError::Memory);
+        }
+        let held = self.take_out();
+        self.put_back(with_each(held, bytes));
         Ok(())
     }
 

@@ -17,6 +17,10 @@ use bincode_base::error::EncodeError;
 
 /// A target of bytes, which come piece by piece.
 pub trait Writer: Drop {
+    /// Whether it only counts. Then the length of a number is all that it is told: by `write_ahead`, before the branches
+    /// that write a number, which are then none. What is written is the same.
+    const COUNTS: bool = false;
+
     /// What a write that succeeds does to a writer.
     ghost adds: { Self → List ℕ → Self → Type 0 };
 
@@ -38,6 +42,23 @@ pub trait Writer: Drop {
     /// Writes a piece. Fails where it is longer than the room, where memory is refused, or where the device fails.
     fn write(&mut self, bytes: &[u8]) -> Result<(), EncodeError>
         ensures { TakesPiece adds refuses failures place bytes.now result self.old self.new };
+
+    /// Writes a byte that begins a number of so many bytes in all. A writer that grows makes room for them all, so that
+    /// it has no code to grow behind each piece.
+    #[inline(always)]
+    fn write_ahead(&mut self, byte: u8, _all: usize) -> Result<(), EncodeError>
+        ensures { TakesPiece adds refuses failures place (byte ∷ []) result self.old self.new }
+    {
+        self.write(&[byte])
+    }
+
+    /// Writes a piece of few bytes that `write_ahead` made room for. A writer that grows makes no more room for it.
+    #[inline(always)]
+    fn write_behind(&mut self, bytes: &[u8]) -> Result<(), EncodeError>
+        ensures { TakesPiece adds refuses failures place bytes.now result self.old self.new }
+    {
+        self.write(bytes)
+    }
 
     /// A writer that stays as it is has added the empty piece.
     ghost adds_none: { (w : Self) → adds w [] w };
@@ -227,6 +248,8 @@ fn copy_ends<const N: usize>(target: &mut [u8], piece: &[u8])
 }
 
 impl<W: Writer> Writer for &mut W {
+    const COUNTS: bool = W::COUNTS;
+
     ghost adds = { λ a piece b. W.adds a.now piece b.now × (b ≡ record a { now = b.now }) };
 
     ghost refuses = { λ a piece e b. W.refuses a.now piece e b.now };
@@ -241,6 +264,16 @@ impl<W: Writer> Writer for &mut W {
 
     fn write(&mut self, bytes: &[u8]) -> Result<(), EncodeError> {
         (**self).write(bytes)
+    }
+
+    #[inline(always)]
+    fn write_ahead(&mut self, byte: u8, all: usize) -> Result<(), EncodeError> {
+        (**self).write_ahead(byte, all)
+    }
+
+    #[inline(always)]
+    fn write_behind(&mut self, bytes: &[u8]) -> Result<(), EncodeError> {
+        (**self).write_behind(bytes)
     }
 
     ghost adds_none = { λ w. (W.adds_none w.now, refl) };

@@ -7,7 +7,7 @@ use Rattle.std.specs.Int.{Width, w8, w16, w32, w64, w128}
 use Rattle.std.proofs.lemmas.Int.{to_z-of_z, ints}
 use Rattle.std.specs.Borrow.{GName}
 use Rattle.std.proofs.lemmas.Result.{IfErr-weaker, on_ok_weaker}
-use Rattle.std.proofs.lemmas.Bool.{le-leb, lt-leb}
+use Rattle.std.proofs.lemmas.Bool.{le-leb, lt-leb, cases_lt}
 use Rattle.std.proofs.lemmas.Bool.Decides.{nat_tests}
 use Rattle.bincode_base.specs.declared.config.Endianness.{Endianness}
 use Rattle.bincode_base.specs.declared.error.IntegerType.{IntegerType}
@@ -18,10 +18,10 @@ use Rattle.bincode_format.specs.Number.{number_of, digits_of, two_complement, fr
 use Rattle.bincode_format.specs.Fault.{Fault, End, InvalidInteger}
 use Rattle.bincode_format.specs.Format.{Format, Reading, Took, Failed, after_steps, raw, done, refused, ◌>>=◌, written_as, map_format}
 use Rattle.bincode_laws.specs.FormatLaws.{raw-lawful}
-use Rattle.bincode_laws.specs.IntegerLaws.{byte-lawful}
+use Rattle.bincode_laws.specs.IntegerLaws.{byte-lawful, shortest-1, shortest-3, shortest-5, shortest-9, shortest-17}
 use Rattle.bincode_base.specs.declared.config.IntEncoding.{IntEncoding}
 use Rattle.bincode_base.specs.declared.config.IntEncoding.TheVariants.{Fixed}
-use Rattle.bincode_format.specs.Integers.{spelling, spelling_pieces, number_for, byte, digits, first_of, varint, first_byte, Itself, Before, TooWide, behind, width_in_bytes}
+use Rattle.bincode_format.specs.Integers.{shortest, shortest_pieces, spelling, spelling_pieces, number_for, byte, digits, first_of, varint, first_byte, Itself, Before, TooWide, behind, width_in_bytes}
 use Rattle.bincode_format.specs.Device.{DeviceErrors, FallsShort, Rose, Takes, StopsAmong, TakesPiece, TakesPieces}
 use mir.Val.{to_z, of_z, Fits}
 use Rattle.bincode_format.specs.Reads.{Misreads, by_fault, by_device, by_failure}
@@ -268,6 +268,18 @@ module _ {W : Type 0} {adds : W → List ℕ → W → Type 0} {refuses : W → 
     pieces-fixed_signed w z fits p h =
         let q = p ∙ ap (λ y. digits_of order width (two_complement width y)) (to_z-of_z w z fits) in
         rw e (pieces-one none (sym q) (ap (λ y. y ∷ []) (sym q)) h)
+
+-- the first piece of the shortest spelling is its first byte
+begins_by : (order : Endianness) (n : ℕ) → (250 < n) ⊎ (n ≤ 250) → (n < 65536) ⊎ (65536 ≤ n) → (n < 4294967296) ⊎ (4294967296 ≤ n) → (n < 18446744073709551616) ⊎ (18446744073709551616 ≤ n) →
+    (others : List (List ℕ)) × (shortest_pieces order n ≡ (first_of (shortest order n) ∷ []) ∷ others)
+begins_by order n (inr a) b c d = let e = shortest-1 order n a in ([], rw (e.0, e.1) refl)
+begins_by order n (inl a) (inl b) c d = let e = shortest-3 order n a b in (digits_of order 2 n ∷ [], rw (e.0, e.1) refl)
+begins_by order n (inl a) (inr b) (inl c) d = let e = shortest-5 order n b c in (digits_of order 4 n ∷ [], rw (e.0, e.1) refl)
+begins_by order n (inl a) (inr b) (inr c) (inl d) = let e = shortest-9 order n c d in (digits_of order 8 n ∷ [], rw (e.0, e.1) refl)
+begins_by order n (inl a) (inr b) (inr c) (inr d) = let e = shortest-17 order n d in (digits_of order 16 n ∷ [], rw (e.0, e.1) refl)
+
+pub pieces-begin : (order : Endianness) (n : ℕ) → (others : List (List ℕ)) × (shortest_pieces order n ≡ (first_of (shortest order n) ∷ []) ∷ others)
+pieces-begin order n = begins_by order n (cases_lt 250 n) (cases_lt n 65536) (cases_lt n 4294967296) (cases_lt n 18446744073709551616)
 
 -- for the proofs of numbers
 pub ruleset by_number = (mapped-misreads, signed-took)

@@ -1,6 +1,7 @@
 //! Unsigned numbers, written in their shortest spelling.
-ghost use Rattle.std.specs.Prelude.{[], ◌∷◌};
-ghost use Rattle.bincode_format.specs.Integers.{shortest, shortest_pieces};
+ghost use Rattle.std.specs.Prelude.{[], ◌∷◌, ◌≡◌, length};
+ghost use Rattle.bincode_base.specs.declared.config.Endianness.{Endianness};
+ghost use Rattle.bincode_format.specs.Integers.{shortest, shortest_pieces, first_of};
 ghost use Rattle.bincode_format.specs.Device.{TakesPieces};
 
 use super::{SINGLE_BYTE_MAX, U16_BYTE, U32_BYTE, U64_BYTE, U128_BYTE};
@@ -20,6 +21,9 @@ pub fn varint_encode_u16<W: Writer>(
     ensures { TakesPieces W.adds W.refuses W.place (shortest endian val) (shortest_pieces endian val)
         result writer.old writer.new }
 {
+    if W::COUNTS {
+        return write_at_once(writer, endian, u64::from(val));
+    }
     if val <= u16::from(SINGLE_BYTE_MAX) {
         writer.write(&[val as u8])
     } else {
@@ -37,6 +41,9 @@ pub fn varint_encode_u32<W: Writer>(
     ensures { TakesPieces W.adds W.refuses W.place (shortest endian val) (shortest_pieces endian val)
         result writer.old writer.new }
 {
+    if W::COUNTS {
+        return write_at_once(writer, endian, u64::from(val));
+    }
     if val <= u32::from(SINGLE_BYTE_MAX) {
         writer.write(&[val as u8])
     } else if val <= u32::from(u16::MAX) {
@@ -56,6 +63,9 @@ pub fn varint_encode_u64<W: Writer>(
     ensures { TakesPieces W.adds W.refuses W.place (shortest endian val) (shortest_pieces endian val)
         result writer.old writer.new }
 {
+    if W::COUNTS {
+        return write_at_once(writer, endian, val);
+    }
     if val <= u64::from(SINGLE_BYTE_MAX) {
         writer.write(&[val as u8])
     } else if val <= u64::from(u16::MAX) {
@@ -108,6 +118,43 @@ fn write_tagged<W: Writer>(writer: &mut W, tag: u8, bytes: &[u8]) -> Result<(), 
     ensures { TakesPieces W.adds W.refuses W.place (tag ∷ bytes.now) ((tag ∷ []) ∷ bytes.now ∷ [])
         result writer.old writer.new }
 {
-    writer.write(&[tag])?;
-    writer.write(bytes)
+    writer.write_ahead(tag, 1 + bytes.len())?;
+    writer.write_behind(bytes)
+}
+
+/// Writes the shortest spelling of a number to a writer that is told its length before all branches: of one that only
+/// counts nothing else is left.
+#[inline(always)]
+fn write_at_once<W: Writer>(writer: &mut W, endian: Endianness, val: u64) -> Result<(), EncodeError>
+    ensures { TakesPieces W.adds W.refuses W.place (shortest endian val) (shortest_pieces endian val)
+        result writer.old writer.new }
+{
+    let (first, all) = front_of(val);
+    writer.write_ahead(first, all)?;
+    if val <= u64::from(SINGLE_BYTE_MAX) {
+        Ok(())
+    } else if val <= u64::from(u16::MAX) {
+        writer.write_behind(&bytes_of_u16(endian, val as u16))
+    } else if val <= u64::from(u32::MAX) {
+        writer.write_behind(&bytes_of_u32(endian, val as u32))
+    } else {
+        writer.write_behind(&bytes_of_u64(endian, val))
+    }
+}
+
+/// The first byte of the shortest spelling of a number, and how many bytes that has.
+#[inline(always)]
+fn front_of(val: u64) -> (u8, usize)
+    ensures first { (endian : Endianness) → first_of (shortest endian val) ≡ result.0 }
+    ensures count { (endian : Endianness) → length (shortest endian val) ≡ result.1 }
+{
+    if val <= u64::from(SINGLE_BYTE_MAX) {
+        (val as u8, 1)
+    } else if val <= u64::from(u16::MAX) {
+        (U16_BYTE, 3)
+    } else if val <= u64::from(u32::MAX) {
+        (U32_BYTE, 5)
+    } else {
+        (U64_BYTE, 9)
+    }
 }
