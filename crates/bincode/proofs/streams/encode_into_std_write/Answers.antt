@@ -10,3 +10,6 @@ returns-in_err-encode_into_writer-clause-left g c =
     let after : c.dst-1.given.0 ≡ target_of c.encode_into_writer.new.writer = search rules in
     let halts = rw c.new-writer.ensures.stream at (stream-halts g.W.Write.contents _ _ c.new-writer.result c.encode_into_writer.new.writer c.new-writer.ensures.start _ c.in_err-encode_into_writer.ensures.left) in
     rw (p.1, p.2, after) halts
+
+pub returns-clause-word : goal.returns-clause-word
+returns-clause-word g c = search rules

@@ -1,5 +1,5 @@
 use Rattle.std.proofs.lemmas.Result.{err_from_is_err_and}
-use Rattle.std.proofs.Common.{inl, inr}
+use Rattle.std.proofs.Common.{inl, inr, rules}
 use Rattle.bincode.proofs.Counted.{halted-named}
 use Rattle.bincode.proofs.Empty.{vec-empty, counted-empty}
 use Rattle.bincode.proofs.vec.encode_to_vec.Goals as goal
@@ -28,3 +28,6 @@ pub returns-in_err-encode_with-2-clause-empty : goal.returns-in_err-encode_with-
 returns-in_err-encode_with-2-clause-empty g c =
     let p = err_from_is_err_and c.from_residual-in_err-encode_with-2.result c.from_residual-in_err-encode_with-2.ensures.1 in
     λ one empty. rw (p.1, p.2) (vec-empty _ one empty _ _ _ _ c.in_err-encode_with-2.ensures.err)
+
+pub returns-clause-word : goal.returns-clause-word
+returns-clause-word g c = search rules
