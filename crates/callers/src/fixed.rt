@@ -41,6 +41,9 @@ impl<const N: usize> Fixed<N> {
 impl<const N: usize> Writer for Fixed<N> {
     ghost use Rattle.callers.specs.Fixed.{held_by};
 
+    // Said here, since the trait's own would ask that the array fits in memory, which of `N` is not known.
+    const COUNTS: bool = false;
+
     ghost adds = { λ a piece b. (held_by b ≡ held_by a ++ piece) × (length piece ≤ N - length (held_by a))
         × (piece ≡ [] → b ≡ a) };
 
