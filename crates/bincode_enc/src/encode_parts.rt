@@ -12,26 +12,20 @@ use bincode_wire::wire::Wire;
 /// A type whose values are written by their parts. It has `Encode` by this, and so have most types here that are made
 /// of others. An enum with type parameters has to go this way: `Encode::as_bytes` of the enum itself would ask that the
 /// sum of its variants takes less than 2^63 bytes, of which nothing is known for a parameter.
-pub trait EncodeParts: Parted + Drop
-where
-    Self::Parts: Wire,
-{
+pub trait EncodeParts: Wire + Parted + Drop {
     /// Says of the value in hand that its parts are valid.
     fn tell_valid_parts(&self)
-        ensures { Self.Parts.its.valid (Self.parts self.now) };
+        ensures { Self.its.valid self.now };
 
     /// Writes a word of the parts. It does, fails and leaves what `Encode::encode` does.
     fn encode_parts<E: Encoder>(&self, encoder: &mut E) -> Result<(), EncodeError>
         ensures { Encodes E.W.adds E.W.refuses E.writer_of E.place
-            (Self.Parts.its.writable E.C.setting (Self.parts self.now))
-            (AllowedWord (Self.Parts.its.means (Self.parts self.now)) (Self.Parts.its.format E.C.setting))
-            Self.Parts.its.names result encoder.old encoder.new };
+            (Self.its.writable E.C.setting self.now)
+            (AllowedWord (Self.its.means self.now) (Self.its.format E.C.setting))
+            Self.its.names result encoder.old encoder.new };
 }
 
-impl<T: EncodeParts> Encode for T
-where
-    T::Parts: Wire,
-{
+impl<T: EncodeParts> Encode for T {
     #[inline]
     fn tell_valid(&self) {
         self.tell_valid_parts();
