@@ -13,11 +13,11 @@ use bincode_wire::wire::Wire;
 /// of others. An enum with type parameters has to go this way: `Encode::as_bytes` of the enum itself would ask that the
 /// sum of its variants takes less than 2^63 bytes, of which nothing is known for a parameter.
 pub trait EncodeParts: Wire + Parted + Drop {
-    /// Says of the value in hand that its parts are valid.
+    /// Says that the value in hand is valid, by its parts.
     fn tell_valid_parts(&self)
         ensures { Self.its.valid self.now };
 
-    /// Writes a word of the parts. It does, fails and leaves what `Encode::encode` does.
+    /// Writes a word of the value, by its parts. It does, fails and leaves what `Encode::encode` does.
     fn encode_parts<E: Encoder>(&self, encoder: &mut E) -> Result<(), EncodeError>
         ensures { Encodes E.W.adds E.W.refuses E.writer_of E.place
             (Self.its.writable E.C.setting self.now)
