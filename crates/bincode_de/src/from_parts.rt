@@ -1,6 +1,5 @@
 //! Types that are decoded by their parts.
 ghost use Rattle.std.specs.Prelude.{◌≡◌};
-ghost use Rattle.bincode_format.specs.Meaning.{Meaning};
 
 use crate::borrow_decode::BorrowDecode;
 use crate::decode::Decode;
@@ -10,20 +9,15 @@ use bincode_decoder::decoder::{BorrowDecoder, BorrowedBytes, Decoder};
 use bincode_values::values::{OneByOne, ReadValues};
 use bincode_values::wholes::{MakeWhole, decode_whole};
 use bincode_wire::parted::Parted;
-use bincode_wire::wire::Wire;
 use std::marker::PhantomData;
 
 /// A type whose values are made of their parts. It has `Decode` and `BorrowDecode` by
 /// this, where the type of the parts has.
-pub trait FromParts: Parted
-where
-    Self::Parts: Wire,
-{
+pub trait FromParts: Parted {
     /// The value with these parts.
     fn from_parts(parts: Self::Parts) -> Self
         ensures parts { Self.parts result ≡ parts }
-        ensures promise { (m : Meaning) → Self.Parts.its.given m parts
-            → (Self.promised result (Self.Parts.its.given m parts)).Promised };
+        ensures promise { (Self.promised result).Alone };
 }
 
 /// Reads values by their parts, which are read by `V`.

@@ -1,6 +1,5 @@
 //! Values that are made of their parts.
 ghost use Rattle.std.specs.Prelude.{◌≡◌};
-ghost use Rattle.bincode_format.specs.Meaning.{Meaning};
 ghost use Rattle.bincode_format.specs.Values.{Reads};
 
 use bincode_base::error::DecodeError;
@@ -25,8 +24,7 @@ pub trait MakeWhole<D: Decoder> {
     /// The value with these parts.
     fn make(parts: Self::Parts) -> Self::Whole
         ensures parts { Self.Whole.parts result ≡ parts }
-        ensures promise { (m : Meaning) → Self.Parts.its.given m parts
-            → (Self.Whole.promised result (Self.Parts.its.given m parts)).Promised };
+        ensures promise { (Self.Whole.promised result).Alone };
 }
 
 /// Reads the parts of a value, and makes it. Fails where a part does.
@@ -36,7 +34,7 @@ where
     W::Parts: Drop,
     ensures { Reads D.told D.rest D.charge D.failures D.place D.C.bound D.R.ended D.R.device
         W.Parts.its.grows (W.Parts.its.format D.C.setting)
-        (λ m v. (W.Whole.promised v (W.Parts.its.given m (W.Whole.parts v))).Promised) (D.charge decoder.old)
+        (λ m v. (W.Whole.promised v).Promised (W.Parts.its.given m (W.Whole.parts v))) (D.charge decoder.old)
         result decoder.old decoder.new }
 {
     let parts = W::read_parts(decoder)?;

@@ -1,11 +1,14 @@
 -- What a type says of its words.
-use Rattle.std.specs.Prelude.{ℕ, ◌≤◌, List}
+use Rattle.std.specs.Prelude.{ℕ, ◌≤◌, List, max}
+use Rattle.std.proofs.Common.{arith}
 use Rattle.bincode_base.specs.Setting.{Setting}
 use Rattle.bincode_base.specs.declared.error.EncodeError.{EncodeError}
 use Rattle.bincode_format.specs.Format.{Format}
 use Rattle.bincode_format.specs.Laws.{Lawful, Balanced}
+use Rattle.bincode_format.specs.Forms.{Form}
 use Rattle.bincode_format.specs.Meaning.{Meaning}
 use Rattle.bincode_format.specs.Allowed.{AllowedWord, SomeWord, MayName}
+use Rattle.bincode_laws.specs.FormLaws.{FormLaws}
 use Rattle.bincode_laws.specs.NeedLaws.{Needs}
 use Rattle.bincode_laws.specs.ChargedLaws.{Charged}
 
@@ -42,6 +45,27 @@ pub record Words (A : Type 0) : Type 1 where
   pub needs : (s : Setting) → Needs (need s) (format s)
   -- no word has more bytes than one and a half times what it charges, and all that it holds claims something
   pub charged : (s : Setting) → Charged (format s)
+
+-- the words of a type whose values are written in one way each. A container claims its size in memory, and at least 1
+abbrev pub scalar_words : {A : Type 0} (form : Form A) → FormLaws form → (size : ℕ) → Words A
+scalar_words form laws size = record {
+  format = form.format;
+  valid = form.Bounds;
+  means = form.means;
+  given = λ m v. form.means v m;
+  writable = λ s v. Unit {0};
+  names = λ e. ⊥;
+  grows = ⊥;
+  claim = max size 1;
+  need = λ s. form.need;
+  lawful = laws.lawful;
+  balanced = laws.balanced;
+  has_word = λ s v h w. (laws.spelled s v h).has_word;
+  names_own = λ e h. absurd h;
+  claims = omega arith;
+  needs = laws.needs;
+  charged = laws.charged;
+}
 
 -- the words of a value are those of its parts
 abbrev pub words_by : {A B : Type 0} → Words B → (A → B) → Words A

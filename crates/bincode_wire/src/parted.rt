@@ -15,7 +15,7 @@ pub trait Parted {
     ghost parts: { Self → Self.Parts };
 
     /// What decoding promises of a value, by what it promises of its parts.
-    ghost promised: { Self → (of_parts : Type 0) → Promise of_parts } = { λ v of_parts. no_more of_parts };
+    ghost promised: { Self → Promise } = { λ v. no_more };
 }
 
 impl<T: Parted> Wire for T
@@ -26,7 +26,7 @@ where
       format = T.Parts.its.format;
       valid = λ v. T.Parts.its.valid (T.parts v);
       means = λ v. T.Parts.its.means (T.parts v);
-      given = λ m v. (T.promised v (T.Parts.its.given m (T.parts v))).Promised;
+      given = λ m v. (T.promised v).Promised (T.Parts.its.given m (T.parts v));
       writable = λ s v. T.Parts.its.writable s (T.parts v);
       names = T.Parts.its.names;
       grows = T.Parts.its.grows;

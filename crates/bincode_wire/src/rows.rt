@@ -11,10 +11,10 @@ ghost use Rattle.bincode_laws.specs.ChargedLaws.{then-charged};
 ghost use Rattle.bincode_laws.specs.TupleLaws.{units-laws, then-lawful, then-balanced, then-has_word};
 ghost use Rattle.bincode_laws.specs.TupleLaws.{either, four-lawful};
 ghost use Rattle.bincode_laws.specs.TupleLaws.{four-balanced, four-has_word};
+ghost use Rattle.bincode_wire.specs.TypeWords.{scalar_words};
 
 use crate::laws::{Canonical, ConstantCharge, Exact, Inhabited, Plain, Writable};
-use crate::parted::{Parted, SameParts};
-use crate::scalars::{Alone, FixedCharge, Scalar};
+use crate::scalars::{FixedCharge, Scalar, scalar_claim};
 use crate::wire::Wire;
 
 impl Scalar for () {
@@ -29,14 +29,13 @@ impl Scalar for () {
     ghost same = { λ v w m p q. refl };
 }
 
-impl Parted for () {
-    type Parts = Alone<()>;
+impl Wire for () {
+    ghost its = { scalar_words ⟦<() as Scalar>⟧.form ⟦<() as Scalar>⟧.form_laws ⟦<() as Scalar>⟧.SIZE };
 
-    ghost parts = { λ v. record { value = v } };
-}
-
-impl SameParts<Alone<()>> for () {
-    ghost same_parts = { λ v w. refl };
+    #[inline]
+    fn claim_size() -> usize {
+        scalar_claim::<()>()
+    }
 }
 
 impl FixedCharge for () {
@@ -45,18 +44,18 @@ impl FixedCharge for () {
 
 /// What stands behind a part of a row: a row too, or `()` behind the last.
 pub trait Rest {
-    /// What it adds to the claim of the row: `()` behind the last part is no part, and adds nothing.
-    ghost more: { ℕ };
+    /// What it adds to the claim of the row, of its own claim: `()` behind the last part is no part, and adds nothing.
+    ghost more: { ℕ → ℕ };
 
-    /// So much.
-    fn more_size() -> usize
-        ensures { result ≡ more };
+    /// So much of this claim.
+    fn more_size(claim: usize) -> usize
+        ensures { result ≡ more claim };
 }
 
 impl Rest for () {
-    ghost more = { 0 };
+    ghost more = { λ claim. 0 };
 
-    fn more_size() -> usize {
+    fn more_size(_claim: usize) -> usize {
         0
     }
 }
@@ -74,7 +73,7 @@ impl<A: Wire, Others: Wire + Rest> Wire for Row<A, Others> {
       writable = λ s v. A.its.writable s v.0 × Others.its.writable s v.1;
       names = λ e. A.its.names e ⊎ Others.its.names e;
       grows = A.its.grows ⊎ Others.its.grows;
-      claim = ⟦<Row<A, Others> as Rest>⟧.more;
+      claim = min (A.its.claim + Others.more Others.its.claim) (2 ^ 64 - 1);
       need = λ s. then_needs (A.its.format s) (A.its.need s) (λ _. Others.its.need s);
       lawful = λ s. then-lawful (A.its.lawful s) (Others.its.lawful s);
       balanced = λ s. then-balanced (A.its.balanced s) (Others.its.balanced s);
@@ -86,15 +85,15 @@ impl<A: Wire, Others: Wire + Rest> Wire for Row<A, Others> {
     } };
 
     fn claim_size() -> usize {
-        Row::<A, Others>::more_size()
+        A::claim_size().saturating_add(Others::more_size(Others::claim_size()))
     }
 }
 
-impl<A: Wire, Others: Rest> Rest for Row<A, Others> {
-    ghost more = { min (A.its.claim + Others.more) (2 ^ 64 - 1) };
+impl<A, Others> Rest for Row<A, Others> {
+    ghost more = { λ claim. claim };
 
-    fn more_size() -> usize {
-        A::claim_size().saturating_add(Others::more_size())
+    fn more_size(claim: usize) -> usize {
+        claim
     }
 }
 
@@ -160,7 +159,7 @@ impl<A: Wire, B: Wire, C: Wire, D: Wire, Others: Wire + Rest> Wire for LongRow<A
           × (C.its.writable s v.2 × (D.its.writable s v.3 × Others.its.writable s v.4)));
       names = λ e. A.its.names e ⊎ (B.its.names e ⊎ (C.its.names e ⊎ (D.its.names e ⊎ Others.its.names e)));
       grows = A.its.grows ⊎ (B.its.grows ⊎ (C.its.grows ⊎ (D.its.grows ⊎ Others.its.grows)));
-      claim = ⟦<LongRow<A, B, C, D, Others> as Rest>⟧.more;
+      claim = ⟦<Row<A, Row<B, Row<C, Row<D, Others>>>> as Wire>⟧.its.claim;
       need = λ s. then_needs (A.its.format s) (A.its.need s) (λ _. then_needs (B.its.format s) (B.its.need s)
           (λ _. then_needs (C.its.format s) (C.its.need s) (λ _. then_needs (D.its.format s) (D.its.need s)
           (λ _. Others.its.need s))));
@@ -183,15 +182,15 @@ impl<A: Wire, B: Wire, C: Wire, D: Wire, Others: Wire + Rest> Wire for LongRow<A
     } };
 
     fn claim_size() -> usize {
-        LongRow::<A, B, C, D, Others>::more_size()
+        Row::<A, Row<B, Row<C, Row<D, Others>>>>::claim_size()
     }
 }
 
-impl<A: Wire, B: Wire, C: Wire, D: Wire, Others: Rest> Rest for LongRow<A, B, C, D, Others> {
-    ghost more = { ⟦<Row<A, Row<B, Row<C, Row<D, Others>>>> as Rest>⟧.more };
+impl<A, B, C, D, Others> Rest for LongRow<A, B, C, D, Others> {
+    ghost more = { λ claim. claim };
 
-    fn more_size() -> usize {
-        Row::<A, Row<B, Row<C, Row<D, Others>>>>::more_size()
+    fn more_size(claim: usize) -> usize {
+        claim
     }
 }
 

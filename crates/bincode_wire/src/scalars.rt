@@ -1,11 +1,12 @@
 //! Types of one word each that is written: numbers, truth values and characters.
 ghost use Rattle.std.specs.Prelude.{◌≡◌, ℕ, max, true};
-ghost use Rattle.std.proofs.Common.{arith};
 ghost use Rattle.bincode_format.specs.Meaning.{Meaning};
 ghost use Rattle.bincode_base.specs.Setting.{Setting};
 ghost use Rattle.bincode_format.specs.Forms.{Form};
 ghost use Rattle.bincode_format.specs.Limits.{Costs};
 ghost use Rattle.bincode_laws.specs.FormLaws.{FormLaws};
+ghost use Rattle.bincode_wire.specs.TypeLaws.{HasSomeWord, AlwaysWritable, PlainWords, ExactWords, CanonicalWords};
+ghost use Rattle.bincode_wire.specs.TypeWords.{scalar_words, words_by};
 
 use crate::laws::{Canonical, ConstantCharge, Exact, Inhabited, Plain, Writable};
 use crate::wire::Wire;
@@ -32,6 +33,50 @@ pub trait FixedCharge: Scalar {
     ghost charges: { (s : Setting) → Costs Self.SIZE Self.SIZE (Self.form.format s) };
 }
 
+/// How many bytes a container claims for a scalar: its size in memory, and at least 1.
+#[inline]
+pub fn scalar_claim<T: Scalar>() -> usize
+    ensures { result ≡ max T.SIZE 1 }
+{
+    T::SIZE.max(1)
+}
+
+/// Tells that a scalar has some word.
+pub fn tell_scalar_inhabited<T: Scalar>()
+    ensures { HasSomeWord (scalar_words T.form T.form_laws T.SIZE) }
+{
+}
+
+/// Tells that each value of a scalar that is in bounds can be written.
+pub fn tell_scalar_writable<T: Scalar>()
+    ensures { AlwaysWritable (scalar_words T.form T.form_laws T.SIZE) }
+{
+}
+
+/// Tells that a scalar is plain.
+pub fn tell_scalar_plain<T: Scalar>()
+    ensures { PlainWords (scalar_words T.form T.form_laws T.SIZE) }
+{
+}
+
+/// Tells that the words of a scalar are canonical.
+pub fn tell_scalar_canonical<T: Scalar>()
+    ensures { CanonicalWords (scalar_words T.form T.form_laws T.SIZE) }
+{
+}
+
+/// Tells that the words of a scalar keep all of a value.
+pub fn tell_scalar_exact<T: Scalar>()
+    ensures { ExactWords (scalar_words T.form T.form_laws T.SIZE) T.eq }
+{
+}
+
+/// Tells that every word of a scalar charges its size in memory.
+pub fn tell_scalar_costs<T: FixedCharge>()
+    ensures { (s : Setting) → Costs T.SIZE T.SIZE (T.form.format s) }
+{
+}
+
 /// A value that is written by itself. It stands in proofs alone.
 #[derive(Drop, PartialEq)]
 pub struct Alone<T> {
@@ -39,27 +84,10 @@ pub struct Alone<T> {
 }
 
 impl<T: Scalar> Wire for Alone<T> {
-    ghost its = { record {
-      format = T.form.format;
-      valid = λ v. T.form.Bounds v.value;
-      means = λ v. T.form.means v.value;
-      given = λ m v. T.form.means v.value m;
-      writable = λ s v. Unit {0};
-      names = λ e. ⊥;
-      grows = ⊥;
-      claim = max T.SIZE 1;
-      need = λ s. T.form.need;
-      lawful = T.form_laws.lawful;
-      balanced = T.form_laws.balanced;
-      has_word = λ s v h w. (T.form_laws.spelled s v.value h).has_word;
-      names_own = λ e h. absurd h;
-      claims = omega arith;
-      needs = T.form_laws.needs;
-      charged = T.form_laws.charged;
-    } };
+    ghost its = { words_by (scalar_words T.form T.form_laws T.SIZE) (λ v. v.value) };
 
     fn claim_size() -> usize {
-        T::SIZE.max(1)
+        scalar_claim::<T>()
     }
 }
 

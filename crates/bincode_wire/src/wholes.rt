@@ -3,11 +3,10 @@ ghost use Rattle.std.specs.Prelude.{◌≡◌};
 
 use crate::parted::Parted;
 use crate::sums::Or;
-use crate::wire::Wire;
 use std::ops::{Bound, Range};
 
 /// The range with these ends.
-pub fn range_from_parts<T: Wire>(parts: (T, T)) -> Range<T>
+pub fn range_from_parts<T>(parts: (T, T)) -> Range<T>
     ensures { ⟦<Range<T> as Parted>⟧.parts result ≡ parts }
 {
     let (start, end) = parts;
@@ -15,7 +14,7 @@ pub fn range_from_parts<T: Wire>(parts: (T, T)) -> Range<T>
 }
 
 /// The bound with these parts.
-pub fn bound_from_parts<T: Wire>(parts: <Bound<T> as Parted>::Parts) -> Bound<T>
+pub fn bound_from_parts<T>(parts: <Bound<T> as Parted>::Parts) -> Bound<T>
     ensures { ⟦<Bound<T> as Parted>⟧.parts result ≡ parts }
 {
     match parts.0 {

@@ -9,7 +9,6 @@ use bincode_decoder::truth::decode_truth;
 use bincode_values::values::OverDefaults;
 use bincode_wire::sums::Or;
 use bincode_wire::wholes::bound_from_parts;
-use bincode_wire::wire::Wire;
 use std::ops::Bound;
 
 impl<Context: Drop> Decode<Context> for bool {
@@ -31,7 +30,7 @@ impl<B: BorrowedBytes, Context: Drop> BorrowDecode<B, Context> for bool {
     }
 }
 
-impl<T: Wire> FromParts for Option<T> {
+impl<T> FromParts for Option<T> {
     fn from_parts(parts: Self::Parts) -> Self {
         match parts.0 {
             Or::This(()) => None,
@@ -40,7 +39,7 @@ impl<T: Wire> FromParts for Option<T> {
     }
 }
 
-impl<T: Wire, U: Wire> FromParts for Result<T, U> {
+impl<T, U> FromParts for Result<T, U> {
     fn from_parts(parts: Self::Parts) -> Self {
         match parts.0 {
             Or::This(value) => Ok(value),
@@ -49,7 +48,7 @@ impl<T: Wire, U: Wire> FromParts for Result<T, U> {
     }
 }
 
-impl<T: Wire> FromParts for Bound<T> {
+impl<T> FromParts for Bound<T> {
     fn from_parts(parts: Self::Parts) -> Self {
         bound_from_parts(parts)
     }

@@ -8,7 +8,6 @@ use bincode_decoder::decoder::{BorrowDecoder, BorrowedBytes, Decoder};
 use bincode_values::rows::decode_row;
 use bincode_values::values::{OneByOne, OverDefaults};
 use bincode_wire::rows::{LongRow, Rest, Row};
-use bincode_wire::wire::Wire;
 
 impl<Context: Drop> Decode<Context> for () {
     type Run = OverDefaults;
@@ -105,67 +104,64 @@ impl<
     }
 }
 
-impl<A: Wire> FromParts for (A,) {
+impl<A> FromParts for (A,) {
     fn from_parts(Row(a, ()): Self::Parts) -> Self {
         (a,)
     }
 }
 
-impl<A: Wire, B: Wire> FromParts for (A, B) {
+impl<A, B> FromParts for (A, B) {
     fn from_parts(Row(a, Row(b, ())): Self::Parts) -> Self {
         (a, b)
     }
 }
 
-impl<A: Wire, B: Wire, C: Wire> FromParts for (A, B, C) {
+impl<A, B, C> FromParts for (A, B, C) {
     fn from_parts(Row(a, Row(b, Row(c, ()))): Self::Parts) -> Self {
         (a, b, c)
     }
 }
 
-impl<A: Wire, B: Wire, C: Wire, D: Wire> FromParts for (A, B, C, D) {
+impl<A, B, C, D> FromParts for (A, B, C, D) {
     fn from_parts(LongRow(a, b, c, d, ()): Self::Parts) -> Self {
         (a, b, c, d)
     }
 }
 
-impl<A: Wire, B: Wire, C: Wire, D: Wire, E: Wire> FromParts for (A, B, C, D, E) {
+impl<A, B, C, D, E> FromParts for (A, B, C, D, E) {
     fn from_parts(LongRow(a, b, c, d, Row(e, ())): Self::Parts) -> Self {
         (a, b, c, d, e)
     }
 }
 
-impl<A: Wire, B: Wire, C: Wire, D: Wire, E: Wire, F: Wire> FromParts for (A, B, C, D, E, F) {
+impl<A, B, C, D, E, F> FromParts for (A, B, C, D, E, F) {
     fn from_parts(LongRow(a, b, c, d, Row(e, Row(f, ()))): Self::Parts) -> Self {
         (a, b, c, d, e, f)
     }
 }
 
-impl<A: Wire, B: Wire, C: Wire, D: Wire, E: Wire, F: Wire, G: Wire> FromParts
+impl<A, B, C, D, E, F, G> FromParts
     for (A, B, C, D, E, F, G) {
     fn from_parts(LongRow(a, b, c, d, Row(e, Row(f, Row(g, ())))): Self::Parts) -> Self {
         (a, b, c, d, e, f, g)
     }
 }
 
-impl<A: Wire, B: Wire, C: Wire, D: Wire, E: Wire, F: Wire, G: Wire, H: Wire> FromParts
+impl<A, B, C, D, E, F, G, H> FromParts
     for (A, B, C, D, E, F, G, H) {
     fn from_parts(LongRow(a, b, c, d, LongRow(e, f, g, h, ())): Self::Parts) -> Self {
         (a, b, c, d, e, f, g, h)
     }
 }
 
-impl<A: Wire, B: Wire, C: Wire, D: Wire, E: Wire, F: Wire, G: Wire, H: Wire, I: Wire> FromParts
+impl<A, B, C, D, E, F, G, H, I> FromParts
     for (A, B, C, D, E, F, G, H, I) {
     fn from_parts(LongRow(a, b, c, d, LongRow(e, f, g, h, Row(i, ()))): Self::Parts) -> Self {
         (a, b, c, d, e, f, g, h, i)
     }
 }
 
-impl<A, B, C, D, E, F, G, H, I, J> FromParts for (A, B, C, D, E, F, G, H, I, J)
-where
-    LongRow<A, B, C, D, LongRow<E, F, G, H, Row<I, Row<J, ()>>>>: Wire,
-{
+impl<A, B, C, D, E, F, G, H, I, J> FromParts for (A, B, C, D, E, F, G, H, I, J) {
     fn from_parts(
         LongRow(a, b, c, d, LongRow(e, f, g, h, Row(i, Row(j, ())))): Self::Parts,
     ) -> Self {
@@ -173,10 +169,7 @@ where
     }
 }
 
-impl<A, B, C, D, E, F, G, H, I, J, K> FromParts for (A, B, C, D, E, F, G, H, I, J, K)
-where
-    LongRow<A, B, C, D, LongRow<E, F, G, H, Row<I, Row<J, Row<K, ()>>>>>: Wire,
-{
+impl<A, B, C, D, E, F, G, H, I, J, K> FromParts for (A, B, C, D, E, F, G, H, I, J, K) {
     fn from_parts(
         LongRow(a, b, c, d, LongRow(e, f, g, h, Row(i, Row(j, Row(k, ()))))): Self::Parts,
     ) -> Self {
@@ -184,10 +177,7 @@ where
     }
 }
 
-impl<A, B, C, D, E, F, G, H, I, J, K, L> FromParts for (A, B, C, D, E, F, G, H, I, J, K, L)
-where
-    LongRow<A, B, C, D, LongRow<E, F, G, H, LongRow<I, J, K, L, ()>>>: Wire,
-{
+impl<A, B, C, D, E, F, G, H, I, J, K, L> FromParts for (A, B, C, D, E, F, G, H, I, J, K, L) {
     fn from_parts(
         LongRow(a, b, c, d, LongRow(e, f, g, h, LongRow(i, j, k, l, ()))): Self::Parts,
     ) -> Self {
@@ -195,10 +185,7 @@ where
     }
 }
 
-impl<A, B, C, D, E, F, G, H, I, J, K, L, M> FromParts for (A, B, C, D, E, F, G, H, I, J, K, L, M)
-where
-    LongRow<A, B, C, D, LongRow<E, F, G, H, LongRow<I, J, K, L, Row<M, ()>>>>: Wire,
-{
+impl<A, B, C, D, E, F, G, H, I, J, K, L, M> FromParts for (A, B, C, D, E, F, G, H, I, J, K, L, M) {
     fn from_parts(
         LongRow(a, b, c, d, LongRow(e, f, g, h, LongRow(i, j, k, l, Row(m, ())))): Self::Parts,
     ) -> Self {
@@ -207,10 +194,7 @@ where
 }
 
 impl<A, B, C, D, E, F, G, H, I, J, K, L, M, N> FromParts
-    for (A, B, C, D, E, F, G, H, I, J, K, L, M, N)
-where
-    LongRow<A, B, C, D, LongRow<E, F, G, H, LongRow<I, J, K, L, Row<M, Row<N, ()>>>>>: Wire,
-{
+    for (A, B, C, D, E, F, G, H, I, J, K, L, M, N) {
     fn from_parts(
         LongRow(
             a,
@@ -225,10 +209,7 @@ where
 }
 
 impl<A, B, C, D, E, F, G, H, I, J, K, L, M, N, O> FromParts
-    for (A, B, C, D, E, F, G, H, I, J, K, L, M, N, O)
-where
-    LongRow<A, B, C, D, LongRow<E, F, G, H, LongRow<I, J, K, L, Row<M, Row<N, Row<O, ()>>>>>>: Wire,
-{
+    for (A, B, C, D, E, F, G, H, I, J, K, L, M, N, O) {
     fn from_parts(
         LongRow(
             a,
@@ -243,10 +224,7 @@ where
 }
 
 impl<A, B, C, D, E, F, G, H, I, J, K, L, M, N, O, P> FromParts
-    for (A, B, C, D, E, F, G, H, I, J, K, L, M, N, O, P)
-where
-    LongRow<A, B, C, D, LongRow<E, F, G, H, LongRow<I, J, K, L, LongRow<M, N, O, P, ()>>>>: Wire,
-{
+    for (A, B, C, D, E, F, G, H, I, J, K, L, M, N, O, P) {
     fn from_parts(
         LongRow(
             a,

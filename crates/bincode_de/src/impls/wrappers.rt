@@ -1,17 +1,16 @@
 //! Decoding of wrappers.
 use crate::from_parts::FromParts;
-use bincode_wire::wire::Wire;
 use std::cmp::Reverse;
 use std::marker::PhantomData;
 use std::num::Wrapping;
 
-impl<T: Wire> FromParts for Wrapping<T> {
+impl<T> FromParts for Wrapping<T> {
     fn from_parts(parts: T) -> Wrapping<T> {
         Wrapping(parts)
     }
 }
 
-impl<T: Wire> FromParts for Reverse<T> {
+impl<T> FromParts for Reverse<T> {
     fn from_parts(parts: T) -> Reverse<T> {
         Reverse(parts)
     }

@@ -66,9 +66,11 @@ impl Parted for SocketAddrV6 {
     ghost parts = { λ v. (v6_ip v, v6_port v) };
 
     // What is decoded has neither flow nor scope.
-    ghost promised = { λ v of_parts. record {
-      Promised = (v6_flowinfo v ≡ 0) × (v6_scope_id v ≡ 0) × of_parts;
-      keeps = λ h. h.2;
+    ghost promised = { λ v. record {
+      Alone = (v6_flowinfo v ≡ 0) × (v6_scope_id v ≡ 0);
+      Promised = λ of_parts. (v6_flowinfo v ≡ 0) × (v6_scope_id v ≡ 0) × of_parts;
+      keeps = λ of_parts h. h.2;
+      joins = λ of_parts alone h. (alone.0, alone.1, h);
     } };
 }
 

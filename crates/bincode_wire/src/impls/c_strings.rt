@@ -12,9 +12,11 @@ impl Parted for CString {
     ghost parts = { λ v. record { bytes = c_string_bytes v } };
 
     // What is decoded has room for just its bytes.
-    ghost promised = { λ v of_parts. record {
-      Promised = of_parts × (vec_capacity (c_string_vec v) ≡ length (c_string_bytes v));
-      keeps = λ h. h.0;
+    ghost promised = { λ v. record {
+      Alone = vec_capacity (c_string_vec v) ≡ length (c_string_bytes v);
+      Promised = λ of_parts. of_parts × (vec_capacity (c_string_vec v) ≡ length (c_string_bytes v));
+      keeps = λ of_parts h. h.0;
+      joins = λ of_parts alone h. (h, alone);
     } };
 }
 

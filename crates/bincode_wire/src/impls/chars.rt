@@ -1,10 +1,10 @@
 //! The words of characters.
-ghost use Rattle.std.specs.Prelude.{refl};
 ghost use Rattle.bincode_format.specs.Forms.{characters};
 ghost use Rattle.bincode_laws.specs.CharLaws.{characters-laws, character-same};
+ghost use Rattle.bincode_wire.specs.TypeWords.{scalar_words};
 
-use crate::parted::{Parted, SameParts};
-use crate::scalars::{Alone, Scalar};
+use crate::scalars::{Scalar, scalar_claim};
+use crate::wire::Wire;
 
 impl Scalar for char {
     ghost form = { characters };
@@ -18,12 +18,11 @@ impl Scalar for char {
     ghost same = { character-same };
 }
 
-impl Parted for char {
-    type Parts = Alone<char>;
+impl Wire for char {
+    ghost its = { scalar_words ⟦<char as Scalar>⟧.form ⟦<char as Scalar>⟧.form_laws ⟦<char as Scalar>⟧.SIZE };
 
-    ghost parts = { λ v. record { value = v } };
-}
-
-impl SameParts<Alone<char>> for char {
-    ghost same_parts = { λ v w. refl };
+    #[inline]
+    fn claim_size() -> usize {
+        scalar_claim::<char>()
+    }
 }

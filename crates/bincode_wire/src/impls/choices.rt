@@ -4,10 +4,11 @@ ghost use Rattle.bincode_laws.specs.AllowedLaws.{truth-same};
 ghost use Rattle.bincode_format.specs.Forms.{truths};
 ghost use Rattle.bincode_laws.specs.CostLaws.{truth-costs};
 ghost use Rattle.bincode_laws.specs.FormLaws.{truths-laws};
+ghost use Rattle.bincode_wire.specs.TypeWords.{scalar_words};
 
 use crate::laws::Exact;
 use crate::parted::{Parted, SameParts};
-use crate::scalars::{Alone, FixedCharge, Scalar};
+use crate::scalars::{FixedCharge, Scalar, scalar_claim};
 use crate::sums::{NoOther, OneOf, Or};
 use crate::wire::Wire;
 use std::ops::Bound;
@@ -24,21 +25,20 @@ impl Scalar for bool {
     ghost same = { truth-same };
 }
 
-impl Parted for bool {
-    type Parts = Alone<bool>;
+impl Wire for bool {
+    ghost its = { scalar_words ⟦<bool as Scalar>⟧.form ⟦<bool as Scalar>⟧.form_laws ⟦<bool as Scalar>⟧.SIZE };
 
-    ghost parts = { λ v. record { value = v } };
-}
-
-impl SameParts<Alone<bool>> for bool {
-    ghost same_parts = { λ v w. refl };
+    #[inline]
+    fn claim_size() -> usize {
+        scalar_claim::<bool>()
+    }
 }
 
 impl FixedCharge for bool {
     ghost charges = { λ s. truth-costs };
 }
 
-type OptionParts<T> = OneOf<Or<0, (), Or<1, T, NoOther<Option<T>, u8>>>>;
+type OptionParts<T> = OneOf<Or<0, (), Or<1, T, NoOther<Option<()>, u8>>>>;
 
 impl<T> Parted for Option<T> {
     ghost use Rattle.std.specs.Prelude.{Some, None};
@@ -58,7 +58,7 @@ impl<T: Exact> SameParts<OptionParts<T>> for Option<T> {
     ] };
 }
 
-type ResultParts<T, U> = OneOf<Or<0, T, Or<1, U, NoOther<Result<T, U>>>>>;
+type ResultParts<T, U> = OneOf<Or<0, T, Or<1, U, NoOther<Result<(), ()>>>>>;
 
 impl<T, U> Parted for Result<T, U> {
     ghost use Rattle.std.specs.Prelude.{Ok, Err};
@@ -78,7 +78,7 @@ impl<T: Exact, U: Exact> SameParts<ResultParts<T, U>> for Result<T, U> {
     ] };
 }
 
-type BoundParts<T> = OneOf<Or<0, (), Or<1, T, Or<2, T, NoOther<Bound<T>>>>>>;
+type BoundParts<T> = OneOf<Or<0, (), Or<1, T, Or<2, T, NoOther<Bound<()>>>>>>;
 
 impl<T> Parted for Bound<T> {
     ghost use Rattle.std.specs.declared.ops.Bound.TheVariants.{Included, Excluded, Unbounded};

@@ -2,7 +2,6 @@
 use crate::hashed::{HashedEntries, HashedKeys};
 use crate::laws::Exact;
 use crate::parted::Parted;
-use crate::wire::Wire;
 use std::collections::{HashMap, HashSet};
 use std::hash::{BuildHasher, Hash};
 

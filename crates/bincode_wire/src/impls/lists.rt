@@ -7,7 +7,6 @@ ghost use Rattle.std.specs.Rc.{rc_slice_items};
 use crate::laws::Exact;
 use crate::lists::{Items, ListItems};
 use crate::parted::{Parted, SameParts};
-use crate::wire::Wire;
 use std::borrow::CowSlice;
 use std::boxed::BoxedSlice;
 use std::collections::VecDeque;
@@ -19,9 +18,11 @@ impl<T> Parted for Vec<T> {
     ghost parts = { λ v. record { items = v.items } };
 
     // What is decoded has room for just its items.
-    ghost promised = { λ v of_parts. record {
-      Promised = of_parts × (vec_capacity v ≡ length v.items);
-      keeps = λ h. h.0;
+    ghost promised = { λ v. record {
+      Alone = vec_capacity v ≡ length v.items;
+      Promised = λ of_parts. of_parts × (vec_capacity v ≡ length v.items);
+      keeps = λ of_parts h. h.0;
+      joins = λ of_parts alone h. (h, alone);
     } };
 }
 

@@ -6,7 +6,6 @@ use crate::bags::Bag;
 use crate::laws::Exact;
 use crate::ordered::{Entries, Keys};
 use crate::parted::{Parted, SameParts};
-use crate::wire::Wire;
 use std::collections::{BTreeMap, BTreeSet, BinaryHeap};
 
 impl<K: Ord> Parted for BTreeSet<K> {

@@ -11,9 +11,10 @@ ghost use Rattle.bincode_laws.specs.CostLaws.{map-costs, unsigned-costs, signed-
 ghost use Rattle.bincode_laws.specs.CostLaws.{signed_byte-costs};
 ghost use Rattle.bincode_laws.specs.FormLaws.{bytes-laws, unsigned_numbers-laws};
 ghost use Rattle.bincode_laws.specs.FormLaws.{signed_bytes-laws, signed_numbers-laws};
+ghost use Rattle.bincode_wire.specs.TypeWords.{scalar_words};
 
-use crate::parted::{Parted, SameParts};
-use crate::scalars::{Alone, FixedCharge, Scalar};
+use crate::scalars::{FixedCharge, Scalar, scalar_claim};
+use crate::wire::Wire;
 
 impl Scalar for u8 {
     ghost form = { bytes };
@@ -27,14 +28,13 @@ impl Scalar for u8 {
     ghost same = { number-same };
 }
 
-impl Parted for u8 {
-    type Parts = Alone<u8>;
+impl Wire for u8 {
+    ghost its = { scalar_words ⟦<u8 as Scalar>⟧.form ⟦<u8 as Scalar>⟧.form_laws ⟦<u8 as Scalar>⟧.SIZE };
 
-    ghost parts = { λ v. record { value = v } };
-}
-
-impl SameParts<Alone<u8>> for u8 {
-    ghost same_parts = { λ v w. refl };
+    #[inline]
+    fn claim_size() -> usize {
+        scalar_claim::<u8>()
+    }
 }
 
 impl FixedCharge for u8 {
@@ -53,14 +53,13 @@ impl Scalar for u16 {
     ghost same = { number-same };
 }
 
-impl Parted for u16 {
-    type Parts = Alone<u16>;
+impl Wire for u16 {
+    ghost its = { scalar_words ⟦<u16 as Scalar>⟧.form ⟦<u16 as Scalar>⟧.form_laws ⟦<u16 as Scalar>⟧.SIZE };
 
-    ghost parts = { λ v. record { value = v } };
-}
-
-impl SameParts<Alone<u16>> for u16 {
-    ghost same_parts = { λ v w. refl };
+    #[inline]
+    fn claim_size() -> usize {
+        scalar_claim::<u16>()
+    }
 }
 
 impl FixedCharge for u16 {
@@ -79,14 +78,13 @@ impl Scalar for u32 {
     ghost same = { number-same };
 }
 
-impl Parted for u32 {
-    type Parts = Alone<u32>;
+impl Wire for u32 {
+    ghost its = { scalar_words ⟦<u32 as Scalar>⟧.form ⟦<u32 as Scalar>⟧.form_laws ⟦<u32 as Scalar>⟧.SIZE };
 
-    ghost parts = { λ v. record { value = v } };
-}
-
-impl SameParts<Alone<u32>> for u32 {
-    ghost same_parts = { λ v w. refl };
+    #[inline]
+    fn claim_size() -> usize {
+        scalar_claim::<u32>()
+    }
 }
 
 impl FixedCharge for u32 {
@@ -105,14 +103,13 @@ impl Scalar for u64 {
     ghost same = { number-same };
 }
 
-impl Parted for u64 {
-    type Parts = Alone<u64>;
+impl Wire for u64 {
+    ghost its = { scalar_words ⟦<u64 as Scalar>⟧.form ⟦<u64 as Scalar>⟧.form_laws ⟦<u64 as Scalar>⟧.SIZE };
 
-    ghost parts = { λ v. record { value = v } };
-}
-
-impl SameParts<Alone<u64>> for u64 {
-    ghost same_parts = { λ v w. refl };
+    #[inline]
+    fn claim_size() -> usize {
+        scalar_claim::<u64>()
+    }
 }
 
 impl FixedCharge for u64 {
@@ -131,14 +128,13 @@ impl Scalar for u128 {
     ghost same = { number-same };
 }
 
-impl Parted for u128 {
-    type Parts = Alone<u128>;
+impl Wire for u128 {
+    ghost its = { scalar_words ⟦<u128 as Scalar>⟧.form ⟦<u128 as Scalar>⟧.form_laws ⟦<u128 as Scalar>⟧.SIZE };
 
-    ghost parts = { λ v. record { value = v } };
-}
-
-impl SameParts<Alone<u128>> for u128 {
-    ghost same_parts = { λ v w. refl };
+    #[inline]
+    fn claim_size() -> usize {
+        scalar_claim::<u128>()
+    }
 }
 
 impl FixedCharge for u128 {
@@ -157,14 +153,13 @@ impl Scalar for usize {
     ghost same = { number-same };
 }
 
-impl Parted for usize {
-    type Parts = Alone<usize>;
+impl Wire for usize {
+    ghost its = { scalar_words ⟦<usize as Scalar>⟧.form ⟦<usize as Scalar>⟧.form_laws ⟦<usize as Scalar>⟧.SIZE };
 
-    ghost parts = { λ v. record { value = v } };
-}
-
-impl SameParts<Alone<usize>> for usize {
-    ghost same_parts = { λ v w. refl };
+    #[inline]
+    fn claim_size() -> usize {
+        scalar_claim::<usize>()
+    }
 }
 
 impl FixedCharge for usize {
@@ -183,14 +178,13 @@ impl Scalar for i8 {
     ghost same = { integer-same };
 }
 
-impl Parted for i8 {
-    type Parts = Alone<i8>;
+impl Wire for i8 {
+    ghost its = { scalar_words ⟦<i8 as Scalar>⟧.form ⟦<i8 as Scalar>⟧.form_laws ⟦<i8 as Scalar>⟧.SIZE };
 
-    ghost parts = { λ v. record { value = v } };
-}
-
-impl SameParts<Alone<i8>> for i8 {
-    ghost same_parts = { λ v w. refl };
+    #[inline]
+    fn claim_size() -> usize {
+        scalar_claim::<i8>()
+    }
 }
 
 impl FixedCharge for i8 {
@@ -209,14 +203,13 @@ impl Scalar for i16 {
     ghost same = { integer-same };
 }
 
-impl Parted for i16 {
-    type Parts = Alone<i16>;
+impl Wire for i16 {
+    ghost its = { scalar_words ⟦<i16 as Scalar>⟧.form ⟦<i16 as Scalar>⟧.form_laws ⟦<i16 as Scalar>⟧.SIZE };
 
-    ghost parts = { λ v. record { value = v } };
-}
-
-impl SameParts<Alone<i16>> for i16 {
-    ghost same_parts = { λ v w. refl };
+    #[inline]
+    fn claim_size() -> usize {
+        scalar_claim::<i16>()
+    }
 }
 
 impl FixedCharge for i16 {
@@ -235,14 +228,13 @@ impl Scalar for i32 {
     ghost same = { integer-same };
 }
 
-impl Parted for i32 {
-    type Parts = Alone<i32>;
+impl Wire for i32 {
+    ghost its = { scalar_words ⟦<i32 as Scalar>⟧.form ⟦<i32 as Scalar>⟧.form_laws ⟦<i32 as Scalar>⟧.SIZE };
 
-    ghost parts = { λ v. record { value = v } };
-}
-
-impl SameParts<Alone<i32>> for i32 {
-    ghost same_parts = { λ v w. refl };
+    #[inline]
+    fn claim_size() -> usize {
+        scalar_claim::<i32>()
+    }
 }
 
 impl FixedCharge for i32 {
@@ -261,14 +253,13 @@ impl Scalar for i64 {
     ghost same = { integer-same };
 }
 
-impl Parted for i64 {
-    type Parts = Alone<i64>;
+impl Wire for i64 {
+    ghost its = { scalar_words ⟦<i64 as Scalar>⟧.form ⟦<i64 as Scalar>⟧.form_laws ⟦<i64 as Scalar>⟧.SIZE };
 
-    ghost parts = { λ v. record { value = v } };
-}
-
-impl SameParts<Alone<i64>> for i64 {
-    ghost same_parts = { λ v w. refl };
+    #[inline]
+    fn claim_size() -> usize {
+        scalar_claim::<i64>()
+    }
 }
 
 impl FixedCharge for i64 {
@@ -287,14 +278,13 @@ impl Scalar for i128 {
     ghost same = { integer-same };
 }
 
-impl Parted for i128 {
-    type Parts = Alone<i128>;
+impl Wire for i128 {
+    ghost its = { scalar_words ⟦<i128 as Scalar>⟧.form ⟦<i128 as Scalar>⟧.form_laws ⟦<i128 as Scalar>⟧.SIZE };
 
-    ghost parts = { λ v. record { value = v } };
-}
-
-impl SameParts<Alone<i128>> for i128 {
-    ghost same_parts = { λ v w. refl };
+    #[inline]
+    fn claim_size() -> usize {
+        scalar_claim::<i128>()
+    }
 }
 
 impl FixedCharge for i128 {
@@ -313,14 +303,13 @@ impl Scalar for isize {
     ghost same = { integer-same };
 }
 
-impl Parted for isize {
-    type Parts = Alone<isize>;
+impl Wire for isize {
+    ghost its = { scalar_words ⟦<isize as Scalar>⟧.form ⟦<isize as Scalar>⟧.form_laws ⟦<isize as Scalar>⟧.SIZE };
 
-    ghost parts = { λ v. record { value = v } };
-}
-
-impl SameParts<Alone<isize>> for isize {
-    ghost same_parts = { λ v w. refl };
+    #[inline]
+    fn claim_size() -> usize {
+        scalar_claim::<isize>()
+    }
 }
 
 impl FixedCharge for isize {

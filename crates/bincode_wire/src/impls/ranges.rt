@@ -4,7 +4,6 @@ ghost use Rattle.std.specs.Range.{range_inclusive_start, range_inclusive_end, ra
 
 use crate::laws::Exact;
 use crate::parted::{Parted, SameParts};
-use crate::wire::Wire;
 use std::ops::{Range, RangeInclusive};
 
 impl<T> Parted for Range<T> {
@@ -23,8 +22,10 @@ impl<T> Parted for RangeInclusive<T> {
     ghost parts = { λ v. (range_inclusive_start v, range_inclusive_end v) };
 
     // What is decoded is not exhausted.
-    ghost promised = { λ v of_parts. record {
-      Promised = (range_inclusive_exhausted v ≡ false) × of_parts;
-      keeps = λ h. h.1;
+    ghost promised = { λ v. record {
+      Alone = range_inclusive_exhausted v ≡ false;
+      Promised = λ of_parts. (range_inclusive_exhausted v ≡ false) × of_parts;
+      keeps = λ of_parts h. h.1;
+      joins = λ of_parts alone h. (alone, h);
     } };
 }

@@ -17,9 +17,11 @@ impl Parted for String {
     ghost parts = { λ v. record { bytes = string_bytes v } };
 
     // What is decoded has room for just its bytes.
-    ghost promised = { λ v of_parts. record {
-      Promised = of_parts × (string_capacity v ≡ length (string_bytes v));
-      keeps = λ h. h.0;
+    ghost promised = { λ v. record {
+      Alone = string_capacity v ≡ length (string_bytes v);
+      Promised = λ of_parts. of_parts × (string_capacity v ≡ length (string_bytes v));
+      keeps = λ of_parts h. h.0;
+      joins = λ of_parts alone h. (h, alone);
     } };
 }
 

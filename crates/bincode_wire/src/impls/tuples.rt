@@ -5,7 +5,6 @@ ghost use Rattle.bincode_laws.specs.RowLaws.{row-same};
 
 use crate::parted::{Parted, SameParts};
 use crate::rows::{LongRow, Row};
-use crate::wire::Wire;
 
 impl<A> Parted for (A,) {
     type Parts = Row<A, ()>;

@@ -1,4 +1,4 @@
-use Rattle.std.proofs.Common.{◌≡◌, ℕ, ◌+◌, ◌-◌, ◌≤◌, List, ◌++◌, rules, arith, length, take, slice_range, sym, ap, ◌∙◌, subst, le_refl, drop_at, length-take-le}
+use Rattle.std.proofs.Common.{◌≡◌, ℕ, ◌+◌, ◌-◌, ◌≤◌, List, ◌++◌, rules, arith, length, take, slice_range, sym, ap, ◌∙◌, refl, subst, le_refl, drop_at, length-take-le}
 use Rattle.std.proofs.lemmas.Slice.{take-put_mid_below}
 use Rattle.std.specs.Io.KnownBytes.{Consumes}
 use Rattle.std.proofs.KnownBytes.{Consumes-trans}
@@ -26,3 +26,6 @@ loop-at-preserved g c =
     let part = slice_range-put_mid from room c.in-Ok.n c.loop-at.bytes c.read_some.new.bytes within c.in-Ok.ensures.bound.0 in
     let joined = take_split from (from + c.in-Ok.n) c.loop-at.bytes (put_mid from room c.loop-at.bytes c.read_some.new.bytes) (omega arith) (take-put_mid_below _ _ _ _ _ (le_refl _) within) in
     (search rules, search rules, subst (Consumes _ _) (ap (λ l. take from c.loop-at.bytes ++ l) (sym part) ∙ joined) (Consumes-trans _ _ _ _ _ c.loop-at.invariant.2 c.in-Ok.ensures.ok))
+
+pub returns-in-Err-clause-err : goal.returns-in-Err-clause-err
+returns-in-Err-clause-err g c = (_, _, refl)

@@ -14,7 +14,7 @@ returns g c =
     let made = c.make.ensures in
     let read = c.in_ok-parts.ensures in
     read-as
-    (λ known. made-of (λ m h. subst (λ parts. (g.W.Whole.Parted.promised c.make.result (g.W.Parts.Wire.its.given m parts)).Promised) (sym made.parts) (made.promise m h)) (read.ok known))
+    (λ known. made-of (λ m h. (g.W.Whole.Parted.promised c.make.result).joins (g.W.Parts.Wire.its.given m (g.W.Whole.Parted.parts c.make.result)) made.promise (subst (λ parts. g.W.Parts.Wire.its.given m parts) (sym made.parts) h)) (read.ok known))
     (λ known. tt)
     read.within
     read

@@ -8,5 +8,5 @@ returns g c = record {
   comes_back = λ v w m h p q.
       sym (g.met.T.SameParts.same_parts v w)
       ∙ c.tell_exact.ensures.comes_back (g.T.Parted.parts v) (g.T.Parted.parts w) m h p
-      ((g.T.Parted.promised w (g.P.Wire.its.given m (g.T.Parted.parts w))).keeps q);
+      ((g.T.Parted.promised w).keeps (g.P.Wire.its.given m (g.T.Parted.parts w)) q);
 }
