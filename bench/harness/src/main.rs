@@ -9,6 +9,7 @@ mod values;
 
 use std::env;
 use std::process::ExitCode;
+use std::time::Instant;
 use trial::{ROWS, Trial};
 
 /// How many values are in a trial at most; so many items have all of them together, unless one has more.
@@ -27,13 +28,22 @@ impl Trial {
             && (self.row.same)(&original[..counts[0]], &port[..counts[1]])
     }
 
+    /// How many turns a call makes: so many that they take long enough, and twice as long as a call that makes none. They
+    /// are doubled until they do, since of a few turns the time may be lost in what a call takes without any.
+    fn turns(&mut self) -> usize {
+        let start = (0..3).map(|_| self.call(0, 0).0).fold(f64::MAX, f64::min);
+        let wanted = start + f64::max(CALL, 2.0 * start);
+        let mut turns = 1;
+        while self.call(0, turns).0 < wanted {
+            turns *= 2;
+        }
+        turns
+    }
+
     /// How long each side takes for one value, or for one item of a value: the least time of so many calls, without what
     /// a call takes that reads its values and makes no turn.
     fn times(&mut self, batches: usize) -> [f64; 2] {
-        let least = |times: &mut dyn Iterator<Item = f64>| times.fold(f64::MAX, f64::min);
-        let start = least(&mut (0..3).map(|_| self.call(0, 0).0));
-        let one = ((least(&mut (0..3).map(|_| self.call(0, 4).0)) - start) / 4.0).max(1.0);
-        let turns = (f64::max(CALL, 4.0 * start) / one).ceil() as usize;
+        let turns = self.turns();
         let mut whole = [f64::MAX; 2];
         let mut begun = [f64::MAX; 2];
         for batch in 0..batches {
@@ -155,7 +165,7 @@ fn main() -> ExitCode {
     }
     let mut all: Vec<Timed> = vec![];
     for run in 0..runs {
-        eprintln!("run {} of {runs} ..", run + 1);
+        let start = Instant::now();
         for (place, trial) in trials.iter_mut().enumerate() {
             if run == 0 {
                 let group = format!("{} {}", trial.row.way, trial.row.configuration);
@@ -167,6 +177,11 @@ fn main() -> ExitCode {
             }
             all[place].runs.push(trial.times(batches));
         }
+        eprintln!(
+            "run {} of {runs}: {:.0} s",
+            run + 1,
+            start.elapsed().as_secs_f64()
+        );
     }
     print_table(&all);
     print_means(&all);

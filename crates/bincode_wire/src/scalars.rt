@@ -44,38 +44,32 @@ pub fn scalar_claim<T: Scalar>() -> usize
 /// Tells that a scalar has some word.
 pub fn tell_scalar_inhabited<T: Scalar>()
     ensures { HasSomeWord (scalar_words T.form T.form_laws T.SIZE) }
-{
-}
+{}
 
 /// Tells that each value of a scalar that is in bounds can be written.
 pub fn tell_scalar_writable<T: Scalar>()
     ensures { AlwaysWritable (scalar_words T.form T.form_laws T.SIZE) }
-{
-}
+{}
 
 /// Tells that a scalar is plain.
 pub fn tell_scalar_plain<T: Scalar>()
     ensures { PlainWords (scalar_words T.form T.form_laws T.SIZE) }
-{
-}
+{}
 
 /// Tells that the words of a scalar are canonical.
 pub fn tell_scalar_canonical<T: Scalar>()
     ensures { CanonicalWords (scalar_words T.form T.form_laws T.SIZE) }
-{
-}
+{}
 
 /// Tells that the words of a scalar keep all of a value.
 pub fn tell_scalar_exact<T: Scalar>()
     ensures { ExactWords (scalar_words T.form T.form_laws T.SIZE) T.eq }
-{
-}
+{}
 
 /// Tells that every word of a scalar charges its size in memory.
 pub fn tell_scalar_costs<T: FixedCharge>()
     ensures { (s : Setting) → Costs T.SIZE T.SIZE (T.form.format s) }
-{
-}
+{}
 
 /// A value that is written by itself. It stands in proofs alone.
 #[derive(Drop, PartialEq)]

@@ -140,22 +140,19 @@ impl<A, B, C, D, E, F> FromParts for (A, B, C, D, E, F) {
     }
 }
 
-impl<A, B, C, D, E, F, G> FromParts
-    for (A, B, C, D, E, F, G) {
+impl<A, B, C, D, E, F, G> FromParts for (A, B, C, D, E, F, G) {
     fn from_parts(LongRow(a, b, c, d, Row(e, Row(f, Row(g, ())))): Self::Parts) -> Self {
         (a, b, c, d, e, f, g)
     }
 }
 
-impl<A, B, C, D, E, F, G, H> FromParts
-    for (A, B, C, D, E, F, G, H) {
+impl<A, B, C, D, E, F, G, H> FromParts for (A, B, C, D, E, F, G, H) {
     fn from_parts(LongRow(a, b, c, d, LongRow(e, f, g, h, ())): Self::Parts) -> Self {
         (a, b, c, d, e, f, g, h)
     }
 }
 
-impl<A, B, C, D, E, F, G, H, I> FromParts
-    for (A, B, C, D, E, F, G, H, I) {
+impl<A, B, C, D, E, F, G, H, I> FromParts for (A, B, C, D, E, F, G, H, I) {
     fn from_parts(LongRow(a, b, c, d, LongRow(e, f, g, h, Row(i, ()))): Self::Parts) -> Self {
         (a, b, c, d, e, f, g, h, i)
     }

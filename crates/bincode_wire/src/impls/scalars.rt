@@ -1,9 +1,8 @@
 //! The laws of integers, truth values, characters and `()`.
 
 use crate::laws::{Canonical, ConstantCharge, Exact, Inhabited, Plain, Writable};
-use crate::scalars::Scalar;
 use crate::scalars::{
-    tell_scalar_canonical, tell_scalar_costs, tell_scalar_exact, tell_scalar_inhabited,
+    Scalar, tell_scalar_canonical, tell_scalar_costs, tell_scalar_exact, tell_scalar_inhabited,
     tell_scalar_plain, tell_scalar_writable,
 };
 
