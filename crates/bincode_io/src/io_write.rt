@@ -157,6 +157,18 @@ impl<W: Write> Writer for IoWriter<'_, W> {
         Ok(())
     }
 
+    /// Writes the byte. It is written out, since the provided one stays a call.
+    #[inline(always)]
+    fn write_ahead(&mut self, byte: u8, _all: usize) -> Result<(), EncodeError> {
+        self.write(&[byte])
+    }
+
+    /// Writes the bytes. It is written out, since the provided one stays a call.
+    #[inline(always)]
+    fn write_behind(&mut self, bytes: &[u8]) -> Result<(), EncodeError> {
+        self.write(bytes)
+    }
+
     ghost adds_none = { adds-none W.contents };
 
     ghost adds_join = { adds-join W.contents };

@@ -5,6 +5,7 @@ use crate::encode::Encode;
 use crate::encode_parts::EncodeParts;
 use crate::runs::ByEncode;
 use bincode_base::error::EncodeError;
+use bincode_encoder::answers::same_answer;
 use bincode_encoder::encoder::Encoder;
 use bincode_encoder::lists::{encode_bag, encode_deque, encode_list, tell_list_valid};
 use bincode_encoder::runs::tell_each_valid;
@@ -13,14 +14,14 @@ use std::boxed::BoxedSlice;
 use std::collections::{BinaryHeap, VecDeque};
 use std::rc::RcSlice;
 
-impl<T: Encode> EncodeParts for Vec<T> {
-    fn tell_valid_parts(&self) {
+impl<T: Encode> Encode for Vec<T> {
+    fn tell_valid(&self) {
         tell_list_valid::<ByEncode<T>>(self);
     }
 
     #[inline(always)]
-    fn encode_parts<E: Encoder>(&self, encoder: &mut E) -> Result<(), EncodeError> {
-        encode_list::<ByEncode<T>, E>(self, encoder)
+    fn encode<E: Encoder>(&self, encoder: &mut E) -> Result<(), EncodeError> {
+        same_answer(encode_list::<ByEncode<T>, E>(self, encoder))
     }
 }
 
@@ -45,14 +46,14 @@ impl<T: Encode> EncodeParts for VecDeque<T> {
     }
 }
 
-impl<T: Encode> EncodeParts for &[T] {
-    fn tell_valid_parts(&self) {
+impl<T: Encode> Encode for &[T] {
+    fn tell_valid(&self) {
         tell_list_valid::<ByEncode<T>>(self);
     }
 
     #[inline(always)]
-    fn encode_parts<E: Encoder>(&self, encoder: &mut E) -> Result<(), EncodeError> {
-        encode_list::<ByEncode<T>, E>(self, encoder)
+    fn encode<E: Encoder>(&self, encoder: &mut E) -> Result<(), EncodeError> {
+        same_answer(encode_list::<ByEncode<T>, E>(self, encoder))
     }
 }
 

@@ -2,20 +2,21 @@
 use crate::encode::Encode;
 use crate::encode_parts::EncodeParts;
 use bincode_base::error::EncodeError;
+use bincode_encoder::answers::same_answer;
 use bincode_encoder::encoder::Encoder;
 use bincode_wire::scalars::Scalar;
 use std::borrow::Cow;
 use std::rc::Rc;
 use std::sync::Arc;
 
-impl<T: Encode> EncodeParts for Box<T> {
-    fn tell_valid_parts(&self) {
+impl<T: Encode> Encode for Box<T> {
+    fn tell_valid(&self) {
         (**self).tell_valid();
     }
 
     #[inline(always)]
-    fn encode_parts<E: Encoder>(&self, encoder: &mut E) -> Result<(), EncodeError> {
-        (**self).encode(encoder)
+    fn encode<E: Encoder>(&self, encoder: &mut E) -> Result<(), EncodeError> {
+        same_answer((**self).encode(encoder))
     }
 }
 

@@ -1,8 +1,8 @@
 //! Encoding of tuples.
 use crate::encode::Encode;
-use crate::encode_parts::EncodeParts;
 use crate::rows::{EncodeRow, LentRow, LongLentRow};
 use bincode_base::error::EncodeError;
+use bincode_encoder::answers::same_answer;
 use bincode_encoder::encoder::Encoder;
 
 // Always inlined: LLVM takes a call behind several `?` for a rare one, and a call hands on a result with room for an
@@ -30,47 +30,50 @@ fn tell_four_valid<A: Encode, B: Encode, C: Encode, D: Encode>(a: &A, b: &B, c: 
     d.tell_valid();
 }
 
-impl<A: Encode> EncodeParts for (A,) {
-    fn tell_valid_parts(&self) {
+impl<A: Encode> Encode for (A,) {
+    fn tell_valid(&self) {
         self.0.tell_valid();
     }
 
     #[inline(always)]
-    fn encode_parts<Z: Encoder>(&self, encoder: &mut Z) -> Result<(), EncodeError> {
+    fn encode<Z: Encoder>(&self, encoder: &mut Z) -> Result<(), EncodeError> {
         let (a,) = self;
-        LentRow(a, ()).encode_row(encoder)
+        let row = LentRow(a, ());
+        same_answer(row.encode_row(encoder))
     }
 }
 
-impl<A: Encode, B: Encode> EncodeParts for (A, B) {
-    fn tell_valid_parts(&self) {
+impl<A: Encode, B: Encode> Encode for (A, B) {
+    fn tell_valid(&self) {
         self.0.tell_valid();
         self.1.tell_valid();
     }
 
     #[inline(always)]
-    fn encode_parts<Z: Encoder>(&self, encoder: &mut Z) -> Result<(), EncodeError> {
+    fn encode<Z: Encoder>(&self, encoder: &mut Z) -> Result<(), EncodeError> {
         let (a, b) = self;
-        LentRow(a, LentRow(b, ())).encode_row(encoder)
+        let row = LentRow(a, LentRow(b, ()));
+        same_answer(row.encode_row(encoder))
     }
 }
 
-impl<A: Encode, B: Encode, C: Encode> EncodeParts for (A, B, C) {
-    fn tell_valid_parts(&self) {
+impl<A: Encode, B: Encode, C: Encode> Encode for (A, B, C) {
+    fn tell_valid(&self) {
         self.0.tell_valid();
         self.1.tell_valid();
         self.2.tell_valid();
     }
 
     #[inline(always)]
-    fn encode_parts<Z: Encoder>(&self, encoder: &mut Z) -> Result<(), EncodeError> {
+    fn encode<Z: Encoder>(&self, encoder: &mut Z) -> Result<(), EncodeError> {
         let (a, b, c) = self;
-        LentRow(a, LentRow(b, LentRow(c, ()))).encode_row(encoder)
+        let row = LentRow(a, LentRow(b, LentRow(c, ())));
+        same_answer(row.encode_row(encoder))
     }
 }
 
-impl<A: Encode, B: Encode, C: Encode, D: Encode> EncodeParts for (A, B, C, D) {
-    fn tell_valid_parts(&self) {
+impl<A: Encode, B: Encode, C: Encode, D: Encode> Encode for (A, B, C, D) {
+    fn tell_valid(&self) {
         self.0.tell_valid();
         self.1.tell_valid();
         self.2.tell_valid();
@@ -78,14 +81,15 @@ impl<A: Encode, B: Encode, C: Encode, D: Encode> EncodeParts for (A, B, C, D) {
     }
 
     #[inline(always)]
-    fn encode_parts<Z: Encoder>(&self, encoder: &mut Z) -> Result<(), EncodeError> {
+    fn encode<Z: Encoder>(&self, encoder: &mut Z) -> Result<(), EncodeError> {
         let (a, b, c, d) = self;
-        LongLentRow(a, b, c, d, ()).encode_row(encoder)
+        let row = LongLentRow(a, b, c, d, ());
+        same_answer(row.encode_row(encoder))
     }
 }
 
-impl<A: Encode, B: Encode, C: Encode, D: Encode, E: Encode> EncodeParts for (A, B, C, D, E) {
-    fn tell_valid_parts(&self) {
+impl<A: Encode, B: Encode, C: Encode, D: Encode, E: Encode> Encode for (A, B, C, D, E) {
+    fn tell_valid(&self) {
         self.0.tell_valid();
         self.1.tell_valid();
         self.2.tell_valid();
@@ -94,15 +98,16 @@ impl<A: Encode, B: Encode, C: Encode, D: Encode, E: Encode> EncodeParts for (A, 
     }
 
     #[inline(always)]
-    fn encode_parts<Z: Encoder>(&self, encoder: &mut Z) -> Result<(), EncodeError> {
+    fn encode<Z: Encoder>(&self, encoder: &mut Z) -> Result<(), EncodeError> {
         let (a, b, c, d, e) = self;
-        LongLentRow(a, b, c, d, LentRow(e, ())).encode_row(encoder)
+        let row = LongLentRow(a, b, c, d, LentRow(e, ()));
+        same_answer(row.encode_row(encoder))
     }
 }
 
-impl<A: Encode, B: Encode, C: Encode, D: Encode, E: Encode, F: Encode> EncodeParts
+impl<A: Encode, B: Encode, C: Encode, D: Encode, E: Encode, F: Encode> Encode
     for (A, B, C, D, E, F) {
-    fn tell_valid_parts(&self) {
+    fn tell_valid(&self) {
         self.0.tell_valid();
         self.1.tell_valid();
         self.2.tell_valid();
@@ -112,15 +117,16 @@ impl<A: Encode, B: Encode, C: Encode, D: Encode, E: Encode, F: Encode> EncodePar
     }
 
     #[inline(always)]
-    fn encode_parts<Z: Encoder>(&self, encoder: &mut Z) -> Result<(), EncodeError> {
+    fn encode<Z: Encoder>(&self, encoder: &mut Z) -> Result<(), EncodeError> {
         let (a, b, c, d, e, f) = self;
-        LongLentRow(a, b, c, d, LentRow(e, LentRow(f, ()))).encode_row(encoder)
+        let row = LongLentRow(a, b, c, d, LentRow(e, LentRow(f, ())));
+        same_answer(row.encode_row(encoder))
     }
 }
 
-impl<A: Encode, B: Encode, C: Encode, D: Encode, E: Encode, F: Encode, G: Encode> EncodeParts
+impl<A: Encode, B: Encode, C: Encode, D: Encode, E: Encode, F: Encode, G: Encode> Encode
     for (A, B, C, D, E, F, G) {
-    fn tell_valid_parts(&self) {
+    fn tell_valid(&self) {
         self.0.tell_valid();
         self.1.tell_valid();
         self.2.tell_valid();
@@ -131,31 +137,25 @@ impl<A: Encode, B: Encode, C: Encode, D: Encode, E: Encode, F: Encode, G: Encode
     }
 
     #[inline(always)]
-    fn encode_parts<Z: Encoder>(&self, encoder: &mut Z) -> Result<(), EncodeError> {
+    fn encode<Z: Encoder>(&self, encoder: &mut Z) -> Result<(), EncodeError> {
         let (a, b, c, d, e, f, g) = self;
-        LongLentRow(a, b, c, d, LentRow(e, LentRow(f, LentRow(g, ())))).encode_row(encoder)
+        let row = LongLentRow(a, b, c, d, LentRow(e, LentRow(f, LentRow(g, ()))));
+        same_answer(row.encode_row(encoder))
     }
 }
 
-impl<
-    A: Encode,
-    B: Encode,
-    C: Encode,
-    D: Encode,
-    E: Encode,
-    F: Encode,
-    G: Encode,
-    H: Encode,
-> EncodeParts for (A, B, C, D, E, F, G, H) {
-    fn tell_valid_parts(&self) {
+impl<A: Encode, B: Encode, C: Encode, D: Encode, E: Encode, F: Encode, G: Encode, H: Encode> Encode
+    for (A, B, C, D, E, F, G, H) {
+    fn tell_valid(&self) {
         tell_four_valid(&self.0, &self.1, &self.2, &self.3);
         tell_four_valid(&self.4, &self.5, &self.6, &self.7);
     }
 
     #[inline(always)]
-    fn encode_parts<Z: Encoder>(&self, encoder: &mut Z) -> Result<(), EncodeError> {
+    fn encode<Z: Encoder>(&self, encoder: &mut Z) -> Result<(), EncodeError> {
         let (a, b, c, d, e, f, g, h) = self;
-        LongLentRow(a, b, c, d, LongLentRow(e, f, g, h, ())).encode_row(encoder)
+        let row = LongLentRow(a, b, c, d, LongLentRow(e, f, g, h, ()));
+        same_answer(row.encode_row(encoder))
     }
 }
 
@@ -169,17 +169,18 @@ impl<
     G: Encode,
     H: Encode,
     I: Encode,
-> EncodeParts for (A, B, C, D, E, F, G, H, I) {
-    fn tell_valid_parts(&self) {
+> Encode for (A, B, C, D, E, F, G, H, I) {
+    fn tell_valid(&self) {
         tell_four_valid(&self.0, &self.1, &self.2, &self.3);
         tell_four_valid(&self.4, &self.5, &self.6, &self.7);
         self.8.tell_valid();
     }
 
     #[inline(always)]
-    fn encode_parts<Z: Encoder>(&self, encoder: &mut Z) -> Result<(), EncodeError> {
+    fn encode<Z: Encoder>(&self, encoder: &mut Z) -> Result<(), EncodeError> {
         let (a, b, c, d, e, f, g, h, i) = self;
-        LongLentRow(a, b, c, d, LongLentRow(e, f, g, h, LentRow(i, ()))).encode_row(encoder)
+        let row = LongLentRow(a, b, c, d, LongLentRow(e, f, g, h, LentRow(i, ())));
+        same_answer(row.encode_row(encoder))
     }
 }
 
@@ -194,8 +195,8 @@ impl<
     H: Encode,
     I: Encode,
     J: Encode,
-> EncodeParts for (A, B, C, D, E, F, G, H, I, J) {
-    fn tell_valid_parts(&self) {
+> Encode for (A, B, C, D, E, F, G, H, I, J) {
+    fn tell_valid(&self) {
         tell_four_valid(&self.0, &self.1, &self.2, &self.3);
         tell_four_valid(&self.4, &self.5, &self.6, &self.7);
         self.8.tell_valid();
@@ -203,16 +204,16 @@ impl<
     }
 
     #[inline(always)]
-    fn encode_parts<Z: Encoder>(&self, encoder: &mut Z) -> Result<(), EncodeError> {
+    fn encode<Z: Encoder>(&self, encoder: &mut Z) -> Result<(), EncodeError> {
         let (a, b, c, d, e, f, g, h, i, j) = self;
-        LongLentRow(
+        let row = LongLentRow(
             a,
             b,
             c,
             d,
             LongLentRow(e, f, g, h, LentRow(i, LentRow(j, ()))),
-        )
-        .encode_row(encoder)
+        );
+        same_answer(row.encode_row(encoder))
     }
 }
 
@@ -228,8 +229,8 @@ impl<
     I: Encode,
     J: Encode,
     K: Encode,
-> EncodeParts for (A, B, C, D, E, F, G, H, I, J, K) {
-    fn tell_valid_parts(&self) {
+> Encode for (A, B, C, D, E, F, G, H, I, J, K) {
+    fn tell_valid(&self) {
         tell_four_valid(&self.0, &self.1, &self.2, &self.3);
         tell_four_valid(&self.4, &self.5, &self.6, &self.7);
         self.8.tell_valid();
@@ -238,16 +239,16 @@ impl<
     }
 
     #[inline(always)]
-    fn encode_parts<Z: Encoder>(&self, encoder: &mut Z) -> Result<(), EncodeError> {
+    fn encode<Z: Encoder>(&self, encoder: &mut Z) -> Result<(), EncodeError> {
         let (a, b, c, d, e, f, g, h, i, j, k) = self;
-        LongLentRow(
+        let row = LongLentRow(
             a,
             b,
             c,
             d,
             LongLentRow(e, f, g, h, LentRow(i, LentRow(j, LentRow(k, ())))),
-        )
-        .encode_row(encoder)
+        );
+        same_answer(row.encode_row(encoder))
     }
 }
 
@@ -264,24 +265,24 @@ impl<
     J: Encode,
     K: Encode,
     L: Encode,
-> EncodeParts for (A, B, C, D, E, F, G, H, I, J, K, L) {
-    fn tell_valid_parts(&self) {
+> Encode for (A, B, C, D, E, F, G, H, I, J, K, L) {
+    fn tell_valid(&self) {
         tell_four_valid(&self.0, &self.1, &self.2, &self.3);
         tell_four_valid(&self.4, &self.5, &self.6, &self.7);
         tell_four_valid(&self.8, &self.9, &self.10, &self.11);
     }
 
     #[inline(always)]
-    fn encode_parts<Z: Encoder>(&self, encoder: &mut Z) -> Result<(), EncodeError> {
+    fn encode<Z: Encoder>(&self, encoder: &mut Z) -> Result<(), EncodeError> {
         let (a, b, c, d, e, f, g, h, i, j, k, l) = self;
-        LongLentRow(
+        let row = LongLentRow(
             a,
             b,
             c,
             d,
             LongLentRow(e, f, g, h, LongLentRow(i, j, k, l, ())),
-        )
-        .encode_row(encoder)
+        );
+        same_answer(row.encode_row(encoder))
     }
 }
 
@@ -299,8 +300,8 @@ impl<
     K: Encode,
     L: Encode,
     M: Encode,
-> EncodeParts for (A, B, C, D, E, F, G, H, I, J, K, L, M) {
-    fn tell_valid_parts(&self) {
+> Encode for (A, B, C, D, E, F, G, H, I, J, K, L, M) {
+    fn tell_valid(&self) {
         tell_four_valid(&self.0, &self.1, &self.2, &self.3);
         tell_four_valid(&self.4, &self.5, &self.6, &self.7);
         tell_four_valid(&self.8, &self.9, &self.10, &self.11);
@@ -308,16 +309,16 @@ impl<
     }
 
     #[inline(always)]
-    fn encode_parts<Z: Encoder>(&self, encoder: &mut Z) -> Result<(), EncodeError> {
+    fn encode<Z: Encoder>(&self, encoder: &mut Z) -> Result<(), EncodeError> {
         let (a, b, c, d, e, f, g, h, i, j, k, l, m) = self;
-        LongLentRow(
+        let row = LongLentRow(
             a,
             b,
             c,
             d,
             LongLentRow(e, f, g, h, LongLentRow(i, j, k, l, LentRow(m, ()))),
-        )
-        .encode_row(encoder)
+        );
+        same_answer(row.encode_row(encoder))
     }
 }
 
@@ -336,8 +337,8 @@ impl<
     L: Encode,
     M: Encode,
     N: Encode,
-> EncodeParts for (A, B, C, D, E, F, G, H, I, J, K, L, M, N) {
-    fn tell_valid_parts(&self) {
+> Encode for (A, B, C, D, E, F, G, H, I, J, K, L, M, N) {
+    fn tell_valid(&self) {
         tell_four_valid(&self.0, &self.1, &self.2, &self.3);
         tell_four_valid(&self.4, &self.5, &self.6, &self.7);
         tell_four_valid(&self.8, &self.9, &self.10, &self.11);
@@ -346,9 +347,9 @@ impl<
     }
 
     #[inline(always)]
-    fn encode_parts<Z: Encoder>(&self, encoder: &mut Z) -> Result<(), EncodeError> {
+    fn encode<Z: Encoder>(&self, encoder: &mut Z) -> Result<(), EncodeError> {
         let (a, b, c, d, e, f, g, h, i, j, k, l, m, n) = self;
-        LongLentRow(
+        let row = LongLentRow(
             a,
             b,
             c,
@@ -360,8 +361,8 @@ impl<
                 h,
                 LongLentRow(i, j, k, l, LentRow(m, LentRow(n, ()))),
             ),
-        )
-        .encode_row(encoder)
+        );
+        same_answer(row.encode_row(encoder))
     }
 }
 
@@ -381,8 +382,8 @@ impl<
     M: Encode,
     N: Encode,
     O: Encode,
-> EncodeParts for (A, B, C, D, E, F, G, H, I, J, K, L, M, N, O) {
-    fn tell_valid_parts(&self) {
+> Encode for (A, B, C, D, E, F, G, H, I, J, K, L, M, N, O) {
+    fn tell_valid(&self) {
         tell_four_valid(&self.0, &self.1, &self.2, &self.3);
         tell_four_valid(&self.4, &self.5, &self.6, &self.7);
         tell_four_valid(&self.8, &self.9, &self.10, &self.11);
@@ -392,9 +393,9 @@ impl<
     }
 
     #[inline(always)]
-    fn encode_parts<Z: Encoder>(&self, encoder: &mut Z) -> Result<(), EncodeError> {
+    fn encode<Z: Encoder>(&self, encoder: &mut Z) -> Result<(), EncodeError> {
         let (a, b, c, d, e, f, g, h, i, j, k, l, m, n, o) = self;
-        LongLentRow(
+        let row = LongLentRow(
             a,
             b,
             c,
@@ -406,8 +407,8 @@ impl<
                 h,
                 LongLentRow(i, j, k, l, LentRow(m, LentRow(n, LentRow(o, ())))),
             ),
-        )
-        .encode_row(encoder)
+        );
+        same_answer(row.encode_row(encoder))
     }
 }
 
@@ -428,8 +429,8 @@ impl<
     N: Encode,
     O: Encode,
     P: Encode,
-> EncodeParts for (A, B, C, D, E, F, G, H, I, J, K, L, M, N, O, P) {
-    fn tell_valid_parts(&self) {
+> Encode for (A, B, C, D, E, F, G, H, I, J, K, L, M, N, O, P) {
+    fn tell_valid(&self) {
         tell_four_valid(&self.0, &self.1, &self.2, &self.3);
         tell_four_valid(&self.4, &self.5, &self.6, &self.7);
         tell_four_valid(&self.8, &self.9, &self.10, &self.11);
@@ -437,9 +438,9 @@ impl<
     }
 
     #[inline(always)]
-    fn encode_parts<Z: Encoder>(&self, encoder: &mut Z) -> Result<(), EncodeError> {
+    fn encode<Z: Encoder>(&self, encoder: &mut Z) -> Result<(), EncodeError> {
         let (a, b, c, d, e, f, g, h, i, j, k, l, m, n, o, p) = self;
-        LongLentRow(
+        let row = LongLentRow(
             a,
             b,
             c,
@@ -451,7 +452,7 @@ impl<
                 h,
                 LongLentRow(i, j, k, l, LongLentRow(m, n, o, p, ())),
             ),
-        )
-        .encode_row(encoder)
+        );
+        same_answer(row.encode_row(encoder))
     }
 }
