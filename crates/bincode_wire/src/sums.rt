@@ -1,5 +1,5 @@
 //! One of several variants: what enums are written as.
-ghost use Rattle.std.specs.Prelude.{◌≡◌, ◌⊎◌, ◌<◌, ◌+◌, ◌-◌, ◌^◌, ◌==◌, min, max, pos};
+ghost use Rattle.std.specs.Prelude.{◌≡◌, ◌⊎◌, ◌<◌, ◌≤◌, ◌+◌, ◌-◌, ◌^◌, ◌==◌, min, max, pos};
 ghost use Rattle.std.specs.Prelude.{ℕ, true, false, List, [], ◌∷◌, refl};
 ghost use Rattle.std.proofs.Common.{◌∙◌, arith};
 ghost use Rattle.bincode_base.specs.Setting.{Setting};
@@ -12,7 +12,7 @@ ghost use Rattle.bincode_laws.specs.NeedLaws.{Needs, picked-needs, refused-needs
 ghost use Rattle.bincode_laws.specs.ChargedLaws.{Charged, picked-charged, refused-charged, map-charged, chosen-charged};
 ghost use Rattle.bincode_base.specs.declared.error.IntegerType.TheVariants.{U32};
 ghost use Rattle.bincode_base.specs.declared.error.EncodeError.{EncodeError};
-ghost use Rattle.bincode_format.specs.Meaning.{Meaning, Choice};
+ghost use Rattle.bincode_format.specs.Meaning.{Meaning, Choice, Number};
 ghost use Rattle.bincode_format.specs.Words.{tag, Variant, tags_of, allowed_tags, in_order, part, chosen};
 ghost use Rattle.bincode_laws.specs.FormLaws.{Numerals, byte-numerals, unsigned-numerals};
 ghost use Rattle.bincode_format.specs.Allowed.{AllowedWord, SomeWord, MayName, Shortest, OneLength};
@@ -26,12 +26,12 @@ use crate::wire::Wire;
 use std::convert::Infallible;
 use std::marker::PhantomData;
 
-/// A type of the tags of an enum.
-pub trait Tag: Wire {
+/// A type of the tags of an enum. It does not stand on `Wire`, which the proof of a call would name at each variant.
+pub trait Tag {
     /// The words of a tag, as a number.
     ghost tags: { Setting → Format ℕ };
 
-    /// What a tag charges.
+    /// What a tag charges, and what a container claims for it.
     ghost width: { ℕ };
 
     /// The tags that it can hold.
@@ -40,6 +40,12 @@ pub trait Tag: Wire {
     ghost numerals: { Numerals width Fits pos tags };
 
     ghost zero_fits: { Fits 0 };
+
+    ghost has_width: { 1 ≤ width };
+
+    /// How many bytes a container claims for a tag.
+    fn tag_size() -> usize
+        ensures { result ≡ width };
 }
 
 impl Tag for u8 {
@@ -52,6 +58,12 @@ impl Tag for u8 {
     ghost numerals = { byte-numerals };
 
     ghost zero_fits = { omega arith };
+
+    ghost has_width = { omega arith };
+
+    fn tag_size() -> usize {
+        1
+    }
 }
 
 impl Tag for u32 {
@@ -64,6 +76,12 @@ impl Tag for u32 {
     ghost numerals = { unsigned-numerals U32 4 (Four refl) };
 
     ghost zero_fits = { omega arith };
+
+    ghost has_width = { omega arith };
+
+    fn tag_size() -> usize {
+        4
+    }
 }
 
 /// The variants of an enum: one by its tag and its part, and the others, or none.
@@ -161,7 +179,7 @@ impl<Of, T: Tag> Variants for NoOther<Of, T> {
 
     ghost variants = { [] };
 
-    ghost variant = { λ v. (0, λ s. T.its.format s) };
+    ghost variant = { λ v. (0, λ s. map_format (λ n. Number (pos n)) (T.tags s)) };
 
     ghost valid = { λ v. ⊥ };
 
@@ -320,14 +338,14 @@ impl<Of: Variants> Wire for OneOf<Of> {
       writable = λ s v. Of.writable v.0 s;
       names = Of.names;
       grows = (in_order 0 (tags_of Of.variants) ≡ false) ⊎ Of.grows;
-      claim = min (Of.Tag.its.claim + Of.claim) (2 ^ 64 - 1);
+      claim = min (Of.Tag.width + Of.claim) (2 ^ 64 - 1);
       need = λ s. then_needs (Of.Tag.tags s) (λ _. Of.Tag.width) (Of.need s);
       lawful = λ s. chosen-lawful Of.Tag.tags Of.variants s (Of.Tag.numerals.lawful s) (Of.lawful s);
       balanced = λ s. chosen-balanced Of.Tag.tags Of.variants s (Of.Tag.numerals.balanced s) (Of.balanced s);
       has_word = λ s v h w. choice-has_word Of.Tag.tags Of.variants s _ _ (same-alike (Of.picked s _ v.0 h.1))
           (Of.means v.0) (Of.Tag.numerals.spelled s _ h.0).has_word (Of.has_word s v.0 h.1 w);
       names_own = Of.names_own;
-      claims = omega (arith, Of.Tag.its.claims);
+      claims = omega (arith, Of.Tag.has_width);
       needs = λ s. chosen-needs Of.Tag.tags Of.variants s Of.Tag.width (Of.need s) (Of.Tag.numerals.balanced s)
           (Of.Tag.numerals.needs s) (Of.needs s (allowed_tags (tags_of Of.variants)));
       charged = λ s. chosen-charged Of.Tag.tags Of.variants s (Of.Tag.numerals.charged s)
@@ -335,7 +353,7 @@ impl<Of: Variants> Wire for OneOf<Of> {
     } };
 
     fn claim_size() -> usize {
-        Of::Tag::claim_size().saturating_add(Of::claim_size())
+        Of::Tag::tag_size().saturating_add(Of::claim_size())
     }
 }
 
