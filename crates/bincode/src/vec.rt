@@ -1,5 +1,5 @@
 //! Encoding into a vector.
-ghost use Rattle.std.specs.Prelude.{◌≡◌, IfOk, IfErr, Err};
+ghost use Rattle.std.specs.Prelude.{IfOk, IfErr};
 ghost use Rattle.bincode_format.specs.Allowed.{AllowedWord};
 ghost use Rattle.bincode_format.specs.Encoding.{Ready, FailsEmpty};
 ghost use Rattle.bincode_format.specs.Vec.{FailsVec, FailsCounted};
@@ -36,18 +36,6 @@ pub fn encode_to_vec<E: Encode, C: Config>(
     let mut counter = RoomCounter::default();
     encode_with(&val, &mut counter, &config)?;
     let mut writer = VecWriter::with_capacity(alloc, counter.bytes_written)?;
-    match encode_with(&val, &mut writer, &config) {
-        Ok(()) => Ok(writer.collect()),
-        Err(error) => refused(error),
-    }
-}
-
-/// The answer that is this error. It stands apart, so that where nothing fails the vector is not put together with the
-/// pieces of an error.
-#[cold]
-#[inline(never)]
-fn refused(error: EncodeError) -> Result<Vec<u8>, EncodeError>
-    ensures { result ≡ Err error }
-{
-    Err(error)
+    encode_with(&val, &mut writer, &config)?;
+    Ok(writer.collect())
 }

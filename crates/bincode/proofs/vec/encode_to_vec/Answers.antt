@@ -24,8 +24,10 @@ returns-in_err-writer-clause-empty g c = λ one empty.
     let some = c.in_err-writer.ensures.none (counted-empty _ _ _ _ c.default-counter.ensures c.in_ok-encode_with.ensures.ok one empty) in
     absurd (cc)
 
-pub returns-in-Ok-clause-word : goal.returns-in-Ok-clause-word
-returns-in-Ok-clause-word g c = search rules
+pub returns-in_err-encode_with-2-clause-empty : goal.returns-in_err-encode_with-2-clause-empty
+returns-in_err-encode_with-2-clause-empty g c =
+    let p = err_from_is_err_and c.from_residual-in_err-encode_with-2.result c.from_residual-in_err-encode_with-2.ensures.1 in
+    λ one empty. rw (p.1, p.2) (vec-empty _ one empty _ _ _ _ c.in_err-encode_with-2.ensures.err)
 
-pub returns-clause-empty : goal.returns-clause-empty
-returns-clause-empty g c = λ one empty. rw c.refused.ensures (vec-empty _ one empty _ _ _ _ c.in-Err.ensures.err)
+pub returns-clause-word : goal.returns-clause-word
+returns-clause-word g c = search rules
