@@ -23,8 +23,8 @@ use bincode_shaped::encode::encode_shape;
 use std::alloc::Global;
 
 /// Writes a value to a writer, as its shape says. Fails with `Other` and the text `value does not fit the shape` where
-/// it does not, before anything is written, and where the writer refuses a piece; then a front of the word may have been
-/// written.
+/// it does not, before anything is written, and where the writer refuses a piece; then a front of the word may have
+/// been written.
 pub fn encode_shaped<W: Writer, C: Config>(
     shape: &Shape,
     value: &Value,

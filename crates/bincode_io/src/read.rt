@@ -17,8 +17,9 @@ pub use borrow::BorrowReader;
 
 /// A source of bytes, which are taken in order.
 pub trait Reader: Drop {
-    /// Whether a number is read from the bytes that a peek shows, where it shows as many as the longest word of its type
-    /// has, and not by `read` alone. The answers are the same. It pays where `read` does more than to copy from a slice.
+    /// Whether a number is read from the bytes that a peek shows, where it shows as many as the longest word of its
+    /// type has, and not by `read` alone. The answers are the same. It pays where `read` does more than to copy from a
+    /// slice.
     const PEEKS_FIRST: bool = true;
 
     /// That it tells the bytes that are left. What is said of `rest` is said where it does.

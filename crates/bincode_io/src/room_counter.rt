@@ -7,7 +7,8 @@ use crate::write::Writer;
 use bincode_base::error::EncodeError;
 
 /// A writer that counts the bytes, keeps none of them and refuses none, for the room that is reserved before they are
-/// written. Past 64 bits the count begins again: so no piece is tested, and a list of fixed numbers is counted by a product.
+/// written. Past 64 bits the count begins again: so no piece is tested, and a list of fixed numbers is counted by a
+/// product.
 #[derive(Default, Drop)]
 pub struct RoomCounter {
     /// How many bytes were written.

@@ -60,8 +60,8 @@ impl VecWriter {
         replace(&mut self.bytes, empty)
     }
 
-    /// The vector for the empty one that is there. That one has no memory: it is forgotten, so that no code tests whether
-    /// it has any.
+    /// The vector for the empty one that is there. That one has no memory: it is forgotten, so that no code tests
+    /// whether it has any.
     #[inline(always)]
     fn put_back(&mut self, bytes: Vec<u8>)
         ensures { self.new.bytes ≡ bytes }
@@ -95,8 +95,8 @@ fn with_room(mut bytes: Vec<u8>, additional: usize) -> Vec<u8>
     bytes
 }
 
-/// Bytes with a few more behind them, one by one: LLVM makes one store of as many as it knows, where the library's copy of a
-/// slice first tests whether it overlaps the vector.
+/// Bytes with a few more behind them, one by one: LLVM makes one store of as many as it knows, where the library's copy
+/// of a slice first tests whether it overlaps the vector.
 #[inline(always)]
 fn with_each(mut held: Vec<u8>, bytes: &[u8]) -> Vec<u8>
     requires { length held.items + length bytes.now ≤ vec_capacity held }

@@ -17,8 +17,8 @@ use bincode_base::error::EncodeError;
 
 /// A target of bytes, which come piece by piece.
 pub trait Writer: Drop {
-    /// Whether it only counts. Then the length of a number is all that it is told: by `write_ahead`, before the branches
-    /// that write a number, which are then none. What is written is the same.
+    /// Whether it only counts. Then the length of a number is all that it is told: by `write_ahead`, before the
+    /// branches that write a number, which are then none. What is written is the same.
     const COUNTS: bool = false;
 
     /// What a write that succeeds does to a writer.
@@ -178,8 +178,8 @@ impl Writer for SliceWriter<'_> {
         piece h.0 h.2 b.within };
 }
 
-/// Copies a piece over as many bytes: a short one by its first and its last bytes, which may be the same ones. The tests
-/// go down to the shortest, so that a name or a key takes few of them.
+/// Copies a piece over as many bytes: a short one by its first and its last bytes, which may be the same ones. The
+/// tests go down to the shortest, so that a name or a key takes few of them.
 #[inline(always)]
 fn copy_piece(target: &mut [u8], piece: &[u8])
     requires { length target.old ≡ length piece.now }

@@ -1,8 +1,8 @@
 //! Shapes of types, and images of their values.
 
-/// What the words of a type are like, told at run time. A type of a user's own, or of a program that has no Rust types at
-/// all, may be described by it. How deep shapes may stand in one another is not promised: the calls that take them go as
-/// deep as they do.
+/// What the words of a type are like, told at run time. A type of a user's own, or of a program that has no Rust types
+/// at all, may be described by it. How deep shapes may stand in one another is not promised: the calls that take them
+/// go as deep as they do.
 #[derive(Debug, Drop, PartialEq)]
 pub enum Shape {
     /// No bytes, as of `()`.

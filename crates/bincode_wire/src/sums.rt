@@ -170,8 +170,8 @@ pub trait CanonicalVariants: PlainVariants {
             → Shortest (Self.means v) (Self.given w) ((Self.variant v).1 s) };
 }
 
-/// No variant: the end of those of the enum `Of`, with tags of type `T`. It has no values. `Of` names the enum alone: an
-/// enum with type parameters stands there with `()` for each.
+/// No variant: the end of those of the enum `Of`, with tags of type `T`. It has no values. `Of` names the enum alone:
+/// an enum with type parameters stands there with `()` for each.
 pub type NoOther<Of, T = u32> = (Infallible, PhantomData<(Of, T)>);
 
 impl<Of, T: Tag> Variants for NoOther<Of, T> {

@@ -11,8 +11,8 @@ use examples::never::Never;
 use examples::note::Note;
 use std::alloc::Global;
 
-/// What is read from the front of these bytes, and how many bytes that takes. Where memory is refused they are read once
-/// more.
+/// What is read from the front of these bytes, and how many bytes that takes. Where memory is refused they are read
+/// once more.
 fn borrowed<'a, T: BorrowDecode<&'a [u8], ()>>(
     alloc: Global,
     input: &'a [u8],

@@ -35,8 +35,8 @@ fn is_broken<T>(outcome: &Result<T, DecodeError>) -> bool {
     )
 }
 
-/// A stream that breaks at its first call, at its second and so on: the first answer but that it broke, with how many bytes
-/// were given until then.
+/// A stream that breaks at its first call, at its second and so on: the first answer but that it broke, with how many
+/// bytes were given until then.
 pub struct Broken;
 
 impl Source for Broken {

@@ -60,9 +60,9 @@ pub fn varint_decode_usize<R: Reader>(
     Ok(n as usize)
 }
 
-/// The same for a number of so many bytes, of which a fault speaks by name. Where the reader says that it peeks first, and
-/// shows as many bytes as the longest word has, the number is read from these: just its word is taken, and nothing where
-/// its tag is refused.
+/// The same for a number of so many bytes, of which a fault speaks by name. Where the reader says that it peeks first,
+/// and shows as many bytes as the longest word has, the number is read from these: just its word is taken, and nothing
+/// where its tag is refused.
 #[inline(always)]
 pub(crate) fn varint_decode<R: Reader>(
     read: &mut R,
