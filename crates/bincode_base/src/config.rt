@@ -4,13 +4,14 @@
 //! ```
 //! let config = standard().with_big_endian().with_fixed_int_encoding().with_limit::<65536>();
 //! ```
-ghost use Rattle.std.specs.Prelude.{◌≡◌, ℕ, Option, Some, None};
+ghost use Rattle.std.specs.Prelude.{◌≡◌, ℕ, Option, Some, None, ⊤};
 ghost use Rattle.bincode_base.specs.Setting.{Setting};
 ghost use Rattle.bincode_base.specs.declared.config.Endianness.{Endianness};
 ghost use Rattle.bincode_base.specs.declared.config.Endianness.TheVariants.{Little, Big};
 ghost use Rattle.bincode_base.specs.declared.config.IntEncoding.{IntEncoding};
 ghost use Rattle.bincode_base.specs.declared.config.IntEncoding.TheVariants.{Fixed, Variable};
 
+use std::alloc::AllocError;
 use std::fmt;
 use std::marker::PhantomData;
 
@@ -33,7 +34,6 @@ pub enum IntEncoding {
 }
 
 /// A configuration, made by [`standard`] or [`legacy`] and changed part by part by its methods.
-#[derive(Clone, Copy)]
 pub struct Configuration<E = LittleEndian, I = Varint, L = NoLimit> {
     endian: PhantomData<E>,
     int_encoding: PhantomData<I>,
@@ -89,6 +89,19 @@ impl<E, I, L> Configuration<E, I, L> {
         generate()
     }
 }
+
+// (written by hand, so that neither asks anything of the three parts, of which no value is held)
+impl<E, I, L> Clone for Configuration<E, I, L> {
+    ghost is_clone = { λ old new. new ≡ old };
+
+    ghost is_infallible = { λ _. ⊤ };
+
+    fn clone(&self) -> Result<Self, AllocError> {
+        Ok(*self)
+    }
+}
+
+impl<E, I, L> Copy for Configuration<E, I, L> {}
 
 impl<E, I, L> Default for Configuration<E, I, L> {
     fn default() -> Configuration<E, I, L> {

@@ -88,7 +88,8 @@ impl VecWriter {
 #[inline(never)]
 fn with_room(mut bytes: Vec<u8>, additional: usize) -> Vec<u8>
     ensures bytes { result.items ≡ bytes.items }
-    ensures room { (length bytes.items + additional ≤ vec_capacity result) ⊎ (vec_capacity result ≡ vec_capacity bytes) }
+    ensures room { (length bytes.items + additional ≤ vec_capacity result)
+        ⊎ (vec_capacity result ≡ vec_capacity bytes) }
     ensures capacity { vec_capacity bytes ≤ vec_capacity result }
 {
     let _refused = bytes.reserve(additional);

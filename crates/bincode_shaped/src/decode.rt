@@ -23,7 +23,8 @@ use bincode_shape::shape::{Shape, Value};
 #[cycle(decode)]
 pub fn decode_shape<D: Decoder>(shape: &Shape, decoder: &mut D) -> Result<Value, DecodeError>
     ensures { Reads D.told D.rest D.charge D.failures D.place D.C.bound D.R.ended D.R.device
-        (TakesMemory shape.now) (format_of shape.now D.C.setting) (IsImage shape.now) (D.charge decoder.old) result decoder.old decoder.new }
+        (TakesMemory shape.now) (format_of shape.now D.C.setting) (IsImage shape.now) (D.charge decoder.old) result
+        decoder.old decoder.new }
 {
     match shape {
         Shape::Unit => Ok(Value::Unit),

@@ -97,7 +97,8 @@ impl<K: Wire + Ord, V: Wire> Wire for Entries<K, V> {
       names = ⟦<(K, V) as Wire>⟧.its.names;
       grows = Unit {0};
       claim = 24;
-      need = λ s. list_needs s ⟦<(K, V) as Wire>⟧.its.claim (⟦<(K, V) as Wire>⟧.its.format s) (⟦<(K, V) as Wire>⟧.its.need s);
+      need = λ s. list_needs s ⟦<(K, V) as Wire>⟧.its.claim (⟦<(K, V) as Wire>⟧.its.format s)
+          (⟦<(K, V) as Wire>⟧.its.need s);
       lawful = λ s. list-lawful s ⟦<(K, V) as Wire>⟧.its.claim (⟦<(K, V) as Wire>⟧.its.format s)
           (pair-lawful s (K.its.lawful s) (V.its.lawful s));
       balanced = λ s. list-balanced s ⟦<(K, V) as Wire>⟧.its.claim (⟦<(K, V) as Wire>⟧.its.format s)
@@ -109,8 +110,8 @@ impl<K: Wire + Ord, V: Wire> Wire for Entries<K, V> {
       claims = omega arith;
       needs = λ s. list-needs s ⟦<(K, V) as Wire>⟧.its.claim (⟦<(K, V) as Wire>⟧.its.format s)
           (⟦<(K, V) as Wire>⟧.its.need s) (⟦<(K, V) as Wire>⟧.its.balanced s) (⟦<(K, V) as Wire>⟧.its.needs s);
-      charged = λ s. list-charged s ⟦<(K, V) as Wire>⟧.its.claim (⟦<(K, V) as Wire>⟧.its.format s) ⟦<(K, V) as Wire>⟧.its.claims
-          (⟦<(K, V) as Wire>⟧.its.charged s);
+      charged = λ s. list-charged s ⟦<(K, V) as Wire>⟧.its.claim (⟦<(K, V) as Wire>⟧.its.format s)
+          ⟦<(K, V) as Wire>⟧.its.claims (⟦<(K, V) as Wire>⟧.its.charged s);
     } };
 
     fn claim_size() -> usize {

@@ -126,7 +126,8 @@ pub trait Variants {
     /// How large a limit has to be for the part that a tag picks.
     ghost need: { Setting → ℕ → List ℕ → ℕ };
 
-    ghost needs: { (s : Setting) (allowed : Allowed) (found : ℕ) → Needs (need s found) (part s variants allowed found) };
+    ghost needs: { (s : Setting) (allowed : Allowed) (found : ℕ)
+        → Needs (need s found) (part s variants allowed found) };
 
     ghost charged: { (s : Setting) (allowed : Allowed) (found : ℕ) → Charged (part s variants allowed found) };
 

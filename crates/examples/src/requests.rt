@@ -86,8 +86,8 @@ pub fn serve<T: Decode<()>>(
     most: usize,
 ) -> Result<Requests<T>, AllocError>
     ensures bytes { IfOk result (λ r. All (IsWithin 98304) r.read.items) }
-    ensures room { IfOk result (λ r. All (IsBounded (T.its.format ⟦<ServerConfig as Config>⟧.setting) 65536 received.now)
-        r.read.items) }
+    ensures room { IfOk result (λ r.
+        All (IsBounded (T.its.format ⟦<ServerConfig as Config>⟧.setting) 65536 received.now) r.read.items) }
     ensures in_turn { IfOk result (λ r. FollowOn 0 r.read.items r.end) }
 {
     let config: ServerConfig = standard().with_limit::<65536>();

@@ -127,7 +127,8 @@ pub fn list<T: Stored, C: Config>(
     config: C,
 ) -> Result<Listing<T>, AllocError>
     // The words of the store in turn are listed, and the ending tells why no further one was.
-    ensures words { IfOk result (λ l. Lists (T.its.format C.setting) C.bound T.its.given store.now l.values.items l.ending) }
+    ensures words { IfOk result (λ l.
+        Lists (T.its.format C.setting) C.bound T.its.given store.now l.values.items l.ending) }
     // What was appended in turn is listed first, whatever stands behind it;
     ensures first { (entries : List (Entry T)) (behind : List ℕ) → AreEntries T.its C.setting C.bound entries
         → store.now ≡ words_of entries ++ behind → IfOk result (λ l. ListsFirst T.eq entries l.values.items) }
@@ -149,7 +150,8 @@ fn list_words<T: Stored, C: Config>(
     store: &[u8],
     config: C,
 ) -> Result<Listing<T>, AllocError>
-    ensures words { IfOk result (λ l. Lists (T.its.format C.setting) C.bound T.its.given store.now l.values.items l.ending) }
+    ensures words { IfOk result (λ l.
+        Lists (T.its.format C.setting) C.bound T.its.given store.now l.values.items l.ending) }
     ensures never_empty { NeverEmpty T.its }
 {
     T::tell_never_empty();

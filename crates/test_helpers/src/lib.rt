@@ -3,3 +3,4 @@
 
 pub mod checks;
 pub mod rows;
+pub mod types;
