@@ -21,14 +21,26 @@ use std::ops::{Bound, Range, RangeInclusive};
 use std::process::Abort;
 use std::rc::{Rc, RcSlice, RcStr};
 use std::sync::Arc;
-use test_helpers::checks::{borrowed, either, keeps_lent};
-use test_helpers::types::first_lost;
+use test_helpers::checks::either;
+use test_helpers::rows::first_wrong;
 
 /// The word of the list of abc, def and ghi.
 static WORD: [u8; 13] = [3, 3, 97, 98, 99, 3, 100, 101, 102, 3, 103, 104, 105];
 
 /// How many bytes are missing, by how many of the word are there: of a length one, and of a text what is left of it.
 const MISSING: [usize; 13] = [1, 1, 3, 2, 1, 1, 3, 2, 1, 1, 3, 2, 1];
+
+/// What comes of borrowed decoding. Where memory is refused it is decoded once more.
+fn borrowed<'a, T: BorrowDecode<&'a [u8], ()>, C: Config>(
+    alloc: Global,
+    source: &'a [u8],
+    config: C,
+) -> Result<(T, usize), DecodeError> {
+    match borrow_decode_from_slice(alloc, source, config) {
+        Err(DecodeError::Memory) => borrow_decode_from_slice(alloc, source, config),
+        outcome => outcome,
+    }
+}
 
 /// Whether these bytes are the texts, each behind its length.
 fn lie_in(bytes: &[u8], texts: &[&str]) -> bool {
@@ -231,104 +243,99 @@ fn borrows_runs(rt: HostRuntime) {
     assert!(rt; read == Some(true));
 }
 
+/// Whether all of the source but its last byte, which is 99, is read as a value, and the value is written so.
+fn keeps<'a, T: Encode + BorrowDecode<&'a [u8], ()>>(alloc: Global, source: &'a [u8]) -> bool {
+    let Ok((value, taken)) = borrowed::<T, _>(alloc, source, config::standard()) else {
+        return false;
+    };
+    let mut slice = [99u8; 100];
+    let written = encode_into_slice(value, &mut slice, config::standard());
+    let [word @ .., 99] = source else {
+        return false;
+    };
+    taken == word.len()
+        && matches!(written, Ok(count) if count == taken)
+        && slice.starts_with(source)
+}
+
 #[test]
 fn keeps_lists(rt: HostRuntime) {
     let alloc = rt.alloc();
-    let word: &[u8] = &[2, 1, 97, 1, 98, 99];
-    let rows: [(&str, &[u8]); 5] = [
-        ("VecDeque", word),
-        ("BoxedSlice", word),
-        ("RcSlice", word),
-        ("BTreeSet", word),
-        ("BTreeMap", &[2, 1, 97, 5, 1, 98, 7, 99]),
+    let word = [2, 1, 97, 1, 98, 99];
+    let rows = [
+        ("VecDeque", keeps::<VecDeque<&str>>(alloc, &word)),
+        ("BoxedSlice", keeps::<BoxedSlice<&str>>(alloc, &word)),
+        ("RcSlice", keeps::<RcSlice<&str>>(alloc, &word)),
+        ("BTreeSet", keeps::<BTreeSet<&str>>(alloc, &word)),
+        (
+            "BTreeMap",
+            keeps::<BTreeMap<&str, u8>>(alloc, &[2, 1, 97, 5, 1, 98, 7, 99]),
+        ),
+        (
+            "BinaryHeap",
+            keeps::<BinaryHeap<&str>>(alloc, &[1, 1, 97, 99]),
+        ),
     ];
-    let lost = first_lost::<
-        VecDeque<&str>,
-        BoxedSlice<&str>,
-        RcSlice<&str>,
-        BTreeSet<&str>,
-        BTreeMap<&str, u8>,
-    >(alloc, rows);
-    assert_eq!(rt; lost, None);
-    assert!(rt; keeps_lent::<BinaryHeap<&str>>(alloc, &[1, 1, 97, 99]));
+    assert_eq!(rt; first_wrong(&rows), None);
 }
 
+/// Numbers, and what is kept as they are.
 #[test]
 fn keeps_scalars(rt: HostRuntime) {
-    let rows: [(&str, &[u8]); 5] = [
-        ("u32", &[251, 44, 1, 99]),
-        ("NonZeroU16", &[5, 99]),
-        ("bool", &[1, 99]),
-        ("char", &[65, 99]),
-        ("()", &[99]),
+    let alloc = rt.alloc();
+    let rows = [
+        ("u32", keeps::<u32>(alloc, &[251, 44, 1, 99])),
+        ("NonZeroU16", keeps::<NonZeroU16>(alloc, &[5, 99])),
+        ("bool", keeps::<bool>(alloc, &[1, 99])),
+        ("char", keeps::<char>(alloc, &[65, 99])),
+        ("()", keeps::<()>(alloc, &[99])),
+        ("Duration", keeps::<Duration>(alloc, &[7, 8, 99])),
+        ("(u8, u16)", keeps::<(u8, u16)>(alloc, &[7, 8, 99])),
+        ("Wrapping", keeps::<Wrapping<u16>>(alloc, &[5, 99])),
+        ("Range", keeps::<Range<u8>>(alloc, &[1, 9, 99])),
+        (
+            "RangeInclusive",
+            keeps::<RangeInclusive<u8>>(alloc, &[2, 8, 99]),
+        ),
     ];
-    let lost = first_lost::<u32, NonZeroU16, bool, char, ()>(rt.alloc(), rows);
-    assert_eq!(rt; lost, None);
-}
-
-#[test]
-fn keeps_pairs(rt: HostRuntime) {
-    let rows: [(&str, &[u8]); 5] = [
-        ("Duration", &[7, 8, 99]),
-        ("(u8, u16)", &[7, 8, 99]),
-        ("Wrapping", &[5, 99]),
-        ("Range", &[1, 9, 99]),
-        ("RangeInclusive", &[2, 8, 99]),
-    ];
-    let lost = first_lost::<Duration, (u8, u16), Wrapping<u16>, Range<u8>, RangeInclusive<u8>>(
-        rt.alloc(),
-        rows,
-    );
-    assert_eq!(rt; lost, None);
+    assert_eq!(rt; first_wrong(&rows), None);
 }
 
 /// What holds a text that is lent.
 #[test]
 fn keeps_holders(rt: HostRuntime) {
     let alloc = rt.alloc();
-    let text: &[u8] = &[1, 97, 99];
-    let rows: [(&str, &[u8]); 5] = [
-        ("Option", &[1, 1, 97, 99]),
-        ("Result", &[1, 6, 99]),
-        ("Bound", &[2, 1, 98, 99]),
-        ("Reverse", text),
-        ("Cell", text),
-    ];
-    let lost = first_lost::<Option<&str>, Result<&str, u8>, Bound<&str>, Reverse<&str>, Cell<&str>>(
-        alloc, rows,
-    );
-    assert_eq!(rt; lost, None);
+    let text = [1, 97, 99];
     let rows = [
-        ("RefCell", text),
-        ("[&str; 1]", text),
-        ("Box", text),
-        ("Rc", text),
-        ("Arc", text),
+        ("Option", keeps::<Option<&str>>(alloc, &[1, 1, 97, 99])),
+        ("Result", keeps::<Result<&str, u8>>(alloc, &[1, 6, 99])),
+        ("Bound", keeps::<Bound<&str>>(alloc, &[2, 1, 98, 99])),
+        ("Reverse", keeps::<Reverse<&str>>(alloc, &text)),
+        ("Cell", keeps::<Cell<&str>>(alloc, &text)),
+        ("RefCell", keeps::<RefCell<&str>>(alloc, &text)),
+        ("[&str; 1]", keeps::<[&str; 1]>(alloc, &text)),
+        ("Box", keeps::<Box<&str>>(alloc, &text)),
+        ("Rc", keeps::<Rc<&str>>(alloc, &text)),
+        ("Arc", keeps::<Arc<&str>>(alloc, &text)),
+        (
+            "a tuple of five",
+            keeps::<(&str, u8, &str, bool, u16)>(alloc, &[1, 97, 7, 1, 98, 1, 5, 99]),
+        ),
     ];
-    let lost = first_lost::<RefCell<&str>, [&str; 1], Box<&str>, Rc<&str>, Arc<&str>>(alloc, rows);
-    assert_eq!(rt; lost, None);
-}
-
-#[test]
-fn keeps_a_tuple_of_five(rt: HostRuntime) {
-    let word = [1, 97, 7, 1, 98, 1, 5, 99];
-    assert!(rt; keeps_lent::<(&str, u8, &str, bool, u16)>(rt.alloc(), &word));
+    assert_eq!(rt; first_wrong(&rows), None);
 }
 
 /// Texts and bytes, lent or owned.
 #[test]
 fn keeps_texts(rt: HostRuntime) {
-    let text: &[u8] = &[2, 97, 98, 99];
+    let alloc = rt.alloc();
+    let text = [2, 97, 98, 99];
     let rows = [
-        ("String", text),
-        ("BoxedStr", text),
-        ("RcStr", text),
-        ("CowStr", text),
-        ("CowSlice", text),
+        ("String", keeps::<String>(alloc, &text)),
+        ("BoxedStr", keeps::<BoxedStr>(alloc, &text)),
+        ("RcStr", keeps::<RcStr>(alloc, &text)),
+        ("CowStr", keeps::<CowStr<'_>>(alloc, &text)),
+        ("CowSlice", keeps::<CowSlice<'_, u8>>(alloc, &text)),
     ];
-    let lost = first_lost::<String, BoxedStr, RcStr, CowStr<'_>, CowSlice<'_, u8>>(
-        rt.alloc(),
-        rows,
-    );
-    assert_eq!(rt; lost, None);
+    assert_eq!(rt; first_wrong(&rows), None);
 }

@@ -13,7 +13,6 @@ use std::ops::{Bound, Range, RangeInclusive};
 use std::time::Duration as StdDuration;
 use test_helpers::checks::{fault_of, goes_on, keeps, read_front, within};
 use test_helpers::rows::first_wrong;
-use test_helpers::types::{Keeps, Types};
 
 /// Tuples whose parts are of one type, by their length.
 type One<T> = (T,);
@@ -51,61 +50,33 @@ type Sixteen<T> = (T, T, T, T, T, T, T, T, T, T, T, T, T, T, T, T);
 /// The numbers from 0.
 const COUNT: [u8; 16] = [0, 1, 2, 3, 4, 5, 6, 7, 8, 9, 10, 11, 12, 13, 14, 15];
 
-/// Tuples of up to eight parts.
-type Short<T> = (
-    One<T>,
-    (
-        Two<T>,
-        (
-            Three<T>,
-            (Four<T>, (Five<T>, (Six<T>, (Seven<T>, (Eight<T>, ()))))),
-        ),
-    ),
-);
+/// Whether tuples of up to eight parts keep their words, of a type whose words are single bytes.
+fn keeps_tuples_of<T: Encode + Decode<()> + Copy>(alloc: Global) -> bool {
+    keeps::<One<T>>(alloc, &COUNT[..1])
+        && keeps::<Two<T>>(alloc, &COUNT[..2])
+        && keeps::<Three<T>>(alloc, &COUNT[..3])
+        && keeps::<Four<T>>(alloc, &COUNT[..4])
+        && keeps::<Five<T>>(alloc, &COUNT[..5])
+        && keeps::<Six<T>>(alloc, &COUNT[..6])
+        && keeps::<Seven<T>>(alloc, &COUNT[..7])
+        && keeps::<Eight<T>>(alloc, &COUNT[..8])
+}
 
-/// Tuples of nine to fifteen parts.
-type Long<T> = (
-    Nine<T>,
-    (
-        Ten<T>,
-        (
-            Eleven<T>,
-            (Twelve<T>, (Thirteen<T>, (Fourteen<T>, (Fifteen<T>, ())))),
-        ),
-    ),
-);
-
-/// The name of the first kind of tuple of up to fifteen parts that does not keep its word, of a type whose words are
-/// single bytes.
-fn first_lost_of<T: Encode + Decode<()> + Copy>(alloc: Global) -> Option<&'static str> {
-    let short = [
-        ("one", &COUNT[..1]),
-        ("two", &COUNT[..2]),
-        ("three", &COUNT[..3]),
-        ("four", &COUNT[..4]),
-        ("five", &COUNT[..5]),
-        ("six", &COUNT[..6]),
-        ("seven", &COUNT[..7]),
-        ("eight", &COUNT[..8]),
-    ];
-    if let Some(name) = Short::<T>::first_wrong::<Keeps>(alloc, &short) {
-        return Some(name);
-    }
-    let long = [
-        ("nine", &COUNT[..9]),
-        ("ten", &COUNT[..10]),
-        ("eleven", &COUNT[..11]),
-        ("twelve", &COUNT[..12]),
-        ("thirteen", &COUNT[..13]),
-        ("fourteen", &COUNT[..14]),
-        ("fifteen", &COUNT[..15]),
-    ];
-    Long::<T>::first_wrong::<Keeps>(alloc, &long)
+/// The same of nine to fifteen parts.
+fn keeps_longer_tuples_of<T: Encode + Decode<()> + Copy>(alloc: Global) -> bool {
+    keeps::<Nine<T>>(alloc, &COUNT[..9])
+        && keeps::<Ten<T>>(alloc, &COUNT[..10])
+        && keeps::<Eleven<T>>(alloc, &COUNT[..11])
+        && keeps::<Twelve<T>>(alloc, &COUNT[..12])
+        && keeps::<Thirteen<T>>(alloc, &COUNT[..13])
+        && keeps::<Fourteen<T>>(alloc, &COUNT[..14])
+        && keeps::<Fifteen<T>>(alloc, &COUNT[..15])
 }
 
 #[test]
 fn keeps_tuples(rt: HostRuntime) {
-    assert_eq!(rt; first_lost_of::<u8>(rt.alloc()), None);
+    assert!(rt; keeps_tuples_of::<u8>(rt.alloc()));
+    assert!(rt; keeps_longer_tuples_of::<u8>(rt.alloc()));
 }
 
 /// Whether a tuple of sixteen keeps its word, and each part is read at its place: tuples of more than twelve parts have
@@ -182,29 +153,21 @@ fn names_a_tag_that_no_choice_has(rt: HostRuntime) {
     assert!(rt; refuses_tag::<Bound<u8>>(rt.alloc(), 3, "Bound", 2));
 }
 
-/// What holds bytes or numbers and nothing beside them.
-type Wrappers = (
-    Range<u8>,
-    (
-        RangeInclusive<u8>,
-        (
-            Wrapping<u8>,
-            (Reverse<u8>, (PhantomData<u8>, ([u16; 2], ()))),
-        ),
-    ),
-);
-
 #[test]
 fn keeps_wrappers(rt: HostRuntime) {
-    let rows: [(&'static str, &[u8]); 6] = [
-        ("Range", &[1, 9]),
-        ("RangeInclusive", &[1, 5]),
-        ("Wrapping", &[7]),
-        ("Reverse", &[8]),
-        ("PhantomData", &[]),
-        ("[u16; 2]", &[5, 251, 44, 1]),
+    let alloc = rt.alloc();
+    let rows = [
+        ("Range", keeps::<Range<u8>>(alloc, &[1, 9])),
+        (
+            "RangeInclusive",
+            keeps::<RangeInclusive<u8>>(alloc, &[1, 5]),
+        ),
+        ("Wrapping", keeps::<Wrapping<u8>>(alloc, &[7])),
+        ("Reverse", keeps::<Reverse<u8>>(alloc, &[8])),
+        ("PhantomData", keeps::<PhantomData<u8>>(alloc, &[])),
+        ("[u16; 2]", keeps::<[u16; 2]>(alloc, &[5, 251, 44, 1])),
     ];
-    assert_eq!(rt; Wrappers::first_wrong::<Keeps>(rt.alloc(), &rows), None);
+    assert_eq!(rt; first_wrong(&rows), None);
 }
 
 /// A range that was read gives each of its numbers: it is not one that was gone through.

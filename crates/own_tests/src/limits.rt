@@ -2,7 +2,6 @@
 
 use bincode::config::{self, Config};
 use bincode::de::Decode;
-use bincode::enc::Encode;
 use bincode::error::{DecodeError, IntegerType};
 use bincode::ffi::CString;
 use bincode::time::Duration;
@@ -15,7 +14,6 @@ use std::path::PathBuf;
 use std::rc::{RcSlice, RcStr};
 use test_helpers::checks::{decoded, decoded_within, fault_of, is_cut, is_passed, leaves, within};
 use test_helpers::rows::first_wrong;
-use test_helpers::types::{Check, Types};
 
 /// A length of 2^64 - 1, behind which nothing stands.
 const HUGE: [u8; 9] = [253, 255, 255, 255, 255, 255, 255, 255, 255];
@@ -28,75 +26,33 @@ const NO_SPAN: [u8; 14] = [
     253, 255, 255, 255, 255, 255, 255, 255, 255, 252, 0, 202, 154, 59,
 ];
 
-/// That the limit of 100000 refuses a length, at the first call: no memory was asked for.
-struct PassesLimit;
-
-impl Check for PassesLimit {
-    fn holds<T: Encode + Decode<()>>(alloc: Global, length: &[u8]) -> bool {
-        is_passed(within::<T, 100_000>(alloc, length))
-    }
+/// Whether the limit of 100000 refuses both lengths, at the first call: no memory was asked for.
+fn passes_limit<T: Decode<()>>(alloc: Global) -> bool {
+    is_passed(within::<T, 100_000>(alloc, &HUGE)) && is_passed(within::<T, 100_000>(alloc, &LONG))
 }
-
-/// Lists, sets and maps of numbers.
-type Lists = (
-    Vec<u32>,
-    (
-        VecDeque<u32>,
-        (
-            BinaryHeap<u32>,
-            (
-                BTreeSet<u32>,
-                (
-                    BTreeMap<u32, u32>,
-                    (HashSet<u32>, (HashMap<u32, u32>, Slices)),
-                ),
-            ),
-        ),
-    ),
-);
-
-/// Slices of numbers.
-type Slices = (
-    BoxedSlice<u32>,
-    (RcSlice<u32>, (CowSlice<'static, u32>, ())),
-);
-
-/// Texts, and what is written as one.
-type Texts = (
-    String,
-    (
-        BoxedStr,
-        (RcStr, (CowStr<'static>, (PathBuf, (CString, ())))),
-    ),
-);
 
 #[test]
 fn claims_before_it_reserves(rt: HostRuntime) {
     let alloc = rt.alloc();
-    for length in [HUGE.as_slice(), &LONG] {
-        let lists = [
-            ("Vec", length),
-            ("VecDeque", length),
-            ("BinaryHeap", length),
-            ("BTreeSet", length),
-            ("BTreeMap", length),
-            ("HashSet", length),
-            ("HashMap", length),
-            ("BoxedSlice", length),
-            ("RcSlice", length),
-            ("CowSlice", length),
-        ];
-        assert_eq!(rt; Lists::first_wrong::<PassesLimit>(alloc, &lists), None);
-        let texts = [
-            ("String", length),
-            ("BoxedStr", length),
-            ("RcStr", length),
-            ("CowStr", length),
-            ("PathBuf", length),
-            ("CString", length),
-        ];
-        assert_eq!(rt; Texts::first_wrong::<PassesLimit>(alloc, &texts), None);
-    }
+    let rows = [
+        ("Vec", passes_limit::<Vec<u32>>(alloc)),
+        ("VecDeque", passes_limit::<VecDeque<u32>>(alloc)),
+        ("BinaryHeap", passes_limit::<BinaryHeap<u32>>(alloc)),
+        ("BTreeSet", passes_limit::<BTreeSet<u32>>(alloc)),
+        ("BTreeMap", passes_limit::<BTreeMap<u32, u32>>(alloc)),
+        ("HashSet", passes_limit::<HashSet<u32>>(alloc)),
+        ("HashMap", passes_limit::<HashMap<u32, u32>>(alloc)),
+        ("BoxedSlice", passes_limit::<BoxedSlice<u32>>(alloc)),
+        ("RcSlice", passes_limit::<RcSlice<u32>>(alloc)),
+        ("CowSlice", passes_limit::<CowSlice<'_, u32>>(alloc)),
+        ("String", passes_limit::<String>(alloc)),
+        ("BoxedStr", passes_limit::<BoxedStr>(alloc)),
+        ("RcStr", passes_limit::<RcStr>(alloc)),
+        ("CowStr", passes_limit::<CowStr<'_>>(alloc)),
+        ("PathBuf", passes_limit::<PathBuf>(alloc)),
+        ("CString", passes_limit::<CString>(alloc)),
+    ];
+    assert_eq!(rt; first_wrong(&rows), None);
 }
 
 #[test]

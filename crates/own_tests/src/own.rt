@@ -23,47 +23,30 @@ use std::alloc::Global;
 use test_helpers::checks::{
     decoded_within, each_call_keeps, ends_at_each_place, fault_of, goes_on, within,
 };
-use test_helpers::rows::first_unequal;
-use test_helpers::types::{Check, Types};
+use test_helpers::rows::{first_unequal, first_wrong};
 
 /// Whether this is a word of the type by each call, with bytes behind it, and no front of it is one.
 fn has_word<T: Encode + Decode<()>>(alloc: Global, word: &[u8]) -> bool {
     each_call_keeps::<T>(alloc, word) && ends_at_each_place::<(), T>(alloc, word, ())
 }
 
-/// The same, as it is asked of each type of a table.
-struct HasWord;
-
-impl Check for HasWord {
-    fn holds<T: Encode + Decode<()>>(alloc: Global, word: &[u8]) -> bool {
-        has_word::<T>(alloc, word)
-    }
-}
-
-/// Structs, of which two have type parameters.
-type Structs = (
-    Foo,
-    (
-        Track,
-        (
-            Even,
-            (Book, (Pair<u8, u16>, (Table<u16, bool>, (Report, ())))),
-        ),
-    ),
-);
-
 #[test]
 fn keeps_structs(rt: HostRuntime) {
-    let rows: [(&'static str, &[u8]); 7] = [
-        ("Foo", &[5, 10]),
-        ("Track", &[1, 99, 2, 1, 251, 44, 1, 2, 1]),
-        ("Even", &[4]),
-        ("Book", &BOOK),
-        ("Pair", &[7, 251, 44, 1]),
-        ("Table", &[1, 97, 1, 2, 1, 1, 2]),
-        ("Report", &REPORT),
+    let alloc = rt.alloc();
+    let track = [1, 99, 2, 1, 251, 44, 1, 2, 1];
+    let rows = [
+        ("Foo", has_word::<Foo>(alloc, &[5, 10])),
+        ("Track", has_word::<Track>(alloc, &track)),
+        ("Even", has_word::<Even>(alloc, &[4])),
+        ("Book", has_word::<Book>(alloc, &BOOK)),
+        ("Pair", has_word::<Pair<u8, u16>>(alloc, &[7, 251, 44, 1])),
+        (
+            "Table",
+            has_word::<Table<u16, bool>>(alloc, &[1, 97, 1, 2, 1, 1, 2]),
+        ),
+        ("Report", has_word::<Report>(alloc, &REPORT)),
     ];
-    assert_eq!(rt; Structs::first_wrong::<HasWord>(rt.alloc(), &rows), None);
+    assert_eq!(rt; first_wrong(&rows), None);
 }
 
 #[test]

@@ -7,8 +7,8 @@ use bincode::enc::Encode;
 use bincode::enc::write::SizeWriter;
 use bincode::error::{DecodeError, EncodeError};
 use bincode::{
-    BorrowDecode, borrow_decode_from_slice, config, decode_from_reader, decode_from_slice,
-    decode_from_slice_with_context, encode_into_slice, encode_into_writer, encode_to_vec,
+    config, decode_from_reader, decode_from_slice, decode_from_slice_with_context,
+    encode_into_slice, encode_into_writer, encode_to_vec,
 };
 use std::alloc::Global;
 
@@ -31,37 +31,6 @@ pub fn keeps<T: Encode + Decode<()>>(alloc: Global, word: &[u8]) -> bool {
     let mut slice = [99u8; 100];
     let written = encode_into_slice(value, &mut slice, config::standard());
     taken == word.len() && matches!(written, Ok(count) if count == taken) && slice == input
-}
-
-/// What comes of borrowed decoding. Where memory is refused it is decoded once more.
-pub fn borrowed<'a, T: BorrowDecode<&'a [u8], ()>, C: Config>(
-    alloc: Global,
-    source: &'a [u8],
-    config: C,
-) -> Result<(T, usize), DecodeError> {
-    match borrow_decode_from_slice(alloc, source, config) {
-        Err(DecodeError::Memory) => borrow_decode_from_slice(alloc, source, config),
-        outcome => outcome,
-    }
-}
-
-/// Whether all of the source but its last byte, which is 99, is read as a value by a decoder that lends, and the value
-/// is written so.
-pub fn keeps_lent<'a, T: Encode + BorrowDecode<&'a [u8], ()>>(
-    alloc: Global,
-    source: &'a [u8],
-) -> bool {
-    let Ok((value, taken)) = borrowed::<T, _>(alloc, source, config::standard()) else {
-        return false;
-    };
-    let mut slice = [99u8; 100];
-    let written = encode_into_slice(value, &mut slice, config::standard());
-    let [word @ .., 99] = source else {
-        return false;
-    };
-    taken == word.len()
-        && matches!(written, Ok(count) if count == taken)
-        && slice.starts_with(source)
 }
 
 /// Whether decoding a value fails, and then decoding a byte from the same decoder gives 77.

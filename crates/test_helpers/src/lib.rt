@@ -3,4 +3,3 @@
 
 pub mod checks;
 pub mod rows;
-pub mod types;
