@@ -1,5 +1,5 @@
 -- The formats of shapes, by those of their parts.
-use Rattle.std.specs.Prelude.{◌≡◌, ◌==◌, ◌<◌, ◌≤◌, ◌+◌, ◌++◌, true, ℕ, max, List, [], ◌∷◌, length, Box, refl}
+use Rattle.std.specs.Prelude.{◌≡◌, ◌==◌, ◌<◌, ◌≤◌, ◌+◌, ◌++◌, true, ℕ, List, [], ◌∷◌, length, Box, refl}
 use Rattle.std.specs.declared.alloc.Global.{Global}
 use Rattle.std.specs.declared.vec.Vec.{Vec}
 use Rattle.std.proofs.Common.{◌∙◌, ap, sym, arith, append_assoc, append-nil}

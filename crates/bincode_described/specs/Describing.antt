@@ -1,8 +1,6 @@
 -- What it is for a shape to describe a type.
 use Rattle.std.specs.Prelude.{◌≡◌, ℕ, List, ◌++◌, true}
 use Rattle.bincode_base.specs.Setting.{Setting}
-use Rattle.bincode_format.specs.Format.{Format}
-use Rattle.bincode_format.specs.Meaning.{Meaning}
 use Rattle.bincode_format.specs.Words.{Variant, tags_of, in_order, tuple}
 use Rattle.bincode_shape.specs.declared.shape.Shape.{Shape}
 use Rattle.bincode_shape.specs.Rows.{formats}

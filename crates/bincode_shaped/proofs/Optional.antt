@@ -6,12 +6,11 @@ use Rattle.std.proofs.Common.{ap, arith}
 use Rattle.std.proofs.lemmas.Bool.{ne_eqb}
 use Rattle.bincode_base.specs.Setting.{Setting}
 use Rattle.bincode_base.specs.declared.error.DecodeError.{DecodeError}
-use Rattle.bincode_format.specs.Answer.{answer}
 use Rattle.bincode_format.specs.Decoding.{by_fault}
 use Rattle.bincode_format.specs.Device.{DeviceErrors}
 use Rattle.bincode_format.specs.Fault.{UnexpectedVariant, Between, Tells}
 use Rattle.bincode_format.specs.Integers.{unsigned_byte}
-use Rattle.bincode_format.specs.Meaning.{Meaning, Nothing, Choice}
+use Rattle.bincode_format.specs.Meaning.{Nothing, Choice}
 use Rattle.bincode_format.specs.Values.{Reads}
 use Rattle.bincode_format.specs.Words.{nothing, behind_tag, chosen}
 use Rattle.bincode_laws.specs.AnswerLaws.{answer-refused}

@@ -1,5 +1,5 @@
 -- What is listed of a store, by what was appended to it.
-use Rattle.std.specs.Prelude.{◌≡◌, ◌+◌, ◌-◌, ◌<◌, ◌≤◌, ◌⊎◌, ◌++◌, ℕ, List, [], ◌∷◌, length, take, drop, Option, Some, None, Err, Bool, true, refl}
+use Rattle.std.specs.Prelude.{◌≡◌, ◌+◌, ◌-◌, ◌<◌, ◌≤◌, ◌⊎◌, ◌++◌, ℕ, List, [], ◌∷◌, length, take, drop, Option, Err, Bool, true, refl}
 use Rattle.std.proofs.Common.{◌∙◌, ap, sym, subst, inl, inr, arith, append_assoc, append-nil, length-append}
 use Rattle.std.proofs.lemmas.List.{length-drop, drop-drop, drop_at, take_all}
 use Rattle.bincode_base.specs.Setting.{Setting}
@@ -10,7 +10,7 @@ use Rattle.bincode_format.specs.Fault.{Fault, IsEnd}
 use Rattle.bincode_format.specs.Format.{Format, Reading, Took, Failed}
 use Rattle.bincode_format.specs.Laws.{Lawful, Begun, steps_of}
 use Rattle.bincode_format.specs.Meaning.{Meaning}
-use Rattle.bincode_format.specs.Slice.{Decoded, EndsSlice, FindsWords, TellsFaults, KeepsLimit}
+use Rattle.bincode_format.specs.Slice.{Decoded, FindsWords, TellsFaults, KeepsLimit}
 use Rattle.bincode_io.specs.RoomLaws.{first-empty, second-empty}
 use Rattle.bincode_laws.specs.CutLaws.{end-told, front-within}
 use Rattle.bincode_laws.specs.FormatLaws.{one-word, end-or-other}
