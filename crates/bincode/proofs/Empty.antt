@@ -1,22 +1,22 @@
 -- A value whose words are all empty is refused no room.
-use Rattle.std.specs.Prelude.{◌≡◌, ◌+◌, ◌<◌, ◌≤◌, ◌∷◌, ◌++◌, ℕ, List, [], length, refl}
+use Rattle.std.specs.Prelude.{◌≡◌, ◌+◌, ◌<◌, ◌≤◌, ◌∷◌, ◌++◌, ℕ, List, [], length, refl, true, false}
 use Rattle.std.proofs.Common.{◌∙◌, ap, arith, length-append}
 use Rattle.bincode_base.specs.declared.error.EncodeError.{EncodeError}
-use Rattle.bincode_base.specs.declared.error.EncodeError.TheVariants.{Memory}
+use Rattle.bincode_base.specs.declared.error.EncodeError.TheVariants.{UnexpectedEnd}
 use Rattle.bincode_io.specs.declared.room_counter.RoomCounter.{RoomCounter}
-use Rattle.bincode_io.specs.declared.vec_writer.VecWriter.{VecWriter}
-use Rattle.bincode_io.specs.Vectors.{held_by, capacity_of}
+use Rattle.bincode_io.specs.declared.room_writer.RoomWriter.{RoomWriter}
+use Rattle.bincode_io.specs.Rooms.{written_to, room_of, refused_by}
 use Rattle.bincode_format.specs.Allowed.{OneLength}
 use Rattle.bincode_format.specs.Encoding.{Adds, Refuses, Ready, Writes, Begins, Halts, by_writer, by_name}
 use Rattle.bincode.proofs.Counted.{Counted}
 
--- what a vector writer adds, and why it refuses a piece
-abbrev pub Appended : VecWriter → List ℕ → VecWriter → Type 0
-Appended a piece b = (held_by b ≡ held_by a ++ piece) × (capacity_of a ≤ capacity_of b) × (piece ≡ [] → b ≡ a)
+-- what a room writer adds, and why it refuses a piece
+abbrev pub Put : RoomWriter → List ℕ → RoomWriter → Type 0
+Put a piece b = (written_to b ≡ written_to a ++ piece) × (refused_by b ≡ refused_by a) × (piece ≡ [] → b ≡ a)
 
-abbrev pub Ungrown : VecWriter → List ℕ → EncodeError → VecWriter → Type 0
-Ungrown a piece e b =
-    (e ≡ Memory) × (capacity_of a < length (held_by a) + length piece) × (held_by b ≡ held_by a) × (capacity_of b ≡ capacity_of a) × (0 < length piece)
+abbrev pub Full : RoomWriter → List ℕ → EncodeError → RoomWriter → Type 0
+Full a piece e b =
+    (e ≡ UnexpectedEnd) × (room_of a < length (written_to a) + length piece) × (written_to b ≡ written_to a) × (0 < length piece) × (refused_by b ≡ true)
 
 module _ (A : List ℕ → Type 0) (one : OneLength A) (empty : A []) where
   -- no piece with a byte in it begins a word
@@ -28,14 +28,11 @@ module _ (A : List ℕ → Type 0) (one : OneLength A) (empty : A []) where
       let both = length-append front piece in
       omega arith
 
-  -- so a writer that takes every empty piece refuses nothing
-  halted-empty : {W : Type 0} (adds : Adds W) (refuses : Refuses W) → ((w v : W) (piece : List ℕ) (d : EncodeError) → refuses w piece d v → 0 < length piece) →
-      (N : EncodeError → Type 0) (before after : W) (e : EncodeError) → Halts adds refuses A N before after e → N e
-  halted-empty adds refuses some N before after e (by_writer front piece middle h r b) = absurd (none-begins front piece b (some middle after piece e r))
-  halted-empty adds refuses some N before after e (by_name front h n b) = n
-
-  pub vec-empty : (N : EncodeError → Type 0) (before after : VecWriter) (e : EncodeError) → Halts Appended Ungrown A N before after e → N e
-  vec-empty = halted-empty Appended Ungrown (λ w v piece d r. r.4)
+  -- so a room writer refuses nothing
+  pub room-empty : (N : EncodeError → Type 0) (before after : RoomWriter) (e : EncodeError) → Halts Put Full A N before after e →
+      refused_by before ≡ false → refused_by after ≡ true → ⊥
+  room-empty N before after e (by_writer front piece middle h r b) start full = none-begins front piece b r.3
+  room-empty N before after e (by_name front h n b) start full = absurd (cc)
 
 -- a list of no items is empty
 of-none : (xs : List ℕ) → length xs ≡ 0 → xs ≡ []

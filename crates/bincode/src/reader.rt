@@ -20,8 +20,8 @@ pub fn decode_from_reader<D: Decode<()>, R: Reader, C: Config>(
     config: C,
 ) -> Result<D, DecodeError>
     // What is taken is a word within the limit, and the value is given for its meaning.
-    ensures word { R.told reader.old → IfOk result (λ v. WordRead (D.its.format C.setting) C.bound (R.rest reader.old)
-        (R.rest reader.new) (λ m. D.its.given m v)) }
+    ensures word { R.told reader.old → IfOk result (λ v. WordRead (D.its.format C.setting) C.bound
+        (R.rest reader.old) (R.rest reader.new) (λ m. D.its.given m v)) }
     // Each word within the limit is read,
     ensures found { R.told reader.old → Finds (D.its.format C.setting) C.bound
         (IsExcused R.device D.its.grows (R.failures reader.old) (R.failures reader.new)) (R.rest reader.old) result }
@@ -48,8 +48,8 @@ pub(crate) fn decode_from_reader_with<Context: Drop, D: Decode<Context>, R: Read
     config: &C,
     context: &mut Context,
 ) -> Result<D, DecodeError>
-    ensures word { R.told reader.old → IfOk result (λ v. WordRead (D.its.format C.setting) C.bound (R.rest reader.old)
-        (R.rest reader.new) (λ m. D.its.given m v)) }
+    ensures word { R.told reader.old → IfOk result (λ v. WordRead (D.its.format C.setting) C.bound
+        (R.rest reader.old) (R.rest reader.new) (λ m. D.its.given m v)) }
     ensures found { R.told reader.old → Finds (D.its.format C.setting) C.bound
         (IsExcused R.device D.its.grows (R.failures reader.old) (R.failures reader.new)) (R.rest reader.old) result }
     ensures fault { R.told reader.old → TellsEach R.ended (D.its.format C.setting) C.bound

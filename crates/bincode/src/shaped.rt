@@ -100,9 +100,9 @@ fn decode_shaped_with<R: Reader, C: Config>(
 ) -> Result<Value, DecodeError>
     ensures ok { R.told reader.old → IfOk result (λ v. (charge : ℕ) × Decodes (λ m. IsImage shape.now m v)
         (answer C.bound (format_of shape.now C.setting) (R.rest reader.old) 0) (R.rest reader.new) charge) }
-    ensures err { R.told reader.old → IfErr result (λ e. (charge : ℕ) × Stops R.ended R.device (TakesMemory shape.now)
-        (answer C.bound (format_of shape.now C.setting) (R.rest reader.old) 0) (R.failures reader.old)
-        (R.failures reader.new) (R.rest reader.old) (R.rest reader.new) charge e) }
+    ensures err { R.told reader.old → IfErr result (λ e. (charge : ℕ) × Stops R.ended R.device
+        (TakesMemory shape.now) (answer C.bound (format_of shape.now C.setting) (R.rest reader.old) 0)
+        (R.failures reader.old) (R.failures reader.new) (R.rest reader.old) (R.rest reader.new) charge e) }
 {
     let mut context = ();
     let mut decoder = LentDecoder::new(alloc, reader, config, &mut context);

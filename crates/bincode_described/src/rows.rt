@@ -60,7 +60,8 @@ where
 
 /// Puts the shape of a type behind these. `None` where memory is refused.
 pub(crate) fn put_shape<T: Described>(alloc: Global, shapes: Vec<Shape>) -> Option<Vec<Shape>>
-    ensures { IfSome result (λ put. (part : Shape) × (put.items ≡ shapes.items ++ part ∷ []) × Describes part T.its) }
+    ensures { IfSome result (λ put. (part : Shape) × (put.items ≡ shapes.items ++ part ∷ [])
+        × Describes part T.its) }
 {
     let mut shapes = shapes;
     shapes.push(T::shape(alloc)?).ok()?;

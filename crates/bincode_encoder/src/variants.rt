@@ -56,7 +56,8 @@ where
         (behind_tag Parts.variants E.C.setting tag) }
     requires names { (e : EncodeError) → V.Value.its.names e → Parts.its.names e }
     requires means { SameMeanings (IsChoice tag (V.Value.its.means part.now)) (Parts.its.means (T.parts value.now)) }
-    requires writable { Parts.its.writable E.C.setting (T.parts value.now) → V.Value.its.writable E.C.setting part.now }
+    requires writable { Parts.its.writable E.C.setting (T.parts value.now)
+        → V.Value.its.writable E.C.setting part.now }
     ensures { Encodes E.W.adds E.W.refuses E.writer_of E.place (Parts.its.writable E.C.setting (T.parts value.now))
         (AllowedWord (Parts.its.means (T.parts value.now)) (chosen Parts.Tag.tags Parts.variants E.C.setting))
         Parts.its.names result encoder.old encoder.new }

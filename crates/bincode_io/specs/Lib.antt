@@ -1,4 +1,5 @@
 pub mod RoomLaws
+pub mod Rooms
 pub mod Slices
 pub mod Stream
 pub mod StreamLaws

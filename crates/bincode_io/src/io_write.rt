@@ -1,5 +1,6 @@
 //! Writers to the streams of `std::io`.
-ghost use Rattle.std.specs.Prelude.{ℕ, ◌≡◌, ◌+◌, ◌-◌, ◌^◌, ◌∷◌, [], length, take, Some, OnOk, OnErr, IfOk, refl};
+ghost use Rattle.std.specs.Prelude.{ℕ, ◌≡◌, ◌+◌, ◌-◌, ◌^◌, ◌∷◌, [], length, take};
+ghost use Rattle.std.specs.Prelude.{Some, OnOk, OnErr, IfOk, refl};
 ghost use Rattle.std.proofs.Common.{zero-le};
 ghost use Rattle.std.specs.Io.{WritesAtMost};
 ghost use Rattle.std.specs.Io.KnownBytes.{Appends, Keeps};

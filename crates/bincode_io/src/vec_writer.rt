@@ -1,5 +1,6 @@
 //! A writer into a vector.
-ghost use Rattle.std.specs.Prelude.{◌≡◌, ◌+◌, ◌-◌, ◌<◌, ◌≤◌, ◌⊎◌, ◌++◌, [], length, vec_capacity};
+ghost use Rattle.std.specs.Prelude.{◌≡◌, ◌+◌, ◌-◌, ◌<◌, ◌≤◌, ◌⊎◌, ◌++◌, []};
+ghost use Rattle.std.specs.Prelude.{length, vec_capacity};
 ghost use Rattle.std.specs.Prelude.{IsOk, IfOk, IfErr, None};
 ghost use Rattle.std.proofs.Common.{◌∙◌, ap, sym, inl, inr, le_refl, le_trans, append_assoc, refl};
 ghost use Rattle.std.proofs.lemmas.List.{append-nil};
@@ -45,7 +46,7 @@ impl VecWriter {
 
     /// How many more bytes it has room for before it must grow.
     #[inline(always)]
-    fn room_left(&self) -> usize
+    pub(crate) fn room_left(&self) -> usize
         ensures { result ≡ capacity_of self.now - length (held_by self.now) }
     {
         self.bytes.capacity() - self.bytes.len()

@@ -147,8 +147,8 @@ fn encode_choice<E: Encoder>(
 ) -> Result<(), EncodeError>
     requires { picked_passes (tests parts.now) index held.now ≡ true }
     ensures { Encodes E.W.adds E.W.refuses E.writer_of E.place (Unit {0})
-        (AllowedWord (λ m. m ≡ Choice index (meaning held.now)) (one_of (numbered 0 (formats parts.now)) E.C.setting))
-        (λ _. ⊥) result encoder.old encoder.new }
+        (AllowedWord (λ m. m ≡ Choice index (meaning held.now))
+        (one_of (numbered 0 (formats parts.now)) E.C.setting)) (λ _. ⊥) result encoder.old encoder.new }
 {
     encode_integer(encoder, index)?;
     encode_shape(&parts[index as usize], held, encoder)

@@ -181,8 +181,8 @@ pub(crate) fn encode_number<T: ShapedInteger, E: Encoder>(
 ) -> Result<(), EncodeError>
     requires { fits T.shape value.now ≡ true }
     ensures { Encodes E.W.adds E.W.refuses E.writer_of E.place (Unit {0}) (AllowedWord (IsMeant value.now)
-        (map_format (λ k. Number (T.spelling.integer k)) (T.spelling.words E.C.setting))) (λ _. ⊥) result encoder.old
-        encoder.new }
+        (map_format (λ k. Number (T.spelling.integer k)) (T.spelling.words E.C.setting))) (λ _. ⊥) result
+        encoder.old encoder.new }
 {
     encode_integer(encoder, T::of_value(value))
 }

@@ -36,7 +36,8 @@ fn decode_into<D: Decoder, V: ReadValues<D>, const N: usize>(
 ) -> Result<[V::Value; N], DecodeError>
     requires { CanRelease D.C.bound (D.charge decoder.old) (N * V.Value.its.claim) }
     ensures { RunRead D.told D.rest D.charge D.failures D.place D.C.bound D.R.ended D.R.device V.Value.its.grows
-        V.Value.its.claim (V.Value.its.format D.C.setting) V.Value.its.given N (λ v. v) result decoder.old decoder.new }
+        V.Value.its.claim (V.Value.its.format D.C.setting) V.Value.its.given N (λ v. v) result decoder.old
+        decoder.new }
 {
     decode_slots::<D, V>(decoder, &mut slots[..])?;
     Ok(unwrap_all(slots))
@@ -50,7 +51,8 @@ fn decode_over<D: Decoder, V: ReadValues<D>, const N: usize>(
 ) -> Result<[V::Value; N], DecodeError>
     requires { CanRelease D.C.bound (D.charge decoder.old) (N * V.Value.its.claim) }
     ensures { RunRead D.told D.rest D.charge D.failures D.place D.C.bound D.R.ended D.R.device V.Value.its.grows
-        V.Value.its.claim (V.Value.its.format D.C.setting) V.Value.its.given N (λ v. v) result decoder.old decoder.new }
+        V.Value.its.claim (V.Value.its.format D.C.setting) V.Value.its.given N (λ v. v) result decoder.old
+        decoder.new }
 {
     decode_run::<D, V>(decoder, &mut values[..])?;
     Ok(values)

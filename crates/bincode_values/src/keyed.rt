@@ -160,8 +160,8 @@ fn decode_claimed<D: Decoder, V: ReadValues<D>, M: Puts<Item = V::Value>>(
 ) -> Result<M, DecodeError>
     ensures { Reads D.told D.rest D.charge D.failures D.place D.C.bound D.R.ended D.R.device (Unit {0})
         (array len V.Value.its.claim (V.Value.its.format D.C.setting))
-        (λ m v. IsMadeOf M.makes (λ x n. V.Value.its.given n x) (M.held v) m) (D.charge decoder.old) result decoder.old
-        decoder.new }
+        (λ m v. IsMadeOf M.makes (λ x n. V.Value.its.given n x) (M.held v) m) (D.charge decoder.old) result
+        decoder.old decoder.new }
 {
     decoder.claim_container_read::<V::Value>(len)?;
     decode_items::<D, V, M>(decoder, len)
@@ -176,8 +176,8 @@ pub fn decode_keyed<D: Decoder, V: ReadValues<D>, M: Puts<Item = V::Value>>(
 ) -> Result<M, DecodeError>
     ensures { Reads D.told D.rest D.charge D.failures D.place D.C.bound D.R.ended D.R.device (Unit {0})
         (list D.C.setting V.Value.its.claim (V.Value.its.format D.C.setting))
-        (λ m v. IsMadeOf M.makes (λ x n. V.Value.its.given n x) (M.held v) m) (D.charge decoder.old) result decoder.old
-        decoder.new }
+        (λ m v. IsMadeOf M.makes (λ x n. V.Value.its.given n x) (M.held v) m) (D.charge decoder.old) result
+        decoder.old decoder.new }
 {
     let len = decode_length(decoder)?;
     decode_claimed::<D, V, M>(decoder, len)

@@ -37,8 +37,8 @@ pub fn decode_none<D: Decoder, Of: Named, T: Tag, All: Listed>(
     ensures reads { Reads D.told D.rest D.charge D.failures D.place D.C.bound D.R.ended D.R.device
         ((in_order 0 (tags_of All.variants) ≡ false) ⊎ ⟦<NoOther<Of, T> as Variants>⟧.grows)
         (part D.C.setting ⟦<NoOther<Of, T> as Variants>⟧.variants (allowed_tags (tags_of All.variants)) found)
-        (λ m v. IsChoice found (⟦<NoOther<Of, T> as Variants>⟧.given v) m) (D.charge decoder.old) result decoder.old
-        decoder.new }
+        (λ m v. IsChoice found (⟦<NoOther<Of, T> as Variants>⟧.given v) m) (D.charge decoder.old) result
+        decoder.old decoder.new }
     ensures tag { IfOk result (λ v. (⟦<NoOther<Of, T> as Variants>⟧.variant v).0 ≡ found) }
 {
     Err(unexpected_tag::<Of, All, D>(decoder, found))

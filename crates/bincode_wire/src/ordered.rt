@@ -109,7 +109,8 @@ impl<K: Wire + Ord, V: Wire> Wire for Entries<K, V> {
       names_own = λ e. either (K.its.names_own e) (either (V.its.names_own e) (λ h. absurd h));
       claims = omega arith;
       needs = λ s. list-needs s ⟦<(K, V) as Wire>⟧.its.claim (⟦<(K, V) as Wire>⟧.its.format s)
-          (⟦<(K, V) as Wire>⟧.its.need s) (⟦<(K, V) as Wire>⟧.its.balanced s) (⟦<(K, V) as Wire>⟧.its.needs s);
+          (⟦<(K, V) as Wire>⟧.its.need s) (⟦<(K, V) as Wire>⟧.its.balanced s)
+          (⟦<(K, V) as Wire>⟧.its.needs s);
       charged = λ s. list-charged s ⟦<(K, V) as Wire>⟧.its.claim (⟦<(K, V) as Wire>⟧.its.format s)
           ⟦<(K, V) as Wire>⟧.its.claims (⟦<(K, V) as Wire>⟧.its.charged s);
     } };

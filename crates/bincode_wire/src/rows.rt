@@ -150,7 +150,8 @@ pub struct LongRow<A, B, C, D, Others>(pub A, pub B, pub C, pub D, pub Others);
 impl<A: Wire, B: Wire, C: Wire, D: Wire, Others: Wire + Rest> Wire for LongRow<A, B, C, D, Others> {
     ghost its = { record {
       format = λ s. four_and (A.its.format s) (B.its.format s) (C.its.format s) (D.its.format s) (Others.its.format s);
-      valid = λ v. A.its.valid v.0 × (B.its.valid v.1 × (C.its.valid v.2 × (D.its.valid v.3 × Others.its.valid v.4)));
+      valid = λ v. A.its.valid v.0 × (B.its.valid v.1
+          × (C.its.valid v.2 × (D.its.valid v.3 × Others.its.valid v.4)));
       means = λ v. IsFourThen (A.its.means v.0) (B.its.means v.1) (C.its.means v.2) (D.its.means v.3)
           (Others.its.means v.4);
       given = λ m v. IsFourThen (λ p. A.its.given p v.0) (λ p. B.its.given p v.1) (λ p. C.its.given p v.2)

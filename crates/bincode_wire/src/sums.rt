@@ -1,6 +1,6 @@
 //! One of several variants: what enums are written as.
-ghost use Rattle.std.specs.Prelude.{◌≡◌, ◌⊎◌, ◌<◌, ◌≤◌, ◌+◌, ◌-◌, ◌^◌, ◌==◌, min, max, pos};
-ghost use Rattle.std.specs.Prelude.{ℕ, true, false, List, [], ◌∷◌, refl};
+ghost use Rattle.std.specs.Prelude.{◌≡◌, ◌⊎◌, ◌<◌, ◌≤◌, ◌+◌, ◌-◌, ◌^◌, ◌==◌};
+ghost use Rattle.std.specs.Prelude.{ℕ, true, false, min, max, pos, List, [], ◌∷◌, refl};
 ghost use Rattle.std.proofs.Common.{◌∙◌, arith};
 ghost use Rattle.bincode_base.specs.Setting.{Setting};
 ghost use Rattle.bincode_format.specs.Format.{Format, map_format};

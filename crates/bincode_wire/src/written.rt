@@ -48,7 +48,8 @@ pub fn exact_by_fields<
     T: MadeOf<Fields> + PartialEq,
     Row: Wire + EqualParts,
 >()
-    requires { (v w : T) → Row.each_equal (Fields.parts (T.parts v)) (Fields.parts (T.parts w)) → T.eq v w ≡ true }
+    requires { (v w : T) → Row.each_equal (Fields.parts (T.parts v)) (Fields.parts (T.parts w))
+        → T.eq v w ≡ true }
     ensures { ExactWords (words_by Fields.its T.parts) T.eq }
 {
     Fields::tell_exact();

@@ -129,7 +129,8 @@ pub fn read_list<T: Decode<()>, C: Config>(
     src: &[u8],
     config: C,
 ) -> Result<(Vec<T>, usize), DecodeError>
-    ensures { (limit : ℕ) → C.bound ≡ Some limit → IfOk result (λ x. vec_capacity x.0 * T.its.claim ≤ limit) }
+    ensures { (limit : ℕ) → C.bound ≡ Some limit
+        → IfOk result (λ x. vec_capacity x.0 * T.its.claim ≤ limit) }
 {
     decode_from_slice(alloc, src, config)
 }

@@ -34,8 +34,9 @@ pub fn read_within_from<T: Decode<()>, R: Reader, C: Config>(
     reader: &mut R,
     config: C,
 ) -> Result<T, DecodeError>
-    ensures limited { R.told reader.old → ((missing : ℕ) (e : DecodeError) → R.ended missing e → ¬ (e ≡ LimitExceeded))
-        → (limit : ℕ) → C.bound ≡ Some limit → LimitedBy R.ended (T.its.format C.setting) (T.its.need C.setting) limit
+    ensures limited { R.told reader.old
+        → ((missing : ℕ) (e : DecodeError) → R.ended missing e → ¬ (e ≡ LimitExceeded)) → (limit : ℕ)
+        → C.bound ≡ Some limit → LimitedBy R.ended (T.its.format C.setting) (T.its.need C.setting) limit
         (IsExcused R.device T.its.grows (R.failures reader.old) (R.failures reader.new)) (R.rest reader.old) result }
     ensures bounded { R.told reader.old → (limit : ℕ) → C.bound ≡ Some limit
         → IfOk result (λ _. WordBounded (T.its.format C.setting) limit (R.rest reader.old)

@@ -27,7 +27,8 @@ pub fn read_longer<T: Decode<()>, C: Config>(
     requires { count ≤ length bytes.now }
     ensures same { ¬ (WasCut result.front) → WasRefused T.its.grows result.front
         ⊎ (WasRefused T.its.grows result.whole ⊎ SameAnswer T.its.given result.front result.whole) }
-    ensures cut { IfOk result.whole (λ x. count < x.1 → WasCut result.front ⊎ WasRefused T.its.grows result.front) }
+    ensures cut { IfOk result.whole (λ x. count < x.1 → WasCut result.front
+        ⊎ WasRefused T.its.grows result.front) }
 {
     let front = decode_from_slice(alloc, &bytes[..count], config);
     let whole = decode_from_slice(alloc, bytes, config);

@@ -38,8 +38,8 @@ pub fn count_numbers<C: Config>(
 ) -> Result<usize, DecodeError>
     ensures { IfOk result (λ n. (taken : ℕ)
         × Decoded (⟦<ArenaList<'static, u32> as Wire>⟧.its.format C.setting) C.bound bytes.now
-        (λ m. (items : List ℕ) × IsListOf (λ x k. ⟦<u32 as Wire>⟧.its.given k x) items m × (n ≡ length items))
-        taken) }
+        (λ m. (items : List ℕ) × IsListOf (λ x k. ⟦<u32 as Wire>⟧.its.given k x) items m
+        × (n ≡ length items)) taken) }
 {
     let (list, _taken): (ArenaList<u32>, usize) = decode_from_slice_with_context(
         alloc, bytes, config, &*bump,

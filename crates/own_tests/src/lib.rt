@@ -13,6 +13,8 @@ mod containers;
 #[cfg(test)]
 mod counted;
 #[cfg(test)]
+mod growing;
+#[cfg(test)]
 mod limits;
 #[cfg(test)]
 mod longer;

@@ -6,8 +6,7 @@ use Rattle.bincode_format.specs.Allowed.{AllowedWord}
 use Rattle.bincode_format.specs.Charge.{StaysWithin}
 use Rattle.bincode_format.specs.Meaning.{Meaning}
 use Rattle.bincode_format.specs.Slice.{Decoded, FindsWords}
-use Rattle.bincode_format.specs.Encoding.{Ready}
-use Rattle.bincode_format.specs.Vec.{FailsCounted}
+use Rattle.bincode_format.specs.Vec.{IsMemoryOrNamed}
 use Rattle.bincode_base.specs.declared.error.DecodeError.{DecodeError}
 use Rattle.bincode_base.specs.declared.error.DecodeError.TheVariants as decoding
 use Rattle.bincode_base.specs.declared.error.EncodeError.{EncodeError}
@@ -37,18 +36,14 @@ nothing-written W s limit v contents store (failures.Encode _) h = refl
 nothing-written W s limit v contents store (failures.ReadBack _) h = refl
 nothing-written W s limit v contents store (failures.Write _) h = absurd h
 
--- where the words of a plain value are counted, only memory is refused
-pub encode-memory : {A : Type 0} (W : Words A) (s : Setting) (limit : Option ℕ) (v : A) → PlainWords W → W.valid v → (e : EncodeError) →
-    FailsCounted {A = Unit {0}} (Ready (W.writable s v) (AllowedWord (W.means v) (W.format s))) W.names (Err e) → FitsStore W s limit v → e ≡ encoding.Memory
-encode-memory W s limit v plain valid e counted fits =
-    let writable = plain.always_writable s v valid in
-    let some = W.has_word s v valid writable in
-    let h = counted (λ x y a b. plain.one_length s v valid x y a.is_allowed b.is_allowed) some.bytes (record { is_writable = writable; is_allowed = some.is_allowed }) (fits some.bytes some.is_allowed).1 in
-    elim h [ inl m ↦ m | inr n ↦ absurd (plain.names_none e n) ]
+-- a plain value names no error: only memory is refused
+pub encode-memory : {A : Type 0} (W : Words A) → PlainWords W → (e : EncodeError) → IsMemoryOrNamed W.names e → e ≡ encoding.Memory
+encode-memory W plain e (inl m) = m
+encode-memory W plain e (inr n) = absurd (plain.names_none e n)
 
 -- where they stay within the limit, only memory is when one is read back
 pub read-memory : {A : Type 0} (W : Words A) (s : Setting) (limit : Option ℕ) (v : A) (word : List ℕ) → AllowedWord (W.means v) (W.format s) word → (Grows : Type 0) (e : DecodeError) →
     FindsWords {A = Unit {0}} (W.format s) limit Grows word (Err e) → FitsStore W s limit v → e ≡ decoding.Memory
 read-memory W s limit v word allowed Grows e found fits =
     let u = (W.lawful s).written_is_word word allowed.meaning allowed.is_written in
-    (found word [] allowed.meaning u.0 (sym (append-nil word)) u.1 ((fits word allowed).0 allowed.meaning u.0 u.1)).1
+    (found word [] allowed.meaning u.0 (sym (append-nil word)) u.1 (fits word allowed allowed.meaning u.0 u.1)).1

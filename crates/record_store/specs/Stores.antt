@@ -51,9 +51,9 @@ pub record FrontAdded {A : Type 0} (W : Words A) (s : Setting) (limit : Option �
   pub is_entry : IsEntry W s limit value (front ++ back)
   pub appended : Appends old new front
 
--- each word of the value stays within the limit, and 64 bits count its bytes
+-- each word of the value stays within the limit
 abbrev pub FitsStore : {A : Type 0} → Words A → Setting → Option ℕ → A → Type 0
-FitsStore W s limit value = (word : List ℕ) → AllowedWord (W.means value) (W.format s) word → FitsLimit (W.format s) limit word × (length word < 2 ^ 64)
+FitsStore W s limit value = (word : List ℕ) → AllowedWord (W.means value) (W.format s) word → FitsLimit (W.format s) limit word
 
 -- memory was refused, or the stream failed
 abbrev pub IsOutside : AppendError → Type 0

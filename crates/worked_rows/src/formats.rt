@@ -25,9 +25,9 @@ pub fn signed_rows()
 
 /// What truth values, tuples and arrays are read from.
 pub fn whole_rows()
-    ensures { WholeRows ⟦<bool as Wire>⟧.its.format ⟦<() as Wire>⟧.its.format ⟦<(u8, u32) as Wire>⟧.its.format
-        ⟦<(u8, u32, i128, char, [u8; 4]) as Wire>⟧.its.format ⟦<[u16; 2] as Wire>⟧.its.format
-        ⟦<[(); 2] as Wire>⟧.its.format ⟦<[u16; 0] as Wire>⟧.its.format }
+    ensures { WholeRows ⟦<bool as Wire>⟧.its.format ⟦<() as Wire>⟧.its.format
+        ⟦<(u8, u32) as Wire>⟧.its.format ⟦<(u8, u32, i128, char, [u8; 4]) as Wire>⟧.its.format
+        ⟦<[u16; 2] as Wire>⟧.its.format ⟦<[(); 2] as Wire>⟧.its.format ⟦<[u16; 0] as Wire>⟧.its.format }
 {}
 
 /// What characters are read from.
@@ -41,8 +41,8 @@ pub type Far = OneOf<Or<1, (), Or<5, u8, Or<300, u8, NoOther<()>>>>>;
 /// What choices are read from.
 pub fn choice_rows()
     ensures { ChoiceRows ⟦<Option<u8> as Wire>⟧.its.format ⟦<Option<u32> as Wire>⟧.its.format
-        ⟦<Option<bool> as Wire>⟧.its.format ⟦<Result<u8, u8> as Wire>⟧.its.format ⟦<Result<(), u8> as Wire>⟧.its.format
-        ⟦<Bound<u8> as Wire>⟧.its.format ⟦<Far as Wire>⟧.its.format }
+        ⟦<Option<bool> as Wire>⟧.its.format ⟦<Result<u8, u8> as Wire>⟧.its.format
+        ⟦<Result<(), u8> as Wire>⟧.its.format ⟦<Bound<u8> as Wire>⟧.its.format ⟦<Far as Wire>⟧.its.format }
 {}
 
 /// What spans of time are read from.
@@ -69,7 +69,8 @@ pub fn text_rows()
 
 /// What unsigned numbers are written as.
 pub fn unsigned_words()
-    ensures { UnsignedWords ⟦<u32 as Wire>⟧.its.format ⟦<u64 as Wire>⟧.its.format ⟦<u128 as Wire>⟧.its.format }
+    ensures { UnsignedWords ⟦<u32 as Wire>⟧.its.format ⟦<u64 as Wire>⟧.its.format
+        ⟦<u128 as Wire>⟧.its.format }
 {}
 
 /// What signed numbers are written as.

@@ -19,7 +19,8 @@ impl Scalar for char {
 }
 
 impl Wire for char {
-    ghost its = { scalar_words ⟦<char as Scalar>⟧.form ⟦<char as Scalar>⟧.form_laws ⟦<char as Scalar>⟧.SIZE };
+    ghost its = { scalar_words ⟦<char as Scalar>⟧.form ⟦<char as Scalar>⟧.form_laws
+        ⟦<char as Scalar>⟧.SIZE };
 
     #[inline]
     fn claim_size() -> usize {

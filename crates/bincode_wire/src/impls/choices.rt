@@ -26,7 +26,8 @@ impl Scalar for bool {
 }
 
 impl Wire for bool {
-    ghost its = { scalar_words ⟦<bool as Scalar>⟧.form ⟦<bool as Scalar>⟧.form_laws ⟦<bool as Scalar>⟧.SIZE };
+    ghost its = { scalar_words ⟦<bool as Scalar>⟧.form ⟦<bool as Scalar>⟧.form_laws
+        ⟦<bool as Scalar>⟧.SIZE };
 
     #[inline]
     fn claim_size() -> usize {

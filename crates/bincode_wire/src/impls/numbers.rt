@@ -129,7 +129,8 @@ impl Scalar for u128 {
 }
 
 impl Wire for u128 {
-    ghost its = { scalar_words ⟦<u128 as Scalar>⟧.form ⟦<u128 as Scalar>⟧.form_laws ⟦<u128 as Scalar>⟧.SIZE };
+    ghost its = { scalar_words ⟦<u128 as Scalar>⟧.form ⟦<u128 as Scalar>⟧.form_laws
+        ⟦<u128 as Scalar>⟧.SIZE };
 
     #[inline]
     fn claim_size() -> usize {
@@ -154,7 +155,8 @@ impl Scalar for usize {
 }
 
 impl Wire for usize {
-    ghost its = { scalar_words ⟦<usize as Scalar>⟧.form ⟦<usize as Scalar>⟧.form_laws ⟦<usize as Scalar>⟧.SIZE };
+    ghost its = { scalar_words ⟦<usize as Scalar>⟧.form ⟦<usize as Scalar>⟧.form_laws
+        ⟦<usize as Scalar>⟧.SIZE };
 
     #[inline]
     fn claim_size() -> usize {
@@ -279,7 +281,8 @@ impl Scalar for i128 {
 }
 
 impl Wire for i128 {
-    ghost its = { scalar_words ⟦<i128 as Scalar>⟧.form ⟦<i128 as Scalar>⟧.form_laws ⟦<i128 as Scalar>⟧.SIZE };
+    ghost its = { scalar_words ⟦<i128 as Scalar>⟧.form ⟦<i128 as Scalar>⟧.form_laws
+        ⟦<i128 as Scalar>⟧.SIZE };
 
     #[inline]
     fn claim_size() -> usize {
@@ -304,7 +307,8 @@ impl Scalar for isize {
 }
 
 impl Wire for isize {
-    ghost its = { scalar_words ⟦<isize as Scalar>⟧.form ⟦<isize as Scalar>⟧.form_laws ⟦<isize as Scalar>⟧.SIZE };
+    ghost its = { scalar_words ⟦<isize as Scalar>⟧.form ⟦<isize as Scalar>⟧.form_laws
+        ⟦<isize as Scalar>⟧.SIZE };
 
     #[inline]
     fn claim_size() -> usize {

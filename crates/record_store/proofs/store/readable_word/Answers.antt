@@ -10,7 +10,7 @@ returns-in-Ok-read g c = record {
 
 pub returns-in-Err-clause-fits : goal.returns-in-Err-clause-fits
 returns-in-Err-clause-fits g c = λ fits.
-    encode-memory g.T.Wire.its _ _ c.args.value.now c.tell_plain.ensures c.tell_valid.ensures c.in-Err.e c.in-Err.ensures.counted fits
+    encode-memory g.T.Wire.its c.tell_plain.ensures c.in-Err.e c.in-Err.ensures.fault
 
 pub returns-in-Err-read-clause-fits : goal.returns-in-Err-read-clause-fits
 returns-in-Err-read-clause-fits g c = λ fits.

@@ -1,0 +1,105 @@
+//! A writer into room that is there.
+ghost use Rattle.std.specs.Prelude.{◌≡◌, ◌+◌, ◌^◌, ◌<◌, ◌++◌, [], length};
+ghost use Rattle.std.specs.Prelude.{IsOk, IfOk, IfErr, None, true, false};
+ghost use Rattle.std.proofs.Common.{◌∙◌, ap, sym, inl, inr, le_refl, append_assoc, refl};
+ghost use Rattle.std.proofs.lemmas.List.{append-nil};
+ghost use Rattle.bincode_base.specs.declared.error.EncodeError.TheVariants.{UnexpectedEnd, Memory};
+ghost use Rattle.bincode_io.specs.RoomLaws.{first-empty, second-empty};
+
+use crate::vec_writer::VecWriter;
+use crate::write::Writer;
+use bincode_base::error::EncodeError;
+use std::alloc::Global;
+
+/// A writer into a vector that has room for so many bytes and does not grow, for a value that was counted before: so
+/// no code to grow stands behind each piece. Fails with `UnexpectedEnd` where the room is too small; it then holds what
+/// it held.
+#[derive(Drop)]
+pub struct RoomWriter {
+    held: VecWriter,
+    refused: bool,
+}
+
+impl RoomWriter {
+    ghost use Rattle.bincode_io.specs.Rooms.{written_to, room_of, refused_by};
+
+    /// A writer with room for so many bytes, of which none is written. Fails with `Memory` where the room is refused.
+    pub fn with_capacity(alloc: Global, capacity: usize) -> Result<RoomWriter, EncodeError>
+        ensures start { IfOk result (λ w. (written_to w ≡ []) × (refused_by w ≡ false)) }
+        ensures room { IfOk result (λ w. (room_of w ≡ capacity) × (capacity < 2 ^ 63)) }
+        ensures fault { IfErr result (λ e. e ≡ Memory) }
+        ensures none { capacity ≡ 0 → IsOk result }
+    {
+        match VecWriter::with_capacity(alloc, capacity) {
+            Ok(held) => Ok(RoomWriter {
+                held,
+                refused: false,
+            }),
+            Err(_) => Err(EncodeError::Memory),
+        }
+    }
+
+    /// The bytes that were written.
+    pub fn collect(self) -> Vec<u8>
+        ensures { result.items ≡ written_to self }
+    {
+        let RoomWriter { held, refused: _ } = self;
+        held.collect()
+    }
+
+    /// Whether it refused a piece for want of room.
+    pub fn has_refused(&self) -> bool
+        ensures { result ≡ refused_by self.now }
+    {
+        self.refused
+    }
+}
+
+impl Writer for RoomWriter {
+    ghost use Rattle.bincode_io.specs.Rooms.{written_to, room_of, refused_by};
+
+    ghost adds = { λ a piece b. (written_to b ≡ written_to a ++ piece) × (refused_by b ≡ refused_by a)
+        × (piece ≡ [] → b ≡ a) };
+
+    ghost refuses = { λ a piece e b. (e ≡ UnexpectedEnd) × (room_of a < length (written_to a) + length piece)
+        × (written_to b ≡ written_to a) × (0 < length piece) × (refused_by b ≡ true) };
+
+    ghost room = { λ _. None };
+
+    ghost failures = { λ _. 0 };
+
+    ghost device = { λ e. e ≡ UnexpectedEnd };
+
+    ghost place = { λ _. [] };
+
+    #[inline(always)]
+    fn write(&mut self, bytes: &[u8]) -> Result<(), EncodeError> {
+        if self.held.room_left() < bytes.len() {
+            self.refused = true;
+            return Err(EncodeError::UnexpectedEnd);
+        }
+        if matches!(bytes.len(), 1 | 2 | 4 | 8) {
+            self.held.write_behind(bytes)
+        } else {
+            self.held.write(bytes)
+        }
+    }
+
+    ghost adds_none = { λ w. (sym (append-nil (written_to w)), refl, λ empty. refl) };
+
+    ghost adds_join = { λ a b c x y p q. (
+      q.0 ∙ ap (λ l. l ++ y) p.0 ∙ append_assoc (written_to a) x y,
+      q.1 ∙ p.1,
+      λ empty. q.2 (second-empty x y empty) ∙ p.2 (first-empty x y empty),
+    ) };
+
+    ghost adds_count = { λ a b piece h. le_refl 0 };
+
+    ghost refuses_count = { λ a b piece e h. le_refl 0 };
+
+    ghost refuses_why = { λ a b piece e h. inr (inr (inl h.0)) };
+
+    ghost adds_nothing = { λ a b h. h.2 refl };
+
+    ghost adds_room = { λ a b piece h. record { within = tt; left = refl } };
+}
