@@ -85,6 +85,18 @@ impl Writer for RoomWriter {
         }
     }
 
+    /// Writes the byte. It is written out, since the provided one stays a call.
+    #[inline(always)]
+    fn write_ahead(&mut self, byte: u8, _all: usize) -> Result<(), EncodeError> {
+        self.write(&[byte])
+    }
+
+    /// Writes the bytes. It is written out, since the provided one stays a call.
+    #[inline(always)]
+    fn write_behind(&mut self, bytes: &[u8]) -> Result<(), EncodeError> {
+        self.write(bytes)
+    }
+
     ghost adds_none = { λ w. (sym (append-nil (written_to w)), refl, λ empty. refl) };
 
     ghost adds_join = { λ a b c x y p q. (
