@@ -1,22 +1,13 @@
 -- A value whose words are all empty is refused no room.
-use Rattle.std.specs.Prelude.{◌≡◌, ◌+◌, ◌<◌, ◌≤◌, ◌∷◌, ◌++◌, ℕ, List, [], length, refl, true, false}
+use Rattle.std.specs.Prelude.{◌≡◌, ◌<◌, ◌∷◌, ◌++◌, ℕ, List, [], length, refl, true, false}
 use Rattle.std.proofs.Common.{◌∙◌, ap, arith, length-append}
 use Rattle.bincode_base.specs.declared.error.EncodeError.{EncodeError}
-use Rattle.bincode_base.specs.declared.error.EncodeError.TheVariants.{UnexpectedEnd}
 use Rattle.bincode_io.specs.declared.room_counter.RoomCounter.{RoomCounter}
 use Rattle.bincode_io.specs.declared.room_writer.RoomWriter.{RoomWriter}
-use Rattle.bincode_io.specs.Rooms.{written_to, room_of, refused_by}
+use Rattle.bincode_io.specs.Rooms.{refused_by, RoomAdds, RoomRefuses}
 use Rattle.bincode_format.specs.Allowed.{OneLength}
-use Rattle.bincode_format.specs.Encoding.{Adds, Refuses, Ready, Writes, Begins, Halts, by_writer, by_name}
+use Rattle.bincode_format.specs.Encoding.{Ready, Writes, Begins, Halts, by_writer, by_name}
 use Rattle.bincode.proofs.Counted.{Counted}
-
--- what a room writer adds, and why it refuses a piece
-abbrev pub Put : RoomWriter → List ℕ → RoomWriter → Type 0
-Put a piece b = (written_to b ≡ written_to a ++ piece) × (refused_by b ≡ refused_by a) × (piece ≡ [] → b ≡ a)
-
-abbrev pub Full : RoomWriter → List ℕ → EncodeError → RoomWriter → Type 0
-Full a piece e b =
-    (e ≡ UnexpectedEnd) × (room_of a < length (written_to a) + length piece) × (written_to b ≡ written_to a) × (0 < length piece) × (refused_by b ≡ true)
 
 module _ (A : List ℕ → Type 0) (one : OneLength A) (empty : A []) where
   -- no piece with a byte in it begins a word
@@ -29,7 +20,7 @@ module _ (A : List ℕ → Type 0) (one : OneLength A) (empty : A []) where
       omega arith
 
   -- so a room writer refuses nothing
-  pub room-empty : (N : EncodeError → Type 0) (before after : RoomWriter) (e : EncodeError) → Halts Put Full A N before after e →
+  pub room-empty : (N : EncodeError → Type 0) (before after : RoomWriter) (e : EncodeError) → Halts RoomAdds RoomRefuses A N before after e →
       refused_by before ≡ false → refused_by after ≡ true → ⊥
   room-empty N before after e (by_writer front piece middle h r b) start full = none-begins front piece b r.3
   room-empty N before after e (by_name front h n b) start full = absurd (cc)

@@ -2,7 +2,7 @@
 use Rattle.std.specs.Prelude.{◌≡◌, ℕ, ◌+◌, ◌-◌, ◌<◌, ◌≤◌, ◌⊎◌, List, [], ◌++◌, length, take, drop, Option, Some, None, IsSome, IfSome}
 use Rattle.std.proofs.Common.{◌∙◌, ap, sym, subst, arith, add-zero, Bor, length-append, length-drop}
 use Rattle.std.specs.Borrow.{MutBor}
-use Rattle.std.proofs.Math.Bridge.{le_prop}
+use Rattle.std.proofs.Math.Nat.{ℕ_set}
 use Rattle.std.specs.Option.{MatchOption}
 use Rattle.std.proofs.lemmas.List.{drop-drop, length-take-le}
 use borrow.Rule.Slice.PartMut.{put_mid}
@@ -33,18 +33,23 @@ put-length n piece s within =
     let whole = length-append (take n s) (piece ++ drop (n + length piece) s) in
     omega arith
 
-abbrev writer : (t : MutBor (List ℕ)) (n : ℕ) → n ≤ length t.now → SliceWriter
-writer t n k = record { slice = t; written = n; within = k }
+abbrev writer : (t : MutBor (List ℕ)) (n l : ℕ) → n + l ≡ length t.now → SliceWriter
+writer t n l k = record { slice = t; written = n; left = l; within = k }
 
-same-writer : (s t : MutBor (List ℕ)) (m n : ℕ) (h : m ≤ length s.now) (k : n ≤ length t.now) → s ≡ t → m ≡ n → writer s m h ≡ writer t n k
-same-writer s t m n h k p q =
-    subst (λ (u : MutBor (List ℕ)). (j : n ≤ length u.now) → writer s m h ≡ writer u n j) p
-    (subst (λ (l : ℕ). (j : l ≤ length s.now) → writer s m h ≡ writer s l j) q (λ j. ap (writer s m) (le_prop h j))) k
+same-writer : (s t : MutBor (List ℕ)) (m n i j : ℕ) (h : m + i ≡ length s.now) (k : n + j ≡ length t.now) →
+    s ≡ t → m ≡ n → i ≡ j → writer s m i h ≡ writer t n j k
+same-writer s t m n i j h k p q r =
+    subst (λ (u : MutBor (List ℕ)). (g : n + j ≡ length u.now) → writer s m i h ≡ writer u n j g) p
+    (subst (λ (a : ℕ). (g : a + j ≡ length s.now) → writer s m i h ≡ writer s a j g) q
+    (subst (λ (b : ℕ). (g : m + b ≡ length s.now) → writer s m i h ≡ writer s m b g) r
+    (λ g. ap (writer s m i) (ℕ_set _ _ h g)))) k
 
 -- nothing that is put leaves the writer as it was
-pub unwritten : (w : SliceWriter) (x piece : List ℕ) (n : ℕ) (k : n ≤ length x) → x ≡ put w.written piece w.slice.now →
-    n ≡ w.written + length piece → piece ≡ [] → writer (record w.slice { now = x }) n k ≡ w
-unwritten w x piece n k put_is count empty =
-    same-writer (record w.slice { now = x }) w.slice n w.written k w.within
-    (ap (λ (l : List ℕ). let t : MutBor (List ℕ) = record w.slice { now = l } in t) (put_is ∙ ap (λ l. put w.written l w.slice.now) empty ∙ sym (put-none w.written w.slice.now)))
-    (count ∙ ap (λ (l : List ℕ). w.written + length l) empty ∙ add-zero w.written)
+pub unwritten : (w : SliceWriter) (x piece : List ℕ) (n l : ℕ) (k : n + l ≡ length x) → x ≡ put w.written piece w.slice.now →
+    n ≡ w.written + length piece → l ≡ w.left - length piece → piece ≡ [] → writer (record w.slice { now = x }) n l k ≡ w
+unwritten w x piece n l k put_is count rest empty =
+    let all : w.left - 0 ≡ w.left = omega arith in
+    same-writer (record w.slice { now = x }) w.slice n w.written l w.left k w.within
+    (ap (λ (t : List ℕ). let u : MutBor (List ℕ) = record w.slice { now = t } in u) (put_is ∙ ap (λ t. put w.written t w.slice.now) empty ∙ sym (put-none w.written w.slice.now)))
+    (count ∙ ap (λ (t : List ℕ). w.written + length t) empty ∙ add-zero w.written)
+    (rest ∙ ap (λ (t : List ℕ). w.left - length t) empty ∙ all)

@@ -12,6 +12,10 @@ pub second-empty : (x y : List ℕ) → x ++ y ≡ [] → y ≡ []
 second-empty [] y e = e
 second-empty (b ∷ x) y e = absurd (cc)
 
+-- a front is no longer than the whole
+pub front-within : (front rest whole : ℕ) → front + rest ≡ whole → front ≤ whole
+front-within front rest whole e = omega arith
+
 -- the room of a slice, whose length stays while its count goes up
 pub room-taken : (size at size' at' : ℕ) (piece : List ℕ) → at' ≡ at + length piece → size' ≡ size → at' ≤ size' →
     TakesRoom (Some (size - at)) piece (Some (size' - at'))

@@ -1,5 +1,7 @@
--- What a room writer holds.
-use Rattle.std.specs.Prelude.{ℕ, Bool, List}
+-- What a room writer holds, and what its writes do to it.
+use Rattle.std.specs.Prelude.{◌≡◌, ◌+◌, ◌<◌, ◌++◌, ℕ, Bool, true, List, [], length}
+use Rattle.bincode_base.specs.declared.error.EncodeError.{EncodeError}
+use Rattle.bincode_base.specs.declared.error.EncodeError.TheVariants.{UnexpectedEnd}
 use Rattle.bincode_io.specs.Vectors.{held_by, capacity_of}
 use Rattle.bincode_io.specs.declared.room_writer.RoomWriter.{RoomWriter}
 
@@ -14,3 +16,12 @@ room_of w = capacity_of w.held
 -- whether it refused a piece
 abbrev pub refused_by : RoomWriter → Bool
 refused_by w = w.refused
+
+-- a piece stands behind what was written
+abbrev pub RoomAdds : RoomWriter → List ℕ → RoomWriter → Type 0
+RoomAdds a piece b = (written_to b ≡ written_to a ++ piece) × (refused_by b ≡ refused_by a) × (piece ≡ [] → b ≡ a)
+
+-- a piece is longer than the room behind what was written, which stays
+abbrev pub RoomRefuses : RoomWriter → List ℕ → EncodeError → RoomWriter → Type 0
+RoomRefuses a piece e b =
+    (e ≡ UnexpectedEnd) × (room_of a < length (written_to a) + length piece) × (written_to b ≡ written_to a) × (0 < length piece) × (refused_by b ≡ true)

@@ -1,6 +1,6 @@
 //! A writer into room that is there.
-ghost use Rattle.std.specs.Prelude.{◌≡◌, ◌+◌, ◌^◌, ◌<◌, ◌++◌, [], length};
-ghost use Rattle.std.specs.Prelude.{IsOk, IfOk, IfErr, None, true, false};
+ghost use Rattle.std.specs.Prelude.{◌≡◌, ◌^◌, ◌<◌, ◌++◌, []};
+ghost use Rattle.std.specs.Prelude.{IsOk, IfOk, IfErr, None, false};
 ghost use Rattle.std.proofs.Common.{◌∙◌, ap, sym, inl, inr, le_refl, append_assoc, refl};
 ghost use Rattle.std.proofs.lemmas.List.{append-nil};
 ghost use Rattle.bincode_base.specs.declared.error.EncodeError.TheVariants.{UnexpectedEnd, Memory};
@@ -56,13 +56,11 @@ impl RoomWriter {
 }
 
 impl Writer for RoomWriter {
-    ghost use Rattle.bincode_io.specs.Rooms.{written_to, room_of, refused_by};
+    ghost use Rattle.bincode_io.specs.Rooms.{written_to, RoomAdds, RoomRefuses};
 
-    ghost adds = { λ a piece b. (written_to b ≡ written_to a ++ piece) × (refused_by b ≡ refused_by a)
-        × (piece ≡ [] → b ≡ a) };
+    ghost adds = { RoomAdds };
 
-    ghost refuses = { λ a piece e b. (e ≡ UnexpectedEnd) × (room_of a < length (written_to a) + length piece)
-        × (written_to b ≡ written_to a) × (0 < length piece) × (refused_by b ≡ true) };
+    ghost refuses = { RoomRefuses };
 
     ghost room = { λ _. None };
 

@@ -5,7 +5,7 @@ ghost use Rattle.std.specs.Borrow.{GName};
 ghost use Rattle.std.proofs.Common.{rules, sym, ◌∙◌, ap, arith, le_refl, refl};
 ghost use Rattle.std.proofs.lemmas.Grind.{common_steps};
 ghost use Rattle.bincode_format.specs.Device.{TakesPiece, TooLong, TakesRoom, WriterFails};
-ghost use Rattle.bincode_io.specs.RoomLaws.{room-taken, first-empty, second-empty};
+ghost use Rattle.bincode_io.specs.RoomLaws.{room-taken, front-within, first-empty, second-empty};
 ghost use Rattle.bincode_format.specs.Put.{put};
 ghost use Rattle.bincode_laws.specs.PutLaws.{put-none, put-join};
 ghost use Rattle.bincode_base.specs.declared.error.EncodeError.{EncodeError};
@@ -84,11 +84,13 @@ pub trait Writer: Drop {
     ghost adds_room: { (a b : Self) (piece : List ℕ) → adds a piece b → TakesRoom (room a) piece (room b) };
 }
 
-/// A writer into the front of a slice.
+/// A writer into the front of a slice. It holds how many bytes are left beside how many were written, so that no write
+/// has to reckon one from the other.
 pub struct SliceWriter<'s> {
     slice: &'s mut [u8],
     written: usize,
-    ghost within: { written ≤ length slice.now },
+    left: usize,
+    ghost within: { written + left ≡ length slice.now },
 }
 
 impl Drop for SliceWriter<'_> {
@@ -100,6 +102,7 @@ impl Drop for SliceWriter<'_> {
         let SliceWriter {
             slice: _,
             written: _,
+            left: _,
         } = self;
     }
 }
@@ -113,9 +116,11 @@ impl<'s> SliceWriter<'s> {
         ensures bytes { bytes_of result ≡ bytes.old }
         ensures start { count_of result ≡ 0 }
     {
+        let left = bytes.len();
         SliceWriter {
             slice: bytes,
             written: 0,
+            left,
         }
     }
 
@@ -146,13 +151,13 @@ impl Writer for SliceWriter<'_> {
     ghost place = { λ w. loan_of w ∷ [] };
 
     fn write(&mut self, bytes: &[u8]) -> Result<(), EncodeError> {
-        let left = self.slice.len() - self.written;
-        if left < bytes.len() {
+        if self.left < bytes.len() {
             return Err(EncodeError::UnexpectedEnd);
         }
         let end = self.written + bytes.len();
         copy_piece(&mut self.slice[self.written..end], bytes);
         self.written = end;
+        self.left -= bytes.len();
         Ok(())
     }
 
@@ -161,7 +166,7 @@ impl Writer for SliceWriter<'_> {
     ghost adds_join = { λ a b c x y p q. (
       Prim.grind (arith, common_steps),
       q.1 ∙ ap (put b.written y) p.1 ∙ ap (λ k. put k y (put a.written x a.slice.now)) p.0
-          ∙ put-join a.written x y a.slice.now a.within,
+          ∙ put-join a.written x y a.slice.now (front-within _ _ _ a.within),
       q.2 ∙ p.2,
       λ empty. q.3 (second-empty x y empty) ∙ p.3 (first-empty x y empty),
     ) };
@@ -175,7 +180,7 @@ impl Writer for SliceWriter<'_> {
     ghost adds_nothing = { λ a b h. h.3 refl };
 
     ghost adds_room = { λ a b piece h. room-taken (length (bytes_of a)) (count_of a) (length (bytes_of b)) (count_of b)
-        piece h.0 h.2 b.within };
+        piece h.0 h.2 (front-within _ _ _ b.within) };
 }
 
 /// Copies a piece over as many bytes: a short one by its first and its last bytes, which may be the same ones. The
@@ -188,7 +193,7 @@ fn copy_piece(target: &mut [u8], piece: &[u8])
     if piece.len() < 8 {
         copy_few(target, piece);
     } else if piece.len() <= 16 {
-        copy_ends::<8>(target, piece);
+        copy_ends::<8, 8>(target, piece);
     } else {
         copy_long(target, piece);
     }
@@ -203,12 +208,12 @@ fn copy_few(target: &mut [u8], piece: &[u8])
 {
     if piece.len() < 2 {
         if piece.len() == 1 {
-            copy_ends::<1>(target, piece);
+            copy_ends::<1, 1>(target, piece);
         }
     } else if piece.len() < 4 {
-        copy_ends::<2>(target, piece);
+        copy_ends::<1, 2>(target, piece);
     } else {
-        copy_ends::<4>(target, piece);
+        copy_ends::<4, 4>(target, piece);
     }
 }
 
@@ -220,29 +225,31 @@ fn copy_long(target: &mut [u8], piece: &[u8])
     ensures { target.new ≡ piece.now }
 {
     if piece.len() <= 32 {
-        copy_ends::<16>(target, piece);
+        copy_ends::<16, 16>(target, piece);
     } else {
         target.copy_from_slice(piece);
     }
 }
 
-/// The same for a piece of `N` to twice `N` bytes.
+/// The same by the first `F` and the last `B` bytes of a piece that these cover.
 #[inline(always)]
-fn copy_ends<const N: usize>(target: &mut [u8], piece: &[u8])
+fn copy_ends<const F: usize, const B: usize>(target: &mut [u8], piece: &[u8])
     requires same { length target.old ≡ length piece.now }
-    requires enough { (N ≤ length piece.now) × (length piece.now ≤ N + N) × (N < 2 ^ 63) }
+    requires enough { (F ≤ length piece.now) × (B ≤ length piece.now) }
+    requires covered { length piece.now ≤ F + B }
+    requires small { (F < 2 ^ 63) × (B < 2 ^ 63) }
     ensures { target.new ≡ piece.now }
 {
-    let Some(front) = piece.first_chunk::<N>() else {
+    let Some(front) = piece.first_chunk::<F>() else {
         return;
     };
-    let Some(back) = piece.last_chunk::<N>() else {
+    let Some(back) = piece.last_chunk::<B>() else {
         return;
     };
-    if let Some(place) = target.first_chunk_mut::<N>() {
+    if let Some(place) = target.first_chunk_mut::<F>() {
         *place = *front;
     }
-    if let Some(place) = target.last_chunk_mut::<N>() {
+    if let Some(place) = target.last_chunk_mut::<B>() {
         *place = *back;
     }
 }

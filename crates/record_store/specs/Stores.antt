@@ -1,5 +1,5 @@
 -- What a store holds: the words of values, one behind the other.
-use Rattle.std.specs.Prelude.{◌≡◌, ◌+◌, ◌^◌, ◌<◌, ◌++◌, ℕ, List, [], ◌∷◌, length, Option, Bool, true}
+use Rattle.std.specs.Prelude.{◌≡◌, ◌+◌, ◌++◌, ℕ, List, [], ◌∷◌, length, Option, Bool, true}
 use Rattle.std.specs.Io.KnownBytes.{Appends}
 use Rattle.bincode_base.specs.Setting.{Setting}
 use Rattle.bincode_base.specs.declared.error.DecodeError.{DecodeError}

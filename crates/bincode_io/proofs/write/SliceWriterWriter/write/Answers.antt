@@ -1,9 +1,14 @@
-use Rattle.std.proofs.Common.{◌≤◌, ◌+◌, ◌∙◌, ap, length, refl, arith, le_refl}
+use Rattle.std.proofs.Common.{◌≤◌, ◌<◌, ◌+◌, ◌-◌, ◌∙◌, ap, length, refl, arith, le_refl}
 use Rattle.bincode_io.proofs.Slices.{copied, put-length, unwritten}
 use Rattle.bincode_io.proofs.write.SliceWriterWriter.write.Goals as goal
 
-pub returns-then-left-bytes : goal.returns-then-left-bytes
-returns-then-left-bytes c = record { ok = tt; err = (refl, c.if-left-bytes.true, refl); counted = omega arith; same_place = refl }
+pub returns-then-self-bytes : goal.returns-then-self-bytes
+returns-then-self-bytes c =
+    let self = c.args.self.now in
+    let within = self.within in
+    let wanted = c.if-self-bytes.true in
+    let short : length self.slice.now - self.written < length c.args.bytes.now = omega (arith, within, wanted) in
+    record { ok = tt; err = (refl, short, refl); counted = le_refl 0; same_place = refl }
 
 pub returns : goal.returns
 returns c =
@@ -13,7 +18,7 @@ returns c =
     let counted : 0 ≤ 0 = le_refl 0 in
     let same = copied self.written _ self.slice.now c.copy_piece.new.target piece c.copy_piece.ensures (omega arith) in
     record {
-      ok = (refl, same, ap length same ∙ put-length self.written piece self.slice.now within, unwritten self _ piece _ _ same refl);
+      ok = (refl, same, ap length same ∙ put-length self.written piece self.slice.now within, unwritten self _ piece _ _ _ same refl refl);
       err = tt;
       counted = counted;
       same_place = refl;
