@@ -77,22 +77,34 @@ impl Writer for RoomWriter {
             return Err(EncodeError::UnexpectedEnd);
         }
         if matches!(bytes.len(), 1 | 2 | 4 | 8) {
-            self.held.write_behind(bytes)
+            self.held.push_each(bytes);
+            Ok(())
         } else {
             self.held.write(bytes)
         }
     }
 
-    /// Writes the byte. It is written out, since the provided one stays a call.
+    /// Pushes the byte. It is written out, and shorter than `write`: a number is written by six such calls, and
+    /// a function that would grow very large by them is not inlined, whatever it asks for.
     #[inline(always)]
     fn write_ahead(&mut self, byte: u8, _all: usize) -> Result<(), EncodeError> {
-        self.write(&[byte])
+        if self.held.room_left() == 0 {
+            self.refused = true;
+            return Err(EncodeError::UnexpectedEnd);
+        }
+        self.held.push(byte);
+        Ok(())
     }
 
-    /// Writes the bytes. It is written out, since the provided one stays a call.
+    /// Pushes the bytes one by one.
     #[inline(always)]
     fn write_behind(&mut self, bytes: &[u8]) -> Result<(), EncodeError> {
-        self.write(bytes)
+        if bytes.len() > self.held.room_left() {
+            self.refused = true;
+            return Err(EncodeError::UnexpectedEnd);
+        }
+        self.held.push_each(bytes);
+        Ok(())
     }
 
     ghost adds_none = { λ w. (sym (append-nil (written_to w)), refl, λ empty. refl) };

@@ -1,5 +1,5 @@
 //! A writer into a vector.
-ghost use Rattle.std.specs.Prelude.{◌≡◌, ◌+◌, ◌-◌, ◌<◌, ◌≤◌, ◌⊎◌, ◌++◌, []};
+ghost use Rattle.std.specs.Prelude.{◌≡◌, ◌+◌, ◌-◌, ◌<◌, ◌≤◌, ◌⊎◌, ◌++◌, ◌∷◌, []};
 ghost use Rattle.std.specs.Prelude.{length, vec_capacity};
 ghost use Rattle.std.specs.Prelude.{IsOk, IfOk, IfErr, None};
 ghost use Rattle.std.proofs.Common.{◌∙◌, ap, sym, inl, inr, le_refl, le_trans, append_assoc, refl};
@@ -68,6 +68,30 @@ impl VecWriter {
         ensures { self.new.bytes ≡ bytes }
     {
         forget(replace(&mut self.bytes, bytes));
+    }
+
+    /// Adds a byte, for which there is room.
+    #[inline(always)]
+    pub(crate) fn push(&mut self, byte: u8)
+        requires { length (held_by self.old) < capacity_of self.old }
+        ensures bytes { held_by self.new ≡ held_by self.old ++ byte ∷ [] }
+    {
+        self.bytes.push_reserved(byte);
+    }
+
+    /// Adds a few bytes, for which there is room.
+    #[inline(always)]
+    pub(crate) fn push_each(&mut self, bytes: &[u8])
+        requires { length (held_by self.old) + length bytes.now ≤ capacity_of self.old }
+        ensures bytes { held_by self.new ≡ held_by self.old ++ bytes.now }
+        ensures capacity { capacity_of self.new ≡ capacity_of self.old }
+        ensures same { bytes.now ≡ [] → self.new ≡ self.old }
+    {
+        if bytes.is_empty() {
+            return;
+        }
+        let held = self.take_out();
+        self.put_back(with_each(held, bytes));
     }
 
     /// Makes room for so many more bytes, unless memory is refused. The vector is handed over and back by value, for
@@ -169,8 +193,7 @@ impl Writer for VecWriter {
         if self.room_left() < bytes.len() {
             return Err(EncodeError::Memory);
         }
-        let held = self.take_out();
-        self.put_back(with_each(held, bytes));
+        self.push_each(bytes);
         Ok(())
     }
 

@@ -25,7 +25,7 @@ pub fn varint_encode_u16<W: Writer>(
         return write_at_once(writer, endian, u64::from(val));
     }
     if val <= u16::from(SINGLE_BYTE_MAX) {
-        writer.write(&[val as u8])
+        writer.write_ahead(val as u8, 1)
     } else {
         write_tagged(writer, U16_BYTE, &bytes_of_u16(endian, val))
     }
@@ -45,7 +45,7 @@ pub fn varint_encode_u32<W: Writer>(
         return write_at_once(writer, endian, u64::from(val));
     }
     if val <= u32::from(SINGLE_BYTE_MAX) {
-        writer.write(&[val as u8])
+        writer.write_ahead(val as u8, 1)
     } else if val <= u32::from(u16::MAX) {
         write_tagged(writer, U16_BYTE, &bytes_of_u16(endian, val as u16))
     } else {
@@ -67,7 +67,7 @@ pub fn varint_encode_u64<W: Writer>(
         return write_at_once(writer, endian, val);
     }
     if val <= u64::from(SINGLE_BYTE_MAX) {
-        writer.write(&[val as u8])
+        writer.write_ahead(val as u8, 1)
     } else if val <= u64::from(u16::MAX) {
         write_tagged(writer, U16_BYTE, &bytes_of_u16(endian, val as u16))
     } else if val <= u64::from(u32::MAX) {
@@ -88,7 +88,7 @@ pub fn varint_encode_u128<W: Writer>(
         result writer.old writer.new }
 {
     if val <= u128::from(SINGLE_BYTE_MAX) {
-        writer.write(&[val as u8])
+        writer.write_ahead(val as u8, 1)
     } else if val <= u128::from(u16::MAX) {
         write_tagged(writer, U16_BYTE, &bytes_of_u16(endian, val as u16))
     } else if val <= u128::from(u32::MAX) {
