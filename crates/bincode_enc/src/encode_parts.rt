@@ -13,6 +13,10 @@ use bincode_wire::wire::Wire;
 /// of others. An enum with type parameters has to go this way: `Encode::as_bytes` of the enum itself would ask that the
 /// sum of its variants takes less than 2^63 bytes, of which nothing is known for a parameter.
 pub trait EncodeParts: Wire + Parted + Drop {
+    /// How many bytes a value takes at most, as `Encode::MOST_FIXED` tells. A type with parameters whose size in memory
+    /// is not known has to say it itself.
+    const MOST_OF_PARTS: Option<usize> = None;
+
     /// Says that the value in hand is valid, by its parts.
     fn tell_valid_parts(&self)
         ensures { Self.its.valid self.now };
@@ -26,6 +30,8 @@ pub trait EncodeParts: Wire + Parted + Drop {
 }
 
 impl<T: EncodeParts> Encode for T {
+    const MOST_FIXED: Option<usize> = T::MOST_OF_PARTS;
+
     #[inline]
     fn tell_valid(&self) {
         self.tell_valid_parts();

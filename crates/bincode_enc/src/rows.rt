@@ -6,9 +6,32 @@ use crate::encode::Encode;
 use crate::runs::ByEncode;
 use bincode_base::error::EncodeError;
 use bincode_encoder::encoder::Encoder;
+use bincode_encoder::room::most_of_both;
 use bincode_encoder::runs::WriteValues;
 use bincode_wire::rows::{LongRow, Rest, Row};
 use bincode_wire::wire::Wire;
+
+/// Parts in a row, of which it may be known how many bytes they take at most.
+pub trait MostOfRow {
+    /// How many bytes they take at most where integers are fixed, as `Encode::MOST_FIXED` tells.
+    const MOST: Option<usize>;
+}
+
+impl MostOfRow for () {
+    const MOST: Option<usize> = Some(0);
+}
+
+impl<A: Encode, Others: MostOfRow> MostOfRow for Row<A, Others> {
+    const MOST: Option<usize> = most_of_both(A::MOST_FIXED, Others::MOST);
+}
+
+impl<A: Encode, B: Encode, C: Encode, D: Encode, Others: MostOfRow> MostOfRow
+    for LongRow<A, B, C, D, Others> {
+    const MOST: Option<usize> = most_of_both(
+        most_of_both(A::MOST_FIXED, B::MOST_FIXED),
+        most_of_both(C::MOST_FIXED, <Row<D, Others> as MostOfRow>::MOST),
+    );
+}
 
 /// Parts that were lent in a row. A row is no `Encode` itself: the proof for a tuple would then show of the reference
 /// to each part all that `Encode` stands on, which takes long.

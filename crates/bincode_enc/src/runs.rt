@@ -20,6 +20,8 @@ pub(crate) struct ByEncode<T>(PhantomData<T>);
 impl<T: Encode> WriteValues for ByEncode<T> {
     type Value = T;
 
+    const MOST_FIXED: Option<usize> = T::MOST_FIXED;
+
     #[inline(always)]
     fn tell_valid(value: &T) {
         value.tell_valid();

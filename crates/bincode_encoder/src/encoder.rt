@@ -1,8 +1,8 @@
 //! Encoders: a writer with a configuration.
-ghost use Rattle.std.specs.Prelude.{◌≡◌, List, ◌∷◌, refl};
+ghost use Rattle.std.specs.Prelude.{◌≡◌, ℕ, List, ◌∷◌, length, true, refl};
 ghost use Rattle.std.proofs.Common.{ap};
 ghost use Rattle.std.specs.Borrow.{GName, Lends, sem};
-ghost use Rattle.bincode_format.specs.Device.{TakesPiece};
+ghost use Rattle.bincode_format.specs.Device.{TakesPiece, WithinRoom};
 
 use crate::answers::same_answer;
 use bincode_base::config::Config;
@@ -38,6 +38,11 @@ pub trait Encoder: Sealed {
 
     /// Lends the configuration.
     fn config(&self) -> &Self::C;
+
+    /// Whether the writer surely has room for so many bytes, as `Writer::has_room_for` tells.
+    fn has_room_for(&self, count: usize) -> bool
+        ensures { result ≡ true → (piece : List ℕ) → length piece ≡ count
+            → WithinRoom (Self.W.room (writer_of self.now)) piece };
 
     ghost put_get: { (e : Self) (w : Self.W) → writer_of (put_writer e w) ≡ w };
 
@@ -98,6 +103,11 @@ impl<W: Writer, C: Config> Encoder for EncoderImpl<W, C> {
         &self.config
     }
 
+    #[inline(always)]
+    fn has_room_for(&self, count: usize) -> bool {
+        self.writer.has_room_for(count)
+    }
+
     ghost put_get = { λ e w. refl };
 
     ghost put_place = { λ e w h. h };
@@ -152,6 +162,11 @@ impl<W: Writer, C: Config> Encoder for LentEncoder<'_, W, C> {
         self.config
     }
 
+    #[inline(always)]
+    fn has_room_for(&self, count: usize) -> bool {
+        self.writer.has_room_for(count)
+    }
+
     ghost put_get = { λ e w. refl };
 
     ghost put_place = { λ e w h. ap (λ z. e.writer.ghost_name ∷ z) h };
@@ -176,6 +191,11 @@ impl<E: Encoder> Encoder for &mut E {
 
     fn config(&self) -> &E::C {
         (**self).config()
+    }
+
+    #[inline(always)]
+    fn has_room_for(&self, count: usize) -> bool {
+        (**self).has_room_for(count)
     }
 
     ghost put_get = { λ e w. E.put_get e.now w };

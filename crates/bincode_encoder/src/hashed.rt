@@ -12,7 +12,7 @@ use crate::answers::same_answer;
 use crate::encoder::Encoder;
 use crate::lists::encode_length;
 use crate::ordered::encode_entry;
-use crate::runs::WriteValues;
+use crate::runs::{WriteValues, write_whole};
 use bincode_base::error::EncodeError;
 use bincode_wire::wire::Wire;
 use std::collections::{HashMap, HashSet};
@@ -78,7 +78,7 @@ where
         V.Value.its.names result encoder.old encoder.new }
 {
     for key in set.iter() {
-        V::write_value(key, encoder)?;
+        write_whole::<V, E>(key, encoder)?;
     }
     Ok(())
 }

@@ -12,6 +12,7 @@ pub mod integers;
 pub mod lists;
 pub mod octets;
 pub mod ordered;
+pub mod room;
 pub mod runs;
 pub mod texts;
 pub mod truth;

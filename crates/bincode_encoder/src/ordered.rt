@@ -12,7 +12,8 @@ ghost use Rattle.bincode_format.specs.Encoding.{Encodes};
 use crate::answers::same_answer;
 use crate::encoder::Encoder;
 use crate::lists::encode_length;
-use crate::runs::WriteValues;
+use crate::room::{has_room_at_once, most_of_both};
+use crate::runs::{WriteValues, write_whole};
 use bincode_base::error::EncodeError;
 use bincode_wire::wire::Wire;
 use std::collections::{BTreeMap, BTreeSet};
@@ -74,7 +75,7 @@ where
         V.Value.its.names result encoder.old encoder.new }
 {
     for key in set.iter() {
-        V::write_value(key, encoder)?;
+        write_whole::<V, E>(key, encoder)?;
     }
     Ok(())
 }
@@ -124,6 +125,25 @@ where
 /// Writes a key and its value, as a pair. Fails where one of the two does.
 #[inline(always)]
 pub fn encode_entry<K: WriteValues, V: WriteValues, E: Encoder>(
+    key: &K::Value,
+    value: &V::Value,
+    encoder: &mut E,
+) -> Result<(), EncodeError>
+    ensures { Encodes E.W.adds E.W.refuses E.writer_of E.place
+        (⟦<(K::Value, V::Value) as Wire>⟧.its.writable E.C.setting (key.now, value.now))
+        (AllowedWord (⟦<(K::Value, V::Value) as Wire>⟧.its.means (key.now, value.now))
+        (⟦<(K::Value, V::Value) as Wire>⟧.its.format E.C.setting))
+        ⟦<(K::Value, V::Value) as Wire>⟧.its.names result encoder.old encoder.new }
+{
+    if has_room_at_once(encoder, most_of_both(K::MOST_FIXED, V::MOST_FIXED)) {
+        return encode_pair::<K, V, E>(key, value, encoder);
+    }
+    encode_pair::<K, V, E>(key, value, encoder)
+}
+
+/// The same without a test of the room for both.
+#[inline(always)]
+fn encode_pair<K: WriteValues, V: WriteValues, E: Encoder>(
     key: &K::Value,
     value: &V::Value,
     encoder: &mut E,

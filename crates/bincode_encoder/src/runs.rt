@@ -8,6 +8,7 @@ ghost use Rattle.bincode_format.specs.Allowed.{AllowedWord};
 ghost use Rattle.bincode_format.specs.Encoding.{Ready, Encodes};
 
 use crate::encoder::{Encoder, write_from};
+use crate::room::has_room_at_once;
 use bincode_base::error::EncodeError;
 use bincode_wire::wire::Wire;
 
@@ -15,6 +16,9 @@ use bincode_wire::wire::Wire;
 pub trait WriteValues {
     /// What is written.
     type Value: Wire;
+
+    /// How many bytes a value takes at most where integers are fixed, as `Encode::MOST_FIXED` tells.
+    const MOST_FIXED: Option<usize>;
 
     /// Says of a value in hand that it is valid.
     fn tell_valid(value: &Self::Value)
@@ -73,7 +77,24 @@ pub(crate) fn encode_each<V: WriteValues, E: Encoder>(
         V.Value.its.names result encoder.old encoder.new }
 {
     for item in items {
-        V::write_value(item, encoder)?;
+        write_whole::<V, E>(item, encoder)?;
     }
     Ok(())
+}
+
+/// Writes an item of a list or a key of a set, and asks once for the room of all of it, if that is known
+/// (`has_room_at_once`). It does, fails and leaves what `write_value` does.
+#[inline(always)]
+pub(crate) fn write_whole<V: WriteValues, E: Encoder>(
+    item: &V::Value,
+    encoder: &mut E,
+) -> Result<(), EncodeError>
+    ensures { Encodes E.W.adds E.W.refuses E.writer_of E.place (V.Value.its.writable E.C.setting item.now)
+        (AllowedWord (V.Value.its.means item.now) (V.Value.its.format E.C.setting)) V.Value.its.names
+        result encoder.old encoder.new }
+{
+    if has_room_at_once(encoder, V::MOST_FIXED) {
+        return V::write_value(item, encoder);
+    }
+    V::write_value(item, encoder)
 }

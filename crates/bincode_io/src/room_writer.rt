@@ -84,7 +84,7 @@ impl Writer for RoomWriter {
         }
     }
 
-    /// Pushes the byte. It is written out, and shorter than `write`: a number is written by six such calls, and
+    /// Pushes the byte. It is written out, and shorter than `write`: a `u64` is written by seven such calls, and
     /// a function that would grow very large by them is not inlined, whatever it asks for.
     #[inline(always)]
     fn write_ahead(&mut self, byte: u8, _all: usize) -> Result<(), EncodeError> {

@@ -1,6 +1,6 @@
 //! A writer into a vector.
-ghost use Rattle.std.specs.Prelude.{◌≡◌, ◌+◌, ◌-◌, ◌<◌, ◌≤◌, ◌⊎◌, ◌++◌, ◌∷◌, []};
-ghost use Rattle.std.specs.Prelude.{length, vec_capacity};
+ghost use Rattle.std.specs.Prelude.{◌≡◌, ◌+◌, ◌-◌, ◌<◌, ◌≤◌, ◌⊎◌, ◌++◌};
+ghost use Rattle.std.specs.Prelude.{◌∷◌, [], length, vec_capacity};
 ghost use Rattle.std.specs.Prelude.{IsOk, IfOk, IfErr, None};
 ghost use Rattle.std.proofs.Common.{◌∙◌, ap, sym, inl, inr, le_refl, le_trans, append_assoc, refl};
 ghost use Rattle.std.proofs.lemmas.List.{append-nil};

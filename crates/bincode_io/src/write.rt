@@ -1,10 +1,10 @@
 //! Writers.
 ghost use Rattle.std.specs.Prelude.{◌≡◌, ◌+◌, ◌-◌, ◌^◌, ◌<◌, ◌≤◌, ◌⊎◌, ℕ, List, []};
-ghost use Rattle.std.specs.Prelude.{◌∷◌, ◌++◌, length, Option, Some, OnOk, IfErr};
+ghost use Rattle.std.specs.Prelude.{◌∷◌, ◌++◌, length, true, Option, Some, OnOk, IfErr};
 ghost use Rattle.std.specs.Borrow.{GName};
 ghost use Rattle.std.proofs.Common.{rules, sym, ◌∙◌, ap, arith, le_refl, refl};
 ghost use Rattle.std.proofs.lemmas.Grind.{common_steps};
-ghost use Rattle.bincode_format.specs.Device.{TakesPiece, TooLong, TakesRoom, WriterFails};
+ghost use Rattle.bincode_format.specs.Device.{TakesPiece, TooLong, WithinRoom, TakesRoom, WriterFails};
 ghost use Rattle.bincode_io.specs.RoomLaws.{room-taken, front-within, first-empty, second-empty};
 ghost use Rattle.bincode_format.specs.Put.{put};
 ghost use Rattle.bincode_laws.specs.PutLaws.{put-none, put-join};
@@ -58,6 +58,15 @@ pub trait Writer: Drop {
         ensures { TakesPiece adds refuses failures place bytes.now result self.old self.new }
     {
         self.write(bytes)
+    }
+
+    /// Whether it surely has room for so many bytes. It is asked for speed alone, before the pieces of a value whose
+    /// length is known: where it has, the compiler drops the test of each piece. The provided one never knows.
+    #[inline(always)]
+    fn has_room_for(&self, _count: usize) -> bool
+        ensures { result ≡ true → (piece : List ℕ) → length piece ≡ _count → WithinRoom (room self.now) piece }
+    {
+        false
     }
 
     /// A writer that stays as it is has added the empty piece.
@@ -159,6 +168,16 @@ impl Writer for SliceWriter<'_> {
         self.written = end;
         self.left -= bytes.len();
         Ok(())
+    }
+
+    /// Whether so many bytes are left, exactly.
+    #[inline(always)]
+    fn has_room_for(&self, count: usize) -> bool
+        ensures room { result ≡ true → (piece : List ℕ) → length piece ≡ count
+            → WithinRoom (Some (length (bytes_of self.now) - count_of self.now)) piece }
+        ensures exact { count ≤ length (bytes_of self.now) - count_of self.now → result ≡ true }
+    {
+        count <= self.left
     }
 
     ghost adds_none = { λ w. (Prim.search rules, put-none w.written w.slice.now, refl, λ empty. refl) };
@@ -281,6 +300,11 @@ impl<W: Writer> Writer for &mut W {
     #[inline(always)]
     fn write_behind(&mut self, bytes: &[u8]) -> Result<(), EncodeError> {
         (**self).write_behind(bytes)
+    }
+
+    #[inline(always)]
+    fn has_room_for(&self, count: usize) -> bool {
+        (**self).has_room_for(count)
     }
 
     ghost adds_none = { λ w. (W.adds_none w.now, refl) };

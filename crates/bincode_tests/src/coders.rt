@@ -12,11 +12,14 @@ use std::alloc::Global;
 use std::process::Abort;
 use test_helpers::checks::either;
 
-/// A number is written, a run of two, and a number by a reference to the encoder's own.
+/// A number is written, a run of two, and a number by a reference to the encoder's own, which then has room for one
+/// byte of nine.
 fn writes_in_turn<E: Encoder>(rt: &impl Abort, mut encoder: &mut E) {
     assert!(rt; 300u32.encode(encoder).is_ok());
     assert!(rt; encode_run(&[300u16, 7], encoder).is_ok());
     assert!(rt; 7u8.encode(&mut encoder).is_ok());
+    assert!(rt; encoder.has_room_for(1));
+    assert!(rt; !encoder.has_room_for(2));
 }
 
 #[test]

@@ -75,3 +75,24 @@ fn leaves_a_front_of_a_list(rt: HostRuntime) {
     assert!(rt; left_by(numbers) == Some([3, 1]));
     assert!(rt; left_by(Some([1u8, 2, 3])) == Some([9, 9]));
 }
+
+/// What stands in a slice of thirteen 9s, where fixed pairs find too little room there.
+fn left_by_pairs(pairs: Option<Vec<(u16, u8)>>) -> Option<[u8; 13]> {
+    let mut slice = [9u8; 13];
+    let outcome = encode_into_slice(pairs?, &mut slice, config::legacy());
+    match outcome {
+        Err(EncodeError::UnexpectedEnd) => Some(slice),
+        _ => None,
+    }
+}
+
+/// A list asks for the room of each pair, and where it is too small writes the number that has room.
+#[test]
+fn leaves_a_part_of_an_item(rt: HostRuntime) {
+    let alloc = rt.alloc();
+    let pairs = either(
+        Vec::from_array(alloc, [(1u16, 2u8), (3, 4)]),
+        Vec::from_array(alloc, [(1u16, 2u8), (3, 4)]),
+    );
+    assert!(rt; left_by_pairs(pairs) == Some([2, 0, 0, 0, 0, 0, 0, 0, 1, 0, 2, 3, 0]));
+}

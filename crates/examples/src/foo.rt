@@ -81,6 +81,9 @@ impl ConstantCharge for Foo {
 }
 
 impl Encode for Foo {
+    // For speed alone: a list of these asks for the room of each at once where integers are fixed.
+    const MOST_FIXED: Option<usize> = Some(8);
+
     fn tell_valid(&self) {
         (&self.a, &self.b).tell_valid();
     }

@@ -6,6 +6,8 @@ use bincode_encoder::encoder::Encoder;
 use bincode_encoder::runs::tell_each_valid;
 
 impl<T: Encode, const N: usize> Encode for [T; N] {
+    const MOST_FIXED: Option<usize> = None;
+
     fn tell_valid(&self) {
         tell_each_valid::<ByEncode<T>>(self);
     }

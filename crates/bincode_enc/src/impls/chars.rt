@@ -5,6 +5,8 @@ use bincode_encoder::chars::encode_char;
 use bincode_encoder::encoder::Encoder;
 
 impl Encode for char {
+    const MOST_FIXED: Option<usize> = Some(4);
+
     fn tell_valid(&self) {
         let _value = *self;
     }

@@ -4,10 +4,13 @@ use crate::encode_parts::EncodeParts;
 use crate::variants::encode_variant;
 use bincode_base::error::EncodeError;
 use bincode_encoder::encoder::Encoder;
+use bincode_encoder::room::{most_of_both, most_of_either};
 use bincode_encoder::truth::encode_truth;
 use std::ops::Bound;
 
 impl Encode for bool {
+    const MOST_FIXED: Option<usize> = Some(1);
+
     fn tell_valid(&self) {}
 
     #[inline(always)]
@@ -17,6 +20,8 @@ impl Encode for bool {
 }
 
 impl<T: Encode> EncodeParts for Option<T> {
+    const MOST_OF_PARTS: Option<usize> = most_of_both(Some(1), T::MOST_FIXED);
+
     fn tell_valid_parts(&self) {
         if let Some(value) = self {
             value.tell_valid();
@@ -33,6 +38,11 @@ impl<T: Encode> EncodeParts for Option<T> {
 }
 
 impl<T: Encode, U: Encode> EncodeParts for Result<T, U> {
+    const MOST_OF_PARTS: Option<usize> = most_of_both(
+        Some(4),
+        most_of_either(T::MOST_FIXED, U::MOST_FIXED),
+    );
+
     fn tell_valid_parts(&self) {
         match self {
             Ok(value) => value.tell_valid(),
@@ -50,6 +60,8 @@ impl<T: Encode, U: Encode> EncodeParts for Result<T, U> {
 }
 
 impl<T: Encode> EncodeParts for Bound<T> {
+    const MOST_OF_PARTS: Option<usize> = most_of_both(Some(4), T::MOST_FIXED);
+
     fn tell_valid_parts(&self) {
         match self {
             Bound::Unbounded => {}

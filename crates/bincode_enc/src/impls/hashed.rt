@@ -20,6 +20,8 @@ impl<K: Encode + Eq + Hash, S: BuildHasher + Drop> EncodeParts for HashSet<K, S>
 }
 
 impl<K: Encode + Eq + Hash, V: Encode, S: BuildHasher + Drop> EncodeParts for HashMap<K, V, S> {
+    const MOST_OF_PARTS: Option<usize> = None;
+
     fn tell_valid_parts(&self) {
         tell_map_valid::<ByEncode<K>, ByEncode<V>, S>(self);
     }

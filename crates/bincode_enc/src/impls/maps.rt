@@ -19,6 +19,8 @@ impl<K: Encode + Ord> EncodeParts for BTreeSet<K> {
 }
 
 impl<K: Encode + Ord, V: Encode> EncodeParts for BTreeMap<K, V> {
+    const MOST_OF_PARTS: Option<usize> = None;
+
     fn tell_valid_parts(&self) {
         tell_map_valid::<ByEncode<K>, ByEncode<V>>(self);
     }

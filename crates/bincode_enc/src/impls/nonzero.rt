@@ -31,6 +31,8 @@ fn encode_not_zero<T: Integer, E: Encoder>(encoder: &mut E, val: T) -> Result<()
 }
 
 impl EncodeParts for NonZeroU8 {
+    const MOST_OF_PARTS: Option<usize> = Some(1);
+
     fn tell_valid_parts(&self) {
         let _value = self.get();
     }
@@ -42,6 +44,8 @@ impl EncodeParts for NonZeroU8 {
 }
 
 impl EncodeParts for NonZeroU16 {
+    const MOST_OF_PARTS: Option<usize> = Some(2);
+
     fn tell_valid_parts(&self) {
         let _value = self.get();
     }
@@ -53,6 +57,8 @@ impl EncodeParts for NonZeroU16 {
 }
 
 impl EncodeParts for NonZeroU32 {
+    const MOST_OF_PARTS: Option<usize> = Some(4);
+
     fn tell_valid_parts(&self) {
         let _value = self.get();
     }
@@ -64,6 +70,8 @@ impl EncodeParts for NonZeroU32 {
 }
 
 impl EncodeParts for NonZeroU64 {
+    const MOST_OF_PARTS: Option<usize> = Some(8);
+
     fn tell_valid_parts(&self) {
         let _value = self.get();
     }
@@ -75,6 +83,8 @@ impl EncodeParts for NonZeroU64 {
 }
 
 impl EncodeParts for NonZeroU128 {
+    const MOST_OF_PARTS: Option<usize> = Some(16);
+
     fn tell_valid_parts(&self) {
         let _value = self.get();
     }
@@ -86,6 +96,8 @@ impl EncodeParts for NonZeroU128 {
 }
 
 impl EncodeParts for NonZeroUsize {
+    const MOST_OF_PARTS: Option<usize> = Some(8);
+
     fn tell_valid_parts(&self) {
         let _value = self.get();
     }
@@ -97,6 +109,8 @@ impl EncodeParts for NonZeroUsize {
 }
 
 impl EncodeParts for NonZeroI8 {
+    const MOST_OF_PARTS: Option<usize> = Some(1);
+
     fn tell_valid_parts(&self) {
         let _value = self.get();
     }
@@ -108,6 +122,8 @@ impl EncodeParts for NonZeroI8 {
 }
 
 impl EncodeParts for NonZeroI16 {
+    const MOST_OF_PARTS: Option<usize> = Some(2);
+
     fn tell_valid_parts(&self) {
         let _value = self.get();
     }
@@ -119,6 +135,8 @@ impl EncodeParts for NonZeroI16 {
 }
 
 impl EncodeParts for NonZeroI32 {
+    const MOST_OF_PARTS: Option<usize> = Some(4);
+
     fn tell_valid_parts(&self) {
         let _value = self.get();
     }
@@ -130,6 +148,8 @@ impl EncodeParts for NonZeroI32 {
 }
 
 impl EncodeParts for NonZeroI64 {
+    const MOST_OF_PARTS: Option<usize> = Some(8);
+
     fn tell_valid_parts(&self) {
         let _value = self.get();
     }
@@ -141,6 +161,8 @@ impl EncodeParts for NonZeroI64 {
 }
 
 impl EncodeParts for NonZeroI128 {
+    const MOST_OF_PARTS: Option<usize> = Some(16);
+
     fn tell_valid_parts(&self) {
         let _value = self.get();
     }
@@ -152,6 +174,8 @@ impl EncodeParts for NonZeroI128 {
 }
 
 impl EncodeParts for NonZeroIsize {
+    const MOST_OF_PARTS: Option<usize> = Some(8);
+
     fn tell_valid_parts(&self) {
         let _value = self.get();
     }

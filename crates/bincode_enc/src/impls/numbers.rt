@@ -5,6 +5,8 @@ use bincode_encoder::encoder::Encoder;
 use bincode_encoder::integers::{encode_byte, encode_integer, encode_signed_byte, words_of_bytes};
 
 impl Encode for u8 {
+    const MOST_FIXED: Option<usize> = Some(1);
+
     fn tell_valid(&self) {
         let _value = *self;
     }
@@ -21,6 +23,8 @@ impl Encode for u8 {
 }
 
 impl Encode for u16 {
+    const MOST_FIXED: Option<usize> = Some(2);
+
     fn tell_valid(&self) {
         let _value = *self;
     }
@@ -32,6 +36,8 @@ impl Encode for u16 {
 }
 
 impl Encode for u32 {
+    const MOST_FIXED: Option<usize> = Some(4);
+
     fn tell_valid(&self) {
         let _value = *self;
     }
@@ -43,6 +49,8 @@ impl Encode for u32 {
 }
 
 impl Encode for u64 {
+    const MOST_FIXED: Option<usize> = Some(8);
+
     fn tell_valid(&self) {
         let _value = *self;
     }
@@ -54,6 +62,8 @@ impl Encode for u64 {
 }
 
 impl Encode for u128 {
+    const MOST_FIXED: Option<usize> = Some(16);
+
     fn tell_valid(&self) {
         let _value = *self;
     }
@@ -65,6 +75,8 @@ impl Encode for u128 {
 }
 
 impl Encode for usize {
+    const MOST_FIXED: Option<usize> = Some(8);
+
     fn tell_valid(&self) {
         let _value = *self;
     }
@@ -76,6 +88,8 @@ impl Encode for usize {
 }
 
 impl Encode for i8 {
+    const MOST_FIXED: Option<usize> = Some(1);
+
     fn tell_valid(&self) {
         let _value = *self;
     }
@@ -88,6 +102,8 @@ impl Encode for i8 {
 }
 
 impl Encode for i16 {
+    const MOST_FIXED: Option<usize> = Some(2);
+
     fn tell_valid(&self) {
         let _value = *self;
     }
@@ -99,6 +115,8 @@ impl Encode for i16 {
 }
 
 impl Encode for i32 {
+    const MOST_FIXED: Option<usize> = Some(4);
+
     fn tell_valid(&self) {
         let _value = *self;
     }
@@ -110,6 +128,8 @@ impl Encode for i32 {
 }
 
 impl Encode for i64 {
+    const MOST_FIXED: Option<usize> = Some(8);
+
     fn tell_valid(&self) {
         let _value = *self;
     }
@@ -121,6 +141,8 @@ impl Encode for i64 {
 }
 
 impl Encode for i128 {
+    const MOST_FIXED: Option<usize> = Some(16);
+
     fn tell_valid(&self) {
         let _value = *self;
     }
@@ -132,6 +154,8 @@ impl Encode for i128 {
 }
 
 impl Encode for isize {
+    const MOST_FIXED: Option<usize> = Some(8);
+
     fn tell_valid(&self) {
         let _value = *self;
     }

@@ -10,6 +10,8 @@ use std::rc::Rc;
 use std::sync::Arc;
 
 impl<T: Encode> Encode for Box<T> {
+    const MOST_FIXED: Option<usize> = T::MOST_FIXED;
+
     fn tell_valid(&self) {
         (**self).tell_valid();
     }
@@ -21,6 +23,8 @@ impl<T: Encode> Encode for Box<T> {
 }
 
 impl<T: Encode> EncodeParts for Rc<T> {
+    const MOST_OF_PARTS: Option<usize> = T::MOST_FIXED;
+
     fn tell_valid_parts(&self) {
         (**self).tell_valid();
     }
@@ -32,6 +36,8 @@ impl<T: Encode> EncodeParts for Rc<T> {
 }
 
 impl<T: Encode> EncodeParts for Arc<T> {
+    const MOST_OF_PARTS: Option<usize> = T::MOST_FIXED;
+
     fn tell_valid_parts(&self) {
         (**self).tell_valid();
     }

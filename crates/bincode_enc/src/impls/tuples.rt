@@ -1,14 +1,17 @@
 //! Encoding of tuples.
 use crate::encode::Encode;
-use crate::rows::{EncodeRow, LentRow, LongLentRow};
+use crate::rows::{EncodeRow, LentRow, LongLentRow, MostOfRow};
 use bincode_base::error::EncodeError;
 use bincode_encoder::answers::same_answer;
 use bincode_encoder::encoder::Encoder;
+use bincode_wire::parted::Parted;
 
 // Always inlined: LLVM takes a call behind several `?` for a rare one, and a call hands on a result with room for an
 // error.
 
 impl Encode for () {
+    const MOST_FIXED: Option<usize> = Some(0);
+
     fn tell_valid(&self) {}
 
     #[inline(always)]
@@ -31,6 +34,8 @@ fn tell_four_valid<A: Encode, B: Encode, C: Encode, D: Encode>(a: &A, b: &B, c: 
 }
 
 impl<A: Encode> Encode for (A,) {
+    const MOST_FIXED: Option<usize> = <<Self as Parted>::Parts as MostOfRow>::MOST;
+
     fn tell_valid(&self) {
         self.0.tell_valid();
     }
@@ -44,6 +49,8 @@ impl<A: Encode> Encode for (A,) {
 }
 
 impl<A: Encode, B: Encode> Encode for (A, B) {
+    const MOST_FIXED: Option<usize> = <<Self as Parted>::Parts as MostOfRow>::MOST;
+
     fn tell_valid(&self) {
         self.0.tell_valid();
         self.1.tell_valid();
@@ -58,6 +65,8 @@ impl<A: Encode, B: Encode> Encode for (A, B) {
 }
 
 impl<A: Encode, B: Encode, C: Encode> Encode for (A, B, C) {
+    const MOST_FIXED: Option<usize> = <<Self as Parted>::Parts as MostOfRow>::MOST;
+
     fn tell_valid(&self) {
         self.0.tell_valid();
         self.1.tell_valid();
@@ -73,6 +82,8 @@ impl<A: Encode, B: Encode, C: Encode> Encode for (A, B, C) {
 }
 
 impl<A: Encode, B: Encode, C: Encode, D: Encode> Encode for (A, B, C, D) {
+    const MOST_FIXED: Option<usize> = <<Self as Parted>::Parts as MostOfRow>::MOST;
+
     fn tell_valid(&self) {
         self.0.tell_valid();
         self.1.tell_valid();
@@ -89,6 +100,8 @@ impl<A: Encode, B: Encode, C: Encode, D: Encode> Encode for (A, B, C, D) {
 }
 
 impl<A: Encode, B: Encode, C: Encode, D: Encode, E: Encode> Encode for (A, B, C, D, E) {
+    const MOST_FIXED: Option<usize> = <<Self as Parted>::Parts as MostOfRow>::MOST;
+
     fn tell_valid(&self) {
         self.0.tell_valid();
         self.1.tell_valid();
@@ -107,6 +120,8 @@ impl<A: Encode, B: Encode, C: Encode, D: Encode, E: Encode> Encode for (A, B, C,
 
 impl<A: Encode, B: Encode, C: Encode, D: Encode, E: Encode, F: Encode> Encode
     for (A, B, C, D, E, F) {
+    const MOST_FIXED: Option<usize> = <<Self as Parted>::Parts as MostOfRow>::MOST;
+
     fn tell_valid(&self) {
         self.0.tell_valid();
         self.1.tell_valid();
@@ -126,6 +141,8 @@ impl<A: Encode, B: Encode, C: Encode, D: Encode, E: Encode, F: Encode> Encode
 
 impl<A: Encode, B: Encode, C: Encode, D: Encode, E: Encode, F: Encode, G: Encode> Encode
     for (A, B, C, D, E, F, G) {
+    const MOST_FIXED: Option<usize> = <<Self as Parted>::Parts as MostOfRow>::MOST;
+
     fn tell_valid(&self) {
         self.0.tell_valid();
         self.1.tell_valid();
@@ -146,6 +163,8 @@ impl<A: Encode, B: Encode, C: Encode, D: Encode, E: Encode, F: Encode, G: Encode
 
 impl<A: Encode, B: Encode, C: Encode, D: Encode, E: Encode, F: Encode, G: Encode, H: Encode> Encode
     for (A, B, C, D, E, F, G, H) {
+    const MOST_FIXED: Option<usize> = <<Self as Parted>::Parts as MostOfRow>::MOST;
+
     fn tell_valid(&self) {
         tell_four_valid(&self.0, &self.1, &self.2, &self.3);
         tell_four_valid(&self.4, &self.5, &self.6, &self.7);
@@ -170,6 +189,8 @@ impl<
     H: Encode,
     I: Encode,
 > Encode for (A, B, C, D, E, F, G, H, I) {
+    const MOST_FIXED: Option<usize> = <<Self as Parted>::Parts as MostOfRow>::MOST;
+
     fn tell_valid(&self) {
         tell_four_valid(&self.0, &self.1, &self.2, &self.3);
         tell_four_valid(&self.4, &self.5, &self.6, &self.7);
@@ -196,6 +217,8 @@ impl<
     I: Encode,
     J: Encode,
 > Encode for (A, B, C, D, E, F, G, H, I, J) {
+    const MOST_FIXED: Option<usize> = <<Self as Parted>::Parts as MostOfRow>::MOST;
+
     fn tell_valid(&self) {
         tell_four_valid(&self.0, &self.1, &self.2, &self.3);
         tell_four_valid(&self.4, &self.5, &self.6, &self.7);
@@ -230,6 +253,8 @@ impl<
     J: Encode,
     K: Encode,
 > Encode for (A, B, C, D, E, F, G, H, I, J, K) {
+    const MOST_FIXED: Option<usize> = <<Self as Parted>::Parts as MostOfRow>::MOST;
+
     fn tell_valid(&self) {
         tell_four_valid(&self.0, &self.1, &self.2, &self.3);
         tell_four_valid(&self.4, &self.5, &self.6, &self.7);
@@ -266,6 +291,8 @@ impl<
     K: Encode,
     L: Encode,
 > Encode for (A, B, C, D, E, F, G, H, I, J, K, L) {
+    const MOST_FIXED: Option<usize> = <<Self as Parted>::Parts as MostOfRow>::MOST;
+
     fn tell_valid(&self) {
         tell_four_valid(&self.0, &self.1, &self.2, &self.3);
         tell_four_valid(&self.4, &self.5, &self.6, &self.7);
@@ -301,6 +328,8 @@ impl<
     L: Encode,
     M: Encode,
 > Encode for (A, B, C, D, E, F, G, H, I, J, K, L, M) {
+    const MOST_FIXED: Option<usize> = <<Self as Parted>::Parts as MostOfRow>::MOST;
+
     fn tell_valid(&self) {
         tell_four_valid(&self.0, &self.1, &self.2, &self.3);
         tell_four_valid(&self.4, &self.5, &self.6, &self.7);
@@ -338,6 +367,8 @@ impl<
     M: Encode,
     N: Encode,
 > Encode for (A, B, C, D, E, F, G, H, I, J, K, L, M, N) {
+    const MOST_FIXED: Option<usize> = <<Self as Parted>::Parts as MostOfRow>::MOST;
+
     fn tell_valid(&self) {
         tell_four_valid(&self.0, &self.1, &self.2, &self.3);
         tell_four_valid(&self.4, &self.5, &self.6, &self.7);
@@ -383,6 +414,8 @@ impl<
     N: Encode,
     O: Encode,
 > Encode for (A, B, C, D, E, F, G, H, I, J, K, L, M, N, O) {
+    const MOST_FIXED: Option<usize> = <<Self as Parted>::Parts as MostOfRow>::MOST;
+
     fn tell_valid(&self) {
         tell_four_valid(&self.0, &self.1, &self.2, &self.3);
         tell_four_valid(&self.4, &self.5, &self.6, &self.7);
@@ -430,6 +463,8 @@ impl<
     O: Encode,
     P: Encode,
 > Encode for (A, B, C, D, E, F, G, H, I, J, K, L, M, N, O, P) {
+    const MOST_FIXED: Option<usize> = <<Self as Parted>::Parts as MostOfRow>::MOST;
+
     fn tell_valid(&self) {
         tell_four_valid(&self.0, &self.1, &self.2, &self.3);
         tell_four_valid(&self.4, &self.5, &self.6, &self.7);

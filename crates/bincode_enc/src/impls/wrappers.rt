@@ -8,6 +8,8 @@ use std::marker::PhantomData;
 use std::num::Wrapping;
 
 impl<T: Encode> EncodeParts for Wrapping<T> {
+    const MOST_OF_PARTS: Option<usize> = T::MOST_FIXED;
+
     fn tell_valid_parts(&self) {
         self.0.tell_valid();
     }
@@ -20,6 +22,8 @@ impl<T: Encode> EncodeParts for Wrapping<T> {
 }
 
 impl<T: Encode> EncodeParts for Reverse<T> {
+    const MOST_OF_PARTS: Option<usize> = T::MOST_FIXED;
+
     fn tell_valid_parts(&self) {
         self.0.tell_valid();
     }
@@ -41,6 +45,8 @@ impl<T> EncodeParts for PhantomData<T> {
 }
 
 impl<T: Encode> EncodeParts for &T {
+    const MOST_OF_PARTS: Option<usize> = T::MOST_FIXED;
+
     fn tell_valid_parts(&self) {
         (**self).tell_valid();
     }

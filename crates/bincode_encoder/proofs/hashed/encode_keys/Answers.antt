@@ -6,10 +6,10 @@ use Rattle.bincode_encoder.proofs.hashed.encode_keys.Goals as goal
 pub loop-key-init : goal.loop-key-init
 loop-key-init g c = (written-none _ _ _ g.met.E.W.Writer.adds_none (c.into_iter-key-iterator.ensures.into_iter_gives ∙ c.iter-key-items.ensures.rest), refl)
 
-pub returns-in_err-write_value : goal.returns-in_err-write_value
-returns-in_err-write_value g c =
+pub returns-in_err-write_whole : goal.returns-in_err-write_whole
+returns-in_err-write_whole g c =
     let p = err_from_is_err_and c.from_residual.result c.from_residual.ensures.1 in
-    let halted = c.in_err-write_value.ensures in
+    let halted = c.in_err-write_whole.ensures in
     let i = c.loop-key.invariant in
     rw (p.1, p.2) (record {
       ok = tt;
@@ -20,7 +20,7 @@ returns-in_err-write_value g c =
 pub loop-key-preserved : goal.loop-key-preserved
 loop-key-preserved g c =
     let i = c.loop-key.invariant in
-    let written = c.in_ok-write_value.ensures in
+    let written = c.in_ok-write_whole.ensures in
     (written-more _ _ _ g.met.E.W.Writer.adds_join i.0 c.in-Some.ensures.steps written.ok, written.same_place ∙ i.1)
 
 pub returns : goal.returns

@@ -3,10 +3,10 @@ use Rattle.std.proofs.lemmas.Result.{err_from_is_err_and}
 use Rattle.bincode_encoder.proofs.RunAnswers.{writes-more, writes-array, halts-at, halts_array}
 use Rattle.bincode_encoder.proofs.runs.encode_each.Goals as goal
 
-pub returns-in_err-write_value : goal.returns-in_err-write_value
-returns-in_err-write_value g c =
+pub returns-in_err-write_whole : goal.returns-in_err-write_whole
+returns-in_err-write_whole g c =
     let p = err_from_is_err_and c.from_residual.result c.from_residual.ensures.1 in
-    let halted = c.in_err-write_value.ensures in
+    let halted = c.in_err-write_whole.ensures in
     rw (p.1, p.2) (record {
       ok = tt;
       err = halts_array _ _ _ _ _ _ _ _ _ _ _ _ refl (halts-at _ _ g.met.E.W.Writer.adds_join
@@ -16,8 +16,8 @@ returns-in_err-write_value g c =
 
 pub loop-item-preserved : goal.loop-item-preserved
 loop-item-preserved g c = (
-  writes-more _ g.met.E.W.Writer.adds_join _ _ _ _ c.args.items.now c.loop-item.item-index _ (omega arith) c.item-item.is c.loop-item.invariant.0 c.in_ok-write_value.ensures.ok,
-  c.write_value.ensures.same_place ∙ c.loop-item.invariant.1,
+  writes-more _ g.met.E.W.Writer.adds_join _ _ _ _ c.args.items.now c.loop-item.item-index _ (omega arith) c.item-item.is c.loop-item.invariant.0 c.in_ok-write_whole.ensures.ok,
+  c.write_whole.ensures.same_place ∙ c.loop-item.invariant.1,
 )
 
 pub returns : goal.returns

@@ -2,7 +2,7 @@ use Rattle.std.proofs.Common.{inl, inr}
 use Rattle.std.proofs.lemmas.Result.{err_from_is_err_and}
 use Rattle.bincode_laws.specs.AllowedLaws.{pair-allows, allowed-pair}
 use Rattle.bincode_encoder.proofs.EncodingAnswers.{first-halts, next-encodes}
-use Rattle.bincode_encoder.proofs.ordered.encode_entry.Goals as goal
+use Rattle.bincode_encoder.proofs.ordered.encode_pair.Goals as goal
 
 pub returns-in_err-write_value : goal.returns-in_err-write_value
 returns-in_err-write_value g c =
