@@ -1,5 +1,5 @@
 //! Room for the whole of a value, asked for once.
-ghost use Rattle.std.specs.Prelude.{◌≡◌, ◌+◌, ℕ, List, length, max, true, Some, IfSome};
+ghost use Rattle.std.specs.Prelude.{◌≡◌, ◌+◌, ◌^◌, ◌<◌, ℕ, List, length, max, true, Some, IfSome};
 ghost use Rattle.bincode_format.specs.Device.{WithinRoom};
 
 use crate::encoder::Encoder;
@@ -25,7 +25,11 @@ pub fn has_room_at_once<E: Encoder>(encoder: &E, most: Option<usize>) -> bool
 /// How many bytes two values in a row take at most, if it is known of both.
 #[inline(always)]
 pub const fn most_of_both(first: Option<usize>, second: Option<usize>) -> Option<usize>
-    ensures { IfSome result (λ n. (a : ℕ) × (b : ℕ) × (first ≡ Some a) × (second ≡ Some b) × (n ≡ a + b)) }
+    // It is their sum,
+    ensures sum { IfSome result (λ n. (a : ℕ) × (b : ℕ) × (first ≡ Some a) × (second ≡ Some b)
+        × (n ≡ a + b)) }
+    // which is known if it fits 64 bits.
+    ensures known { (a b : ℕ) → first ≡ Some a → second ≡ Some b → a + b < 2 ^ 64 → result ≡ Some (a + b) }
 {
     match (first, second) {
         (Some(first), Some(second)) => first.checked_add(second),
@@ -36,7 +40,11 @@ pub const fn most_of_both(first: Option<usize>, second: Option<usize>) -> Option
 /// How many bytes one of two values takes at most, if it is known of both.
 #[inline(always)]
 pub const fn most_of_either(first: Option<usize>, second: Option<usize>) -> Option<usize>
-    ensures { IfSome result (λ n. (a : ℕ) × (b : ℕ) × (first ≡ Some a) × (second ≡ Some b) × (n ≡ max a b)) }
+    // It is the larger of them,
+    ensures larger { IfSome result (λ n. (a : ℕ) × (b : ℕ) × (first ≡ Some a) × (second ≡ Some b)
+        × (n ≡ max a b)) }
+    // which is known.
+    ensures known { (a b : ℕ) → first ≡ Some a → second ≡ Some b → result ≡ Some (max a b) }
 {
     match (first, second) {
         (Some(first), Some(second)) if first < second => Some(second),

@@ -64,7 +64,8 @@ pub trait Writer: Drop {
     /// length is known: where it has, the compiler drops the test of each piece. The provided one never knows.
     #[inline(always)]
     fn has_room_for(&self, _count: usize) -> bool
-        ensures { result ≡ true → (piece : List ℕ) → length piece ≡ _count → WithinRoom (room self.now) piece }
+        ensures { result ≡ true → (piece : List ℕ) → length piece ≡ _count
+            → WithinRoom (room self.now) piece }
     {
         false
     }
