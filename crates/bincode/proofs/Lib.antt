@@ -3,4 +3,5 @@ pub mod Decoded
 pub mod Empty
 pub mod Filled
 pub mod Room
+pub mod Through
 mod StreamHalted

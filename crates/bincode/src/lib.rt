@@ -12,6 +12,7 @@ pub mod de;
 pub mod enc;
 mod reader;
 mod shaped;
+mod short_slice;
 mod slice;
 mod streams;
 mod vec;

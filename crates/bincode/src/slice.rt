@@ -7,6 +7,7 @@ ghost use Rattle.bincode_format.specs.Slice.{WordWritten, FrontWritten, FitsExac
 ghost use Rattle.bincode_format.specs.Slice.{KeepsLimit};
 
 use crate::reader::decode_with;
+use crate::short_slice::{encode_into_short, is_short};
 use crate::writer::encode_with;
 use bincode_base::config::Config;
 use bincode_base::error::{DecodeError, EncodeError};
@@ -37,6 +38,9 @@ pub fn encode_into_slice<E: Encode, C: Config>(
     ensures left { IfErr result (FrontWritten (Ready (E.its.writable C.setting val)
         (AllowedWord (E.its.means val) (E.its.format C.setting))) dst.old dst.new) }
 {
+    if is_short(dst, E::MOST_FIXED, &config) {
+        return encode_into_short(val, dst, &config);
+    }
     let mut writer = SliceWriter::new(dst);
     encode_with(&val, &mut writer, &config)?;
     Ok(writer.bytes_written())

@@ -96,3 +96,21 @@ fn leaves_a_part_of_an_item(rt: HostRuntime) {
     );
     assert!(rt; left_by_pairs(pairs) == Some([2, 0, 0, 0, 0, 0, 0, 0, 1, 0, 2, 3, 0]));
 }
+
+/// What is written of two numbers and an option, which take 21 bytes at most, into so many 9s.
+fn written_of_record<const N: usize>(option: Option<u32>) -> ([u8; N], Option<usize>) {
+    let mut bytes = [9u8; N];
+    let written = encode_into_slice((5u64, 6u64, option), &mut bytes, config::legacy());
+    (bytes, written.ok())
+}
+
+/// A slice that is shorter than a value may be takes one that fits, and of another a front.
+#[test]
+fn writes_where_the_most_does_not_fit(rt: HostRuntime) {
+    let (bytes, written) = written_of_record::<17>(None);
+    assert!(rt; written == Some(17));
+    assert!(rt; bytes == [5, 0, 0, 0, 0, 0, 0, 0, 6, 0, 0, 0, 0, 0, 0, 0, 0]);
+    let (bytes, written) = written_of_record::<20>(Some(7));
+    assert!(rt; written.is_none());
+    assert!(rt; bytes == [5, 0, 0, 0, 0, 0, 0, 0, 6, 0, 0, 0, 0, 0, 0, 0, 1, 9, 9, 9]);
+}

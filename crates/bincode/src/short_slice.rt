@@ -1,0 +1,63 @@
+//! Encoding into a slice that may be too short.
+ghost use Rattle.std.specs.Prelude.{◌≡◌, ◌⊎◌, IfOk, IfErr, length};
+ghost use Rattle.bincode_base.specs.declared.error.EncodeError.TheVariants.{UnexpectedEnd};
+ghost use Rattle.bincode_format.specs.Allowed.{AllowedWord};
+ghost use Rattle.bincode_format.specs.Encoding.{Ready, Encodes};
+ghost use Rattle.bincode_format.specs.Slice.{WordWritten, FrontWritten, FitsExactly};
+
+use crate::writer::encode_with;
+use bincode_base::config::{Config, IntEncoding};
+use bincode_base::error::EncodeError;
+use bincode_enc::encode::Encode;
+use bincode_io::write::{SliceWriter, Writer};
+
+/// The bytes of the longest number. A value that may be one number alone has one test of the room in any case.
+const LONGEST_NUMBER: usize = 16;
+
+/// Whether integers are fixed and a slice is shorter than a value may be, of which it is known how many bytes it takes
+/// at most. Behind the answer `false` the compiler knows that each piece of such a value has room, and drops the tests
+/// of the pieces (docs/SPEED.md, "One test for a value of fixed numbers").
+#[inline(always)]
+pub(crate) fn is_short<C: Config>(dst: &[u8], most: Option<usize>, config: &C) -> bool {
+    match (config.int_encoding(), most) {
+        (IntEncoding::Fixed, Some(most)) => LONGEST_NUMBER < most && dst.len() < most,
+        _ => false,
+    }
+}
+
+/// `encode_into_slice` for a slice that may be too short, which tests the room of each piece.
+#[cold]
+#[inline(never)]
+pub(crate) fn encode_into_short<E: Encode, C: Config>(
+    val: E,
+    dst: &mut [u8],
+    config: &C,
+) -> Result<usize, EncodeError>
+    // It does, fails and leaves what `encode_into_slice` does.
+    ensures word { IfOk result (λ n. WordWritten (AllowedWord (E.its.means val) (E.its.format C.setting))
+        n dst.old dst.new) }
+    ensures fault { IfErr result (λ e. (e ≡ UnexpectedEnd) ⊎ E.its.names e) }
+    ensures room { FitsExactly (Ready (E.its.writable C.setting val)
+        (AllowedWord (E.its.means val) (E.its.format C.setting)))
+        E.its.names (length dst.old) result }
+    ensures left { IfErr result (FrontWritten (Ready (E.its.writable C.setting val)
+        (AllowedWord (E.its.means val) (E.its.format C.setting))) dst.old dst.new) }
+{
+    let mut writer = SliceWriter::new(dst);
+    encode_through(&val, &mut writer, config)?;
+    Ok(writer.bytes_written())
+}
+
+/// `encode_with`, through a reference to the reference. So it is compiled once more, and the code of the common way
+/// keeps one caller, into which the compiler takes it.
+fn encode_through<E: Encode, W: Writer, C: Config>(
+    val: &E,
+    writer: &mut W,
+    config: &C,
+) -> Result<(), EncodeError>
+    ensures { Encodes W.adds W.refuses (λ w. w) W.place (E.its.writable C.setting val.now)
+        (AllowedWord (E.its.means val.now) (E.its.format C.setting)) E.its.names result writer.old writer.new }
+{
+    let mut lent = writer;
+    encode_with(val, &mut lent, config)
+}
