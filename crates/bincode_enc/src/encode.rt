@@ -14,7 +14,8 @@ use bincode_wire::wire::Wire;
 /// A type whose values can be written.
 pub trait Encode: Wire + Drop {
     /// How many bytes a value takes at most where integers are fixed, if that is known. It stands for speed alone: a
-    /// list or a map asks its writer once for the room of all of a short item.
+    /// list or a map asks its writer once for the room of all of a short item, and `encode_into_slice` tests its slice
+    /// once for a value that may be longer than a number.
     const MOST_FIXED: Option<usize> = None;
 
     /// Says of the value in hand that it is valid.
