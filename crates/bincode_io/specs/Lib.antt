@@ -1,3 +1,5 @@
+pub mod Counts
+pub mod Growth
 pub mod RoomLaws
 pub mod Rooms
 pub mod Slices

@@ -1,14 +1,19 @@
 -- What a stream of `std::io` tells of the bytes that are left, and what its readers and writers answer.
-use Rattle.std.specs.Prelude.{◌≡◌, ◌⊎◌, ◌+◌, ◌-◌, ◌^◌, ◌<◌, ◌≤◌, ◌++◌, ℕ, List, [], length, Option, Some, None, ⊤}
+use Rattle.std.specs.Prelude.{◌≡◌, ◌⊎◌, ◌+◌, ◌-◌, ◌^◌, ◌<◌, ◌≤◌, ◌++◌, ℕ, List, [], length, Option, Some, None, Result, ⊤}
+use Rattle.std.specs.Borrow.{GName}
 use Rattle.std.specs.Io.Buffered.{reader_buffer}
 use Rattle.std.specs.Io.KnownBytes.{Appends}
 use Rattle.std.specs.declared.io.buffered.BufReader.{BufReader}
+use Rattle.std.specs.IoError.{error_kind, raw_os_error}
+use Rattle.std.specs.declared.io.Error.{Error}
+use Rattle.std.specs.declared.io.ErrorKind.TheVariants.{UnexpectedEof}
+use Rattle.bincode_base.specs.StreamError.{kind_of, code_of}
 use Rattle.bincode_base.specs.declared.error.StreamError.{StreamError}
 use Rattle.bincode_base.specs.declared.error.DecodeError.{DecodeError}
 use Rattle.bincode_base.specs.declared.error.DecodeError.TheVariants as decoding
 use Rattle.bincode_base.specs.declared.error.EncodeError.{EncodeError}
 use Rattle.bincode_base.specs.declared.error.EncodeError.TheVariants as encoding
-use Rattle.bincode_format.specs.Device.{DeviceErrors}
+use Rattle.bincode_format.specs.Device.{DeviceErrors, Fills}
 use Rattle.bincode_format.specs.Encoding.{Begins, IsOwn}
 use Rattle.bincode_io.specs.declared.io_read.IoReader.{IoReader}
 use Rattle.bincode_io.specs.declared.io_read.LentIoReader.{LentIoReader}
@@ -36,6 +41,14 @@ lent_stream r = r.stream.now
 abbrev pub IsIo : DecodeError → Type 0
 IsIo e = (inner : StreamError) × (additional : ℕ) × (e ≡ decoding.Io inner additional)
 
+-- an error of a stream was told: by its kind, and by the system's number where it has one
+abbrev pub Tells : Error → StreamError → Type 0
+Tells cause told = (kind_of told ≡ error_kind cause) × (code_of told ≡ raw_os_error cause)
+
+-- the stream ended with so many bytes missing, which is told as the end of a file
+abbrev pub EndsAsFile : ℕ → DecodeError → Type 0
+EndsAsFile missing e = (inner : StreamError) × (e ≡ decoding.Io inner missing) × (kind_of inner ≡ UnexpectedEof)
+
 -- it may come at any call, and is not counted
 abbrev pub stream_errors : DeviceErrors
 stream_errors = record { counted = λ _. ⊥; uncounted = IsIo }
@@ -43,6 +56,11 @@ stream_errors = record { counted = λ _. ⊥; uncounted = IsIo }
 -- the stream ended with so many bytes missing
 abbrev pub EndsShort : ℕ → DecodeError → Type 0
 EndsShort missing e = (inner : StreamError) × (e ≡ decoding.Io inner missing)
+
+-- a reader of a stream, which tells the bytes that are left as the stream does, was asked to fill some bytes
+abbrev pub FillsFrom : {R : Type 0} → (R → Option (List ℕ)) → (R → List GName) → List ℕ → List ℕ → Result (Unit {0}) DecodeError → R → R → Type 0
+FillsFrom left place before after result old new =
+    Fills (λ r. TellsBytes (left r)) (λ r. known (left r)) (λ _. 0) place EndsShort stream_errors before after result old new
 
 -- how many bytes the buffer of a reader shows
 abbrev pub buffered : {R A : Type 0} → BufReader R A → ℕ

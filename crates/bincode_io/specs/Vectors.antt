@@ -1,5 +1,7 @@
--- What a vector writer holds.
-use Rattle.std.specs.Prelude.{ℕ, List, vec_capacity}
+-- What a vector writer holds, and what its writes do to it.
+use Rattle.std.specs.Prelude.{◌≡◌, ◌+◌, ◌*◌, ◌<◌, ◌≤◌, ◌⊎◌, ◌++◌, ℕ, List, [], length, vec_capacity}
+use Rattle.bincode_base.specs.declared.error.EncodeError.{EncodeError}
+use Rattle.bincode_base.specs.declared.error.EncodeError.TheVariants.{Memory}
 use Rattle.bincode_io.specs.declared.vec_writer.VecWriter.{VecWriter}
 
 -- the bytes that were written
@@ -9,3 +11,22 @@ held_by w = w.bytes.items
 -- how many bytes it has room for before it must grow
 abbrev pub capacity_of : VecWriter → ℕ
 capacity_of w = vec_capacity w.bytes
+
+-- a piece stands behind what was written
+abbrev pub VecAdds : VecWriter → List ℕ → VecWriter → Type 0
+VecAdds a piece b = (held_by b ≡ held_by a ++ piece) × (capacity_of a ≤ capacity_of b) × (piece ≡ [] → b ≡ a)
+
+-- a piece is longer than the room, and the error tells of memory; what was written and the room stay
+abbrev pub VecRefuses : VecWriter → List ℕ → EncodeError → VecWriter → Type 0
+VecRefuses a piece e b =
+    (e ≡ Memory) × (capacity_of a < length (held_by a) + length piece) × (held_by b ≡ held_by a) × (capacity_of b ≡ capacity_of a) × (0 < length piece)
+
+-- where what is held now had no room, there is room for twice as many bytes at least
+abbrev pub Doubles : VecWriter → VecWriter → Type 0
+Doubles a b = capacity_of a < length (held_by b) → 2 * capacity_of a ≤ capacity_of b
+
+-- there is room for so many bytes behind what was held before, and for twice as many as before at least; or the room stayed,
+-- as where it was there or memory is refused
+abbrev pub MakesRoom : ℕ → VecWriter → VecWriter → Type 0
+MakesRoom all a b =
+    (capacity_of b ≡ capacity_of a) ⊎ ((length (held_by a) + all ≤ capacity_of b) × (2 * capacity_of a ≤ capacity_of b))

@@ -1,18 +1,21 @@
 //! Readers of the streams of `std::io`.
 ghost use Rattle.std.specs.Prelude.{◌≡◌, ◌<◌, ◌≤◌, List, ℕ, [], ◌∷◌, length, take, IsSome};
-ghost use Rattle.std.specs.Prelude.{OnOk, IfOk, IfErr, OnErr};
+ghost use Rattle.std.specs.Prelude.{◌≢◌, OnOk, IfOk, IfErr, OnErr, MatchResult};
 ghost use Rattle.std.proofs.Common.{zero-le, inr};
 ghost use Rattle.std.specs.Io.{ReadsAtMost};
 ghost use Rattle.std.specs.Io.Buffered.{reader_remaining};
 ghost use Rattle.std.specs.Io.KnownBytes.{Consumes, IsAtEnd, Keeps};
-ghost use Rattle.bincode_io.specs.Stream.{TellsBytes, known, EndsShort, IsIo, stream_errors};
+ghost use Rattle.std.specs.IoError.{error_kind};
+ghost use Rattle.bincode_io.specs.Stream.{TellsBytes, known, EndsAsFile, EndsShort, FillsFrom};
+ghost use Rattle.bincode_io.specs.Stream.{IsIo, Tells, stream_errors};
 
 use crate::read::Reader;
 use bincode_base::error::{DecodeError, StreamError};
 use std::io;
 use std::io::{BufRead, BufReader, ErrorKind, Read};
 
-/// A read that failed by this cause, tried again while a signal interrupts it. It stands apart, so that a read that
+/// A read that failed by this cause, tried again while a signal interrupts it: by another cause it is told at once, as
+/// the stream told it. It stands apart, so that a read that
 /// does not fail is inlined.
 #[cold]
 #[inline(never)]
@@ -25,6 +28,8 @@ fn read_again<R: Read>(
     ensures ok { IfOk result (λ n. Consumes (R.remaining stream.old) (R.remaining stream.new) (take n bytes.new)) }
     ensures end { IfOk result (λ n. n ≡ 0 → 0 < length bytes.old → IsAtEnd (R.remaining stream.new)) }
     ensures err { OnErr result (Keeps (R.remaining stream.old) (R.remaining stream.new)) }
+    ensures told { error_kind cause ≢ ErrorKind.Interrupted → (stream.new ≡ stream.old)
+        × MatchResult result (λ _. ⊥) (Tells cause) }
 {
     let mut cause = cause;
     for _ in 0..usize::MAX {
@@ -56,7 +61,8 @@ fn read_some<R: Read>(stream: &mut R, bytes: &mut [u8]) -> Result<usize, StreamE
 /// The error of a stream that ended with so many bytes missing.
 #[cold]
 fn end_of_stream(additional: usize) -> DecodeError
-    ensures { IsIo result }
+    ensures io { IsIo result }
+    ensures end { EndsAsFile additional result }
 {
     DecodeError::Io {
         inner: StreamError::from(io::Error::from(ErrorKind::UnexpectedEof)),
@@ -124,6 +130,8 @@ impl<R: Read> IoReader<R> {
 impl<R: Read + Drop> Reader for IoReader<R> {
     ghost use Rattle.bincode_io.specs.Stream.{stream_of};
 
+    const PEEKS_FIRST: bool = false;
+
     ghost told = { λ r. TellsBytes (R.remaining (stream_of r)) };
 
     ghost rest = { λ r. known (R.remaining (stream_of r)) };
@@ -138,7 +146,11 @@ impl<R: Read + Drop> Reader for IoReader<R> {
 
     ghost place = { λ _. [] };
 
-    fn read(&mut self, bytes: &mut [u8]) -> Result<(), DecodeError> {
+    fn read(&mut self, bytes: &mut [u8]) -> Result<(), DecodeError>
+        ensures fills { FillsFrom (λ r. R.remaining (stream_of r)) (λ _. []) bytes.old bytes.new
+            result self.old self.new }
+        ensures io { IfErr result IsIo }
+    {
         fill(&mut self.stream, bytes)
     }
 
@@ -181,6 +193,8 @@ impl<'a, R: Read> LentIoReader<'a, R> {
 impl<R: Read> Reader for LentIoReader<'_, R> {
     ghost use Rattle.bincode_io.specs.Stream.{lent_stream};
 
+    const PEEKS_FIRST: bool = false;
+
     ghost told = { λ r. TellsBytes (R.remaining (lent_stream r)) };
 
     ghost rest = { λ r. known (R.remaining (lent_stream r)) };
@@ -195,7 +209,11 @@ impl<R: Read> Reader for LentIoReader<'_, R> {
 
     ghost place = { λ r. r.stream.ghost_name ∷ [] };
 
-    fn read(&mut self, bytes: &mut [u8]) -> Result<(), DecodeError> {
+    fn read(&mut self, bytes: &mut [u8]) -> Result<(), DecodeError>
+        ensures fills { FillsFrom (λ r. R.remaining (lent_stream r)) (λ r. r.stream.ghost_name ∷ []) bytes.old bytes.new
+            result self.old self.new }
+        ensures io { IfErr result IsIo }
+    {
         fill(self.stream, bytes)
     }
 
@@ -231,7 +249,11 @@ impl<R: Read + Drop> Reader for BufReader<R> {
     ghost place = { λ _. [] };
 
     #[inline(always)]
-    fn read(&mut self, bytes: &mut [u8]) -> Result<(), DecodeError> {
+    fn read(&mut self, bytes: &mut [u8]) -> Result<(), DecodeError>
+        ensures fills { FillsFrom (λ r. reader_remaining R.remaining r) (λ _. []) bytes.old bytes.new
+            result self.old self.new }
+        ensures io { IfErr result IsIo }
+    {
         let Some(next) = self.buffer().get(..bytes.len()) else {
             return fill_past_buffer(self, bytes);
         };

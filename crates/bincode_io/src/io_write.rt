@@ -1,17 +1,20 @@
 //! Writers to the streams of `std::io`.
 ghost use Rattle.std.specs.Prelude.{ℕ, ◌≡◌, ◌+◌, ◌-◌, ◌^◌, ◌∷◌, [], length, take};
-ghost use Rattle.std.specs.Prelude.{Some, OnOk, OnErr, IfOk, refl};
+ghost use Rattle.std.specs.Prelude.{◌≢◌, Some, OnOk, OnErr, IfOk, MatchResult, refl};
 ghost use Rattle.std.proofs.Common.{zero-le};
 ghost use Rattle.std.specs.Io.{WritesAtMost};
 ghost use Rattle.std.specs.Io.KnownBytes.{Appends, Keeps};
-ghost use Rattle.bincode_io.specs.Stream.{target_of, count_of, FrontOut, StreamAdds, StreamRefuses};
+ghost use Rattle.std.specs.IoError.{error_kind};
+ghost use Rattle.bincode_base.specs.StreamError.{kind_of};
+ghost use Rattle.bincode_io.specs.Stream.{target_of, count_of, Tells, FrontOut, StreamAdds, StreamRefuses};
 
 use crate::write::Writer;
 use bincode_base::error::{EncodeError, StreamError};
 use std::io;
 use std::io::{ErrorKind, Write};
 
-/// A write that failed by this cause, tried again while a signal interrupts it. It stands apart, so that a write that
+/// A write that failed by this cause, tried again while a signal interrupts it: by another cause it is told at once,
+/// as the stream told it. It stands apart, so that a write that
 /// does not fail is inlined.
 #[cold]
 #[inline(never)]
@@ -23,6 +26,8 @@ fn write_again<W: Write>(
     ensures bound { WritesAtMost result bytes.now }
     ensures ok { IfOk result (λ n. Appends (W.contents stream.old) (W.contents stream.new) (take n bytes.now)) }
     ensures err { OnErr result (Keeps (W.contents stream.old) (W.contents stream.new)) }
+    ensures told { error_kind cause ≢ ErrorKind.Interrupted → (stream.new ≡ stream.old)
+        × MatchResult result (λ _. ⊥) (Tells cause) }
 {
     let mut cause = cause;
     for _ in 0..usize::MAX {
@@ -52,7 +57,9 @@ fn write_some<W: Write>(stream: &mut W, bytes: &[u8]) -> Result<usize, StreamErr
 
 /// The error of a stream that takes no more.
 #[cold]
-fn full_stream() -> StreamError {
+fn full_stream() -> StreamError
+    ensures { kind_of result ≡ ErrorKind.WriteZero }
+{
     StreamError::from(io::Error::from(ErrorKind::WriteZero))
 }
 

@@ -1,6 +1,7 @@
 //! A writer that counts for the room that is reserved.
-ghost use Rattle.std.specs.Prelude.{◌≡◌, None, []};
+ghost use Rattle.std.specs.Prelude.{◌≡◌, ◌∷◌, None, OnOk, [], length};
 ghost use Rattle.std.proofs.Common.{◌∙◌, le_refl, refl};
+ghost use Rattle.bincode_format.specs.Device.{TakesPiece};
 ghost use Rattle.bincode_io.specs.RoomLaws.{first-empty, second-empty};
 
 use crate::write::Writer;
@@ -18,9 +19,11 @@ pub struct RoomCounter {
 impl Writer for RoomCounter {
     const COUNTS: bool = true;
 
-    ghost adds = { λ a piece b. piece ≡ [] → b ≡ a };
+    ghost use Rattle.bincode_io.specs.Counts.{CounterAdds, Counts};
 
-    ghost refuses = { λ a piece e b. ⊥ };
+    ghost adds = { CounterAdds };
+
+    ghost refuses = { λ _ _ _ _. ⊥ };
 
     ghost room = { λ _. None };
 
@@ -30,21 +33,36 @@ impl Writer for RoomCounter {
 
     ghost place = { λ _. [] };
 
+    ghost writes = { λ a piece b. Counts (length piece) a b };
+
+    ghost announces = { λ a all b. Counts all a b };
+
+    /// Counts the piece.
     #[inline(always)]
-    fn write(&mut self, bytes: &[u8]) -> Result<(), EncodeError> {
+    fn write(&mut self, bytes: &[u8]) -> Result<(), EncodeError>
+        ensures piece { TakesPiece CounterAdds (λ _ _ _ _. ⊥) (λ _. 0) (λ _. []) bytes.now result self.old self.new }
+        ensures count { OnOk result (Counts (length bytes.now) self.old self.new) }
+    {
         self.bytes_written = self.bytes_written.wrapping_add(bytes.len());
         Ok(())
     }
 
+    /// Counts them all.
     #[inline(always)]
-    fn write_ahead(&mut self, _byte: u8, all: usize) -> Result<(), EncodeError> {
+    fn write_ahead(&mut self, byte: u8, all: usize) -> Result<(), EncodeError>
+        ensures piece { TakesPiece CounterAdds (λ _ _ _ _. ⊥) (λ _. 0) (λ _. []) (byte ∷ []) result self.old self.new }
+        ensures count { OnOk result (Counts all self.old self.new) }
+    {
         self.bytes_written = self.bytes_written.wrapping_add(all);
         Ok(())
     }
 
     /// Counts nothing: `write_ahead` did.
     #[inline(always)]
-    fn write_behind(&mut self, _bytes: &[u8]) -> Result<(), EncodeError> {
+    fn write_behind(&mut self, bytes: &[u8]) -> Result<(), EncodeError>
+        ensures piece { TakesPiece CounterAdds (λ _ _ _ _. ⊥) (λ _. 0) (λ _. []) bytes.now result self.old self.new }
+        ensures count { self.new ≡ self.old }
+    {
         Ok(())
     }
 

@@ -1,11 +1,13 @@
 //! A writer into a vector.
 ghost use Rattle.std.specs.Prelude.{◌≡◌, ◌+◌, ◌-◌, ◌<◌, ◌≤◌, ◌⊎◌, ◌++◌};
 ghost use Rattle.std.specs.Prelude.{◌∷◌, [], length, vec_capacity};
-ghost use Rattle.std.specs.Prelude.{IsOk, IfOk, IfErr, None};
+ghost use Rattle.std.specs.Prelude.{IsOk, IfOk, IfErr, OnOk, None};
 ghost use Rattle.std.proofs.Common.{◌∙◌, ap, sym, inl, inr, le_refl, le_trans, append_assoc, refl};
 ghost use Rattle.std.proofs.lemmas.List.{append-nil};
 ghost use Rattle.bincode_base.specs.declared.error.EncodeError.TheVariants.{Memory};
 ghost use Rattle.bincode_io.specs.RoomLaws.{first-empty, second-empty};
+ghost use Rattle.bincode_io.specs.Growth.{GrowsFor};
+ghost use Rattle.bincode_format.specs.Device.{TakesPiece};
 
 use crate::write::Writer;
 use bincode_base::error::EncodeError;
@@ -99,25 +101,26 @@ impl VecWriter {
     #[inline(always)]
     fn grow(&mut self, additional: usize)
         ensures bytes { held_by self.new ≡ held_by self.old }
-        ensures room { (length (held_by self.old) + additional ≤ capacity_of self.new)
-            ⊎ (capacity_of self.new ≡ capacity_of self.old) }
-        ensures capacity { capacity_of self.old ≤ capacity_of self.new }
+        ensures room { GrowsFor additional self.old.bytes self.new.bytes }
     {
         let bytes = self.take_out();
         self.put_back(with_room(bytes, additional));
     }
 }
 
-/// The same bytes with room for so many more, or as they were where memory is refused.
+/// The least capacity of a vector that has memory.
+const LEAST_CAPACITY: usize = 8;
+
+/// The same bytes with room for so many more and at least twice the capacity, or as they were where memory is refused.
 #[cold]
 #[inline(never)]
 fn with_room(mut bytes: Vec<u8>, additional: usize) -> Vec<u8>
     ensures bytes { result.items ≡ bytes.items }
-    ensures room { (length bytes.items + additional ≤ vec_capacity result)
-        ⊎ (vec_capacity result ≡ vec_capacity bytes) }
-    ensures capacity { vec_capacity bytes ≤ vec_capacity result }
+    ensures room { GrowsFor additional bytes result }
 {
-    let _refused = bytes.reserve(additional);
+    let spare = bytes.capacity() - bytes.len();
+    let doubles = bytes.capacity().saturating_add(spare);
+    let _refused = bytes.reserve_exact(additional.max(doubles).max(LEAST_CAPACITY));
     bytes
 }
 
@@ -136,13 +139,11 @@ fn with_each(mut held: Vec<u8>, bytes: &[u8]) -> Vec<u8>
 }
 
 impl Writer for VecWriter {
-    ghost use Rattle.bincode_io.specs.Vectors.{held_by, capacity_of};
+    ghost use Rattle.bincode_io.specs.Vectors.{held_by, capacity_of, VecAdds, VecRefuses, Doubles, MakesRoom};
 
-    ghost adds = { λ a piece b. (held_by b ≡ held_by a ++ piece) × (capacity_of a ≤ capacity_of b)
-        × (piece ≡ [] → b ≡ a) };
+    ghost adds = { VecAdds };
 
-    ghost refuses = { λ a piece e b. (e ≡ Memory) × (capacity_of a < length (held_by a) + length piece)
-        × (held_by b ≡ held_by a) × (capacity_of b ≡ capacity_of a) × (0 < length piece) };
+    ghost refuses = { VecRefuses };
 
     ghost room = { λ _. None };
 
@@ -152,8 +153,16 @@ impl Writer for VecWriter {
 
     ghost place = { λ _. [] };
 
+    ghost writes = { λ a piece b. Doubles a b };
+
+    ghost announces = { λ a all b. MakesRoom all a b };
+
+    /// Where the piece is longer than the room, the capacity at least doubles.
     #[inline(always)]
-    fn write(&mut self, bytes: &[u8]) -> Result<(), EncodeError> {
+    fn write(&mut self, bytes: &[u8]) -> Result<(), EncodeError>
+        ensures piece { TakesPiece VecAdds VecRefuses (λ _. 0) (λ _. []) bytes.now result self.old self.new }
+        ensures growth { OnOk result (Doubles self.old self.new) }
+    {
         if bytes.is_empty() {
             return Ok(());
         }
@@ -173,8 +182,12 @@ impl Writer for VecWriter {
         Ok(())
     }
 
+    /// Makes room for them all, unless memory is refused.
     #[inline(always)]
-    fn write_ahead(&mut self, byte: u8, all: usize) -> Result<(), EncodeError> {
+    fn write_ahead(&mut self, byte: u8, all: usize) -> Result<(), EncodeError>
+        ensures piece { TakesPiece VecAdds VecRefuses (λ _. 0) (λ _. []) (byte ∷ []) result self.old self.new }
+        ensures room { OnOk result (MakesRoom all self.old self.new) }
+    {
         if self.room_left() < all {
             self.grow(all);
         }

@@ -39,15 +39,23 @@ pub trait Writer: Drop {
     /// The references that it writes through. No call changes them.
     ghost place: { Self → List GName };
 
+    /// What `write` does to a writer besides, by the piece, where `write_ahead` does something else.
+    ghost writes: { Self → List ℕ → Self → Type 0 } = { λ _ _ _. Unit {0} };
+
+    /// What `write_ahead` does to it besides, by the length that it is told.
+    ghost announces: { Self → ℕ → Self → Type 0 } = { λ _ _ _. Unit {0} };
+
     /// Writes a piece. Fails where it is longer than the room, where memory is refused, or where the device fails.
     fn write(&mut self, bytes: &[u8]) -> Result<(), EncodeError>
-        ensures { TakesPiece adds refuses failures place bytes.now result self.old self.new };
+        ensures piece { TakesPiece adds refuses failures place bytes.now result self.old self.new }
+        ensures besides { OnOk result (writes self.old bytes.now self.new) };
 
     /// Writes a byte that begins a number of so many bytes in all. A writer that grows makes room for them all, so that
-    /// it has no code to grow behind each piece.
+    /// it has no code to grow after each piece. The provided one writes the byte alone.
     #[inline(always)]
     fn write_ahead(&mut self, byte: u8, _all: usize) -> Result<(), EncodeError>
-        ensures { TakesPiece adds refuses failures place (byte ∷ []) result self.old self.new }
+        ensures piece { TakesPiece adds refuses failures place (byte ∷ []) result self.old self.new }
+        ensures besides { OnOk result (writes self.old (byte ∷ []) self.new ⊎ announces self.old _all self.new) }
     {
         self.write(&[byte])
     }
@@ -288,6 +296,10 @@ impl<W: Writer> Writer for &mut W {
     ghost device = { W.device };
 
     ghost place = { λ w. w.ghost_name ∷ W.place w.now };
+
+    ghost writes = { λ a piece b. W.writes a.now piece b.now };
+
+    ghost announces = { λ a all b. W.announces a.now all b.now };
 
     fn write(&mut self, bytes: &[u8]) -> Result<(), EncodeError> {
         (**self).write(bytes)

@@ -5,7 +5,7 @@ returns g c =
     let e = c.args.encoder.now in
     let new = c.write.new.self in
     let put = g.met.E.Encoder.put_get e new in
-    let write = rw c.writer.ensures.value at c.write.ensures in
+    let write = rw c.writer.ensures.value at c.write.ensures.piece in
     rw c.same_answer.ensures (record {
       ok = rw put write.ok;
       err = rw put write.err;

@@ -3,8 +3,8 @@ use Rattle.std.specs.Io.Buffered.{reader_remaining, reader_buffer, reader_capaci
 use Rattle.bincode_io.proofs.Streams.{copied}
 use Rattle.bincode_io.proofs.io_read.BufReaderReader.read.Goals as goal
 
-pub returns : goal.returns
-returns g c =
+pub returns-clause-fills : goal.returns-clause-fills
+returns-clause-fills g c =
     let old = c.args.self.now in
     let moved = copied (reader_capacity old == 0) (reader_buffer old) c.copy_from_slice.new.self _ (g.R.Read.remaining (reader_inner old))
     (reader_remaining g.R.Read.remaining c.consume.new.self) (search rules) (search rules) c.consume.ensures.bytes in

@@ -2,16 +2,16 @@ use Rattle.std.proofs.Common.{◌≤◌, ◌<◌, ◌+◌, ◌-◌, ◌∙◌, a
 use Rattle.bincode_io.proofs.Slices.{copied, put-length, unwritten}
 use Rattle.bincode_io.proofs.write.SliceWriterWriter.write.Goals as goal
 
-pub returns-then-self-bytes : goal.returns-then-self-bytes
-returns-then-self-bytes c =
+pub returns-then-self-bytes-clause-piece : goal.returns-then-self-bytes-clause-piece
+returns-then-self-bytes-clause-piece c =
     let self = c.args.self.now in
     let within = self.within in
     let wanted = c.if-self-bytes.true in
     let short : length self.slice.now - self.written < length c.args.bytes.now = omega (arith, within, wanted) in
     record { ok = tt; err = (refl, short, refl); counted = le_refl 0; same_place = refl }
 
-pub returns : goal.returns
-returns c =
+pub returns-clause-piece : goal.returns-clause-piece
+returns-clause-piece c =
     let self = c.args.self.now in
     let piece = c.args.bytes.now in
     let within : self.written + length piece ≤ length self.slice.now = omega arith in

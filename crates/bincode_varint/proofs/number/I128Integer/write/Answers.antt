@@ -7,4 +7,4 @@ pub returns-in-Variable : goal.returns-in-Variable
 returns-in-Variable g c = rw c.in-Variable.is (rw (to_z-of_z w128 c.args.self c.ranges.self) at c.varint_encode_i128.ensures)
 
 pub returns-in-Fixed : goal.returns-in-Fixed
-returns-in-Fixed g c = pieces-fixed_signed g.met.W.Writer.adds_none c.in-Fixed.is _ _ _ _ c.ranges.self c.bytes_of_i128.ensures c.write.ensures
+returns-in-Fixed g c = pieces-fixed_signed g.met.W.Writer.adds_none c.in-Fixed.is _ _ _ _ c.ranges.self c.bytes_of_i128.ensures c.write.ensures.piece

@@ -5,4 +5,4 @@ pub returns-in-Variable : goal.returns-in-Variable
 returns-in-Variable g c = rw c.in-Variable.is c.varint_encode_u16.ensures
 
 pub returns-in-Fixed : goal.returns-in-Fixed
-returns-in-Fixed g c = pieces-fixed g.met.W.Writer.adds_none c.in-Fixed.is _ _ _ c.bytes_of_u16.ensures c.write.ensures
+returns-in-Fixed g c = pieces-fixed g.met.W.Writer.adds_none c.in-Fixed.is _ _ _ c.bytes_of_u16.ensures c.write.ensures.piece

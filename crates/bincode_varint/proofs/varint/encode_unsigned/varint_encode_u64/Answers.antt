@@ -6,7 +6,7 @@ use Rattle.bincode_varint.proofs.varint.encode_unsigned.varint_encode_u64.Goals 
 pub returns-then-val-from : goal.returns-then-val-from
 returns-then-val-from g c =
     let spelled = shortest-1 c.args.endian c.args.val (omega arith) in
-    pieces-one g.met.W.Writer.adds_none spelled.0 spelled.1 c.write_ahead.ensures
+    pieces-one g.met.W.Writer.adds_none spelled.0 spelled.1 c.write_ahead.ensures.piece
 
 pub returns-then-val-from-2 : goal.returns-then-val-from-2
 returns-then-val-from-2 g c =

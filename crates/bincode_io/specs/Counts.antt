@@ -1,0 +1,11 @@
+-- What writes do to a count of bytes that wraps.
+use Rattle.std.specs.Prelude.{◌≡◌, ◌+◌, ◌%◌, ◌^◌, ℕ, List, []}
+use Rattle.bincode_io.specs.declared.room_counter.RoomCounter.{RoomCounter}
+
+-- the empty piece changes nothing
+abbrev pub CounterAdds : RoomCounter → List ℕ → RoomCounter → Type 0
+CounterAdds a piece b = piece ≡ [] → b ≡ a
+
+-- so many bytes were counted
+abbrev pub Counts : ℕ → RoomCounter → RoomCounter → Type 0
+Counts n a b = b.bytes_written ≡ (a.bytes_written + n) % 2 ^ 64
