@@ -5,6 +5,7 @@ pub mod Rooms
 pub mod BytesAtOnce
 pub mod ReadAnswers
 pub mod PartAnswers
+pub mod Refusals
 pub mod CountedBytes
 pub mod OctetAnswers
 pub mod Lending

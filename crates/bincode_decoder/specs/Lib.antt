@@ -1,1 +1,2 @@
 pub mod Contexts
+pub mod Memory

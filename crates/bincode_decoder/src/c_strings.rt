@@ -3,6 +3,7 @@ ghost use Rattle.std.specs.Prelude.{◌≡◌, length, vec_capacity};
 ghost use Rattle.bincode_format.specs.Meaning.{IsBytes};
 ghost use Rattle.bincode_format.specs.Words.{without_nul};
 ghost use Rattle.bincode_format.specs.Values.{Reads};
+ghost use Rattle.bincode_decoder.specs.Memory.{RefusedForSome};
 ghost use Rattle.bincode_wire.specs.CStrings.{c_string_vec, c_string_bytes};
 
 use crate::decoder::Decoder;
@@ -14,10 +15,11 @@ use bincode_wire::own::ffi::CString;
 /// with `CStringNulError` where one of the bytes, all of which are read, is zero, with the place of the first. A fault
 /// leaves what was charged before it.
 pub fn decode_c_string<D: Decoder>(decoder: &mut D) -> Result<CString, DecodeError>
-    ensures { Reads D.told D.rest D.charge D.failures D.place D.C.bound D.R.ended D.R.device (Unit {0})
+    ensures read { Reads D.told D.rest D.charge D.failures D.place D.C.bound D.R.ended D.R.device (Unit {0})
         (without_nul D.C.setting)
         (λ m v. IsBytes (c_string_bytes v) m × (vec_capacity (c_string_vec v) ≡ length (c_string_bytes v)))
         (D.charge decoder.old) result decoder.old decoder.new }
+    ensures refused { RefusedForSome D.told D.rest D.C.setting D.R.ended D.R.device result decoder.old }
 {
     let bytes = decode_counted(decoder)?;
     match CString::new(bytes) {

@@ -6,6 +6,7 @@ ghost use Rattle.bincode_format.specs.Format.{raw, unsure, charged};
 ghost use Rattle.bincode_format.specs.Meaning.{IsBytes};
 ghost use Rattle.bincode_format.specs.Words.{counted, text};
 ghost use Rattle.bincode_format.specs.Values.{Reads};
+ghost use Rattle.bincode_decoder.specs.Memory.{RefusedForSome};
 
 use crate::decoder::Decoder;
 use crate::integers::read_from;
@@ -45,11 +46,13 @@ fn decode_claimed<D: Decoder>(decoder: &mut D, count: usize) -> Result<Vec<u8>, 
 
 /// Reads a length, and then so many bytes in one piece, into a vector with room for just so many. Fails where the
 /// length can't be read, with `LimitExceeded` where the charge for the bytes passes the limit, with `Memory` where
-/// their room is refused, and where the reader fails. A fault leaves what was charged before it.
+/// their room is refused, which it never is for no bytes, and where the reader fails. A fault leaves what was charged
+/// before it.
 pub fn decode_counted<D: Decoder>(decoder: &mut D) -> Result<Vec<u8>, DecodeError>
     ensures room { IfOk result (λ v. vec_capacity v ≡ length v.items) }
     ensures read { Reads D.told D.rest D.charge D.failures D.place D.C.bound D.R.ended D.R.device (Unit {0})
         (counted D.C.setting) (λ bytes v. bytes ≡ v.items) (D.charge decoder.old) result decoder.old decoder.new }
+    ensures refused { RefusedForSome D.told D.rest D.C.setting D.R.ended D.R.device result decoder.old }
 {
     let count = decode_length(decoder)?;
     decode_claimed(decoder, count)
@@ -58,9 +61,10 @@ pub fn decode_counted<D: Decoder>(decoder: &mut D) -> Result<Vec<u8>, DecodeErro
 /// Reads a length, and so many bytes as a text, with room for just so many. Fails where `decode_counted` does, or with
 /// `Utf8` where the bytes, all of which are read, are no text. A fault leaves what was charged before it.
 pub fn decode_text<D: Decoder>(decoder: &mut D) -> Result<String, DecodeError>
-    ensures { Reads D.told D.rest D.charge D.failures D.place D.C.bound D.R.ended D.R.device (Unit {0})
+    ensures read { Reads D.told D.rest D.charge D.failures D.place D.C.bound D.R.ended D.R.device (Unit {0})
         (text D.C.setting) (λ m v. IsBytes (string_bytes v) m × (string_capacity v ≡ length (string_bytes v)))
         (D.charge decoder.old) result decoder.old decoder.new }
+    ensures refused { RefusedForSome D.told D.rest D.C.setting D.R.ended D.R.device result decoder.old }
 {
     let bytes = decode_counted(decoder)?;
     match String::from_utf8(bytes) {

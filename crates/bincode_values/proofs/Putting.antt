@@ -32,12 +32,12 @@ entries-push cmp entries (item ∷ items) k v = entries-push cmp (insert_entry c
 pub refused-so_far :
     {D A T : Type 0} {told : D → Type 0} {rest : D → List ℕ} {charge failures : D → ℕ} {place : D → List GName} {limit : Option ℕ} {claim : ℕ}
     {format : Format Meaning} {given : Meaning → T → Type 0} {count read : ℕ} {vs : List T} {old now : D} {ended : ℕ → DecodeError → Type 0}
-    {device : DeviceErrors} {values : A → List T} →
+    {device : DeviceErrors} {grows : Type 0} {values : A → List T} → grows →
     RunSoFar told rest charge failures place limit claim format given count read vs old now → read ≤ count →
-    RunRead told rest charge failures place limit ended device (Unit {0}) claim format given count values (Err Memory) old now
-refused-so_far {charge = charge} {limit = limit} {claim = claim} {count = count} {read = read} {old = old} {now = now} h l = record {
+    RunRead told rest charge failures place limit ended device grows claim format given count values (Err Memory) old now
+refused-so_far {charge = charge} {limit = limit} {claim = claim} {count = count} {read = read} {old = old} {now = now} room h l = record {
   ok = λ k. tt;
-  err = λ k. by_memory tt refl (h.known k).2.is_behind;
+  err = λ k. by_memory room refl (h.known k).2.is_behind;
   counted = h.counted;
   tells = λ k. (h.known k).0;
   held = held-within limit claim read count (charge old) (charge now) l h.held;
@@ -68,4 +68,4 @@ module _ {D T : Type 0} {told : D → Type 0} {rest : D → List ℕ} {charge fa
       MatchResult r (λ v. values v ≡ vs) (λ e. e ≡ Memory) →
       RunRead told rest charge failures place limit ended device (Unit {0}) claim format given count values r old now
   finished-so_far (Ok v) h all made = all-so_far h all made
-  finished-so_far (Err e) h all refused = rw refused (refused-so_far h (omega (arith, all)))
+  finished-so_far (Err e) h all refused = rw refused (refused-so_far tt h (omega (arith, all)))

@@ -1,11 +1,14 @@
 //! Sets and maps behind their length, into which what is read is put in turn.
-ghost use Rattle.std.specs.Prelude.{◌≡◌, ◌*◌, ◌++◌, ◌∷◌, List, [], IfOk, MatchResult};
+ghost use Rattle.std.specs.Prelude.{ℕ, ◌≡◌, ◌<◌, ◌≤◌, ◌*◌, ◌++◌, ◌∷◌, List, [], IfOk, MatchResult};
+ghost use Rattle.std.specs.HashMap.{spare};
+ghost use Rattle.std.specs.HashSet.{spare as set_spare};
 ghost use Rattle.bincode_base.specs.declared.error.DecodeError.TheVariants.{Memory};
 ghost use Rattle.bincode_format.specs.Collections.{IsMadeOf, Makes, MakesMap, MakesSet};
 ghost use Rattle.bincode_format.specs.Hashed.{MakesHashedMap, MakesHashedSet};
 ghost use Rattle.bincode_format.specs.Run.{CanRelease};
 ghost use Rattle.bincode_format.specs.Values.{Reads, RunRead};
 ghost use Rattle.bincode_format.specs.Words.{array, list};
+ghost use Rattle.bincode_decoder.specs.Memory.{RefusedForSome};
 
 use crate::runs::decode_next;
 use crate::values::ReadValues;
@@ -28,10 +31,14 @@ pub trait Puts: Drop + Sized {
     /// These items, put one after the other into one that holds nothing, make it hold those.
     ghost makes: { Makes Self.Item };
 
+    /// It has room for this many items more, if it reserves any.
+    ghost has_room: { Self → ℕ → Type 0 };
+
     /// One that holds nothing, with room for `len` items if it reserves any. Fails with `Memory` where the room is
-    /// refused.
+    /// refused, which it never is for none.
     fn start(alloc: Global, len: usize) -> Result<Self, DecodeError>
-        ensures { MatchResult result (λ v. makes [] (held v)) (λ e. e ≡ Memory) };
+        ensures begun { MatchResult result (λ v. makes [] (held v)) (λ e. (0 < len) × (e ≡ Memory)) }
+        ensures room { IfOk result (λ v. has_room v len) };
 
     /// Puts an item. Fails with `Memory` where its room is refused.
     fn put(&mut self, item: Self::Item) -> Result<(), DecodeError>
@@ -46,6 +53,8 @@ impl<K: Wire + Ord + Drop> Puts for BTreeSet<K> {
     ghost held = { λ v. v.keys };
 
     ghost makes = { MakesSet K.cmp };
+
+    ghost has_room = { λ v len. Unit {0} };
 
     #[inline(always)]
     fn start(alloc: Global, _len: usize) -> Result<BTreeSet<K>, DecodeError> {
@@ -67,6 +76,8 @@ impl<K: Wire + Ord + Drop, V: Wire + Drop> Puts for BTreeMap<K, V> {
     ghost held = { λ v. v.entries };
 
     ghost makes = { MakesMap K.cmp };
+
+    ghost has_room = { λ v len. Unit {0} };
 
     #[inline(always)]
     fn start(alloc: Global, _len: usize) -> Result<BTreeMap<K, V>, DecodeError> {
@@ -90,8 +101,13 @@ impl<K: Wire + Eq + Hash + Drop, S: BuildHasher + Default + Drop> Puts for HashS
 
     ghost makes = { MakesHashedSet K.eq };
 
+    ghost has_room = { λ v len. len ≤ set_spare v };
+
     #[inline(always)]
     fn start(alloc: Global, len: usize) -> Result<HashSet<K, S>, DecodeError> {
+        if len == 0 {
+            return Ok(HashSet::with_hasher(alloc, S::default()));
+        }
         let Ok(started) = HashSet::with_capacity_and_hasher(alloc, len, S::default()) else {
             return Err(DecodeError::Memory);
         };
@@ -115,8 +131,13 @@ impl<K: Wire + Eq + Hash + Drop, V: Wire + Drop, S: BuildHasher + Default + Drop
 
     ghost makes = { MakesHashedMap K.eq };
 
+    ghost has_room = { λ v len. len ≤ spare v };
+
     #[inline(always)]
     fn start(alloc: Global, len: usize) -> Result<HashMap<K, V, S>, DecodeError> {
+        if len == 0 {
+            return Ok(HashMap::with_hasher(alloc, S::default()));
+        }
         let Ok(started) = HashMap::with_capacity_and_hasher(alloc, len, S::default()) else {
             return Err(DecodeError::Memory);
         };
@@ -141,7 +162,7 @@ fn decode_items<D: Decoder, V: ReadValues<D>, M: Puts<Item = V::Value>>(
 ) -> Result<M, DecodeError>
     requires { CanRelease D.C.bound (D.charge decoder.old) (len * V.Value.its.claim) }
     ensures { (items : List V.Value) × IfOk result (λ v. M.makes items (M.held v))
-        × RunRead D.told D.rest D.charge D.failures D.place D.C.bound D.R.ended D.R.device (Unit {0}) V.Value.its.claim
+        × RunRead D.told D.rest D.charge D.failures D.place D.C.bound D.R.ended D.R.device (0 < len) V.Value.its.claim
         (V.Value.its.format D.C.setting) V.Value.its.given len (λ _. items) result decoder.old decoder.new }
 {
     let mut filling = M::start(decoder.alloc(), len)?;
@@ -158,7 +179,7 @@ fn decode_claimed<D: Decoder, V: ReadValues<D>, M: Puts<Item = V::Value>>(
     decoder: &mut D,
     len: usize,
 ) -> Result<M, DecodeError>
-    ensures { Reads D.told D.rest D.charge D.failures D.place D.C.bound D.R.ended D.R.device (Unit {0})
+    ensures { Reads D.told D.rest D.charge D.failures D.place D.C.bound D.R.ended D.R.device (0 < len)
         (array len V.Value.its.claim (V.Value.its.format D.C.setting))
         (λ m v. IsMadeOf M.makes (λ x n. V.Value.its.given n x) (M.held v) m) (D.charge decoder.old) result
         decoder.old decoder.new }
@@ -174,10 +195,11 @@ fn decode_claimed<D: Decoder, V: ReadValues<D>, M: Puts<Item = V::Value>>(
 pub fn decode_keyed<D: Decoder, V: ReadValues<D>, M: Puts<Item = V::Value>>(
     decoder: &mut D,
 ) -> Result<M, DecodeError>
-    ensures { Reads D.told D.rest D.charge D.failures D.place D.C.bound D.R.ended D.R.device (Unit {0})
+    ensures read { Reads D.told D.rest D.charge D.failures D.place D.C.bound D.R.ended D.R.device (Unit {0})
         (list D.C.setting V.Value.its.claim (V.Value.its.format D.C.setting))
         (λ m v. IsMadeOf M.makes (λ x n. V.Value.its.given n x) (M.held v) m) (D.charge decoder.old) result
         decoder.old decoder.new }
+    ensures refused { RefusedForSome D.told D.rest D.C.setting D.R.ended D.R.device result decoder.old }
 {
     let len = decode_length(decoder)?;
     decode_claimed::<D, V, M>(decoder, len)

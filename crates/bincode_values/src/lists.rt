@@ -1,5 +1,5 @@
 //! Lists behind their length, whose room is reserved at once.
-ghost use Rattle.std.specs.Prelude.{◌≡◌, length, IfOk, vec_capacity};
+ghost use Rattle.std.specs.Prelude.{◌≡◌, ◌<◌, length, IfOk, vec_capacity};
 ghost use Rattle.std.specs.BinaryHeap.{heap_items};
 ghost use Rattle.std.specs.Box.{boxed_slice_items};
 ghost use Rattle.std.specs.Rc.{rc_slice_items};
@@ -7,6 +7,7 @@ ghost use Rattle.bincode_format.specs.Collections.{IsMadeOf, MakesBag};
 ghost use Rattle.bincode_format.specs.Run.{IsListOf};
 ghost use Rattle.bincode_format.specs.Values.{Reads};
 ghost use Rattle.bincode_format.specs.Words.{array, list};
+ghost use Rattle.bincode_decoder.specs.Memory.{RefusedForSome};
 
 use crate::runs::decode_vec;
 use crate::values::ReadValues;
@@ -24,7 +25,7 @@ fn decode_claimed<D: Decoder, V: ReadValues<D>>(
     len: usize,
 ) -> Result<Vec<V::Value>, DecodeError>
     ensures room { IfOk result (λ v. vec_capacity v ≡ length v.items) }
-    ensures read { Reads D.told D.rest D.charge D.failures D.place D.C.bound D.R.ended D.R.device (Unit {0})
+    ensures read { Reads D.told D.rest D.charge D.failures D.place D.C.bound D.R.ended D.R.device (0 < len)
         (array len V.Value.its.claim (V.Value.its.format D.C.setting))
         (λ m v. IsListOf (λ x n. V.Value.its.given n x) v.items m)
         (D.charge decoder.old) result decoder.old decoder.new }
@@ -39,10 +40,11 @@ fn decode_claimed<D: Decoder, V: ReadValues<D>>(
 pub fn decode_list<D: Decoder, V: ReadValues<D>>(
     decoder: &mut D,
 ) -> Result<Vec<V::Value>, DecodeError>
-    ensures { Reads D.told D.rest D.charge D.failures D.place D.C.bound D.R.ended D.R.device (Unit {0})
+    ensures read { Reads D.told D.rest D.charge D.failures D.place D.C.bound D.R.ended D.R.device (Unit {0})
         (list D.C.setting V.Value.its.claim (V.Value.its.format D.C.setting))
         (λ m v. IsListOf (λ x n. V.Value.its.given n x) v.items m × (vec_capacity v ≡ length v.items))
         (D.charge decoder.old) result decoder.old decoder.new }
+    ensures refused { RefusedForSome D.told D.rest D.C.setting D.R.ended D.R.device result decoder.old }
 {
     let len = decode_length(decoder)?;
     decode_claimed::<D, V>(decoder, len)
@@ -54,10 +56,11 @@ pub fn decode_heap<D: Decoder, V: ReadValues<D>>(
 ) -> Result<BinaryHeap<V::Value>, DecodeError>
 where
     V::Value: Ord,
-    ensures { Reads D.told D.rest D.charge D.failures D.place D.C.bound D.R.ended D.R.device (Unit {0})
+    ensures read { Reads D.told D.rest D.charge D.failures D.place D.C.bound D.R.ended D.R.device (Unit {0})
         (list D.C.setting V.Value.its.claim (V.Value.its.format D.C.setting))
         (λ m v. IsMadeOf MakesBag (λ x n. V.Value.its.given n x) (heap_items v) m) (D.charge decoder.old) result
         decoder.old decoder.new }
+    ensures refused { RefusedForSome D.told D.rest D.C.setting D.R.ended D.R.device result decoder.old }
 {
     let values = decode_list::<D, V>(decoder)?;
     Ok(BinaryHeap::from(values))
@@ -68,10 +71,11 @@ where
 pub fn decode_queue<D: Decoder, V: ReadValues<D>>(
     decoder: &mut D,
 ) -> Result<VecDeque<V::Value>, DecodeError>
-    ensures { Reads D.told D.rest D.charge D.failures D.place D.C.bound D.R.ended D.R.device (Unit {0})
+    ensures read { Reads D.told D.rest D.charge D.failures D.place D.C.bound D.R.ended D.R.device (Unit {0})
         (list D.C.setting V.Value.its.claim (V.Value.its.format D.C.setting))
         (λ m v. IsListOf (λ x n. V.Value.its.given n x) v.items m) (D.charge decoder.old) result decoder.old
         decoder.new }
+    ensures refused { RefusedForSome D.told D.rest D.C.setting D.R.ended D.R.device result decoder.old }
 {
     let list = decode_list::<D, V>(decoder)?;
     Ok(VecDeque::from(list))
@@ -82,10 +86,11 @@ pub fn decode_queue<D: Decoder, V: ReadValues<D>>(
 pub fn decode_boxed_slice<D: Decoder, V: ReadValues<D>>(
     decoder: &mut D,
 ) -> Result<BoxedSlice<V::Value>, DecodeError>
-    ensures { Reads D.told D.rest D.charge D.failures D.place D.C.bound D.R.ended D.R.device (Unit {0})
+    ensures read { Reads D.told D.rest D.charge D.failures D.place D.C.bound D.R.ended D.R.device (Unit {0})
         (list D.C.setting V.Value.its.claim (V.Value.its.format D.C.setting))
         (λ m v. IsListOf (λ x n. V.Value.its.given n x) (boxed_slice_items v) m) (D.charge decoder.old) result
         decoder.old decoder.new }
+    ensures refused { RefusedForSome D.told D.rest D.C.setting D.R.ended D.R.device result decoder.old }
 {
     let list = decode_list::<D, V>(decoder)?;
     Ok(list.into_boxed_slice())

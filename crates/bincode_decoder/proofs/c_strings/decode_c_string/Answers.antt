@@ -11,19 +11,19 @@ use Rattle.bincode_wire.specs.CStrings.{nul_place}
 use Rattle.bincode_decoder.proofs.PartAnswers.{first-stops, test-passed, test-failed}
 use Rattle.bincode_decoder.proofs.c_strings.decode_c_string.Goals as goal
 
-pub returns-in_err-bytes : goal.returns-in_err-bytes
-returns-in_err-bytes g c =
+pub returns-in_err-bytes-clause-read : goal.returns-in_err-bytes-clause-read
+returns-in_err-bytes-clause-read g c =
     let p = err_from_is_err_and c.from_residual.result c.from_residual.ensures.1 in
     rw (p.1, p.2) (first-stops (counted g.D.C.Config.setting) _ (λ h. h) c.in_err-bytes.ensures.read)
 
-pub returns-in-Ok : goal.returns-in-Ok
-returns-in-Ok g c =
+pub returns-in-Ok-clause-read : goal.returns-in-Ok-clause-read
+returns-in-Ok-clause-read g c =
     let bytes = c.in_ok-bytes.bytes in
     let same = sym c.in-Ok.ensures.0 in
     test-passed nul_test c.in_ok-bytes.ensures.read (Bytes bytes.items) c.in-Ok.text (nul_test-passes bytes.items c.in-Ok.ensures.1)
     (ap (λ v. Bytes v.items) same, subst (λ v. vec_capacity v ≡ length v.items) same c.in_ok-bytes.ensures.room)
 
-pub returns-in-Err : goal.returns-in-Err
-returns-in-Err g c =
+pub returns-in-Err-clause-read : goal.returns-in-Err-clause-read
+returns-in-Err-clause-read g c =
     test-failed nul_test c.in_ok-bytes.ensures.read (counted-lawful g.D.C.Config.setting) (NulAt (nul_place c.in-Err.fault)) _
     (ap (without_nul_of c.in_ok-bytes.bytes.items) c.in-Err.ensures.0) (ap CStringNulError c.nul_position.ensures)

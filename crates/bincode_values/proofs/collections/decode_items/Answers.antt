@@ -21,7 +21,7 @@ pub returns-in_err-put : goal.returns-in_err-put
 returns-in_err-put g c =
     let p = err_from_is_err_and c.from_residual-in_err-put.result c.from_residual-in_err-put.ensures.1 in
     let read = next-so_far c.loop.invariant (omega arith) (g.V.Value.Wire.its.lawful _) (g.V.Value.Wire.its.balanced _) refl c.in_ok-item.ensures in
-    rw (p.1, p.2, c.in_err-put.ensures) (refused-so_far read (omega arith))
+    rw (p.1, p.2, c.in_err-put.ensures) (refused-so_far tt read (omega arith))
 
 pub loop-preserved : goal.loop-preserved
 loop-preserved g c =

@@ -3,7 +3,6 @@ use Rattle.std.proofs.lemmas.Result.{err_from_is_err_and}
 use Rattle.bincode_laws.specs.RunLaws.{array-passed}
 use Rattle.bincode_decoder.proofs.ReadAnswers.{claim-passed}
 use Rattle.bincode_values.proofs.Containers.{array-reads, both_ok}
-use Rattle.bincode_values.proofs.Reading.{read-widened}
 use Rattle.bincode_values.proofs.lists.decode_claimed.Goals as goal
 
 pub returns-in_err-claim_container_read-clause-read : goal.returns-in_err-claim_container_read-clause-read
@@ -18,4 +17,4 @@ returns-clause-room g c = both_ok c.decode_vec.result _ _ _ (λ v room length. r
 
 pub returns-clause-read : goal.returns-clause-read
 returns-clause-read g c =
-    array-reads c.claim_container_read.ensures.kept c.in_ok-claim_container_read.ensures.claimed.ok (read-widened c.decode_vec.result (λ _. tt) c.decode_vec.ensures.read)
+    array-reads c.claim_container_read.ensures.kept c.in_ok-claim_container_read.ensures.claimed.ok c.decode_vec.ensures.read

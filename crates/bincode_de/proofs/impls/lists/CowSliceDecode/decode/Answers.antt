@@ -5,7 +5,7 @@ use Rattle.bincode_de.proofs.impls.lists.CowSliceDecode.decode.Goals as goal
 pub returns-in_err-list : goal.returns-in_err-list
 returns-in_err-list g c =
     let p = err_from_is_err_and c.from_residual.result c.from_residual.ensures.1 in
-    rw (p.1, p.2) (read-failed c.in_err-list.ensures)
+    rw (p.1, p.2) (read-failed c.in_err-list.ensures.read)
 
 pub returns : goal.returns
-returns g c = read-made (λ m h. h.0) c.in_ok-list.ensures
+returns g c = read-made (λ m h. h.0) c.in_ok-list.ensures.read
