@@ -5,3 +5,4 @@ pub mod Filled
 pub mod Room
 pub mod Through
 mod StreamHalted
+pub mod Within

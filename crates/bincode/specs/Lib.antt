@@ -4,6 +4,7 @@ pub use Rattle.bincode_base.specs.Setting
 pub use Rattle.bincode_base.specs.ShortText
 pub use Rattle.bincode_base.specs.SignedNames
 pub use Rattle.bincode_base.specs.Slots
+pub use Rattle.bincode_base.specs.StreamError
 pub use Rattle.bincode_format.specs.Number
 pub use Rattle.bincode_format.specs.Charge
 pub use Rattle.bincode_format.specs.Fault
@@ -32,6 +33,7 @@ pub use Rattle.bincode_format.specs.Passed
 pub use Rattle.bincode_format.specs.Put
 pub use Rattle.bincode_format.specs.Device
 pub use Rattle.bincode_format.specs.Reads
+pub use Rattle.bincode_format.specs.Lending
 pub use Rattle.bincode_format.specs.Decoding
 pub use Rattle.bincode_format.specs.Values
 pub use Rattle.bincode_format.specs.Encoding
@@ -39,11 +41,14 @@ pub use Rattle.bincode_format.specs.Claims
 pub use Rattle.bincode_format.specs.Slice
 pub use Rattle.bincode_format.specs.Vec
 pub use Rattle.bincode_format.specs.Agree
+pub use Rattle.bincode_format.specs.Alike
+pub use Rattle.bincode_laws.specs.AlikeLaws
 pub use Rattle.bincode_laws.specs.AllowedLaws
 pub use Rattle.bincode_laws.specs.AnswerLaws
 pub use Rattle.bincode_laws.specs.CostLaws
 pub use Rattle.bincode_laws.specs.ChargedLaws
 pub use Rattle.bincode_laws.specs.CutLaws
+pub use Rattle.bincode_laws.specs.FormatLaws
 pub use Rattle.bincode_laws.specs.Fronts
 pub use Rattle.bincode_laws.specs.LimitLaws
 pub use Rattle.bincode_laws.specs.LimitedLaws
@@ -53,13 +58,21 @@ pub use Rattle.bincode_io.specs.RoomLaws
 pub use Rattle.bincode_io.specs.Slices
 pub use Rattle.bincode_io.specs.Stream
 pub use Rattle.bincode_io.specs.Vectors
+pub use Rattle.bincode_decoder.specs.Contexts
 pub use Rattle.bincode_described.specs.Describing
 pub use Rattle.bincode_shape.specs.Shapes
+pub use Rattle.bincode_shape.specs.Depth
+pub use Rattle.bincode_shape.specs.Counts
+pub use Rattle.bincode_shape.specs.CountLaws
+pub use Rattle.bincode_shape.specs.ShapeLaws
 pub use Rattle.bincode_shape.specs.Rows
 pub use Rattle.bincode_shape.specs.Same
 pub use Rattle.bincode_shape.specs.Unfit
+pub use Rattle.bincode_shaped.specs.Within
 pub use Rattle.bincode_wire.specs.CStrings
 pub use Rattle.bincode_wire.specs.Durations
+pub use Rattle.bincode_wire.specs.Memory
+pub use Rattle.bincode_wire.specs.Rows as TypeRows
 pub use Rattle.bincode_wire.specs.Sums
 pub use Rattle.bincode_wire.specs.TypeLaws
 pub use Rattle.bincode_wire.specs.TypeWords

@@ -10,6 +10,7 @@
 mod borrow;
 pub mod de;
 pub mod enc;
+mod next;
 mod reader;
 mod shaped;
 mod short_slice;
@@ -34,10 +35,11 @@ pub mod model {
 
 /// Types that are described at run time: their shapes, the images of their values, and what reads and writes them.
 pub mod shape {
-    pub use crate::shaped::{decode_shaped, encode_shaped};
+    pub use crate::shaped::{decode_shaped, decode_shaped_within, encode_shaped, measure_shaped};
     pub use bincode_described::described::Described;
     pub use bincode_shape::fits::does_fit;
     pub use bincode_shape::shape::{Shape, Value};
+    pub use bincode_shaped::within::{DecodeWithinError, Measure};
 }
 
 pub use bincode_base::{config, error, short_text};
@@ -54,6 +56,7 @@ pub use bincode_wire::sums::{NoOther, OneOf, Or};
 pub use bincode_wire::wire::Wire;
 pub use bincode_wire::written::MadeOf;
 pub use borrow::{borrow_decode_from_slice, borrow_decode_from_slice_with_context};
+pub use next::decode_next_from_std_read;
 pub use reader::decode_from_reader;
 pub use slice::{decode_from_slice, decode_from_slice_with_context, encode_into_slice};
 pub use streams::{decode_from_std_read, decode_from_std_read_with_context, encode_into_std_write};

@@ -1,9 +1,10 @@
 //! Values whose type is described at run time, into a writer and from a slice.
-ghost use Rattle.std.specs.Prelude.{◌≡◌, ℕ, true, false, OnOk, IsErrAnd, IfOk, IfErr};
+ghost use Rattle.std.specs.Prelude.{◌≡◌, ℕ, true, false, Some, OnOk, IsErrAnd, IfOk, IfErr};
 ghost use Rattle.bincode_format.specs.Answer.{answer};
 ghost use Rattle.bincode_format.specs.Decoding.{Decodes, Stops};
 ghost use Rattle.bincode_format.specs.Device.{WriterFails};
 ghost use Rattle.bincode_format.specs.Encoding.{Ready, Writes, Halts, Encodes, FitsRoom};
+ghost use Rattle.bincode_format.specs.Limited.{WordBounded};
 ghost use Rattle.bincode_format.specs.Slice.{Decoded, FindsWords, TellsFaults, KeepsLimit};
 ghost use Rattle.bincode_shape.specs.Shapes.{format_of, fits, IsImage, TakesMemory};
 ghost use Rattle.bincode_shape.specs.Rows.{AllowsImage};
@@ -22,9 +23,16 @@ use bincode_shaped::decode::decode_shape;
 use bincode_shaped::encode::encode_shape;
 use std::alloc::Global;
 
+mod within;
+
+pub use within::{decode_shaped_within, measure_shaped};
+
 /// Writes a value to a writer, as its shape says. Fails with `Other` and the text `value does not fit the shape` where
 /// it does not, before anything is written, and where the writer refuses a piece; then a front of the word may have
 /// been written.
+///
+/// It goes as deep as the shape: with a stack of 8 MB 1,000 lists in one another were written. `Shape::depth` tells how
+/// deep a shape is, so that a caller may refuse it.
 pub fn encode_shaped<W: Writer, C: Config>(
     shape: &Shape,
     value: &Value,
@@ -70,6 +78,14 @@ fn encode_fitting<W: Writer, C: Config>(
 /// Reads a value of a shape from the front of a slice, and answers how many bytes its word has. The bytes after them
 /// decide nothing. Fails with the first fault of the bytes, with `LimitExceeded` where the charges pass the limit, and
 /// with `Memory` where the shape has a text or holds parts and memory is refused.
+///
+/// Under `Limit<N>` each list and array has at most N elements, and those of all lists together are at most N times
+/// N / 8. Each element is a value of 32 bytes, also where it has no bytes and claims one: so a few bytes may make N
+/// values, and by lists in lists some N times N / 64, which is far more than the limit. For input that is not trusted
+/// call `decode_shaped_within`.
+///
+/// It goes as deep as the shape: with a stack of 8 MB 1,000 lists in one another were read, and 3,000 options in one
+/// another were not. `Shape::depth` tells how deep a shape is, so that a caller may refuse it.
 pub fn decode_shaped<C: Config>(
     alloc: Global,
     shape: &Shape,
@@ -85,6 +101,9 @@ pub fn decode_shaped<C: Config>(
     ensures fault { TellsFaults (format_of shape.now C.setting) C.bound (TakesMemory shape.now) src.now result }
     // and charges that pass the limit are refused.
     ensures limit { KeepsLimit (format_of shape.now C.setting) C.bound (TakesMemory shape.now) src.now result }
+    // Under a limit the word, its lists and arrays, and all their elements together are bounded by it.
+    ensures bounded { IfOk result (λ x. (limit : ℕ) → C.bound ≡ Some limit
+        → WordBounded (format_of shape.now C.setting) limit src.now x.1) }
 {
     let mut reader = SliceReader::new(src);
     let value = decode_shaped_with(alloc, shape, &mut reader, &config)?;

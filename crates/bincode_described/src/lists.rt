@@ -28,12 +28,16 @@ impl<T: Described, const N: usize> Described for [T; N] {
 }
 
 impl Described for String {
+    ghost shape_grows = { ⊥ };
+
     fn shape(_alloc: Global) -> Option<Shape> {
         Some(Shape::Text)
     }
 }
 
 impl<T: Described> Described for Box<T> {
+    ghost shape_grows = { T.shape_grows };
+
     fn shape(alloc: Global) -> Option<Shape> {
         T::shape(alloc)
     }

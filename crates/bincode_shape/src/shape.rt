@@ -2,7 +2,7 @@
 
 /// What the words of a type are like, told at run time. A type of a user's own, or of a program that has no Rust types
 /// at all, may be described by it. How deep shapes may stand in one another is not promised: the calls that take them
-/// go as deep as they do.
+/// go as deep as they do, and so does letting one go. `depth` tells how deep one is.
 #[derive(Debug, Drop, PartialEq)]
 pub enum Shape {
     /// No bytes, as of `()`.

@@ -10,7 +10,7 @@ use Rattle.bincode_format.specs.Decoding.{by_fault}
 use Rattle.bincode_format.specs.Device.{DeviceErrors}
 use Rattle.bincode_format.specs.Fault.{EmptyEnum, UnexpectedVariant, Between, Tells}
 use Rattle.bincode_format.specs.Integers.{Four}
-use Rattle.bincode_format.specs.Meaning.{Choice}
+use Rattle.bincode_format.specs.Meaning.{Meaning, Choice}
 use Rattle.bincode_format.specs.Values.{Reads}
 use Rattle.bincode_format.specs.Words.{tag, behind_tag, chosen}
 use Rattle.bincode_laws.specs.AnswerLaws.{answer-refused}
@@ -29,10 +29,15 @@ use Rattle.bincode_shaped.specs.Held.{IsChosen}
 use Rattle.bincode_shaped.proofs.Picked.{one_of-some, no-parts, picked, unpicked}
 use Rattle.bincode_shaped.proofs.Renamed.{map-reads, map-reads_none}
 
-module _ {D : Type 0} {told : D → Type 0} {rest : D → List ℕ} {charge failures : D → ℕ} {place : D → List GName} {limit : Option ℕ}
-    {ended : ℕ → DecodeError → Type 0} {device : DeviceErrors} (s : Setting) (ps : List Shape) where
+-- the image of a part is one of what was chosen
+pub chosen-image : (ps : List Shape) (found : ℕ) (p : Shape) (held : Box Value Global) → found < length ps → p ≡ get_or ps found p →
+    (m : Meaning) → IsImage p m held.value → IsChosen ps (Choice found m) (found, held)
+chosen-image ps found p held h e m k = (picked-at ps found p held.value h e ∙ k.0, ap (Choice found) k.1)
+
+module _ {D T : Type 0} {told : D → Type 0} {rest : D → List ℕ} {charge failures : D → ℕ} {place : D → List GName} {limit : Option ℕ}
+    {ended : ℕ → DecodeError → Type 0} {device : DeviceErrors} {grows : Type 0} {whole : Meaning → T → Type 0} (s : Setting) (ps : List Shape) where
   pub none-stops : {e : DecodeError} {old : D} → length ps ≡ 0 → Tells ended EmptyEnum e →
-      Reads told rest charge failures place limit ended device (Unit {0}) (one_of (numbered 0 (formats ps)) s) (IsChosen ps) (charge old) (Err e) old old
+      Reads told rest charge failures place limit ended device grows (one_of (numbered 0 (formats ps)) s) whole (charge old) (Err e) old old
   none-stops none tells = rw (no-parts ps none) (record {
     ok = λ known. tt;
     err = λ known. by_fault EmptyEnum (answer-refused _ _ _ _) tells ([], refl);
@@ -46,31 +51,33 @@ module _ {D : Type 0} {told : D → Type 0} {rest : D → List ℕ} {charge fail
   module _ {start : ℕ} (some : 0 < length ps) where
     pub tag-stops : {e : DecodeError} {old new : D} →
         Reads told rest charge failures place limit ended device ⊥ (tag s) (λ (n v : ℕ). n ≡ v) start (Err e) old new →
-        Reads told rest charge failures place limit ended device (Unit {0}) (one_of (numbered 0 (formats ps)) s) (IsChosen ps) start (Err e) old new
+        Reads told rest charge failures place limit ended device grows (one_of (numbered 0 (formats ps)) s) whole start (Err e) old new
     unfolding chosen
     tag-stops read = rw (one_of-some ps s some) (first-stops (tag s) (behind_tag (numbered 0 (formats ps)) s) (λ none. absurd none) read)
 
-    pub held-reads : {found : ℕ} {p : Shape} {held : Box Value Global} {old middle new : D} → found < length ps → p ≡ get_or ps found p →
-        Reads told rest charge failures place limit ended device ⊥ (tag s) (λ n v. n ≡ v) start (Ok found) old middle →
-        Reads told rest charge failures place limit ended device (Unit {0}) (format_of p s) (λ m (v : Box Value Global). IsImage p m v.value) (charge middle) (Ok held) middle new →
-        Reads told rest charge failures place limit ended device (Unit {0}) (one_of (numbered 0 (formats ps)) s) (IsChosen ps) start (Ok (found, held)) old new
-    unfolding chosen
-    held-reads {found = found} {p = p} {held = held} h e first read =
-        rw (one_of-some ps s some) (next-reads (tag s) (behind_tag (numbered 0 (formats ps)) s) (unsigned-lawful integers.U32 4 s (Four refl)) first
-        (rw (picked s ps found p h e) (map-reads (Choice found) (λ m k. (picked-at ps found p held.value h e ∙ k.0, ap (Choice found) k.1)) read)))
+    module _ {U : Type 0} {given : Meaning → U → Type 0} where
+      pub held-reads : {found : ℕ} {p : Shape} {v : U} {w : T} {old middle new : D} → found < length ps → p ≡ get_or ps found p →
+          ((m : Meaning) → given m v → whole (Choice found m) w) →
+          Reads told rest charge failures place limit ended device ⊥ (tag s) (λ n v. n ≡ v) start (Ok found) old middle →
+          Reads told rest charge failures place limit ended device grows (format_of p s) given (charge middle) (Ok v) middle new →
+          Reads told rest charge failures place limit ended device grows (one_of (numbered 0 (formats ps)) s) whole start (Ok w) old new
+      unfolding chosen
+      held-reads {found = found} {p = p} h e gives first read =
+          rw (one_of-some ps s some) (next-reads (tag s) (behind_tag (numbered 0 (formats ps)) s) (unsigned-lawful integers.U32 4 s (Four refl)) first
+          (rw (picked s ps found p h e) (map-reads (Choice found) gives read)))
 
-    pub held-stops : {found : ℕ} {p : Shape} {e : DecodeError} {old middle new : D} → found < length ps → p ≡ get_or ps found p →
-        Reads told rest charge failures place limit ended device ⊥ (tag s) (λ n v. n ≡ v) start (Ok found) old middle →
-        Reads told rest charge failures place limit ended device (Unit {0}) (format_of p s) (λ m (v : Box Value Global). IsImage p m v.value) (charge middle) (Err e) middle new →
-        Reads told rest charge failures place limit ended device (Unit {0}) (one_of (numbered 0 (formats ps)) s) (IsChosen ps) start (Err e) old new
-    unfolding chosen
-    held-stops {found = found} {p = p} h e first read =
-        rw (one_of-some ps s some) (next-reads (tag s) (behind_tag (numbered 0 (formats ps)) s) (unsigned-lawful integers.U32 4 s (Four refl)) first
-        (rw (picked s ps found p h e) (map-reads_none (Choice found) read)))
+      pub held-stops : {found : ℕ} {p : Shape} {e : DecodeError} {old middle new : D} → found < length ps → p ≡ get_or ps found p →
+          Reads told rest charge failures place limit ended device ⊥ (tag s) (λ n v. n ≡ v) start (Ok found) old middle →
+          Reads told rest charge failures place limit ended device grows (format_of p s) given (charge middle) (Err e) middle new →
+          Reads told rest charge failures place limit ended device grows (one_of (numbered 0 (formats ps)) s) whole start (Err e) old new
+      unfolding chosen
+      held-stops {found = found} {p = p} h e first read =
+          rw (one_of-some ps s some) (next-reads (tag s) (behind_tag (numbered 0 (formats ps)) s) (unsigned-lawful integers.U32 4 s (Four refl)) first
+          (rw (picked s ps found p h e) (map-reads_none (Choice found) read)))
 
     pub unpicked-stops : {found last : ℕ} {e : DecodeError} {old new : D} → length ps ≡ last + 1 → length ps ≤ found → Tells ended (UnexpectedVariant (Between 0 last) found) e →
         Reads told rest charge failures place limit ended device ⊥ (tag s) (λ n v. n ≡ v) start (Ok found) old new →
-        Reads told rest charge failures place limit ended device (Unit {0}) (one_of (numbered 0 (formats ps)) s) (IsChosen ps) start (Err e) old new
+        Reads told rest charge failures place limit ended device grows (one_of (numbered 0 (formats ps)) s) whole start (Err e) old new
     unfolding chosen
     unpicked-stops {found = found} {last = last} n h tells first =
         rw (one_of-some ps s some) (next-reads (tag s) (behind_tag (numbered 0 (formats ps)) s) (unsigned-lawful integers.U32 4 s (Four refl)) first

@@ -6,3 +6,5 @@ pub mod Parts
 pub mod Images
 pub mod Optional
 pub mod Chosen
+pub mod Alike
+pub mod Counting

@@ -24,27 +24,27 @@ use Rattle.bincode_shape.specs.ShapeLaws.{format_of-lawful}
 use Rattle.bincode_shape.specs.Rows.{formats, tests, AreImages}
 
 -- these meanings, and then that of the others
-abbrev before : List Meaning → Meaning → Meaning
+abbrev pub before : List Meaning → Meaning → Meaning
 before [] m = m
 before (x ∷ ms) m = Then x (before ms m)
 
-before-push : (ms : List Meaning) (x m : Meaning) → before (ms ++ x ∷ []) m ≡ before ms (Then x m)
+pub before-push : (ms : List Meaning) (x m : Meaning) → before (ms ++ x ∷ []) m ≡ before ms (Then x m)
 before-push [] x m = refl
 before-push (y ∷ ms) x m = ap (Then y) (before-push ms x m)
 
-before-none : (ms : List Meaning) → before ms Nothing ≡ listed ms
+pub before-none : (ms : List Meaning) → before ms Nothing ≡ listed ms
 before-none [] = refl
 before-none (y ∷ ms) = ap (Then y) (before-none ms)
 
 abbrev pub behind : List Meaning → Answer Meaning → Answer Meaning
 behind ms a = and_then a (λ m rest charge. Gave (before ms m) rest charge)
 
-behind-none : (a : Answer Meaning) → behind [] a ≡ a
+pub behind-none : (a : Answer Meaning) → behind [] a ≡ a
 behind-none (Gave m rest c) = refl
 behind-none (Refused why c) = refl
 behind-none PassedLimit = refl
 
-behind-push : (ms : List Meaning) (x : Meaning) (a : Answer Meaning) → behind ms (and_then a (λ m rest charge. Gave (Then x m) rest charge)) ≡ behind (ms ++ x ∷ []) a
+pub behind-push : (ms : List Meaning) (x : Meaning) (a : Answer Meaning) → behind ms (and_then a (λ m rest charge. Gave (Then x m) rest charge)) ≡ behind (ms ++ x ∷ []) a
 behind-push ms x (Gave m rest c) = ap (λ z. Gave z rest c) (sym (before-push ms x m))
 behind-push ms x (Refused why c) = refl
 behind-push ms x PassedLimit = refl
@@ -55,7 +55,7 @@ last-then limit x (Refused why c) = refl
 last-then limit x PassedLimit = refl
 
 -- the first part, and then the others
-part-then : (limit : Option ℕ) (F others : Format Meaning) (input rest : List ℕ) (c d : ℕ) (x : Meaning) → answer limit F input c ≡ Gave x rest d →
+pub part-then : (limit : Option ℕ) (F others : Format Meaning) (input rest : List ℕ) (c d : ℕ) (x : Meaning) → answer limit F input c ≡ Gave x rest d →
     answer limit (first_and F others) input c ≡ and_then (answer limit others rest d) (λ m r e. Gave (Then x m) r e)
 unfolding first_and
 part-then limit F others input rest c d x h =
@@ -63,12 +63,12 @@ part-then limit F others input rest c d x h =
     ∙ answer-then limit others (λ m. done (Then x m)) rest d
     ∙ last-then limit x (answer limit others rest d)
 
-part-stops : (ended : ℕ → DecodeError → Type 0) (device : DeviceErrors) (H : Type 0) (limit : Option ℕ) (F others : Format Meaning) (input : List ℕ) (c before after : ℕ) (rest : List ℕ) {now : ℕ} (e : DecodeError) →
+pub part-stops : (ended : ℕ → DecodeError → Type 0) (device : DeviceErrors) (H : Type 0) (limit : Option ℕ) (F others : Format Meaning) (input : List ℕ) (c before after : ℕ) (rest : List ℕ) {now : ℕ} (e : DecodeError) →
     Stops ended device H (answer limit F input c) before after input rest now e → Stops ended device H (answer limit (first_and F others) input c) before after input rest now e
 unfolding first_and
 part-stops ended device H limit F others input c before after rest e s = stops-first ended device H H (λ h. h) limit F (λ m. map_format (Then m) others) input c before after rest e s
 
-stops-behind : (ended : ℕ → DecodeError → Type 0) (device : DeviceErrors) (H : Type 0) (ms : List Meaning) (a all : Answer Meaning) (before between after : ℕ) (input rest rest' : List ℕ) {now : ℕ} (e : DecodeError) →
+pub stops-behind : (ended : ℕ → DecodeError → Type 0) (device : DeviceErrors) (H : Type 0) (ms : List Meaning) (a all : Answer Meaning) (before between after : ℕ) (input rest rest' : List ℕ) {now : ℕ} (e : DecodeError) →
     behind ms a ≡ all → Takes input rest → before ≤ between → Stops ended device H a between after rest rest' now e → Stops ended device H all before after input rest' now e
 stops-behind ended device H ms a all before between after input rest rest' e same took le (by_fault why h t k) =
     by_fault why (sym same ∙ ap (behind ms) h) t (takes-then input rest rest' took k)

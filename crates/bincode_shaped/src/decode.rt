@@ -1,5 +1,5 @@
 //! Values of a shape, read through any decoder.
-ghost use Rattle.std.specs.Prelude.{◌≡◌, ◌*◌, length, IfOk};
+ghost use Rattle.std.specs.Prelude.{◌≡◌, ◌*◌, length, IfOk, vec_capacity};
 ghost use Rattle.bincode_format.specs.Answer.{unclaimed};
 ghost use Rattle.bincode_format.specs.Run.{CanRelease, IsListOf};
 ghost use Rattle.bincode_format.specs.Values.{Reads, RunRead};
@@ -104,7 +104,8 @@ fn decode_array<D: Decoder>(
     decode_elements(element, claim, len, decoder)
 }
 
-/// Reads so many elements, whose room is claimed: each one's share is released before it is read.
+/// Reads so many elements, whose room is claimed, into a vector with room for just so many: each one's share is
+/// released before it is read.
 #[cycle(decode)]
 fn decode_elements<D: Decoder>(
     element: &Shape,
@@ -117,13 +118,14 @@ fn decode_elements<D: Decoder>(
         claim (format_of element.now D.C.setting) (IsImage element.now) len (λ v. v.items) result decoder.old
         decoder.new }
     ensures length { IfOk result (λ v. length v.items ≡ len) }
+    ensures room { IfOk result (λ v. vec_capacity v ≡ len) }
 {
-    let mut values = Vec::new(decoder.alloc());
+    let Ok(mut values) = Vec::with_capacity(decoder.alloc(), len) else {
+        return Err(DecodeError::Memory);
+    };
     for _ in 0..len {
         let value = decode_element(element, claim, decoder)?;
-        let Ok(()) = values.push(value) else {
-            return Err(DecodeError::Memory);
-        };
+        values.push_reserved(value);
     }
     Ok(values)
 }
@@ -144,19 +146,20 @@ fn decode_element<D: Decoder>(
     decode_shape(element, decoder)
 }
 
-/// Reads a word of each part in turn.
+/// Reads a word of each part in turn, into a vector with room for just so many.
 #[cycle(decode)]
 fn decode_parts<D: Decoder>(parts: &[Shape], decoder: &mut D) -> Result<Vec<Value>, DecodeError>
-    ensures { Reads D.told D.rest D.charge D.failures D.place D.C.bound D.R.ended D.R.device (Unit {0})
+    ensures read { Reads D.told D.rest D.charge D.failures D.place D.C.bound D.R.ended D.R.device (Unit {0})
         (tuple (at D.C.setting (formats parts.now))) (λ m v. AreImages parts.now m v.items) (D.charge decoder.old)
         result decoder.old decoder.new }
+    ensures room { IfOk result (λ v. vec_capacity v ≡ length parts.now) }
 {
-    let mut values = Vec::new(decoder.alloc());
+    let Ok(mut values) = Vec::with_capacity(decoder.alloc(), parts.len()) else {
+        return Err(DecodeError::Memory);
+    };
     for part in parts {
         let value = decode_shape(part, decoder)?;
-        let Ok(()) = values.push(value) else {
-            return Err(DecodeError::Memory);
-        };
+        values.push_reserved(value);
     }
     Ok(values)
 }

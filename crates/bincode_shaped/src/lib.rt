@@ -4,5 +4,7 @@
 mod contents;
 pub mod decode;
 pub mod encode;
+pub mod measure;
 mod numbers;
 mod scalars;
+pub mod within;

@@ -1,6 +1,7 @@
 use Rattle.std.proofs.Common.{refl}
 use Rattle.std.proofs.lemmas.Result.{err_from_is_err_and}
-use Rattle.bincode_shape.specs.ShapeLaws.{format_of-lawful, format_of-balanced}
+use Rattle.bincode_laws.specs.LimitedLaws.{decoded-bounded}
+use Rattle.bincode_shape.specs.ShapeLaws.{format_of-lawful, format_of-balanced, format_of-charged}
 use Rattle.bincode.proofs.Decoded.{stopped-word, stopped-fault, stopped-limit, refused-alone, or_refused}
 use Rattle.bincode.proofs.Decoded.{decoded-word, decoded-shorter, decoded-fault, decoded-limit}
 use Rattle.bincode.proofs.shaped.decode_shaped.Goals as goal
@@ -45,3 +46,9 @@ returns-clause-limit g c =
 
 pub returns-clause-found : goal.returns-clause-found
 returns-clause-found g c = λ word more m s i w within. tt
+
+pub returns-clause-bounded : goal.returns-clause-bounded
+returns-clause-bounded g c = λ limit e.
+    let shape = c.args.shape.now in
+    decoded-bounded _ (format_of-lawful shape _) (format_of-balanced shape _) (format_of-charged shape _) _ _ _ _
+    (decoded-word _ (format_of-lawful shape _) (format_of-balanced shape _) _ _ _ _ _ (rw c.new-reader.ensures at (c.in_ok-value.ensures.ok tt)).1 _ _ c.bytes_left.ensures refl) limit e

@@ -1,0 +1,47 @@
+use Rattle.std.proofs.Common.{refl}
+use Rattle.std.proofs.lemmas.Result.{err_from_is_err_and}
+use Rattle.bincode_shape.specs.ShapeLaws.{format_of-lawful, format_of-balanced}
+use Rattle.bincode.proofs.Decoded.{stopped-word, stopped-fault, stopped-limit, refused-alone, or_refused}
+use Rattle.bincode.proofs.Decoded.{decoded-word, decoded-shorter, decoded-fault, decoded-limit}
+use Rattle.bincode.proofs.shaped.within.measure_shaped.Goals as goal
+
+pub returns-in_err-values-clause-found : goal.returns-in_err-values-clause-found
+returns-in_err-values-clause-found g c =
+    let p = err_from_is_err_and c.from_residual.result c.from_residual.ensures.1 in
+    let shape = c.args.shape.now in
+    λ word more m s i w within. rw (p.1, p.2) (refused-alone _ _ _ _ (stopped-word _ (format_of-lawful shape _) (format_of-balanced shape _) _ _ _ _ _ _ _ _ _
+    (rw c.new-reader.ensures at (c.in_err-values.ensures.err tt)).1 word more m s i w within))
+
+pub returns-in_err-values-clause-fault : goal.returns-in_err-values-clause-fault
+returns-in_err-values-clause-fault g c =
+    let p = err_from_is_err_and c.from_residual.result c.from_residual.ensures.1 in
+    let shape = c.args.shape.now in
+    λ why s u within. rw (p.1, p.2) (or_refused _ _ _ _ _ (stopped-fault _ (format_of-lawful shape _) (format_of-balanced shape _) _ _ _ _ _ _ _ _ _
+    (rw c.new-reader.ensures at (c.in_err-values.ensures.err tt)).1 why s u within))
+
+pub returns-in_err-values-clause-limit : goal.returns-in_err-values-clause-limit
+returns-in_err-values-clause-limit g c =
+    let p = err_from_is_err_and c.from_residual.result c.from_residual.ensures.1 in
+    let shape = c.args.shape.now in
+    λ s u h. rw (p.1, p.2) (or_refused _ _ _ _ _ (stopped-limit _ (format_of-lawful shape _) (format_of-balanced shape _) _ _ _ _ _ _ _ _ _
+    (rw c.new-reader.ensures at (c.in_err-values.ensures.err tt)).1 s u h))
+
+pub overflow_sub-result : goal.overflow_sub-result
+overflow_sub-result g c =
+    let shape = c.args.shape.now in decoded-shorter _ (format_of-lawful shape _) (format_of-balanced shape _) _ _ _ _ _ (rw c.new-reader.ensures at (c.in_ok-values.ensures.ok tt)).1 _ c.bytes_left.ensures
+
+pub returns-clause-word : goal.returns-clause-word
+returns-clause-word g c =
+    let shape = c.args.shape.now in
+    decoded-word _ (format_of-lawful shape _) (format_of-balanced shape _) _ _ _ _ _ (rw c.new-reader.ensures at (c.in_ok-values.ensures.ok tt)).1 _ _ c.bytes_left.ensures refl
+
+pub returns-clause-fault : goal.returns-clause-fault
+returns-clause-fault g c =
+    let shape = c.args.shape.now in decoded-fault _ (format_of-lawful shape _) (format_of-balanced shape _) _ _ _ _ _ (rw c.new-reader.ensures at (c.in_ok-values.ensures.ok tt)).1
+
+pub returns-clause-limit : goal.returns-clause-limit
+returns-clause-limit g c =
+    let shape = c.args.shape.now in decoded-limit _ (format_of-lawful shape _) (format_of-balanced shape _) _ _ _ _ _ (rw c.new-reader.ensures at (c.in_ok-values.ensures.ok tt)).1
+
+pub returns-clause-found : goal.returns-clause-found
+returns-clause-found g c = λ word more m s i w within. tt

@@ -1,0 +1,14 @@
+-- Counts of values that were read in turn.
+use Rattle.std.specs.Prelude.{ℕ, ◌+◌, List, [], ◌∷◌, Result, Ok, Err}
+use Rattle.bincode_base.specs.declared.error.DecodeError.{DecodeError}
+use Rattle.bincode_shape.specs.Counts.{capped}
+
+-- the sum of some counts
+abbrev pub total : List ℕ → ℕ
+total [] = 0
+total (n ∷ ns) = n + total ns
+
+-- what holds the values that were counted is one more
+abbrev pub with_whole : Result ℕ DecodeError → Result ℕ DecodeError
+with_whole (Ok n) = Ok (capped (n + 1))
+with_whole (Err e) = Err e
