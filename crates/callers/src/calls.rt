@@ -21,6 +21,7 @@ use std::alloc::Global;
 use std::cell::{Cell, RefCell};
 use std::cmp::Reverse;
 use std::marker::PhantomData;
+use std::net::{IpAddr, Ipv4Addr, Ipv6Addr, SocketAddr, SocketAddrV4, SocketAddrV6};
 use std::num::{NonZeroU16, Wrapping};
 use std::ops::{Bound, Range, RangeInclusive};
 
@@ -188,6 +189,12 @@ pub fn types_without_memory()
     ensures span { ⟦<Duration as Wire>⟧.its.grows → ⊥ }
     ensures cell { ⟦<Cell<u32> as Wire>⟧.its.grows → ⊥ }
     ensures ref_cell { ⟦<RefCell<u32> as Wire>⟧.its.grows → ⊥ }
+    ensures address { ⟦<IpAddr as Wire>⟧.its.grows → ⊥ }
+    ensures address_v4 { ⟦<Ipv4Addr as Wire>⟧.its.grows → ⊥ }
+    ensures address_v6 { ⟦<Ipv6Addr as Wire>⟧.its.grows → ⊥ }
+    ensures socket { ⟦<SocketAddr as Wire>⟧.its.grows → ⊥ }
+    ensures socket_v4 { ⟦<SocketAddrV4 as Wire>⟧.its.grows → ⊥ }
+    ensures socket_v6 { ⟦<SocketAddrV6 as Wire>⟧.its.grows → ⊥ }
 {}
 
 /// Writes a value of a type whose every valid value can be written. After a failure a front of an allowed word stands

@@ -1,6 +1,7 @@
 //! What a user writes beside types: callers that rest on the contracts of the two calls, and devices that may fail.
 #![tactic(auto)]
 
+pub mod alike;
 pub mod borrowed;
 pub mod calls;
 pub mod cut;
@@ -9,5 +10,7 @@ pub mod lengths;
 pub mod limits;
 pub mod longer;
 pub mod looped;
+pub mod members;
 pub mod rooms;
+pub mod shaped;
 pub mod shows;

@@ -1,6 +1,8 @@
 //! Callers that read of more bytes and of fewer, and rest on the contracts of the two calls alone.
-ghost use Rattle.std.specs.Prelude.{◌≤◌, ◌<◌, ◌⊎◌, length, IfOk};
+ghost use Rattle.std.specs.Prelude.{◌≤◌, ◌<◌, ◌⊎◌, ◌++◌, ℕ, List, All, Result, length, IfOk};
+ghost use Rattle.bincode_base.specs.declared.error.DecodeError.{DecodeError};
 ghost use Rattle.bincode_format.specs.Agree.{SameAnswer, WasCut, WasRefused};
+ghost use Rattle.bincode_format.specs.Slice.{IsAnswer};
 
 use bincode::config::Config;
 use bincode::de::Decode;
@@ -33,4 +35,18 @@ pub fn read_longer<T: Decode<()>, C: Config>(
     let front = decode_from_slice(alloc, &bytes[..count], config);
     let whole = decode_from_slice(alloc, bytes, config);
     ReadLonger { front, whole }
+}
+
+/// Reads a value from bytes to which more may be added. Where it is answered that they ended too early, there are such
+/// as can follow them with which this is answered no more.
+pub fn read_part<T: Decode<()>, C: Config>(
+    alloc: Global,
+    bytes: &[u8],
+    config: C,
+) -> Result<(T, usize), DecodeError>
+    ensures { WasCut result → (more : List ℕ) × All (λ x. x < 256) more × ((later : Result (T × ℕ) DecodeError)
+        → IsAnswer (T.its.format C.setting) C.bound T.its.grows T.its.given (bytes.now ++ more) later
+        → ¬ (WasCut later)) }
+{
+    decode_from_slice(alloc, bytes, config)
 }

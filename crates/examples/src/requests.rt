@@ -2,7 +2,7 @@
 ghost use Rattle.std.specs.Prelude.{◌≡◌, ℕ, Err, IfOk, MatchOption, Some, drop, length};
 ghost use Rattle.std.specs.List.{All};
 ghost use Rattle.bincode.specs.Slice.{IsAnswer};
-ghost use Rattle.examples.specs.Requests.{FollowOn, IsBounded, IsWithin};
+ghost use Rattle.examples.specs.Requests.{FollowOn, IsBounded, IsRead, IsWithin};
 
 use bincode::config::{Config, Configuration, Limit, LittleEndian, Varint, standard};
 use bincode::de::Decode;
@@ -41,7 +41,10 @@ pub fn read_requests<T: Decode<()>, C: Config>(
     most: usize,
     config: C,
 ) -> Result<Requests<T>, AllocError>
-    // Each request is bounded by the limit,
+    // Each request is a word within the limit, and its value is that of the word,
+    ensures words { IfOk result (λ r.
+        All (IsRead (T.its.format C.setting) C.bound T.its.given received.now) r.read.items) }
+    // the limit bounds it,
     ensures bounded { (limit : ℕ) → C.bound ≡ Some limit
         → IfOk result (λ r. All (IsBounded (T.its.format C.setting) limit received.now) r.read.items) }
     // they stand one behind the other,
@@ -78,8 +81,9 @@ pub fn read_requests<T: Decode<()>, C: Config>(
     })
 }
 
-/// The loop of a server: no request takes more than 98304 bytes, and none has a list, a map or an array that reserves
-/// more than 65536 bytes by the claim size of its elements, whatever was received.
+/// The loop of a server: what was received is read in turn, as `read_requests` does. No request takes more than 98304
+/// bytes, and none has a list, a map or an array that reserves more than 65536 bytes by the claim size of its elements,
+/// whatever was received.
 pub fn serve<T: Decode<()>>(
     alloc: Global,
     received: &[u8],
@@ -88,7 +92,12 @@ pub fn serve<T: Decode<()>>(
     ensures bytes { IfOk result (λ r. All (IsWithin 98304) r.read.items) }
     ensures room { IfOk result (λ r.
         All (IsBounded (T.its.format ⟦<ServerConfig as Config>⟧.setting) 65536 received.now) r.read.items) }
+    ensures words { IfOk result (λ r. All (IsRead (T.its.format ⟦<ServerConfig as Config>⟧.setting)
+        ⟦<ServerConfig as Config>⟧.bound T.its.given received.now) r.read.items) }
     ensures in_turn { IfOk result (λ r. FollowOn 0 r.read.items r.end) }
+    ensures stopped { IfOk result (λ r. MatchOption r.stopped (length r.read.items ≡ most) (λ why.
+        IsAnswer (T.its.format ⟦<ServerConfig as Config>⟧.setting) ⟦<ServerConfig as Config>⟧.bound T.its.grows
+        T.its.given (drop r.end received.now) (Err why))) }
 {
     let config: ServerConfig = standard().with_limit::<65536>();
     read_requests(alloc, received, most, config)

@@ -6,10 +6,12 @@ use Rattle.bincode_base.specs.declared.error.IntegerType.TheVariants.{U16, U32, 
 use Rattle.bincode_base.specs.Setting.{Setting}
 use Rattle.bincode_format.specs.Number.{zigzag}
 use Rattle.bincode_format.specs.Fault.{End, InvalidInteger, Zero, UnexpectedVariant, Between, OneOf, Utf8, InvalidChar, InvalidBool, InvalidDuration, NulAt}
-use Rattle.bincode_format.specs.Charge.{Charge, Reserve, Release}
+use Rattle.bincode_format.specs.Charge.{Step, Charge, Reserve, Release}
 use Rattle.bincode_format.specs.Format.{Format, Took, Failed}
 use Rattle.bincode_format.specs.Meaning.{Meaning, Truth, Number, Character, Bytes, Nothing, Choice, IsNumber, listed}
 use Rattle.bincode_format.specs.Allowed.{AllowedWord}
+use Rattle.bincode_format.specs.Laws.{steps_of}
+use Rattle.bincode_format.specs.Room.{Bounded, elements_behind}
 use Rattle.bincode_format.specs.Words.{list, text, without_nul}
 
 -- what is computed, and what docs/FORMAT.md expects
@@ -234,3 +236,54 @@ ZigzagRows = AllHold (
     zigzag (pos 2) gives 4 ∷
     zigzag (negsuc 9223372036854775807) gives 18446744073709551615 ∷
     [])
+
+-- what an input needs of a limit, under each setting
+abbrev pub Needs : Type 0
+Needs = Setting → List ℕ → ℕ
+
+abbrev pub NeedRows : Needs → Needs → Needs → Needs → Needs → Type 0
+NeedRows char duration two_u16 two_lists lists = AllHold (
+    -- a character: its bytes, once the first of them is there and begins one
+    char standard (65 ∷ []) gives 1 ∷
+    char standard (226 ∷ 130 ∷ 172 ∷ []) gives 3 ∷
+    char standard (226 ∷ 130 ∷ []) gives 3 ∷
+    char standard (237 ∷ 160 ∷ 128 ∷ []) gives 3 ∷
+    char standard (240 ∷ []) gives 4 ∷
+    char standard (128 ∷ []) gives 0 ∷
+    char standard [] gives 0 ∷
+    -- a span of time: 8 bytes for its seconds, and then 4 for its nanoseconds
+    duration standard (5 ∷ 7 ∷ []) gives 12 ∷
+    duration standard (5 ∷ []) gives 12 ∷
+    duration standard [] gives 8 ∷
+    duration standard (254 ∷ []) gives 8 ∷
+    duration standard (253 ∷ replicate 8 255 ++ 252 ∷ 0 ∷ 202 ∷ 154 ∷ 59 ∷ []) gives 12 ∷
+    -- an array: the room of its elements, of which each gives its own back before it is read
+    two_u16 standard (5 ∷ 6 ∷ []) gives 4 ∷
+    two_u16 standard [] gives 4 ∷
+    two_u16 standard (252 ∷ []) gives 4 ∷
+    two_lists standard (0 ∷ 0 ∷ []) gives 48 ∷
+    two_lists standard (100 ∷ []) gives 132 ∷
+    two_lists standard (0 ∷ 100 ∷ []) gives 116 ∷
+    -- a list: 8 bytes for its length before
+    lists standard (1 ∷ 2 ∷ 7 ∷ 8 ∷ []) gives 32 ∷
+    lists standard (1 ∷ 100 ∷ []) gives 116 ∷
+    lists legacy [] gives 8 ∷
+    [])
+
+-- the steps by which a list that holds a list of two numbers is read
+abbrev one_list : Formats → List Step
+one_list lists = steps_of ((lists standard).read (1 ∷ 2 ∷ 7 ∷ 8 ∷ []))
+
+-- how many elements stand behind a length: one list, and two numbers in it; those of an array are not counted
+abbrev pub ElementRows : Formats → Formats → Type 0
+ElementRows lists arrays = AllHold (
+    elements_behind 0 (one_list lists) gives 3 ∷
+    elements_behind 0 (steps_of ((arrays standard).read (2 ∷ 1 ∷ 2 ∷ 3 ∷ 4 ∷ []))) gives 2 ∷
+    [])
+
+-- its word is bounded by a limit of 32, and not by one that the 24 bytes of the list in it pass
+abbrev pub IsBounded : Formats → Type 0
+IsBounded lists = Bounded 32 (1 ∷ 2 ∷ 7 ∷ 8 ∷ []) (one_list lists)
+
+abbrev pub IsUnbounded : Formats → Type 0
+IsUnbounded lists = ¬ (Bounded 23 (1 ∷ 2 ∷ 7 ∷ 8 ∷ []) (one_list lists))

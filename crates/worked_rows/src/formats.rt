@@ -2,7 +2,7 @@
 //! expects.
 ghost use Rattle.worked_rows.specs.Formats.{UnsignedRows, SignedRows, WholeRows, CharacterRows, ChoiceRows};
 ghost use Rattle.worked_rows.specs.Formats.{DurationRows, AddressRows, ListRows, TextRows, UnsignedWords};
-ghost use Rattle.worked_rows.specs.Formats.{SignedWords, ZigzagRows};
+ghost use Rattle.worked_rows.specs.Formats.{SignedWords, ZigzagRows, NeedRows, ElementRows, IsBounded, IsUnbounded};
 
 use bincode::time::Duration;
 use bincode::{NoOther, OneOf, Or, Wire};
@@ -82,4 +82,17 @@ pub fn signed_words()
 /// The numbers that stand for integers.
 pub fn zigzag_rows()
     ensures { ZigzagRows }
+{}
+
+/// What inputs need of a limit.
+pub fn need_rows()
+    ensures { NeedRows ⟦<char as Wire>⟧.its.need ⟦<Duration as Wire>⟧.its.need ⟦<[u16; 2] as Wire>⟧.its.need
+        ⟦<[Vec<u8>; 2] as Wire>⟧.its.need ⟦<Vec<Vec<u8>> as Wire>⟧.its.need }
+{}
+
+/// How much a word holds.
+pub fn bounded_rows()
+    ensures elements { ElementRows ⟦<Vec<Vec<u8>> as Wire>⟧.its.format ⟦<Vec<[u8; 2]> as Wire>⟧.its.format }
+    ensures bounded { IsBounded ⟦<Vec<Vec<u8>> as Wire>⟧.its.format }
+    ensures unbounded { IsUnbounded ⟦<Vec<Vec<u8>> as Wire>⟧.its.format }
 {}

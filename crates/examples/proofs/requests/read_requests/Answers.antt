@@ -9,8 +9,8 @@ loop-alloc-preserved g c =
     let so_far = c.loop-alloc.invariant in
     rw c.in_ok-push-in-Ok.ensures.items
     (read-on (g.T.Wire.its.format g.C.Config.setting) (g.T.Wire.its.lawful g.C.Config.setting) (g.T.Wire.its.balanced g.C.Config.setting) (g.T.Wire.its.charged g.C.Config.setting)
-    _ g.C.Config.bound c.args.received.now c.loop-alloc.read.items (record { start = c.loop-alloc.end; size = c.in-Ok.size; value = c.in-Ok.value })
-    c.args.most so_far.1 (omega (arith, c.len.ensures, c.loop-alloc-test.true)) c.in-Ok.ensures.word so_far.2 so_far.3)
+    g.T.Wire.its.given g.C.Config.bound c.args.received.now c.loop-alloc.read.items (record { start = c.loop-alloc.end; size = c.in-Ok.size; value = c.in-Ok.value })
+    c.args.most so_far.1 (omega (arith, c.len.ensures, c.loop-alloc-test.true)) c.in-Ok.ensures.word so_far.2 so_far.3 so_far.4)
 
 pub returns-in-Err-clause-stopped : goal.returns-in-Err-clause-stopped
 returns-in-Err-clause-stopped g c =

@@ -1,6 +1,6 @@
 use Rattle.std.proofs.Common.{◌≡◌, ℕ, Some, length, ◌-◌, ◌≤◌}
 use Rattle.std.specs.List.{All}
-use Rattle.examples.specs.Requests.{FollowOn, IsBounded}
+use Rattle.examples.specs.Requests.{FollowOn, IsBounded, IsRead}
 use Rattle.examples.proofs.requests.read_requests.Given as goal
 
 abbrev pub invariant-loop-alloc : goal.invariant-loop-alloc
@@ -9,6 +9,7 @@ invariant-loop-alloc g l =
     × (l.end ≤ length l.received)
     × ((limit : ℕ) → g.C.Config.bound ≡ Some limit → All (IsBounded (g.T.Wire.its.format g.C.Config.setting) limit l.received) l.read.items)
     × FollowOn 0 l.read.items l.end
+    × All (IsRead (g.T.Wire.its.format g.C.Config.setting) g.C.Config.bound g.T.Wire.its.given l.received) l.read.items
 
 abbrev pub decreases-loop-alloc : goal.decreases-loop-alloc
 decreases-loop-alloc g l = l.most - length l.read.items
