@@ -1,3 +1,5 @@
 mod Appends
+mod Both
+mod Counted
 mod Filled
 pub mod Listings

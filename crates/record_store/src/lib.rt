@@ -2,5 +2,12 @@
 //! keeps such a file.
 #![tactic(auto)]
 
+pub mod adding;
 pub mod article;
+pub mod command;
+pub mod counting;
+pub mod stock;
 pub mod store;
+#[cfg(test)]
+mod tests;
+pub mod twice;

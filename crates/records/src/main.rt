@@ -5,10 +5,9 @@
 //!     records check FILE ..                                   counts them, and says where a file is torn
 #![tactic(auto)]
 
-mod command;
-mod stock;
+mod files;
 
-use command::{Command, command_of};
+use record_store::command::{Command, command_of};
 use std::env;
 
 fn main(rt: HostRuntime) -> anyhow::Result<()> {
@@ -17,8 +16,8 @@ fn main(rt: HostRuntime) -> anyhow::Result<()> {
         words.push(word)?;
     }
     match command_of(rt.alloc(), words)? {
-        Command::Add { file, article } => stock::add(&rt, &file, &article),
-        Command::List(files) => stock::list(&rt, &files),
-        Command::Check(files) => stock::check(&rt, &files),
+        Command::Add { file, article } => files::add(&rt, &file, &article),
+        Command::List(paths) => files::list(&rt, &paths),
+        Command::Check(paths) => files::check(&rt, &paths),
     }
 }

@@ -1,0 +1,24 @@
+//! Two values that are appended to a vector in turn and then listed.
+ghost use Rattle.std.specs.Prelude.{IfOk};
+ghost use Rattle.record_store.specs.Adding.{ListsBoth};
+
+use crate::adding::AddError;
+use crate::store::{Listing, Stored, append, list};
+use bincode::config::Config;
+use std::alloc::Global;
+
+/// Appends two values in turn to a store that is empty, and lists it. Fails as `append` and `list` do.
+pub fn list_both<T: Stored, C: Config>(
+    alloc: Global,
+    first: &T,
+    second: &T,
+    config: C,
+) -> Result<Listing<T>, AddError>
+    // Equal values are listed, in this order, each with its offset and its length, and the store is whole.
+    ensures { IfOk result (λ l. ListsBoth T.its C.setting C.bound T.eq first.now second.now l.values.items l.ending) }
+{
+    let mut store = Vec::new(alloc);
+    append(alloc, &mut store, first, config)?;
+    append(alloc, &mut store, second, config)?;
+    Ok(list(alloc, &store, config)?)
+}
