@@ -1,48 +1,256 @@
-//! Values as JSON.
+//! Words of a shape as JSON, without a value in between.
 
-use bincode::shape::Value;
-use serde_json::{Map, Number, Value as Json};
-use std::alloc::{AllocError, Global};
+use crate::strings::{write_character, write_string};
+use crate::words::Words;
+use bincode::config::Config;
+use bincode::de::Decode;
+use bincode::error::DecodeError;
+use bincode::shape::Shape;
+use bincode::short_text::{ShortText, TypeName};
+use bincode_shape::bytes::has_no_bytes;
+use std::alloc::Global;
+use std::fmt::Display;
+use std::io;
+use std::io::Write;
+use thiserror::Error;
 
-/// A value as JSON, in the forms that serde gives: nothing and an absent part are `null`, a part that is there is
-/// itself, a list and a tuple are arrays, and a variant is an object of its tag and its part. A character is a text,
-/// and so is a number of more than 64 bits, since few readers of JSON keep those. Fails where memory is refused.
-#[cycle(json)]
-pub fn json_of(alloc: Global, value: &Value) -> Result<Json, AllocError> {
-    Ok(match value {
-        Value::Unit => Json::Null,
-        Value::Bool(truth) => Json::Bool(*truth),
-        Value::Char(c) => Json::String(format!(in alloc; "{c}")?),
-        Value::Text(text) => Json::String(String::from_str(alloc, text)?),
-        Value::Unsigned(number) => match Number::from_u128(*number) {
-            Some(number) => Json::Number(number),
-            None => Json::String(format!(in alloc; "{number}")?),
-        },
-        Value::Signed(number) => match Number::from_i128(*number) {
-            Some(number) => Json::Number(number),
-            None => Json::String(format!(in alloc; "{number}")?),
-        },
-        Value::List(items) => array_of(alloc, items)?,
-        Value::Optional(None) => Json::Null,
-        Value::Optional(Some(part)) => json_of(alloc, part)?,
-        Value::Choice(tag, part) => variant_of(alloc, *tag, part)?,
-    })
+/// Why a word was not written as JSON. A front of its JSON may have been written.
+#[derive(Debug, Drop, Error)]
+pub enum JsonError {
+    /// The bytes begin with no word.
+    #[error("{0}")]
+    Decode(DecodeError),
+    /// More values would be written than are allowed.
+    #[error("too many values")]
+    TooManyValues,
+    /// The output failed.
+    #[error("{0}")]
+    Write(io::Error),
 }
 
-/// Values in a row.
-#[cycle(json)]
-fn array_of(alloc: Global, items: &[Value]) -> Result<Json, AllocError> {
-    let mut array = Vec::new(alloc);
-    for item in items {
-        array.push(json_of(alloc, item)?)?;
+impl From<DecodeError> for JsonError {
+    fn from(why: DecodeError) -> JsonError {
+        JsonError::Decode(why)
     }
-    Ok(Json::Array(array))
 }
 
-/// A variant.
+impl From<io::Error> for JsonError {
+    fn from(why: io::Error) -> JsonError {
+        JsonError::Write(why)
+    }
+}
+
+/// What is read, and how many more values may be written of it.
+#[derive(Drop)]
+struct Source<'b, C: Config> {
+    words: Words<'b, C>,
+    left: usize,
+}
+
+/// Reads the word of a shape at the front of some bytes, writes it as JSON as it is read, and answers how many bytes it
+/// has. No value is kept. A value is written in the form that serde gives:
+///
+/// | Of the shape | As |
+/// |---|---|
+/// | nothing, an optional part that is absent | `null` |
+/// | an optional part that is there | the part itself |
+/// | a truth value | `true` or `false` |
+/// | a number that 64 bits hold | a number |
+/// | another number, a character, a text | a string |
+/// | a list, an array, a tuple | an array |
+/// | a list or an array of elements that have no bytes | an object of their count, as `{"count":3}` |
+/// | a variant | an object of its tag and its part, as `{"1":"a"}` |
+///
+/// The claims of lists are not charged: `measure_shaped` tells before whether a word is within a limit. Fails with
+/// `Decode` where no word begins the bytes, with `TooManyValues` where more than `most` values would be written, each
+/// list, option and variant counted as one more than its parts, and with `Write` where the output fails.
+pub fn write_json<C: Config, W: Write>(
+    alloc: Global,
+    shape: &Shape,
+    bytes: &[u8],
+    config: C,
+    most: usize,
+    out: &mut W,
+) -> Result<usize, JsonError> {
+    let mut source = Source {
+        words: Words::new(alloc, bytes, config),
+        left: most,
+    };
+    write_value(shape, &mut source, out)?;
+    Ok(source.words.taken)
+}
+
+/// Writes the next value.
 #[cycle(json)]
-fn variant_of(alloc: Global, tag: u32, part: &Value) -> Result<Json, AllocError> {
-    let mut members = Map::new(alloc);
-    members.insert(format!(in alloc; "{tag}")?, json_of(alloc, part)?)?;
-    Ok(Json::Object(members))
+fn write_value<C: Config, W: Write>(
+    shape: &Shape,
+    source: &mut Source<'_, C>,
+    out: &mut W,
+) -> Result<(), JsonError> {
+    let Some(left) = source.left.checked_sub(1) else {
+        return Err(JsonError::TooManyValues);
+    };
+    source.left = left;
+    match shape {
+        Shape::Unit => write!(out, "null")?,
+        Shape::Bool => write_plain::<bool, C, W>(source, out)?,
+        Shape::Char => write_char(source, out)?,
+        Shape::Text => write_string(source.words.next_text()?, out)?,
+        Shape::U8 => write_plain::<u8, C, W>(source, out)?,
+        Shape::U16 => write_plain::<u16, C, W>(source, out)?,
+        Shape::U32 => write_plain::<u32, C, W>(source, out)?,
+        Shape::U64 => write_plain::<u64, C, W>(source, out)?,
+        Shape::U128 => write_u128(source, out)?,
+        Shape::Usize => write_plain::<usize, C, W>(source, out)?,
+        Shape::I8 => write_plain::<i8, C, W>(source, out)?,
+        Shape::I16 => write_plain::<i16, C, W>(source, out)?,
+        Shape::I32 => write_plain::<i32, C, W>(source, out)?,
+        Shape::I64 => write_plain::<i64, C, W>(source, out)?,
+        Shape::I128 => write_i128(source, out)?,
+        Shape::Isize => write_plain::<isize, C, W>(source, out)?,
+        Shape::Seq { claim: _, element } => {
+            let len = source.words.next::<usize>()?;
+            write_elements(element, len, source, out)?;
+        }
+        Shape::Array {
+            len,
+            claim: _,
+            element,
+        } => write_elements(element, *len, source, out)?,
+        Shape::Tuple(parts) => write_parts(parts, source, out)?,
+        Shape::Optional(part) => {
+            if source.words.next::<Option<()>>()?.is_some() {
+                write_value(part, source, out)?;
+            } else {
+                write!(out, "null")?;
+            }
+        }
+        Shape::Choice(variants) => write_variant(variants, source, out)?,
+    }
+    Ok(())
+}
+
+/// Writes so many elements: their count alone, where they have no bytes.
+#[cycle(json)]
+fn write_elements<C: Config, W: Write>(
+    element: &Shape,
+    len: usize,
+    source: &mut Source<'_, C>,
+    out: &mut W,
+) -> Result<(), JsonError> {
+    if has_no_bytes(element) {
+        write!(out, "{{\"count\":{len}}}")?;
+        return Ok(());
+    }
+    write!(out, "[")?;
+    for index in 0..len {
+        if index > 0 {
+            write!(out, ",")?;
+        }
+        write_value(element, source, out)?;
+    }
+    write!(out, "]")?;
+    Ok(())
+}
+
+/// Writes the parts of a tuple.
+#[cycle(json)]
+fn write_parts<C: Config, W: Write>(
+    parts: &[Shape],
+    source: &mut Source<'_, C>,
+    out: &mut W,
+) -> Result<(), JsonError> {
+    write!(out, "[")?;
+    let mut is_first = true;
+    for part in parts {
+        if !is_first {
+            write!(out, ",")?;
+        }
+        write_value(part, source, out)?;
+        is_first = false;
+    }
+    write!(out, "]")?;
+    Ok(())
+}
+
+/// Writes a variant, as an object of its tag and its part.
+#[cycle(json)]
+fn write_variant<C: Config, W: Write>(
+    variants: &[Shape],
+    source: &mut Source<'_, C>,
+    out: &mut W,
+) -> Result<(), JsonError> {
+    let tag = source.words.next::<u32>()?;
+    let Some(variant) = variants.get(tag as usize) else {
+        return Err(JsonError::Decode(unknown_variant(tag, variants)));
+    };
+    write!(out, "{{\"{tag}\":")?;
+    write_value(variant, source, out)?;
+    write!(out, "}}")?;
+    Ok(())
+}
+
+/// The error of a tag that no variant has.
+fn unknown_variant(found: u32, variants: &[Shape]) -> DecodeError {
+    match variants.len().checked_sub(1) {
+        Some(last) => DecodeError::UnexpectedVariant {
+            type_name: TypeName::new("Choice"),
+            found,
+            min: 0,
+            max: u32::try_from(last).unwrap_or(u32::MAX),
+        },
+        None => DecodeError::EmptyEnum {
+            type_name: ShortText::new("Choice"),
+        },
+    }
+}
+
+/// Writes a value whose text is its JSON.
+fn write_plain<T: Decode<()> + Display + Drop, C: Config, W: Write>(
+    source: &mut Source<'_, C>,
+    out: &mut W,
+) -> Result<(), JsonError> {
+    let value = source.words.next::<T>()?;
+    write!(out, "{value}")?;
+    Ok(())
+}
+
+/// Writes a character, as a string.
+fn write_char<C: Config, W: Write>(
+    source: &mut Source<'_, C>,
+    out: &mut W,
+) -> Result<(), JsonError> {
+    let c = source.words.next::<char>()?;
+    write!(out, "\"")?;
+    write_character(c, out)?;
+    write!(out, "\"")?;
+    Ok(())
+}
+
+/// Writes a number, as a string where 64 bits do not hold it.
+fn write_u128<C: Config, W: Write>(
+    source: &mut Source<'_, C>,
+    out: &mut W,
+) -> Result<(), JsonError> {
+    let number = source.words.next::<u128>()?;
+    if u64::try_from(number).is_ok() {
+        write!(out, "{number}")?;
+    } else {
+        write!(out, "\"{number}\"")?;
+    }
+    Ok(())
+}
+
+/// Writes a signed number, as a string where neither 64 bits nor 64 bits with a sign hold it.
+fn write_i128<C: Config, W: Write>(
+    source: &mut Source<'_, C>,
+    out: &mut W,
+) -> Result<(), JsonError> {
+    let number = source.words.next::<i128>()?;
+    if u64::try_from(number).is_ok() || i64::try_from(number).is_ok() {
+        write!(out, "{number}")?;
+    } else {
+        write!(out, "\"{number}\"")?;
+    }
+    Ok(())
 }

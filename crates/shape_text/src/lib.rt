@@ -1,8 +1,11 @@
 //! Shapes in a short text, as `(u8, [u16], text?, u32|text)`, and what a file holds by a shape, as JSON.
 #![tactic(auto)]
 
-pub mod claims;
+pub mod describing;
 pub mod json;
 pub mod listing;
-mod scanner;
-pub mod text;
+pub mod request;
+mod strings;
+mod words;
+
+pub use shape_grammar::{claims, spelling, text};

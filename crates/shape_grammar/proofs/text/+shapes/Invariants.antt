@@ -1,5 +1,6 @@
-use Rattle.std.proofs.Common.{◌≡◌, ◌+◌, ◌*◌}
-use Rattle.shape_text.proofs.text.+shapes.Given as goal
+use Rattle.std.proofs.Common.{◌≡◌, ◌+◌, ◌*◌, ◌≤◌}
+use Rattle.shape_grammar.specs.Grammar.{Spells, Variants, Parts}
+use Rattle.shape_grammar.proofs.text.+shapes.Given as goal
 
 -- the levels that are left, and the place of a function in the order in which they call one another
 
@@ -19,10 +20,15 @@ abbrev pub decreases-parts : goal.decreases-parts
 decreases-parts l = 5 * l.depth + 4
 
 abbrev pub invariant-any_shape-loop : goal.invariant-any_shape-loop
-invariant-any_shape-loop l = l.depth ≡ l.fn.depth
-
-abbrev pub invariant-optional_shape-loop : goal.invariant-optional_shape-loop
-invariant-optional_shape-loop l = l.depth ≡ l.fn.depth
+invariant-any_shape-loop l = record {
+  same : l.depth ≡ l.fn.depth;
+  levels : l.variants.levels ≤ l.depth;
+  spelled : Spells Variants l.fn.scanner.rest.now l.variants.shapes.items l.scanner.rest.now;
+}
 
 abbrev pub invariant-parts-loop : goal.invariant-parts-loop
-invariant-parts-loop l = l.depth ≡ l.fn.depth
+invariant-parts-loop l = record {
+  same : l.depth ≡ l.fn.depth;
+  levels : l.parts.levels ≤ l.depth;
+  spelled : Spells Parts l.fn.scanner.rest.now l.parts.shapes.items l.scanner.rest.now;
+}

@@ -1,11 +1,16 @@
 //! How much a list claims for each element of a shape.
+ghost use Rattle.std.specs.Prelude.{◌≡◌, max};
+ghost use Rattle.shape_grammar.specs.Claims.{claim, claim_sum, greatest_claim, capped};
 
-use bincode::shape::Shape;
+use bincode_shape::shape::Shape;
 
 /// The claim size, in bytes, of the types that have this shape: that of `Vec` for a list, of `String` for a text, of
-/// `Option` and `Result` for an optional part and a choice, and the sum over the parts of a tuple.
+/// `Option` and `Result` for an optional part and a choice, and the sum over the parts of a tuple. A sum or a product
+/// above `usize::MAX` is told as that.
 #[cycle(claims)]
-pub fn claim_of(shape: &Shape) -> usize {
+pub fn claim_of(shape: &Shape) -> usize
+    ensures { result ≡ capped (claim shape.now) }
+{
     match shape {
         Shape::Unit | Shape::Bool | Shape::U8 | Shape::I8 => 1,
         Shape::U16 | Shape::I16 => 2,
@@ -20,13 +25,15 @@ pub fn claim_of(shape: &Shape) -> usize {
         } => claim_of(element).saturating_mul(*len).max(1),
         Shape::Tuple(parts) => claim_of_parts(parts),
         Shape::Optional(part) => claim_of(part).saturating_add(1),
-        Shape::Choice(variants) => greatest_claim(variants).saturating_add(4),
+        Shape::Choice(variants) => greatest_of(variants).saturating_add(4),
     }
 }
 
 /// The sum over the parts of a tuple, and 1 where there is none.
 #[cycle(claims)]
-fn claim_of_parts(parts: &[Shape]) -> usize {
+fn claim_of_parts(parts: &[Shape]) -> usize
+    ensures { result ≡ capped (max (claim_sum parts.now) 1) }
+{
     let mut sum = 0usize;
     for part in parts {
         sum = sum.saturating_add(claim_of(part));
@@ -36,7 +43,9 @@ fn claim_of_parts(parts: &[Shape]) -> usize {
 
 /// The greatest claim of a variant's part.
 #[cycle(claims)]
-fn greatest_claim(variants: &[Shape]) -> usize {
+fn greatest_of(variants: &[Shape]) -> usize
+    ensures { result ≡ capped (greatest_claim variants.now) }
+{
     let mut greatest = 0;
     for variant in variants {
         greatest = claim_of(variant).max(greatest);

@@ -1,4 +1,6 @@
 //! What is left of a text while it is read from its front.
+ghost use Rattle.std.specs.Prelude.{◌≡◌, ◌<◌, true, false};
+ghost use Rattle.shape_grammar.specs.Marks.{Mark, Word, IsEnd};
 
 /// The rest of a text, and how long the whole of it is.
 #[derive(Drop)]
@@ -8,7 +10,9 @@ pub(crate) struct Scanner<'t> {
 }
 
 impl<'t> Scanner<'t> {
-    pub(crate) fn new(text: &'t str) -> Scanner<'t> {
+    pub(crate) fn new(text: &'t str) -> Scanner<'t>
+        ensures { result.rest.now ≡ text.now }
+    {
         Scanner {
             rest: text,
             length: text.len(),
@@ -21,12 +25,18 @@ impl<'t> Scanner<'t> {
     }
 
     /// Whether nothing but spaces is left.
-    pub(crate) fn is_at_end(&self) -> bool {
+    pub(crate) fn is_at_end(&self) -> bool
+        ensures { result ≡ true → IsEnd self.now.rest.now }
+    {
         self.rest.trim_start().is_empty()
     }
 
     /// Takes this mark, and the spaces before it, if it comes next.
-    pub(crate) fn takes(&mut self, mark: char) -> bool {
+    pub(crate) fn takes(&mut self, mark: char) -> bool
+        requires { mark < 128 }
+        ensures taken { result ≡ true → Mark mark self.old.rest.now self.new.rest.now }
+        ensures left { result ≡ false → self.new ≡ self.old }
+    {
         match self.rest.trim_start().strip_prefix(mark) {
             Some(rest) => {
                 self.rest = rest;
@@ -37,12 +47,21 @@ impl<'t> Scanner<'t> {
     }
 
     /// Takes the letters and digits that come next, and the spaces before them.
-    pub(crate) fn word(&mut self) -> &'t str {
+    pub(crate) fn word(&mut self) -> &'t str
+        ensures { Word result.now self.old.rest.now self.new.rest.now }
+    {
         let text = self.rest.trim_start();
-        let rest = text.trim_start_matches(is_of_word);
-        let length = text.len().saturating_sub(rest.len());
-        self.rest = rest;
-        text.get(..length).unwrap_or("")
+        let behind = text.trim_start_matches(is_of_word);
+        match text.split_at_checked(text.len().saturating_sub(behind.len())) {
+            Some((word, rest)) => {
+                self.rest = rest;
+                word
+            }
+            None => {
+                self.rest = text;
+                ""
+            }
+        }
     }
 }
 

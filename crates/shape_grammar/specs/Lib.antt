@@ -1,0 +1,4 @@
+pub mod Names
+pub mod Claims
+pub mod Marks
+pub mod Grammar
