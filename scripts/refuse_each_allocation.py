@@ -12,10 +12,11 @@ growth of a block counts as one) and refuses the one with a number that stands i
 So it is known how many allocations a test asks for: the greatest number that is met, where meeting it is made to stop the test.
 Then the test runs once for each of them, with that one refused.
 
-The tests of WITHOUT_MEMORY run with every allocation refused, and fail here if they ask for one.
+The tests of SAMPLED ask for thousands of blocks, at seconds for a run: of their allocations the first ones are refused, the last
+ones and some between. The tests of WITHOUT_MEMORY run with every allocation refused, and fail here if they ask for one.
 
-It prints a line for each run that failed and one for each crate, and ends with status 1 if a run failed, and 2 if it could not
-read the executable.
+It prints a line for each run that failed, one for each crate, and one for each sampled test, and ends with status 1 if a run failed,
+and 2 if it could not read the executable.
 """
 
 import argparse
@@ -77,9 +78,18 @@ WITHOUT_MEMORY = {
         "borrowed::lends_to_a_struct",
         "borrowed::lends_to_an_enum",
         "borrowed::borrows_a_pair",
+        "empties::reads_nothing_without_memory",
+        "empties::reads_nothing_into_an_arena",
     ],
     "shape_tests": [],
 }
+
+# Sets and maps of 12,000 in an order. Those of three and of 300 are kept by `maps::keeps_sets_and_maps` through the same calls, and
+# each allocation of that test is refused.
+SAMPLED = {"own_tests": ["maps::keeps_large_sets_and_maps"]}
+
+# How many allocations of a sampled test are refused from its first one on, how many up to its last one, and how many between.
+NEAR = 20
 
 # A number that no count of allocations comes to, and that stands nowhere else in the code.
 MARK = 1_234_567_891
@@ -196,12 +206,21 @@ def passes_without_any(test):
     return test, RUNNER.passes(test, 1, jump=JUMPS_IF_BELOW)
 
 
+def refused(test, count, crate, most):
+    """The numbers of the allocations of a test that are refused, of as many as it asks for."""
+    if test not in SAMPLED.get(crate, []) or count <= 3 * NEAR:
+        return range(1, min(count, most) + 1)
+    between = range(NEAR + 1, count - NEAR + 1, (count - NEAR) // NEAR)
+    numbers = [*range(1, NEAR + 1), *between, *range(count - NEAR + 1, count + 1)]
+    return [it for it in numbers if it <= most]
+
+
 def sweep(crate, program, given):
     """Runs each test of the crate without each of its allocations, and answers how many runs failed."""
     listed = subprocess.run([program, "--list"], stdout=subprocess.PIPE, check=True, text=True).stdout
     tests = [it.removesuffix(": test") for it in listed.splitlines() if it.endswith(": test")]
     without = WITHOUT_MEMORY.get(crate.name, [])
-    gone = [it for it in without if it not in tests]
+    gone = [it for it in [*without, *SAMPLED.get(crate.name, [])] if it not in tests]
     if gone:
         stop(f"{crate.name} has no test {gone[0]}")
     tests = [it for it in tests if given.only in it]
@@ -213,7 +232,7 @@ def sweep(crate, program, given):
             if counts[test] or not holds:
                 failed += 1
                 print(f"FAILED {crate.name} {test}, with every allocation refused", flush=True)
-        runs = [(test, number + 1) for test in tests for number in range(counts[test]) if number < given.most]
+        runs = [(test, number) for test in tests for number in refused(test, counts[test], crate.name, given.most)]
         for test, number, holds in pool.imap_unordered(passes_without, runs, 8):
             if not holds:
                 failed += 1
@@ -223,6 +242,10 @@ def sweep(crate, program, given):
         f" {len(without)} tests with every allocation refused; {failed} runs failed",
         flush=True,
     )
+    for test in SAMPLED.get(crate.name, []):
+        if test in tests:
+            number = sum(1 for it, _ in runs if it == test)
+            print(f"{crate.name}: of {test} {number} of {counts[test]} allocations", flush=True)
     return failed
 
 

@@ -51,23 +51,6 @@ fn lends_to_an_enum(rt: HostRuntime) {
 }
 
 #[test]
-fn tells_a_tag_without_a_variant(rt: HostRuntime) {
-    let read = borrowed::<Event>(rt.alloc(), &[3]);
-    let Err(
-        DecodeError::UnexpectedVariant {
-            found: 3,
-            min: 0,
-            max: 2,
-            ..
-        },
-    ) = read
-    else {
-        assert!(rt; false);
-        return;
-    };
-}
-
-#[test]
 fn borrows_types_that_own(rt: HostRuntime) {
     let alloc = rt.alloc();
     assert!(rt; matches!(borrowed(alloc, &[251, 44, 1]), Ok((Code::Refused, 3))));

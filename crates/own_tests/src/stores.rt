@@ -104,6 +104,44 @@ fn appends_what_it_lists(rt: HostRuntime) {
     );
 }
 
+/// Ten articles of one name, of 40 bytes, at the prices 0 to 9, without a weight and notes.
+fn ten_words() -> [u8; 440] {
+    let mut store = [97; 440];
+    for price in 0..10u8 {
+        let start = usize::from(price) * 44;
+        store[start] = 40;
+        store[start + 41] = price;
+        store[start + 42] = 0;
+        store[start + 43] = 0;
+    }
+    store
+}
+
+/// The offset, the size, the price and the length of the name of each of ten articles that are listed.
+fn are_ten(listing: &Listing<Article>) -> bool {
+    let mut price = 0u64;
+    for listed in &listing.values {
+        let is_next = listed.offset as u64 == price.saturating_mul(44)
+            && listed.size == 44
+            && listed.value.price == price
+            && listed.value.name.len() == 40;
+        if !is_next {
+            return false;
+        }
+        price = price.saturating_add(1);
+    }
+    price == 10 && matches!(listing.ending, Ending::Whole)
+}
+
+#[test]
+fn keeps_ten_long_values(rt: HostRuntime) {
+    let store = ten_words();
+    assert!(rt; matches!(listed(rt.alloc(), &store), Some(listing) if are_ten(&listing)));
+    assert!(rt;
+        matches!(copied(rt.alloc(), &store), Some(copy) if copy.as_slice() == store.as_slice())
+    );
+}
+
 #[test]
 fn refuses_a_value_beyond_the_limit(rt: HostRuntime) {
     let alloc = rt.alloc();

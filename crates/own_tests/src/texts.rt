@@ -61,7 +61,7 @@ fn keeps_boxed_texts(rt: HostRuntime) {
 #[test]
 fn keeps_shared_texts(rt: HostRuntime) {
     let alloc = rt.alloc();
-    for count in [4, 100_000] {
+    for count in [4, 150_000] {
         assert!(rt; keeps_value(alloc, shared(alloc, count)));
     }
 }

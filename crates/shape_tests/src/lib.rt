@@ -3,12 +3,20 @@
 #![tactic(auto)]
 
 #[cfg(test)]
+mod described;
+#[cfg(test)]
 mod kept;
 #[cfg(test)]
 mod limits;
+#[cfg(test)]
+mod listed;
+#[cfg(test)]
+mod printed;
 #[cfg(test)]
 mod rows;
 #[cfg(test)]
 mod shaped;
 #[cfg(test)]
 mod texts;
+#[cfg(test)]
+mod within;

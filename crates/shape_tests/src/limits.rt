@@ -64,7 +64,7 @@ fn a_claim_that_overflows_passes_each_limit(rt: HostRuntime) -> Result<(), Alloc
     };
     assert!(rt; passes(alloc, &shape, Limit::<{ usize::MAX }>, &[1, 2]));
     let read = read_under(alloc, &shape, Setting::Standard, NoLimit, &[]);
-    assert!(rt; matches!(read, Err(DecodeError::UnexpectedEnd { .. })));
+    assert!(rt; matches!(read, Err(DecodeError::Memory)));
     Ok(())
 }
 

@@ -1,25 +1,58 @@
-//! Shapes in a short text, and values as JSON.
+//! Shapes in a short text: what a text spells, how deep it may be, and the text of a shape.
 
-use bincode::config;
-use record_store::store::Ending;
-use shape_text::json::json_of;
-use shape_text::listing::{ListError, list};
+use bincode::shape::Shape;
+use shape_text::spelling::text_of;
 use shape_text::text::shape_of;
 use std::alloc::Global;
 
 /// Texts, and the shapes that they spell.
-const SHAPES: [(&str, &str); 10] = [
+const SHAPES: [(&str, &str); 33] = [
     ("()", "Unit"),
+    ("bool", "Bool"),
+    ("char", "Char"),
+    ("text", "Text"),
     (" u8 ", "U8"),
+    ("u16", "U16"),
+    ("u32", "U32"),
+    ("u64", "U64"),
+    ("u128", "U128"),
+    ("usize", "Usize"),
+    ("i8", "I8"),
+    ("i16", "I16"),
+    ("i32", "I32"),
+    ("i64", "I64"),
     ("(i128)", "I128"),
+    ("isize", "Isize"),
     ("(char,)", "Tuple([Char])"),
     ("(bool, text)", "Tuple([Bool, Text])"),
     ("[u16]", "Seq { claim: 2, element: U16 }"),
+    ("[char]", "Seq { claim: 4, element: Char }"),
+    ("[u128]", "Seq { claim: 16, element: U128 }"),
+    ("[()]", "Seq { claim: 1, element: Unit }"),
+    (
+        "[[bool]]",
+        "Seq { claim: 24, element: Seq { claim: 1, element: Bool } }",
+    ),
+    (
+        "[u8; 4294967297]",
+        "Array { len: 4294967297, claim: 1, element: U8 }",
+    ),
+    (
+        "[u8;18446744073709551615]",
+        "Array { len: 18446744073709551615, claim: 1, element: U8 }",
+    ),
+    (
+        "[[i64; 18446744073709551615]]",
+        "Seq { claim: 18446744073709551615, element: Array { len: 18446744073709551615, claim: 8, element: I64 } }",
+    ),
     (
         "[(u8, [text; 3]?)]",
         "Seq { claim: 74, element: Tuple([U8, Optional(Array { len: 3, claim: 24, element: Text })]) }",
     ),
     ("u32|text", "Choice([U32, Text])"),
+    ("bool|i16|char", "Choice([Bool, I16, Char])"),
+    ("(bool|i16)|char", "Choice([Choice([Bool, I16]), Char])"),
+    ("(bool|i16)?", "Optional(Choice([Bool, I16]))"),
     (
         "[()|isize?]",
         "Seq { claim: 13, element: Choice([Unit, Optional(Isize)]) }",
@@ -28,7 +61,7 @@ const SHAPES: [(&str, &str); 10] = [
 ];
 
 /// Texts that spell none, and what is said of them.
-const REFUSED: [(&str, &str); 8] = [
+const REFUSED: [(&str, &str); 9] = [
     (
         "",
         "at byte 0: expected `(`, `[`, or a name as bool, char, text, u8 or i64",
@@ -39,6 +72,10 @@ const REFUSED: [(&str, &str); 8] = [
         "at byte 5: expected `(`, `[`, or a name as bool, char, text, u8 or i64",
     ),
     ("[u8; x]", "at byte 5: expected a length below 2^64"),
+    (
+        "[u8; 18446744073709551616]",
+        "at byte 5: expected a length below 2^64",
+    ),
     ("[u8", "at byte 3: expected `]`, `;`, `?` or `|`"),
     ("u8 u8", "at byte 3: expected the end, `?` or `|`"),
     (
@@ -46,9 +83,28 @@ const REFUSED: [(&str, &str); 8] = [
         "at byte 3: expected `(`, `[`, or a name as bool, char, text, u8 or i64",
     ),
     (
-        "((((((((((((((((((((((((((((((((((((((((((((((((((((((((((((((((",
-        "at byte 64: parts within parts, deeper than 64 levels",
+        "(,)",
+        "at byte 1: expected `(`, `[`, or a name as bool, char, text, u8 or i64",
     ),
+];
+
+/// Texts as shapes are shown.
+const SHOWN: [&str; 15] = [
+    "()",
+    "bool",
+    "u128",
+    "isize",
+    "[u16]",
+    "[u8; 4294967297]",
+    "(char,)",
+    "((i8, i16), [u32])",
+    "[(u8, [text; 3]?)]",
+    "u64|text|usize",
+    "(u8|u16)?",
+    "(u8|u16)|i32?",
+    "[()|i64?]",
+    "i128??",
+    "(u8|u16, [char|bool])",
 ];
 
 /// What is printed of the shape that a text spells, or of why it spells none.
@@ -75,48 +131,121 @@ fn reads_shapes(rt: HostRuntime) {
     }
 }
 
-/// The first value of these bytes by a shape as JSON, and whether they are whole.
-fn json(alloc: Global, shape: &str, bytes: &[u8]) -> Option<(String, bool)> {
-    let shape = shape_of(alloc, shape).ok()?;
-    let listing = list(alloc, &shape, bytes, config::standard()).ok()?;
-    let first = listing.values.first()?;
-    let text = json_of(alloc, &first.value).ok()?.to_string(alloc).ok()?;
-    Some((text, matches!(listing.ending, Ending::Whole)))
+/// A text that begins and ends with so many of two marks.
+fn marked(
+    alloc: Global,
+    (first, before): (usize, &str),
+    text: &str,
+    (last, after): (usize, &str),
+) -> Option<String> {
+    let mut marked = String::new(alloc);
+    for _ in 0..first {
+        marked.push_str(before).ok()?;
+    }
+    marked.push_str(text).ok()?;
+    for _ in 0..last {
+        marked.push_str(after).ok()?;
+    }
+    Some(marked)
 }
 
-/// Whether bytes are whole, and one value, with this JSON.
-fn shows(alloc: Global, shape: &str, bytes: &[u8], wanted: &str) -> bool {
-    let is_wanted = |shown: Option<(String, bool)>| {
-        shown.is_some_and(|(text, is_whole)| is_whole && text.as_str() == wanted)
+/// How deep the shape is that such a text spells, or the text of why it spells none.
+fn depth_once(
+    alloc: Global,
+    front: (usize, &str),
+    text: &str,
+    back: (usize, &str),
+) -> Option<Result<usize, String>> {
+    match shape_of(alloc, &marked(alloc, front, text, back)?) {
+        Ok(shape) => Some(Ok(shape.depth())),
+        Err(e) => Some(Err(format!(in alloc; "{e}").ok()?)),
+    }
+}
+
+/// Whether it is so deep. It is asked once more, since memory may be refused once.
+fn is_deep(
+    alloc: Global,
+    front: (usize, &str),
+    text: &str,
+    back: (usize, &str),
+    depth: usize,
+) -> bool {
+    let is_wanted = |told| matches!(told, Some(Ok(told)) if told == depth);
+    is_wanted(depth_once(alloc, front, text, back))
+        || is_wanted(depth_once(alloc, front, text, back))
+}
+
+/// Whether it is too deep from this byte on.
+fn is_too_deep(
+    alloc: Global,
+    front: (usize, &str),
+    text: &str,
+    back: (usize, &str),
+    place: usize,
+) -> bool {
+    tells_depth(alloc, depth_once(alloc, front, text, back), place)
+        || tells_depth(alloc, depth_once(alloc, front, text, back), place)
+}
+
+/// Whether this message tells that it is too deep from this byte on.
+fn tells_depth(alloc: Global, told: Option<Result<usize, String>>, place: usize) -> bool {
+    let Some(Err(told)) = told else {
+        return false;
     };
-    is_wanted(json(alloc, shape, bytes)) || is_wanted(json(alloc, shape, bytes))
+    let wanted = format!(in alloc; "at byte {place}: parts within parts, deeper than 64 levels");
+    match wanted {
+        Ok(wanted) => told == wanted,
+        Err(_) => false,
+    }
 }
 
+/// 64 brackets, question marks and bars may stand around a part, and not 65.
 #[test]
-fn shows_values(rt: HostRuntime) {
+fn counts_levels(rt: HostRuntime) {
     let alloc = rt.alloc();
-    assert!(rt; shows(alloc, "((), bool)", &[1], "[null,true]"));
-    assert!(rt; shows(alloc, "char", &[195, 169], "\"é\""));
-    assert!(rt; shows(alloc, "i8", &[255], "-1"));
-    let large = [254, 0, 0, 0, 0, 0, 0, 0, 0, 1, 0, 0, 0, 0, 0, 0, 0];
-    assert!(rt; shows(alloc, "u128", &large, "\"18446744073709551616\""));
-    assert!(rt; shows(alloc, "u8?", &[0], "null"));
-    assert!(rt; shows(alloc, "u8?", &[1, 9], "9"));
-    assert!(rt;
-        shows(
-            alloc,
-            "u8|[text]",
-            &[1, 2, 1, 97, 0],
-            "{\"1\":[\"a\",\"\"]}"
-        )
-    );
+    assert!(rt; is_deep(alloc, (64, "["), "u8", (64, "]"), 64));
+    assert!(rt; is_too_deep(alloc, (65, "["), "u8", (65, "]"), 64));
+    assert!(rt; is_deep(alloc, (64, "("), "u8", (64, ",)"), 64));
+    assert!(rt; is_too_deep(alloc, (65, "("), "u8", (65, ",)"), 64));
+    assert!(rt; is_deep(alloc, (64, "("), "u8", (64, ")"), 0));
+    assert!(rt; is_too_deep(alloc, (65, "("), "u8", (65, ")"), 64));
+    assert!(rt; is_deep(alloc, (0, ""), "u8", (64, "?"), 64));
+    assert!(rt; is_too_deep(alloc, (0, ""), "u8", (65, "?"), 66));
+    assert!(rt; is_deep(alloc, (32, "["), "u8", (32, "?]"), 64));
+    assert!(rt; is_too_deep(alloc, (32, "["), "u8?", (32, "?]"), 97));
+    assert!(rt; is_deep(alloc, (63, "["), "u8|u8", (63, "]"), 64));
+    assert!(rt; is_too_deep(alloc, (64, "["), "u8|u8", (64, "]"), 66));
+    assert!(rt; is_deep(alloc, (64, "["), "()", (64, "]"), 64));
+}
+
+/// The text of the shape that this text spells.
+fn shown(alloc: Global, text: &str) -> Option<String> {
+    text_of(alloc, &shape_of(alloc, text).ok()?).ok()
+}
+
+/// Whether the shape of the text is shown so. It is asked once more, since memory may be refused once.
+fn shows(alloc: Global, text: &str, wanted: &str) -> bool {
+    let is_wanted = |shown: Option<String>| shown.is_some_and(|shown| shown.as_str() == wanted);
+    is_wanted(shown(alloc, text)) || is_wanted(shown(alloc, text))
 }
 
 #[test]
-fn lists_nothing_of_no_bytes(rt: HostRuntime) {
-    let Ok(shape) = shape_of(rt.alloc(), "()") else {
-        return;
+fn shows_shapes(rt: HostRuntime) {
+    for text in SHOWN {
+        assert!(rt; shows(rt.alloc(), text, text));
+    }
+    assert!(rt; shows(rt.alloc(), " ( ( u8 ) ) ? ", "u8?"));
+    assert!(rt; shows(rt.alloc(), "[ u8;03 ]", "[u8; 3]"));
+}
+
+/// A shape that no text spells is shown as a text that is refused.
+#[test]
+fn shows_what_has_no_spelling(rt: HostRuntime) {
+    let alloc = rt.alloc();
+    let is_shown = |shape: Shape, wanted: &str| {
+        let is_wanted = |shown: String| shown.as_str() == wanted;
+        text_of(alloc, &shape).is_ok_and(is_wanted) || text_of(alloc, &shape).is_ok_and(is_wanted)
     };
-    let listed = list(rt.alloc(), &shape, &[1], config::standard());
-    assert!(rt; matches!(listed, Err(ListError::Empty | ListError::Memory)));
+    assert!(rt; is_shown(Shape::Tuple(Vec::new(alloc)), "(,)"));
+    assert!(rt; is_shown(Shape::Choice(Vec::new(alloc)), "(|)"));
 }

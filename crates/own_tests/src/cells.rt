@@ -1,0 +1,38 @@
+//! What is told of a cell that is borrowed for writing: its type, whatever it holds.
+
+use bincode::enc::Encode;
+use bincode::error::EncodeError;
+use bincode::{config, encode_into_slice, encode_to_vec};
+use std::alloc::Global;
+use std::cell::RefCell;
+use test_helpers::rows::first_wrong;
+
+/// Whether the cell is told as borrowed, by the name of its type.
+fn names_its_type<T: Drop>(outcome: Result<T, EncodeError>) -> bool {
+    matches!(
+        outcome,
+        Err(EncodeError::RefCellAlreadyBorrowed { type_name }) if type_name.as_str() == "RefCell"
+    )
+}
+
+/// What is told where a cell is borrowed, by itself and after a byte.
+fn names_borrowed<T: Encode + Drop>(alloc: Global, value: T) -> bool {
+    let cell = RefCell::new(value);
+    let Ok(_borrowed) = cell.try_borrow_mut() else {
+        return false;
+    };
+    let mut slice = [9u8; 3];
+    names_its_type(encode_into_slice(&cell, &mut slice, config::standard()))
+        && names_its_type(encode_into_slice((7u8, &cell), &mut slice, config::standard()))
+        && names_its_type(encode_to_vec(alloc, (7u8, &cell), config::standard()))
+}
+
+#[test]
+fn names_the_type_of_a_borrowed_cell(rt: HostRuntime) {
+    let alloc = rt.alloc();
+    let rows = [
+        ("u32", names_borrowed(alloc, 300u32)),
+        ("&str", names_borrowed(alloc, "ab")),
+    ];
+    assert_eq!(rt; first_wrong(&rows), None);
+}
