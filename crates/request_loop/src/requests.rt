@@ -2,7 +2,7 @@
 ghost use Rattle.std.specs.Prelude.{◌≡◌, ℕ, Err, IfOk, MatchOption, Some, drop, length};
 ghost use Rattle.std.specs.List.{All};
 ghost use Rattle.bincode.specs.Slice.{IsAnswer};
-ghost use Rattle.examples.specs.Requests.{FollowOn, IsBounded, IsRead, IsWithin};
+ghost use Rattle.request_loop.specs.Requests.{FollowOn, IsBounded, IsRead, IsWithin};
 
 use bincode::config::{Config, Configuration, Limit, LittleEndian, Varint, standard};
 use bincode::de::Decode;

@@ -1,9 +1,9 @@
 use Rattle.std.specs.Prelude.{refl, drop}
 use Rattle.std.proofs.lemmas.List.Elements.{All-weaker}
 use Rattle.std.proofs.lemmas.Result.{IfOk-weaker}
-use Rattle.examples.specs.Requests.{IsBounded, IsWithin}
-use Rattle.examples.proofs.RequestsRead.{half-again}
-use Rattle.examples.proofs.requests.serve.Goals as goal
+use Rattle.request_loop.specs.Requests.{IsBounded, IsWithin}
+use Rattle.request_loop.proofs.RequestsRead.{half-again}
+use Rattle.request_loop.proofs.requests.serve.Goals as goal
 
 pub returns-clause-bytes : goal.returns-clause-bytes
 returns-clause-bytes g c =

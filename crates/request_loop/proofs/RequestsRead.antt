@@ -11,8 +11,8 @@ use Rattle.bincode.specs.Limited.{WordBounded}
 use Rattle.bincode.specs.LimitedLaws.{decoded-bounded}
 use Rattle.bincode.specs.Meaning.{Meaning}
 use Rattle.bincode.specs.Slice.{Decoded}
-use Rattle.examples.specs.Requests.{FollowOn, IsBounded, IsRead}
-use Rattle.examples.specs.declared.requests.Request.{Request}
+use Rattle.request_loop.specs.Requests.{FollowOn, IsBounded, IsRead}
+use Rattle.request_loop.specs.declared.requests.Request.{Request}
 
 -- what is left behind a request
 abbrev left : List ℕ → ℕ → List ℕ

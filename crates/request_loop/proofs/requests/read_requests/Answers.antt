@@ -1,8 +1,8 @@
 use Rattle.std.specs.Prelude.{ℕ, Err}
 use Rattle.std.proofs.Common.{arith}
 use Rattle.bincode.specs.Slice.{FindsWords, TellsFaults, KeepsLimit}
-use Rattle.examples.proofs.RequestsRead.{read-on, answer-left}
-use Rattle.examples.proofs.requests.read_requests.Goals as goal
+use Rattle.request_loop.proofs.RequestsRead.{read-on, answer-left}
+use Rattle.request_loop.proofs.requests.read_requests.Goals as goal
 
 pub loop-alloc-preserved : goal.loop-alloc-preserved
 loop-alloc-preserved g c =

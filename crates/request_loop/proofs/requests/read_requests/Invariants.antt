@@ -1,7 +1,7 @@
 use Rattle.std.proofs.Common.{◌≡◌, ℕ, Some, length, ◌-◌, ◌≤◌}
 use Rattle.std.specs.List.{All}
-use Rattle.examples.specs.Requests.{FollowOn, IsBounded, IsRead}
-use Rattle.examples.proofs.requests.read_requests.Given as goal
+use Rattle.request_loop.specs.Requests.{FollowOn, IsBounded, IsRead}
+use Rattle.request_loop.proofs.requests.read_requests.Given as goal
 
 abbrev pub invariant-loop-alloc : goal.invariant-loop-alloc
 invariant-loop-alloc g l =

@@ -4,7 +4,7 @@ use Rattle.bincode.specs.Format.{Format}
 use Rattle.bincode.specs.Limited.{WordBounded}
 use Rattle.bincode.specs.Meaning.{Meaning}
 use Rattle.bincode.specs.Slice.{Decoded}
-use Rattle.examples.specs.declared.requests.Request.{Request}
+use Rattle.request_loop.specs.declared.requests.Request.{Request}
 
 -- a request stands where it says: a word that the limit bounds, which has so many bytes
 abbrev pub IsBounded : {A : Type 0} → Format Meaning → ℕ → List ℕ → Request A → Type 0

@@ -1,0 +1,60 @@
+//! Enums that hold bytes of their source, read by the tag of a variant and then its part.
+ghost use Rattle.std.specs.Prelude.{◌≡◌};
+ghost use Rattle.bincode_format.specs.Format.{map_format};
+ghost use Rattle.bincode_format.specs.Meaning.{Choice};
+ghost use Rattle.bincode_format.specs.Words.{behind_tag};
+ghost use Rattle.bincode_format.specs.Choices.{IsChoice};
+ghost use Rattle.bincode_format.specs.Values.{Reads};
+ghost use Rattle.bincode_enums.specs.EnumWords.{ReadAlike};
+
+use crate::enums::Enum;
+use bincode_base::error::DecodeError;
+use bincode_de::borrow_decode::BorrowDecode;
+use bincode_decoder::decoder::{BorrowDecoder, BorrowedBytes};
+use bincode_decoder::tags::DecodeTag;
+
+/// An enum whose variants can be read by a decoder that lends bytes of its source, in a context.
+pub trait BorrowDecodeVariants<B: BorrowedBytes, Context: Drop>: Enum + Drop + Sized {
+    /// Reads what follows this tag.
+    fn borrow_decode_variant<D: BorrowDecoder<B, Context = Context>>(
+        tag: u32,
+        decoder: &mut D,
+    ) -> Result<Self, DecodeError>
+        ensures { Reads D.told D.rest D.charge D.failures D.place D.C.bound D.R.ended D.R.device Self.its.grows
+            (behind_tag Self.choices.variants D.C.setting tag) Self.its.given (D.charge decoder.old) result
+            decoder.old decoder.new };
+}
+
+/// Reads the tag of a variant, and then what follows it. Fails where one of them does.
+#[inline(always)]
+pub fn borrow_decode_by_tag<
+    B: BorrowedBytes,
+    T: BorrowDecodeVariants<B, D::Context>,
+    D: BorrowDecoder<B>,
+>(decoder: &mut D) -> Result<T, DecodeError>
+    ensures { Reads D.told D.rest D.charge D.failures D.place D.C.bound D.R.ended D.R.device T.its.grows
+        (T.its.format D.C.setting) T.its.given (D.charge decoder.old) result decoder.old decoder.new }
+{
+    let tag = u32::decode_tag(decoder)?;
+    T::borrow_decode_variant(tag, decoder)
+}
+
+/// Reads the part of the variant of `T` that has this number, by which the tag picks it. Fails where the part does.
+#[inline(always)]
+pub fn borrow_decode_part<
+    B: BorrowedBytes,
+    Context: Drop,
+    T: Enum,
+    A: BorrowDecode<B, Context>,
+    D: BorrowDecoder<B, Context = Context>,
+>(tag: u32, number: u32, decoder: &mut D) -> Result<A, DecodeError>
+    requires same { tag ≡ number }
+    requires picks { ReadAlike (behind_tag T.choices.variants D.C.setting number)
+        (map_format (Choice number) (A.its.format D.C.setting)) }
+    requires grows { A.its.grows → T.its.grows }
+    ensures { Reads D.told D.rest D.charge D.failures D.place D.C.bound D.R.ended D.R.device T.its.grows
+        (behind_tag T.choices.variants D.C.setting tag) (λ m a. IsChoice tag (λ p. A.its.given p a) m)
+        (D.charge decoder.old) result decoder.old decoder.new }
+{
+    A::borrow_decode(decoder)
+}

@@ -1,0 +1,94 @@
+//! Enums, read by the tag of a variant and then its part.
+ghost use Rattle.std.specs.Prelude.{◌≡◌, true, false};
+ghost use Rattle.bincode_format.specs.Format.{map_format};
+ghost use Rattle.bincode_format.specs.Meaning.{Choice};
+ghost use Rattle.bincode_format.specs.Words.{behind_tag, tags_of, in_order, last_of};
+ghost use Rattle.bincode_format.specs.Choices.{IsChoice};
+ghost use Rattle.bincode_format.specs.Values.{Reads};
+ghost use Rattle.bincode_enums.specs.EnumWords.{IsNone, ReadAlike};
+
+use crate::enums::Enum;
+use bincode_base::error::{AllowedEnumVariants, DecodeError};
+use bincode_de::decode::Decode;
+use bincode_decoder::decoder::Decoder;
+use bincode_decoder::tags::DecodeTag;
+
+/// An enum whose variants can be read, in a context.
+pub trait DecodeVariants<Context: Drop>: Enum + Drop + Sized {
+    /// Reads what follows this tag.
+    fn decode_variant<D: Decoder<Context = Context>>(
+        tag: u32,
+        decoder: &mut D,
+    ) -> Result<Self, DecodeError>
+        ensures { Reads D.told D.rest D.charge D.failures D.place D.C.bound D.R.ended D.R.device Self.its.grows
+            (behind_tag Self.choices.variants D.C.setting tag) Self.its.given (D.charge decoder.old) result
+            decoder.old decoder.new };
+}
+
+/// Reads the tag of a variant, and then what follows it. Fails where one of them does.
+#[inline(always)]
+pub fn decode_by_tag<T: DecodeVariants<D::Context>, D: Decoder>(
+    decoder: &mut D,
+) -> Result<T, DecodeError>
+    ensures { Reads D.told D.rest D.charge D.failures D.place D.C.bound D.R.ended D.R.device T.its.grows
+        (T.its.format D.C.setting) T.its.given (D.charge decoder.old) result decoder.old decoder.new }
+{
+    let tag = u32::decode_tag(decoder)?;
+    T::decode_variant(tag, decoder)
+}
+
+/// Reads the part of the variant of `T` that has this number, by which the tag picks it. Fails where the part does.
+#[inline(always)]
+pub fn decode_part<Context: Drop, T: Enum, A: Decode<Context>, D: Decoder<Context = Context>>(
+    tag: u32,
+    number: u32,
+    decoder: &mut D,
+) -> Result<A, DecodeError>
+    requires same { tag ≡ number }
+    requires picks { ReadAlike (behind_tag T.choices.variants D.C.setting number)
+        (map_format (Choice number) (A.its.format D.C.setting)) }
+    requires grows { A.its.grows → T.its.grows }
+    ensures { Reads D.told D.rest D.charge D.failures D.place D.C.bound D.R.ended D.R.device T.its.grows
+        (behind_tag T.choices.variants D.C.setting tag) (λ m a. IsChoice tag (λ p. A.its.given p a) m)
+        (D.charge decoder.old) result decoder.old decoder.new }
+{
+    A::decode(decoder)
+}
+
+/// Refuses a tag that no variant has, where the tags are 0 to `last`, in order.
+#[inline(always)]
+pub fn decode_no_variant<T: Enum, D: Decoder>(
+    tag: u32,
+    last: u32,
+    decoder: &mut D,
+) -> Result<T, DecodeError>
+    requires differs { IsNone tag (tags_of T.choices.variants) }
+    requires ordered { in_order 0 (tags_of T.choices.variants) ≡ true }
+    requires ends { last_of 0 (tags_of T.choices.variants) ≡ last }
+    ensures { Reads D.told D.rest D.charge D.failures D.place D.C.bound D.R.ended D.R.device T.its.grows
+        (behind_tag T.choices.variants D.C.setting tag) T.its.given (D.charge decoder.old) result decoder.old
+        decoder.new }
+{
+    let range = AllowedEnumVariants::Range { min: 0, max: last };
+    Err(DecodeError::unexpected_variant(decoder.alloc(), T::type_name(), tag, range))
+}
+
+/// Refuses a tag that no variant has, where the tags do not stand in order. It takes memory for the list of them, and
+/// where that is refused, answers so.
+#[inline(always)]
+pub fn decode_unlisted_variant<T: Enum, D: Decoder>(
+    tag: u32,
+    tags: &[u32],
+    decoder: &mut D,
+) -> Result<T, DecodeError>
+    requires differs { IsNone tag (tags_of T.choices.variants) }
+    requires unordered { in_order 0 (tags_of T.choices.variants) ≡ false }
+    requires listed { tags.now ≡ tags_of T.choices.variants }
+    requires grows { T.its.grows }
+    ensures { Reads D.told D.rest D.charge D.failures D.place D.C.bound D.R.ended D.R.device T.its.grows
+        (behind_tag T.choices.variants D.C.setting tag) T.its.given (D.charge decoder.old) result decoder.old
+        decoder.new }
+{
+    let list = AllowedEnumVariants::Allowed(tags);
+    Err(DecodeError::unexpected_variant(decoder.alloc(), T::type_name(), tag, list))
+}

@@ -1,0 +1,7 @@
+//! Enums of a user's own, variant by variant: their laws, and how they are encoded and decoded.
+#![tactic(auto)]
+
+pub mod borrow;
+pub mod decode;
+pub mod encode;
+pub mod enums;
