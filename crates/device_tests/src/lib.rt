@@ -1,16 +1,33 @@
-//! Tests of streams that take or give a part, of vectors that grow, of what a fault or a failed write leaves, and of
-//! what the original crate's own tests ask. Expected values come from the description of the format.
+//! Tests of streams that take or give a part, of files, of vectors that grow, of what a fault or a failed write leaves,
+//! of errors and contexts of a user's own, of writers that are lent, and of what the original crate's own tests ask.
+//! Expected values come from the description of the format, and where a file says so from bincode 2.0.1.
 #![tactic(auto)]
 
 #[cfg(test)]
 mod behind_faults;
 #[cfg(test)]
+mod clones;
+#[cfg(test)]
+mod files;
+#[cfg(test)]
 mod halts;
 #[cfg(test)]
+mod left_behind;
+#[cfg(test)]
+mod lent_writers;
+#[cfg(test)]
+mod many;
+#[cfg(test)]
 mod originals;
+#[cfg(test)]
+mod own_contexts;
+#[cfg(test)]
+mod own_errors;
 #[cfg(test)]
 mod pieces;
 #[cfg(test)]
 mod public;
 #[cfg(test)]
 mod vec_writers;
+#[cfg(test)]
+mod wrong_streams;

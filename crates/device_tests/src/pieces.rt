@@ -9,7 +9,7 @@ use test_helpers::checks::either;
 
 /// How much of what is asked a call gives or takes.
 #[derive(Clone, Copy)]
-enum Share {
+pub enum Share {
     All,
     Half,
     One,
@@ -26,16 +26,16 @@ fn share_of(share: Share, count: usize) -> usize {
 
 /// A stream that is interrupted so many times before each call that gives or takes something.
 #[derive(Drop)]
-struct Stream<B> {
-    bytes: B,
+pub struct Stream<B> {
+    pub bytes: B,
     share: Share,
     interruptions: usize,
     left: usize,
-    calls: usize,
+    pub calls: usize,
 }
 
 /// Such a stream over these bytes.
-fn stream_over<B: Drop>(bytes: B, share: Share, interruptions: usize) -> Stream<B> {
+pub fn stream_over<B: Drop>(bytes: B, share: Share, interruptions: usize) -> Stream<B> {
     Stream {
         bytes,
         share,
@@ -81,7 +81,7 @@ impl Write for Stream<Vec<u8>> {
 }
 
 /// The word of as many times the letter a, and another byte behind it.
-fn word_of(alloc: Global, length: &[u8], count: usize) -> Result<Vec<u8>, io::Error> {
+pub fn word_of(alloc: Global, length: &[u8], count: usize) -> Result<Vec<u8>, io::Error> {
     let mut word = Vec::with_capacity(alloc, length.len().saturating_add(count).saturating_add(1))?;
     word.extend_from_slice(length)?;
     for _ in 0..count {
@@ -99,7 +99,7 @@ fn front_of(bytes: &[u8], begin: usize, end: usize) -> Option<(&[u8], &str)> {
 }
 
 /// Whether the text has as many letters a, and nothing else.
-fn is_all_a(text: &[u8], count: usize) -> bool {
+pub fn is_all_a(text: &[u8], count: usize) -> bool {
     text.len() == count && text.iter().all(|&byte| byte == 97)
 }
 
@@ -261,10 +261,10 @@ fn reads_and_writes_a_long_text(rt: HostRuntime) {
 
 /// A stream that fails by this kind from a call on, and counts its calls.
 #[derive(Drop)]
-struct Failing {
-    kind: ErrorKind,
-    good: usize,
-    calls: usize,
+pub struct Failing {
+    pub kind: ErrorKind,
+    pub good: usize,
+    pub calls: usize,
 }
 
 /// Whether the call is one that fails.
@@ -298,7 +298,7 @@ impl Write for Failing {
 }
 
 /// Kinds that a stream may fail by, none of which is tried again.
-const KINDS: [ErrorKind; 6] = [
+pub const KINDS: [ErrorKind; 6] = [
     ErrorKind::BrokenPipe,
     ErrorKind::WouldBlock,
     ErrorKind::ConnectionReset,

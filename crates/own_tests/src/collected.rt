@@ -1,6 +1,8 @@
 //! Lists of a user's own, which are filled item by item, and the arenas that some of them stand in.
 
 use bincode::config::{self, Config};
+use bincode::de::read::SliceReader;
+use bincode::de::{Decode, Decoder, DecoderImpl};
 use bincode::error::DecodeError;
 use bincode::{Wire, decode_from_slice_with_context};
 use bumpalo::Bump;
@@ -79,6 +81,20 @@ fn lends_the_arena_of_a_context(rt: HostRuntime) {
     assert!(&rt; matches!(framed.list.items, [1, 2, 3]));
     assert!(&rt; each_call_writes(rt.alloc(), &framed, &FRAMED));
     assert!(&rt; ends_at_each_place::<Env, Framed>(rt.alloc(), &FRAMED, env));
+}
+
+/// Whom a decoder reads for behind a list that it was lent for. Where memory is refused the list is not read.
+fn id_behind(alloc: Global, env: Env<'_>) -> u32 {
+    let reader = SliceReader::new(&FRAMED);
+    let mut decoder = DecoderImpl::new(alloc, reader, config::standard(), env);
+    let _outcome = Framed::decode(&mut decoder);
+    decoder.context().id
+}
+
+#[test]
+fn keeps_the_context_of_a_decoder(rt: HostRuntime) {
+    let bump = Bump::new(rt.alloc());
+    assert!(&rt; id_behind(rt.alloc(), Env { bump: &bump, id: 5 }) == 5);
 }
 
 /// How many numbers are read over the arena. Where memory is refused they are read once more.

@@ -61,7 +61,7 @@ fn shared(alloc: Global, count: u32) -> Option<RcSlice<u32>> {
 
 #[test]
 fn keeps_lists(rt: HostRuntime) {
-    for count in [3, 100_000] {
+    for count in [3, 150_000] {
         assert!(rt; keeps_value(rt.alloc(), list_of(rt.alloc(), count)));
     }
 }
@@ -88,13 +88,13 @@ fn keeps_lists_of_bytes(rt: HostRuntime) {
 
 #[test]
 fn keeps_lists_of_ones_own(rt: HostRuntime) {
-    let list = list_of(rt.alloc(), 10_000).map(|items| Pack { items });
+    let list = list_of(rt.alloc(), 150_000).map(|items| Pack { items });
     assert!(rt; keeps_value(rt.alloc(), list));
 }
 
 #[test]
 fn keeps_queues(rt: HostRuntime) {
-    for count in [3, 100_000] {
+    for count in [3, 150_000] {
         let queue = list_of(rt.alloc(), count).map(VecDeque::from);
         assert!(rt; keeps_value(rt.alloc(), queue));
     }
@@ -102,7 +102,7 @@ fn keeps_queues(rt: HostRuntime) {
 
 #[test]
 fn keeps_boxed_slices(rt: HostRuntime) {
-    for count in [3, 10_000] {
+    for count in [3, 150_000] {
         let boxed = list_of(rt.alloc(), count).map(BoxedSlice::from);
         assert!(rt; keeps_value(rt.alloc(), boxed));
     }
@@ -110,7 +110,7 @@ fn keeps_boxed_slices(rt: HostRuntime) {
 
 #[test]
 fn keeps_shared_slices(rt: HostRuntime) {
-    for count in [3, 10_000] {
+    for count in [3, 150_000] {
         assert!(rt; keeps_value(rt.alloc(), shared(rt.alloc(), count)));
     }
 }

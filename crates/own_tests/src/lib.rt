@@ -29,6 +29,8 @@ mod looped;
 #[cfg(test)]
 mod maps;
 #[cfg(test)]
+mod nodes;
+#[cfg(test)]
 mod own;
 #[cfg(test)]
 mod readers;

@@ -1,48 +1,64 @@
 //! What is told of a table of worked rows, one of which doesn't hold.
 
 use crate::broken::{Broken, BrokenBehind};
-use bincode::config::Config;
+use bincode::config::{Config, Endianness};
 use bincode::de::Decode;
 use bincode::error::DecodeError;
 use std::alloc::Global;
 use std::marker::PhantomData;
 use test_helpers::checks::either;
-use worked_rows::case::{Case, Encoding, Input, Limited, Setting, Value};
+use worked_rows::case::{Case, Encoding, Input, Limited, Number, Setting, Spelling, Value};
 use worked_rows::rows::{Row, more_cases, run, tables};
 use worked_rows::run::holds;
 use worked_rows::sources::{Buffered, Bytewise, Slice, Source};
 
-/// A row that holds, and one that does not.
-const TWO: [Row; 2] = [
+/// A row that does not hold, since its word is that of 6, and three that do.
+const FOUR: [Row; 4] = [
     Row {
-        label: "right",
-        case: Case::Encode(Value::U16(Encoding {
-            setting: Setting::Standard,
-            value: 10,
-            word: &[10],
+        label: "2",
+        case: Case::Encode(Value::U32(Encoding {
+            setting: Setting::LegacyBig,
+            value: 5,
+            word: &[0, 0, 0, 6],
         })),
     },
     Row {
-        label: "wrong",
-        case: Case::Encode(Value::U16(Encoding {
+        label: "5b",
+        case: Case::Varint(Number::U32(Spelling {
+            endian: Endianness::Little,
+            value: 251,
+            word: &[251, 251, 0],
+        })),
+    },
+    Row {
+        label: "5d",
+        case: Case::Varint(Number::U32(Spelling {
+            endian: Endianness::Little,
+            value: 65536,
+            word: &[252, 0, 0, 1, 0],
+        })),
+    },
+    Row {
+        label: "16a",
+        case: Case::Encode(Value::Pair(Encoding {
             setting: Setting::Standard,
-            value: 10,
-            word: &[11],
+            value: (1, 300),
+            word: &[1, 251, 44, 1],
         })),
     },
 ];
 
 /// What is printed of them.
-const TEXT: &str = "right ok\nwrong FAIL\nrows 2 failed 1\n";
+const TEXT: &str = "2 FAIL\n5b ok\n5d ok\n16a ok\nrows 4 failed 1\n";
 
 /// A device takes the whole text, and where it takes less, however much, the loop fails.
 #[test]
 fn tells_a_wrong_word(rt: HostRuntime) {
-    let mut bytes = [0u8; 36];
+    let mut bytes = [0u8; 42];
     for room in 0..=TEXT.len() {
         let failed = either(
-            run::<Slice, _>(rt.alloc(), &[&TWO], &mut &mut bytes[..room]),
-            run::<Slice, _>(rt.alloc(), &[&TWO], &mut &mut bytes[..room]),
+            run::<Slice, _>(rt.alloc(), &[&FOUR], &mut &mut bytes[..room]),
+            run::<Slice, _>(rt.alloc(), &[&FOUR], &mut &mut bytes[..room]),
         );
         let wanted = if room == TEXT.len() { Some(1) } else { None };
         assert!(rt; failed == wanted);

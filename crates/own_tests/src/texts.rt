@@ -45,7 +45,7 @@ fn writes_a_text(rt: HostRuntime) {
 #[test]
 fn keeps_texts(rt: HostRuntime) {
     let alloc = rt.alloc();
-    for count in [4, 100_000] {
+    for count in [4, 600_000] {
         assert!(rt; keeps_value(alloc, text(alloc, count)));
     }
 }
@@ -53,7 +53,7 @@ fn keeps_texts(rt: HostRuntime) {
 #[test]
 fn keeps_boxed_texts(rt: HostRuntime) {
     let alloc = rt.alloc();
-    for count in [4, 100_000] {
+    for count in [4, 600_000] {
         assert!(rt; keeps_value(alloc, text(alloc, count).map(BoxedStr::from)));
     }
 }
@@ -61,7 +61,7 @@ fn keeps_boxed_texts(rt: HostRuntime) {
 #[test]
 fn keeps_shared_texts(rt: HostRuntime) {
     let alloc = rt.alloc();
-    for count in [4, 150_000] {
+    for count in [4, 600_000] {
         assert!(rt; keeps_value(alloc, shared(alloc, count)));
     }
 }

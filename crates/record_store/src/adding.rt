@@ -23,7 +23,8 @@ pub struct Place {
 #[derive(Debug, Drop, Error)]
 pub enum AddError {
     /// The store holds bytes from this offset on that no word begins. Nothing was written.
-    #[error("{what} at byte {offset} ({why}): nothing was added. `head -c {offset}` prints what is whole", what = what_stands(.why))]
+    #[error("{what} at byte {offset} ({why}): nothing was added. \
+        `head -c {offset}` prints what is whole", what = what_stands(.why))]
     NotWhole {
         /// How many bytes are before them.
         offset: usize,

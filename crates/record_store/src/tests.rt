@@ -75,11 +75,11 @@ fn refuses(rt: &(impl Abort + AllocGlobal), held: &[u8], message: &str) -> Resul
 
 #[test]
 fn adds_to_no_file_that_is_not_whole(rt: HostRuntime) -> Result<(), AllocError> {
-    let torn =
-        "a torn record at byte 8 (UnexpectedEnd { additional: 1 }): nothing was added. `head -c 8` prints what is whole";
+    let torn = "a torn record at byte 8 (UnexpectedEnd { additional: 1 }): nothing was added. \
+        `head -c 8` prints what is whole";
     refuses(&rt, &STOCK[..30], torn)?;
-    let claims =
-        "a record that claims too much at byte 0 (LimitExceeded): nothing was added. `head -c 0` prints what is whole";
+    let claims = "a record that claims too much at byte 0 (LimitExceeded): nothing was added. \
+        `head -c 0` prints what is whole";
     refuses(&rt, &[252, 0, 0, 1, 0], claims)
 }
 

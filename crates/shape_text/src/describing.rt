@@ -113,7 +113,7 @@ fn print_words<C: Config, W: Write>(
     Ok(())
 }
 
-/// Writes a line for the word that begins what is left of the bytes, with its offset, and answers how many bytes it has.
+/// Writes a line for the word at the front of what is left of the bytes, with its offset, and answers its length.
 fn print_word<C: Config, W: Write>(
     alloc: Global,
     shape: &Shape,

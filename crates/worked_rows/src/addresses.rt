@@ -30,6 +30,9 @@ pub struct Socket {
     pub scope: u32,
 }
 
+/// The word of ::1 with the port 12345.
+pub(crate) const SOCKET: [u8; 19] = [0, 0, 0, 0, 0, 0, 0, 0, 0, 0, 0, 0, 0, 0, 0, 1, 251, 57, 48];
+
 /// Whether what the case says comes of the address.
 pub fn address_holds<S: Source>(alloc: Global, address: &Address) -> Result<bool, AllocError> {
     Ok(match address {

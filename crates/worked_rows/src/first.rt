@@ -1,5 +1,6 @@
 //! The first table of the program.
 
+use crate::addresses::{Address, SOCKET, Socket};
 use crate::case::{
     Answer, Borrowed, Case, Decoding, Encoding, Fault, Input, Kept, Lending, Limited, Number,
     Refusal, Setting, Spelling, Value,
@@ -7,14 +8,15 @@ use crate::case::{
 use crate::rows::Row;
 use bincode::config::{Endianness, Limit, NoLimit};
 use bincode::error::IntegerType;
+use std::net::{IpAddr, Ipv4Addr, Ipv6Addr};
 use std::ops::Bound;
 
-/// Cases of all types but addresses and C strings.
+/// Cases of all types.
 pub fn first_table() -> &'static [Row] {
     &FIRST
 }
 
-static FIRST: [Row; 62] = [
+static FIRST: [Row; 68] = [
     Row {
         label: "1",
         case: Case::Keep(Kept::Five(Encoding {
@@ -393,6 +395,15 @@ static FIRST: [Row; 62] = [
         })),
     },
     Row {
+        label: "13c",
+        case: Case::Decode(Input::CString(Decoding {
+            setting: Setting::Standard,
+            limit: NoLimit,
+            input: &[3, 65, 0, 66],
+            answer: Answer::Fault(Fault::CStringNulError { position: 1 }),
+        })),
+    },
+    Row {
         label: "14a",
         case: Case::Decode(Input::Duration(Decoding {
             setting: Setting::Standard,
@@ -454,6 +465,36 @@ static FIRST: [Row; 62] = [
             before: &[9, 9, 9],
             after: &[1, 251, 9],
         }),
+    },
+    Row {
+        label: "17a",
+        case: Case::Address(Address::WriteSocket(Encoding {
+            setting: Setting::Standard,
+            value: Socket {
+                ip: Ipv6Addr::LOCALHOST,
+                port: 12345,
+                flow: 7,
+                scope: 9,
+            },
+            word: &SOCKET,
+        })),
+    },
+    Row {
+        label: "17b",
+        case: Case::Address(Address::SocketTo18(Decoding {
+            setting: Setting::Standard,
+            limit: Limit,
+            input: &SOCKET,
+            answer: Answer::Value(
+                Socket {
+                    ip: Ipv6Addr::LOCALHOST,
+                    port: 12345,
+                    flow: 0,
+                    scope: 0,
+                },
+                19,
+            ),
+        })),
     },
     Row {
         label: "17c",
@@ -558,6 +599,31 @@ static FIRST: [Row; 62] = [
             setting: Setting::Legacy,
             value: &[],
             word: &[0, 0, 0, 0, 0, 0, 0, 0],
+        })),
+    },
+    Row {
+        label: "22a",
+        case: Case::Address(Address::WriteIp(Encoding {
+            setting: Setting::Standard,
+            value: IpAddr::V4(Ipv4Addr::LOCALHOST),
+            word: &[0, 127, 0, 0, 1],
+        })),
+    },
+    Row {
+        label: "22b",
+        case: Case::Address(Address::WriteIp(Encoding {
+            setting: Setting::Legacy,
+            value: IpAddr::V4(Ipv4Addr::LOCALHOST),
+            word: &[0, 0, 0, 0, 127, 0, 0, 1],
+        })),
+    },
+    Row {
+        label: "22c",
+        case: Case::Address(Address::Ip(Decoding {
+            setting: Setting::Standard,
+            limit: NoLimit,
+            input: &[2],
+            answer: Answer::Fault(Fault::UnexpectedVariant { found: 2, max: 1 }),
         })),
     },
     Row {

@@ -1,0 +1,26 @@
+//! Clones of what was decoded.
+
+use bincode::config;
+use bincode::error::DecodeError;
+use bincode::ffi::CString;
+use test_helpers::checks::{decoded, either};
+
+#[test]
+fn clones_a_c_string(rt: HostRuntime) {
+    let read: Result<(CString, usize), DecodeError> = decoded(
+        rt.alloc(),
+        &[5, 72, 101, 108, 108, 111],
+        config::standard(),
+    );
+    let Ok((text, 6)) = read else {
+        assert!(rt; false);
+        return;
+    };
+    let Some(copy) = either(text.clone(), text.clone()) else {
+        assert!(rt; false);
+        return;
+    };
+    assert!(rt; copy == text);
+    assert!(rt; copy.as_bytes() == b"Hello".as_slice());
+    assert!(rt; text.into_bytes().as_slice() == b"Hello".as_slice());
+}

@@ -1,0 +1,163 @@
+//! Contexts of a user's own: each call hands its context on, and uses it once for each value that asks for it.
+
+use bincode::de::{BorrowDecode, BorrowDecoder, BorrowedBytes, Decode, Decoder, OneByOne};
+use bincode::error::DecodeError;
+use bincode::{
+    MadeOf, Wire, borrow_decode_from_slice_with_context, config, decode_from_slice_with_context,
+    decode_from_std_read_with_context,
+};
+use std::alloc::Global;
+use std::cell::Cell;
+
+/// A byte, and how many were read by its context before it.
+#[derive(Clone, Copy, PartialEq)]
+struct Numbered {
+    byte: u8,
+    number: u32,
+}
+
+impl MadeOf<u8> for Numbered {
+    ghost parts = { λ v. v.byte };
+}
+
+impl Wire for Numbered {
+    ghost use Rattle.bincode.specs.TypeWords.{words_by};
+
+    ghost its = { words_by ⟦<u8 as Wire>⟧.its ⟦<Numbered as MadeOf<u8>>⟧.parts };
+
+    fn claim_size() -> usize {
+        u8::claim_size()
+    }
+}
+
+/// The number of the next value.
+fn next_number(count: &Cell<u32>) -> u32 {
+    let number = count.get();
+    count.set(number.saturating_add(1));
+    number
+}
+
+impl<'c> Decode<&'c Cell<u32>> for Numbered {
+    type Run = OneByOne;
+
+    fn decode<D: Decoder<Context = &'c Cell<u32>>>(
+        decoder: &mut D,
+    ) -> Result<Numbered, DecodeError> {
+        let count = *decoder.context();
+        let byte = u8::decode(decoder)?;
+        Ok(Numbered {
+            byte,
+            number: next_number(count),
+        })
+    }
+}
+
+impl<'c, B: BorrowedBytes> BorrowDecode<B, &'c Cell<u32>> for Numbered {
+    type Run = OneByOne;
+
+    fn borrow_decode<D: BorrowDecoder<B, Context = &'c Cell<u32>>>(
+        decoder: &mut D,
+    ) -> Result<Numbered, DecodeError> {
+        Numbered::decode(decoder)
+    }
+}
+
+/// A value, a list, an array and an option.
+type Several = (Numbered, Vec<Numbered>, [Numbered; 2], Option<Numbered>);
+
+/// Six values behind one another: the list has a length of 2, and the option its 1.
+static WORD: [u8; 8] = [60, 2, 61, 62, 63, 64, 1, 65];
+
+/// Whether these values are those of the word from this one on, each with its number.
+fn are_from(values: &[Numbered], first: u8) -> bool {
+    let mut number = first;
+    for value in values.iter() {
+        if value.number != u32::from(number) || value.byte != 60u8.saturating_add(number) {
+            return false;
+        }
+        number = number.saturating_add(1);
+    }
+    true
+}
+
+/// Whether the values are those of the word, each with its number.
+fn are_in_order(several: &Several) -> bool {
+    let (first, list, pair, last) = several;
+    let is_last = match last {
+        Some(sixth) => are_from(&[*sixth], 5),
+        None => false,
+    };
+    are_from(&[*first], 0)
+        && list.len() == 2
+        && are_from(list.as_slice(), 1)
+        && are_from(pair.as_slice(), 3)
+        && is_last
+}
+
+/// Whether the call for slices gives the six values, and leaves a context that counted six.
+fn keeps_by_slice(alloc: Global) -> bool {
+    let count = Cell::new(0u32);
+    let read: Result<(Several, usize), DecodeError> = decode_from_slice_with_context(
+        alloc,
+        &WORD,
+        config::standard(),
+        &count,
+    );
+    match read {
+        Ok((several, size)) => size == 8 && are_in_order(&several) && count.get() == 6,
+        Err(_error) => false,
+    }
+}
+
+/// The same of the call that lends.
+fn keeps_by_lending(alloc: Global) -> bool {
+    let count = Cell::new(0u32);
+    let read: Result<(Several, usize), DecodeError> = borrow_decode_from_slice_with_context(
+        alloc,
+        &WORD,
+        config::standard(),
+        &count,
+    );
+    match read {
+        Ok((several, size)) => size == 8 && are_in_order(&several) && count.get() == 6,
+        Err(_error) => false,
+    }
+}
+
+/// The same of the call for streams.
+fn keeps_by_stream(alloc: Global) -> bool {
+    let count = Cell::new(0u32);
+    let mut stream = WORD.as_slice();
+    let read: Result<Several, DecodeError> = decode_from_std_read_with_context(
+        alloc,
+        &mut stream,
+        config::standard(),
+        &count,
+    );
+    match read {
+        Ok(several) => are_in_order(&several) && count.get() == 6 && stream.is_empty(),
+        Err(_error) => false,
+    }
+}
+
+/// Whether a word that ends behind its second value leaves a context that counted two.
+fn counts_up_to_a_fault(alloc: Global) -> bool {
+    let count = Cell::new(0u32);
+    let read: Result<(Several, usize), DecodeError> = decode_from_slice_with_context(
+        alloc,
+        &WORD[..3],
+        config::standard(),
+        &count,
+    );
+    matches!(read, Err(DecodeError::UnexpectedEnd { additional: 1 })) && count.get() == 2
+}
+
+/// Where memory is refused it is decoded once more.
+#[test]
+fn keeps_its_context(rt: HostRuntime) {
+    let alloc = rt.alloc();
+    assert!(rt; keeps_by_slice(alloc) || keeps_by_slice(alloc));
+    assert!(rt; keeps_by_lending(alloc) || keeps_by_lending(alloc));
+    assert!(rt; keeps_by_stream(alloc) || keeps_by_stream(alloc));
+    assert!(rt; counts_up_to_a_fault(alloc) || counts_up_to_a_fault(alloc));
+}

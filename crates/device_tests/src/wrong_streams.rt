@@ -1,0 +1,196 @@
+//! Readers that own a stream or hold a buffer before it: how often they ask it, how they fail, and what a fault leaves.
+
+use crate::pieces::{Failing, KINDS, Share, is_all_a, stream_over, word_of};
+use bincode::de::read::Reader;
+use bincode::de::{Decode, IoReader};
+use bincode::error::DecodeError;
+use bincode::{config, decode_from_reader, decode_from_std_read, decode_next_from_std_read};
+use std::alloc::Global;
+use std::io;
+use std::io::{BufReader, ErrorKind};
+use test_helpers::checks::either;
+use test_helpers::rows::first_wrong;
+
+/// The word of as many times the letter a, and another byte behind it.
+fn word(alloc: Global, length: &[u8], count: usize) -> Option<Vec<u8>> {
+    either(word_of(alloc, length, count), word_of(alloc, length, count))
+}
+
+/// Whether a text of as many letters was read.
+fn is_text(outcome: Result<String, DecodeError>, count: usize) -> bool {
+    match outcome {
+        Ok(text) => is_all_a(text.as_bytes(), count),
+        Err(_) => false,
+    }
+}
+
+/// How many calls it takes to read a text by a reader that owns its stream, if the byte behind it is left.
+fn owned_calls(alloc: Global, word: &[u8], count: usize, share: Share) -> Option<usize> {
+    let mut stream = stream_over(word, share, 0);
+    let mut reader = IoReader::new(&mut stream);
+    let outcome = decode_from_reader(alloc, &mut reader, config::standard());
+    drop(reader);
+    if is_text(outcome, count) && stream.bytes == [9].as_slice() {
+        Some(stream.calls)
+    } else {
+        None
+    }
+}
+
+/// How many calls it takes to read it through a buffer of 64 bytes.
+fn buffered_calls(alloc: Global, word: &[u8], count: usize) -> Option<usize> {
+    let stream = stream_over(word, Share::All, 0);
+    let mut buffered = BufReader::with_capacity(alloc, 64, stream).ok()?;
+    let outcome = decode_from_reader(alloc, &mut buffered, config::standard());
+    if is_text(outcome, count) {
+        Some(buffered.get_ref().calls)
+    } else {
+        None
+    }
+}
+
+/// Whether a reader that owns its stream reads a text in so many calls. Where memory is refused it is read once more.
+fn owned_asks(alloc: Global, word: &[u8], count: usize, share: Share, calls: usize) -> bool {
+    owned_calls(alloc, word, count, share) == Some(calls)
+        || owned_calls(alloc, word, count, share) == Some(calls)
+}
+
+/// Whether a buffer is filled once, and what it does not hold is read past it.
+fn buffer_asks_twice(alloc: Global, word: &[u8], count: usize) -> bool {
+    buffered_calls(alloc, word, count) == Some(2) || buffered_calls(alloc, word, count) == Some(2)
+}
+
+/// A length has a piece of one byte and one of two or four, and the text is one piece. Of halves these are 1, 2 and 10,
+/// and 1, 3 and 21.
+#[test]
+fn asks_a_stream_once_for_a_piece_by_each_reader(rt: HostRuntime) {
+    let alloc = rt.alloc();
+    let (Some(short), Some(long)) = (
+        word(alloc, &[251, 232, 3], 1_000),
+        word(alloc, &[252, 128, 79, 18, 0], 1_200_000),
+    ) else {
+        assert!(rt; false);
+        return;
+    };
+    assert!(rt; owned_asks(alloc, &short, 1_000, Share::All, 3));
+    assert!(rt; owned_asks(alloc, &short, 1_000, Share::Half, 13));
+    assert!(rt; owned_asks(alloc, &long, 1_200_000, Share::All, 3));
+    assert!(rt; owned_asks(alloc, &long, 1_200_000, Share::Half, 25));
+    assert!(rt; buffer_asks_twice(alloc, &short, 1_000));
+    assert!(rt; buffer_asks_twice(alloc, &long, 1_200_000));
+}
+
+/// A stream that fails by this kind at once.
+fn failing(kind: ErrorKind) -> Failing {
+    Failing {
+        kind,
+        good: 0,
+        calls: 0,
+    }
+}
+
+/// A buffer before such a stream.
+fn failing_behind(alloc: Global, kind: ErrorKind) -> io::Result<BufReader<Failing>> {
+    BufReader::with_capacity(alloc, 8, failing(kind))
+}
+
+/// Whether this kind is told, and that a byte is missing.
+fn tells<T: Drop>(outcome: Result<T, DecodeError>, kind: ErrorKind) -> bool {
+    match outcome {
+        Err(DecodeError::Io { inner, additional }) => inner.kind() == kind && additional == 1,
+        _ => false,
+    }
+}
+
+/// Whether the reader tells this kind.
+fn reader_tells<R: Reader>(alloc: Global, reader: &mut R, kind: ErrorKind) -> bool {
+    let read: Result<u32, DecodeError> = decode_from_reader(alloc, reader, config::standard());
+    tells(read, kind)
+}
+
+/// Each reader tells the kind of a failure at once, and so does the look for the next value.
+#[test]
+fn keeps_the_kind_of_a_failure_in_each_reader(rt: HostRuntime) {
+    let alloc = rt.alloc();
+    for kind in KINDS {
+        let mut stream = failing(kind);
+        let mut reader = IoReader::new(&mut stream);
+        assert!(rt; reader_tells(alloc, &mut reader, kind));
+        drop(reader);
+        assert_eq!(rt; stream.calls, 1);
+        let (Some(mut buffered), Some(mut other)) = (
+            either(failing_behind(alloc, kind), failing_behind(alloc, kind)),
+            either(failing_behind(alloc, kind), failing_behind(alloc, kind)),
+        ) else {
+            assert!(rt; false);
+            return;
+        };
+        assert!(rt; reader_tells(alloc, &mut buffered, kind));
+        assert_eq!(rt; buffered.get_ref().calls, 1);
+        let next: Result<Option<u32>, DecodeError> = decode_next_from_std_read(
+            alloc,
+            &mut other,
+            config::standard(),
+        );
+        assert!(rt; tells(next, kind));
+        assert_eq!(rt; other.get_ref().calls, 1);
+    }
+}
+
+/// How many bytes of a stream are left behind a fault.
+fn left_of_stream<T: Decode<()>>(alloc: Global, input: &[u8]) -> Option<usize> {
+    let mut stream = input;
+    let outcome: Result<T, _> = decode_from_std_read(alloc, &mut stream, config::standard());
+    match outcome {
+        Ok(_) => None,
+        Err(_) => Some(stream.len()),
+    }
+}
+
+/// The same of a stream and of a buffer of four bytes before it.
+fn left_behind<T: Decode<()>>(alloc: Global, input: &[u8]) -> Option<usize> {
+    let mut buffered = BufReader::with_capacity(alloc, 4, input).ok()?;
+    let outcome: Result<T, _> = decode_from_reader(alloc, &mut buffered, config::standard());
+    match outcome {
+        Ok(_) => None,
+        Err(_) => Some(
+            buffered
+                .buffer()
+                .len()
+                .saturating_add(buffered.get_ref().len()),
+        ),
+    }
+}
+
+/// Whether three bytes are left behind a fault of both. Where memory is refused they are read once more.
+fn leaves_three<T: Decode<()>>(alloc: Global, input: &[u8]) -> bool {
+    (left_of_stream::<T>(alloc, input) == Some(3) || left_of_stream::<T>(alloc, input) == Some(3))
+        && (left_behind::<T>(alloc, input) == Some(3) || left_behind::<T>(alloc, input) == Some(3))
+}
+
+/// Nothing of a stream is read behind the part at fault. Of a number that a buffer shows whole, nothing is taken.
+#[test]
+fn leaves_what_follows_in_a_stream(rt: HostRuntime) {
+    let alloc = rt.alloc();
+    let rows = [
+        (
+            "String",
+            leaves_three::<String>(alloc, &[2, 97, 255, 77, 78, 79]),
+        ),
+        (
+            "char of three bytes",
+            leaves_three::<char>(alloc, &[237, 160, 128, 77, 78, 79]),
+        ),
+        ("u16", leaves_three::<u16>(alloc, &[252, 77, 78, 79])),
+        (
+            "the second of a list",
+            leaves_three::<Vec<bool>>(alloc, &[3, 1, 2, 77, 78, 79]),
+        ),
+    ];
+    assert_eq!(rt; first_wrong(&rows), None);
+    let shown = [7, 252, 78, 79];
+    assert!(rt;
+        left_behind::<(u8, u16)>(alloc, &shown) == Some(3)
+            || left_behind::<(u8, u16)>(alloc, &shown) == Some(3)
+    );
+}
