@@ -3,9 +3,9 @@
 
 usage: refuse_each_allocation.py [--jobs N] [--most N] [--only WORD] [CRATE ..]
 
-CRATE is a crate with tests, and by default each of bincode_tests, own_tests and shape_tests. --only leaves the tests whose names
-have WORD in them, --most leaves the first N allocations of each test, and --jobs says how many run at once (2 by default).
-It proves nothing.
+CRATE is a crate with tests, and by default each of bincode_tests, device_tests, own_tests and shape_tests. --only leaves the
+tests whose names have WORD in them, --most leaves the first N allocations of each test, and --jobs says how many run at once (2
+by default). It proves nothing.
 
 The tests of a crate are built once, by `rt try --test --fail-alloc`, which makes an executable that counts the allocations (each
 growth of a block counts as one) and refuses the one with a number that stands in its code. Here that number is changed in a copy.
@@ -30,7 +30,7 @@ import tempfile
 import time
 from pathlib import Path
 
-CRATES = ["bincode_tests", "own_tests", "shape_tests"]
+CRATES = ["bincode_tests", "device_tests", "own_tests", "shape_tests"]
 
 # The calls of these tests take no memory: what builds configurations, the varint calls over a slice, the claims, the readers and
 # writers of a slice and the one that counts, encoding plain values into a slice, and decoding from a slice, owned what holds
@@ -81,6 +81,7 @@ WITHOUT_MEMORY = {
         "empties::reads_nothing_without_memory",
         "empties::reads_nothing_into_an_arena",
     ],
+    "device_tests": [],
     "shape_tests": [],
 }
 
