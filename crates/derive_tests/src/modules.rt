@@ -1,0 +1,106 @@
+//! What is written for types that are not among those of the program's run, as docs/OWN_TYPES.md has it.
+
+use derive_words::module::{Origin, module_of};
+use std::test::Fail;
+
+/// Sources, each with lines of its module.
+const WRITTEN: [(&str, &str); 14] = [
+    // What holds nothing, and one field that is its own parts.
+    (
+        "#[derive(Clone, Copy)]\nstruct Ping;",
+        "    ghost parts = { λ v. tt };\n",
+    ),
+    (
+        "#[derive(Clone, Copy)]\nstruct Ping;",
+        "        let (): PingParts = Decode::decode(decoder)?;\n        Ok(Ping)\n",
+    ),
+    (
+        "#[derive(Drop)]\nstruct Name(String);",
+        "        let value: NameParts = Decode::decode(decoder)?;\n        Ok(Name(value))\n",
+    ),
+    (
+        "#[derive(Drop)]\nstruct Name(String);",
+        "        self.0.encode(encoder)\n",
+    ),
+    (
+        "#[derive(Drop)]\nenum Never {}",
+        "        decode_no_variants::<Never, Never, D>(decoder)\n",
+    ),
+    // A struct of more than eight fields is read by its parts in groups of four.
+    (
+        "#[derive(Drop)]\nstruct Row(u8, u8, u8, u8, u8, u8, u8, u8, u8);",
+        "type RowParts = ((u8, u8, u8, u8), (u8, u8, u8, u8), u8);\n",
+    ),
+    // Names that mean something else where they would be bound.
+    (
+        "#[derive(Drop)]\nenum Kind {\n    Work { encoder: u8 },\n}",
+        "            Kind::Work { encoder: value } => encode_variant(self, 0, value, encoder),\n",
+    ),
+    (
+        "#[derive(Drop)]\nenum Kind {\n    Work { other: u8, open: u8 },\n}",
+        "      | Work part_0 part_1 ↦ record { 0 = this (part_0, part_1) }\n",
+    ),
+    // Laws that a type does not keep, and those that hold it neither.
+    (
+        "#[derive(Drop)]\nstruct Inner(Cell<u8>);\n#[derive(Drop, PartialEq)]\nstruct Outer(Inner);",
+        "//! Left out of Inner: Plain, Exact, Canonical.\n//! Left out of Outer: Plain, Exact, Canonical.\n",
+    ),
+    (
+        "// bincode: without Canonical\n#[derive(Drop, PartialEq)]\nstruct Inner(BinaryHeap<u8>);",
+        "//! Left out of Inner: Exact, Canonical.\n",
+    ),
+    // A type that one that borrows holds is decoded by borrowing too.
+    (
+        "#[derive(Drop)]\nstruct Inner(u8);\n#[derive(Drop)]\nstruct Outer<'a>(Inner, &'a [u8]);",
+        "impl<B: BorrowedBytes, Context: Drop> BorrowDecode<B, Context> for Inner {\n",
+    ),
+    // Lines that are too long.
+    (
+        "#[derive(Drop)]\nenum Happening {\n    Ping,\n    Joined(Joined),\n    Moved(Moved),\n    Scored(PlayerId, u16),\n    Said(String),\n    Left(PlayerId),\n}",
+        "type HappeningParts = OneOf<
+    Or<
+        0,
+        (),
+        Or<
+            1,
+            Joined,
+            Or<
+                2,
+                Moved,
+                Or<3, (PlayerId, u16), Or<4, String, Or<5, PlayerId, NoOther<Happening>>>>,
+            >,
+        >,
+    >,
+>;
+",
+    ),
+    (
+        "#[derive(Drop)]\nenum Kind {\n    Work { company: String, since: u16, last_day_of_the_year: u8 },\n}",
+        "            Kind::Work {
+                company,
+                since,
+                last_day_of_the_year,
+            } => encode_variant(self, 0, &(company, since, last_day_of_the_year), encoder),
+",
+    ),
+    (
+        "#[derive(Drop)]\nstruct AnotherVeryLongNameOfAType {\n    key: String,\n}",
+        "    fn decode<D: Decoder<Context = Context>>(
+        decoder: &mut D,
+    ) -> Result<AnotherVeryLongNameOfAType, DecodeError> {
+",
+    ),
+];
+
+#[test]
+fn writes_each_kind_of_type(rt: HostRuntime) -> Result<(), Fail> {
+    let origin = Origin {
+        file_name: "types.rt",
+        declared: "app.specs.declared.types",
+    };
+    for (text, expected) in WRITTEN {
+        let module = module_of(rt.alloc(), &origin, text)?;
+        assert!(rt; module.as_str().contains(expected), "{module}");
+    }
+    Ok(())
+}

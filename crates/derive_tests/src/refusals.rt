@@ -1,0 +1,172 @@
+//! What is refused, and where.
+
+use derive_words::module::{Origin, module_of};
+use std::alloc::{AllocError, Global};
+use std::test::Fail;
+
+/// The message of what is refused in a source, or `written`.
+fn message(alloc: Global, text: &str) -> Result<String, AllocError> {
+    let origin = Origin {
+        file_name: "book.rt",
+        declared: "app.specs.declared.book",
+    };
+    match module_of(alloc, &origin, text) {
+        Ok(_) => String::from_str(alloc, "written"),
+        Err(fault) => format!(in alloc; "{fault}"),
+    }
+}
+
+/// Sources that can't be read, each with the message.
+const UNREADABLE: [(&str, &str); 13] = [
+    (
+        "struct A {\n    // bincode: skip\n    a: u8,\n}",
+        "2:5: no note \"// bincode: skip\" here: a type has skip, claims NUMBER, with TRAIT and without TRAIT, a variant tag NUMBER",
+    ),
+    (
+        "fn f() {\n    g(\n}",
+        "1:8: this bracket is not closed: close it",
+    ),
+    (
+        "#[derive(Drop\nstruct A;",
+        "1:9: this bracket is not closed: close it",
+    ),
+    ("struct A<K, V", "1:9: this bracket is not closed: close it"),
+    (
+        "struct A {\n    a u8,\n}",
+        "2:7: `:` is missing here: write it",
+    ),
+    (
+        "enum A {\n    B C,\n}",
+        "2:7: `,` is missing here: write it",
+    ),
+    ("struct A {", "1:10: a name is missing here: write it"),
+    ("struct {}", "1:8: a name is missing here: write it"),
+    (
+        "struct A(u8, , u8);",
+        "1:14: a type is missing here: write it",
+    ),
+    (
+        "// bincode: without Plain, Sorted\nstruct A;",
+        "1:1: no note \"Sorted\" here: a type has skip, claims NUMBER, with TRAIT and without TRAIT, a variant tag NUMBER",
+    ),
+    (
+        "// bincode: claims many\nstruct A;",
+        "1:1: \"many\" is no number below 2^32: write one",
+    ),
+    (
+        "enum A {\n    B = -1,\n}",
+        "2:9: \"-\" is no number below 2^32: write one",
+    ),
+    (
+        "enum A {\n    // bincode: tag 4294967296\n    B,\n}",
+        "2:5: \"4294967296\" is no number below 2^32: write one",
+    ),
+];
+
+/// Types that can't be written, each with the message.
+const UNWRITABLE: [(&str, &str); 17] = [
+    (
+        "",
+        "1:1: no struct or enum stands in this file: write one, or take the note `skip` away",
+    ),
+    (
+        "// bincode: skip\n#[derive(Drop)]\nstruct A;",
+        "1:1: no struct or enum stands in this file: write one, or take the note `skip` away",
+    ),
+    (
+        "struct A {\n    ghost even: { true },\n}",
+        "2:5: a ghost field says that a value was tested: write this type by hand, below a note `// bincode: skip`",
+    ),
+    (
+        "struct A<const N: usize>([u8; N]);",
+        "1:10: a const parameter: write this type by hand, below a note `// bincode: skip`",
+    ),
+    (
+        "struct A<K> where K: Ord {\n}",
+        "1:13: a `where` at a type: write the bound at the parameter, as `K: Ord`",
+    ),
+    (
+        "#[derive(Drop)]\nstruct A<'a, 'b>(&'a str, &'b str);",
+        "2:8: A has two lifetimes: give it one",
+    ),
+    (
+        "#[derive(Drop)]\nenum A<T> {\n    B(T),\n}",
+        "2:6: A is an enum with a type parameter: write an enum for each type that you have",
+    ),
+    (
+        "#[derive(Drop)]\nstruct A(u8, Vec<f64>);",
+        "2:18: the library has no words for `f64`: hold its bits, as a `u64`",
+    ),
+    (
+        "#[derive(Drop)]\nstruct A(&'static str);",
+        "2:10: the library has no words for `&`: hold the value, or give the type a lifetime",
+    ),
+    (
+        "#[derive(Drop)]\nstruct A(super::B);",
+        "2:10: a path that begins with `super`: import the type by `use`, and write its name",
+    ),
+    (
+        "struct A(u8);",
+        "1:8: A is neither `Drop` nor `Copy`: derive `Drop`",
+    ),
+    (
+        "#[derive(Drop)]\nstruct A(Option<Box<C>>);\n#[derive(Drop)]\nstruct C(Vec<A>);",
+        "2:8: A holds itself, and the library has no words for it: hold its items in a `Vec`, and name them by index",
+    ),
+    (
+        "#[derive(Drop)]\nenum A {\n    B(u8, u8, u8, u8, u8, u8, u8, u8, u8),\n}",
+        "3:5: B holds more than eight fields: let it hold a struct",
+    ),
+    (
+        "#[derive(Drop)]\nenum A {\n    F = 1,\n    G = 0,\n    H,\n}",
+        "5:5: H has the tag 1 of another variant: give it one of its own",
+    ),
+    (
+        "#[derive(Drop)]\nstruct Context(u8);",
+        "2:8: the name `Context` is used by what is written for your types: take another",
+    ),
+    (
+        "#[derive(Drop)]\nstruct A<E>(E);",
+        "2:10: the name `E` is used by what is written for your types: take another",
+    ),
+    (
+        "#[derive(Drop)]\nstruct A(Vec<Shape>);",
+        "2:14: the name `Shape` is used by what is written for your types: take another",
+    ),
+];
+
+/// Sources that are written.
+const WRITABLE: [&str; 5] = [
+    "fn f() -> bool {\n    1 < 2\n}\n#[derive(Drop)]\nstruct A(u8);",
+    "/* struct B; */\nconst C: [&str; 2] = [\"struct {\", \"\\\"\"];\n#[derive(Clone, Copy)]\nstruct A;",
+    "struct A<T>(T);\nimpl<T: Drop> Drop for A<T> {\n    fn drop(self) {\n        let A(_) = self;\n    }\n}",
+    "#[derive(Drop)]\npub(crate) struct A {\n    /// A lifetime's mark: '{'.\n    #[allow(unused)]\n    pub(crate) a: (u8, [char; 2]),\n}",
+    "ghost use Rattle.std.specs.Prelude.{ℕ};\n// bincode: skip\nstruct B<const N: u8> {\n    ghost b: { N ≡ 1 },\n}\n#[derive(Drop)]\nstruct A(u8,);",
+];
+
+#[test]
+fn refuses_what_it_cannot_read(rt: HostRuntime) -> Result<(), Fail> {
+    for (text, expected) in UNREADABLE {
+        let answer = message(rt.alloc(), text)?;
+        assert_eq!(rt; answer.as_str(), expected);
+    }
+    Ok(())
+}
+
+#[test]
+fn refuses_what_it_cannot_write(rt: HostRuntime) -> Result<(), Fail> {
+    for (text, expected) in UNWRITABLE {
+        let answer = message(rt.alloc(), text)?;
+        assert_eq!(rt; answer.as_str(), expected);
+    }
+    Ok(())
+}
+
+#[test]
+fn passes_over_what_else_stands_there(rt: HostRuntime) -> Result<(), Fail> {
+    for text in WRITABLE {
+        let answer = message(rt.alloc(), text)?;
+        assert_eq!(rt; answer.as_str(), "written", "{text}");
+    }
+    Ok(())
+}

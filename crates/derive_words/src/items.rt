@@ -1,0 +1,133 @@
+//! The structs and enums that stand in a source.
+
+use crate::notes::Notes;
+use crate::tokens::Token;
+use std::alloc::{AllocError, Global};
+
+/// A field: its name, which it has none of in a tuple, and its type.
+#[derive(Drop)]
+pub struct Field<'t> {
+    pub name: Option<&'t str>,
+    pub of: Vec<&'t Token>,
+}
+
+/// The fields of a struct or of a variant.
+#[derive(Drop)]
+pub enum Fields<'t> {
+    Unit,
+    Tuple(Vec<Field<'t>>),
+    Named(Vec<Field<'t>>),
+}
+
+impl<'t> Fields<'t> {
+    /// The fields, one after the other.
+    pub fn as_slice(&self) -> &[Field<'t>] {
+        match self {
+            Fields::Unit => &[],
+            Fields::Tuple(fields) | Fields::Named(fields) => fields.as_slice(),
+        }
+    }
+}
+
+/// A variant: its name, its tag if the author gives one, and its fields.
+#[derive(Drop)]
+pub struct Variant<'t> {
+    pub name: &'t Token,
+    pub tag: Option<u32>,
+    pub fields: Fields<'t>,
+}
+
+/// What a type is.
+#[derive(Drop)]
+pub enum Kind<'t> {
+    Struct(Fields<'t>),
+    Enum(Vec<Variant<'t>>),
+}
+
+/// A type parameter or a lifetime, and its bounds.
+#[derive(Drop)]
+pub struct Param<'t> {
+    pub name: &'t Token,
+    pub bounds: Vec<&'t Token>,
+}
+
+impl Param<'_> {
+    pub fn is_lifetime(&self) -> bool {
+        self.name.text.starts_with('\'')
+    }
+}
+
+/// A struct or an enum.
+#[derive(Drop)]
+pub struct Item<'t> {
+    pub name: &'t Token,
+    pub params: Vec<Param<'t>>,
+    pub kind: Kind<'t>,
+    /// The traits that it derives.
+    pub derives: Vec<&'t str>,
+    /// What its notes say.
+    pub notes: Notes,
+}
+
+impl<'t> Item<'t> {
+    /// Whether it holds bytes of what it is decoded from.
+    pub fn is_borrowing(&self) -> bool {
+        self.params.iter().any(|param| param.is_lifetime())
+    }
+
+    /// Whether it has a type parameter.
+    pub fn is_generic(&self) -> bool {
+        self.params.iter().any(|param| !param.is_lifetime())
+    }
+
+    /// Whether this is one of its type parameters.
+    pub fn has_param(&self, word: &str) -> bool {
+        self.params
+            .iter()
+            .any(|param| param.name.text.as_str() == word)
+    }
+
+    /// The words and marks in the types of its fields.
+    pub fn words(&self, alloc: Global) -> Result<Vec<&'t Token>, AllocError> {
+        let mut words = Vec::new(alloc);
+        match &self.kind {
+            Kind::Struct(fields) => add_words(&mut words, fields.as_slice())?,
+            Kind::Enum(variants) => {
+                for variant in variants.iter() {
+                    add_words(&mut words, variant.fields.as_slice())?;
+                }
+            }
+        }
+        Ok(words)
+    }
+}
+
+/// Adds the words and marks in the types of some fields.
+fn add_words<'t>(words: &mut Vec<&'t Token>, fields: &[Field<'t>]) -> Result<(), AllocError> {
+    for field in fields.iter() {
+        for word in field.of.iter() {
+            words.push(*word)?;
+        }
+    }
+    Ok(())
+}
+
+/// What stands in a source.
+#[derive(Drop)]
+pub struct Source<'t> {
+    pub items: Vec<Item<'t>>,
+    /// The `impl`s that it has: trait and type.
+    pub impls: Vec<(&'t str, &'t str)>,
+}
+
+impl Source<'_> {
+    /// Whether a type has this trait, by a derive or an `impl`.
+    pub fn has(&self, item: &Item<'_>, name: &str) -> bool {
+        let of = item.name.text.as_str();
+        item.derives.iter().any(|derived| *derived == name)
+            || self
+                .impls
+                .iter()
+                .any(|found| found.0 == name && found.1 == of)
+    }
+}

@@ -1,0 +1,176 @@
+//! What is refused of a type that was read.
+
+use crate::cursor::is_one_of;
+use crate::error::{Fault, Refusal, refused};
+use crate::items::{Item, Kind, Source, Variant};
+use crate::laws::is_among;
+use crate::tokens::Token;
+use crate::uses::is_used;
+use std::alloc::{AllocError, Global};
+
+/// Fails where a type can't be written, and says why.
+pub fn refuse<'t>(alloc: Global, source: &Source<'t>, item: &Item<'t>) -> Result<(), Fault> {
+    refuse_name(alloc, item.name)?;
+    for param in item.params.iter() {
+        refuse_name(alloc, param.name)?;
+    }
+    for word in item.words(alloc)?.iter() {
+        refuse_name(alloc, word)?;
+        refuse_word(alloc, item, word)?;
+    }
+    refuse_params(alloc, item)?;
+    if let Kind::Enum(variants) = &item.kind {
+        refuse_variants(alloc, variants)?;
+    }
+    if !source.has(item, "Drop") && !source.has(item, "Copy") {
+        let name = name_of(alloc, item)?;
+        return Err(refused(item.name.place, Refusal::NotDroppable { name }));
+    }
+    if holds_itself(alloc, source, item)? {
+        let name = name_of(alloc, item)?;
+        return Err(refused(item.name.place, Refusal::HoldsItself { name }));
+    }
+    Ok(())
+}
+
+/// The name of a type.
+fn name_of(alloc: Global, item: &Item<'_>) -> Result<String, AllocError> {
+    item.name.text.clone()
+}
+
+/// Refuses a name of a type or a parameter that is written with another meaning.
+fn refuse_name(alloc: Global, name: &Token) -> Result<(), Fault> {
+    let text = name.text.as_str();
+    if is_one_of(text, &["B", "Context", "D", "E", "Words"]) || is_used(text) {
+        let name_text = String::from_str(alloc, text)?;
+        return Err(refused(name.place, Refusal::TakenName { name: name_text }));
+    }
+    Ok(())
+}
+
+/// Refuses a word in the type of a field that the library has no words for, or that means another type below.
+fn refuse_word(alloc: Global, item: &Item<'_>, word: &Token) -> Result<(), Fault> {
+    let text = word.text.as_str();
+    if is_one_of(text, &["self", "super", "Self"]) {
+        let word_text = String::from_str(alloc, text)?;
+        return Err(refused(word.place, Refusal::RelativePath { word: word_text }));
+    }
+    if let Some(instead) = instead_of(text, item.is_borrowing()) {
+        let word_text = String::from_str(alloc, text)?;
+        let why = Refusal::NoWords {
+            word: word_text,
+            instead,
+        };
+        return Err(refused(word.place, why));
+    }
+    Ok(())
+}
+
+/// What to hold in place of this, if the library has no words for it.
+fn instead_of(name: &str, is_borrowing: bool) -> Option<&'static str> {
+    match name {
+        "&" if !is_borrowing => Some("hold the value, or give the type a lifetime"),
+        "*" => Some("hold the value"),
+        "f32" => Some("hold its bits, as a `u32`"),
+        "f64" => Some("hold its bits, as a `u64`"),
+        "Instant" | "SystemTime" => Some("hold a `Duration` or a number"),
+        "Weak" => Some("hold a number that names the value"),
+        "Mutex" | "RwLock" => Some("hold the value, and lock the whole"),
+        "LinkedList" => Some("hold a `Vec` or a `VecDeque`"),
+        "dyn" | "fn" => Some("hold a value of a type with a name"),
+        _ => None,
+    }
+}
+
+/// Refuses a second lifetime, and a type parameter of an enum.
+fn refuse_params(alloc: Global, item: &Item<'_>) -> Result<(), Fault> {
+    let lifetimes = item
+        .params
+        .iter()
+        .filter(|param| param.is_lifetime())
+        .count();
+    if lifetimes > 1 {
+        let name = name_of(alloc, item)?;
+        return Err(refused(item.name.place, Refusal::TwoLifetimes { name }));
+    }
+    if is_enum(item) && item.is_generic() {
+        let name = name_of(alloc, item)?;
+        return Err(refused(item.name.place, Refusal::GenericEnum { name }));
+    }
+    Ok(())
+}
+
+fn is_enum(item: &Item<'_>) -> bool {
+    match &item.kind {
+        Kind::Enum(_) => true,
+        Kind::Struct(_) => false,
+    }
+}
+
+/// Refuses variants that hold more than eight fields.
+fn refuse_variants(alloc: Global, variants: &Vec<Variant<'_>>) -> Result<(), Fault> {
+    for variant in variants.iter() {
+        if variant.fields.as_slice().len() > 8 {
+            let name = variant.name.text.clone()?;
+            return Err(refused(variant.name.place, Refusal::LargeVariant { name }));
+        }
+    }
+    Ok(())
+}
+
+/// The tag of each variant: its own, or one more than that of the one before. Fails where two are the same.
+pub fn tags_of(alloc: Global, variants: &Vec<Variant<'_>>) -> Result<Vec<u32>, Fault> {
+    let mut tags: Vec<u32> = Vec::new(alloc);
+    let mut next = 0u32;
+    for variant in variants.iter() {
+        let tag = variant.tag.unwrap_or(next);
+        if tags.contains(&tag) {
+            let name = variant.name.text.clone()?;
+            return Err(refused(variant.name.place, Refusal::SameTag { name, tag }));
+        }
+        tags.push(tag)?;
+        next = tag.saturating_add(1);
+    }
+    Ok(tags)
+}
+
+/// Whether a type holds itself, also by others of its source.
+fn holds_itself<'t>(
+    alloc: Global,
+    source: &Source<'t>,
+    item: &Item<'t>,
+) -> Result<bool, AllocError> {
+    let mut held = item.words(alloc)?;
+    for _ in 0..source.items.len() {
+        add_held(alloc, &mut held, source)?;
+    }
+    Ok(is_among(held.as_slice(), item.name.text.as_str()))
+}
+
+/// Adds the words in the types of a source that are among these.
+fn add_held<'t>(
+    alloc: Global,
+    held: &mut Vec<&'t Token>,
+    source: &Source<'t>,
+) -> Result<(), AllocError> {
+    for item in source.items.iter() {
+        if is_among(held.as_slice(), item.name.text.as_str()) {
+            add_new(alloc, held, item)?;
+        }
+    }
+    Ok(())
+}
+
+/// Adds the words in a type that are not there yet.
+fn add_new<'t>(
+    alloc: Global,
+    held: &mut Vec<&'t Token>,
+    item: &Item<'t>,
+) -> Result<(), AllocError> {
+    for word in item.words(alloc)?.iter() {
+        if !is_among(held.as_slice(), word.text.as_str()) {
+            held.push(*word)?;
+        }
+    }
+    Ok(())
+}
