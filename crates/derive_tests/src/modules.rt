@@ -56,7 +56,8 @@ const WRITTEN: [(&str, &str); 14] = [
     ),
     // Lines that are too long.
     (
-        "#[derive(Drop)]\nenum Happening {\n    Ping,\n    Joined(Joined),\n    Moved(Moved),\n    Scored(PlayerId, u16),\n    Said(String),\n    Left(PlayerId),\n}",
+        "#[derive(Drop)]\nenum Happening {\n    Ping,\n    Joined(Joined),\n    Moved(Moved),\
+        \n    Scored(PlayerId, u16),\n    Said(String),\n    Left(PlayerId),\n}",
         "type HappeningParts = OneOf<
     Or<
         0,

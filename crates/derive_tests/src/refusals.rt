@@ -20,7 +20,8 @@ fn message(alloc: Global, text: &str) -> Result<String, AllocError> {
 const UNREADABLE: [(&str, &str); 13] = [
     (
         "struct A {\n    // bincode: skip\n    a: u8,\n}",
-        "2:5: no note \"// bincode: skip\" here: a type has skip, claims NUMBER, with TRAIT and without TRAIT, a variant tag NUMBER",
+        "2:5: no note \"// bincode: skip\" here: a type has skip, claims NUMBER, with TRAIT and \
+        without TRAIT, a variant tag NUMBER",
     ),
     (
         "fn f() {\n    g(\n}",
@@ -47,7 +48,8 @@ const UNREADABLE: [(&str, &str); 13] = [
     ),
     (
         "// bincode: without Plain, Sorted\nstruct A;",
-        "1:1: no note \"Sorted\" here: a type has skip, claims NUMBER, with TRAIT and without TRAIT, a variant tag NUMBER",
+        "1:1: no note \"Sorted\" here: a type has skip, claims NUMBER, with TRAIT and \
+        without TRAIT, a variant tag NUMBER",
     ),
     (
         "// bincode: claims many\nstruct A;",
@@ -140,8 +142,10 @@ const WRITABLE: [&str; 5] = [
     "fn f() -> bool {\n    1 < 2\n}\n#[derive(Drop)]\nstruct A(u8);",
     "/* struct B; */\nconst C: [&str; 2] = [\"struct {\", \"\\\"\"];\n#[derive(Clone, Copy)]\nstruct A;",
     "struct A<T>(T);\nimpl<T: Drop> Drop for A<T> {\n    fn drop(self) {\n        let A(_) = self;\n    }\n}",
-    "#[derive(Drop)]\npub(crate) struct A {\n    /// A lifetime's mark: '{'.\n    #[allow(unused)]\n    pub(crate) a: (u8, [char; 2]),\n}",
-    "ghost use Rattle.std.specs.Prelude.{ℕ};\n// bincode: skip\nstruct B<const N: u8> {\n    ghost b: { N ≡ 1 },\n}\n#[derive(Drop)]\nstruct A(u8,);",
+    "#[derive(Drop)]\npub(crate) struct A {\n    /// A lifetime's mark: '{'.\n    #[allow(unused)]\
+    \n    pub(crate) a: (u8, [char; 2]),\n}",
+    "ghost use Rattle.std.specs.Prelude.{ℕ};\n// bincode: skip\nstruct B<const N: u8> {\n    ghost b: { N ≡ 1 },\n}\
+    \n#[derive(Drop)]\nstruct A(u8,);",
 ];
 
 #[test]

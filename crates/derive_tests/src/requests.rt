@@ -78,7 +78,10 @@ fn tells_what_words_ask_for(rt: HostRuntime) -> Result<(), Fail> {
 fn puts_the_module_below_that_of_the_types(rt: HostRuntime) -> Result<(), Fail> {
     for (file, expected) in [
         ("src/book.rt", "src/book/words.rt"),
-        ("/work/app/src/a/book.rt", "/work/app/src/a/book/words.rt"),
+        (
+            "/projects/app/src/a/book.rt",
+            "/projects/app/src/a/book/words.rt",
+        ),
         ("../app.old/book", "../app.old/book/words.rt"),
         ("src/lib.rt", "src/words.rt"),
         ("main.rt", "words.rt"),
@@ -92,16 +95,16 @@ fn puts_the_module_below_that_of_the_types(rt: HostRuntime) -> Result<(), Fail> 
 #[test]
 fn finds_the_crate_by_its_folder(rt: HostRuntime) -> Result<(), Fail> {
     for (file, crate_name, expected) in [
-        ("/work/app/src/book.rt", None, "app.specs.declared.book"),
+        ("/projects/app/src/book.rt", None, "app.specs.declared.book"),
         ("/src/app/src/a/book.rt", None, "app.specs.declared.a.book"),
-        ("/work/app/src/lib.rt", None, "app.specs.declared"),
+        ("/projects/app/src/lib.rt", None, "app.specs.declared"),
         (
-            "/work/app/src/book.rt",
+            "/projects/app/src/book.rt",
             Some("own"),
             "own.specs.declared.book",
         ),
-        ("/tmp/book.source", Some("app"), "app.specs.declared.book"),
-        ("/tmp/book.rt", None, "-"),
+        ("/shelf/book.source", Some("app"), "app.specs.declared.book"),
+        ("/shelf/book.rt", None, "-"),
         ("/src/book.rt", None, "-"),
     ] {
         let declared = declared_path(rt.alloc(), file, crate_name)?;
