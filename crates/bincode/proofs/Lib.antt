@@ -6,3 +6,4 @@ pub mod Room
 pub mod Through
 mod StreamHalted
 pub mod Within
+mod EnumFormats

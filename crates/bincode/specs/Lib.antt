@@ -1,4 +1,5 @@
 -- What the contracts of callers may cite, by the name of this library.
+pub mod EnumShapes
 pub use Rattle.bincode_base.specs.AllowedTags
 pub use Rattle.bincode_base.specs.Setting
 pub use Rattle.bincode_base.specs.ShortText
@@ -60,6 +61,7 @@ pub use Rattle.bincode_io.specs.Stream
 pub use Rattle.bincode_io.specs.Vectors
 pub use Rattle.bincode_decoder.specs.Contexts
 pub use Rattle.bincode_described.specs.Describing
+pub use Rattle.bincode_enums.specs.EnumWords
 pub use Rattle.bincode_shape.specs.Shapes
 pub use Rattle.bincode_shape.specs.Depth
 pub use Rattle.bincode_shape.specs.Counts

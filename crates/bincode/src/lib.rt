@@ -10,6 +10,7 @@
 mod borrow;
 pub mod de;
 pub mod enc;
+mod enum_shapes;
 mod next;
 mod reader;
 mod shaped;
@@ -18,6 +19,21 @@ mod slice;
 mod streams;
 mod vec;
 mod writer;
+
+/// Enums of your own, variant by variant: their laws, and how they are encoded and decoded.
+pub mod enums {
+    pub use bincode_enums::borrow::{
+        BorrowDecodeVariants, borrow_decode_by_tag, borrow_decode_part,
+    };
+    pub use bincode_enums::decode::{
+        DecodeVariants, decode_by_tag, decode_no_variant, decode_part, decode_unlisted_variant,
+    };
+    pub use bincode_enums::encode::encode_variant;
+    pub use bincode_enums::enums::{
+        Enum, Sum, canonical_by_variants, enum_claim, exact_by_variants, plain_by_variants,
+        writable_by_variants,
+    };
+}
 
 /// Laws that some types keep, and what tells them of a type by its parts.
 pub mod laws {
@@ -35,6 +51,7 @@ pub mod model {
 
 /// Types that are described at run time: their shapes, the images of their values, and what reads and writes them.
 pub mod shape {
+    pub use crate::enum_shapes::{describe_variants, put_variant, start_variants};
     pub use crate::shaped::{decode_shaped, decode_shaped_within, encode_shaped, measure_shaped};
     pub use bincode_described::described::Described;
     pub use bincode_shape::fits::does_fit;

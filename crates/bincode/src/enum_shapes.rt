@@ -1,0 +1,54 @@
+//! The shapes of enums that are written variant by variant.
+ghost use Rattle.std.specs.Prelude.{◌≡◌, ◌<◌, ◌+◌, ◌++◌, ◌∷◌, [], IfSome, length};
+ghost use Rattle.bincode_base.specs.Setting.{Setting};
+ghost use Rattle.bincode_format.specs.Words.{chosen, tag};
+ghost use Rattle.bincode_shape.specs.declared.shape.Shape.{Shape};
+ghost use Rattle.bincode_described.specs.Describing.{Describes};
+ghost use Rattle.bincode.specs.EnumShapes.{DescribesFirst, IsVariant};
+
+use bincode_described::described::Described;
+use bincode_enums::enums::Enum;
+use bincode_shape::shape::Shape;
+use std::alloc::Global;
+
+/// The shapes of no variants, to which those of each are put in turn.
+pub fn start_variants<T: Enum>(alloc: Global) -> Vec<Shape>
+    ensures { DescribesFirst 0 result.items T.choices.variants }
+{
+    Vec::new(alloc)
+}
+
+/// Puts the shape of the variant with this number, which holds an `A`, behind those of the variants before it. `None`
+/// where memory is refused.
+pub fn put_variant<T: Enum, A: Described>(
+    alloc: Global,
+    number: u32,
+    shapes: Vec<Shape>,
+) -> Option<Vec<Shape>>
+    requires before { DescribesFirst number shapes.items T.choices.variants }
+    requires next { IsVariant number T.choices.variants number A.its.format }
+    ensures { IfSome result (λ put. DescribesFirst (number + 1) put.items T.choices.variants) }
+{
+    put_shape::<A>(alloc, shapes)
+}
+
+/// The shape of an enum, by those of its variants.
+pub fn describe_variants<T: Enum>(number: u32, shapes: Vec<Shape>) -> Shape
+    requires each { DescribesFirst number shapes.items T.choices.variants }
+    requires all { length T.choices.variants ≡ number }
+    requires some { 0 < number }
+    requires words { (s : Setting) → (T.its.format s).read ≡ (chosen tag T.choices.variants s).read }
+    ensures { Describes result T.its }
+{
+    Shape::Choice(shapes)
+}
+
+/// Puts the shape of a type behind these. `None` where memory is refused.
+fn put_shape<T: Described>(alloc: Global, shapes: Vec<Shape>) -> Option<Vec<Shape>>
+    ensures { IfSome result (λ put. (part : Shape) × (put.items ≡ shapes.items ++ part ∷ [])
+        × Describes part T.its) }
+{
+    let mut shapes = shapes;
+    shapes.push(T::shape(alloc)?).ok()?;
+    Some(shapes)
+}
