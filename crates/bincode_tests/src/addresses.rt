@@ -8,7 +8,9 @@ use bincode::{BorrowDecode, Wire, borrow_decode_from_slice, encode_into_slice};
 use std::alloc::{AllocError, Global};
 use std::collections::BTreeMap;
 use std::net::{IpAddr, Ipv4Addr, Ipv6Addr, SocketAddr, SocketAddrV4, SocketAddrV6};
-use test_helpers::checks::{decoded, either, fault_of, is_passed, is_written_as, keeps, within};
+use test_helpers::checks::{
+    either, is_passed, is_written_as, keeps, read_word, refuses_tag, within,
+};
 use test_helpers::rows::{first_unequal, first_wrong};
 
 /// The word of ::1 with the port 12345.
@@ -109,26 +111,10 @@ fn charges_octets_before_it_reads(rt: HostRuntime) {
     assert!(rt; matches!(ended, Err(DecodeError::UnexpectedEnd { additional: 3 })));
 }
 
-/// Whether 2 is refused as a tag, under this name.
-fn refuses_two<T: Decode<()>>(alloc: Global, name: &str) -> bool {
-    let Some(
-        DecodeError::UnexpectedVariant {
-            type_name,
-            found: 2,
-            min: 0,
-            max: 1,
-        },
-    ) = fault_of::<T>(alloc, &[2])
-    else {
-        return false;
-    };
-    type_name.as_str() == name
-}
-
 #[test]
 fn names_a_tag_that_no_address_has(rt: HostRuntime) {
-    assert!(rt; refuses_two::<IpAddr>(rt.alloc(), "IpAddr"));
-    assert!(rt; refuses_two::<SocketAddr>(rt.alloc(), "SocketAddr"));
+    assert!(rt; refuses_tag::<IpAddr>(rt.alloc(), 2, "IpAddr", 1));
+    assert!(rt; refuses_tag::<SocketAddr>(rt.alloc(), 2, "SocketAddr", 1));
 }
 
 /// Whether the word is read as an address by a decoder that lends, and the address is written so.
@@ -225,12 +211,7 @@ fn reads_one_key_where_scopes_differ(rt: HostRuntime) {
     let alloc = rt.alloc();
     let map = either(scopes(alloc), scopes(alloc));
     assert!(rt; is_written_as(alloc, map, &TWICE));
-    let outcome: Result<(BTreeMap<SocketAddrV6, u8>, usize), DecodeError> = decoded(
-        alloc,
-        &TWICE,
-        config::standard(),
-    );
-    let Ok((map, 37)) = outcome else {
+    let Some(map) = read_word::<BTreeMap<SocketAddrV6, u8>>(alloc, &TWICE) else {
         assert!(rt; false);
         return;
     };

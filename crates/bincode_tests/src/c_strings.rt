@@ -2,12 +2,12 @@
 
 use bincode::error::DecodeError;
 use bincode::ffi::{CStr, CString, NulError};
-use bincode::laws::{Canonical, Exact, Inhabited};
 use bincode::{Wire, borrow_decode_from_slice, config};
 use std::alloc::Global;
 use test_helpers::checks::{
-    decoded, decoded_within, each_call_keeps, either, fault_of, is_written_as,
+    decoded_within, each_call_keeps, either, fault_of, is_written_as, read_word,
 };
+use test_helpers::laws::tell_laws;
 
 /// The word of Hello world.
 static WORD: [u8; 12] = [11, 72, 101, 108, 108, 111, 32, 119, 111, 114, 108, 100];
@@ -17,8 +17,7 @@ fn reads_what_was_lent(rt: HostRuntime) {
     let alloc = rt.alloc();
     let lent = CStr::from_bytes(b"Hello world").ok();
     assert!(rt; is_written_as(alloc, lent, &WORD));
-    let read: Result<(CString, usize), DecodeError> = decoded(alloc, &WORD, config::standard());
-    let Ok((text, 12)) = read else {
+    let Some(text) = read_word::<CString>(alloc, &WORD) else {
         assert!(rt; false);
         return;
     };
@@ -78,13 +77,6 @@ fn tells_the_first_zero_of_a_vector(rt: HostRuntime) {
     assert!(rt; fault.nul_position() == 1);
     assert!(rt; fault.into_vec().as_slice() == [65u8, 0, 66, 0].as_slice());
     assert!(rt; CStr::from_bytes(&[65, 66, 0]).err() == Some(2));
-}
-
-/// Tells the laws of a type that has them.
-fn tell_laws<T: Exact + Canonical + Inhabited>() {
-    T::tell_exact();
-    T::tell_canonical();
-    T::tell_inhabited();
 }
 
 #[test]

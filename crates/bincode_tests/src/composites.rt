@@ -11,7 +11,7 @@ use std::marker::PhantomData;
 use std::num::Wrapping;
 use std::ops::{Bound, Range, RangeInclusive};
 use std::time::Duration as StdDuration;
-use test_helpers::checks::{fault_of, goes_on, keeps, read_front, within};
+use test_helpers::checks::{goes_on, keeps, read_front, refuses_tag, within};
 use test_helpers::rows::first_wrong;
 
 /// Tuples whose parts are of one type, by their length.
@@ -128,22 +128,6 @@ fn keeps_an_outcome(rt: HostRuntime) {
     let outcome: Result<(), u8> = Err(7);
     let written = encode_into_slice(outcome, &mut slice, config::standard());
     assert!(rt; matches!(written, Ok(2)) && slice == [1, 7, 99]);
-}
-
-/// Whether the byte is refused as a tag, under this name and with this greatest tag.
-fn refuses_tag<T: Decode<()>>(alloc: Global, byte: u8, name: &str, greatest: u32) -> bool {
-    let Some(
-        DecodeError::UnexpectedVariant {
-            type_name,
-            found,
-            min: 0,
-            max,
-        },
-    ) = fault_of::<T>(alloc, &[byte])
-    else {
-        return false;
-    };
-    type_name.as_str() == name && found == byte as u32 && max == greatest
 }
 
 #[test]

@@ -8,7 +8,7 @@ use bincode::{Decode, borrow_decode_from_slice, encode_to_vec};
 use std::alloc::{AllocError, Global};
 use std::collections::{HashMap, HashSet};
 use std::hash::{BuildHasher, Hasher};
-use test_helpers::checks::{decoded, each_call_keeps, either};
+use test_helpers::checks::{decoded, each_call_keeps, either, read_word};
 
 /// A hasher that gives each key the same hash.
 #[derive(Clone, Copy, Default, Drop)]
@@ -118,12 +118,8 @@ fn keeps_one_entry_by_each_call(rt: HostRuntime) {
 
 #[test]
 fn keeps_the_last_value_of_a_key(rt: HostRuntime) {
-    let outcome: Result<(HashMap<u8, u8>, usize), DecodeError> = decoded(
-        rt.alloc(),
-        &[3, 1, 10, 2, 20, 1, 30],
-        config::standard(),
-    );
-    let Ok((map, 7)) = outcome else {
+    let word = [3, 1, 10, 2, 20, 1, 30];
+    let Some(map) = read_word::<HashMap<u8, u8>>(rt.alloc(), &word) else {
         assert!(rt; false);
         return;
     };
@@ -134,12 +130,7 @@ fn keeps_the_last_value_of_a_key(rt: HostRuntime) {
 
 #[test]
 fn keeps_each_key_once(rt: HostRuntime) {
-    let outcome: Result<(HashSet<u8>, usize), DecodeError> = decoded(
-        rt.alloc(),
-        &[3, 5, 5, 1],
-        config::standard(),
-    );
-    let Ok((set, 4)) = outcome else {
+    let Some(set) = read_word::<HashSet<u8>>(rt.alloc(), &[3, 5, 5, 1]) else {
         assert!(rt; false);
         return;
     };

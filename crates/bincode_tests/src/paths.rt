@@ -1,11 +1,11 @@
 //! Paths.
 
 use bincode::error::DecodeError;
-use bincode::laws::{Canonical, Exact, Inhabited};
 use bincode::{Wire, borrow_decode_from_slice, config};
 use std::collections::{BTreeMap, BTreeSet};
 use std::path::{Path, PathBuf};
-use test_helpers::checks::{decoded, each_call_keeps, fault_of, is_written_as};
+use test_helpers::checks::{each_call_keeps, fault_of, is_written_as, read_word};
+use test_helpers::laws::tell_laws;
 
 /// The text of a path.
 const FOO: &str = "C:/Program Files/Foo";
@@ -28,12 +28,7 @@ fn each_call_keeps_a_path(rt: HostRuntime) {
 
 #[test]
 fn reads_a_path(rt: HostRuntime) {
-    let read: Result<(PathBuf, usize), DecodeError> = decoded(
-        rt.alloc(),
-        &WORD,
-        config::standard(),
-    );
-    let Ok((path, 21)) = read else {
+    let Some(path) = read_word::<PathBuf>(rt.alloc(), &WORD) else {
         assert!(rt; false);
         return;
     };
@@ -59,12 +54,7 @@ fn refuses_bytes_that_are_no_text(rt: HostRuntime) {
 /// `a` and `a/` are equal, so the second is not put in.
 #[test]
 fn keeps_the_first_of_equal_paths(rt: HostRuntime) {
-    let read: Result<(BTreeSet<PathBuf>, usize), DecodeError> = decoded(
-        rt.alloc(),
-        &[2, 1, 97, 2, 97, 47],
-        config::standard(),
-    );
-    let Ok((set, 6)) = read else {
+    let Some(set) = read_word::<BTreeSet<PathBuf>>(rt.alloc(), &[2, 1, 97, 2, 97, 47]) else {
         assert!(rt; false);
         return;
     };
@@ -75,25 +65,14 @@ fn keeps_the_first_of_equal_paths(rt: HostRuntime) {
 /// The first of two equal keys stays, with the value of the second.
 #[test]
 fn keeps_the_last_value_of_equal_paths(rt: HostRuntime) {
-    let read: Result<(BTreeMap<PathBuf, u8>, usize), DecodeError> = decoded(
-        rt.alloc(),
-        &[2, 2, 97, 47, 1, 1, 97, 2],
-        config::standard(),
-    );
-    let Ok((map, 8)) = read else {
+    let word = [2, 2, 97, 47, 1, 1, 97, 2];
+    let Some(map) = read_word::<BTreeMap<PathBuf, u8>>(rt.alloc(), &word) else {
         assert!(rt; false);
         return;
     };
     assert!(rt; map.len() == 1);
     let first = map.first_key_value();
     assert!(rt; matches!(first, Some((path, 2)) if path.as_str() == "a/"));
-}
-
-/// Tells the laws of a type that has them.
-fn tell_laws<T: Exact + Canonical + Inhabited>() {
-    T::tell_exact();
-    T::tell_canonical();
-    T::tell_inhabited();
 }
 
 #[test]

@@ -10,6 +10,7 @@ use std::io;
 use std::io::{BufReader, ErrorKind, Read, Write};
 use std::process::Abort;
 use test_helpers::checks::either;
+use test_helpers::streams::{Breaking, is_broken};
 
 /// Gives one byte a call.
 #[derive(Drop)]
@@ -95,24 +96,6 @@ fn writes_to_a_stream(rt: HostRuntime) {
     assert!(rt; room == [30, 50, 9, 9]);
 }
 
-/// Gives one byte a call, and fails from the call on that is told.
-#[derive(Drop)]
-struct Breaking<'s> {
-    bytes: &'s [u8],
-    calls: usize,
-}
-
-impl Read for Breaking<'_> {
-    fn read(&mut self, bytes: &mut [u8]) -> io::Result<usize> {
-        if self.calls == 0 {
-            return Err(ErrorKind::BrokenPipe.into());
-        }
-        self.calls -= 1;
-        let most = bytes.len().min(1);
-        self.bytes.read(&mut bytes[..most])
-    }
-}
-
 /// What is read of a word of seven bytes and another byte, from a stream that gives so many of them and fails then.
 fn read_of(alloc: Global, calls: usize) -> Result<(u8, u32, u16), DecodeError> {
     let mut stream = Breaking {
@@ -122,25 +105,11 @@ fn read_of(alloc: Global, calls: usize) -> Result<(u8, u32, u16), DecodeError> {
     decode_from_std_read(alloc, &mut stream, config::standard())
 }
 
-/// Whether a stream that gives so many bytes is told as broken.
-fn is_broken(alloc: Global, calls: usize) -> bool {
-    let Err(
-        DecodeError::Io {
-            inner,
-            additional: _,
-        },
-    ) = read_of(alloc, calls)
-    else {
-        return false;
-    };
-    inner.kind() == ErrorKind::BrokenPipe
-}
-
 #[test]
 fn tells_where_a_stream_breaks(rt: HostRuntime) {
     let alloc = rt.alloc();
     for calls in 0..7 {
-        assert!(rt; is_broken(alloc, calls));
+        assert!(rt; is_broken(&read_of(alloc, calls)));
     }
     assert!(rt; matches!(read_of(alloc, 7), Ok((7, 65_536, 5))));
 }

@@ -1,18 +1,11 @@
 //! Clones of what was decoded.
 
-use bincode::config;
-use bincode::error::DecodeError;
 use bincode::ffi::CString;
-use test_helpers::checks::{decoded, either};
+use test_helpers::checks::{either, read_word};
 
 #[test]
 fn clones_a_c_string(rt: HostRuntime) {
-    let read: Result<(CString, usize), DecodeError> = decoded(
-        rt.alloc(),
-        &[5, 72, 101, 108, 108, 111],
-        config::standard(),
-    );
-    let Ok((text, 6)) = read else {
+    let Some(text) = read_word::<CString>(rt.alloc(), &[5, 72, 101, 108, 108, 111]) else {
         assert!(rt; false);
         return;
     };

@@ -94,34 +94,26 @@ fn are_in_order(several: &Several) -> bool {
         && is_last
 }
 
-/// Whether the call for slices gives the six values, and leaves a context that counted six.
-fn keeps_by_slice(alloc: Global) -> bool {
-    let count = Cell::new(0u32);
-    let read: Result<(Several, usize), DecodeError> = decode_from_slice_with_context(
-        alloc,
-        &WORD,
-        config::standard(),
-        &count,
-    );
+/// Whether the whole word was read as its six values, and the context counted six.
+fn is_read(read: Result<(Several, usize), DecodeError>, count: &Cell<u32>) -> bool {
     match read {
         Ok((several, size)) => size == 8 && are_in_order(&several) && count.get() == 6,
         Err(_error) => false,
     }
 }
 
+/// Whether the call for slices gives the six values, and leaves a context that counted six.
+fn keeps_by_slice(alloc: Global) -> bool {
+    let count = Cell::new(0u32);
+    let read = decode_from_slice_with_context(alloc, &WORD, config::standard(), &count);
+    is_read(read, &count)
+}
+
 /// The same of the call that lends.
 fn keeps_by_lending(alloc: Global) -> bool {
     let count = Cell::new(0u32);
-    let read: Result<(Several, usize), DecodeError> = borrow_decode_from_slice_with_context(
-        alloc,
-        &WORD,
-        config::standard(),
-        &count,
-    );
-    match read {
-        Ok((several, size)) => size == 8 && are_in_order(&several) && count.get() == 6,
-        Err(_error) => false,
-    }
+    let read = borrow_decode_from_slice_with_context(alloc, &WORD, config::standard(), &count);
+    is_read(read, &count)
 }
 
 /// The same of the call for streams.

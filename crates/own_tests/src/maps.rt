@@ -1,10 +1,8 @@
 //! Sets and maps: ordered ones, and hashed ones that are large.
 
-use bincode::config;
-use bincode::error::DecodeError;
 use std::alloc::{AllocError, Global};
 use std::collections::{BTreeMap, BTreeSet, HashMap, HashSet};
-use test_helpers::checks::{decoded, either, is_written_as, keeps_value};
+use test_helpers::checks::{either, is_written_as, keeps_value, read_word};
 
 /// The numbers from 0, the last put in first.
 fn set_of(alloc: Global, count: u32) -> Result<BTreeSet<u32>, AllocError> {
@@ -87,12 +85,7 @@ fn keeps_large_hashed_sets_and_maps(rt: HostRuntime) {
 #[test]
 fn writes_a_set_in_its_order(rt: HostRuntime) {
     let alloc = rt.alloc();
-    let outcome: Result<(BTreeSet<u8>, usize), DecodeError> = decoded(
-        alloc,
-        &[3, 5, 5, 1],
-        config::standard(),
-    );
-    let Ok((set, 4)) = outcome else {
+    let Some(set) = read_word::<BTreeSet<u8>>(alloc, &[3, 5, 5, 1]) else {
         assert!(rt; false);
         return;
     };
@@ -102,12 +95,8 @@ fn writes_a_set_in_its_order(rt: HostRuntime) {
 
 #[test]
 fn keeps_the_last_value_of_a_key(rt: HostRuntime) {
-    let outcome: Result<(BTreeMap<u8, u8>, usize), DecodeError> = decoded(
-        rt.alloc(),
-        &[3, 1, 10, 2, 20, 1, 30],
-        config::standard(),
-    );
-    let Ok((map, 7)) = outcome else {
+    let word = [3, 1, 10, 2, 20, 1, 30];
+    let Some(map) = read_word::<BTreeMap<u8, u8>>(rt.alloc(), &word) else {
         assert!(rt; false);
         return;
     };

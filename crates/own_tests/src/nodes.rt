@@ -36,8 +36,8 @@ fn is_no_tree(alloc: Global, nodes: &[u8]) -> bool {
     told.as_str() == "no tree"
 }
 
-/// No node, a child that is its own parent, one that comes before its parent, one past the end, one that is named twice,
-/// and one that none names.
+/// No node, a child that is its own parent, one that comes before its parent, one past the end, one that is named
+/// twice, and one that none names.
 #[test]
 fn refuses_what_is_no_tree(rt: HostRuntime) {
     for nodes in [

@@ -21,7 +21,7 @@ use examples::table::Table;
 use examples::track::Track;
 use std::alloc::Global;
 use test_helpers::checks::{
-    decoded_within, each_call_keeps, ends_at_each_place, fault_of, goes_on, within,
+    decoded_within, each_call_keeps, ends_at_each_place, fault_of, goes_on, refuses_tag, within,
 };
 use test_helpers::rows::{first_unequal, first_wrong};
 
@@ -186,25 +186,9 @@ fn claims_for_kinds_in_lists(rt: HostRuntime) {
     assert!(rt; matches!(kinds.first(), Some(Kind::Private)));
 }
 
-/// Whether the tag 3 is refused of a type whose tags are 0 to 2, under this name.
-fn refuses_tag_three<T: Decode<()>>(alloc: Global, name: &str) -> bool {
-    let Some(
-        DecodeError::UnexpectedVariant {
-            type_name,
-            found: 3,
-            min: 0,
-            max: 2,
-        },
-    ) = fault_of::<T>(alloc, &[3])
-    else {
-        return false;
-    };
-    type_name.as_str() == name
-}
-
 #[test]
 fn names_a_tag_that_no_variant_has(rt: HostRuntime) {
-    assert!(rt; refuses_tag_three::<Kind>(rt.alloc(), "Kind"));
+    assert!(rt; refuses_tag::<Kind>(rt.alloc(), 3, "Kind", 2));
 }
 
 #[test]

@@ -1,6 +1,6 @@
 //! What is told of a table of worked rows, one of which doesn't hold.
 
-use crate::broken::{Broken, BrokenBehind};
+use crate::broken::{Bare, Broken, Buffer};
 use bincode::config::{Config, Endianness};
 use bincode::de::Decode;
 use bincode::error::DecodeError;
@@ -8,7 +8,7 @@ use std::alloc::Global;
 use std::marker::PhantomData;
 use test_helpers::checks::either;
 use worked_rows::case::{Case, Encoding, Input, Limited, Number, Setting, Spelling, Value};
-use worked_rows::rows::{Row, more_cases, run, tables};
+use worked_rows::rows::{Row, more_cases, run, typed_tables};
 use worked_rows::run::holds;
 use worked_rows::sources::{Buffered, Bytewise, Slice, Source};
 
@@ -107,8 +107,7 @@ fn holds_more_cases(rt: HostRuntime) {
 #[test]
 fn reads_the_rows_from_streams(rt: HostRuntime) {
     let alloc = rt.alloc();
-    let [first, second, _] = tables();
-    for rows in [first, second, more_cases()] {
+    for rows in typed_tables() {
         assert!(rt; all_hold::<Bytewise>(alloc, rows));
         assert!(rt; all_hold::<Buffered<1>>(alloc, rows));
         assert!(rt; all_hold::<Buffered<4>>(alloc, rows));
@@ -120,10 +119,9 @@ fn reads_the_rows_from_streams(rt: HostRuntime) {
 #[test]
 fn reads_the_rows_from_broken_streams(rt: HostRuntime) {
     let alloc = rt.alloc();
-    let [first, second, _] = tables();
-    for rows in [first, second, more_cases()] {
-        assert!(rt; all_hold::<Broken>(alloc, rows));
-        assert!(rt; all_hold::<BrokenBehind>(alloc, rows));
+    for rows in typed_tables() {
+        assert!(rt; all_hold::<Broken<Bare>>(alloc, rows));
+        assert!(rt; all_hold::<Broken<Buffer>>(alloc, rows));
     }
 }
 
@@ -154,8 +152,7 @@ fn takes_no_memory(case: &Case) -> bool {
 /// Those cases hold, and this asks for no memory.
 #[test]
 fn decodes_cases_without_memory(rt: HostRuntime) {
-    let [first, second, _] = tables();
-    for rows in [first, second] {
+    for rows in typed_tables() {
         for row in rows {
             let label = row.label;
             if takes_no_memory(&row.case) {

@@ -8,7 +8,7 @@ use std::alloc::Global;
 use std::cell::{Cell, RefCell};
 use test_helpers::checks::ends_at_each_place;
 use worked_rows::case::Fault;
-use worked_rows::rows::{Row, more_cases, tables};
+use worked_rows::rows::{Row, tables, typed_tables};
 use worked_rows::run::tells;
 use worked_rows::sources::Slice;
 use worked_rows::words::{Word, read_as, words_of};
@@ -54,8 +54,7 @@ fn first_that_goes_on(alloc: Global, rows: &[Row]) -> Option<&'static str> {
 #[test]
 fn ends_where_words_are_cut(rt: HostRuntime) {
     let alloc = rt.alloc();
-    let [first, second, _] = tables();
-    for rows in [first, second, more_cases()] {
+    for rows in typed_tables() {
         assert_eq!(rt; first_that_goes_on(alloc, rows), None);
     }
     let number = [251, 44, 1];

@@ -2,7 +2,7 @@
 use Rattle.std.specs.Prelude.{◌≡◌, ℕ, List, [], ◌∷◌, Option, Bool}
 use Rattle.bincode_base.specs.Setting.{Setting}
 use Rattle.bincode_wire.specs.TypeWords.{Words}
-use Rattle.record_store.specs.Stores.{Leaves, Entry, AreEntries, ListsAll}
+use Rattle.record_store.specs.Stores.{Leaves, Entry, AreEntries, ListsAll, IsOutside}
 use Rattle.record_store.specs.declared.adding.AddError.{AddError}
 use Rattle.record_store.specs.declared.adding.AddError.TheVariants as failures
 use Rattle.record_store.specs.declared.store.Ending.{Ending}
@@ -13,6 +13,12 @@ abbrev pub LeavesBehind : {A S : Type 0} → Words A → Setting → Option ℕ 
 LeavesBehind W s limit value contents old new (failures.NotWhole _ _) = new ≡ old
 LeavesBehind W s limit value contents old new (failures.Append e) = Leaves W s limit value contents old new e
 LeavesBehind W s limit value contents old new (failures.Memory _) = new ≡ old
+
+-- memory was refused, or the stream failed
+abbrev pub IsAddOutside : AddError → Type 0
+IsAddOutside (failures.NotWhole _ _) = ⊥
+IsAddOutside (failures.Append e) = IsOutside e
+IsAddOutside (failures.Memory _) = Unit {0}
 
 -- two values, with these words
 abbrev pub both : {A : Type 0} → A → List ℕ → A → List ℕ → List (Entry A)

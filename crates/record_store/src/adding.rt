@@ -1,7 +1,7 @@
 //! A value that is appended to a store that is whole.
 ghost use Rattle.std.specs.Prelude.{◌≡◌, ◌++◌, ℕ, List, length, IsErr, IfOk, IfErr};
-ghost use Rattle.record_store.specs.Stores.{Entry, AreEntries, words_of, Added, IsTorn, IsOutside};
-ghost use Rattle.record_store.specs.Adding.{LeavesBehind};
+ghost use Rattle.record_store.specs.Stores.{Entry, AreEntries, words_of, Added, IsTorn, FitsStore};
+ghost use Rattle.record_store.specs.Adding.{LeavesBehind, IsAddOutside};
 
 use crate::store::{AppendError, Ending, Listing, Stored, append, list};
 use bincode::config::Config;
@@ -58,6 +58,10 @@ pub fn add<T: Stored, C: Config, W: Write>(
         → IsErr result × (store.new ≡ store.old) }
     // An error leaves what the store held, and at most a front of the word behind it.
     ensures left { IfErr result (LeavesBehind T.its C.setting C.bound value.now W.contents store.old store.new) }
+    // To what was appended in turn a value that can be read under the limit is added, unless memory is refused or the
+    // stream fails.
+    ensures fits { (entries : List (Entry T)) → AreEntries T.its C.setting C.bound entries
+        → held.now ≡ words_of entries → FitsStore T.its C.setting C.bound value.now → IfErr result IsAddOutside }
 {
     let listing: Listing<T> = match list(alloc, held, config) {
         Ok(listing) => listing,
@@ -81,6 +85,7 @@ fn add_behind<T: Stored, C: Config, W: Write>(
     ensures added { IfOk result (λ place. (place.offset ≡ offset)
         × Added T.its C.setting C.bound value.now place.size (W.contents store.old) (W.contents store.new)) }
     ensures left { IfErr result (LeavesBehind T.its C.setting C.bound value.now W.contents store.old store.new) }
+    ensures fits { FitsStore T.its C.setting C.bound value.now → IfErr result IsAddOutside }
 {
     match append(alloc, store, value, config) {
         Ok(size) => Ok(Place { offset, size }),

@@ -6,6 +6,8 @@
 #![tactic(auto)]
 
 mod files;
+#[cfg(test)]
+mod tests;
 
 use record_store::command::{Command, command_of};
 use std::env;
@@ -15,9 +17,14 @@ fn main(rt: HostRuntime) -> anyhow::Result<()> {
     for word in env::args(&rt)?.skip(1) {
         words.push(word)?;
     }
+    run(&rt, words)
+}
+
+/// Does what these words ask for. Fails where they spell no command, and as the command does.
+fn run(rt: &HostRuntime, words: Vec<String>) -> anyhow::Result<()> {
     match command_of(rt.alloc(), words)? {
-        Command::Add { file, article } => files::add(&rt, &file, &article),
-        Command::List(paths) => files::list(&rt, &paths),
-        Command::Check(paths) => files::check(&rt, &paths),
+        Command::Add { file, article } => files::add(rt, &file, &article),
+        Command::List(paths) => files::list(rt, &paths),
+        Command::Check(paths) => files::check(rt, &paths),
     }
 }

@@ -1,5 +1,5 @@
 //! A server's loop: requests that came one behind the other, from anybody, read under a limit.
-ghost use Rattle.std.specs.Prelude.{◌≡◌, ℕ, Err, IfOk, MatchOption, Some, drop, length};
+ghost use Rattle.std.specs.Prelude.{◌≡◌, ◌≤◌, ℕ, Err, IfOk, MatchOption, Some, drop, length};
 ghost use Rattle.std.specs.List.{All};
 ghost use Rattle.bincode.specs.Slice.{IsAnswer};
 ghost use Rattle.request_loop.specs.Requests.{FollowOn, IsBounded, IsRead, IsWithin};
@@ -49,6 +49,8 @@ pub fn read_requests<T: Decode<()>, C: Config>(
         → IfOk result (λ r. All (IsBounded (T.its.format C.setting) limit received.now) r.read.items) }
     // they stand one behind the other,
     ensures in_turn { IfOk result (λ r. FollowOn 0 r.read.items r.end) }
+    // there are no more than were asked for,
+    ensures at_most { IfOk result (λ r. length r.read.items ≤ most) }
     // and where no more were read, decoding answered so to the bytes that are left.
     ensures stopped { IfOk result (λ r. MatchOption r.stopped (length r.read.items ≡ most) (λ why.
         IsAnswer (T.its.format C.setting) C.bound T.its.grows T.its.given (drop r.end received.now) (Err why))) }
@@ -95,6 +97,7 @@ pub fn serve<T: Decode<()>>(
     ensures words { IfOk result (λ r. All (IsRead (T.its.format ⟦<ServerConfig as Config>⟧.setting)
         ⟦<ServerConfig as Config>⟧.bound T.its.given received.now) r.read.items) }
     ensures in_turn { IfOk result (λ r. FollowOn 0 r.read.items r.end) }
+    ensures at_most { IfOk result (λ r. length r.read.items ≤ most) }
     ensures stopped { IfOk result (λ r. MatchOption r.stopped (length r.read.items ≡ most) (λ why.
         IsAnswer (T.its.format ⟦<ServerConfig as Config>⟧.setting) ⟦<ServerConfig as Config>⟧.bound T.its.grows
         T.its.given (drop r.end received.now) (Err why))) }

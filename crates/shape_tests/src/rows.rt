@@ -204,7 +204,7 @@ fn count_of(alloc: Global, table: &[Row]) -> Result<usize, &'static str> {
     Ok(count)
 }
 
-/// Of the 68 and 9 rows of the first two tables, those of other types are 22: of addresses 11, of bounds 2, of a
+/// Of the 77 rows of types that are named in the code, those of other types are 22: of addresses 11, of bounds 2, of a
 /// C string, of spans of time 3, of maps 2, of a number that is not 0, and of texts that are lent 2.
 #[test]
 fn rows_hold_by_shapes(rt: HostRuntime) {

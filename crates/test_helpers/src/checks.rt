@@ -96,6 +96,22 @@ pub fn fault_of<T: Decode<()>>(alloc: Global, input: &[u8]) -> Option<DecodeErro
     outcome.err()
 }
 
+/// Whether the byte is refused as a tag, under this name, where those from 0 to the greatest are allowed.
+pub fn refuses_tag<T: Decode<()>>(alloc: Global, byte: u8, name: &str, greatest: u32) -> bool {
+    let Some(
+        DecodeError::UnexpectedVariant {
+            type_name,
+            found,
+            min: 0,
+            max,
+        },
+    ) = fault_of::<T>(alloc, &[byte])
+    else {
+        return false;
+    };
+    type_name.as_str() == name && found == byte as u32 && max == greatest
+}
+
 /// What one of two equal calls makes, so that either may be refused memory.
 pub fn either<T: Drop, E: Drop>(first: Result<T, E>, second: Result<T, E>) -> Option<T> {
     match first {
@@ -121,6 +137,14 @@ pub fn decoded<T: Decode<()>, C: Config>(
     match decode_from_slice(alloc, input, config) {
         Err(DecodeError::Memory) => decode_from_slice(alloc, input, config),
         outcome => outcome,
+    }
+}
+
+/// What is read of a word, if it is taken whole. Where memory is refused it is decoded once more.
+pub fn read_word<T: Decode<()>>(alloc: Global, word: &[u8]) -> Option<T> {
+    match decoded(alloc, word, config::standard()) {
+        Ok((value, taken)) if taken == word.len() => Some(value),
+        _ => None,
     }
 }
 

@@ -2,4 +2,6 @@
 #![tactic(auto)]
 
 pub mod checks;
+pub mod laws;
 pub mod rows;
+pub mod streams;

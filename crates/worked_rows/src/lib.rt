@@ -5,13 +5,16 @@
 pub mod addresses;
 mod borrow;
 pub mod case;
+mod charges;
+mod choices;
 pub mod claims;
-mod first;
+mod collections;
 pub mod formats;
+mod limits;
 mod more;
+mod numbers;
 pub mod rows;
 pub mod run;
-mod second;
 pub mod shaped;
 pub mod sources;
 pub mod words;

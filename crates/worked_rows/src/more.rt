@@ -1,4 +1,4 @@
-//! Cases that the table of the program leaves out.
+//! Cases that the tables of the program leave out.
 
 use crate::case::{Answer, Case, Decoding, Input, Setting};
 use crate::rows::Row;

@@ -2,10 +2,13 @@
 ghost use Rattle.std.specs.Prelude.{◌≤◌, length, IfOk};
 
 use crate::case::Case;
-use crate::first::first_table;
+use crate::charges::charge_table;
+use crate::choices::choice_table;
+use crate::collections::collection_table;
+use crate::limits::limit_table;
 pub use crate::more::more_cases;
+use crate::numbers::number_table;
 use crate::run::holds;
-use crate::second::second_table;
 use crate::shaped::shaped_table;
 use crate::sources::Source;
 use std::alloc::Global;
@@ -20,8 +23,28 @@ pub struct Row {
 }
 
 /// The tables of the cases that the program runs.
-pub fn tables() -> [&'static [Row]; 3] {
-    [first_table(), second_table(), shaped_table()]
+pub fn tables() -> [&'static [Row]; 6] {
+    [
+        number_table(),
+        limit_table(),
+        collection_table(),
+        choice_table(),
+        charge_table(),
+        shaped_table(),
+    ]
+}
+
+/// The tables of the cases whose types are named in the code: all but those that are described at run time, and the
+/// cases that the program leaves out.
+pub fn typed_tables() -> [&'static [Row]; 6] {
+    [
+        number_table(),
+        limit_table(),
+        collection_table(),
+        choice_table(),
+        charge_table(),
+        more_cases(),
+    ]
 }
 
 /// Runs the cases of some tables in turn; what is decoded as an owned type is read from `S`. Writes a line for each,

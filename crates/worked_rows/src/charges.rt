@@ -1,4 +1,4 @@
-//! The second table of the program: what is claimed for addresses and for elements without bytes.
+//! Cases of what is charged for addresses and for elements without bytes.
 
 use crate::addresses::{Address, SOCKET};
 use crate::case::{Answer, Case, Decoding, Fault, Limited, Setting};
@@ -7,11 +7,11 @@ use bincode::config::Limit;
 use std::net::{IpAddr, Ipv4Addr};
 
 /// Cases of addresses, and of elements that have no bytes of their own, within limits.
-pub fn second_table() -> &'static [Row] {
-    &SECOND
+pub fn charge_table() -> &'static [Row] {
+    &CHARGES
 }
 
-static SECOND: [Row; 9] = [
+static CHARGES: [Row; 9] = [
     Row {
         label: "25a",
         case: Case::Address(Address::Ipv4To3(Decoding {

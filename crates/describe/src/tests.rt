@@ -1,0 +1,44 @@
+//! Where the program fails.
+
+use crate::run;
+use std::{env, fs, process};
+
+/// Runs the program with these words.
+fn run_with(rt: &HostRuntime, words: &[&str]) -> anyhow::Result<()> {
+    let mut owned = Vec::new(rt.alloc());
+    for word in words {
+        owned.push(String::from_str(rt.alloc(), word)?)?;
+    }
+    run(rt, owned)
+}
+
+/// The numbers 7 and 300, and then without the last byte.
+#[test]
+fn fails_where_a_file_is_torn(rt: HostRuntime) -> anyhow::Result<()> {
+    let name = format!(in rt.alloc(); "{}-numbers", process::id(rt.process()))?;
+    let file = env::temp_dir(&rt)?.join(rt.alloc(), name.as_str())?;
+    let path = file.as_str();
+    fs::write(&rt, path, [7u8, 251, 44, 1].as_slice())?;
+    let whole = run_with(&rt, &["u16", path]);
+    fs::write(&rt, path, [7u8, 251, 44].as_slice())?;
+    let torn = run_with(&rt, &["u16", path]);
+    fs::remove_file(&rt, path)?;
+    let missing = run_with(&rt, &["u16", path]);
+    assert!(rt; whole.is_ok());
+    assert!(rt; torn.is_err());
+    assert!(rt; missing.is_err());
+    Ok(())
+}
+
+#[test]
+fn fails_by_words_that_spell_no_request(rt: HostRuntime) {
+    for words in [
+        [].as_slice(),
+        &["u8"],
+        &["u8", "f", "g"],
+        &["--fix", "u8", "f"],
+        &["u7", "f"],
+    ] {
+        assert!(rt; run_with(&rt, words).is_err());
+    }
+}

@@ -1,0 +1,86 @@
+//! What the program does to files, and where it fails.
+
+use crate::run;
+use std::path::PathBuf;
+use std::{env, fs, io, process};
+
+/// Salt at 40, and then tea at 1250, of a weight of 100 and from Assam.
+const STOCK: [u8; 31] = [
+    4, 115, 97, 108, 116, 40, 0, 0, 3, 116, 101, 97, 251, 226, 4, 1, 100, 1, 6, 111, 114, 105, 103,
+    105, 110, 5, 65, 115, 115, 97, 109,
+];
+
+/// Runs the program with these words.
+fn run_with(rt: &HostRuntime, words: &[&str]) -> anyhow::Result<()> {
+    let mut owned = Vec::new(rt.alloc());
+    for word in words {
+        owned.push(String::from_str(rt.alloc(), word)?)?;
+    }
+    run(rt, owned)
+}
+
+/// Where a file of this name may stand, which no other run has.
+fn path_of(rt: &HostRuntime, name: &str) -> io::Result<PathBuf> {
+    let name = format!(in rt.alloc(); "{}-{name}", process::id(rt.process()))?;
+    Ok(env::temp_dir(rt)?.join(rt.alloc(), name.as_str())?)
+}
+
+/// An article stands behind all that the file held, and a file that is torn is left as it is.
+#[test]
+fn adds_behind_what_a_file_holds(rt: HostRuntime) -> anyhow::Result<()> {
+    let file = path_of(&rt, "added.records")?;
+    let path = file.as_str();
+    run_with(&rt, &["add", path, "salt", "40"])?;
+    let one = fs::read(&rt, path)?;
+    run_with(&rt, &["add", path, "tea", "1250", "100", "origin=Assam"])?;
+    let both = fs::read(&rt, path)?;
+    fs::write(&rt, path, &STOCK[..30])?;
+    let refused = run_with(&rt, &["add", path, "salt", "40"]);
+    let torn = fs::read(&rt, path)?;
+    fs::remove_file(&rt, path)?;
+    assert_eq!(rt; one.as_slice(), &STOCK[..8]);
+    assert_eq!(rt; both.as_slice(), &STOCK[..]);
+    assert!(rt; refused.is_err());
+    assert_eq!(rt; torn.as_slice(), &STOCK[..30]);
+    Ok(())
+}
+
+/// Whether a command fails by a torn file, also before a whole one, and by a missing one, and not by a whole one.
+fn fails_by_torn<'a>(rt: &HostRuntime, command: &'a str, whole: &'a str, torn: &'a str) -> bool {
+    run_with(rt, &[command, whole]).is_ok()
+        && run_with(rt, &[command, torn]).is_err()
+        && run_with(rt, &[command, torn, whole]).is_err()
+        && run_with(rt, &[command, "missing.records"]).is_err()
+}
+
+/// A file that is torn, and one that is missing, is a failure, and so where a whole one stands behind it.
+#[test]
+fn fails_where_a_file_is_not_whole(rt: HostRuntime) -> anyhow::Result<()> {
+    let (whole, torn) = (
+        path_of(&rt, "whole.records")?,
+        path_of(&rt, "torn.records")?,
+    );
+    let (whole, torn) = (whole.as_str(), torn.as_str());
+    fs::write(&rt, whole, &STOCK[..])?;
+    fs::write(&rt, torn, &STOCK[..30])?;
+    let by_list = fails_by_torn(&rt, "list", whole, torn);
+    let by_check = fails_by_torn(&rt, "check", whole, torn);
+    fs::remove_file(&rt, whole)?;
+    fs::remove_file(&rt, torn)?;
+    assert!(rt; by_list);
+    assert!(rt; by_check);
+    Ok(())
+}
+
+#[test]
+fn fails_by_words_that_spell_no_command(rt: HostRuntime) {
+    for words in [
+        [].as_slice(),
+        &["ad", "f", "tea", "1"],
+        &["add", "f", "tea"],
+        &["list"],
+        &["check"],
+    ] {
+        assert!(rt; run_with(&rt, words).is_err());
+    }
+}

@@ -1,0 +1,195 @@
+//! Cases of addresses, of choices, and of what has no bytes.
+
+use crate::addresses::{Address, SOCKET, Socket};
+use crate::case::{Answer, Case, Decoding, Encoding, Fault, Input, Kept, Limited, Setting, Value};
+use crate::rows::Row;
+use bincode::config::{Limit, NoLimit};
+use bincode::error::IntegerType;
+use std::net::{IpAddr, Ipv4Addr, Ipv6Addr};
+use std::ops::Bound;
+
+/// Cases of addresses, of options and other choices, of values and lists without bytes, and of bytes that are asked for
+/// one by one.
+pub fn choice_table() -> &'static [Row] {
+    &CHOICES
+}
+
+static CHOICES: [Row; 19] = [
+    Row {
+        label: "17a",
+        case: Case::Address(Address::WriteSocket(Encoding {
+            setting: Setting::Standard,
+            value: Socket {
+                ip: Ipv6Addr::LOCALHOST,
+                port: 12345,
+                flow: 7,
+                scope: 9,
+            },
+            word: &SOCKET,
+        })),
+    },
+    Row {
+        label: "17b",
+        case: Case::Address(Address::SocketTo18(Decoding {
+            setting: Setting::Standard,
+            limit: Limit,
+            input: &SOCKET,
+            answer: Answer::Value(
+                Socket {
+                    ip: Ipv6Addr::LOCALHOST,
+                    port: 12345,
+                    flow: 0,
+                    scope: 0,
+                },
+                19,
+            ),
+        })),
+    },
+    Row {
+        label: "17c",
+        case: Case::DecodeWithin(Limited::UnitsTo11(Decoding {
+            setting: Setting::Standard,
+            limit: Limit,
+            input: &[3],
+            answer: Answer::Value(3, 1),
+        })),
+    },
+    Row {
+        label: "17d",
+        case: Case::DecodeWithin(Limited::UnitsTo7(Decoding {
+            setting: Setting::Standard,
+            limit: Limit,
+            input: &[3],
+            answer: Answer::Fault(Fault::LimitExceeded),
+        })),
+    },
+    Row {
+        label: "19a",
+        case: Case::Encode(Value::Option(Encoding {
+            setting: Setting::Legacy,
+            value: Some(5),
+            word: &[1, 5, 0, 0, 0],
+        })),
+    },
+    Row {
+        label: "19b",
+        case: Case::Encode(Value::Result(Encoding {
+            setting: Setting::Legacy,
+            value: Ok(5),
+            word: &[0, 0, 0, 0, 5],
+        })),
+    },
+    Row {
+        label: "19c",
+        case: Case::Decode(Input::Option(Decoding {
+            setting: Setting::Legacy,
+            limit: NoLimit,
+            input: &[2],
+            answer: Answer::Fault(Fault::UnexpectedVariant { found: 2, max: 1 }),
+        })),
+    },
+    Row {
+        label: "19d",
+        case: Case::Decode(Input::Bool(Decoding {
+            setting: Setting::Legacy,
+            limit: NoLimit,
+            input: &[2],
+            answer: Answer::Fault(Fault::InvalidBooleanValue(2)),
+        })),
+    },
+    Row {
+        label: "19e",
+        case: Case::Decode(Input::NonZeroU16(Decoding {
+            setting: Setting::Standard,
+            limit: NoLimit,
+            input: &[0],
+            answer: Answer::Fault(Fault::NonZeroTypeIsZero {
+                non_zero_type: IntegerType::U16,
+            }),
+        })),
+    },
+    Row {
+        label: "20a",
+        case: Case::DecodeBytewise(Decoding {
+            setting: Setting::Standard,
+            limit: NoLimit,
+            input: &[5, 10],
+            answer: Answer::Value((5, 10), 2),
+        }),
+    },
+    Row {
+        label: "20b",
+        case: Case::DecodeBytewise(Decoding {
+            setting: Setting::Standard,
+            limit: NoLimit,
+            input: &[5],
+            answer: Answer::Fault(Fault::UnexpectedEnd { additional: 1 }),
+        }),
+    },
+    Row {
+        label: "21a",
+        case: Case::Keep(Kept::Unit(Encoding {
+            setting: Setting::Standard,
+            value: (),
+            word: &[],
+        })),
+    },
+    Row {
+        label: "21b",
+        case: Case::Encode(Value::List(Encoding {
+            setting: Setting::Standard,
+            value: &[],
+            word: &[0],
+        })),
+    },
+    Row {
+        label: "21c",
+        case: Case::Encode(Value::List(Encoding {
+            setting: Setting::Legacy,
+            value: &[],
+            word: &[0, 0, 0, 0, 0, 0, 0, 0],
+        })),
+    },
+    Row {
+        label: "22a",
+        case: Case::Address(Address::WriteIp(Encoding {
+            setting: Setting::Standard,
+            value: IpAddr::V4(Ipv4Addr::LOCALHOST),
+            word: &[0, 127, 0, 0, 1],
+        })),
+    },
+    Row {
+        label: "22b",
+        case: Case::Address(Address::WriteIp(Encoding {
+            setting: Setting::Legacy,
+            value: IpAddr::V4(Ipv4Addr::LOCALHOST),
+            word: &[0, 0, 0, 0, 127, 0, 0, 1],
+        })),
+    },
+    Row {
+        label: "22c",
+        case: Case::Address(Address::Ip(Decoding {
+            setting: Setting::Standard,
+            limit: NoLimit,
+            input: &[2],
+            answer: Answer::Fault(Fault::UnexpectedVariant { found: 2, max: 1 }),
+        })),
+    },
+    Row {
+        label: "23a",
+        case: Case::Encode(Value::Bound(Encoding {
+            setting: Setting::Standard,
+            value: Bound::Excluded(7),
+            word: &[2, 7],
+        })),
+    },
+    Row {
+        label: "23b",
+        case: Case::Decode(Input::Bound(Decoding {
+            setting: Setting::Standard,
+            limit: NoLimit,
+            input: &[3],
+            answer: Answer::Fault(Fault::UnexpectedVariant { found: 3, max: 2 }),
+        })),
+    },
+];
