@@ -1,12 +1,12 @@
-//! The tests of the program `derive`: what its words ask for, what it refuses, what it answers, and what is written for
-//! types that are not among those of its run.
+//! The tests of what `derive` writes: what is refused, and what is written for types that are not among those of the
+//! program's run.
 #![tactic(auto)]
 
 #[cfg(test)]
-mod answers;
+mod enums;
+#[cfg(test)]
+mod laws;
 #[cfg(test)]
 mod modules;
 #[cfg(test)]
 mod refusals;
-#[cfg(test)]
-mod requests;

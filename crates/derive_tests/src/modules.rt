@@ -4,7 +4,7 @@ use derive_words::module::{Origin, module_of};
 use std::test::Fail;
 
 /// Sources, each with lines of its module.
-const WRITTEN: [(&str, &str); 14] = [
+const WRITTEN: [(&str, &str); 19] = [
     // What holds nothing, and one field that is its own parts.
     (
         "#[derive(Clone, Copy)]\nstruct Ping;",
@@ -37,17 +37,52 @@ const WRITTEN: [(&str, &str); 14] = [
         "            Kind::Work { encoder: value } => encode_variant(self, 0, value, encoder),\n",
     ),
     (
-        "#[derive(Drop)]\nenum Kind {\n    Work { other: u8, open: u8 },\n}",
+        "#[derive(Drop)]\nenum Kind {\n    Work { other: u8, by: u8 },\n}",
+        "      | Work part_0 part_1 ↦ this (part_0, part_1)\n",
+    ),
+    (
+        "// bincode: claims 9\n#[derive(Drop)]\nenum Kind {\n    Work { other: u8, open: u8 },\n}",
         "      | Work part_0 part_1 ↦ record { 0 = this (part_0, part_1) }\n",
     ),
-    // Laws that a type does not keep, and those that hold it neither.
+    // Bounds of a type, at its parameters or in a `where`, and defaults.
     (
-        "#[derive(Drop)]\nstruct Inner(Cell<u8>);\n#[derive(Drop, PartialEq)]\nstruct Outer(Inner);",
-        "//! Left out of Inner: Plain, Exact, Canonical.\n//! Left out of Outer: Plain, Exact, Canonical.\n",
+        "#[derive(Drop)]\nstruct A<K = u8>(K) where K: Ord + Clone;",
+        "impl<K: Ord + Clone + Encode> Encode for A<K> {\n",
     ),
     (
-        "// bincode: without Canonical\n#[derive(Drop, PartialEq)]\nstruct Inner(BinaryHeap<u8>);",
-        "//! Left out of Inner: Exact, Canonical.\n",
+        "#[derive(Drop)]\nstruct A<K: Ord, V>\nwhere\n    V: Clone,\n    Vec<V>: Clone,\n{\n    a: BTreeMap<K, V>,\n}",
+        "impl<K: Ord + Drop, V: Clone + Drop> Encode for A<K, V>
+where
+    Vec<V>: Clone,
+    BTreeMap<K, V>: Encode,
+{
+",
+    ),
+    // What is there for its type alone asks nothing of it.
+    (
+        "#[derive(Drop)]\nstruct A<K>(u8, PhantomData<K>);",
+        "impl<Context: Drop, K: Drop> Decode<Context> for A<K> {\n",
+    ),
+    // Types of other modules, which stand one module above what is written.
+    (
+        "#[derive(Drop)]\nstruct A(crate::other::Kind, super::Kind, self::below::Kind, super::super::Kind);",
+        "type AParts = (
+    crate::other::Kind,
+    super::super::Kind,
+    super::below::Kind,
+    super::super::super::Kind,
+);
+",
+    ),
+    (
+        "#[derive(Drop)]\nstruct Kind(Vec<super::Kind>);",
+        "type KindParts = Vec<super::super::Kind>;\n",
+    ),
+    // What is not public, with attributes and comments.
+    (
+        "/// A.\n#[derive(Drop)]\npub(crate) struct A {\n    /// Its number.\n    #[allow(unused)]\n    \
+        pub(crate) a: u8,\n    b: u16,\n}",
+        "type AParts = (u8, u16);\n",
     ),
     // A type that one that borrows holds is decoded by borrowing too.
     (
@@ -56,7 +91,8 @@ const WRITTEN: [(&str, &str); 14] = [
     ),
     // Lines that are too long.
     (
-        "#[derive(Drop)]\nenum Happening {\n    Ping,\n    Joined(Joined),\n    Moved(Moved),\
+        "// bincode: claims 9\n#[derive(Drop)]\nenum Happening {\n    Ping,\n    Joined(Joined),\
+        \n    Moved(Moved),\
         \n    Scored(PlayerId, u16),\n    Said(String),\n    Left(PlayerId),\n}",
         "type HappeningParts = OneOf<
     Or<

@@ -17,7 +17,7 @@ fn message(alloc: Global, text: &str) -> Result<String, AllocError> {
 }
 
 /// Sources that can't be read, each with the message.
-const UNREADABLE: [(&str, &str); 13] = [
+const UNREADABLE: [(&str, &str); 15] = [
     (
         "struct A {\n    // bincode: skip\n    a: u8,\n}",
         "2:5: no note \"// bincode: skip\" here: a type has skip, claims NUMBER, with TRAIT and \
@@ -63,10 +63,18 @@ const UNREADABLE: [(&str, &str); 13] = [
         "enum A {\n    // bincode: tag 4294967296\n    B,\n}",
         "2:5: \"4294967296\" is no number below 2^32: write one",
     ),
+    (
+        "struct A<K> where , K: Ord {\n}",
+        "1:19: a bound is missing here: write it",
+    ),
+    (
+        "struct A<K> where K: Ord {",
+        "1:26: a name is missing here: write it",
+    ),
 ];
 
 /// Types that can't be written, each with the message.
-const UNWRITABLE: [(&str, &str); 17] = [
+const UNWRITABLE: [(&str, &str); 23] = [
     (
         "",
         "1:1: no struct or enum stands in this file: write one, or take the note `skip` away",
@@ -81,19 +89,17 @@ const UNWRITABLE: [(&str, &str); 17] = [
     ),
     (
         "struct A<const N: usize>([u8; N]);",
-        "1:10: a const parameter: write this type by hand, below a note `// bincode: skip`",
-    ),
-    (
-        "struct A<K> where K: Ord {\n}",
-        "1:13: a `where` at a type: write the bound at the parameter, as `K: Ord`",
+        "1:10: a const parameter: write a type for each number that you have, or this one by hand, \
+        below a note `// bincode: skip`",
     ),
     (
         "#[derive(Drop)]\nstruct A<'a, 'b>(&'a str, &'b str);",
         "2:8: A has two lifetimes: give it one",
     ),
     (
-        "#[derive(Drop)]\nenum A<T> {\n    B(T),\n}",
-        "2:6: A is an enum with a type parameter: write an enum for each type that you have",
+        "#[derive(Drop)]\nenum A<'a, T> {\n    C(T, &'a str),\n}",
+        "2:6: A is an enum with a type parameter, and a lifetime or a note that asks for more \
+        than laws: write an enum for each type that you have",
     ),
     (
         "#[derive(Drop)]\nstruct A(u8, Vec<f64>);",
@@ -104,8 +110,38 @@ const UNWRITABLE: [(&str, &str); 17] = [
         "2:10: the library has no words for `&`: hold the value, or give the type a lifetime",
     ),
     (
-        "#[derive(Drop)]\nstruct A(super::B);",
-        "2:10: a path that begins with `super`: import the type by `use`, and write its name",
+        "#[derive(Drop)]\nstruct A<'a> {\n    a: &'a mut str,\n}",
+        "3:8: the library has no words for `&`: only `&str` and `&[u8]` are read \
+        by borrowing: hold the value, or a `Vec`",
+    ),
+    (
+        "#[derive(Drop)]\nstruct A<'a>(&'a [u16]);",
+        "2:14: the library has no words for `&`: only `&str` and `&[u8]` are read \
+        by borrowing: hold the value, or a `Vec`",
+    ),
+    (
+        "#[derive(Drop)]\nstruct A(Option<f32>);",
+        "2:17: the library has no words for `f32`: hold its bits, as a `u32`",
+    ),
+    (
+        "#[derive(Drop)]\nstruct A(u8, std::time::SystemTime);",
+        "2:25: the library has no words for `SystemTime`: hold a `Duration` or a number",
+    ),
+    (
+        "#[derive(Drop)]\nstruct A(Mutex<u8>);",
+        "2:10: the library has no words for `Mutex`: hold the value, and lock the whole",
+    ),
+    (
+        "#[derive(Drop)]\nstruct A(*const u8);",
+        "2:10: the library has no words for `*`: hold the value",
+    ),
+    (
+        "#[derive(Drop)]\nstruct A(Box<dyn C>);",
+        "2:14: the library has no words for `dyn`: hold a value of a type with a name",
+    ),
+    (
+        "#[derive(Drop)]\nstruct A(fn(u8) -> u8);",
+        "2:10: the library has no words for `fn`: hold a value of a type with a name",
     ),
     (
         "struct A(u8);",
@@ -116,8 +152,9 @@ const UNWRITABLE: [(&str, &str); 17] = [
         "2:8: A holds itself, and the library has no words for it: hold its items in a `Vec`, and name them by index",
     ),
     (
-        "#[derive(Drop)]\nenum A {\n    B(u8, u8, u8, u8, u8, u8, u8, u8, u8),\n}",
-        "3:5: B holds more than eight fields: let it hold a struct",
+        "// bincode: with Described\n#[derive(Drop)]\nenum A {\n    B = 1,\n}",
+        "3:6: A is described, and has tags that are not 0, 1 and so on, or more than eight \
+        variants and a parameter or another note: take `Described` away",
     ),
     (
         "#[derive(Drop)]\nenum A {\n    F = 1,\n    G = 0,\n    H,\n}",

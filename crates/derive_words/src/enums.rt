@@ -1,5 +1,6 @@
 //! How an enum is named, written and read.
 
+use crate::by_tag::decode_by_tag;
 use crate::decoding::decode;
 use crate::error::Fault;
 use crate::heads::Subject;
@@ -16,6 +17,11 @@ pub fn enum_impls(
     subject: &Subject<'_, '_>,
     variants: &Vec<Variant<'_>>,
 ) -> Result<String, Fault> {
+    if !subject.variants.is_empty() {
+        let encode = encode(alloc, subject, variants)?;
+        let decode = decode_by_tag(alloc, subject)?;
+        return Ok(format!(in alloc; "{encode}{decode}")?);
+    }
     let named = named(alloc, subject)?;
     if variants.is_empty() {
         let itself = subject.itself.as_str();
@@ -67,15 +73,15 @@ fn encode(
 
 /// A variant with its path and what its fields are bound to.
 #[derive(Drop)]
-struct Arm {
+pub struct Arm {
     /// The variant as a pattern or as a value.
-    variant: String,
+    pub variant: String,
     /// What its fields are bound to, as one value.
-    parts: String,
+    pub parts: String,
 }
 
 /// The arm of a variant.
-fn arm_of(
+pub fn arm_of(
     alloc: Global,
     subject: &Subject<'_, '_>,
     variant: &Variant<'_>,
@@ -105,7 +111,7 @@ fn told_body(
     format!(in alloc; "\n        match self {{\n{arms}        }}\n    ")
 }
 
-/// The arms that tell what the parts of each variant keep.
+/// The arms that tell what the fields of each variant keep.
 fn told_arms(
     alloc: Global,
     subject: &Subject<'_, '_>,
@@ -119,14 +125,25 @@ fn told_arms(
     Ok(arms)
 }
 
-/// The arm that tells what the parts of a variant keep.
+/// The arm that tells what the fields of a variant keep, one after the other: a call for their tuple would be looked up
+/// anew in each arm, and the compiler bounds how often.
 fn told_arm(alloc: Global, arm: &Arm, fields: &Fields<'_>) -> Result<String, AllocError> {
     let variant = arm.variant.as_str();
-    let parts = arm.parts.as_str();
-    if fields.as_slice().is_empty() {
+    let names = bindings(alloc, fields.as_slice())?;
+    if names.is_empty() {
         return format!(in alloc; "            {variant} => {{}}\n");
     }
-    format!(in alloc; "            {variant} => {parts}.tell_valid(),\n")
+    if names.len() == 1 {
+        let name = arm.parts.as_str();
+        return format!(in alloc; "            {variant} => {name}.tell_valid(),\n");
+    }
+    let mut calls = String::new(alloc);
+    for name in names.iter() {
+        calls.push_str("                ")?;
+        calls.push_str(name.as_str())?;
+        calls.push_str(".tell_valid();\n")?;
+    }
+    format!(in alloc; "            {variant} => {{\n{calls}            }}\n")
 }
 
 /// The arms that write each variant.
@@ -139,9 +156,19 @@ fn written_arms(
     let mut arms = String::new(alloc);
     for (variant, tag) in variants.iter().zip(tags.iter()) {
         let arm = arm_of(alloc, subject, variant)?;
-        arms.push_str(written_arm(alloc, &arm, &variant.fields, *tag)?.as_str())?;
+        let by = writes_by(subject);
+        arms.push_str(written_arm(alloc, &arm, &variant.fields, by, *tag)?.as_str())?;
     }
     Ok(arms)
+}
+
+/// The function by which a variant is written.
+fn writes_by(subject: &Subject<'_, '_>) -> &'static str {
+    if subject.variants.is_empty() {
+        "encode_in_sum"
+    } else {
+        "encode_variant"
+    }
 }
 
 /// The arm that writes a variant.
@@ -149,6 +176,7 @@ fn written_arm(
     alloc: Global,
     arm: &Arm,
     fields: &Fields<'_>,
+    by: &str,
     tag: u32,
 ) -> Result<String, AllocError> {
     let variant = arm.variant.as_str();
@@ -158,9 +186,7 @@ fn written_arm(
     } else {
         "&"
     };
-    format!(in alloc;
-        "            {variant} => encode_variant(self, {tag}, {lent}{parts}, encoder),\n"
-    )
+    format!(in alloc; "            {variant} => {by}(self, {tag}, {lent}{parts}, encoder),\n")
 }
 
 /// The `impl` by which an enum with a lifetime is read in one function.

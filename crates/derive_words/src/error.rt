@@ -17,7 +17,8 @@ pub enum Refusal {
     #[error("{what} is missing here: write it")]
     Missing { what: &'static str },
     /// A note, or a word of it, is unknown where it stands.
-    #[error("no note {word:?} here: a type has skip, claims NUMBER, with TRAIT and without TRAIT, a variant tag NUMBER")]
+    #[error("no note {word:?} here: a type has skip, claims NUMBER, with TRAIT and \
+        without TRAIT, a variant tag NUMBER")]
     UnknownNote { word: String },
     /// The word behind `claims` or `tag`, or behind the `=` of a variant, is no number that may stand there.
     #[error("{word:?} is no number below 2^32: write one")]
@@ -26,32 +27,31 @@ pub enum Refusal {
     #[error("a ghost field says that a value was tested: write this type by hand, below a note `// bincode: skip`")]
     GhostField,
     /// A type has a const parameter.
-    #[error("a const parameter: write this type by hand, below a note `// bincode: skip`")]
+    #[error("a const parameter: write a type for each number that you have, or this one by hand, \
+        below a note `// bincode: skip`")]
     ConstParameter,
-    /// A type has a `where`.
-    #[error("a `where` at a type: write the bound at the parameter, as `K: Ord`")]
-    WhereClause,
     /// A type borrows at two lifetimes.
     #[error("{name} has two lifetimes: give it one")]
     TwoLifetimes { name: String },
-    /// An enum has a type parameter.
-    #[error("{name} is an enum with a type parameter: write an enum for each type that you have")]
+    /// An enum has a type parameter, and a lifetime or what is written of a sum alone.
+    #[error("{name} is an enum with a type parameter, and a lifetime or a note that asks for more \
+        than laws: write an enum for each type that you have")]
     GenericEnum { name: String },
     /// The library has no words for this type.
     #[error("the library has no words for `{word}`: {instead}")]
     NoWords { word: String, instead: &'static str },
-    /// A path begins where the module of the types stands, which what is written does not.
-    #[error("a path that begins with `{word}`: import the type by `use`, and write its name")]
-    RelativePath { word: String },
     /// A type may not be let go.
     #[error("{name} is neither `Drop` nor `Copy`: derive `Drop`")]
     NotDroppable { name: String },
     /// A type holds itself.
-    #[error("{name} holds itself, and the library has no words for it: hold its items in a `Vec`, and name them by index")]
+    #[error("{name} holds itself, and the library has no words for it: hold its items in a `Vec`, \
+        and name them by index")]
     HoldsItself { name: String },
-    /// A variant holds too many fields.
-    #[error("{name} holds more than eight fields: let it hold a struct")]
-    LargeVariant { name: String },
+    /// A described enum has tags that are not 0, 1 and so on, or is one of too many variants with a type parameter, a
+    /// lifetime, or a note that asks for a sum.
+    #[error("{name} is described, and has tags that are not 0, 1 and so on, or more than eight \
+        variants and a parameter or another note: take `Described` away")]
+    NotDescribed { name: String },
     /// Two variants have one tag.
     #[error("{name} has the tag {tag} of another variant: give it one of its own")]
     SameTag { name: String, tag: u32 },

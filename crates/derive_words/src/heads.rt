@@ -1,9 +1,11 @@
 //! What stands before the brace of an `impl`: parameters, bounds, trait and type.
 
 use crate::cursor::is_one_of;
-use crate::items::{Field, Item, Kind, Param};
+use crate::items::{Field, Item, Kind, Param, Variant};
 use crate::laws::is_among;
+use crate::notes::Trait;
 use crate::text::{joined, type_text};
+use crate::tokens::Token;
 use std::alloc::{AllocError, Global};
 
 /// A type, and how it and its parts are named.
@@ -14,6 +16,20 @@ pub struct Subject<'s, 't> {
     pub itself: String,
     /// The type of its parts with its arguments.
     pub parts: String,
+    /// The part of each variant of an enum that is written variant by variant, and else none.
+    pub variants: Vec<Part<'s, 't>>,
+}
+
+/// The part of a variant, and how it is named.
+#[derive(Drop)]
+pub struct Part<'s, 't> {
+    pub variant: &'s Variant<'t>,
+    /// Its type with its arguments.
+    pub itself: String,
+    /// The same, as the path of a function begins with it.
+    pub path: String,
+    /// Its type is a parameter of the enum.
+    pub is_param: bool,
 }
 
 impl<'s, 't> Subject<'s, 't> {
@@ -24,6 +40,7 @@ impl<'s, 't> Subject<'s, 't> {
             item,
             itself: format!(in alloc; "{name}{arguments}")?,
             parts: format!(in alloc; "{name}Parts{arguments}")?,
+            variants: parts_of(alloc, item)?,
         })
     }
 
@@ -63,6 +80,104 @@ impl<'s, 't> Subject<'s, 't> {
         head.push_str("{\n")?;
         Ok(head)
     }
+}
+
+/// Whether an enum is written variant by variant. One of which a note asks what stands for a sum alone is written as
+/// that.
+pub fn is_by_variants(item: &Item<'_>) -> bool {
+    let notes = &item.notes;
+    let is_sum = notes.claim.is_some()
+        || notes.asks_for(Trait::Described) && !item.params.is_empty()
+        || notes.asks_for(Trait::Inhabited)
+        || notes.asks_for(Trait::ConstantCharge);
+    match &item.kind {
+        Kind::Struct(_) => false,
+        Kind::Enum(variants) => !is_sum && !variants.is_empty(),
+    }
+}
+
+/// The part of each variant of an enum that is written variant by variant.
+fn parts_of<'s, 't>(alloc: Global, item: &'s Item<'t>) -> Result<Vec<Part<'s, 't>>, AllocError> {
+    let mut parts = Vec::new(alloc);
+    if let Kind::Enum(variants) = &item.kind
+        && is_by_variants(item)
+    {
+        for variant in variants.iter() {
+            parts.push(part_of(alloc, item, variant)?)?;
+        }
+    }
+    Ok(parts)
+}
+
+/// The part of a variant. It has those parameters of the enum that its fields have. If it is a parameter itself, its
+/// type is that.
+fn part_of<'s, 't>(
+    alloc: Global,
+    item: &Item<'t>,
+    variant: &'s Variant<'t>,
+) -> Result<Part<'s, 't>, AllocError> {
+    if let Some(param) = lone_param(item, variant) {
+        return Ok(Part {
+            variant,
+            itself: String::from_str(alloc, param)?,
+            path: String::from_str(alloc, param)?,
+            is_param: true,
+        });
+    }
+    let of = item.name.text.as_str();
+    let variant_name = variant.name.text.as_str();
+    let name = format!(in alloc; "{of}{variant_name}Part")?;
+    let (arguments, is_generic) = arguments_of(alloc, item, variant)?;
+    let arguments = angled(alloc, arguments.as_slice())?;
+    let itself = format!(in alloc; "{name}{arguments}")?;
+    let path = if is_generic {
+        format!(in alloc; "<{itself}>")?
+    } else {
+        name
+    };
+    Ok(Part {
+        variant,
+        itself,
+        path,
+        is_param: false,
+    })
+}
+
+/// The parameter that is all that a variant holds, if it is one.
+fn lone_param<'t>(item: &Item<'t>, variant: &Variant<'t>) -> Option<&'t str> {
+    let [field] = variant.fields.as_slice() else {
+        return None;
+    };
+    let [word] = field.of.as_slice() else {
+        return None;
+    };
+    if item.has_param(word.text.as_str()) {
+        Some(word.text.as_str())
+    } else {
+        None
+    }
+}
+
+/// Those parameters of an enum that the fields of a variant have, and whether a type is among them.
+fn arguments_of(
+    alloc: Global,
+    item: &Item<'_>,
+    variant: &Variant<'_>,
+) -> Result<(Vec<String>, bool), AllocError> {
+    let mut names = Vec::new(alloc);
+    let mut is_generic = false;
+    for param in item.params.iter() {
+        let name = param.name.text.as_str();
+        let fields = variant.fields.as_slice();
+        if fields
+            .iter()
+            .any(|field| is_among(field.of.as_slice(), name))
+        {
+            names.push(String::from_str(alloc, name)?)?;
+            is_generic = is_generic || !param.is_lifetime();
+        }
+    }
+    Ok((names, is_generic))
 }
 
 /// The arguments of a type, as `<'a, K>`, or nothing.
@@ -121,7 +236,7 @@ fn bounded(
     bound: &str,
 ) -> Result<String, AllocError> {
     let name = param.name.text.as_str();
-    let own = type_text(alloc, param.bounds.as_slice())?;
+    let own = bounds_text(alloc, param)?;
     let more = asked_of(item, param, bound);
     let own = own.as_str();
     if is_told(param, more) {
@@ -131,6 +246,15 @@ fn bounded(
         return format!(in alloc; "{name}: {more}");
     }
     format!(in alloc; "{name}: {own} + {more}")
+}
+
+/// The bounds of a parameter, as `K: Ord + Drop` has them behind the colon.
+fn bounds_text(alloc: Global, param: &Param<'_>) -> Result<String, AllocError> {
+    let mut texts = Vec::new(alloc);
+    for bounds in param.bounds.iter() {
+        texts.push(type_text(alloc, bounds.as_slice())?)?;
+    }
+    joined(alloc, texts.as_slice(), " + ")
 }
 
 /// A parameter with these bounds, or alone where there are none.
@@ -163,22 +287,33 @@ fn asked_beside(bound: &str) -> &'static str {
 
 /// Whether the bounds of a parameter say this.
 fn is_told(param: &Param<'_>, bound: &str) -> bool {
-    let bounds = param.bounds.as_slice();
-    if bound == "PartialEq" && (is_among(bounds, "Ord") || is_among(bounds, "Eq")) {
+    if bound == "PartialEq" && (has_bound(param, "Ord") || has_bound(param, "Eq")) {
         return true;
     }
-    bound.is_empty() || is_among(bounds, bound)
+    bound.is_empty() || has_bound(param, bound)
 }
 
-/// The bounds on the types of fields that hold a parameter in another type.
+/// Whether a parameter has this bound by its type.
+fn has_bound(param: &Param<'_>, bound: &str) -> bool {
+    param
+        .bounds
+        .iter()
+        .any(|bounds| is_among(bounds.as_slice(), bound))
+}
+
+/// The bounds of a `where`: those of the type, and those on the types of fields that hold a parameter in another type.
 fn wheres(alloc: Global, item: &Item<'_>, bound: &str) -> Result<Vec<String>, AllocError> {
     let mut lines: Vec<String> = Vec::new(alloc);
+    for own in item.wheres.iter() {
+        lines.push(type_text(alloc, own.as_slice())?)?;
+    }
     if bound.is_empty() {
         return Ok(lines);
     }
-    for field in fields_of(item) {
-        if holds_any(item, field) && !is_direct(item, field) {
-            let of = type_text(alloc, field.of.as_slice())?;
+    for of in item.types(alloc)?.iter() {
+        let is_asked = !is_direct(item, of.as_slice()) && !is_among(of.as_slice(), "PhantomData");
+        if is_asked && holds_any(item, of.as_slice()) {
+            let of = type_text(alloc, of.as_slice())?;
             let line = format!(in alloc; "{of}: {bound}")?;
             if !lines.contains(&line) {
                 lines.push(line)?;
@@ -188,31 +323,33 @@ fn wheres(alloc: Global, item: &Item<'_>, bound: &str) -> Result<Vec<String>, Al
     Ok(lines)
 }
 
-/// The fields of a struct. An enum has no type parameters, so those of its variants ask for no bounds.
-fn fields_of<'s, 't>(item: &'s Item<'t>) -> &'s [Field<'t>] {
+/// Whether a parameter is a field, or stands in a list or a box that is one: then it has the bound itself.
+fn stands_alone(item: &Item<'_>, param: &Param<'_>) -> bool {
     match &item.kind {
-        Kind::Struct(fields) => fields.as_slice(),
-        Kind::Enum(_) => &[],
+        Kind::Struct(fields) => stands_alone_in(item, param, fields.as_slice()),
+        Kind::Enum(variants) => variants.iter().any(|variant| stands_alone_in(
+            item,
+            param,
+            variant.fields.as_slice(),
+        )),
     }
 }
 
-/// Whether a parameter is a field, or stands in a list or a box that is one: then it has the bound itself.
-fn stands_alone(item: &Item<'_>, param: &Param<'_>) -> bool {
+/// Whether a parameter is one of these fields, or stands in a list or a box that is one.
+fn stands_alone_in(item: &Item<'_>, param: &Param<'_>, fields: &[Field<'_>]) -> bool {
     let name = param.name.text.as_str();
-    fields_of(item).iter().any(|field| is_direct(item, field)
+    fields.iter().any(|field| is_direct(item, field.of.as_slice())
         && is_among(field.of.as_slice(), name))
 }
 
 /// Whether some type parameter stands in the type of a field.
-fn holds_any(item: &Item<'_>, field: &Field<'_>) -> bool {
-    field.of.iter().any(|word| item.has_param(word.text.as_str()) && !word.text.starts_with('\''))
+fn holds_any(item: &Item<'_>, of: &[&Token]) -> bool {
+    of.iter().any(|word| item.has_param(word.text.as_str()) && !word.text.starts_with('\''))
 }
 
 /// Whether nothing but parameters, lists and boxes stands in the type of a field.
-fn is_direct(item: &Item<'_>, field: &Field<'_>) -> bool {
-    field
-        .of
-        .iter()
+fn is_direct(item: &Item<'_>, of: &[&Token]) -> bool {
+    of.iter()
         .all(|word| is_direct_word(item, word.text.as_str()))
 }
 

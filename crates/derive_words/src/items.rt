@@ -1,6 +1,7 @@
 //! The structs and enums that stand in a source.
 
 use crate::notes::Notes;
+use crate::text::text_at;
 use crate::tokens::Token;
 use std::alloc::{AllocError, Global};
 
@@ -44,11 +45,11 @@ pub enum Kind<'t> {
     Enum(Vec<Variant<'t>>),
 }
 
-/// A type parameter or a lifetime, and its bounds.
+/// A type parameter or a lifetime, and its bounds, each as it is written.
 #[derive(Drop)]
 pub struct Param<'t> {
     pub name: &'t Token,
-    pub bounds: Vec<&'t Token>,
+    pub bounds: Vec<Vec<&'t Token>>,
 }
 
 impl Param<'_> {
@@ -62,6 +63,8 @@ impl Param<'_> {
 pub struct Item<'t> {
     pub name: &'t Token,
     pub params: Vec<Param<'t>>,
+    /// What its `where` says of other types than its parameters.
+    pub wheres: Vec<Vec<&'t Token>>,
     pub kind: Kind<'t>,
     /// The traits that it derives.
     pub derives: Vec<&'t str>,
@@ -87,29 +90,68 @@ impl<'t> Item<'t> {
             .any(|param| param.name.text.as_str() == word)
     }
 
-    /// The words and marks in the types of its fields.
-    pub fn words(&self, alloc: Global) -> Result<Vec<&'t Token>, AllocError> {
-        let mut words = Vec::new(alloc);
+    /// The types of its fields, those of an enum variant by variant.
+    pub fn types(&self, alloc: Global) -> Result<Vec<Vec<&'t Token>>, AllocError> {
+        let mut types = Vec::new(alloc);
         match &self.kind {
-            Kind::Struct(fields) => add_words(&mut words, fields.as_slice())?,
+            Kind::Struct(fields) => add_types(alloc, &mut types, fields.as_slice())?,
             Kind::Enum(variants) => {
                 for variant in variants.iter() {
-                    add_words(&mut words, variant.fields.as_slice())?;
+                    add_types(alloc, &mut types, variant.fields.as_slice())?;
                 }
             }
         }
-        Ok(words)
+        Ok(types)
+    }
+
+    /// The names in the types of its fields that are those of the source or the library. A name of another module,
+    /// behind the path of that, is none.
+    pub fn names(&self, alloc: Global) -> Result<Vec<&'t Token>, AllocError> {
+        let mut names = Vec::new(alloc);
+        for of in self.types(alloc)?.iter() {
+            add_names(&mut names, of.as_slice())?;
+        }
+        Ok(names)
     }
 }
 
-/// Adds the words and marks in the types of some fields.
-fn add_words<'t>(words: &mut Vec<&'t Token>, fields: &[Field<'t>]) -> Result<(), AllocError> {
+/// Adds the types of some fields.
+fn add_types<'t>(
+    alloc: Global,
+    types: &mut Vec<Vec<&'t Token>>,
+    fields: &[Field<'t>],
+) -> Result<(), AllocError> {
     for field in fields.iter() {
+        let mut of = Vec::new(alloc);
         for word in field.of.iter() {
-            words.push(*word)?;
+            of.push(*word)?;
+        }
+        types.push(of)?;
+    }
+    Ok(())
+}
+
+/// Adds the words and marks of a type, but for those of other modules.
+fn add_names<'t>(names: &mut Vec<&'t Token>, of: &[&'t Token]) -> Result<(), AllocError> {
+    let mut is_elsewhere = false;
+    for at in 0..of.len() {
+        let is_inner = at > 0 && text_at(of, at.saturating_sub(1)) == "::";
+        let text = text_at(of, at);
+        if !is_inner && text != "::" {
+            is_elsewhere = text_at(of, at.saturating_add(1)) == "::" && !is_known(text);
+        }
+        if let Some(word) = of.get(at)
+            && !is_elsewhere
+        {
+            names.push(*word)?;
         }
     }
     Ok(())
+}
+
+/// Whether the names behind this, at the front of a path, are those of the library or of the source.
+fn is_known(front: &str) -> bool {
+    matches!(front, "self" | "std" | "core" | "alloc" | "bincode")
 }
 
 /// What stands in a source.

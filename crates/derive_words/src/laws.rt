@@ -2,6 +2,7 @@
 
 use crate::items::{Item, Kind, Source};
 use crate::notes::Trait;
+use crate::text::text_at;
 use crate::tokens::Token;
 use std::alloc::{AllocError, Global};
 
@@ -57,8 +58,11 @@ fn next_round(
     let mut next = Vec::new(alloc);
     for (item, keeps) in source.items.iter().zip(all.iter()) {
         let mut keeps = *keeps;
-        for word in item.words(alloc)?.iter() {
+        for word in item.names(alloc)?.iter() {
             keeps = both(keeps, keeps_of(source, all, word.text.as_str()));
+        }
+        if has_inexact_keys(alloc, source, all, item)? {
+            keeps = both(keeps, NOTHING);
         }
         keeps.is_lent = keeps.is_lent || is_held_by_borrower(alloc, source, all, item)?;
         next.push(keeps)?;
@@ -87,15 +91,70 @@ fn keeps_of(source: &Source<'_>, all: &Vec<Keeps>, name: &str) -> Keeps {
     library_keeps(name)
 }
 
-/// What a name of the library keeps.
+/// No law.
+const NOTHING: Keeps = Keeps {
+    plain: false,
+    exact: false,
+    canonical: false,
+    is_lent: false,
+};
+
+/// What a name of the library keeps. A heap has no `==`, and others are equal by more than what is written of them: a
+/// range by whether it is exhausted, and an address of version 6 by its flow and its scope.
 fn library_keeps(name: &str) -> Keeps {
     let is_plain = !matches!(name, "Cell" | "RefCell");
+    let is_not_exact = matches!(
+        name,
+        "BinaryHeap" | "RangeInclusive" | "SocketAddr" | "SocketAddrV6"
+    );
     Keeps {
         plain: is_plain,
-        exact: is_plain && name != "BinaryHeap",
+        exact: is_plain && !is_not_exact,
         canonical: is_plain && name != "Duration",
         is_lent: false,
     }
+}
+
+/// Whether a field of a type is a set or a map whose keys are not exact. Such a one keeps no law: its laws rest on it
+/// that different keys are written as different bytes.
+fn has_inexact_keys(
+    alloc: Global,
+    source: &Source<'_>,
+    all: &Vec<Keeps>,
+    item: &Item<'_>,
+) -> Result<bool, AllocError> {
+    for of in item.types(alloc)?.iter() {
+        let of = of.as_slice();
+        for at in 0..of.len() {
+            if is_keyed(text_at(of, at)) && !is_exact_key(source, all, of, at) {
+                return Ok(true);
+            }
+        }
+    }
+    Ok(false)
+}
+
+/// Whether a name is that of a set or a map.
+fn is_keyed(name: &str) -> bool {
+    matches!(name, "BTreeMap" | "BTreeSet" | "HashMap" | "HashSet")
+}
+
+/// Whether all that stands in the key of the set or map at this place is exact.
+fn is_exact_key(source: &Source<'_>, all: &Vec<Keeps>, of: &[&Token], at: usize) -> bool {
+    let mut depth = 0u64;
+    for word in of.iter().skip(at.saturating_add(1)) {
+        let text = word.text.as_str();
+        match text {
+            "<" | "(" | "[" => depth = depth.saturating_add(1),
+            ">" | ")" | "]" => depth = depth.saturating_sub(1),
+            "," if depth <= 1 => return true,
+            _ => {}
+        }
+        if depth == 0 || !keeps_of(source, all, text).exact {
+            return depth == 0;
+        }
+    }
+    true
 }
 
 /// Whether a type of the source that is decoded by borrowing holds this one.
@@ -107,7 +166,7 @@ fn is_held_by_borrower(
 ) -> Result<bool, AllocError> {
     for (item, keeps) in source.items.iter().zip(all.iter()) {
         let is_borrower = keeps.is_lent || item.is_borrowing();
-        if is_borrower && is_among(item.words(alloc)?.as_slice(), held.name.text.as_str()) {
+        if is_borrower && is_among(item.names(alloc)?.as_slice(), held.name.text.as_str()) {
             return Ok(true);
         }
     }

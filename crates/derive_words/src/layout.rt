@@ -6,6 +6,9 @@ use std::alloc::{AllocError, Global};
 /// How many bytes a line has at most.
 const LINE_WIDTH: usize = 100;
 
+/// How many bytes a line of imported names has at most.
+const USE_WIDTH: usize = 99;
+
 /// How many bytes a tuple or the arguments of a call have at most in one line.
 const LIST_WIDTH: usize = 60;
 
@@ -102,10 +105,18 @@ fn broken(alloc: Global, text: &str, context: Context) -> Result<Vec<Line>, Allo
 
 /// Whether a line stays as it is, however long it is.
 fn is_never_broken(code: &str) -> bool {
-    code.starts_with("ghost ")
-        || code.starts_with("//")
-        || code.starts_with("ensures ")
-        || code.starts_with('|')
+    code.starts_with(|c| matches!(c, '|' | '⟦'))
+        || [
+            "ghost ",
+            "//",
+            "ensures ",
+            "(or_else ",
+            "(by ",
+            "(λ ",
+            "no_more",
+        ]
+        .iter()
+        .any(|front| code.starts_with(*front))
 }
 
 /// A line that is not broken.
@@ -285,7 +296,7 @@ fn group_lines(
     let front = text.get(..group.open.saturating_add(1)).unwrap_or(text);
     lines.push(line_of(alloc, front, context)?)?;
     if is_call && parts.iter().all(|part| part.len() <= SHORT_PART) {
-        fill(alloc, &mut lines, indent, &parts)?;
+        fill(alloc, &mut lines, indent, &parts, LINE_WIDTH)?;
     } else {
         list(alloc, &mut lines, indent, &parts, within)?;
     }
@@ -308,16 +319,17 @@ fn list(
     Ok(())
 }
 
-/// Adds some parts in lines that are as long as they may be.
+/// Adds some parts in lines that are as long as they may be, of this many bytes.
 fn fill(
     alloc: Global,
     lines: &mut Vec<Line>,
     indent: &str,
     parts: &Vec<String>,
+    width: usize,
 ) -> Result<(), AllocError> {
     let mut filled = format!(in alloc; "{indent}   ")?;
     for part in parts.iter() {
-        if filled.len().saturating_add(part.len()).saturating_add(2) > LINE_WIDTH {
+        if filled.len().saturating_add(part.len()).saturating_add(2) > width {
             lines.push(line_of(alloc, filled.as_str(), Context::Pattern)?)?;
             filled = format!(in alloc; "{indent}   ")?;
         }
@@ -405,7 +417,7 @@ fn use_lines(alloc: Global, text: &str) -> Result<Vec<Line>, AllocError> {
     let front = format!(in alloc; "{path}{{")?;
     lines.push(line_of(alloc, front.as_str(), Context::Code)?)?;
     let names = parts_of(alloc, names.trim_end_matches("};"))?;
-    fill(alloc, &mut lines, "", &names)?;
+    fill(alloc, &mut lines, "", &names, USE_WIDTH)?;
     lines.push(line_of(alloc, "};", Context::Code)?)?;
     Ok(lines)
 }
@@ -446,6 +458,10 @@ fn long_group(alloc: Global, text: &str) -> Result<Option<Group>, AllocError> {
 fn may_break(text: &str, group: Group) -> bool {
     let cut = cut_of(text);
     if held_by(text, group).is_empty() || from_bracket(text, group).starts_with('[') {
+        return false;
+    }
+    let front = text.get(..group.open).unwrap_or("");
+    if front.ends_with("::") {
         return false;
     }
     if has_long_pattern(text) {

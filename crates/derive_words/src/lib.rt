@@ -2,7 +2,7 @@
 //! the laws which they keep.
 #![tactic(auto)]
 
-pub mod compare;
+mod by_tag;
 mod cursor;
 mod decoding;
 mod enums;
@@ -14,14 +14,12 @@ mod layout;
 pub mod module;
 mod notes;
 mod parts;
-pub mod paths;
-pub mod program;
 mod read;
 mod refusals;
-pub mod request;
 mod structs;
 mod text;
-mod tokens;
+pub mod tokens;
 mod uses;
 mod values;
+mod variants;
 mod wire;

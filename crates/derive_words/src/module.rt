@@ -14,6 +14,7 @@ use crate::structs::struct_impls;
 use crate::text::joined;
 use crate::tokens::{Place, tokens_of};
 use crate::uses::use_lines;
+use crate::variants::enum_by_variants;
 use crate::wire::{laws, words};
 use std::alloc::{AllocError, Global};
 
@@ -55,9 +56,8 @@ pub fn module_of(alloc: Global, origin: &Origin<'_>, text: &str) -> Result<Strin
 fn head_of(alloc: Global, origin: &Origin<'_>, left_out: &str) -> Result<String, AllocError> {
     let file_name = origin.file_name;
     format!(in alloc;
-        "//! What the types of `{file_name}` are written as. Made from that file by the program `derive`, and not edited: run
-//! `derive` on the file again where its types change.
-{left_out}"
+        "//! What the types of `{file_name}` are written as. Made from that file by the program `derive`, \
+        and not edited: run\n//! `derive` on the file again where its types change.\n{left_out}"
     )
 }
 
@@ -87,6 +87,9 @@ fn impls_of(
     let mut impls = alias(alloc, &subject)?;
     impls.push_str(shown(alloc, &subject, origin.declared)?.as_str())?;
     impls.push_str(words(alloc, &subject)?.as_str())?;
+    if !subject.variants.is_empty() {
+        impls.push_str(enum_by_variants(alloc, &subject, origin.declared)?.as_str())?;
+    }
     impls.push_str(laws(alloc, &subject, keeps)?.as_str())?;
     impls.push_str(read_and_written(alloc, &subject)?.as_str())?;
     if keeps.is_lent && !item.is_borrowing() {

@@ -7,13 +7,17 @@ use crate::items::{Field, Kind, Variant};
 use crate::layout::list_of;
 use crate::refusals::tags_of;
 use crate::text::{behind, joined, tuple, type_text};
+use crate::variants::{shown_by_variants, variant_aliases};
 use std::alloc::{AllocError, Global};
 
 /// How long a clause is that stands in one line.
-const CLAUSE_WIDTH: usize = 100;
+pub const CLAUSE_WIDTH: usize = 100;
 
 /// The alias for the type of the parts.
 pub fn alias(alloc: Global, subject: &Subject<'_, '_>) -> Result<String, Fault> {
+    if !subject.variants.is_empty() {
+        return variant_aliases(alloc, subject);
+    }
     let parts = subject.parts.as_str();
     let of = match &subject.item.kind {
         Kind::Struct(fields) => tuple(alloc, types_of(alloc, fields.as_slice())?)?,
@@ -23,7 +27,7 @@ pub fn alias(alloc: Global, subject: &Subject<'_, '_>) -> Result<String, Fault> 
 }
 
 /// The types of some fields.
-fn types_of(alloc: Global, fields: &[Field<'_>]) -> Result<Vec<String>, AllocError> {
+pub fn types_of(alloc: Global, fields: &[Field<'_>]) -> Result<Vec<String>, AllocError> {
     let mut types = Vec::new(alloc);
     for field in fields.iter() {
         types.push(type_text(alloc, field.of.as_slice())?)?;
@@ -54,11 +58,10 @@ fn sum_of(
 }
 
 /// The `impl` that shows a value as its parts. `declared` is where the toolchain declares the types of the module.
-pub fn shown(
-    alloc: Global,
-    subject: &Subject<'_, '_>,
-    declared: &str,
-) -> Result<String, AllocError> {
+pub fn shown(alloc: Global, subject: &Subject<'_, '_>, declared: &str) -> Result<String, Fault> {
+    if !subject.variants.is_empty() {
+        return shown_by_variants(alloc, subject, declared);
+    }
     let parts = subject.parts.as_str();
     let of = format!(in alloc; "MadeOf<{parts}>")?;
     let head = subject.head(alloc, "", of.as_str(), "")?;
@@ -69,7 +72,7 @@ pub fn shown(
             shown_variants(alloc, declared, name, variants)?
         }
     };
-    format!(in alloc; "{head}{body}}}\n\n")
+    Ok(format!(in alloc; "{head}{body}}}\n\n")?)
 }
 
 /// How a struct is shown as its parts.
@@ -108,7 +111,7 @@ pub fn selectors(alloc: Global, fields: &[Field<'_>]) -> Result<Vec<String>, All
 }
 
 /// Parts as a value in a clause.
-fn value_of(alloc: Global, parts: Vec<String>) -> Result<String, AllocError> {
+pub fn value_of(alloc: Global, parts: Vec<String>) -> Result<String, AllocError> {
     if parts.is_empty() {
         return String::from_str(alloc, "tt");
     }
@@ -166,19 +169,23 @@ fn shown_variant(
     front: &str,
     closing: &str,
 ) -> Result<String, AllocError> {
-    let name = variant.name.text.as_str();
-    let bound = bound_in_clause(alloc, variant.fields.as_slice())?;
-    let mut pattern = String::from_str(alloc, name)?;
-    for name in bound.iter() {
-        pattern.push_str(" ")?;
-        pattern.push_str(name.as_str())?;
-    }
-    let shown = value_of(alloc, bound)?;
+    let pattern = pattern_in_clause(alloc, variant)?;
+    let shown = value_of(alloc, bound_in_clause(alloc, variant.fields.as_slice())?)?;
     format!(in alloc; "      | {pattern} ↦ record {{ 0 = {front}this {shown}{closing} }}\n")
 }
 
+/// A variant in a clause, as the pattern that binds its fields.
+pub fn pattern_in_clause(alloc: Global, variant: &Variant<'_>) -> Result<String, AllocError> {
+    let mut pattern = variant.name.text.clone()?;
+    for name in bound_in_clause(alloc, variant.fields.as_slice())?.iter() {
+        pattern.push_str(" ")?;
+        pattern.push_str(name.as_str())?;
+    }
+    Ok(pattern)
+}
+
 /// The names that fields are bound to in a clause: their own, but for those that mean something else there.
-fn bound_in_clause(alloc: Global, fields: &[Field<'_>]) -> Result<Vec<String>, AllocError> {
+pub fn bound_in_clause(alloc: Global, fields: &[Field<'_>]) -> Result<Vec<String>, AllocError> {
     let mut names = Vec::new(alloc);
     for (at, name) in bindings(alloc, fields)?.into_iter().enumerate() {
         names.push(if is_reserved(name.as_str()) {
@@ -197,6 +204,10 @@ fn is_reserved(name: &str) -> bool {
         &[
             "this",
             "other",
+            "by",
+            "no_more",
+            "or_else",
+            "refl",
             "tt",
             "result",
             "data",

@@ -1,11 +1,12 @@
 //! Reads the structs and enums of a source.
 
-use crate::cursor::{Cursor, is_opening};
+use crate::cursor::{Cursor, is_one_of, is_opening};
 use crate::error::{Fault, Refusal, refused};
 use crate::items::{Field, Fields, Item, Kind, Param, Source, Variant};
 use crate::notes::{Notes, number_of, tag_of, unknown};
+use crate::text::text_at;
 use crate::tokens::{Token, is_word};
-use std::alloc::Global;
+use std::alloc::{AllocError, Global};
 use std::mem;
 
 /// What stands above a type.
@@ -142,22 +143,74 @@ fn read_item<'t>(
     if notes.is_skipped {
         return Ok(skipped(alloc, name, derives, notes));
     }
-    let params = read_params(alloc, cursor)?;
-    if cursor.text() == "where" {
-        return Err(refused(cursor.place(), Refusal::WhereClause));
-    }
+    let mut params = read_params(alloc, cursor)?;
+    let mut wheres = read_wheres(alloc, cursor, &mut params)?;
     let kind = if is_enum {
         Kind::Enum(read_variants(alloc, cursor)?)
     } else {
         Kind::Struct(read_fields(alloc, cursor)?)
     };
+    // That of a struct without named fields stands behind them.
+    for bound in read_wheres(alloc, cursor, &mut params)? {
+        wheres.push(bound)?;
+    }
     Ok(Item {
         name,
         params,
+        wheres,
         kind,
         derives,
         notes,
     })
+}
+
+/// Reads a `where`, if one comes next: what it says of a parameter is added to those, and the rest is handed out.
+fn read_wheres<'t>(
+    alloc: Global,
+    cursor: &mut Cursor<'t>,
+    params: &mut Vec<Param<'t>>,
+) -> Result<Vec<Vec<&'t Token>>, Fault> {
+    let mut wheres = Vec::new(alloc);
+    if !cursor.takes("where") {
+        return Ok(wheres);
+    }
+    for _ in 0..u64::MAX {
+        if is_one_of(cursor.text(), &["{", ";", ""]) {
+            break;
+        }
+        let bound = cursor.type_until(alloc, &[",", "{", ";"])?;
+        if bound.is_empty() {
+            return Err(refused(cursor.place(), Refusal::Missing { what: "a bound" }));
+        }
+        cursor.takes(",");
+        if let Some(bound) = left_of(alloc, params, bound)? {
+            wheres.push(bound)?;
+        }
+    }
+    Ok(wheres)
+}
+
+/// A bound of a `where`, or nothing if it is that of a parameter, to which it is added.
+fn left_of<'t>(
+    alloc: Global,
+    params: &mut Vec<Param<'t>>,
+    bound: Vec<&'t Token>,
+) -> Result<Option<Vec<&'t Token>>, AllocError> {
+    if text_at(bound.as_slice(), 1) != ":" {
+        return Ok(Some(bound));
+    }
+    let name = text_at(bound.as_slice(), 0);
+    for param in params.iter_mut() {
+        if param.name.text.as_str() == name {
+            let mut own = Vec::new(alloc);
+            for token in bound.iter().skip(2) {
+                own.push(*token)?;
+            }
+            param.bounds.push(own)?;
+            return Ok(None);
+        }
+    }
+    Ok(Some(bound))
 }
 
 /// A type that nothing is written for, of which nothing more is read.
@@ -165,6 +218,7 @@ fn skipped<'t>(alloc: Global, name: &'t Token, derives: Vec<&'t str>, notes: Not
     Item {
         name,
         params: Vec::new(alloc),
+        wheres: Vec::new(alloc),
         kind: Kind::Struct(Fields::Unit),
         derives,
         notes,
@@ -211,11 +265,15 @@ fn read_param<'t>(alloc: Global, cursor: &mut Cursor<'t>) -> Result<Param<'t>, F
 }
 
 /// Reads the bounds behind a colon, if one comes next.
-fn read_bounds<'t>(alloc: Global, cursor: &mut Cursor<'t>) -> Result<Vec<&'t Token>, Fault> {
+fn read_bounds<'t>(alloc: Global, cursor: &mut Cursor<'t>) -> Result<Vec<Vec<&'t Token>>, Fault> {
+    let mut bounds = Vec::new(alloc);
     if cursor.takes(":") {
-        return cursor.type_until(alloc, &[",", "="]);
+        let own = cursor.type_until(alloc, &[",", "="])?;
+        if !own.is_empty() {
+            bounds.push(own)?;
+        }
     }
-    Ok(Vec::new(alloc))
+    Ok(bounds)
 }
 
 /// Reads the fields of a struct or of a variant.

@@ -1,9 +1,13 @@
 //! What is refused of a type that was read.
 
+use crate::by_tag::is_in_order;
 use crate::cursor::is_one_of;
 use crate::error::{Fault, Refusal, refused};
+use crate::heads::is_by_variants;
 use crate::items::{Item, Kind, Source, Variant};
 use crate::laws::is_among;
+use crate::notes::Trait;
+use crate::text::text_at;
 use crate::tokens::Token;
 use crate::uses::is_used;
 use std::alloc::{AllocError, Global};
@@ -14,13 +18,15 @@ pub fn refuse<'t>(alloc: Global, source: &Source<'t>, item: &Item<'t>) -> Result
     for param in item.params.iter() {
         refuse_name(alloc, param.name)?;
     }
-    for word in item.words(alloc)?.iter() {
+    for word in item.names(alloc)?.iter() {
         refuse_name(alloc, word)?;
-        refuse_word(alloc, item, word)?;
+    }
+    for of in item.types(alloc)?.iter() {
+        refuse_type(alloc, item, of.as_slice())?;
     }
     refuse_params(alloc, item)?;
-    if let Kind::Enum(variants) = &item.kind {
-        refuse_variants(alloc, variants)?;
+    if item.notes.asks_for(Trait::Described) {
+        refuse_described(alloc, item)?;
     }
     if !source.has(item, "Drop") && !source.has(item, "Copy") {
         let name = name_of(alloc, item)?;
@@ -48,34 +54,70 @@ fn refuse_name(alloc: Global, name: &Token) -> Result<(), Fault> {
     Ok(())
 }
 
-/// Refuses a word in the type of a field that the library has no words for, or that means another type below.
-fn refuse_word(alloc: Global, item: &Item<'_>, word: &Token) -> Result<(), Fault> {
-    let text = word.text.as_str();
-    if is_one_of(text, &["self", "super", "Self"]) {
-        let word_text = String::from_str(alloc, text)?;
-        return Err(refused(word.place, Refusal::RelativePath { word: word_text }));
-    }
-    if let Some(instead) = instead_of(text, item.is_borrowing()) {
-        let word_text = String::from_str(alloc, text)?;
-        let why = Refusal::NoWords {
-            word: word_text,
-            instead,
+/// Refuses the type of a field in which something stands that the library has no words for.
+fn refuse_type(alloc: Global, item: &Item<'_>, of: &[&Token]) -> Result<(), Fault> {
+    for at in 0..of.len() {
+        let text = text_at(of, at);
+        let instead = if text == "&" {
+            instead_of_reference(of, at, item.is_borrowing())
+        } else {
+            instead_of(text)
         };
-        return Err(refused(word.place, why));
+        if let (Some(instead), Some(word)) = (instead, of.get(at)) {
+            let word_text = String::from_str(alloc, text)?;
+            let why = Refusal::NoWords {
+                word: word_text,
+                instead,
+            };
+            return Err(refused(word.place, why));
+        }
     }
     Ok(())
 }
 
+/// What to hold in place of the reference at this place, if it is not decoded.
+fn instead_of_reference(of: &[&Token], at: usize, is_borrowing: bool) -> Option<&'static str> {
+    if !is_borrowing {
+        return Some("hold the value, or give the type a lifetime");
+    }
+    let has_lifetime = text_at(of, at.saturating_add(1)).starts_with('\'');
+    let at = if has_lifetime {
+        at.saturating_add(1)
+    } else {
+        at
+    };
+    let is_bytes = text_at(of, at.saturating_add(1)) == "["
+        && text_at(of, at.saturating_add(2)) == "u8"
+        && text_at(of, at.saturating_add(3)) == "]";
+    if is_bytes || text_at(of, at.saturating_add(1)) == "str" {
+        None
+    } else {
+        Some("only `&str` and `&[u8]` are read by borrowing: hold the value, or a `Vec`")
+    }
+}
+
 /// What to hold in place of this, if the library has no words for it.
-fn instead_of(name: &str, is_borrowing: bool) -> Option<&'static str> {
+fn instead_of(name: &str) -> Option<&'static str> {
     match name {
-        "&" if !is_borrowing => Some("hold the value, or give the type a lifetime"),
         "*" => Some("hold the value"),
+        "Self" => Some("hold items in a `Vec`, and name them by index"),
+        "CStr" => Some("hold a `CString`"),
         "f32" => Some("hold its bits, as a `u32`"),
         "f64" => Some("hold its bits, as a `u64`"),
         "Instant" | "SystemTime" => Some("hold a `Duration` or a number"),
+        "AtomicBool"
+        | "AtomicU8"
+        | "AtomicU16"
+        | "AtomicU32"
+        | "AtomicU64"
+        | "AtomicUsize"
+        | "AtomicI8"
+        | "AtomicI16"
+        | "AtomicI32"
+        | "AtomicI64"
+        | "AtomicIsize" => { Some("hold the value") }
         "Weak" => Some("hold a number that names the value"),
-        "Mutex" | "RwLock" => Some("hold the value, and lock the whole"),
+        "Mutex" | "RwLock" | "OnceLock" => Some("hold the value, and lock the whole"),
         "LinkedList" => Some("hold a `Vec` or a `VecDeque`"),
         "dyn" | "fn" => Some("hold a value of a type with a name"),
         _ => None,
@@ -93,7 +135,7 @@ fn refuse_params(alloc: Global, item: &Item<'_>) -> Result<(), Fault> {
         let name = name_of(alloc, item)?;
         return Err(refused(item.name.place, Refusal::TwoLifetimes { name }));
     }
-    if is_enum(item) && item.is_generic() {
+    if is_enum(item) && item.is_generic() && (item.is_borrowing() || !is_by_variants(item)) {
         let name = name_of(alloc, item)?;
         return Err(refused(item.name.place, Refusal::GenericEnum { name }));
     }
@@ -107,15 +149,23 @@ fn is_enum(item: &Item<'_>) -> bool {
     }
 }
 
-/// Refuses variants that hold more than eight fields.
-fn refuse_variants(alloc: Global, variants: &Vec<Variant<'_>>) -> Result<(), Fault> {
-    for variant in variants.iter() {
-        if variant.fields.as_slice().len() > 8 {
-            let name = variant.name.text.clone()?;
-            return Err(refused(variant.name.place, Refusal::LargeVariant { name }));
-        }
+/// Refuses a described enum of more than eight variants, or with tags that are not 0, 1 and so on.
+fn refuse_described(alloc: Global, item: &Item<'_>) -> Result<(), Fault> {
+    let tags = tags_of_item(alloc, item)?;
+    let is_long = tags.len() > 8 && !is_by_variants(item);
+    if is_long || !is_in_order(tags.as_slice()) {
+        let name = name_of(alloc, item)?;
+        return Err(refused(item.name.place, Refusal::NotDescribed { name }));
     }
     Ok(())
+}
+
+/// The tag of each variant of an enum, and none of a struct.
+pub fn tags_of_item(alloc: Global, item: &Item<'_>) -> Result<Vec<u32>, Fault> {
+    match &item.kind {
+        Kind::Struct(_) => Ok(Vec::new(alloc)),
+        Kind::Enum(variants) => tags_of(alloc, variants),
+    }
 }
 
 /// The tag of each variant: its own, or one more than that of the one before. Fails where two are the same.
@@ -140,7 +190,7 @@ fn holds_itself<'t>(
     source: &Source<'t>,
     item: &Item<'t>,
 ) -> Result<bool, AllocError> {
-    let mut held = item.words(alloc)?;
+    let mut held = item.names(alloc)?;
     for _ in 0..source.items.len() {
         add_held(alloc, &mut held, source)?;
     }
@@ -167,7 +217,7 @@ fn add_new<'t>(
     held: &mut Vec<&'t Token>,
     item: &Item<'t>,
 ) -> Result<(), AllocError> {
-    for word in item.words(alloc)?.iter() {
+    for word in item.names(alloc)?.iter() {
         if !is_among(held.as_slice(), word.text.as_str()) {
             held.push(*word)?;
         }

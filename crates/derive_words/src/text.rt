@@ -35,17 +35,27 @@ pub fn type_text(alloc: Global, tokens: &[&Token]) -> Result<String, AllocError>
     Ok(text)
 }
 
-/// Adds the token of a type that is at this place.
+/// Adds the token of a type that is at this place. A path that begins where the module of the types stands begins one
+/// module above what is written.
 fn add_type_token(text: &mut String, tokens: &[&Token], at: usize) -> Result<(), AllocError> {
     let next = text_at(tokens, at);
-    if at > 0 && is_apart(text_at(tokens, at.saturating_sub(1)), next) {
+    let before = if at > 0 {
+        text_at(tokens, at.saturating_sub(1))
+    } else {
+        ""
+    };
+    if at > 0 && is_apart(before, next) {
         text.push_str(" ")?;
     }
-    text.push_str(next)
+    text.push_str(match next {
+        "super" if before != "::" => "super::super",
+        "self" if before != "::" => "super",
+        _ => next,
+    })
 }
 
 /// The text of the token at this place, and `""` where there is none.
-fn text_at<'t>(tokens: &[&'t Token], at: usize) -> &'t str {
+pub fn text_at<'t>(tokens: &[&'t Token], at: usize) -> &'t str {
     match tokens.get(at) {
         Some(token) => token.text.as_str(),
         None => "",
@@ -78,6 +88,40 @@ pub fn tuple(alloc: Global, parts: Vec<String>) -> Result<String, AllocError> {
         rows = in_fours(alloc, &rows)?;
     }
     row(alloc, rows.as_slice())
+}
+
+/// How each of so many parts is read of the tuple of them, as `.2`, or `.1.0` where they stand in groups. A lone one is
+/// read as it is.
+pub fn selectors_of(alloc: Global, count: usize) -> Result<Vec<String>, AllocError> {
+    let mut selectors = Vec::new(alloc);
+    for at in 0..count {
+        selectors.push(selector(alloc, at, count)?)?;
+    }
+    Ok(selectors)
+}
+
+/// How the part at this place of so many is read: its place in its group, behind that of the group, and so on.
+fn selector(alloc: Global, at: usize, count: usize) -> Result<String, AllocError> {
+    let mut selector = String::new(alloc);
+    let mut at = at;
+    let mut count = count;
+    for _ in 0..16u8 {
+        if count <= 8 {
+            break;
+        }
+        let group = at / 4;
+        let size = count.saturating_sub(group.saturating_mul(4));
+        if size > 1 {
+            let within = at % 4;
+            selector = format!(in alloc; ".{within}{selector}")?;
+        }
+        at = group;
+        count = count.div_ceil(4);
+    }
+    if count > 1 {
+        selector = format!(in alloc; ".{at}{selector}")?;
+    }
+    Ok(selector)
 }
 
 /// Parts in groups of four.

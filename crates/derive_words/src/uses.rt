@@ -6,7 +6,7 @@ use crate::tokens::{Token, tokens_of};
 use std::alloc::{AllocError, Global};
 
 /// The names of the library that are used, by their modules, as `rt fmt` sorts them.
-const LIBRARY: [(&str, &[&str]); 7] = [
+const LIBRARY: [(&str, &[&str]); 8] = [
     (
         "bincode::de",
         &[
@@ -22,7 +22,31 @@ const LIBRARY: [(&str, &[&str]); 7] = [
             "decode_no_variants",
         ],
     ),
-    ("bincode::enc", &["Encode", "Encoder", "encode_variant"]),
+    (
+        "bincode::enc",
+        &["Encode", "Encoder", "encode_variant as encode_in_sum"],
+    ),
+    (
+        "bincode::enums",
+        &[
+            "BorrowDecodeVariants",
+            "DecodeVariants",
+            "Enum",
+            "Sum",
+            "borrow_decode_by_tag",
+            "borrow_decode_part",
+            "canonical_by_variants",
+            "decode_by_tag",
+            "decode_no_variant",
+            "decode_part",
+            "decode_unlisted_variant",
+            "encode_variant",
+            "enum_claim",
+            "exact_by_variants",
+            "plain_by_variants",
+            "writable_by_variants",
+        ],
+    ),
     ("bincode::error", &["DecodeError", "EncodeError"]),
     (
         "bincode::laws",
@@ -40,7 +64,16 @@ const LIBRARY: [(&str, &[&str]); 7] = [
             "writable_by_parts",
         ],
     ),
-    ("bincode::shape", &["Described", "Shape"]),
+    (
+        "bincode::shape",
+        &[
+            "Described",
+            "Shape",
+            "describe_variants",
+            "put_variant",
+            "start_variants",
+        ],
+    ),
     ("bincode::short_text", &["TypeName"]),
     (
         "bincode",
@@ -78,8 +111,12 @@ fn used_of(alloc: Global, names: &[&str], tokens: &[Token]) -> Result<Vec<String
     Ok(used)
 }
 
-/// Whether a name stands among these tokens.
+/// Whether a name stands among these tokens. That of `NAME as OTHER` is `OTHER`.
 fn stands_in(name: &str, tokens: &[Token]) -> bool {
+    let name = match name.rsplit_once(' ') {
+        Some((_, other)) => other,
+        None => name,
+    };
     tokens.iter().any(|token| token.text.as_str() == name)
 }
 

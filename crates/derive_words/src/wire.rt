@@ -4,10 +4,14 @@ use crate::heads::Subject;
 use crate::items::Kind;
 use crate::laws::Keeps;
 use crate::notes::Trait;
+use crate::variants::{told_by_variants, words_by_variants};
 use std::alloc::{AllocError, Global};
 
 /// The `impl` that says what the words of a type are.
 pub fn words(alloc: Global, subject: &Subject<'_, '_>) -> Result<String, AllocError> {
+    if !subject.variants.is_empty() {
+        return words_by_variants(alloc, subject);
+    }
     let head = subject.head(alloc, "", "Wire", "Wire")?;
     let parts = subject.parts.as_str();
     let itself = subject.itself.as_str();
@@ -65,7 +69,7 @@ fn claimed_words(
 }
 
 /// What stands behind the head of a function, up to its body. A type with a lifetime writes out what is promised.
-fn opening_of(
+pub fn opening_of(
     alloc: Global,
     subject: &Subject<'_, '_>,
     promise: &str,
@@ -107,7 +111,11 @@ fn plain(alloc: Global, subject: &Subject<'_, '_>) -> Result<String, AllocError>
     let parts = subject.parts.as_str();
     let itself = subject.itself.as_str();
     let promise = format!(in alloc; "PlainWords ⟦<{itself} as Wire>⟧.its")?;
-    let call = format!(in alloc; "plain_by_parts::<{parts}, {itself}>()")?;
+    let call = if subject.variants.is_empty() {
+        format!(in alloc; "plain_by_parts::<{parts}, {itself}>()")?
+    } else {
+        told_by_variants(alloc, subject, "plain")?
+    };
     law(
         alloc,
         subject,
@@ -126,8 +134,10 @@ fn exact(alloc: Global, subject: &Subject<'_, '_>) -> Result<String, AllocError>
     )?;
     let call = if is_row(subject) {
         format!(in alloc; "exact_by_fields::<{parts}, {itself}, _>()")?
-    } else {
+    } else if subject.variants.is_empty() {
         format!(in alloc; "exact_by_parts::<{parts}, {itself}>()")?
+    } else {
+        told_by_variants(alloc, subject, "exact")?
     };
     law(
         alloc,
@@ -151,7 +161,11 @@ fn canonical(alloc: Global, subject: &Subject<'_, '_>) -> Result<String, AllocEr
     let parts = subject.parts.as_str();
     let itself = subject.itself.as_str();
     let promise = format!(in alloc; "CanonicalWords ⟦<{itself} as Wire>⟧.its")?;
-    let call = format!(in alloc; "canonical_by_parts::<{parts}, {itself}>()")?;
+    let call = if subject.variants.is_empty() {
+        format!(in alloc; "canonical_by_parts::<{parts}, {itself}>()")?
+    } else {
+        told_by_variants(alloc, subject, "canonical")?
+    };
     law(
         alloc,
         subject,
@@ -166,7 +180,11 @@ fn writable(alloc: Global, subject: &Subject<'_, '_>) -> Result<String, AllocErr
     let parts = subject.parts.as_str();
     let itself = subject.itself.as_str();
     let promise = format!(in alloc; "AlwaysWritable ⟦<{itself} as Wire>⟧.its")?;
-    let call = format!(in alloc; "writable_by_parts::<{parts}, {itself}>()")?;
+    let call = if subject.variants.is_empty() {
+        format!(in alloc; "writable_by_parts::<{parts}, {itself}>()")?
+    } else {
+        told_by_variants(alloc, subject, "writable")?
+    };
     law(
         alloc,
         subject,
@@ -226,8 +244,27 @@ fn constant_charge(alloc: Global, subject: &Subject<'_, '_>) -> Result<String, A
 
 fn described(alloc: Global, subject: &Subject<'_, '_>) -> Result<String, AllocError> {
     let head = subject.head(alloc, "", "Described", "Described")?;
-    let path = subject.path(alloc, subject.parts.as_str())?;
-    format!(in alloc;
-        "{head}    fn shape(alloc: Global) -> Option<Shape> {{\n        {path}::shape(alloc)\n    }}\n}}\n\n"
-    )
+    let body = if subject.variants.is_empty() {
+        let path = subject.path(alloc, subject.parts.as_str())?;
+        format!(in alloc; "        {path}::shape(alloc)\n")?
+    } else {
+        described_variants(alloc, subject)?
+    };
+    format!(in alloc; "{head}    fn shape(alloc: Global) -> Option<Shape> {{\n{body}    }}\n}}\n\n")
+}
+
+/// What the shape of an enum is made by that is written variant by variant.
+fn described_variants(alloc: Global, subject: &Subject<'_, '_>) -> Result<String, AllocError> {
+    let itself = subject.itself.as_str();
+    let mut lines = format!(in alloc; "        let shapes = start_variants::<{itself}>(alloc);\n")?;
+    let mut number = 0u32;
+    for part in subject.variants.iter() {
+        let of = part.itself.as_str();
+        let line = format!(in alloc;
+            "        let shapes = put_variant::<{itself}, {of}>(alloc, {number}, shapes)?;\n"
+        )?;
+        lines.push_str(line.as_str())?;
+        number = number.saturating_add(1);
+    }
+    format!(in alloc; "{lines}        Some(describe_variants::<{itself}>({number}, shapes))\n")
 }

@@ -6,6 +6,7 @@ pub mod arenas;
 pub mod book;
 pub mod code;
 pub mod contact;
+pub mod either;
 pub mod even;
 pub mod event;
 pub mod foo;

@@ -1,12 +1,7 @@
 //! A struct with type parameters in a map and in an option.
-use bincode::de::{Decode, Decoder, OneByOne};
-use bincode::enc::{Encode, Encoder};
-use bincode::error::{DecodeError, EncodeError};
-use bincode::laws::{Canonical, Exact, Plain, canonical_by_parts, exact_by_fields, plain_by_parts};
-use bincode::{MadeOf, Wire};
 use std::collections::BTreeMap;
 
-type Parts<K, V> = (String, BTreeMap<K, V>, Option<K>);
+mod words;
 
 /// A table: its name, its entries, and the key that was last asked for.
 #[derive(Debug, Drop, PartialEq)]
@@ -14,83 +9,4 @@ pub struct Table<K: Ord, V> {
     pub name: String,
     pub entries: BTreeMap<K, V>,
     pub last: Option<K>,
-}
-
-impl<K: Ord, V> MadeOf<Parts<K, V>> for Table<K, V> {
-    ghost parts = { λ v. (v.name, v.entries, v.last) };
-}
-
-impl<K: Ord, V> Wire for Table<K, V>
-where
-    BTreeMap<K, V>: Wire,
-    Option<K>: Wire,
-{
-    ghost use Rattle.bincode.specs.TypeWords.{words_by};
-
-    ghost its = { words_by ⟦<Parts<K, V> as Wire>⟧.its ⟦<Table<K, V> as MadeOf<Parts<K, V>>>⟧.parts };
-
-    fn claim_size() -> usize {
-        <Parts<K, V>>::claim_size()
-    }
-}
-
-impl<K: Ord, V> Plain for Table<K, V>
-where
-    BTreeMap<K, V>: Plain,
-    Option<K>: Plain,
-{
-    fn tell_plain() {
-        plain_by_parts::<Parts<K, V>, Table<K, V>>();
-    }
-}
-
-impl<K: Ord, V: PartialEq> Exact for Table<K, V>
-where
-    BTreeMap<K, V>: Exact,
-    Option<K>: Exact,
-{
-    fn tell_exact() {
-        exact_by_fields::<Parts<K, V>, Table<K, V>, _>();
-    }
-}
-
-impl<K: Ord, V> Canonical for Table<K, V>
-where
-    BTreeMap<K, V>: Canonical,
-    Option<K>: Canonical,
-{
-    fn tell_canonical() {
-        canonical_by_parts::<Parts<K, V>, Table<K, V>>();
-    }
-}
-
-impl<K: Ord + Drop, V: Drop> Encode for Table<K, V>
-where
-    BTreeMap<K, V>: Encode,
-    Option<K>: Encode,
-{
-    fn tell_valid(&self) {
-        (&self.name, &self.entries, &self.last).tell_valid();
-    }
-
-    fn encode<E: Encoder>(&self, encoder: &mut E) -> Result<(), EncodeError> {
-        (&self.name, &self.entries, &self.last).encode(encoder)
-    }
-}
-
-impl<Context: Drop, K: Ord + Drop, V: Drop> Decode<Context> for Table<K, V>
-where
-    BTreeMap<K, V>: Decode<Context>,
-    Option<K>: Decode<Context>,
-{
-    type Run = OneByOne;
-
-    fn decode<D: Decoder<Context = Context>>(decoder: &mut D) -> Result<Table<K, V>, DecodeError> {
-        let (name, entries, last): Parts<K, V> = Decode::decode(decoder)?;
-        Ok(Table {
-            name,
-            entries,
-            last,
-        })
-    }
 }

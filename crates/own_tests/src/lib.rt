@@ -15,6 +15,8 @@ mod containers;
 #[cfg(test)]
 mod counted;
 #[cfg(test)]
+mod derived;
+#[cfg(test)]
 mod empties;
 #[cfg(test)]
 mod events;

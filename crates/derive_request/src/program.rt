@@ -1,21 +1,18 @@
-//! What the program `derive` does with texts: files are read and written by its `main`.
+//! What is done with the module of a source, and what is said of it.
 ghost use Rattle.std.specs.Prelude.{◌≡◌, ◌≢◌, IfOk, None, false, true};
 
 use crate::compare::{State, state_of};
-use crate::error::{Fault, Refusal};
-use crate::module::{Origin, module_of};
-use crate::paths::{declared_path, file_name, module_path};
-use crate::request::{Action, Request, RequestError};
+use crate::paths::{declared_path, file_name};
+use crate::request::{Action, Request};
+use derive_words::error::{Fault, Refusal};
+use derive_words::module::{Origin, module_of};
 use std::alloc::{AllocError, Global};
 use std::io;
 use thiserror::Error;
 
-/// Why the program ends with the status 2.
+/// Why nothing is done with a source.
 #[derive(Debug, Drop, Error)]
 pub enum ProgramError {
-    /// The words behind its name spell no request.
-    #[error(transparent)]
-    Request(#[from] RequestError),
     /// It is not known which crate a source is of.
     #[error("{file}: it stands in no folder `src` of a crate: name the crate, by `--crate NAME`")]
     NoCrate {
@@ -35,22 +32,19 @@ pub enum ProgramError {
         path: String,
         why: io::Error,
     },
-    /// Words can't be read, or nothing can be printed.
-    #[error(transparent)]
-    Io(#[from] io::Error),
     /// Memory was refused.
     #[error(transparent)]
     Memory(#[from(alloc)] AllocError),
 }
 
-/// The module for a source that stands at this place in the file system. Messages name it as the request does.
+/// The module for a source of this path, which stands at this place in the file system. Messages name its path.
 pub fn written_for(
     alloc: Global,
     request: &Request,
+    file: &str,
     place: &str,
     text: &str,
 ) -> Result<String, ProgramError> {
-    let file = request.file.as_str();
     let crate_name = request.crate_name.as_ref().map(String::as_str);
     let Some(declared) = declared_path(alloc, place, crate_name)? else {
         let file = String::from_str(alloc, file)?;
@@ -80,42 +74,43 @@ fn in_file(alloc: Global, file: &str, fault: Fault) -> Result<ProgramError, Allo
     })
 }
 
-/// What is done with a module, and what is printed.
+/// What is done with a module, what is printed, and the status.
 #[derive(Drop)]
 pub struct Outcome {
     /// The module is written to its path.
     pub is_written: bool,
     /// What is printed.
     pub printed: String,
-    /// The status with which the program ends.
+    /// The status for its source.
     pub status: u8,
 }
 
-/// What a request does with the module for its source, which goes to this path, where another was found or none. A
+/// What is done with the module for the source of a file, which goes to this path, where another was found or none. A
 /// module that is the same code as what was found is not written again.
 pub fn outcome_of(
     alloc: Global,
-    request: &Request,
+    action: Action,
+    file: &str,
     path: &str,
     module: &str,
     found: Option<&str>,
 ) -> Result<Outcome, AllocError>
     // Only a request to write writes, and it does where nothing was found.
-    ensures reads { request.now.action ≢ Action.Write → IfOk result (λ o. o.is_written ≡ false) }
-    ensures writes { request.now.action ≡ Action.Write → found.entry ≡ None → IfOk result (λ o. o.is_written ≡ true) }
+    ensures reads { action ≢ Action.Write → IfOk result (λ o. o.is_written ≡ false) }
+    ensures writes { action ≡ Action.Write → found.entry ≡ None → IfOk result (λ o. o.is_written ≡ true) }
 
     // Only a request to check ends with another status than 0, and it does where nothing was found.
-    ensures passes { request.now.action ≢ Action.Check → IfOk result (λ o. o.status ≡ 0) }
-    ensures fails { request.now.action ≡ Action.Check → found.entry ≡ None → IfOk result (λ o. o.status ≡ 1) }
+    ensures passes { action ≢ Action.Check → IfOk result (λ o. o.status ≡ 0) }
+    ensures fails { action ≡ Action.Check → found.entry ≡ None → IfOk result (λ o. o.status ≡ 1) }
 {
     let state = state_of(alloc, module, found)?;
-    match request.action {
+    match action {
         Action::Print => Ok(Outcome {
             is_written: false,
             printed: String::from_str(alloc, module)?,
             status: 0,
         }),
-        Action::Check => checked(alloc, request.file.as_str(), path, state),
+        Action::Check => checked(alloc, file, path, state),
         Action::Write => written(alloc, path, state),
     }
 }
@@ -123,6 +118,7 @@ pub fn outcome_of(
 /// What is said of a module that is compared with what was found.
 fn checked(alloc: Global, file: &str, path: &str, state: State) -> Result<Outcome, AllocError>
     ensures reads { IfOk result (λ o. o.is_written ≡ false) }
+    ensures passes { state ≡ State.UpToDate → IfOk result (λ o. o.status ≡ 0) }
     ensures fails { state ≢ State.UpToDate → IfOk result (λ o. o.status ≡ 1) }
 {
     let printed = match state {
@@ -141,6 +137,7 @@ fn checked(alloc: Global, file: &str, path: &str, state: State) -> Result<Outcom
 /// What is said of a module that is to stand beside its source.
 fn written(alloc: Global, path: &str, state: State) -> Result<Outcome, AllocError>
     ensures writes { state ≢ State.UpToDate → IfOk result (λ o. o.is_written ≡ true) }
+    ensures stays { state ≡ State.UpToDate → IfOk result (λ o. o.is_written ≡ false) }
     ensures passes { IfOk result (λ o. o.status ≡ 0) }
 {
     let is_written = state != State::UpToDate;

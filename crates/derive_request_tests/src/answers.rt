@@ -1,26 +1,17 @@
-//! What the program answers to a request, given the texts of the files.
+//! What the program does with the module of a source, and what it says.
 
-use derive_words::program::{outcome_of, written_for};
-use derive_words::request::{Action, Request};
+use derive_request::program::{outcome_of, written_for};
+use derive_request::request::{Action, Request};
 use std::alloc::{AllocError, Global};
 use std::test::Fail;
-
-/// A request for `src/book.rt`.
-fn request(alloc: Global, action: Action) -> Result<Request, AllocError> {
-    Ok(Request {
-        action,
-        crate_name: None,
-        file: String::from_str(alloc, "src/book.rt")?,
-    })
-}
 
 /// A module as it would be written.
 const MODULE: &str = "//! Made.\ntype AParts = (u8, u16);\n";
 
 /// What the program does where this was found, in a line: whether it writes, its status, and what it prints.
 fn told(alloc: Global, action: Action, found: Option<&str>) -> Result<String, AllocError> {
-    let request = request(alloc, action)?;
-    let outcome = outcome_of(alloc, &request, "src/book/words.rt", MODULE, found)?;
+    let path = "src/book/words.rt";
+    let outcome = outcome_of(alloc, action, "src/book.rt", path, MODULE, found)?;
     let writes = if outcome.is_written {
         "writes"
     } else {
@@ -85,8 +76,12 @@ fn answers_by_what_was_found(rt: HostRuntime) -> Result<(), Fail> {
 
 /// The message for a source that stands at this place.
 fn message(alloc: Global, place: &str, text: &str) -> Result<String, AllocError> {
-    let request = request(alloc, Action::Write)?;
-    match written_for(alloc, &request, place, text) {
+    let request = Request {
+        action: Action::Write,
+        crate_name: None,
+        files: Vec::new(alloc),
+    };
+    match written_for(alloc, &request, "src/book.rt", place, text) {
         Ok(_) => String::from_str(alloc, "written"),
         Err(error) => format!(in alloc; "{error}"),
     }

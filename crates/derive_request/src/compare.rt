@@ -1,7 +1,7 @@
 //! Whether a module that was written is still what would be written now.
 ghost use Rattle.std.specs.Prelude.{◌≡◌, IfOk, None};
 
-use crate::tokens::{Token, tokens_of};
+use derive_words::tokens::{Token, tokens_of};
 use std::alloc::{AllocError, Global};
 
 /// How a module that was written compares with what would be written now.

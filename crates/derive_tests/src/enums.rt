@@ -1,0 +1,410 @@
+//! What is written for enums, variant by variant.
+
+use derive_words::module::{Origin, module_of};
+use std::alloc::{AllocError, Global};
+use std::test::Fail;
+
+/// An enum with a variant of each kind.
+const KIND: &str = "#[derive(Drop, PartialEq)]
+enum Kind {
+    Idle,
+    Note(String),
+    Work(String, u16),
+    Move { by: i32, back: bool },
+}
+";
+
+/// Tags that are not in order, and lines that are too long for one.
+const CODE: &str = "#[derive(Drop, PartialEq)]
+pub enum Code {
+    Done = 1,
+    // bincode: tag 5
+    Late(u16),
+    Refused(String) = 300,
+}
+";
+
+/// An enum with a lifetime.
+const EVENT: &str = "#[derive(Drop, PartialEq)]
+enum Event<'a> {
+    Start,
+    Note(&'a str, u8),
+}
+";
+
+/// An enum with type parameters.
+const EITHER: &str = "#[derive(Drop, PartialEq)]
+enum Either<K, V> {
+    Left(K),
+    Right(V),
+    Both(K, V),
+}
+";
+
+/// Nine fields in a variant.
+const WIDE: &str = "#[derive(Drop)]
+enum Wide {
+    Row(u8, u8, u8, u8, u8, u8, u8, u8, u16),
+}
+";
+
+/// Sources, each with lines of its module.
+const WRITTEN: [(&str, &str); 29] = [
+    (
+        KIND,
+        "type KindIdlePart = ();
+
+type KindNotePart = String;
+
+type KindWorkPart = (String, u16);
+
+type KindMovePart = (i32, bool);
+
+type KindParts = Or<
+    0,
+    KindIdlePart,
+    Or<1, KindNotePart, Or<2, KindWorkPart, Or<3, KindMovePart, NoOther<Kind>>>>,
+>;
+",
+    ),
+    (
+        KIND,
+        "impl Sum<KindParts> for Kind {
+    ghost use Rattle.bincode.specs.Sums.{this, other};
+    ghost use Rattle.bincode.specs.EnumWords.{by, no_more, or_else};
+    ghost use Rattle.app.specs.declared.types.Kind.TheVariants.{Idle, Note, Work, Move};
+
+    ghost variants = { or_else 0 ⟦<KindIdlePart as Wire>⟧.its
+        (or_else 1 ⟦<KindNotePart as Wire>⟧.its
+        (or_else 2 ⟦<KindWorkPart as Wire>⟧.its
+        (or_else 3 ⟦<KindMovePart as Wire>⟧.its
+        no_more))) };
+
+    ghost parts = { elim [
+      | Idle ↦ this tt
+      | Note value ↦ other (this value)
+      | Work first second ↦ other (other (this (first, second)))
+      | Move part_0 back ↦ other (other (other (this (part_0, back))))
+    ] };
+
+    ghost made = { by (λ p. Idle)
+        (by (λ p. Note p)
+        (by (λ p. Work p.0 p.1)
+        (by (λ p. Move p.0 p.1)
+        (λ n. elim (n.0) [ ])))) };
+}
+",
+    ),
+    (
+        KIND,
+        "    ghost its = { enum_words ⟦<Kind as Sum<KindParts>>⟧.variants ⟦<Kind as Sum<KindParts>>⟧.parts };
+
+    fn claim_size() -> usize {
+        let widest = KindMovePart::claim_size().max(0);
+        let widest = KindWorkPart::claim_size().max(widest);
+        let widest = KindNotePart::claim_size().max(widest);
+        let widest = KindIdlePart::claim_size().max(widest);
+        enum_claim(widest)
+    }
+",
+    ),
+    (
+        KIND,
+        "impl Enum for Kind {
+    ghost use Rattle.std.specs.Prelude.{refl};
+    ghost use Rattle.bincode.specs.EnumWords.{enum_laws, enum_variants};
+    ghost use Rattle.app.specs.declared.types.Kind.TheVariants.{Idle, Note, Work, Move};
+
+    ghost choices = { enum_variants ⟦<Kind as Sum<KindParts>>⟧.variants ⟦<Kind as Sum<KindParts>>⟧.made };
+
+    fn type_name() -> TypeName {
+        TypeName::new(\"Kind\")
+    }
+
+    ghost laws = { enum_laws ⟦<Kind as Sum<KindParts>>⟧.variants ⟦<Kind as Sum<KindParts>>⟧.parts
+        ⟦<Kind as Sum<KindParts>>⟧.made (elim [
+          | Idle ↦ refl
+          | Note value ↦ refl
+          | Work first second ↦ refl
+          | Move part_0 back ↦ refl
+        ]) };
+}
+",
+    ),
+    (
+        KIND,
+        "impl Exact for Kind {
+    fn tell_exact() {
+        KindIdlePart::tell_exact();
+        KindNotePart::tell_exact();
+        KindWorkPart::tell_exact();
+        KindMovePart::tell_exact();
+        exact_by_variants::<Kind>();
+    }
+}
+",
+    ),
+    (
+        KIND,
+        "            Kind::Move { by, back } => encode_variant(self, 3, &(by, back), encoder),\n",
+    ),
+    (
+        KIND,
+        "impl<Context: Drop> DecodeVariants<Context> for Kind {
+    fn decode_variant<D: Decoder<Context = Context>>(
+        tag: u32,
+        decoder: &mut D,
+    ) -> Result<Kind, DecodeError> {
+        match tag {
+            0 => match decode_part::<Context, Kind, KindIdlePart, D>(tag, 0, decoder) {
+                Ok(()) => Ok(Kind::Idle),
+                Err(error) => Err(error),
+            },
+            1 => match decode_part::<Context, Kind, KindNotePart, D>(tag, 1, decoder) {
+                Ok(value) => Ok(Kind::Note(value)),
+                Err(error) => Err(error),
+            },
+            2 => match decode_part::<Context, Kind, KindWorkPart, D>(tag, 2, decoder) {
+                Ok((first, second)) => Ok(Kind::Work(first, second)),
+                Err(error) => Err(error),
+            },
+            3 => match decode_part::<Context, Kind, KindMovePart, D>(tag, 3, decoder) {
+                Ok((by, back)) => Ok(Kind::Move { by, back }),
+                Err(error) => Err(error),
+            },
+            _ => decode_no_variant(tag, 3, decoder),
+        }
+    }
+}
+
+impl<Context: Drop> Decode<Context> for Kind {
+    type Run = OneByOne;
+
+    fn decode<D: Decoder<Context = Context>>(decoder: &mut D) -> Result<Kind, DecodeError> {
+        decode_by_tag(decoder)
+    }
+}
+",
+    ),
+    (
+        KIND,
+        "use bincode::enums::{
+    DecodeVariants, Enum, Sum, canonical_by_variants, decode_by_tag, decode_no_variant,
+    decode_part, encode_variant, enum_claim, exact_by_variants, plain_by_variants,
+};
+use bincode::error::{DecodeError, EncodeError};
+use bincode::laws::{Canonical, Exact, Plain};
+use bincode::short_text::TypeName;
+use bincode::{NoOther, Or, Wire};
+",
+    ),
+    (
+        CODE,
+        "            300 => match decode_part::<Context, Code, CodeRefusedPart, D>(tag, 300, decoder) {\n",
+    ),
+    (
+        CODE,
+        "            _ => decode_unlisted_variant(tag, &[1, 5, 300], decoder),\n",
+    ),
+    (
+        CODE,
+        "    ghost made = { by (λ p. Done)
+        (by (λ p. Late p)
+        (by (λ p. Refused p)
+        (λ n. elim (n.0) [ ]))) };
+",
+    ),
+    (
+        EVENT,
+        "type EventStartPart = ();
+
+type EventNotePart<'a> = (&'a str, u8);
+
+type EventParts<'a> = Or<0, EventStartPart, Or<1, EventNotePart<'a>, NoOther<Event<'a>>>>;
+",
+    ),
+    (
+        EVENT,
+        "impl<'a> Wire for Event<'a> {
+    ghost use Rattle.std.specs.Prelude.{min, ◌+◌, ◌-◌, ◌^◌};
+    ghost use Rattle.bincode.specs.EnumWords.{enum_words};
+
+    ghost its = { enum_words ⟦<Event<'a> as Sum<EventParts<'a>>>⟧.variants ⟦<Event<'a> as Sum<EventParts<'a>>>⟧.parts };
+
+    fn claim_size() -> usize
+        ensures { result ≡ min (4 + ⟦<Event<'a> as Sum<EventParts<'a>>>⟧.variants.claim) (2 ^ 64 - 1) }
+    {
+        let widest = EventNotePart::claim_size().max(0);
+        let widest = EventStartPart::claim_size().max(widest);
+        enum_claim(widest)
+    }
+}
+",
+    ),
+    (
+        EVENT,
+        "    fn tell_exact()
+        ensures { ExactWords ⟦<Event<'a> as Wire>⟧.its ⟦<Event<'a> as PartialEq>⟧.eq }
+    {
+        EventStartPart::tell_exact();
+        EventNotePart::tell_exact();
+        exact_by_variants::<Event<'a>>();
+    }
+",
+    ),
+    (
+        EVENT,
+        "impl<'a, Context: Drop> BorrowDecodeVariants<&'a [u8], Context> for Event<'a> {
+    fn borrow_decode_variant<D: BorrowDecoder<&'a [u8], Context = Context>>(
+        tag: u32,
+        decoder: &mut D,
+    ) -> Result<Event<'a>, DecodeError> {
+        match tag {
+            0 => match borrow_decode_part::<&'a [u8], Context, Event<'a>, EventStartPart, D>(
+                tag, 0, decoder,
+            ) {
+                Ok(()) => Ok(Event::Start),
+                Err(error) => Err(error),
+            },
+",
+    ),
+    (EVENT, "        borrow_decode_by_tag(decoder)\n"),
+    // A part that is a parameter is named by that.
+    (
+        EITHER,
+        "type EitherBothPart<K, V> = (K, V);
+
+type EitherParts<K, V> = Or<0, K, Or<1, V, Or<2, EitherBothPart<K, V>, NoOther<Either<K, V>>>>>;
+
+impl<K: Wire, V: Wire> Sum<EitherParts<K, V>> for Either<K, V> {
+",
+    ),
+    (
+        EITHER,
+        "    ghost variants = { or_else 0 K.its
+        (or_else 1 V.its
+        (or_else 2 ⟦<EitherBothPart<K, V> as Wire>⟧.its
+        no_more)) };
+",
+    ),
+    (EITHER, "impl<K: Wire, V: Wire> Enum for Either<K, V> {\n"),
+    (
+        EITHER,
+        "impl<K: Plain, V: Plain> Plain for Either<K, V> {
+    fn tell_plain() {
+        K::tell_plain();
+        V::tell_plain();
+        <EitherBothPart<K, V>>::tell_plain();
+        plain_by_variants::<Either<K, V>>();
+    }
+}
+",
+    ),
+    (
+        EITHER,
+        "impl<Context: Drop, K: Decode<Context>, V: Decode<Context>> DecodeVariants<Context>
+    for Either<K, V> {
+    fn decode_variant<D: Decoder<Context = Context>>(
+        tag: u32,
+        decoder: &mut D,
+    ) -> Result<Either<K, V>, DecodeError> {
+        match tag {
+            0 => match decode_part::<Context, Either<K, V>, K, D>(tag, 0, decoder) {
+",
+    ),
+    (
+        "#[derive(Drop)]\nenum Some<K: Ord> {\n    Map(BTreeMap<K, u8>),\n}",
+        "impl<K: Ord> Sum<SomeParts<K>> for Some<K>
+where
+    BTreeMap<K, u8>: Wire,
+{
+",
+    ),
+    // More than eight fields stand in groups of four.
+    (
+        WIDE,
+        "type WideRowPart = ((u8, u8, u8, u8), (u8, u8, u8, u8), u16);\n",
+    ),
+    (
+        WIDE,
+        "    ghost made = { by (λ p. Row p.0.0 p.0.1 p.0.2 p.0.3 p.1.0 p.1.1 p.1.2 p.1.3 p.2)
+        (λ n. elim (n.0) [ ]) };
+",
+    ),
+    (WIDE, "    ghost use Rattle.bincode.specs.Sums.{this};\n"),
+    // The fields of a variant, one after the other.
+    (
+        "#[derive(Drop)]\nenum Kind {\n    Private,\n    Work { company: String, since: u16 },\n}",
+        "            Kind::Private => {}
+            Kind::Work { company, since } => {
+                company.tell_valid();
+                since.tell_valid();
+            }
+",
+    ),
+    // The shape of an enum.
+    (
+        "// bincode: with Described\n#[derive(Drop)]\nenum Kind {\n    Private,\n    Other(u8),\n}",
+        "        let shapes = start_variants::<Kind>(alloc);
+        let shapes = put_variant::<Kind, KindPrivatePart>(alloc, 0, shapes)?;
+        let shapes = put_variant::<Kind, KindOtherPart>(alloc, 1, shapes)?;
+        Some(describe_variants::<Kind>(2, shapes))
+",
+    ),
+    // What only a sum has.
+    (
+        "// bincode: claims 9\n#[derive(Drop)]\nenum Kind {\n    Private,\n    Other(u8),\n}",
+        "            Kind::Other(value) => encode_in_sum(self, 1, value, encoder),\n",
+    ),
+    (
+        "// bincode: with Writable\n#[derive(Drop)]\nenum Kind {\n    Private,\n    Other(u8),\n}",
+        "    fn tell_writable() {
+        KindPrivatePart::tell_writable();
+        KindOtherPart::tell_writable();
+        writable_by_variants::<Kind>();
+    }
+",
+    ),
+];
+
+/// Where the sources stand.
+const ORIGIN: Origin<'static> = Origin {
+    file_name: "types.rt",
+    declared: "app.specs.declared.types",
+};
+
+#[test]
+fn writes_each_variant(rt: HostRuntime) -> Result<(), Fail> {
+    for (text, expected) in WRITTEN {
+        let module = module_of(rt.alloc(), &ORIGIN, text)?;
+        assert!(rt; module.as_str().contains(expected), "{module}");
+    }
+    Ok(())
+}
+
+/// An enum of forty variants, each with three fields.
+fn forty(alloc: Global) -> Result<String, AllocError> {
+    let mut source = String::from_str(alloc, "#[derive(Drop)]\nenum Large {\n")?;
+    for number in 0..40u32 {
+        let line = format!(in alloc; "    V{number}(u32, String, u8),\n")?;
+        source.push_str(line.as_str())?;
+    }
+    source.push_str("}\n")?;
+    Ok(source)
+}
+
+#[test]
+fn writes_any_number_of_variants(rt: HostRuntime) -> Result<(), Fail> {
+    let source = forty(rt.alloc())?;
+    let module = module_of(rt.alloc(), &ORIGIN, source.as_str())?;
+    for expected in [
+        "type LargeV39Part = (u32, String, u8);\n",
+        "        (or_else 39 ⟦<LargeV39Part as Wire>⟧.its\n        no_more",
+        "        (by (λ p. V39 p.0 p.1 p.2)\n",
+        "            39 => match decode_part::<Context, Large, LargeV39Part, D>(tag, 39, decoder) {\n",
+        "            _ => decode_no_variant(tag, 39, decoder),\n",
+    ] {
+        assert!(rt; module.as_str().contains(expected), "{module}");
+    }
+    Ok(())
+}

@@ -1,0 +1,6 @@
+//! Types of a user's own in forms that `examples` does not have, with the `impl`s that the program `derive` wrote.
+#![tactic(auto)]
+
+pub mod enums;
+pub mod packets;
+pub mod replies;

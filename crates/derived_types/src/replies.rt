@@ -1,0 +1,11 @@
+//! An enum with a type parameter.
+
+mod words;
+
+/// What was asked for, or why it is not there.
+#[derive(Debug, Drop, PartialEq)]
+pub enum Reply<T> {
+    Nothing,
+    Found(T),
+    Refused { code: u16, reason: String },
+}

@@ -1,0 +1,10 @@
+//! An enum with type parameters.
+
+mod words;
+
+/// One of two.
+#[derive(Debug, Drop, PartialEq)]
+pub enum Either<L, R> {
+    Left(L),
+    Right(R),
+}
