@@ -2,7 +2,7 @@
 
 use bincode::de::BorrowDecode;
 use bincode::error::DecodeError;
-use bincode::{borrow_decode_from_slice, config, encode_into_slice};
+use bincode::{NoVariants, borrow_decode_from_slice, config, encode_into_slice};
 use callers::borrowed::{borrow_pair, read_twice};
 use examples::code::Code;
 use examples::even::Even;
@@ -62,7 +62,7 @@ fn borrows_types_that_own(rt: HostRuntime) {
     );
     assert!(rt;
         matches!(
-            borrowed::<Never>(alloc, &[]),
+            borrowed::<NoVariants<Never>>(alloc, &[]),
             Err(DecodeError::EmptyEnum { .. })
         )
     );

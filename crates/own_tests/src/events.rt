@@ -1,8 +1,9 @@
 //! An enum of one part or none for each variant, by a limit, and what is told of a tag that has none.
 
 use bincode::config::{self, Config};
-use bincode::de::{BorrowDecode, Decode};
+use bincode::de::{BorrowDecode, Decode, Named};
 use bincode::error::DecodeError;
+use bincode::short_text::TypeName;
 use bincode::{NoOther, OneOf, Or, borrow_decode_from_slice};
 use examples::code::Code;
 use examples::event::Event;
@@ -10,8 +11,17 @@ use std::alloc::Global;
 use test_helpers::checks::{decoded, is_passed};
 use test_helpers::rows::first_wrong;
 
+/// By which errors name the variants below.
+struct OwnedEvent;
+
+impl Named for OwnedEvent {
+    fn type_name() -> TypeName {
+        TypeName::new("Event")
+    }
+}
+
 /// The variants of an event whose text is owned.
-type Owned = OneOf<Or<0, (), Or<1, u32, Or<2, String, NoOther<Event<'static>>>>>>;
+type Owned = OneOf<Or<0, (), Or<1, u32, Or<2, String, NoOther<OwnedEvent>>>>>;
 
 /// The code 5.
 static STOP: [u8; 2] = [1, 5];
