@@ -4,3 +4,5 @@
 pub mod enums;
 pub mod packets;
 pub mod replies;
+pub mod tags;
+pub mod turns;

@@ -2,9 +2,11 @@
 
 use bincode::error::DecodeError;
 use bincode::{borrow_decode_from_slice, config, encode_into_slice};
-use derived_types::enums::{Figure, Mixed, Side, Status, Turn};
+use derived_types::enums::{Figure, Side};
 use derived_types::packets::Packet;
 use derived_types::replies::Reply;
+use derived_types::tags::{Mixed, Status};
+use derived_types::turns::Turn;
 use std::alloc::Global;
 use test_helpers::checks::{fault_of, keeps};
 use test_helpers::rows::first_wrong;

@@ -1,0 +1,326 @@
+//! What the types of `tags.rt` are written as. Made from that file by the program `derive`, and not edited: run
+//! `derive` on the file again where its types change.
+
+use super::*;
+use bincode::de::{Decode, Decoder, OneByOne};
+use bincode::enc::{Encode, Encoder};
+use bincode::enums::{
+    DecodeVariants, Enum, Sum, canonical_by_variants, decode_by_tag, decode_part,
+    decode_unlisted_variant, encode_variant, enum_claim, exact_by_variants, plain_by_variants,
+};
+use bincode::error::{DecodeError, EncodeError};
+use bincode::laws::{Canonical, Exact, Plain};
+use bincode::short_text::TypeName;
+use bincode::{NoOther, Or, Wire};
+
+type StatusContinuePart = ();
+
+type StatusFinePart = ();
+
+type StatusMovedPart = ();
+
+type StatusNotFoundPart = ();
+
+type StatusBrokenPart = ();
+
+type StatusParts = Or<
+    100,
+    StatusContinuePart,
+    Or<
+        200,
+        StatusFinePart,
+        Or<
+            301,
+            StatusMovedPart,
+            Or<404, StatusNotFoundPart, Or<500, StatusBrokenPart, NoOther<Status>>>,
+        >,
+    >,
+>;
+
+impl Sum<StatusParts> for Status {
+    ghost use Rattle.bincode.specs.Sums.{this, other};
+    ghost use Rattle.bincode.specs.EnumWords.{by, no_more, or_else};
+    ghost use Rattle.derived_types.specs.declared.tags.Status.TheVariants.{Continue, Fine, Moved};
+    ghost use Rattle.derived_types.specs.declared.tags.Status.TheVariants.{NotFound, Broken};
+
+    ghost variants = { or_else 100 ⟦<StatusContinuePart as Wire>⟧.its
+        (or_else 200 ⟦<StatusFinePart as Wire>⟧.its
+        (or_else 301 ⟦<StatusMovedPart as Wire>⟧.its
+        (or_else 404 ⟦<StatusNotFoundPart as Wire>⟧.its
+        (or_else 500 ⟦<StatusBrokenPart as Wire>⟧.its
+        no_more)))) };
+
+    ghost parts = { elim [
+      | Continue ↦ this tt
+      | Fine ↦ other (this tt)
+      | Moved ↦ other (other (this tt))
+      | NotFound ↦ other (other (other (this tt)))
+      | Broken ↦ other (other (other (other (this tt))))
+    ] };
+
+    ghost made = { by (λ p. Continue)
+        (by (λ p. Fine)
+        (by (λ p. Moved)
+        (by (λ p. NotFound)
+        (by (λ p. Broken)
+        (λ n. elim (n.0) [ ]))))) };
+}
+
+impl Wire for Status {
+    ghost use Rattle.bincode.specs.EnumWords.{enum_words};
+
+    ghost its = { enum_words ⟦<Status as Sum<StatusParts>>⟧.variants ⟦<Status as Sum<StatusParts>>⟧.parts };
+
+    fn claim_size() -> usize {
+        let widest = StatusBrokenPart::claim_size().max(0);
+        let widest = StatusNotFoundPart::claim_size().max(widest);
+        let widest = StatusMovedPart::claim_size().max(widest);
+        let widest = StatusFinePart::claim_size().max(widest);
+        let widest = StatusContinuePart::claim_size().max(widest);
+        enum_claim(widest)
+    }
+}
+
+impl Enum for Status {
+    ghost use Rattle.std.specs.Prelude.{refl};
+    ghost use Rattle.bincode.specs.EnumWords.{enum_laws, enum_variants};
+    ghost use Rattle.derived_types.specs.declared.tags.Status.TheVariants.{Continue, Fine, Moved};
+    ghost use Rattle.derived_types.specs.declared.tags.Status.TheVariants.{NotFound, Broken};
+
+    ghost choices = { enum_variants ⟦<Status as Sum<StatusParts>>⟧.variants ⟦<Status as Sum<StatusParts>>⟧.made };
+
+    fn type_name() -> TypeName {
+        TypeName::new("Status")
+    }
+
+    ghost laws = { enum_laws ⟦<Status as Sum<StatusParts>>⟧.variants ⟦<Status as Sum<StatusParts>>⟧.parts
+        ⟦<Status as Sum<StatusParts>>⟧.made (elim [
+          | Continue ↦ refl
+          | Fine ↦ refl
+          | Moved ↦ refl
+          | NotFound ↦ refl
+          | Broken ↦ refl
+        ]) };
+}
+
+impl Plain for Status {
+    fn tell_plain() {
+        StatusContinuePart::tell_plain();
+        StatusFinePart::tell_plain();
+        StatusMovedPart::tell_plain();
+        StatusNotFoundPart::tell_plain();
+        StatusBrokenPart::tell_plain();
+        plain_by_variants::<Status>();
+    }
+}
+
+impl Exact for Status {
+    fn tell_exact() {
+        StatusContinuePart::tell_exact();
+        StatusFinePart::tell_exact();
+        StatusMovedPart::tell_exact();
+        StatusNotFoundPart::tell_exact();
+        StatusBrokenPart::tell_exact();
+        exact_by_variants::<Status>();
+    }
+}
+
+impl Canonical for Status {
+    fn tell_canonical() {
+        StatusContinuePart::tell_canonical();
+        StatusFinePart::tell_canonical();
+        StatusMovedPart::tell_canonical();
+        StatusNotFoundPart::tell_canonical();
+        StatusBrokenPart::tell_canonical();
+        canonical_by_variants::<Status>();
+    }
+}
+
+impl Encode for Status {
+    fn tell_valid(&self) {}
+
+    fn encode<E: Encoder>(&self, encoder: &mut E) -> Result<(), EncodeError> {
+        match self {
+            Status::Continue => encode_variant(self, 100, &(), encoder),
+            Status::Fine => encode_variant(self, 200, &(), encoder),
+            Status::Moved => encode_variant(self, 301, &(), encoder),
+            Status::NotFound => encode_variant(self, 404, &(), encoder),
+            Status::Broken => encode_variant(self, 500, &(), encoder),
+        }
+    }
+}
+
+impl<Context: Drop> DecodeVariants<Context> for Status {
+    fn decode_variant<D: Decoder<Context = Context>>(
+        tag: u32,
+        decoder: &mut D,
+    ) -> Result<Status, DecodeError> {
+        match tag {
+            100 => match decode_part::<Context, Status, StatusContinuePart, D>(tag, 100, decoder) {
+                Ok(()) => Ok(Status::Continue),
+                Err(error) => Err(error),
+            },
+            200 => match decode_part::<Context, Status, StatusFinePart, D>(tag, 200, decoder) {
+                Ok(()) => Ok(Status::Fine),
+                Err(error) => Err(error),
+            },
+            301 => match decode_part::<Context, Status, StatusMovedPart, D>(tag, 301, decoder) {
+                Ok(()) => Ok(Status::Moved),
+                Err(error) => Err(error),
+            },
+            404 => match decode_part::<Context, Status, StatusNotFoundPart, D>(tag, 404, decoder) {
+                Ok(()) => Ok(Status::NotFound),
+                Err(error) => Err(error),
+            },
+            500 => match decode_part::<Context, Status, StatusBrokenPart, D>(tag, 500, decoder) {
+                Ok(()) => Ok(Status::Broken),
+                Err(error) => Err(error),
+            },
+            _ => decode_unlisted_variant(tag, &[100, 200, 301, 404, 500], decoder),
+        }
+    }
+}
+
+impl<Context: Drop> Decode<Context> for Status {
+    type Run = OneByOne;
+
+    fn decode<D: Decoder<Context = Context>>(decoder: &mut D) -> Result<Status, DecodeError> {
+        decode_by_tag(decoder)
+    }
+}
+
+type MixedThirdPart = ();
+
+type MixedFirstPart = ();
+
+type MixedSecondPart = ();
+
+type MixedParts = Or<
+    3,
+    MixedThirdPart,
+    Or<1, MixedFirstPart, Or<2, MixedSecondPart, NoOther<Mixed>>>,
+>;
+
+impl Sum<MixedParts> for Mixed {
+    ghost use Rattle.bincode.specs.Sums.{this, other};
+    ghost use Rattle.bincode.specs.EnumWords.{by, no_more, or_else};
+    ghost use Rattle.derived_types.specs.declared.tags.Mixed.TheVariants.{Third, First, Second};
+
+    ghost variants = { or_else 3 ⟦<MixedThirdPart as Wire>⟧.its
+        (or_else 1 ⟦<MixedFirstPart as Wire>⟧.its
+        (or_else 2 ⟦<MixedSecondPart as Wire>⟧.its
+        no_more)) };
+
+    ghost parts = { elim [
+      | Third ↦ this tt
+      | First ↦ other (this tt)
+      | Second ↦ other (other (this tt))
+    ] };
+
+    ghost made = { by (λ p. Third)
+        (by (λ p. First)
+        (by (λ p. Second)
+        (λ n. elim (n.0) [ ]))) };
+}
+
+impl Wire for Mixed {
+    ghost use Rattle.bincode.specs.EnumWords.{enum_words};
+
+    ghost its = { enum_words ⟦<Mixed as Sum<MixedParts>>⟧.variants ⟦<Mixed as Sum<MixedParts>>⟧.parts };
+
+    fn claim_size() -> usize {
+        let widest = MixedSecondPart::claim_size().max(0);
+        let widest = MixedFirstPart::claim_size().max(widest);
+        let widest = MixedThirdPart::claim_size().max(widest);
+        enum_claim(widest)
+    }
+}
+
+impl Enum for Mixed {
+    ghost use Rattle.std.specs.Prelude.{refl};
+    ghost use Rattle.bincode.specs.EnumWords.{enum_laws, enum_variants};
+    ghost use Rattle.derived_types.specs.declared.tags.Mixed.TheVariants.{Third, First, Second};
+
+    ghost choices = { enum_variants ⟦<Mixed as Sum<MixedParts>>⟧.variants ⟦<Mixed as Sum<MixedParts>>⟧.made };
+
+    fn type_name() -> TypeName {
+        TypeName::new("Mixed")
+    }
+
+    ghost laws = { enum_laws ⟦<Mixed as Sum<MixedParts>>⟧.variants ⟦<Mixed as Sum<MixedParts>>⟧.parts
+        ⟦<Mixed as Sum<MixedParts>>⟧.made (elim [
+          | Third ↦ refl
+          | First ↦ refl
+          | Second ↦ refl
+        ]) };
+}
+
+impl Plain for Mixed {
+    fn tell_plain() {
+        MixedThirdPart::tell_plain();
+        MixedFirstPart::tell_plain();
+        MixedSecondPart::tell_plain();
+        plain_by_variants::<Mixed>();
+    }
+}
+
+impl Exact for Mixed {
+    fn tell_exact() {
+        MixedThirdPart::tell_exact();
+        MixedFirstPart::tell_exact();
+        MixedSecondPart::tell_exact();
+        exact_by_variants::<Mixed>();
+    }
+}
+
+impl Canonical for Mixed {
+    fn tell_canonical() {
+        MixedThirdPart::tell_canonical();
+        MixedFirstPart::tell_canonical();
+        MixedSecondPart::tell_canonical();
+        canonical_by_variants::<Mixed>();
+    }
+}
+
+impl Encode for Mixed {
+    fn tell_valid(&self) {}
+
+    fn encode<E: Encoder>(&self, encoder: &mut E) -> Result<(), EncodeError> {
+        match self {
+            Mixed::Third => encode_variant(self, 3, &(), encoder),
+            Mixed::First => encode_variant(self, 1, &(), encoder),
+            Mixed::Second => encode_variant(self, 2, &(), encoder),
+        }
+    }
+}
+
+impl<Context: Drop> DecodeVariants<Context> for Mixed {
+    fn decode_variant<D: Decoder<Context = Context>>(
+        tag: u32,
+        decoder: &mut D,
+    ) -> Result<Mixed, DecodeError> {
+        match tag {
+            3 => match decode_part::<Context, Mixed, MixedThirdPart, D>(tag, 3, decoder) {
+                Ok(()) => Ok(Mixed::Third),
+                Err(error) => Err(error),
+            },
+            1 => match decode_part::<Context, Mixed, MixedFirstPart, D>(tag, 1, decoder) {
+                Ok(()) => Ok(Mixed::First),
+                Err(error) => Err(error),
+            },
+            2 => match decode_part::<Context, Mixed, MixedSecondPart, D>(tag, 2, decoder) {
+                Ok(()) => Ok(Mixed::Second),
+                Err(error) => Err(error),
+            },
+            _ => decode_unlisted_variant(tag, &[3, 1, 2], decoder),
+        }
+    }
+}
+
+impl<Context: Drop> Decode<Context> for Mixed {
+    type Run = OneByOne;
+
+    fn decode<D: Decoder<Context = Context>>(decoder: &mut D) -> Result<Mixed, DecodeError> {
+        decode_by_tag(decoder)
+    }
+}
