@@ -8,7 +8,7 @@ use derived_types::replies::Reply;
 use derived_types::tags::{Mixed, Status};
 use derived_types::turns::Turn;
 use std::alloc::Global;
-use test_helpers::checks::{fault_of, keeps};
+use test_helpers::checks::{fault_of, keeps, refuses_tag};
 use test_helpers::rows::first_wrong;
 
 #[test]
@@ -86,25 +86,9 @@ fn keeps_lent_bytes_that_may_be_missing(rt: HostRuntime) {
     assert!(rt; keeps_packet(alloc, &[7, 1, 2, 5, 6], Some(&[5, 6])));
 }
 
-/// Whether the tag 4 is refused of a type whose tags are 0 to 3, under this name.
-fn refuses_tag_four(alloc: Global) -> bool {
-    let Some(
-        DecodeError::UnexpectedVariant {
-            type_name,
-            found: 4,
-            min: 0,
-            max: 3,
-        },
-    ) = fault_of::<Figure>(alloc, &[4])
-    else {
-        return false;
-    };
-    type_name.as_str() == "Figure"
-}
-
 #[test]
 fn names_a_tag_that_no_variant_has(rt: HostRuntime) {
-    assert!(rt; refuses_tag_four(rt.alloc()));
+    assert!(rt; refuses_tag::<Figure>(rt.alloc(), 4, "Figure", 3));
 }
 
 #[test]
