@@ -3,7 +3,7 @@
 
 usage: refuse_each_allocation.py [--jobs N] [--most N] [--only WORD] [CRATE ..]
 
-CRATE is a crate with tests, and by default each of bincode_tests, device_tests, own_tests and shape_tests. --only leaves the
+CRATE is a crate with tests, and by default each of bincode_tests, device_tests, collection_tests and shape_tests. --only leaves the
 tests whose names have WORD in them, --most leaves the first N allocations of each test, and --jobs says how many run at once (2
 by default). It proves nothing.
 
@@ -30,7 +30,7 @@ import tempfile
 import time
 from pathlib import Path
 
-CRATES = ["bincode_tests", "device_tests", "own_tests", "shape_tests"]
+CRATES = ["bincode_tests", "device_tests", "collection_tests", "shape_tests"]
 
 # The calls of these tests take no memory: what builds configurations, the varint calls over a slice, the claims, the readers and
 # writers of a slice and the one that counts, encoding plain values into a slice, and decoding from a slice, owned what holds
@@ -71,7 +71,7 @@ WITHOUT_MEMORY = {
         "borrowed::lends_with_a_context",
         "borrowed::tells_faults_of_texts",
     ],
-    "own_tests": [
+    "collection_tests": [
         "tables::decodes_cases_without_memory",
         "limits::claims_before_it_reserves",
         "limits::reads_back_within_the_peak",
@@ -87,7 +87,7 @@ WITHOUT_MEMORY = {
 
 # Sets and maps of 12,000 in an order. Those of three and of 300 are kept by `maps::keeps_sets_and_maps` through the same calls, and
 # each allocation of that test is refused.
-SAMPLED = {"own_tests": ["maps::keeps_large_sets_and_maps"]}
+SAMPLED = {"collection_tests": ["maps::keeps_large_sets_and_maps"]}
 
 # How many allocations of a sampled test are refused from its first one on, how many up to its last one, and how many between.
 NEAR = 20

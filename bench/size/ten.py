@@ -42,11 +42,11 @@ def declared(name, parts, derived):
 
 PORT_TYPES = """//! The types. Written by bench/size.
 
-use bincode::de::{Decode, Decoder, Named, OneByOne};
+use bincode::de::{Decode, Decoder, Named, Sequential};
 use bincode::enc::{Encode, Encoder, encode_variant};
 use bincode::error::{DecodeError, EncodeError};
 use bincode::short_text::TypeName;
-use bincode::{MadeOf, NoOther, OneOf, Or, Wire};
+use bincode::{EnumOf, HasParts, NoMoreVariants, VariantOf, Wire};
 use std::collections::BTreeMap;
 """
 
@@ -88,10 +88,10 @@ def calls(argument, types):
 def port_type(name, parts):
     text = declared(name, parts, "#[derive(Drop)]\n")
     if is_enum(parts):
-        made = f"NoOther<{name}>"
+        made = f"NoMoreVariants<{name}>"
         for tag, held in reversed(list(enumerate(parts.values()))):
-            made = f"Or<{tag}, {tuple_of(held) if held else '()'}, {made}>"
-        text += f"\ntype {name}Parts = OneOf<{made}>;\n"
+            made = f"VariantOf<{tag}, {tuple_of(held) if held else '()'}, {made}>"
+        text += f"\ntype {name}Parts = EnumOf<{made}>;\n"
         shown = []
         for tag, (variant, held) in enumerate(parts.items()):
             word = f"this {tuple_of(names(held)) if held else 'tt'}"
@@ -109,9 +109,9 @@ def port_type(name, parts):
             told.append(f"            {patterns[variant]} => {tuple_of(names(held)) + '.tell_valid(),' if held else '{}'}\n")
             lent = {0: "&()", 1: "part0"}.get(len(held), f"&{tuple_of(names(held))}" if held else "")
             written.append(f"            {patterns[variant]} => encode_variant(self, {tag}, {lent}, encoder),\n")
-            found = f"Or::This({tuple_of(names(held)) if held else '()'})"
+            found = f"VariantOf::This({tuple_of(names(held)) if held else '()'})"
             for _ in range(tag):
-                found = f"Or::Other({found})"
+                found = f"VariantOf::Other({found})"
             read.append(f"            {found} => {patterns[variant]},\n")
         told = f"match self {{\n{''.join(told)}        }}"
         written = f"match self {{\n{''.join(written)}        }}"
@@ -130,14 +130,14 @@ impl Named for {name} {{
         told, written = f"{lent}.tell_valid();", f"{lent}.encode(encoder)"
         read = f"let ({', '.join(parts)}): {name}Parts = Decode::decode(decoder)?;\n        Ok({name} {{ {', '.join(parts)} }})"
     return text + f"""
-impl MadeOf<{name}Parts> for {name} {{
+impl HasParts<{name}Parts> for {name} {{
 {uses}    ghost parts = {shown};
 }}
 
 impl Wire for {name} {{
     ghost use Rattle.bincode.specs.TypeWords.{{words_by}};
 
-    ghost its = {{ words_by ⟦<{name}Parts as Wire>⟧.its ⟦<{name} as MadeOf<{name}Parts>>⟧.parts }};
+    ghost words = {{ words_by ⟦<{name}Parts as Wire>⟧.words ⟦<{name} as HasParts<{name}Parts>>⟧.parts }};
 
     fn claim_size() -> usize {{
         {name}Parts::claim_size()
@@ -155,7 +155,7 @@ impl Encode for {name} {{
 }}
 
 impl<Context: Drop> Decode<Context> for {name} {{
-    type Run = OneByOne;
+    type Run = Sequential;
 
     fn decode<D: Decoder<Context = Context>>(decoder: &mut D) -> Result<{name}, DecodeError> {{
         {read}

@@ -2,7 +2,7 @@
 use Rattle.std.specs.Prelude.{◌≡◌, ℕ, List, []}
 use Rattle.bincode_base.specs.declared.error.EncodeError.{EncodeError}
 use Rattle.bincode_io.specs.declared.room_counter.RoomCounter.{RoomCounter}
-use Rattle.bincode_format.specs.Encoding.{Halts, by_writer, by_name}
+use Rattle.bincode_spec.specs.Encoding.{EncodeFailure, by_writer, by_name}
 
 -- what a room counter adds; it refuses nothing
 abbrev pub Counted : RoomCounter → List ℕ → RoomCounter → Type 0
@@ -13,6 +13,6 @@ Uncounted a piece e b = ⊥
 
 -- only for an error that the type names
 pub halted-named : (A : List ℕ → Type 0) (N : EncodeError → Type 0) (e : EncodeError) (before after : RoomCounter) →
-    Halts Counted Uncounted A N before after e → N e
+    EncodeFailure Counted Uncounted A N before after e → N e
 halted-named A N e before after (by_writer front piece middle h r b) = absurd r
 halted-named A N e before after (by_name front h n b) = n

@@ -5,8 +5,8 @@ use Rattle.bincode_base.specs.declared.error.EncodeError.{EncodeError}
 use Rattle.bincode_io.specs.declared.room_counter.RoomCounter.{RoomCounter}
 use Rattle.bincode_io.specs.declared.room_writer.RoomWriter.{RoomWriter}
 use Rattle.bincode_io.specs.Rooms.{refused_by, RoomAdds, RoomRefuses}
-use Rattle.bincode_format.specs.Allowed.{OneLength}
-use Rattle.bincode_format.specs.Encoding.{Ready, Writes, Begins, Halts, by_writer, by_name}
+use Rattle.bincode_spec.specs.Allowed.{OneLength}
+use Rattle.bincode_spec.specs.Encoding.{Ready, Writes, Begins, EncodeFailure, by_writer, by_name}
 use Rattle.bincode.proofs.Counted.{Counted}
 
 module _ (A : List ℕ → Type 0) (one : OneLength A) (empty : A []) where
@@ -20,7 +20,7 @@ module _ (A : List ℕ → Type 0) (one : OneLength A) (empty : A []) where
       omega arith
 
   -- so a room writer refuses nothing
-  pub room-empty : (N : EncodeError → Type 0) (before after : RoomWriter) (e : EncodeError) → Halts RoomAdds RoomRefuses A N before after e →
+  pub room-empty : (N : EncodeError → Type 0) (before after : RoomWriter) (e : EncodeError) → EncodeFailure RoomAdds RoomRefuses A N before after e →
       refused_by before ≡ false → refused_by after ≡ true → ⊥
   room-empty N before after e (by_writer front piece middle h r b) start full = none-begins front piece b r.3
   room-empty N before after e (by_name front h n b) start full = absurd (cc)

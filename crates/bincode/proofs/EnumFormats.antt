@@ -5,10 +5,10 @@ use Rattle.std.specs.declared.vec.Vec.{Vec}
 use Rattle.std.proofs.Common.{◌∙◌, ap, sym, subst, arith}
 use Rattle.std.proofs.lemmas.List.{length-append}
 use Rattle.bincode_base.specs.Setting.{Setting}
-use Rattle.bincode_format.specs.Allowed.{WrittenAlike}
-use Rattle.bincode_format.specs.Format.{Format}
-use Rattle.bincode_format.specs.Meaning.{Meaning}
-use Rattle.bincode_format.specs.Words.{Variant, chosen, tag}
+use Rattle.bincode_spec.specs.Allowed.{WrittenAlike}
+use Rattle.bincode_spec.specs.Format.{Format}
+use Rattle.bincode_spec.specs.Meaning.{Meaning}
+use Rattle.bincode_spec.specs.Words.{Variant, tag_then_part, tag}
 use Rattle.bincode_shape.specs.declared.shape.Shape as shapes
 use Rattle.bincode_shape.specs.declared.shape.Shape.{Shape}
 use Rattle.bincode_shape.specs.Shapes.{format_of, one_of, numbered}
@@ -56,12 +56,12 @@ all-same s n (p ∷ ps) (w ∷ ws) e h = (h.0, h.1, all-same s (n + 1) ps ws (om
 
 -- the shapes of all variants
 pub all-first : (number : ℕ) (v : Vec Shape Global) (variants : List Variant) (G : Setting → Format Meaning) → DescribesFirst number v.items variants →
-    length variants ≡ number → 0 < number → (s : Setting) → (G s).read ≡ (chosen tag variants s).read → WrittenAlike (G s) (chosen tag variants s) →
+    length variants ≡ number → 0 < number → (s : Setting) → (G s).read ≡ (tag_then_part tag variants s).read → WrittenAlike (G s) (tag_then_part tag variants s) →
     SameWords (format_of (shapes.Choice v) s) (G s)
 all-first number v variants G d all some s read written = rw (formats_of-vec v) (same-then
     (whole v.items variants (omega (arith, some, d.0)) (all-same s 0 v.items variants (all ∙ sym d.0) (d.1 s)))
     (record { read = sym read; written = (written.1, written.0) })) where
       whole : (parts : List Shape) (variants : List Variant) → 0 < length parts → SameVariants s (numbered 0 (formats parts)) variants →
-          SameWords (one_of (numbered 0 (formats parts)) s) (chosen tag variants s)
+          SameWords (one_of (numbered 0 (formats parts)) s) (tag_then_part tag variants s)
       whole [] variants some h = absurd (omega (arith, some))
       whole (p ∷ ps) variants some h = chosen-same tag s _ _ h

@@ -3,9 +3,9 @@ use Rattle.std.specs.Prelude.{◌⊎◌, ◌≤◌, ◌++◌, ℕ, List, Option,
 use Rattle.std.proofs.Common.{inl, inr, arith}
 use Rattle.std.specs.Borrow.{GName}
 use Rattle.bincode_base.specs.declared.error.EncodeError.{EncodeError}
-use Rattle.bincode_format.specs.Allowed.{OneLength}
-use Rattle.bincode_format.specs.Device.{Rose, TooLong, WithinRoom, TakesRoom, WriterFails}
-use Rattle.bincode_format.specs.Encoding.{Adds, Refuses, Ready, Begins, Halts, by_writer, by_name, Encodes, FitsRoom}
+use Rattle.bincode_spec.specs.Allowed.{OneLength}
+use Rattle.bincode_spec.specs.Device.{Rose, TooLong, WithinRoom, TakesRoom, WriterFails}
+use Rattle.bincode_spec.specs.Encoding.{Adds, Refuses, Ready, Begins, EncodeFailure, by_writer, by_name, Encodes, FitsRoom}
 use Rattle.bincode_io.specs.RoomLaws.{too_long-behind, not-within, within-same}
 
 -- a failure behind what was added is one of the whole call
@@ -31,7 +31,7 @@ module _ {W : Type 0} (adds : Adds W) (refuses : Refuses W) (room : W → Option
   refused-why front piece middle e h b (inl long) = inr (inr (front ++ piece, b, too_long-behind (room before) (room middle) front piece (adds_room before middle front h) long))
   refused-why front piece middle e h b (inr fails) = inr (inl (fails-behind device (failures before) (failures middle) (failures after) e (adds_count before middle front h) fails))
 
-  halted-why : (e : EncodeError) → Halts adds refuses (Ready R A) N before after e → Why e
+  halted-why : (e : EncodeError) → EncodeFailure adds refuses (Ready R A) N before after e → Why e
   halted-why e (by_writer front piece middle h r b) = refused-why front piece middle e h b (refuses_why middle after piece e r)
   halted-why e (by_name front h n b) = inl n
 
@@ -43,9 +43,9 @@ module _ {W : Type 0} (adds : Adds W) (refuses : Refuses W) (room : W → Option
   within-fails e one none word a fits (inr (inr t)) =
       let m = t.1 word a in absurd (not-within (room before) t.0 m.0 word (one word (t.0 ++ m.0) a m.1) t.2 fits)
 
-  pub fits-room : (place : W → List GName) (result : Result (Unit {0}) EncodeError) → Encodes adds refuses (λ w. w) place R A N result before after →
+  pub fits-room : (loans : W → List GName) (result : Result (Unit {0}) EncodeError) → Encodes adds refuses (λ w. w) loans R A N result before after →
       FitsRoom (Ready R A) N (WriterFails device (failures before) (failures after)) (room before) result
-  fits-room place (Ok v) h =
+  fits-room loans (Ok v) h =
       let w = h.ok in record {
         short = tt;
         exact = λ one none word a. (
@@ -53,5 +53,5 @@ module _ {W : Type 0} (adds : Adds W) (refuses : Refuses W) (room : W → Option
           λ fits. tt,
         );
       }
-  fits-room place (Err e) h =
+  fits-room loans (Err e) h =
       let why = halted-why e h.err in record { short = why; exact = λ one none word a. (tt, λ fits. within-fails e one none word a fits why) }

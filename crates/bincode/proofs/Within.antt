@@ -4,31 +4,31 @@ use Rattle.std.proofs.Common.{◌∙◌, ap, sym, subst, arith, inl, inr, refl}
 use Rattle.bincode_base.specs.Setting.{Setting}
 use Rattle.bincode_base.specs.declared.error.DecodeError.{DecodeError}
 use Rattle.bincode_base.specs.declared.error.DecodeError.TheVariants.{LimitExceeded}
-use Rattle.bincode_format.specs.Charge.{Step}
-use Rattle.bincode_format.specs.Decoding.{IsRefused}
-use Rattle.bincode_format.specs.Fault.{Fault, Tells}
-use Rattle.bincode_format.specs.Format.{Format, Reading, Took}
-use Rattle.bincode_format.specs.Laws.{Lawful}
-use Rattle.bincode_format.specs.Meaning.{Meaning}
-use Rattle.bincode_format.specs.Slice.{Decoded, EndsSlice}
+use Rattle.bincode_spec.specs.Charge.{Step}
+use Rattle.bincode_spec.specs.Decoding.{IsRefused}
+use Rattle.bincode_spec.specs.Fault.{Fault, Tells}
+use Rattle.bincode_spec.specs.Format.{Format, Reading, Took}
+use Rattle.bincode_spec.specs.Laws.{Lawful}
+use Rattle.bincode_spec.specs.Meaning.{Meaning}
+use Rattle.bincode_spec.specs.Slice.{Decoded, EndsSlice}
 use Rattle.bincode_shape.specs.Counts.{values_in, count_of, capped, IsCounted}
 use Rattle.bincode_shape.specs.CountLaws.{image-counted}
 use Rattle.bincode_shape.specs.ShapeLaws.{format_of-lawful}
 use Rattle.bincode_shape.specs.Shapes.{format_of, IsImage}
 use Rattle.bincode_shape.specs.declared.shape.Shape.{Shape}
 use Rattle.bincode_shape.specs.declared.shape.Value.{Value}
-use Rattle.bincode_shaped.specs.Within.{IsTooMany, IsDecode}
-use Rattle.bincode_shaped.specs.declared.within.DecodeWithinError.TheVariants as errors
+use Rattle.bincode_shape_codec.specs.Within.{IsTooMany, IsDecode}
+use Rattle.bincode_shape_codec.specs.declared.within.DecodeWithinError.TheVariants as errors
 
 took-same : (a b : Meaning) (r q : List ℕ) (s t : List Step) → ◌≡◌ {A = Reading Meaning} (Took a r s) (Took b q t) → a ≡ b
 took-same a b r q s t e = cc
 
 -- an input begins with words of one meaning
-same-meaning : (F : Format Meaning) → Lawful F → (input word rest : List ℕ) (m : Meaning) (steps : List Step) → input ≡ word ++ rest → F.Word word m steps →
-    (limit : Option ℕ) (Given : Meaning → Type 0) (n : ℕ) (d : Decoded F limit input Given n) → d.meaning ≡ m
-same-meaning F f input word rest m steps i w limit Given n d =
-    took-same d.meaning m d.rest rest d.steps steps
-    (sym (f.word_read d.word d.rest d.meaning d.steps d.is_word) ∙ ap (λ z. F.read z) (sym d.input_is ∙ i) ∙ f.word_read word rest m steps w)
+same-meaning : (F : Format Meaning) → Lawful F → (input word remaining : List ℕ) (m : Meaning) (steps : List Step) → input ≡ word ++ remaining → F.Word word m steps →
+    (limit : Option ℕ) (DecodesTo : Meaning → Type 0) (n : ℕ) (d : Decoded F limit input DecodesTo n) → d.meaning ≡ m
+same-meaning F f input word remaining m steps i w limit DecodesTo n d =
+    took-same d.meaning m d.remaining remaining d.steps steps
+    (sym (f.word_read d.word d.remaining d.meaning d.steps d.is_word) ∙ ap (λ z. F.read z) (sym d.input_is ∙ i) ∙ f.word_read word remaining m steps w)
 
 few : (values k most : ℕ) → values ≡ capped k → values ≤ most → most < 2 ^ 64 → k ≤ most
 few values k most e h small = omega (arith, e, h, small)
@@ -37,38 +37,38 @@ more : (values k most : ℕ) → values ≡ capped k → most < values → most 
 more values k most e h = omega (arith, e, h)
 
 module _ (shape : Shape) (s : Setting) (limit : Option ℕ) (input : List ℕ) (values n most : ℕ) (d : Decoded (format_of shape s) limit input (λ m. IsCounted shape m values) n) where
-  its-count : (word rest : List ℕ) (m : Meaning) (steps : List Step) → input ≡ word ++ rest → (format_of shape s).Word word m steps → values ≡ capped (count_of shape m)
-  its-count word rest m steps i w =
-      d.is_given ∙ ap (λ z. capped (count_of shape z)) (same-meaning (format_of shape s) (format_of-lawful shape s) input word rest m steps i w limit (λ k. IsCounted shape k values) n d)
+  its-count : (word remaining : List ℕ) (m : Meaning) (steps : List Step) → input ≡ word ++ remaining → (format_of shape s).Word word m steps → values ≡ capped (count_of shape m)
+  its-count word remaining m steps i w =
+      d.is_decoded ∙ ap (λ z. capped (count_of shape z)) (same-meaning (format_of shape s) (format_of-lawful shape s) input word remaining m steps i w limit (λ k. IsCounted shape k values) n d)
 
   -- of more values than are allowed
-  pub many-found : most < values → (word rest : List ℕ) (m : Meaning) (steps : List Step) → input ≡ word ++ rest → (format_of shape s).Word word m steps → count_of shape m ≤ most → ⊥
-  many-found over word rest m steps i w h = let k = more values (count_of shape m) most (its-count word rest m steps i w) over in omega (arith, k, h)
+  pub many-found : most < values → (word remaining : List ℕ) (m : Meaning) (steps : List Step) → input ≡ word ++ remaining → (format_of shape s).Word word m steps → count_of shape m ≤ most → ⊥
+  many-found over word remaining m steps i w h = let k = more values (count_of shape m) most (its-count word remaining m steps i w) over in omega (arith, k, h)
 
-  pub many-refused : (word rest : List ℕ) (m : Meaning) (steps : List Step) → input ≡ word ++ rest → (format_of shape s).Word word m steps →
+  pub many-refused : (word remaining : List ℕ) (m : Meaning) (steps : List Step) → input ≡ word ++ remaining → (format_of shape s).Word word m steps →
       IsTooMany (capped (count_of shape m)) most (errors.TooManyValues values most)
-  many-refused word rest m steps i w = ap (λ z. errors.TooManyValues z most) (its-count word rest m steps i w)
+  many-refused word remaining m steps i w = ap (λ z. errors.TooManyValues z most) (its-count word remaining m steps i w)
 
   module _ (le : values ≤ most) (small : most < 2 ^ 64) where
     -- of no more
-    pub few-refused : (word rest : List ℕ) (m : Meaning) (steps : List Step) → input ≡ word ++ rest → (format_of shape s).Word word m steps → most < count_of shape m → ⊥
-    few-refused word rest m steps i w h = let k = few values (count_of shape m) most (its-count word rest m steps i w) le small in omega (arith, k, h)
+    pub few-refused : (word remaining : List ℕ) (m : Meaning) (steps : List Step) → input ≡ word ++ remaining → (format_of shape s).Word word m steps → most < count_of shape m → ⊥
+    few-refused word remaining m steps i w h = let k = few values (count_of shape m) most (its-count word remaining m steps i w) le small in omega (arith, k, h)
 
     pub few-word : (v : Value) (k : ℕ) → Decoded (format_of shape s) limit input (λ m. IsImage shape m v) k →
         Decoded (format_of shape s) limit input (λ m. IsImage shape m v × (values_in v ≤ most)) k
     few-word v k e = record {
       word = e.word;
-      rest = e.rest;
+      remaining = e.remaining;
       meaning = e.meaning;
       steps = e.steps;
       input_is = e.input_is;
       is_word = e.is_word;
       within = e.within;
       count = e.count;
-      is_given = (
-        e.is_given,
-        subst (λ z. z ≤ most) (image-counted shape e.meaning v e.is_given)
-            (few values (count_of shape e.meaning) most (its-count e.word e.rest e.meaning e.steps e.input_is e.is_word) le small),
+      is_decoded = (
+        e.is_decoded,
+        subst (λ z. z ≤ most) (image-counted shape e.meaning v e.is_decoded)
+            (few values (count_of shape e.meaning) most (its-count e.word e.remaining e.meaning e.steps e.input_is e.is_word) le small),
       );
     }
 

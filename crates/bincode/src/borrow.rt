@@ -1,12 +1,12 @@
 //! Decoding of values that may hold bytes of the slice that they are read from.
 ghost use Rattle.std.specs.Prelude.{◌≡◌, ◌≤◌, ℕ, IfOk, IfErr};
-ghost use Rattle.bincode_format.specs.Answer.{answer};
-ghost use Rattle.bincode_format.specs.Decoding.{Decodes, Stops};
-ghost use Rattle.bincode_format.specs.Slice.{Decoded, FindsWords, TellsFaults, KeepsLimit};
+ghost use Rattle.bincode_spec.specs.Answer.{answer};
+ghost use Rattle.bincode_spec.specs.Decoding.{Decodes, DecodeFailure};
+ghost use Rattle.bincode_spec.specs.Slice.{Decoded, FindsWords, TellsFaults, KeepsLimit};
 
 use bincode_base::config::Config;
 use bincode_base::error::DecodeError;
-use bincode_de::borrow_decode::BorrowDecode;
+use bincode_decode::borrow_decode::BorrowDecode;
 use bincode_decoder::decoder::LentDecoder;
 use bincode_io::read::{BorrowReader, SliceReader};
 use std::alloc::Global;
@@ -20,13 +20,14 @@ pub fn borrow_decode_from_slice<'a, D: BorrowDecode<&'a [u8], ()>, C: Config>(
     config: C,
 ) -> Result<(D, usize), DecodeError>
     // What is read is a word within the limit, of so many bytes, and the value is given for its meaning.
-    ensures word { IfOk result (λ x. Decoded (D.its.format C.setting) C.bound src.now (λ m. D.its.given m x.0) x.1) }
+    ensures word { IfOk result (λ x. Decoded (D.words.format C.setting) C.bound src.now (λ m. D.words.decodes_to m x.0)
+        x.1) }
     // Each word within the limit is read,
-    ensures found { FindsWords (D.its.format C.setting) C.bound D.its.grows src.now result }
+    ensures found { FindsWords (D.words.format C.setting) C.bound D.words.may_allocate src.now result }
     // each fault within the limit is told,
-    ensures fault { TellsFaults (D.its.format C.setting) C.bound D.its.grows src.now result }
+    ensures fault { TellsFaults (D.words.format C.setting) C.bound D.words.may_allocate src.now result }
     // and charges that pass the limit are refused.
-    ensures limit { KeepsLimit (D.its.format C.setting) C.bound D.its.grows src.now result }
+    ensures limit { KeepsLimit (D.words.format C.setting) C.bound D.words.may_allocate src.now result }
 {
     borrow_decode_from_slice_with_context(alloc, src, config, ())
 }
@@ -40,13 +41,14 @@ pub fn borrow_decode_from_slice_with_context<
     C: Config,
 >(alloc: Global, src: &'a [u8], config: C, context: Context) -> Result<(D, usize), DecodeError>
     // What is read is a word within the limit, of so many bytes, and the value is given for its meaning.
-    ensures word { IfOk result (λ x. Decoded (D.its.format C.setting) C.bound src.now (λ m. D.its.given m x.0) x.1) }
+    ensures word { IfOk result (λ x. Decoded (D.words.format C.setting) C.bound src.now (λ m. D.words.decodes_to m x.0)
+        x.1) }
     // Each word within the limit is read,
-    ensures found { FindsWords (D.its.format C.setting) C.bound D.its.grows src.now result }
+    ensures found { FindsWords (D.words.format C.setting) C.bound D.words.may_allocate src.now result }
     // each fault within the limit is told,
-    ensures fault { TellsFaults (D.its.format C.setting) C.bound D.its.grows src.now result }
+    ensures fault { TellsFaults (D.words.format C.setting) C.bound D.words.may_allocate src.now result }
     // and charges that pass the limit are refused.
-    ensures limit { KeepsLimit (D.its.format C.setting) C.bound D.its.grows src.now result }
+    ensures limit { KeepsLimit (D.words.format C.setting) C.bound D.words.may_allocate src.now result }
 {
     let mut context = context;
     let mut reader = SliceReader::new(src);
@@ -63,15 +65,15 @@ fn borrow_decode_with<
     R: BorrowReader<'a>,
     C: Config,
 >(alloc: Global, reader: &mut R, config: &C, context: &mut Context) -> Result<D, DecodeError>
-    ensures ok { R.told reader.old → IfOk result (λ v. (charge : ℕ)
-        × Decodes (λ m. D.its.given m v) (answer C.bound (D.its.format C.setting) (R.rest reader.old) 0)
-        (R.rest reader.new) charge) }
-    ensures err { R.told reader.old → IfErr result (λ e. (charge : ℕ) × Stops R.ended R.device D.its.grows
-        (answer C.bound (D.its.format C.setting) (R.rest reader.old) 0) (R.failures reader.old) (R.failures reader.new)
-        (R.rest reader.old) (R.rest reader.new) charge e) }
+    ensures ok { R.is_known reader.old → IfOk result (λ v. (charge : ℕ)
+        × Decodes (λ m. D.words.decodes_to m v) (answer C.bound (D.words.format C.setting) (R.remaining reader.old) 0)
+        (R.remaining reader.new) charge) }
+    ensures err { R.is_known reader.old → IfErr result (λ e. (charge : ℕ) × DecodeFailure R.end_error R.device
+        D.words.may_allocate (answer C.bound (D.words.format C.setting) (R.remaining reader.old) 0)
+        (R.failures reader.old) (R.failures reader.new) (R.remaining reader.old) (R.remaining reader.new) charge e) }
     ensures count { R.failures reader.old ≤ R.failures reader.new }
-    ensures told { R.told reader.old → R.told reader.new }
-    ensures place { R.place reader.new ≡ R.place reader.old }
+    ensures is_known { R.is_known reader.old → R.is_known reader.new }
+    ensures loans { R.loans reader.new ≡ R.loans reader.old }
 {
     let mut decoder = LentDecoder::new(alloc, reader, config, context);
     D::borrow_decode(&mut decoder)

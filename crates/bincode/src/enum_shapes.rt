@@ -1,7 +1,7 @@
 //! The shapes of enums that are written variant by variant.
 ghost use Rattle.std.specs.Prelude.{◌≡◌, ◌<◌, ◌+◌, ◌++◌, ◌∷◌, [], IfSome, length};
 ghost use Rattle.bincode_base.specs.Setting.{Setting};
-ghost use Rattle.bincode_format.specs.Words.{chosen, tag};
+ghost use Rattle.bincode_spec.specs.Words.{tag_then_part, tag};
 ghost use Rattle.bincode_shape.specs.declared.shape.Shape.{Shape};
 ghost use Rattle.bincode_described.specs.Describing.{Describes};
 ghost use Rattle.bincode.specs.EnumShapes.{DescribesFirst, IsVariant};
@@ -26,7 +26,7 @@ pub fn put_variant<T: Enum, A: Described>(
     shapes: Vec<Shape>,
 ) -> Option<Vec<Shape>>
     requires before { DescribesFirst number shapes.items T.choices.variants }
-    requires next { IsVariant number T.choices.variants number A.its.format }
+    requires next { IsVariant number T.choices.variants number A.words.format }
     ensures { IfSome result (λ put. DescribesFirst (number + 1) put.items T.choices.variants) }
 {
     put_shape::<A>(alloc, shapes)
@@ -37,8 +37,8 @@ pub fn describe_variants<T: Enum>(number: u32, shapes: Vec<Shape>) -> Shape
     requires each { DescribesFirst number shapes.items T.choices.variants }
     requires all { length T.choices.variants ≡ number }
     requires some { 0 < number }
-    requires words { (s : Setting) → (T.its.format s).read ≡ (chosen tag T.choices.variants s).read }
-    ensures { Describes result T.its }
+    requires words { (s : Setting) → (T.words.format s).read ≡ (tag_then_part tag T.choices.variants s).read }
+    ensures { Describes result T.words }
 {
     Shape::Choice(shapes)
 }
@@ -46,7 +46,7 @@ pub fn describe_variants<T: Enum>(number: u32, shapes: Vec<Shape>) -> Shape
 /// Puts the shape of a type behind these. `None` where memory is refused.
 fn put_shape<T: Described>(alloc: Global, shapes: Vec<Shape>) -> Option<Vec<Shape>>
     ensures { IfSome result (λ put. (part : Shape) × (put.items ≡ shapes.items ++ part ∷ [])
-        × Describes part T.its) }
+        × Describes part T.words) }
 {
     let mut shapes = shapes;
     shapes.push(T::shape(alloc)?).ok()?;

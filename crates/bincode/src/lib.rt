@@ -37,8 +37,8 @@ pub mod enums {
 
 /// Laws that some types keep, and what tells them of a type by its parts.
 pub mod laws {
-    pub use bincode_wire::laws::{Canonical, ConstantCharge, Exact, Inhabited, Plain, Writable};
-    pub use bincode_wire::written::{
+    pub use bincode_types::laws::{Canonical, ConstantCharge, Exact, Inhabited, Plain, Writable};
+    pub use bincode_types::has_parts::{
         canonical_by_parts, exact_by_fields, exact_by_parts, plain_by_parts, writable_by_parts,
     };
 }
@@ -46,7 +46,7 @@ pub mod laws {
 /// What proofs know of a type: what it is written as, and the laws that it keeps.
 pub mod model {
     pub use crate::laws::{Canonical, ConstantCharge, Exact, Inhabited, Plain, Writable};
-    pub use bincode_wire::wire::Wire;
+    pub use bincode_types::wire::Wire;
 }
 
 /// Types that are described at run time: their shapes, the images of their values, and what reads and writes them.
@@ -56,22 +56,22 @@ pub mod shape {
     pub use bincode_described::described::Described;
     pub use bincode_shape::fits::does_fit;
     pub use bincode_shape::shape::{Shape, Value};
-    pub use bincode_shaped::within::{DecodeWithinError, Measure};
+    pub use bincode_shape_codec::within::{DecodeWithinError, Measure};
 }
 
 pub use bincode_base::{config, error, short_text};
-pub use bincode_de::borrow_decode::BorrowDecode;
-pub use bincode_de::decode::Decode;
-pub use bincode_enc::encode::Encode;
+pub use bincode_decode::borrow_decode::BorrowDecode;
+pub use bincode_decode::decode::Decode;
+pub use bincode_encode::encode::Encode;
 pub use bincode_varint::varint;
-pub use bincode_wire::empty::NoVariants;
-pub use bincode_wire::lists::Items;
-pub use bincode_wire::own::{ffi, time};
-pub use bincode_wire::parted::{Parted, SameParts};
-pub use bincode_wire::passed::{Passed, Tested};
-pub use bincode_wire::sums::{NoOther, OneOf, Or};
-pub use bincode_wire::wire::Wire;
-pub use bincode_wire::written::MadeOf;
+pub use bincode_types::empty::NoVariants;
+pub use bincode_types::lists::Items;
+pub use bincode_types::own::{ffi, time};
+pub use bincode_types::by_parts::{ByParts, SameParts};
+pub use bincode_types::validated::{Validated, Validate};
+pub use bincode_types::sums::{NoMoreVariants, EnumOf, VariantOf};
+pub use bincode_types::wire::Wire;
+pub use bincode_types::has_parts::HasParts;
 pub use borrow::{borrow_decode_from_slice, borrow_decode_from_slice_with_context};
 pub use next::decode_next_from_std_read;
 pub use reader::decode_from_reader;

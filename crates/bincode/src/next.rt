@@ -1,14 +1,14 @@
 //! The next value of a stream, or its end.
 ghost use Rattle.std.specs.Prelude.{◌≡◌, ◌≢◌, ◌⊎◌, ◌↔◌, [], IsTrue, IsNone, IfSome, IfOk, IfErr, MatchResult};
 ghost use Rattle.std.specs.Io.KnownBytes.{Keeps};
-ghost use Rattle.bincode_format.specs.Decoding.{IsExcused, WordRead, Finds, TellsEach, KeepsWithin};
-ghost use Rattle.bincode_format.specs.Device.{Takes};
-ghost use Rattle.bincode_io.specs.Stream.{TellsBytes, known, EndsShort, IsIo, stream_errors};
+ghost use Rattle.bincode_spec.specs.Decoding.{IsExcused, WordRead, AcceptsAll, ReportsFault, EnforcesLimit};
+ghost use Rattle.bincode_spec.specs.Device.{Takes};
+ghost use Rattle.bincode_io.specs.Stream.{TellsBytes, known_bytes, EndsShort, IsIo, stream_errors};
 
 use crate::streams::decode_from_std_read;
 use bincode_base::config::Config;
 use bincode_base::error::{DecodeError, StreamError};
-use bincode_de::decode::Decode;
+use bincode_decode::decode::Decode;
 use std::alloc::Global;
 use std::io;
 use std::io::{BufRead, ErrorKind};
@@ -52,30 +52,30 @@ pub fn decode_next_from_std_read<D: Decode<()>, C: Config, R: BufRead>(
 ) -> Result<Option<D>, DecodeError>
     // Of a stream that tells its bytes: no value is answered exactly where no byte is left,
     ensures none { TellsBytes (R.remaining src.old) → IfOk result (λ next. IsNone next
-        ↔ (known (R.remaining src.old) ≡ [])) }
+        ↔ (known_bytes (R.remaining src.old) ≡ [])) }
     // and that it is, unless the stream failed.
-    ensures end { TellsBytes (R.remaining src.old) → known (R.remaining src.old) ≡ [] → MatchResult result
-        (λ _. known (R.remaining src.new) ≡ []) IsIo }
+    ensures end { TellsBytes (R.remaining src.old) → known_bytes (R.remaining src.old) ≡ [] → MatchResult result
+        (λ _. known_bytes (R.remaining src.new) ≡ []) IsIo }
     // What is taken is a word within the limit, and the value is given for it.
     ensures word { TellsBytes (R.remaining src.old) → IfOk result (λ next. IfSome next (λ v. WordRead
-        (D.its.format C.setting) C.bound (known (R.remaining src.old)) (known (R.remaining src.new))
-        (λ m. D.its.given m v))) }
+        (D.words.format C.setting) C.bound (known_bytes (R.remaining src.old)) (known_bytes (R.remaining src.new))
+        (λ m. D.words.decodes_to m v))) }
     // Where a byte is left, each word within the limit is read,
-    ensures found { TellsBytes (R.remaining src.old) → known (R.remaining src.old) ≢ []
-        → Finds (D.its.format C.setting) C.bound (IsExcused stream_errors D.its.grows 0 0)
-        (known (R.remaining src.old)) result }
+    ensures found { TellsBytes (R.remaining src.old) → known_bytes (R.remaining src.old) ≢ []
+        → AcceptsAll (D.words.format C.setting) C.bound (IsExcused stream_errors D.words.may_allocate 0 0)
+        (known_bytes (R.remaining src.old)) result }
     // each fault within the limit is told,
-    ensures fault { TellsBytes (R.remaining src.old) → known (R.remaining src.old) ≢ []
-        → TellsEach EndsShort (D.its.format C.setting) C.bound (IsExcused stream_errors D.its.grows 0 0)
-        (known (R.remaining src.old)) result }
+    ensures fault { TellsBytes (R.remaining src.old) → known_bytes (R.remaining src.old) ≢ []
+        → ReportsFault EndsShort (D.words.format C.setting) C.bound (IsExcused stream_errors D.words.may_allocate 0 0)
+        (known_bytes (R.remaining src.old)) result }
     // and charges that pass the limit are refused.
-    ensures limit { TellsBytes (R.remaining src.old) → known (R.remaining src.old) ≢ []
-        → KeepsWithin (D.its.format C.setting) C.bound (IsExcused stream_errors D.its.grows 0 0)
-        (known (R.remaining src.old)) result }
+    ensures limit { TellsBytes (R.remaining src.old) → known_bytes (R.remaining src.old) ≢ []
+        → EnforcesLimit (D.words.format C.setting) C.bound (IsExcused stream_errors D.words.may_allocate 0 0)
+        (known_bytes (R.remaining src.old)) result }
     // A failure leaves a rest of the bytes, unless the stream failed.
     ensures left { TellsBytes (R.remaining src.old) → IfErr result (λ e. IsIo e
-        ⊎ Takes (known (R.remaining src.old)) (known (R.remaining src.new))) }
-    ensures told { TellsBytes (R.remaining src.old) → TellsBytes (R.remaining src.new) }
+        ⊎ Takes (known_bytes (R.remaining src.old)) (known_bytes (R.remaining src.new))) }
+    ensures is_known { TellsBytes (R.remaining src.old) → TellsBytes (R.remaining src.new) }
 {
     match has_ended(src) {
         Ok(true) => Ok(None),

@@ -1,12 +1,13 @@
 //! Decoding from a reader.
 ghost use Rattle.std.specs.Prelude.{◌≡◌, ◌≤◌, ◌⊎◌, ℕ, IfOk, IfErr};
-ghost use Rattle.bincode_format.specs.Answer.{answer};
-ghost use Rattle.bincode_format.specs.Decoding.{Decodes, Stops, IsExcused, WordRead, Finds, TellsEach, KeepsWithin};
-ghost use Rattle.bincode_format.specs.Device.{Takes};
+ghost use Rattle.bincode_spec.specs.Answer.{answer};
+ghost use Rattle.bincode_spec.specs.Decoding.{Decodes, DecodeFailure, IsExcused, WordRead, AcceptsAll, ReportsFault};
+ghost use Rattle.bincode_spec.specs.Decoding.{EnforcesLimit};
+ghost use Rattle.bincode_spec.specs.Device.{Takes};
 
 use bincode_base::config::Config;
 use bincode_base::error::DecodeError;
-use bincode_de::decode::Decode;
+use bincode_decode::decode::Decode;
 use bincode_decoder::decoder::LentDecoder;
 use bincode_io::read::Reader;
 use std::alloc::Global;
@@ -20,23 +21,26 @@ pub fn decode_from_reader<D: Decode<()>, R: Reader, C: Config>(
     config: C,
 ) -> Result<D, DecodeError>
     // What is taken is a word within the limit, and the value is given for its meaning.
-    ensures word { R.told reader.old → IfOk result (λ v. WordRead (D.its.format C.setting) C.bound
-        (R.rest reader.old) (R.rest reader.new) (λ m. D.its.given m v)) }
+    ensures word { R.is_known reader.old → IfOk result (λ v. WordRead (D.words.format C.setting) C.bound
+        (R.remaining reader.old) (R.remaining reader.new) (λ m. D.words.decodes_to m v)) }
     // Each word within the limit is read,
-    ensures found { R.told reader.old → Finds (D.its.format C.setting) C.bound
-        (IsExcused R.device D.its.grows (R.failures reader.old) (R.failures reader.new)) (R.rest reader.old) result }
+    ensures found { R.is_known reader.old → AcceptsAll (D.words.format C.setting) C.bound
+        (IsExcused R.device D.words.may_allocate (R.failures reader.old) (R.failures reader.new))
+        (R.remaining reader.old) result }
     // each fault within the limit is told,
-    ensures fault { R.told reader.old → TellsEach R.ended (D.its.format C.setting) C.bound
-        (IsExcused R.device D.its.grows (R.failures reader.old) (R.failures reader.new)) (R.rest reader.old) result }
+    ensures fault { R.is_known reader.old → ReportsFault R.end_error (D.words.format C.setting) C.bound
+        (IsExcused R.device D.words.may_allocate (R.failures reader.old) (R.failures reader.new))
+        (R.remaining reader.old) result }
     // and charges that pass the limit are refused.
-    ensures limit { R.told reader.old → KeepsWithin (D.its.format C.setting) C.bound
-        (IsExcused R.device D.its.grows (R.failures reader.old) (R.failures reader.new)) (R.rest reader.old) result }
+    ensures limit { R.is_known reader.old → EnforcesLimit (D.words.format C.setting) C.bound
+        (IsExcused R.device D.words.may_allocate (R.failures reader.old) (R.failures reader.new))
+        (R.remaining reader.old) result }
     // A failure leaves a rest of the input, unless the device lost it.
-    ensures left { R.told reader.old → IfErr result (λ e. R.device.uncounted e
-        ⊎ Takes (R.rest reader.old) (R.rest reader.new)) }
+    ensures left { R.is_known reader.old → IfErr result (λ e. R.device.is_uncounted e
+        ⊎ Takes (R.remaining reader.old) (R.remaining reader.new)) }
     ensures count { R.failures reader.old ≤ R.failures reader.new }
-    ensures told { R.told reader.old → R.told reader.new }
-    ensures place { R.place reader.new ≡ R.place reader.old }
+    ensures is_known { R.is_known reader.old → R.is_known reader.new }
+    ensures loans { R.loans reader.new ≡ R.loans reader.old }
 {
     decode_from_reader_with(alloc, reader, &config, &mut ())
 }
@@ -48,19 +52,22 @@ pub(crate) fn decode_from_reader_with<Context: Drop, D: Decode<Context>, R: Read
     config: &C,
     context: &mut Context,
 ) -> Result<D, DecodeError>
-    ensures word { R.told reader.old → IfOk result (λ v. WordRead (D.its.format C.setting) C.bound
-        (R.rest reader.old) (R.rest reader.new) (λ m. D.its.given m v)) }
-    ensures found { R.told reader.old → Finds (D.its.format C.setting) C.bound
-        (IsExcused R.device D.its.grows (R.failures reader.old) (R.failures reader.new)) (R.rest reader.old) result }
-    ensures fault { R.told reader.old → TellsEach R.ended (D.its.format C.setting) C.bound
-        (IsExcused R.device D.its.grows (R.failures reader.old) (R.failures reader.new)) (R.rest reader.old) result }
-    ensures limit { R.told reader.old → KeepsWithin (D.its.format C.setting) C.bound
-        (IsExcused R.device D.its.grows (R.failures reader.old) (R.failures reader.new)) (R.rest reader.old) result }
-    ensures left { R.told reader.old → IfErr result (λ e. R.device.uncounted e
-        ⊎ Takes (R.rest reader.old) (R.rest reader.new)) }
+    ensures word { R.is_known reader.old → IfOk result (λ v. WordRead (D.words.format C.setting) C.bound
+        (R.remaining reader.old) (R.remaining reader.new) (λ m. D.words.decodes_to m v)) }
+    ensures found { R.is_known reader.old → AcceptsAll (D.words.format C.setting) C.bound
+        (IsExcused R.device D.words.may_allocate (R.failures reader.old) (R.failures reader.new))
+        (R.remaining reader.old) result }
+    ensures fault { R.is_known reader.old → ReportsFault R.end_error (D.words.format C.setting) C.bound
+        (IsExcused R.device D.words.may_allocate (R.failures reader.old) (R.failures reader.new))
+        (R.remaining reader.old) result }
+    ensures limit { R.is_known reader.old → EnforcesLimit (D.words.format C.setting) C.bound
+        (IsExcused R.device D.words.may_allocate (R.failures reader.old) (R.failures reader.new))
+        (R.remaining reader.old) result }
+    ensures left { R.is_known reader.old → IfErr result (λ e. R.device.is_uncounted e
+        ⊎ Takes (R.remaining reader.old) (R.remaining reader.new)) }
     ensures count { R.failures reader.old ≤ R.failures reader.new }
-    ensures told { R.told reader.old → R.told reader.new }
-    ensures place { R.place reader.new ≡ R.place reader.old }
+    ensures is_known { R.is_known reader.old → R.is_known reader.new }
+    ensures loans { R.loans reader.new ≡ R.loans reader.old }
 {
     decode_with(alloc, reader, config, context)
 }
@@ -72,15 +79,15 @@ pub(crate) fn decode_with<Context: Drop, D: Decode<Context>, R: Reader, C: Confi
     config: &C,
     context: &mut Context,
 ) -> Result<D, DecodeError>
-    ensures ok { R.told reader.old → IfOk result (λ v. (charge : ℕ)
-        × Decodes (λ m. D.its.given m v) (answer C.bound (D.its.format C.setting) (R.rest reader.old) 0)
-        (R.rest reader.new) charge) }
-    ensures err { R.told reader.old → IfErr result (λ e. (charge : ℕ) × Stops R.ended R.device D.its.grows
-        (answer C.bound (D.its.format C.setting) (R.rest reader.old) 0) (R.failures reader.old) (R.failures reader.new)
-        (R.rest reader.old) (R.rest reader.new) charge e) }
+    ensures ok { R.is_known reader.old → IfOk result (λ v. (charge : ℕ)
+        × Decodes (λ m. D.words.decodes_to m v) (answer C.bound (D.words.format C.setting) (R.remaining reader.old) 0)
+        (R.remaining reader.new) charge) }
+    ensures err { R.is_known reader.old → IfErr result (λ e. (charge : ℕ) × DecodeFailure R.end_error R.device
+        D.words.may_allocate (answer C.bound (D.words.format C.setting) (R.remaining reader.old) 0)
+        (R.failures reader.old) (R.failures reader.new) (R.remaining reader.old) (R.remaining reader.new) charge e) }
     ensures count { R.failures reader.old ≤ R.failures reader.new }
-    ensures told { R.told reader.old → R.told reader.new }
-    ensures place { R.place reader.new ≡ R.place reader.old }
+    ensures is_known { R.is_known reader.old → R.is_known reader.new }
+    ensures loans { R.loans reader.new ≡ R.loans reader.old }
 {
     let mut decoder = LentDecoder::new(alloc, reader, config, context);
     D::decode(&mut decoder)

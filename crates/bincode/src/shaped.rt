@@ -1,11 +1,11 @@
 //! Values whose type is described at run time, into a writer and from a slice.
 ghost use Rattle.std.specs.Prelude.{◌≡◌, ℕ, true, false, Some, OnOk, IsErrAnd, IfOk, IfErr};
-ghost use Rattle.bincode_format.specs.Answer.{answer};
-ghost use Rattle.bincode_format.specs.Decoding.{Decodes, Stops};
-ghost use Rattle.bincode_format.specs.Device.{WriterFails};
-ghost use Rattle.bincode_format.specs.Encoding.{Ready, Writes, Halts, Encodes, FitsRoom};
-ghost use Rattle.bincode_format.specs.Limited.{WordBounded};
-ghost use Rattle.bincode_format.specs.Slice.{Decoded, FindsWords, TellsFaults, KeepsLimit};
+ghost use Rattle.bincode_spec.specs.Answer.{answer};
+ghost use Rattle.bincode_spec.specs.Decoding.{Decodes, DecodeFailure};
+ghost use Rattle.bincode_spec.specs.Device.{WriterFails};
+ghost use Rattle.bincode_spec.specs.Encoding.{Ready, Writes, EncodeFailure, Encodes, FitsRoom};
+ghost use Rattle.bincode_spec.specs.Limited.{WordBounded};
+ghost use Rattle.bincode_spec.specs.Slice.{Decoded, FindsWords, TellsFaults, KeepsLimit};
 ghost use Rattle.bincode_shape.specs.Shapes.{format_of, fits, IsImage, TakesMemory};
 ghost use Rattle.bincode_shape.specs.Rows.{AllowsImage};
 ghost use Rattle.bincode_shape.specs.Unfit.{IsUnfit};
@@ -19,8 +19,8 @@ use bincode_io::read::{Reader, SliceReader};
 use bincode_io::write::Writer;
 use bincode_shape::fits::does_fit;
 use bincode_shape::shape::{Shape, Value};
-use bincode_shaped::decode::decode_shape;
-use bincode_shaped::encode::encode_shape;
+use bincode_shape_codec::decode::decode_shape;
+use bincode_shape_codec::encode::encode_shape;
 use std::alloc::Global;
 
 mod within;
@@ -45,14 +45,14 @@ pub fn encode_shaped<W: Writer, C: Config>(
     ensures word { fits shape.now value.now ≡ true → OnOk result (Writes W.adds
         (AllowsImage C.setting shape.now value.now) writer.old writer.new) }
     // An error then leaves a front of a word, and the writer refused what goes on,
-    ensures left { fits shape.now value.now ≡ true → IfErr result (Halts W.adds W.refuses
+    ensures left { fits shape.now value.now ≡ true → IfErr result (EncodeFailure W.adds W.refuses
         (Ready (Unit {0}) (AllowsImage C.setting shape.now value.now)) (λ _. ⊥) writer.old writer.new) }
     // for want of room, or where memory or the device fails.
     ensures room { fits shape.now value.now ≡ true → FitsRoom
         (Ready (Unit {0}) (AllowsImage C.setting shape.now value.now)) (λ _. ⊥)
         (WriterFails W.device (W.failures writer.old) (W.failures writer.new)) (W.room writer.old) result }
     // It writes through the same references.
-    ensures place { W.place writer.new ≡ W.place writer.old }
+    ensures loans { W.loans writer.new ≡ W.loans writer.old }
 {
     if !does_fit(shape, value) {
         return Err(EncodeError::Other(ShortText::unfit()));
@@ -68,7 +68,7 @@ fn encode_fitting<W: Writer, C: Config>(
     config: &C,
 ) -> Result<(), EncodeError>
     requires { fits shape.now value.now ≡ true }
-    ensures { Encodes W.adds W.refuses (λ w. w) W.place (Unit {0}) (AllowsImage C.setting shape.now value.now)
+    ensures { Encodes W.adds W.refuses (λ w. w) W.loans (Unit {0}) (AllowsImage C.setting shape.now value.now)
         (λ _. ⊥) result writer.old writer.new }
 {
     let mut encoder = LentEncoder::new(writer, config);
@@ -117,11 +117,11 @@ fn decode_shaped_with<R: Reader, C: Config>(
     reader: &mut R,
     config: &C,
 ) -> Result<Value, DecodeError>
-    ensures ok { R.told reader.old → IfOk result (λ v. (charge : ℕ) × Decodes (λ m. IsImage shape.now m v)
-        (answer C.bound (format_of shape.now C.setting) (R.rest reader.old) 0) (R.rest reader.new) charge) }
-    ensures err { R.told reader.old → IfErr result (λ e. (charge : ℕ) × Stops R.ended R.device
-        (TakesMemory shape.now) (answer C.bound (format_of shape.now C.setting) (R.rest reader.old) 0)
-        (R.failures reader.old) (R.failures reader.new) (R.rest reader.old) (R.rest reader.new) charge e) }
+    ensures ok { R.is_known reader.old → IfOk result (λ v. (charge : ℕ) × Decodes (λ m. IsImage shape.now m v)
+        (answer C.bound (format_of shape.now C.setting) (R.remaining reader.old) 0) (R.remaining reader.new) charge) }
+    ensures err { R.is_known reader.old → IfErr result (λ e. (charge : ℕ) × DecodeFailure R.end_error R.device
+        (TakesMemory shape.now) (answer C.bound (format_of shape.now C.setting) (R.remaining reader.old) 0)
+        (R.failures reader.old) (R.failures reader.new) (R.remaining reader.old) (R.remaining reader.new) charge e) }
 {
     let mut context = ();
     let mut decoder = LentDecoder::new(alloc, reader, config, &mut context);

@@ -1,14 +1,14 @@
 //! Encoding into a slice that may be too short.
 ghost use Rattle.std.specs.Prelude.{◌≡◌, ◌⊎◌, IfOk, IfErr, length};
 ghost use Rattle.bincode_base.specs.declared.error.EncodeError.TheVariants.{UnexpectedEnd};
-ghost use Rattle.bincode_format.specs.Allowed.{AllowedWord};
-ghost use Rattle.bincode_format.specs.Encoding.{Ready, Encodes};
-ghost use Rattle.bincode_format.specs.Slice.{WordWritten, FrontWritten, FitsExactly};
+ghost use Rattle.bincode_spec.specs.Allowed.{AllowedWord};
+ghost use Rattle.bincode_spec.specs.Encoding.{Ready, Encodes};
+ghost use Rattle.bincode_spec.specs.Slice.{WordWritten, FrontWritten, FitsExactly};
 
 use crate::writer::encode_with;
 use bincode_base::config::{Config, IntEncoding};
 use bincode_base::error::EncodeError;
-use bincode_enc::encode::Encode;
+use bincode_encode::encode::Encode;
 use bincode_io::write::{SliceWriter, Writer};
 
 /// The bytes of the longest number. A value that may be one number alone has one test of the room in any case.
@@ -18,7 +18,7 @@ const LONGEST_NUMBER: usize = 16;
 /// at most. Behind the answer `false` the compiler knows that each piece of such a value has room, and drops the tests
 /// of the pieces (docs/SPEED.md, "One test for a value of fixed numbers").
 #[inline(always)]
-pub(crate) fn is_short<C: Config>(dst: &[u8], most: Option<usize>, config: &C) -> bool {
+pub(crate) fn needs_checks<C: Config>(dst: &[u8], most: Option<usize>, config: &C) -> bool {
     match (config.int_encoding(), most) {
         (IntEncoding::Fixed, Some(most)) => LONGEST_NUMBER < most && dst.len() < most,
         _ => false,
@@ -34,14 +34,14 @@ pub(crate) fn encode_into_short<E: Encode, C: Config>(
     config: &C,
 ) -> Result<usize, EncodeError>
     // It does, fails and leaves what `encode_into_slice` does.
-    ensures word { IfOk result (λ n. WordWritten (AllowedWord (E.its.means val) (E.its.format C.setting))
+    ensures word { IfOk result (λ n. WordWritten (AllowedWord (E.words.means val) (E.words.format C.setting))
         n dst.old dst.new) }
-    ensures fault { IfErr result (λ e. (e ≡ UnexpectedEnd) ⊎ E.its.names e) }
-    ensures room { FitsExactly (Ready (E.its.writable C.setting val)
-        (AllowedWord (E.its.means val) (E.its.format C.setting)))
-        E.its.names (length dst.old) result }
-    ensures left { IfErr result (FrontWritten (Ready (E.its.writable C.setting val)
-        (AllowedWord (E.its.means val) (E.its.format C.setting))) dst.old dst.new) }
+    ensures fault { IfErr result (λ e. (e ≡ UnexpectedEnd) ⊎ E.words.own_errors e) }
+    ensures room { FitsExactly (Ready (E.words.writable C.setting val)
+        (AllowedWord (E.words.means val) (E.words.format C.setting)))
+        E.words.own_errors (length dst.old) result }
+    ensures left { IfErr result (FrontWritten (Ready (E.words.writable C.setting val)
+        (AllowedWord (E.words.means val) (E.words.format C.setting))) dst.old dst.new) }
 {
     let mut writer = SliceWriter::new(dst);
     encode_through(&val, &mut writer, config)?;
@@ -55,8 +55,9 @@ fn encode_through<E: Encode, W: Writer, C: Config>(
     writer: &mut W,
     config: &C,
 ) -> Result<(), EncodeError>
-    ensures { Encodes W.adds W.refuses (λ w. w) W.place (E.its.writable C.setting val.now)
-        (AllowedWord (E.its.means val.now) (E.its.format C.setting)) E.its.names result writer.old writer.new }
+    ensures { Encodes W.adds W.refuses (λ w. w) W.loans (E.words.writable C.setting val.now)
+        (AllowedWord (E.words.means val.now) (E.words.format C.setting)) E.words.own_errors result writer.old
+        writer.new }
 {
     let mut lent = writer;
     encode_with(val, &mut lent, config)

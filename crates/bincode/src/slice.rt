@@ -1,18 +1,18 @@
 //! Encoding into a slice, and decoding from one.
 ghost use Rattle.std.specs.Prelude.{◌≡◌, ◌⊎◌, IfOk, IfErr, length};
 ghost use Rattle.bincode_base.specs.declared.error.EncodeError.TheVariants.{UnexpectedEnd};
-ghost use Rattle.bincode_format.specs.Allowed.{AllowedWord};
-ghost use Rattle.bincode_format.specs.Encoding.{Ready};
-ghost use Rattle.bincode_format.specs.Slice.{WordWritten, FrontWritten, FitsExactly, Decoded, FindsWords, TellsFaults};
-ghost use Rattle.bincode_format.specs.Slice.{KeepsLimit};
+ghost use Rattle.bincode_spec.specs.Allowed.{AllowedWord};
+ghost use Rattle.bincode_spec.specs.Encoding.{Ready};
+ghost use Rattle.bincode_spec.specs.Slice.{WordWritten, FrontWritten, FitsExactly, Decoded, FindsWords, TellsFaults};
+ghost use Rattle.bincode_spec.specs.Slice.{KeepsLimit};
 
 use crate::reader::decode_with;
-use crate::short_slice::{encode_into_short, is_short};
+use crate::short_slice::{encode_into_short, needs_checks};
 use crate::writer::encode_with;
 use bincode_base::config::Config;
 use bincode_base::error::{DecodeError, EncodeError};
-use bincode_de::decode::Decode;
-use bincode_enc::encode::Encode;
+use bincode_decode::decode::Decode;
+use bincode_encode::encode::Encode;
 use bincode_io::read::SliceReader;
 use bincode_io::write::SliceWriter;
 use std::alloc::Global;
@@ -26,19 +26,19 @@ pub fn encode_into_slice<E: Encode, C: Config>(
     config: C,
 ) -> Result<usize, EncodeError>
     // A word that the value allows is written, of so many bytes, and the bytes after it stay.
-    ensures word { IfOk result (λ n. WordWritten (AllowedWord (E.its.means val) (E.its.format C.setting))
+    ensures word { IfOk result (λ n. WordWritten (AllowedWord (E.words.means val) (E.words.format C.setting))
         n dst.old dst.new) }
     // No other errors come,
-    ensures fault { IfErr result (λ e. (e ≡ UnexpectedEnd) ⊎ E.its.names e) }
+    ensures fault { IfErr result (λ e. (e ≡ UnexpectedEnd) ⊎ E.words.own_errors e) }
     // the first of them only for want of room,
-    ensures room { FitsExactly (Ready (E.its.writable C.setting val)
-        (AllowedWord (E.its.means val) (E.its.format C.setting)))
-        E.its.names (length dst.old) result }
+    ensures room { FitsExactly (Ready (E.words.writable C.setting val)
+        (AllowedWord (E.words.means val) (E.words.format C.setting)))
+        E.words.own_errors (length dst.old) result }
     // and they leave a front of an allowed word.
-    ensures left { IfErr result (FrontWritten (Ready (E.its.writable C.setting val)
-        (AllowedWord (E.its.means val) (E.its.format C.setting))) dst.old dst.new) }
+    ensures left { IfErr result (FrontWritten (Ready (E.words.writable C.setting val)
+        (AllowedWord (E.words.means val) (E.words.format C.setting))) dst.old dst.new) }
 {
-    if is_short(dst, E::MOST_FIXED, &config) {
+    if needs_checks(dst, E::MAX_FIXED_SIZE, &config) {
         return encode_into_short(val, dst, &config);
     }
     let mut writer = SliceWriter::new(dst);
@@ -55,13 +55,14 @@ pub fn decode_from_slice<D: Decode<()>, C: Config>(
     config: C,
 ) -> Result<(D, usize), DecodeError>
     // What is read is a word within the limit, of so many bytes, and the value is given for its meaning.
-    ensures word { IfOk result (λ x. Decoded (D.its.format C.setting) C.bound src.now (λ m. D.its.given m x.0) x.1) }
+    ensures word { IfOk result (λ x. Decoded (D.words.format C.setting) C.bound src.now (λ m. D.words.decodes_to m x.0)
+        x.1) }
     // Each word within the limit is read,
-    ensures found { FindsWords (D.its.format C.setting) C.bound D.its.grows src.now result }
+    ensures found { FindsWords (D.words.format C.setting) C.bound D.words.may_allocate src.now result }
     // each fault within the limit is told,
-    ensures fault { TellsFaults (D.its.format C.setting) C.bound D.its.grows src.now result }
+    ensures fault { TellsFaults (D.words.format C.setting) C.bound D.words.may_allocate src.now result }
     // and charges that pass the limit are refused.
-    ensures limit { KeepsLimit (D.its.format C.setting) C.bound D.its.grows src.now result }
+    ensures limit { KeepsLimit (D.words.format C.setting) C.bound D.words.may_allocate src.now result }
 {
     decode_from_slice_with_context(alloc, src, config, ())
 }
@@ -75,13 +76,14 @@ pub fn decode_from_slice_with_context<Context: Drop, D: Decode<Context>, C: Conf
     context: Context,
 ) -> Result<(D, usize), DecodeError>
     // What is read is a word within the limit, of so many bytes, and the value is given for its meaning.
-    ensures word { IfOk result (λ x. Decoded (D.its.format C.setting) C.bound src.now (λ m. D.its.given m x.0) x.1) }
+    ensures word { IfOk result (λ x. Decoded (D.words.format C.setting) C.bound src.now (λ m. D.words.decodes_to m x.0)
+        x.1) }
     // Each word within the limit is read,
-    ensures found { FindsWords (D.its.format C.setting) C.bound D.its.grows src.now result }
+    ensures found { FindsWords (D.words.format C.setting) C.bound D.words.may_allocate src.now result }
     // each fault within the limit is told,
-    ensures fault { TellsFaults (D.its.format C.setting) C.bound D.its.grows src.now result }
+    ensures fault { TellsFaults (D.words.format C.setting) C.bound D.words.may_allocate src.now result }
     // and charges that pass the limit are refused.
-    ensures limit { KeepsLimit (D.its.format C.setting) C.bound D.its.grows src.now result }
+    ensures limit { KeepsLimit (D.words.format C.setting) C.bound D.words.may_allocate src.now result }
 {
     let mut context = context;
     let mut reader = SliceReader::new(src);

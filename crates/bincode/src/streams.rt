@@ -1,18 +1,18 @@
 //! Decoding from the streams of `std::io`, and encoding into them.
 ghost use Rattle.std.specs.Prelude.{◌⊎◌, IfOk, IfErr};
-ghost use Rattle.bincode_format.specs.Allowed.{AllowedWord};
-ghost use Rattle.bincode_format.specs.Decoding.{IsExcused, WordRead, Finds, TellsEach, KeepsWithin};
-ghost use Rattle.bincode_format.specs.Device.{Takes};
-ghost use Rattle.bincode_format.specs.Encoding.{Ready};
-ghost use Rattle.bincode_io.specs.Stream.{TellsBytes, known, EndsShort, IsIo, stream_errors};
+ghost use Rattle.bincode_spec.specs.Allowed.{AllowedWord};
+ghost use Rattle.bincode_spec.specs.Decoding.{IsExcused, WordRead, AcceptsAll, ReportsFault, EnforcesLimit};
+ghost use Rattle.bincode_spec.specs.Device.{Takes};
+ghost use Rattle.bincode_spec.specs.Encoding.{Ready};
+ghost use Rattle.bincode_io.specs.Stream.{TellsBytes, known_bytes, EndsShort, IsIo, stream_errors};
 ghost use Rattle.bincode_io.specs.Stream.{StreamWritten, StreamHalts};
 
 use crate::reader::decode_from_reader_with;
 use crate::writer::encode_into_writer;
 use bincode_base::config::Config;
 use bincode_base::error::{DecodeError, EncodeError};
-use bincode_de::decode::Decode;
-use bincode_enc::encode::Encode;
+use bincode_decode::decode::Decode;
+use bincode_encode::encode::Encode;
 use bincode_io::io_read::LentIoReader;
 use bincode_io::io_write::IoWriter;
 use std::alloc::Global;
@@ -27,21 +27,21 @@ pub fn decode_from_std_read<D: Decode<()>, C: Config, R: Read>(
     config: C,
 ) -> Result<D, DecodeError>
     // Of a stream that tells its bytes: what is taken is a word within the limit, and the value is given for it.
-    ensures word { TellsBytes (R.remaining src.old) → IfOk result (λ v. WordRead (D.its.format C.setting) C.bound
-        (known (R.remaining src.old)) (known (R.remaining src.new)) (λ m. D.its.given m v)) }
+    ensures word { TellsBytes (R.remaining src.old) → IfOk result (λ v. WordRead (D.words.format C.setting) C.bound
+        (known_bytes (R.remaining src.old)) (known_bytes (R.remaining src.new)) (λ m. D.words.decodes_to m v)) }
     // Each word within the limit is read,
-    ensures found { TellsBytes (R.remaining src.old) → Finds (D.its.format C.setting) C.bound
-        (IsExcused stream_errors D.its.grows 0 0) (known (R.remaining src.old)) result }
+    ensures found { TellsBytes (R.remaining src.old) → AcceptsAll (D.words.format C.setting) C.bound
+        (IsExcused stream_errors D.words.may_allocate 0 0) (known_bytes (R.remaining src.old)) result }
     // each fault within the limit is told,
-    ensures fault { TellsBytes (R.remaining src.old) → TellsEach EndsShort (D.its.format C.setting) C.bound
-        (IsExcused stream_errors D.its.grows 0 0) (known (R.remaining src.old)) result }
+    ensures fault { TellsBytes (R.remaining src.old) → ReportsFault EndsShort (D.words.format C.setting) C.bound
+        (IsExcused stream_errors D.words.may_allocate 0 0) (known_bytes (R.remaining src.old)) result }
     // and charges that pass the limit are refused.
-    ensures limit { TellsBytes (R.remaining src.old) → KeepsWithin (D.its.format C.setting) C.bound
-        (IsExcused stream_errors D.its.grows 0 0) (known (R.remaining src.old)) result }
+    ensures limit { TellsBytes (R.remaining src.old) → EnforcesLimit (D.words.format C.setting) C.bound
+        (IsExcused stream_errors D.words.may_allocate 0 0) (known_bytes (R.remaining src.old)) result }
     // A failure leaves a rest of the bytes, unless the stream failed.
     ensures left { TellsBytes (R.remaining src.old) → IfErr result (λ e. IsIo e
-        ⊎ Takes (known (R.remaining src.old)) (known (R.remaining src.new))) }
-    ensures told { TellsBytes (R.remaining src.old) → TellsBytes (R.remaining src.new) }
+        ⊎ Takes (known_bytes (R.remaining src.old)) (known_bytes (R.remaining src.new))) }
+    ensures is_known { TellsBytes (R.remaining src.old) → TellsBytes (R.remaining src.new) }
 {
     decode_from_std_read_with_context(alloc, src, config, ())
 }
@@ -55,21 +55,21 @@ pub fn decode_from_std_read_with_context<Context: Drop, D: Decode<Context>, C: C
     context: Context,
 ) -> Result<D, DecodeError>
     // Of a stream that tells its bytes: what is taken is a word within the limit, and the value is given for it.
-    ensures word { TellsBytes (R.remaining src.old) → IfOk result (λ v. WordRead (D.its.format C.setting) C.bound
-        (known (R.remaining src.old)) (known (R.remaining src.new)) (λ m. D.its.given m v)) }
+    ensures word { TellsBytes (R.remaining src.old) → IfOk result (λ v. WordRead (D.words.format C.setting) C.bound
+        (known_bytes (R.remaining src.old)) (known_bytes (R.remaining src.new)) (λ m. D.words.decodes_to m v)) }
     // Each word within the limit is read,
-    ensures found { TellsBytes (R.remaining src.old) → Finds (D.its.format C.setting) C.bound
-        (IsExcused stream_errors D.its.grows 0 0) (known (R.remaining src.old)) result }
+    ensures found { TellsBytes (R.remaining src.old) → AcceptsAll (D.words.format C.setting) C.bound
+        (IsExcused stream_errors D.words.may_allocate 0 0) (known_bytes (R.remaining src.old)) result }
     // each fault within the limit is told,
-    ensures fault { TellsBytes (R.remaining src.old) → TellsEach EndsShort (D.its.format C.setting) C.bound
-        (IsExcused stream_errors D.its.grows 0 0) (known (R.remaining src.old)) result }
+    ensures fault { TellsBytes (R.remaining src.old) → ReportsFault EndsShort (D.words.format C.setting) C.bound
+        (IsExcused stream_errors D.words.may_allocate 0 0) (known_bytes (R.remaining src.old)) result }
     // and charges that pass the limit are refused.
-    ensures limit { TellsBytes (R.remaining src.old) → KeepsWithin (D.its.format C.setting) C.bound
-        (IsExcused stream_errors D.its.grows 0 0) (known (R.remaining src.old)) result }
+    ensures limit { TellsBytes (R.remaining src.old) → EnforcesLimit (D.words.format C.setting) C.bound
+        (IsExcused stream_errors D.words.may_allocate 0 0) (known_bytes (R.remaining src.old)) result }
     // A failure leaves a rest of the bytes, unless the stream failed.
     ensures left { TellsBytes (R.remaining src.old) → IfErr result (λ e. IsIo e
-        ⊎ Takes (known (R.remaining src.old)) (known (R.remaining src.new))) }
-    ensures told { TellsBytes (R.remaining src.old) → TellsBytes (R.remaining src.new) }
+        ⊎ Takes (known_bytes (R.remaining src.old)) (known_bytes (R.remaining src.new))) }
+    ensures is_known { TellsBytes (R.remaining src.old) → TellsBytes (R.remaining src.new) }
 {
     let mut context = context;
     let mut reader = LentIoReader::new(src);
@@ -85,11 +85,11 @@ pub fn encode_into_std_write<E: Encode, C: Config, W: Write>(
     config: C,
 ) -> Result<usize, EncodeError>
     // A word that the value allows is written, of so many bytes.
-    ensures word { IfOk result (λ n. StreamWritten W.contents (AllowedWord (E.its.means val) (E.its.format C.setting))
-        n dst.old dst.new) }
+    ensures word { IfOk result (λ n. StreamWritten W.contents (AllowedWord (E.words.means val)
+        (E.words.format C.setting)) n dst.old dst.new) }
     // An error leaves a front of an allowed word.
-    ensures left { IfErr result (StreamHalts W.contents (Ready (E.its.writable C.setting val)
-        (AllowedWord (E.its.means val) (E.its.format C.setting))) E.its.names dst.old dst.new) }
+    ensures left { IfErr result (StreamHalts W.contents (Ready (E.words.writable C.setting val)
+        (AllowedWord (E.words.means val) (E.words.format C.setting))) E.words.own_errors dst.old dst.new) }
 {
     let mut writer = IoWriter::new(dst);
     encode_into_writer(val, &mut writer, config)?;

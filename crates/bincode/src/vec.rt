@@ -1,13 +1,13 @@
 //! Encoding into a vector.
 ghost use Rattle.std.specs.Prelude.{◌≡◌, IfOk, IfErr};
-ghost use Rattle.bincode_format.specs.Allowed.{AllowedWord};
-ghost use Rattle.bincode_format.specs.Encoding.{Ready, FailsEmpty};
-ghost use Rattle.bincode_format.specs.Vec.{IsMemoryOrNamed};
+ghost use Rattle.bincode_spec.specs.Allowed.{AllowedWord};
+ghost use Rattle.bincode_spec.specs.Encoding.{Ready, FailsEmpty};
+ghost use Rattle.bincode_spec.specs.Vec.{IsMemoryOrNamed};
 
 use crate::writer::encode_with;
 use bincode_base::config::Config;
 use bincode_base::error::EncodeError;
-use bincode_enc::encode::Encode;
+use bincode_encode::encode::Encode;
 use bincode_io::room_counter::RoomCounter;
 use bincode_io::room_writer::RoomWriter;
 use std::alloc::Global;
@@ -20,13 +20,13 @@ pub fn encode_to_vec<E: Encode, C: Config>(
     config: C,
 ) -> Result<Vec<u8>, EncodeError>
     // The bytes are a word that the value allows.
-    ensures word { IfOk result (λ v. AllowedWord (E.its.means val) (E.its.format C.setting) v.items) }
+    ensures word { IfOk result (λ v. AllowedWord (E.words.means val) (E.words.format C.setting) v.items) }
     // No other errors come than `Memory` and those that the type names.
-    ensures fault { IfErr result (IsMemoryOrNamed E.its.names) }
+    ensures fault { IfErr result (IsMemoryOrNamed E.words.own_errors) }
     // A value without bytes takes no memory.
-    ensures empty { FailsEmpty (Ready (E.its.writable C.setting val)
-        (AllowedWord (E.its.means val) (E.its.format C.setting)))
-        E.its.names result }
+    ensures empty { FailsEmpty (Ready (E.words.writable C.setting val)
+        (AllowedWord (E.words.means val) (E.words.format C.setting)))
+        E.words.own_errors result }
 {
     let mut counter = RoomCounter::default();
     encode_with(&val, &mut counter, &config)?;
@@ -41,11 +41,11 @@ fn encode_in_room<E: Encode, C: Config>(
     counted: usize,
     config: &C,
 ) -> Result<Vec<u8>, EncodeError>
-    ensures word { IfOk result (λ v. AllowedWord (E.its.means val.now) (E.its.format C.setting) v.items) }
-    ensures fault { IfErr result (IsMemoryOrNamed E.its.names) }
-    ensures empty { counted ≡ 0 → FailsEmpty (Ready (E.its.writable C.setting val.now)
-        (AllowedWord (E.its.means val.now) (E.its.format C.setting)))
-        E.its.names result }
+    ensures word { IfOk result (λ v. AllowedWord (E.words.means val.now) (E.words.format C.setting) v.items) }
+    ensures fault { IfErr result (IsMemoryOrNamed E.words.own_errors) }
+    ensures empty { counted ≡ 0 → FailsEmpty (Ready (E.words.writable C.setting val.now)
+        (AllowedWord (E.words.means val.now) (E.words.format C.setting)))
+        E.words.own_errors result }
 {
     let mut room = counted;
     loop {

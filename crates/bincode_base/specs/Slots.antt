@@ -17,7 +17,7 @@ module _ {S T E : Type 0} (gives : S → Option (Result T E) → S → Type 0) w
   Collects before n None after = (items : List T) × (length items < n) × YieldsThen gives before (map Ok items) None after
 
   -- the same, where the items are left in slots
-  abbrev pub Fills : S → List (Option T) → Option (Result (Unit {0}) E) → S → Type 0
-  Fills before slots (Some (Ok done)) after = (items : List T) × (slots ≡ map Some items) × Yields gives before (map Ok items) after
-  Fills before slots (Some (Err e)) after = (items : List T) × (length items < length slots) × YieldsThen gives before (map Ok items) (Some (Err e)) after
-  Fills before slots None after = (items : List T) × (length items < length slots) × YieldsThen gives before (map Ok items) None after
+  abbrev pub FillsSlots : S → List (Option T) → Option (Result (Unit {0}) E) → S → Type 0
+  FillsSlots before slots (Some (Ok done)) after = (items : List T) × (slots ≡ map Some items) × Yields gives before (map Ok items) after
+  FillsSlots before slots (Some (Err e)) after = (items : List T) × (length items < length slots) × YieldsThen gives before (map Ok items) (Some (Err e)) after
+  FillsSlots before slots None after = (items : List T) × (length items < length slots) × YieldsThen gives before (map Ok items) None after

@@ -2,7 +2,7 @@
 ghost use Rattle.std.specs.Prelude.{◌≡◌, ℕ, ◌<◌, IfSome, IsSome, Option, Some, None, List, length, map};
 ghost use Rattle.std.specs.Prelude.{slice_index_or, slice_set};
 ghost use Rattle.std.specs.Bool.{MatchBool};
-ghost use Rattle.bincode_base.specs.Slots.{SlotsFit, Collects, Fills};
+ghost use Rattle.bincode_base.specs.Slots.{SlotsFit, Collects, FillsSlots};
 
 use std::mem::size_of_val;
 
@@ -59,7 +59,7 @@ fn fill<T: Drop, E: Drop, I: Iterator<Item = Result<T, E>>>(
     iter: &mut I,
 ) -> Option<Result<(), E>>
     requires { I.can_next iter.old }
-    ensures { Fills I.next_gives iter.old slots.new result iter.new }
+    ensures { FillsSlots I.next_gives iter.old slots.new result iter.new }
 {
     for index in 0..slots.len() {
         match next_item(iter) {

@@ -3,36 +3,36 @@ use Rattle.std.specs.Prelude.{◌≡◌, ◌⊎◌, ℕ, suc, ◌+◌, ◌-◌, 
 use Rattle.std.proofs.Common.{sym, ◌∙◌, ap, subst, inl, inr, arith, append_assoc, append-nil}
 use Rattle.std.proofs.lemmas.Bool.{le-ltb, le-leb}
 use Rattle.bincode_base.specs.declared.error.DecodeError.{DecodeError}
-use Rattle.bincode_format.specs.Fault.{End}
-use Rattle.bincode_format.specs.Device.{DeviceErrors, Rose, Takes, FallsShort}
-use Rattle.bincode_format.specs.Format.{done, raw, step, ◌>>=◌, unsure, elements}
-use Rattle.bincode_laws.specs.FormatLaws.{map-lawful}
-use Rattle.bincode_laws.specs.Balance.{map-balanced}
-use Rattle.bincode_format.specs.Integers.{byte, unsigned_byte}
-use Rattle.bincode_laws.specs.IntegerLaws.{unsigned_byte-lawful, unsigned_byte-balanced}
-use Rattle.bincode_format.specs.Meaning.{Meaning, Number, IsNumber, listed}
-use Rattle.bincode_format.specs.Words.{natural}
-use Rattle.bincode_format.specs.Answer.{Answer, Allows, Gave, Refused, answer, unclaimed}
-use Rattle.bincode_format.specs.Decoding.{Decodes, Stops, by_fault, by_failure, by_device}
-use Rattle.bincode_format.specs.Run.{IsListOf, CanRelease}
-use Rattle.bincode_laws.specs.RunLaws.{ReadSoFar, behind, none-read, one-more, all-read}
+use Rattle.bincode_spec.specs.Fault.{End}
+use Rattle.bincode_spec.specs.Device.{DeviceErrors, Rose, Takes, FallsShort}
+use Rattle.bincode_spec.specs.Format.{pure, fixed_bytes, step, ◌>>=◌, without_count, elements}
+use Rattle.bincode_lemmas.specs.FormatLaws.{map-lawful}
+use Rattle.bincode_lemmas.specs.Balance.{map-balanced}
+use Rattle.bincode_spec.specs.Integers.{byte, unsigned_byte}
+use Rattle.bincode_lemmas.specs.IntegerLaws.{unsigned_byte-lawful, unsigned_byte-balanced}
+use Rattle.bincode_spec.specs.Meaning.{Meaning, Number, IsNumber, list_meaning}
+use Rattle.bincode_spec.specs.Words.{natural_number}
+use Rattle.bincode_spec.specs.Answer.{Answer, Allows, Gave, Refused, answer, after_release}
+use Rattle.bincode_spec.specs.Decoding.{Decodes, DecodeFailure, by_fault, by_failure, by_device}
+use Rattle.bincode_spec.specs.Run.{IsListOf, CanRelease}
+use Rattle.bincode_lemmas.specs.RunLaws.{ReadSoFar, behind, none-read, one-more, all-read}
 
 -- what a byte means
 abbrev number : ℕ → Meaning
 number b = Number (pos b)
 
-byte_word : (b : ℕ) (rest : List ℕ) → nat_lt (length (b ∷ rest)) 1 ≡ false
-byte_word b rest = le-ltb (length (b ∷ rest)) 1 (omega arith)
+byte_word : (b : ℕ) (remaining : List ℕ) → nat_lt (length (b ∷ remaining)) 1 ≡ false
+byte_word b remaining = le-ltb (length (b ∷ remaining)) 1 (omega arith)
 
 -- a byte whose share was released
-byte_gave : (limit : Option ℕ) (b : ℕ) (rest : List ℕ) (c : ℕ) → Allows limit c → CanRelease limit c 1 → answer limit (natural unsigned_byte) (b ∷ rest) (unclaimed limit c 1) ≡ Gave (number b) rest c
-unfolding answer unsigned_byte byte raw step done ◌>>=◌
-byte_gave None b rest c l h = rw (byte_word b rest) refl
-byte_gave (Some limit) b rest c l h = let e : c - 1 + 1 ≡ c = omega arith in rw (byte_word b rest, e, le-leb c limit l) refl
+byte_gave : (limit : Option ℕ) (b : ℕ) (remaining : List ℕ) (c : ℕ) → Allows limit c → CanRelease limit c 1 → answer limit (natural_number unsigned_byte) (b ∷ remaining) (after_release limit c 1) ≡ Gave (number b) remaining c
+unfolding answer unsigned_byte byte fixed_bytes step pure ◌>>=◌
+byte_gave None b remaining c l h = rw (byte_word b remaining) refl
+byte_gave (Some limit) b remaining c l h = let e : c - 1 + 1 ≡ c = omega arith in rw (byte_word b remaining, e, le-leb c limit l) refl
 
 -- no byte is left
-byte_ends : (limit : Option ℕ) (n c : ℕ) → Allows limit c → CanRelease limit c 1 → answer limit (elements (suc n) 1 (natural unsigned_byte)) [] c ≡ Refused (End None) c
-unfolding answer unsigned_byte byte raw step done ◌>>=◌ unsure
+byte_ends : (limit : Option ℕ) (n c : ℕ) → Allows limit c → CanRelease limit c 1 → answer limit (elements (suc n) 1 (natural_number unsigned_byte)) [] c ≡ Refused (End None) c
+unfolding answer unsigned_byte byte fixed_bytes step pure ◌>>=◌ without_count
 byte_ends None n c l h = refl
 byte_ends (Some limit) n c l h = let e : c - 1 + 1 ≡ c = omega arith in rw (e, le-leb c limit l) refl
 
@@ -40,58 +40,58 @@ one_of : (limit : Option ℕ) (c n : ℕ) → CanRelease limit c (suc n * 1) →
 one_of None c n h = tt
 one_of (Some limit) c n h = omega arith
 
-listed_bytes : (bytes : List ℕ) → IsListOf (λ x m. IsNumber (pos x) m) bytes (listed (map number bytes))
+listed_bytes : (bytes : List ℕ) → IsListOf (λ x m. IsNumber (pos x) m) bytes (list_meaning (map number bytes))
 listed_bytes [] = refl
-listed_bytes (b ∷ bytes) = record { first = number b; others = listed (map number bytes); meaning_is = refl; is_first = refl; are_others = listed_bytes bytes }
+listed_bytes (b ∷ bytes) = record { first = number b; others = list_meaning (map number bytes); meaning_is = refl; is_first = refl; are_others = listed_bytes bytes }
 
 module _ (limit : Option ℕ) (all : Answer (List Meaning)) (input : List ℕ) (c : ℕ) (l : Allows limit c) where
   -- so many bytes are read
-  bytes_read : (bytes rest : List ℕ) (ms : List Meaning) (n k : ℕ) → n ≡ length bytes + k →
-      ReadSoFar limit 1 (natural unsigned_byte) all input ms n (bytes ++ rest) c →
-      ReadSoFar limit 1 (natural unsigned_byte) all input (ms ++ map number bytes) k rest c
-  bytes_read [] rest ms n k e h =
+  bytes_read : (bytes remaining : List ℕ) (ms : List Meaning) (n k : ℕ) → n ≡ length bytes + k →
+      ReadSoFar limit 1 (natural_number unsigned_byte) all input ms n (bytes ++ remaining) c →
+      ReadSoFar limit 1 (natural_number unsigned_byte) all input (ms ++ map number bytes) k remaining c
+  bytes_read [] remaining ms n k e h =
       let p : n ≡ k = omega (arith, e) in
-      subst (λ z. ReadSoFar limit 1 (natural unsigned_byte) all input z k rest c) (sym (append-nil ms)) (subst (λ z. ReadSoFar limit 1 (natural unsigned_byte) all input ms z rest c) p h)
-  bytes_read (b ∷ bytes) rest ms n k e h =
+      subst (λ z. ReadSoFar limit 1 (natural_number unsigned_byte) all input z k remaining c) (sym (append-nil ms)) (subst (λ z. ReadSoFar limit 1 (natural_number unsigned_byte) all input ms z remaining c) p h)
+  bytes_read (b ∷ bytes) remaining ms n k e h =
       let p : n ≡ suc (length bytes + k) = omega (arith, e) in
-      let q = subst (λ z. ReadSoFar limit 1 (natural unsigned_byte) all input ms z (b ∷ bytes ++ rest) c) p h in
+      let q = subst (λ z. ReadSoFar limit 1 (natural_number unsigned_byte) all input ms z (b ∷ bytes ++ remaining) c) p h in
       let one =
-      one-more limit 1 (natural unsigned_byte) all input ms (map-lawful _ _ unsigned_byte-lawful) (map-balanced _ _ unsigned_byte-balanced)
-      (length bytes + k) (b ∷ bytes ++ rest) c (number b) (bytes ++ rest) c q
-      (byte_gave limit b (bytes ++ rest) c l (one_of limit c (length bytes + k) q.is_reserved)) in
-      subst (λ z. ReadSoFar limit 1 (natural unsigned_byte) all input z k rest c) (append_assoc ms (number b ∷ []) (map number bytes))
-      (bytes_read bytes rest (ms ++ number b ∷ []) (length bytes + k) k refl one)
+      one-more limit 1 (natural_number unsigned_byte) all input ms (map-lawful _ _ unsigned_byte-lawful) (map-balanced _ _ unsigned_byte-balanced)
+      (length bytes + k) (b ∷ bytes ++ remaining) c (number b) (bytes ++ remaining) c q
+      (byte_gave limit b (bytes ++ remaining) c l (one_of limit c (length bytes + k) q.is_reserved)) in
+      subst (λ z. ReadSoFar limit 1 (natural_number unsigned_byte) all input z k remaining c) (append_assoc ms (number b ∷ []) (map number bytes))
+      (bytes_read bytes remaining (ms ++ number b ∷ []) (length bytes + k) k refl one)
 
-  run_ends : (ms : List Meaning) (n : ℕ) → ReadSoFar limit 1 (natural unsigned_byte) all input ms (suc n) [] c → all ≡ Refused (End None) c
+  run_ends : (ms : List Meaning) (n : ℕ) → ReadSoFar limit 1 (natural_number unsigned_byte) all input ms (suc n) [] c → all ≡ Refused (End None) c
   run_ends ms n h = sym h.is_rest ∙ ap (behind ms) (byte_ends limit n c l (one_of limit c n h.is_reserved))
 
 module _ (limit : Option ℕ) (n : ℕ) (input : List ℕ) (c : ℕ) (l : Allows limit c) (h : CanRelease limit c (n * 1)) where
   -- bytes that are read at once are those that are read one by one
-  pub bytes-decode : (bytes rest : List ℕ) → input ≡ bytes ++ rest → length bytes ≡ n →
-      Decodes (λ ms. IsListOf (λ x m. IsNumber (pos x) m) bytes (listed ms)) (answer limit (elements n 1 (natural unsigned_byte)) input c) rest c
-  bytes-decode bytes rest e k =
-      let all = answer limit (elements n 1 (natural unsigned_byte)) input c in
-      let start : ReadSoFar limit 1 (natural unsigned_byte) all input [] n (bytes ++ rest) c =
-      subst (λ z. ReadSoFar limit 1 (natural unsigned_byte) all input [] n z c) e (none-read limit 1 (natural unsigned_byte) n input c h) in
-      let r = bytes_read limit all input c l bytes rest [] n 0 (omega (arith, k)) start in
-      record { meaning = map number bytes; answer_is = all-read limit 1 (natural unsigned_byte) all input (map number bytes) rest c r; is_given = listed_bytes bytes }
+  pub bytes-decode : (bytes remaining : List ℕ) → input ≡ bytes ++ remaining → length bytes ≡ n →
+      Decodes (λ ms. IsListOf (λ x m. IsNumber (pos x) m) bytes (list_meaning ms)) (answer limit (elements n 1 (natural_number unsigned_byte)) input c) remaining c
+  bytes-decode bytes remaining e k =
+      let all = answer limit (elements n 1 (natural_number unsigned_byte)) input c in
+      let start : ReadSoFar limit 1 (natural_number unsigned_byte) all input [] n (bytes ++ remaining) c =
+      subst (λ z. ReadSoFar limit 1 (natural_number unsigned_byte) all input [] n z c) e (none-read limit 1 (natural_number unsigned_byte) n input c h) in
+      let r = bytes_read limit all input c l bytes remaining [] n 0 (omega (arith, k)) start in
+      record { meaning = map number bytes; answer_is = all-read limit 1 (natural_number unsigned_byte) all input (map number bytes) remaining c r; is_decoded = listed_bytes bytes }
 
-  bytes_end : length input < n → answer limit (elements n 1 (natural unsigned_byte)) input c ≡ Refused (End None) c
+  bytes_end : length input < n → answer limit (elements n 1 (natural_number unsigned_byte)) input c ≡ Refused (End None) c
   bytes_end k =
-      let all = answer limit (elements n 1 (natural unsigned_byte)) input c in
-      let start : ReadSoFar limit 1 (natural unsigned_byte) all input [] n (input ++ []) c =
-      subst (λ z. ReadSoFar limit 1 (natural unsigned_byte) all input [] n z c) (sym (append-nil input)) (none-read limit 1 (natural unsigned_byte) n input c h) in
+      let all = answer limit (elements n 1 (natural_number unsigned_byte)) input c in
+      let start : ReadSoFar limit 1 (natural_number unsigned_byte) all input [] n (input ++ []) c =
+      subst (λ z. ReadSoFar limit 1 (natural_number unsigned_byte) all input [] n z c) (sym (append-nil input)) (none-read limit 1 (natural_number unsigned_byte) n input c h) in
       let r = bytes_read limit all input c l input [] [] n (suc (n - length input - 1)) (omega (arith, k)) start in
       run_ends limit all input c l (map number input) (n - length input - 1) r
 
   -- where the bytes can't be read at once, the run of them stops
-  pub bytes-stop : (ended : ℕ → DecodeError → Type 0) (device : DeviceErrors) (H : Type 0) (before after : ℕ) (rest : List ℕ) {now : ℕ} (e : DecodeError) → now ≡ c →
-      FallsShort ended input n e ⊎ (device.uncounted e ⊎ (device.counted e × Rose before after)) → device.uncounted e ⊎ Takes input rest →
-      Stops ended device H (answer limit (elements n 1 (natural unsigned_byte)) input c) before after input rest now e
-  bytes-stop ended device H before after rest e still why (inl u) = by_device u
-  bytes-stop ended device H before after rest e still (inl s) (inr t) = by_fault (End None) (bytes_end s.0 ∙ ap (Refused (End None)) (sym still)) (n - length input, s.1) t
-  bytes-stop ended device H before after rest e still (inr (inl u)) (inr t) = by_device u
-  bytes-stop ended device H before after rest e still (inr (inr d)) (inr t) = by_failure d.0 d.1 t
+  pub bytes-stop : (end_error : ℕ → DecodeError → Type 0) (device : DeviceErrors) (H : Type 0) (before after : ℕ) (remaining : List ℕ) {now : ℕ} (e : DecodeError) → now ≡ c →
+      FallsShort end_error input n e ⊎ (device.is_uncounted e ⊎ (device.is_counted e × Rose before after)) → device.is_uncounted e ⊎ Takes input remaining →
+      DecodeFailure end_error device H (answer limit (elements n 1 (natural_number unsigned_byte)) input c) before after input remaining now e
+  bytes-stop end_error device H before after remaining e still why (inl u) = by_device u
+  bytes-stop end_error device H before after remaining e still (inl s) (inr t) = by_fault (End None) (bytes_end s.0 ∙ ap (Refused (End None)) (sym still)) (n - length input, s.1) t
+  bytes-stop end_error device H before after remaining e still (inr (inl u)) (inr t) = by_device u
+  bytes-stop end_error device H before after remaining e still (inr (inr d)) (inr t) = by_failure d.0 d.1 t
 
 -- two facts of an error
 pub both-of_err : {T E : Type 0} (r : Result T E) (P Q : E → Type 0) → IfErr r P → IfErr r Q → IfErr r (λ e. P e × Q e)

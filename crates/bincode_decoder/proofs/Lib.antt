@@ -6,6 +6,6 @@ pub mod BytesAtOnce
 pub mod ReadAnswers
 pub mod PartAnswers
 pub mod Refusals
-pub mod CountedBytes
+pub mod LengthPrefixedBytes
 pub mod OctetAnswers
 pub mod Lending

@@ -5,11 +5,11 @@ use Rattle.std.specs.Borrow.{GName}
 use Rattle.std.proofs.Common.{arith}
 use Rattle.std.proofs.lemmas.Bool.{false≢true, true≢false, le-ltb, cases_from_iff, leb-true, le-leb}
 use Rattle.bincode_base.specs.declared.error.DecodeError.TheVariants.{LimitExceeded}
-use Rattle.bincode_format.specs.Claims.{Claims, OnlyCharged}
+use Rattle.bincode_spec.specs.Claims.{Claims, OnlyCharged}
 use Rattle.std.proofs.Math.Nat.{mul-le-mul_right}
-use Rattle.bincode_format.specs.Answer.{Allows, Claimed, OverClaimed, unclaimed}
-use Rattle.bincode_format.specs.Run.{Held}
-use Rattle.bincode_laws.specs.AnswerLaws.{claim-falls}
+use Rattle.bincode_spec.specs.Answer.{Allows, Claimed, OverClaimed, after_release}
+use Rattle.bincode_spec.specs.Run.{Held}
+use Rattle.bincode_lemmas.specs.AnswerLaws.{claim-falls}
 
 -- the room of fewer values is within that of more
 pub held-within : (limit : Option ℕ) (share n m start c : ℕ) → n ≤ m → Held limit (n * share) start c → Held limit (m * share) start c
@@ -44,7 +44,7 @@ claimed-within (Some limit) before n after h = stands (nat_le (before + n) limit
         none k = cc
 
 -- so does a release, if the charge was within it before
-pub unclaimed-within : (limit : Option ℕ) (charge n : ℕ) → Allows limit charge → Allows limit (unclaimed limit charge n)
+pub unclaimed-within : (limit : Option ℕ) (charge n : ℕ) → Allows limit charge → Allows limit (after_release limit charge n)
 unclaimed-within None charge n h = tt
 unclaimed-within (Some limit) charge n h = omega arith
 
@@ -85,12 +85,12 @@ refused-some zero h = absurd (false≢true (h refl))
 refused-some (suc n) h = omega arith
 
 -- a decoder to which nothing was done
-pub charged-still : {D R C : Type 0} {told : D → Type 0} {rest : D → List ℕ} {failures : D → ℕ} {reader_of : D → R} {context_of : D → C} {place : D → List GName} (d : D) →
-    OnlyCharged told rest failures reader_of context_of place d d
-charged-still d = record { same_rest = refl; same_failures = refl; tells = λ h. h; same_reader = refl; same_context = refl; same_place = refl }
+pub charge_then-still : {D R C : Type 0} {is_known : D → Type 0} {remaining : D → List ℕ} {failures : D → ℕ} {reader_of : D → R} {context_of : D → C} {loans : D → List GName} (d : D) →
+    OnlyCharged is_known remaining failures reader_of context_of loans d d
+charge_then-still d = record { same_remaining = refl; same_failures = refl; tells = λ h. h; same_reader = refl; same_context = refl; same_loans = refl }
 
 -- what is released under a limit is taken off
-pub unclaimed-some : (limit : Option ℕ) (charge n : ℕ) → true ≡ is_some limit → charge - n ≡ unclaimed limit charge n
+pub unclaimed-some : (limit : Option ℕ) (charge n : ℕ) → true ≡ is_some limit → charge - n ≡ after_release limit charge n
 unclaimed-some None charge n e = absurd (true≢false e)
 unclaimed-some (Some limit) charge n e = refl
 

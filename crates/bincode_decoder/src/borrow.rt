@@ -1,12 +1,12 @@
 //! Bytes and texts behind their length that a decoder lends of its source, without a copy.
 ghost use Rattle.std.specs.Prelude.{◌≡◌};
-ghost use Rattle.bincode_format.specs.Format.{raw, unsure, charged};
-ghost use Rattle.bincode_format.specs.Meaning.{IsBytes};
-ghost use Rattle.bincode_format.specs.Words.{counted, text};
-ghost use Rattle.bincode_format.specs.Values.{Reads};
+ghost use Rattle.bincode_spec.specs.Format.{fixed_bytes, without_count, charge_then};
+ghost use Rattle.bincode_spec.specs.Meaning.{IsBytes};
+ghost use Rattle.bincode_spec.specs.Words.{length_prefixed, text};
+ghost use Rattle.bincode_spec.specs.Values.{Reads};
 
 use crate::decoder::{BorrowDecoder, BorrowedBytes};
-use crate::lists::decode_length;
+use crate::lengths::decode_length;
 use bincode_base::error::DecodeError;
 
 /// Charges for so many bytes, and takes them of the source, without a copy. Fails with `LimitExceeded` where the charge
@@ -15,9 +15,9 @@ fn take_claimed<B: BorrowedBytes, D: BorrowDecoder<B>>(
     decoder: &mut D,
     count: usize,
 ) -> Result<B, DecodeError>
-    ensures { Reads D.told D.rest D.charge D.failures D.place D.C.bound D.R.ended D.R.device ⊥
-        (charged count (unsure (raw count))) (λ bytes v. bytes ≡ B.bytes v) (D.charge decoder.old) result decoder.old
-        decoder.new }
+    ensures { Reads D.is_known D.remaining D.charge D.failures D.loans D.C.bound D.R.end_error D.R.device ⊥
+        (charge_then count (without_count (fixed_bytes count))) (λ bytes v. bytes ≡ B.bytes v) (D.charge decoder.old)
+        result decoder.old decoder.new }
 {
     decoder.claim_bytes_read(count)?;
     decoder.take_bytes(count)
@@ -26,24 +26,25 @@ fn take_claimed<B: BorrowedBytes, D: BorrowDecoder<B>>(
 /// Reads a length, and takes so many bytes of the source, without a copy. Fails where the length can't be read, with
 /// `LimitExceeded` where the charge for the bytes passes the limit, and where the reader fails. A fault leaves what was
 /// charged before it. It takes no memory.
-pub fn take_counted<B: BorrowedBytes, D: BorrowDecoder<B>>(
+pub fn take_length_prefixed<B: BorrowedBytes, D: BorrowDecoder<B>>(
     decoder: &mut D,
 ) -> Result<B, DecodeError>
-    ensures { Reads D.told D.rest D.charge D.failures D.place D.C.bound D.R.ended D.R.device ⊥
-        (counted D.C.setting) (λ bytes v. bytes ≡ B.bytes v) (D.charge decoder.old) result decoder.old decoder.new }
+    ensures { Reads D.is_known D.remaining D.charge D.failures D.loans D.C.bound D.R.end_error D.R.device ⊥
+        (length_prefixed D.C.setting) (λ bytes v. bytes ≡ B.bytes v) (D.charge decoder.old) result decoder.old
+        decoder.new }
 {
     let count = decode_length(decoder)?;
     take_claimed(decoder, count)
 }
 
-/// Reads a length, and takes so many bytes of the source as a text, without a copy. Fails where `take_counted` does, or
-/// with `Utf8` where the bytes, all of which are taken, are no text. A fault leaves what was charged before it. It
-/// takes no memory.
+/// Reads a length, and takes so many bytes of the source as a text, without a copy. Fails where `take_length_prefixed`
+/// does, or with `Utf8` where the bytes, all of which are taken, are no text. A fault leaves what was charged before
+/// it. It takes no memory.
 pub fn take_text<'de, D: BorrowDecoder<&'de [u8]>>(decoder: &mut D) -> Result<&'de str, DecodeError>
-    ensures { Reads D.told D.rest D.charge D.failures D.place D.C.bound D.R.ended D.R.device ⊥ (text D.C.setting)
-        (λ m v. IsBytes v.now m) (D.charge decoder.old) result decoder.old decoder.new }
+    ensures { Reads D.is_known D.remaining D.charge D.failures D.loans D.C.bound D.R.end_error D.R.device ⊥
+        (text D.C.setting) (λ m v. IsBytes v.now m) (D.charge decoder.old) result decoder.old decoder.new }
 {
-    let bytes = take_counted(decoder)?;
+    let bytes = take_length_prefixed(decoder)?;
     match str::from_utf8(bytes) {
         Ok(text) => Ok(text),
         Err(fault) => Err(DecodeError::Utf8 { inner: fault }),

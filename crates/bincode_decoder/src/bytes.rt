@@ -1,11 +1,11 @@
 //! Runs of bytes, read at once through any decoder.
 ghost use Rattle.std.specs.Prelude.{◌*◌, pos, length};
-ghost use Rattle.bincode_format.specs.Integers.{unsigned_byte};
-ghost use Rattle.bincode_format.specs.Meaning.{IsNumber};
-ghost use Rattle.bincode_format.specs.Words.{natural};
-ghost use Rattle.bincode_format.specs.Answer.{Allows};
-ghost use Rattle.bincode_format.specs.Run.{CanRelease};
-ghost use Rattle.bincode_format.specs.Values.{RunRead};
+ghost use Rattle.bincode_spec.specs.Integers.{unsigned_byte};
+ghost use Rattle.bincode_spec.specs.Meaning.{IsNumber};
+ghost use Rattle.bincode_spec.specs.Words.{natural_number};
+ghost use Rattle.bincode_spec.specs.Answer.{Allows};
+ghost use Rattle.bincode_spec.specs.Run.{CanRelease};
+ghost use Rattle.bincode_spec.specs.Values.{RunRead};
 
 use crate::decoder::Decoder;
 use crate::integers::read_from;
@@ -18,8 +18,8 @@ use bincode_base::error::DecodeError;
 pub fn decode_bytes<D: Decoder>(decoder: &mut D, values: &mut [u8]) -> Result<(), DecodeError>
     requires { CanRelease D.C.bound (D.charge decoder.old) (length values.old * 1)
         × Allows D.C.bound (D.charge decoder.old) }
-    ensures { RunRead D.told D.rest D.charge D.failures D.place D.C.bound D.R.ended D.R.device ⊥ 1
-        (natural unsigned_byte) (λ m n. IsNumber (pos n) m) (length values.old) (λ _. values.new) result
+    ensures { RunRead D.is_known D.remaining D.charge D.failures D.loans D.C.bound D.R.end_error D.R.device ⊥ 1
+        (natural_number unsigned_byte) (λ m n. IsNumber (pos n) m) (length values.old) (λ _. values.new) result
         decoder.old decoder.new }
 {
     read_from(decoder, values)

@@ -1,27 +1,27 @@
 //! C strings behind their length, read through any decoder.
 ghost use Rattle.std.specs.Prelude.{◌≡◌, length, vec_capacity};
-ghost use Rattle.bincode_format.specs.Meaning.{IsBytes};
-ghost use Rattle.bincode_format.specs.Words.{without_nul};
-ghost use Rattle.bincode_format.specs.Values.{Reads};
+ghost use Rattle.bincode_spec.specs.Meaning.{IsBytes};
+ghost use Rattle.bincode_spec.specs.Words.{without_nul};
+ghost use Rattle.bincode_spec.specs.Values.{Reads};
 ghost use Rattle.bincode_decoder.specs.Memory.{RefusedForSome};
-ghost use Rattle.bincode_wire.specs.CStrings.{c_string_vec, c_string_bytes};
+ghost use Rattle.bincode_types.specs.CStrings.{c_string_vec, c_string_bytes};
 
 use crate::decoder::Decoder;
-use crate::texts::decode_counted;
+use crate::texts::decode_length_prefixed;
 use bincode_base::error::DecodeError;
-use bincode_wire::own::ffi::CString;
+use bincode_types::own::ffi::CString;
 
-/// Reads a length, and so many bytes as a C string, with room for just so many. Fails where `decode_counted` does, or
-/// with `CStringNulError` where one of the bytes, all of which are read, is zero, with the place of the first. A fault
-/// leaves what was charged before it.
+/// Reads a length, and so many bytes as a C string, with room for just so many. Fails where `decode_length_prefixed`
+/// does, or with `CStringNulError` where one of the bytes, all of which are read, is zero, with the place of the first.
+/// A fault leaves what was charged before it.
 pub fn decode_c_string<D: Decoder>(decoder: &mut D) -> Result<CString, DecodeError>
-    ensures read { Reads D.told D.rest D.charge D.failures D.place D.C.bound D.R.ended D.R.device (Unit {0})
-        (without_nul D.C.setting)
+    ensures read { Reads D.is_known D.remaining D.charge D.failures D.loans D.C.bound D.R.end_error D.R.device
+        (Unit {0}) (without_nul D.C.setting)
         (λ m v. IsBytes (c_string_bytes v) m × (vec_capacity (c_string_vec v) ≡ length (c_string_bytes v)))
         (D.charge decoder.old) result decoder.old decoder.new }
-    ensures refused { RefusedForSome D.told D.rest D.C.setting D.R.ended D.R.device result decoder.old }
+    ensures memory { RefusedForSome D.is_known D.remaining D.C.setting D.R.end_error D.R.device result decoder.old }
 {
-    let bytes = decode_counted(decoder)?;
+    let bytes = decode_length_prefixed(decoder)?;
     match CString::new(bytes) {
         Ok(text) => Ok(text),
         Err(fault) => Err(DecodeError::CStringNulError {

@@ -1,15 +1,15 @@
 //! Characters, read through any decoder.
 ghost use Rattle.std.specs.Prelude.{◌≡◌, Some};
-ghost use Rattle.bincode_format.specs.Format.{charged};
-ghost use Rattle.bincode_format.specs.Reads.{ReadsUncharged};
-ghost use Rattle.bincode_format.specs.Meaning.{Character, IsCharacter};
-ghost use Rattle.bincode_format.specs.Words.{char_width, character, rest_of_char};
-ghost use Rattle.bincode_format.specs.Values.{Reads, ReadsCharged};
+ghost use Rattle.bincode_spec.specs.Format.{charge_then};
+ghost use Rattle.bincode_spec.specs.Reads.{ReadsUncharged};
+ghost use Rattle.bincode_spec.specs.Meaning.{Character, IsCharacter};
+ghost use Rattle.bincode_spec.specs.Words.{char_width, character, rest_of_char};
+ghost use Rattle.bincode_spec.specs.Values.{Reads, ReadsCharged};
 
 use crate::decoder::Decoder;
 use crate::integers::read_byte_from;
 use bincode_base::error::DecodeError;
-use bincode_wire::chars::{read_rest_of_char, width_of_char};
+use bincode_types::chars::{read_rest_of_char, width_of_char};
 
 // Always inlined, as numbers are: a call hands on a result with room for an error.
 
@@ -20,7 +20,7 @@ fn read_rest_of_char_from<D: Decoder>(
     width: usize,
 ) -> Result<char, DecodeError>
     requires { char_width first ≡ Some width }
-    ensures { ReadsUncharged D.told D.rest D.charge D.failures D.place D.R.ended D.R.device
+    ensures { ReadsUncharged D.is_known D.remaining D.charge D.failures D.loans D.R.end_error D.R.device
         (rest_of_char first width) Character result decoder.old decoder.new }
 {
     read_rest_of_char(decoder.reader(), first, width)
@@ -35,8 +35,8 @@ pub fn decode_rest_of_char<D: Decoder>(
     width: usize,
 ) -> Result<char, DecodeError>
     requires { char_width first ≡ Some width }
-    ensures { ReadsCharged D.told D.rest D.charge D.failures D.place D.C.bound D.R.ended D.R.device
-        (charged width (rest_of_char first width)) (λ m v. m ≡ Character v) width result decoder.old decoder.new }
+    ensures { ReadsCharged D.is_known D.remaining D.charge D.failures D.loans D.C.bound D.R.end_error D.R.device
+        (charge_then width (rest_of_char first width)) (λ m v. m ≡ Character v) width result decoder.old decoder.new }
 {
     decoder.claim_bytes_read(width)?;
     read_rest_of_char_from(decoder, first, width)
@@ -46,7 +46,7 @@ pub fn decode_rest_of_char<D: Decoder>(
 /// was charged before it.
 #[inline(always)]
 pub fn decode_char<D: Decoder>(decoder: &mut D) -> Result<char, DecodeError>
-    ensures { Reads D.told D.rest D.charge D.failures D.place D.C.bound D.R.ended D.R.device ⊥ character
+    ensures { Reads D.is_known D.remaining D.charge D.failures D.loans D.C.bound D.R.end_error D.R.device ⊥ character
         (λ m v. IsCharacter v m) (D.charge decoder.old) result decoder.old decoder.new }
 {
     let first = read_byte_from(decoder)?;

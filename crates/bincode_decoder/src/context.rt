@@ -60,9 +60,9 @@ impl<D: Decoder, Context: Drop> Decoder for WithContext<'_, D, Context> {
 
     type Context = Context;
 
-    ghost told = { λ d. D.told d.decoder.now };
+    ghost is_known = { λ d. D.is_known d.decoder.now };
 
-    ghost rest = { λ d. D.rest d.decoder.now };
+    ghost remaining = { λ d. D.remaining d.decoder.now };
 
     ghost failures = { λ d. D.failures d.decoder.now };
 
@@ -76,7 +76,7 @@ impl<D: Decoder, Context: Drop> Decoder for WithContext<'_, D, Context> {
 
     ghost put_context = { λ d x. record d { context = x } };
 
-    ghost place = { λ d. d.decoder.ghost_name ∷ D.place d.decoder.now };
+    ghost loans = { λ d. d.decoder.ghost_name ∷ D.loans d.decoder.now };
 
     fn reader(&mut self) -> &mut D::R {
         self.decoder.reader()
@@ -114,31 +114,31 @@ impl<D: Decoder, Context: Drop> Decoder for WithContext<'_, D, Context> {
 
     ghost context_kept = { λ d r. refl };
 
-    ghost reader_told = { λ d. D.reader_told d.decoder.now };
+    ghost reader_is_known = { λ d. D.reader_is_known d.decoder.now };
 
-    ghost rest_is = { λ d. D.rest_is d.decoder.now };
+    ghost remaining_is = { λ d. D.remaining_is d.decoder.now };
 
     ghost failures_is = { λ d. D.failures_is d.decoder.now };
 
-    ghost put_told = { λ d r. D.put_told d.decoder.now r };
+    ghost put_is_known = { λ d r. D.put_is_known d.decoder.now r };
 
-    ghost put_rest = { λ d r. D.put_rest d.decoder.now r };
+    ghost put_remaining = { λ d r. D.put_remaining d.decoder.now r };
 
     ghost put_failures = { λ d r. D.put_failures d.decoder.now r };
 
     ghost put_charge = { λ d r. D.put_charge d.decoder.now r };
 
-    ghost put_place = { λ d r h. ap (λ z. d.decoder.ghost_name ∷ z) (D.put_place d.decoder.now r h) };
+    ghost put_loans = { λ d r h. ap (λ z. d.decoder.ghost_name ∷ z) (D.put_loans d.decoder.now r h) };
 
-    ghost context_told = { λ d x h. h };
+    ghost context_is_known = { λ d x h. h };
 
-    ghost context_rest = { λ d x. refl };
+    ghost context_remaining = { λ d x. refl };
 
     ghost context_failures = { λ d x. refl };
 
     ghost context_charge = { λ d x. refl };
 
-    ghost context_place = { λ d x. refl };
+    ghost context_loans = { λ d x. refl };
 }
 
 impl<B: BorrowedBytes, D: BorrowDecoder<B>, Context: Drop> BorrowDecoder<B>

@@ -3,16 +3,16 @@ ghost use Rattle.std.specs.Prelude.{◌≡◌, ◌*◌, ◌∷◌, ℕ, List, re
 ghost use Rattle.std.proofs.Common.{ap};
 ghost use Rattle.std.specs.Borrow.{GName, Lends, sem};
 ghost use Rattle.std.specs.Bool.{MatchBool};
-ghost use Rattle.bincode_format.specs.Answer.{Allows, unclaimed};
-ghost use Rattle.bincode_format.specs.Run.{CanRelease};
-ghost use Rattle.bincode_format.specs.Claims.{Claims, MakesClaim, MakesRelease};
+ghost use Rattle.bincode_spec.specs.Answer.{Allows, after_release};
+ghost use Rattle.bincode_spec.specs.Run.{CanRelease};
+ghost use Rattle.bincode_spec.specs.Claims.{Claims, MakesClaim, MakesRelease};
 
 mod borrow;
 
 use bincode_base::config::Config;
 use bincode_base::error::DecodeError;
 use bincode_io::read::Reader;
-use bincode_wire::wire::Wire;
+use bincode_types::wire::Wire;
 pub use borrow::{BorrowDecoder, BorrowedBytes};
 use std::alloc::Global;
 
@@ -31,11 +31,11 @@ pub trait Decoder: Sealed {
 
     type Context: Drop;
 
-    /// That its reader tells the bytes that are left. What is said of `rest` is said where it does.
-    ghost told: { Self → Type 0 };
+    /// That its reader tells the bytes that are left. What is said of `remaining` is said where it does.
+    ghost is_known: { Self → Type 0 };
 
     /// The bytes that are left.
-    ghost rest: { Self → List ℕ };
+    ghost remaining: { Self → List ℕ };
 
     /// How often the device failed.
     ghost failures: { Self → ℕ };
@@ -56,7 +56,7 @@ pub trait Decoder: Sealed {
     ghost put_context: { Self → Self.Context → Self };
 
     /// The references that it reads through. No call changes them.
-    ghost place: { Self → List GName };
+    ghost loans: { Self → List GName };
 
     /// Lends the reader.
     fn reader(&mut self) -> &mut Self::R
@@ -77,8 +77,8 @@ pub trait Decoder: Sealed {
     /// Charges `n` bytes. Without a limit nothing is counted. Fails with `LimitExceeded` where the raised charge is
     /// above the limit: the raised charge is kept if it fits 64 bits, else the charge stays.
     fn claim_bytes_read(&mut self, n: usize) -> Result<(), DecodeError>
-        ensures { MakesClaim told rest charge failures reader_of context_of place Self.C.bound n result self.old
-            self.new };
+        ensures { MakesClaim is_known remaining charge failures reader_of context_of loans Self.C.bound n result
+            self.old self.new };
 
     /// Whether the charge is within the limit. After a claim that passed it, it may not be.
     fn is_within_limit(&self) -> bool
@@ -88,7 +88,7 @@ pub trait Decoder: Sealed {
     /// Takes `n` bytes off the charge, of those that a container claimed. Without a limit nothing is counted.
     fn unclaim_bytes_read(&mut self, n: usize)
         requires { CanRelease Self.C.bound (charge self.old) n }
-        ensures { MakesRelease told rest charge failures reader_of context_of place Self.C.bound n self.old
+        ensures { MakesRelease is_known remaining charge failures reader_of context_of loans Self.C.bound n self.old
             self.new };
 
     /// A reader that was put is the reader, and a context beside it stays,
@@ -102,34 +102,34 @@ pub trait Decoder: Sealed {
     ghost context_kept: { (d : Self) (r : Self.R) → context_of (put_reader d r) ≡ context_of d };
 
     /// What the reader tells and counts is what the decoder does.
-    ghost reader_told: { (d : Self) → told d → Self.R.told (reader_of d) };
+    ghost reader_is_known: { (d : Self) → is_known d → Self.R.is_known (reader_of d) };
 
-    ghost rest_is: { (d : Self) → Self.R.rest (reader_of d) ≡ rest d };
+    ghost remaining_is: { (d : Self) → Self.R.remaining (reader_of d) ≡ remaining d };
 
     ghost failures_is: { (d : Self) → Self.R.failures (reader_of d) ≡ failures d };
 
     /// Another reader changes what is read, and not the charge,
-    ghost put_told: { (d : Self) (r : Self.R) → Self.R.told r → told (put_reader d r) };
+    ghost put_is_known: { (d : Self) (r : Self.R) → Self.R.is_known r → is_known (put_reader d r) };
 
-    ghost put_rest: { (d : Self) (r : Self.R) → rest (put_reader d r) ≡ Self.R.rest r };
+    ghost put_remaining: { (d : Self) (r : Self.R) → remaining (put_reader d r) ≡ Self.R.remaining r };
 
     ghost put_failures: { (d : Self) (r : Self.R) → failures (put_reader d r) ≡ Self.R.failures r };
 
     ghost put_charge: { (d : Self) (r : Self.R) → charge (put_reader d r) ≡ charge d };
 
-    ghost put_place: { (d : Self) (r : Self.R) → Self.R.place r ≡ Self.R.place (reader_of d)
-        → place (put_reader d r) ≡ place d };
+    ghost put_loans: { (d : Self) (r : Self.R) → Self.R.loans r ≡ Self.R.loans (reader_of d)
+        → loans (put_reader d r) ≡ loans d };
 
     /// and another context neither.
-    ghost context_told: { (d : Self) (x : Self.Context) → told d → told (put_context d x) };
+    ghost context_is_known: { (d : Self) (x : Self.Context) → is_known d → is_known (put_context d x) };
 
-    ghost context_rest: { (d : Self) (x : Self.Context) → rest (put_context d x) ≡ rest d };
+    ghost context_remaining: { (d : Self) (x : Self.Context) → remaining (put_context d x) ≡ remaining d };
 
     ghost context_failures: { (d : Self) (x : Self.Context) → failures (put_context d x) ≡ failures d };
 
     ghost context_charge: { (d : Self) (x : Self.Context) → charge (put_context d x) ≡ charge d };
 
-    ghost context_place: { (d : Self) (x : Self.Context) → place (put_context d x) ≡ place d };
+    ghost context_loans: { (d : Self) (x : Self.Context) → loans (put_context d x) ≡ loans d };
 }
 
 /// Claims for containers, by every decoder.
@@ -137,8 +137,8 @@ pub trait ClaimContainer: Decoder {
     /// Charges for a container of `len` elements: `claim_bytes_read` of `len` times the claim size of `T`. A product
     /// that does not fit 64 bits is above each limit, and then the charge stays.
     fn claim_container_read<T: Wire>(&mut self, len: usize) -> Result<(), DecodeError>
-        ensures { MakesClaim Self.told Self.rest Self.charge Self.failures Self.reader_of Self.context_of Self.place
-            Self.C.bound (len * T.its.claim) result self.old self.new };
+        ensures { MakesClaim Self.is_known Self.remaining Self.charge Self.failures Self.reader_of Self.context_of
+            Self.loans Self.C.bound (len * T.words.claim) result self.old self.new };
 }
 
 impl<D: Decoder> ClaimContainer for D {
@@ -150,8 +150,8 @@ impl<D: Decoder> ClaimContainer for D {
 /// Charges for `len` elements, each of which claims so many bytes. A product that does not fit 64 bits is above each
 /// limit, and then the charge stays.
 pub fn claim_room<D: Decoder>(decoder: &mut D, len: usize, claim: usize) -> Result<(), DecodeError>
-    ensures { MakesClaim D.told D.rest D.charge D.failures D.reader_of D.context_of D.place D.C.bound (len * claim)
-        result decoder.old decoder.new }
+    ensures { MakesClaim D.is_known D.remaining D.charge D.failures D.reader_of D.context_of D.loans D.C.bound
+        (len * claim) result decoder.old decoder.new }
 {
     match len.checked_mul(claim) {
         Some(n) => decoder.claim_bytes_read(n),
@@ -191,7 +191,7 @@ fn is_within(limit: Option<usize>, bytes_read: usize) -> bool
 /// Takes `n` bytes off the charge under a limit.
 fn unclaim(limit: Option<usize>, bytes_read: &mut usize, n: usize)
     requires { CanRelease limit bytes_read.old n }
-    ensures { bytes_read.new ≡ unclaimed limit bytes_read.old n }
+    ensures { bytes_read.new ≡ after_release limit bytes_read.old n }
 {
     if limit.is_some() {
         *bytes_read -= n;
@@ -245,9 +245,9 @@ impl<R: Reader, C: Config, Context: Drop> Decoder for DecoderImpl<R, C, Context>
 
     type Context = Context;
 
-    ghost told = { λ d. R.told d.reader };
+    ghost is_known = { λ d. R.is_known d.reader };
 
-    ghost rest = { λ d. R.rest d.reader };
+    ghost remaining = { λ d. R.remaining d.reader };
 
     ghost failures = { λ d. R.failures d.reader };
 
@@ -261,7 +261,7 @@ impl<R: Reader, C: Config, Context: Drop> Decoder for DecoderImpl<R, C, Context>
 
     ghost put_context = { λ d x. record d { context = x } };
 
-    ghost place = { λ d. R.place d.reader };
+    ghost loans = { λ d. R.loans d.reader };
 
     fn reader(&mut self) -> &mut R {
         &mut self.reader
@@ -299,31 +299,31 @@ impl<R: Reader, C: Config, Context: Drop> Decoder for DecoderImpl<R, C, Context>
 
     ghost context_kept = { λ d r. refl };
 
-    ghost reader_told = { λ d h. h };
+    ghost reader_is_known = { λ d h. h };
 
-    ghost rest_is = { λ d. refl };
+    ghost remaining_is = { λ d. refl };
 
     ghost failures_is = { λ d. refl };
 
-    ghost put_told = { λ d r h. h };
+    ghost put_is_known = { λ d r h. h };
 
-    ghost put_rest = { λ d r. refl };
+    ghost put_remaining = { λ d r. refl };
 
     ghost put_failures = { λ d r. refl };
 
     ghost put_charge = { λ d r. refl };
 
-    ghost put_place = { λ d r h. h };
+    ghost put_loans = { λ d r h. h };
 
-    ghost context_told = { λ d x h. h };
+    ghost context_is_known = { λ d x h. h };
 
-    ghost context_rest = { λ d x. refl };
+    ghost context_remaining = { λ d x. refl };
 
     ghost context_failures = { λ d x. refl };
 
     ghost context_charge = { λ d x. refl };
 
-    ghost context_place = { λ d x. refl };
+    ghost context_loans = { λ d x. refl };
 }
 
 /// A decoder whose reader, configuration and context are lent.
@@ -357,8 +357,8 @@ impl<'a, R: Reader, C: Config, Context: Drop> LentDecoder<'a, R, C, Context> {
         config: &'a C,
         context: &'a mut Context,
     ) -> LentDecoder<'a, R, C, Context>
-        ensures place { ⟦<LentDecoder<'a, R, C, Context> as Decoder>⟧.place result
-            ≡ reader.entry.ghost_name ∷ R.place reader.old }
+        ensures loans { ⟦<LentDecoder<'a, R, C, Context> as Decoder>⟧.loans result
+            ≡ reader.entry.ghost_name ∷ R.loans reader.old }
         ensures reader { ⟦<LentDecoder<'a, R, C, Context> as Decoder>⟧.reader_of result ≡ reader.old }
         ensures context { ⟦<LentDecoder<'a, R, C, Context> as Decoder>⟧.context_of result ≡ context.old }
         ensures charge { ⟦<LentDecoder<'a, R, C, Context> as Decoder>⟧.charge result ≡ 0 }
@@ -382,9 +382,9 @@ impl<R: Reader, C: Config, Context: Drop> Decoder for LentDecoder<'_, R, C, Cont
 
     type Context = Context;
 
-    ghost told = { λ d. R.told d.reader.now };
+    ghost is_known = { λ d. R.is_known d.reader.now };
 
-    ghost rest = { λ d. R.rest d.reader.now };
+    ghost remaining = { λ d. R.remaining d.reader.now };
 
     ghost failures = { λ d. R.failures d.reader.now };
 
@@ -398,7 +398,7 @@ impl<R: Reader, C: Config, Context: Drop> Decoder for LentDecoder<'_, R, C, Cont
 
     ghost put_context = { λ d x. record d { context = record d.context { now = x } } };
 
-    ghost place = { λ d. d.reader.ghost_name ∷ R.place d.reader.now };
+    ghost loans = { λ d. d.reader.ghost_name ∷ R.loans d.reader.now };
 
     fn reader(&mut self) -> &mut R {
         self.reader
@@ -436,31 +436,31 @@ impl<R: Reader, C: Config, Context: Drop> Decoder for LentDecoder<'_, R, C, Cont
 
     ghost context_kept = { λ d r. refl };
 
-    ghost reader_told = { λ d h. h };
+    ghost reader_is_known = { λ d h. h };
 
-    ghost rest_is = { λ d. refl };
+    ghost remaining_is = { λ d. refl };
 
     ghost failures_is = { λ d. refl };
 
-    ghost put_told = { λ d r h. h };
+    ghost put_is_known = { λ d r h. h };
 
-    ghost put_rest = { λ d r. refl };
+    ghost put_remaining = { λ d r. refl };
 
     ghost put_failures = { λ d r. refl };
 
     ghost put_charge = { λ d r. refl };
 
-    ghost put_place = { λ d r h. ap (λ z. d.reader.ghost_name ∷ z) h };
+    ghost put_loans = { λ d r h. ap (λ z. d.reader.ghost_name ∷ z) h };
 
-    ghost context_told = { λ d x h. h };
+    ghost context_is_known = { λ d x h. h };
 
-    ghost context_rest = { λ d x. refl };
+    ghost context_remaining = { λ d x. refl };
 
     ghost context_failures = { λ d x. refl };
 
     ghost context_charge = { λ d x. refl };
 
-    ghost context_place = { λ d x. refl };
+    ghost context_loans = { λ d x. refl };
 }
 
 impl<D: Sealed> Sealed for &mut D {}
@@ -472,9 +472,9 @@ impl<D: Decoder> Decoder for &mut D {
 
     type Context = D::Context;
 
-    ghost told = { λ d. D.told d.now };
+    ghost is_known = { λ d. D.is_known d.now };
 
-    ghost rest = { λ d. D.rest d.now };
+    ghost remaining = { λ d. D.remaining d.now };
 
     ghost failures = { λ d. D.failures d.now };
 
@@ -488,7 +488,7 @@ impl<D: Decoder> Decoder for &mut D {
 
     ghost put_context = { λ d x. record d { now = D.put_context d.now x } };
 
-    ghost place = { λ d. d.ghost_name ∷ D.place d.now };
+    ghost loans = { λ d. d.ghost_name ∷ D.loans d.now };
 
     fn reader(&mut self) -> &mut D::R {
         (**self).reader()
@@ -526,29 +526,29 @@ impl<D: Decoder> Decoder for &mut D {
 
     ghost context_kept = { λ d r. D.context_kept d.now r };
 
-    ghost reader_told = { λ d. D.reader_told d.now };
+    ghost reader_is_known = { λ d. D.reader_is_known d.now };
 
-    ghost rest_is = { λ d. D.rest_is d.now };
+    ghost remaining_is = { λ d. D.remaining_is d.now };
 
     ghost failures_is = { λ d. D.failures_is d.now };
 
-    ghost put_told = { λ d r. D.put_told d.now r };
+    ghost put_is_known = { λ d r. D.put_is_known d.now r };
 
-    ghost put_rest = { λ d r. D.put_rest d.now r };
+    ghost put_remaining = { λ d r. D.put_remaining d.now r };
 
     ghost put_failures = { λ d r. D.put_failures d.now r };
 
     ghost put_charge = { λ d r. D.put_charge d.now r };
 
-    ghost put_place = { λ d r h. ap (λ z. d.ghost_name ∷ z) (D.put_place d.now r h) };
+    ghost put_loans = { λ d r h. ap (λ z. d.ghost_name ∷ z) (D.put_loans d.now r h) };
 
-    ghost context_told = { λ d x. D.context_told d.now x };
+    ghost context_is_known = { λ d x. D.context_is_known d.now x };
 
-    ghost context_rest = { λ d x. D.context_rest d.now x };
+    ghost context_remaining = { λ d x. D.context_remaining d.now x };
 
     ghost context_failures = { λ d x. D.context_failures d.now x };
 
     ghost context_charge = { λ d x. D.context_charge d.now x };
 
-    ghost context_place = { λ d x. ap (λ z. d.ghost_name ∷ z) (D.context_place d.now x) };
+    ghost context_loans = { λ d x. ap (λ z. d.ghost_name ∷ z) (D.context_loans d.now x) };
 }

@@ -1,8 +1,8 @@
 //! Enums without variants, read through any decoder.
-ghost use Rattle.bincode_format.specs.Fault.{EmptyEnum};
-ghost use Rattle.bincode_format.specs.Format.{refused};
-ghost use Rattle.bincode_format.specs.Meaning.{Meaning};
-ghost use Rattle.bincode_format.specs.Values.{Reads};
+ghost use Rattle.bincode_spec.specs.Fault.{EmptyEnum};
+ghost use Rattle.bincode_spec.specs.Format.{fail};
+ghost use Rattle.bincode_spec.specs.Meaning.{Meaning};
+ghost use Rattle.bincode_spec.specs.Values.{Reads};
 
 use crate::decoder::Decoder;
 use crate::tags::Named;
@@ -13,8 +13,8 @@ use bincode_base::short_text::ShortText;
 /// charged, so neither the input nor the limit matters.
 #[inline]
 pub fn decode_no_variants<Of: Named, T, D: Decoder>(decoder: &mut D) -> Result<T, DecodeError>
-    ensures { Reads D.told D.rest D.charge D.failures D.place D.C.bound D.R.ended D.R.device ⊥
-        (refused {A = Meaning} EmptyEnum) (λ m v. ⊥) (D.charge decoder.old) result decoder.old decoder.new }
+    ensures { Reads D.is_known D.remaining D.charge D.failures D.loans D.C.bound D.R.end_error D.R.device ⊥
+        (fail {A = Meaning} EmptyEnum) (λ m v. ⊥) (D.charge decoder.old) result decoder.old decoder.new }
 {
     let _ = &*decoder;
     Err(DecodeError::EmptyEnum {

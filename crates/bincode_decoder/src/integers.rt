@@ -1,12 +1,12 @@
 //! Integers and bytes, read through any decoder.
 ghost use Rattle.std.specs.Prelude.{◌≡◌, pos, ok_or};
 ghost use Rattle.bincode_base.specs.declared.error.DecodeError.TheVariants.{NonZeroTypeIsZero};
-ghost use Rattle.bincode_format.specs.Device.{Fills};
-ghost use Rattle.bincode_format.specs.Format.{map_format};
-ghost use Rattle.bincode_format.specs.Number.{from_two_complement};
-ghost use Rattle.bincode_format.specs.Reads.{ReadsUncharged};
-ghost use Rattle.bincode_format.specs.Integers.{byte, unsigned_byte, signed_byte};
-ghost use Rattle.bincode_format.specs.Values.{ReadsInteger};
+ghost use Rattle.bincode_spec.specs.Device.{FillsBuffer};
+ghost use Rattle.bincode_spec.specs.Format.{map_format};
+ghost use Rattle.bincode_spec.specs.Number.{from_two_complement};
+ghost use Rattle.bincode_spec.specs.Reads.{ReadsUncharged};
+ghost use Rattle.bincode_spec.specs.Integers.{byte, unsigned_byte, signed_byte};
+ghost use Rattle.bincode_spec.specs.Values.{ReadsInteger};
 
 use crate::decoder::Decoder;
 use bincode_base::config::Config;
@@ -14,14 +14,14 @@ use bincode_base::error::{DecodeError, IntegerType};
 use bincode_io::read::Reader;
 use bincode_varint::bytes::{read_byte, read_i8};
 use bincode_varint::number::Integer;
-use bincode_wire::wire::Wire;
+use bincode_types::wire::Wire;
 
 /// Charges for all bytes of an integer, and reads it as the configuration says. Fails where the charge passes the
 /// limit, and where `Integer::read` does. A fault leaves what was charged before it.
 #[inline(always)]
 pub fn decode_integer<T: Integer + Wire, D: Decoder>(decoder: &mut D) -> Result<T, DecodeError>
-    requires { T.its.claim ≡ T.width }
-    ensures { ReadsInteger D.told D.rest D.charge D.failures D.place D.C.bound D.R.ended D.R.device
+    requires { T.words.claim ≡ T.width }
+    ensures { ReadsInteger D.is_known D.remaining D.charge D.failures D.loans D.C.bound D.R.end_error D.R.device
         (T.spelling.words D.C.setting) T.spelling.integer T.width result decoder.old decoder.new }
 {
     decoder.claim_bytes_read(T::claim_size())?;
@@ -30,7 +30,7 @@ pub fn decode_integer<T: Integer + Wire, D: Decoder>(decoder: &mut D) -> Result<
 
 #[inline(always)]
 fn read_integer_from<T: Integer, D: Decoder>(decoder: &mut D) -> Result<T, DecodeError>
-    ensures { ReadsUncharged D.told D.rest D.charge D.failures D.place D.R.ended D.R.device
+    ensures { ReadsUncharged D.is_known D.remaining D.charge D.failures D.loans D.R.end_error D.R.device
         (T.spelling.read_by D.C.setting.order D.C.setting.encoding) (λ v. v) result decoder.old decoder.new }
 {
     let endian = decoder.config().endianness();
@@ -40,31 +40,31 @@ fn read_integer_from<T: Integer, D: Decoder>(decoder: &mut D) -> Result<T, Decod
 
 /// Charges for a byte, and reads it. A fault leaves what was charged before it.
 pub fn decode_byte<D: Decoder>(decoder: &mut D) -> Result<u8, DecodeError>
-    ensures { ReadsInteger D.told D.rest D.charge D.failures D.place D.C.bound D.R.ended D.R.device unsigned_byte pos
-        1 result decoder.old decoder.new }
+    ensures { ReadsInteger D.is_known D.remaining D.charge D.failures D.loans D.C.bound D.R.end_error D.R.device
+        unsigned_byte pos 1 result decoder.old decoder.new }
 {
     decoder.claim_bytes_read(1)?;
     read_byte_from(decoder)
 }
 
 pub fn read_byte_from<D: Decoder>(decoder: &mut D) -> Result<u8, DecodeError>
-    ensures { ReadsUncharged D.told D.rest D.charge D.failures D.place D.R.ended D.R.device byte (λ v. v) result
-        decoder.old decoder.new }
+    ensures { ReadsUncharged D.is_known D.remaining D.charge D.failures D.loans D.R.end_error D.R.device byte (λ v. v)
+        result decoder.old decoder.new }
 {
     read_byte(decoder.reader())
 }
 
 /// Charges for a signed byte, and reads it. A fault leaves what was charged before it.
 pub fn decode_signed_byte<D: Decoder>(decoder: &mut D) -> Result<i8, DecodeError>
-    ensures { ReadsInteger D.told D.rest D.charge D.failures D.place D.C.bound D.R.ended D.R.device signed_byte
-        (λ z. z) 1 result decoder.old decoder.new }
+    ensures { ReadsInteger D.is_known D.remaining D.charge D.failures D.loans D.C.bound D.R.end_error D.R.device
+        signed_byte (λ z. z) 1 result decoder.old decoder.new }
 {
     decoder.claim_bytes_read(1)?;
     read_i8_from(decoder)
 }
 
 fn read_i8_from<D: Decoder>(decoder: &mut D) -> Result<i8, DecodeError>
-    ensures { ReadsUncharged D.told D.rest D.charge D.failures D.place D.R.ended D.R.device
+    ensures { ReadsUncharged D.is_known D.remaining D.charge D.failures D.loans D.R.end_error D.R.device
         (map_format (from_two_complement 1) byte) (λ v. v) result decoder.old decoder.new }
 {
     read_i8(decoder.reader())
@@ -72,8 +72,8 @@ fn read_i8_from<D: Decoder>(decoder: &mut D) -> Result<i8, DecodeError>
 
 /// Fills all of `bytes` with the next bytes.
 pub fn read_from<D: Decoder>(decoder: &mut D, bytes: &mut [u8]) -> Result<(), DecodeError>
-    ensures fills { Fills D.told D.rest D.failures D.place D.R.ended D.R.device bytes.old bytes.new result decoder.old
-        decoder.new }
+    ensures fills { FillsBuffer D.is_known D.remaining D.failures D.loans D.R.end_error D.R.device bytes.old bytes.new
+        result decoder.old decoder.new }
     ensures charge { D.charge decoder.new ≡ D.charge decoder.old }
 {
     decoder.reader().read(bytes)

@@ -10,7 +10,7 @@ pub mod context;
 pub mod decoder;
 pub mod empty;
 pub mod integers;
-pub mod lists;
+pub mod lengths;
 pub mod octets;
 pub mod tags;
 pub mod texts;

@@ -1,18 +1,18 @@
 //! Octets of addresses, read through any decoder.
-ghost use Rattle.bincode_format.specs.Meaning.{IsBytes};
-ghost use Rattle.bincode_format.specs.Octets.{octets};
-ghost use Rattle.bincode_format.specs.Values.{Reads};
+ghost use Rattle.bincode_spec.specs.Meaning.{IsBytes};
+ghost use Rattle.bincode_spec.specs.Octets.{octets};
+ghost use Rattle.bincode_spec.specs.Values.{Reads};
 
 use crate::decoder::Decoder;
 use crate::integers::read_from;
 use bincode_base::error::DecodeError;
-use bincode_wire::octets::Octets;
+use bincode_types::octets::Octets;
 
 /// Charges for octets, one byte each, and then reads all of them as they are. Fails where the charge passes the limit,
 /// which is before any is read, and where the reader fails. A fault leaves what was charged before it.
 #[inline]
 pub fn decode_octets<D: Decoder, const N: usize>(decoder: &mut D) -> Result<Octets<N>, DecodeError>
-    ensures { Reads D.told D.rest D.charge D.failures D.place D.C.bound D.R.ended D.R.device ⊥ (octets N)
+    ensures { Reads D.is_known D.remaining D.charge D.failures D.loans D.C.bound D.R.end_error D.R.device ⊥ (octets N)
         (λ m v. IsBytes v.octets m) (D.charge decoder.old) result decoder.old decoder.new }
 {
     decoder.claim_bytes_read(N)?;

@@ -1,16 +1,16 @@
 //! Tags of enums, read through any decoder, and the error of one that no variant has.
 ghost use Rattle.std.specs.Prelude.{◌≡◌, ◌⊎◌, ◌++◌, false, OnOk, IfOk};
-ghost use Rattle.bincode_format.specs.Fault.{TellsTag};
+ghost use Rattle.bincode_spec.specs.Fault.{TellsTag};
 ghost use Rattle.bincode_base.specs.declared.error.DecodeError.TheVariants.{Memory};
-ghost use Rattle.bincode_format.specs.Words.{tags_of, in_order, last_of, allowed_tags};
-ghost use Rattle.bincode_format.specs.Values.{Reads};
+ghost use Rattle.bincode_spec.specs.Words.{variant_tags, in_order, last_of, allowed_tags};
+ghost use Rattle.bincode_spec.specs.Values.{Reads};
 
 use crate::decoder::Decoder;
 use crate::integers::{decode_byte, decode_integer};
 use bincode_base::error::{AllowedEnumVariants, DecodeError};
 use bincode_base::short_text::TypeName;
-use bincode_wire::sums::{NoOther, Or, Tag, Variants};
-use bincode_wire::wire::Wire;
+use bincode_types::sums::{NoMoreVariants, VariantOf, Tag, Variants};
+use bincode_types::wire::Wire;
 use std::alloc::{AllocError, Global};
 use std::net::{IpAddr, SocketAddr};
 use std::ops::Bound;
@@ -54,7 +54,7 @@ impl Named for SocketAddr {
 pub trait DecodeTag: Tag {
     /// Reads a tag.
     fn decode_tag<D: Decoder>(decoder: &mut D) -> Result<u32, DecodeError>
-        ensures { Reads D.told D.rest D.charge D.failures D.place D.C.bound D.R.ended D.R.device ⊥
+        ensures { Reads D.is_known D.remaining D.charge D.failures D.loans D.C.bound D.R.end_error D.R.device ⊥
             (Self.tags D.C.setting) (λ n v. n ≡ v) (D.charge decoder.old) result decoder.old decoder.new };
 }
 
@@ -77,18 +77,18 @@ impl DecodeTag for u32 {
 pub trait Listed: Variants {
     /// Whether the tags stand in order, from `next` on.
     fn are_in_order(next: u64) -> bool
-        ensures { result ≡ in_order next (tags_of Self.variants) };
+        ensures { result ≡ in_order next (variant_tags Self.variants) };
 
     /// The last tag, or the one before where there is none.
     fn last_tag(before: u32) -> u32
-        ensures { result ≡ last_of before (tags_of Self.variants) };
+        ensures { result ≡ last_of before (variant_tags Self.variants) };
 
     /// Adds the tags to a list.
     fn push_tags(tags: &mut Vec<u32>) -> Result<(), AllocError>
-        ensures { OnOk result (tags.new.items ≡ tags.old.items ++ tags_of Self.variants) };
+        ensures { OnOk result (tags.new.items ≡ tags.old.items ++ variant_tags Self.variants) };
 }
 
-impl<Of, T: Tag> Listed for NoOther<Of, T> {
+impl<Of, T: Tag> Listed for NoMoreVariants<Of, T> {
     fn are_in_order(_next: u64) -> bool {
         true
     }
@@ -102,7 +102,7 @@ impl<Of, T: Tag> Listed for NoOther<Of, T> {
     }
 }
 
-impl<const TAG: u32, A: Wire, Others: Listed> Listed for Or<TAG, A, Others> {
+impl<const TAG: u32, A: Wire, Others: Listed> Listed for VariantOf<TAG, A, Others> {
     fn are_in_order(next: u64) -> bool {
         u64::from(TAG) == next && Others::are_in_order(next + 1)
     }
@@ -120,8 +120,8 @@ impl<const TAG: u32, A: Wire, Others: Listed> Listed for Or<TAG, A, Others> {
 /// The error of a tag that was read and that none of a type's `All` variants has.
 #[inline(always)]
 pub fn unexpected_tag<Of: Named, All: Listed, D: Decoder>(decoder: &D, found: u32) -> DecodeError
-    ensures { ((name : _) × TellsTag name (allowed_tags (tags_of All.variants)) found result)
-        ⊎ ((in_order 0 (tags_of All.variants) ≡ false) × (result ≡ Memory)) }
+    ensures { ((name : _) × TellsTag name (allowed_tags (variant_tags All.variants)) found result)
+        ⊎ ((in_order 0 (variant_tags All.variants) ≡ false) × (result ≡ Memory)) }
 {
     unexpected::<Of, All>(decoder.alloc(), found)
 }
@@ -130,8 +130,8 @@ pub fn unexpected_tag<Of: Named, All: Listed, D: Decoder>(decoder: &D, found: u3
 #[cold]
 #[inline(never)]
 fn unexpected<Of: Named, All: Listed>(alloc: Global, found: u32) -> DecodeError
-    ensures { ((name : _) × TellsTag name (allowed_tags (tags_of All.variants)) found result)
-        ⊎ ((in_order 0 (tags_of All.variants) ≡ false) × (result ≡ Memory)) }
+    ensures { ((name : _) × TellsTag name (allowed_tags (variant_tags All.variants)) found result)
+        ⊎ ((in_order 0 (variant_tags All.variants) ≡ false) × (result ≡ Memory)) }
 {
     let type_name = Of::type_name();
     if All::are_in_order(0) {

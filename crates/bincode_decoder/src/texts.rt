@@ -2,15 +2,15 @@
 ghost use Rattle.std.specs.Prelude.{◌≡◌, ◌<◌, length, IfOk, IfErr, vec_len, vec_capacity};
 ghost use Rattle.bincode_base.specs.declared.error.DecodeError.TheVariants.{Memory};
 ghost use Rattle.std.specs.String.{string_bytes, string_capacity};
-ghost use Rattle.bincode_format.specs.Format.{raw, unsure, charged};
-ghost use Rattle.bincode_format.specs.Meaning.{IsBytes};
-ghost use Rattle.bincode_format.specs.Words.{counted, text};
-ghost use Rattle.bincode_format.specs.Values.{Reads};
+ghost use Rattle.bincode_spec.specs.Format.{fixed_bytes, without_count, charge_then};
+ghost use Rattle.bincode_spec.specs.Meaning.{IsBytes};
+ghost use Rattle.bincode_spec.specs.Words.{length_prefixed, text};
+ghost use Rattle.bincode_spec.specs.Values.{Reads};
 ghost use Rattle.bincode_decoder.specs.Memory.{RefusedForSome};
 
 use crate::decoder::Decoder;
 use crate::integers::read_from;
-use crate::lists::decode_length;
+use crate::lengths::decode_length;
 use bincode_base::error::DecodeError;
 use std::alloc::Global;
 
@@ -18,7 +18,7 @@ use std::alloc::Global;
 fn zeros(alloc: Global, count: usize) -> Result<Vec<u8>, DecodeError>
     ensures length { IfOk result (λ v. vec_len v ≡ count) }
     ensures room { IfOk result (λ v. vec_capacity v ≡ count) }
-    ensures refused { IfErr result (λ e. (0 < count) × (e ≡ Memory)) }
+    ensures memory { IfErr result (λ e. (0 < count) × (e ≡ Memory)) }
 {
     let Ok(mut bytes) = Vec::with_capacity(alloc, count) else {
         return Err(DecodeError::Memory);
@@ -34,9 +34,9 @@ fn zeros(alloc: Global, count: usize) -> Result<Vec<u8>, DecodeError>
 /// bytes, and where the reader does. A fault leaves what was charged before it.
 fn decode_claimed<D: Decoder>(decoder: &mut D, count: usize) -> Result<Vec<u8>, DecodeError>
     ensures room { IfOk result (λ v. vec_capacity v ≡ length v.items) }
-    ensures read { Reads D.told D.rest D.charge D.failures D.place D.C.bound D.R.ended D.R.device (0 < count)
-        (charged count (unsure (raw count))) (λ bytes v. bytes ≡ v.items) (D.charge decoder.old) result decoder.old
-        decoder.new }
+    ensures read { Reads D.is_known D.remaining D.charge D.failures D.loans D.C.bound D.R.end_error D.R.device
+        (0 < count) (charge_then count (without_count (fixed_bytes count))) (λ bytes v. bytes ≡ v.items)
+        (D.charge decoder.old) result decoder.old decoder.new }
 {
     decoder.claim_bytes_read(count)?;
     let mut bytes = zeros(decoder.alloc(), count)?;
@@ -48,25 +48,27 @@ fn decode_claimed<D: Decoder>(decoder: &mut D, count: usize) -> Result<Vec<u8>, 
 /// length can't be read, with `LimitExceeded` where the charge for the bytes passes the limit, with `Memory` where
 /// their room is refused, which it never is for no bytes, and where the reader fails. A fault leaves what was charged
 /// before it.
-pub fn decode_counted<D: Decoder>(decoder: &mut D) -> Result<Vec<u8>, DecodeError>
+pub fn decode_length_prefixed<D: Decoder>(decoder: &mut D) -> Result<Vec<u8>, DecodeError>
     ensures room { IfOk result (λ v. vec_capacity v ≡ length v.items) }
-    ensures read { Reads D.told D.rest D.charge D.failures D.place D.C.bound D.R.ended D.R.device (Unit {0})
-        (counted D.C.setting) (λ bytes v. bytes ≡ v.items) (D.charge decoder.old) result decoder.old decoder.new }
-    ensures refused { RefusedForSome D.told D.rest D.C.setting D.R.ended D.R.device result decoder.old }
+    ensures read { Reads D.is_known D.remaining D.charge D.failures D.loans D.C.bound D.R.end_error D.R.device
+        (Unit {0}) (length_prefixed D.C.setting) (λ bytes v. bytes ≡ v.items) (D.charge decoder.old) result decoder.old
+        decoder.new }
+    ensures memory { RefusedForSome D.is_known D.remaining D.C.setting D.R.end_error D.R.device result decoder.old }
 {
     let count = decode_length(decoder)?;
     decode_claimed(decoder, count)
 }
 
-/// Reads a length, and so many bytes as a text, with room for just so many. Fails where `decode_counted` does, or with
+/// Reads a length, and so many bytes as a text, with room for just so many. Fails where `decode_length_prefixed` does,
+/// or with
 /// `Utf8` where the bytes, all of which are read, are no text. A fault leaves what was charged before it.
 pub fn decode_text<D: Decoder>(decoder: &mut D) -> Result<String, DecodeError>
-    ensures read { Reads D.told D.rest D.charge D.failures D.place D.C.bound D.R.ended D.R.device (Unit {0})
-        (text D.C.setting) (λ m v. IsBytes (string_bytes v) m × (string_capacity v ≡ length (string_bytes v)))
-        (D.charge decoder.old) result decoder.old decoder.new }
-    ensures refused { RefusedForSome D.told D.rest D.C.setting D.R.ended D.R.device result decoder.old }
+    ensures read { Reads D.is_known D.remaining D.charge D.failures D.loans D.C.bound D.R.end_error D.R.device
+        (Unit {0}) (text D.C.setting) (λ m v. IsBytes (string_bytes v) m × (string_capacity v ≡ length
+        (string_bytes v))) (D.charge decoder.old) result decoder.old decoder.new }
+    ensures memory { RefusedForSome D.is_known D.remaining D.C.setting D.R.end_error D.R.device result decoder.old }
 {
-    let bytes = decode_counted(decoder)?;
+    let bytes = decode_length_prefixed(decoder)?;
     match String::from_utf8(bytes) {
         Ok(text) => Ok(text),
         Err(fault) => Err(DecodeError::Utf8 {

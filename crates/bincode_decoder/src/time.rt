@@ -1,22 +1,22 @@
 //! Spans of time, read through any decoder.
 ghost use Rattle.std.specs.Prelude.{pos};
-ghost use Rattle.bincode_format.specs.Meaning.{IsNumber, IsThen, IsNothing};
-ghost use Rattle.bincode_format.specs.Words.{duration};
-ghost use Rattle.bincode_wire.specs.Durations.{secs_of, nanos_of};
-ghost use Rattle.bincode_format.specs.Values.{Reads};
+ghost use Rattle.bincode_spec.specs.Meaning.{IsNumber, IsThen, IsNothing};
+ghost use Rattle.bincode_spec.specs.Words.{duration};
+ghost use Rattle.bincode_types.specs.Durations.{secs_of, nanos_of};
+ghost use Rattle.bincode_spec.specs.Values.{Reads};
 
 use crate::decoder::Decoder;
 use crate::integers::decode_integer;
 use bincode_base::error::DecodeError;
-use bincode_wire::own::time::Duration;
+use bincode_types::own::time::Duration;
 
 /// Charges for the seconds and reads them, and then for the nanoseconds, of which whole seconds are carried. Fails
 /// where one of the numbers does, or with `InvalidDuration`, which has both as they were read, where the seconds pass
 /// 64 bits. A fault leaves what was charged before it.
 pub fn decode_duration<D: Decoder>(decoder: &mut D) -> Result<Duration, DecodeError>
-    ensures { Reads D.told D.rest D.charge D.failures D.place D.C.bound D.R.ended D.R.device ⊥ (duration D.C.setting)
-        (λ m v. IsThen (IsNumber (pos (secs_of v))) (IsThen (IsNumber (pos (nanos_of v))) IsNothing) m)
-        (D.charge decoder.old) result decoder.old decoder.new }
+    ensures { Reads D.is_known D.remaining D.charge D.failures D.loans D.C.bound D.R.end_error D.R.device ⊥
+        (duration D.C.setting) (λ m v. IsThen (IsNumber (pos (secs_of v))) (IsThen (IsNumber (pos (nanos_of v)))
+        IsNothing) m) (D.charge decoder.old) result decoder.old decoder.new }
 {
     let secs: u64 = decode_integer(decoder)?;
     let nanos: u32 = decode_integer(decoder)?;

@@ -1,7 +1,7 @@
 //! Truth values, read through any decoder.
-ghost use Rattle.bincode_format.specs.Meaning.{IsTruth};
-ghost use Rattle.bincode_format.specs.Words.{truth};
-ghost use Rattle.bincode_format.specs.Values.{ReadsCharged};
+ghost use Rattle.bincode_spec.specs.Meaning.{IsTruth};
+ghost use Rattle.bincode_spec.specs.Words.{truth};
+ghost use Rattle.bincode_spec.specs.Values.{ReadsCharged};
 
 use crate::decoder::Decoder;
 use crate::integers::decode_byte;
@@ -9,7 +9,7 @@ use bincode_base::error::DecodeError;
 
 /// Charges for a truth value, and reads it. A fault leaves what was charged before it.
 pub fn decode_truth<D: Decoder>(decoder: &mut D) -> Result<bool, DecodeError>
-    ensures { ReadsCharged D.told D.rest D.charge D.failures D.place D.C.bound D.R.ended D.R.device truth
+    ensures { ReadsCharged D.is_known D.remaining D.charge D.failures D.loans D.C.bound D.R.end_error D.R.device truth
         (λ m v. IsTruth v m) 1 result decoder.old decoder.new }
 {
     match decode_byte(decoder)? {

@@ -5,17 +5,17 @@ use Rattle.std.specs.declared.vec.Vec.{Vec}
 use Rattle.std.proofs.Common.{◌∙◌, ap, sym, arith, append_assoc, append-nil}
 use Rattle.std.proofs.lemmas.Bool.{eqb-true}
 use Rattle.bincode_base.specs.Setting.{Setting}
-use Rattle.bincode_format.specs.Format.{Format}
-use Rattle.bincode_format.specs.Meaning.{Meaning}
-use Rattle.bincode_format.specs.Words.{nothing, first_and, tuple, list, array, Variant, tags_of, in_order, chosen, tag}
-use Rattle.bincode_laws.specs.EqualLaws.{both-show}
+use Rattle.bincode_spec.specs.Format.{Format}
+use Rattle.bincode_spec.specs.Meaning.{Meaning}
+use Rattle.bincode_spec.specs.Words.{nothing, first_and, tuple, list, array, Variant, variant_tags, in_order, tag_then_part, tag}
+use Rattle.bincode_lemmas.specs.EqualLaws.{both-show}
 use Rattle.bincode_shape.specs.declared.shape.Shape as shapes
 use Rattle.bincode_shape.specs.declared.shape.Shape.{Shape}
 use Rattle.bincode_shape.specs.Shapes.{format_of, at, share, byte_tag, one_of, numbered}
 use Rattle.bincode_shape.specs.Rows.{formats, formats_of-vec}
 use Rattle.bincode_shape.specs.Same.{SameWords, same-itself, list-same, array-same, first_and-same}
 use Rattle.bincode_shape.specs.SameChoices.{SameVariants, chosen-same}
-use Rattle.bincode_wire.specs.TypeWords.{Words}
+use Rattle.bincode_types.specs.TypeWords.{Words}
 use Rattle.bincode_described.specs.Describing.{Describes, DescribesRow, DescribesVariants}
 
 share-claims : (claim : ℕ) → 1 ≤ claim → share claim ≡ claim
@@ -36,15 +36,15 @@ array_described len claim b F s h f = rw (share-claims claim h) (array-same len 
 
 -- an option
 pub option_described : (b : Box Shape Global) (F : Setting → Format Meaning) (s : Setting) → SameWords (format_of b.value s) (F s) →
-    SameWords (format_of (shapes.Optional b) s) (chosen byte_tag ((0, λ s. nothing) ∷ (1, F) ∷ []) s)
+    SameWords (format_of (shapes.Optional b) s) (tag_then_part byte_tag ((0, λ s. nothing) ∷ (1, F) ∷ []) s)
 option_described b F s f = chosen-same byte_tag s _ _ (refl, same-itself nothing, (refl, f, tt))
 
 -- an enum whose tags count from 0
 pub choice_described : (v : Vec Shape Global) (variants : List Variant) (s : Setting) → DescribesVariants [] v.items variants →
-    (0 < length variants) × (in_order 0 (tags_of variants) ≡ true) → SameWords (format_of (shapes.Choice v) s) (chosen tag variants s)
+    (0 < length variants) × (in_order 0 (variant_tags variants) ≡ true) → SameWords (format_of (shapes.Choice v) s) (tag_then_part tag variants s)
 choice_described v variants s d counted = rw (formats_of-vec v, d.1) (chosen-parts d.0 variants counted.0 (d.2 0 s counted.1)) where
   chosen-parts : (parts : List Shape) (variants : List Variant) → 0 < length variants → SameVariants s (numbered 0 (formats parts)) variants →
-      SameWords (one_of (numbered 0 (formats parts)) s) (chosen tag variants s)
+      SameWords (one_of (numbered 0 (formats parts)) s) (tag_then_part tag variants s)
   chosen-parts parts [] some h = absurd (omega (arith, some))
   chosen-parts [] (w ∷ ws) some h = absurd h
   chosen-parts (p ∷ ps) (w ∷ ws) some h = chosen-same tag s _ _ h

@@ -1,13 +1,13 @@
 -- What it is for a shape to describe a type.
 use Rattle.std.specs.Prelude.{◌≡◌, ℕ, List, ◌++◌, true}
 use Rattle.bincode_base.specs.Setting.{Setting}
-use Rattle.bincode_format.specs.Words.{Variant, tags_of, in_order, tuple}
+use Rattle.bincode_spec.specs.Words.{Variant, variant_tags, in_order, tuple}
 use Rattle.bincode_shape.specs.declared.shape.Shape.{Shape}
 use Rattle.bincode_shape.specs.Rows.{formats}
 use Rattle.bincode_shape.specs.Same.{SameWords}
 use Rattle.bincode_shape.specs.SameChoices.{SameVariants}
 use Rattle.bincode_shape.specs.Shapes.{format_of, at, numbered}
-use Rattle.bincode_wire.specs.TypeWords.{Words}
+use Rattle.bincode_types.specs.TypeWords.{Words}
 
 -- the shape has the type's words, with their meanings and steps, and its faults, in each setting
 abbrev pub Describes : {A : Type 0} → Shape → Words A → Type 0
@@ -21,4 +21,4 @@ DescribesRow before after W = (parts : List Shape) × (after ≡ before ++ parts
 abbrev pub DescribesVariants : List Shape → List Shape → List Variant → Type 0
 DescribesVariants before after variants =
     (parts : List Shape) × (after ≡ before ++ parts)
-    × ((n : ℕ) (s : Setting) → in_order n (tags_of variants) ≡ true → SameVariants s (numbered n (formats parts)) variants)
+    × ((n : ℕ) (s : Setting) → in_order n (variant_tags variants) ≡ true → SameVariants s (numbered n (formats parts)) variants)

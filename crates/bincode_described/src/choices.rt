@@ -1,14 +1,14 @@
 //! The shapes of options, and of enums whose tags count from 0.
 ghost use Rattle.std.specs.Prelude.{◌≡◌, ◌<◌, IfSome, true, length, refl};
 ghost use Rattle.std.proofs.Common.{arith};
-ghost use Rattle.bincode_format.specs.Words.{tags_of, in_order};
+ghost use Rattle.bincode_spec.specs.Words.{variant_tags, in_order};
 ghost use Rattle.bincode_described.specs.Describing.{DescribesVariants};
 
 use crate::described::Described;
 use crate::rows::put_shape;
 use bincode_shape::shape::Shape;
-use bincode_wire::sums::{NoOther, OneOf, Or, Variants};
-use bincode_wire::wire::Wire;
+use bincode_types::sums::{NoMoreVariants, EnumOf, VariantOf, Variants};
+use bincode_types::wire::Wire;
 use std::alloc::Global;
 
 impl<T: Described> Described for Option<T> {
@@ -34,7 +34,7 @@ pub trait DescribedVariants: Variants {
         ensures { IfSome result (λ put. DescribesVariants shapes.items put.items Self.variants) };
 }
 
-impl<Of> DescribedVariants for NoOther<Of> {
+impl<Of> DescribedVariants for NoMoreVariants<Of> {
     #[tactic(auto, using(crate::proofs::Formats::no_variants_described))]
     fn put_shapes(_alloc: Global, shapes: Vec<Shape>) -> Option<Vec<Shape>> {
         Some(shapes)
@@ -42,7 +42,7 @@ impl<Of> DescribedVariants for NoOther<Of> {
 }
 
 impl<const TAG: u32, A: Described, Others: DescribedVariants> DescribedVariants
-    for Or<TAG, A, Others> {
+    for VariantOf<TAG, A, Others> {
     fn put_shapes(alloc: Global, shapes: Vec<Shape>) -> Option<Vec<Shape>> {
         let shapes = put_shape::<A>(alloc, shapes)?;
         Others::put_shapes(alloc, shapes)
@@ -51,11 +51,11 @@ impl<const TAG: u32, A: Described, Others: DescribedVariants> DescribedVariants
 
 /// Variants whose tags are 0, 1 and so on: of one to eight.
 pub trait CountedVariants: Variants<Tag = u32> {
-    ghost counted: { (0 < length Self.variants) × (in_order 0 (tags_of Self.variants) ≡ true) };
+    ghost failures_monotone: { (0 < length Self.variants) × (in_order 0 (variant_tags Self.variants) ≡ true) };
 }
 
 /// An enum whose tags count from 0 is described as the choice of what its variants hold.
-impl<Of: DescribedVariants + CountedVariants> Described for OneOf<Of> {
+impl<Of: DescribedVariants + CountedVariants> Described for EnumOf<Of> {
     #[tactic(auto, using(crate::proofs::Formats::choice_described))]
     fn shape(alloc: Global) -> Option<Shape> {
         let parts = Of::put_shapes(alloc, Vec::new(alloc))?;
@@ -63,43 +63,47 @@ impl<Of: DescribedVariants + CountedVariants> Described for OneOf<Of> {
     }
 }
 
-impl<A: Wire, Of> CountedVariants for Or<0, A, NoOther<Of>> {
-    ghost counted = { (omega arith, refl) };
+impl<A: Wire, Of> CountedVariants for VariantOf<0, A, NoMoreVariants<Of>> {
+    ghost failures_monotone = { (omega arith, refl) };
 }
 
-impl<A: Wire, B: Wire, Of> CountedVariants for Or<0, A, Or<1, B, NoOther<Of>>> {
-    ghost counted = { (omega arith, refl) };
+impl<A: Wire, B: Wire, Of> CountedVariants for VariantOf<0, A, VariantOf<1, B, NoMoreVariants<Of>>> {
+    ghost failures_monotone = { (omega arith, refl) };
 }
 
-impl<A: Wire, B: Wire, C: Wire, Of> CountedVariants for Or<0, A, Or<1, B, Or<2, C, NoOther<Of>>>> {
-    ghost counted = { (omega arith, refl) };
+impl<A: Wire, B: Wire, C: Wire, Of> CountedVariants for VariantOf<0, A, VariantOf<1, B, VariantOf<2, C,
+NoMoreVariants<Of>>>> {
+    ghost failures_monotone = { (omega arith, refl) };
 }
 
 impl<A: Wire, B: Wire, C: Wire, D: Wire, Of> CountedVariants
-    for Or<0, A, Or<1, B, Or<2, C, Or<3, D, NoOther<Of>>>>> {
-    ghost counted = { (omega arith, refl) };
+    for VariantOf<0, A, VariantOf<1, B, VariantOf<2, C, VariantOf<3, D, NoMoreVariants<Of>>>>> {
+    ghost failures_monotone = { (omega arith, refl) };
 }
 
 impl<A: Wire, B: Wire, C: Wire, D: Wire, E: Wire, Of> CountedVariants
-    for Or<0, A, Or<1, B, Or<2, C, Or<3, D, Or<4, E, NoOther<Of>>>>>> {
-    ghost counted = { (omega arith, refl) };
+    for VariantOf<0, A, VariantOf<1, B, VariantOf<2, C, VariantOf<3, D, VariantOf<4, E, NoMoreVariants<Of>>>>>> {
+    ghost failures_monotone = { (omega arith, refl) };
 }
 
 impl<A: Wire, B: Wire, C: Wire, D: Wire, E: Wire, F: Wire, Of> CountedVariants
-    for Or<0, A, Or<1, B, Or<2, C, Or<3, D, Or<4, E, Or<5, F, NoOther<Of>>>>>>> {
-    ghost counted = { (omega arith, refl) };
+    for VariantOf<0, A, VariantOf<1, B, VariantOf<2, C, VariantOf<3, D, VariantOf<4, E, VariantOf<5, F,
+    NoMoreVariants<Of>>>>>>> {
+    ghost failures_monotone = { (omega arith, refl) };
 }
 
 impl<A: Wire, B: Wire, C: Wire, D: Wire, E: Wire, F: Wire, G: Wire, Of> CountedVariants
-    for Or<0, A, Or<1, B, Or<2, C, Or<3, D, Or<4, E, Or<5, F, Or<6, G, NoOther<Of>>>>>>>> {
-    ghost counted = { (omega arith, refl) };
+    for VariantOf<0, A, VariantOf<1, B, VariantOf<2, C, VariantOf<3, D, VariantOf<4, E, VariantOf<5, F, VariantOf<6, G,
+    NoMoreVariants<Of>>>>>>>> {
+    ghost failures_monotone = { (omega arith, refl) };
 }
 
 impl<A: Wire, B: Wire, C: Wire, D: Wire, E: Wire, F: Wire, G: Wire, H: Wire, Of> CountedVariants
-    for Or<
+    for VariantOf<
         0,
         A,
-        Or<1, B, Or<2, C, Or<3, D, Or<4, E, Or<5, F, Or<6, G, Or<7, H, NoOther<Of>>>>>>>>,
+        VariantOf<1, B, VariantOf<2, C, VariantOf<3, D, VariantOf<4, E, VariantOf<5, F, VariantOf<6, G, VariantOf<7, H,
+        NoMoreVariants<Of>>>>>>>>,
     > {
-    ghost counted = { (omega arith, refl) };
+    ghost failures_monotone = { (omega arith, refl) };
 }

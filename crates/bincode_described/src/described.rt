@@ -3,7 +3,7 @@ ghost use Rattle.std.specs.Prelude.{IfSome, IsSome};
 ghost use Rattle.bincode_described.specs.Describing.{Describes};
 
 use bincode_shape::shape::Shape;
-use bincode_wire::wire::Wire;
+use bincode_types::wire::Wire;
 use std::alloc::Global;
 
 /// A type whose words a shape describes. A type of a user's own hands on what its parts tell: `Parts::shape(alloc)`.
@@ -15,6 +15,6 @@ pub trait Described: Wire {
     /// The shape, made anew at each call. `None` says that memory for it was refused, and nothing else: where the shape
     /// takes none it is always told.
     fn shape(alloc: Global) -> Option<Shape>
-        ensures described { IfSome result (λ shape. Describes shape Self.its) }
-        ensures told { (shape_grows → ⊥) → IsSome result };
+        ensures described { IfSome result (λ shape. Describes shape Self.words) }
+        ensures shaped { (shape_grows → ⊥) → IsSome result };
 }

@@ -1,7 +1,7 @@
 //! The shapes of lists, arrays, texts and boxes.
 use crate::described::Described;
 use bincode_shape::shape::Shape;
-use bincode_wire::wire::Wire;
+use bincode_types::wire::Wire;
 use std::alloc::Global;
 
 impl<T: Described> Described for Vec<T> {

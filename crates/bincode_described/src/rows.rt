@@ -5,16 +5,16 @@ ghost use Rattle.bincode_described.specs.Describing.{Describes, DescribesRow};
 
 use crate::described::Described;
 use bincode_shape::shape::Shape;
-use bincode_wire::parted::Parted;
-use bincode_wire::rows::{LongRow, Rest, Row};
-use bincode_wire::wire::Wire;
+use bincode_types::by_parts::ByParts;
+use bincode_types::rows::{Cons4, Tail, Cons};
+use bincode_types::wire::Wire;
 use std::alloc::Global;
 
 /// Parts in a row, each of which has a shape.
 pub trait DescribedRow: Wire {
     /// Puts the shapes of the parts behind these. `None` where memory is refused.
     fn put_shapes(alloc: Global, shapes: Vec<Shape>) -> Option<Vec<Shape>>
-        ensures { IfSome result (λ put. DescribesRow shapes.items put.items Self.its) };
+        ensures { IfSome result (λ put. DescribesRow shapes.items put.items Self.words) };
 }
 
 impl DescribedRow for () {
@@ -24,7 +24,7 @@ impl DescribedRow for () {
     }
 }
 
-impl<A: Described, Others: DescribedRow + Rest> DescribedRow for Row<A, Others> {
+impl<A: Described, Others: DescribedRow + Tail> DescribedRow for Cons<A, Others> {
     fn put_shapes(alloc: Global, shapes: Vec<Shape>) -> Option<Vec<Shape>> {
         let shapes = put_shape::<A>(alloc, shapes)?;
         Others::put_shapes(alloc, shapes)
@@ -36,8 +36,8 @@ impl<
     B: Described,
     C: Described,
     D: Described,
-    Others: DescribedRow + Rest,
-> DescribedRow for LongRow<A, B, C, D, Others> {
+    Others: DescribedRow + Tail,
+> DescribedRow for Cons4<A, B, C, D, Others> {
     fn put_shapes(alloc: Global, shapes: Vec<Shape>) -> Option<Vec<Shape>> {
         let shapes = put_shape::<A>(alloc, shapes)?;
         let shapes = put_shape::<B>(alloc, shapes)?;
@@ -49,10 +49,10 @@ impl<
 
 /// The shape of a tuple, by the row that it is written as.
 #[tactic(auto, using(crate::proofs::Formats::tuple_described))]
-pub(crate) fn tuple_shape<T: Parted>(alloc: Global) -> Option<Shape>
+pub(crate) fn tuple_shape<T: ByParts>(alloc: Global) -> Option<Shape>
 where
     T::Parts: DescribedRow,
-    ensures { IfSome result (λ shape. Describes shape T.Parts.its) }
+    ensures { IfSome result (λ shape. Describes shape T.Parts.words) }
 {
     let parts = T::Parts::put_shapes(alloc, Vec::new(alloc))?;
     Some(Shape::Tuple(parts))
@@ -61,7 +61,7 @@ where
 /// Puts the shape of a type behind these. `None` where memory is refused.
 pub(crate) fn put_shape<T: Described>(alloc: Global, shapes: Vec<Shape>) -> Option<Vec<Shape>>
     ensures { IfSome result (λ put. (part : Shape) × (put.items ≡ shapes.items ++ part ∷ [])
-        × Describes part T.its) }
+        × Describes part T.words) }
 {
     let mut shapes = shapes;
     shapes.push(T::shape(alloc)?).ok()?;

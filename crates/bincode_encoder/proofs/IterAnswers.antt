@@ -4,14 +4,14 @@ use Rattle.std.specs.List.{All}
 use Rattle.std.proofs.Common.{sym, ◌∙◌, ap, subst, append_assoc, append-nil}
 use Rattle.std.proofs.lemmas.List.Elements.{All-push}
 use Rattle.bincode_base.specs.declared.error.EncodeError.{EncodeError}
-use Rattle.bincode_format.specs.Format.{Format}
-use Rattle.bincode_format.specs.Meaning.{Meaning}
-use Rattle.bincode_format.specs.Words.{array}
-use Rattle.bincode_format.specs.Allowed.{AllowedWord}
-use Rattle.bincode_format.specs.Run.{IsListOf, AllowsEach}
-use Rattle.bincode_format.specs.Encoding.{Adds, Refuses, Writes, Ready, Halts}
-use Rattle.bincode_laws.specs.RunAllowedLaws.{array-allows}
-use Rattle.bincode_laws.specs.EncodingLaws.{writes-same}
+use Rattle.bincode_spec.specs.Format.{Format}
+use Rattle.bincode_spec.specs.Meaning.{Meaning}
+use Rattle.bincode_spec.specs.Words.{array}
+use Rattle.bincode_spec.specs.Allowed.{AllowedWord}
+use Rattle.bincode_spec.specs.Run.{IsListOf, AllowsEach}
+use Rattle.bincode_spec.specs.Encoding.{Adds, Refuses, Writes, Ready, EncodeFailure}
+use Rattle.bincode_lemmas.specs.RunAllowedLaws.{array-allows}
+use Rattle.bincode_lemmas.specs.EncodingLaws.{writes-same}
 use Rattle.bincode_encoder.proofs.EncodingAnswers.{Joined}
 use Rattle.bincode_encoder.proofs.RunAnswers.{writes-push, halts-between, halts_array}
 
@@ -58,10 +58,10 @@ module _ {W : Type 0} (adds : Adds W) {A : Type 0} (Means : A → Meaning → Ty
   -- where an item stops, so does the array
   pub written-halts : (refuses : Refuses W) → Joined adds → (share : ℕ) (Writable : A → Type 0) (N : EncodeError → Type 0) {vs left rest : List A} {v : A}
       {before between after : W} {e : EncodeError} →
-      WrittenSoFar vs left before between → left ≡ v ∷ rest → Halts adds refuses (Ready (Writable v) (AllowedWord (Means v) F)) N between after e →
-      Halts adds refuses (Ready (All Writable vs) (AllowedWord (IsListOf Means vs) (array (length vs) share F))) N before after e
+      WrittenSoFar vs left before between → left ≡ v ∷ rest → EncodeFailure adds refuses (Ready (Writable v) (AllowedWord (Means v) F)) N between after e →
+      EncodeFailure adds refuses (Ready (All Writable vs) (AllowedWord (IsListOf Means vs) (array (length vs) share F))) N before after e
   written-halts refuses join share Writable N {vs = vs} {rest = rest} {v = v} {before = before} {between = between} {after = after} {e = why} (xs, e, d) f h =
       let p : xs ++ v ∷ rest ≡ vs = ap (λ z. xs ++ z) (sym f) ∙ e in
-      subst (λ z. Halts adds refuses (Ready (All Writable z) (AllowedWord (IsListOf Means z) (array (length z) share F))) N before after why) p
+      subst (λ z. EncodeFailure adds refuses (Ready (All Writable z) (AllowedWord (IsListOf Means z) (array (length z) share F))) N before after why) p
       (halts_array adds refuses Means share F _ N _ (xs ++ v ∷ rest) before after why refl
       (halts-between adds refuses join Writable (λ v. AllowedWord (Means v) F) N before between after xs rest v why d h))

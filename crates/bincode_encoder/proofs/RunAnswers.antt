@@ -5,14 +5,14 @@ use Rattle.std.proofs.Common.{sym, ◌∙◌, ap, subst, inl, inr, append_assoc,
 use Rattle.std.proofs.lemmas.List.{take_more, take_all, take-append-drop}
 use Rattle.std.proofs.lemmas.List.Elements.{All-nil, All-cons, All-head, All-tail}
 use Rattle.bincode_base.specs.declared.error.EncodeError.{EncodeError}
-use Rattle.bincode_format.specs.Format.{Format}
-use Rattle.bincode_format.specs.Meaning.{Meaning}
-use Rattle.bincode_format.specs.Words.{array}
-use Rattle.bincode_format.specs.Allowed.{AllowedWord, Both}
-use Rattle.bincode_format.specs.Run.{IsListOf, AllowsEach}
-use Rattle.bincode_laws.specs.RunAllowedLaws.{array-allows, allowed-array, each-join, each-split}
-use Rattle.bincode_format.specs.Encoding.{Adds, Refuses, Writes, Ready, Halts}
-use Rattle.bincode_laws.specs.EncodingLaws.{writes-both, writes-same, halts-first, halts-next, halts-same, halts-named, ready-as}
+use Rattle.bincode_spec.specs.Format.{Format}
+use Rattle.bincode_spec.specs.Meaning.{Meaning}
+use Rattle.bincode_spec.specs.Words.{array}
+use Rattle.bincode_spec.specs.Allowed.{AllowedWord, Both}
+use Rattle.bincode_spec.specs.Run.{IsListOf, AllowsEach}
+use Rattle.bincode_lemmas.specs.RunAllowedLaws.{array-allows, allowed-array, each-join, each-split}
+use Rattle.bincode_spec.specs.Encoding.{Adds, Refuses, Writes, Ready, EncodeFailure}
+use Rattle.bincode_lemmas.specs.EncodingLaws.{writes-both, writes-same, halts-first, halts-next, halts-same, halts-named, ready-as}
 
 -- the items before an index, the item there and those behind it
 around : {A : Type 0} (vs : List A) (i : ℕ) (v : A) → i < length vs → v ≡ slice_index_or vs i v → vs ≡ take i vs ++ v ∷ drop (i + 1) vs
@@ -88,8 +88,8 @@ module _ {W : Type 0} (adds : Adds W) (refuses : Refuses W) where
   -- where an item stops, so does the run
   pub halts-between : ((a b c : W) (x y : List ℕ) → adds a x b → adds b y c → adds a (x ++ y) c) →
       {A : Type 0} (Writable : A → Type 0) (Allowed : A → List ℕ → Type 0) (N : EncodeError → Type 0) (before between after : W) (xs ys : List A) (v : A) (e : EncodeError) →
-      Writes adds (AllowsEach Allowed xs) before between → Halts adds refuses (Ready (Writable v) (Allowed v)) N between after e →
-      Halts adds refuses (Ready (All Writable (xs ++ v ∷ ys)) (AllowsEach Allowed (xs ++ v ∷ ys))) N before after e
+      Writes adds (AllowsEach Allowed xs) before between → EncodeFailure adds refuses (Ready (Writable v) (Allowed v)) N between after e →
+      EncodeFailure adds refuses (Ready (All Writable (xs ++ v ∷ ys)) (AllowsEach Allowed (xs ++ v ∷ ys))) N before after e
   halts-between join Writable Allowed N before between after xs ys v e w u =
       let first = halts-first adds refuses (ReadyEach Writable Allowed v) (AllowsEach (ReadyEach Writable Allowed) ys) N N between after e u in
       let next =
@@ -103,16 +103,16 @@ module _ {W : Type 0} (adds : Adds W) (refuses : Refuses W) where
   pub halts-at : ((a b c : W) (x y : List ℕ) → adds a x b → adds b y c → adds a (x ++ y) c) →
       {A : Type 0} (Writable : A → Type 0) (Allowed : A → List ℕ → Type 0) (N : EncodeError → Type 0) (before between after : W) (vs : List A) (i : ℕ) (v : A) (e : EncodeError) →
       i < length vs → v ≡ slice_index_or vs i v →
-      Writes adds (AllowsEach Allowed (take i vs)) before between → Halts adds refuses (Ready (Writable v) (Allowed v)) N between after e →
-      Halts adds refuses (Ready (All Writable vs) (AllowsEach Allowed vs)) N before after e
+      Writes adds (AllowsEach Allowed (take i vs)) before between → EncodeFailure adds refuses (Ready (Writable v) (Allowed v)) N between after e →
+      EncodeFailure adds refuses (Ready (All Writable vs) (AllowsEach Allowed vs)) N before after e
   halts-at join Writable Allowed N before between after vs i v e h k w u =
-      subst (λ z. Halts adds refuses (Ready (All Writable z) (AllowsEach Allowed z)) N before after e) (sym (around vs i v h k))
+      subst (λ z. EncodeFailure adds refuses (Ready (All Writable z) (AllowsEach Allowed z)) N before after e) (sym (around vs i v h k))
       (halts-between join Writable Allowed N before between after (take i vs) (drop (i + 1) vs) v e w u)
 
   -- and so does the array
   pub halts_array :
       {A : Type 0} (Means : A → Meaning → Type 0) (share : ℕ) (F : Format Meaning) (R : Type 0) (N : EncodeError → Type 0) (n : ℕ) (vs : List A) (before after : W) (e : EncodeError) →
-      length vs ≡ n → Halts adds refuses (Ready R (AllowsEach (λ v. AllowedWord (Means v) F) vs)) N before after e →
-      Halts adds refuses (Ready R (AllowedWord (IsListOf Means vs) (array n share F))) N before after e
+      length vs ≡ n → EncodeFailure adds refuses (Ready R (AllowsEach (λ v. AllowedWord (Means v) F) vs)) N before after e →
+      EncodeFailure adds refuses (Ready R (AllowedWord (IsListOf Means vs) (array n share F))) N before after e
   halts_array Means share F R N n vs before after e l =
       halts-same adds refuses _ _ N before after e (ready-as R _ _ (λ bytes. array-allows Means share F n vs bytes l)) (ready-as R _ _ (λ bytes. allowed-array Means share F n vs bytes l))

@@ -7,7 +7,7 @@ use bincode_base::error::EncodeError;
 /// whose error may hold something is else copied from layer to layer, also where nothing fails. Where the compiler sees
 /// that none but these two errors can come, it drops the copies (docs/SPEED.md, "What an error holds").
 #[inline(always)]
-pub fn same_answer(answer: Result<(), EncodeError>) -> Result<(), EncodeError>
+pub fn rebuild_result(answer: Result<(), EncodeError>) -> Result<(), EncodeError>
     ensures { result ≡ answer }
 {
     match answer {

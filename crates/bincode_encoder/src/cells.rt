@@ -1,5 +1,5 @@
 //! The error of a cell that cannot be read.
-ghost use Rattle.bincode_format.specs.Cells.{IsBorrowed};
+ghost use Rattle.bincode_spec.specs.Cells.{IsBorrowed};
 
 use bincode_base::error::EncodeError;
 use bincode_base::short_text::ShortText;

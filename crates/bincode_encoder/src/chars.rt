@@ -1,14 +1,14 @@
 //! Characters, written through any encoder.
 ghost use Rattle.std.specs.Prelude.{◌≡◌};
 ghost use Rattle.std.specs.Char.{encode_utf8, IsScalar};
-ghost use Rattle.bincode_format.specs.Meaning.{IsCharacter};
-ghost use Rattle.bincode_format.specs.Words.{character};
-ghost use Rattle.bincode_format.specs.Allowed.{AllowedWord};
-ghost use Rattle.bincode_format.specs.Encoding.{Encodes};
+ghost use Rattle.bincode_spec.specs.Meaning.{IsCharacter};
+ghost use Rattle.bincode_spec.specs.Words.{character};
+ghost use Rattle.bincode_spec.specs.Allowed.{AllowedWord};
+ghost use Rattle.bincode_spec.specs.Encoding.{Encodes};
 
 use crate::encoder::{Encoder, write_from};
 use bincode_base::error::EncodeError;
-use bincode_wire::chars::{four_bytes_of_char, three_bytes_of_char, two_bytes_of_char};
+use bincode_types::chars::{four_bytes_of_char, three_bytes_of_char, two_bytes_of_char};
 
 // Each number of bytes has its write: one of a length that the compiler knows is a store.
 
@@ -16,7 +16,7 @@ use bincode_wire::chars::{four_bytes_of_char, three_bytes_of_char, two_bytes_of_
 fn write_char<E: Encoder>(encoder: &mut E, code: u32, bytes: &[u8]) -> Result<(), EncodeError>
     requires scalar { IsScalar code }
     requires bytes { bytes.now ≡ encode_utf8 code }
-    ensures { Encodes E.W.adds E.W.refuses E.writer_of E.place (Unit {0})
+    ensures { Encodes E.W.adds E.W.refuses E.writer_of E.loans (Unit {0})
         (AllowedWord (IsCharacter code) character) (λ _. ⊥) result encoder.old encoder.new }
 {
     write_from(encoder, bytes)
@@ -25,7 +25,7 @@ fn write_char<E: Encoder>(encoder: &mut E, code: u32, bytes: &[u8]) -> Result<()
 /// Writes a character as UTF-8. Fails where the writer refuses its bytes.
 #[inline(always)]
 pub fn encode_char<E: Encoder>(encoder: &mut E, val: char) -> Result<(), EncodeError>
-    ensures { Encodes E.W.adds E.W.refuses E.writer_of E.place (Unit {0})
+    ensures { Encodes E.W.adds E.W.refuses E.writer_of E.loans (Unit {0})
         (AllowedWord (IsCharacter val) character) (λ _. ⊥) result encoder.old encoder.new }
 {
     let code = u32::from(val);

@@ -2,9 +2,9 @@
 ghost use Rattle.std.specs.Prelude.{◌≡◌, ℕ, List, ◌∷◌, length, true, refl};
 ghost use Rattle.std.proofs.Common.{ap};
 ghost use Rattle.std.specs.Borrow.{GName, Lends, sem};
-ghost use Rattle.bincode_format.specs.Device.{TakesPiece, WithinRoom};
+ghost use Rattle.bincode_spec.specs.Device.{TakesPiece, WithinRoom};
 
-use crate::answers::same_answer;
+use crate::answers::rebuild_result;
 use bincode_base::config::Config;
 use bincode_base::error::EncodeError;
 use bincode_io::write::Writer;
@@ -29,7 +29,7 @@ pub trait Encoder: Sealed {
     ghost put_writer: { Self → Self.W → Self };
 
     /// The references that it writes through. No call changes them.
-    ghost place: { Self → List GName };
+    ghost loans: { Self → List GName };
 
     /// Lends the writer.
     fn writer(&mut self) -> &mut Self::W
@@ -46,8 +46,8 @@ pub trait Encoder: Sealed {
 
     ghost put_get: { (e : Self) (w : Self.W) → writer_of (put_writer e w) ≡ w };
 
-    ghost put_place: { (e : Self) (w : Self.W) → Self.W.place w ≡ Self.W.place (writer_of e)
-        → place (put_writer e w) ≡ place e };
+    ghost put_loans: { (e : Self) (w : Self.W) → Self.W.loans w ≡ Self.W.loans (writer_of e)
+        → loans (put_writer e w) ≡ loans e };
 }
 
 /// An encoder that owns its writer.
@@ -93,7 +93,7 @@ impl<W: Writer, C: Config> Encoder for EncoderImpl<W, C> {
 
     ghost put_writer = { λ e w. record e { writer = w } };
 
-    ghost place = { λ e. W.place e.writer };
+    ghost loans = { λ e. W.loans e.writer };
 
     fn writer(&mut self) -> &mut W {
         &mut self.writer
@@ -110,7 +110,7 @@ impl<W: Writer, C: Config> Encoder for EncoderImpl<W, C> {
 
     ghost put_get = { λ e w. refl };
 
-    ghost put_place = { λ e w h. h };
+    ghost put_loans = { λ e w h. h };
 }
 
 /// An encoder whose writer and configuration are lent.
@@ -133,8 +133,8 @@ impl<W, C> Drop for LentEncoder<'_, W, C> {
 impl<'a, W: Writer, C: Config> LentEncoder<'a, W, C> {
     /// An encoder into this writer.
     pub fn new(writer: &'a mut W, config: &'a C) -> LentEncoder<'a, W, C>
-        ensures place { ⟦<LentEncoder<'a, W, C> as Encoder>⟧.place result
-            ≡ writer.entry.ghost_name ∷ W.place writer.old }
+        ensures loans { ⟦<LentEncoder<'a, W, C> as Encoder>⟧.loans result
+            ≡ writer.entry.ghost_name ∷ W.loans writer.old }
         ensures writer { ⟦<LentEncoder<'a, W, C> as Encoder>⟧.writer_of result ≡ writer.old }
     {
         LentEncoder { writer, config }
@@ -152,7 +152,7 @@ impl<W: Writer, C: Config> Encoder for LentEncoder<'_, W, C> {
 
     ghost put_writer = { λ e w. record e { writer = record e.writer { now = w } } };
 
-    ghost place = { λ e. e.writer.ghost_name ∷ W.place e.writer.now };
+    ghost loans = { λ e. e.writer.ghost_name ∷ W.loans e.writer.now };
 
     fn writer(&mut self) -> &mut W {
         self.writer
@@ -169,7 +169,7 @@ impl<W: Writer, C: Config> Encoder for LentEncoder<'_, W, C> {
 
     ghost put_get = { λ e w. refl };
 
-    ghost put_place = { λ e w h. ap (λ z. e.writer.ghost_name ∷ z) h };
+    ghost put_loans = { λ e w h. ap (λ z. e.writer.ghost_name ∷ z) h };
 }
 
 impl<E: Encoder> Sealed for &mut E {}
@@ -183,7 +183,7 @@ impl<E: Encoder> Encoder for &mut E {
 
     ghost put_writer = { λ e w. record e { now = E.put_writer e.now w } };
 
-    ghost place = { λ e. e.ghost_name ∷ E.place e.now };
+    ghost loans = { λ e. e.ghost_name ∷ E.loans e.now };
 
     fn writer(&mut self) -> &mut E::W {
         (**self).writer()
@@ -200,7 +200,7 @@ impl<E: Encoder> Encoder for &mut E {
 
     ghost put_get = { λ e w. E.put_get e.now w };
 
-    ghost put_place = { λ e w h. ap (λ z. e.ghost_name ∷ z) (E.put_place e.now w h) };
+    ghost put_loans = { λ e w h. ap (λ z. e.ghost_name ∷ z) (E.put_loans e.now w h) };
 }
 
 /// Writes a piece to the writer of an encoder.
@@ -208,7 +208,7 @@ impl<E: Encoder> Encoder for &mut E {
 pub fn write_from<E: Encoder>(encoder: &mut E, bytes: &[u8]) -> Result<(), EncodeError>
     ensures { TakesPiece (λ a piece b. E.W.adds (E.writer_of a) piece (E.writer_of b))
         (λ a piece e b. E.W.refuses (E.writer_of a) piece e (E.writer_of b)) (λ e. E.W.failures (E.writer_of e))
-        E.place bytes.now result encoder.old encoder.new }
+        E.loans bytes.now result encoder.old encoder.new }
 {
-    same_answer(encoder.writer().write(bytes))
+    rebuild_result(encoder.writer().write(bytes))
 }

@@ -2,19 +2,19 @@
 ghost use Rattle.std.specs.Prelude.{length};
 ghost use Rattle.std.specs.List.{All, IsDistinct};
 ghost use Rattle.std.specs.Map.{keys_of};
-ghost use Rattle.bincode_format.specs.Words.{array, list};
-ghost use Rattle.bincode_format.specs.Run.{IsListOf};
-ghost use Rattle.bincode_format.specs.Allowed.{AllowedWord};
-ghost use Rattle.bincode_format.specs.Collections.{AreValid, IsMadeOf, MakesBag};
-ghost use Rattle.bincode_format.specs.Encoding.{Encodes};
+ghost use Rattle.bincode_spec.specs.Words.{array, list};
+ghost use Rattle.bincode_spec.specs.Run.{IsListOf};
+ghost use Rattle.bincode_spec.specs.Allowed.{AllowedWord};
+ghost use Rattle.bincode_spec.specs.Collections.{AreValid, IsMadeOf, MakesBag};
+ghost use Rattle.bincode_spec.specs.Encoding.{Encodes};
 
-use crate::answers::same_answer;
+use crate::answers::rebuild_result;
 use crate::encoder::Encoder;
 use crate::lists::encode_length;
 use crate::ordered::encode_entry;
 use crate::runs::{WriteValues, write_whole};
 use bincode_base::error::EncodeError;
-use bincode_wire::wire::Wire;
+use bincode_types::wire::Wire;
 use std::collections::{HashMap, HashSet};
 use std::hash::{BuildHasher, Hash};
 
@@ -22,7 +22,7 @@ use std::hash::{BuildHasher, Hash};
 pub fn tell_set_valid<V: WriteValues, S: BuildHasher>(set: &HashSet<V::Value, S>)
 where
     V::Value: Eq + Hash,
-    ensures valid { AreValid V.Value.its.valid set.now.keys }
+    ensures valid { AreValid V.Value.words.valid set.now.keys }
     ensures unique { IsDistinct V.Value.eq set.now.keys }
 {
     for key in set.iter() {
@@ -36,7 +36,7 @@ pub fn tell_map_valid<K: WriteValues, V: WriteValues, S: BuildHasher>(
 )
 where
     K::Value: Eq + Hash,
-    ensures valid { AreValid ⟦<(K::Value, V::Value) as Wire>⟧.its.valid map.now.entries }
+    ensures valid { AreValid ⟦<(K::Value, V::Value) as Wire>⟧.words.valid map.now.entries }
     ensures unique { IsDistinct K.Value.eq (keys_of map.now.entries) }
 {
     for (key, value) in map.iter() {
@@ -55,13 +55,13 @@ pub fn encode_set<V: WriteValues, S: BuildHasher, E: Encoder>(
 ) -> Result<(), EncodeError>
 where
     V::Value: Eq + Hash,
-    ensures { Encodes E.W.adds E.W.refuses E.writer_of E.place (All (V.Value.its.writable E.C.setting) set.now.keys)
-        (AllowedWord (IsMadeOf MakesBag V.Value.its.means set.now.keys)
-        (list E.C.setting V.Value.its.claim (V.Value.its.format E.C.setting)))
-        V.Value.its.names result encoder.old encoder.new }
+    ensures { Encodes E.W.adds E.W.refuses E.writer_of E.loans (All (V.Value.words.writable E.C.setting) set.now.keys)
+        (AllowedWord (IsMadeOf MakesBag V.Value.words.means set.now.keys)
+        (list E.C.setting V.Value.words.claim (V.Value.words.format E.C.setting)))
+        V.Value.words.own_errors result encoder.old encoder.new }
 {
     encode_length(encoder, set.len())?;
-    same_answer(encode_keys::<V, S, E>(set, encoder))
+    rebuild_result(encode_keys::<V, S, E>(set, encoder))
 }
 
 /// Its keys alone.
@@ -72,10 +72,10 @@ fn encode_keys<V: WriteValues, S: BuildHasher, E: Encoder>(
 ) -> Result<(), EncodeError>
 where
     V::Value: Eq + Hash,
-    ensures { Encodes E.W.adds E.W.refuses E.writer_of E.place (All (V.Value.its.writable E.C.setting) set.now.keys)
-        (AllowedWord (IsListOf V.Value.its.means set.now.keys)
-        (array (length set.now.keys) V.Value.its.claim (V.Value.its.format E.C.setting)))
-        V.Value.its.names result encoder.old encoder.new }
+    ensures { Encodes E.W.adds E.W.refuses E.writer_of E.loans (All (V.Value.words.writable E.C.setting) set.now.keys)
+        (AllowedWord (IsListOf V.Value.words.means set.now.keys)
+        (array (length set.now.keys) V.Value.words.claim (V.Value.words.format E.C.setting)))
+        V.Value.words.own_errors result encoder.old encoder.new }
 {
     for key in set.iter() {
         write_whole::<V, E>(key, encoder)?;
@@ -93,15 +93,15 @@ pub fn encode_map<K: WriteValues, V: WriteValues, S: BuildHasher, E: Encoder>(
 ) -> Result<(), EncodeError>
 where
     K::Value: Eq + Hash,
-    ensures { Encodes E.W.adds E.W.refuses E.writer_of E.place
-        (All (⟦<(K::Value, V::Value) as Wire>⟧.its.writable E.C.setting) map.now.entries)
-        (AllowedWord (IsMadeOf MakesBag ⟦<(K::Value, V::Value) as Wire>⟧.its.means map.now.entries)
-        (list E.C.setting ⟦<(K::Value, V::Value) as Wire>⟧.its.claim
-        (⟦<(K::Value, V::Value) as Wire>⟧.its.format E.C.setting)))
-        ⟦<(K::Value, V::Value) as Wire>⟧.its.names result encoder.old encoder.new }
+    ensures { Encodes E.W.adds E.W.refuses E.writer_of E.loans
+        (All (⟦<(K::Value, V::Value) as Wire>⟧.words.writable E.C.setting) map.now.entries)
+        (AllowedWord (IsMadeOf MakesBag ⟦<(K::Value, V::Value) as Wire>⟧.words.means map.now.entries)
+        (list E.C.setting ⟦<(K::Value, V::Value) as Wire>⟧.words.claim
+        (⟦<(K::Value, V::Value) as Wire>⟧.words.format E.C.setting)))
+        ⟦<(K::Value, V::Value) as Wire>⟧.words.own_errors result encoder.old encoder.new }
 {
     encode_length(encoder, map.len())?;
-    same_answer(encode_entries::<K, V, S, E>(map, encoder))
+    rebuild_result(encode_entries::<K, V, S, E>(map, encoder))
 }
 
 /// Its entries alone.
@@ -112,15 +112,15 @@ fn encode_entries<K: WriteValues, V: WriteValues, S: BuildHasher, E: Encoder>(
 ) -> Result<(), EncodeError>
 where
     K::Value: Eq + Hash,
-    ensures { Encodes E.W.adds E.W.refuses E.writer_of E.place
-        (All (⟦<(K::Value, V::Value) as Wire>⟧.its.writable E.C.setting) map.now.entries)
-        (AllowedWord (IsListOf ⟦<(K::Value, V::Value) as Wire>⟧.its.means map.now.entries)
-        (array (length map.now.entries) ⟦<(K::Value, V::Value) as Wire>⟧.its.claim
-        (⟦<(K::Value, V::Value) as Wire>⟧.its.format E.C.setting)))
-        ⟦<(K::Value, V::Value) as Wire>⟧.its.names result encoder.old encoder.new }
+    ensures { Encodes E.W.adds E.W.refuses E.writer_of E.loans
+        (All (⟦<(K::Value, V::Value) as Wire>⟧.words.writable E.C.setting) map.now.entries)
+        (AllowedWord (IsListOf ⟦<(K::Value, V::Value) as Wire>⟧.words.means map.now.entries)
+        (array (length map.now.entries) ⟦<(K::Value, V::Value) as Wire>⟧.words.claim
+        (⟦<(K::Value, V::Value) as Wire>⟧.words.format E.C.setting)))
+        ⟦<(K::Value, V::Value) as Wire>⟧.words.own_errors result encoder.old encoder.new }
 {
     for (key, value) in map.iter() {
-        same_answer(encode_entry::<K, V, E>(key, value, encoder))?;
+        rebuild_result(encode_entry::<K, V, E>(key, value, encoder))?;
     }
     Ok(())
 }

@@ -1,12 +1,12 @@
 //! Octets of addresses, written through any encoder.
 ghost use Rattle.std.specs.Prelude.{pos};
 ghost use Rattle.bincode_base.specs.declared.error.IntegerType.TheVariants.{U16};
-ghost use Rattle.bincode_format.specs.Integers.{unsigned};
-ghost use Rattle.bincode_format.specs.Meaning.{IsBytes, IsNumber, IsThen, IsNothing};
-ghost use Rattle.bincode_format.specs.Octets.{octets};
-ghost use Rattle.bincode_format.specs.Words.{natural, nothing, first_and};
-ghost use Rattle.bincode_format.specs.Allowed.{AllowedWord};
-ghost use Rattle.bincode_format.specs.Encoding.{Encodes};
+ghost use Rattle.bincode_spec.specs.Integers.{unsigned_integer};
+ghost use Rattle.bincode_spec.specs.Meaning.{IsBytes, IsNumber, IsThen, IsNothing};
+ghost use Rattle.bincode_spec.specs.Octets.{octets};
+ghost use Rattle.bincode_spec.specs.Words.{natural_number, nothing, first_and};
+ghost use Rattle.bincode_spec.specs.Allowed.{AllowedWord};
+ghost use Rattle.bincode_spec.specs.Encoding.{Encodes};
 
 use crate::encoder::{Encoder, write_from};
 use crate::integers::encode_integer;
@@ -18,7 +18,7 @@ pub fn encode_octets<E: Encoder, const N: usize>(
     encoder: &mut E,
     val: &[u8; N],
 ) -> Result<(), EncodeError>
-    ensures { Encodes E.W.adds E.W.refuses E.writer_of E.place (Unit {0}) (AllowedWord (IsBytes val.now) (octets N))
+    ensures { Encodes E.W.adds E.W.refuses E.writer_of E.loans (Unit {0}) (AllowedWord (IsBytes val.now) (octets N))
         (λ _. ⊥) result encoder.old encoder.new }
 {
     write_from(encoder, val)
@@ -32,9 +32,9 @@ pub fn encode_socket<E: Encoder, const N: usize>(
     address: &[u8; N],
     port: u16,
 ) -> Result<(), EncodeError>
-    ensures { Encodes E.W.adds E.W.refuses E.writer_of E.place (Unit {0})
+    ensures { Encodes E.W.adds E.W.refuses E.writer_of E.loans (Unit {0})
         (AllowedWord (IsThen (IsBytes address.now) (IsThen (IsNumber (pos port)) IsNothing))
-        (first_and (octets N) (first_and (natural (unsigned U16 2 E.C.setting)) nothing)))
+        (first_and (octets N) (first_and (natural_number (unsigned_integer U16 2 E.C.setting)) nothing)))
         (λ _. ⊥) result encoder.old encoder.new }
 {
     encode_octets(encoder, address)?;

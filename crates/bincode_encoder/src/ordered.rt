@@ -3,26 +3,26 @@ ghost use Rattle.std.specs.Prelude.{length};
 ghost use Rattle.std.specs.List.{All};
 ghost use Rattle.std.specs.List.Sorted.{IsStrictlySortedBy};
 ghost use Rattle.std.specs.Map.{keys_of};
-ghost use Rattle.bincode_format.specs.Words.{array, list};
-ghost use Rattle.bincode_format.specs.Run.{IsListOf};
-ghost use Rattle.bincode_format.specs.Allowed.{AllowedWord};
-ghost use Rattle.bincode_format.specs.Collections.{AreValid};
-ghost use Rattle.bincode_format.specs.Encoding.{Encodes};
+ghost use Rattle.bincode_spec.specs.Words.{array, list};
+ghost use Rattle.bincode_spec.specs.Run.{IsListOf};
+ghost use Rattle.bincode_spec.specs.Allowed.{AllowedWord};
+ghost use Rattle.bincode_spec.specs.Collections.{AreValid};
+ghost use Rattle.bincode_spec.specs.Encoding.{Encodes};
 
-use crate::answers::same_answer;
+use crate::answers::rebuild_result;
 use crate::encoder::Encoder;
 use crate::lists::encode_length;
-use crate::room::{has_room_at_once, most_of_both};
+use crate::room::{fits_in_one_check, most_of_both};
 use crate::runs::{WriteValues, write_whole};
 use bincode_base::error::EncodeError;
-use bincode_wire::wire::Wire;
+use bincode_types::wire::Wire;
 use std::collections::{BTreeMap, BTreeSet};
 
 /// Says of a set in hand that its keys are valid and ascend, and that their number is a length.
 pub fn tell_set_valid<V: WriteValues>(set: &BTreeSet<V::Value>)
 where
     V::Value: Ord,
-    ensures valid { AreValid V.Value.its.valid set.now.keys }
+    ensures valid { AreValid V.Value.words.valid set.now.keys }
     ensures sorted { IsStrictlySortedBy V.Value.cmp set.now.keys }
 {
     for key in set.iter() {
@@ -34,7 +34,7 @@ where
 pub fn tell_map_valid<K: WriteValues, V: WriteValues>(map: &BTreeMap<K::Value, V::Value>)
 where
     K::Value: Ord,
-    ensures valid { AreValid ⟦<(K::Value, V::Value) as Wire>⟧.its.valid map.now.entries }
+    ensures valid { AreValid ⟦<(K::Value, V::Value) as Wire>⟧.words.valid map.now.entries }
     ensures sorted { IsStrictlySortedBy K.Value.cmp (keys_of map.now.entries) }
 {
     for (key, value) in map.iter() {
@@ -52,13 +52,13 @@ pub fn encode_set<V: WriteValues, E: Encoder>(
 ) -> Result<(), EncodeError>
 where
     V::Value: Ord,
-    ensures { Encodes E.W.adds E.W.refuses E.writer_of E.place (All (V.Value.its.writable E.C.setting) set.now.keys)
-        (AllowedWord (IsListOf V.Value.its.means set.now.keys)
-        (list E.C.setting V.Value.its.claim (V.Value.its.format E.C.setting)))
-        V.Value.its.names result encoder.old encoder.new }
+    ensures { Encodes E.W.adds E.W.refuses E.writer_of E.loans (All (V.Value.words.writable E.C.setting) set.now.keys)
+        (AllowedWord (IsListOf V.Value.words.means set.now.keys)
+        (list E.C.setting V.Value.words.claim (V.Value.words.format E.C.setting)))
+        V.Value.words.own_errors result encoder.old encoder.new }
 {
     encode_length(encoder, set.len())?;
-    same_answer(encode_keys::<V, E>(set, encoder))
+    rebuild_result(encode_keys::<V, E>(set, encoder))
 }
 
 /// Its keys alone.
@@ -69,10 +69,10 @@ fn encode_keys<V: WriteValues, E: Encoder>(
 ) -> Result<(), EncodeError>
 where
     V::Value: Ord,
-    ensures { Encodes E.W.adds E.W.refuses E.writer_of E.place (All (V.Value.its.writable E.C.setting) set.now.keys)
-        (AllowedWord (IsListOf V.Value.its.means set.now.keys)
-        (array (length set.now.keys) V.Value.its.claim (V.Value.its.format E.C.setting)))
-        V.Value.its.names result encoder.old encoder.new }
+    ensures { Encodes E.W.adds E.W.refuses E.writer_of E.loans (All (V.Value.words.writable E.C.setting) set.now.keys)
+        (AllowedWord (IsListOf V.Value.words.means set.now.keys)
+        (array (length set.now.keys) V.Value.words.claim (V.Value.words.format E.C.setting)))
+        V.Value.words.own_errors result encoder.old encoder.new }
 {
     for key in set.iter() {
         write_whole::<V, E>(key, encoder)?;
@@ -90,15 +90,15 @@ pub fn encode_map<K: WriteValues, V: WriteValues, E: Encoder>(
 ) -> Result<(), EncodeError>
 where
     K::Value: Ord,
-    ensures { Encodes E.W.adds E.W.refuses E.writer_of E.place
-        (All (⟦<(K::Value, V::Value) as Wire>⟧.its.writable E.C.setting) map.now.entries)
-        (AllowedWord (IsListOf ⟦<(K::Value, V::Value) as Wire>⟧.its.means map.now.entries)
-        (list E.C.setting ⟦<(K::Value, V::Value) as Wire>⟧.its.claim
-        (⟦<(K::Value, V::Value) as Wire>⟧.its.format E.C.setting)))
-        ⟦<(K::Value, V::Value) as Wire>⟧.its.names result encoder.old encoder.new }
+    ensures { Encodes E.W.adds E.W.refuses E.writer_of E.loans
+        (All (⟦<(K::Value, V::Value) as Wire>⟧.words.writable E.C.setting) map.now.entries)
+        (AllowedWord (IsListOf ⟦<(K::Value, V::Value) as Wire>⟧.words.means map.now.entries)
+        (list E.C.setting ⟦<(K::Value, V::Value) as Wire>⟧.words.claim
+        (⟦<(K::Value, V::Value) as Wire>⟧.words.format E.C.setting)))
+        ⟦<(K::Value, V::Value) as Wire>⟧.words.own_errors result encoder.old encoder.new }
 {
     encode_length(encoder, map.len())?;
-    same_answer(encode_entries::<K, V, E>(map, encoder))
+    rebuild_result(encode_entries::<K, V, E>(map, encoder))
 }
 
 /// Its entries alone.
@@ -109,15 +109,15 @@ fn encode_entries<K: WriteValues, V: WriteValues, E: Encoder>(
 ) -> Result<(), EncodeError>
 where
     K::Value: Ord,
-    ensures { Encodes E.W.adds E.W.refuses E.writer_of E.place
-        (All (⟦<(K::Value, V::Value) as Wire>⟧.its.writable E.C.setting) map.now.entries)
-        (AllowedWord (IsListOf ⟦<(K::Value, V::Value) as Wire>⟧.its.means map.now.entries)
-        (array (length map.now.entries) ⟦<(K::Value, V::Value) as Wire>⟧.its.claim
-        (⟦<(K::Value, V::Value) as Wire>⟧.its.format E.C.setting)))
-        ⟦<(K::Value, V::Value) as Wire>⟧.its.names result encoder.old encoder.new }
+    ensures { Encodes E.W.adds E.W.refuses E.writer_of E.loans
+        (All (⟦<(K::Value, V::Value) as Wire>⟧.words.writable E.C.setting) map.now.entries)
+        (AllowedWord (IsListOf ⟦<(K::Value, V::Value) as Wire>⟧.words.means map.now.entries)
+        (array (length map.now.entries) ⟦<(K::Value, V::Value) as Wire>⟧.words.claim
+        (⟦<(K::Value, V::Value) as Wire>⟧.words.format E.C.setting)))
+        ⟦<(K::Value, V::Value) as Wire>⟧.words.own_errors result encoder.old encoder.new }
 {
     for (key, value) in map.iter() {
-        same_answer(encode_entry::<K, V, E>(key, value, encoder))?;
+        rebuild_result(encode_entry::<K, V, E>(key, value, encoder))?;
     }
     Ok(())
 }
@@ -129,13 +129,13 @@ pub fn encode_entry<K: WriteValues, V: WriteValues, E: Encoder>(
     value: &V::Value,
     encoder: &mut E,
 ) -> Result<(), EncodeError>
-    ensures { Encodes E.W.adds E.W.refuses E.writer_of E.place
-        (⟦<(K::Value, V::Value) as Wire>⟧.its.writable E.C.setting (key.now, value.now))
-        (AllowedWord (⟦<(K::Value, V::Value) as Wire>⟧.its.means (key.now, value.now))
-        (⟦<(K::Value, V::Value) as Wire>⟧.its.format E.C.setting))
-        ⟦<(K::Value, V::Value) as Wire>⟧.its.names result encoder.old encoder.new }
+    ensures { Encodes E.W.adds E.W.refuses E.writer_of E.loans
+        (⟦<(K::Value, V::Value) as Wire>⟧.words.writable E.C.setting (key.now, value.now))
+        (AllowedWord (⟦<(K::Value, V::Value) as Wire>⟧.words.means (key.now, value.now))
+        (⟦<(K::Value, V::Value) as Wire>⟧.words.format E.C.setting))
+        ⟦<(K::Value, V::Value) as Wire>⟧.words.own_errors result encoder.old encoder.new }
 {
-    if has_room_at_once(encoder, most_of_both(K::MOST_FIXED, V::MOST_FIXED)) {
+    if fits_in_one_check(encoder, most_of_both(K::MAX_FIXED_SIZE, V::MAX_FIXED_SIZE)) {
         return encode_pair::<K, V, E>(key, value, encoder);
     }
     encode_pair::<K, V, E>(key, value, encoder)
@@ -148,11 +148,11 @@ fn encode_pair<K: WriteValues, V: WriteValues, E: Encoder>(
     value: &V::Value,
     encoder: &mut E,
 ) -> Result<(), EncodeError>
-    ensures { Encodes E.W.adds E.W.refuses E.writer_of E.place
-        (⟦<(K::Value, V::Value) as Wire>⟧.its.writable E.C.setting (key.now, value.now))
-        (AllowedWord (⟦<(K::Value, V::Value) as Wire>⟧.its.means (key.now, value.now))
-        (⟦<(K::Value, V::Value) as Wire>⟧.its.format E.C.setting))
-        ⟦<(K::Value, V::Value) as Wire>⟧.its.names result encoder.old encoder.new }
+    ensures { Encodes E.W.adds E.W.refuses E.writer_of E.loans
+        (⟦<(K::Value, V::Value) as Wire>⟧.words.writable E.C.setting (key.now, value.now))
+        (AllowedWord (⟦<(K::Value, V::Value) as Wire>⟧.words.means (key.now, value.now))
+        (⟦<(K::Value, V::Value) as Wire>⟧.words.format E.C.setting))
+        ⟦<(K::Value, V::Value) as Wire>⟧.words.own_errors result encoder.old encoder.new }
 {
     K::write_value(key, encoder)?;
     V::write_value(value, encoder)

@@ -1,6 +1,6 @@
 //! Room for the whole of a value, asked for once.
 ghost use Rattle.std.specs.Prelude.{◌≡◌, ◌+◌, ◌^◌, ◌<◌, ℕ, List, length, max, true, Some, IfSome};
-ghost use Rattle.bincode_format.specs.Device.{WithinRoom};
+ghost use Rattle.bincode_spec.specs.Device.{WithinRoom};
 
 use crate::encoder::Encoder;
 use bincode_base::config::{Config, IntEncoding};
@@ -12,7 +12,7 @@ const LONGEST: usize = 12;
 /// is known and few. What asks does the same in both cases, written twice: behind the test the compiler knows that each
 /// piece has room, and drops the tests of the pieces (docs/SPEED.md, "One test for a value of fixed numbers").
 #[inline(always)]
-pub fn has_room_at_once<E: Encoder>(encoder: &E, most: Option<usize>) -> bool
+pub fn fits_in_one_check<E: Encoder>(encoder: &E, most: Option<usize>) -> bool
     ensures { result ≡ true → IfSome most (λ n. (piece : List ℕ) → length piece ≡ n
         → WithinRoom (E.W.room (E.writer_of encoder.now)) piece) }
 {

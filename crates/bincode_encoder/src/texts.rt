@@ -1,8 +1,8 @@
 //! Texts, written through any encoder.
-ghost use Rattle.bincode_format.specs.Meaning.{IsBytes};
-ghost use Rattle.bincode_format.specs.Words.{text};
-ghost use Rattle.bincode_format.specs.Allowed.{AllowedWord};
-ghost use Rattle.bincode_format.specs.Encoding.{Encodes};
+ghost use Rattle.bincode_spec.specs.Meaning.{IsBytes};
+ghost use Rattle.bincode_spec.specs.Words.{text};
+ghost use Rattle.bincode_spec.specs.Allowed.{AllowedWord};
+ghost use Rattle.bincode_spec.specs.Encoding.{Encodes};
 
 use crate::encoder::{Encoder, write_from};
 use crate::lists::encode_length;
@@ -12,7 +12,7 @@ use bincode_base::error::EncodeError;
 /// those before it stay written.
 #[inline(always)]
 pub fn encode_text<E: Encoder>(encoder: &mut E, val: &str) -> Result<(), EncodeError>
-    ensures { Encodes E.W.adds E.W.refuses E.writer_of E.place (Unit {0})
+    ensures { Encodes E.W.adds E.W.refuses E.writer_of E.loans (Unit {0})
         (AllowedWord (IsBytes val.now) (text E.C.setting)) (λ _. ⊥) result encoder.old encoder.new }
 {
     let bytes = val.as_bytes();

@@ -1,8 +1,8 @@
 //! Truth values, written through any encoder.
-ghost use Rattle.bincode_format.specs.Meaning.{IsTruth};
-ghost use Rattle.bincode_format.specs.Words.{truth};
-ghost use Rattle.bincode_format.specs.Allowed.{AllowedWord};
-ghost use Rattle.bincode_format.specs.Encoding.{Encodes};
+ghost use Rattle.bincode_spec.specs.Meaning.{IsTruth};
+ghost use Rattle.bincode_spec.specs.Words.{truth};
+ghost use Rattle.bincode_spec.specs.Allowed.{AllowedWord};
+ghost use Rattle.bincode_spec.specs.Encoding.{Encodes};
 
 use crate::encoder::{Encoder, write_from};
 use bincode_base::error::EncodeError;
@@ -10,7 +10,7 @@ use bincode_base::error::EncodeError;
 /// Writes 0 or 1. Fails where the writer refuses the byte.
 #[inline(always)]
 pub fn encode_truth<E: Encoder>(encoder: &mut E, val: bool) -> Result<(), EncodeError>
-    ensures { Encodes E.W.adds E.W.refuses E.writer_of E.place (Unit {0}) (AllowedWord (IsTruth val) truth)
+    ensures { Encodes E.W.adds E.W.refuses E.writer_of E.loans (Unit {0}) (AllowedWord (IsTruth val) truth)
         (λ _. ⊥) result encoder.old encoder.new }
 {
     write_from(encoder, &[u8::from(val)])

@@ -1,49 +1,49 @@
 //! Values of enums, written variant by variant: a tag, and a part by a way to write it.
 ghost use Rattle.std.specs.Prelude.{pos};
-ghost use Rattle.bincode_format.specs.Format.{map_format};
+ghost use Rattle.bincode_spec.specs.Format.{map_format};
 ghost use Rattle.bincode_base.specs.declared.error.EncodeError.{EncodeError};
-ghost use Rattle.bincode_format.specs.Meaning.{Choice, IsNumber};
-ghost use Rattle.bincode_format.specs.Words.{natural, behind_tag, chosen};
-ghost use Rattle.bincode_format.specs.Choices.{IsChoice};
-ghost use Rattle.bincode_format.specs.Allowed.{AllowedWord, WrittenAlike, SameMeanings};
-ghost use Rattle.bincode_format.specs.Encoding.{Encodes};
+ghost use Rattle.bincode_spec.specs.Meaning.{Choice, IsNumber};
+ghost use Rattle.bincode_spec.specs.Words.{natural_number, behind_tag, tag_then_part};
+ghost use Rattle.bincode_spec.specs.Choices.{IsChoice};
+ghost use Rattle.bincode_spec.specs.Allowed.{AllowedWord, WrittenAlike, SameMeanings};
+ghost use Rattle.bincode_spec.specs.Encoding.{Encodes};
 
-use crate::answers::same_answer;
+use crate::answers::rebuild_result;
 use crate::encoder::Encoder;
 use crate::integers::{encode_byte, encode_integer};
 use crate::runs::WriteValues;
 use bincode_base::error::EncodeError;
-use bincode_wire::sums::{Choice, Tag};
-use bincode_wire::written::MadeOf;
+use bincode_types::sums::{Choice, Tag};
+use bincode_types::has_parts::HasParts;
 
 /// A type of tags that can be written.
 pub trait EncodeTag: Tag {
     /// Writes a tag.
     fn encode_tag<E: Encoder>(tag: u32, encoder: &mut E) -> Result<(), EncodeError>
         requires { Self.Fits tag }
-        ensures { Encodes E.W.adds E.W.refuses E.writer_of E.place (Unit {0})
-            (AllowedWord (IsNumber (pos tag)) (natural (Self.tags E.C.setting))) (λ _. ⊥) result encoder.old
+        ensures { Encodes E.W.adds E.W.refuses E.writer_of E.loans (Unit {0})
+            (AllowedWord (IsNumber (pos tag)) (natural_number (Self.tags E.C.setting))) (λ _. ⊥) result encoder.old
             encoder.new };
 }
 
 impl EncodeTag for u8 {
     #[inline(always)]
     fn encode_tag<E: Encoder>(tag: u32, encoder: &mut E) -> Result<(), EncodeError> {
-        same_answer(encode_byte(encoder, tag as u8))
+        rebuild_result(encode_byte(encoder, tag as u8))
     }
 }
 
 impl EncodeTag for u32 {
     #[inline(always)]
     fn encode_tag<E: Encoder>(tag: u32, encoder: &mut E) -> Result<(), EncodeError> {
-        same_answer(encode_integer(encoder, tag))
+        rebuild_result(encode_integer(encoder, tag))
     }
 }
 
 /// Writes the value of an enum, which is made of `Parts`: the tag of its variant, and then the part. Of an enum with
 /// type parameters the value has references to what they stand for, since its parts have to have a known size.
 #[inline(always)]
-pub fn encode_variant<Parts: Choice, T: MadeOf<Parts>, V: WriteValues, E: Encoder>(
+pub fn encode_variant<Parts: Choice, T: HasParts<Parts>, V: WriteValues, E: Encoder>(
     value: &T,
     tag: u32,
     part: &V::Value,
@@ -52,15 +52,16 @@ pub fn encode_variant<Parts: Choice, T: MadeOf<Parts>, V: WriteValues, E: Encode
 where
     Parts::Tag: EncodeTag,
     requires fits { Parts.Tag.Fits tag }
-    requires picks { WrittenAlike (map_format (Choice tag) (V.Value.its.format E.C.setting))
+    requires picks { WrittenAlike (map_format (Choice tag) (V.Value.words.format E.C.setting))
         (behind_tag Parts.variants E.C.setting tag) }
-    requires names { (e : EncodeError) → V.Value.its.names e → Parts.its.names e }
-    requires means { SameMeanings (IsChoice tag (V.Value.its.means part.now)) (Parts.its.means (T.parts value.now)) }
-    requires writable { Parts.its.writable E.C.setting (T.parts value.now)
-        → V.Value.its.writable E.C.setting part.now }
-    ensures { Encodes E.W.adds E.W.refuses E.writer_of E.place (Parts.its.writable E.C.setting (T.parts value.now))
-        (AllowedWord (Parts.its.means (T.parts value.now)) (chosen Parts.Tag.tags Parts.variants E.C.setting))
-        Parts.its.names result encoder.old encoder.new }
+    requires own_errors { (e : EncodeError) → V.Value.words.own_errors e → Parts.words.own_errors e }
+    requires means { SameMeanings (IsChoice tag (V.Value.words.means part.now)) (Parts.words.means
+        (T.parts value.now)) }
+    requires writable { Parts.words.writable E.C.setting (T.parts value.now)
+        → V.Value.words.writable E.C.setting part.now }
+    ensures { Encodes E.W.adds E.W.refuses E.writer_of E.loans (Parts.words.writable E.C.setting (T.parts value.now))
+        (AllowedWord (Parts.words.means (T.parts value.now)) (tag_then_part Parts.Tag.tags Parts.variants E.C.setting))
+        Parts.words.own_errors result encoder.old encoder.new }
 {
     Parts::Tag::encode_tag(tag, encoder)?;
     V::write_value(part, encoder)

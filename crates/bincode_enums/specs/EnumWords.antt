@@ -4,29 +4,29 @@ use Rattle.std.proofs.Common.{◌∙◌, sym, subst, arith}
 use Rattle.bincode_base.specs.Setting.{Setting}
 use Rattle.bincode_base.specs.declared.error.EncodeError.{EncodeError}
 use Rattle.bincode_base.specs.declared.error.IntegerType.TheVariants.{U32}
-use Rattle.bincode_format.specs.Allowed.{AllowedWord, SomeWord, MayName, WrittenAlike, Shortest, OneLength}
-use Rattle.bincode_format.specs.Answer.{answer}
-use Rattle.bincode_format.specs.Choices.{IsChoice, AllLawful, AllBalanced}
-use Rattle.bincode_format.specs.Fault.{Allowed, UnexpectedVariant}
-use Rattle.bincode_format.specs.Format.{Format, map_format}
-use Rattle.bincode_format.specs.Integers.{Four}
-use Rattle.bincode_format.specs.Meaning.{Meaning, Choice, Number}
-use Rattle.bincode_format.specs.Need.{then_needs, picked_needs}
-use Rattle.bincode_format.specs.Words.{tag, Variant, tags_of, allowed_tags, in_order, part, chosen}
-use Rattle.bincode_laws.specs.AllowedLaws.{fewer-none_shorter}
-use Rattle.bincode_laws.specs.ChargedLaws.{Charged, picked-charged, refused-charged, map-charged, chosen-charged}
-use Rattle.bincode_laws.specs.ChoiceLaws.{part-here, part-there, same-alike, chosen-lawful, chosen-balanced, choice-has_word, choice-one_length, choice-same, choice-shortest, tags-differ}
-use Rattle.bincode_laws.specs.FormLaws.{Numerals, unsigned-numerals}
-use Rattle.bincode_laws.specs.NeedLaws.{Needs, picked-needs, refused-needs, map-needs, chosen-needs}
-use Rattle.bincode_laws.specs.TupleLaws.{either}
-use Rattle.bincode_wire.specs.Sums.{this, other}
-use Rattle.bincode_wire.specs.TypeLaws.{AlwaysWritable, PlainWords, ExactWords, CanonicalWords}
-use Rattle.bincode_wire.specs.TypeWords.{Words}
-use Rattle.bincode_wire.specs.declared.sums.Or.{Or}
-use Rattle.bincode_wire.specs.declared.sums.Or.TheVariants.{This, Other}
+use Rattle.bincode_spec.specs.Allowed.{AllowedWord, SomeWord, MayName, WrittenAlike, Shortest, OneLength}
+use Rattle.bincode_spec.specs.Answer.{answer}
+use Rattle.bincode_spec.specs.Choices.{IsChoice, AllLawful, AllBalanced}
+use Rattle.bincode_spec.specs.Fault.{Allowed, UnexpectedVariant}
+use Rattle.bincode_spec.specs.Format.{Format, map_format}
+use Rattle.bincode_spec.specs.Integers.{Four}
+use Rattle.bincode_spec.specs.Meaning.{Meaning, Choice, Number}
+use Rattle.bincode_spec.specs.Need.{then_needs, picked_needs}
+use Rattle.bincode_spec.specs.Words.{tag, Variant, variant_tags, allowed_tags, in_order, part, tag_then_part}
+use Rattle.bincode_lemmas.specs.AllowedLaws.{fewer-none_shorter}
+use Rattle.bincode_lemmas.specs.ChargedLaws.{ChargesEnough, picked-charged, fail-charged, map-charged, chosen-charged}
+use Rattle.bincode_lemmas.specs.ChoiceLaws.{part-here, part-there, same-alike, chosen-lawful, chosen-balanced, choice-has_word, choice-one_length, choice-same, choice-shortest, tags-differ}
+use Rattle.bincode_lemmas.specs.FormLaws.{Numerals, unsigned-numerals}
+use Rattle.bincode_lemmas.specs.NeedLaws.{Needs, picked-needs, fail-needs, map-needs, chosen-needs}
+use Rattle.bincode_lemmas.specs.TupleLaws.{either}
+use Rattle.bincode_types.specs.Sums.{this, other}
+use Rattle.bincode_types.specs.TypeLaws.{AlwaysWritable, PlainWords, ExactWords, CanonicalWords}
+use Rattle.bincode_types.specs.TypeWords.{Words}
+use Rattle.bincode_types.specs.declared.sums.VariantOf.{VariantOf}
+use Rattle.bincode_types.specs.declared.sums.VariantOf.TheVariants.{This, Other}
 
 -- the value made of a part, or of one of the others
-abbrev pub by : {n : ℕ} {A B C : Type 0} → (A → C) → (B → C) → Or n A B → C
+abbrev pub by : {n : ℕ} {A B C : Type 0} → (A → C) → (B → C) → VariantOf n A B → C
 by f g (This a) = f a
 by f g (Other o) = g o
 
@@ -50,20 +50,20 @@ pub record VariantWords (A : Type 0) : Type 1 where
   -- its tag picks it
   pub picked : (s : Setting) (allowed : Allowed) (v : A) → valid v → part s variants allowed (variant v).0 ≡ map_format (Choice (variant v).0) ((variant v).1 s)
   pub means : A → Meaning → Type 0
-  pub given : A → Meaning → Type 0
+  pub decodes_to : A → Meaning → Type 0
   pub writable : A → Setting → Type 0
-  pub names : EncodeError → Type 0
-  pub grows : Type 0
+  pub own_errors : EncodeError → Type 0
+  pub may_allocate : Type 0
   -- what the widest part claims
   pub claim : ℕ
   pub lawful : (s : Setting) → AllLawful s variants
   pub balanced : (s : Setting) → AllBalanced s variants
   pub has_word : (s : Setting) (v : A) → valid v → writable v s → SomeWord (AllowedWord (means v) ((variant v).1 s))
-  pub names_own : (e : EncodeError) → names e → MayName e
+  pub errors_are_own : (e : EncodeError) → own_errors e → MayName e
   -- how large a limit has to be for the part that a tag picks
   pub need : Setting → ℕ → List ℕ → ℕ
   pub needs : (s : Setting) (allowed : Allowed) (found : ℕ) → Needs (need s found) (part s variants allowed found)
-  pub charged : (s : Setting) (allowed : Allowed) (found : ℕ) → Charged (part s variants allowed found)
+  pub charges_enough : (s : Setting) (allowed : Allowed) (found : ℕ) → ChargesEnough (part s variants allowed found)
   -- each part can always be written
   pub AllWritable : Type 0
   pub always_writable : AllWritable → (s : Setting) (v : A) → valid v → writable v s
@@ -71,14 +71,14 @@ pub record VariantWords (A : Type 0) : Type 1 where
   pub AllPlain : Type 0
   pub plain_writable : AllPlain → (s : Setting) (v : A) → valid v → writable v s
   pub one_length : AllPlain → (s : Setting) (v : A) → valid v → OneLength (AllowedWord (means v) ((variant v).1 s))
-  pub names_none : AllPlain → (e : EncodeError) → names e → ⊥
+  pub names_none : AllPlain → (e : EncodeError) → own_errors e → ⊥
   -- each part is exact, where values are tested so
   pub AllExact : (A → A → Bool) → Type 0
   pub one_value : (eq : A → A → Bool) → AllExact eq → (v w : A) (m : Meaning) → valid v → valid w → (variant v).0 ≡ (variant w).0 → means v m → means w m → eq v w ≡ true
-  pub comes_back : (eq : A → A → Bool) → AllExact eq → (v w : A) (m : Meaning) → valid v → (variant v).0 ≡ (variant w).0 → means v m → given w m → eq v w ≡ true
+  pub comes_back : (eq : A → A → Bool) → AllExact eq → (v w : A) (m : Meaning) → valid v → (variant v).0 ≡ (variant w).0 → means v m → decodes_to w m → eq v w ≡ true
   -- each part is canonical
   pub AllCanonical : Type 0
-  pub shortest : AllCanonical → (s : Setting) (v w : A) → valid v → (variant v).0 ≡ (variant w).0 → Shortest (means v) (given w) ((variant v).1 s)
+  pub shortest : AllCanonical → (s : Setting) (v w : A) → valid v → (variant v).0 ≡ (variant w).0 → Shortest (means v) (decodes_to w) ((variant v).1 s)
 
 -- no variant
 abbrev pub no_more : {A : Type 0} → VariantWords A
@@ -88,18 +88,18 @@ no_more = record {
   valid = λ v. ⊥;
   picked = λ s allowed v h. absurd h;
   means = λ v m. ⊥;
-  given = λ v m. ⊥;
+  decodes_to = λ v m. ⊥;
   writable = λ v s. ⊥;
-  names = λ e. ⊥;
-  grows = ⊥;
+  own_errors = λ e. ⊥;
+  may_allocate = ⊥;
   claim = 0;
   lawful = λ s. tt;
   balanced = λ s. tt;
   has_word = λ s v h w. absurd h;
-  names_own = λ e h. absurd h;
+  errors_are_own = λ e h. absurd h;
   need = λ s found input. 0;
-  needs = λ s allowed found. refused-needs (UnexpectedVariant allowed found);
-  charged = λ s allowed found. refused-charged (UnexpectedVariant allowed found);
+  needs = λ s allowed found. fail-needs (UnexpectedVariant allowed found);
+  charges_enough = λ s allowed found. fail-charged (UnexpectedVariant allowed found);
   AllWritable = Unit {0};
   always_writable = λ all s v h. absurd h;
   AllPlain = Unit {0};
@@ -114,7 +114,7 @@ no_more = record {
 }
 
 -- a variant with this tag and this part, and the others
-abbrev pub or_else : {A B : Type 0} (n : ℕ) → Words A → VariantWords B → VariantWords (Or n A B)
+abbrev pub or_else : {A B : Type 0} (n : ℕ) → Words A → VariantWords B → VariantWords (VariantOf n A B)
 or_else {A} {B} n W V = record {
   variants = (n, W.format) ∷ V.variants;
   variant = elim [ This a ↦ (n, W.format) | Other o ↦ V.variant o ];
@@ -124,18 +124,18 @@ or_else {A} {B} n W V = record {
     | Other o ↦ λ h. part-there s allowed (V.variant o).0 n W.format V.variants h.0 ∙ V.picked s allowed o h.1
   ];
   means = elim [ This a ↦ W.means a | Other o ↦ V.means o ];
-  given = elim [ This a ↦ λ m. W.given m a | Other o ↦ λ m. (((V.variant o).0 == n) ≡ false) × V.given o m ];
+  decodes_to = elim [ This a ↦ λ m. W.decodes_to m a | Other o ↦ λ m. (((V.variant o).0 == n) ≡ false) × V.decodes_to o m ];
   writable = elim [ This a ↦ λ s. W.writable s a | Other o ↦ V.writable o ];
-  names = λ e. W.names e ⊎ V.names e;
-  grows = W.grows ⊎ V.grows;
+  own_errors = λ e. W.own_errors e ⊎ V.own_errors e;
+  may_allocate = W.may_allocate ⊎ V.may_allocate;
   claim = max W.claim V.claim;
   lawful = λ s. (W.lawful s, V.lawful s);
   balanced = λ s. (W.balanced s, V.balanced s);
   has_word = λ s. elim [ This a ↦ W.has_word s a | Other o ↦ λ h w. V.has_word s o h.1 w ];
-  names_own = λ e. either (W.names_own e) (V.names_own e);
+  errors_are_own = λ e. either (W.errors_are_own e) (V.errors_are_own e);
   need = λ s found. picked_needs (found == n) (W.need s) (V.need s found);
   needs = λ s allowed found. picked-needs (found == n) _ _ _ _ (map-needs (W.need s) (Choice found) (W.format s) (W.needs s)) (V.needs s allowed found);
-  charged = λ s allowed found. picked-charged (found == n) _ _ (map-charged (Choice found) (W.format s) (W.charged s)) (V.charged s allowed found);
+  charges_enough = λ s allowed found. picked-charged (found == n) _ _ (map-charged (Choice found) (W.format s) (W.charges_enough s)) (V.charges_enough s allowed found);
   AllWritable = AlwaysWritable W × V.AllWritable;
   always_writable = λ all s. elim [ This a ↦ all.0 s a | Other o ↦ λ h. V.always_writable all.1 s o h.1 ];
   AllPlain = PlainWords W × V.AllPlain;
@@ -182,23 +182,23 @@ tag-numerals = unsigned-numerals U32 4 (Four refl)
 -- the words of an enum whose values are these: the tag of a variant, and then its part
 abbrev pub enum_words : {A B : Type 0} → VariantWords B → (A → B) → Words A
 enum_words V parts = record {
-  format = chosen tag V.variants;
+  format = tag_then_part tag V.variants;
   valid = λ v. ((V.variant (parts v)).0 < 2 ^ 32) × V.valid (parts v);
   means = λ v. IsChoice (V.variant (parts v)).0 (V.means (parts v));
-  given = λ m v. IsChoice (V.variant (parts v)).0 (V.given (parts v)) m;
+  decodes_to = λ m v. IsChoice (V.variant (parts v)).0 (V.decodes_to (parts v)) m;
   writable = λ s v. V.writable (parts v) s;
-  names = V.names;
-  grows = (in_order 0 (tags_of V.variants) ≡ false) ⊎ V.grows;
+  own_errors = V.own_errors;
+  may_allocate = (in_order 0 (variant_tags V.variants) ≡ false) ⊎ V.may_allocate;
   claim = min (4 + V.claim) (2 ^ 64 - 1);
   need = λ s. then_needs (tag s) (λ _. 4) (V.need s);
   lawful = λ s. chosen-lawful tag V.variants s (tag-numerals.lawful s) (V.lawful s);
   balanced = λ s. chosen-balanced tag V.variants s (tag-numerals.balanced s) (V.balanced s);
   has_word = λ s v h w. choice-has_word tag V.variants s _ _ (same-alike (V.picked s _ (parts v) h.1))
       (V.means (parts v)) (tag-numerals.spelled s _ h.0).has_word (V.has_word s (parts v) h.1 w);
-  names_own = V.names_own;
+  errors_are_own = V.errors_are_own;
   claims = omega arith;
-  needs = λ s. chosen-needs tag V.variants s 4 (V.need s) (tag-numerals.balanced s) (tag-numerals.needs s) (V.needs s (allowed_tags (tags_of V.variants)));
-  charged = λ s. chosen-charged tag V.variants s (tag-numerals.charged s) (V.charged s (allowed_tags (tags_of V.variants)));
+  needs = λ s. chosen-needs tag V.variants s 4 (V.need s) (tag-numerals.balanced s) (tag-numerals.needs s) (V.needs s (allowed_tags (variant_tags V.variants)));
+  charges_enough = λ s. chosen-charged tag V.variants s (tag-numerals.charges_enough s) (V.charges_enough s (allowed_tags (variant_tags V.variants)));
 }
 
 module _ {A B : Type 0} (V : VariantWords B) (parts : A → B) where
@@ -224,7 +224,7 @@ module _ {A B : Type 0} (V : VariantWords B) (parts : A → B) where
 
   pub enum-canonical : V.AllCanonical → CanonicalWords (enum_words V parts)
   enum-canonical all = λ s v w h. choice-shortest tag V.variants s _ _ _ (V.picked s _ (parts v) h.1)
-      (V.means (parts v)) (V.given (parts w)) (tag-numerals.spelled s _ h.0).none_shorter (V.shortest all s (parts v) (parts w) h.1)
+      (V.means (parts v)) (V.decodes_to (parts w)) (tag-numerals.spelled s _ h.0).none_shorter (V.shortest all s (parts v) (parts w) h.1)
 
 -- the variants of an enum, and what its laws ask of their parts
 pub record EnumVariants (A : Type 0) : Type 1 where
@@ -239,9 +239,9 @@ pub record EnumVariants (A : Type 0) : Type 1 where
 -- what the words of an enum keep
 pub record EnumLaws {A : Type 0} (W : Words A) (E : EnumVariants A) : Type 0 where
   -- a value is written as the tag of its variant, and then its part
-  pub written : (s : Setting) → WrittenAlike (W.format s) (chosen tag E.variants s)
+  pub written : (s : Setting) → WrittenAlike (W.format s) (tag_then_part tag E.variants s)
   -- and read so
-  pub read : (s : Setting) → ReadAlike (W.format s) (chosen tag E.variants s)
+  pub read : (s : Setting) → ReadAlike (W.format s) (tag_then_part tag E.variants s)
   pub writable : E.AllWritable → AlwaysWritable W
   pub plain : E.AllPlain → PlainWords W
   pub exact : (eq : A → A → Bool) → E.AllExact eq → ExactWords W eq

@@ -1,15 +1,15 @@
 //! Enums that hold bytes of their source, read by the tag of a variant and then its part.
 ghost use Rattle.std.specs.Prelude.{◌≡◌};
-ghost use Rattle.bincode_format.specs.Format.{map_format};
-ghost use Rattle.bincode_format.specs.Meaning.{Choice};
-ghost use Rattle.bincode_format.specs.Words.{behind_tag};
-ghost use Rattle.bincode_format.specs.Choices.{IsChoice};
-ghost use Rattle.bincode_format.specs.Values.{Reads};
+ghost use Rattle.bincode_spec.specs.Format.{map_format};
+ghost use Rattle.bincode_spec.specs.Meaning.{Choice};
+ghost use Rattle.bincode_spec.specs.Words.{behind_tag};
+ghost use Rattle.bincode_spec.specs.Choices.{IsChoice};
+ghost use Rattle.bincode_spec.specs.Values.{Reads};
 ghost use Rattle.bincode_enums.specs.EnumWords.{ReadAlike};
 
 use crate::enums::Enum;
 use bincode_base::error::DecodeError;
-use bincode_de::borrow_decode::BorrowDecode;
+use bincode_decode::borrow_decode::BorrowDecode;
 use bincode_decoder::decoder::{BorrowDecoder, BorrowedBytes};
 use bincode_decoder::tags::DecodeTag;
 
@@ -20,9 +20,9 @@ pub trait BorrowDecodeVariants<B: BorrowedBytes, Context: Drop>: Enum + Drop + S
         tag: u32,
         decoder: &mut D,
     ) -> Result<Self, DecodeError>
-        ensures { Reads D.told D.rest D.charge D.failures D.place D.C.bound D.R.ended D.R.device Self.its.grows
-            (behind_tag Self.choices.variants D.C.setting tag) Self.its.given (D.charge decoder.old) result
-            decoder.old decoder.new };
+        ensures { Reads D.is_known D.remaining D.charge D.failures D.loans D.C.bound D.R.end_error D.R.device
+            Self.words.may_allocate (behind_tag Self.choices.variants D.C.setting tag) Self.words.decodes_to
+            (D.charge decoder.old) result decoder.old decoder.new };
 }
 
 /// Reads the tag of a variant, and then what follows it. Fails where one of them does.
@@ -32,8 +32,9 @@ pub fn borrow_decode_by_tag<
     T: BorrowDecodeVariants<B, D::Context>,
     D: BorrowDecoder<B>,
 >(decoder: &mut D) -> Result<T, DecodeError>
-    ensures { Reads D.told D.rest D.charge D.failures D.place D.C.bound D.R.ended D.R.device T.its.grows
-        (T.its.format D.C.setting) T.its.given (D.charge decoder.old) result decoder.old decoder.new }
+    ensures { Reads D.is_known D.remaining D.charge D.failures D.loans D.C.bound D.R.end_error D.R.device
+        T.words.may_allocate (T.words.format D.C.setting) T.words.decodes_to (D.charge decoder.old) result decoder.old
+        decoder.new }
 {
     let tag = u32::decode_tag(decoder)?;
     T::borrow_decode_variant(tag, decoder)
@@ -50,11 +51,11 @@ pub fn borrow_decode_part<
 >(tag: u32, number: u32, decoder: &mut D) -> Result<A, DecodeError>
     requires same { tag ≡ number }
     requires picks { ReadAlike (behind_tag T.choices.variants D.C.setting number)
-        (map_format (Choice number) (A.its.format D.C.setting)) }
-    requires grows { A.its.grows → T.its.grows }
-    ensures { Reads D.told D.rest D.charge D.failures D.place D.C.bound D.R.ended D.R.device T.its.grows
-        (behind_tag T.choices.variants D.C.setting tag) (λ m a. IsChoice tag (λ p. A.its.given p a) m)
-        (D.charge decoder.old) result decoder.old decoder.new }
+        (map_format (Choice number) (A.words.format D.C.setting)) }
+    requires may_allocate { A.words.may_allocate → T.words.may_allocate }
+    ensures { Reads D.is_known D.remaining D.charge D.failures D.loans D.C.bound D.R.end_error D.R.device
+        T.words.may_allocate (behind_tag T.choices.variants D.C.setting tag) (λ m a. IsChoice tag
+        (λ p. A.words.decodes_to p a) m) (D.charge decoder.old) result decoder.old decoder.new }
 {
     A::borrow_decode(decoder)
 }

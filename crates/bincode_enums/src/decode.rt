@@ -1,15 +1,15 @@
 //! Enums, read by the tag of a variant and then its part.
 ghost use Rattle.std.specs.Prelude.{◌≡◌, true, false};
-ghost use Rattle.bincode_format.specs.Format.{map_format};
-ghost use Rattle.bincode_format.specs.Meaning.{Choice};
-ghost use Rattle.bincode_format.specs.Words.{behind_tag, tags_of, in_order, last_of};
-ghost use Rattle.bincode_format.specs.Choices.{IsChoice};
-ghost use Rattle.bincode_format.specs.Values.{Reads};
+ghost use Rattle.bincode_spec.specs.Format.{map_format};
+ghost use Rattle.bincode_spec.specs.Meaning.{Choice};
+ghost use Rattle.bincode_spec.specs.Words.{behind_tag, variant_tags, in_order, last_of};
+ghost use Rattle.bincode_spec.specs.Choices.{IsChoice};
+ghost use Rattle.bincode_spec.specs.Values.{Reads};
 ghost use Rattle.bincode_enums.specs.EnumWords.{IsNone, ReadAlike};
 
 use crate::enums::Enum;
 use bincode_base::error::{AllowedEnumVariants, DecodeError};
-use bincode_de::decode::Decode;
+use bincode_decode::decode::Decode;
 use bincode_decoder::decoder::Decoder;
 use bincode_decoder::tags::DecodeTag;
 
@@ -20,9 +20,9 @@ pub trait DecodeVariants<Context: Drop>: Enum + Drop + Sized {
         tag: u32,
         decoder: &mut D,
     ) -> Result<Self, DecodeError>
-        ensures { Reads D.told D.rest D.charge D.failures D.place D.C.bound D.R.ended D.R.device Self.its.grows
-            (behind_tag Self.choices.variants D.C.setting tag) Self.its.given (D.charge decoder.old) result
-            decoder.old decoder.new };
+        ensures { Reads D.is_known D.remaining D.charge D.failures D.loans D.C.bound D.R.end_error D.R.device
+            Self.words.may_allocate (behind_tag Self.choices.variants D.C.setting tag) Self.words.decodes_to
+            (D.charge decoder.old) result decoder.old decoder.new };
 }
 
 /// Reads the tag of a variant, and then what follows it. Fails where one of them does.
@@ -30,8 +30,9 @@ pub trait DecodeVariants<Context: Drop>: Enum + Drop + Sized {
 pub fn decode_by_tag<T: DecodeVariants<D::Context>, D: Decoder>(
     decoder: &mut D,
 ) -> Result<T, DecodeError>
-    ensures { Reads D.told D.rest D.charge D.failures D.place D.C.bound D.R.ended D.R.device T.its.grows
-        (T.its.format D.C.setting) T.its.given (D.charge decoder.old) result decoder.old decoder.new }
+    ensures { Reads D.is_known D.remaining D.charge D.failures D.loans D.C.bound D.R.end_error D.R.device
+        T.words.may_allocate (T.words.format D.C.setting) T.words.decodes_to (D.charge decoder.old) result decoder.old
+        decoder.new }
 {
     let tag = u32::decode_tag(decoder)?;
     T::decode_variant(tag, decoder)
@@ -46,11 +47,11 @@ pub fn decode_part<Context: Drop, T: Enum, A: Decode<Context>, D: Decoder<Contex
 ) -> Result<A, DecodeError>
     requires same { tag ≡ number }
     requires picks { ReadAlike (behind_tag T.choices.variants D.C.setting number)
-        (map_format (Choice number) (A.its.format D.C.setting)) }
-    requires grows { A.its.grows → T.its.grows }
-    ensures { Reads D.told D.rest D.charge D.failures D.place D.C.bound D.R.ended D.R.device T.its.grows
-        (behind_tag T.choices.variants D.C.setting tag) (λ m a. IsChoice tag (λ p. A.its.given p a) m)
-        (D.charge decoder.old) result decoder.old decoder.new }
+        (map_format (Choice number) (A.words.format D.C.setting)) }
+    requires may_allocate { A.words.may_allocate → T.words.may_allocate }
+    ensures { Reads D.is_known D.remaining D.charge D.failures D.loans D.C.bound D.R.end_error D.R.device
+        T.words.may_allocate (behind_tag T.choices.variants D.C.setting tag) (λ m a. IsChoice tag
+        (λ p. A.words.decodes_to p a) m) (D.charge decoder.old) result decoder.old decoder.new }
 {
     A::decode(decoder)
 }
@@ -62,12 +63,12 @@ pub fn decode_no_variant<T: Enum, D: Decoder>(
     last: u32,
     decoder: &mut D,
 ) -> Result<T, DecodeError>
-    requires differs { IsNone tag (tags_of T.choices.variants) }
-    requires ordered { in_order 0 (tags_of T.choices.variants) ≡ true }
-    requires ends { last_of 0 (tags_of T.choices.variants) ≡ last }
-    ensures { Reads D.told D.rest D.charge D.failures D.place D.C.bound D.R.ended D.R.device T.its.grows
-        (behind_tag T.choices.variants D.C.setting tag) T.its.given (D.charge decoder.old) result decoder.old
-        decoder.new }
+    requires differs { IsNone tag (variant_tags T.choices.variants) }
+    requires ordered { in_order 0 (variant_tags T.choices.variants) ≡ true }
+    requires ends { last_of 0 (variant_tags T.choices.variants) ≡ last }
+    ensures { Reads D.is_known D.remaining D.charge D.failures D.loans D.C.bound D.R.end_error D.R.device
+        T.words.may_allocate (behind_tag T.choices.variants D.C.setting tag) T.words.decodes_to (D.charge decoder.old)
+        result decoder.old decoder.new }
 {
     let range = AllowedEnumVariants::Range { min: 0, max: last };
     Err(DecodeError::unexpected_variant(decoder.alloc(), T::type_name(), tag, range))
@@ -81,13 +82,13 @@ pub fn decode_unlisted_variant<T: Enum, D: Decoder>(
     tags: &[u32],
     decoder: &mut D,
 ) -> Result<T, DecodeError>
-    requires differs { IsNone tag (tags_of T.choices.variants) }
-    requires unordered { in_order 0 (tags_of T.choices.variants) ≡ false }
-    requires listed { tags.now ≡ tags_of T.choices.variants }
-    requires grows { T.its.grows }
-    ensures { Reads D.told D.rest D.charge D.failures D.place D.C.bound D.R.ended D.R.device T.its.grows
-        (behind_tag T.choices.variants D.C.setting tag) T.its.given (D.charge decoder.old) result decoder.old
-        decoder.new }
+    requires differs { IsNone tag (variant_tags T.choices.variants) }
+    requires unordered { in_order 0 (variant_tags T.choices.variants) ≡ false }
+    requires listed { tags.now ≡ variant_tags T.choices.variants }
+    requires may_allocate { T.words.may_allocate }
+    ensures { Reads D.is_known D.remaining D.charge D.failures D.loans D.C.bound D.R.end_error D.R.device
+        T.words.may_allocate (behind_tag T.choices.variants D.C.setting tag) T.words.decodes_to (D.charge decoder.old)
+        result decoder.old decoder.new }
 {
     let list = AllowedEnumVariants::Allowed(tags);
     Err(DecodeError::unexpected_variant(decoder.alloc(), T::type_name(), tag, list))

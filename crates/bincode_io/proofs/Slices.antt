@@ -6,8 +6,8 @@ use Rattle.std.proofs.Math.Nat.{ℕ_set}
 use Rattle.std.specs.Option.{MatchOption}
 use Rattle.std.proofs.lemmas.List.{drop-drop, length-take-le}
 use borrow.Rule.Slice.PartMut.{put_mid}
-use Rattle.bincode_format.specs.Put.{put}
-use Rattle.bincode_laws.specs.PutLaws.{put-none}
+use Rattle.bincode_spec.specs.Put.{put}
+use Rattle.bincode_lemmas.specs.PutLaws.{put-none}
 use Rattle.bincode_io.specs.declared.write.SliceWriter.{SliceWriter}
 
 -- what `get(..n)` answers

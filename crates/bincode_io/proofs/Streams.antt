@@ -4,10 +4,10 @@ use Rattle.std.proofs.Common.{sym, ap, ◌∙◌}
 use Rattle.std.proofs.lemmas.List.{take-append-drop, take-append-le}
 use Rattle.std.specs.Io.BufRead.{DropsConsumable}
 use Rattle.std.specs.Io.KnownBytes.{Consumes, prepend_known}
-use Rattle.bincode_io.specs.Stream.{TellsBytes, known}
+use Rattle.bincode_io.specs.Stream.{TellsBytes, known_bytes}
 
 pub given : (before after : Option (List ℕ)) (bytes : List ℕ) → Consumes before after bytes → TellsBytes before →
-    known before ≡ bytes ++ known after
+    known_bytes before ≡ bytes ++ known_bytes after
 given None after bytes h tells = absurd tells
 given (Some xs) None bytes h tells = absurd h
 given (Some xs) (Some ys) bytes h tells = h
@@ -16,7 +16,7 @@ given (Some xs) (Some ys) bytes h tells = h
 pub copied : (none : Bool) (shown bytes : List ℕ) (n : ℕ) (inner after : Option (List ℕ)) → n ≤ length shown → bytes ≡ take n shown →
     DropsConsumable (if none then None else prepend_known shown inner) after (Some (length shown)) n →
     TellsBytes (if none then None else prepend_known shown inner) →
-    TellsBytes after × (known (if none then None else prepend_known shown inner) ≡ bytes ++ known after)
+    TellsBytes after × (known_bytes (if none then None else prepend_known shown inner) ≡ bytes ++ known_bytes after)
 copied true shown bytes n inner after fits same drops tells = absurd tells
 copied false shown bytes n None after fits same drops tells = absurd tells
 copied false shown bytes n (Some xs) after fits same drops tells =

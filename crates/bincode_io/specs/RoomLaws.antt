@@ -1,7 +1,7 @@
 -- What pieces take of a room, and what is left of it.
 use Rattle.std.specs.Prelude.{◌≡◌, ◌+◌, ◌-◌, ◌≤◌, ℕ, List, [], ◌∷◌, ◌++◌, length, Option, Some, None, refl}
 use Rattle.std.proofs.Common.{ap, subst, arith, length-append}
-use Rattle.bincode_format.specs.Device.{TooLong, WithinRoom, TakesRoom}
+use Rattle.bincode_spec.specs.Device.{TooLong, WithinRoom, TakesRoom}
 
 -- of an empty join both parts are empty
 pub first-empty : (x y : List ℕ) → x ++ y ≡ [] → x ≡ []

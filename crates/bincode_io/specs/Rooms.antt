@@ -15,7 +15,7 @@ room_of w = capacity_of w.held
 
 -- whether it refused a piece
 abbrev pub refused_by : RoomWriter → Bool
-refused_by w = w.refused
+refused_by w = w.any_refused
 
 -- a piece stands behind what was written
 abbrev pub RoomAdds : RoomWriter → List ℕ → RoomWriter → Type 0

@@ -13,8 +13,8 @@ abbrev pub bytes_of : SliceWriter → List ℕ
 bytes_of w = w.slice.now
 
 -- how many of them were written
-abbrev pub count_of : SliceWriter → ℕ
-count_of w = w.written
+abbrev pub written_by : SliceWriter → ℕ
+written_by w = w.written
 
 -- the loan that it writes through
 abbrev pub loan_of : SliceWriter → GName

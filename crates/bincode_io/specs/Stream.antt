@@ -13,8 +13,8 @@ use Rattle.bincode_base.specs.declared.error.DecodeError.{DecodeError}
 use Rattle.bincode_base.specs.declared.error.DecodeError.TheVariants as decoding
 use Rattle.bincode_base.specs.declared.error.EncodeError.{EncodeError}
 use Rattle.bincode_base.specs.declared.error.EncodeError.TheVariants as encoding
-use Rattle.bincode_format.specs.Device.{DeviceErrors, Fills}
-use Rattle.bincode_format.specs.Encoding.{Begins, IsOwn}
+use Rattle.bincode_spec.specs.Device.{DeviceErrors, FillsBuffer}
+use Rattle.bincode_spec.specs.Encoding.{Begins, IsOwn}
 use Rattle.bincode_io.specs.declared.io_read.IoReader.{IoReader}
 use Rattle.bincode_io.specs.declared.io_read.LentIoReader.{LentIoReader}
 use Rattle.bincode_io.specs.declared.io_write.IoWriter.{IoWriter}
@@ -25,9 +25,9 @@ TellsBytes None = ⊥
 TellsBytes (Some xs) = ⊤
 
 -- these bytes, where they are known
-abbrev pub known : Option (List ℕ) → List ℕ
-known None = []
-known (Some xs) = xs
+abbrev pub known_bytes : Option (List ℕ) → List ℕ
+known_bytes None = []
+known_bytes (Some xs) = xs
 
 -- the stream that it reads
 abbrev pub stream_of : {R : Type 0} → IoReader R → R
@@ -51,7 +51,7 @@ EndsAsFile missing e = (inner : StreamError) × (e ≡ decoding.Io inner missing
 
 -- it may come at any call, and is not counted
 abbrev pub stream_errors : DeviceErrors
-stream_errors = record { counted = λ _. ⊥; uncounted = IsIo }
+stream_errors = record { is_counted = λ _. ⊥; is_uncounted = IsIo }
 
 -- the stream ended with so many bytes missing
 abbrev pub EndsShort : ℕ → DecodeError → Type 0
@@ -60,19 +60,19 @@ EndsShort missing e = (inner : StreamError) × (e ≡ decoding.Io inner missing)
 -- a reader of a stream, which tells the bytes that are left as the stream does, was asked to fill some bytes
 abbrev pub FillsFrom : {R : Type 0} → (R → Option (List ℕ)) → (R → List GName) → List ℕ → List ℕ → Result (Unit {0}) DecodeError → R → R → Type 0
 FillsFrom left place before after result old new =
-    Fills (λ r. TellsBytes (left r)) (λ r. known (left r)) (λ _. 0) place EndsShort stream_errors before after result old new
+    FillsBuffer (λ r. TellsBytes (left r)) (λ r. known_bytes (left r)) (λ _. 0) place EndsShort stream_errors before after result old new
 
 -- how many bytes the buffer of a reader shows
-abbrev pub buffered : {R A : Type 0} → BufReader R A → ℕ
-buffered r = length (reader_buffer r)
+abbrev pub buffered_count : {R A : Type 0} → BufReader R A → ℕ
+buffered_count r = length (reader_buffer r)
 
 -- the stream that it writes to
 abbrev pub target_of : {W : Type 0} → IoWriter W → W
 target_of w = w.stream.now
 
 -- how many bytes it wrote
-abbrev pub count_of : {W : Type 0} → IoWriter W → ℕ
-count_of w = w.written
+abbrev pub written_through : {W : Type 0} → IoWriter W → ℕ
+written_through w = w.written
 
 -- an error of the stream that is written to, behind so many bytes
 abbrev pub IsWriteIo : ℕ → EncodeError → Type 0
@@ -82,8 +82,8 @@ IsWriteIo written e = (inner : StreamError) × (e ≡ encoding.Io inner written)
 -- changes nothing
 pub record StreamAdds {W : Type 0} (contents : W → Option (List ℕ)) (a : IoWriter W) (piece : List ℕ) (b : IoWriter W) : Type 0 where
   pub appended : Appends (contents (target_of a)) (contents (target_of b)) piece
-  pub counted : count_of b ≡ count_of a + length piece
-  pub within : length piece ≤ 2 ^ 64 - 1 - count_of a
+  pub count_rises : written_through b ≡ written_through a + length piece
+  pub within : length piece ≤ 2 ^ 64 - 1 - written_through a
   pub nothing : piece ≡ [] → b ≡ a
 
 -- a front of a piece went out
@@ -95,8 +95,8 @@ pub record FrontOut {W : Type 0} (contents : W → Option (List ℕ)) (a : W) (p
 
 -- a piece was refused: it would pass the last count, and nothing was written; or the stream failed, and a front of it went out
 abbrev pub StreamRefuses : {W : Type 0} → (W → Option (List ℕ)) → IoWriter W → List ℕ → EncodeError → IoWriter W → Type 0
-StreamRefuses contents a piece e b = ((e ≡ encoding.UnexpectedEnd) × (2 ^ 64 - 1 - count_of a < length piece) × (b ≡ a))
-    ⊎ (IsWriteIo (count_of a) e × (count_of b ≡ count_of a) × FrontOut contents (target_of a) piece (target_of b))
+StreamRefuses contents a piece e b = ((e ≡ encoding.UnexpectedEnd) × (2 ^ 64 - 1 - written_through a < length piece) × (b ≡ a))
+    ⊎ (IsWriteIo (written_through a) e × (written_through b ≡ written_through a) × FrontOut contents (target_of a) piece (target_of b))
 
 -- an allowed word of so many bytes was written to a stream
 pub record StreamWritten {W : Type 0} (contents : W → Option (List ℕ)) (Allowed : List ℕ → Type 0) (n : ℕ) (old new : W) : Type 0 where
@@ -107,8 +107,8 @@ pub record StreamWritten {W : Type 0} (contents : W → Option (List ℕ)) (Allo
 
 -- a front of an allowed word was written to it, unless the error is one of a user's type; the type names the error, or the
 -- stream failed, or a front of an allowed word has more bytes than 64 bits count
-pub record StreamHalts {W : Type 0} (contents : W → Option (List ℕ)) (Allowed : List ℕ → Type 0) (Names : EncodeError → Type 0) (old new : W) (e : EncodeError) : Type 0 where
+pub record StreamHalts {W : Type 0} (contents : W → Option (List ℕ)) (Allowed : List ℕ → Type 0) (OwnErrors : EncodeError → Type 0) (old new : W) (e : EncodeError) : Type 0 where
   pub front : List ℕ
   pub appended : Appends (contents old) (contents new) front
   pub begins : IsOwn e ⊎ Begins Allowed front
-  pub why : Names e ⊎ (((written : ℕ) × IsWriteIo written e) ⊎ ((e ≡ encoding.UnexpectedEnd) × ((long : List ℕ) × Begins Allowed long × (2 ^ 64 - 1 < length long))))
+  pub why : OwnErrors e ⊎ (((written : ℕ) × IsWriteIo written e) ⊎ ((e ≡ encoding.UnexpectedEnd) × ((long : List ℕ) × Begins Allowed long × (2 ^ 64 - 1 < length long))))

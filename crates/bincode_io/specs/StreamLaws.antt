@@ -8,26 +8,26 @@ use Rattle.std.proofs.KnownBytes.{Appends-nil, Appends-trans}
 use Rattle.std.specs.declared.io.buffered.BufReader.{BufReader}
 use Rattle.bincode_base.specs.declared.error.EncodeError.{EncodeError}
 use Rattle.bincode_base.specs.declared.error.EncodeError.TheVariants.{Memory}
-use Rattle.bincode_format.specs.Device.{TooLong, TakesRoom, Rose}
+use Rattle.bincode_spec.specs.Device.{TooLong, TakesRoom, Rose}
 use Rattle.bincode_io.specs.declared.io_write.IoWriter.{IoWriter}
 use Rattle.bincode_io.specs.RoomLaws.{first-empty, second-empty}
-use Rattle.bincode_io.specs.Stream.{TellsBytes, known, buffered, target_of, count_of, IsWriteIo, StreamAdds, StreamRefuses}
+use Rattle.bincode_io.specs.Stream.{TellsBytes, known_bytes, buffered_count, target_of, written_through, IsWriteIo, StreamAdds, StreamRefuses}
 
 length-front : (bs xs : List ℕ) → length bs ≤ length (bs ++ xs)
 length-front bs xs = grind (arith, common_steps)
 
 shown-left : (none : Bool) (bs : List ℕ) (known_inner : Option (List ℕ)) → TellsBytes (if none then None else prepend_known bs known_inner) →
-    length bs ≤ length (known (if none then None else prepend_known bs known_inner))
+    length bs ≤ length (known_bytes (if none then None else prepend_known bs known_inner))
 shown-left true bs inner tells = absurd tells
 shown-left false bs None tells = absurd tells
 shown-left false bs (Some xs) tells = length-front bs xs
 
 pub buffered-left : {R A : Type 0} (remaining : R → Option (List ℕ)) (r : BufReader R A) → TellsBytes (reader_remaining remaining r) →
-    buffered r ≤ length (known (reader_remaining remaining r))
+    buffered_count r ≤ length (known_bytes (reader_remaining remaining r))
 buffered-left remaining r = shown-left (reader_capacity r == 0) (reader_buffer r) (remaining (reader_inner r))
 
 pub adds-none : {W : Type 0} (contents : W → Option (List ℕ)) (w : IoWriter W) → StreamAdds contents w [] w
-adds-none contents w = record { appended = Appends-nil (contents (target_of w)); counted = grind (arith, common_steps); within = zero-le; nothing = λ e. refl }
+adds-none contents w = record { appended = Appends-nil (contents (target_of w)); count_rises = grind (arith, common_steps); within = zero-le; nothing = λ e. refl }
 
 counts : (x y : List ℕ) (k m n : ℕ) → m ≡ k + length x → n ≡ m + length y → n ≡ k + length (x ++ y)
 counts x y k m n p q = grind (arith, common_steps)
@@ -38,16 +38,16 @@ fits x y k m p q r = let l = length-append x y in omega arith
 pub adds-join : {W : Type 0} (contents : W → Option (List ℕ)) (a b c : IoWriter W) (x y : List ℕ) → StreamAdds contents a x b → StreamAdds contents b y c → StreamAdds contents a (x ++ y) c
 adds-join contents a b c x y p q = record {
   appended = Appends-trans _ _ _ x y p.appended q.appended;
-  counted = counts x y _ _ _ p.counted q.counted;
-  within = fits x y _ _ p.counted p.within q.within;
+  count_rises = counts x y _ _ _ p.count_rises q.count_rises;
+  within = fits x y _ _ p.count_rises p.within q.within;
   nothing = λ e. q.nothing (second-empty x y e) ∙ p.nothing (first-empty x y e);
 }
 
 pub refuses-why : {W : Type 0} (contents : W → Option (List ℕ)) (a b : IoWriter W) (piece : List ℕ) (e : EncodeError) → StreamRefuses contents a piece e b →
-    TooLong (Some (2 ^ 64 - 1 - count_of a)) piece ⊎ ((e ≡ Memory) ⊎ (((written : ℕ) × IsWriteIo written e) ⊎ Rose 0 0))
+    TooLong (Some (2 ^ 64 - 1 - written_through a)) piece ⊎ ((e ≡ Memory) ⊎ (((written : ℕ) × IsWriteIo written e) ⊎ Rose 0 0))
 refuses-why contents a b piece e (inl h) = inl h.1
 refuses-why contents a b piece e (inr h) = inr (inr (inl (_, h.0)))
 
 pub adds-room : {W : Type 0} (contents : W → Option (List ℕ)) (a b : IoWriter W) (piece : List ℕ) → StreamAdds contents a piece b →
-    TakesRoom (Some (2 ^ 64 - 1 - count_of a)) piece (Some (2 ^ 64 - 1 - count_of b))
-adds-room contents a b piece h = let c = h.counted in record { within = h.within; left = ap Some (omega arith) }
+    TakesRoom (Some (2 ^ 64 - 1 - written_through a)) piece (Some (2 ^ 64 - 1 - written_through b))
+adds-room contents a b piece h = let c = h.count_rises in record { within = h.within; left = ap Some (omega arith) }

@@ -6,7 +6,7 @@ ghost use Rattle.std.specs.Io.{ReadsAtMost};
 ghost use Rattle.std.specs.Io.Buffered.{reader_remaining};
 ghost use Rattle.std.specs.Io.KnownBytes.{Consumes, IsAtEnd, Keeps};
 ghost use Rattle.std.specs.IoError.{error_kind};
-ghost use Rattle.bincode_io.specs.Stream.{TellsBytes, known, EndsAsFile, EndsShort, FillsFrom};
+ghost use Rattle.bincode_io.specs.Stream.{TellsBytes, known_bytes, EndsAsFile, EndsShort, FillsFrom};
 ghost use Rattle.bincode_io.specs.Stream.{IsIo, Tells, stream_errors};
 
 use crate::read::Reader;
@@ -28,7 +28,7 @@ fn read_again<R: Read>(
     ensures ok { IfOk result (λ n. Consumes (R.remaining stream.old) (R.remaining stream.new) (take n bytes.new)) }
     ensures end { IfOk result (λ n. n ≡ 0 → 0 < length bytes.old → IsAtEnd (R.remaining stream.new)) }
     ensures err { OnErr result (Keeps (R.remaining stream.old) (R.remaining stream.new)) }
-    ensures told { error_kind cause ≢ ErrorKind.Interrupted → (stream.new ≡ stream.old)
+    ensures error { error_kind cause ≢ ErrorKind.Interrupted → (stream.new ≡ stream.old)
         × MatchResult result (λ _. ⊥) (Tells cause) }
 {
     let mut cause = cause;
@@ -76,7 +76,7 @@ fn end_of_stream(additional: usize) -> DecodeError
 fn fill<R: Read>(stream: &mut R, bytes: &mut [u8]) -> Result<(), DecodeError>
     ensures ok { OnOk result (Consumes (R.remaining stream.old) (R.remaining stream.new) bytes.new) }
     ensures err { IfErr result IsIo }
-    ensures told { TellsBytes (R.remaining stream.old) → TellsBytes (R.remaining stream.new) }
+    ensures is_known { TellsBytes (R.remaining stream.old) → TellsBytes (R.remaining stream.new) }
 {
     let mut at = 0;
     while at < bytes.len() {
@@ -99,7 +99,7 @@ fn fill<R: Read>(stream: &mut R, bytes: &mut [u8]) -> Result<(), DecodeError>
 fn fill_past_buffer<R: Read>(stream: &mut R, bytes: &mut [u8]) -> Result<(), DecodeError>
     ensures ok { OnOk result (Consumes (R.remaining stream.old) (R.remaining stream.new) bytes.new) }
     ensures err { IfErr result IsIo }
-    ensures told { TellsBytes (R.remaining stream.old) → TellsBytes (R.remaining stream.new) }
+    ensures is_known { TellsBytes (R.remaining stream.old) → TellsBytes (R.remaining stream.new) }
 {
     fill(stream, bytes)
 }
@@ -132,19 +132,19 @@ impl<R: Read + Drop> Reader for IoReader<R> {
 
     const PEEKS_FIRST: bool = false;
 
-    ghost told = { λ r. TellsBytes (R.remaining (stream_of r)) };
+    ghost is_known = { λ r. TellsBytes (R.remaining (stream_of r)) };
 
-    ghost rest = { λ r. known (R.remaining (stream_of r)) };
+    ghost remaining = { λ r. known_bytes (R.remaining (stream_of r)) };
 
-    ghost shown = { λ _. 0 };
+    ghost buffered_len = { λ _. 0 };
 
     ghost failures = { λ _. 0 };
 
-    ghost ended = { EndsShort };
+    ghost end_error = { EndsShort };
 
     ghost device = { stream_errors };
 
-    ghost place = { λ _. [] };
+    ghost loans = { λ _. [] };
 
     fn read(&mut self, bytes: &mut [u8]) -> Result<(), DecodeError>
         ensures fills { FillsFrom (λ r. R.remaining (stream_of r)) (λ _. []) bytes.old bytes.new
@@ -160,9 +160,9 @@ impl<R: Read + Drop> Reader for IoReader<R> {
 
     fn consume(&mut self, _n: usize) {}
 
-    ghost shown_left = { λ r _. zero-le };
+    ghost buffered_within = { λ r _. zero-le };
 
-    ghost ended_is = { λ missing e h. inr h };
+    ghost end_error_is = { λ missing e h. inr h };
 }
 
 /// A reader of a stream that is lent: `IoReader`, whose stream is known to its lender afterwards.
@@ -183,7 +183,7 @@ impl<'a, R: Read> LentIoReader<'a, R> {
 
     /// A reader of this stream.
     pub fn new(stream: &'a mut R) -> LentIoReader<'a, R>
-        ensures place { ⟦<LentIoReader<'a, R> as Reader>⟧.place result ≡ stream.entry.ghost_name ∷ [] }
+        ensures loans { ⟦<LentIoReader<'a, R> as Reader>⟧.loans result ≡ stream.entry.ghost_name ∷ [] }
         ensures stream { lent_stream result ≡ stream.old }
     {
         LentIoReader { stream }
@@ -195,19 +195,19 @@ impl<R: Read> Reader for LentIoReader<'_, R> {
 
     const PEEKS_FIRST: bool = false;
 
-    ghost told = { λ r. TellsBytes (R.remaining (lent_stream r)) };
+    ghost is_known = { λ r. TellsBytes (R.remaining (lent_stream r)) };
 
-    ghost rest = { λ r. known (R.remaining (lent_stream r)) };
+    ghost remaining = { λ r. known_bytes (R.remaining (lent_stream r)) };
 
-    ghost shown = { λ _. 0 };
+    ghost buffered_len = { λ _. 0 };
 
     ghost failures = { λ _. 0 };
 
-    ghost ended = { EndsShort };
+    ghost end_error = { EndsShort };
 
     ghost device = { stream_errors };
 
-    ghost place = { λ r. r.stream.ghost_name ∷ [] };
+    ghost loans = { λ r. r.stream.ghost_name ∷ [] };
 
     fn read(&mut self, bytes: &mut [u8]) -> Result<(), DecodeError>
         ensures fills { FillsFrom (λ r. R.remaining (lent_stream r)) (λ r. r.stream.ghost_name ∷ []) bytes.old bytes.new
@@ -223,30 +223,30 @@ impl<R: Read> Reader for LentIoReader<'_, R> {
 
     fn consume(&mut self, _n: usize) {}
 
-    ghost shown_left = { λ r _. zero-le };
+    ghost buffered_within = { λ r _. zero-le };
 
-    ghost ended_is = { λ missing e h. inr h };
+    ghost end_error_is = { λ missing e h. inr h };
 }
 
 /// A buffer before a stream is a reader that shows what it holds. It fails as `IoReader` does. One without room tells
 /// nothing of its bytes.
 impl<R: Read + Drop> Reader for BufReader<R> {
-    ghost use Rattle.bincode_io.specs.Stream.{buffered};
+    ghost use Rattle.bincode_io.specs.Stream.{buffered_count};
     ghost use Rattle.bincode_io.specs.StreamLaws.{buffered-left};
 
-    ghost told = { λ r. TellsBytes (reader_remaining R.remaining r) };
+    ghost is_known = { λ r. TellsBytes (reader_remaining R.remaining r) };
 
-    ghost rest = { λ r. known (reader_remaining R.remaining r) };
+    ghost remaining = { λ r. known_bytes (reader_remaining R.remaining r) };
 
-    ghost shown = { λ r. buffered r };
+    ghost buffered_len = { λ r. buffered_count r };
 
     ghost failures = { λ _. 0 };
 
-    ghost ended = { EndsShort };
+    ghost end_error = { EndsShort };
 
     ghost device = { stream_errors };
 
-    ghost place = { λ _. [] };
+    ghost loans = { λ _. [] };
 
     #[inline(always)]
     fn read(&mut self, bytes: &mut [u8]) -> Result<(), DecodeError>
@@ -270,7 +270,7 @@ impl<R: Read + Drop> Reader for BufReader<R> {
         BufRead::consume(self, n);
     }
 
-    ghost shown_left = { λ r. buffered-left R.remaining r };
+    ghost buffered_within = { λ r. buffered-left R.remaining r };
 
-    ghost ended_is = { λ missing e h. inr h };
+    ghost end_error_is = { λ missing e h. inr h };
 }

@@ -6,7 +6,7 @@ ghost use Rattle.std.specs.Io.{WritesAtMost};
 ghost use Rattle.std.specs.Io.KnownBytes.{Appends, Keeps};
 ghost use Rattle.std.specs.IoError.{error_kind};
 ghost use Rattle.bincode_base.specs.StreamError.{kind_of};
-ghost use Rattle.bincode_io.specs.Stream.{target_of, count_of, Tells, FrontOut, StreamAdds, StreamRefuses};
+ghost use Rattle.bincode_io.specs.Stream.{target_of, written_through, Tells, FrontOut, StreamAdds, StreamRefuses};
 
 use crate::write::Writer;
 use bincode_base::error::{EncodeError, StreamError};
@@ -26,7 +26,7 @@ fn write_again<W: Write>(
     ensures bound { WritesAtMost result bytes.now }
     ensures ok { IfOk result (λ n. Appends (W.contents stream.old) (W.contents stream.new) (take n bytes.now)) }
     ensures err { OnErr result (Keeps (W.contents stream.old) (W.contents stream.new)) }
-    ensures told { error_kind cause ≢ ErrorKind.Interrupted → (stream.new ≡ stream.old)
+    ensures error { error_kind cause ≢ ErrorKind.Interrupted → (stream.new ≡ stream.old)
         × MatchResult result (λ _. ⊥) (Tells cause) }
 {
     let mut cause = cause;
@@ -115,16 +115,16 @@ impl<W> Drop for IoWriter<'_, W> {
 impl<'a, W: Write> IoWriter<'a, W> {
     /// A writer to this stream, which wrote nothing yet.
     pub fn new(stream: &'a mut W) -> IoWriter<'a, W>
-        ensures place { ⟦<IoWriter<'a, W> as Writer>⟧.place result ≡ stream.entry.ghost_name ∷ [] }
+        ensures loans { ⟦<IoWriter<'a, W> as Writer>⟧.loans result ≡ stream.entry.ghost_name ∷ [] }
         ensures stream { target_of result ≡ stream.old }
-        ensures start { count_of result ≡ 0 }
+        ensures start { written_through result ≡ 0 }
     {
         IoWriter { stream, written: 0 }
     }
 
     /// How many bytes were written by calls that succeeded.
     pub fn bytes_written(&self) -> usize
-        ensures { result ≡ count_of self.now }
+        ensures { result ≡ written_through self.now }
     {
         self.written
     }
@@ -139,13 +139,13 @@ impl<W: Write> Writer for IoWriter<'_, W> {
 
     ghost refuses = { StreamRefuses W.contents };
 
-    ghost room = { λ w. Some (2 ^ 64 - 1 - count_of w) };
+    ghost room = { λ w. Some (2 ^ 64 - 1 - written_through w) };
 
     ghost failures = { λ _. 0 };
 
     ghost device = { λ e. (written : ℕ) × IsWriteIo written e };
 
-    ghost place = { λ w. w.stream.ghost_name ∷ [] };
+    ghost loans = { λ w. w.stream.ghost_name ∷ [] };
 
     #[inline(always)]
     fn write(&mut self, bytes: &[u8]) -> Result<(), EncodeError> {
@@ -167,13 +167,13 @@ impl<W: Write> Writer for IoWriter<'_, W> {
 
     /// Writes the byte. It is written out, since the provided one stays a call.
     #[inline(always)]
-    fn write_ahead(&mut self, byte: u8, _all: usize) -> Result<(), EncodeError> {
+    fn write_tag(&mut self, byte: u8, _all: usize) -> Result<(), EncodeError> {
         self.write(&[byte])
     }
 
     /// Writes the bytes. It is written out, since the provided one stays a call.
     #[inline(always)]
-    fn write_behind(&mut self, bytes: &[u8]) -> Result<(), EncodeError> {
+    fn write_payload(&mut self, bytes: &[u8]) -> Result<(), EncodeError> {
         self.write(bytes)
     }
 

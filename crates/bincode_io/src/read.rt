@@ -5,8 +5,8 @@ ghost use Rattle.std.specs.Prelude.{IsErr, IfOk};
 ghost use Rattle.std.proofs.Common.{le_refl, inl};
 ghost use Rattle.std.specs.Borrow.{GName, sem};
 ghost use Rattle.std.specs.Io.BufRead.{Rests};
-ghost use Rattle.bincode_format.specs.Device.{DeviceErrors, no_device, IsEndError};
-ghost use Rattle.bincode_format.specs.Device.{FallsShort, Fills, TakesShown, Unmoved};
+ghost use Rattle.bincode_spec.specs.Device.{DeviceErrors, no_device, IsEndError};
+ghost use Rattle.bincode_spec.specs.Device.{FallsShort, FillsBuffer, TakesShown, Unmoved};
 ghost use Rattle.bincode_base.specs.declared.error.DecodeError.{DecodeError};
 ghost use Rattle.bincode_base.specs.declared.error.DecodeError.TheVariants.{UnexpectedEnd};
 
@@ -22,53 +22,54 @@ pub trait Reader: Drop {
     /// slice.
     const PEEKS_FIRST: bool = true;
 
-    /// That it tells the bytes that are left. What is said of `rest` is said where it does.
-    ghost told: { Self → Type 0 };
+    /// That it tells the bytes that are left. What is said of `remaining` is said where it does.
+    ghost is_known: { Self → Type 0 };
 
     /// The bytes that are left.
-    ghost rest: { Self → List ℕ };
+    ghost remaining: { Self → List ℕ };
 
     /// How many of them a peek shows.
-    ghost shown: { Self → ℕ };
+    ghost buffered_len: { Self → ℕ };
 
     /// How often the device failed by an error that it counts. A count that stands at its last value, 2^64 - 1, is
     /// taken for one that rose.
     ghost failures: { Self → ℕ };
 
     /// The error of a read that asks for so many bytes more than are left.
-    ghost ended: { ℕ → DecodeError → Type 0 };
+    ghost end_error: { ℕ → DecodeError → Type 0 };
 
     /// The errors by which the device fails.
     ghost device: { DeviceErrors };
 
     /// The references that it reads through. No call changes them.
-    ghost place: { Self → List GName };
+    ghost loans: { Self → List GName };
 
     /// Fills all of `bytes` with the next bytes. Fails where too few are left, or where the device fails; then some
     /// front of them is taken, unless the error is one that the device does not count.
     fn read(&mut self, bytes: &mut [u8]) -> Result<(), DecodeError>
-        ensures { Fills told rest failures place ended device bytes.old bytes.new result self.old self.new };
+        ensures { FillsBuffer is_known remaining failures loans end_error device bytes.old bytes.new result self.old
+            self.new };
 
     /// The next `n` bytes. Of at least one it answers exactly where the reader shows so many. Takes none.
     fn peek_read(&mut self, n: usize) -> Option<&[u8]>
         ensures next { IfSome result (λ s. (length s.now ≡ n)
-            × (told self.old → s.now ≡ take n (rest self.old))) }
-        ensures shows { 0 < n → IsSome result ↔ (n ≤ shown self.old) }
+            × (is_known self.old → s.now ≡ take n (remaining self.old))) }
+        ensures shows { 0 < n → IsSome result ↔ (n ≤ buffered_len self.old) }
         ensures* stays { sem 𝓛 (Rests Self.row self.entry (λ after.
-            Unmoved (told self.old) (told after) (rest self.old) (rest after) (failures self.old) (failures after)
-            (place self.old) (place after)
-            × IfSome result (λ _. n ≤ shown after))) };
+            Unmoved (is_known self.old) (is_known after) (remaining self.old) (remaining after) (failures self.old)
+            (failures after) (loans self.old) (loans after)
+            × IfSome result (λ _. n ≤ buffered_len after))) };
 
     /// Takes `n` bytes that a peek showed.
     fn consume(&mut self, n: usize)
-        requires { n ≤ shown self.old }
-        ensures { TakesShown told rest failures place n self.old self.new };
+        requires { n ≤ buffered_len self.old }
+        ensures { TakesShown is_known remaining failures loans n self.old self.new };
 
     /// It shows no more than is left.
-    ghost shown_left: { (r : Self) → told r → shown r ≤ length (rest r) };
+    ghost buffered_within: { (r : Self) → is_known r → buffered_len r ≤ length (remaining r) };
 
     /// Where bytes are missing it answers `UnexpectedEnd` or `Io`, with how many.
-    ghost ended_is: { (missing : ℕ) (e : DecodeError) → ended missing e → IsEndError missing e };
+    ghost end_error_is: { (missing : ℕ) (e : DecodeError) → end_error missing e → IsEndError missing e };
 }
 
 /// A reader of a slice, which it keeps whole: it counts what it took.
@@ -112,19 +113,19 @@ impl Reader for SliceReader<'_> {
 
     const PEEKS_FIRST: bool = false;
 
-    ghost told = { λ _. ⊤ };
+    ghost is_known = { λ _. ⊤ };
 
-    ghost rest = { left_of };
+    ghost remaining = { left_of };
 
-    ghost shown = { λ r. length (left_of r) };
+    ghost buffered_len = { λ r. length (left_of r) };
 
     ghost failures = { λ _. 0 };
 
-    ghost ended = { λ missing e. e ≡ UnexpectedEnd missing };
+    ghost end_error = { λ missing e. e ≡ UnexpectedEnd missing };
 
     ghost device = { no_device };
 
-    ghost place = { λ _. [] };
+    ghost loans = { λ _. [] };
 
     /// Fails exactly where too few bytes are left, and then takes none.
     fn read(&mut self, bytes: &mut [u8]) -> Result<(), DecodeError>
@@ -161,27 +162,27 @@ impl Reader for SliceReader<'_> {
         self.taken += n;
     }
 
-    ghost shown_left = { λ r _. le_refl (length (left_of r)) };
+    ghost buffered_within = { λ r _. le_refl (length (left_of r)) };
 
-    ghost ended_is = { λ missing e h. inl h };
+    ghost end_error_is = { λ missing e h. inl h };
 }
 
 impl<R: Reader> Reader for &mut R {
     const PEEKS_FIRST: bool = R::PEEKS_FIRST;
 
-    ghost told = { λ r. R.told r.now };
+    ghost is_known = { λ r. R.is_known r.now };
 
-    ghost rest = { λ r. R.rest r.now };
+    ghost remaining = { λ r. R.remaining r.now };
 
-    ghost shown = { λ r. R.shown r.now };
+    ghost buffered_len = { λ r. R.buffered_len r.now };
 
     ghost failures = { λ r. R.failures r.now };
 
-    ghost ended = { R.ended };
+    ghost end_error = { R.end_error };
 
     ghost device = { R.device };
 
-    ghost place = { λ r. r.ghost_name ∷ R.place r.now };
+    ghost loans = { λ r. r.ghost_name ∷ R.loans r.now };
 
     fn read(&mut self, bytes: &mut [u8]) -> Result<(), DecodeError> {
         (**self).read(bytes)
@@ -195,7 +196,7 @@ impl<R: Reader> Reader for &mut R {
         (**self).consume(n)
     }
 
-    ghost shown_left = { λ r. R.shown_left r.now };
+    ghost buffered_within = { λ r. R.buffered_within r.now };
 
-    ghost ended_is = { R.ended_is };
+    ghost end_error_is = { R.end_error_is };
 }

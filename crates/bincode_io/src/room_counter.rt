@@ -1,7 +1,7 @@
 //! A writer that counts for the room that is reserved.
 ghost use Rattle.std.specs.Prelude.{◌≡◌, ◌∷◌, None, OnOk, [], length};
 ghost use Rattle.std.proofs.Common.{◌∙◌, le_refl, refl};
-ghost use Rattle.bincode_format.specs.Device.{TakesPiece};
+ghost use Rattle.bincode_spec.specs.Device.{TakesPiece};
 ghost use Rattle.bincode_io.specs.RoomLaws.{first-empty, second-empty};
 
 use crate::write::Writer;
@@ -31,7 +31,7 @@ impl Writer for RoomCounter {
 
     ghost device = { λ _. ⊥ };
 
-    ghost place = { λ _. [] };
+    ghost loans = { λ _. [] };
 
     ghost writes = { λ a piece b. Counts (length piece) a b };
 
@@ -49,7 +49,7 @@ impl Writer for RoomCounter {
 
     /// Counts them all.
     #[inline(always)]
-    fn write_ahead(&mut self, byte: u8, all: usize) -> Result<(), EncodeError>
+    fn write_tag(&mut self, byte: u8, all: usize) -> Result<(), EncodeError>
         ensures piece { TakesPiece CounterAdds (λ _ _ _ _. ⊥) (λ _. 0) (λ _. []) (byte ∷ []) result self.old self.new }
         ensures count { OnOk result (Counts all self.old self.new) }
     {
@@ -57,9 +57,9 @@ impl Writer for RoomCounter {
         Ok(())
     }
 
-    /// Counts nothing: `write_ahead` did.
+    /// Counts nothing: `write_tag` did.
     #[inline(always)]
-    fn write_behind(&mut self, bytes: &[u8]) -> Result<(), EncodeError>
+    fn write_payload(&mut self, bytes: &[u8]) -> Result<(), EncodeError>
         ensures piece { TakesPiece CounterAdds (λ _ _ _ _. ⊥) (λ _. 0) (λ _. []) bytes.now result self.old self.new }
         ensures count { self.new ≡ self.old }
     {

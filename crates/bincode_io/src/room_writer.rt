@@ -17,7 +17,7 @@ use std::alloc::Global;
 #[derive(Drop)]
 pub struct RoomWriter {
     held: VecWriter,
-    refused: bool,
+    any_refused: bool,
 }
 
 impl RoomWriter {
@@ -33,7 +33,7 @@ impl RoomWriter {
         match VecWriter::with_capacity(alloc, capacity) {
             Ok(held) => Ok(RoomWriter {
                 held,
-                refused: false,
+                any_refused: false,
             }),
             Err(_) => Err(EncodeError::Memory),
         }
@@ -43,7 +43,7 @@ impl RoomWriter {
     pub fn collect(self) -> Vec<u8>
         ensures { result.items ≡ written_to self }
     {
-        let RoomWriter { held, refused: _ } = self;
+        let RoomWriter { held, any_refused: _ } = self;
         held.collect()
     }
 
@@ -51,7 +51,7 @@ impl RoomWriter {
     pub fn has_refused(&self) -> bool
         ensures { result ≡ refused_by self.now }
     {
-        self.refused
+        self.any_refused
     }
 }
 
@@ -68,12 +68,12 @@ impl Writer for RoomWriter {
 
     ghost device = { λ e. e ≡ UnexpectedEnd };
 
-    ghost place = { λ _. [] };
+    ghost loans = { λ _. [] };
 
     #[inline(always)]
     fn write(&mut self, bytes: &[u8]) -> Result<(), EncodeError> {
         if self.held.room_left() < bytes.len() {
-            self.refused = true;
+            self.any_refused = true;
             return Err(EncodeError::UnexpectedEnd);
         }
         if matches!(bytes.len(), 1 | 2 | 4 | 8) {
@@ -87,9 +87,9 @@ impl Writer for RoomWriter {
     /// Pushes the byte. It is written out, and shorter than `write`: a `u64` is written by seven such calls, and
     /// a function that would grow very large by them is not inlined, whatever it asks for.
     #[inline(always)]
-    fn write_ahead(&mut self, byte: u8, _all: usize) -> Result<(), EncodeError> {
+    fn write_tag(&mut self, byte: u8, _all: usize) -> Result<(), EncodeError> {
         if self.held.room_left() == 0 {
-            self.refused = true;
+            self.any_refused = true;
             return Err(EncodeError::UnexpectedEnd);
         }
         self.held.push(byte);
@@ -98,9 +98,9 @@ impl Writer for RoomWriter {
 
     /// Pushes the bytes one by one.
     #[inline(always)]
-    fn write_behind(&mut self, bytes: &[u8]) -> Result<(), EncodeError> {
+    fn write_payload(&mut self, bytes: &[u8]) -> Result<(), EncodeError> {
         if bytes.len() > self.held.room_left() {
-            self.refused = true;
+            self.any_refused = true;
             return Err(EncodeError::UnexpectedEnd);
         }
         self.held.push_each(bytes);

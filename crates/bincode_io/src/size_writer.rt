@@ -28,7 +28,7 @@ impl Writer for SizeWriter {
 
     ghost device = { λ _. ⊥ };
 
-    ghost place = { λ _. [] };
+    ghost loans = { λ _. [] };
 
     #[inline(always)]
     fn write(&mut self, bytes: &[u8]) -> Result<(), EncodeError> {

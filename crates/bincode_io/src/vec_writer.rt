@@ -7,7 +7,7 @@ ghost use Rattle.std.proofs.lemmas.List.{append-nil};
 ghost use Rattle.bincode_base.specs.declared.error.EncodeError.TheVariants.{Memory};
 ghost use Rattle.bincode_io.specs.RoomLaws.{first-empty, second-empty};
 ghost use Rattle.bincode_io.specs.Growth.{GrowsFor};
-ghost use Rattle.bincode_format.specs.Device.{TakesPiece};
+ghost use Rattle.bincode_spec.specs.Device.{TakesPiece};
 
 use crate::write::Writer;
 use bincode_base::error::EncodeError;
@@ -151,7 +151,7 @@ impl Writer for VecWriter {
 
     ghost device = { λ _. ⊥ };
 
-    ghost place = { λ _. [] };
+    ghost loans = { λ _. [] };
 
     ghost writes = { λ a piece b. Doubles a b };
 
@@ -184,7 +184,7 @@ impl Writer for VecWriter {
 
     /// Makes room for them all, unless memory is refused.
     #[inline(always)]
-    fn write_ahead(&mut self, byte: u8, all: usize) -> Result<(), EncodeError>
+    fn write_tag(&mut self, byte: u8, all: usize) -> Result<(), EncodeError>
         ensures piece { TakesPiece VecAdds VecRefuses (λ _. 0) (λ _. []) (byte ∷ []) result self.old self.new }
         ensures room { OnOk result (MakesRoom all self.old self.new) }
     {
@@ -199,7 +199,7 @@ impl Writer for VecWriter {
     }
 
     #[inline(always)]
-    fn write_behind(&mut self, bytes: &[u8]) -> Result<(), EncodeError> {
+    fn write_payload(&mut self, bytes: &[u8]) -> Result<(), EncodeError> {
         if bytes.is_empty() {
             return Ok(());
         }

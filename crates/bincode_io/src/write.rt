@@ -4,10 +4,10 @@ ghost use Rattle.std.specs.Prelude.{◌∷◌, ◌++◌, length, true, Option, S
 ghost use Rattle.std.specs.Borrow.{GName};
 ghost use Rattle.std.proofs.Common.{rules, sym, ◌∙◌, ap, arith, le_refl, refl};
 ghost use Rattle.std.proofs.lemmas.Grind.{common_steps};
-ghost use Rattle.bincode_format.specs.Device.{TakesPiece, TooLong, WithinRoom, TakesRoom, WriterFails};
+ghost use Rattle.bincode_spec.specs.Device.{TakesPiece, TooLong, WithinRoom, TakesRoom, WriterFails};
 ghost use Rattle.bincode_io.specs.RoomLaws.{room-taken, front-within, first-empty, second-empty};
-ghost use Rattle.bincode_format.specs.Put.{put};
-ghost use Rattle.bincode_laws.specs.PutLaws.{put-none, put-join};
+ghost use Rattle.bincode_spec.specs.Put.{put};
+ghost use Rattle.bincode_lemmas.specs.PutLaws.{put-none, put-join};
 ghost use Rattle.bincode_base.specs.declared.error.EncodeError.{EncodeError};
 ghost use Rattle.bincode_base.specs.declared.error.EncodeError.TheVariants.{UnexpectedEnd, Memory};
 
@@ -17,7 +17,7 @@ use bincode_base::error::EncodeError;
 
 /// A target of bytes, which come piece by piece.
 pub trait Writer: Drop {
-    /// Whether it only counts. Then the length of a number is all that it is told: by `write_ahead`, before the
+    /// Whether it only counts. Then the length of a number is all that it is told: by `write_tag`, before the
     /// branches that write a number, which are then none. What is written is the same.
     const COUNTS: bool = false;
 
@@ -37,33 +37,33 @@ pub trait Writer: Drop {
     ghost device: { EncodeError → Type 0 };
 
     /// The references that it writes through. No call changes them.
-    ghost place: { Self → List GName };
+    ghost loans: { Self → List GName };
 
-    /// What `write` does to a writer besides, by the piece, where `write_ahead` does something else.
+    /// What `write` does to a writer besides, by the piece, where `write_tag` does something else.
     ghost writes: { Self → List ℕ → Self → Type 0 } = { λ _ _ _. Unit {0} };
 
-    /// What `write_ahead` does to it besides, by the length that it is told.
+    /// What `write_tag` does to it besides, by the length that it is told.
     ghost announces: { Self → ℕ → Self → Type 0 } = { λ _ _ _. Unit {0} };
 
     /// Writes a piece. Fails where it is longer than the room, where memory is refused, or where the device fails.
     fn write(&mut self, bytes: &[u8]) -> Result<(), EncodeError>
-        ensures piece { TakesPiece adds refuses failures place bytes.now result self.old self.new }
+        ensures piece { TakesPiece adds refuses failures loans bytes.now result self.old self.new }
         ensures besides { OnOk result (writes self.old bytes.now self.new) };
 
     /// Writes a byte that begins a number of so many bytes in all. A writer that grows makes room for them all, so that
     /// it has no code to grow after each piece. The provided one writes the byte alone.
     #[inline(always)]
-    fn write_ahead(&mut self, byte: u8, _all: usize) -> Result<(), EncodeError>
-        ensures piece { TakesPiece adds refuses failures place (byte ∷ []) result self.old self.new }
+    fn write_tag(&mut self, byte: u8, _all: usize) -> Result<(), EncodeError>
+        ensures piece { TakesPiece adds refuses failures loans (byte ∷ []) result self.old self.new }
         ensures besides { OnOk result (writes self.old (byte ∷ []) self.new ⊎ announces self.old _all self.new) }
     {
         self.write(&[byte])
     }
 
-    /// Writes a piece of few bytes that `write_ahead` made room for. A writer that grows makes no more room for it.
+    /// Writes a piece of few bytes that `write_tag` made room for. A writer that grows makes no more room for it.
     #[inline(always)]
-    fn write_behind(&mut self, bytes: &[u8]) -> Result<(), EncodeError>
-        ensures { TakesPiece adds refuses failures place bytes.now result self.old self.new }
+    fn write_payload(&mut self, bytes: &[u8]) -> Result<(), EncodeError>
+        ensures { TakesPiece adds refuses failures loans bytes.now result self.old self.new }
     {
         self.write(bytes)
     }
@@ -126,13 +126,13 @@ impl Drop for SliceWriter<'_> {
 }
 
 impl<'s> SliceWriter<'s> {
-    ghost use Rattle.bincode_io.specs.Slices.{bytes_of, count_of, loan_of};
+    ghost use Rattle.bincode_io.specs.Slices.{bytes_of, written_by, loan_of};
 
     /// A writer into these bytes, of which none is written.
     pub fn new(bytes: &'s mut [u8]) -> SliceWriter<'s>
-        ensures place { loan_of result ≡ bytes.entry.ghost_name }
+        ensures loans { loan_of result ≡ bytes.entry.ghost_name }
         ensures bytes { bytes_of result ≡ bytes.old }
-        ensures start { count_of result ≡ 0 }
+        ensures start { written_by result ≡ 0 }
     {
         let left = bytes.len();
         SliceWriter {
@@ -144,29 +144,29 @@ impl<'s> SliceWriter<'s> {
 
     /// How many bytes were written.
     pub fn bytes_written(&self) -> usize
-        ensures { result ≡ count_of self.now }
+        ensures { result ≡ written_by self.now }
     {
         self.written
     }
 }
 
 impl Writer for SliceWriter<'_> {
-    ghost use Rattle.bincode_io.specs.Slices.{bytes_of, count_of, loan_of};
+    ghost use Rattle.bincode_io.specs.Slices.{bytes_of, written_by, loan_of};
 
-    ghost adds = { λ a piece b. (count_of b ≡ count_of a + length piece)
-        × (bytes_of b ≡ put (count_of a) piece (bytes_of a)) × (length (bytes_of b) ≡ length (bytes_of a))
+    ghost adds = { λ a piece b. (written_by b ≡ written_by a + length piece)
+        × (bytes_of b ≡ put (written_by a) piece (bytes_of a)) × (length (bytes_of b) ≡ length (bytes_of a))
         × (piece ≡ [] → b ≡ a) };
 
-    ghost refuses = { λ a piece e b. (e ≡ UnexpectedEnd) × (length (bytes_of a) - count_of a < length piece)
+    ghost refuses = { λ a piece e b. (e ≡ UnexpectedEnd) × (length (bytes_of a) - written_by a < length piece)
         × (b ≡ a) };
 
-    ghost room = { λ w. Some (length (bytes_of w) - count_of w) };
+    ghost room = { λ w. Some (length (bytes_of w) - written_by w) };
 
     ghost failures = { λ _. 0 };
 
     ghost device = { λ _. ⊥ };
 
-    ghost place = { λ w. loan_of w ∷ [] };
+    ghost loans = { λ w. loan_of w ∷ [] };
 
     fn write(&mut self, bytes: &[u8]) -> Result<(), EncodeError> {
         if self.left < bytes.len() {
@@ -183,8 +183,8 @@ impl Writer for SliceWriter<'_> {
     #[inline(always)]
     fn has_room_for(&self, count: usize) -> bool
         ensures room { result ≡ true → (piece : List ℕ) → length piece ≡ count
-            → WithinRoom (Some (length (bytes_of self.now) - count_of self.now)) piece }
-        ensures exact { count ≤ length (bytes_of self.now) - count_of self.now → result ≡ true }
+            → WithinRoom (Some (length (bytes_of self.now) - written_by self.now)) piece }
+        ensures exact { count ≤ length (bytes_of self.now) - written_by self.now → result ≡ true }
     {
         count <= self.left
     }
@@ -207,8 +207,8 @@ impl Writer for SliceWriter<'_> {
 
     ghost adds_nothing = { λ a b h. h.3 refl };
 
-    ghost adds_room = { λ a b piece h. room-taken (length (bytes_of a)) (count_of a) (length (bytes_of b)) (count_of b)
-        piece h.0 h.2 (front-within _ _ _ b.within) };
+    ghost adds_room = { λ a b piece h. room-taken (length (bytes_of a)) (written_by a) (length (bytes_of b))
+        (written_by b) piece h.0 h.2 (front-within _ _ _ b.within) };
 }
 
 /// Copies a piece over as many bytes: a short one by its first and its last bytes, which may be the same ones. The
@@ -295,7 +295,7 @@ impl<W: Writer> Writer for &mut W {
 
     ghost device = { W.device };
 
-    ghost place = { λ w. w.ghost_name ∷ W.place w.now };
+    ghost loans = { λ w. w.ghost_name ∷ W.loans w.now };
 
     ghost writes = { λ a piece b. W.writes a.now piece b.now };
 
@@ -306,13 +306,13 @@ impl<W: Writer> Writer for &mut W {
     }
 
     #[inline(always)]
-    fn write_ahead(&mut self, byte: u8, all: usize) -> Result<(), EncodeError> {
-        (**self).write_ahead(byte, all)
+    fn write_tag(&mut self, byte: u8, all: usize) -> Result<(), EncodeError> {
+        (**self).write_tag(byte, all)
     }
 
     #[inline(always)]
-    fn write_behind(&mut self, bytes: &[u8]) -> Result<(), EncodeError> {
-        (**self).write_behind(bytes)
+    fn write_payload(&mut self, bytes: &[u8]) -> Result<(), EncodeError> {
+        (**self).write_payload(bytes)
     }
 
     #[inline(always)]

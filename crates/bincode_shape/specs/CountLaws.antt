@@ -2,7 +2,7 @@
 use Rattle.std.specs.Prelude.{◌≡◌, ℕ, zero, suc, ◌+◌, Bool, true, false, ◌&&◌, ◌==◌, length, refl}
 use Rattle.std.specs.List.{list_all}
 use Rattle.std.proofs.Common.{◌∙◌, ap}
-use Rattle.bincode_format.specs.Meaning.{Meaning, listed}
+use Rattle.bincode_spec.specs.Meaning.{Meaning, list_meaning}
 use Rattle.bincode_shape.specs.declared.shape.Shape as shapes
 use Rattle.bincode_shape.specs.declared.shape.Shape.{Shape, Row_of-Shape, end_of-Shape, more_of-Shape}
 use Rattle.bincode_shape.specs.declared.shape.Value as values
@@ -41,7 +41,7 @@ signed-one width v h = absurd (cc)
 
 -- elements in turn
 each-counted : (test : Value → Bool) (count : Meaning → ℕ) → ((v : Value) → test v ≡ true → count (meaning v) ≡ values_in v) →
-    {m : _} → (items : Row_of-Value m) → list_all test (items-the_row-Value _ items) ≡ true → count_each count (listed (meanings_of items)) ≡ values_of_all items
+    {m : _} → (items : Row_of-Value m) → list_all test (items-the_row-Value _ items) ≡ true → count_each count (list_meaning (meanings_of items)) ≡ values_of_all items
 each-counted test count f end_of-Value h = refl
 each-counted test count f (more_of-Value item others) h =
     let p = both (test item) (list_all test (items-the_row-Value _ others)) h in
@@ -81,7 +81,7 @@ mutual
   fitting-counted (shapes.Choice' s parts) v h = absurd (cc)
 
   parts-counted : {m n : _} → (parts : Row_of-Shape m) (items : Row_of-Value n) → each_passes (tests_of parts) (items-the_row-Value _ items) ≡ true →
-      count_parts (counts_of parts) (listed (meanings_of items)) ≡ values_of_all items
+      count_parts (counts_of parts) (list_meaning (meanings_of items)) ≡ values_of_all items
   parts-counted end_of-Shape end_of-Value h = refl
   parts-counted end_of-Shape (more_of-Value item items) h = absurd (cc)
   parts-counted (more_of-Shape part parts) end_of-Value h = absurd (cc)

@@ -1,6 +1,6 @@
 -- How many values the image of a word has, and which words are empty.
 use Rattle.std.specs.Prelude.{◌≡◌, ℕ, zero, suc, ◌+◌, ◌-◌, ◌^◌, min, Bool, true, false, ◌&&◌, ◌||◌, ◌==◌, List, [], ◌∷◌}
-use Rattle.bincode_format.specs.Meaning.{Meaning, Then, Choice}
+use Rattle.bincode_spec.specs.Meaning.{Meaning, Then, Choice}
 use Rattle.bincode_shape.specs.declared.shape.Shape as shapes
 use Rattle.bincode_shape.specs.declared.shape.Shape.{Shape, Row_of-Shape, end_of-Shape, more_of-Shape}
 use Rattle.bincode_shape.specs.declared.shape.Value as values

@@ -5,10 +5,10 @@ use Rattle.std.proofs.Common.{◌∙◌, ap}
 use Rattle.std.specs.declared.alloc.Global.{Global}
 use Rattle.std.specs.declared.vec.Vec.{Vec}
 use Rattle.bincode_base.specs.Setting.{Setting}
-use Rattle.bincode_format.specs.Format.{Format}
-use Rattle.bincode_format.specs.Meaning.{Meaning, listed}
-use Rattle.bincode_format.specs.Allowed.{AllowedWord}
-use Rattle.bincode_format.specs.Words.{tuple}
+use Rattle.bincode_spec.specs.Format.{Format}
+use Rattle.bincode_spec.specs.Meaning.{Meaning, list_meaning}
+use Rattle.bincode_spec.specs.Allowed.{AllowedWord}
+use Rattle.bincode_spec.specs.Words.{tuple}
 use Rattle.bincode_shape.specs.declared.shape.Shape.{Shape, Row_of-Shape, end_of-Shape, more_of-Shape, items-the_row-Shape, items_hidden-the_row-Shape-0}
 use Rattle.bincode_shape.specs.declared.shape.Shape.TheBlock.{hidden-the_row-Shape-0}
 use Rattle.bincode_shape.specs.declared.shape.Value.{Value, Row_of-Value, end_of-Value, more_of-Value, items-the_row-Value, items_hidden-the_row-Value-0}
@@ -49,14 +49,14 @@ meanings_of-vec v = meanings_of-items (hidden-the_row-Value-0 v) ∙ ap (map mea
 
 -- these values are images of these shapes, and their list means this
 abbrev pub AreImages : List Shape → Meaning → List Value → Type 0
-AreImages shapes m vs = (each_passes (tests shapes) vs ≡ true) × (m ≡ listed (map meaning vs))
+AreImages shapes m vs = (each_passes (tests shapes) vs ≡ true) × (m ≡ list_meaning (map meaning vs))
 
 -- a word of the shape for the value, and one of the shapes in turn for the values
 abbrev pub AllowsImage : Setting → Shape → Value → List ℕ → Type 0
 AllowsImage s shape v = AllowedWord (IsMeant v) (format_of shape s)
 
 abbrev pub AllowsImages : Setting → List Shape → List Value → List ℕ → Type 0
-AllowsImages s shapes vs = AllowedWord (λ m. m ≡ listed (map meaning vs)) (tuple (at s (formats shapes)))
+AllowsImages s shapes vs = AllowedWord (λ m. m ≡ list_meaning (map meaning vs)) (tuple (at s (formats shapes)))
 
 -- what is counted of some shapes, and the values of some values
 abbrev pub counts : List Shape → List (Meaning → ℕ)

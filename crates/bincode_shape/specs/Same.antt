@@ -2,12 +2,12 @@
 use Rattle.std.specs.Prelude.{◌≡◌, ℕ, zero, suc, List, [], ◌∷◌, refl}
 use Rattle.std.proofs.Common.{subst, sym}
 use Rattle.bincode_base.specs.Setting.{Setting}
-use Rattle.bincode_format.specs.Charge.{Reserve, Release}
-use Rattle.bincode_format.specs.Format.{Format, Took, then_read, vague_reading, done, step, ◌>>=◌, unsure, map_format, elements, sequence}
-use Rattle.bincode_format.specs.Meaning.{Meaning, Then, listed}
-use Rattle.bincode_format.specs.Words.{len, first_and, array, list}
-use Rattle.bincode_format.specs.Allowed.{WrittenAlike}
-use Rattle.bincode_laws.specs.AllowedLaws.{map-written, written-map}
+use Rattle.bincode_spec.specs.Charge.{Reserve, Release}
+use Rattle.bincode_spec.specs.Format.{Format, Took, then_read, reading_without_count, pure, step, ◌>>=◌, without_count, map_format, elements, sequence}
+use Rattle.bincode_spec.specs.Meaning.{Meaning, Then, list_meaning}
+use Rattle.bincode_spec.specs.Words.{len, first_and, array, list}
+use Rattle.bincode_spec.specs.Allowed.{WrittenAlike}
+use Rattle.bincode_lemmas.specs.AllowedLaws.{map-written, written-map}
 
 -- the same words, meanings, steps and faults, of which the same are written
 pub record SameWords (F G : Format Meaning) : Type 0 where
@@ -19,7 +19,7 @@ same-itself F = record { read = refl; written = (λ bytes m w. w, λ bytes m w. 
 
 -- parts in order
 first_and-read : (F G others rest : Format Meaning) → F.read ≡ G.read → others.read ≡ rest.read → (first_and F others).read ≡ (first_and G rest).read
-unfolding first_and ◌>>=◌ done
+unfolding first_and ◌>>=◌ pure
 first_and-read F G others rest e f = λ i input. then_read (e i input) (λ m next. then_read (f i next) (λ n end. Took (Then m n) end []))
 
 first_and-written : (F G others rest : Format Meaning) → ((bytes : List ℕ) (m : Meaning) → F.Written bytes m → G.Written bytes m) →
@@ -44,15 +44,15 @@ first_and-same {F} {G} {others} {rest} f g = record {
 
 -- elements
 elements-read : (n share : ℕ) (F G : Format Meaning) → F.read ≡ G.read → (elements n share F).read ≡ (elements n share G).read
-unfolding step ◌>>=◌ unsure done
+unfolding step ◌>>=◌ without_count pure
 elements-read zero share F G e = refl
 elements-read (suc n) share F G e =
     let h = elements-read n share F G e in
-    λ i input. then_read (Took (tt {0}) input (Release share ∷ [])) (λ _ rest. then_read (vague_reading (e i rest)) (λ a next. then_read (h i next) (λ others end. Took (a ∷ others) end [])))
+    λ i input. then_read (Took (tt {0}) input (Release share ∷ [])) (λ _ rest. then_read (reading_without_count (e i rest)) (λ a next. then_read (h i next) (λ others end. Took (a ∷ others) end [])))
 
 elements-written : (n share : ℕ) (F G : Format Meaning) → ((bytes : List ℕ) (m : Meaning) → F.Written bytes m → G.Written bytes m) →
     (bytes : List ℕ) (ms : List Meaning) → (elements n share F).Written bytes ms → (elements n share G).Written bytes ms
-unfolding step ◌>>=◌ unsure done
+unfolding step ◌>>=◌ without_count pure
 elements-written zero share F G f bytes ms w = w
 elements-written (suc n) share F G f bytes ms w =
     let u = w.second_written in
@@ -75,18 +75,18 @@ elements-written (suc n) share F G f bytes ms w =
     }
 
 array-read : (n share : ℕ) (F G : Format Meaning) → F.read ≡ G.read → (array n share F).read ≡ (array n share G).read
-unfolding step ◌>>=◌ done
+unfolding step ◌>>=◌ pure
 array-read n share F G e =
     let h = elements-read n share F G e in
-    λ i input. then_read (then_read (Took (tt {0}) input (Reserve n share ∷ [])) (λ _ rest. h i rest)) (λ ms end. Took (listed ms) end [])
+    λ i input. then_read (then_read (Took (tt {0}) input (Reserve n share ∷ [])) (λ _ rest. h i rest)) (λ ms end. Took (list_meaning ms) end [])
 
 array-written : (n share : ℕ) (F G : Format Meaning) → ((bytes : List ℕ) (m : Meaning) → F.Written bytes m → G.Written bytes m) →
     (bytes : List ℕ) (m : Meaning) → (array n share F).Written bytes m → (array n share G).Written bytes m
 unfolding step ◌>>=◌
 array-written n share F G f bytes m w =
-    let t = written-map listed (sequence n share F) bytes m w in
+    let t = written-map list_meaning (sequence n share F) bytes m w in
     let u = t.2 in
-    subst (λ z. (array n share G).Written bytes z) (sym t.1) (map-written listed (sequence n share G) bytes t.0 (record {
+    subst (λ z. (array n share G).Written bytes z) (sym t.1) (map-written list_meaning (sequence n share G) bytes t.0 (record {
       first = u.first;
       second = u.second;
       head = u.head;

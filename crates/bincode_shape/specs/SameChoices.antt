@@ -2,15 +2,15 @@
 use Rattle.std.specs.Prelude.{◌≡◌, ℕ, ◌==◌, Bool, true, false, List, [], ◌∷◌, refl}
 use Rattle.std.proofs.Common.{subst, sym}
 use Rattle.bincode_base.specs.Setting.{Setting}
-use Rattle.bincode_format.specs.Fault.{Allowed, UnexpectedVariant}
-use Rattle.bincode_format.specs.Format.{Format, Took, then_read, done, refused, ◌>>=◌, map_format}
-use Rattle.bincode_format.specs.Meaning.{Meaning, Choice}
-use Rattle.bincode_format.specs.Words.{Variant, tags_of, allowed_tags, if_picked, part, behind_tag, chosen}
-use Rattle.bincode_laws.specs.AllowedLaws.{map-written, written-map}
+use Rattle.bincode_spec.specs.Fault.{Allowed, UnexpectedVariant}
+use Rattle.bincode_spec.specs.Format.{Format, Took, then_read, pure, fail, ◌>>=◌, map_format}
+use Rattle.bincode_spec.specs.Meaning.{Meaning, Choice}
+use Rattle.bincode_spec.specs.Words.{Variant, variant_tags, allowed_tags, if_picked, part, behind_tag, tag_then_part}
+use Rattle.bincode_lemmas.specs.AllowedLaws.{map-written, written-map}
 use Rattle.bincode_shape.specs.Same.{SameWords, same-itself}
 
 map-read : (f : Meaning → Meaning) (F G : Format Meaning) → F.read ≡ G.read → (map_format f F).read ≡ (map_format f G).read
-unfolding ◌>>=◌ done
+unfolding ◌>>=◌ pure
 map-read f F G e = λ i input. then_read (e i input) (λ m rest. Took (f m) rest [])
 
 map-alike : (f : Meaning → Meaning) (F G : Format Meaning) → ((bytes : List ℕ) (m : Meaning) → F.Written bytes m → G.Written bytes m) →
@@ -27,7 +27,7 @@ SameVariants s [] (w ∷ ws) = ⊥
 SameVariants s (v ∷ vs) [] = ⊥
 SameVariants s (v ∷ vs) (w ∷ ws) = (v.0 ≡ w.0) × SameWords (v.1 s) (w.1 s) × SameVariants s vs ws
 
-same-tags : (s : Setting) (vs ws : List Variant) → SameVariants s vs ws → tags_of vs ≡ tags_of ws
+same-tags : (s : Setting) (vs ws : List Variant) → SameVariants s vs ws → variant_tags vs ≡ variant_tags ws
 same-tags s [] [] h = refl
 same-tags s [] (w ∷ ws) h = absurd h
 same-tags s (v ∷ vs) [] h = absurd h
@@ -38,26 +38,26 @@ picked-same true f g = f
 picked-same false f g = g
 
 part-same : (s : Setting) (allowed : Allowed) (n : ℕ) (vs ws : List Variant) → SameVariants s vs ws → SameWords (part s vs allowed n) (part s ws allowed n)
-part-same s allowed n [] [] h = same-itself (refused (UnexpectedVariant allowed n))
+part-same s allowed n [] [] h = same-itself (fail (UnexpectedVariant allowed n))
 part-same s allowed n [] (w ∷ ws) h = absurd h
 part-same s allowed n (v ∷ vs) [] h = absurd h
 part-same s allowed n (v ∷ vs) (w ∷ ws) h = rw h.0 (picked-same (n == w.0) (map-same (Choice n) h.1) (part-same s allowed n vs ws h.2))
 
 behind-same : (s : Setting) (n : ℕ) (vs ws : List Variant) → SameVariants s vs ws → SameWords (behind_tag vs s n) (behind_tag ws s n)
-behind-same s n vs ws h = rw (same-tags s vs ws h) (part-same s (allowed_tags (tags_of ws)) n vs ws h)
+behind-same s n vs ws h = rw (same-tags s vs ws h) (part-same s (allowed_tags (variant_tags ws)) n vs ws h)
 
-chosen-read : (tags : Setting → Format ℕ) (s : Setting) (vs ws : List Variant) → ((n : ℕ) → (behind_tag vs s n).read ≡ (behind_tag ws s n).read) → (chosen tags vs s).read ≡ (chosen tags ws s).read
-unfolding chosen ◌>>=◌
+chosen-read : (tags : Setting → Format ℕ) (s : Setting) (vs ws : List Variant) → ((n : ℕ) → (behind_tag vs s n).read ≡ (behind_tag ws s n).read) → (tag_then_part tags vs s).read ≡ (tag_then_part tags ws s).read
+unfolding tag_then_part ◌>>=◌
 chosen-read tags s vs ws h = λ i input. then_read ((tags s).read input) (λ n rest. h n i rest)
 
 chosen-written : (tags : Setting → Format ℕ) (s : Setting) (vs ws : List Variant) →
     ((n : ℕ) (bytes : List ℕ) (m : Meaning) → (behind_tag vs s n).Written bytes m → (behind_tag ws s n).Written bytes m) →
-    (bytes : List ℕ) (m : Meaning) → (chosen tags vs s).Written bytes m → (chosen tags ws s).Written bytes m
-unfolding chosen ◌>>=◌
+    (bytes : List ℕ) (m : Meaning) → (tag_then_part tags vs s).Written bytes m → (tag_then_part tags ws s).Written bytes m
+unfolding tag_then_part ◌>>=◌
 chosen-written tags s vs ws h bytes m w =
     record { first = w.first; second = w.second; head = w.head; bytes_are = w.bytes_are; first_written = w.first_written; second_written = h w.head w.second m w.second_written }
 
-pub chosen-same : (tags : Setting → Format ℕ) (s : Setting) (vs ws : List Variant) → SameVariants s vs ws → SameWords (chosen tags vs s) (chosen tags ws s)
+pub chosen-same : (tags : Setting → Format ℕ) (s : Setting) (vs ws : List Variant) → SameVariants s vs ws → SameWords (tag_then_part tags vs s) (tag_then_part tags ws s)
 chosen-same tags s vs ws h = record {
   read = chosen-read tags s vs ws (λ n. (behind-same s n vs ws h).read);
   written = (chosen-written tags s vs ws (λ n. (behind-same s n vs ws h).written.0), chosen-written tags s ws vs (λ n. (behind-same s n vs ws h).written.1));

@@ -3,11 +3,11 @@ use Rattle.std.specs.Prelude.{◌≡◌, ℕ, zero, suc, ◌+◌, ◌*◌, ◌^�
 use Rattle.std.specs.List.{list_all}
 use Rattle.bincode_base.specs.declared.error.IntegerType.TheVariants as integers
 use Rattle.bincode_base.specs.Setting.{Setting}
-use Rattle.bincode_format.specs.Fault.{EmptyEnum}
-use Rattle.bincode_format.specs.Format.{Format, refused}
-use Rattle.bincode_format.specs.Integers.{unsigned, signed, unsigned_byte, signed_byte}
-use Rattle.bincode_format.specs.Meaning.{Meaning, Truth, Number, Character, Bytes, Nothing, Choice, listed}
-use Rattle.bincode_format.specs.Words.{natural, integral, tag, nothing, tuple, truth, Variant, chosen, array, list, text, character}
+use Rattle.bincode_spec.specs.Fault.{EmptyEnum}
+use Rattle.bincode_spec.specs.Format.{Format, fail}
+use Rattle.bincode_spec.specs.Integers.{unsigned_integer, signed_integer, unsigned_byte, signed_byte}
+use Rattle.bincode_spec.specs.Meaning.{Meaning, Truth, Number, Character, Bytes, Nothing, Choice, list_meaning}
+use Rattle.bincode_spec.specs.Words.{natural_number, integer_number, tag, nothing, tuple, truth, Variant, tag_then_part, array, list, text, character}
 use Rattle.bincode_shape.specs.declared.shape.Shape as shapes
 use Rattle.bincode_shape.specs.declared.shape.Shape.{Shape, Row_of-Shape, end_of-Shape, more_of-Shape}
 use Rattle.bincode_shape.specs.declared.shape.Value as values
@@ -27,8 +27,8 @@ optional F = (0, λ s. nothing) ∷ (1, F) ∷ []
 
 -- of no variants there is no word
 abbrev pub one_of : List Variant → Setting → Format Meaning
-one_of [] s = refused EmptyEnum
-one_of (variant ∷ others) s = chosen tag (variant ∷ others) s
+one_of [] s = fail EmptyEnum
+one_of (variant ∷ others) s = tag_then_part tag (variant ∷ others) s
 
 -- the formats of parts under a setting
 abbrev pub at : Setting → List (Setting → Format Meaning) → List (Format Meaning)
@@ -47,22 +47,22 @@ abbrev mutual
   format_of shapes.Bool s = truth
   format_of shapes.Char s = character
   format_of shapes.Text s = text s
-  format_of shapes.U8 s = natural unsigned_byte
-  format_of shapes.U16 s = natural (unsigned integers.U16 2 s)
-  format_of shapes.U32 s = natural (unsigned integers.U32 4 s)
-  format_of shapes.U64 s = natural (unsigned integers.U64 8 s)
-  format_of shapes.U128 s = natural (unsigned integers.U128 16 s)
-  format_of shapes.Usize s = natural (unsigned integers.Usize 8 s)
-  format_of shapes.I8 s = integral signed_byte
-  format_of shapes.I16 s = integral (signed integers.I16 2 s)
-  format_of shapes.I32 s = integral (signed integers.I32 4 s)
-  format_of shapes.I64 s = integral (signed integers.I64 8 s)
-  format_of shapes.I128 s = integral (signed integers.I128 16 s)
-  format_of shapes.Isize s = integral (signed integers.Isize 8 s)
+  format_of shapes.U8 s = natural_number unsigned_byte
+  format_of shapes.U16 s = natural_number (unsigned_integer integers.U16 2 s)
+  format_of shapes.U32 s = natural_number (unsigned_integer integers.U32 4 s)
+  format_of shapes.U64 s = natural_number (unsigned_integer integers.U64 8 s)
+  format_of shapes.U128 s = natural_number (unsigned_integer integers.U128 16 s)
+  format_of shapes.Usize s = natural_number (unsigned_integer integers.Usize 8 s)
+  format_of shapes.I8 s = integer_number signed_byte
+  format_of shapes.I16 s = integer_number (signed_integer integers.I16 2 s)
+  format_of shapes.I32 s = integer_number (signed_integer integers.I32 4 s)
+  format_of shapes.I64 s = integer_number (signed_integer integers.I64 8 s)
+  format_of shapes.I128 s = integer_number (signed_integer integers.I128 16 s)
+  format_of shapes.Isize s = integer_number (signed_integer integers.Isize 8 s)
   format_of (shapes.Seq' claim p element) s = list s (share claim) (format_of element s)
   format_of (shapes.Array' len claim p element) s = array len (share claim) (format_of element s)
   format_of (shapes.Tuple' v parts) s = tuple (at s (formats_of parts))
-  format_of (shapes.Optional' p part) s = chosen byte_tag (optional (format_of part)) s
+  format_of (shapes.Optional' p part) s = tag_then_part byte_tag (optional (format_of part)) s
   format_of (shapes.Choice' v parts) s = one_of (numbered 0 (formats_of parts)) s
 
   pub formats_of : {m : _} → Row_of-Shape m → List (Setting → Format Meaning)
@@ -88,7 +88,7 @@ abbrev mutual
   meaning (values.Text t) = Bytes (string_bytes t)
   meaning (values.Unsigned n) = Number (pos n)
   meaning (values.Signed z) = Number z
-  meaning (values.List' v items) = listed (meanings_of items)
+  meaning (values.List' v items) = list_meaning (meanings_of items)
   meaning (values.Optional' None') = Choice 0 Nothing
   meaning (values.Optional' (Some' p part)) = Choice 1 (meaning part)
   meaning (values.Choice' n p part) = Choice n (meaning part)

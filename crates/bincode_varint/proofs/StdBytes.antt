@@ -4,7 +4,7 @@ use Rattle.std.specs.Int.{byte_at, byte_worth, bytes_low_first, bytes_high_first
 use Rattle.std.proofs.Common.{sym, ◌∙◌, ap, arith}
 use Rattle.std.proofs.Math.Nat.{pow-suc, div-div-eq-div-mul}
 use Rattle.std.proofs.lemmas.List.{reverse-append, length-reverse}
-use Rattle.bincode_format.specs.Number.{low_first_number, low_first_digits}
+use Rattle.bincode_spec.specs.Number.{low_first_number, low_first_digits}
 
 byte_at_div : (i n : ℕ) → (n / 256 ^ i) % 256 ≡ byte_at i n
 byte_at_div zero n = let d : n / 1 ≡ n = omega arith in ap (λ z. z % 256) d

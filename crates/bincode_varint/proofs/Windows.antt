@@ -5,21 +5,21 @@ use Rattle.std.proofs.Common.{sym, ap, ◌∙◌, arith, append_assoc, length-ap
 use Rattle.bincode_base.specs.declared.error.DecodeError.{DecodeError}
 use Rattle.bincode_base.specs.declared.error.DecodeError.TheVariants.{UnexpectedEnd, InvalidIntegerType}
 use Rattle.bincode_base.specs.declared.error.IntegerType.{IntegerType}
-use Rattle.bincode_format.specs.Device.{no_device, DeviceErrors, Unmoved, TakesShown}
-use Rattle.bincode_laws.specs.PassedLaws.{own-tells}
-use Rattle.bincode_format.specs.Fault.{Fault, IsEnd, Tells, Between, OneOf, End, InvalidInteger, Zero, UnexpectedVariant, Utf8, InvalidChar, InvalidBool, InvalidDuration, NulAt, Other, LengthMismatch, EmptyEnum, OutsideUsize, short, long}
+use Rattle.bincode_spec.specs.Device.{no_device, DeviceErrors, Unmoved, TakesShown}
+use Rattle.bincode_lemmas.specs.ValidatedLaws.{own-tells}
+use Rattle.bincode_spec.specs.Fault.{Fault, IsEnd, Tells, Between, OneOf, End, InvalidInteger, Zero, UnexpectedVariant, Utf8, InvalidChar, InvalidBool, InvalidDuration, NulAt, Other, LengthMismatch, EmptyEnum, OutsideUsize, short, long}
 use Rattle.bincode_base.specs.declared.config.Endianness.{Endianness}
-use Rattle.bincode_format.specs.Format.{Format, Took, ◌>>=◌, written_as}
-use Rattle.bincode_format.specs.Integers.{FirstByte, Itself, Before, TooWide, first_byte, behind, byte, varint}
-use Rattle.bincode_laws.specs.FormatLaws.{done-lawful, refused-lawful, turn-lawful}
-use Rattle.bincode_laws.specs.IntegerLaws.{byte-lawful, digits-lawful}
-use Rattle.bincode_format.specs.Laws.{Lawful}
-use Rattle.bincode_format.specs.Reads.{ReadsWord, Misreads, by_fault, by_failure, by_device}
+use Rattle.bincode_spec.specs.Format.{Format, Took, ◌>>=◌, written_as}
+use Rattle.bincode_spec.specs.Integers.{FirstByte, Itself, Before, TooWide, first_byte, behind, byte, varint}
+use Rattle.bincode_lemmas.specs.FormatLaws.{pure-lawful, fail-lawful, turn-lawful}
+use Rattle.bincode_lemmas.specs.IntegerLaws.{byte-lawful, digits-lawful}
+use Rattle.bincode_spec.specs.Laws.{Lawful}
+use Rattle.bincode_spec.specs.Reads.{ReadsWord, ReadFailure, by_fault, by_failure, by_device}
 use Rattle.bincode_varint.specs.Window.{FrontIs, FrontFails}
-use Rattle.bincode_varint.proofs.Words.{raw-read, byte-took}
+use Rattle.bincode_varint.proofs.Words.{fixed_bytes-read, byte-took}
 
-drop-front : (word rest : List ℕ) → drop (length word) (word ++ rest) ≡ rest
-drop-front word rest = drop_at word rest (length word) refl
+drop-front : (word remaining : List ℕ) → drop (length word) (word ++ remaining) ≡ remaining
+drop-front word remaining = drop_at word remaining (length word) refl
 
 -- a format that reads as a lawful one
 abbrev ReadsAs : {A : Type 0} → Format A → Format A → Type 0
@@ -40,34 +40,34 @@ front-is F G same l window left m taken given e =
     }
 
 -- the error of a tag tells no end of the input, and the same of each reader
-tag-told : (ended other : ℕ → DecodeError → Type 0) (why : Fault) (x y : IntegerType) → ((n : ℕ) → ended n (InvalidIntegerType x y) → ⊥) → Tells ended why (InvalidIntegerType x y) →
+tag-told : (end_error other : ℕ → DecodeError → Type 0) (why : Fault) (x y : IntegerType) → ((n : ℕ) → end_error n (InvalidIntegerType x y) → ⊥) → Tells end_error why (InvalidIntegerType x y) →
     (¬ (IsEnd why)) × Tells other why (InvalidIntegerType x y)
-tag-told ended other (End (Some n)) x y never h = absurd (never n h)
-tag-told ended other (End None) x y never h = absurd (never h.0 h.1)
-tag-told ended other (InvalidInteger _ _) x y never h = (λ k. k, h)
-tag-told ended other (Zero _) x y never h = absurd (cc)
-tag-told ended other (UnexpectedVariant (Between a b) _) x y never h = absurd (let e = h.1 in cc)
-tag-told ended other (UnexpectedVariant (OneOf a) _) x y never h = absurd (let e = h.1.1 in cc)
-tag-told ended other Utf8 x y never h = absurd (let e = h.1 in cc)
-tag-told ended other (InvalidChar _) x y never h = absurd (cc)
-tag-told ended other (InvalidBool _) x y never h = absurd (cc)
-tag-told ended other (InvalidDuration _ _) x y never h = absurd (cc)
-tag-told ended other (NulAt _) x y never h = absurd (cc)
-tag-told ended other (Other _) x y never (short t e k) = absurd (cc)
-tag-told ended other (Other _) x y never (long t e k) = absurd (cc)
-tag-told ended other (LengthMismatch _ _) x y never h = absurd (cc)
-tag-told ended other EmptyEnum x y never h = absurd (let e = h.1 in cc)
-tag-told ended other (OutsideUsize _) x y never h = absurd (cc)
+tag-told end_error other (End (Some n)) x y never h = absurd (never n h)
+tag-told end_error other (End None) x y never h = absurd (never h.0 h.1)
+tag-told end_error other (InvalidInteger _ _) x y never h = (λ k. k, h)
+tag-told end_error other (Zero _) x y never h = absurd (cc)
+tag-told end_error other (UnexpectedVariant (Between a b) _) x y never h = absurd (let e = h.1 in cc)
+tag-told end_error other (UnexpectedVariant (OneOf a) _) x y never h = absurd (let e = h.1.1 in cc)
+tag-told end_error other Utf8 x y never h = absurd (let e = h.1 in cc)
+tag-told end_error other (InvalidChar _) x y never h = absurd (cc)
+tag-told end_error other (InvalidBool _) x y never h = absurd (cc)
+tag-told end_error other (InvalidDuration _ _) x y never h = absurd (cc)
+tag-told end_error other (NulAt _) x y never h = absurd (cc)
+tag-told end_error other (Other _) x y never (short t e k) = absurd (cc)
+tag-told end_error other (Other _) x y never (long t e k) = absurd (cc)
+tag-told end_error other (LengthMismatch _ _) x y never h = absurd (cc)
+tag-told end_error other EmptyEnum x y never h = absurd (let e = h.1 in cc)
+tag-told end_error other (OutsideUsize _) x y never h = absurd (cc)
 
 no-end : (x y : IntegerType) (n : ℕ) → InvalidIntegerType x y ≡ UnexpectedEnd n → ⊥
 no-end x y n e = cc
 
 pub front-fails : {A : Type 0} (F G : Format A) → ReadsAs F G → Lawful G → (window left : List ℕ) (x y : IntegerType) →
-    Misreads (λ missing d. d ≡ UnexpectedEnd missing) no_device (F.read window) 0 0 window left (InvalidIntegerType x y) → FrontFails F window (InvalidIntegerType x y)
+    ReadFailure (λ missing d. d ≡ UnexpectedEnd missing) no_device (F.read window) 0 0 window left (InvalidIntegerType x y) → FrontFails F window (InvalidIntegerType x y)
 front-fails F G same l window left x y (by_fault why given tells takes) =
     let read = sym (same window) ∙ given in
-    let told = tag-told _ (λ _ _. ⊥) why x y (no-end x y) tells in
-    record { why = why; tells = told.1; fails = λ more. same (window ++ more) ∙ l.stays window more why [] told.0 read }
+    let is_known = tag-told _ (λ _ _. ⊥) why x y (no-end x y) tells in
+    record { why = why; tells = is_known.1; fails = λ more. same (window ++ more) ∙ l.stays window more why [] is_known.0 read }
 front-fails F G same l window left x y (by_failure h r t) = absurd h
 front-fails F G same l window left x y (by_device h) = absurd h
 
@@ -84,46 +84,46 @@ left-shorter F G same l window left m n given e =
 split : (n : ℕ) (window input : List ℕ) → window ≡ take n input → window ++ drop n input ≡ input
 split n window input shown = ap (λ x. x ++ drop n input) shown ∙ take-append-drop n input
 
-module _ {R A T : Type 0} {told : R → Type 0} {rest : R → List ℕ} {failures : R → ℕ} {place : R → List GName} {ended : ℕ → DecodeError → Type 0}
+module _ {R A T : Type 0} {is_known : R → Type 0} {remaining : R → List ℕ} {failures : R → ℕ} {loans : R → List GName} {end_error : ℕ → DecodeError → Type 0}
     {device : DeviceErrors} {F : Format A} {mean : T → A} {old middle : R} {window : List ℕ} (n : ℕ) where
   -- a tag that is refused in the window is not taken
-  pub window-fails : {e : DecodeError} → FrontFails F window e → (told old → window ≡ take n (rest old)) →
-      Unmoved (told old) (told middle) (rest old) (rest middle) (failures old) (failures middle) (place old) (place middle) →
-      ReadsWord told rest failures place ended device F mean (Err e) old middle
+  pub window-fails : {e : DecodeError} → FrontFails F window e → (is_known old → window ≡ take n (remaining old)) →
+      Unmoved (is_known old) (is_known middle) (remaining old) (remaining middle) (failures old) (failures middle) (loans old) (loans middle) →
+      ReadsWord is_known remaining failures loans end_error device F mean (Err e) old middle
   window-fails {e} f shown kept = record {
     ok = λ known. tt;
-    err = λ known. by_fault f.why (ap F.read (sym (split n _ _ (shown known))) ∙ f.fails (drop n (rest old))) (own-tells ended f.why e f.tells) ([], sym (kept.0 known).1);
-    counted = let same = kept.1 in omega (arith, same);
+    err = λ known. by_fault f.why (ap F.read (sym (split n _ _ (shown known))) ∙ f.fails (drop n (remaining old))) (own-tells end_error f.why e f.tells) ([], sym (kept.0 known).1);
+    failures_monotone = let same = kept.1 in omega (arith, same);
     tells = λ known. (kept.0 known).0;
-    same_place = kept.2;
+    same_loans = kept.2;
   }
 
   -- a word that the window begins with is read
-  pub window-reads : {new : R} {v : T} {taken : ℕ} → FrontIs F window (mean v) taken → (told old → window ≡ take n (rest old)) →
-      Unmoved (told old) (told middle) (rest old) (rest middle) (failures old) (failures middle) (place old) (place middle) →
-      TakesShown told rest failures place taken middle new → ReadsWord told rest failures place ended device F mean (Ok v) old new
+  pub window-reads : {new : R} {v : T} {taken : ℕ} → FrontIs F window (mean v) taken → (is_known old → window ≡ take n (remaining old)) →
+      Unmoved (is_known old) (is_known middle) (remaining old) (remaining middle) (failures old) (failures middle) (loans old) (loans middle) →
+      TakesShown is_known remaining failures loans taken middle new → ReadsWord is_known remaining failures loans end_error device F mean (Ok v) old new
   window-reads {new} {v} {taken} f shown kept takes = record {
     ok = λ known.
-        let behind : drop taken (window ++ drop n (rest old)) ≡ rest new =
+        let behind : drop taken (window ++ drop n (remaining old)) ≡ remaining new =
         ap (drop taken) (split n _ _ (shown known) ∙ sym (kept.0 known).1) ∙ sym (takes.taken (kept.0 known).0) in
-        ap F.read (sym (split n _ _ (shown known))) ∙ (f.reads (drop n (rest old)) ∙ ap (λ left. Took (mean v) left []) behind);
+        ap F.read (sym (split n _ _ (shown known))) ∙ (f.reads (drop n (remaining old)) ∙ ap (λ left. Took (mean v) left []) behind);
     err = λ known. tt;
-    counted = let same = kept.1 in let as_before = takes.same_failures in omega (arith, same, as_before);
+    failures_monotone = let same = kept.1 in let as_before = takes.same_failures in omega (arith, same, as_before);
     tells = λ known. takes.tells (kept.0 known).0;
-    same_place = takes.same_place ∙ kept.2;
+    same_loans = takes.same_loans ∙ kept.2;
   }
 
 -- a byte that is shown is read
 pub byte-shown : (window : List ℕ) → length window ≡ 1 → FrontIs byte window (slice_index_or window 0 0) 1
 byte-shown [] one = absurd (omega (arith, one))
-byte-shown (b ∷ []) one = record { within = omega arith; reads = λ more. byte-took (b ∷ more) (b ∷ []) more (raw-read (b ∷ []) more 1 refl) }
+byte-shown (b ∷ []) one = record { within = omega arith; reads = λ more. byte-took (b ∷ more) (b ∷ []) more (fixed_bytes-read (b ∷ []) more 1 refl) }
 byte-shown (b ∷ c ∷ more) one = absurd (omega (arith, one))
 
 -- what a varint is read by: a lawful format at every width
 behind-lawful : (order : Endianness) (why : Fault) (first : ℕ) (f : FirstByte) → ¬ (IsEnd why) → Lawful (behind order why first f)
-behind-lawful order why first Itself never = done-lawful first
+behind-lawful order why first Itself never = pure-lawful first
 behind-lawful order why first (Before n) never = digits-lawful order n
-behind-lawful order why first TooWide never = refused-lawful why never
+behind-lawful order why first TooWide never = fail-lawful why never
 
 module _ (tags : ℕ → IntegerType) (name : IntegerType) (order : Endianness) (width : ℕ) where
   abbrev pub read_by : Format ℕ

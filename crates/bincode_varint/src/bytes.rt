@@ -1,9 +1,9 @@
 //! Bytes as they are, and the bytes of a number in a byte order; integers in two's complement.
 ghost use Rattle.std.specs.Prelude.{◌≡◌};
-ghost use Rattle.bincode_format.specs.Number.{number_of, digits_of, two_complement, from_two_complement};
-ghost use Rattle.bincode_format.specs.Format.{raw, map_format};
-ghost use Rattle.bincode_format.specs.Integers.{byte, digits};
-ghost use Rattle.bincode_format.specs.Reads.{ReadsWord};
+ghost use Rattle.bincode_spec.specs.Number.{number_of, digits_of, two_complement, from_two_complement};
+ghost use Rattle.bincode_spec.specs.Format.{fixed_bytes, map_format};
+ghost use Rattle.bincode_spec.specs.Integers.{byte, digits};
+ghost use Rattle.bincode_spec.specs.Reads.{ReadsWord};
 
 use bincode_base::config::Endianness;
 use bincode_base::error::DecodeError;
@@ -123,8 +123,8 @@ pub fn u128_of_bytes(endian: Endianness, bytes: [u8; 16]) -> u128
 
 /// Reads so many bytes as they are.
 pub fn read_array<R: Reader, const N: usize>(read: &mut R) -> Result<[u8; N], DecodeError>
-    ensures { ReadsWord R.told R.rest R.failures R.place R.ended R.device (raw N) (λ v. v) result read.old
-        read.new }
+    ensures { ReadsWord R.is_known R.remaining R.failures R.loans R.end_error R.device (fixed_bytes N) (λ v. v) result
+        read.old read.new }
 {
     let mut bytes = [0u8; N];
     read.read(&mut bytes)?;
@@ -134,7 +134,7 @@ pub fn read_array<R: Reader, const N: usize>(read: &mut R) -> Result<[u8; N], De
 /// Reads one byte: the one that a peek shows, where the reader says that it peeks first.
 #[inline(always)]
 pub fn read_byte<R: Reader>(read: &mut R) -> Result<u8, DecodeError>
-    ensures { ReadsWord R.told R.rest R.failures R.place R.ended R.device byte (λ v. v) result read.old
+    ensures { ReadsWord R.is_known R.remaining R.failures R.loans R.end_error R.device byte (λ v. v) result read.old
         read.new }
 {
     if !R::PEEKS_FIRST {
@@ -151,7 +151,7 @@ pub fn read_byte<R: Reader>(read: &mut R) -> Result<u8, DecodeError>
 
 /// The same by `read` alone.
 pub(crate) fn read_byte_plain<R: Reader>(read: &mut R) -> Result<u8, DecodeError>
-    ensures { ReadsWord R.told R.rest R.failures R.place R.ended R.device byte (λ v. v) result read.old
+    ensures { ReadsWord R.is_known R.remaining R.failures R.loans R.end_error R.device byte (λ v. v) result read.old
         read.new }
 {
     let bytes = read_array::<R, 1>(read)?;
@@ -160,7 +160,7 @@ pub(crate) fn read_byte_plain<R: Reader>(read: &mut R) -> Result<u8, DecodeError
 
 /// Reads the two bytes of a number.
 pub fn read_u16<R: Reader>(read: &mut R, endian: Endianness) -> Result<u16, DecodeError>
-    ensures { ReadsWord R.told R.rest R.failures R.place R.ended R.device (digits endian 2) (λ v. v) result
+    ensures { ReadsWord R.is_known R.remaining R.failures R.loans R.end_error R.device (digits endian 2) (λ v. v) result
         read.old read.new }
 {
     let bytes = read_array::<R, 2>(read)?;
@@ -169,7 +169,7 @@ pub fn read_u16<R: Reader>(read: &mut R, endian: Endianness) -> Result<u16, Deco
 
 /// Reads the four bytes of a number.
 pub fn read_u32<R: Reader>(read: &mut R, endian: Endianness) -> Result<u32, DecodeError>
-    ensures { ReadsWord R.told R.rest R.failures R.place R.ended R.device (digits endian 4) (λ v. v) result
+    ensures { ReadsWord R.is_known R.remaining R.failures R.loans R.end_error R.device (digits endian 4) (λ v. v) result
         read.old read.new }
 {
     let bytes = read_array::<R, 4>(read)?;
@@ -178,7 +178,7 @@ pub fn read_u32<R: Reader>(read: &mut R, endian: Endianness) -> Result<u32, Deco
 
 /// Reads the eight bytes of a number.
 pub fn read_u64<R: Reader>(read: &mut R, endian: Endianness) -> Result<u64, DecodeError>
-    ensures { ReadsWord R.told R.rest R.failures R.place R.ended R.device (digits endian 8) (λ v. v) result
+    ensures { ReadsWord R.is_known R.remaining R.failures R.loans R.end_error R.device (digits endian 8) (λ v. v) result
         read.old read.new }
 {
     let bytes = read_array::<R, 8>(read)?;
@@ -187,8 +187,8 @@ pub fn read_u64<R: Reader>(read: &mut R, endian: Endianness) -> Result<u64, Deco
 
 /// Reads the sixteen bytes of a number.
 pub fn read_u128<R: Reader>(read: &mut R, endian: Endianness) -> Result<u128, DecodeError>
-    ensures { ReadsWord R.told R.rest R.failures R.place R.ended R.device (digits endian 16) (λ v. v) result
-        read.old read.new }
+    ensures { ReadsWord R.is_known R.remaining R.failures R.loans R.end_error R.device (digits endian 16) (λ v. v)
+        result read.old read.new }
 {
     let bytes = read_array::<R, 16>(read)?;
     Ok(u128_of_bytes(endian, bytes))
@@ -196,7 +196,7 @@ pub fn read_u128<R: Reader>(read: &mut R, endian: Endianness) -> Result<u128, De
 
 /// Reads a signed byte.
 pub fn read_i8<R: Reader>(read: &mut R) -> Result<i8, DecodeError>
-    ensures { ReadsWord R.told R.rest R.failures R.place R.ended R.device
+    ensures { ReadsWord R.is_known R.remaining R.failures R.loans R.end_error R.device
         (map_format (from_two_complement 1) byte) (λ v. v) result read.old read.new }
 {
     let n = read_byte(read)?;

@@ -4,11 +4,11 @@
 ghost use Rattle.std.specs.Prelude.{ℕ, refl};
 ghost use Rattle.bincode_base.specs.declared.error.IntegerType.TheVariants.{U16, U32, U64, U128, Usize, I16, I32, I64};
 ghost use Rattle.bincode_base.specs.declared.error.IntegerType.TheVariants.{I128, Isize};
-ghost use Rattle.bincode_format.specs.Integers.{Two, Four, Eight, Sixteen};
-ghost use Rattle.bincode_format.specs.Spelling.{Spelling, unsigned_spelling, signed_spelling};
-ghost use Rattle.bincode_laws.specs.SpellingLaws.{SpellingLaws, unsigned_spelling-laws, signed_spelling-laws};
-ghost use Rattle.bincode_format.specs.Device.{TakesPieces};
-ghost use Rattle.bincode_format.specs.Reads.{ReadsWord};
+ghost use Rattle.bincode_spec.specs.Integers.{Two, Four, Eight, Sixteen};
+ghost use Rattle.bincode_spec.specs.Spelling.{Spelling, unsigned_spelling, signed_spelling};
+ghost use Rattle.bincode_lemmas.specs.SpellingLaws.{SpellingLaws, unsigned_spelling-laws, signed_spelling-laws};
+ghost use Rattle.bincode_spec.specs.Device.{TakesPieces};
+ghost use Rattle.bincode_spec.specs.Reads.{ReadsWord};
 
 use crate::bytes::{
     bytes_of_i16, bytes_of_i32, bytes_of_i64, bytes_of_i128, bytes_of_u16, bytes_of_u32,
@@ -46,8 +46,8 @@ pub trait Integer: Drop + Sized {
         endian: Endianness,
         encoding: IntEncoding,
     ) -> Result<Self, DecodeError>
-        ensures { ReadsWord R.told R.rest R.failures R.place R.ended R.device (spelling.read_by endian encoding)
-            (λ v. v) result read.old read.new };
+        ensures { ReadsWord R.is_known R.remaining R.failures R.loans R.end_error R.device
+            (spelling.read_by endian encoding) (λ v. v) result read.old read.new };
 
     /// Writes its word: a varint by its tag and then its bytes, all its bytes in one piece. Where the writer refuses a
     /// piece, those before it stay written.
@@ -57,7 +57,7 @@ pub trait Integer: Drop + Sized {
         endian: Endianness,
         encoding: IntEncoding,
     ) -> Result<(), EncodeError>
-        ensures { TakesPieces W.adds W.refuses W.place (spelling.written endian encoding self)
+        ensures { TakesPieces W.adds W.refuses W.loans (spelling.written endian encoding self)
             (spelling.pieces endian encoding self)
             result writer.old writer.new };
 }

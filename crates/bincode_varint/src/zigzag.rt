@@ -1,7 +1,7 @@
 //! Signed numbers as unsigned ones: 0, -1, 1, -2, 2 are numbered 0, 1, 2, 3, 4, and so on.
 ghost use Rattle.std.specs.Prelude.{◌≡◌, ◌<◌, ◌^◌, ℕ};
-ghost use Rattle.bincode_format.specs.Number.{zigzag, unzigzag, FitsIn};
-ghost use Rattle.bincode_laws.specs.SignedLaws.{zigzag-unzigzag, unzigzag-zigzag, zigzag-fits, unzigzag-fits};
+ghost use Rattle.bincode_spec.specs.Number.{zigzag, unzigzag, FitsIn};
+ghost use Rattle.bincode_lemmas.specs.SignedLaws.{zigzag-unzigzag, unzigzag-zigzag, zigzag-fits, unzigzag-fits};
 
 /// The number of an integer. One to one, and that of an integer of so many bytes has so many bytes.
 #[inline]

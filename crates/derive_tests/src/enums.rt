@@ -60,10 +60,10 @@ type KindWorkPart = (String, u16);
 
 type KindMovePart = (i32, bool);
 
-type KindParts = Or<
+type KindParts = VariantOf<
     0,
     KindIdlePart,
-    Or<1, KindNotePart, Or<2, KindWorkPart, Or<3, KindMovePart, NoOther<Kind>>>>,
+    VariantOf<1, KindNotePart, VariantOf<2, KindWorkPart, VariantOf<3, KindMovePart, NoMoreVariants<Kind>>>>,
 >;
 ",
     ),
@@ -74,10 +74,10 @@ type KindParts = Or<
     ghost use Rattle.bincode.specs.EnumWords.{by, no_more, or_else};
     ghost use Rattle.app.specs.declared.types.Kind.TheVariants.{Idle, Note, Work, Move};
 
-    ghost variants = { or_else 0 ⟦<KindIdlePart as Wire>⟧.its
-        (or_else 1 ⟦<KindNotePart as Wire>⟧.its
-        (or_else 2 ⟦<KindWorkPart as Wire>⟧.its
-        (or_else 3 ⟦<KindMovePart as Wire>⟧.its
+    ghost variants = { or_else 0 ⟦<KindIdlePart as Wire>⟧.words
+        (or_else 1 ⟦<KindNotePart as Wire>⟧.words
+        (or_else 2 ⟦<KindWorkPart as Wire>⟧.words
+        (or_else 3 ⟦<KindMovePart as Wire>⟧.words
         no_more))) };
 
     ghost parts = { elim [
@@ -97,7 +97,7 @@ type KindParts = Or<
     ),
     (
         KIND,
-        "    ghost its = { enum_words ⟦<Kind as Sum<KindParts>>⟧.variants ⟦<Kind as Sum<KindParts>>⟧.parts };
+        "    ghost words = { enum_words ⟦<Kind as Sum<KindParts>>⟧.variants ⟦<Kind as Sum<KindParts>>⟧.parts };
 
     fn claim_size() -> usize {
         let widest = KindMovePart::claim_size().max(0);
@@ -178,7 +178,7 @@ type KindParts = Or<
 }
 
 impl<Context: Drop> Decode<Context> for Kind {
-    type Run = OneByOne;
+    type Run = Sequential;
 
     fn decode<D: Decoder<Context = Context>>(decoder: &mut D) -> Result<Kind, DecodeError> {
         decode_by_tag(decoder)
@@ -195,7 +195,7 @@ impl<Context: Drop> Decode<Context> for Kind {
 use bincode::error::{DecodeError, EncodeError};
 use bincode::laws::{Canonical, Exact, Plain};
 use bincode::short_text::TypeName;
-use bincode::{NoOther, Or, Wire};
+use bincode::{NoMoreVariants, VariantOf, Wire};
 ",
     ),
     (
@@ -220,7 +220,7 @@ use bincode::{NoOther, Or, Wire};
 
 type EventNotePart<'a> = (&'a str, u8);
 
-type EventParts<'a> = Or<0, EventStartPart, Or<1, EventNotePart<'a>, NoOther<Event<'a>>>>;
+type EventParts<'a> = VariantOf<0, EventStartPart, VariantOf<1, EventNotePart<'a>, NoMoreVariants<Event<'a>>>>;
 ",
     ),
     (
@@ -229,7 +229,8 @@ type EventParts<'a> = Or<0, EventStartPart, Or<1, EventNotePart<'a>, NoOther<Eve
     ghost use Rattle.std.specs.Prelude.{min, ◌+◌, ◌-◌, ◌^◌};
     ghost use Rattle.bincode.specs.EnumWords.{enum_words};
 
-    ghost its = { enum_words ⟦<Event<'a> as Sum<EventParts<'a>>>⟧.variants ⟦<Event<'a> as Sum<EventParts<'a>>>⟧.parts };
+    ghost words = { enum_words ⟦<Event<'a> as Sum<EventParts<'a>>>⟧.variants ⟦<Event<'a> as
+        Sum<EventParts<'a>>>⟧.parts };
 
     fn claim_size() -> usize
         ensures { result ≡ min (4 + ⟦<Event<'a> as Sum<EventParts<'a>>>⟧.variants.claim) (2 ^ 64 - 1) }
@@ -244,7 +245,7 @@ type EventParts<'a> = Or<0, EventStartPart, Or<1, EventNotePart<'a>, NoOther<Eve
     (
         EVENT,
         "    fn tell_exact()
-        ensures { ExactWords ⟦<Event<'a> as Wire>⟧.its ⟦<Event<'a> as PartialEq>⟧.eq }
+        ensures { ExactWords ⟦<Event<'a> as Wire>⟧.words ⟦<Event<'a> as PartialEq>⟧.eq }
     {
         EventStartPart::tell_exact();
         EventNotePart::tell_exact();
@@ -274,16 +275,17 @@ type EventParts<'a> = Or<0, EventStartPart, Or<1, EventNotePart<'a>, NoOther<Eve
         EITHER,
         "type EitherBothPart<K, V> = (K, V);
 
-type EitherParts<K, V> = Or<0, K, Or<1, V, Or<2, EitherBothPart<K, V>, NoOther<Either<K, V>>>>>;
+type EitherParts<K, V> = VariantOf<0, K, VariantOf<1, V, VariantOf<2, EitherBothPart<K, V>, NoMoreVariants<Either<K,
+V>>>>>;
 
 impl<K: Wire, V: Wire> Sum<EitherParts<K, V>> for Either<K, V> {
 ",
     ),
     (
         EITHER,
-        "    ghost variants = { or_else 0 K.its
-        (or_else 1 V.its
-        (or_else 2 ⟦<EitherBothPart<K, V> as Wire>⟧.its
+        "    ghost variants = { or_else 0 K.words
+        (or_else 1 V.words
+        (or_else 2 ⟦<EitherBothPart<K, V> as Wire>⟧.words
         no_more)) };
 ",
     ),
@@ -399,7 +401,7 @@ fn writes_any_number_of_variants(rt: HostRuntime) -> Result<(), Fail> {
     let module = module_of(rt.alloc(), &ORIGIN, source.as_str())?;
     for expected in [
         "type LargeV39Part = (u32, String, u8);\n",
-        "        (or_else 39 ⟦<LargeV39Part as Wire>⟧.its\n        no_more",
+        "        (or_else 39 ⟦<LargeV39Part as Wire>⟧.words\n        no_more",
         "        (by (λ p. V39 p.0 p.1 p.2)\n",
         "            39 => match decode_part::<Context, Large, LargeV39Part, D>(tag, 39, decoder) {\n",
         "            _ => decode_no_variant(tag, 39, decoder),\n",

@@ -94,17 +94,17 @@ where
         "// bincode: claims 9\n#[derive(Drop)]\nenum Happening {\n    Ping,\n    Joined(Joined),\
         \n    Moved(Moved),\
         \n    Scored(PlayerId, u16),\n    Said(String),\n    Left(PlayerId),\n}",
-        "type HappeningParts = OneOf<
-    Or<
+        "type HappeningParts = EnumOf<
+    VariantOf<
         0,
         (),
-        Or<
+        VariantOf<
             1,
             Joined,
-            Or<
+            VariantOf<
                 2,
                 Moved,
-                Or<3, (PlayerId, u16), Or<4, String, Or<5, PlayerId, NoOther<Happening>>>>,
+                VariantOf<3, (PlayerId, u16), VariantOf<4, String, VariantOf<5, PlayerId, NoMoreVariants<Happening>>>>,
             >,
         >,
     >,

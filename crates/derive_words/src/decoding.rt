@@ -14,7 +14,7 @@ pub fn decode(alloc: Global, subject: &Subject<'_, '_>, body: &str) -> Result<St
             let of = "Decode<Context>";
             let head = subject.head(alloc, "Context: Drop", of, of)?;
             format!(in alloc;
-                "{head}    type Run = OneByOne;
+                "{head}    type Run = Sequential;
 
     fn decode<D: Decoder<Context = Context>>(decoder: &mut D) -> Result<{itself}, DecodeError> {{
 {body}    }}
@@ -37,7 +37,7 @@ fn borrow_decode(
     let of = format!(in alloc; "BorrowDecode<&{lifetime} [u8], Context>")?;
     let head = subject.head(alloc, "Context: Drop", of.as_str(), of.as_str())?;
     format!(in alloc;
-        "{head}    type Run = OneByOne;
+        "{head}    type Run = Sequential;
 
     fn borrow_decode<D: BorrowDecoder<&{lifetime} [u8], Context = Context>>(
         decoder: &mut D,
@@ -60,7 +60,7 @@ pub fn lent_decode(alloc: Global, subject: &Subject<'_, '_>) -> Result<String, A
         "Decode<Context>",
     )?;
     format!(in alloc;
-        "{head}    type Run = OneByOne;
+        "{head}    type Run = Sequential;
 
     fn borrow_decode<D: BorrowDecoder<B, Context = Context>>(
         decoder: &mut D,

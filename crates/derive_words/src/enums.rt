@@ -205,9 +205,9 @@ fn decode_at_once(
         let arm = arm_of(alloc, subject, variant)?;
         let made = arm.variant.as_str();
         let held = arm.parts.as_str();
-        let line = format!(in alloc; "            {front}Or::This({held}){closing} => {made},\n")?;
+        let line = format!(in alloc; "            {front}VariantOf::This({held}){closing} => {made},\n")?;
         body.push_str(line.as_str())?;
-        front.push_str("Or::Other(")?;
+        front.push_str("VariantOf::Other(")?;
         closing.push_str(")")?;
     }
     body.push_str("        })\n")?;
@@ -226,8 +226,8 @@ fn decode_by_parts(
     let body = format!(in alloc; "        decode_by_parts::<{parts}, {itself}, D>(decoder)\n")?;
     let decode = decode(alloc, subject, body.as_str())?;
     format!(in alloc;
-        "impl MakeFrom<{parts}> for {itself} {{
-    fn make_from(parts: {parts}) -> {itself} {{
+        "impl FromParts<{parts}> for {itself} {{
+    fn from_parts(parts: {parts}) -> {itself} {{
         match parts.0 {{
 {matched}        }}
     }}
@@ -249,7 +249,7 @@ fn matched_arms(
     for (at, variant) in variants.iter().enumerate() {
         if at > 0 {
             arms.push_str(format!(in alloc;
-                "{indent}Or::Other(rest) => match rest {{\n"
+                "{indent}VariantOf::Other(rest) => match rest {{\n"
             )?.as_str())?;
             closing = format!(in alloc; "{indent}}},\n{closing}")?;
             indent.push_str("    ")?;
@@ -257,7 +257,7 @@ fn matched_arms(
         let arm = arm_of(alloc, subject, variant)?;
         let made = arm.variant.as_str();
         let held = arm.parts.as_str();
-        arms.push_str(format!(in alloc; "{indent}Or::This({held}) => {made},\n")?.as_str())?;
+        arms.push_str(format!(in alloc; "{indent}VariantOf::This({held}) => {made},\n")?.as_str())?;
     }
     arms.push_str(closing.as_str())?;
     Ok(arms)

@@ -46,15 +46,15 @@ fn sum_of(
         return Ok(format!(in alloc; "NoVariants<{itself}>")?);
     }
     let tags = tags_of(alloc, variants)?;
-    let mut sum = String::from_str(alloc, "OneOf<")?;
+    let mut sum = String::from_str(alloc, "EnumOf<")?;
     let mut closing = String::from_str(alloc, ">")?;
     for (variant, tag) in variants.iter().zip(tags.iter()) {
         let parts = tuple(alloc, types_of(alloc, variant.fields.as_slice())?)?;
         let tag = *tag;
-        sum.push_str(format!(in alloc; "Or<{tag}, {parts}, ")?.as_str())?;
+        sum.push_str(format!(in alloc; "VariantOf<{tag}, {parts}, ")?.as_str())?;
         closing.push_str(">")?;
     }
-    Ok(format!(in alloc; "{sum}NoOther<{itself}>{closing}")?)
+    Ok(format!(in alloc; "{sum}NoMoreVariants<{itself}>{closing}")?)
 }
 
 /// The `impl` that shows a value as its parts. `declared` is where the toolchain declares the types of the module.
@@ -63,7 +63,7 @@ pub fn shown(alloc: Global, subject: &Subject<'_, '_>, declared: &str) -> Result
         return shown_by_variants(alloc, subject, declared);
     }
     let parts = subject.parts.as_str();
-    let of = format!(in alloc; "MadeOf<{parts}>")?;
+    let of = format!(in alloc; "HasParts<{parts}>")?;
     let head = subject.head(alloc, "", of.as_str(), "")?;
     let body = match &subject.item.kind {
         Kind::Struct(fields) => shown_fields(alloc, fields.as_slice())?,

@@ -77,7 +77,7 @@ fn is_reference(field: &Field<'_>) -> bool {
 /// The line that says how many bytes a value takes at most where integers are fixed, if it is known.
 fn most_line(alloc: Global, most: Option<u32>) -> Result<String, AllocError> {
     match most {
-        Some(most) => format!(in alloc; "    const MOST_FIXED: Option<usize> = Some({most});\n\n"),
+        Some(most) => format!(in alloc; "    const MAX_FIXED_SIZE: Option<usize> = Some({most});\n\n"),
         None => Ok(String::new(alloc)),
     }
 }
@@ -134,12 +134,12 @@ fn decode_by_parts(
 ) -> Result<String, AllocError> {
     let parts = subject.parts.as_str();
     let itself = subject.itself.as_str();
-    let of = format!(in alloc; "MakeFrom<{parts}>")?;
+    let of = format!(in alloc; "FromParts<{parts}>")?;
     let head = subject.head(alloc, "", of.as_str(), "")?;
     let body = format!(in alloc; "        decode_by_parts::<{parts}, {itself}, D>(decoder)\n")?;
     let decode = decode(alloc, subject, body.as_str())?;
     format!(in alloc;
-        "{head}    fn make_from(parts: {parts}) -> {itself} {{
+        "{head}    fn from_parts(parts: {parts}) -> {itself} {{
         let {pattern} = parts;
         {value}
     }}

@@ -15,9 +15,9 @@ const LIBRARY: [(&str, &[&str]); 8] = [
             "BorrowedBytes",
             "Decode",
             "Decoder",
-            "MakeFrom",
+            "FromParts",
             "Named",
-            "OneByOne",
+            "Sequential",
             "decode_by_parts",
             "decode_no_variants",
         ],
@@ -77,7 +77,7 @@ const LIBRARY: [(&str, &[&str]); 8] = [
     ("bincode::short_text", &["TypeName"]),
     (
         "bincode",
-        &["MadeOf", "NoOther", "NoVariants", "OneOf", "Or", "Wire"],
+        &["EnumOf", "HasParts", "NoMoreVariants", "NoVariants", "VariantOf", "Wire"],
     ),
 ];
 

@@ -24,12 +24,12 @@ pub fn variant_aliases(alloc: Global, subject: &Subject<'_, '_>) -> Result<Strin
         if !part.is_param {
             aliases.push_str(format!(in alloc; "type {itself} = {of};\n\n")?.as_str())?;
         }
-        sum.push_str(format!(in alloc; "Or<{tag}, {itself}, ")?.as_str())?;
+        sum.push_str(format!(in alloc; "VariantOf<{tag}, {itself}, ")?.as_str())?;
         closing.push_str(">")?;
     }
     let parts = subject.parts.as_str();
     let itself = subject.itself.as_str();
-    Ok(format!(in alloc; "{aliases}type {parts} = {sum}NoOther<{itself}>{closing};\n\n")?)
+    Ok(format!(in alloc; "{aliases}type {parts} = {sum}NoMoreVariants<{itself}>{closing};\n\n")?)
 }
 
 /// The `impl` that shows a value as one of its variants, and makes it of them. `declared` is where the toolchain
@@ -108,9 +108,9 @@ fn words_of(alloc: Global, subject: &Subject<'_, '_>) -> Result<Vec<String>, Fau
         let itself = part.itself.as_str();
         let tag = *tag;
         rows.push(if part.is_param {
-            format!(in alloc; "or_else {tag} {itself}.its")?
+            format!(in alloc; "or_else {tag} {itself}.words")?
         } else {
-            format!(in alloc; "or_else {tag} ⟦<{itself} as Wire>⟧.its")?
+            format!(in alloc; "or_else {tag} ⟦<{itself} as Wire>⟧.words")?
         })?;
     }
     Ok(rows)
@@ -190,7 +190,7 @@ pub fn words_by_variants(alloc: Global, subject: &Subject<'_, '_>) -> Result<Str
     } else {
         ""
     };
-    let its = format!(in alloc; "    ghost its = {{ enum_words {sum}.variants")?;
+    let its = format!(in alloc; "    ghost words = {{ enum_words {sum}.variants")?;
     let parts = format!(in alloc; "{sum}.parts }};")?;
     let its = in_line_or_two(alloc, its.as_str(), parts.as_str())?;
     let widest = widest_claim(alloc, subject)?;

@@ -16,7 +16,7 @@ pub fn words(alloc: Global, subject: &Subject<'_, '_>) -> Result<String, AllocEr
     let parts = subject.parts.as_str();
     let itself = subject.itself.as_str();
     let its = format!(in alloc;
-        "words_by ⟦<{parts} as Wire>⟧.its ⟦<{itself} as MadeOf<{parts}>>⟧.parts"
+        "words_by ⟦<{parts} as Wire>⟧.words ⟦<{itself} as HasParts<{parts}>>⟧.parts"
     )?;
     let its = its.as_str();
     let body = match subject.item.notes.claim {
@@ -33,13 +33,13 @@ fn words_by_parts(
     its: &str,
 ) -> Result<String, AllocError> {
     let parts = subject.parts.as_str();
-    let promise = format!(in alloc; "result ≡ ⟦<{parts} as Wire>⟧.its.claim")?;
+    let promise = format!(in alloc; "result ≡ ⟦<{parts} as Wire>⟧.words.claim")?;
     let opening = opening_of(alloc, subject, promise.as_str())?;
     let path = subject.path(alloc, subject.parts.as_str())?;
     format!(in alloc;
         "    ghost use Rattle.bincode.specs.TypeWords.{{words_by}};
 
-    ghost its = {{ {its} }};
+    ghost words = {{ {its} }};
 
     fn claim_size() -> usize{opening}        {path}::claim_size()
     }}
@@ -58,9 +58,9 @@ fn claimed_words(
     let opening = opening_of(alloc, subject, promise.as_str())?;
     format!(in alloc;
         "    ghost use Rattle.std.proofs.Common.{{arith}};
-    ghost use Rattle.bincode.specs.TypeWords.{{claiming, words_by}};
+    ghost use Rattle.bincode.specs.TypeWords.{{with_claim, words_by}};
 
-    ghost its = {{ claiming {claim} (omega arith) ({its}) }};
+    ghost words = {{ with_claim {claim} (omega arith) ({its}) }};
 
     fn claim_size() -> usize{opening}        {claim}
     }}
@@ -110,7 +110,7 @@ pub fn laws(alloc: Global, subject: &Subject<'_, '_>, keeps: Keeps) -> Result<St
 fn plain(alloc: Global, subject: &Subject<'_, '_>) -> Result<String, AllocError> {
     let parts = subject.parts.as_str();
     let itself = subject.itself.as_str();
-    let promise = format!(in alloc; "PlainWords ⟦<{itself} as Wire>⟧.its")?;
+    let promise = format!(in alloc; "PlainWords ⟦<{itself} as Wire>⟧.words")?;
     let call = if subject.variants.is_empty() {
         format!(in alloc; "plain_by_parts::<{parts}, {itself}>()")?
     } else {
@@ -130,7 +130,7 @@ fn exact(alloc: Global, subject: &Subject<'_, '_>) -> Result<String, AllocError>
     let parts = subject.parts.as_str();
     let itself = subject.itself.as_str();
     let promise = format!(in alloc;
-        "ExactWords ⟦<{itself} as Wire>⟧.its ⟦<{itself} as PartialEq>⟧.eq"
+        "ExactWords ⟦<{itself} as Wire>⟧.words ⟦<{itself} as PartialEq>⟧.eq"
     )?;
     let call = if is_row(subject) {
         format!(in alloc; "exact_by_fields::<{parts}, {itself}, _>()")?
@@ -160,7 +160,7 @@ fn is_row(subject: &Subject<'_, '_>) -> bool {
 fn canonical(alloc: Global, subject: &Subject<'_, '_>) -> Result<String, AllocError> {
     let parts = subject.parts.as_str();
     let itself = subject.itself.as_str();
-    let promise = format!(in alloc; "CanonicalWords ⟦<{itself} as Wire>⟧.its")?;
+    let promise = format!(in alloc; "CanonicalWords ⟦<{itself} as Wire>⟧.words")?;
     let call = if subject.variants.is_empty() {
         format!(in alloc; "canonical_by_parts::<{parts}, {itself}>()")?
     } else {
@@ -179,7 +179,7 @@ fn canonical(alloc: Global, subject: &Subject<'_, '_>) -> Result<String, AllocEr
 fn writable(alloc: Global, subject: &Subject<'_, '_>) -> Result<String, AllocError> {
     let parts = subject.parts.as_str();
     let itself = subject.itself.as_str();
-    let promise = format!(in alloc; "AlwaysWritable ⟦<{itself} as Wire>⟧.its")?;
+    let promise = format!(in alloc; "AlwaysWritable ⟦<{itself} as Wire>⟧.words")?;
     let call = if subject.variants.is_empty() {
         format!(in alloc; "writable_by_parts::<{parts}, {itself}>()")?
     } else {
@@ -197,7 +197,7 @@ fn writable(alloc: Global, subject: &Subject<'_, '_>) -> Result<String, AllocErr
 
 fn inhabited(alloc: Global, subject: &Subject<'_, '_>) -> Result<String, AllocError> {
     let itself = subject.itself.as_str();
-    let promise = format!(in alloc; "HasSomeWord ⟦<{itself} as Wire>⟧.its")?;
+    let promise = format!(in alloc; "HasSomeWord ⟦<{itself} as Wire>⟧.words")?;
     let path = subject.path(alloc, subject.parts.as_str())?;
     let call = format!(in alloc; "{path}::tell_inhabited()")?;
     law(

@@ -1,9 +1,9 @@
 //! Contexts of a user's own: each call hands its context on, and uses it once for each value that asks for it.
 
-use bincode::de::{BorrowDecode, BorrowDecoder, BorrowedBytes, Decode, Decoder, OneByOne};
+use bincode::de::{BorrowDecode, BorrowDecoder, BorrowedBytes, Decode, Decoder, Sequential};
 use bincode::error::DecodeError;
 use bincode::{
-    MadeOf, Wire, borrow_decode_from_slice_with_context, config, decode_from_slice_with_context,
+    HasParts, Wire, borrow_decode_from_slice_with_context, config, decode_from_slice_with_context,
     decode_from_std_read_with_context,
 };
 use std::alloc::Global;
@@ -16,14 +16,14 @@ struct Numbered {
     number: u32,
 }
 
-impl MadeOf<u8> for Numbered {
+impl HasParts<u8> for Numbered {
     ghost parts = { λ v. v.byte };
 }
 
 impl Wire for Numbered {
     ghost use Rattle.bincode.specs.TypeWords.{words_by};
 
-    ghost its = { words_by ⟦<u8 as Wire>⟧.its ⟦<Numbered as MadeOf<u8>>⟧.parts };
+    ghost words = { words_by ⟦<u8 as Wire>⟧.words ⟦<Numbered as HasParts<u8>>⟧.parts };
 
     fn claim_size() -> usize {
         u8::claim_size()
@@ -38,7 +38,7 @@ fn next_number(count: &Cell<u32>) -> u32 {
 }
 
 impl<'c> Decode<&'c Cell<u32>> for Numbered {
-    type Run = OneByOne;
+    type Run = Sequential;
 
     fn decode<D: Decoder<Context = &'c Cell<u32>>>(
         decoder: &mut D,
@@ -53,7 +53,7 @@ impl<'c> Decode<&'c Cell<u32>> for Numbered {
 }
 
 impl<'c, B: BorrowedBytes> BorrowDecode<B, &'c Cell<u32>> for Numbered {
-    type Run = OneByOne;
+    type Run = Sequential;
 
     fn borrow_decode<D: BorrowDecoder<B, Context = &'c Cell<u32>>>(
         decoder: &mut D,

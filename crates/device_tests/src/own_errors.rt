@@ -73,9 +73,9 @@ impl Wire for Halting {
     ghost use Rattle.bincode_base.specs.declared.error.EncodeError.TheVariants as errors;
 
     // Those of no bytes, with the errors of its own.
-    ghost its = { record (words_by ⟦<() as Wire>⟧.its (λ _. tt)) {
-      names = IsOwn;
-      names_own = elim [
+    ghost words = { record (words_by ⟦<() as Wire>⟧.words (λ _. tt)) {
+      own_errors = IsOwn;
+      errors_are_own = elim [
         | errors.UnexpectedEnd ↦ λ h. absurd h
         | errors.RefCellAlreadyBorrowed name ↦ λ h. absurd h
         | errors.LockFailed name ↦ λ h. h

@@ -11,7 +11,7 @@ use test_helpers::checks::either;
 enum Call {
     /// `write`.
     Whole,
-    /// `write_ahead` for the first byte, and `write_behind` for the others.
+    /// `write_tag` for the first byte, and `write_payload` for the others.
     InTwo,
 }
 
@@ -33,8 +33,8 @@ fn counted(alloc: Global, count: usize) -> Result<Vec<u8>, EncodeError> {
 fn write_by<W: Writer>(writer: &mut W, call: Call, piece: &[u8]) -> Result<(), EncodeError> {
     match (call, piece) {
         (Call::InTwo, [first, rest @ ..]) => {
-            writer.write_ahead(*first, piece.len())?;
-            writer.write_behind(rest)
+            writer.write_tag(*first, piece.len())?;
+            writer.write_payload(rest)
         }
         _ => writer.write(piece),
     }
@@ -101,18 +101,18 @@ fn writes_behind_into_the_room(rt: HostRuntime) {
         assert!(rt; false);
         return;
     };
-    assert!(rt; writer.write_behind(&[1, 2, 3]).is_ok());
-    assert!(rt; writer.write_behind(&[4, 5]).is_ok());
+    assert!(rt; writer.write_payload(&[1, 2, 3]).is_ok());
+    assert!(rt; writer.write_payload(&[4, 5]).is_ok());
     assert!(rt; writer.collect().as_slice() == [1, 2, 3, 4, 5].as_slice());
 }
 
-/// How often a writer without room grows while as many bytes are written one by one: `write_behind` makes no room, so
+/// How often a writer without room grows while as many bytes are written one by one: `write_payload` makes no room, so
 /// that it fails just where the next call grows.
 fn growths(alloc: Global, count: usize, call: Call) -> Result<usize, EncodeError> {
     let mut writer = VecWriter::with_capacity(alloc, 0)?;
     let mut growths = 0usize;
     for _ in 0..count {
-        if writer.write_behind(&[7]).is_err() {
+        if writer.write_payload(&[7]).is_err() {
             growths = growths.saturating_add(1);
             write_by(&mut writer, call, &[7])?;
         }

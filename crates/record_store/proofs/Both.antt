@@ -2,7 +2,7 @@
 use Rattle.std.specs.Prelude.{◌≡◌, ◌++◌, ℕ, List, [], Option, Some, Bool}
 use Rattle.std.proofs.Common.{◌∙◌, ap, sym, append-nil}
 use Rattle.bincode_base.specs.Setting.{Setting}
-use Rattle.bincode_wire.specs.TypeWords.{Words}
+use Rattle.bincode_types.specs.TypeWords.{Words}
 use Rattle.record_store.specs.declared.store.Ending.{Ending}
 use Rattle.record_store.specs.declared.store.Listed.{Listed}
 use Rattle.record_store.specs.Adding.{both, ListsBoth}

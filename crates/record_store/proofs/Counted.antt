@@ -2,10 +2,10 @@
 use Rattle.std.specs.Prelude.{◌≡◌, ◌≢◌, ◌+◌, ℕ, zero, suc, List, [], Option, Err, refl}
 use Rattle.std.proofs.Common.{◌∙◌, ap, sym, subst, inr, arith, add-one}
 use Rattle.bincode_base.specs.declared.error.DecodeError.{DecodeError}
-use Rattle.bincode_format.specs.Decoding.{IsExcused, WordRead, Finds}
-use Rattle.bincode_format.specs.Format.{Format, Took}
-use Rattle.bincode_format.specs.Laws.{Lawful}
-use Rattle.bincode_format.specs.Meaning.{Meaning}
+use Rattle.bincode_spec.specs.Decoding.{IsExcused, WordRead, AcceptsAll}
+use Rattle.bincode_spec.specs.Format.{Format, Took}
+use Rattle.bincode_spec.specs.Laws.{Lawful}
+use Rattle.bincode_spec.specs.Meaning.{Meaning}
 use Rattle.bincode_io.specs.RoomLaws.{first-empty}
 use Rattle.bincode_io.specs.Stream.{IsIo, stream_errors}
 use Rattle.record_store.specs.Counting.{LeadsTo, AreWords}
@@ -13,26 +13,26 @@ use Rattle.record_store.specs.Stores.{NoEmptyWord}
 
 module _ (F : Format Meaning) (limit : Option ℕ) where
   abbrev Read : List ℕ → List ℕ → Type 0
-  Read bytes rest = WordRead F limit bytes rest (λ _. Unit {0})
+  Read bytes remaining = WordRead F limit bytes remaining (λ _. Unit {0})
 
-  read-alone : (bytes rest : List ℕ) (Given : Meaning → Type 0) → WordRead F limit bytes rest Given → Read bytes rest
-  read-alone bytes rest Given w = record { word = w.word; meaning = w.meaning; steps = w.steps; input_is = w.input_is; is_word = w.is_word; within = w.within; is_given = tt }
+  read-alone : (bytes remaining : List ℕ) (DecodesTo : Meaning → Type 0) → WordRead F limit bytes remaining DecodesTo → Read bytes remaining
+  read-alone bytes remaining DecodesTo w = record { word = w.word; meaning = w.meaning; steps = w.steps; input_is = w.input_is; is_word = w.is_word; within = w.within; is_decoded = tt }
 
-  next-leads : (n : ℕ) (bytes rest after : List ℕ) → LeadsTo F limit n bytes rest → Read rest after → LeadsTo F limit (suc n) bytes after
-  next-leads zero bytes rest after same w = (after, subst (λ z. Read z after) same w, refl)
-  next-leads (suc n) bytes rest after (next, first, others) w = (next, first, next-leads n next rest after others w)
+  next-leads : (n : ℕ) (bytes remaining after : List ℕ) → LeadsTo F limit n bytes remaining → Read remaining after → LeadsTo F limit (suc n) bytes after
+  next-leads zero bytes remaining after same w = (after, subst (λ z. Read z after) same w, refl)
+  next-leads (suc n) bytes remaining after (next, first, others) w = (next, first, next-leads n next remaining after others w)
 
   -- one more word was read
-  pub leads-on : (n : ℕ) (bytes rest after : List ℕ) (Given : Meaning → Type 0) → LeadsTo F limit n bytes rest → WordRead F limit rest after Given → LeadsTo F limit (n + 1) bytes after
-  leads-on n bytes rest after Given l w = subst (λ z. LeadsTo F limit z bytes after) (sym (add-one n)) (next-leads n bytes rest after l (read-alone rest after Given w))
+  pub leads-on : (n : ℕ) (bytes remaining after : List ℕ) (DecodesTo : Meaning → Type 0) → LeadsTo F limit n bytes remaining → WordRead F limit remaining after DecodesTo → LeadsTo F limit (n + 1) bytes after
+  leads-on n bytes remaining after DecodesTo l w = subst (λ z. LeadsTo F limit z bytes after) (sym (add-one n)) (next-leads n bytes remaining after l (read-alone remaining after DecodesTo w))
 
   -- nothing is left behind the last
-  pub leads-end : (n : ℕ) (bytes rest : List ℕ) → LeadsTo F limit n bytes rest → rest ≡ [] → AreWords F limit n bytes
-  leads-end n bytes rest l none = subst (LeadsTo F limit n bytes) none l
+  pub leads-end : (n : ℕ) (bytes remaining : List ℕ) → LeadsTo F limit n bytes remaining → remaining ≡ [] → AreWords F limit n bytes
+  leads-end n bytes remaining l none = subst (LeadsTo F limit n bytes) none l
 
   module _ (f : Lawful F) (never : NoEmptyWord F) where
-    some-bytes : (bytes rest : List ℕ) → Read bytes rest → bytes ≢ []
-    some-bytes bytes rest w none = never w.meaning w.steps (subst (λ z. F.Word z w.meaning w.steps) (first-empty w.word rest (sym w.input_is ∙ none)) w.is_word)
+    some-bytes : (bytes remaining : List ℕ) → Read bytes remaining → bytes ≢ []
+    some-bytes bytes remaining w none = never w.meaning w.steps (subst (λ z. F.Word z w.meaning w.steps) (first-empty w.word remaining (sym w.input_is ∙ none)) w.is_word)
 
     one-rest : (bytes a b : List ℕ) → Read bytes a → Read bytes b → a ≡ b
     one-rest bytes a b v w =
@@ -50,7 +50,7 @@ module _ (F : Format Meaning) (limit : Option ℕ) where
         (left.0, omega (arith, left.1), left.2)
 
     -- so an error there is excused
-    pub excused : (Grows : Type 0) (k : ℕ) (now : List ℕ) (e : DecodeError) → AreWords F limit k now → (now ≡ [] → IsIo e) →
-        (now ≢ [] → Finds {A = Unit {0}} F limit (IsExcused stream_errors Grows 0 0) now (Err e)) → IsExcused stream_errors Grows 0 0 e
-    excused Grows zero now e none end found = inr (inr (end (sym none)))
-    excused Grows (suc k) now e (next, w, others) end found = found (some-bytes now next w) w.word next w.meaning w.steps w.input_is w.is_word w.within
+    pub excused : (MayAllocate : Type 0) (k : ℕ) (now : List ℕ) (e : DecodeError) → AreWords F limit k now → (now ≡ [] → IsIo e) →
+        (now ≢ [] → AcceptsAll {A = Unit {0}} F limit (IsExcused stream_errors MayAllocate 0 0) now (Err e)) → IsExcused stream_errors MayAllocate 0 0 e
+    excused MayAllocate zero now e none end found = inr (inr (end (sym none)))
+    excused MayAllocate (suc k) now e (next, w, others) end found = found (some-bytes now next w) w.word next w.meaning w.steps w.input_is w.is_word w.within

@@ -6,10 +6,10 @@ use Rattle.bincode_base.specs.declared.config.Endianness.{Endianness}
 use Rattle.bincode_base.specs.declared.config.IntEncoding.{IntEncoding}
 use Rattle.bincode_base.specs.declared.config.IntEncoding.TheVariants.{Fixed, Variable}
 use Rattle.bincode_base.specs.declared.error.IntegerType.{IntegerType}
-use Rattle.bincode_format.specs.Format.{Format, raw, ◌>>=◌, written_as}
-use Rattle.bincode_format.specs.Integers.{digits, byte, varint, number_by, unsigned}
-use Rattle.bincode_format.specs.Meaning.{Meaning}
-use Rattle.bincode_format.specs.Words.{first_and, text}
+use Rattle.bincode_spec.specs.Format.{Format, fixed_bytes, ◌>>=◌, written_as}
+use Rattle.bincode_spec.specs.Integers.{digits, byte, varint, number_by, unsigned_integer}
+use Rattle.bincode_spec.specs.Meaning.{Meaning}
+use Rattle.bincode_spec.specs.Words.{first_and, text}
 use Rattle.bincode_io.specs.RoomLaws.{first-empty, second-empty}
 use Rattle.record_store.specs.Stores.{NoEmptyWord}
 
@@ -27,18 +27,18 @@ written-filled : {A : Type 0} (Chosen : List ℕ → A → Type 0) (F : Format A
 unfolding written_as
 written-filled Chosen F none = none
 
-raw-filled : (n : ℕ) → 0 < n → NoEmptyWord (raw n)
-unfolding raw
-raw-filled n h m steps w = let e : 0 ≡ n = w.0 in omega (arith, e, h)
+fixed_bytes-filled : (n : ℕ) → 0 < n → NoEmptyWord (fixed_bytes n)
+unfolding fixed_bytes
+fixed_bytes-filled n h m steps w = let e : 0 ≡ n = w.0 in omega (arith, e, h)
 
 number-filled : (tags : ℕ → IntegerType) (name : IntegerType) (order : Endianness) (width : ℕ) → 0 < width → (encoding : IntEncoding) →
     NoEmptyWord (number_by tags name order width encoding)
 unfolding digits varint byte
-number-filled tags name order width h Fixed = written-filled _ _ (then-filled _ _ (raw-filled width h))
-number-filled tags name order width h Variable = written-filled _ _ (then-filled _ _ (then-filled _ _ (raw-filled 1 (omega arith))))
+number-filled tags name order width h Fixed = written-filled _ _ (then-filled _ _ (fixed_bytes-filled width h))
+number-filled tags name order width h Variable = written-filled _ _ (then-filled _ _ (then-filled _ _ (fixed_bytes-filled 1 (omega arith))))
 
-length-filled : (name : IntegerType) (width : ℕ) → 0 < width → (s : Setting) → NoEmptyWord (unsigned name width s)
-unfolding unsigned
+length-filled : (name : IntegerType) (width : ℕ) → 0 < width → (s : Setting) → NoEmptyWord (unsigned_integer name width s)
+unfolding unsigned_integer
 length-filled name width h s = behind-filled _ _ (λ _. number-filled _ name s.order width h s.encoding)
 
 text-filled : (s : Setting) → NoEmptyWord (text s)

@@ -1,7 +1,7 @@
 -- What is left of a store to which a value was not added, and what is listed of one to which two were.
 use Rattle.std.specs.Prelude.{◌≡◌, ℕ, List, [], ◌∷◌, Option, Bool}
 use Rattle.bincode_base.specs.Setting.{Setting}
-use Rattle.bincode_wire.specs.TypeWords.{Words}
+use Rattle.bincode_types.specs.TypeWords.{Words}
 use Rattle.record_store.specs.Stores.{Leaves, Entry, AreEntries, ListsAll, IsOutside}
 use Rattle.record_store.specs.declared.adding.AddError.{AddError}
 use Rattle.record_store.specs.declared.adding.AddError.TheVariants as failures

@@ -1,8 +1,8 @@
 -- How many values the bytes of a store hold.
 use Rattle.std.specs.Prelude.{◌≡◌, ℕ, zero, suc, List, [], Option}
-use Rattle.bincode_format.specs.Decoding.{WordRead}
-use Rattle.bincode_format.specs.Format.{Format}
-use Rattle.bincode_format.specs.Meaning.{Meaning}
+use Rattle.bincode_spec.specs.Decoding.{WordRead}
+use Rattle.bincode_spec.specs.Format.{Format}
+use Rattle.bincode_spec.specs.Meaning.{Meaning}
 
 -- behind so many words within the limit is the rest
 abbrev pub LeadsTo : Format Meaning → Option ℕ → ℕ → List ℕ → List ℕ → Type 0

@@ -5,16 +5,16 @@ use Rattle.bincode_base.specs.Setting.{Setting}
 use Rattle.bincode_base.specs.declared.error.DecodeError.{DecodeError}
 use Rattle.bincode_base.specs.declared.error.DecodeError.TheVariants as decoding
 use Rattle.bincode_base.specs.declared.error.EncodeError.TheVariants as encoding
-use Rattle.bincode_format.specs.Allowed.{AllowedWord}
-use Rattle.bincode_format.specs.Answer.{StepsOf}
-use Rattle.bincode_format.specs.Charge.{Step, StaysWithin, Passes}
-use Rattle.bincode_format.specs.Fault.{Fault, Tells}
-use Rattle.bincode_format.specs.Format.{Format}
-use Rattle.bincode_format.specs.Limits.{FitsLimit}
-use Rattle.bincode_format.specs.Meaning.{Meaning}
-use Rattle.bincode_format.specs.Slice.{Decoded, EndsSlice}
+use Rattle.bincode_spec.specs.Allowed.{AllowedWord}
+use Rattle.bincode_spec.specs.Answer.{StepsOf}
+use Rattle.bincode_spec.specs.Charge.{Step, StaysWithin, Passes}
+use Rattle.bincode_spec.specs.Fault.{Fault, Tells}
+use Rattle.bincode_spec.specs.Format.{Format}
+use Rattle.bincode_spec.specs.Limits.{FitsLimit}
+use Rattle.bincode_spec.specs.Meaning.{Meaning}
+use Rattle.bincode_spec.specs.Slice.{Decoded, EndsSlice}
 use Rattle.bincode_io.specs.Stream.{IsWriteIo}
-use Rattle.bincode_wire.specs.TypeWords.{Words}
+use Rattle.bincode_types.specs.TypeWords.{Words}
 use Rattle.record_store.specs.declared.store.AppendError.{AppendError}
 use Rattle.record_store.specs.declared.store.AppendError.TheVariants as failures
 use Rattle.record_store.specs.declared.store.Ending.{Ending}
@@ -100,9 +100,9 @@ pub record IsTorn {A : Type 0} (W : Words A) (s : Setting) (limit : Option ℕ) 
 
 -- what begins at an offset is the words of the listed values, in turn; behind them, at `end`, is the rest
 abbrev pub ReadFrom : {A : Type 0} → Format Meaning → Option ℕ → (Meaning → A → Type 0) → ℕ → List ℕ → List (Listed A) → ℕ → List ℕ → Type 0
-ReadFrom F limit given at input [] end rest = (end ≡ at) × (rest ≡ input)
-ReadFrom F limit given at input (l ∷ listed) end rest =
-    (d : Decoded F limit input (λ m. given m l.value) l.size) × (l.offset ≡ at) × ReadFrom F limit given (at + l.size) d.rest listed end rest
+ReadFrom F limit decodes_to at input [] end remaining = (end ≡ at) × (remaining ≡ input)
+ReadFrom F limit decodes_to at input (l ∷ listed) end remaining =
+    (d : Decoded F limit input (λ m. decodes_to m l.value) l.size) × (l.offset ≡ at) × ReadFrom F limit decodes_to (at + l.size) d.remaining listed end remaining
 
 -- no word within the limit begins the bytes, and the error tells why
 pub record IsRefusedFor (F : Format Meaning) (limit : Option ℕ) (bytes : List ℕ) (why : DecodeError) : Type 0 where
@@ -112,15 +112,15 @@ pub record IsRefusedFor (F : Format Meaning) (limit : Option ℕ) (bytes : List 
 
 -- the ending is that of a store whose rest stands at this offset
 abbrev pub EndsAt : Format Meaning → Option ℕ → ℕ → List ℕ → Ending → Type 0
-EndsAt F limit at rest Whole = rest ≡ []
-EndsAt F limit at rest (Stopped offset why) = (offset ≡ at) × (rest ≡ [] → ⊥) × IsRefusedFor F limit rest why
+EndsAt F limit at remaining Whole = remaining ≡ []
+EndsAt F limit at remaining (Stopped offset why) = (offset ≡ at) × (remaining ≡ [] → ⊥) × IsRefusedFor F limit remaining why
 
 -- the values are those of the words of the store, up to its end or to the first bytes that are no word
-pub record Lists {A : Type 0} (F : Format Meaning) (limit : Option ℕ) (given : Meaning → A → Type 0) (store : List ℕ) (listed : List (Listed A)) (ending : Ending) : Type 0 where
+pub record Lists {A : Type 0} (F : Format Meaning) (limit : Option ℕ) (decodes_to : Meaning → A → Type 0) (store : List ℕ) (listed : List (Listed A)) (ending : Ending) : Type 0 where
   pub end : ℕ
-  pub rest : List ℕ
-  pub values : ReadFrom F limit given 0 store listed end rest
-  pub ends : EndsAt F limit end rest ending
+  pub remaining : List ℕ
+  pub values : ReadFrom F limit decodes_to 0 store listed end remaining
+  pub ends : EndsAt F limit end remaining ending
 
 -- values are listed for entries that begin at an offset: equal ones, each behind the words of those before it, and of as many
 -- bytes as its word has

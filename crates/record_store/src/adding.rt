@@ -51,17 +51,17 @@ pub fn add<T: Stored, C: Config, W: Write>(
 ) -> Result<Place, AddError>
     // A word of the value stands behind what the store held, and its place is told.
     ensures added { IfOk result (λ place. (place.offset ≡ length held.now)
-        × Added T.its C.setting C.bound value.now place.size (W.contents store.old) (W.contents store.new)) }
+        × Added T.words C.setting C.bound value.now place.size (W.contents store.old) (W.contents store.new)) }
     // To a store whose last word was cut nothing is added.
-    ensures torn { (entries : List (Entry T)) (front : List ℕ) → AreEntries T.its C.setting C.bound entries
-        → IsTorn T.its C.setting C.bound front → held.now ≡ words_of entries ++ front
+    ensures torn { (entries : List (Entry T)) (front : List ℕ) → AreEntries T.words C.setting C.bound entries
+        → IsTorn T.words C.setting C.bound front → held.now ≡ words_of entries ++ front
         → IsErr result × (store.new ≡ store.old) }
     // An error leaves what the store held, and at most a front of the word behind it.
-    ensures left { IfErr result (LeavesBehind T.its C.setting C.bound value.now W.contents store.old store.new) }
+    ensures left { IfErr result (LeavesBehind T.words C.setting C.bound value.now W.contents store.old store.new) }
     // To what was appended in turn a value that can be read under the limit is added, unless memory is refused or the
     // stream fails.
-    ensures fits { (entries : List (Entry T)) → AreEntries T.its C.setting C.bound entries
-        → held.now ≡ words_of entries → FitsStore T.its C.setting C.bound value.now → IfErr result IsAddOutside }
+    ensures fits { (entries : List (Entry T)) → AreEntries T.words C.setting C.bound entries
+        → held.now ≡ words_of entries → FitsStore T.words C.setting C.bound value.now → IfErr result IsAddOutside }
 {
     let listing: Listing<T> = match list(alloc, held, config) {
         Ok(listing) => listing,
@@ -83,9 +83,9 @@ fn add_behind<T: Stored, C: Config, W: Write>(
     config: C,
 ) -> Result<Place, AddError>
     ensures added { IfOk result (λ place. (place.offset ≡ offset)
-        × Added T.its C.setting C.bound value.now place.size (W.contents store.old) (W.contents store.new)) }
-    ensures left { IfErr result (LeavesBehind T.its C.setting C.bound value.now W.contents store.old store.new) }
-    ensures fits { FitsStore T.its C.setting C.bound value.now → IfErr result IsAddOutside }
+        × Added T.words C.setting C.bound value.now place.size (W.contents store.old) (W.contents store.new)) }
+    ensures left { IfErr result (LeavesBehind T.words C.setting C.bound value.now W.contents store.old store.new) }
+    ensures fits { FitsStore T.words C.setting C.bound value.now → IfErr result IsAddOutside }
 {
     match append(alloc, store, value, config) {
         Ok(size) => Ok(Place { offset, size }),

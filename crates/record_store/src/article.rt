@@ -2,11 +2,11 @@
 ghost use Rattle.record_store.specs.Stores.{NeverEmpty};
 
 use crate::store::Stored;
-use bincode::de::{Decode, Decoder, OneByOne};
+use bincode::de::{Decode, Decoder, Sequential};
 use bincode::enc::{Encode, Encoder};
 use bincode::error::{DecodeError, EncodeError};
 use bincode::laws::{Exact, Plain, exact_by_fields, plain_by_parts};
-use bincode::{MadeOf, Wire};
+use bincode::{HasParts, Wire};
 use std::collections::BTreeMap;
 
 type Parts = (String, u64, Option<u32>, BTreeMap<String, String>);
@@ -24,14 +24,14 @@ pub struct Article {
     pub notes: BTreeMap<String, String>,
 }
 
-impl MadeOf<Parts> for Article {
+impl HasParts<Parts> for Article {
     ghost parts = { λ v. (v.name, v.price, v.weight, v.notes) };
 }
 
 impl Wire for Article {
     ghost use Rattle.bincode.specs.TypeWords.{words_by};
 
-    ghost its = { words_by ⟦<Parts as Wire>⟧.its ⟦<Article as MadeOf<Parts>>⟧.parts };
+    ghost words = { words_by ⟦<Parts as Wire>⟧.words ⟦<Article as HasParts<Parts>>⟧.parts };
 
     fn claim_size() -> usize {
         Parts::claim_size()
@@ -61,7 +61,7 @@ impl Encode for Article {
 }
 
 impl<Context: Drop> Decode<Context> for Article {
-    type Run = OneByOne;
+    type Run = Sequential;
 
     fn decode<D: Decoder<Context = Context>>(decoder: &mut D) -> Result<Article, DecodeError> {
         let (name, price, weight, notes): Parts = Decode::decode(decoder)?;

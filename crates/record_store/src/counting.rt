@@ -1,7 +1,7 @@
 //! The values of a store that is read as a stream, of which one at a time is held.
 ghost use Rattle.std.specs.Prelude.{◌-◌, ◌^◌, ◌<◌, ℕ, IfOk, IfErr};
-ghost use Rattle.bincode_format.specs.Decoding.{IsExcused};
-ghost use Rattle.bincode_io.specs.Stream.{TellsBytes, known, stream_errors};
+ghost use Rattle.bincode_spec.specs.Decoding.{IsExcused};
+ghost use Rattle.bincode_io.specs.Stream.{TellsBytes, known_bytes, stream_errors};
 ghost use Rattle.record_store.specs.Counting.{AreWords};
 
 use crate::store::Stored;
@@ -21,11 +21,11 @@ pub fn count<T: Stored, C: Config, R: BufRead>(
 ) -> Result<u64, DecodeError>
     // Of a stream that tells its bytes: they are the words of so many values within the limit, and nothing else.
     ensures words { TellsBytes (R.remaining store.old) → IfOk result (λ n.
-        AreWords (T.its.format C.setting) C.bound n (known (R.remaining store.old))) }
+        AreWords (T.words.format C.setting) C.bound n (known_bytes (R.remaining store.old))) }
     // Where they are such words, they are counted, unless the stream fails or memory is refused.
-    ensures counted { TellsBytes (R.remaining store.old) → (n : ℕ) → n < 2 ^ 64 - 1
-        → AreWords (T.its.format C.setting) C.bound n (known (R.remaining store.old))
-        → IfErr result (IsExcused stream_errors T.its.grows 0 0) }
+    ensures total { TellsBytes (R.remaining store.old) → (n : ℕ) → n < 2 ^ 64 - 1
+        → AreWords (T.words.format C.setting) C.bound n (known_bytes (R.remaining store.old))
+        → IfErr result (IsExcused stream_errors T.words.may_allocate 0 0) }
 {
     T::tell_never_empty();
     for count in 0..u64::MAX {

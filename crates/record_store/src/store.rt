@@ -21,7 +21,7 @@ use thiserror::Error;
 pub trait Stored: Encode + Decode<()> + Exact {
     /// Tells that no word is empty.
     fn tell_never_empty()
-        ensures { NeverEmpty Self.its };
+        ensures { NeverEmpty Self.words };
 }
 
 /// Why a value was not appended.
@@ -82,12 +82,12 @@ pub fn append<T: Stored, C: Config, W: Write>(
     config: C,
 ) -> Result<usize, AppendError>
     // A word of the value stands behind what the store held.
-    ensures added { IfOk result (λ n. Added T.its C.setting C.bound value.now n (W.contents store.old)
+    ensures added { IfOk result (λ n. Added T.words C.setting C.bound value.now n (W.contents store.old)
         (W.contents store.new)) }
     // An error leaves what the store held, and at most a front of the word behind it.
-    ensures left { IfErr result (Leaves T.its C.setting C.bound value.now W.contents store.old store.new) }
+    ensures left { IfErr result (Leaves T.words C.setting C.bound value.now W.contents store.old store.new) }
     // A value that can be read under the limit is refused only where memory is, or where the stream fails.
-    ensures fits { FitsStore T.its C.setting C.bound value.now → IfErr result IsOutside }
+    ensures fits { FitsStore T.words C.setting C.bound value.now → IfErr result IsOutside }
 {
     let word = readable_word(alloc, value, config)?;
     match IoWriter::new(store).write(&word) {
@@ -103,8 +103,8 @@ fn readable_word<T: Stored, C: Config>(
     config: C,
 ) -> Result<Vec<u8>, AppendError>
     ensures unwritten { IfErr result WritesNothing }
-    ensures fits { FitsStore T.its C.setting C.bound value.now → IfErr result IsOutside }
-    ensures entry { IfOk result (λ word. IsEntry T.its C.setting C.bound value.now word.items) }
+    ensures fits { FitsStore T.words C.setting C.bound value.now → IfErr result IsOutside }
+    ensures entry { IfOk result (λ word. IsEntry T.words C.setting C.bound value.now word.items) }
 {
     T::tell_plain();
     value.tell_valid();
@@ -128,16 +128,16 @@ pub fn list<T: Stored, C: Config>(
 ) -> Result<Listing<T>, AllocError>
     // The words of the store in turn are listed, and the ending tells why no further one was.
     ensures words { IfOk result (λ l.
-        Lists (T.its.format C.setting) C.bound T.its.given store.now l.values.items l.ending) }
+        Lists (T.words.format C.setting) C.bound T.words.decodes_to store.now l.values.items l.ending) }
     // What was appended in turn is listed first, whatever stands behind it;
-    ensures first { (entries : List (Entry T)) (behind : List ℕ) → AreEntries T.its C.setting C.bound entries
+    ensures first { (entries : List (Entry T)) (behind : List ℕ) → AreEntries T.words C.setting C.bound entries
         → store.now ≡ words_of entries ++ behind → IfOk result (λ l. ListsFirst T.eq entries l.values.items) }
     // where nothing does, that is all;
-    ensures all { (entries : List (Entry T)) → AreEntries T.its C.setting C.bound entries
+    ensures all { (entries : List (Entry T)) → AreEntries T.words C.setting C.bound entries
         → store.now ≡ words_of entries → IfOk result (λ l. ListsAll T.eq entries l.values.items l.ending) }
     // and a last word that was cut is told at its offset.
-    ensures torn { (entries : List (Entry T)) (front : List ℕ) → AreEntries T.its C.setting C.bound entries
-        → IsTorn T.its C.setting C.bound front → store.now ≡ words_of entries ++ front
+    ensures torn { (entries : List (Entry T)) (front : List ℕ) → AreEntries T.words C.setting C.bound entries
+        → IsTorn T.words C.setting C.bound front → store.now ≡ words_of entries ++ front
         → IfOk result (λ l. ListsBeforeTorn T.eq entries l.values.items l.ending) }
 {
     T::tell_exact();
@@ -151,8 +151,8 @@ fn list_words<T: Stored, C: Config>(
     config: C,
 ) -> Result<Listing<T>, AllocError>
     ensures words { IfOk result (λ l.
-        Lists (T.its.format C.setting) C.bound T.its.given store.now l.values.items l.ending) }
-    ensures never_empty { NeverEmpty T.its }
+        Lists (T.words.format C.setting) C.bound T.words.decodes_to store.now l.values.items l.ending) }
+    ensures never_empty { NeverEmpty T.words }
 {
     T::tell_never_empty();
     let mut values = Vec::new(alloc);

@@ -15,7 +15,7 @@ pub fn list_both<T: Stored, C: Config>(
     config: C,
 ) -> Result<Listing<T>, AddError>
     // Equal values are listed, in this order, each with its offset and its length, and the store is whole.
-    ensures { IfOk result (λ l. ListsBoth T.its C.setting C.bound T.eq first.now second.now l.values.items l.ending) }
+    ensures { IfOk result (λ l. ListsBoth T.words C.setting C.bound T.eq first.now second.now l.values.items l.ending) }
 {
     let mut store = Vec::new(alloc);
     append(alloc, &mut store, first, config)?;

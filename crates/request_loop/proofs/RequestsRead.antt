@@ -4,7 +4,7 @@ use Rattle.std.specs.List.{All}
 use Rattle.std.proofs.Common.{◌∙◌, sym, ap, subst, arith, length-append}
 use Rattle.std.proofs.lemmas.List.{length-drop, take_all}
 use Rattle.std.proofs.lemmas.List.Elements.{All-push}
-use Rattle.bincode.specs.ChargedLaws.{Charged}
+use Rattle.bincode.specs.ChargedLaws.{ChargesEnough}
 use Rattle.bincode.specs.Format.{Format}
 use Rattle.bincode.specs.Laws.{Lawful, Balanced}
 use Rattle.bincode.specs.Limited.{WordBounded}
@@ -29,26 +29,26 @@ follows : {A : Type 0} (requests : List (Request A)) (start end : ℕ) (request 
 follows [] start end request e f = (f ∙ sym e, ap (λ n. n + request.size) e)
 follows (first ∷ others) start end request h f = (h.0, follows others (start + first.size) end request h.1 f)
 
-module _ {A : Type 0} (F : Format Meaning) (f : Lawful F) (b : Balanced F) (h : Charged F) (Given : Meaning → A → Type 0) (bound : Option ℕ) (received : List ℕ) (requests : List (Request A)) (request : Request A) where
-  bounded : (limit : ℕ) → bound ≡ Some limit → IsRead F bound Given received request → All (IsBounded F limit received) requests → All (IsBounded F limit received) (requests ++ request ∷ [])
-  bounded limit e d all = All-push (IsBounded F limit received) requests request all (decoded-bounded F f b h (drop request.start received) (λ m. Given m request.value) request.size bound d limit e)
+module _ {A : Type 0} (F : Format Meaning) (f : Lawful F) (b : Balanced F) (h : ChargesEnough F) (DecodesTo : Meaning → A → Type 0) (bound : Option ℕ) (received : List ℕ) (requests : List (Request A)) (request : Request A) where
+  bounded : (limit : ℕ) → bound ≡ Some limit → IsRead F bound DecodesTo received request → All (IsBounded F limit received) requests → All (IsBounded F limit received) (requests ++ request ∷ [])
+  bounded limit e d all = All-push (IsBounded F limit received) requests request all (decoded-bounded F f b h (drop request.start received) (λ m. DecodesTo m request.value) request.size bound d limit e)
 
-  pub read-on : (most : ℕ) → request.start ≤ length received → length requests < most → Decoded F bound (left received request.start) (λ m. Given m request.value) request.size →
-      ((limit : ℕ) → bound ≡ Some limit → All (IsBounded F limit received) requests) → FollowOn 0 requests request.start → All (IsRead F bound Given received) requests →
+  pub read-on : (most : ℕ) → request.start ≤ length received → length requests < most → Decoded F bound (left received request.start) (λ m. DecodesTo m request.value) request.size →
+      ((limit : ℕ) → bound ≡ Some limit → All (IsBounded F limit received) requests) → FollowOn 0 requests request.start → All (IsRead F bound DecodesTo received) requests →
       (length (requests ++ request ∷ []) ≤ most) × (request.start + request.size ≤ length received)
       × ((limit : ℕ) → bound ≡ Some limit → All (IsBounded F limit received) (requests ++ request ∷ [])) × FollowOn 0 (requests ++ request ∷ []) (request.start + request.size)
-      × All (IsRead F bound Given received) (requests ++ request ∷ [])
+      × All (IsRead F bound DecodesTo received) (requests ++ request ∷ [])
   read-on most within fewer decoded all follow words =
-      let d = answer-left (λ bytes. Decoded F bound bytes (λ m. Given m request.value) request.size) received request.start decoded in
+      let d = answer-left (λ bytes. Decoded F bound bytes (λ m. DecodesTo m request.value) request.size) received request.start decoded in
       let size = d.count in
       let rest = length-drop request.start received in
-      let parts = ap length d.input_is ∙ length-append d.word d.rest in
+      let parts = ap length d.input_is ∙ length-append d.word d.remaining in
       let one = length-append requests (request ∷ []) in (
         omega (arith, one, fewer),
         omega (arith, within, size, rest, parts),
         λ limit e. bounded limit e d (all limit e),
         follows requests 0 request.start request follow (λ i. request.start),
-        All-push (IsRead F bound Given received) requests request words d,
+        All-push (IsRead F bound DecodesTo received) requests request words d,
       )
 
 -- a word that a limit of 65536 bounds

@@ -12,7 +12,7 @@ IsBounded F limit received request = WordBounded F limit (drop request.start rec
 
 -- a word within the limit stands there, of so many bytes, and its value is given for what the word means
 abbrev pub IsRead : {A : Type 0} → Format Meaning → Option ℕ → (Meaning → A → Type 0) → List ℕ → Request A → Type 0
-IsRead F limit Given received request = Decoded F limit (drop request.start received) (λ m. Given m request.value) request.size
+IsRead F limit DecodesTo received request = Decoded F limit (drop request.start received) (λ m. DecodesTo m request.value) request.size
 
 -- it has at most so many bytes
 abbrev pub IsWithin : {A : Type 0} → ℕ → Request A → Type 0

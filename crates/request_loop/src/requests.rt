@@ -43,17 +43,18 @@ pub fn read_requests<T: Decode<()>, C: Config>(
 ) -> Result<Requests<T>, AllocError>
     // Each request is a word within the limit, and its value is that of the word,
     ensures words { IfOk result (λ r.
-        All (IsRead (T.its.format C.setting) C.bound T.its.given received.now) r.read.items) }
+        All (IsRead (T.words.format C.setting) C.bound T.words.decodes_to received.now) r.read.items) }
     // the limit bounds it,
     ensures bounded { (limit : ℕ) → C.bound ≡ Some limit
-        → IfOk result (λ r. All (IsBounded (T.its.format C.setting) limit received.now) r.read.items) }
+        → IfOk result (λ r. All (IsBounded (T.words.format C.setting) limit received.now) r.read.items) }
     // they stand one behind the other,
     ensures in_turn { IfOk result (λ r. FollowOn 0 r.read.items r.end) }
     // there are no more than were asked for,
     ensures at_most { IfOk result (λ r. length r.read.items ≤ most) }
     // and where no more were read, decoding answered so to the bytes that are left.
     ensures stopped { IfOk result (λ r. MatchOption r.stopped (length r.read.items ≡ most) (λ why.
-        IsAnswer (T.its.format C.setting) C.bound T.its.grows T.its.given (drop r.end received.now) (Err why))) }
+        IsAnswer (T.words.format C.setting) C.bound T.words.may_allocate T.words.decodes_to (drop r.end received.now)
+        (Err why))) }
 {
     let mut read = Vec::new(alloc);
     let mut end = 0;
@@ -93,14 +94,14 @@ pub fn serve<T: Decode<()>>(
 ) -> Result<Requests<T>, AllocError>
     ensures bytes { IfOk result (λ r. All (IsWithin 98304) r.read.items) }
     ensures room { IfOk result (λ r.
-        All (IsBounded (T.its.format ⟦<ServerConfig as Config>⟧.setting) 65536 received.now) r.read.items) }
-    ensures words { IfOk result (λ r. All (IsRead (T.its.format ⟦<ServerConfig as Config>⟧.setting)
-        ⟦<ServerConfig as Config>⟧.bound T.its.given received.now) r.read.items) }
+        All (IsBounded (T.words.format ⟦<ServerConfig as Config>⟧.setting) 65536 received.now) r.read.items) }
+    ensures words { IfOk result (λ r. All (IsRead (T.words.format ⟦<ServerConfig as Config>⟧.setting)
+        ⟦<ServerConfig as Config>⟧.bound T.words.decodes_to received.now) r.read.items) }
     ensures in_turn { IfOk result (λ r. FollowOn 0 r.read.items r.end) }
     ensures at_most { IfOk result (λ r. length r.read.items ≤ most) }
     ensures stopped { IfOk result (λ r. MatchOption r.stopped (length r.read.items ≡ most) (λ why.
-        IsAnswer (T.its.format ⟦<ServerConfig as Config>⟧.setting) ⟦<ServerConfig as Config>⟧.bound T.its.grows
-        T.its.given (drop r.end received.now) (Err why))) }
+        IsAnswer (T.words.format ⟦<ServerConfig as Config>⟧.setting) ⟦<ServerConfig as Config>⟧.bound
+        T.words.may_allocate T.words.decodes_to (drop r.end received.now) (Err why))) }
 {
     let config: ServerConfig = standard().with_limit::<65536>();
     read_requests(alloc, received, most, config)

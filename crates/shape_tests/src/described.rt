@@ -2,9 +2,9 @@
 
 use crate::shaped::shape_of;
 use bincode::shape::{Described, Shape};
-use bincode::{NoOther, OneOf, Or};
-use examples::foo::Foo;
-use examples::kind::Kind;
+use bincode::{NoMoreVariants, EnumOf, VariantOf};
+use own_types::foo::Foo;
+use own_types::kind::Kind;
 use std::alloc::Global;
 
 /// The scalars in a row: tuples and enums of n parts are of the first n of them.
@@ -204,25 +204,25 @@ fn longer_tuples_tell_their_shapes(rt: HostRuntime) {
     assert!(rt; is_tuple::<Of16>(alloc, 16));
 }
 
-type End = NoOther<Foo>;
+type End = NoMoreVariants<Foo>;
 
-type FirstTwo<Others> = Or<0, u8, Or<1, u16, Others>>;
+type FirstTwo<Others> = VariantOf<0, u8, VariantOf<1, u16, Others>>;
 
-type FirstFour<Others> = FirstTwo<Or<2, u32, Or<3, u64, Others>>>;
+type FirstFour<Others> = FirstTwo<VariantOf<2, u32, VariantOf<3, u64, Others>>>;
 
-type FirstSix<Others> = FirstFour<Or<4, u128, Or<5, usize, Others>>>;
+type FirstSix<Others> = FirstFour<VariantOf<4, u128, VariantOf<5, usize, Others>>>;
 
 #[test]
 fn enums_of_one_to_eight_variants_tell_their_shapes(rt: HostRuntime) {
     let alloc = rt.alloc();
-    assert!(rt; is_choice::<OneOf<Or<0, u8, End>>>(alloc, 1));
-    assert!(rt; is_choice::<OneOf<FirstTwo<End>>>(alloc, 2));
-    assert!(rt; is_choice::<OneOf<FirstTwo<Or<2, u32, End>>>>(alloc, 3));
-    assert!(rt; is_choice::<OneOf<FirstFour<End>>>(alloc, 4));
-    assert!(rt; is_choice::<OneOf<FirstFour<Or<4, u128, End>>>>(alloc, 5));
-    assert!(rt; is_choice::<OneOf<FirstSix<End>>>(alloc, 6));
-    assert!(rt; is_choice::<OneOf<FirstSix<Or<6, i8, End>>>>(alloc, 7));
-    assert!(rt; is_choice::<OneOf<FirstSix<Or<6, i8, Or<7, i16, End>>>>>(alloc, 8));
+    assert!(rt; is_choice::<EnumOf<VariantOf<0, u8, End>>>(alloc, 1));
+    assert!(rt; is_choice::<EnumOf<FirstTwo<End>>>(alloc, 2));
+    assert!(rt; is_choice::<EnumOf<FirstTwo<VariantOf<2, u32, End>>>>(alloc, 3));
+    assert!(rt; is_choice::<EnumOf<FirstFour<End>>>(alloc, 4));
+    assert!(rt; is_choice::<EnumOf<FirstFour<VariantOf<4, u128, End>>>>(alloc, 5));
+    assert!(rt; is_choice::<EnumOf<FirstSix<End>>>(alloc, 6));
+    assert!(rt; is_choice::<EnumOf<FirstSix<VariantOf<6, i8, End>>>>(alloc, 7));
+    assert!(rt; is_choice::<EnumOf<FirstSix<VariantOf<6, i8, VariantOf<7, i16, End>>>>>(alloc, 8));
     assert!(rt; is_choice::<Result<u8, u16>>(alloc, 2));
 }
 

@@ -5,7 +5,7 @@ use bincode::config::{InternalLimitConfig, Limit, NoLimit};
 use bincode::error::DecodeError;
 use bincode::shape::{Shape, Value};
 use std::alloc::{AllocError, Global};
-use worked_rows::case::Setting;
+use conformance::case::Setting;
 
 /// Whether the input passes the limit.
 fn passes<L: InternalLimitConfig + Copy>(

@@ -5,13 +5,13 @@ use bincode::config::{Endianness, InternalLimitConfig, NoLimit};
 use bincode::error::EncodeError;
 use bincode::shape::{Described, Value};
 use std::alloc::Global;
-use worked_rows::case::{
+use conformance::case::{
     Answer, Case, Decoding, Encoding, Fault, Input, Kept, Limited, Number, Refusal, Setting,
     Spelling, Value as Written,
 };
-use worked_rows::rows::{Row, tables};
-use worked_rows::run::tells;
-use worked_rows::sources::Slice;
+use conformance::rows::{Row, tables};
+use conformance::run::tells;
+use conformance::sources::Slice;
 
 /// Whether the type's shape reads all of the word, and what it reads is written as the word.
 fn keeps<T: Described>(alloc: Global, setting: Setting, word: &[u8]) -> bool {

@@ -3,9 +3,9 @@ use Rattle.std.specs.Prelude.{◌≡◌, ◌-◌, ◌<◌, ◌≤◌, ◌++◌, 
 use Rattle.std.proofs.Common.{ap, subst, inl, inr, arith, length-append}
 use Rattle.std.proofs.lemmas.List.{length-drop, take_all}
 use Rattle.bincode_base.specs.declared.error.DecodeError.{DecodeError}
-use Rattle.bincode_format.specs.Format.{Format}
-use Rattle.bincode_format.specs.Meaning.{Meaning}
-use Rattle.bincode_format.specs.Slice.{Decoded, FindsWords, TellsFaults, KeepsLimit}
+use Rattle.bincode_spec.specs.Format.{Format}
+use Rattle.bincode_spec.specs.Meaning.{Meaning}
+use Rattle.bincode_spec.specs.Slice.{Decoded, FindsWords, TellsFaults, KeepsLimit}
 use Rattle.record_store.specs.declared.store.Ending.TheVariants.{Stopped}
 use Rattle.record_store.specs.Stores.{IsRefusedFor, EndsAt}
 
@@ -42,12 +42,12 @@ pub any-meaning : (F : Format Meaning) (limit : Option ℕ) (input : List ℕ) (
     Decoded F limit input Given n → Decoded F limit input (λ _. Unit {0}) m
 any-meaning F limit input Given n m e d =
     subst (λ z. Decoded F limit input (λ _. Unit {0}) z) e
-    (record { word = d.word; rest = d.rest; meaning = d.meaning; steps = d.steps; input_is = d.input_is; is_word = d.is_word; within = d.within; count = d.count; is_given = tt })
+    (record { word = d.word; remaining = d.remaining; meaning = d.meaning; steps = d.steps; input_is = d.input_is; is_word = d.is_word; within = d.within; count = d.count; is_decoded = tt })
 
 -- a word is no longer than the input that it begins
 pub within-input : (F : Format Meaning) (limit : Option ℕ) (input : List ℕ) (Given : Meaning → Type 0) (n : ℕ) → Decoded F limit input Given n → n ≤ length input
 within-input F limit input Given n d =
-    let all : length input ≡ length (d.word ++ d.rest) = ap length d.input_is in
-    let both = length-append d.word d.rest in
+    let all : length input ≡ length (d.word ++ d.remaining) = ap length d.input_is in
+    let both = length-append d.word d.remaining in
     let count = d.count in
     omega (arith, all, both, count)

@@ -1,8 +1,8 @@
 -- Why the words of bytes are not listed.
 use Rattle.std.specs.Prelude.{◌≡◌, ℕ, ◌<◌, List, [], Option}
 use Rattle.bincode_base.specs.Setting.{Setting}
-use Rattle.bincode_format.specs.Meaning.{Meaning}
-use Rattle.bincode_format.specs.Slice.{Decoded}
+use Rattle.bincode_spec.specs.Meaning.{Meaning}
+use Rattle.bincode_spec.specs.Slice.{Decoded}
 use Rattle.bincode_shape.specs.declared.shape.Shape.{Shape}
 use Rattle.bincode_shape.specs.declared.shape.Value.{Value}
 use Rattle.bincode_shape.specs.Counts.{IsCounted}
@@ -15,9 +15,9 @@ use Rattle.shape_text.specs.declared.listing.ListError.TheVariants.{Empty, TooMa
 -- behind words of the shape, at an offset, stands one more, of so many bytes, whose meaning is such
 pub record Begins (shape : Shape) (s : Setting) (limit : Option ℕ) (bytes : List ℕ) (offset size : ℕ) (Given : Meaning → Type 0) : Type 0 where
   pub listed : List (Listed Value)
-  pub rest : List ℕ
-  pub values : ReadFrom (format_of shape s) limit (λ m v. IsImage shape m v) 0 bytes listed offset rest
-  pub word : Decoded (format_of shape s) limit rest Given size
+  pub remaining : List ℕ
+  pub values : ReadFrom (format_of shape s) limit (λ m v. IsImage shape m v) 0 bytes listed offset remaining
+  pub word : Decoded (format_of shape s) limit remaining Given size
 
 -- a word has no bytes, or more values than are allowed; memory is refused only where there are bytes
 abbrev pub IsReason : Shape → Setting → Option ℕ → ℕ → List ℕ → ListError → Type 0

@@ -2,13 +2,13 @@
 ghost use Rattle.std.specs.Prelude.{◌≡◌, ◌+◌, ◌<◌, ◌≤◌, ◌^◌, ◌++◌, true, map, length, reverse, IfOk};
 ghost use Rattle.trees.specs.Trees.{counts_up, names_next, is_tree, children_of, depth_first};
 
-use bincode::de::{Decode, Decoder, OneByOne, other_error};
-use bincode::enc::{Encode, Encoder, encode_passed, tell_passed};
+use bincode::de::{Decode, Decoder, Sequential, other_error};
+use bincode::enc::{Encode, Encoder, encode_validated, tell_validated};
 use bincode::error::{DecodeError, EncodeError};
 use bincode::laws::{
     Canonical, Exact, Plain, canonical_by_parts, exact_by_fields, exact_by_parts, plain_by_parts,
 };
-use bincode::{MadeOf, Passed, Tested, Wire};
+use bincode::{HasParts, Validated, Validate, Wire};
 use std::alloc::{AllocError, Global};
 
 type Parts = (u32, Vec<u32>);
@@ -33,14 +33,14 @@ pub struct Tree {
     ghost in_turn: { is_tree (map children_of nodes.list.items) ≡ true },
 }
 
-impl MadeOf<Parts> for Node {
+impl HasParts<Parts> for Node {
     ghost parts = { λ v. (v.value, v.children) };
 }
 
 impl Wire for Node {
     ghost use Rattle.bincode.specs.TypeWords.{words_by};
 
-    ghost its = { words_by ⟦<Parts as Wire>⟧.its ⟦<Node as MadeOf<Parts>>⟧.parts };
+    ghost words = { words_by ⟦<Parts as Wire>⟧.words ⟦<Node as HasParts<Parts>>⟧.parts };
 
     fn claim_size() -> usize {
         Parts::claim_size()
@@ -76,7 +76,7 @@ impl Encode for Node {
 }
 
 impl<Context: Drop> Decode<Context> for Node {
-    type Run = OneByOne;
+    type Run = Sequential;
 
     fn decode<D: Decoder<Context = Context>>(decoder: &mut D) -> Result<Node, DecodeError> {
         let (value, children): Parts = Decode::decode(decoder)?;
@@ -84,14 +84,14 @@ impl<Context: Drop> Decode<Context> for Node {
     }
 }
 
-impl MadeOf<Vec<Node>> for Nodes {
+impl HasParts<Vec<Node>> for Nodes {
     ghost parts = { λ v. v.list };
 }
 
 impl Wire for Nodes {
     ghost use Rattle.bincode.specs.TypeWords.{words_by};
 
-    ghost its = { words_by ⟦<Vec<Node> as Wire>⟧.its ⟦<Nodes as MadeOf<Vec<Node>>>⟧.parts };
+    ghost words = { words_by ⟦<Vec<Node> as Wire>⟧.words ⟦<Nodes as HasParts<Vec<Node>>>⟧.parts };
 
     fn claim_size() -> usize {
         <Vec<Node>>::claim_size()
@@ -127,7 +127,7 @@ impl Encode for Nodes {
 }
 
 impl<Context: Drop> Decode<Context> for Nodes {
-    type Run = OneByOne;
+    type Run = Sequential;
 
     fn decode<D: Decoder<Context = Context>>(decoder: &mut D) -> Result<Nodes, DecodeError> {
         let list: Vec<Node> = Decode::decode(decoder)?;
@@ -135,7 +135,7 @@ impl<Context: Drop> Decode<Context> for Nodes {
     }
 }
 
-impl Tested for Tree {
+impl Validate for Tree {
     ghost use Rattle.std.specs.Prelude.{codes};
     ghost use Rattle.std.proofs.Common.{◌∙◌};
     ghost use Rattle.bincode.specs.Fault.{Other};
@@ -154,7 +154,7 @@ impl Tested for Tree {
         &self.nodes
     }
 
-    fn test(nodes: Nodes) -> Result<Tree, DecodeError> {
+    fn validate(nodes: Nodes) -> Result<Tree, DecodeError> {
         if are_in_turn(&nodes.list) {
             Ok(Tree { nodes })
         } else {
@@ -167,53 +167,53 @@ impl Tested for Tree {
     ghost is_no_end = { λ h. h };
 }
 
-impl MadeOf<Passed<Tree>> for Tree {
+impl HasParts<Validated<Tree>> for Tree {
     ghost parts = { λ v. record { 0 = v } };
 }
 
 impl Wire for Tree {
     ghost use Rattle.bincode.specs.TypeWords.{words_by};
 
-    ghost its = { words_by ⟦<Passed<Tree> as Wire>⟧.its ⟦<Tree as MadeOf<Passed<Tree>>>⟧.parts };
+    ghost words = { words_by ⟦<Validated<Tree> as Wire>⟧.words ⟦<Tree as HasParts<Validated<Tree>>>⟧.parts };
 
     fn claim_size() -> usize {
-        Passed::<Tree>::claim_size()
+        Validated::<Tree>::claim_size()
     }
 }
 
 impl Plain for Tree {
     fn tell_plain() {
-        plain_by_parts::<Passed<Tree>, Tree>();
+        plain_by_parts::<Validated<Tree>, Tree>();
     }
 }
 
 impl Exact for Tree {
     fn tell_exact() {
-        exact_by_parts::<Passed<Tree>, Tree>();
+        exact_by_parts::<Validated<Tree>, Tree>();
     }
 }
 
 impl Canonical for Tree {
     fn tell_canonical() {
-        canonical_by_parts::<Passed<Tree>, Tree>();
+        canonical_by_parts::<Validated<Tree>, Tree>();
     }
 }
 
 impl Encode for Tree {
     fn tell_valid(&self) {
-        tell_passed(self);
+        tell_validated(self);
     }
 
     fn encode<E: Encoder>(&self, encoder: &mut E) -> Result<(), EncodeError> {
-        encode_passed(self, encoder)
+        encode_validated(self, encoder)
     }
 }
 
 impl<Context: Drop> Decode<Context> for Tree {
-    type Run = OneByOne;
+    type Run = Sequential;
 
     fn decode<D: Decoder<Context = Context>>(decoder: &mut D) -> Result<Tree, DecodeError> {
-        let passed: Passed<Tree> = Decode::decode(decoder)?;
+        let passed: Validated<Tree> = Decode::decode(decoder)?;
         Ok(passed.0)
     }
 }

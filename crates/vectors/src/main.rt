@@ -3,8 +3,8 @@
 
 use anyhow::ensure;
 use std::io;
-use worked_rows::rows;
-use worked_rows::sources::Slice;
+use conformance::rows;
+use conformance::sources::Slice;
 
 fn main(rt: HostRuntime) -> anyhow::Result<()> {
     let failed = rows::run::<Slice, _>(rt.alloc(), &rows::tables(), &mut io::writer(&rt))?;

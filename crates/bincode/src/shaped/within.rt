@@ -1,11 +1,11 @@
 //! Values whose type is described at run time, from a slice, counted before they are made.
 ghost use Rattle.std.specs.Prelude.{◌≡◌, ◌≤◌, ℕ, IfOk, IfErr};
-ghost use Rattle.bincode_format.specs.Answer.{answer};
-ghost use Rattle.bincode_format.specs.Decoding.{Decodes, Stops};
-ghost use Rattle.bincode_format.specs.Slice.{Decoded, FindsWords, TellsFaults, KeepsLimit};
+ghost use Rattle.bincode_spec.specs.Answer.{answer};
+ghost use Rattle.bincode_spec.specs.Decoding.{Decodes, DecodeFailure};
+ghost use Rattle.bincode_spec.specs.Slice.{Decoded, FindsWords, TellsFaults, KeepsLimit};
 ghost use Rattle.bincode_shape.specs.Counts.{values_in, count_of, IsCounted};
 ghost use Rattle.bincode_shape.specs.Shapes.{format_of, IsImage, TakesMemory};
-ghost use Rattle.bincode_shaped.specs.Within.{FindsFew, RefusesMany, TellsDecodeFaults, KeepsDecodeLimit};
+ghost use Rattle.bincode_shape_codec.specs.Within.{FindsFew, RefusesMany, TellsDecodeFaults, KeepsDecodeLimit};
 
 use super::decode_shaped;
 use bincode_base::config::Config;
@@ -13,8 +13,8 @@ use bincode_base::error::DecodeError;
 use bincode_decoder::decoder::LentDecoder;
 use bincode_io::read::{BorrowReader, SliceReader};
 use bincode_shape::shape::{Shape, Value};
-use bincode_shaped::measure::measure_shape;
-use bincode_shaped::within::{DecodeWithinError, Measure};
+use bincode_shape_codec::measure::measure_shape;
+use bincode_shape_codec::within::{DecodeWithinError, Measure};
 use std::alloc::Global;
 
 /// Reads a word of a shape from the front of a slice without making a value of it, and answers how many values
@@ -51,11 +51,11 @@ fn measure_with<'a, R: BorrowReader<'a>, C: Config>(
     reader: &mut R,
     config: &C,
 ) -> Result<u128, DecodeError>
-    ensures ok { R.told reader.old → IfOk result (λ n. (charge : ℕ) × Decodes (λ m. IsCounted shape.now m n)
-        (answer C.bound (format_of shape.now C.setting) (R.rest reader.old) 0) (R.rest reader.new) charge) }
-    ensures err { R.told reader.old → IfErr result (λ e. (charge : ℕ) × Stops R.ended R.device ⊥
-        (answer C.bound (format_of shape.now C.setting) (R.rest reader.old) 0) (R.failures reader.old)
-        (R.failures reader.new) (R.rest reader.old) (R.rest reader.new) charge e) }
+    ensures ok { R.is_known reader.old → IfOk result (λ n. (charge : ℕ) × Decodes (λ m. IsCounted shape.now m n)
+        (answer C.bound (format_of shape.now C.setting) (R.remaining reader.old) 0) (R.remaining reader.new) charge) }
+    ensures err { R.is_known reader.old → IfErr result (λ e. (charge : ℕ) × DecodeFailure R.end_error R.device ⊥
+        (answer C.bound (format_of shape.now C.setting) (R.remaining reader.old) 0) (R.failures reader.old)
+        (R.failures reader.new) (R.remaining reader.old) (R.remaining reader.new) charge e) }
 {
     let mut context = ();
     let mut decoder = LentDecoder::new(alloc, reader, config, &mut context);

@@ -1,6 +1,6 @@
 //! Decoders that lend what they read.
 ghost use Rattle.std.specs.Prelude.{ℕ, List};
-ghost use Rattle.bincode_format.specs.Lending.{LendsBytes};
+ghost use Rattle.bincode_spec.specs.Lending.{LendsBytes};
 
 use super::{Decoder, DecoderImpl, LentDecoder};
 use bincode_base::config::Config;
@@ -22,8 +22,8 @@ pub trait BorrowDecoder<B: BorrowedBytes>: Decoder {
     /// Takes the next `count` bytes, which are the source's own and not a copy, and charges nothing. Fails where its
     /// reader does (`BorrowReader::take_bytes`).
     fn take_bytes(&mut self, count: usize) -> Result<B, DecodeError>
-        ensures { LendsBytes Self.told Self.rest Self.charge Self.failures Self.place Self.R.ended Self.R.device
-            B.bytes count result self.old self.new };
+        ensures { LendsBytes Self.is_known Self.remaining Self.charge Self.failures Self.loans Self.R.end_error
+            Self.R.device B.bytes count result self.old self.new };
 }
 
 impl<'de, R: BorrowReader<'de>, C: Config, Context: Drop> BorrowDecoder<&'de [u8]>

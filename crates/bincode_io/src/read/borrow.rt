@@ -1,7 +1,7 @@
 //! Readers that lend what they read.
 ghost use Rattle.std.specs.Prelude.{◌≡◌, ◌++◌, length, IfOk, IfErr};
-ghost use Rattle.bincode_format.specs.Device.{FallsShort};
-ghost use Rattle.bincode_format.specs.Lending.{TakesBytes};
+ghost use Rattle.bincode_spec.specs.Device.{FallsShort};
+ghost use Rattle.bincode_spec.specs.Lending.{TakesBytes};
 ghost use Rattle.bincode_base.specs.declared.error.DecodeError.TheVariants.{UnexpectedEnd};
 
 use super::{Reader, SliceReader};
@@ -12,8 +12,8 @@ pub trait BorrowReader<'storage>: Reader {
     /// Takes the next `count` bytes, which are the source's own and not a copy. Fails where too few are left, or where
     /// the device fails; then some front of them is taken, unless the error is one that the device does not count.
     fn take_bytes(&mut self, count: usize) -> Result<&'storage [u8], DecodeError>
-        ensures { TakesBytes Self.told Self.rest Self.failures Self.place Self.ended Self.device (λ s. s.now) count
-            result self.old self.new };
+        ensures { TakesBytes Self.is_known Self.remaining Self.failures Self.loans Self.end_error Self.device
+            (λ s. s.now) count result self.old self.new };
 }
 
 impl<'storage> BorrowReader<'storage> for SliceReader<'storage> {

@@ -1,9 +1,9 @@
 //! Signed numbers, read by zigzag.
 ghost use Rattle.std.specs.Prelude.{◌≤◌, IfOk};
-ghost use Rattle.bincode_format.specs.Number.{unzigzag, FitsIn};
-ghost use Rattle.bincode_format.specs.Format.{map_format};
-ghost use Rattle.bincode_format.specs.Integers.{varint, signed_tag, tags_of};
-ghost use Rattle.bincode_format.specs.Reads.{ReadsWord};
+ghost use Rattle.bincode_spec.specs.Number.{unzigzag, FitsIn};
+ghost use Rattle.bincode_spec.specs.Format.{map_format};
+ghost use Rattle.bincode_spec.specs.Integers.{varint, signed_tag, tag_types};
+ghost use Rattle.bincode_spec.specs.Reads.{ReadsWord};
 ghost use Rattle.bincode_base.specs.declared.error.IntegerType.TheVariants.{I16, I32, I64, I128, Isize};
 
 use super::varint_decode;
@@ -15,7 +15,7 @@ use bincode_io::read::Reader;
 /// Reads a word of the number of an integer by zigzag. Fails where bytes are missing, and where the tag is too wide for
 /// the type or reserved.
 pub fn varint_decode_i16<R: Reader>(read: &mut R, endian: Endianness) -> Result<i16, DecodeError>
-    ensures { ReadsWord R.told R.rest R.failures R.place R.ended R.device
+    ensures { ReadsWord R.is_known R.remaining R.failures R.loans R.end_error R.device
         (map_format unzigzag (varint signed_tag I16 endian 2)) (λ v. v) result read.old read.new }
 {
     let z = varint_decode_signed(read, endian, IntegerType::I16, 2)?;
@@ -24,7 +24,7 @@ pub fn varint_decode_i16<R: Reader>(read: &mut R, endian: Endianness) -> Result<
 
 /// Reads a word of an `i32`, as `varint_decode_i16` does.
 pub fn varint_decode_i32<R: Reader>(read: &mut R, endian: Endianness) -> Result<i32, DecodeError>
-    ensures { ReadsWord R.told R.rest R.failures R.place R.ended R.device
+    ensures { ReadsWord R.is_known R.remaining R.failures R.loans R.end_error R.device
         (map_format unzigzag (varint signed_tag I32 endian 4)) (λ v. v) result read.old read.new }
 {
     let z = varint_decode_signed(read, endian, IntegerType::I32, 4)?;
@@ -33,7 +33,7 @@ pub fn varint_decode_i32<R: Reader>(read: &mut R, endian: Endianness) -> Result<
 
 /// Reads a word of an `i64`, as `varint_decode_i16` does.
 pub fn varint_decode_i64<R: Reader>(read: &mut R, endian: Endianness) -> Result<i64, DecodeError>
-    ensures { ReadsWord R.told R.rest R.failures R.place R.ended R.device
+    ensures { ReadsWord R.is_known R.remaining R.failures R.loans R.end_error R.device
         (map_format unzigzag (varint signed_tag I64 endian 8)) (λ v. v) result read.old read.new }
 {
     let z = varint_decode_signed(read, endian, IntegerType::I64, 8)?;
@@ -42,7 +42,7 @@ pub fn varint_decode_i64<R: Reader>(read: &mut R, endian: Endianness) -> Result<
 
 /// Reads a word of an `i128`, as `varint_decode_i16` does.
 pub fn varint_decode_i128<R: Reader>(read: &mut R, endian: Endianness) -> Result<i128, DecodeError>
-    ensures { ReadsWord R.told R.rest R.failures R.place R.ended R.device
+    ensures { ReadsWord R.is_known R.remaining R.failures R.loans R.end_error R.device
         (map_format unzigzag (varint signed_tag I128 endian 16)) (λ v. v) result read.old read.new }
 {
     varint_decode_signed(read, endian, IntegerType::I128, 16)
@@ -53,7 +53,7 @@ pub fn varint_decode_isize<R: Reader>(
     read: &mut R,
     endian: Endianness,
 ) -> Result<isize, DecodeError>
-    ensures { ReadsWord R.told R.rest R.failures R.place R.ended R.device
+    ensures { ReadsWord R.is_known R.remaining R.failures R.loans R.end_error R.device
         (map_format unzigzag (varint signed_tag Isize endian 8)) (λ v. v) result read.old read.new }
 {
     let z = varint_decode_signed(read, endian, IntegerType::Isize, 8)?;
@@ -68,8 +68,8 @@ fn varint_decode_signed<R: Reader>(
     name: IntegerType,
     width: usize,
 ) -> Result<i128, DecodeError>
-    ensures word { ReadsWord R.told R.rest R.failures R.place R.ended R.device
-        (map_format unzigzag (varint (tags_of name) name endian width)) (λ v. v) result read.old read.new }
+    ensures word { ReadsWord R.is_known R.remaining R.failures R.loans R.end_error R.device
+        (map_format unzigzag (varint (tag_types name) name endian width)) (λ v. v) result read.old read.new }
     ensures fits { 2 ≤ width → IfOk result (λ v. FitsIn width v) }
 {
     let n = varint_decode(read, endian, name, width)?;

@@ -1,7 +1,7 @@
 //! Unsigned numbers, read in any spelling.
 ghost use Rattle.std.specs.Prelude.{◌≡◌, ◌<◌, ◌≤◌, ◌^◌, IfOk, IfErr, IfSome};
-ghost use Rattle.bincode_format.specs.Integers.{varint, unsigned_tag, tags_of};
-ghost use Rattle.bincode_format.specs.Reads.{ReadsWord};
+ghost use Rattle.bincode_spec.specs.Integers.{varint, unsigned_tag, tag_types};
+ghost use Rattle.bincode_spec.specs.Reads.{ReadsWord};
 ghost use Rattle.bincode_varint.specs.Window.{FrontIs, FrontFails};
 ghost use Rattle.bincode_base.specs.declared.error.DecodeError.TheVariants.{InvalidIntegerType};
 ghost use Rattle.bincode_base.specs.declared.error.IntegerType.TheVariants.{U16, U32, U64, U128, Usize};
@@ -15,8 +15,8 @@ use bincode_io::read::{Reader, SliceReader};
 /// Reads a word of a number, also one that is longer than its shortest spelling. Fails where bytes are missing, and
 /// where the tag is too wide for the type or reserved.
 pub fn varint_decode_u16<R: Reader>(read: &mut R, endian: Endianness) -> Result<u16, DecodeError>
-    ensures { ReadsWord R.told R.rest R.failures R.place R.ended R.device (varint unsigned_tag U16 endian 2)
-        (λ v. v) result read.old read.new }
+    ensures { ReadsWord R.is_known R.remaining R.failures R.loans R.end_error R.device
+        (varint unsigned_tag U16 endian 2) (λ v. v) result read.old read.new }
 {
     let n = varint_decode(read, endian, IntegerType::U16, 2)?;
     Ok(n as u16)
@@ -24,8 +24,8 @@ pub fn varint_decode_u16<R: Reader>(read: &mut R, endian: Endianness) -> Result<
 
 /// Reads a word of a `u32`, as `varint_decode_u16` does.
 pub fn varint_decode_u32<R: Reader>(read: &mut R, endian: Endianness) -> Result<u32, DecodeError>
-    ensures { ReadsWord R.told R.rest R.failures R.place R.ended R.device (varint unsigned_tag U32 endian 4)
-        (λ v. v) result read.old read.new }
+    ensures { ReadsWord R.is_known R.remaining R.failures R.loans R.end_error R.device
+        (varint unsigned_tag U32 endian 4) (λ v. v) result read.old read.new }
 {
     let n = varint_decode(read, endian, IntegerType::U32, 4)?;
     Ok(n as u32)
@@ -33,8 +33,8 @@ pub fn varint_decode_u32<R: Reader>(read: &mut R, endian: Endianness) -> Result<
 
 /// Reads a word of a `u64`, as `varint_decode_u16` does.
 pub fn varint_decode_u64<R: Reader>(read: &mut R, endian: Endianness) -> Result<u64, DecodeError>
-    ensures { ReadsWord R.told R.rest R.failures R.place R.ended R.device (varint unsigned_tag U64 endian 8)
-        (λ v. v) result read.old read.new }
+    ensures { ReadsWord R.is_known R.remaining R.failures R.loans R.end_error R.device
+        (varint unsigned_tag U64 endian 8) (λ v. v) result read.old read.new }
 {
     let n = varint_decode(read, endian, IntegerType::U64, 8)?;
     Ok(n as u64)
@@ -42,8 +42,8 @@ pub fn varint_decode_u64<R: Reader>(read: &mut R, endian: Endianness) -> Result<
 
 /// Reads a word of a `u128`, as `varint_decode_u16` does.
 pub fn varint_decode_u128<R: Reader>(read: &mut R, endian: Endianness) -> Result<u128, DecodeError>
-    ensures { ReadsWord R.told R.rest R.failures R.place R.ended R.device (varint unsigned_tag U128 endian 16)
-        (λ v. v) result read.old read.new }
+    ensures { ReadsWord R.is_known R.remaining R.failures R.loans R.end_error R.device
+        (varint unsigned_tag U128 endian 16) (λ v. v) result read.old read.new }
 {
     varint_decode(read, endian, IntegerType::U128, 16)
 }
@@ -53,8 +53,8 @@ pub fn varint_decode_usize<R: Reader>(
     read: &mut R,
     endian: Endianness,
 ) -> Result<usize, DecodeError>
-    ensures { ReadsWord R.told R.rest R.failures R.place R.ended R.device (varint unsigned_tag Usize endian 8)
-        (λ v. v) result read.old read.new }
+    ensures { ReadsWord R.is_known R.remaining R.failures R.loans R.end_error R.device
+        (varint unsigned_tag Usize endian 8) (λ v. v) result read.old read.new }
 {
     let n = varint_decode(read, endian, IntegerType::Usize, 8)?;
     Ok(n as usize)
@@ -70,8 +70,8 @@ pub(crate) fn varint_decode<R: Reader>(
     name: IntegerType,
     width: usize,
 ) -> Result<u128, DecodeError>
-    ensures word { ReadsWord R.told R.rest R.failures R.place R.ended R.device
-        (varint (tags_of name) name endian width) (λ v. v) result read.old read.new }
+    ensures word { ReadsWord R.is_known R.remaining R.failures R.loans R.end_error R.device
+        (varint (tag_types name) name endian width) (λ v. v) result read.old read.new }
     ensures fits { 2 ≤ width → IfOk result (λ v. v < 256 ^ width) }
 {
     if !R::PEEKS_FIRST {
@@ -95,10 +95,10 @@ fn number_of_window(
     name: IntegerType,
     width: usize,
 ) -> Result<Option<(u128, usize)>, DecodeError>
-    ensures word { IfOk result (λ found. IfSome found (λ x. FrontIs (varint (tags_of name) name endian width)
+    ensures word { IfOk result (λ found. IfSome found (λ x. FrontIs (varint (tag_types name) name endian width)
         window.now x.0 x.1)) }
     ensures fits { 2 ≤ width → IfOk result (λ found. IfSome found (λ x. x.0 < 256 ^ width)) }
-    ensures tag { IfErr result (FrontFails (varint (tags_of name) name endian width) window.now) }
+    ensures tag { IfErr result (FrontFails (varint (tag_types name) name endian width) window.now) }
 {
     let mut front = SliceReader::new(window);
     match varint_decode_plain(&mut front, endian, name, width) {
@@ -118,8 +118,8 @@ fn varint_decode_plain<R: Reader>(
     name: IntegerType,
     width: usize,
 ) -> Result<u128, DecodeError>
-    ensures word { ReadsWord R.told R.rest R.failures R.place R.ended R.device
-        (varint (tags_of name) name endian width) (λ v. v) result read.old read.new }
+    ensures word { ReadsWord R.is_known R.remaining R.failures R.loans R.end_error R.device
+        (varint (tag_types name) name endian width) (λ v. v) result read.old read.new }
     ensures fits { 2 ≤ width → IfOk result (λ v. v < 256 ^ width) }
 {
     let tag = read_byte_plain(read)?;
@@ -137,7 +137,7 @@ fn varint_decode_plain<R: Reader>(
 
 /// The error for a tag that is too wide for the type, or reserved.
 fn invalid_tag(expected: IntegerType, tag: u8) -> DecodeError
-    ensures { result ≡ InvalidIntegerType expected (tags_of expected tag) }
+    ensures { result ≡ InvalidIntegerType expected (tag_types expected tag) }
 {
     DecodeError::InvalidIntegerType {
         expected,
@@ -147,7 +147,7 @@ fn invalid_tag(expected: IntegerType, tag: u8) -> DecodeError
 
 /// The name of the type that a tag stands for: a signed one where a signed type is read.
 fn name_of_tag(expected: IntegerType, tag: u8) -> IntegerType
-    ensures { result ≡ tags_of expected tag }
+    ensures { result ≡ tag_types expected tag }
 {
     let found = match tag {
         U32_BYTE => IntegerType::U32,

@@ -1,7 +1,7 @@
 //! Signed numbers, written by zigzag.
-ghost use Rattle.bincode_format.specs.Number.{zigzag};
-ghost use Rattle.bincode_format.specs.Integers.{shortest, shortest_pieces};
-ghost use Rattle.bincode_format.specs.Device.{TakesPieces};
+ghost use Rattle.bincode_spec.specs.Number.{zigzag};
+ghost use Rattle.bincode_spec.specs.Integers.{shortest_word, shortest_pieces};
+ghost use Rattle.bincode_spec.specs.Device.{TakesPieces};
 
 use super::{varint_encode_u16, varint_encode_u32, varint_encode_u64, varint_encode_u128};
 use crate::zigzag::zigzag;
@@ -17,7 +17,7 @@ pub fn varint_encode_i16<W: Writer>(
     endian: Endianness,
     val: i16,
 ) -> Result<(), EncodeError>
-    ensures { TakesPieces W.adds W.refuses W.place (shortest endian (zigzag val))
+    ensures { TakesPieces W.adds W.refuses W.loans (shortest_word endian (zigzag val))
         (shortest_pieces endian (zigzag val))
         result writer.old writer.new }
 {
@@ -31,7 +31,7 @@ pub fn varint_encode_i32<W: Writer>(
     endian: Endianness,
     val: i32,
 ) -> Result<(), EncodeError>
-    ensures { TakesPieces W.adds W.refuses W.place (shortest endian (zigzag val))
+    ensures { TakesPieces W.adds W.refuses W.loans (shortest_word endian (zigzag val))
         (shortest_pieces endian (zigzag val))
         result writer.old writer.new }
 {
@@ -45,7 +45,7 @@ pub fn varint_encode_i64<W: Writer>(
     endian: Endianness,
     val: i64,
 ) -> Result<(), EncodeError>
-    ensures { TakesPieces W.adds W.refuses W.place (shortest endian (zigzag val))
+    ensures { TakesPieces W.adds W.refuses W.loans (shortest_word endian (zigzag val))
         (shortest_pieces endian (zigzag val))
         result writer.old writer.new }
 {
@@ -59,7 +59,7 @@ pub fn varint_encode_i128<W: Writer>(
     endian: Endianness,
     val: i128,
 ) -> Result<(), EncodeError>
-    ensures { TakesPieces W.adds W.refuses W.place (shortest endian (zigzag val))
+    ensures { TakesPieces W.adds W.refuses W.loans (shortest_word endian (zigzag val))
         (shortest_pieces endian (zigzag val))
         result writer.old writer.new }
 {
@@ -73,7 +73,7 @@ pub fn varint_encode_isize<W: Writer>(
     endian: Endianness,
     val: isize,
 ) -> Result<(), EncodeError>
-    ensures { TakesPieces W.adds W.refuses W.place (shortest endian (zigzag val))
+    ensures { TakesPieces W.adds W.refuses W.loans (shortest_word endian (zigzag val))
         (shortest_pieces endian (zigzag val))
         result writer.old writer.new }
 {

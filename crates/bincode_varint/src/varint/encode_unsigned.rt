@@ -1,8 +1,8 @@
 //! Unsigned numbers, written in their shortest spelling.
 ghost use Rattle.std.specs.Prelude.{[], ◌∷◌, ◌≡◌, length};
 ghost use Rattle.bincode_base.specs.declared.config.Endianness.{Endianness};
-ghost use Rattle.bincode_format.specs.Integers.{shortest, shortest_pieces, first_of};
-ghost use Rattle.bincode_format.specs.Device.{TakesPieces};
+ghost use Rattle.bincode_spec.specs.Integers.{shortest_word, shortest_pieces, first_of};
+ghost use Rattle.bincode_spec.specs.Device.{TakesPieces};
 
 use super::{SINGLE_BYTE_MAX, U16_BYTE, U32_BYTE, U64_BYTE, U128_BYTE};
 use crate::bytes::{bytes_of_u16, bytes_of_u32, bytes_of_u64, bytes_of_u128};
@@ -18,14 +18,14 @@ pub fn varint_encode_u16<W: Writer>(
     endian: Endianness,
     val: u16,
 ) -> Result<(), EncodeError>
-    ensures { TakesPieces W.adds W.refuses W.place (shortest endian val) (shortest_pieces endian val)
+    ensures { TakesPieces W.adds W.refuses W.loans (shortest_word endian val) (shortest_pieces endian val)
         result writer.old writer.new }
 {
     if W::COUNTS {
         return write_at_once(writer, endian, u64::from(val));
     }
     if val <= u16::from(SINGLE_BYTE_MAX) {
-        writer.write_ahead(val as u8, 1)
+        writer.write_tag(val as u8, 1)
     } else {
         write_tagged(writer, U16_BYTE, &bytes_of_u16(endian, val))
     }
@@ -38,14 +38,14 @@ pub fn varint_encode_u32<W: Writer>(
     endian: Endianness,
     val: u32,
 ) -> Result<(), EncodeError>
-    ensures { TakesPieces W.adds W.refuses W.place (shortest endian val) (shortest_pieces endian val)
+    ensures { TakesPieces W.adds W.refuses W.loans (shortest_word endian val) (shortest_pieces endian val)
         result writer.old writer.new }
 {
     if W::COUNTS {
         return write_at_once(writer, endian, u64::from(val));
     }
     if val <= u32::from(SINGLE_BYTE_MAX) {
-        writer.write_ahead(val as u8, 1)
+        writer.write_tag(val as u8, 1)
     } else if val <= u32::from(u16::MAX) {
         write_tagged(writer, U16_BYTE, &bytes_of_u16(endian, val as u16))
     } else {
@@ -60,14 +60,14 @@ pub fn varint_encode_u64<W: Writer>(
     endian: Endianness,
     val: u64,
 ) -> Result<(), EncodeError>
-    ensures { TakesPieces W.adds W.refuses W.place (shortest endian val) (shortest_pieces endian val)
+    ensures { TakesPieces W.adds W.refuses W.loans (shortest_word endian val) (shortest_pieces endian val)
         result writer.old writer.new }
 {
     if W::COUNTS {
         return write_at_once(writer, endian, val);
     }
     if val <= u64::from(SINGLE_BYTE_MAX) {
-        writer.write_ahead(val as u8, 1)
+        writer.write_tag(val as u8, 1)
     } else if val <= u64::from(u16::MAX) {
         write_tagged(writer, U16_BYTE, &bytes_of_u16(endian, val as u16))
     } else if val <= u64::from(u32::MAX) {
@@ -84,11 +84,11 @@ pub fn varint_encode_u128<W: Writer>(
     endian: Endianness,
     val: u128,
 ) -> Result<(), EncodeError>
-    ensures { TakesPieces W.adds W.refuses W.place (shortest endian val) (shortest_pieces endian val)
+    ensures { TakesPieces W.adds W.refuses W.loans (shortest_word endian val) (shortest_pieces endian val)
         result writer.old writer.new }
 {
     if val <= u128::from(SINGLE_BYTE_MAX) {
-        writer.write_ahead(val as u8, 1)
+        writer.write_tag(val as u8, 1)
     } else if val <= u128::from(u16::MAX) {
         write_tagged(writer, U16_BYTE, &bytes_of_u16(endian, val as u16))
     } else if val <= u128::from(u32::MAX) {
@@ -106,7 +106,7 @@ pub fn varint_encode_usize<W: Writer>(
     endian: Endianness,
     val: usize,
 ) -> Result<(), EncodeError>
-    ensures { TakesPieces W.adds W.refuses W.place (shortest endian val) (shortest_pieces endian val)
+    ensures { TakesPieces W.adds W.refuses W.loans (shortest_word endian val) (shortest_pieces endian val)
         result writer.old writer.new }
 {
     varint_encode_u64(writer, endian, val as u64)
@@ -115,38 +115,38 @@ pub fn varint_encode_usize<W: Writer>(
 /// Writes a tag, and then the bytes behind it.
 #[inline(always)]
 fn write_tagged<W: Writer>(writer: &mut W, tag: u8, bytes: &[u8]) -> Result<(), EncodeError>
-    ensures { TakesPieces W.adds W.refuses W.place (tag ∷ bytes.now) ((tag ∷ []) ∷ bytes.now ∷ [])
+    ensures { TakesPieces W.adds W.refuses W.loans (tag ∷ bytes.now) ((tag ∷ []) ∷ bytes.now ∷ [])
         result writer.old writer.new }
 {
-    writer.write_ahead(tag, 1 + bytes.len())?;
-    writer.write_behind(bytes)
+    writer.write_tag(tag, 1 + bytes.len())?;
+    writer.write_payload(bytes)
 }
 
 /// Writes the shortest spelling of a number to a writer that is told its length before all branches: of one that only
 /// counts nothing else is left.
 #[inline(always)]
 fn write_at_once<W: Writer>(writer: &mut W, endian: Endianness, val: u64) -> Result<(), EncodeError>
-    ensures { TakesPieces W.adds W.refuses W.place (shortest endian val) (shortest_pieces endian val)
+    ensures { TakesPieces W.adds W.refuses W.loans (shortest_word endian val) (shortest_pieces endian val)
         result writer.old writer.new }
 {
     let (first, all) = front_of(val);
-    writer.write_ahead(first, all)?;
+    writer.write_tag(first, all)?;
     if val <= u64::from(SINGLE_BYTE_MAX) {
         Ok(())
     } else if val <= u64::from(u16::MAX) {
-        writer.write_behind(&bytes_of_u16(endian, val as u16))
+        writer.write_payload(&bytes_of_u16(endian, val as u16))
     } else if val <= u64::from(u32::MAX) {
-        writer.write_behind(&bytes_of_u32(endian, val as u32))
+        writer.write_payload(&bytes_of_u32(endian, val as u32))
     } else {
-        writer.write_behind(&bytes_of_u64(endian, val))
+        writer.write_payload(&bytes_of_u64(endian, val))
     }
 }
 
 /// The first byte of the shortest spelling of a number, and how many bytes that has.
 #[inline(always)]
 fn front_of(val: u64) -> (u8, usize)
-    ensures first { (endian : Endianness) → first_of (shortest endian val) ≡ result.0 }
-    ensures count { (endian : Endianness) → length (shortest endian val) ≡ result.1 }
+    ensures first { (endian : Endianness) → first_of (shortest_word endian val) ≡ result.0 }
+    ensures count { (endian : Endianness) → length (shortest_word endian val) ≡ result.1 }
 {
     if val <= u64::from(SINGLE_BYTE_MAX) {
         (val as u8, 1)

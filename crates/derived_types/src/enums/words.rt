@@ -2,7 +2,7 @@
 //! `derive` on the file again where its types change.
 
 use super::*;
-use bincode::de::{Decode, Decoder, OneByOne};
+use bincode::de::{Decode, Decoder, Sequential};
 use bincode::enc::{Encode, Encoder};
 use bincode::enums::{
     DecodeVariants, Enum, Sum, canonical_by_variants, decode_by_tag, decode_no_variant,
@@ -11,21 +11,21 @@ use bincode::enums::{
 use bincode::error::{DecodeError, EncodeError};
 use bincode::laws::{Canonical, Exact, Plain};
 use bincode::short_text::TypeName;
-use bincode::{NoOther, Or, Wire};
+use bincode::{NoMoreVariants, VariantOf, Wire};
 
 type SideLeftPart = ();
 
 type SideRightPart = ();
 
-type SideParts = Or<0, SideLeftPart, Or<1, SideRightPart, NoOther<Side>>>;
+type SideParts = VariantOf<0, SideLeftPart, VariantOf<1, SideRightPart, NoMoreVariants<Side>>>;
 
 impl Sum<SideParts> for Side {
     ghost use Rattle.bincode.specs.Sums.{this, other};
     ghost use Rattle.bincode.specs.EnumWords.{by, no_more, or_else};
     ghost use Rattle.derived_types.specs.declared.enums.Side.TheVariants.{Left, Right};
 
-    ghost variants = { or_else 0 ⟦<SideLeftPart as Wire>⟧.its
-        (or_else 1 ⟦<SideRightPart as Wire>⟧.its
+    ghost variants = { or_else 0 ⟦<SideLeftPart as Wire>⟧.words
+        (or_else 1 ⟦<SideRightPart as Wire>⟧.words
         no_more) };
 
     ghost parts = { elim [
@@ -39,7 +39,7 @@ impl Sum<SideParts> for Side {
 impl Wire for Side {
     ghost use Rattle.bincode.specs.EnumWords.{enum_words};
 
-    ghost its = { enum_words ⟦<Side as Sum<SideParts>>⟧.variants ⟦<Side as Sum<SideParts>>⟧.parts };
+    ghost words = { enum_words ⟦<Side as Sum<SideParts>>⟧.variants ⟦<Side as Sum<SideParts>>⟧.parts };
 
     fn claim_size() -> usize {
         let widest = SideRightPart::claim_size().max(0);
@@ -121,7 +121,7 @@ impl<Context: Drop> DecodeVariants<Context> for Side {
 }
 
 impl<Context: Drop> Decode<Context> for Side {
-    type Run = OneByOne;
+    type Run = Sequential;
 
     fn decode<D: Decoder<Context = Context>>(decoder: &mut D) -> Result<Side, DecodeError> {
         decode_by_tag(decoder)
@@ -136,10 +136,11 @@ type FigureRectanglePart = (u32, u32);
 
 type FigureTrianglePart = (u32, u32, u32);
 
-type FigureParts = Or<
+type FigureParts = VariantOf<
     0,
     FigureEmptyPart,
-    Or<1, FigureCirclePart, Or<2, FigureRectanglePart, Or<3, FigureTrianglePart, NoOther<Figure>>>>,
+    VariantOf<1, FigureCirclePart, VariantOf<2, FigureRectanglePart, VariantOf<3, FigureTrianglePart,
+    NoMoreVariants<Figure>>>>,
 >;
 
 impl Sum<FigureParts> for Figure {
@@ -148,10 +149,10 @@ impl Sum<FigureParts> for Figure {
     ghost use Rattle.derived_types.specs.declared.enums.Figure.TheVariants.{Empty, Circle, Rectangle};
     ghost use Rattle.derived_types.specs.declared.enums.Figure.TheVariants.{Triangle};
 
-    ghost variants = { or_else 0 ⟦<FigureEmptyPart as Wire>⟧.its
-        (or_else 1 ⟦<FigureCirclePart as Wire>⟧.its
-        (or_else 2 ⟦<FigureRectanglePart as Wire>⟧.its
-        (or_else 3 ⟦<FigureTrianglePart as Wire>⟧.its
+    ghost variants = { or_else 0 ⟦<FigureEmptyPart as Wire>⟧.words
+        (or_else 1 ⟦<FigureCirclePart as Wire>⟧.words
+        (or_else 2 ⟦<FigureRectanglePart as Wire>⟧.words
+        (or_else 3 ⟦<FigureTrianglePart as Wire>⟧.words
         no_more))) };
 
     ghost parts = { elim [
@@ -171,7 +172,7 @@ impl Sum<FigureParts> for Figure {
 impl Wire for Figure {
     ghost use Rattle.bincode.specs.EnumWords.{enum_words};
 
-    ghost its = { enum_words ⟦<Figure as Sum<FigureParts>>⟧.variants ⟦<Figure as Sum<FigureParts>>⟧.parts };
+    ghost words = { enum_words ⟦<Figure as Sum<FigureParts>>⟧.variants ⟦<Figure as Sum<FigureParts>>⟧.parts };
 
     fn claim_size() -> usize {
         let widest = FigureTrianglePart::claim_size().max(0);
@@ -288,7 +289,7 @@ impl<Context: Drop> DecodeVariants<Context> for Figure {
 }
 
 impl<Context: Drop> Decode<Context> for Figure {
-    type Run = OneByOne;
+    type Run = Sequential;
 
     fn decode<D: Decoder<Context = Context>>(decoder: &mut D) -> Result<Figure, DecodeError> {
         decode_by_tag(decoder)

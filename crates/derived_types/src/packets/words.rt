@@ -4,25 +4,25 @@ ghost use Rattle.std.specs.Prelude.{◌≡◌};
 ghost use Rattle.bincode.specs.TypeLaws.{CanonicalWords, ExactWords, PlainWords};
 
 use super::*;
-use bincode::de::{BorrowDecode, BorrowDecoder, OneByOne};
+use bincode::de::{BorrowDecode, BorrowDecoder, Sequential};
 use bincode::enc::{Encode, Encoder};
 use bincode::error::{DecodeError, EncodeError};
 use bincode::laws::{Canonical, Exact, Plain, canonical_by_parts, exact_by_fields, plain_by_parts};
-use bincode::{MadeOf, Wire};
+use bincode::{HasParts, Wire};
 
 type PacketParts<'a> = (u16, Option<&'a [u8]>);
 
-impl<'a> MadeOf<PacketParts<'a>> for Packet<'a> {
+impl<'a> HasParts<PacketParts<'a>> for Packet<'a> {
     ghost parts = { λ v. (v.to, v.payload) };
 }
 
 impl<'a> Wire for Packet<'a> {
     ghost use Rattle.bincode.specs.TypeWords.{words_by};
 
-    ghost its = { words_by ⟦<PacketParts<'a> as Wire>⟧.its ⟦<Packet<'a> as MadeOf<PacketParts<'a>>>⟧.parts };
+    ghost words = { words_by ⟦<PacketParts<'a> as Wire>⟧.words ⟦<Packet<'a> as HasParts<PacketParts<'a>>>⟧.parts };
 
     fn claim_size() -> usize
-        ensures { result ≡ ⟦<PacketParts<'a> as Wire>⟧.its.claim }
+        ensures { result ≡ ⟦<PacketParts<'a> as Wire>⟧.words.claim }
     {
         PacketParts::claim_size()
     }
@@ -30,7 +30,7 @@ impl<'a> Wire for Packet<'a> {
 
 impl<'a> Plain for Packet<'a> {
     fn tell_plain()
-        ensures { PlainWords ⟦<Packet<'a> as Wire>⟧.its }
+        ensures { PlainWords ⟦<Packet<'a> as Wire>⟧.words }
     {
         plain_by_parts::<PacketParts<'a>, Packet<'a>>();
     }
@@ -38,7 +38,7 @@ impl<'a> Plain for Packet<'a> {
 
 impl<'a> Exact for Packet<'a> {
     fn tell_exact()
-        ensures { ExactWords ⟦<Packet<'a> as Wire>⟧.its ⟦<Packet<'a> as PartialEq>⟧.eq }
+        ensures { ExactWords ⟦<Packet<'a> as Wire>⟧.words ⟦<Packet<'a> as PartialEq>⟧.eq }
     {
         exact_by_fields::<PacketParts<'a>, Packet<'a>, _>();
     }
@@ -46,7 +46,7 @@ impl<'a> Exact for Packet<'a> {
 
 impl<'a> Canonical for Packet<'a> {
     fn tell_canonical()
-        ensures { CanonicalWords ⟦<Packet<'a> as Wire>⟧.its }
+        ensures { CanonicalWords ⟦<Packet<'a> as Wire>⟧.words }
     {
         canonical_by_parts::<PacketParts<'a>, Packet<'a>>();
     }
@@ -63,7 +63,7 @@ impl<'a> Encode for Packet<'a> {
 }
 
 impl<'a, Context: Drop> BorrowDecode<&'a [u8], Context> for Packet<'a> {
-    type Run = OneByOne;
+    type Run = Sequential;
 
     fn borrow_decode<D: BorrowDecoder<&'a [u8], Context = Context>>(
         decoder: &mut D,

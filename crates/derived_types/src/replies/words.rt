@@ -2,7 +2,7 @@
 //! `derive` on the file again where its types change.
 
 use super::*;
-use bincode::de::{Decode, Decoder, OneByOne};
+use bincode::de::{Decode, Decoder, Sequential};
 use bincode::enc::{Encode, Encoder};
 use bincode::enums::{
     DecodeVariants, Enum, Sum, canonical_by_variants, decode_by_tag, decode_no_variant,
@@ -11,22 +11,23 @@ use bincode::enums::{
 use bincode::error::{DecodeError, EncodeError};
 use bincode::laws::{Canonical, Exact, Plain};
 use bincode::short_text::TypeName;
-use bincode::{NoOther, Or, Wire};
+use bincode::{NoMoreVariants, VariantOf, Wire};
 
 type ReplyNothingPart = ();
 
 type ReplyRefusedPart = (u16, String);
 
-type ReplyParts<T> = Or<0, ReplyNothingPart, Or<1, T, Or<2, ReplyRefusedPart, NoOther<Reply<T>>>>>;
+type ReplyParts<T> = VariantOf<0, ReplyNothingPart, VariantOf<1, T, VariantOf<2, ReplyRefusedPart,
+NoMoreVariants<Reply<T>>>>>;
 
 impl<T: Wire> Sum<ReplyParts<T>> for Reply<T> {
     ghost use Rattle.bincode.specs.Sums.{this, other};
     ghost use Rattle.bincode.specs.EnumWords.{by, no_more, or_else};
     ghost use Rattle.derived_types.specs.declared.replies.Reply.TheVariants.{Nothing, Found, Refused};
 
-    ghost variants = { or_else 0 ⟦<ReplyNothingPart as Wire>⟧.its
-        (or_else 1 T.its
-        (or_else 2 ⟦<ReplyRefusedPart as Wire>⟧.its
+    ghost variants = { or_else 0 ⟦<ReplyNothingPart as Wire>⟧.words
+        (or_else 1 T.words
+        (or_else 2 ⟦<ReplyRefusedPart as Wire>⟧.words
         no_more)) };
 
     ghost parts = { elim [
@@ -44,7 +45,7 @@ impl<T: Wire> Sum<ReplyParts<T>> for Reply<T> {
 impl<T: Wire> Wire for Reply<T> {
     ghost use Rattle.bincode.specs.EnumWords.{enum_words};
 
-    ghost its = { enum_words ⟦<Reply<T> as Sum<ReplyParts<T>>>⟧.variants ⟦<Reply<T> as Sum<ReplyParts<T>>>⟧.parts };
+    ghost words = { enum_words ⟦<Reply<T> as Sum<ReplyParts<T>>>⟧.variants ⟦<Reply<T> as Sum<ReplyParts<T>>>⟧.parts };
 
     fn claim_size() -> usize {
         let widest = ReplyRefusedPart::claim_size().max(0);
@@ -146,7 +147,7 @@ impl<Context: Drop, T: Decode<Context>> DecodeVariants<Context> for Reply<T> {
 }
 
 impl<Context: Drop, T: Decode<Context>> Decode<Context> for Reply<T> {
-    type Run = OneByOne;
+    type Run = Sequential;
 
     fn decode<D: Decoder<Context = Context>>(decoder: &mut D) -> Result<Reply<T>, DecodeError> {
         decode_by_tag(decoder)

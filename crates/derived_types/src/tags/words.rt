@@ -2,7 +2,7 @@
 //! `derive` on the file again where its types change.
 
 use super::*;
-use bincode::de::{Decode, Decoder, OneByOne};
+use bincode::de::{Decode, Decoder, Sequential};
 use bincode::enc::{Encode, Encoder};
 use bincode::enums::{
     DecodeVariants, Enum, Sum, canonical_by_variants, decode_by_tag, decode_part,
@@ -11,7 +11,7 @@ use bincode::enums::{
 use bincode::error::{DecodeError, EncodeError};
 use bincode::laws::{Canonical, Exact, Plain};
 use bincode::short_text::TypeName;
-use bincode::{NoOther, Or, Wire};
+use bincode::{NoMoreVariants, VariantOf, Wire};
 
 type StatusContinuePart = ();
 
@@ -23,16 +23,16 @@ type StatusNotFoundPart = ();
 
 type StatusBrokenPart = ();
 
-type StatusParts = Or<
+type StatusParts = VariantOf<
     100,
     StatusContinuePart,
-    Or<
+    VariantOf<
         200,
         StatusFinePart,
-        Or<
+        VariantOf<
             301,
             StatusMovedPart,
-            Or<404, StatusNotFoundPart, Or<500, StatusBrokenPart, NoOther<Status>>>,
+            VariantOf<404, StatusNotFoundPart, VariantOf<500, StatusBrokenPart, NoMoreVariants<Status>>>,
         >,
     >,
 >;
@@ -43,11 +43,11 @@ impl Sum<StatusParts> for Status {
     ghost use Rattle.derived_types.specs.declared.tags.Status.TheVariants.{Continue, Fine, Moved};
     ghost use Rattle.derived_types.specs.declared.tags.Status.TheVariants.{NotFound, Broken};
 
-    ghost variants = { or_else 100 ⟦<StatusContinuePart as Wire>⟧.its
-        (or_else 200 ⟦<StatusFinePart as Wire>⟧.its
-        (or_else 301 ⟦<StatusMovedPart as Wire>⟧.its
-        (or_else 404 ⟦<StatusNotFoundPart as Wire>⟧.its
-        (or_else 500 ⟦<StatusBrokenPart as Wire>⟧.its
+    ghost variants = { or_else 100 ⟦<StatusContinuePart as Wire>⟧.words
+        (or_else 200 ⟦<StatusFinePart as Wire>⟧.words
+        (or_else 301 ⟦<StatusMovedPart as Wire>⟧.words
+        (or_else 404 ⟦<StatusNotFoundPart as Wire>⟧.words
+        (or_else 500 ⟦<StatusBrokenPart as Wire>⟧.words
         no_more)))) };
 
     ghost parts = { elim [
@@ -69,7 +69,7 @@ impl Sum<StatusParts> for Status {
 impl Wire for Status {
     ghost use Rattle.bincode.specs.EnumWords.{enum_words};
 
-    ghost its = { enum_words ⟦<Status as Sum<StatusParts>>⟧.variants ⟦<Status as Sum<StatusParts>>⟧.parts };
+    ghost words = { enum_words ⟦<Status as Sum<StatusParts>>⟧.variants ⟦<Status as Sum<StatusParts>>⟧.parts };
 
     fn claim_size() -> usize {
         let widest = StatusBrokenPart::claim_size().max(0);
@@ -182,7 +182,7 @@ impl<Context: Drop> DecodeVariants<Context> for Status {
 }
 
 impl<Context: Drop> Decode<Context> for Status {
-    type Run = OneByOne;
+    type Run = Sequential;
 
     fn decode<D: Decoder<Context = Context>>(decoder: &mut D) -> Result<Status, DecodeError> {
         decode_by_tag(decoder)
@@ -195,10 +195,10 @@ type MixedFirstPart = ();
 
 type MixedSecondPart = ();
 
-type MixedParts = Or<
+type MixedParts = VariantOf<
     3,
     MixedThirdPart,
-    Or<1, MixedFirstPart, Or<2, MixedSecondPart, NoOther<Mixed>>>,
+    VariantOf<1, MixedFirstPart, VariantOf<2, MixedSecondPart, NoMoreVariants<Mixed>>>,
 >;
 
 impl Sum<MixedParts> for Mixed {
@@ -206,9 +206,9 @@ impl Sum<MixedParts> for Mixed {
     ghost use Rattle.bincode.specs.EnumWords.{by, no_more, or_else};
     ghost use Rattle.derived_types.specs.declared.tags.Mixed.TheVariants.{Third, First, Second};
 
-    ghost variants = { or_else 3 ⟦<MixedThirdPart as Wire>⟧.its
-        (or_else 1 ⟦<MixedFirstPart as Wire>⟧.its
-        (or_else 2 ⟦<MixedSecondPart as Wire>⟧.its
+    ghost variants = { or_else 3 ⟦<MixedThirdPart as Wire>⟧.words
+        (or_else 1 ⟦<MixedFirstPart as Wire>⟧.words
+        (or_else 2 ⟦<MixedSecondPart as Wire>⟧.words
         no_more)) };
 
     ghost parts = { elim [
@@ -226,7 +226,7 @@ impl Sum<MixedParts> for Mixed {
 impl Wire for Mixed {
     ghost use Rattle.bincode.specs.EnumWords.{enum_words};
 
-    ghost its = { enum_words ⟦<Mixed as Sum<MixedParts>>⟧.variants ⟦<Mixed as Sum<MixedParts>>⟧.parts };
+    ghost words = { enum_words ⟦<Mixed as Sum<MixedParts>>⟧.variants ⟦<Mixed as Sum<MixedParts>>⟧.parts };
 
     fn claim_size() -> usize {
         let widest = MixedSecondPart::claim_size().max(0);
@@ -318,7 +318,7 @@ impl<Context: Drop> DecodeVariants<Context> for Mixed {
 }
 
 impl<Context: Drop> Decode<Context> for Mixed {
-    type Run = OneByOne;
+    type Run = Sequential;
 
     fn decode<D: Decoder<Context = Context>>(decoder: &mut D) -> Result<Mixed, DecodeError> {
         decode_by_tag(decoder)

@@ -2,7 +2,7 @@
 //! `derive` on the file again where its types change.
 
 use super::*;
-use bincode::de::{Decode, Decoder, OneByOne};
+use bincode::de::{Decode, Decoder, Sequential};
 use bincode::enc::{Encode, Encoder};
 use bincode::enums::{
     DecodeVariants, Enum, Sum, canonical_by_variants, decode_by_tag, decode_no_variant,
@@ -11,7 +11,7 @@ use bincode::enums::{
 use bincode::error::{DecodeError, EncodeError};
 use bincode::laws::{Canonical, Exact, Plain};
 use bincode::short_text::TypeName;
-use bincode::{NoOther, Or, Wire};
+use bincode::{NoMoreVariants, VariantOf, Wire};
 
 type TurnJoinedPart = (u32, String, u8);
 
@@ -23,13 +23,13 @@ type TurnSaidPart = (u32, String, u8);
 
 type TurnWonPart = (u32, String, u8);
 
-type TurnParts = Or<
+type TurnParts = VariantOf<
     0,
     TurnJoinedPart,
-    Or<
+    VariantOf<
         1,
         TurnLeftPart,
-        Or<2, TurnMovedPart, Or<3, TurnSaidPart, Or<4, TurnWonPart, NoOther<Turn>>>>,
+        VariantOf<2, TurnMovedPart, VariantOf<3, TurnSaidPart, VariantOf<4, TurnWonPart, NoMoreVariants<Turn>>>>,
     >,
 >;
 
@@ -39,11 +39,11 @@ impl Sum<TurnParts> for Turn {
     ghost use Rattle.derived_types.specs.declared.turns.Turn.TheVariants.{Joined, Left, Moved, Said};
     ghost use Rattle.derived_types.specs.declared.turns.Turn.TheVariants.{Won};
 
-    ghost variants = { or_else 0 ⟦<TurnJoinedPart as Wire>⟧.its
-        (or_else 1 ⟦<TurnLeftPart as Wire>⟧.its
-        (or_else 2 ⟦<TurnMovedPart as Wire>⟧.its
-        (or_else 3 ⟦<TurnSaidPart as Wire>⟧.its
-        (or_else 4 ⟦<TurnWonPart as Wire>⟧.its
+    ghost variants = { or_else 0 ⟦<TurnJoinedPart as Wire>⟧.words
+        (or_else 1 ⟦<TurnLeftPart as Wire>⟧.words
+        (or_else 2 ⟦<TurnMovedPart as Wire>⟧.words
+        (or_else 3 ⟦<TurnSaidPart as Wire>⟧.words
+        (or_else 4 ⟦<TurnWonPart as Wire>⟧.words
         no_more)))) };
 
     ghost parts = { elim [
@@ -65,7 +65,7 @@ impl Sum<TurnParts> for Turn {
 impl Wire for Turn {
     ghost use Rattle.bincode.specs.EnumWords.{enum_words};
 
-    ghost its = { enum_words ⟦<Turn as Sum<TurnParts>>⟧.variants ⟦<Turn as Sum<TurnParts>>⟧.parts };
+    ghost words = { enum_words ⟦<Turn as Sum<TurnParts>>⟧.variants ⟦<Turn as Sum<TurnParts>>⟧.parts };
 
     fn claim_size() -> usize {
         let widest = TurnWonPart::claim_size().max(0);
@@ -231,7 +231,7 @@ impl<Context: Drop> DecodeVariants<Context> for Turn {
 }
 
 impl<Context: Drop> Decode<Context> for Turn {
-    type Run = OneByOne;
+    type Run = Sequential;
 
     fn decode<D: Decoder<Context = Context>>(decoder: &mut D) -> Result<Turn, DecodeError> {
         decode_by_tag(decoder)

@@ -1,11 +1,11 @@
 use Rattle.std.specs.Prelude.{◌≡◌, ℕ, List, Option, Some, None}
 use Rattle.std.proofs.Common.{sym}
 use Rattle.std.specs.Io.KnownBytes.{Keeps}
-use Rattle.bincode_io.specs.Stream.{TellsBytes, known}
+use Rattle.bincode_io.specs.Stream.{TellsBytes, known_bytes}
 use Rattle.bincode.proofs.next.decode_next_from_std_read.Goals as goal
 
 -- known bytes that were kept are known, and the same
-kept-known : (before now : Option (List ℕ)) → Keeps before now → TellsBytes before → TellsBytes now × (known before ≡ known now)
+kept-known : (before now : Option (List ℕ)) → Keeps before now → TellsBytes before → TellsBytes now × (known_bytes before ≡ known_bytes now)
 kept-known None now kept tells = absurd tells
 kept-known (Some xs) None kept tells = absurd kept
 kept-known (Some xs) (Some ys) kept tells = (tt, sym kept)

@@ -1,6 +1,6 @@
 use Rattle.std.proofs.Common.{refl}
 use Rattle.std.proofs.lemmas.Result.{err_from_is_err_and}
-use Rattle.bincode_laws.specs.LimitedLaws.{decoded-bounded}
+use Rattle.bincode_lemmas.specs.LimitedLaws.{decoded-bounded}
 use Rattle.bincode_shape.specs.ShapeLaws.{format_of-lawful, format_of-balanced, format_of-charged}
 use Rattle.bincode.proofs.Decoded.{stopped-word, stopped-fault, stopped-limit, refused-alone, or_refused}
 use Rattle.bincode.proofs.Decoded.{decoded-word, decoded-shorter, decoded-fault, decoded-limit}

@@ -11,9 +11,9 @@ returns g c =
           (fills.next known));
       err = λ known. IfErr-weaker c.read_from.result _ _ (λ e h. bytes-stop _ _ _ _ c.requires.1 c.requires.0 _ _ _ _ _ _ _ c.read_from.ensures.charge h.0 h.1)
           (both-of_err c.read_from.result _ _ (fills.why known) (fills.left known));
-      counted = fills.counted;
+      failures_monotone = fills.failures_monotone;
       tells = fills.tells;
-      held = rw c.read_from.ensures.charge (held-still _ _ _);
+      charge_kept = rw c.read_from.ensures.charge (held-still _ _ _);
       within = λ a. whatever_given c.read_from.result (rw c.read_from.ensures.charge a);
-      same_place = fills.same_place;
+      same_loans = fills.same_loans;
     }

@@ -1,7 +1,7 @@
 use Rattle.std.proofs.Common.{◌≡◌, sym, ◌∙◌, refl, Some, rules, arith}
 use Rattle.std.proofs.lemmas.Result.{IfOk-weaker, IfErr-weaker, err_from_is_err_and}
-use Rattle.bincode_format.specs.Words.{char_width}
-use Rattle.bincode_laws.specs.CharDecodingLaws.{character-stops_first, character-stops_none, character-stops_behind, character-decodes}
+use Rattle.bincode_spec.specs.Words.{char_width}
+use Rattle.bincode_lemmas.specs.CharDecodingLaws.{character-stops_first, character-stops_none, character-stops_behind, character-decodes}
 use Rattle.bincode_decoder.proofs.ReadAnswers.{exactly}
 use Rattle.bincode_decoder.proofs.chars.decode_char.Goals as goal
 
@@ -13,11 +13,11 @@ returns-in_err-first g c =
     rw (p.1, p.2) (record {
       ok = λ known. tt;
       err = λ known. character-stops_first _ _ _ _ _ _ _ _ _ _ still (first.err known);
-      counted = first.counted;
+      failures_monotone = first.failures_monotone;
       tells = first.tells;
-      held = omega (arith, still);
+      charge_kept = omega (arith, still);
       within = λ _. tt;
-      same_place = first.same_place;
+      same_loans = first.same_loans;
     })
 
 pub returns-in_default : goal.returns-in_default
@@ -27,11 +27,11 @@ returns-in_default g c =
     record {
       ok = λ known. tt;
       err = λ known. character-stops_none _ _ _ _ _ (first.ok known) _ _ _ _ _ _ still (search rules) refl;
-      counted = first.counted;
+      failures_monotone = first.failures_monotone;
       tells = first.tells;
-      held = omega (arith, still);
+      charge_kept = omega (arith, still);
       within = λ _. tt;
-      same_place = first.same_place;
+      same_loans = first.same_loans;
     }
 
 pub returns : goal.returns
@@ -42,11 +42,11 @@ returns g c =
     let w : char_width c.in_ok-first.first ≡ Some c.in-Some.width = sym c.width_of_char.ensures ∙ c.in-Some.is in
     record {
       ok = λ known. IfOk-weaker c.decode_rest_of_char.result _ _ (λ v r. character-decodes _ _ _ _ _ (first.ok known) _ _ v _ w (exactly r)) (rw still at (others.ok (first.tells known)));
-      err = λ known. IfErr-weaker c.decode_rest_of_char.result _ _ (λ e r. character-stops_behind _ _ _ _ _ (first.ok known) _ _ _ _ _ _ _ _ e w first.counted r)
+      err = λ known. IfErr-weaker c.decode_rest_of_char.result _ _ (λ e r. character-stops_behind _ _ _ _ _ (first.ok known) _ _ _ _ _ _ _ _ e w first.failures_monotone r)
           (rw still at (others.err (first.tells known)));
-      counted = let a = first.counted in let b = others.counted in omega (arith, a, b);
+      failures_monotone = let a = first.failures_monotone in let b = others.failures_monotone in omega (arith, a, b);
       tells = λ known. others.tells (first.tells known);
-      held = rw still at others.held;
+      charge_kept = rw still at others.charge_kept;
       within = rw still at others.within;
-      same_place = others.same_place ∙ first.same_place;
+      same_loans = others.same_loans ∙ first.same_loans;
     }

@@ -1,7 +1,7 @@
 use Rattle.std.proofs.Common.{inl, inr}
 use Rattle.std.proofs.lemmas.Result.{err_from_is_err_and}
-use Rattle.bincode_laws.specs.DecodingLaws.{charged-passed}
-use Rattle.bincode_decoder.proofs.ReadAnswers.{claim-passed, charged-reads}
+use Rattle.bincode_lemmas.specs.DecodingLaws.{charge_then-passed}
+use Rattle.bincode_decoder.proofs.ReadAnswers.{claim-passed, charge_then-reads}
 use Rattle.bincode_decoder.proofs.chars.decode_rest_of_char.Goals as goal
 
 pub returns-in_err-claim_bytes_read : goal.returns-in_err-claim_bytes_read
@@ -9,10 +9,10 @@ returns-in_err-claim_bytes_read g c =
     let p = err_from_is_err_and c.from_residual.result c.from_residual.ensures.1 in
     let h = c.in_err-claim_bytes_read.ensures.claimed.err in
     let kept = c.claim_bytes_read.ensures.kept in
-    rw (p.1, p.2) (record { reads = claim-passed kept _ h.1 (charged-passed _ _ _ _ _ _ _ _ _ _ _ _ _ h.1 h.0 kept.same_rest); charges = inr h.1 })
+    rw (p.1, p.2) (record { reads = claim-passed kept _ h.1 (charge_then-passed _ _ _ _ _ _ _ _ _ _ _ _ _ h.1 h.0 kept.same_remaining); charges = inr h.1 })
 
 pub returns : goal.returns
 returns g c =
     let read = c.read_rest_of_char_from.ensures in
     let claim = c.in_ok-claim_bytes_read.ensures.claimed.ok in
-    record { reads = charged-reads c.claim_bytes_read.ensures.kept _ claim read.word read.same_charge; charges = rw read.same_charge (inl claim) }
+    record { reads = charge_then-reads c.claim_bytes_read.ensures.kept _ claim read.word read.same_charge; charges = rw read.same_charge (inl claim) }

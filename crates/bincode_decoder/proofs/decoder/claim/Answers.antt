@@ -1,7 +1,7 @@
 use Rattle.std.specs.Prelude.{Some, ◌+◌, ◌^◌, refl}
 use Rattle.std.proofs.Common.{sym, ◌∙◌, ap, arith}
 use Rattle.std.proofs.lemmas.Bool.{lt-ltb, le-ltb}
-use Rattle.bincode_laws.specs.AnswerLaws.{claim-stands, claim-falls}
+use Rattle.bincode_lemmas.specs.AnswerLaws.{claim-stands, claim-falls}
 use Rattle.bincode_decoder.proofs.decoder.claim.Goals as goal
 
 pub returns-in_default : goal.returns-in_default

@@ -7,7 +7,7 @@ returns g c =
     let new = c.read.new.read in
     let lent = g.met.D.Decoder in
     record {
-      word = lent-word (lent.reader_told d) (lent.rest_is d) (lent.failures_is d) (lent.put_told d new) (lent.put_rest d new) (lent.put_failures d new)
-          (lent.put_place d new) (rw (c.reader.ensures.value, c.endianness-endian.ensures, c.int_encoding-encoding.ensures) at c.read.ensures);
+      word = lent-word (lent.reader_is_known d) (lent.remaining_is d) (lent.failures_is d) (lent.put_is_known d new) (lent.put_remaining d new) (lent.put_failures d new)
+          (lent.put_loans d new) (rw (c.reader.ensures.value, c.endianness-endian.ensures, c.int_encoding-encoding.ensures) at c.read.ensures);
       same_charge = lent.put_charge d new;
     }

@@ -15,7 +15,7 @@ returns-in_err-nanos g c =
     let p = err_from_is_err_and c.from_residual-in_err-nanos.result c.from_residual-in_err-nanos.ensures.1 in
     let a = c.in_ok-secs.ensures.reads in
     let b = c.in_err-nanos.ensures.reads in
-    rw (p.1, p.2) (read-behind (λ known. tt) (λ known. span-stops_next _ _ _ _ _ _ _ _ _ _ _ _ _ _ _ (exactly (a.ok known)) a.counted (b.err (a.tells known))) (λ _. tt) a b)
+    rw (p.1, p.2) (read-behind (λ known. tt) (λ known. span-stops_next _ _ _ _ _ _ _ _ _ _ _ _ _ _ _ (exactly (a.ok known)) a.failures_monotone (b.err (a.tells known))) (λ _. tt) a b)
 
 pub returns-then-is_none : goal.returns-then-is_none
 returns-then-is_none g c =

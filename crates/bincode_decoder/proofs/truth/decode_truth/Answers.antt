@@ -1,10 +1,10 @@
 use Rattle.std.specs.Prelude.{◌<◌}
 use Rattle.std.proofs.Common.{refl, arith, true, false}
 use Rattle.std.proofs.lemmas.Result.{err_from_is_err_and}
-use Rattle.bincode_format.specs.Fault.{InvalidBool}
-use Rattle.bincode_laws.specs.IntegerLaws.{unsigned_byte-lawful}
-use Rattle.bincode_format.specs.Decoding.{by_fault}
-use Rattle.bincode_laws.specs.DecodingLaws.{gave-takes, stops-first, truth-decodes, truth-refuses}
+use Rattle.bincode_spec.specs.Fault.{InvalidBool}
+use Rattle.bincode_lemmas.specs.IntegerLaws.{unsigned_byte-lawful}
+use Rattle.bincode_spec.specs.Decoding.{by_fault}
+use Rattle.bincode_lemmas.specs.DecodingLaws.{gave-takes, stops-first, truth-decodes, truth-refuses}
 use Rattle.bincode_decoder.proofs.ReadAnswers.{read-as, exactly}
 use Rattle.bincode_decoder.proofs.truth.decode_truth.Goals as goal
 

@@ -1,5 +1,5 @@
 use Rattle.std.proofs.Common.{sym, arith}
-use Rattle.bincode_laws.specs.CharLaws.{encoded-1}
+use Rattle.bincode_lemmas.specs.CharLaws.{encoded-1}
 use Rattle.bincode_encoder.proofs.chars.encode_char.Goals as goal
 
 pub write_char-requires-clause-bytes : goal.write_char-requires-clause-bytes

@@ -6,9 +6,9 @@ returns g c =
     let new = c.write.new.self in
     let put = g.met.E.Encoder.put_get e new in
     let write = rw c.writer.ensures.value at c.write.ensures.piece in
-    rw c.same_answer.ensures (record {
+    rw c.rebuild_result.ensures (record {
       ok = rw put write.ok;
       err = rw put write.err;
-      counted = rw put write.counted;
-      same_place = g.met.E.Encoder.put_place e new write.same_place;
+      failures_monotone = rw put write.failures_monotone;
+      same_loans = g.met.E.Encoder.put_loans e new write.same_loans;
     })

@@ -9,4 +9,4 @@ returns-in_err-encode_length g c =
 
 pub returns : goal.returns
 returns g c =
-    rw c.same_answer.ensures (bag-encodes _ _ _ _ _ (list-encodes _ _ _ _ c.args.map.now.entries g.met.E.W.Writer.adds_join (rw c.len.ensures.len at c.in_ok-encode_length.ensures) c.encode_entries.ensures))
+    rw c.rebuild_result.ensures (bag-encodes _ _ _ _ _ (list-encodes _ _ _ _ c.args.map.now.entries g.met.E.W.Writer.adds_join (rw c.len.ensures.len at c.in_ok-encode_length.ensures) c.encode_entries.ensures))

@@ -5,12 +5,12 @@ use Rattle.bincode_encoder.proofs.IterAnswers.{so_far-none, so_far-all, valid-mo
 use Rattle.bincode_encoder.proofs.hashed.tell_set_valid.Goals as goal
 
 pub loop-key-init : goal.loop-key-init
-loop-key-init g c = so_far-none (All g.V.Value.Wire.its.valid) (c.into_iter-key-iterator.ensures.into_iter_gives ∙ c.iter-key-items.ensures.rest) (All-nil _)
+loop-key-init g c = so_far-none (All g.V.Value.Wire.words.valid) (c.into_iter-key-iterator.ensures.into_iter_gives ∙ c.iter-key-items.ensures.rest) (All-nil _)
 
 pub loop-key-preserved : goal.loop-key-preserved
-loop-key-preserved g c = valid-more g.V.Value.Wire.its.valid c.loop-key.invariant c.in-Some.ensures.steps c.tell_valid.ensures
+loop-key-preserved g c = valid-more g.V.Value.Wire.words.valid c.loop-key.invariant c.in-Some.ensures.steps c.tell_valid.ensures
 
 pub returns-clause-valid : goal.returns-clause-valid
 returns-clause-valid g c =
     let fits = c.iter-key-items.ensures.fits in
-    (omega (arith, fits), so_far-all (All g.V.Value.Wire.its.valid) c.loop-key.invariant c.in-None.ensures.steps.0)
+    (omega (arith, fits), so_far-all (All g.V.Value.Wire.words.valid) c.loop-key.invariant c.in-None.ensures.steps.0)

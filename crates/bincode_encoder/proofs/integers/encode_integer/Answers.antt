@@ -1,6 +1,6 @@
 use Rattle.std.proofs.lemmas.Result.{IfErr-weaker, on_ok_weaker}
-use Rattle.bincode_laws.specs.AllowedLaws.{number-allows}
-use Rattle.bincode_laws.specs.EncodingLaws.{writes-alone, halts-among, ready}
+use Rattle.bincode_lemmas.specs.AllowedLaws.{number-allows}
+use Rattle.bincode_lemmas.specs.EncodingLaws.{writes-alone, halts-among, ready}
 use Rattle.bincode_encoder.proofs.integers.encode_integer.Goals as goal
 
 pub returns : goal.returns
@@ -11,9 +11,9 @@ returns g c =
     let a = number-allows spelling.integer laws.one (spelling.words s) _ c.args.val (laws.is_written s c.args.val c.requires.fits) in
     let write = rw (c.int_encoding-encoding.ensures, c.endianness-endian.ensures, c.writer.ensures.value) at c.write.ensures in
     let put = g.met.E.Encoder.put_get c.args.encoder.now c.write.new.writer in
-    rw c.same_answer.ensures (record {
+    rw c.rebuild_result.ensures (record {
       ok = rw put (on_ok_weaker _ (writes-alone _ _ _ _ _ a) write.ok);
       err = rw put (IfErr-weaker c.write.result _ _ (λ e. halts-among _ _ _ (spelling.pieces s.order s.encoding c.args.val)
           (ready _ _ (rw (laws.pieces_join s.order s.encoding c.args.val) a)) _ _ _ e) write.err);
-      same_place = g.met.E.Encoder.put_place c.args.encoder.now c.write.new.writer write.same_place;
+      same_loans = g.met.E.Encoder.put_loans c.args.encoder.now c.write.new.writer write.same_loans;
     })

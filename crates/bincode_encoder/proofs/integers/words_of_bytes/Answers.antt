@@ -1,21 +1,21 @@
 use Rattle.std.specs.Prelude.{ℕ, pos, List, [], ◌∷◌, length, refl}
 use Rattle.std.specs.List.{All}
 use Rattle.std.proofs.lemmas.List.Elements.{All-nil, All-cons}
-use Rattle.bincode_format.specs.Integers.{unsigned_byte}
-use Rattle.bincode_format.specs.Meaning.{IsNumber}
-use Rattle.bincode_format.specs.Words.{natural, array}
-use Rattle.bincode_format.specs.Allowed.{AllowedWord}
-use Rattle.bincode_laws.specs.AllowedLaws.{byte-allows}
-use Rattle.bincode_format.specs.Run.{IsListOf, AllowsEach}
-use Rattle.bincode_laws.specs.RunAllowedLaws.{array-allows}
+use Rattle.bincode_spec.specs.Integers.{unsigned_byte}
+use Rattle.bincode_spec.specs.Meaning.{IsNumber}
+use Rattle.bincode_spec.specs.Words.{natural_number, array}
+use Rattle.bincode_spec.specs.Allowed.{AllowedWord}
+use Rattle.bincode_lemmas.specs.AllowedLaws.{byte-allows}
+use Rattle.bincode_spec.specs.Run.{IsListOf, AllowsEach}
+use Rattle.bincode_lemmas.specs.RunAllowedLaws.{array-allows}
 use Rattle.bincode_encoder.proofs.integers.words_of_bytes.Goals as goal
 
-each-allows : (bytes : List ℕ) → AllowsEach (λ v. AllowedWord (IsNumber (pos v)) (natural unsigned_byte)) bytes bytes
+each-allows : (bytes : List ℕ) → AllowsEach (λ v. AllowedWord (IsNumber (pos v)) (natural_number unsigned_byte)) bytes bytes
 each-allows [] = refl
 each-allows (b ∷ bytes) = (b ∷ [], bytes, refl, byte-allows b, each-allows bytes)
 
-run-allows : (bytes : List ℕ) → AllowedWord (IsListOf (λ v. IsNumber (pos v)) bytes) (array (length bytes) 1 (natural unsigned_byte)) bytes
-run-allows bytes = array-allows (λ v. IsNumber (pos v)) 1 (natural unsigned_byte) (length bytes) bytes bytes refl (each-allows bytes)
+run-allows : (bytes : List ℕ) → AllowedWord (IsListOf (λ v. IsNumber (pos v)) bytes) (array (length bytes) 1 (natural_number unsigned_byte)) bytes
+run-allows bytes = array-allows (λ v. IsNumber (pos v)) 1 (natural_number unsigned_byte) (length bytes) bytes bytes refl (each-allows bytes)
 
 all-ready : (bytes : List ℕ) → All (λ v. Unit {0}) bytes
 all-ready [] = All-nil (λ v. Unit {0})

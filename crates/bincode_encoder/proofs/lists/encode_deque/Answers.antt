@@ -19,7 +19,7 @@ returns-in_err-encode_run g c =
     let len = c.len-len.ensures ∙ sym c.as_slices.ensures.len ∙ sym (length-append vs ws) in
     rw (p.1, p.2, ← c.as_slices.ensures.items)
     (list-encodes _ _ _ _ (vs ++ ws) g.met.E.W.Writer.adds_join (rw len at c.in_ok-encode_length.ensures)
-    (first_run-halts _ _ _ (g.V.Value.Wire.its.writable g.E.C.Config.setting) vs ws c.in_err-encode_run.ensures))
+    (first_run-halts _ _ _ (g.V.Value.Wire.words.writable g.E.C.Config.setting) vs ws c.in_err-encode_run.ensures))
 
 pub returns : goal.returns
 returns g c =
@@ -27,6 +27,6 @@ returns g c =
     let ws = c.as_slices.result.1.now in
     let len = c.len-len.ensures ∙ sym c.as_slices.ensures.len ∙ sym (length-append vs ws) in
     let join = g.met.E.W.Writer.adds_join in
-    rw (c.same_answer.ensures, ← c.as_slices.ensures.items)
+    rw (c.rebuild_result.ensures, ← c.as_slices.ensures.items)
     (list-encodes _ _ _ _ (vs ++ ws) join (rw len at c.in_ok-encode_length.ensures)
-    (runs-encode _ _ _ (g.V.Value.Wire.its.writable g.E.C.Config.setting) vs ws join c.in_ok-encode_run.ensures c.encode_run-2.ensures))
+    (runs-encode _ _ _ (g.V.Value.Wire.words.writable g.E.C.Config.setting) vs ws join c.in_ok-encode_run.ensures c.encode_run-2.ensures))

@@ -1,6 +1,6 @@
 use Rattle.std.proofs.Common.{inl, inr}
 use Rattle.std.proofs.lemmas.Result.{err_from_is_err_and}
-use Rattle.bincode_laws.specs.AllowedLaws.{pair-allows, allowed-pair}
+use Rattle.bincode_lemmas.specs.AllowedLaws.{pair-allows, allowed-pair}
 use Rattle.bincode_encoder.proofs.EncodingAnswers.{first-halts, next-encodes}
 use Rattle.bincode_encoder.proofs.octets.encode_socket.Goals as goal
 

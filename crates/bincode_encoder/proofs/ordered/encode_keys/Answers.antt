@@ -13,17 +13,17 @@ returns-in_err-write_whole g c =
     let i = c.loop-key.invariant in
     rw (p.1, p.2) (record {
       ok = tt;
-      err = written-halts _ _ _ _ g.met.E.W.Writer.adds_join _ (g.V.Value.Wire.its.writable g.E.C.Config.setting) _ i.0 c.in-Some.ensures.steps halted.err;
-      same_place = halted.same_place ∙ i.1;
+      err = written-halts _ _ _ _ g.met.E.W.Writer.adds_join _ (g.V.Value.Wire.words.writable g.E.C.Config.setting) _ i.0 c.in-Some.ensures.steps halted.err;
+      same_loans = halted.same_loans ∙ i.1;
     })
 
 pub loop-key-preserved : goal.loop-key-preserved
 loop-key-preserved g c =
     let i = c.loop-key.invariant in
     let written = c.in_ok-write_whole.ensures in
-    (written-more _ _ _ g.met.E.W.Writer.adds_join i.0 c.in-Some.ensures.steps written.ok, written.same_place ∙ i.1)
+    (written-more _ _ _ g.met.E.W.Writer.adds_join i.0 c.in-Some.ensures.steps written.ok, written.same_loans ∙ i.1)
 
 pub returns : goal.returns
 returns g c =
     let i = c.loop-key.invariant in
-    record { ok = written-all _ _ _ _ i.0 c.in-None.ensures.steps.0; err = tt; same_place = i.1 }
+    record { ok = written-all _ _ _ _ i.0 c.in-None.ensures.steps.0; err = tt; same_loans = i.1 }

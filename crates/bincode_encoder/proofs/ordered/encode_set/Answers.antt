@@ -9,4 +9,4 @@ returns-in_err-encode_length g c =
 
 pub returns : goal.returns
 returns g c =
-    rw c.same_answer.ensures (list-encodes _ _ _ _ c.args.set.now.keys g.met.E.W.Writer.adds_join (rw c.len.ensures.len at c.in_ok-encode_length.ensures) c.encode_keys.ensures)
+    rw c.rebuild_result.ensures (list-encodes _ _ _ _ c.args.set.now.keys g.met.E.W.Writer.adds_join (rw c.len.ensures.len at c.in_ok-encode_length.ensures) c.encode_keys.ensures)

@@ -10,19 +10,19 @@ returns-in_err-write_whole g c =
     rw (p.1, p.2) (record {
       ok = tt;
       err = halts_array _ _ _ _ _ _ _ _ _ _ _ _ refl (halts-at _ _ g.met.E.W.Writer.adds_join
-          (g.V.Value.Wire.its.writable g.E.C.Config.setting) _ _ _ _ _ c.args.items.now c.loop-item.item-index _ _ (omega arith) c.item-item.is c.loop-item.invariant.0 halted.err);
-      same_place = halted.same_place ∙ c.loop-item.invariant.1;
+          (g.V.Value.Wire.words.writable g.E.C.Config.setting) _ _ _ _ _ c.args.items.now c.loop-item.item-index _ _ (omega arith) c.item-item.is c.loop-item.invariant.0 halted.err);
+      same_loans = halted.same_loans ∙ c.loop-item.invariant.1;
     })
 
 pub loop-item-preserved : goal.loop-item-preserved
 loop-item-preserved g c = (
   writes-more _ g.met.E.W.Writer.adds_join _ _ _ _ c.args.items.now c.loop-item.item-index _ (omega arith) c.item-item.is c.loop-item.invariant.0 c.in_ok-write_whole.ensures.ok,
-  c.write_whole.ensures.same_place ∙ c.loop-item.invariant.1,
+  c.write_whole.ensures.same_loans ∙ c.loop-item.invariant.1,
 )
 
 pub returns : goal.returns
 returns g c = record {
   ok = writes-array _ _ _ _ _ c.loop-item.item-index _ _ _ refl (omega arith) c.loop-item.invariant.0;
   err = tt;
-  same_place = c.loop-item.invariant.1;
+  same_loans = c.loop-item.invariant.1;
 }

@@ -1,20 +1,20 @@
 use Rattle.std.specs.Prelude.{[], refl}
 use Rattle.std.proofs.Common.{arith}
-use Rattle.bincode_format.specs.Decoding.{by_fault}
-use Rattle.bincode_format.specs.Words.{tags_of, allowed_tags}
-use Rattle.bincode_laws.specs.AnswerLaws.{answer-refused}
+use Rattle.bincode_spec.specs.Decoding.{by_fault}
+use Rattle.bincode_spec.specs.Words.{variant_tags, allowed_tags}
+use Rattle.bincode_lemmas.specs.AnswerLaws.{answer-fail}
 use Rattle.bincode_enums.proofs.Refusing.{none-picked}
 use Rattle.bincode_enums.proofs.decode.decode_no_variant.Goals as goal
 
 pub returns : goal.returns
 returns g c =
-    rw (none-picked g.D.C.Config.setting (allowed_tags (tags_of g.T.Enum.choices.variants)) c.args.tag g.T.Enum.choices.variants c.requires.differs)
+    rw (none-picked g.D.C.Config.setting (allowed_tags (variant_tags g.T.Enum.choices.variants)) c.args.tag g.T.Enum.choices.variants c.requires.differs)
     (record {
       ok = λ known. tt;
-      err = λ known. by_fault _ (answer-refused _ _ _ _) (c.type_name.result, rw (c.requires.ordered, c.requires.ends) c.unexpected_variant.ensures) ([], refl);
-      counted = omega arith;
+      err = λ known. by_fault _ (answer-fail _ _ _ _) (c.type_name.result, rw (c.requires.ordered, c.requires.ends) c.unexpected_variant.ensures) ([], refl);
+      failures_monotone = omega arith;
       tells = λ known. known;
-      held = omega arith;
+      charge_kept = omega arith;
       within = λ _. tt;
-      same_place = refl;
+      same_loans = refl;
     })

@@ -1,10 +1,10 @@
 use Rattle.std.specs.Prelude.{ℕ, List}
 use Rattle.std.proofs.Common.{inl, inr}
 use Rattle.std.proofs.lemmas.Result.{err_from_is_err_and}
-use Rattle.bincode_format.specs.Format.{Format}
-use Rattle.bincode_format.specs.Meaning.{Meaning}
-use Rattle.bincode_format.specs.Allowed.{AllowedWord, SameMeanings, WrittenAlike}
-use Rattle.bincode_laws.specs.ChoiceLaws.{choice-allows, allowed-choice}
+use Rattle.bincode_spec.specs.Format.{Format}
+use Rattle.bincode_spec.specs.Meaning.{Meaning}
+use Rattle.bincode_spec.specs.Allowed.{AllowedWord, SameMeanings, WrittenAlike}
+use Rattle.bincode_lemmas.specs.ChoiceLaws.{choice-allows, allowed-choice}
 use Rattle.bincode_encoder.proofs.EncodingAnswers.{encodes-as, first-halts, next-encodes}
 use Rattle.bincode_enums.proofs.encode.encode_variant.Goals as goal
 
@@ -22,8 +22,8 @@ returns-in_err-encode_tag g c =
     let e = g.met.T.Enum.laws.written g.E.C.Config.setting in
     rw (p.1, p.2)
     (encodes-as (allows-as e c.requires.means) (allows-back e c.requires.means) c.requires.writable (λ e n. n)
-    (first-halts {R = Unit {0}} (λ _ r. r) (λ r. (tt, r)) (choice-allows _ _ _ _ _ alike _) (allowed-choice _ _ _ _ _ alike _) {M = g.A.Wire.its.names}
-    (λ e. elim [ inl k ↦ absurd k | inr k ↦ c.requires.names e k ]) c.in_err-encode_tag.ensures))
+    (first-halts {R = Unit {0}} (λ _ r. r) (λ r. (tt, r)) (choice-allows _ _ _ _ _ alike _) (allowed-choice _ _ _ _ _ alike _) {M = g.A.Wire.words.own_errors}
+    (λ e. elim [ inl k ↦ absurd k | inr k ↦ c.requires.own_errors e k ]) c.in_err-encode_tag.ensures))
 
 pub returns : goal.returns
 returns g c =
@@ -31,4 +31,4 @@ returns g c =
     let e = g.met.T.Enum.laws.written g.E.C.Config.setting in
     encodes-as (allows-as e c.requires.means) (allows-back e c.requires.means) c.requires.writable (λ e n. n)
     (next-encodes {R = Unit {0}} (λ _ r. r) (λ r. (tt, r)) (choice-allows _ _ _ _ _ alike _) (allowed-choice _ _ _ _ _ alike _)
-    (λ e. elim [ inl k ↦ absurd k | inr k ↦ c.requires.names e k ]) g.met.E.W.Writer.adds_join c.in_ok-encode_tag.ensures c.encode.ensures)
+    (λ e. elim [ inl k ↦ absurd k | inr k ↦ c.requires.own_errors e k ]) g.met.E.W.Writer.adds_join c.in_ok-encode_tag.ensures c.encode.ensures)

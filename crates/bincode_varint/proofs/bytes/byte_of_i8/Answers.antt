@@ -2,7 +2,7 @@ use Rattle.std.specs.Int.{w8}
 use Rattle.std.proofs.Common.{◌≡◌, ◌∙◌, ap, rules}
 use Rattle.std.proofs.lemmas.Int.{to_z-of_z}
 use mir.Val.{of_z}
-use Rattle.bincode_format.specs.Number.{two_complement}
+use Rattle.bincode_spec.specs.Number.{two_complement}
 use Rattle.bincode_varint.proofs.bytes.byte_of_i8.Goals as goal
 
 pub returns : goal.returns

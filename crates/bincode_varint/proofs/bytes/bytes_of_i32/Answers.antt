@@ -1,5 +1,5 @@
 use Rattle.std.proofs.Common.{◌≡◌, ◌∙◌, ap, rules}
-use Rattle.bincode_format.specs.Number.{digits_of, two_complement}
+use Rattle.bincode_spec.specs.Number.{digits_of, two_complement}
 use Rattle.bincode_varint.proofs.bytes.bytes_of_i32.Goals as goal
 
 pub returns : goal.returns

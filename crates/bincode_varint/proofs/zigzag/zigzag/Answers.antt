@@ -4,8 +4,8 @@ use Rattle.std.proofs.Common.{◌∙◌, sym, ap, subst, arith, T, ltb→lt}
 use Rattle.std.proofs.lemmas.Int.{to_z-of_z}
 use lib.Signed.{lt_z}
 use mir.Val.{of_z, SFits}
-use Rattle.bincode_format.specs.Number.{zigzag, unzigzag}
-use Rattle.bincode_laws.specs.SignedLaws.{zigzag-fits, zigzag-unzigzag}
+use Rattle.bincode_spec.specs.Number.{zigzag, unzigzag}
+use Rattle.bincode_lemmas.specs.SignedLaws.{zigzag-fits, zigzag-unzigzag}
 use Rattle.bincode_varint.proofs.zigzag.zigzag.Goals as goal
 
 negative : (val : ℤ) (bits : ℕ) → SFits w128 val → lt_z val (pos 0) ≡ true → bits ≡ of_z w128 val →

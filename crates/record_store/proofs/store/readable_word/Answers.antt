@@ -10,8 +10,8 @@ returns-in-Ok-read g c = record {
 
 pub returns-in-Err-clause-fits : goal.returns-in-Err-clause-fits
 returns-in-Err-clause-fits g c = λ fits.
-    encode-memory g.T.Wire.its c.tell_plain.ensures c.in-Err.e c.in-Err.ensures.fault
+    encode-memory g.T.Wire.words c.tell_plain.ensures c.in-Err.e c.in-Err.ensures.fault
 
 pub returns-in-Err-read-clause-fits : goal.returns-in-Err-read-clause-fits
 returns-in-Err-read-clause-fits g c = λ fits.
-    read-memory g.T.Wire.its _ _ c.args.value.now c.in-Ok.word.items c.in-Ok.ensures.word _ c.in-Err-read.e (rw c.deref.ensures.value at c.in-Err-read.ensures.found) fits
+    read-memory g.T.Wire.words _ _ c.args.value.now c.in-Ok.word.items c.in-Ok.ensures.word _ c.in-Err-read.e (rw c.deref.ensures.value at c.in-Err-read.ensures.found) fits

@@ -22,7 +22,7 @@ returns-then-measure-most-clause-errors g c =
         c.in-Ok.measure.bytes,
         record {
           listed = c.loop-offset.values.items;
-          rest = drop c.loop-offset.offset c.args.bytes.now;
+          remaining = drop c.loop-offset.offset c.args.bytes.now;
           values = c.loop-offset.invariant.1;
           word = read-there F g.C.Config.bound c.args.bytes.now c.loop-offset.offset (λ m. IsCounted c.args.shape.now m c.in-Ok.measure.values) c.in-Ok.measure.bytes c.in-Ok.ensures.word;
         },
@@ -34,7 +34,7 @@ returns-in-Err-clause-words g c =
     let read = c.in-Err.ensures in
     record {
       end = c.loop-offset.offset;
-      rest = drop c.loop-offset.offset c.args.bytes.now;
+      remaining = drop c.loop-offset.offset c.args.bytes.now;
       values = c.loop-offset.invariant.1;
       ends = refused-at (format_of c.args.shape.now g.C.Config.setting) _ c.args.bytes.now c.loop-offset.offset c.in-Err.why c.loop-offset-test.true read.found read.fault read.limit;
     }
@@ -42,7 +42,7 @@ returns-in-Err-clause-words g c =
 pub returns-clause-words : goal.returns-clause-words
 returns-clause-words g c = record {
   end = c.loop-offset.offset;
-  rest = drop c.loop-offset.offset c.args.bytes.now;
+  remaining = drop c.loop-offset.offset c.args.bytes.now;
   values = c.loop-offset.invariant.1;
   ends = drop_all c.loop-offset.offset c.args.bytes.now c.loop-offset-test.false;
 }

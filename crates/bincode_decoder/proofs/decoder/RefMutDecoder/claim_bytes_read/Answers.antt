@@ -8,11 +8,11 @@ returns g c =
     record {
       claimed = c.claim_bytes_read.ensures.claimed;
       kept = record {
-        same_rest = k.same_rest;
+        same_remaining = k.same_remaining;
         same_failures = k.same_failures;
         tells = k.tells;
         same_reader = k.same_reader;
         same_context = k.same_context;
-        same_place = ap (λ z. c.args.self.now.ghost_name ∷ z) k.same_place;
+        same_loans = ap (λ z. c.args.self.now.ghost_name ∷ z) k.same_loans;
       };
     }

@@ -10,5 +10,5 @@ returns g c =
     record {
       described = λ s. choice_described c.in_ok-parts-2.parts _ s
           (next_variant_described [] _ _ first.0 0 _ _ from_none first.2 (next_variant_described _ _ _ second.0 1 _ _ second.1 second.2 (no_variants_described _))) (omega arith, refl);
-      told = λ none. absurd (none tt);
+      is_known = λ none. absurd (none tt);
     }

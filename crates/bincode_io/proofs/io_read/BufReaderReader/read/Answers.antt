@@ -12,7 +12,7 @@ returns-clause-fills g c =
       next = λ tells. (moved tells).1;
       why = λ tells. tt;
       left = λ tells. tt;
-      counted = omega arith;
+      failures_monotone = omega arith;
       tells = λ tells. (moved tells).0;
-      same_place = refl;
+      same_loans = refl;
     }

@@ -8,7 +8,7 @@ returns-clause-fills g c = record {
   next = λ tells. on_ok_weaker c.fill.result (λ h. given _ _ _ h tells) c.fill.ensures.ok;
   why = λ tells. IfErr-weaker c.fill.result _ _ (λ e h. inr (inl h)) c.fill.ensures.err;
   left = λ tells. IfErr-weaker c.fill.result _ _ (λ e h. inl h) c.fill.ensures.err;
-  counted = omega arith;
-  tells = c.fill.ensures.told;
-  same_place = refl;
+  failures_monotone = omega arith;
+  tells = c.fill.ensures.is_known;
+  same_loans = refl;
 }

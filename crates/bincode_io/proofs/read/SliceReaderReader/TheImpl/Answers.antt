@@ -8,9 +8,9 @@ read-tells g x c = record {
   next = λ known. c.ensures.next;
   why = λ known. IfErr-weaker c.result _ _ (λ e h. inl h) c.ensures.why;
   left = λ known. IfErr-weaker c.result _ _ (λ e h. inr ([], sym h)) c.ensures.left;
-  counted = omega arith;
+  failures_monotone = omega arith;
   tells = λ known. tt;
-  same_place = refl;
+  same_loans = refl;
 }
 
 pub peek_read-tells : goal.peek_read-tells

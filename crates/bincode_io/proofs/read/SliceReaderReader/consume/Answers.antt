@@ -7,5 +7,5 @@ returns c = record {
   taken = λ known. sym (drop-drop c.args.n c.args.self.now.taken c.args.self.now.slice.now);
   same_failures = refl;
   tells = λ known. known;
-  same_place = refl;
+  same_loans = refl;
 }

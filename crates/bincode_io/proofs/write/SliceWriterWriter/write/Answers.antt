@@ -8,7 +8,7 @@ returns-then-self-bytes-clause-piece c =
     let within = self.within in
     let wanted = c.if-self-bytes.true in
     let short : length self.slice.now - self.written < length c.args.bytes.now = omega (arith, within, wanted) in
-    record { ok = tt; err = (refl, short, refl); counted = le_refl 0; same_place = refl }
+    record { ok = tt; err = (refl, short, refl); failures_monotone = le_refl 0; same_loans = refl }
 
 pub returns-clause-piece : goal.returns-clause-piece
 returns-clause-piece c =
@@ -20,6 +20,6 @@ returns-clause-piece c =
     record {
       ok = (refl, same, ap length same ∙ put-length self.written piece self.slice.now within, unwritten self _ piece _ _ _ same refl refl);
       err = tt;
-      counted = counted;
-      same_place = refl;
+      failures_monotone = counted;
+      same_loans = refl;
     }

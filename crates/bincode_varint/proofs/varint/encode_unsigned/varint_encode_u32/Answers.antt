@@ -1,12 +1,12 @@
 use Rattle.std.proofs.Common.{arith}
-use Rattle.bincode_laws.specs.IntegerLaws.{shortest-1, shortest-3, shortest-5}
+use Rattle.bincode_lemmas.specs.IntegerLaws.{shortest-1, shortest-3, shortest-5}
 use Rattle.bincode_varint.proofs.Words.{pieces-one}
 use Rattle.bincode_varint.proofs.varint.encode_unsigned.varint_encode_u32.Goals as goal
 
 pub returns-then-val-from : goal.returns-then-val-from
 returns-then-val-from g c =
     let spelled = shortest-1 c.args.endian c.args.val (omega arith) in
-    pieces-one g.met.W.Writer.adds_none spelled.0 spelled.1 c.write_ahead.ensures.piece
+    pieces-one g.met.W.Writer.adds_none spelled.0 spelled.1 c.write_tag.ensures.piece
 
 pub returns-then-val-from-2 : goal.returns-then-val-from-2
 returns-then-val-from-2 g c =

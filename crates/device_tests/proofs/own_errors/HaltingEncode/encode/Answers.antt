@@ -7,5 +7,5 @@ pub returns : goal.returns
 returns g c = record {
   ok = tt;
   err = by_name _ (g.met.E.W.Writer.adds_none _) c.error_of.ensures (inl c.error_of.ensures);
-  same_place = refl;
+  same_loans = refl;
 }

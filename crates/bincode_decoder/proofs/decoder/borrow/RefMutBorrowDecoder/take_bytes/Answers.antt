@@ -6,6 +6,6 @@ pub returns : goal.returns
 returns g c =
     let t = c.take_bytes.ensures.takes in
     record {
-      takes = record { next = t.next; whole = t.whole; why = t.why; left = t.left; counted = t.counted; tells = t.tells; same_place = ap (λ z. c.args.self.now.ghost_name ∷ z) t.same_place };
+      takes = record { next = t.next; whole = t.whole; why = t.why; left = t.left; failures_monotone = t.failures_monotone; tells = t.tells; same_loans = ap (λ z. c.args.self.now.ghost_name ∷ z) t.same_loans };
       same_charge = c.take_bytes.ensures.same_charge;
     }

@@ -8,7 +8,7 @@ take_bytes-tells g x c = record {
   whole = IfOk-weaker c.result _ _ (λ s h. h.1) c.ensures.next;
   why = λ known. IfErr-weaker c.result _ _ (λ e h. inl h) c.ensures.why;
   left = λ known. IfErr-weaker c.result _ _ (λ e h. inr ([], sym h)) c.ensures.left;
-  counted = omega arith;
+  failures_monotone = omega arith;
   tells = λ known. tt;
-  same_place = refl;
+  same_loans = refl;
 }

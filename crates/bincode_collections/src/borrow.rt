@@ -1,0 +1,37 @@
+//! Lists of bytes behind their length that a decoder lends of its source, without a copy.
+ghost use Rattle.std.specs.Prelude.{pos};
+ghost use Rattle.bincode_spec.specs.Integers.{unsigned_byte};
+ghost use Rattle.bincode_spec.specs.Meaning.{IsNumber};
+ghost use Rattle.bincode_spec.specs.Run.{IsListOf};
+ghost use Rattle.bincode_spec.specs.Values.{Reads};
+ghost use Rattle.bincode_spec.specs.Words.{array, list, natural_number};
+
+use bincode_base::error::DecodeError;
+use bincode_decoder::decoder::{BorrowDecoder, BorrowedBytes, ClaimContainer};
+use bincode_decoder::lengths::decode_length;
+
+/// Claims the room of `len` bytes, and takes them of the source, without a copy. Fails with `LimitExceeded` where the
+/// claim passes the limit, and where the reader does. A fault leaves what was charged before it. It takes no memory.
+fn take_claimed<B: BorrowedBytes, D: BorrowDecoder<B>>(
+    decoder: &mut D,
+    len: usize,
+) -> Result<B, DecodeError>
+    ensures { Reads D.is_known D.remaining D.charge D.failures D.loans D.C.bound D.R.end_error D.R.device ⊥
+        (array len 1 (natural_number unsigned_byte)) (λ m v. IsListOf (λ x n. IsNumber (pos x) n) (B.bytes v) m)
+        (D.charge decoder.old) result decoder.old decoder.new }
+{
+    decoder.claim_container_read::<u8>(len)?;
+    decoder.take_bytes(len)
+}
+
+/// Reads a length, and takes so many bytes of the source as a list, without a copy. Fails where the length can't be
+/// read, with `LimitExceeded` where the room of the bytes passes the limit, and where the reader does. A fault leaves
+/// what was charged before it. It takes no memory.
+pub fn take_list<B: BorrowedBytes, D: BorrowDecoder<B>>(decoder: &mut D) -> Result<B, DecodeError>
+    ensures { Reads D.is_known D.remaining D.charge D.failures D.loans D.C.bound D.R.end_error D.R.device ⊥
+        (list D.C.setting 1 (natural_number unsigned_byte)) (λ m v. IsListOf (λ x n. IsNumber (pos x) n) (B.bytes v) m)
+        (D.charge decoder.old) result decoder.old decoder.new }
+{
+    let len = decode_length(decoder)?;
+    take_claimed(decoder, len)
+}

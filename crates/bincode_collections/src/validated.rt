@@ -1,0 +1,24 @@
+//! Values that passed a test.
+ghost use Rattle.std.specs.Prelude.{◌≡◌, true};
+ghost use Rattle.bincode_spec.specs.Validated.{with_test};
+ghost use Rattle.bincode_spec.specs.Values.{Reads};
+
+use crate::values::ReadValues;
+use bincode_base::error::DecodeError;
+use bincode_decoder::decoder::Decoder;
+use bincode_types::validated::{Validated, Validate};
+
+/// Reads a value, and tests it. Fails where the value does, or with the type's own error where the test fails.
+#[inline]
+pub fn decode_validated<D: Decoder, V: ReadValues<D>, T: Validate<Of = V::Value> + Drop>(
+    decoder: &mut D,
+) -> Result<Validated<T>, DecodeError>
+    ensures { Reads D.is_known D.remaining D.charge D.failures D.loans D.C.bound D.R.end_error D.R.device
+        V.Value.words.may_allocate (with_test T.passes T.fault (V.Value.words.format D.C.setting))
+        (λ m v. V.Value.words.decodes_to m (T.of v.0) × (T.passes m ≡ true)) (D.charge decoder.old) result decoder.old
+        decoder.new }
+{
+    let of = V::read_value(decoder)?;
+    let with_test = T::validate(of)?;
+    Ok(Validated(with_test))
+}

@@ -1,6 +1,0 @@
-use Rattle.std.proofs.Common.{refl}
-use Rattle.bincode_format.specs.Fault.{short}
-use Rattle.bincode_de.proofs.passed.other_error.Goals as goal
-
-pub returns : goal.returns
-returns c = short _ refl (c.new.ensures.whole c.requires)

@@ -1,0 +1,15 @@
+use Rattle.std.proofs.lemmas.Result.{err_from_is_err_and}
+use Rattle.bincode_lemmas.specs.RunLaws.{array-passed}
+use Rattle.bincode_decoder.proofs.ReadAnswers.{claim-passed}
+use Rattle.bincode_collections.proofs.Containers.{array-reads}
+use Rattle.bincode_decode.proofs.impls.arrays.ArrayDecode.decode.Goals as goal
+
+pub returns-in_err-claim_container_read : goal.returns-in_err-claim_container_read
+returns-in_err-claim_container_read g c =
+    let p = err_from_is_err_and c.from_residual.result c.from_residual.ensures.1 in
+    let h = c.in_err-claim_container_read.ensures.claimed.err in
+    let kept = c.claim_container_read.ensures.kept in
+    rw (p.1, p.2) (claim-passed kept _ h.1 (array-passed _ _ _ _ _ _ _ _ _ _ _ _ _ _ h.1 h.0 kept.same_remaining))
+
+pub returns : goal.returns
+returns g c = array-reads c.claim_container_read.ensures.kept c.in_ok-claim_container_read.ensures.claimed.ok c.decode_array.ensures.read

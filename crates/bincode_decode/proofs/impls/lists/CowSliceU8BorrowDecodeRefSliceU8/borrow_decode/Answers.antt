@@ -1,0 +1,11 @@
+use Rattle.std.proofs.lemmas.Result.{err_from_is_err_and}
+use Rattle.bincode_collections.proofs.MadeAnswers.{read-made, read-failed}
+use Rattle.bincode_decode.proofs.impls.lists.CowSliceU8BorrowDecodeRefSliceU8.borrow_decode.Goals as goal
+
+pub returns-in_err-list : goal.returns-in_err-list
+returns-in_err-list g c =
+    let p = err_from_is_err_and c.from_residual.result c.from_residual.ensures.1 in
+    rw (p.1, p.2) (read-failed c.in_err-list.ensures)
+
+pub returns : goal.returns
+returns g c = read-made (λ m h. h) c.in_ok-list.ensures

@@ -1,0 +1,29 @@
+//! Lists of a user's own, which are filled item by item.
+ghost use Rattle.bincode_spec.specs.Run.{IsListOf};
+ghost use Rattle.bincode_spec.specs.Values.{Reads};
+ghost use Rattle.bincode_spec.specs.Words.{list};
+
+use crate::decode::Decode;
+use crate::strategies::ByDecode;
+use bincode_base::error::DecodeError;
+use bincode_decoder::decoder::Decoder;
+use bincode_collections::fill_list;
+use bincode_collections::fill_list::FillList;
+
+/// Reads a length and so many items, as `Vec<T>` does, and puts each into a list of one's own. The room of the items is
+/// claimed before the list is begun, and each one's share is released before it is read. Fails where the length can't
+/// be read, with `LimitExceeded` where the room passes the limit, with `Memory` where the list does, and where an item
+/// does. A fault leaves what was charged before it.
+#[inline]
+pub fn decode_collection<
+    Context: Drop,
+    T: Decode<Context>,
+    K: FillList<Context, Item = T>,
+    D: Decoder<Context = Context>,
+>(decoder: &mut D) -> Result<K, DecodeError>
+    ensures { Reads D.is_known D.remaining D.charge D.failures D.loans D.C.bound D.R.end_error D.R.device (Unit {0})
+        (list D.C.setting T.words.claim (T.words.format D.C.setting)) (λ m v. IsListOf (λ x n. T.words.decodes_to n x)
+        (K.items v) m) (D.charge decoder.old) result decoder.old decoder.new }
+{
+    fill_list::decode_collection::<D, ByDecode<T>, K>(decoder)
+}

@@ -1,0 +1,28 @@
+//! Types of a user's own that are made of all their parts at once.
+ghost use Rattle.std.specs.Prelude.{◌≡◌};
+ghost use Rattle.bincode_spec.specs.Values.{Reads};
+
+use crate::decode::Decode;
+use bincode_base::error::DecodeError;
+use bincode_decoder::decoder::Decoder;
+use bincode_types::has_parts::HasParts;
+
+/// A type whose values are made of their parts.
+pub trait FromParts<Parts>: HasParts<Parts> {
+    /// The value with these parts.
+    fn from_parts(parts: Parts) -> Self
+        ensures { Self.parts result ≡ parts };
+}
+
+/// Reads the parts of a value, and makes it of them: for a struct of many fields. Fails where a part does.
+#[inline(always)]
+pub fn decode_by_parts<Parts: Decode<D::Context>, T: FromParts<Parts>, D: Decoder>(
+    decoder: &mut D,
+) -> Result<T, DecodeError>
+    ensures { Reads D.is_known D.remaining D.charge D.failures D.loans D.C.bound D.R.end_error D.R.device
+        Parts.words.may_allocate (Parts.words.format D.C.setting) (λ m v. Parts.words.decodes_to m (T.parts v))
+        (D.charge decoder.old) result decoder.old decoder.new }
+{
+    let parts = Parts::decode(decoder)?;
+    Ok(T::from_parts(parts))
+}

@@ -1,0 +1,67 @@
+//! Runs and arrays of values whose room has been reserved, without a length.
+ghost use Rattle.std.specs.Prelude.{◌≡◌, ◌*◌, ◌<◌, ◌⊎◌, length, IfOk, vec_capacity};
+ghost use Rattle.bincode_spec.specs.Format.{elements};
+ghost use Rattle.bincode_base.specs.Slots.{SlotsFit};
+ghost use Rattle.bincode_spec.specs.Run.{CanRelease, RoomReturned};
+ghost use Rattle.bincode_spec.specs.Values.{RunRead};
+
+use crate::decode::Decode;
+use crate::strategies::ByDecode;
+use bincode_base::error::DecodeError;
+use bincode_decoder::decoder::Decoder;
+use bincode_collections::{arrays, runs};
+
+/// Reads as many values as `values` has, over them, whose room `claim_container_read` has reserved: each one's share is
+/// released before it is read. A type may read them otherwise (`Decode::Run`), with the same answer. Fails
+/// where a value does. Then some front of the input is taken, unless the error is one that the device does not count,
+/// and no more than the room of the values is given back; what `values` has then is not said.
+#[inline]
+pub fn decode_run<Context: Drop, T: Decode<Context>, D: Decoder<Context = Context>>(
+    decoder: &mut D,
+    values: &mut [T],
+) -> Result<(), DecodeError>
+    requires { CanRelease D.C.bound (D.charge decoder.old) (length values.old * T.words.claim) }
+    ensures { RunRead D.is_known D.remaining D.charge D.failures D.loans D.C.bound D.R.end_error D.R.device
+        (T.words.may_allocate × (0 < length values.old)) T.words.claim (T.words.format D.C.setting) T.words.decodes_to
+        (length values.old) (λ _. values.new) result decoder.old decoder.new }
+{
+    runs::decode_run::<D, ByDecode<T>>(decoder, values)
+}
+
+/// Reads `len` values, as `decode_run` does, into a vector with room for just so many. Fails where a value does, or
+/// with `Memory` where the room for the values is refused; of no values it is never refused.
+#[inline]
+pub fn decode_vec<Context: Drop, T: Decode<Context>, D: Decoder<Context = Context>>(
+    decoder: &mut D,
+    len: usize,
+) -> Result<Vec<T>, DecodeError>
+    requires { CanRelease D.C.bound (D.charge decoder.old) (len * T.words.claim) }
+    ensures length { IfOk result (λ v. length v.items ≡ len) }
+    ensures room { IfOk result (λ v. vec_capacity v ≡ len) }
+    ensures read { RunRead D.is_known D.remaining D.charge D.failures D.loans D.C.bound D.R.end_error D.R.device
+        (0 < len) T.words.claim (T.words.format D.C.setting) T.words.decodes_to len (λ v. v.items) result decoder.old
+        decoder.new }
+{
+    runs::decode_vec::<D, ByDecode<T>>(decoder, len)
+}
+
+/// Reads `N` elements in turn, whose room `claim_container_read` has reserved, and releases each one's share before it.
+/// So the charge at the end is that at the start, with the full widths of the elements in place of their room. Fails
+/// where an element does, or with `Memory` where `N` slots of `Option<T>` can't exist (`slots_fit`).
+#[inline]
+pub fn decode_array<
+    Context: Drop,
+    T: Decode<Context>,
+    D: Decoder<Context = Context>,
+    const N: usize,
+>(decoder: &mut D) -> Result<[T; N], DecodeError>
+    requires { CanRelease D.C.bound (D.charge decoder.old) (N * T.words.claim) }
+    ensures read { RunRead D.is_known D.remaining D.charge D.failures D.loans D.C.bound D.R.end_error D.R.device
+        (T.words.may_allocate ⊎ ¬ (SlotsFit T.row N)) T.words.claim (T.words.format D.C.setting) T.words.decodes_to N
+        (λ v. v) result decoder.old decoder.new }
+    ensures charge { D.is_known decoder.old → IfOk result (λ _. RoomReturned D.C.bound
+        (elements N T.words.claim (T.words.format D.C.setting)) (N * T.words.claim) (D.remaining decoder.old)
+        (D.remaining decoder.new) (D.charge decoder.old) (D.charge decoder.new)) }
+{
+    arrays::decode_array::<D, ByDecode<T>, N>(decoder)
+}

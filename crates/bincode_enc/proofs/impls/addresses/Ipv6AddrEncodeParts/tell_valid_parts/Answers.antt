@@ -1,4 +1,0 @@
-use Rattle.bincode_enc.proofs.impls.addresses.Ipv6AddrEncodeParts.tell_valid_parts.Goals as goal
-
-pub returns : goal.returns
-returns c = rw c.octets.ensures at c.tell_valid.ensures

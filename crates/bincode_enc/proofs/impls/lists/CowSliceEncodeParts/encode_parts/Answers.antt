@@ -1,4 +1,0 @@
-use Rattle.bincode_enc.proofs.impls.lists.CowSliceEncodeParts.encode_parts.Goals as goal
-
-pub returns : goal.returns
-returns g c = rw c.deref.ensures.value at c.encode_list.ensures

@@ -1,4 +1,0 @@
-use Rattle.bincode_enc.proofs.impls.ranges.RangeInclusiveEncodeParts.encode_parts.Goals as goal
-
-pub returns : goal.returns
-returns g c = rw (c.start.ensures, c.end.ensures) at c.encode.ensures

@@ -1,4 +1,0 @@
-use Rattle.bincode_enc.proofs.impls.wrappers.PhantomDataEncodeParts.encode_parts.Goals as goal
-
-pub returns : goal.returns
-returns g c = c.encode.ensures

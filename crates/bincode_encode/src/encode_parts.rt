@@ -1,0 +1,44 @@
+//! Types that are encoded by their parts.
+ghost use Rattle.bincode_spec.specs.Allowed.{AllowedWord};
+ghost use Rattle.bincode_spec.specs.Encoding.{Encodes};
+
+use crate::encode::Encode;
+use bincode_base::error::EncodeError;
+use bincode_encoder::answers::rebuild_result;
+use bincode_encoder::encoder::Encoder;
+use bincode_types::by_parts::ByParts;
+use bincode_types::wire::Wire;
+
+/// A type whose values are written by their parts. It has `Encode` by this, and so have most types here that are made
+/// of others. An enum with type parameters has to go this way: `Encode::as_bytes` of the enum itself would ask that the
+/// sum of its variants takes less than 2^63 bytes, of which nothing is known for a parameter.
+pub trait EncodeParts: Wire + ByParts + Drop {
+    /// How many bytes a value takes at most, as `Encode::MAX_FIXED_SIZE` tells. A type with parameters whose size in
+    /// memory is not known has to say it itself.
+    const MOST_OF_PARTS: Option<usize> = None;
+
+    /// Says that the value in hand is valid, by its parts.
+    fn tell_valid_parts(&self)
+        ensures { Self.words.valid self.now };
+
+    /// Writes a word of the value, by its parts. It does, fails and leaves what `Encode::encode` does.
+    fn encode_parts<E: Encoder>(&self, encoder: &mut E) -> Result<(), EncodeError>
+        ensures { Encodes E.W.adds E.W.refuses E.writer_of E.loans
+            (Self.words.writable E.C.setting self.now)
+            (AllowedWord (Self.words.means self.now) (Self.words.format E.C.setting))
+            Self.words.own_errors result encoder.old encoder.new };
+}
+
+impl<T: EncodeParts> Encode for T {
+    const MAX_FIXED_SIZE: Option<usize> = T::MOST_OF_PARTS;
+
+    #[inline]
+    fn tell_valid(&self) {
+        self.tell_valid_parts();
+    }
+
+    #[inline(always)]
+    fn encode<E: Encoder>(&self, encoder: &mut E) -> Result<(), EncodeError> {
+        rebuild_result(self.encode_parts(encoder))
+    }
+}

@@ -1,0 +1,295 @@
+//! Words of a shape, read through any decoder that lends, without values: how many a word would make.
+ghost use Rattle.std.specs.Prelude.{◌≡◌, ◌*◌, ◌<◌, ℕ, List, true, IfOk};
+ghost use Rattle.bincode_spec.specs.Answer.{Allows, after_release};
+ghost use Rattle.bincode_spec.specs.Claims.{MakesRelease};
+ghost use Rattle.bincode_spec.specs.Run.{CanRelease};
+ghost use Rattle.bincode_spec.specs.Values.{Reads, RunRead};
+ghost use Rattle.bincode_spec.specs.Words.{array, list, text, tuple, tag_then_part};
+ghost use Rattle.bincode_shape.specs.Shapes.{format_of, byte_tag, optional, at, numbered, one_of, TakesMemory};
+ghost use Rattle.bincode_shape.specs.Counts.{count_of, count_each, count_some, count_parts, count_choice, capped};
+ghost use Rattle.bincode_shape.specs.Counts.{IsCounted, without_bytes};
+ghost use Rattle.bincode_shape.specs.Rows.{formats, counts};
+ghost use Rattle.bincode_shape_codec.specs.Counted.{total, with_whole};
+
+use crate::decode::decode_shape;
+use bincode_base::config::Config;
+use bincode_base::error::DecodeError;
+use bincode_base::short_text::{ShortText, TypeName};
+use bincode_decoder::borrow::take_length_prefixed;
+use bincode_decoder::decoder::{BorrowDecoder, BorrowedBytes, Decoder, claim_room};
+use bincode_decoder::integers::{decode_byte, decode_integer};
+use bincode_decoder::lengths::decode_length;
+use bincode_shape::bytes::has_no_bytes;
+use bincode_shape::shape::Shape;
+
+/// Bytes that a decoder lends of its source, which can be looked at.
+pub trait LentBytes: BorrowedBytes {
+    /// The bytes.
+    fn as_bytes(&self) -> &[u8]
+        ensures { result.now ≡ Self.bytes self.now };
+}
+
+impl<'de> LentBytes for &'de [u8] {
+    fn as_bytes(&self) -> &[u8] {
+        self
+    }
+}
+
+/// Reads a word of a shape as `decode_shape` does, but makes no value of it, and answers how many it would make: one,
+/// and those of its parts. A count above `u128::MAX` is told as that. Fails with the first fault of the bytes, with
+/// `LimitExceeded` where the charges pass the limit, and where the reader fails. A fault leaves what was charged before
+/// it. It takes no memory. Of elements without bytes only the first is read, and the others are counted as it is.
+#[cycle(measure)]
+pub fn measure_shape<B: LentBytes, D: BorrowDecoder<B>>(
+    shape: &Shape,
+    decoder: &mut D,
+) -> Result<u128, DecodeError>
+    ensures { Reads D.is_known D.remaining D.charge D.failures D.loans D.C.bound D.R.end_error D.R.device ⊥
+        (format_of shape.now D.C.setting) (IsCounted shape.now) (D.charge decoder.old) result decoder.old decoder.new }
+{
+    match shape {
+        Shape::Text => measure_text::<B, D>(decoder),
+        Shape::Seq { claim, element } => {
+            with_itself(measure_list::<B, D>(element, (*claim).max(1), decoder))
+        }
+        Shape::Array {
+            len,
+            claim,
+            element,
+        } => with_itself(measure_array::<B, D>(element, (*claim).max(1), *len, decoder)),
+        Shape::Tuple(parts) => with_itself(measure_parts::<B, D>(parts, decoder)),
+        Shape::Optional(part) => with_itself(measure_optional::<B, D>(part, decoder)),
+        Shape::Choice(parts) => with_itself(measure_choice::<B, D>(parts, decoder)),
+        _ => measure_scalar(shape, decoder),
+    }
+}
+
+/// One more than the count.
+fn with_itself(count: Result<u128, DecodeError>) -> Result<u128, DecodeError>
+    ensures { result ≡ with_whole count }
+{
+    match count {
+        Ok(count) => Ok(count.saturating_add(1)),
+        Err(e) => Err(e),
+    }
+}
+
+/// Reads a word that makes one value.
+fn measure_scalar<D: Decoder>(shape: &Shape, decoder: &mut D) -> Result<u128, DecodeError>
+    ensures { Reads D.is_known D.remaining D.charge D.failures D.loans D.C.bound D.R.end_error D.R.device
+        (TakesMemory shape.now) (format_of shape.now D.C.setting) (λ m n. n ≡ 1) (D.charge decoder.old) result
+        decoder.old decoder.new }
+{
+    match decode_shape(shape, decoder) {
+        Ok(_) => Ok(1),
+        Err(e) => Err(e),
+    }
+}
+
+/// Reads a text without a copy.
+fn measure_text<B: LentBytes, D: BorrowDecoder<B>>(decoder: &mut D) -> Result<u128, DecodeError>
+    ensures { Reads D.is_known D.remaining D.charge D.failures D.loans D.C.bound D.R.end_error D.R.device ⊥
+        (text D.C.setting) (λ m n. n ≡ 1) (D.charge decoder.old) result decoder.old decoder.new }
+{
+    let bytes: B = take_length_prefixed(decoder)?;
+    match str::from_utf8(bytes.as_bytes()) {
+        Ok(_) => Ok(1),
+        Err(fault) => Err(DecodeError::Utf8 { inner: fault }),
+    }
+}
+
+/// Reads a length, and so many elements behind the claim of their room.
+#[cycle(measure)]
+fn measure_list<B: LentBytes, D: BorrowDecoder<B>>(
+    element: &Shape,
+    claim: usize,
+    decoder: &mut D,
+) -> Result<u128, DecodeError>
+    ensures { Reads D.is_known D.remaining D.charge D.failures D.loans D.C.bound D.R.end_error D.R.device ⊥
+        (list D.C.setting claim (format_of element.now D.C.setting))
+        (λ m n. n ≡ capped (count_each (count_of element.now) m)) (D.charge decoder.old) result decoder.old
+        decoder.new }
+{
+    let len = decode_length(decoder)?;
+    measure_array::<B, D>(element, claim, len, decoder)
+}
+
+/// Reads so many elements behind the claim of their room.
+#[cycle(measure)]
+fn measure_array<B: LentBytes, D: BorrowDecoder<B>>(
+    element: &Shape,
+    claim: usize,
+    len: usize,
+    decoder: &mut D,
+) -> Result<u128, DecodeError>
+    ensures { Reads D.is_known D.remaining D.charge D.failures D.loans D.C.bound D.R.end_error D.R.device ⊥
+        (array len claim (format_of element.now D.C.setting))
+        (λ m n. n ≡ capped (count_each (count_of element.now) m)) (D.charge decoder.old) result decoder.old
+        decoder.new }
+{
+    claim_room(decoder, len, claim)?;
+    measure_elements::<B, D>(element, claim, len, decoder)
+}
+
+/// Reads so many elements, whose room is claimed.
+#[cycle(measure)]
+fn measure_elements<B: LentBytes, D: BorrowDecoder<B>>(
+    element: &Shape,
+    claim: usize,
+    len: usize,
+    decoder: &mut D,
+) -> Result<u128, DecodeError>
+    requires room { CanRelease D.C.bound (D.charge decoder.old) (len * claim) }
+    requires within { Allows D.C.bound (D.charge decoder.old) }
+    ensures { (ns : List ℕ) × RunRead D.is_known D.remaining D.charge D.failures D.loans D.C.bound D.R.end_error
+        D.R.device ⊥ claim (format_of element.now D.C.setting) (IsCounted element.now) len (λ _. ns) result decoder.old
+        decoder.new × IfOk result (λ n. n ≡ capped (total ns)) }
+{
+    if len > 0 && has_no_bytes(element) {
+        measure_alike::<B, D>(element, claim, len, decoder)
+    } else {
+        measure_each::<B, D>(element, claim, len, decoder)
+    }
+}
+
+/// Reads so many elements, whose room is claimed, one by one.
+#[cycle(measure)]
+fn measure_each<B: LentBytes, D: BorrowDecoder<B>>(
+    element: &Shape,
+    claim: usize,
+    len: usize,
+    decoder: &mut D,
+) -> Result<u128, DecodeError>
+    requires { CanRelease D.C.bound (D.charge decoder.old) (len * claim) }
+    ensures { (ns : List ℕ) × RunRead D.is_known D.remaining D.charge D.failures D.loans D.C.bound D.R.end_error
+        D.R.device ⊥ claim (format_of element.now D.C.setting) (IsCounted element.now) len (λ _. ns) result decoder.old
+        decoder.new × IfOk result (λ n. n ≡ capped (total ns)) }
+{
+    let mut count: u128 = 0;
+    for _ in 0..len {
+        let values = measure_element::<B, D>(element, claim, decoder)?;
+        count = count.saturating_add(values);
+    }
+    Ok(count)
+}
+
+/// Reads so many elements without bytes, whose room is claimed: the first, after which the others can't pass the limit.
+#[cycle(measure)]
+fn measure_alike<B: LentBytes, D: BorrowDecoder<B>>(
+    element: &Shape,
+    claim: usize,
+    len: usize,
+    decoder: &mut D,
+) -> Result<u128, DecodeError>
+    requires bytes { without_bytes element.now ≡ true }
+    requires some { 0 < len }
+    requires room { CanRelease D.C.bound (D.charge decoder.old) (len * claim) }
+    requires within { Allows D.C.bound (D.charge decoder.old) }
+    ensures { (ns : List ℕ) × RunRead D.is_known D.remaining D.charge D.failures D.loans D.C.bound D.R.end_error
+        D.R.device ⊥ claim (format_of element.now D.C.setting) (IsCounted element.now) len (λ _. ns) result decoder.old
+        decoder.new × IfOk result (λ n. n ≡ capped (total ns)) }
+{
+    let values = measure_element::<B, D>(element, claim, decoder)?;
+    release_room(decoder, len - 1, claim);
+    Ok(values.saturating_mul(len as u128))
+}
+
+/// Releases the room of so many elements.
+fn release_room<D: Decoder>(decoder: &mut D, len: usize, claim: usize)
+    requires room { CanRelease D.C.bound (D.charge decoder.old) (len * claim) }
+    requires within { Allows D.C.bound (D.charge decoder.old) }
+    ensures { MakesRelease D.is_known D.remaining D.charge D.failures D.reader_of D.context_of D.loans D.C.bound
+        (len * claim) decoder.old decoder.new }
+{
+    if decoder.config().limit().is_some() {
+        decoder.unclaim_bytes_read(len * claim);
+    }
+}
+
+/// Releases the share of an element, and reads it.
+#[cycle(measure)]
+fn measure_element<B: LentBytes, D: BorrowDecoder<B>>(
+    element: &Shape,
+    claim: usize,
+    decoder: &mut D,
+) -> Result<u128, DecodeError>
+    requires { CanRelease D.C.bound (D.charge decoder.old) claim }
+    ensures { Reads D.is_known D.remaining D.charge D.failures D.loans D.C.bound D.R.end_error D.R.device ⊥
+        (format_of element.now D.C.setting) (IsCounted element.now)
+        (after_release D.C.bound (D.charge decoder.old) claim) result decoder.old decoder.new }
+{
+    decoder.unclaim_bytes_read(claim);
+    measure_shape::<B, D>(element, decoder)
+}
+
+/// Reads a word of each part in turn.
+#[cycle(measure)]
+fn measure_parts<B: LentBytes, D: BorrowDecoder<B>>(
+    parts: &[Shape],
+    decoder: &mut D,
+) -> Result<u128, DecodeError>
+    ensures { Reads D.is_known D.remaining D.charge D.failures D.loans D.C.bound D.R.end_error D.R.device ⊥
+        (tuple (at D.C.setting (formats parts.now))) (λ m n. n ≡ capped (count_parts (counts parts.now) m))
+        (D.charge decoder.old) result decoder.old decoder.new }
+{
+    let mut count: u128 = 0;
+    for part in parts {
+        let values = measure_shape::<B, D>(part, decoder)?;
+        count = count.saturating_add(values);
+    }
+    Ok(count)
+}
+
+/// Reads nothing, or a part.
+#[cycle(measure)]
+fn measure_optional<B: LentBytes, D: BorrowDecoder<B>>(
+    part: &Shape,
+    decoder: &mut D,
+) -> Result<u128, DecodeError>
+    ensures { Reads D.is_known D.remaining D.charge D.failures D.loans D.C.bound D.R.end_error D.R.device ⊥
+        (tag_then_part byte_tag (optional (format_of part.now)) D.C.setting)
+        (λ m n. n ≡ capped (count_some (count_of part.now) m)) (D.charge decoder.old) result decoder.old
+        decoder.new }
+{
+    match decode_byte(decoder) {
+        Ok(0) => Ok(0),
+        Ok(1) => measure_shape::<B, D>(part, decoder),
+        Ok(found) => Err(DecodeError::UnexpectedVariant {
+            type_name: TypeName::new("Option"),
+            found: found as u32,
+            min: 0,
+            max: 1,
+        }),
+        Err(e) => Err(e),
+    }
+}
+
+/// Reads a tag, and the part that it picks.
+#[cycle(measure)]
+fn measure_choice<B: LentBytes, D: BorrowDecoder<B>>(
+    parts: &[Shape],
+    decoder: &mut D,
+) -> Result<u128, DecodeError>
+    ensures { Reads D.is_known D.remaining D.charge D.failures D.loans D.C.bound D.R.end_error D.R.device ⊥
+        (one_of (numbered 0 (formats parts.now)) D.C.setting)
+        (λ m n. n ≡ capped (count_choice (counts parts.now) m)) (D.charge decoder.old) result decoder.old
+        decoder.new }
+{
+    if parts.is_empty() {
+        return Err(DecodeError::EmptyEnum {
+            type_name: ShortText::new("Choice"),
+        });
+    }
+    match decode_integer::<u32, D>(decoder) {
+        Ok(found) => match parts.get(found as usize) {
+            Some(part) => measure_shape::<B, D>(part, decoder),
+            None => Err(DecodeError::UnexpectedVariant {
+                type_name: TypeName::new("Choice"),
+                found,
+                min: 0,
+                max: (parts.len() - 1) as u32,
+            }),
+        },
+        Err(e) => Err(e),
+    }
+}

@@ -1,0 +1,64 @@
+-- The words that a value allows.
+use Rattle.std.specs.Prelude.{◌≡◌, ℕ, ◌<◌, ◌≤◌, List, ◌++◌, length}
+use Rattle.std.specs.List.{All}
+use Rattle.bincode_base.specs.declared.error.EncodeError.{EncodeError}
+use Rattle.bincode_base.specs.declared.error.EncodeError.TheVariants as errors
+use Rattle.bincode_spec.specs.Charge.{Step}
+use Rattle.bincode_spec.specs.Format.{Format}
+use Rattle.bincode_spec.specs.Meaning.{Meaning}
+
+-- a word that is written for something that the value means
+pub record AllowedWord (Means : Meaning → Type 0) (F : Format Meaning) (bytes : List ℕ) : Type 0 where
+  pub meaning : Meaning
+  pub is_meant : Means meaning
+  pub is_written : F.Written bytes meaning
+
+-- an error that a type may have, and no writer has
+abbrev pub MayName : EncodeError → Type 0
+MayName (errors.RefCellAlreadyBorrowed _) = Unit {0}
+MayName (errors.LockFailed _) = Unit {0}
+MayName (errors.Other _) = Unit {0}
+MayName (errors.OtherString _) = Unit {0}
+MayName errors.UnexpectedEnd = ⊥
+MayName (errors.Io _ _) = ⊥
+MayName errors.InvalidPathCharacters = ⊥
+MayName errors.Memory = ⊥
+
+-- what is written in one format is what is written in the other
+abbrev pub WrittenAlike : Format Meaning → Format Meaning → Type 0
+WrittenAlike F G =
+    ((bytes : List ℕ) (meaning : Meaning) → F.Written bytes meaning → G.Written bytes meaning) × ((bytes : List ℕ) (meaning : Meaning) → G.Written bytes meaning → F.Written bytes meaning)
+
+-- what is meant in one way is what is meant in the other
+abbrev pub SameMeanings : (Meaning → Type 0) → (Meaning → Type 0) → Type 0
+SameMeanings P Q = ((meaning : Meaning) → P meaning → Q meaning) × ((meaning : Meaning) → Q meaning → P meaning)
+
+-- all of these words have one length
+abbrev pub OneLength : (List ℕ → Type 0) → Type 0
+OneLength Allowed = (x y : List ℕ) → Allowed x → Allowed y → length x ≡ length y
+
+-- some bytes that are allowed
+pub record SomeWord (Allowed : List ℕ → Type 0) : Type 0 where
+  pub bytes : List ℕ
+  pub are_bytes : All (λ b. b < 256) bytes
+  pub is_allowed : Allowed bytes
+
+-- no word of the one kind of meanings is shorter than one that is written for the other
+abbrev pub NoneShorter : (Written Read : Meaning → Type 0) → Format Meaning → Type 0
+NoneShorter Written Read F =
+    (written bytes : List ℕ) (meaning : Meaning) (steps : List Step) → AllowedWord Written F written → All
+    (λ b. b < 256) bytes → F.Word bytes meaning steps → Read meaning → length written ≤ length bytes
+
+-- no word that decodes to what an allowed word decodes to is shorter than that one
+abbrev pub Shortest : (Means DecodesTo : Meaning → Type 0) → Format Meaning → Type 0
+Shortest Means DecodesTo F = NoneShorter (λ m. Means m × DecodesTo m) DecodesTo F
+
+-- a value without cells has a word; those that it allows have one length, and none is shorter
+pub record Spelled (Means : Meaning → Type 0) (F : Format Meaning) : Type 0 where
+  pub has_word : SomeWord (AllowedWord Means F)
+  pub one_length : OneLength (AllowedWord Means F)
+  pub none_shorter : NoneShorter Means Means F
+
+-- what one part allows, and then what the other does
+abbrev pub Both : (List ℕ → Type 0) → (List ℕ → Type 0) → List ℕ → Type 0
+Both First Second bytes = (x y : List ℕ) × (bytes ≡ x ++ y) × First x × Second y

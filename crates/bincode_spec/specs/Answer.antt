@@ -1,0 +1,82 @@
+-- What decoding answers, by a format, a limit, and the charge at the start.
+use Rattle.std.specs.Prelude.{◌≡◌, ℕ, ◌+◌, ◌*◌, ◌-◌, ◌≤◌, ◌⊎◌, ◌^◌, nat_le, nat_lt, if◌then◌else◌, List, [], ◌∷◌, ◌++◌, Option, Some, None}
+use Rattle.bincode_spec.specs.Fault.{Fault}
+use Rattle.bincode_spec.specs.Charge.{Step, Charge, Reserve, Release}
+use Rattle.bincode_spec.specs.Format.{Format, Reading, Took, Failed}
+
+-- the limit allows this charge
+abbrev pub Allows : Option ℕ → ℕ → Type 0
+Allows None charge = Unit {0}
+Allows (Some limit) charge = charge ≤ limit
+
+-- the charge after a claim, if the limit allows it; without a limit nothing is counted
+abbrev pub after_claim : Option ℕ → ℕ → ℕ → Option ℕ
+after_claim None charge n = Some charge
+after_claim (Some limit) charge n = if nat_le (charge + n) limit then Some (charge + n) else None
+
+-- the claim of n bytes stands
+abbrev pub Claimed : Option ℕ → ℕ → ℕ → ℕ → Type 0
+Claimed limit before n after = after_claim limit before n ≡ Some after
+
+-- it passes the limit: the raised charge is kept if it fits 64 bits, else the charge stays
+abbrev pub OverClaimed : Option ℕ → ℕ → ℕ → ℕ → Type 0
+OverClaimed limit before n after = (after_claim limit before n ≡ None) × (after ≡ (if nat_lt (before + n) (2 ^ 64) then before + n else before))
+
+-- A claim of n bytes was made: it stands or passes the limit, and no byte was given back.
+abbrev pub Charges : Option ℕ → ℕ → ℕ → ℕ → Type 0
+Charges limit before n after = Claimed limit before n after ⊎ OverClaimed limit before n after
+
+-- the charge after a release
+abbrev pub after_release : Option ℕ → ℕ → ℕ → ℕ
+after_release None charge n = charge
+after_release (Some limit) charge n = charge - n
+
+-- the charge after one step, if the limit allows it
+abbrev pub after_step : Option ℕ → ℕ → Step → Option ℕ
+after_step limit charge (Charge n) = after_claim limit charge n
+after_step limit charge (Reserve n share) = after_claim limit charge (n * share)
+after_step limit charge (Release n) = Some (after_release limit charge n)
+
+abbrev pub on_some : Option ℕ → (ℕ → Option ℕ) → Option ℕ
+on_some (Some n) next = next n
+on_some None next = None
+
+-- the charge behind the steps, if none passes the limit
+abbrev pub charge_behind : Option ℕ → ℕ → List Step → Option ℕ
+charge_behind limit charge [] = Some charge
+charge_behind limit charge (s ∷ steps) = on_some (after_step limit charge s) (λ after. charge_behind limit after steps)
+
+-- a meaning with the bytes behind the word and the charge behind its steps; a fault with the charge behind the steps before
+-- it; or a step that passed the limit
+pub data Answer (A : Type 0) : Type 0 where
+  Gave : A → List ℕ → ℕ → Answer A
+  Refused : Fault → ℕ → Answer A
+  PassedLimit : Answer A
+
+abbrev pub gave_at : {A : Type 0} → A → List ℕ → Option ℕ → Answer A
+gave_at a remaining (Some charge) = Gave a remaining charge
+gave_at a remaining None = PassedLimit
+
+abbrev pub refused_at : {A : Type 0} → Fault → Option ℕ → Answer A
+refused_at why (Some charge) = Refused why charge
+refused_at why None = PassedLimit
+
+-- what a limit makes of a reading
+abbrev pub weigh_reading : {A : Type 0} → Option ℕ → ℕ → Reading A → Answer A
+weigh_reading limit charge (Took a remaining steps) = gave_at a remaining (charge_behind limit charge steps)
+weigh_reading limit charge (Failed why steps) = refused_at why (charge_behind limit charge steps)
+
+-- the answer to an input, from a charge
+unfoldable pub answer : {A : Type 0} → Option ℕ → Format A → List ℕ → ℕ → Answer A
+answer limit F input charge = weigh_reading limit charge (F.read input)
+
+-- what follows an answer that gave a meaning
+abbrev pub and_then : {A B : Type 0} → Answer A → (A → List ℕ → ℕ → Answer B) → Answer B
+and_then (Gave a remaining charge) next = next a remaining charge
+and_then (Refused why charge) next = Refused why charge
+and_then PassedLimit next = PassedLimit
+
+-- these are the steps of the word that the input begins with, or those before its fault
+pub data StepsOf {A : Type 0} (F : Format A) (input : List ℕ) (steps : List Step) : Type 0 where
+  of_word : (word remaining : List ℕ) (meaning : A) → F.Word word meaning steps → input ≡ word ++ remaining → StepsOf F input steps
+  of_fault : (why : Fault) → F.Faults input why steps → StepsOf F input steps

@@ -1,0 +1,47 @@
+-- How integers of more than one byte are spelled.
+use Rattle.std.specs.Prelude.{ℕ, ◌<◌, ◌^◌, ℤ, pos, unsigned_abs, List}
+use Rattle.bincode_base.specs.declared.config.Endianness.{Endianness}
+use Rattle.bincode_base.specs.declared.config.IntEncoding.{IntEncoding}
+use Rattle.bincode_base.specs.declared.error.IntegerType.{IntegerType}
+use Rattle.bincode_base.specs.Setting.{Setting}
+use Rattle.bincode_spec.specs.Number.{FitsIn}
+use Rattle.bincode_spec.specs.Format.{Format, map_format}
+use Rattle.bincode_spec.specs.Integers.{number_by, integer_by, number_for, unsigned_tag, signed_tag, unsigned_integer, signed_integer, spelling, spelling_pieces}
+
+-- its name in faults, the words of a type, what is read of them behind the charge, and the word that is written for each value, whole and
+-- in pieces; which integer a value is, its absolute value, and which values the type has
+pub record Spelling (A : Type 0) : Type 1 where
+  pub name : IntegerType
+  pub words : Setting → Format A
+  pub read_by : Endianness → IntEncoding → Format A
+  pub written : Endianness → IntEncoding → A → List ℕ
+  pub pieces : Endianness → IntEncoding → A → List (List ℕ)
+  pub integer : A → ℤ
+  pub size : A → ℕ
+  pub Fits : A → Type 0
+
+-- of unsigned numbers of `width` bytes
+abbrev pub unsigned_spelling : IntegerType → ℕ → Spelling ℕ
+unsigned_spelling name width = record {
+  name = name;
+  words = unsigned_integer name width;
+  read_by = λ order encoding. number_by unsigned_tag name order width encoding;
+  written = λ order encoding. spelling encoding order width;
+  pieces = λ order encoding. spelling_pieces encoding order width;
+  integer = pos;
+  size = λ n. n;
+  Fits = λ n. n < 256 ^ width;
+}
+
+-- of signed numbers of `width` bytes
+abbrev pub signed_spelling : IntegerType → ℕ → Spelling ℤ
+signed_spelling name width = record {
+  name = name;
+  words = signed_integer name width;
+  read_by = λ order encoding. map_format (integer_by width encoding) (number_by signed_tag name order width encoding);
+  written = λ order encoding z. spelling encoding order width (number_for width encoding z);
+  pieces = λ order encoding z. spelling_pieces encoding order width (number_for width encoding z);
+  integer = λ z. z;
+  size = unsigned_abs;
+  Fits = FitsIn width;
+}

@@ -1,0 +1,52 @@
+-- What the reading of a value, and of a run of values, promises.
+use Rattle.std.specs.Prelude.{◌≡◌, ℕ, ℤ, ◌*◌, ◌≤◌, List, Option, Result, IfOk, IfErr}
+use Rattle.std.specs.Borrow.{GName}
+use Rattle.bincode_base.specs.declared.error.DecodeError.{DecodeError}
+use Rattle.bincode_spec.specs.Device.{DeviceErrors}
+use Rattle.bincode_spec.specs.Format.{Format, map_format, elements}
+use Rattle.bincode_spec.specs.Meaning.{Meaning, Number, IsNumber, list_meaning}
+use Rattle.bincode_spec.specs.Answer.{answer, Allows, Charges}
+use Rattle.bincode_spec.specs.Decoding.{Decodes, DecodeFailure}
+use Rattle.bincode_spec.specs.Run.{IsListOf, Held}
+
+-- A decoder, which was at `old` and is at `new`, read one value from where so many bytes were charged: what was given is
+-- given for the meaning of a word, or the error tells why it stops; failures are counted up. The reader tells what is left
+-- as before, nothing that was charged is given back, after a success the charge is within the limit if it was before, and
+-- the decoder reads through the same references.
+pub record Reads {D A T : Type 0} (is_known : D → Type 0) (remaining : D → List ℕ) (charge failures : D → ℕ) (loans : D → List GName) (limit : Option ℕ)
+    (end_error : ℕ → DecodeError → Type 0) (device : DeviceErrors) (may_allocate : Type 0) (format : Format A) (decodes_to : A → T → Type 0) (charged : ℕ)
+    (result : Result T DecodeError) (old new : D) : Type 0 where
+  pub ok : is_known old → IfOk result (λ v. Decodes (λ m. decodes_to m v) (answer limit format (remaining old) charged) (remaining new) (charge new))
+  pub err : is_known old → IfErr result (DecodeFailure end_error device may_allocate (answer limit format (remaining old) charged) (failures old) (failures new) (remaining old) (remaining new) (charge new))
+  pub failures_monotone : failures old ≤ failures new
+  pub tells : is_known old → is_known new
+  pub charge_kept : charged ≤ charge new
+  pub within : Allows limit charged → IfOk result (λ _. Allows limit (charge new))
+  pub same_loans : loans new ≡ loans old
+
+-- It read a value whose words have so many bytes: a claim for them was made, whether one was there or not.
+pub record ReadsCharged {D A T : Type 0} (is_known : D → Type 0) (remaining : D → List ℕ) (charge failures : D → ℕ) (loans : D → List GName) (limit : Option ℕ)
+    (end_error : ℕ → DecodeError → Type 0) (device : DeviceErrors) (format : Format A) (decodes_to : A → T → Type 0) (width : ℕ)
+    (result : Result T DecodeError) (old new : D) : Type 0 where
+  pub reads : Reads is_known remaining charge failures loans limit end_error device ⊥ format decodes_to (charge old) result old new
+  pub charges : Charges limit (charge old) width (charge new)
+
+-- It read an integer in the same way: the one that a word stands for, and so what the word means.
+pub record ReadsInteger {D A : Type 0} (is_known : D → Type 0) (remaining : D → List ℕ) (charge failures : D → ℕ) (loans : D → List GName) (limit : Option ℕ)
+    (end_error : ℕ → DecodeError → Type 0) (device : DeviceErrors) (format : Format A) (integer : A → ℤ) (width : ℕ)
+    (result : Result A DecodeError) (old new : D) : Type 0 where
+  pub reads : Reads is_known remaining charge failures loans limit end_error device ⊥ format (λ n v. n ≡ v) (charge old) result old new
+  pub means : Reads is_known remaining charge failures loans limit end_error device ⊥ (map_format (λ k. Number (integer k)) format) (λ m v. IsNumber (integer v) m) (charge old) result old new
+  pub charges : Charges limit (charge old) width (charge new)
+
+-- It read a run of so many values, whose room was reserved, in the same way: no more than the room was given back.
+pub record RunRead {D A T : Type 0} (is_known : D → Type 0) (remaining : D → List ℕ) (charge failures : D → ℕ) (loans : D → List GName) (limit : Option ℕ)
+    (end_error : ℕ → DecodeError → Type 0) (device : DeviceErrors) (may_allocate : Type 0) (claim : ℕ) (format : Format Meaning) (decodes_to : Meaning → T → Type 0)
+    (count : ℕ) (values : A → List T) (result : Result A DecodeError) (old new : D) : Type 0 where
+  pub ok : is_known old → IfOk result (λ v. Decodes (λ ms. IsListOf (λ x m. decodes_to m x) (values v) (list_meaning ms)) (answer limit (elements count claim format) (remaining old) (charge old)) (remaining new) (charge new))
+  pub err : is_known old → IfErr result (DecodeFailure end_error device may_allocate (answer limit (elements count claim format) (remaining old) (charge old)) (failures old) (failures new) (remaining old) (remaining new) (charge new))
+  pub failures_monotone : failures old ≤ failures new
+  pub tells : is_known old → is_known new
+  pub charge_kept : Held limit (count * claim) (charge old) (charge new)
+  pub within : Allows limit (charge old) → IfOk result (λ _. Allows limit (charge new))
+  pub same_loans : loans new ≡ loans old

@@ -1,0 +1,6 @@
+use Rattle.std.proofs.Common.{sym}
+use Rattle.bincode_lemmas.specs.CharLaws.{encoded-2}
+use Rattle.bincode_types.proofs.chars.two_bytes_of_char.Goals as goal
+
+pub returns : goal.returns
+returns c = sym (encoded-2 c.args.code c.requires.least c.requires.most)

@@ -1,0 +1,24 @@
+//! What each type says of its words.
+#![tactic(auto)]
+
+pub mod bags;
+pub mod c_strings;
+pub mod chars;
+pub mod empty;
+pub mod equal_parts;
+pub mod hashed;
+pub mod impls;
+pub mod laws;
+pub mod lists;
+pub mod octets;
+pub mod ordered;
+pub mod own;
+pub mod by_parts;
+pub mod validated;
+pub mod rows;
+pub mod scalars;
+pub mod sums;
+pub mod texts;
+pub mod ranges_and_bounds;
+pub mod wire;
+pub mod has_parts;

@@ -1,8 +1,0 @@
--- What the proofs of this crate share.
-pub mod Reading
-pub mod Containers
-pub mod Putting
-pub mod InTurn
-pub mod MadeAnswers
-pub mod PassedAnswers
-pub mod CellAnswers

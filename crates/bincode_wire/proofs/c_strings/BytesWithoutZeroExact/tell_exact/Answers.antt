@@ -1,8 +1,0 @@
-use Rattle.bincode_laws.specs.TextLaws.{text-alike}
-use Rattle.bincode_wire.proofs.c_strings.BytesWithoutZeroExact.tell_exact.Goals as goal
-
-pub returns : goal.returns
-returns g c = record {
-  one_value = λ v w m h k. text-alike v.bytes w.bytes m;
-  comes_back = λ v w m h. text-alike v.bytes w.bytes m;
-}

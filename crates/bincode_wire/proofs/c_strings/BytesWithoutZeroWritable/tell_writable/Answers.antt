@@ -1,4 +1,0 @@
-use Rattle.bincode_wire.proofs.c_strings.BytesWithoutZeroWritable.tell_writable.Goals as goal
-
-pub returns : goal.returns
-returns g c = λ s v h. tt

@@ -1,6 +1,0 @@
-use Rattle.std.proofs.Common.{sym}
-use Rattle.bincode_laws.specs.CharLaws.{encoded-3}
-use Rattle.bincode_wire.proofs.chars.three_bytes_of_char.Goals as goal
-
-pub returns : goal.returns
-returns c = sym (encoded-3 c.args.code c.requires.least c.requires.most)

@@ -1,5 +1,0 @@
-use Rattle.bincode_laws.specs.CellLaws.{cell-some_word}
-use Rattle.bincode_wire.proofs.impls.cells.CellInhabited.tell_inhabited.Goals as goal
-
-pub returns : goal.returns
-returns g c = λ s. cell-some_word (g.T.Wire.its.format s) (c.tell_inhabited.ensures s)

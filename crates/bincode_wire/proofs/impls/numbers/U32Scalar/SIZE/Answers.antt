@@ -1,5 +1,0 @@
-use Rattle.std.proofs.Common.{refl}
-use Rattle.bincode_wire.proofs.impls.numbers.U32Scalar.SIZE.Goals as goal
-
-pub returns : goal.returns
-returns c = refl

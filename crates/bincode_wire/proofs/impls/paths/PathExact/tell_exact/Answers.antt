@@ -1,9 +1,0 @@
-use Rattle.std.specs.Path.{path_bytes}
-use Rattle.bincode_wire.proofs.PathTexts.{paths-alike}
-use Rattle.bincode_wire.proofs.impls.paths.PathExact.tell_exact.Goals as goal
-
-pub returns : goal.returns
-returns c = record {
-  one_value = λ v w m h k. paths-alike (path_bytes v) (path_bytes w) m;
-  comes_back = λ v w m h. paths-alike (path_bytes v) (path_bytes w) m;
-}

@@ -1,5 +1,0 @@
-use Rattle.bincode_laws.specs.DurationLaws.{duration-some_word}
-use Rattle.bincode_wire.proofs.impls.time.DurationInhabited.tell_inhabited.Goals as goal
-
-pub returns : goal.returns
-returns c = λ s. duration-some_word s

@@ -1,4 +1,0 @@
-use Rattle.bincode_wire.proofs.impls.time.DurationWritable.tell_writable.Goals as goal
-
-pub returns : goal.returns
-returns c = λ s v h. tt

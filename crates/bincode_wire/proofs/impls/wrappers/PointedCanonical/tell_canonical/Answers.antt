@@ -1,4 +1,0 @@
-use Rattle.bincode_wire.proofs.impls.wrappers.PointedCanonical.tell_canonical.Goals as goal
-
-pub returns : goal.returns
-returns g c = λ s v w. c.tell_canonical.ensures s v.to w.to

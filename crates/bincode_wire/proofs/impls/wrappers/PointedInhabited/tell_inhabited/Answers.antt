@@ -1,4 +1,0 @@
-use Rattle.bincode_wire.proofs.impls.wrappers.PointedInhabited.tell_inhabited.Goals as goal
-
-pub returns : goal.returns
-returns g c = c.tell_inhabited.ensures

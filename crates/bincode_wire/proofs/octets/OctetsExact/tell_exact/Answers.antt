@@ -1,8 +1,0 @@
-use Rattle.bincode_laws.specs.TextLaws.{text-alike}
-use Rattle.bincode_wire.proofs.octets.OctetsExact.tell_exact.Goals as goal
-
-pub returns : goal.returns
-returns g c = record {
-  one_value = λ v w m h k. text-alike v.octets w.octets m;
-  comes_back = λ v w m h. text-alike v.octets w.octets m;
-}

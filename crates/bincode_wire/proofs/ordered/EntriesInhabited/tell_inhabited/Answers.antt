@@ -1,5 +1,0 @@
-use Rattle.bincode_laws.specs.ListLaws.{list-some_word}
-use Rattle.bincode_wire.proofs.ordered.EntriesInhabited.tell_inhabited.Goals as goal
-
-pub returns : goal.returns
-returns g c = λ s. list-some_word s _ _

@@ -1,7 +1,0 @@
-use Rattle.bincode_laws.specs.TupleLaws.{then-some_word}
-use Rattle.bincode_wire.proofs.rows.LongRowInhabited.tell_inhabited.Goals as goal
-
-pub returns : goal.returns
-returns g c = λ s. then-some_word _ _ (c.tell_inhabited.ensures s)
-    (then-some_word _ _ (c.tell_inhabited-2.ensures s) (then-some_word _ _ (c.tell_inhabited-3.ensures s)
-    (then-some_word _ _ (c.tell_inhabited-4.ensures s) (c.tell_inhabited-5.ensures s))))

@@ -1,5 +1,0 @@
-use Rattle.std.proofs.Common.{arith}
-use Rattle.bincode_wire.proofs.rows.RowWire.claim_size.Goals as goal
-
-pub returns : goal.returns
-returns g c = grind arith

@@ -1,4 +1,0 @@
-use Rattle.bincode_wire.proofs.scalars.AloneInhabited.tell_inhabited.Goals as goal
-
-pub returns : goal.returns
-returns g c = g.T.Scalar.form_laws.some_word

@@ -1,4 +1,0 @@
-use Rattle.bincode_wire.proofs.sums.OneOfWritable.tell_writable.Goals as goal
-
-pub returns : goal.returns
-returns g c = λ s v h. c.tell_writable.ensures s v.0 h.1

@@ -1,8 +1,0 @@
-use Rattle.bincode_wire.specs.declared.sums.Or.TheVariants.{This, Other}
-use Rattle.bincode_wire.proofs.sums.OrWritableVariants.tell_writable.Goals as goal
-
-pub returns : goal.returns
-returns g c = λ s. elim [
-  | This a ↦ c.tell_writable.ensures s a
-  | Other o ↦ λ h. c.tell_writable-2.ensures s o h.1
-]

@@ -1,9 +1,0 @@
-use Rattle.bincode_laws.specs.TextLaws.{text-one_length}
-use Rattle.bincode_wire.proofs.texts.TextBytesPlain.tell_plain.Goals as goal
-
-pub returns : goal.returns
-returns g c = record {
-  always_writable = λ s v h. tt;
-  one_length = λ s v h. text-one_length s v.bytes h.1;
-  names_none = λ e h. h;
-}

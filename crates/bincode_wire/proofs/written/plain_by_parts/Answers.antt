@@ -1,8 +1,0 @@
-use Rattle.bincode_wire.proofs.written.plain_by_parts.Goals as goal
-
-pub returns : goal.returns
-returns g c = record {
-  always_writable = λ s v. c.tell_plain.ensures.always_writable s (g.T.MadeOf.parts v);
-  one_length = λ s v. c.tell_plain.ensures.one_length s (g.T.MadeOf.parts v);
-  names_none = c.tell_plain.ensures.names_none;
-}

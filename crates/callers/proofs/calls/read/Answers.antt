@@ -1,7 +1,0 @@
-use Rattle.callers.proofs.Refusals.{no-memory}
-use Rattle.callers.proofs.calls.read.Goals as goal
-
-pub returns : goal.returns
-returns g c = record {
-  memory = λ none. no-memory _ (g.D.Wire.its.lawful _) (g.D.Wire.its.balanced _) _ _ _ none _ c.decode_from_slice.ensures.found c.decode_from_slice.ensures.fault c.decode_from_slice.ensures.limit;
-}

@@ -1,9 +1,0 @@
-use Rattle.std.proofs.lemmas.Result.{IfOk-weaker}
-use Rattle.bincode_laws.specs.CostLaws.{cost-fits}
-use Rattle.callers.proofs.calls.round_trip_within.Goals as goal
-
-pub returns : goal.returns
-returns g c = record {
-  back = λ allows. IfOk-weaker c.round_trip.result _ _ (λ trip back. back (cost-fits _ _ _ (c.tell_costs.ensures.costs _) _ allows _)) c.round_trip.ensures.back;
-  short = c.round_trip.ensures.short;
-}

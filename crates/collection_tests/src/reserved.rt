@@ -1,0 +1,155 @@
+//! What is reserved for a list: the room that its length claims, and no more.
+
+use bincode::config;
+use bincode::de::Decode;
+use bincode::ffi::CString;
+use bumpalo::Bump;
+use own_types::arena::ArenaList;
+use own_types::arenas::count_numbers;
+use own_types::pack::Pack;
+use std::alloc::{AllocError, Global};
+use std::collections::{BinaryHeap, HashMap, HashSet, VecDeque};
+use std::path::PathBuf;
+use test_helpers::checks::{decoded, decoded_with, either};
+use test_helpers::rows::first_wrong;
+
+/// The word of the list of the numbers from 1 to 100, of which each takes a byte, and of the text of these bytes.
+fn hundred() -> [u8; 101] {
+    let mut word = [100; 101];
+    for place in 1..101usize {
+        word[place] = place as u8;
+    }
+    word
+}
+
+/// The word of the map from the numbers from 0 to 99 to 100 each.
+fn hundred_entries() -> [u8; 201] {
+    let mut word = [100; 201];
+    for key in 0..100usize {
+        word[2 * key + 1] = key as u8;
+    }
+    word
+}
+
+/// What is read of a whole word.
+fn read<T: Decode<()>>(alloc: Global, word: &[u8]) -> Option<T> {
+    match decoded(alloc, word, config::standard()) {
+        Ok((value, taken)) if taken == word.len() => Some(value),
+        _ => None,
+    }
+}
+
+#[test]
+fn reserves_what_lists_hold(rt: HostRuntime) {
+    let alloc = rt.alloc();
+    let word = hundred();
+    let text: Option<String> = read(alloc, &word);
+    let path: Option<PathBuf> = read(alloc, &word);
+    let bytes: Option<Vec<u8>> = read(alloc, &word);
+    let in_c: Option<Vec<u8>> = read(alloc, &word).map(CString::into_bytes);
+    let list: Option<Vec<u32>> = read(alloc, &word);
+    let queue: Option<VecDeque<u32>> = read(alloc, &word);
+    let heap: Option<BinaryHeap<u32>> = read(alloc, &word);
+    let pack: Option<Pack<u32>> = read(alloc, &word);
+    let rows = [
+        ("String", matches!(&text, Some(it) if it.capacity() == 100)),
+        ("PathBuf", matches!(&path, Some(it) if it.capacity() == 100)),
+        (
+            "Vec<u8>",
+            matches!(&bytes, Some(it) if it.capacity() == 100),
+        ),
+        ("CString", matches!(&in_c, Some(it) if it.capacity() == 100)),
+        (
+            "Vec<u32>",
+            matches!(&list, Some(it) if it.capacity() == 100),
+        ),
+        (
+            "VecDeque",
+            matches!(&queue, Some(it) if it.capacity() == 100),
+        ),
+        (
+            "BinaryHeap",
+            matches!(&heap, Some(it) if it.capacity() == 100),
+        ),
+        (
+            "Pack",
+            matches!(&pack, Some(it) if it.items.capacity() == 100),
+        ),
+    ];
+    assert_eq!(rt; first_wrong(&rows), None);
+}
+
+/// A set with room for a hundred.
+fn spare_set(alloc: Global) -> Result<HashSet<u32>, AllocError> {
+    HashSet::with_capacity(alloc, 100)
+}
+
+/// A map with room for a hundred.
+fn spare_map(alloc: Global) -> Result<HashMap<u8, u8>, AllocError> {
+    HashMap::with_capacity(alloc, 100)
+}
+
+/// A hashed set or map has as much room as one that was made with room for as many, which is more than a hundred.
+#[test]
+fn reserves_what_hashed_ones_claim(rt: HostRuntime) {
+    let alloc = rt.alloc();
+    let set: Option<HashSet<u32>> = read(alloc, &hundred());
+    let map: Option<HashMap<u8, u8>> = read(alloc, &hundred_entries());
+    let (Some(set), Some(spare)) = (set, either(spare_set(alloc), spare_set(alloc))) else {
+        assert!(rt; false);
+        return;
+    };
+    assert_eq!(rt; (set.len(), set.capacity()), (100, spare.capacity()));
+    let (Some(map), Some(spare)) = (map, either(spare_map(alloc), spare_map(alloc))) else {
+        assert!(rt; false);
+        return;
+    };
+    assert_eq!(rt; (map.len(), map.capacity()), (100, spare.capacity()));
+}
+
+/// Room for a hundred numbers in an arena. Where memory is refused it is asked for once more.
+fn spare_list(bump: &Bump) -> Result<Vec<u32, &Bump>, AllocError> {
+    match Vec::with_capacity(bump, 100) {
+        Ok(spare) => Ok(spare),
+        Err(_) => Vec::with_capacity(bump, 100),
+    }
+}
+
+/// A list in an arena takes as much of it as its items, and no more.
+#[test]
+fn reserves_what_a_list_in_an_arena_holds(rt: HostRuntime) {
+    let (bump, other) = (Bump::new(rt.alloc()), Bump::new(rt.alloc()));
+    let Ok((list, 101)) = decoded_with::<_, ArenaList<u32>, _>(
+        rt.alloc(),
+        &hundred(),
+        config::standard(),
+        &bump,
+    ) else {
+        assert!(&rt; false);
+        return;
+    };
+    assert!(&rt; list.items.len() == 100);
+    let spare = spare_list(&other);
+    assert!(&rt; spare.is_ok());
+    assert_eq!(&rt; bump.allocated_bytes(), other.allocated_bytes());
+    assert_eq!(&rt; bump.chunk_capacity(), other.chunk_capacity());
+}
+
+/// The numbers 1 to 3.
+const THREE: [u8; 4] = [3, 1, 2, 3];
+
+/// An arena is free again after each list that is counted: a thousand of them need no more than the first one did.
+#[test]
+fn counts_within_one_chunk(rt: HostRuntime) {
+    let mut bump = Bump::new(rt.alloc());
+    let first = either(
+        count_numbers(rt.alloc(), &mut bump, &THREE, config::standard()),
+        count_numbers(rt.alloc(), &mut bump, &THREE, config::standard()),
+    );
+    assert!(&rt; first == Some(3));
+    bump.set_allocation_limit(Some(bump.allocated_bytes()));
+    for _ in 0..1_000 {
+        let count = count_numbers(rt.alloc(), &mut bump, &THREE, config::standard());
+        assert!(&rt; matches!(count, Ok(3)));
+    }
+}

@@ -1,0 +1,44 @@
+//! Writing over a line that is cut, and into a fixed room.
+
+use bincode::enc::{Encode, Encoder, EncoderImpl};
+use bincode::error::EncodeError;
+use bincode::{config, encode_into_writer};
+use proved_callers::cut::CutWriter;
+use proved_callers::fixed::Fixed;
+use proved_callers::lengths::encoded_length;
+use std::process::Abort;
+
+/// The first number is written, and each after it answers the error of the line.
+fn fails_behind_the_first<E: Encoder>(rt: &impl Abort, encoder: &mut E) {
+    assert!(rt; 7u8.encode(encoder).is_ok());
+    assert!(rt; matches!(300u16.encode(encoder), Err(EncodeError::Other(_))));
+    assert!(rt; matches!(9u8.encode(encoder), Err(EncodeError::Other(_))));
+}
+
+#[test]
+fn answers_the_error_of_a_cut_line(rt: HostRuntime) {
+    let mut encoder = EncoderImpl::new(CutWriter::new(2), config::standard());
+    fails_behind_the_first(&rt, &mut encoder);
+    let writer = encoder.writer();
+    assert!(rt; writer.sent() == 2);
+    assert!(rt; writer.failures() == 2);
+}
+
+/// A pair whose parts are written in one byte and in three.
+const PAIR: (u8, u32) = (1, 300);
+
+#[test]
+fn writes_into_a_fixed_room(rt: HostRuntime) {
+    let mut enough: Fixed<4> = Fixed::new();
+    assert!(rt; encode_into_writer(PAIR, &mut enough, config::standard()).is_ok());
+    assert!(rt; enough.held() == [1, 251, 44, 1].as_slice());
+    let mut short: Fixed<3> = Fixed::new();
+    let outcome = encode_into_writer(PAIR, &mut short, config::standard());
+    assert!(rt; matches!(outcome, Err(EncodeError::UnexpectedEnd)));
+    assert!(rt; short.held() == [1, 251].as_slice());
+}
+
+#[test]
+fn counts_what_is_written(rt: HostRuntime) {
+    assert!(rt; matches!(encoded_length(&PAIR, config::standard()), Ok(4)));
+}

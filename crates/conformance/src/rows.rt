@@ -1,0 +1,82 @@
+//! The cases of the program, and the loops over them.
+ghost use Rattle.std.specs.Prelude.{◌≤◌, length, IfOk};
+
+use crate::case::Case;
+use crate::charges::charge_table;
+use crate::choices::choice_table;
+use crate::collections::collection_table;
+use crate::limits::limit_table;
+pub use crate::trailing_bytes::trailing_cases;
+use crate::numbers::number_table;
+use crate::run::holds;
+use crate::shaped::shaped_table;
+use crate::sources::Source;
+use std::alloc::Global;
+use std::io;
+use std::io::Write;
+
+/// A case with its label.
+#[derive(Drop)]
+pub struct Row {
+    pub label: &'static str,
+    pub case: Case,
+}
+
+/// The tables of the cases that the program runs.
+pub fn tables() -> [&'static [Row]; 6] {
+    [
+        number_table(),
+        limit_table(),
+        collection_table(),
+        choice_table(),
+        charge_table(),
+        shaped_table(),
+    ]
+}
+
+/// The tables of the cases whose types are named in the code: all but those that are described at run time, and the
+/// cases that the program leaves out.
+pub fn typed_tables() -> [&'static [Row]; 6] {
+    [
+        number_table(),
+        limit_table(),
+        collection_table(),
+        choice_table(),
+        charge_table(),
+        trailing_cases(),
+    ]
+}
+
+/// Runs the cases of some tables in turn; what is decoded as an owned type is read from `S`. Writes a line for each,
+/// whether it holds, and a last line with their number and how many failed, and answers the latter.
+pub fn run<S: Source, W: Write>(
+    alloc: Global,
+    tables: &[&[Row]],
+    out: &mut W,
+) -> io::Result<usize> {
+    let mut count = 0usize;
+    let mut failed = 0usize;
+    for table in tables {
+        failed = failed.saturating_add(run_table::<S, W>(alloc, table, out)?);
+        count = count.saturating_add(table.len());
+    }
+    writeln!(out, "rows {count} failed {failed}")?;
+    Ok(failed)
+}
+
+/// Runs the cases of a table in turn, writes a line for each, and answers how many failed.
+fn run_table<S: Source, W: Write>(alloc: Global, table: &[Row], out: &mut W) -> io::Result<usize>
+    ensures { IfOk result (λ failed. failed ≤ length table.now) }
+{
+    let mut failed = 0;
+    for row in table {
+        let label = row.label;
+        if holds::<S>(alloc, &row.case)? {
+            writeln!(out, "{label} ok")?;
+        } else {
+            writeln!(out, "{label} FAIL")?;
+            failed += 1;
+        }
+    }
+    Ok(failed)
+}

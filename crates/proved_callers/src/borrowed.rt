@@ -1,0 +1,58 @@
+//! Callers that rest on the contracts of borrowed decoding alone.
+ghost use Rattle.std.specs.Prelude.{◌≡◌, IfErr, IfOk, MatchResult};
+ghost use Rattle.bincode_base.specs.declared.error.DecodeError.TheVariants.{Memory};
+ghost use Rattle.bincode_spec.specs.Agree.{SameReading};
+ghost use Rattle.bincode_spec.specs.Decoding.{IsRefused};
+
+use bincode::config::Config;
+use bincode::de::{BorrowDecode, Decode};
+use bincode::error::DecodeError;
+use bincode::{Wire, borrow_decode_from_slice, decode_from_slice};
+use std::alloc::Global;
+
+/// What came of reading a value by a copy, and of reading it by a loan.
+#[derive(Drop)]
+pub struct ReadTwice<T> {
+    pub owned: Result<(T, usize), DecodeError>,
+    pub borrowed: Result<(T, usize), DecodeError>,
+}
+
+/// Reads a value from a slice in both ways. What one of them reads the other does, of as many bytes and for the same
+/// meaning, unless memory is refused.
+pub fn read_twice<'a, T: Decode<()> + BorrowDecode<&'a [u8], ()>, C: Config>(
+    alloc: Global,
+    src: &'a [u8],
+    config: C,
+) -> ReadTwice<T>
+    ensures owned { IfOk result.owned (λ x. MatchResult result.borrowed (λ y. SameReading T.words.decodes_to x y)
+        (IsRefused T.words.may_allocate)) }
+    ensures borrowed { IfOk result.borrowed (λ y. MatchResult result.owned (λ x. SameReading T.words.decodes_to y x)
+        (IsRefused T.words.may_allocate)) }
+{
+    let owned = decode_from_slice(alloc, src, config);
+    let borrowed = borrow_decode_from_slice(alloc, src, config);
+    ReadTwice { owned, borrowed }
+}
+
+/// Reads a value that may hold bytes of the slice. Where its type takes no memory, the error is never that memory was
+/// refused.
+pub fn borrow_read<'a, D: BorrowDecode<&'a [u8], ()>, C: Config>(
+    alloc: Global,
+    src: &'a [u8],
+    config: C,
+) -> Result<(D, usize), DecodeError>
+    ensures memory { (D.words.may_allocate → ⊥) → IfErr result (λ e. ¬ (e ≡ Memory)) }
+{
+    borrow_decode_from_slice(alloc, src, config)
+}
+
+/// Reads a pair of a text and bytes, which are lent by the slice and take no memory.
+pub fn borrow_pair<'a, C: Config>(
+    alloc: Global,
+    src: &'a [u8],
+    config: C,
+) -> Result<((&'a str, &'a [u8]), usize), DecodeError>
+    ensures { IfErr result (λ e. ¬ (e ≡ Memory)) }
+{
+    borrow_read(alloc, src, config)
+}

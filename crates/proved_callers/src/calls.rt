@@ -1,0 +1,227 @@
+//! Callers that rest on the contracts of the two calls alone.
+ghost use Rattle.std.specs.Prelude.{◌≡◌, ◌*◌, ◌≤◌, ℕ, true, IfErr, IfOk};
+ghost use Rattle.std.specs.Prelude.{MatchResult, Some, false, length, take, vec_capacity};
+ghost use Rattle.bincode_base.specs.declared.error.DecodeError.TheVariants.{Memory};
+ghost use Rattle.bincode_spec.specs.Allowed.{AllowedWord};
+ghost use Rattle.bincode_spec.specs.Answer.{Allows};
+ghost use Rattle.bincode_spec.specs.Decoding.{IsRefused};
+ghost use Rattle.bincode_spec.specs.Limits.{FitsLimit};
+ghost use Rattle.bincode_spec.specs.Slice.{FrontWritten};
+ghost use Rattle.proved_callers.specs.Short.{TooShort};
+ghost use Rattle.std.specs.Range.{range_inclusive_exhausted};
+
+use bincode::config::Config;
+use bincode::de::Decode;
+use bincode::enc::Encode;
+use bincode::error::{DecodeError, EncodeError};
+use bincode::laws::{ConstantCharge, Exact, Writable};
+use bincode::time::Duration;
+use bincode::{Wire, decode_from_slice, encode_into_slice, encode_to_vec};
+use std::alloc::Global;
+use std::cell::{Cell, RefCell};
+use std::cmp::Reverse;
+use std::marker::PhantomData;
+use std::net::{IpAddr, Ipv4Addr, Ipv6Addr, SocketAddr, SocketAddrV4, SocketAddrV6};
+use std::num::{NonZeroU16, Wrapping};
+use std::ops::{Bound, Range, RangeInclusive};
+
+/// Reads a value. Where its type takes no memory, the error is never that memory was refused.
+pub fn read<D: Decode<()>, C: Config>(
+    alloc: Global,
+    src: &[u8],
+    config: C,
+) -> Result<(D, usize), DecodeError>
+    ensures memory { (D.words.may_allocate → ⊥) → IfErr result (λ e. ¬ (e ≡ Memory)) }
+{
+    decode_from_slice(alloc, src, config)
+}
+
+/// What came of writing a value and reading it: how many bytes were written, and what was read.
+#[derive(Drop)]
+pub struct RoundTrip<T> {
+    pub written: usize,
+    pub read: Result<(T, usize), DecodeError>,
+}
+
+/// Writes a value into the front of a slice, and reads it back from there, with the bytes behind it. Where the charges
+/// of the word that was written stay within the limit an equal value is read, of as many bytes, unless memory is
+/// refused. Fails with `UnexpectedEnd` where the slice is too short.
+pub fn round_trip<T: Encode + Decode<()> + Exact, C: Config>(
+    alloc: Global,
+    value: &T,
+    slice: &mut [u8],
+    config: C,
+) -> Result<RoundTrip<T>, EncodeError>
+    ensures back { IfOk result (λ trip. FitsLimit (T.words.format C.setting) C.bound (take trip.written slice.new) →
+        MatchResult trip.read (λ x. (T.eq value.now x.0 ≡ true) × (x.1 ≡ trip.written))
+        (IsRefused T.words.may_allocate)) }
+    ensures short { IfErr result (TooShort (AllowedWord (T.words.means value.now) (T.words.format C.setting))
+        (length slice.old)) }
+{
+    T::tell_plain();
+    T::tell_exact();
+    value.tell_valid();
+    let written = encode_into_slice(value, slice, config)?;
+    let read = decode_from_slice(alloc, slice, config);
+    Ok(RoundTrip { written, read })
+}
+
+/// What came of writing a value into a vector and reading it: the bytes of its word, and what was read.
+#[derive(Drop)]
+pub struct VecTrip<T> {
+    pub bytes: Vec<u8>,
+    pub read: Result<(T, usize), DecodeError>,
+}
+
+/// Writes a value into a vector, and reads it back from there. Where the charges of the word that was written stay
+/// within the limit an equal value is read, of as many bytes, unless memory is refused. Fails with `Memory` where the
+/// room of the vector is refused.
+pub fn round_trip_by_vec<T: Encode + Decode<()> + Exact, C: Config>(
+    alloc: Global,
+    value: &T,
+    config: C,
+) -> Result<VecTrip<T>, EncodeError>
+    ensures { IfOk result (λ trip. FitsLimit (T.words.format C.setting) C.bound trip.bytes.items →
+        MatchResult trip.read (λ x. (T.eq value.now x.0 ≡ true) × (x.1 ≡ length trip.bytes.items))
+        (IsRefused T.words.may_allocate)) }
+{
+    T::tell_exact();
+    value.tell_valid();
+    let bytes = encode_to_vec(alloc, value, config)?;
+    let read = decode_from_slice(alloc, &bytes, config);
+    Ok(VecTrip { bytes, read })
+}
+
+/// The same of a type whose words all charge the same: the limit has to allow what is charged and held at once, at
+/// most.
+pub fn round_trip_within<T: Encode + Decode<()> + Exact + ConstantCharge, C: Config>(
+    alloc: Global,
+    value: &T,
+    slice: &mut [u8],
+    config: C,
+) -> Result<RoundTrip<T>, EncodeError>
+    ensures back { Allows C.bound T.peak → IfOk result (λ trip.
+        MatchResult trip.read (λ x. (T.eq value.now x.0 ≡ true) × (x.1 ≡ trip.written))
+        (IsRefused T.words.may_allocate)) }
+    ensures short { IfErr result (TooShort (AllowedWord (T.words.means value.now) (T.words.format C.setting))
+        (length slice.old)) }
+{
+    T::tell_costs();
+    round_trip(alloc, value, slice, config)
+}
+
+/// A number of 8 bytes and four of 4, under any limit from 24 on.
+pub fn round_trip_of_numbers<C: Config>(
+    alloc: Global,
+    value: &(u64, [u32; 4]),
+    slice: &mut [u8],
+    config: C,
+) -> Result<RoundTrip<(u64, [u32; 4])>, EncodeError>
+    ensures back { Allows C.bound 24 → IfOk result (λ trip. MatchResult trip.read
+        (λ x. (⟦<(u64, [u32; 4]) as PartialEq>⟧.eq value.now x.0 ≡ true) × (x.1 ≡ trip.written))
+        (IsRefused (⟦<(u64, [u32; 4]) as Wire>⟧.words.may_allocate))) }
+    ensures short { IfErr result (TooShort (AllowedWord (⟦<(u64, [u32; 4]) as Wire>⟧.words.means value.now)
+        (⟦<(u64, [u32; 4]) as Wire>⟧.words.format C.setting)) (length slice.old)) }
+{
+    round_trip_within(alloc, value, slice, config)
+}
+
+/// Reads a list. Under a limit the room that it has, by the claim size of its items, is within the limit.
+pub fn read_list<T: Decode<()>, C: Config>(
+    alloc: Global,
+    src: &[u8],
+    config: C,
+) -> Result<(Vec<T>, usize), DecodeError>
+    ensures { (limit : ℕ) → C.bound ≡ Some limit
+        → IfOk result (λ x. vec_capacity x.0 * T.words.claim ≤ limit) }
+{
+    decode_from_slice(alloc, src, config)
+}
+
+/// Says of a range that was read that it is not exhausted.
+pub fn read_range<C: Config>(
+    alloc: Global,
+    src: &[u8],
+    config: C,
+) -> Result<(RangeInclusive<u16>, usize), DecodeError>
+    ensures { IfOk result (λ x. range_inclusive_exhausted x.0 ≡ false) }
+{
+    decode_from_slice(alloc, src, config)
+}
+
+/// Reads a number, which takes no memory.
+pub fn read_number<C: Config>(
+    alloc: Global,
+    src: &[u8],
+    config: C,
+) -> Result<(u64, usize), DecodeError>
+    ensures { IfErr result (λ e. ¬ (e ≡ Memory)) }
+{
+    read(alloc, src, config)
+}
+
+/// Reads a cell, which takes no memory.
+pub fn read_cell<C: Config>(
+    alloc: Global,
+    src: &[u8],
+    config: C,
+) -> Result<(Cell<u32>, usize), DecodeError>
+    ensures { IfErr result (λ e. ¬ (e ≡ Memory)) }
+{
+    read(alloc, src, config)
+}
+
+/// Types of each family that take no memory, so that `read` is never refused some at them.
+pub fn types_without_memory()
+    ensures number { ⟦<u64 as Wire>⟧.words.may_allocate → ⊥ }
+    ensures number_other_than_zero { ⟦<NonZeroU16 as Wire>⟧.words.may_allocate → ⊥ }
+    ensures truth { ⟦<bool as Wire>⟧.words.may_allocate → ⊥ }
+    ensures character { ⟦<char as Wire>⟧.words.may_allocate → ⊥ }
+    ensures pair { ⟦<(u8, u32) as Wire>⟧.words.may_allocate → ⊥ }
+    // its slots fit
+    ensures array { ⟦<[u8; 4] as Wire>⟧.words.may_allocate → ⊥ }
+    ensures option { ⟦<Option<u32> as Wire>⟧.words.may_allocate → ⊥ }
+    ensures outcome { ⟦<Result<u8, u16> as Wire>⟧.words.may_allocate → ⊥ }
+    ensures bound { ⟦<Bound<u8> as Wire>⟧.words.may_allocate → ⊥ }
+    ensures range { ⟦<Range<u16> as Wire>⟧.words.may_allocate → ⊥ }
+    ensures inclusive_range { ⟦<RangeInclusive<u16> as Wire>⟧.words.may_allocate → ⊥ }
+    ensures wrapping { ⟦<Wrapping<u32> as Wire>⟧.words.may_allocate → ⊥ }
+    ensures reverse { ⟦<Reverse<u32> as Wire>⟧.words.may_allocate → ⊥ }
+    ensures nothing { ⟦<PhantomData<u8> as Wire>⟧.words.may_allocate → ⊥ }
+    ensures span { ⟦<Duration as Wire>⟧.words.may_allocate → ⊥ }
+    ensures cell { ⟦<Cell<u32> as Wire>⟧.words.may_allocate → ⊥ }
+    ensures ref_cell { ⟦<RefCell<u32> as Wire>⟧.words.may_allocate → ⊥ }
+    ensures address { ⟦<IpAddr as Wire>⟧.words.may_allocate → ⊥ }
+    ensures address_v4 { ⟦<Ipv4Addr as Wire>⟧.words.may_allocate → ⊥ }
+    ensures address_v6 { ⟦<Ipv6Addr as Wire>⟧.words.may_allocate → ⊥ }
+    ensures socket { ⟦<SocketAddr as Wire>⟧.words.may_allocate → ⊥ }
+    ensures socket_v4 { ⟦<SocketAddrV4 as Wire>⟧.words.may_allocate → ⊥ }
+    ensures socket_v6 { ⟦<SocketAddrV6 as Wire>⟧.words.may_allocate → ⊥ }
+{}
+
+/// Writes a value of a type whose every valid value can be written. After a failure a front of an allowed word stands
+/// in the slice.
+pub fn write<T: Encode + Writable, C: Config>(
+    value: &T,
+    slice: &mut [u8],
+    config: C,
+) -> Result<usize, EncodeError>
+    ensures { IfErr result (FrontWritten (AllowedWord (T.words.means value.now) (T.words.format C.setting)) slice.old
+        slice.new) }
+{
+    T::tell_writable();
+    value.tell_valid();
+    encode_into_slice(value, slice, config)
+}
+
+/// Writes a cell.
+pub fn write_cell<C: Config>(
+    value: &Cell<u8>,
+    slice: &mut [u8],
+    config: C,
+) -> Result<usize, EncodeError>
+    ensures { IfErr result (FrontWritten (AllowedWord (⟦<Cell<u8> as Wire>⟧.words.means value.now)
+        (⟦<Cell<u8> as Wire>⟧.words.format C.setting)) slice.old slice.new) }
+{
+    write(value, slice, config)
+}

@@ -1,0 +1,52 @@
+//! Callers that read of more bytes and of fewer, and rest on the contracts of the two calls alone.
+ghost use Rattle.std.specs.Prelude.{◌≤◌, ◌<◌, ◌⊎◌, ◌++◌, ℕ, List, All, Result, length, IfOk};
+ghost use Rattle.bincode_base.specs.declared.error.DecodeError.{DecodeError};
+ghost use Rattle.bincode_spec.specs.Agree.{SameAnswer, WasCut, WasRefused};
+ghost use Rattle.bincode_spec.specs.Slice.{IsAnswer};
+
+use bincode::config::Config;
+use bincode::de::Decode;
+use bincode::decode_from_slice;
+use bincode::error::DecodeError;
+use std::alloc::Global;
+
+/// What came of reading a value from the first of some bytes, and from all of them.
+#[derive(Drop)]
+pub struct ReadLonger<T> {
+    pub front: Result<(T, usize), DecodeError>,
+    pub whole: Result<(T, usize), DecodeError>,
+}
+
+/// Reads a value from the first `count` bytes, and from all. What is answered to the first is answered to all, unless
+/// it is that the input ended too early or that memory was refused. Bytes with a front of a word and no more are told
+/// as such an end.
+pub fn read_longer<T: Decode<()>, C: Config>(
+    alloc: Global,
+    bytes: &[u8],
+    count: usize,
+    config: C,
+) -> ReadLonger<T>
+    requires { count ≤ length bytes.now }
+    ensures same { ¬ (WasCut result.front) → WasRefused T.words.may_allocate result.front
+        ⊎ (WasRefused T.words.may_allocate result.whole ⊎ SameAnswer T.words.decodes_to result.front result.whole) }
+    ensures cut { IfOk result.whole (λ x. count < x.1 → WasCut result.front
+        ⊎ WasRefused T.words.may_allocate result.front) }
+{
+    let front = decode_from_slice(alloc, &bytes[..count], config);
+    let whole = decode_from_slice(alloc, bytes, config);
+    ReadLonger { front, whole }
+}
+
+/// Reads a value from bytes to which more may be added. Where it is answered that they ended too early, there are such
+/// as can follow them with which this is answered no more.
+pub fn read_part<T: Decode<()>, C: Config>(
+    alloc: Global,
+    bytes: &[u8],
+    config: C,
+) -> Result<(T, usize), DecodeError>
+    ensures { WasCut result → (more : List ℕ) × All (λ x. x < 256) more × ((later : Result (T × ℕ) DecodeError)
+        → IsAnswer (T.words.format C.setting) C.bound T.words.may_allocate T.words.decodes_to (bytes.now ++ more) later
+        → ¬ (WasCut later)) }
+{
+    decode_from_slice(alloc, bytes, config)
+}

@@ -1,0 +1,97 @@
+//! Callers that read and write the values of a type by a shape that describes it, and rest on the contracts of the
+//! calls alone.
+ghost use Rattle.std.specs.Prelude.{◌≡◌, true, OnOk, IfSome, IsSome};
+ghost use Rattle.bincode.specs.Describing.{Describes};
+ghost use Rattle.bincode_spec.specs.Encoding.{Writes};
+ghost use Rattle.bincode_shape.specs.Shapes.{fits};
+ghost use Rattle.proved_callers.specs.Shaped.{ReadsAlike, AllowsEachValue, AllowsEachImage};
+
+use bincode::config::Config;
+use bincode::de::Decode;
+use bincode::enc::Encode;
+use bincode::enc::write::Writer;
+use bincode::error::{DecodeError, EncodeError};
+use bincode::shape::{Described, Shape, Value, decode_shaped, encode_shaped};
+use bincode::{Wire, decode_from_slice, encode_into_writer};
+use std::alloc::Global;
+
+/// The shape of a type, and what came of reading a value of it as the type does, and by the shape.
+#[derive(Drop)]
+pub struct ReadByShape<T> {
+    pub shape: Shape,
+    pub by_type: Result<(T, usize), DecodeError>,
+    pub by_shape: Result<(Value, usize), DecodeError>,
+}
+
+/// Reads a value from a slice in both ways. By the shape an image of the value is read, of as many bytes and with its
+/// meaning, or the same fault is told, unless memory is refused. `None` says that memory for the shape was refused.
+pub fn read_as_shaped<T: Described + Decode<()>, C: Config>(
+    alloc: Global,
+    src: &[u8],
+    config: C,
+) -> Option<ReadByShape<T>>
+    ensures describes { IfSome result (λ read. Describes read.shape T.words) }
+    ensures alike { IfSome result (λ read. ReadsAlike T.words.decodes_to T.words.may_allocate read.shape read.by_type
+        read.by_shape) }
+    ensures shaped { (T.shape_grows → ⊥) → IsSome result }
+{
+    let shape = T::shape(alloc)?;
+    let by_type = decode_from_slice(alloc, src, config);
+    let by_shape = decode_shaped(alloc, &shape, src, config);
+    Some(ReadByShape {
+        shape,
+        by_type,
+        by_shape,
+    })
+}
+
+/// Writes an image by a shape that describes the type: a word that each value of the type allows that means what the
+/// image does. Fails as `encode_shaped` does.
+pub fn write_as_shaped<T: Wire, W: Writer, C: Config>(
+    shape: &Shape,
+    image: &Value,
+    writer: &mut W,
+    config: C,
+) -> Result<(), EncodeError>
+    requires { Describes shape.now T.words }
+    ensures { fits shape.now image.now ≡ true → OnOk result (Writes W.adds (AllowsEachValue C.setting T.words image.now)
+        writer.old writer.new) }
+{
+    encode_shaped(shape, image, writer, config)
+}
+
+/// Writes a value of a type that the shape describes: a word of the shape for each image that means what the value
+/// does. Fails as `encode_into_writer` does.
+pub fn write_as_typed<T: Encode, W: Writer, C: Config>(
+    value: &T,
+    shape: &Shape,
+    writer: &mut W,
+    config: C,
+) -> Result<(), EncodeError>
+    requires { Describes shape.now T.words }
+    ensures { OnOk result (Writes W.adds (AllowsEachImage C.setting T.words shape.now value.now) writer.old
+        writer.new) }
+{
+    encode_into_writer(value, writer, config)
+}
+
+/// Types whose shapes take no memory, and so are always told.
+pub fn shapes_without_memory()
+    ensures nothing { ⟦<() as Described>⟧.shape_grows → ⊥ }
+    ensures truth { ⟦<bool as Described>⟧.shape_grows → ⊥ }
+    ensures character { ⟦<char as Described>⟧.shape_grows → ⊥ }
+    ensures text { ⟦<String as Described>⟧.shape_grows → ⊥ }
+    ensures u8 { ⟦<u8 as Described>⟧.shape_grows → ⊥ }
+    ensures u16 { ⟦<u16 as Described>⟧.shape_grows → ⊥ }
+    ensures u32 { ⟦<u32 as Described>⟧.shape_grows → ⊥ }
+    ensures u64 { ⟦<u64 as Described>⟧.shape_grows → ⊥ }
+    ensures u128 { ⟦<u128 as Described>⟧.shape_grows → ⊥ }
+    ensures usize { ⟦<usize as Described>⟧.shape_grows → ⊥ }
+    ensures i8 { ⟦<i8 as Described>⟧.shape_grows → ⊥ }
+    ensures i16 { ⟦<i16 as Described>⟧.shape_grows → ⊥ }
+    ensures i32 { ⟦<i32 as Described>⟧.shape_grows → ⊥ }
+    ensures i64 { ⟦<i64 as Described>⟧.shape_grows → ⊥ }
+    ensures i128 { ⟦<i128 as Described>⟧.shape_grows → ⊥ }
+    ensures isize { ⟦<isize as Described>⟧.shape_grows → ⊥ }
+    ensures pointer { ⟦<Box<u8> as Described>⟧.shape_grows → ⊥ }
+{}
