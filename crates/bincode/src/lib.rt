@@ -37,10 +37,10 @@ pub mod enums {
 
 /// Laws that some types keep, and what tells them of a type by its parts.
 pub mod laws {
-    pub use bincode_types::laws::{Canonical, ConstantCharge, Exact, Inhabited, Plain, Writable};
     pub use bincode_types::has_parts::{
         canonical_by_parts, exact_by_fields, exact_by_parts, plain_by_parts, writable_by_parts,
     };
+    pub use bincode_types::laws::{Canonical, ConstantCharge, Exact, Inhabited, Plain, Writable};
 }
 
 /// What proofs know of a type: what it is written as, and the laws that it keeps.
@@ -63,15 +63,15 @@ pub use bincode_base::{config, error, short_text};
 pub use bincode_decode::borrow_decode::BorrowDecode;
 pub use bincode_decode::decode::Decode;
 pub use bincode_encode::encode::Encode;
-pub use bincode_varint::varint;
+pub use bincode_types::by_parts::{ByParts, SameParts};
 pub use bincode_types::empty::NoVariants;
+pub use bincode_types::has_parts::HasParts;
 pub use bincode_types::lists::Items;
 pub use bincode_types::own::{ffi, time};
-pub use bincode_types::by_parts::{ByParts, SameParts};
-pub use bincode_types::validated::{Validated, Validate};
-pub use bincode_types::sums::{NoMoreVariants, EnumOf, VariantOf};
+pub use bincode_types::sums::{EnumOf, NoMoreVariants, VariantOf};
+pub use bincode_types::validated::{Validate, Validated};
 pub use bincode_types::wire::Wire;
-pub use bincode_types::has_parts::HasParts;
+pub use bincode_varint::varint;
 pub use borrow::{borrow_decode_from_slice, borrow_decode_from_slice_with_context};
 pub use next::decode_next_from_std_read;
 pub use reader::decode_from_reader;

@@ -6,7 +6,7 @@ ghost use Rattle.bincode_spec.specs.Run.{CanRelease, RoomReturned};
 ghost use Rattle.bincode_spec.specs.Values.{RunRead};
 
 use crate::runs::{decode_next, decode_run};
-use crate::values::{ReadValues, DecodeRun};
+use crate::values::{DecodeRun, ReadValues};
 use bincode_base::error::DecodeError;
 use bincode_base::slots::{empty_slots, slots_fit, unwrap_all};
 use bincode_decoder::decoder::Decoder;

@@ -3,13 +3,13 @@
 
 pub mod arrays;
 pub mod borrow;
+pub mod by_parts;
 pub mod fill_list;
-pub mod sets_and_maps;
 pub mod lists;
-pub mod validated;
 pub mod pointers;
 pub mod rows;
 pub mod runs;
+pub mod sets_and_maps;
+pub mod validated;
 pub mod values;
 pub mod variants;
-pub mod by_parts;

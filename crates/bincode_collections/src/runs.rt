@@ -5,7 +5,7 @@ ghost use Rattle.bincode_spec.specs.Answer.{after_release};
 ghost use Rattle.bincode_spec.specs.Run.{CanRelease};
 ghost use Rattle.bincode_spec.specs.Values.{Reads, RunRead};
 
-use crate::values::{ReadValues, DecodeRun};
+use crate::values::{DecodeRun, ReadValues};
 use bincode_base::error::DecodeError;
 use bincode_decoder::decoder::Decoder;
 use bincode_types::wire::Wire;

@@ -6,7 +6,7 @@ ghost use Rattle.bincode_spec.specs.Values.{Reads};
 use crate::values::ReadValues;
 use bincode_base::error::DecodeError;
 use bincode_decoder::decoder::Decoder;
-use bincode_types::validated::{Validated, Validate};
+use bincode_types::validated::{Validate, Validated};
 
 /// Reads a value, and tests it. Fails where the value does, or with the type's own error where the test fails.
 #[inline]

@@ -8,7 +8,7 @@ use crate::values::ReadValues;
 use bincode_base::error::DecodeError;
 use bincode_decoder::decoder::Decoder;
 use bincode_decoder::tags::{DecodeTag, Listed, Named, unexpected_tag};
-use bincode_types::sums::{NoMoreVariants, EnumOf, VariantOf, Tag, Variants};
+use bincode_types::sums::{EnumOf, NoMoreVariants, Tag, VariantOf, Variants};
 use bincode_types::wire::Wire;
 
 /// A way to read what follows a tag, by a decoder.

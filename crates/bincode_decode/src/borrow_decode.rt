@@ -5,9 +5,9 @@ ghost use Rattle.bincode_spec.specs.Choices.{IsChoice};
 ghost use Rattle.bincode_spec.specs.Values.{Reads};
 
 use bincode_base::error::DecodeError;
+use bincode_collections::values::DecodeRun;
 use bincode_decoder::decoder::{BorrowDecoder, BorrowedBytes};
 use bincode_decoder::tags::Listed;
-use bincode_collections::values::DecodeRun;
 use bincode_types::wire::Wire;
 
 /// A type whose values can be read by a decoder that lends bytes of its source, in a context. `B` is `&'de [u8]`, and

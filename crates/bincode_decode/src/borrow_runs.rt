@@ -8,8 +8,8 @@ ghost use Rattle.bincode_spec.specs.Values.{RunRead};
 use crate::borrow_decode::BorrowDecode;
 use crate::strategies::ByBorrowDecode;
 use bincode_base::error::DecodeError;
-use bincode_decoder::decoder::{BorrowDecoder, BorrowedBytes};
 use bincode_collections::{arrays, runs};
+use bincode_decoder::decoder::{BorrowDecoder, BorrowedBytes};
 
 /// Reads `len` values, whose room `claim_container_read` has reserved, into a vector with room for just so many: each
 /// one's share is released before it is read. Fails where a value does, or with `Memory` where the room for the values

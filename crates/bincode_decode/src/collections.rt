@@ -6,9 +6,9 @@ ghost use Rattle.bincode_spec.specs.Words.{list};
 use crate::decode::Decode;
 use crate::strategies::ByDecode;
 use bincode_base::error::DecodeError;
-use bincode_decoder::decoder::Decoder;
 use bincode_collections::fill_list;
 use bincode_collections::fill_list::FillList;
+use bincode_decoder::decoder::Decoder;
 
 /// Reads a length and so many items, as `Vec<T>` does, and puts each into a list of one's own. The room of the items is
 /// claimed before the list is begun, and each one's share is released before it is read. Fails where the length can't

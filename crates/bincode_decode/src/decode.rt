@@ -2,8 +2,8 @@
 ghost use Rattle.bincode_spec.specs.Values.{Reads};
 
 use bincode_base::error::DecodeError;
-use bincode_decoder::decoder::Decoder;
 use bincode_collections::values::DecodeRun;
+use bincode_decoder::decoder::Decoder;
 use bincode_types::wire::Wire;
 
 /// A type whose values can be read, in a context.

@@ -3,10 +3,10 @@
 use crate::borrow_decode::BorrowDecode;
 use crate::decode::Decode;
 use bincode_base::error::DecodeError;
+use bincode_collections::values::Sequential;
 use bincode_decoder::decoder::{BorrowDecoder, BorrowedBytes, Decoder};
 use bincode_decoder::empty::decode_no_variants;
 use bincode_decoder::tags::Named;
-use bincode_collections::values::Sequential;
 use bincode_types::empty::NoVariants;
 
 impl<Context: Drop, Of: Named> Decode<Context> for NoVariants<Of> {

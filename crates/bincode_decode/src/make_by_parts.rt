@@ -5,9 +5,9 @@ use crate::borrow_decode::BorrowDecode;
 use crate::decode::Decode;
 use crate::strategies::{ByBorrowDecode, ByDecode};
 use bincode_base::error::DecodeError;
-use bincode_decoder::decoder::{BorrowDecoder, BorrowedBytes, Decoder};
-use bincode_collections::values::{Sequential, ReadValues};
 use bincode_collections::by_parts::{MakeWhole, decode_whole};
+use bincode_collections::values::{ReadValues, Sequential};
+use bincode_decoder::decoder::{BorrowDecoder, BorrowedBytes, Decoder};
 use bincode_types::by_parts::ByParts;
 use std::marker::PhantomData;
 

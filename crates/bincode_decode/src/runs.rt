@@ -8,8 +8,8 @@ ghost use Rattle.bincode_spec.specs.Values.{RunRead};
 use crate::decode::Decode;
 use crate::strategies::ByDecode;
 use bincode_base::error::DecodeError;
-use bincode_decoder::decoder::Decoder;
 use bincode_collections::{arrays, runs};
+use bincode_decoder::decoder::Decoder;
 
 /// Reads as many values as `values` has, over them, whose room `claim_container_read` has reserved: each one's share is
 /// released before it is read. A type may read them otherwise (`Decode::Run`), with the same answer. Fails

@@ -4,10 +4,10 @@ use crate::borrow_decode::{BorrowDecode, BorrowDecodeVariants};
 use crate::decode::Decode;
 use crate::variants::DecodeVariants;
 use bincode_base::error::DecodeError;
-use bincode_decoder::decoder::{BorrowDecoder, BorrowedBytes, Decoder};
-use bincode_decoder::tags::Listed;
 use bincode_collections::values::ReadValues;
 use bincode_collections::variants::ReadVariants;
+use bincode_decoder::decoder::{BorrowDecoder, BorrowedBytes, Decoder};
+use bincode_decoder::tags::Listed;
 use std::marker::PhantomData;
 
 /// Reads values by their `Decode`.

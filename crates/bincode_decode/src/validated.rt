@@ -7,10 +7,10 @@ use crate::decode::Decode;
 use crate::strategies::{ByBorrowDecode, ByDecode};
 use bincode_base::error::DecodeError;
 use bincode_base::short_text::ShortText;
-use bincode_decoder::decoder::{BorrowDecoder, BorrowedBytes, Decoder};
 use bincode_collections::validated::decode_validated;
 use bincode_collections::values::Sequential;
-use bincode_types::validated::{Validated, Validate};
+use bincode_decoder::decoder::{BorrowDecoder, BorrowedBytes, Decoder};
+use bincode_types::validated::{Validate, Validated};
 
 impl<Context: Drop, T: Validate + Drop> Decode<Context> for Validated<T>
 where

@@ -8,11 +8,11 @@ use crate::borrow_decode::{BorrowDecode, BorrowDecodeVariants};
 use crate::decode::Decode;
 use crate::strategies::{ByBorrowDecode, ByDecode, PartByBorrowDecode, PartByDecode};
 use bincode_base::error::DecodeError;
-use bincode_decoder::decoder::{BorrowDecoder, BorrowedBytes, Decoder};
-use bincode_decoder::tags::{DecodeTag, Listed, Named};
 use bincode_collections::values::Sequential;
 use bincode_collections::variants::{decode_none, decode_one_of, decode_or};
-use bincode_types::sums::{NoMoreVariants, EnumOf, VariantOf, Tag, Variants};
+use bincode_decoder::decoder::{BorrowDecoder, BorrowedBytes, Decoder};
+use bincode_decoder::tags::{DecodeTag, Listed, Named};
+use bincode_types::sums::{EnumOf, NoMoreVariants, Tag, VariantOf, Variants};
 use bincode_types::wire::Wire;
 
 /// Variants whose parts can be read, in a context.

@@ -12,9 +12,9 @@ use crate::decoder::Decoder;
 use bincode_base::config::Config;
 use bincode_base::error::{DecodeError, IntegerType};
 use bincode_io::read::Reader;
+use bincode_types::wire::Wire;
 use bincode_varint::bytes::{read_byte, read_i8};
 use bincode_varint::number::Integer;
-use bincode_types::wire::Wire;
 
 /// Charges for all bytes of an integer, and reads it as the configuration says. Fails where the charge passes the
 /// limit, and where `Integer::read` does. A fault leaves what was charged before it.

@@ -9,7 +9,7 @@ use crate::decoder::Decoder;
 use crate::integers::{decode_byte, decode_integer};
 use bincode_base::error::{AllowedEnumVariants, DecodeError};
 use bincode_base::short_text::TypeName;
-use bincode_types::sums::{NoMoreVariants, VariantOf, Tag, Variants};
+use bincode_types::sums::{NoMoreVariants, Tag, VariantOf, Variants};
 use bincode_types::wire::Wire;
 use std::alloc::{AllocError, Global};
 use std::net::{IpAddr, SocketAddr};

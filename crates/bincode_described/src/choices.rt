@@ -7,7 +7,7 @@ ghost use Rattle.bincode_described.specs.Describing.{DescribesVariants};
 use crate::described::Described;
 use crate::rows::put_shape;
 use bincode_shape::shape::Shape;
-use bincode_types::sums::{NoMoreVariants, EnumOf, VariantOf, Variants};
+use bincode_types::sums::{EnumOf, NoMoreVariants, VariantOf, Variants};
 use bincode_types::wire::Wire;
 use std::alloc::Global;
 
@@ -67,12 +67,13 @@ impl<A: Wire, Of> CountedVariants for VariantOf<0, A, NoMoreVariants<Of>> {
     ghost failures_monotone = { (omega arith, refl) };
 }
 
-impl<A: Wire, B: Wire, Of> CountedVariants for VariantOf<0, A, VariantOf<1, B, NoMoreVariants<Of>>> {
+impl<A: Wire, B: Wire, Of> CountedVariants
+    for VariantOf<0, A, VariantOf<1, B, NoMoreVariants<Of>>> {
     ghost failures_monotone = { (omega arith, refl) };
 }
 
-impl<A: Wire, B: Wire, C: Wire, Of> CountedVariants for VariantOf<0, A, VariantOf<1, B, VariantOf<2, C,
-NoMoreVariants<Of>>>> {
+impl<A: Wire, B: Wire, C: Wire, Of> CountedVariants
+    for VariantOf<0, A, VariantOf<1, B, VariantOf<2, C, NoMoreVariants<Of>>>> {
     ghost failures_monotone = { (omega arith, refl) };
 }
 
@@ -82,19 +83,45 @@ impl<A: Wire, B: Wire, C: Wire, D: Wire, Of> CountedVariants
 }
 
 impl<A: Wire, B: Wire, C: Wire, D: Wire, E: Wire, Of> CountedVariants
-    for VariantOf<0, A, VariantOf<1, B, VariantOf<2, C, VariantOf<3, D, VariantOf<4, E, NoMoreVariants<Of>>>>>> {
+    for VariantOf<
+        0,
+        A,
+        VariantOf<1, B, VariantOf<2, C, VariantOf<3, D, VariantOf<4, E, NoMoreVariants<Of>>>>>,
+    > {
     ghost failures_monotone = { (omega arith, refl) };
 }
 
 impl<A: Wire, B: Wire, C: Wire, D: Wire, E: Wire, F: Wire, Of> CountedVariants
-    for VariantOf<0, A, VariantOf<1, B, VariantOf<2, C, VariantOf<3, D, VariantOf<4, E, VariantOf<5, F,
-    NoMoreVariants<Of>>>>>>> {
+    for VariantOf<
+        0,
+        A,
+        VariantOf<
+            1,
+            B,
+            VariantOf<2, C, VariantOf<3, D, VariantOf<4, E, VariantOf<5, F, NoMoreVariants<Of>>>>>,
+        >,
+    > {
     ghost failures_monotone = { (omega arith, refl) };
 }
 
 impl<A: Wire, B: Wire, C: Wire, D: Wire, E: Wire, F: Wire, G: Wire, Of> CountedVariants
-    for VariantOf<0, A, VariantOf<1, B, VariantOf<2, C, VariantOf<3, D, VariantOf<4, E, VariantOf<5, F, VariantOf<6, G,
-    NoMoreVariants<Of>>>>>>>> {
+    for VariantOf<
+        0,
+        A,
+        VariantOf<
+            1,
+            B,
+            VariantOf<
+                2,
+                C,
+                VariantOf<
+                    3,
+                    D,
+                    VariantOf<4, E, VariantOf<5, F, VariantOf<6, G, NoMoreVariants<Of>>>>,
+                >,
+            >,
+        >,
+    > {
     ghost failures_monotone = { (omega arith, refl) };
 }
 
@@ -102,8 +129,23 @@ impl<A: Wire, B: Wire, C: Wire, D: Wire, E: Wire, F: Wire, G: Wire, H: Wire, Of>
     for VariantOf<
         0,
         A,
-        VariantOf<1, B, VariantOf<2, C, VariantOf<3, D, VariantOf<4, E, VariantOf<5, F, VariantOf<6, G, VariantOf<7, H,
-        NoMoreVariants<Of>>>>>>>>,
+        VariantOf<
+            1,
+            B,
+            VariantOf<
+                2,
+                C,
+                VariantOf<
+                    3,
+                    D,
+                    VariantOf<
+                        4,
+                        E,
+                        VariantOf<5, F, VariantOf<6, G, VariantOf<7, H, NoMoreVariants<Of>>>>,
+                    >,
+                >,
+            >,
+        >,
     > {
     ghost failures_monotone = { (omega arith, refl) };
 }

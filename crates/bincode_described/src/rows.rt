@@ -6,7 +6,7 @@ ghost use Rattle.bincode_described.specs.Describing.{Describes, DescribesRow};
 use crate::described::Described;
 use bincode_shape::shape::Shape;
 use bincode_types::by_parts::ByParts;
-use bincode_types::rows::{Cons4, Tail, Cons};
+use bincode_types::rows::{Cons, Cons4, Tail};
 use bincode_types::wire::Wire;
 use std::alloc::Global;
 

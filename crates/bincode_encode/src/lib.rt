@@ -4,7 +4,7 @@
 pub mod encode;
 pub mod encode_parts;
 mod impls;
-pub mod validated;
 mod rows;
 pub mod runs;
+pub mod validated;
 pub mod variants;

@@ -8,7 +8,7 @@ use bincode_base::error::EncodeError;
 use bincode_encoder::encoder::Encoder;
 use bincode_encoder::room::most_of_both;
 use bincode_encoder::runs::WriteValues;
-use bincode_types::rows::{Cons4, Tail, Cons};
+use bincode_types::rows::{Cons, Cons4, Tail};
 use bincode_types::wire::Wire;
 
 /// Parts in a row, of which it may be known how many bytes they take at most.
@@ -82,20 +82,20 @@ impl<'a, A: Encode, Others: EncodeRow> EncodeRow for ConsRef<'a, A, Others> {
 
 /// Four parts, and the others.
 #[derive(Drop)]
-pub struct Cons4Ref<'a, A, B, C, D, Others>(
-    pub &'a A,
-    pub &'a B,
-    pub &'a C,
-    pub &'a D,
-    pub Others,
-);
+pub struct Cons4Ref<'a, A, B, C, D, Others>(pub &'a A, pub &'a B, pub &'a C, pub &'a D, pub Others);
 
 impl<'a, A: Encode, B: Encode, C: Encode, D: Encode, Others: EncodeRow> EncodeRow
     for Cons4Ref<'a, A, B, C, D, Others> {
     type Parts = Cons4<A, B, C, D, Others::Parts>;
 
-    ghost borrowed_parts = { λ v. record { 0 = v.0.now; 1 = v.1.now; 2 = v.2.now; 3 = v.3.now; 4 = Others.borrowed_parts
-        v.4 } };
+    ghost borrowed_parts = { λ v. record {
+      0 = v.0.now;
+      1 = v.1.now;
+      2 = v.2.now;
+      3 = v.3.now;
+      4 = Others.borrowed_parts
+          v.4;
+    } };
 
     #[inline(always)]
     fn encode_row<E: Encoder>(&self, encoder: &mut E) -> Result<(), EncodeError> {

@@ -12,7 +12,10 @@ use bincode_types::validated::Validate;
 
 /// Writes a value that passed a test: what it holds. It does, fails and leaves what `Encode::encode` of that does.
 #[inline(always)]
-pub fn encode_validated<T: Validate, E: Encoder>(value: &T, encoder: &mut E) -> Result<(), EncodeError>
+pub fn encode_validated<T: Validate, E: Encoder>(
+    value: &T,
+    encoder: &mut E,
+) -> Result<(), EncodeError>
 where
     T::Of: Encode,
     ensures { Encodes E.W.adds E.W.refuses E.writer_of E.loans (T.Of.words.writable E.C.setting (T.of value.now))

@@ -13,8 +13,8 @@ use bincode_base::error::EncodeError;
 use bincode_encoder::encoder::Encoder;
 use bincode_encoder::variants;
 use bincode_encoder::variants::EncodeTag;
-use bincode_types::sums::Choice;
 use bincode_types::has_parts::HasParts;
+use bincode_types::sums::Choice;
 
 /// Writes the value of an enum, which is made of `Parts`: the tag of its variant, and then the part. Of an enum with
 /// type parameters the value has references to what they stand for, since its parts have to have a known size.

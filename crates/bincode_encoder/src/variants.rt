@@ -13,8 +13,8 @@ use crate::encoder::Encoder;
 use crate::integers::{encode_byte, encode_integer};
 use crate::runs::WriteValues;
 use bincode_base::error::EncodeError;
-use bincode_types::sums::{Choice, Tag};
 use bincode_types::has_parts::HasParts;
+use bincode_types::sums::{Choice, Tag};
 
 /// A type of tags that can be written.
 pub trait EncodeTag: Tag {

@@ -43,7 +43,10 @@ impl RoomWriter {
     pub fn collect(self) -> Vec<u8>
         ensures { result.items ≡ written_to self }
     {
-        let RoomWriter { held, any_refused: _ } = self;
+        let RoomWriter {
+            held,
+            any_refused: _,
+        } = self;
         held.collect()
     }
 

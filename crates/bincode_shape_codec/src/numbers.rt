@@ -18,8 +18,8 @@ use bincode_decoder::integers::{decode_byte, decode_integer, decode_signed_byte}
 use bincode_encoder::encoder::Encoder;
 use bincode_encoder::integers::encode_integer;
 use bincode_shape::shape::Value;
-use bincode_varint::number::Integer;
 use bincode_types::wire::Wire;
+use bincode_varint::number::Integer;
 
 /// An integer type of more than one byte, and its shape.
 pub(crate) trait ShapedInteger: Integer + Wire {

@@ -2,7 +2,7 @@
 ghost use Rattle.std.specs.Prelude.{◌≡◌, true};
 ghost use Rattle.bincode_lemmas.specs.EqualLaws.{both-show};
 
-use crate::rows::{Cons4, Cons};
+use crate::rows::{Cons, Cons4};
 
 /// Rows of which two are equal only where each part of one is equal to that of the other. So it is known part by part
 /// what a struct's own `==` tests.

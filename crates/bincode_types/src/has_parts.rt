@@ -3,9 +3,9 @@ ghost use Rattle.std.specs.Prelude.{◌≡◌, true};
 ghost use Rattle.bincode_types.specs.TypeLaws.{AlwaysWritable, PlainWords, ExactWords, CanonicalWords};
 ghost use Rattle.bincode_types.specs.TypeWords.{words_by};
 
+use crate::by_parts::{ByParts, SameParts};
 use crate::equal_parts::EqualParts;
 use crate::laws::{Canonical, Exact, Plain, Writable};
-use crate::by_parts::{ByParts, SameParts};
 use crate::wire::Wire;
 
 /// A type whose values have parts, which are of the type `Parts`: a struct has the tuple of its fields, and an enum

@@ -3,12 +3,12 @@
 use bincode::de::BorrowDecode;
 use bincode::error::DecodeError;
 use bincode::{NoVariants, borrow_decode_from_slice, config, encode_into_slice};
-use proved_callers::borrowed::{borrow_pair, read_twice};
 use own_types::code::Code;
 use own_types::even::Even;
 use own_types::event::Event;
 use own_types::never::Never;
 use own_types::note::Note;
+use proved_callers::borrowed::{borrow_pair, read_twice};
 use std::alloc::Global;
 
 /// What is read from the front of these bytes, and how many bytes that takes. Where memory is refused they are read

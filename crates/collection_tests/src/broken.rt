@@ -4,11 +4,11 @@ use bincode::config::Config;
 use bincode::de::Decode;
 use bincode::error::DecodeError;
 use bincode::{decode_from_reader, decode_from_std_read};
+use conformance::sources::{Bytewise, Source};
 use std::alloc::Global;
 use std::io::BufReader;
 use std::marker::PhantomData;
 use test_helpers::streams::{Breaking, is_broken};
-use conformance::sources::{Bytewise, Source};
 
 /// A way to read a stream.
 pub trait Way {

@@ -2,7 +2,7 @@
 
 use bincode::config;
 use bincode::de::read::SliceReader;
-use bincode::de::{FillList, Decoder, DecoderImpl, decode_collection};
+use bincode::de::{Decoder, DecoderImpl, FillList, decode_collection};
 use bincode::error::DecodeError;
 use std::alloc::Global;
 use test_helpers::checks::either;

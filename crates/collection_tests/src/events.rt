@@ -4,7 +4,7 @@ use bincode::config::{self, Config};
 use bincode::de::{BorrowDecode, Decode, Named};
 use bincode::error::DecodeError;
 use bincode::short_text::TypeName;
-use bincode::{NoMoreVariants, EnumOf, VariantOf, borrow_decode_from_slice};
+use bincode::{EnumOf, NoMoreVariants, VariantOf, borrow_decode_from_slice};
 use own_types::code::Code;
 use own_types::event::Event;
 use std::alloc::Global;
@@ -21,7 +21,9 @@ impl Named for OwnedEvent {
 }
 
 /// The variants of an event whose text is owned.
-type Owned = EnumOf<VariantOf<0, (), VariantOf<1, u32, VariantOf<2, String, NoMoreVariants<OwnedEvent>>>>>;
+type Owned = EnumOf<
+    VariantOf<0, (), VariantOf<1, u32, VariantOf<2, String, NoMoreVariants<OwnedEvent>>>>,
+>;
 
 /// The code 5.
 static STOP: [u8; 2] = [1, 5];

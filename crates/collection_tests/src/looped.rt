@@ -3,8 +3,8 @@
 use bincode::de::Decode;
 use bincode::enc::Encode;
 use bincode::error::{DecodeError, IntegerType};
-use proved_callers::looped::Looped;
 use own_types::pack::Pack;
+use proved_callers::looped::Looped;
 use std::alloc::Global;
 use test_helpers::checks::{
     decoded_within, each_call_keeps, ends_at_each_place, fault_of, leaves, within,

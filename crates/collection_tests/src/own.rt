@@ -5,8 +5,6 @@ use bincode::de::read::SliceReader;
 use bincode::enc::Encode;
 use bincode::error::DecodeError;
 use bincode::{Wire, config, decode_from_reader, encode_into_slice};
-use proved_callers::calls::round_trip;
-use proved_callers::lengths::encoded_length;
 use own_types::book::Book;
 use own_types::code::Code;
 use own_types::contact::Contact;
@@ -19,6 +17,8 @@ use own_types::pair::Pair;
 use own_types::report::Report;
 use own_types::table::Table;
 use own_types::track::Track;
+use proved_callers::calls::round_trip;
+use proved_callers::lengths::encoded_length;
 use std::alloc::Global;
 use test_helpers::checks::{
     decoded_within, each_call_keeps, ends_at_each_place, fault_of, goes_on, refuses_tag, within,

@@ -4,13 +4,13 @@ use crate::broken::{Bare, Broken, Buffer};
 use bincode::config::{Config, Endianness};
 use bincode::de::Decode;
 use bincode::error::DecodeError;
+use conformance::case::{Case, Encoding, Input, Limited, Number, Setting, Spelling, Value};
+use conformance::rows::{Row, run, trailing_cases, typed_tables};
+use conformance::run::holds;
+use conformance::sources::{Buffered, Bytewise, Slice, Source};
 use std::alloc::Global;
 use std::marker::PhantomData;
 use test_helpers::checks::either;
-use conformance::case::{Case, Encoding, Input, Limited, Number, Setting, Spelling, Value};
-use conformance::rows::{Row, trailing_cases, run, typed_tables};
-use conformance::run::holds;
-use conformance::sources::{Buffered, Bytewise, Slice, Source};
 
 /// A row that does not hold, since its word is that of 6, and three that do.
 const FOUR: [Row; 4] = [

@@ -4,14 +4,14 @@ use self::Told::{Ends, NoVariant, Passes, Read, Wide};
 use bincode::config::{InternalLimitConfig, Limit, NoLimit};
 use bincode::error::IntegerType::{I16, I32, I64, I128, Reserved, U16, U32, U64, U128};
 use bincode::error::{DecodeError, IntegerType};
-use std::alloc::Global;
-use std::cell::{Cell, RefCell};
-use test_helpers::checks::ends_at_each_place;
 use conformance::case::Fault;
 use conformance::rows::{Row, tables, typed_tables};
 use conformance::run::tells;
 use conformance::sources::Slice;
 use conformance::words::{Word, read_as, words_of};
+use std::alloc::Global;
+use std::cell::{Cell, RefCell};
+use test_helpers::checks::ends_at_each_place;
 
 /// What is answered to an input as one of the word's type. Where memory is refused it is asked once more.
 fn answer<L: InternalLimitConfig + Copy>(

@@ -5,7 +5,7 @@ ghost use Rattle.conformance.specs.Formats.{DurationRows, AddressRows, ListRows,
 ghost use Rattle.conformance.specs.Formats.{SignedWords, ZigzagRows, NeedRows, ElementRows, IsBounded, IsUnbounded};
 
 use bincode::time::Duration;
-use bincode::{NoMoreVariants, EnumOf, VariantOf, Wire};
+use bincode::{EnumOf, NoMoreVariants, VariantOf, Wire};
 use std::net::{IpAddr, Ipv4Addr, SocketAddr, SocketAddrV6};
 use std::num::{NonZeroI16, NonZeroU16};
 use std::ops::Bound;

@@ -205,7 +205,9 @@ fn decode_at_once(
         let arm = arm_of(alloc, subject, variant)?;
         let made = arm.variant.as_str();
         let held = arm.parts.as_str();
-        let line = format!(in alloc; "            {front}VariantOf::This({held}){closing} => {made},\n")?;
+        let line = format!(in alloc;
+            "            {front}VariantOf::This({held}){closing} => {made},\n"
+        )?;
         body.push_str(line.as_str())?;
         front.push_str("VariantOf::Other(")?;
         closing.push_str(")")?;

@@ -77,7 +77,9 @@ fn is_reference(field: &Field<'_>) -> bool {
 /// The line that says how many bytes a value takes at most where integers are fixed, if it is known.
 fn most_line(alloc: Global, most: Option<u32>) -> Result<String, AllocError> {
     match most {
-        Some(most) => format!(in alloc; "    const MAX_FIXED_SIZE: Option<usize> = Some({most});\n\n"),
+        Some(most) => format!(in alloc;
+            "    const MAX_FIXED_SIZE: Option<usize> = Some({most});\n\n"
+        ),
         None => Ok(String::new(alloc)),
     }
 }

@@ -77,7 +77,14 @@ const LIBRARY: [(&str, &[&str]); 8] = [
     ("bincode::short_text", &["TypeName"]),
     (
         "bincode",
-        &["EnumOf", "HasParts", "NoMoreVariants", "NoVariants", "VariantOf", "Wire"],
+        &[
+            "EnumOf",
+            "HasParts",
+            "NoMoreVariants",
+            "NoVariants",
+            "VariantOf",
+            "Wire",
+        ],
     ),
 ];
 

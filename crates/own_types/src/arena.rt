@@ -1,10 +1,10 @@
 //! A list in an arena.
 ghost use Rattle.std.specs.Prelude.{◌≡◌};
 
-use bincode::de::{FillList, Decode, Decoder, Sequential, decode_collection};
+use bincode::de::{Decode, Decoder, FillList, Sequential, decode_collection};
 use bincode::enc::{Encode, Encoder};
 use bincode::error::{DecodeError, EncodeError};
-use bincode::{Items, HasParts, Wire};
+use bincode::{HasParts, Items, Wire};
 use bumpalo::Bump;
 use bumpalo::collections::into_bump_slice;
 use std::alloc::Global;

@@ -7,7 +7,7 @@ use bincode::de::{
 use bincode::enc::{Encode, Encoder, encode_validated, tell_validated};
 use bincode::error::{DecodeError, EncodeError};
 use bincode::laws::{Canonical, Exact, Plain, canonical_by_parts, exact_by_parts, plain_by_parts};
-use bincode::{HasParts, Validated, Validate, Wire};
+use bincode::{HasParts, Validate, Validated, Wire};
 
 /// An even number.
 #[derive(Clone, Copy, Debug, PartialEq)]

@@ -1,11 +1,11 @@
 //! A list around a vector.
 ghost use Rattle.std.specs.Prelude.{◌≡◌};
 
-use bincode::de::{FillList, Decode, Decoder, Sequential, decode_collection};
+use bincode::de::{Decode, Decoder, FillList, Sequential, decode_collection};
 use bincode::enc::{Encode, Encoder};
 use bincode::error::{DecodeError, EncodeError};
 use bincode::laws::{Canonical, Exact, Plain, canonical_by_parts, exact_by_parts, plain_by_parts};
-use bincode::{Items, HasParts, Wire};
+use bincode::{HasParts, Items, Wire};
 use std::alloc::Global;
 
 /// Some items in a row.

@@ -6,7 +6,7 @@ ghost use Rattle.bincode.specs.Values.{RunRead};
 use bincode::de::{ClaimContainer, Decode, Decoder, Sequential};
 use bincode::enc::{Encode, Encoder};
 use bincode::error::{DecodeError, EncodeError};
-use bincode::{Items, HasParts, Wire};
+use bincode::{HasParts, Items, Wire};
 
 /// Some items in a row.
 #[derive(Debug, Drop, PartialEq)]

@@ -2,7 +2,7 @@
 
 use crate::shaped::shape_of;
 use bincode::shape::{Described, Shape};
-use bincode::{NoMoreVariants, EnumOf, VariantOf};
+use bincode::{EnumOf, NoMoreVariants, VariantOf};
 use own_types::foo::Foo;
 use own_types::kind::Kind;
 use std::alloc::Global;

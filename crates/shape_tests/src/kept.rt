@@ -4,9 +4,9 @@ use crate::shaped::{read_once, read_under, shape_of, writes};
 use bincode::config::NoLimit;
 use bincode::error::DecodeError;
 use bincode::shape::{Described, Shape, Value};
+use conformance::case::Setting;
 use own_types::foo::Foo;
 use std::alloc::Global;
-use conformance::case::Setting;
 
 /// Whether the value is written as the word, and the word read as the value.
 fn keeps(alloc: Global, shape: &Shape, value: &Value, word: &[u8]) -> bool {

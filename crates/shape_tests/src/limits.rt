@@ -4,8 +4,8 @@ use crate::shaped::read_under;
 use bincode::config::{InternalLimitConfig, Limit, NoLimit};
 use bincode::error::DecodeError;
 use bincode::shape::{Shape, Value};
-use std::alloc::{AllocError, Global};
 use conformance::case::Setting;
+use std::alloc::{AllocError, Global};
 
 /// Whether the input passes the limit.
 fn passes<L: InternalLimitConfig + Copy>(

@@ -4,7 +4,6 @@ use crate::shaped::{read_under, shape_of, write_under, writes};
 use bincode::config::{Endianness, InternalLimitConfig, NoLimit};
 use bincode::error::EncodeError;
 use bincode::shape::{Described, Value};
-use std::alloc::Global;
 use conformance::case::{
     Answer, Case, Decoding, Encoding, Fault, Input, Kept, Limited, Number, Refusal, Setting,
     Spelling, Value as Written,
@@ -12,6 +11,7 @@ use conformance::case::{
 use conformance::rows::{Row, tables};
 use conformance::run::tells;
 use conformance::sources::Slice;
+use std::alloc::Global;
 
 /// Whether the type's shape reads all of the word, and what it reads is written as the word.
 fn keeps<T: Described>(alloc: Global, setting: Setting, word: &[u8]) -> bool {

@@ -6,8 +6,8 @@ use bincode::config::{
 use bincode::enc::write::SliceWriter;
 use bincode::error::{DecodeError, EncodeError};
 use bincode::shape::{Described, Shape, Value, decode_shaped, encode_shaped};
-use std::alloc::Global;
 use conformance::case::Setting;
+use std::alloc::Global;
 
 /// The shape of a type. It is asked once more where memory is refused.
 pub fn shape_of<T: Described>(alloc: Global) -> Option<Shape> {

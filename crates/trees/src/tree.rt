@@ -8,7 +8,7 @@ use bincode::error::{DecodeError, EncodeError};
 use bincode::laws::{
     Canonical, Exact, Plain, canonical_by_parts, exact_by_fields, exact_by_parts, plain_by_parts,
 };
-use bincode::{HasParts, Validated, Validate, Wire};
+use bincode::{HasParts, Validate, Validated, Wire};
 use std::alloc::{AllocError, Global};
 
 type Parts = (u32, Vec<u32>);

@@ -2,9 +2,9 @@
 #![tactic(auto)]
 
 use anyhow::ensure;
-use std::io;
 use conformance::rows;
 use conformance::sources::Slice;
+use std::io;
 
 fn main(rt: HostRuntime) -> anyhow::Result<()> {
     let failed = rows::run::<Slice, _>(rt.alloc(), &rows::tables(), &mut io::writer(&rt))?;

@@ -3,9 +3,9 @@ use crate::borrow_decode::BorrowDecode;
 use crate::decode::Decode;
 use crate::strategies::{ByBorrowDecode, ByDecode};
 use bincode_base::error::DecodeError;
-use bincode_decoder::decoder::{BorrowDecoder, BorrowedBytes, ClaimContainer, Decoder};
 use bincode_collections::arrays::decode_array;
 use bincode_collections::values::Sequential;
+use bincode_decoder::decoder::{BorrowDecoder, BorrowedBytes, ClaimContainer, Decoder};
 
 impl<Context: Drop, T: Decode<Context>, const N: usize> Decode<Context> for [T; N] {
     type Run = Sequential;

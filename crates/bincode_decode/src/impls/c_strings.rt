@@ -2,9 +2,9 @@
 use crate::borrow_decode::BorrowDecode;
 use crate::decode::Decode;
 use bincode_base::error::DecodeError;
+use bincode_collections::values::Sequential;
 use bincode_decoder::c_strings::decode_c_string;
 use bincode_decoder::decoder::{BorrowDecoder, BorrowedBytes, Decoder};
-use bincode_collections::values::Sequential;
 use bincode_types::own::ffi::CString;
 
 impl<Context: Drop> Decode<Context> for CString {

@@ -3,9 +3,9 @@ use crate::borrow_decode::BorrowDecode;
 use crate::decode::Decode;
 use crate::strategies::{ByBorrowDecode, ByDecode};
 use bincode_base::error::DecodeError;
-use bincode_decoder::decoder::{BorrowDecoder, BorrowedBytes, Decoder};
 use bincode_collections::pointers::{decode_cell, decode_ref_cell};
 use bincode_collections::values::Sequential;
+use bincode_decoder::decoder::{BorrowDecoder, BorrowedBytes, Decoder};
 use std::cell::{Cell, RefCell};
 
 impl<Context: Drop, T: Decode<Context>> Decode<Context> for Cell<T> {

@@ -3,9 +3,9 @@
 use crate::borrow_decode::BorrowDecode;
 use crate::decode::Decode;
 use bincode_base::error::DecodeError;
+use bincode_collections::values::OverDefaults;
 use bincode_decoder::chars::decode_char;
 use bincode_decoder::decoder::{BorrowDecoder, BorrowedBytes, Decoder};
-use bincode_collections::values::OverDefaults;
 
 impl<Context: Drop> Decode<Context> for char {
     type Run = OverDefaults;

@@ -4,11 +4,11 @@ use crate::borrow_decode::BorrowDecode;
 use crate::decode::Decode;
 use crate::make_by_parts::MakeByParts;
 use bincode_base::error::DecodeError;
+use bincode_collections::values::OverDefaults;
 use bincode_decoder::decoder::{BorrowDecoder, BorrowedBytes, Decoder};
 use bincode_decoder::truth::decode_truth;
-use bincode_collections::values::OverDefaults;
-use bincode_types::sums::VariantOf;
 use bincode_types::ranges_and_bounds::bound_from_parts;
+use bincode_types::sums::VariantOf;
 use std::ops::Bound;
 
 impl<Context: Drop> Decode<Context> for bool {

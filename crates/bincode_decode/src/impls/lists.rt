@@ -3,12 +3,12 @@ use crate::borrow_decode::BorrowDecode;
 use crate::decode::Decode;
 use crate::strategies::{ByBorrowDecode, ByDecode};
 use bincode_base::error::DecodeError;
-use bincode_decoder::decoder::{BorrowDecoder, BorrowedBytes, Decoder};
 use bincode_collections::borrow::take_list;
 use bincode_collections::lists::{
     decode_boxed_slice, decode_heap, decode_list, decode_queue, decode_rc_slice,
 };
 use bincode_collections::values::Sequential;
+use bincode_decoder::decoder::{BorrowDecoder, BorrowedBytes, Decoder};
 use std::borrow::CowSlice;
 use std::boxed::BoxedSlice;
 use std::collections::{BinaryHeap, VecDeque};

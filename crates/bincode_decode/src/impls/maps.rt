@@ -3,9 +3,9 @@ use crate::borrow_decode::BorrowDecode;
 use crate::decode::Decode;
 use crate::strategies::{ByBorrowDecode, ByDecode};
 use bincode_base::error::DecodeError;
-use bincode_decoder::decoder::{BorrowDecoder, BorrowedBytes, Decoder};
 use bincode_collections::sets_and_maps::decode_keyed;
 use bincode_collections::values::Sequential;
+use bincode_decoder::decoder::{BorrowDecoder, BorrowedBytes, Decoder};
 use std::collections::{BTreeMap, BTreeSet};
 
 impl<Context: Drop, K: Decode<Context> + Ord> Decode<Context> for BTreeSet<K> {

@@ -3,9 +3,9 @@
 use crate::borrow_decode::BorrowDecode;
 use crate::decode::Decode;
 use bincode_base::error::DecodeError;
+use bincode_collections::values::{Bulk, OverDefaults};
 use bincode_decoder::decoder::{BorrowDecoder, BorrowedBytes, Decoder};
 use bincode_decoder::integers::{decode_byte, decode_integer, decode_signed_byte};
-use bincode_collections::values::{Bulk, OverDefaults};
 
 impl<Context: Drop> Decode<Context> for u8 {
     type Run = Bulk;

@@ -2,10 +2,10 @@
 use crate::borrow_decode::BorrowDecode;
 use crate::decode::Decode;
 use bincode_base::error::DecodeError;
+use bincode_collections::values::Sequential;
 use bincode_decoder::borrow::take_text;
 use bincode_decoder::decoder::{BorrowDecoder, BorrowedBytes, Decoder};
 use bincode_decoder::texts::decode_text;
-use bincode_collections::values::Sequential;
 use std::path::{Path, PathBuf};
 
 impl<Context: Drop> Decode<Context> for PathBuf {

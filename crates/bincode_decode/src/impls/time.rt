@@ -2,9 +2,9 @@
 use crate::borrow_decode::BorrowDecode;
 use crate::decode::Decode;
 use bincode_base::error::DecodeError;
+use bincode_collections::values::Sequential;
 use bincode_decoder::decoder::{BorrowDecoder, BorrowedBytes, Decoder};
 use bincode_decoder::time::decode_duration;
-use bincode_collections::values::Sequential;
 use bincode_types::own::time::Duration;
 
 impl<Context: Drop> Decode<Context> for Duration {

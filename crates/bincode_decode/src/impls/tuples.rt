@@ -4,10 +4,10 @@ use crate::decode::Decode;
 use crate::make_by_parts::MakeByParts;
 use crate::strategies::{ByBorrowDecode, ByDecode};
 use bincode_base::error::DecodeError;
-use bincode_decoder::decoder::{BorrowDecoder, BorrowedBytes, Decoder};
 use bincode_collections::rows::decode_row;
-use bincode_collections::values::{Sequential, OverDefaults};
-use bincode_types::rows::{Cons4, Tail, Cons};
+use bincode_collections::values::{OverDefaults, Sequential};
+use bincode_decoder::decoder::{BorrowDecoder, BorrowedBytes, Decoder};
+use bincode_types::rows::{Cons, Cons4, Tail};
 
 impl<Context: Drop> Decode<Context> for () {
     type Run = OverDefaults;
@@ -182,7 +182,8 @@ impl<A, B, C, D, E, F, G, H, I, J, K, L> MakeByParts for (A, B, C, D, E, F, G, H
     }
 }
 
-impl<A, B, C, D, E, F, G, H, I, J, K, L, M> MakeByParts for (A, B, C, D, E, F, G, H, I, J, K, L, M) {
+impl<A, B, C, D, E, F, G, H, I, J, K, L, M> MakeByParts
+    for (A, B, C, D, E, F, G, H, I, J, K, L, M) {
     fn make_by_parts(
         Cons4(a, b, c, d, Cons4(e, f, g, h, Cons4(i, j, k, l, Cons(m, ())))): Self::Parts,
     ) -> Self {
@@ -193,13 +194,7 @@ impl<A, B, C, D, E, F, G, H, I, J, K, L, M> MakeByParts for (A, B, C, D, E, F, G
 impl<A, B, C, D, E, F, G, H, I, J, K, L, M, N> MakeByParts
     for (A, B, C, D, E, F, G, H, I, J, K, L, M, N) {
     fn make_by_parts(
-        Cons4(
-            a,
-            b,
-            c,
-            d,
-            Cons4(e, f, g, h, Cons4(i, j, k, l, Cons(m, Cons(n, ())))),
-        ): Self::Parts,
+        Cons4(a, b, c, d, Cons4(e, f, g, h, Cons4(i, j, k, l, Cons(m, Cons(n, ()))))): Self::Parts,
     ) -> Self {
         (a, b, c, d, e, f, g, h, i, j, k, l, m, n)
     }
@@ -223,13 +218,7 @@ impl<A, B, C, D, E, F, G, H, I, J, K, L, M, N, O> MakeByParts
 impl<A, B, C, D, E, F, G, H, I, J, K, L, M, N, O, P> MakeByParts
     for (A, B, C, D, E, F, G, H, I, J, K, L, M, N, O, P) {
     fn make_by_parts(
-        Cons4(
-            a,
-            b,
-            c,
-            d,
-            Cons4(e, f, g, h, Cons4(i, j, k, l, Cons4(m, n, o, p, ()))),
-        ): Self::Parts,
+        Cons4(a, b, c, d, Cons4(e, f, g, h, Cons4(i, j, k, l, Cons4(m, n, o, p, ())))): Self::Parts,
     ) -> Self {
         (a, b, c, d, e, f, g, h, i, j, k, l, m, n, o, p)
     }

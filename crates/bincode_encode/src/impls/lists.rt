@@ -7,7 +7,7 @@ use crate::runs::ByEncode;
 use bincode_base::error::EncodeError;
 use bincode_encoder::answers::rebuild_result;
 use bincode_encoder::encoder::Encoder;
-use bincode_encoder::lists::{encode_heap, encode_deque, encode_list, tell_list_valid};
+use bincode_encoder::lists::{encode_deque, encode_heap, encode_list, tell_list_valid};
 use bincode_encoder::runs::tell_each_valid;
 use std::borrow::CowSlice;
 use std::boxed::BoxedSlice;

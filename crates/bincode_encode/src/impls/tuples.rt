@@ -1,6 +1,6 @@
 //! Encoding of tuples.
 use crate::encode::Encode;
-use crate::rows::{EncodeRow, ConsRef, Cons4Ref, MostOfRow};
+use crate::rows::{Cons4Ref, ConsRef, EncodeRow, MostOfRow};
 use bincode_base::error::EncodeError;
 use bincode_encoder::answers::rebuild_result;
 use bincode_encoder::encoder::Encoder;
@@ -229,13 +229,7 @@ impl<
     #[inline(always)]
     fn encode<Z: Encoder>(&self, encoder: &mut Z) -> Result<(), EncodeError> {
         let (a, b, c, d, e, f, g, h, i, j) = self;
-        let row = Cons4Ref(
-            a,
-            b,
-            c,
-            d,
-            Cons4Ref(e, f, g, h, ConsRef(i, ConsRef(j, ()))),
-        );
+        let row = Cons4Ref(a, b, c, d, Cons4Ref(e, f, g, h, ConsRef(i, ConsRef(j, ()))));
         rebuild_result(row.encode_row(encoder))
     }
 }
@@ -302,13 +296,7 @@ impl<
     #[inline(always)]
     fn encode<Z: Encoder>(&self, encoder: &mut Z) -> Result<(), EncodeError> {
         let (a, b, c, d, e, f, g, h, i, j, k, l) = self;
-        let row = Cons4Ref(
-            a,
-            b,
-            c,
-            d,
-            Cons4Ref(e, f, g, h, Cons4Ref(i, j, k, l, ())),
-        );
+        let row = Cons4Ref(a, b, c, d, Cons4Ref(e, f, g, h, Cons4Ref(i, j, k, l, ())));
         rebuild_result(row.encode_row(encoder))
     }
 }
@@ -385,13 +373,7 @@ impl<
             b,
             c,
             d,
-            Cons4Ref(
-                e,
-                f,
-                g,
-                h,
-                Cons4Ref(i, j, k, l, ConsRef(m, ConsRef(n, ()))),
-            ),
+            Cons4Ref(e, f, g, h, Cons4Ref(i, j, k, l, ConsRef(m, ConsRef(n, ())))),
         );
         rebuild_result(row.encode_row(encoder))
     }
@@ -480,13 +462,7 @@ impl<
             b,
             c,
             d,
-            Cons4Ref(
-                e,
-                f,
-                g,
-                h,
-                Cons4Ref(i, j, k, l, Cons4Ref(m, n, o, p, ())),
-            ),
+            Cons4Ref(e, f, g, h, Cons4Ref(i, j, k, l, Cons4Ref(m, n, o, p, ()))),
         );
         rebuild_result(row.encode_row(encoder))
     }

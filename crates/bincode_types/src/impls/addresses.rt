@@ -4,9 +4,9 @@ ghost use Rattle.std.specs.Net.Addr.{ipv4_octets, ipv6_octets, ipv6_segments};
 ghost use Rattle.std.specs.Net.Socket.{v4_ip, v4_port, v6_ip, v6_port, v6_flowinfo, v6_scope_id};
 ghost use Rattle.bincode_types.specs.Addresses.{segments-alike};
 
-use crate::octets::Octets;
 use crate::by_parts::{ByParts, SameParts};
-use crate::sums::{NoMoreVariants, EnumOf, VariantOf};
+use crate::octets::Octets;
+use crate::sums::{EnumOf, NoMoreVariants, VariantOf};
 use std::net::{IpAddr, Ipv4Addr, Ipv6Addr, SocketAddr, SocketAddrV4, SocketAddrV6};
 
 impl ByParts for Ipv4Addr {
@@ -78,7 +78,9 @@ impl ByParts for SocketAddr {
     ghost use Rattle.std.specs.declared.net.socket_addr.SocketAddr.TheVariants.{V4, V6};
     ghost use Rattle.bincode_types.specs.declared.sums.VariantOf.TheVariants.{This, Other};
 
-    type Parts = EnumOf<VariantOf<0, SocketAddrV4, VariantOf<1, SocketAddrV6, NoMoreVariants<SocketAddr>>>>;
+    type Parts = EnumOf<
+        VariantOf<0, SocketAddrV4, VariantOf<1, SocketAddrV6, NoMoreVariants<SocketAddr>>>,
+    >;
 
     ghost parts = { elim [ V4 v ↦ record { 0 = This v } | V6 v ↦ record { 0 = Other (This v) } ] };
 }

@@ -2,9 +2,9 @@
 ghost use Rattle.std.specs.Prelude.{◌≡◌, length, refl, vec_capacity};
 ghost use Rattle.bincode_types.specs.CStrings.{c_string_vec, c_string_bytes, c_str_bytes};
 
+use crate::by_parts::{ByParts, SameParts};
 use crate::c_strings::BytesWithoutZero;
 use crate::own::ffi::{CStr, CString};
-use crate::by_parts::{ByParts, SameParts};
 
 impl ByParts for CString {
     type Parts = BytesWithoutZero<24, true>;

@@ -6,10 +6,10 @@ ghost use Rattle.bincode_lemmas.specs.CostLaws.{truth-costs};
 ghost use Rattle.bincode_lemmas.specs.FormLaws.{truths-laws};
 ghost use Rattle.bincode_types.specs.TypeWords.{scalar_words};
 
-use crate::laws::Exact;
 use crate::by_parts::{ByParts, SameParts};
+use crate::laws::Exact;
 use crate::scalars::{FixedCharge, Scalar, scalar_claim};
-use crate::sums::{NoMoreVariants, EnumOf, VariantOf};
+use crate::sums::{EnumOf, NoMoreVariants, VariantOf};
 use crate::wire::Wire;
 use std::ops::Bound;
 
@@ -79,7 +79,9 @@ impl<T: Exact, U: Exact> SameParts<ResultParts<T, U>> for Result<T, U> {
     ] };
 }
 
-type BoundParts<T> = EnumOf<VariantOf<0, (), VariantOf<1, T, VariantOf<2, T, NoMoreVariants<Bound<()>>>>>>;
+type BoundParts<T> = EnumOf<
+    VariantOf<0, (), VariantOf<1, T, VariantOf<2, T, NoMoreVariants<Bound<()>>>>>,
+>;
 
 impl<T> ByParts for Bound<T> {
     ghost use Rattle.std.specs.declared.ops.Bound.TheVariants.{Included, Excluded, Unbounded};

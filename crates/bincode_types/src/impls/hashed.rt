@@ -1,7 +1,7 @@
 //! The words of hashed sets and maps.
+use crate::by_parts::ByParts;
 use crate::hashed::{HashedEntries, HashedKeys};
 use crate::laws::Exact;
-use crate::by_parts::ByParts;
 use std::collections::{HashMap, HashSet};
 use std::hash::{BuildHasher, Hash};
 

@@ -4,9 +4,9 @@ ghost use Rattle.std.specs.Box.{boxed_slice_items};
 ghost use Rattle.std.specs.Cow.{cow_slice_items};
 ghost use Rattle.std.specs.Rc.{rc_slice_items};
 
+use crate::by_parts::{ByParts, SameParts};
 use crate::laws::Exact;
 use crate::lists::{Items, ListItems};
-use crate::by_parts::{ByParts, SameParts};
 use std::borrow::CowSlice;
 use std::boxed::BoxedSlice;
 use std::collections::VecDeque;

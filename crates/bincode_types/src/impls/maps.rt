@@ -3,9 +3,9 @@ ghost use Rattle.std.specs.Prelude.{refl};
 ghost use Rattle.std.specs.BinaryHeap.{heap_items};
 
 use crate::bags::Bag;
+use crate::by_parts::{ByParts, SameParts};
 use crate::laws::Exact;
 use crate::ordered::{Entries, Keys};
-use crate::by_parts::{ByParts, SameParts};
 use std::collections::{BTreeMap, BTreeSet, BinaryHeap};
 
 impl<K: Ord> ByParts for BTreeSet<K> {

@@ -15,7 +15,7 @@ ghost use Rattle.bincode_lemmas.specs.FormLaws.{bytes_not_zero-laws, unsigned_no
 ghost use Rattle.bincode_lemmas.specs.FormLaws.{signed_bytes_not_zero-laws, signed_not_zero-laws};
 
 use crate::by_parts::{ByParts, SameParts};
-use crate::scalars::{Single, FixedCharge, Scalar};
+use crate::scalars::{FixedCharge, Scalar, Single};
 use std::num::{
     NonZeroI8, NonZeroI16, NonZeroI32, NonZeroI64, NonZeroI128, NonZeroIsize, NonZeroU8,
     NonZeroU16, NonZeroU32, NonZeroU64, NonZeroU128, NonZeroUsize,

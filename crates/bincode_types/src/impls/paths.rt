@@ -2,8 +2,8 @@
 ghost use Rattle.std.specs.Path.{path_bytes, path_buf_bytes};
 ghost use Rattle.bincode_types.specs.TypeLaws.{ExactWords};
 
-use crate::laws::Exact;
 use crate::by_parts::ByParts;
+use crate::laws::Exact;
 use crate::texts::TextBytes;
 use crate::wire::Wire;
 use std::path::{Path, PathBuf};

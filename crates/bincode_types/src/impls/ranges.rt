@@ -2,8 +2,8 @@
 ghost use Rattle.std.specs.Prelude.{◌≡◌, false, refl};
 ghost use Rattle.std.specs.Range.{range_inclusive_start, range_inclusive_end, range_inclusive_exhausted};
 
-use crate::laws::Exact;
 use crate::by_parts::{ByParts, SameParts};
+use crate::laws::Exact;
 use std::ops::{Range, RangeInclusive};
 
 impl<T> ByParts for Range<T> {

@@ -4,7 +4,7 @@ ghost use Rattle.bincode_types.specs.Rows.{row, four};
 ghost use Rattle.bincode_lemmas.specs.RowLaws.{row-same};
 
 use crate::by_parts::{ByParts, SameParts};
-use crate::rows::{Cons4, Cons};
+use crate::rows::{Cons, Cons4};
 
 impl<A> ByParts for (A,) {
     type Parts = Cons<A, ()>;
@@ -116,13 +116,7 @@ impl<A, B, C, D, E, F, G, H, I, J, K, L, M, N, O> ByParts
 
 impl<A, B, C, D, E, F, G, H, I, J, K, L, M, N, O, P> ByParts
     for (A, B, C, D, E, F, G, H, I, J, K, L, M, N, O, P) {
-    type Parts = Cons4<
-        A,
-        B,
-        C,
-        D,
-        Cons4<E, F, G, H, Cons4<I, J, K, L, Cons4<M, N, O, P, ()>>>,
-    >;
+    type Parts = Cons4<A, B, C, D, Cons4<E, F, G, H, Cons4<I, J, K, L, Cons4<M, N, O, P, ()>>>>;
 
     ghost parts = { λ v. four v.0 v.1.0 v.1.1.0 v.1.1.1.0 (
         four v.1.1.1.1.0 v.1.1.1.1.1.0 v.1.1.1.1.1.1.0 v.1.1.1.1.1.1.1.0 (
@@ -139,7 +133,8 @@ impl<A: PartialEq, B: PartialEq> SameParts<Cons<A, Cons<B, ()>>> for (A, B) {
     ghost same_parts = { λ v w. row-same (A.eq v.0 w.0) (B.eq v.1 w.1 ∷ []) };
 }
 
-impl<A: PartialEq, B: PartialEq, C: PartialEq> SameParts<Cons<A, Cons<B, Cons<C, ()>>>> for (A, B, C) {
+impl<A: PartialEq, B: PartialEq, C: PartialEq> SameParts<Cons<A, Cons<B, Cons<C, ()>>>>
+    for (A, B, C) {
     ghost same_parts = { λ v w. row-same (A.eq v.0 w.0) (B.eq v.1 w.1 ∷ C.eq v.2 w.2 ∷ []) };
 }
 

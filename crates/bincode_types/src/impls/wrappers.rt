@@ -4,8 +4,8 @@ ghost use Rattle.std.specs.Prelude.{refl};
 ghost use Rattle.std.specs.Cow.{cow_value};
 ghost use Rattle.std.specs.Arc.{arc_value};
 
-use crate::laws::{Canonical, ConstantCharge, Exact, Inhabited, Plain, Writable};
 use crate::by_parts::{ByParts, SameParts};
+use crate::laws::{Canonical, ConstantCharge, Exact, Inhabited, Plain, Writable};
 use crate::scalars::Scalar;
 use crate::wire::Wire;
 use std::borrow::Cow;

@@ -139,8 +139,11 @@ type FigureTrianglePart = (u32, u32, u32);
 type FigureParts = VariantOf<
     0,
     FigureEmptyPart,
-    VariantOf<1, FigureCirclePart, VariantOf<2, FigureRectanglePart, VariantOf<3, FigureTrianglePart,
-    NoMoreVariants<Figure>>>>,
+    VariantOf<
+        1,
+        FigureCirclePart,
+        VariantOf<2, FigureRectanglePart, VariantOf<3, FigureTrianglePart, NoMoreVariants<Figure>>>,
+    >,
 >;
 
 impl Sum<FigureParts> for Figure {

@@ -17,8 +17,11 @@ type ReplyNothingPart = ();
 
 type ReplyRefusedPart = (u16, String);
 
-type ReplyParts<T> = VariantOf<0, ReplyNothingPart, VariantOf<1, T, VariantOf<2, ReplyRefusedPart,
-NoMoreVariants<Reply<T>>>>>;
+type ReplyParts<T> = VariantOf<
+    0,
+    ReplyNothingPart,
+    VariantOf<1, T, VariantOf<2, ReplyRefusedPart, NoMoreVariants<Reply<T>>>>,
+>;
 
 impl<T: Wire> Sum<ReplyParts<T>> for Reply<T> {
     ghost use Rattle.bincode.specs.Sums.{this, other};

@@ -32,7 +32,11 @@ type StatusParts = VariantOf<
         VariantOf<
             301,
             StatusMovedPart,
-            VariantOf<404, StatusNotFoundPart, VariantOf<500, StatusBrokenPart, NoMoreVariants<Status>>>,
+            VariantOf<
+                404,
+                StatusNotFoundPart,
+                VariantOf<500, StatusBrokenPart, NoMoreVariants<Status>>,
+            >,
         >,
     >,
 >;

@@ -29,7 +29,11 @@ type TurnParts = VariantOf<
     VariantOf<
         1,
         TurnLeftPart,
-        VariantOf<2, TurnMovedPart, VariantOf<3, TurnSaidPart, VariantOf<4, TurnWonPart, NoMoreVariants<Turn>>>>,
+        VariantOf<
+            2,
+            TurnMovedPart,
+            VariantOf<3, TurnSaidPart, VariantOf<4, TurnWonPart, NoMoreVariants<Turn>>>,
+        >,
     >,
 >;
 

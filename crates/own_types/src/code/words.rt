@@ -12,7 +12,9 @@ use bincode::laws::{Canonical, Exact, Plain, canonical_by_parts, exact_by_parts,
 use bincode::short_text::TypeName;
 use bincode::{EnumOf, HasParts, NoMoreVariants, VariantOf, Wire};
 
-type CodeParts = EnumOf<VariantOf<1, (), VariantOf<5, (), VariantOf<300, (), NoMoreVariants<Code>>>>>;
+type CodeParts = EnumOf<
+    VariantOf<1, (), VariantOf<5, (), VariantOf<300, (), NoMoreVariants<Code>>>>,
+>;
 
 impl HasParts<CodeParts> for Code {
     ghost use Rattle.bincode.specs.Sums.{this, other};

@@ -54,8 +54,7 @@ impl<'a> Wire for Event<'a> {
     ghost use Rattle.std.specs.Prelude.{min, ◌+◌, ◌-◌, ◌^◌};
     ghost use Rattle.bincode.specs.EnumWords.{enum_words};
 
-    ghost words = { enum_words ⟦<Event<'a> as Sum<EventParts<'a>>>⟧.variants ⟦<Event<'a> as
-        Sum<EventParts<'a>>>⟧.parts };
+    ghost words = { enum_words ⟦<Event<'a> as Sum<EventParts<'a>>>⟧.variants ⟦<Event<'a> as Sum<EventParts<'a>>>⟧.parts };
 
     fn claim_size() -> usize
         ensures { result ≡ min (4 + ⟦<Event<'a> as Sum<EventParts<'a>>>⟧.variants.claim) (2 ^ 64 - 1) }

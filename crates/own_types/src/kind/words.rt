@@ -21,8 +21,11 @@ type KindWorkPart = (String, u16);
 
 type KindOtherPart = Vec<(String, u32)>;
 
-type KindParts = VariantOf<0, KindPrivatePart, VariantOf<1, KindWorkPart, VariantOf<2, KindOtherPart,
-NoMoreVariants<Kind>>>>;
+type KindParts = VariantOf<
+    0,
+    KindPrivatePart,
+    VariantOf<1, KindWorkPart, VariantOf<2, KindOtherPart, NoMoreVariants<Kind>>>,
+>;
 
 impl Sum<KindParts> for Kind {
     ghost use Rattle.bincode.specs.Sums.{this, other};
