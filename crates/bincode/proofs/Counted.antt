@@ -11,7 +11,7 @@ Counted a piece b = piece ≡ [] → b ≡ a
 abbrev pub Uncounted : RoomCounter → List ℕ → EncodeError → RoomCounter → Type 0
 Uncounted a piece e b = ⊥
 
--- only for an error that the type names
+-- it fails only with an error of the type
 pub halted-named : (A : List ℕ → Type 0) (N : EncodeError → Type 0) (e : EncodeError) (before after : RoomCounter) →
     EncodeFailure Counted Uncounted A N before after e → N e
 halted-named A N e before after (by_writer front piece middle h r b) = absurd r

@@ -1,4 +1,4 @@
--- The shapes of an enum's variants, one after the other.
+-- The shapes of an enum's variants, in order.
 use Rattle.std.specs.Prelude.{◌≡◌, ◌<◌, ◌+◌, ◌++◌, ℕ, List, [], ◌∷◌, length}
 use Rattle.std.specs.declared.alloc.Global.{Global}
 use Rattle.std.specs.declared.vec.Vec.{Vec}
@@ -17,14 +17,14 @@ use Rattle.bincode_shape.specs.Same.{SameWords}
 use Rattle.bincode_shape.specs.SameChoices.{SameVariants, chosen-same}
 use Rattle.bincode.specs.EnumShapes.{IsVariant, SameFirst, DescribesFirst}
 
--- the words of a third, by those of a second
+-- `SameWords` is transitive
 same-then : {F G H : Format Meaning} → SameWords F G → SameWords G H → SameWords F H
 same-then f g = record {
   read = f.read ∙ g.read;
   written = (λ bytes m w. g.written.0 bytes m (f.written.0 bytes m w), λ bytes m w. f.written.1 bytes m (g.written.1 bytes m w));
 }
 
--- one more variant behind the first ones
+-- one more variant after the first ones
 behind : (s : Setting) (n : ℕ) (before : List Shape) (ws : List Variant) (part : Shape) (F : Setting → Format Meaning) →
     SameFirst s n (formats before) ws → IsVariant (length before) ws (n + length before) F → SameWords (format_of part s) (F s) →
     SameFirst s n (formats (before ++ part ∷ [])) ws
@@ -35,7 +35,7 @@ behind s n (p ∷ ps) (w ∷ ws) part F h next f =
     let e : n + length (p ∷ ps) ≡ (n + 1) + length ps = omega arith in
     (h.0, h.1, behind s (n + 1) ps ws part F h.2 (subst (λ k. IsVariant (length ps) ws k F) e next) f)
 
--- a variant behind the first ones, which has this number
+-- the variant of this number after the first ones
 pub next-first : (number : ℕ) (before after : List Shape) (variants : List Variant) (part : Shape) (F : Setting → Format Meaning) →
     DescribesFirst number before variants → IsVariant number variants number F →
     after ≡ before ++ part ∷ [] → ((s : Setting) → SameWords (format_of part s) (F s)) → DescribesFirst (number + 1) after variants
@@ -47,7 +47,7 @@ next-first number before after variants part F d next e f =
           (behind s 0 before variants part F (d.1 s) (subst (λ k. IsVariant (length before) variants k F) (sym at) placed) (f s)),
     )
 
--- as many as there are
+-- there are no more variants than shapes
 all-same : (s : Setting) (n : ℕ) (parts : List Shape) (ws : List Variant) → length ws ≡ length parts → SameFirst s n (formats parts) ws → SameVariants s (numbered n (formats parts)) ws
 all-same s n [] [] e h = tt
 all-same s n [] (w ∷ ws) e h = absurd (omega (arith, e))

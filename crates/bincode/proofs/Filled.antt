@@ -28,7 +28,7 @@ own_or_front : (A : List ℕ → Type 0) (front piece : List ℕ) → Begins A (
 own_or_front A front piece b some a = let m = b some a in (piece ++ m.0, subst A (append_assoc front piece m.0) m.1)
 
 module _ (A : List ℕ → Type 0) (N : EncodeError → Type 0) (old new : List ℕ) (before after : SliceWriter) (e : EncodeError) (start : bytes_of before ≡ old) (count : written_by before ≡ 0) where
-  -- some front stands in the slice
+  -- a prefix of a word stands in the slice
   pub halted-left : new ≡ bytes_of after → EncodeFailure Added Refused A N before after e → FrontWritten A old new e
   halted-left end (by_writer front piece middle h r b) = record {
     front = front;
@@ -73,7 +73,7 @@ module _ (A : List ℕ → Type 0) (before after : SliceWriter) (count : written
         (λ h. omega arith, λ fits. refl);
   }
 
--- a refusal is one for want of room
+-- a slice writer refuses only for lack of room
 pub short-fits : (A : List ℕ → Type 0) (N : EncodeError → Type 0) (room : ℕ) (result : Result ℕ EncodeError) (e : EncodeError) → result ≡ Err e →
     N e ⊎ ((front : List ℕ) × Begins A front × (room < length front)) → FitsExactly A N room result
 short-fits A N room result e is short = rw is (record {

@@ -8,7 +8,7 @@ use Rattle.bincode_spec.specs.Device.{Rose, TooLong, WithinRoom, TakesRoom, Writ
 use Rattle.bincode_spec.specs.Encoding.{Adds, Refuses, Ready, Begins, EncodeFailure, by_writer, by_name, Encodes, FitsRoom}
 use Rattle.bincode_io.specs.RoomLaws.{too_long-behind, not-within, within-same}
 
--- a failure behind what was added is one of the whole call
+-- the failures of a part of the call are failures of the call
 rose-behind : (before middle after : ℕ) → before ≤ middle → Rose middle after → Rose before after
 rose-behind before middle after h (inl r) = inl (omega arith)
 rose-behind before middle after h (inr r) = inr r

@@ -8,7 +8,7 @@ use Rattle.bincode_spec.specs.Encoding.{EncodeFailure, Begins, by_writer, by_nam
 use Rattle.bincode_io.specs.declared.io_write.IoWriter.{IoWriter}
 use Rattle.bincode_io.specs.Stream.{target_of, written_through, StreamAdds, StreamRefuses, StreamHalts}
 
--- a front of what begins a word begins it
+-- a prefix of what begins a word begins it
 begins-front : (Allowed : List ℕ → Type 0) (front back : List ℕ) → Begins Allowed (front ++ back) → Begins Allowed front
 begins-front Allowed front back b = λ some a. let h = b some a in (back ++ h.0, subst Allowed (append_assoc front back h.0) h.1)
 

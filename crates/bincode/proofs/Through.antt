@@ -17,7 +17,7 @@ module _ {W : Type 0} (adds : Adds W) (refuses : Refuses W) (loans : W → List 
   halts old new e (by_writer front piece middle h r b) = by_writer front piece middle.now h.0 r b
   halts old new e (by_name front h n b) = by_name front h.0 n b
 
-  -- the writer behind it wrote the same
+  -- the writer that it refers to wrote the same
   pub through : (result : Result (Unit {0}) EncodeError) (old new : MutBor W) (after : W) → after ≡ new.now →
       Encodes Added Refused (λ w. w) (λ w. w.ghost_name ∷ loans w.now) Writable A N result old new → Encodes adds refuses (λ w. w) loans Writable A N result old.now after
   through (Ok x) old new after is h = rw is (record {

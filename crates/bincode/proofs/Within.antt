@@ -1,4 +1,4 @@
--- What is measured first, and then decoded.
+-- Measure first, then decode.
 use Rattle.std.specs.Prelude.{◌≡◌, ◌⊎◌, ◌^◌, ◌<◌, ◌≤◌, ◌++◌, ℕ, List, Option}
 use Rattle.std.proofs.Common.{◌∙◌, ap, sym, subst, arith, inl, inr, refl}
 use Rattle.bincode_base.specs.Setting.{Setting}
@@ -23,7 +23,7 @@ use Rattle.bincode_shape_codec.specs.declared.within.DecodeWithinError.TheVarian
 took-same : (a b : Meaning) (r q : List ℕ) (s t : List Step) → ◌≡◌ {A = Reading Meaning} (Took a r s) (Took b q t) → a ≡ b
 took-same a b r q s t e = cc
 
--- an input begins with words of one meaning
+-- all words that begin an input have one meaning
 same-meaning : (F : Format Meaning) → Lawful F → (input word remaining : List ℕ) (m : Meaning) (steps : List Step) → input ≡ word ++ remaining → F.Word word m steps →
     (limit : Option ℕ) (DecodesTo : Meaning → Type 0) (n : ℕ) (d : Decoded F limit input DecodesTo n) → d.meaning ≡ m
 same-meaning F f input word remaining m steps i w limit DecodesTo n d =
@@ -41,7 +41,7 @@ module _ (shape : Shape) (s : Setting) (limit : Option ℕ) (input : List ℕ) (
   its-count word remaining m steps i w =
       d.is_decoded ∙ ap (λ z. capped (count_of shape z)) (same-meaning (format_of shape s) (format_of-lawful shape s) input word remaining m steps i w limit (λ k. IsCounted shape k values) n d)
 
-  -- of more values than are allowed
+  -- it has more values than are allowed
   pub many-found : most < values → (word remaining : List ℕ) (m : Meaning) (steps : List Step) → input ≡ word ++ remaining → (format_of shape s).Word word m steps → count_of shape m ≤ most → ⊥
   many-found over word remaining m steps i w h = let k = more values (count_of shape m) most (its-count word remaining m steps i w) over in omega (arith, k, h)
 
@@ -50,7 +50,7 @@ module _ (shape : Shape) (s : Setting) (limit : Option ℕ) (input : List ℕ) (
   many-refused word remaining m steps i w = ap (λ z. errors.TooManyValues z most) (its-count word remaining m steps i w)
 
   module _ (le : values ≤ most) (small : most < 2 ^ 64) where
-    -- of no more
+    -- it has no more
     pub few-refused : (word remaining : List ℕ) (m : Meaning) (steps : List Step) → input ≡ word ++ remaining → (format_of shape s).Word word m steps → most < count_of shape m → ⊥
     few-refused word remaining m steps i w h = let k = few values (count_of shape m) most (its-count word remaining m steps i w) le small in omega (arith, k, h)
 

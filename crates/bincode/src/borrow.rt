@@ -1,4 +1,4 @@
-//! Decoding of values that may hold bytes of the slice that they are read from.
+//! Decoding of values that may borrow bytes of the input slice.
 ghost use Rattle.std.specs.Prelude.{◌≡◌, ◌≤◌, ℕ, IfOk, IfErr};
 ghost use Rattle.bincode_spec.specs.Answer.{answer};
 ghost use Rattle.bincode_spec.specs.Decoding.{Decodes, DecodeFailure};
@@ -11,20 +11,21 @@ use bincode_decoder::decoder::LentDecoder;
 use bincode_io::read::{BorrowReader, SliceReader};
 use std::alloc::Global;
 
-/// Reads a value from the front of a slice, as `decode_from_slice` does. The value may hold bytes of the slice, which
-/// are lent and not copied, and so it lives no longer than the slice. Fails as `decode_from_slice` does, and never with
-/// `Memory` where the type takes no memory, as `&[u8]`, `&str` and what is made of such.
+/// Decodes a value from the front of a slice, like `decode_from_slice`. The value may borrow bytes of the slice instead
+/// of copying them, and so it lives no longer than the slice. Errors are those of `decode_from_slice`; a type that
+/// never
+/// allocates (`&[u8]`, `&str` and what is made of such) is never refused with `Memory`.
 pub fn borrow_decode_from_slice<'a, D: BorrowDecode<&'a [u8], ()>, C: Config>(
     alloc: Global,
     src: &'a [u8],
     config: C,
 ) -> Result<(D, usize), DecodeError>
-    // What is read is a word within the limit, of so many bytes, and the value is given for its meaning.
+    // On `Ok((v, n))` the first `n` bytes are an encoding of `v` whose charges stay within the limit.
     ensures word { IfOk result (λ x. Decoded (D.words.format C.setting) C.bound src.now (λ m. D.words.decodes_to m x.0)
         x.1) }
-    // Each word within the limit is read,
+    // Each encoding within the limit is accepted,
     ensures found { FindsWords (D.words.format C.setting) C.bound D.words.may_allocate src.now result }
-    // each fault within the limit is told,
+    // each fault within the limit is reported,
     ensures fault { TellsFaults (D.words.format C.setting) C.bound D.words.may_allocate src.now result }
     // and charges that pass the limit are refused.
     ensures limit { KeepsLimit (D.words.format C.setting) C.bound D.words.may_allocate src.now result }
@@ -32,20 +33,20 @@ pub fn borrow_decode_from_slice<'a, D: BorrowDecode<&'a [u8], ()>, C: Config>(
     borrow_decode_from_slice_with_context(alloc, src, config, ())
 }
 
-/// `borrow_decode_from_slice` for a type that decodes with a context, of which its decoder asks. What is read is the
-/// same whatever the context.
+/// `borrow_decode_from_slice` for a type whose decoder asks for a context. The context does not change what the bytes
+/// mean.
 pub fn borrow_decode_from_slice_with_context<
     'a,
     Context: Drop,
     D: BorrowDecode<&'a [u8], Context>,
     C: Config,
 >(alloc: Global, src: &'a [u8], config: C, context: Context) -> Result<(D, usize), DecodeError>
-    // What is read is a word within the limit, of so many bytes, and the value is given for its meaning.
+    // On `Ok((v, n))` the first `n` bytes are an encoding of `v` whose charges stay within the limit.
     ensures word { IfOk result (λ x. Decoded (D.words.format C.setting) C.bound src.now (λ m. D.words.decodes_to m x.0)
         x.1) }
-    // Each word within the limit is read,
+    // Each encoding within the limit is accepted,
     ensures found { FindsWords (D.words.format C.setting) C.bound D.words.may_allocate src.now result }
-    // each fault within the limit is told,
+    // each fault within the limit is reported,
     ensures fault { TellsFaults (D.words.format C.setting) C.bound D.words.may_allocate src.now result }
     // and charges that pass the limit are refused.
     ensures limit { KeepsLimit (D.words.format C.setting) C.bound D.words.may_allocate src.now result }
@@ -57,7 +58,7 @@ pub fn borrow_decode_from_slice_with_context<
     Ok((value, taken))
 }
 
-/// Reads a value by a decoder that borrows its reader, its configuration and its context.
+/// Decodes a value with a decoder that borrows its reader, its configuration and its context.
 fn borrow_decode_with<
     'a,
     Context: Drop,

@@ -1,4 +1,4 @@
-//! Decoders, and what they read from.
+//! Decoders and readers, and what the `Decode` of a type of your own calls.
 
 pub use bincode_base::slots::{collect_into_array, slots_fit};
 pub use bincode_collections::fill_list::FillList;

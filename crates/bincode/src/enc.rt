@@ -1,4 +1,4 @@
-//! Encoders, and what they write to.
+//! Encoders and writers, and what the `Encode` of a type of your own calls.
 
 pub use bincode_encode::encode::Encode;
 pub use bincode_encode::encode_parts::EncodeParts;

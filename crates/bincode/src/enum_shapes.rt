@@ -1,4 +1,4 @@
-//! The shapes of enums that are written variant by variant.
+//! Shapes of enums: `start_variants`, `put_variant` once for each variant, then `describe_variants`.
 ghost use Rattle.std.specs.Prelude.{◌≡◌, ◌<◌, ◌+◌, ◌++◌, ◌∷◌, [], IfSome, length};
 ghost use Rattle.bincode_base.specs.Setting.{Setting};
 ghost use Rattle.bincode_spec.specs.Words.{tag_then_part, tag};
@@ -11,15 +11,14 @@ use bincode_enums::enums::Enum;
 use bincode_shape::shape::Shape;
 use std::alloc::Global;
 
-/// The shapes of no variants, to which those of each are put in turn.
+/// An empty list of shapes, to which `put_variant` appends one for each variant. Does not allocate.
 pub fn start_variants<T: Enum>(alloc: Global) -> Vec<Shape>
     ensures { DescribesFirst 0 result.items T.choices.variants }
 {
     Vec::new(alloc)
 }
 
-/// Puts the shape of the variant with this number, which holds an `A`, behind those of the variants before it. `None`
-/// where memory is refused.
+/// Appends the shape of variant `number`, which holds an `A`. `None` if an allocation is refused.
 pub fn put_variant<T: Enum, A: Described>(
     alloc: Global,
     number: u32,
@@ -32,7 +31,7 @@ pub fn put_variant<T: Enum, A: Described>(
     put_shape::<A>(alloc, shapes)
 }
 
-/// The shape of an enum, by those of its variants.
+/// The shape of an enum whose variants are all in `shapes`.
 pub fn describe_variants<T: Enum>(number: u32, shapes: Vec<Shape>) -> Shape
     requires each { DescribesFirst number shapes.items T.choices.variants }
     requires all { length T.choices.variants ≡ number }
@@ -43,7 +42,7 @@ pub fn describe_variants<T: Enum>(number: u32, shapes: Vec<Shape>) -> Shape
     Shape::Choice(shapes)
 }
 
-/// Puts the shape of a type behind these. `None` where memory is refused.
+/// Appends the shape of a type. `None` if an allocation is refused.
 fn put_shape<T: Described>(alloc: Global, shapes: Vec<Shape>) -> Option<Vec<Shape>>
     ensures { IfSome result (λ put. (part : Shape) × (put.items ≡ shapes.items ++ part ∷ [])
         × Describes part T.words) }

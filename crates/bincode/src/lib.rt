@@ -35,7 +35,7 @@ pub mod enums {
     };
 }
 
-/// Laws that some types keep, and what tells them of a type by its parts.
+/// Laws that hold of some types, and functions that prove them of a type from its fields or variants.
 pub mod laws {
     pub use bincode_types::has_parts::{
         canonical_by_parts, exact_by_fields, exact_by_parts, plain_by_parts, writable_by_parts,
@@ -43,13 +43,13 @@ pub mod laws {
     pub use bincode_types::laws::{Canonical, ConstantCharge, Exact, Inhabited, Plain, Writable};
 }
 
-/// What proofs know of a type: what it is written as, and the laws that it keeps.
+/// What proofs know of a type: its encoding and the laws that hold of it.
 pub mod model {
     pub use crate::laws::{Canonical, ConstantCharge, Exact, Inhabited, Plain, Writable};
     pub use bincode_types::wire::Wire;
 }
 
-/// Types that are described at run time: their shapes, the images of their values, and what reads and writes them.
+/// Values whose type is known at run time alone: shapes, generic values, and their encoding and decoding.
 pub mod shape {
     pub use crate::enum_shapes::{describe_variants, put_variant, start_variants};
     pub use crate::shaped::{decode_shaped, decode_shaped_within, encode_shaped, measure_shaped};

@@ -13,7 +13,7 @@ use std::alloc::Global;
 use std::io;
 use std::io::{BufRead, ErrorKind};
 
-/// Whether a stream has ended. Takes nothing of it. A look that a signal interrupts is tried again.
+/// Whether a stream has ended. Consumes nothing. Retries a look that a signal interrupts.
 fn has_ended<R: BufRead>(stream: &mut R) -> Result<bool, StreamError>
     ensures kept { Keeps (R.remaining stream.old) (R.remaining stream.new) }
     ensures end { IfOk result (λ ended. IfSome (R.remaining stream.old) (λ left. IsTrue ended ↔ (left ≡ []))) }
@@ -31,9 +31,10 @@ fn has_ended<R: BufRead>(stream: &mut R) -> Result<bool, StreamError>
     Err(StreamError::from(io::Error::from(ErrorKind::Interrupted)))
 }
 
-/// Reads the next value from a stream, which afterwards is behind its word and no further, or answers `None` where the
-/// stream ended before the first byte of a word. Fails as `decode_from_std_read` does, and with `Io` where the stream
-/// ends within a word. So a loop tells a whole stream from a torn one:
+/// Decodes the next value of a buffered stream and consumes just its encoding; `None` if the stream has ended before
+/// its
+/// first byte. Errors are those of `decode_from_std_read`; a stream that ends within an encoding gives `Io`. So a loop
+/// tells a clean end of the stream from a cut one:
 ///
 /// ```
 /// for _ in 0..u64::MAX {
@@ -44,27 +45,27 @@ fn has_ended<R: BufRead>(stream: &mut R) -> Result<bool, StreamError>
 /// }
 /// ```
 ///
-/// A type with an empty word, as `()`, is read by it as long as bytes are left, of which none is taken.
+/// A type with an empty encoding, as `()`, consumes nothing: while bytes are left, it is decoded again at each call.
 pub fn decode_next_from_std_read<D: Decode<()>, C: Config, R: BufRead>(
     alloc: Global,
     src: &mut R,
     config: C,
 ) -> Result<Option<D>, DecodeError>
-    // Of a stream that tells its bytes: no value is answered exactly where no byte is left,
+    // These clauses speak of streams whose bytes are known. `None` is the answer exactly if no byte is left,
     ensures none { TellsBytes (R.remaining src.old) → IfOk result (λ next. IsNone next
         ↔ (known_bytes (R.remaining src.old) ≡ [])) }
-    // and that it is, unless the stream failed.
+    // and it is, unless the stream fails.
     ensures end { TellsBytes (R.remaining src.old) → known_bytes (R.remaining src.old) ≡ [] → MatchResult result
         (λ _. known_bytes (R.remaining src.new) ≡ []) IsIo }
-    // What is taken is a word within the limit, and the value is given for it.
+    // What was consumed is an encoding of the value whose charges stay within the limit.
     ensures word { TellsBytes (R.remaining src.old) → IfOk result (λ next. IfSome next (λ v. WordRead
         (D.words.format C.setting) C.bound (known_bytes (R.remaining src.old)) (known_bytes (R.remaining src.new))
         (λ m. D.words.decodes_to m v))) }
-    // Where a byte is left, each word within the limit is read,
+    // If a byte is left, each encoding within the limit is accepted,
     ensures found { TellsBytes (R.remaining src.old) → known_bytes (R.remaining src.old) ≢ []
         → AcceptsAll (D.words.format C.setting) C.bound (IsExcused stream_errors D.words.may_allocate 0 0)
         (known_bytes (R.remaining src.old)) result }
-    // each fault within the limit is told,
+    // each fault within the limit is reported,
     ensures fault { TellsBytes (R.remaining src.old) → known_bytes (R.remaining src.old) ≢ []
         → ReportsFault EndsShort (D.words.format C.setting) C.bound (IsExcused stream_errors D.words.may_allocate 0 0)
         (known_bytes (R.remaining src.old)) result }
@@ -72,7 +73,7 @@ pub fn decode_next_from_std_read<D: Decode<()>, C: Config, R: BufRead>(
     ensures limit { TellsBytes (R.remaining src.old) → known_bytes (R.remaining src.old) ≢ []
         → EnforcesLimit (D.words.format C.setting) C.bound (IsExcused stream_errors D.words.may_allocate 0 0)
         (known_bytes (R.remaining src.old)) result }
-    // A failure leaves a rest of the bytes, unless the stream failed.
+    // After an error a suffix of the bytes is left, unless the stream failed.
     ensures left { TellsBytes (R.remaining src.old) → IfErr result (λ e. IsIo e
         ⊎ Takes (known_bytes (R.remaining src.old)) (known_bytes (R.remaining src.new))) }
     ensures is_known { TellsBytes (R.remaining src.old) → TellsBytes (R.remaining src.new) }

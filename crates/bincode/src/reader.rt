@@ -12,22 +12,22 @@ use bincode_decoder::decoder::LentDecoder;
 use bincode_io::read::Reader;
 use std::alloc::Global;
 
-/// Reads a value from a reader, which afterwards is behind its word and no further. Fails with the first fault of the
-/// bytes, with `LimitExceeded` where the charges pass the limit, with `Memory` where decoding takes memory and is
-/// refused some, and with the errors of the reader's device. Where it fails, some front of the input was taken.
+/// Decodes a value from a reader and consumes just its encoding. Fails with the first fault of the bytes,
+/// `LimitExceeded` if the charges pass the limit, `Memory` if an allocation is refused, or an error of the reader's
+/// device; then a prefix of the input may be consumed.
 pub fn decode_from_reader<D: Decode<()>, R: Reader, C: Config>(
     alloc: Global,
     reader: &mut R,
     config: C,
 ) -> Result<D, DecodeError>
-    // What is taken is a word within the limit, and the value is given for its meaning.
+    // What was consumed is an encoding of the value whose charges stay within the limit.
     ensures word { R.is_known reader.old → IfOk result (λ v. WordRead (D.words.format C.setting) C.bound
         (R.remaining reader.old) (R.remaining reader.new) (λ m. D.words.decodes_to m v)) }
-    // Each word within the limit is read,
+    // Each encoding within the limit is accepted,
     ensures found { R.is_known reader.old → AcceptsAll (D.words.format C.setting) C.bound
         (IsExcused R.device D.words.may_allocate (R.failures reader.old) (R.failures reader.new))
         (R.remaining reader.old) result }
-    // each fault within the limit is told,
+    // each fault within the limit is reported,
     ensures fault { R.is_known reader.old → ReportsFault R.end_error (D.words.format C.setting) C.bound
         (IsExcused R.device D.words.may_allocate (R.failures reader.old) (R.failures reader.new))
         (R.remaining reader.old) result }
@@ -35,7 +35,7 @@ pub fn decode_from_reader<D: Decode<()>, R: Reader, C: Config>(
     ensures limit { R.is_known reader.old → EnforcesLimit (D.words.format C.setting) C.bound
         (IsExcused R.device D.words.may_allocate (R.failures reader.old) (R.failures reader.new))
         (R.remaining reader.old) result }
-    // A failure leaves a rest of the input, unless the device lost it.
+    // After an error a suffix of the input is left, unless the device lost it.
     ensures left { R.is_known reader.old → IfErr result (λ e. R.device.is_uncounted e
         ⊎ Takes (R.remaining reader.old) (R.remaining reader.new)) }
     ensures count { R.failures reader.old ≤ R.failures reader.new }
@@ -45,7 +45,7 @@ pub fn decode_from_reader<D: Decode<()>, R: Reader, C: Config>(
     decode_from_reader_with(alloc, reader, &config, &mut ())
 }
 
-/// The same with a context.
+/// `decode_from_reader` with a context.
 pub(crate) fn decode_from_reader_with<Context: Drop, D: Decode<Context>, R: Reader, C: Config>(
     alloc: Global,
     reader: &mut R,
@@ -72,7 +72,7 @@ pub(crate) fn decode_from_reader_with<Context: Drop, D: Decode<Context>, R: Read
     decode_with(alloc, reader, config, context)
 }
 
-/// Reads a value by a decoder that borrows its reader, its configuration and its context.
+/// Decodes a value with a decoder that borrows its reader, its configuration and its context.
 pub(crate) fn decode_with<Context: Drop, D: Decode<Context>, R: Reader, C: Config>(
     alloc: Global,
     reader: &mut R,

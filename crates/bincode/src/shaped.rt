@@ -1,4 +1,4 @@
-//! Values whose type is described at run time, into a writer and from a slice.
+//! Values whose type is known at run time alone: into a writer, and from a slice.
 ghost use Rattle.std.specs.Prelude.{◌≡◌, ℕ, true, false, Some, OnOk, IsErrAnd, IfOk, IfErr};
 ghost use Rattle.bincode_spec.specs.Answer.{answer};
 ghost use Rattle.bincode_spec.specs.Decoding.{Decodes, DecodeFailure};
@@ -27,31 +27,32 @@ mod within;
 
 pub use within::{decode_shaped_within, measure_shaped};
 
-/// Writes a value to a writer, as its shape says. Fails with `Other` and the text `value does not fit the shape` where
-/// it does not, before anything is written, and where the writer refuses a piece; then a front of the word may have
-/// been written.
+/// Encodes a value to a writer as its shape says. Fails with `Other` and the text `value does not fit the shape` before
+/// anything is written, or with the error of a writer that refuses a piece; then a prefix of the encoding may have been
+/// written.
 ///
-/// It goes as deep as the shape: with a stack of 8 MB 1,000 lists in one another were written. `Shape::depth` tells how
-/// deep a shape is, so that a caller may refuse it.
+/// Recursion is as deep as the shape: a stack of 8 MB was enough for 1,000 nested lists. `Shape::depth` tells the
+/// depth,
+/// so that a caller may refuse a shape.
 pub fn encode_shaped<W: Writer, C: Config>(
     shape: &Shape,
     value: &Value,
     writer: &mut W,
     config: C,
 ) -> Result<(), EncodeError>
-    // A value that does not fit is told, and nothing is written.
+    // A value that does not fit is refused, and nothing is written.
     ensures unfit { fits shape.now value.now ≡ false → IsErrAnd result IsUnfit × (writer.new ≡ writer.old) }
-    // Of one that fits a word is written, as its parts are.
+    // One that fits is written as its parts are.
     ensures word { fits shape.now value.now ≡ true → OnOk result (Writes W.adds
         (AllowsImage C.setting shape.now value.now) writer.old writer.new) }
-    // An error then leaves a front of a word, and the writer refused what goes on,
+    // After an error a prefix of an encoding is written, and the writer refused what comes next,
     ensures left { fits shape.now value.now ≡ true → IfErr result (EncodeFailure W.adds W.refuses
         (Ready (Unit {0}) (AllowsImage C.setting shape.now value.now)) (λ _. ⊥) writer.old writer.new) }
-    // for want of room, or where memory or the device fails.
+    // for lack of room, or because memory or the device failed.
     ensures room { fits shape.now value.now ≡ true → FitsRoom
         (Ready (Unit {0}) (AllowsImage C.setting shape.now value.now)) (λ _. ⊥)
         (WriterFails W.device (W.failures writer.old) (W.failures writer.new)) (W.room writer.old) result }
-    // It writes through the same references.
+    // It writes through the references that it had.
     ensures loans { W.loans writer.new ≡ W.loans writer.old }
 {
     if !does_fit(shape, value) {
@@ -60,7 +61,7 @@ pub fn encode_shaped<W: Writer, C: Config>(
     encode_fitting(shape, value, writer, &config)
 }
 
-/// The same of a value that fits.
+/// Encodes a value that fits its shape.
 fn encode_fitting<W: Writer, C: Config>(
     shape: &Shape,
     value: &Value,
@@ -75,33 +76,32 @@ fn encode_fitting<W: Writer, C: Config>(
     encode_shape(shape, value, &mut encoder)
 }
 
-/// Reads a value of a shape from the front of a slice, and answers how many bytes its word has. The bytes after them
-/// decide nothing. Fails with the first fault of the bytes, with `LimitExceeded` where the charges pass the limit, and
-/// with `Memory` where the shape has a text or holds parts and memory is refused.
+/// Decodes a value of a shape from the front of a slice, and returns it with the number of bytes of its encoding. The
+/// bytes after them are not read. Fails with the first fault of the bytes, `LimitExceeded` if the charges pass the
+/// limit, or `Memory` if an allocation is refused.
 ///
-/// Under `Limit<N>` each list and array has at most N elements, and those of all lists together are at most N times
-/// N / 8. Each element is a value of 32 bytes, also where it has no bytes and claims one: so a few bytes may make N
-/// values, and by lists in lists some N times N / 64, which is far more than the limit. For input that is not trusted
-/// call `decode_shaped_within`.
+/// `Limit<N>` bounds bytes, not memory: each list and array has at most N elements, and all of them together at most
+/// N * N / 8. Each element is a `Value` of 32 bytes, even one without bytes, which claims one: a few bytes may make N
+/// values, and lists in lists some N * N / 64. For untrusted input call `decode_shaped_within`.
 ///
-/// It goes as deep as the shape: with a stack of 8 MB 1,000 lists in one another were read, and 3,000 options in one
-/// another were not. `Shape::depth` tells how deep a shape is, so that a caller may refuse it.
+/// Recursion is as deep as the shape: a stack of 8 MB was enough for 1,000 nested lists, not for 3,000 nested options.
+/// `Shape::depth` tells the depth, so that a caller may refuse a shape.
 pub fn decode_shaped<C: Config>(
     alloc: Global,
     shape: &Shape,
     src: &[u8],
     config: C,
 ) -> Result<(Value, usize), DecodeError>
-    // What is read is a word within the limit, of so many bytes, and the value fits and means what it does.
+    // On `Ok((v, n))` the first `n` bytes are an encoding within the limit, and `v` fits the shape and has its meaning.
     ensures word { IfOk result (λ x. Decoded (format_of shape.now C.setting) C.bound src.now
         (λ m. IsImage shape.now m x.0) x.1) }
-    // Each word within the limit is read,
+    // Each encoding within the limit is accepted,
     ensures found { FindsWords (format_of shape.now C.setting) C.bound (TakesMemory shape.now) src.now result }
-    // each fault within the limit is told,
+    // each fault within the limit is reported,
     ensures fault { TellsFaults (format_of shape.now C.setting) C.bound (TakesMemory shape.now) src.now result }
     // and charges that pass the limit are refused.
     ensures limit { KeepsLimit (format_of shape.now C.setting) C.bound (TakesMemory shape.now) src.now result }
-    // Under a limit the word, its lists and arrays, and all their elements together are bounded by it.
+    // Under a limit the encoding, each list and array, and the number of all elements are bounded by it.
     ensures bounded { IfOk result (λ x. (limit : ℕ) → C.bound ≡ Some limit
         → WordBounded (format_of shape.now C.setting) limit src.now x.1) }
 {
@@ -110,7 +110,7 @@ pub fn decode_shaped<C: Config>(
     Ok((value, src.len() - reader.bytes_left()))
 }
 
-/// Reads a value of a shape by a decoder that borrows its reader and its configuration.
+/// Decodes a value of a shape with a decoder that borrows its reader and its configuration.
 fn decode_shaped_with<R: Reader, C: Config>(
     alloc: Global,
     shape: &Shape,

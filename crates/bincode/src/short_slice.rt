@@ -11,12 +11,12 @@ use bincode_base::error::EncodeError;
 use bincode_encode::encode::Encode;
 use bincode_io::write::{SliceWriter, Writer};
 
-/// The bytes of the longest number. A value that may be one number alone has one test of the room in any case.
+/// The bytes of the longest integer. A value that may be a single integer has one check of the room in any case.
 const LONGEST_NUMBER: usize = 16;
 
-/// Whether integers are fixed and a slice is shorter than a value may be, of which it is known how many bytes it takes
-/// at most. Behind the answer `false` the compiler knows that each piece of such a value has room, and drops the tests
-/// of the pieces (docs/SPEED.md, "One test for a value of fixed numbers").
+/// Whether integers are fixed, the maximum size of the value is known, and the slice is shorter than it. After `false`
+/// the compiler knows that each piece of such a value has room, and drops the checks (docs/SPEED.md, "One test for a
+/// value of fixed numbers").
 #[inline(always)]
 pub(crate) fn needs_checks<C: Config>(dst: &[u8], most: Option<usize>, config: &C) -> bool {
     match (config.int_encoding(), most) {
@@ -25,7 +25,7 @@ pub(crate) fn needs_checks<C: Config>(dst: &[u8], most: Option<usize>, config: &
     }
 }
 
-/// `encode_into_slice` for a slice that may be too short, which tests the room of each piece.
+/// `encode_into_slice` for a slice that may be too short: checks the room before each piece.
 #[cold]
 #[inline(never)]
 pub(crate) fn encode_into_short<E: Encode, C: Config>(
@@ -33,7 +33,7 @@ pub(crate) fn encode_into_short<E: Encode, C: Config>(
     dst: &mut [u8],
     config: &C,
 ) -> Result<usize, EncodeError>
-    // It does, fails and leaves what `encode_into_slice` does.
+    // These are the clauses of `encode_into_slice`.
     ensures word { IfOk result (λ n. WordWritten (AllowedWord (E.words.means val) (E.words.format C.setting))
         n dst.old dst.new) }
     ensures fault { IfErr result (λ e. (e ≡ UnexpectedEnd) ⊎ E.words.own_errors e) }
@@ -48,8 +48,8 @@ pub(crate) fn encode_into_short<E: Encode, C: Config>(
     Ok(writer.bytes_written())
 }
 
-/// `encode_with`, through a reference to the reference. So it is compiled once more, and the code of the common way
-/// keeps one caller, into which the compiler takes it.
+/// `encode_with` through a reference to the reference. So it is compiled a second time, and the code for a slice that
+/// is long enough keeps one caller, into which the compiler inlines it.
 fn encode_through<E: Encode, W: Writer, C: Config>(
     val: &E,
     writer: &mut W,

@@ -17,24 +17,25 @@ use bincode_io::read::SliceReader;
 use bincode_io::write::SliceWriter;
 use std::alloc::Global;
 
-/// Writes a value into the front of a slice, and answers how many bytes it took. Fails with `UnexpectedEnd` where the
-/// slice is too short, and with the errors that the type names; then a front of the word may stand in the slice.
+/// Encodes a value into the front of a slice and returns the number of bytes written. Fails with `UnexpectedEnd` if the
+/// slice is too short, or with an error of the type (`words.own_errors`); then a prefix of the encoding may have been
+/// written.
 #[inline]
 pub fn encode_into_slice<E: Encode, C: Config>(
     val: E,
     dst: &mut [u8],
     config: C,
 ) -> Result<usize, EncodeError>
-    // A word that the value allows is written, of so many bytes, and the bytes after it stay.
+    // On `Ok(n)` the first `n` bytes are an encoding that the value allows, and the bytes after them are unchanged.
     ensures word { IfOk result (λ n. WordWritten (AllowedWord (E.words.means val) (E.words.format C.setting))
         n dst.old dst.new) }
-    // No other errors come,
+    // No other errors come than these,
     ensures fault { IfErr result (λ e. (e ≡ UnexpectedEnd) ⊎ E.words.own_errors e) }
-    // the first of them only for want of room,
+    // `UnexpectedEnd` only for lack of room,
     ensures room { FitsExactly (Ready (E.words.writable C.setting val)
         (AllowedWord (E.words.means val) (E.words.format C.setting)))
         E.words.own_errors (length dst.old) result }
-    // and they leave a front of an allowed word.
+    // and after an error the slice holds a prefix of an allowed encoding.
     ensures left { IfErr result (FrontWritten (Ready (E.words.writable C.setting val)
         (AllowedWord (E.words.means val) (E.words.format C.setting))) dst.old dst.new) }
 {
@@ -46,20 +47,20 @@ pub fn encode_into_slice<E: Encode, C: Config>(
     Ok(writer.bytes_written())
 }
 
-/// Reads a value from the front of a slice, and answers how many bytes its word has. The bytes after them decide
-/// nothing. Fails with the first fault of the bytes, with `LimitExceeded` where the charges pass the limit, and with
-/// `Memory` where decoding takes memory and is refused some.
+/// Decodes a value from the front of a slice and returns it with the number of bytes of its encoding. The bytes after
+/// them are not read. Fails with the first fault of the bytes (docs/FORMAT.md lists them), `LimitExceeded` if the
+/// charges pass the limit, or `Memory` if an allocation is refused.
 pub fn decode_from_slice<D: Decode<()>, C: Config>(
     alloc: Global,
     src: &[u8],
     config: C,
 ) -> Result<(D, usize), DecodeError>
-    // What is read is a word within the limit, of so many bytes, and the value is given for its meaning.
+    // On `Ok((v, n))` the first `n` bytes are an encoding of `v` whose charges stay within the limit.
     ensures word { IfOk result (λ x. Decoded (D.words.format C.setting) C.bound src.now (λ m. D.words.decodes_to m x.0)
         x.1) }
-    // Each word within the limit is read,
+    // Each encoding within the limit is accepted,
     ensures found { FindsWords (D.words.format C.setting) C.bound D.words.may_allocate src.now result }
-    // each fault within the limit is told,
+    // each fault within the limit is reported,
     ensures fault { TellsFaults (D.words.format C.setting) C.bound D.words.may_allocate src.now result }
     // and charges that pass the limit are refused.
     ensures limit { KeepsLimit (D.words.format C.setting) C.bound D.words.may_allocate src.now result }
@@ -67,20 +68,20 @@ pub fn decode_from_slice<D: Decode<()>, C: Config>(
     decode_from_slice_with_context(alloc, src, config, ())
 }
 
-/// `decode_from_slice` for a type that decodes with a context, of which its decoder asks: an arena to place values in,
-/// say. What is read is the same whatever the context.
+/// `decode_from_slice` for a type whose decoder asks for a context: an arena to place values in, say. The context does
+/// not change what the bytes mean.
 pub fn decode_from_slice_with_context<Context: Drop, D: Decode<Context>, C: Config>(
     alloc: Global,
     src: &[u8],
     config: C,
     context: Context,
 ) -> Result<(D, usize), DecodeError>
-    // What is read is a word within the limit, of so many bytes, and the value is given for its meaning.
+    // On `Ok((v, n))` the first `n` bytes are an encoding of `v` whose charges stay within the limit.
     ensures word { IfOk result (λ x. Decoded (D.words.format C.setting) C.bound src.now (λ m. D.words.decodes_to m x.0)
         x.1) }
-    // Each word within the limit is read,
+    // Each encoding within the limit is accepted,
     ensures found { FindsWords (D.words.format C.setting) C.bound D.words.may_allocate src.now result }
-    // each fault within the limit is told,
+    // each fault within the limit is reported,
     ensures fault { TellsFaults (D.words.format C.setting) C.bound D.words.may_allocate src.now result }
     // and charges that pass the limit are refused.
     ensures limit { KeepsLimit (D.words.format C.setting) C.bound D.words.may_allocate src.now result }

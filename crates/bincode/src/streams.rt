@@ -18,27 +18,29 @@ use bincode_io::io_write::IoWriter;
 use std::alloc::Global;
 use std::io::{Read, Write};
 
-/// Reads a value from a stream, which afterwards is behind its word and no further. Fails with the first fault of the
-/// bytes, with `LimitExceeded` where the charges pass the limit, with `Memory` where decoding takes memory and is
-/// refused some, and with `Io` where the stream fails or ends; what it gave before is lost.
+/// Decodes a value from a stream and consumes just its encoding. Fails with the first fault of the bytes,
+/// `LimitExceeded` if the charges pass the limit, `Memory` if an allocation is refused, or `Io` if the stream fails or
+/// ends; bytes that were consumed before are lost. Each tag and number is a read of its own: wrap a file in a
+/// `BufReader`.
 pub fn decode_from_std_read<D: Decode<()>, C: Config, R: Read>(
     alloc: Global,
     src: &mut R,
     config: C,
 ) -> Result<D, DecodeError>
-    // Of a stream that tells its bytes: what is taken is a word within the limit, and the value is given for it.
+    // These clauses speak of streams whose bytes are known. What was consumed is an encoding of the value within the
+    // limit.
     ensures word { TellsBytes (R.remaining src.old) → IfOk result (λ v. WordRead (D.words.format C.setting) C.bound
         (known_bytes (R.remaining src.old)) (known_bytes (R.remaining src.new)) (λ m. D.words.decodes_to m v)) }
-    // Each word within the limit is read,
+    // Each encoding within the limit is accepted,
     ensures found { TellsBytes (R.remaining src.old) → AcceptsAll (D.words.format C.setting) C.bound
         (IsExcused stream_errors D.words.may_allocate 0 0) (known_bytes (R.remaining src.old)) result }
-    // each fault within the limit is told,
+    // each fault within the limit is reported,
     ensures fault { TellsBytes (R.remaining src.old) → ReportsFault EndsShort (D.words.format C.setting) C.bound
         (IsExcused stream_errors D.words.may_allocate 0 0) (known_bytes (R.remaining src.old)) result }
     // and charges that pass the limit are refused.
     ensures limit { TellsBytes (R.remaining src.old) → EnforcesLimit (D.words.format C.setting) C.bound
         (IsExcused stream_errors D.words.may_allocate 0 0) (known_bytes (R.remaining src.old)) result }
-    // A failure leaves a rest of the bytes, unless the stream failed.
+    // After an error a suffix of the bytes is left, unless the stream failed.
     ensures left { TellsBytes (R.remaining src.old) → IfErr result (λ e. IsIo e
         ⊎ Takes (known_bytes (R.remaining src.old)) (known_bytes (R.remaining src.new))) }
     ensures is_known { TellsBytes (R.remaining src.old) → TellsBytes (R.remaining src.new) }
@@ -46,27 +48,27 @@ pub fn decode_from_std_read<D: Decode<()>, C: Config, R: Read>(
     decode_from_std_read_with_context(alloc, src, config, ())
 }
 
-/// `decode_from_std_read` for a type that decodes with a context, of which its decoder asks. What is read is the same
-/// whatever the context.
+/// `decode_from_std_read` for a type whose decoder asks for a context. The context does not change what the bytes mean.
 pub fn decode_from_std_read_with_context<Context: Drop, D: Decode<Context>, C: Config, R: Read>(
     alloc: Global,
     src: &mut R,
     config: C,
     context: Context,
 ) -> Result<D, DecodeError>
-    // Of a stream that tells its bytes: what is taken is a word within the limit, and the value is given for it.
+    // These clauses speak of streams whose bytes are known. What was consumed is an encoding of the value within the
+    // limit.
     ensures word { TellsBytes (R.remaining src.old) → IfOk result (λ v. WordRead (D.words.format C.setting) C.bound
         (known_bytes (R.remaining src.old)) (known_bytes (R.remaining src.new)) (λ m. D.words.decodes_to m v)) }
-    // Each word within the limit is read,
+    // Each encoding within the limit is accepted,
     ensures found { TellsBytes (R.remaining src.old) → AcceptsAll (D.words.format C.setting) C.bound
         (IsExcused stream_errors D.words.may_allocate 0 0) (known_bytes (R.remaining src.old)) result }
-    // each fault within the limit is told,
+    // each fault within the limit is reported,
     ensures fault { TellsBytes (R.remaining src.old) → ReportsFault EndsShort (D.words.format C.setting) C.bound
         (IsExcused stream_errors D.words.may_allocate 0 0) (known_bytes (R.remaining src.old)) result }
     // and charges that pass the limit are refused.
     ensures limit { TellsBytes (R.remaining src.old) → EnforcesLimit (D.words.format C.setting) C.bound
         (IsExcused stream_errors D.words.may_allocate 0 0) (known_bytes (R.remaining src.old)) result }
-    // A failure leaves a rest of the bytes, unless the stream failed.
+    // After an error a suffix of the bytes is left, unless the stream failed.
     ensures left { TellsBytes (R.remaining src.old) → IfErr result (λ e. IsIo e
         ⊎ Takes (known_bytes (R.remaining src.old)) (known_bytes (R.remaining src.new))) }
     ensures is_known { TellsBytes (R.remaining src.old) → TellsBytes (R.remaining src.new) }
@@ -76,18 +78,18 @@ pub fn decode_from_std_read_with_context<Context: Drop, D: Decode<Context>, C: C
     decode_from_reader_with(alloc, &mut reader, &config, &mut context)
 }
 
-/// Writes a value to a stream, and answers how many bytes it took. Fails with `Io` where the stream fails, with
-/// `UnexpectedEnd` where the bytes are more than 64 bits count, and with the errors that the type names; then a front
-/// of the word may have been written.
+/// Encodes a value to a stream and returns the number of bytes written. Fails with `Io` if the stream fails,
+/// `UnexpectedEnd` if 64 bits cannot count the bytes, or an error of the type; then a prefix of the encoding may have
+/// been written. Each tag and number is a write of its own: wrap a file in a `BufWriter`, and flush it.
 pub fn encode_into_std_write<E: Encode, C: Config, W: Write>(
     val: E,
     dst: &mut W,
     config: C,
 ) -> Result<usize, EncodeError>
-    // A word that the value allows is written, of so many bytes.
+    // On `Ok(n)` an encoding that the value allows, of `n` bytes, was written.
     ensures word { IfOk result (λ n. StreamWritten W.contents (AllowedWord (E.words.means val)
         (E.words.format C.setting)) n dst.old dst.new) }
-    // An error leaves a front of an allowed word.
+    // After an error a prefix of an allowed encoding was written.
     ensures left { IfErr result (StreamHalts W.contents (Ready (E.words.writable C.setting val)
         (AllowedWord (E.words.means val) (E.words.format C.setting))) E.words.own_errors dst.old dst.new) }
 {

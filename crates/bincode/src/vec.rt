@@ -12,8 +12,8 @@ use bincode_io::room_counter::RoomCounter;
 use bincode_io::room_writer::RoomWriter;
 use std::alloc::Global;
 
-/// Writes a value into a new vector, which holds its word and nothing else. Fails with `Memory` where memory is
-/// refused, and with the errors that the type names.
+/// Encodes a value into a new vector. Fails with `Memory` if an allocation is refused, or with an error of the type.
+/// The value is walked twice: once to count the bytes, once to write them into one allocation of that size.
 pub fn encode_to_vec<E: Encode, C: Config>(
     alloc: Global,
     val: E,
@@ -21,9 +21,9 @@ pub fn encode_to_vec<E: Encode, C: Config>(
 ) -> Result<Vec<u8>, EncodeError>
     // The bytes are a word that the value allows.
     ensures word { IfOk result (λ v. AllowedWord (E.words.means val) (E.words.format C.setting) v.items) }
-    // No other errors come than `Memory` and those that the type names.
+    // No other errors come than `Memory` and those of the type.
     ensures fault { IfErr result (IsMemoryOrNamed E.words.own_errors) }
-    // A value without bytes takes no memory.
+    // A value without bytes is never refused with `Memory`.
     ensures empty { FailsEmpty (Ready (E.words.writable C.setting val)
         (AllowedWord (E.words.means val) (E.words.format C.setting)))
         E.words.own_errors result }
@@ -33,8 +33,8 @@ pub fn encode_to_vec<E: Encode, C: Config>(
     encode_in_room(alloc, &val, counter.bytes_written, &config)
 }
 
-/// The same with room for so many bytes. Where its word is longer, it is written anew into more than twice the room: a
-/// user's type may write another word each time.
+/// Encodes into a vector of this capacity. If the value no longer fits (its type may write another encoding each
+/// time), retries with twice the capacity plus one.
 fn encode_in_room<E: Encode, C: Config>(
     alloc: Global,
     val: &E,

@@ -38,7 +38,7 @@ module _ {room : ℕ} where
   checked t bs (Ok s) empty P within is none h = h.0 ∙ is ∙ sym (shown t within (subst IsUtf8 is h.1))
   checked t bs (Err e) empty P within is none h = none ∙ sym (not-shown t within (λ k. h.0 (subst IsUtf8 (sym is) k)))
 
--- a text with others behind it
+-- a kept text, followed by other bytes
 pub put-in : (room : ℕ) (kept copied rest : List ℕ) → length kept ≤ room → copied ≡ kept → IsUtf8 kept → text_bytes {room = room} (record { length = length kept; bytes = copied ++ rest }) ≡ kept
 put-in room kept copied rest within is h =
     let t : Text room = record { length = length kept; bytes = copied ++ rest } in

@@ -34,7 +34,7 @@ slots-given g view here there ys (suc n) i f (q, y, at, called, others) zero k d
 slots-given g view here there ys (suc n) i f (q, y, at, called, others) (suc m) k d eq lt =
     slots-given g view here there ys n (i + 1) q others m k d (omega (arith, eq)) (omega (arith, lt)) ∙ there f i y q called k (omega (arith, eq))
 
--- values that the slots hold, index by index, are those of the slots
+-- an array of the values that the slots hold
 pub all-given : {T : Type 0} (xs : List T) (ys : List (Option T)) → length xs ≡ length ys →
     ((k : ℕ) (d : T) → k < length xs → Some (slice_index_or xs k d) ≡ slice_index_or ys k None) → map Some xs ≡ ys
 all-given [] [] e h = refl
@@ -54,7 +54,7 @@ all-filled {T} xs ys n l e i lt = rw e (at xs i (omega (arith, lt, l, ap length 
     at (x ∷ xs) zero lt = refl
     at (x ∷ xs) (suc i) lt = at xs i (omega (arith, lt))
 
--- slots of the same are of the same values
+-- equal slots hold equal values
 pub values-same : {T : Type 0} (xs ys : List T) → map Some xs ≡ map Some ys → xs ≡ ys
 values-same [] [] e = refl
 values-same [] (y ∷ ys) e = absurd (cc)

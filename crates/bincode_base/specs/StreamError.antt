@@ -1,4 +1,4 @@
--- What is told of a stream that failed.
+-- What is known of the error of a stream.
 use Rattle.std.specs.Prelude.{ℤ, Option}
 use Rattle.std.specs.declared.io.ErrorKind.{ErrorKind}
 use Rattle.bincode_base.specs.declared.error.StreamError.{StreamError}
@@ -7,6 +7,6 @@ use Rattle.bincode_base.specs.declared.error.StreamError.{StreamError}
 abbrev pub kind_of : StreamError → ErrorKind
 kind_of e = e.kind
 
--- the number of the system's error
+-- its error number
 abbrev pub code_of : StreamError → Option ℤ
 code_of e = e.code

@@ -1,5 +1,5 @@
-//! Configurations as types. A configuration says in which byte order numbers stand, how they are spelled, and how much
-//! one decode may claim. Encoding and decoding have to use the same one.
+//! Configurations as types: byte order, integer encoding and limit (docs/FORMAT.md, section 2). The bytes do not name
+//! their configuration: decode with the byte order and the integer encoding that encoded. There is no limit by default.
 //!
 //! ```
 //! let config = standard().with_big_endian().with_fixed_int_encoding().with_limit::<65536>();
@@ -15,7 +15,7 @@ use std::alloc::AllocError;
 use std::fmt;
 use std::marker::PhantomData;
 
-/// The order of the bytes of a number.
+/// The byte order of a number that is wider than one byte.
 #[derive(Clone, Copy, Debug, PartialEq, Eq)]
 pub enum Endianness {
     /// The lowest byte first.
@@ -24,16 +24,16 @@ pub enum Endianness {
     Big,
 }
 
-/// How numbers of more than one byte are spelled.
+/// How integers wider than one byte are encoded (docs/FORMAT.md, section 4).
 #[derive(Clone, Copy, Debug, PartialEq, Eq)]
 pub enum IntEncoding {
-    /// By as many bytes as the type is wide.
+    /// In as many bytes as the type is wide.
     Fixed,
-    /// By one byte up to 250, else by a tag and 2, 4, 8 or 16 bytes.
+    /// Up to 250 in one byte, else in a tag byte and 2, 4, 8 or 16 bytes.
     Variable,
 }
 
-/// A configuration, made by [`standard`] or [`legacy`] and changed part by part by its methods.
+/// A configuration, made by [`standard`] or [`legacy`]; each method changes one part.
 pub struct Configuration<E = LittleEndian, I = Varint, L = NoLimit> {
     endian: PhantomData<E>,
     int_encoding: PhantomData<I>,
@@ -59,38 +59,38 @@ const fn generate<E, I, L>() -> Configuration<E, I, L> {
 }
 
 impl<E, I, L> Configuration<E, I, L> {
-    /// The same, with the highest byte of a number first.
+    /// Encodes numbers with the highest byte first.
     pub const fn with_big_endian(self) -> Configuration<BigEndian, I, L> {
         generate()
     }
 
-    /// The same, with the lowest byte of a number first.
+    /// Encodes numbers with the lowest byte first.
     pub const fn with_little_endian(self) -> Configuration<LittleEndian, I, L> {
         generate()
     }
 
-    /// The same, with variable integers.
+    /// Encodes integers in variable length.
     pub const fn with_variable_int_encoding(self) -> Configuration<E, Varint, L> {
         generate()
     }
 
-    /// The same, with fixed integers.
+    /// Encodes integers in the width of their type.
     pub const fn with_fixed_int_encoding(self) -> Configuration<E, Fixint, L> {
         generate()
     }
 
-    /// The same, where one decode may claim at most `N` bytes.
+    /// Limits what one decode may charge to `N` bytes. Does not change how values are encoded.
     pub const fn with_limit<const N: usize>(self) -> Configuration<E, I, Limit<N>> {
         generate()
     }
 
-    /// The same, without a limit.
+    /// Removes the limit.
     pub const fn with_no_limit(self) -> Configuration<E, I, NoLimit> {
         generate()
     }
 }
 
-// (written by hand, so that neither asks anything of the three parts, of which no value is held)
+// Written by hand: a derived impl would ask each of the three parts for its own.
 impl<E, I, L> Clone for Configuration<E, I, L> {
     ghost is_clone = { λ old new. new ≡ old };
 
@@ -126,12 +126,12 @@ where
     }
 }
 
-/// What the library asks of a configuration. Every `Copy` type with the three parts is one.
+/// What the library asks of a configuration. Every `Copy` type with the three parts implements it.
 pub trait Config: Copy + Clone {
-    /// The byte order and the integer encoding, on which words depend.
+    /// The byte order and the integer encoding. The bytes of a value depend on nothing else.
     ghost setting: { Setting };
 
-    /// How many bytes one decode may claim, if that is limited.
+    /// The limit on the charges of one decode, in bytes, if there is one.
     ghost bound: { Option ℕ };
 
     /// The byte order.
@@ -175,11 +175,11 @@ pub struct BigEndian;
 #[derive(Clone, Copy)]
 pub struct LittleEndian;
 
-/// Fixed integers.
+/// Integers in the width of their type.
 #[derive(Clone, Copy)]
 pub struct Fixint;
 
-/// Variable integers.
+/// Integers in variable length.
 #[derive(Clone, Copy)]
 pub struct Varint;
 
@@ -191,21 +191,21 @@ pub struct NoLimit;
 #[derive(Clone, Copy)]
 pub struct Limit<const N: usize>;
 
-/// A type that stands for a byte order.
+/// A type-level byte order.
 pub trait InternalEndianConfig {
     ghost ENDIAN: { Endianness };
 
     const ENDIAN: Endianness;
 }
 
-/// A type that stands for an integer encoding.
+/// A type-level integer encoding.
 pub trait InternalIntEncodingConfig {
     ghost INT_ENCODING: { IntEncoding };
 
     const INT_ENCODING: IntEncoding;
 }
 
-/// A type that stands for a limit, in bytes.
+/// A type-level limit, in bytes.
 pub trait InternalLimitConfig {
     ghost LIMIT: { Option ℕ };
 

@@ -1,4 +1,4 @@
-//! What encoding and decoding answer when they fail.
+//! The errors of encoding and decoding. docs/FORMAT.md, section 10, says which fault of an input is reported first.
 ghost use Rattle.std.specs.Prelude.{◌≡◌, IfOk};
 ghost use Rattle.bincode_base.specs.AllowedTags.{TellsAllowed, IsUnexpected};
 ghost use Rattle.bincode_base.specs.SignedNames.{signed_name, signed_error};
@@ -14,134 +14,133 @@ use std::{fmt, io};
 /// Why a value could not be encoded.
 #[derive(Debug, Drop)]
 pub enum EncodeError {
-    /// The writer has too little room for the next piece.
+    /// The writer lacks room for the next piece, or its count of bytes would pass 64 bits.
     UnexpectedEnd,
-    /// A `RefCell` is borrowed for writing.
+    /// A `RefCell` is mutably borrowed.
     RefCellAlreadyBorrowed {
-        /// The type that holds it.
+        /// The name of the cell type.
         type_name: ShortText,
     },
-    /// A lock could not be taken: for users' types.
+    /// A lock could not be taken. Never returned by the library: it is for your own types.
     LockFailed {
-        /// The type that holds it.
+        /// The name of the lock type.
         type_name: ShortText,
     },
-    /// A std writer failed.
+    /// A `std::io` writer failed.
     Io {
-        /// What it answered.
+        /// The error of the stream.
         inner: StreamError,
-        /// How many bytes were written before.
+        /// The number of bytes written before the piece that failed.
         index: usize,
     },
-    /// A path is no text. Paths are texts here, so it is not met.
+    /// The path is not UTF-8. Never returned: paths are UTF-8 here.
     InvalidPathCharacters,
-    /// Memory was refused.
+    /// An allocation was refused.
     Memory,
-    /// Another cause, by a short text: for users' types.
+    /// Another cause, in a short text: for your own types, and for values that do not fit a shape.
     Other(ShortText),
-    /// Another cause, by a text: for users' types.
+    /// Another cause, in a text. Never returned by the library: it is for your own types.
     OtherString(Box<String>),
 }
 
 /// Why bytes could not be decoded.
 #[derive(Debug, Drop)]
 pub enum DecodeError {
-    /// The reader ended where more bytes were expected.
+    /// The input ended within a value.
     UnexpectedEnd {
         /// By how many bytes the read fell short.
         additional: usize,
     },
     /// The charges passed the limit of the configuration.
     LimitExceeded,
-    /// The tag of a number is too wide for its type, or reserved.
+    /// The tag byte of a variable integer stands for a type that is too wide, or is reserved.
     InvalidIntegerType {
         /// The type that was read.
         expected: IntegerType,
-        /// The type that the tag stands for.
+        /// The type that the tag byte stands for.
         found: IntegerType,
     },
-    /// A number that is not zero by its type is zero.
+    /// A `NonZero` integer was decoded as 0.
     NonZeroTypeIsZero {
-        /// The type of the number.
+        /// The type of the integer.
         non_zero_type: IntegerType,
     },
-    /// A tag that no variant has, where theirs are all from `min` to `max`, with both.
+    /// Unknown variant tag; the valid tags are `min..=max`.
     UnexpectedVariant {
         /// The type that was read.
         type_name: TypeName,
-        /// The tag.
+        /// The tag that was read.
         found: u32,
-        /// The first tag of a variant.
+        /// The lowest valid tag.
         min: u32,
-        /// The last tag of a variant.
+        /// The highest valid tag.
         max: u32,
     },
-    /// A tag that no variant has, where theirs are listed.
+    /// Unknown variant tag; the valid tags are listed.
     UnlistedVariant {
         /// The type that was read.
         type_name: TypeName,
-        /// The tag.
+        /// The tag that was read.
         found: u32,
-        /// The tags that its variants have.
+        /// The valid tags.
         allowed: Box<Vec<u32>>,
     },
-    /// The bytes of a text are no UTF-8.
+    /// A text is not UTF-8.
     Utf8 {
-        /// Where and why.
+        /// Where it is not, and why.
         inner: Utf8Error,
     },
-    /// The bytes of a character are no UTF-8: those that were read, and then zeros.
+    /// The bytes of a `char` are not UTF-8: those that were read, then zeros.
     InvalidCharEncoding([u8; 4]),
-    /// The byte of a truth value is neither 0 nor 1.
+    /// The byte of a `bool` is neither 0 nor 1.
     InvalidBooleanValue(u8),
-    /// A list has another length than the array that it was read for: for users' types.
+    /// A list has another length than the array it is decoded into. Never returned by the library: for your own types.
     ArrayLengthMismatch {
         /// The length of the array.
         required: usize,
         /// The length of the list.
         found: usize,
     },
-    /// A number is too large for `usize`. It has 64 bits here, so it is not met.
+    /// A length does not fit `usize`. Never returned: `usize` has 64 bits here.
     OutsideUsizeRange(u64),
-    /// An enum without variants has no values.
+    /// An enum without variants was decoded.
     EmptyEnum {
-        /// The enum.
+        /// The name of the enum.
         type_name: ShortText,
     },
-    /// The seconds of a duration, with those that its nanoseconds come to, pass 64 bits.
+    /// The seconds of a `Duration`, with those carried from its nanoseconds, do not fit 64 bits.
     InvalidDuration {
         /// The seconds as read.
         secs: u64,
         /// The nanoseconds as read.
         nanos: u32,
     },
-    /// A C string has a zero byte.
+    /// A C string contains a zero byte.
     CStringNulError {
-        /// How many bytes stand before the first one.
+        /// The index of the first one.
         position: usize,
     },
-    /// A std reader failed or ended where more bytes were expected.
+    /// A `std::io` reader failed, or ended within a value.
     Io {
-        /// What it answered.
+        /// The error of the stream.
         inner: StreamError,
         /// By how many bytes the read fell short.
         additional: usize,
     },
-    /// Memory was refused.
+    /// An allocation was refused.
     Memory,
-    /// Another cause, by a short text: for users' types.
+    /// Another cause, in a short text. Never returned by the library: it is for your own types.
     Other(ShortText),
-    /// Another cause, by a text: for users' types.
+    /// Another cause, in a text. Never returned by the library: it is for your own types.
     OtherString(Box<String>),
 }
 
-// A result stays in memory wherever a call is not inlined, and an error is its largest part.
+// A call that is not inlined returns its result through memory, and an error is the largest part of it.
 const _: () = prove!(size_of::<EncodeError>() <= 24);
 
 const _: () = prove!(size_of::<DecodeError>() <= 24);
 
-/// What a stream of `std::io` answered when it failed: the kind of its error, and the system's number where it gave
-/// one.
+/// The error of a stream of `std::io`: its kind, and the error number of the operating system if there is one.
 #[derive(Clone, Copy, Debug, PartialEq)]
 pub struct StreamError {
     kind: ErrorKind,
@@ -158,7 +157,7 @@ impl StreamError {
         self.kind
     }
 
-    /// The number of the system's error, where the system answered it.
+    /// The error number of the operating system, if the error came from it.
     pub fn raw_os_error(&self) -> Option<i32>
         ensures { result ≡ code_of self.now }
     {
@@ -180,21 +179,21 @@ impl From<io::Error> for StreamError {
     }
 }
 
-/// Which tags an enum allows.
+/// The valid tags of an enum.
 #[derive(Clone, Copy, Debug, PartialEq, Eq)]
 pub enum AllowedEnumVariants<'a> {
-    /// All from `min` to `max`, with both.
+    /// All of `min..=max`.
     Range {
-        /// The first.
+        /// The lowest.
         min: u32,
-        /// The last.
+        /// The highest.
         max: u32,
     },
-    /// Each one of these.
+    /// These.
     Allowed(&'a [u32]),
 }
 
-/// The integer types by name.
+/// An integer type, as errors name it.
 #[derive(Clone, Copy, PartialEq, Eq)]
 pub enum IntegerType {
     U8,
@@ -211,12 +210,12 @@ pub enum IntegerType {
     I128,
     Isize,
 
-    /// The tag 255, which no type has.
+    /// The tag byte 255, which stands for no type.
     Reserved,
 }
 
 impl IntegerType {
-    /// The signed type of the same width. A name of another kind stays.
+    /// The signed type of this width. A signed type and `Reserved` are returned as they are.
     pub fn into_signed(self) -> IntegerType
         ensures { result ≡ signed_name self }
     {
@@ -231,7 +230,7 @@ impl IntegerType {
         }
     }
 
-    /// Its name, as it stands here.
+    /// The name of the variant.
     fn name(self) -> &'static str {
         match self {
             IntegerType::U8 => "U8",
@@ -258,8 +257,8 @@ impl fmt::Debug for IntegerType {
 }
 
 impl DecodeError {
-    /// The error of a tag that no variant of a type has. A list of the tags is copied, for which memory is taken: where
-    /// it is refused, that is the answer. A range takes none.
+    /// The error for an unknown tag. A list of valid tags is copied to the heap; if that allocation is refused,
+    /// `DecodeError::Memory` is returned instead. A range does not allocate.
     pub fn unexpected_variant(
         alloc: Global,
         type_name: TypeName,
@@ -286,7 +285,7 @@ impl DecodeError {
         }
     }
 
-    /// Which tags the enum allows, of an error that tells a tag that no variant has; `None` of another error.
+    /// The valid tags, if the error is one of an unknown tag; else `None`.
     pub fn allowed(&self) -> Option<AllowedEnumVariants<'_>>
         ensures { TellsAllowed self.now result }
     {
@@ -304,7 +303,7 @@ impl DecodeError {
         }
     }
 
-    /// The same error of the signed type: a tag that is too wide has signed names. Another error stays.
+    /// Names the signed types in `InvalidIntegerType`. Other errors are returned as they are.
     pub fn change_integer_type_to_signed(self) -> DecodeError
         ensures { result ≡ signed_error self }
     {
@@ -318,7 +317,7 @@ impl DecodeError {
     }
 }
 
-/// A copy of a list, on the heap.
+/// Copies a list to the heap.
 fn boxed_list(alloc: Global, list: &[u32]) -> Result<Box<Vec<u32>>, AllocError>
     ensures { IfOk result (λ copy. copy.value.items ≡ list.now) }
 {

@@ -1,29 +1,29 @@
-//! Short texts that are held inline.
+//! Texts that are held inline, so that errors stay small and need no allocation.
 ghost use Rattle.std.specs.Prelude.{◌≡◌, ◌≤◌, ◌++◌, List, ℕ, codes, length, min};
 
 use std::{fmt, str};
 
-/// What is answered to a value that does not fit a shape. It is longer than short texts are.
+/// The message for a value that does not fit a shape. It is longer than any `ShortText`.
 const UNFIT: &str = "value does not fit the shape";
 
-/// A text of at most `ROOM` bytes and at most 255, held inline; or the library's own longer one, which is told by a
-/// length above the room.
+/// A text of at most `ROOM` and at most 255 bytes, held inline. A length above `ROOM` stands for the one fixed message
+/// that is longer.
 #[derive(Clone, Copy)]
 pub struct Text<const ROOM: usize> {
     length: u8,
     bytes: [u8; ROOM],
 }
 
-/// A text of at most 22 bytes. Errors name causes and types by it.
+/// A text of at most 22 bytes, for causes and type names in errors.
 pub type ShortText = Text<22>;
 
-/// The name of a type, of at most 10 bytes: beside it an error has room for a tag and what is allowed in its place.
+/// A type name of at most 10 bytes: an error that has it also holds a tag and the valid tags.
 pub type TypeName = Text<10>;
 
 impl<const ROOM: usize> Text<ROOM> {
     ghost use Rattle.bincode_base.specs.ShortText.{text_bytes};
 
-    /// The same text. One that is too long is cut: the first characters stay that fit.
+    /// Truncates a text that is too long at a character boundary.
     pub fn new(text: &str) -> Text<ROOM>
         ensures whole { length text.now ≤ min ROOM 255 → text_bytes result ≡ text.now }
         ensures front { (rest : List ℕ) × (text.now ≡ text_bytes result ++ rest) }
@@ -37,7 +37,7 @@ impl<const ROOM: usize> Text<ROOM> {
         }
     }
 
-    /// The text that it holds.
+    /// The text.
     pub fn as_str(&self) -> &str
         ensures { result.now ≡ text_bytes self.now }
     {
@@ -52,7 +52,7 @@ impl<const ROOM: usize> Text<ROOM> {
 impl ShortText {
     ghost use Rattle.bincode_base.specs.ShortText.{text_bytes};
 
-    /// The text `value does not fit the shape`, which is longer than others.
+    /// The message `value does not fit the shape`.
     pub fn unfit() -> ShortText
         ensures { text_bytes result ≡ codes "value does not fit the shape" }
     {

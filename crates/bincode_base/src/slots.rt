@@ -1,4 +1,4 @@
-//! Arrays made item by item, without memory: slots that are filled in turn and then unwrapped.
+//! Arrays that are filled item by item without allocation, through slots of `Option<T>`.
 ghost use Rattle.std.specs.Prelude.{◌≡◌, ℕ, ◌<◌, IfSome, IsSome, Option, Some, None, List, length, map};
 ghost use Rattle.std.specs.Prelude.{slice_index_or, slice_set};
 ghost use Rattle.std.specs.Bool.{MatchBool};
@@ -6,7 +6,7 @@ ghost use Rattle.bincode_base.specs.Slots.{SlotsFit, Collects, FillsSlots};
 
 use std::mem::size_of_val;
 
-/// Whether `N` slots for values of `T` can exist: together they take fewer than 2^63 bytes.
+/// Whether `N` slots of `Option<T>` take less than 2^63 bytes, so that such an array can exist.
 pub fn slots_fit<T: Drop, const N: usize>() -> bool
     ensures { MatchBool result (SlotsFit T.row N) (¬ (SlotsFit T.row N)) }
 {
@@ -17,14 +17,14 @@ pub fn slots_fit<T: Drop, const N: usize>() -> bool
     }
 }
 
-/// Empty slots.
+/// `N` empty slots.
 pub fn empty_slots<T, const N: usize>() -> [Option<T>; N]
     ensures { (i : ℕ) → i < N → slice_index_or result i None ≡ None }
 {
     std::array::from_fn(|_index: usize| None)
 }
 
-/// The values of slots that are all filled.
+/// Unwraps slots that are all filled.
 pub fn unwrap_all<T: Drop, const N: usize>(mut slots: [Option<T>; N]) -> [T; N]
     requires { (i : ℕ) → i < N → IsSome (slice_index_or slots i None) }
     ensures { map Some result ≡ slots }
@@ -44,7 +44,7 @@ pub fn unwrap_all<T: Drop, const N: usize>(mut slots: [Option<T>; N]) -> [T; N]
     )
 }
 
-/// Calls `next` once. After an item it may be called again.
+/// Calls `next` once.
 fn next_item<I: Iterator>(iter: &mut I) -> Option<I::Item>
     requires { I.can_next iter.old }
     ensures steps { I.next_gives iter.old result iter.new }
@@ -53,7 +53,7 @@ fn next_item<I: Iterator>(iter: &mut I) -> Option<I::Item>
     iter.next()
 }
 
-/// Fills the slots with the values that the iterator gives, in turn, and stops at the first `Err` or `None`.
+/// Fills the slots in order, and stops at the first `Err` or `None`.
 fn fill<T: Drop, E: Drop, I: Iterator<Item = Result<T, E>>>(
     slots: &mut [Option<T>],
     iter: &mut I,
@@ -71,7 +71,7 @@ fn fill<T: Drop, E: Drop, I: Iterator<Item = Result<T, E>>>(
     Some(Ok(()))
 }
 
-/// Fills the slots, and makes an array of their values.
+/// Fills the slots and unwraps them into an array.
 fn collect_by<T: Drop, E: Drop, I: Iterator<Item = Result<T, E>>, const N: usize>(
     mut slots: [Option<T>; N],
     iter: &mut I,
@@ -86,8 +86,8 @@ fn collect_by<T: Drop, E: Drop, I: Iterator<Item = Result<T, E>>, const N: usize
     }
 }
 
-/// Calls `next` at most `N` times and makes an array of what it gave. Answers the first `Err` at once, and `None` where
-/// the items end before. The iterator may be used on. `slots_fit` tells whether an array can be made so.
+/// Collects `N` items into an array, without allocation. Returns the first `Err` at once, and `None` if the items end
+/// too early; the items before it are dropped. Never calls `next` more than `N` times. Call `slots_fit` first.
 pub fn collect_into_array<E: Drop, I: Iterator<Item = Result<T, E>>, T: Drop, const N: usize>(
     iter: &mut I,
 ) -> Option<Result<[T; N], E>>

@@ -1,4 +1,4 @@
--- What went out of a piece before a stream failed.
+-- What was written of a piece before a stream failed.
 use Rattle.std.specs.Prelude.{ℕ, List, ◌++◌, take, drop, Option, Some, None}
 use Rattle.std.proofs.Common.{◌∙◌, sym, ap, append_assoc}
 use Rattle.std.proofs.lemmas.List.{take-append-drop}
@@ -12,7 +12,7 @@ appends-keeps (Some x) None c xs p q = absurd p
 appends-keeps (Some x) (Some y) None xs p q = absurd q
 appends-keeps (Some x) (Some y) (Some z) xs p q = q ∙ p
 
--- the bytes that were written before are a front
+-- the bytes that were written are a prefix
 pub front-out : {W : Type 0} (contents : W → Option (List ℕ)) (a b : W) (at : ℕ) (bytes : List ℕ) → Appends (contents a) (contents b) (take at bytes) → FrontOut contents a bytes b
 front-out contents a b at bytes p = record { front = take at bytes; back = drop at bytes; piece_is = sym (take-append-drop at bytes); appended = p }
 
@@ -21,7 +21,7 @@ pub front-kept : {W : Type 0} (contents : W → Option (List ℕ)) (a b c : W) (
     FrontOut contents a bytes c
 front-kept contents a b c at bytes p k = front-out contents a c at bytes (appends-keeps (contents a) (contents b) (contents c) (take at bytes) p k)
 
--- a front of what is left goes out behind them
+-- a prefix of what is left is written after them
 pub front-then : {W : Type 0} (contents : W → Option (List ℕ)) (a b c : W) (at : ℕ) (bytes : List ℕ) → Appends (contents a) (contents b) (take at bytes) →
     FrontOut contents b (drop at bytes) c → FrontOut contents a bytes c
 front-then contents a b c at bytes p f = record {

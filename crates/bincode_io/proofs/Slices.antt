@@ -1,4 +1,4 @@
--- What reads and writes of a slice give and leave.
+-- What reads and writes of a slice return and leave.
 use Rattle.std.specs.Prelude.{◌≡◌, ℕ, ◌+◌, ◌-◌, ◌<◌, ◌≤◌, ◌⊎◌, List, [], ◌++◌, length, take, drop, Option, Some, None, IsSome, IfSome}
 use Rattle.std.proofs.Common.{◌∙◌, ap, sym, subst, arith, add-zero, Bor, length-append, length-drop}
 use Rattle.std.specs.Borrow.{MutBor}
@@ -10,7 +10,7 @@ use Rattle.bincode_spec.specs.Put.{put}
 use Rattle.bincode_lemmas.specs.PutLaws.{put-none}
 use Rattle.bincode_io.specs.declared.write.SliceWriter.{SliceWriter}
 
--- what `get(..n)` answers
+-- what `get(..n)` returns
 pub front-given : (n : ℕ) (s : List ℕ) (r : Option (Bor (List ℕ))) →
     MatchOption r ((n < 0) ⊎ (length s < n)) (λ x. (0 ≤ n) × (n ≤ length s) × (x.now ≡ take (n - 0) s) × (length x.now + 0 ≡ n)) →
     IfSome r (λ x. n ≤ length s) × IfSome r (λ x. (length x.now ≡ n) × (x.now ≡ take n s)) × (IsSome r → n ≤ length s)
@@ -44,7 +44,7 @@ same-writer s t m n i j h k p q r =
     (subst (λ (b : ℕ). (g : m + b ≡ length s.now) → writer s m i h ≡ writer s m b g) r
     (λ g. ap (writer s m i) (ℕ_set _ _ h g)))) k
 
--- nothing that is put leaves the writer as it was
+-- putting the empty piece leaves the writer as it was
 pub unwritten : (w : SliceWriter) (x piece : List ℕ) (n l : ℕ) (k : n + l ≡ length x) → x ≡ put w.written piece w.slice.now →
     n ≡ w.written + length piece → l ≡ w.left - length piece → piece ≡ [] → writer (record w.slice { now = x }) n l k ≡ w
 unwritten w x piece n l k put_is count rest empty =

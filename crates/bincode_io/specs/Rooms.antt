@@ -1,4 +1,4 @@
--- What a room writer holds, and what its writes do to it.
+-- What a room writer holds, and what its writes do.
 use Rattle.std.specs.Prelude.{◌≡◌, ◌+◌, ◌<◌, ◌++◌, ℕ, Bool, true, List, [], length}
 use Rattle.bincode_base.specs.declared.error.EncodeError.{EncodeError}
 use Rattle.bincode_base.specs.declared.error.EncodeError.TheVariants.{UnexpectedEnd}
@@ -9,7 +9,7 @@ use Rattle.bincode_io.specs.declared.room_writer.RoomWriter.{RoomWriter}
 abbrev pub written_to : RoomWriter → List ℕ
 written_to w = held_by w.held
 
--- how many bytes it has room for
+-- its capacity in bytes
 abbrev pub room_of : RoomWriter → ℕ
 room_of w = capacity_of w.held
 
@@ -17,11 +17,11 @@ room_of w = capacity_of w.held
 abbrev pub refused_by : RoomWriter → Bool
 refused_by w = w.any_refused
 
--- a piece stands behind what was written
+-- a piece is appended
 abbrev pub RoomAdds : RoomWriter → List ℕ → RoomWriter → Type 0
 RoomAdds a piece b = (written_to b ≡ written_to a ++ piece) × (refused_by b ≡ refused_by a) × (piece ≡ [] → b ≡ a)
 
--- a piece is longer than the room behind what was written, which stays
+-- a piece does not fit after what was written, and nothing changes but the flag
 abbrev pub RoomRefuses : RoomWriter → List ℕ → EncodeError → RoomWriter → Type 0
 RoomRefuses a piece e b =
     (e ≡ UnexpectedEnd) × (room_of a < length (written_to a) + length piece) × (written_to b ≡ written_to a) × (0 < length piece) × (refused_by b ≡ true)

@@ -4,7 +4,7 @@ use Rattle.std.specs.Borrow.{GName}
 use Rattle.bincode_io.specs.declared.read.SliceReader.{SliceReader}
 use Rattle.bincode_io.specs.declared.write.SliceWriter.{SliceWriter}
 
--- the bytes that are left
+-- the remaining bytes
 abbrev pub left_of : SliceReader → List ℕ
 left_of r = drop r.taken r.slice.now
 
@@ -12,10 +12,10 @@ left_of r = drop r.taken r.slice.now
 abbrev pub bytes_of : SliceWriter → List ℕ
 bytes_of w = w.slice.now
 
--- how many of them were written
+-- the number of bytes written
 abbrev pub written_by : SliceWriter → ℕ
 written_by w = w.written
 
--- the loan that it writes through
+-- the borrow that it writes through
 abbrev pub loan_of : SliceWriter → GName
 loan_of w = w.slice.ghost_name

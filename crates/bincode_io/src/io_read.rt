@@ -1,4 +1,4 @@
-//! Readers of the streams of `std::io`.
+//! Readers over the streams of `std::io`.
 ghost use Rattle.std.specs.Prelude.{◌≡◌, ◌<◌, ◌≤◌, List, ℕ, [], ◌∷◌, length, take, IsSome};
 ghost use Rattle.std.specs.Prelude.{◌≢◌, OnOk, IfOk, IfErr, OnErr, MatchResult};
 ghost use Rattle.std.proofs.Common.{zero-le, inr};
@@ -14,9 +14,8 @@ use bincode_base::error::{DecodeError, StreamError};
 use std::io;
 use std::io::{BufRead, BufReader, ErrorKind, Read};
 
-/// A read that failed by this cause, tried again while a signal interrupts it: by another cause it is told at once, as
-/// the stream told it. It stands apart, so that a read that
-/// does not fail is inlined.
+/// Retries a read that failed with this cause while a signal interrupts it; any other cause is returned at once. Kept
+/// out of line, so that a read that succeeds is inlined.
 #[cold]
 #[inline(never)]
 fn read_again<R: Read>(
@@ -44,7 +43,7 @@ fn read_again<R: Read>(
     Err(StreamError::from(cause))
 }
 
-/// One read, tried again where a signal interrupts it.
+/// One read, retried while a signal interrupts it.
 #[inline(always)]
 fn read_some<R: Read>(stream: &mut R, bytes: &mut [u8]) -> Result<usize, StreamError>
     ensures bound { ReadsAtMost result bytes.new }
@@ -58,7 +57,7 @@ fn read_some<R: Read>(stream: &mut R, bytes: &mut [u8]) -> Result<usize, StreamE
     }
 }
 
-/// The error of a stream that ended with so many bytes missing.
+/// The error of a stream that ended with this many bytes missing.
 #[cold]
 fn end_of_stream(additional: usize) -> DecodeError
     ensures io { IsIo result }
@@ -70,8 +69,8 @@ fn end_of_stream(additional: usize) -> DecodeError
     }
 }
 
-/// Fills all of `bytes` from a stream. Fails with `Io` where the stream fails or ends before; the stream is then behind
-/// what it gave, which is lost.
+/// Fills all of `bytes` from a stream. Fails with `Io` if the stream fails or ends before; what it gave until then is
+/// lost.
 #[inline(always)]
 fn fill<R: Read>(stream: &mut R, bytes: &mut [u8]) -> Result<(), DecodeError>
     ensures ok { OnOk result (Consumes (R.remaining stream.old) (R.remaining stream.new) bytes.new) }
@@ -92,8 +91,7 @@ fn fill<R: Read>(stream: &mut R, bytes: &mut [u8]) -> Result<(), DecodeError>
     Ok(())
 }
 
-/// `fill` from a buffer that shows fewer bytes than are asked. It stands apart, so that a copy of what is shown is
-/// inlined.
+/// `fill`, for a buffer that holds fewer bytes than asked. Kept out of line, so that a copy from the buffer is inlined.
 #[cold]
 #[inline(never)]
 fn fill_past_buffer<R: Read>(stream: &mut R, bytes: &mut [u8]) -> Result<(), DecodeError>
@@ -104,8 +102,8 @@ fn fill_past_buffer<R: Read>(stream: &mut R, bytes: &mut [u8]) -> Result<(), Dec
     fill(stream, bytes)
 }
 
-/// A reader of a stream. It shows nothing, and fails with `Io`, also where the stream ends. A stream that does not tell
-/// its bytes, as a file or the standard input, is read alike, but nothing is promised of the bytes.
+/// A reader over a stream, without a buffer: each tag and each number is a read of the stream. Fails with `Io`, also at
+/// the end of the stream. Nothing is promised of the bytes of a stream that does not tell them, such as a file.
 pub struct IoReader<R> {
     stream: R,
 }
@@ -119,7 +117,7 @@ impl<R: Drop> Drop for IoReader<R> {
 impl<R: Read> IoReader<R> {
     ghost use Rattle.bincode_io.specs.Stream.{stream_of};
 
-    /// A reader of this stream.
+    /// A reader over this stream.
     pub fn new(stream: R) -> IoReader<R>
         ensures { stream_of result ≡ stream }
     {
@@ -165,7 +163,7 @@ impl<R: Read + Drop> Reader for IoReader<R> {
     ghost end_error_is = { λ missing e h. inr h };
 }
 
-/// A reader of a stream that is lent: `IoReader`, whose stream is known to its lender afterwards.
+/// `IoReader` over a borrowed stream, which its owner uses on afterwards.
 pub struct LentIoReader<'a, R> {
     stream: &'a mut R,
 }
@@ -181,7 +179,7 @@ impl<R> Drop for LentIoReader<'_, R> {
 impl<'a, R: Read> LentIoReader<'a, R> {
     ghost use Rattle.bincode_io.specs.Stream.{lent_stream};
 
-    /// A reader of this stream.
+    /// A reader over this stream.
     pub fn new(stream: &'a mut R) -> LentIoReader<'a, R>
         ensures loans { ⟦<LentIoReader<'a, R> as Reader>⟧.loans result ≡ stream.entry.ghost_name ∷ [] }
         ensures stream { lent_stream result ≡ stream.old }
@@ -228,8 +226,8 @@ impl<R: Read> Reader for LentIoReader<'_, R> {
     ghost end_error_is = { λ missing e h. inr h };
 }
 
-/// A buffer before a stream is a reader that shows what it holds. It fails as `IoReader` does. One without room tells
-/// nothing of its bytes.
+/// A buffered stream is a reader that can peek into its buffer. Errors are those of `IoReader`. One whose buffer has
+/// capacity 0 does not tell its bytes.
 impl<R: Read + Drop> Reader for BufReader<R> {
     ghost use Rattle.bincode_io.specs.Stream.{buffered_count};
     ghost use Rattle.bincode_io.specs.StreamLaws.{buffered-left};

@@ -1,4 +1,4 @@
-//! Writers to the streams of `std::io`.
+//! Writers over the streams of `std::io`.
 ghost use Rattle.std.specs.Prelude.{ℕ, ◌≡◌, ◌+◌, ◌-◌, ◌^◌, ◌∷◌, [], length, take};
 ghost use Rattle.std.specs.Prelude.{◌≢◌, Some, OnOk, OnErr, IfOk, MatchResult, refl};
 ghost use Rattle.std.proofs.Common.{zero-le};
@@ -13,9 +13,8 @@ use bincode_base::error::{EncodeError, StreamError};
 use std::io;
 use std::io::{ErrorKind, Write};
 
-/// A write that failed by this cause, tried again while a signal interrupts it: by another cause it is told at once,
-/// as the stream told it. It stands apart, so that a write that
-/// does not fail is inlined.
+/// Retries a write that failed with this cause while a signal interrupts it; any other cause is returned at once. Kept
+/// out of line, so that a write that succeeds is inlined.
 #[cold]
 #[inline(never)]
 fn write_again<W: Write>(
@@ -42,7 +41,7 @@ fn write_again<W: Write>(
     Err(StreamError::from(cause))
 }
 
-/// One write, tried again where a signal interrupts it.
+/// One write, retried while a signal interrupts it.
 #[inline(always)]
 fn write_some<W: Write>(stream: &mut W, bytes: &[u8]) -> Result<usize, StreamError>
     ensures bound { WritesAtMost result bytes.now }
@@ -55,7 +54,7 @@ fn write_some<W: Write>(stream: &mut W, bytes: &[u8]) -> Result<usize, StreamErr
     }
 }
 
-/// The error of a stream that takes no more.
+/// The error of a stream that accepts no more bytes.
 #[cold]
 fn full_stream() -> StreamError
     ensures { kind_of result ≡ ErrorKind.WriteZero }
@@ -63,8 +62,8 @@ fn full_stream() -> StreamError
     StreamError::from(io::Error::from(ErrorKind::WriteZero))
 }
 
-/// Writes all that is left of a piece of which a write took a front. It stands apart, so that a write that takes a
-/// piece whole is inlined.
+/// Writes the rest of a piece of which one write took only a prefix. Kept out of line, so that a write that takes the
+/// whole piece is inlined.
 #[cold]
 #[inline(never)]
 fn write_rest<W: Write>(stream: &mut W, rest: &[u8]) -> Result<(), StreamError>
@@ -81,7 +80,7 @@ fn write_rest<W: Write>(stream: &mut W, rest: &[u8]) -> Result<(), StreamError>
     Ok(())
 }
 
-/// Writes all of `bytes` to a stream. Fails where the stream fails or takes no more; a front of the bytes is out then.
+/// Writes all of `bytes` to a stream. Fails if the stream fails or accepts no more; a prefix of the bytes is then out.
 #[inline(always)]
 fn write_out<W: Write>(stream: &mut W, bytes: &[u8]) -> Result<(), StreamError>
     ensures ok { OnOk result (Appends (W.contents stream.old) (W.contents stream.new) bytes.now) }
@@ -94,8 +93,9 @@ fn write_out<W: Write>(stream: &mut W, bytes: &[u8]) -> Result<(), StreamError>
     }
 }
 
-/// A writer to a stream that is lent. It counts what it wrote, and fails with `Io` where the stream fails, which may
-/// have taken a front of the piece, or with `UnexpectedEnd` before a write that would pass the last count of 64 bits.
+/// A writer over a borrowed stream, without a buffer: each tag and each number is a write to the stream. Fails with
+/// `Io` if the stream fails, which may have taken a prefix of the piece, and with `UnexpectedEnd`, before it writes, if
+/// the count of bytes would pass 64 bits.
 pub struct IoWriter<'a, W> {
     stream: &'a mut W,
     written: usize,
@@ -113,7 +113,7 @@ impl<W> Drop for IoWriter<'_, W> {
 }
 
 impl<'a, W: Write> IoWriter<'a, W> {
-    /// A writer to this stream, which wrote nothing yet.
+    /// A writer over this stream, with a count of 0.
     pub fn new(stream: &'a mut W) -> IoWriter<'a, W>
         ensures loans { ⟦<IoWriter<'a, W> as Writer>⟧.loans result ≡ stream.entry.ghost_name ∷ [] }
         ensures stream { target_of result ≡ stream.old }
@@ -122,7 +122,7 @@ impl<'a, W: Write> IoWriter<'a, W> {
         IoWriter { stream, written: 0 }
     }
 
-    /// How many bytes were written by calls that succeeded.
+    /// The number of bytes written by calls that succeeded.
     pub fn bytes_written(&self) -> usize
         ensures { result ≡ written_through self.now }
     {
@@ -165,13 +165,13 @@ impl<W: Write> Writer for IoWriter<'_, W> {
         Ok(())
     }
 
-    /// Writes the byte. It is written out, since the provided one stays a call.
+    /// Written out because the provided method is not inlined.
     #[inline(always)]
     fn write_tag(&mut self, byte: u8, _all: usize) -> Result<(), EncodeError> {
         self.write(&[byte])
     }
 
-    /// Writes the bytes. It is written out, since the provided one stays a call.
+    /// Written out because the provided method is not inlined.
     #[inline(always)]
     fn write_payload(&mut self, bytes: &[u8]) -> Result<(), EncodeError> {
         self.write(bytes)

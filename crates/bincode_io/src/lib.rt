@@ -1,4 +1,4 @@
-//! Readers and writers.
+//! Readers and writers: over slices, vectors, counts and the streams of `std::io`.
 #![tactic(auto)]
 
 pub mod io_read;

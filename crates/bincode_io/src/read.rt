@@ -1,4 +1,4 @@
-//! Readers.
+//! The trait of readers, and the reader of a slice.
 ghost use Rattle.std.specs.Prelude.{◌≡◌, ◌-◌, ◌<◌, ◌≤◌, ◌⊎◌, ◌↔◌, ℕ, List, []};
 ghost use Rattle.std.specs.Prelude.{◌∷◌, ◌++◌, length, drop, take, ⊤, OnOk, OnErr, IfErr, IfSome, IsSome};
 ghost use Rattle.std.specs.Prelude.{IsErr, IfOk};
@@ -15,42 +15,43 @@ mod borrow;
 use bincode_base::error::DecodeError;
 pub use borrow::BorrowReader;
 
-/// A source of bytes, which are taken in order.
+/// A source of bytes, which are consumed in order.
 pub trait Reader: Drop {
-    /// Whether a number is read from the bytes that a peek shows, where it shows as many as the longest word of its
-    /// type has, and not by `read` alone. The answers are the same. It pays where `read` does more than to copy from a
-    /// slice.
+    /// Whether an integer is decoded from a peek, if enough bytes are buffered for the longest encoding of its type.
+    /// The
+    /// result is the same. Faster for readers whose `read` does more than copy from a slice.
     const PEEKS_FIRST: bool = true;
 
-    /// That it tells the bytes that are left. What is said of `remaining` is said where it does.
+    /// The remaining bytes are known (a slice), or not (a file). Clauses about `remaining` assume that they are.
     ghost is_known: { Self → Type 0 };
 
-    /// The bytes that are left.
+    /// The remaining bytes.
     ghost remaining: { Self → List ℕ };
 
-    /// How many of them a peek shows.
+    /// The number of bytes that a peek can return.
     ghost buffered_len: { Self → ℕ };
 
-    /// How often the device failed by an error that it counts. A count that stands at its last value, 2^64 - 1, is
-    /// taken for one that rose.
+    /// How often the device failed with an error that it counts. A counter at its maximum, 2^64 - 1, passes for one
+    /// that
+    /// was increased.
     ghost failures: { Self → ℕ };
 
-    /// The error of a read that asks for so many bytes more than are left.
+    /// The errors of a read that asks for this many bytes more than remain.
     ghost end_error: { ℕ → DecodeError → Type 0 };
 
-    /// The errors by which the device fails.
+    /// The errors of the device itself.
     ghost device: { DeviceErrors };
 
     /// The references that it reads through. No call changes them.
     ghost loans: { Self → List GName };
 
-    /// Fills all of `bytes` with the next bytes. Fails where too few are left, or where the device fails; then some
-    /// front of them is taken, unless the error is one that the device does not count.
+    /// Fills all of `bytes` with the next bytes. Fails if fewer remain or the device fails; then a prefix of them is
+    /// consumed, unless the error is one that the device does not count.
     fn read(&mut self, bytes: &mut [u8]) -> Result<(), DecodeError>
         ensures { FillsBuffer is_known remaining failures loans end_error device bytes.old bytes.new result self.old
             self.new };
 
-    /// The next `n` bytes. Of at least one it answers exactly where the reader shows so many. Takes none.
+    /// Returns the next `n` bytes without consuming them. For `n > 0`: `Some` exactly if that many are buffered.
     fn peek_read(&mut self, n: usize) -> Option<&[u8]>
         ensures next { IfSome result (λ s. (length s.now ≡ n)
             × (is_known self.old → s.now ≡ take n (remaining self.old))) }
@@ -60,19 +61,19 @@ pub trait Reader: Drop {
             (failures after) (loans self.old) (loans after)
             × IfSome result (λ _. n ≤ buffered_len after))) };
 
-    /// Takes `n` bytes that a peek showed.
+    /// Consumes `n` buffered bytes.
     fn consume(&mut self, n: usize)
         requires { n ≤ buffered_len self.old }
         ensures { TakesShown is_known remaining failures loans n self.old self.new };
 
-    /// It shows no more than is left.
+    /// No more is buffered than remains.
     ghost buffered_within: { (r : Self) → is_known r → buffered_len r ≤ length (remaining r) };
 
-    /// Where bytes are missing it answers `UnexpectedEnd` or `Io`, with how many.
+    /// The error for missing bytes is `UnexpectedEnd` or `Io`, with their number.
     ghost end_error_is: { (missing : ℕ) (e : DecodeError) → end_error missing e → IsEndError missing e };
 }
 
-/// A reader of a slice, which it keeps whole: it counts what it took.
+/// A reader over a slice.
 pub struct SliceReader<'s> {
     slice: &'s [u8],
     taken: usize,
@@ -88,7 +89,7 @@ impl Drop for SliceReader<'_> {
 impl<'s> SliceReader<'s> {
     ghost use Rattle.bincode_io.specs.Slices.{left_of};
 
-    /// A reader of these bytes.
+    /// A reader over these bytes.
     pub fn new(bytes: &'s [u8]) -> SliceReader<'s>
         ensures { left_of result ≡ bytes.now }
     {
@@ -98,7 +99,7 @@ impl<'s> SliceReader<'s> {
         }
     }
 
-    /// How many bytes are left.
+    /// The number of bytes that remain.
     pub fn bytes_left(&self) -> usize
         ensures { result ≡ length (left_of self.now) }
     {
@@ -127,15 +128,16 @@ impl Reader for SliceReader<'_> {
 
     ghost loans = { λ _. [] };
 
-    /// Fails exactly where too few bytes are left, and then takes none.
+    /// Fails exactly if fewer bytes remain, and then consumes none.
     fn read(&mut self, bytes: &mut [u8]) -> Result<(), DecodeError>
         ensures next { OnOk result (left_of self.old ≡ bytes.new ++ left_of self.new) }
         ensures why { IfErr result (λ e. FallsShort (λ missing d. d ≡ UnexpectedEnd missing) (left_of self.old)
             (length bytes.old) e) }
         ensures left { OnErr result (left_of self.new ≡ left_of self.old) }
     {
-        // What was taken is compared with the last place where so many bytes stand, so that LLVM sees one length tested
-        // by several reads.
+        // The position is compared with the last one at which the bytes fit, so that LLVM sees one length checked by
+        // several
+        // reads.
         if self.slice.len() < bytes.len() || self.slice.len() - bytes.len() < self.taken {
             return Err(DecodeError::UnexpectedEnd {
                 additional: bytes.len() - self.bytes_left(),
@@ -147,7 +149,7 @@ impl Reader for SliceReader<'_> {
         Ok(())
     }
 
-    /// Answers exactly where `n` bytes are left.
+    /// Returns `Some` exactly if `n` bytes remain.
     fn peek_read(&mut self, n: usize) -> Option<&[u8]>
         ensures next { IfSome result (λ s. (length s.now ≡ n) × (s.now ≡ take n (left_of self.old))) }
         ensures shows { IsSome result ↔ (n ≤ length (left_of self.old)) }

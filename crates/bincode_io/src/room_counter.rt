@@ -1,4 +1,4 @@
-//! A writer that counts for the room that is reserved.
+//! A counter for the capacity to reserve.
 ghost use Rattle.std.specs.Prelude.{◌≡◌, ◌∷◌, None, OnOk, [], length};
 ghost use Rattle.std.proofs.Common.{◌∙◌, le_refl, refl};
 ghost use Rattle.bincode_spec.specs.Device.{TakesPiece};
@@ -7,12 +7,12 @@ ghost use Rattle.bincode_io.specs.RoomLaws.{first-empty, second-empty};
 use crate::write::Writer;
 use bincode_base::error::EncodeError;
 
-/// A writer that counts the bytes, keeps none of them and refuses none, for the room that is reserved before they are
-/// written. Past 64 bits the count begins again: so no piece is tested, and a list of fixed numbers is counted by a
-/// product.
+/// Counts bytes modulo 2^64, to reserve a capacity before encoding. Never fails. Since no addition is checked, a list
+/// of
+/// fixed-width numbers is counted by one multiplication. `SizeWriter` counts with a check.
 #[derive(Default, Drop)]
 pub struct RoomCounter {
-    /// How many bytes were written.
+    /// The number of bytes written, modulo 2^64.
     pub bytes_written: usize,
 }
 
@@ -47,7 +47,7 @@ impl Writer for RoomCounter {
         Ok(())
     }
 
-    /// Counts them all.
+    /// Counts the whole number.
     #[inline(always)]
     fn write_tag(&mut self, byte: u8, all: usize) -> Result<(), EncodeError>
         ensures piece { TakesPiece CounterAdds (λ _ _ _ _. ⊥) (λ _. 0) (λ _. []) (byte ∷ []) result self.old self.new }
@@ -57,7 +57,7 @@ impl Writer for RoomCounter {
         Ok(())
     }
 
-    /// Counts nothing: `write_tag` did.
+    /// Counts nothing: `write_tag` has counted these bytes.
     #[inline(always)]
     fn write_payload(&mut self, bytes: &[u8]) -> Result<(), EncodeError>
         ensures piece { TakesPiece CounterAdds (λ _ _ _ _. ⊥) (λ _. 0) (λ _. []) bytes.now result self.old self.new }

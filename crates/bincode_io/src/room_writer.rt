@@ -1,4 +1,4 @@
-//! A writer into room that is there.
+//! A writer into a vector of fixed capacity.
 ghost use Rattle.std.specs.Prelude.{◌≡◌, ◌^◌, ◌<◌, ◌++◌, []};
 ghost use Rattle.std.specs.Prelude.{IsOk, IfOk, IfErr, None, false};
 ghost use Rattle.std.proofs.Common.{◌∙◌, ap, sym, inl, inr, le_refl, append_assoc, refl};
@@ -11,9 +11,8 @@ use crate::write::Writer;
 use bincode_base::error::EncodeError;
 use std::alloc::Global;
 
-/// A writer into a vector that has room for so many bytes and does not grow, for a value that was counted before: so
-/// no code to grow stands behind each piece. Fails with `UnexpectedEnd` where the room is too small; it then holds what
-/// it held.
+/// A writer into a vector that never grows, for a value that was counted before: so no code to grow follows each
+/// piece. Fails with `UnexpectedEnd` if the capacity is too small, and keeps what was written before.
 #[derive(Drop)]
 pub struct RoomWriter {
     held: VecWriter,
@@ -23,7 +22,7 @@ pub struct RoomWriter {
 impl RoomWriter {
     ghost use Rattle.bincode_io.specs.Rooms.{written_to, room_of, refused_by};
 
-    /// A writer with room for so many bytes, of which none is written. Fails with `Memory` where the room is refused.
+    /// Allocates this capacity, in bytes. Fails with `Memory` if the allocation is refused.
     pub fn with_capacity(alloc: Global, capacity: usize) -> Result<RoomWriter, EncodeError>
         ensures start { IfOk result (λ w. (written_to w ≡ []) × (refused_by w ≡ false)) }
         ensures room { IfOk result (λ w. (room_of w ≡ capacity) × (capacity < 2 ^ 63)) }
@@ -50,7 +49,7 @@ impl RoomWriter {
         held.collect()
     }
 
-    /// Whether it refused a piece for want of room.
+    /// Whether a piece was refused because the capacity was too small.
     pub fn has_refused(&self) -> bool
         ensures { result ≡ refused_by self.now }
     {
@@ -87,8 +86,8 @@ impl Writer for RoomWriter {
         }
     }
 
-    /// Pushes the byte. It is written out, and shorter than `write`: a `u64` is written by seven such calls, and
-    /// a function that would grow very large by them is not inlined, whatever it asks for.
+    /// Kept shorter than `write`: LLVM inlines it seven times in the encoding of a `u64`, and does not inline into a
+    /// function that would grow too large, whatever its attributes ask for.
     #[inline(always)]
     fn write_tag(&mut self, byte: u8, _all: usize) -> Result<(), EncodeError> {
         if self.held.room_left() == 0 {

@@ -1,4 +1,4 @@
-//! A writer that counts.
+//! A writer that only counts.
 ghost use Rattle.std.specs.Prelude.{◌≡◌, ◌+◌, ◌-◌, ◌^◌, ◌<◌, ◌≤◌, ◌++◌};
 ghost use Rattle.std.specs.Prelude.{Some, [], length};
 ghost use Rattle.std.proofs.Common.{arith, inl, le_refl, zero-le, ap, ◌∙◌, add-zero, length-append};
@@ -7,11 +7,11 @@ ghost use Rattle.bincode_base.specs.declared.error.EncodeError.TheVariants.{Unex
 use crate::write::Writer;
 use bincode_base::error::EncodeError;
 
-/// A writer that counts the bytes and keeps none of them: it tells how much room a value takes. Fails with
-/// `UnexpectedEnd` where the count would pass 64 bits; the count then stays.
+/// Counts the bytes of a value and keeps none. Fails with `UnexpectedEnd` if the count would pass 64 bits, and leaves
+/// the count as it was.
 #[derive(Default, Drop)]
 pub struct SizeWriter {
-    /// How many bytes were written.
+    /// The number of bytes written.
     pub bytes_written: usize,
 }
 

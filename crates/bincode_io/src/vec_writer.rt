@@ -1,4 +1,4 @@
-//! A writer into a vector.
+//! A writer into a vector that grows.
 ghost use Rattle.std.specs.Prelude.{◌≡◌, ◌+◌, ◌-◌, ◌<◌, ◌≤◌, ◌⊎◌, ◌++◌};
 ghost use Rattle.std.specs.Prelude.{◌∷◌, [], length, vec_capacity};
 ghost use Rattle.std.specs.Prelude.{IsOk, IfOk, IfErr, OnOk, None};
@@ -14,8 +14,8 @@ use bincode_base::error::EncodeError;
 use std::alloc::Global;
 use std::mem::{forget, replace};
 
-/// A writer into a vector, which grows where its room is too small. Fails with `Memory` where the memory to grow is
-/// refused; it then holds what it held.
+/// A writer into a vector that grows when it is full, to at least twice its capacity. Fails with `Memory` if the
+/// allocation is refused, and keeps what was written before.
 #[derive(Drop)]
 pub struct VecWriter {
     bytes: Vec<u8>,
@@ -24,8 +24,7 @@ pub struct VecWriter {
 impl VecWriter {
     ghost use Rattle.bincode_io.specs.Vectors.{held_by, capacity_of};
 
-    /// A writer with room for so many bytes and no more, of which none is written. Fails with `Memory` where the room
-    /// is refused.
+    /// Allocates exactly this capacity, in bytes. Fails with `Memory` if the allocation is refused.
     pub fn with_capacity(alloc: Global, capacity: usize) -> Result<VecWriter, EncodeError>
         ensures start { IfOk result (λ w. held_by w ≡ []) }
         ensures room { IfOk result (λ w. capacity_of w ≡ capacity) }
@@ -46,7 +45,7 @@ impl VecWriter {
         bytes
     }
 
-    /// How many more bytes it has room for before it must grow.
+    /// The number of bytes that still fit before the vector grows.
     #[inline(always)]
     pub(crate) fn room_left(&self) -> usize
         ensures { result ≡ capacity_of self.now - length (held_by self.now) }
@@ -54,7 +53,7 @@ impl VecWriter {
         self.bytes.capacity() - self.bytes.len()
     }
 
-    /// The vector, which leaves an empty one.
+    /// Takes the vector out and leaves an empty one.
     #[inline(always)]
     fn take_out(&mut self) -> Vec<u8>
         ensures { result ≡ self.old.bytes }
@@ -63,8 +62,9 @@ impl VecWriter {
         replace(&mut self.bytes, empty)
     }
 
-    /// The vector for the empty one that is there. That one has no memory: it is forgotten, so that no code tests
-    /// whether it has any.
+    /// Puts the vector back. The empty one in its place has no memory: it is forgotten, so that no code checks whether
+    /// to
+    /// free it.
     #[inline(always)]
     fn put_back(&mut self, bytes: Vec<u8>)
         ensures { self.new.bytes ≡ bytes }
@@ -72,7 +72,7 @@ impl VecWriter {
         forget(replace(&mut self.bytes, bytes));
     }
 
-    /// Adds a byte, for which there is room.
+    /// Adds a byte that fits.
     #[inline(always)]
     pub(crate) fn push(&mut self, byte: u8)
         requires { length (held_by self.old) < capacity_of self.old }
@@ -81,7 +81,7 @@ impl VecWriter {
         self.bytes.push_reserved(byte);
     }
 
-    /// Adds a few bytes, for which there is room.
+    /// Adds a few bytes that fit.
     #[inline(always)]
     pub(crate) fn push_each(&mut self, bytes: &[u8])
         requires { length (held_by self.old) + length bytes.now ≤ capacity_of self.old }
@@ -96,8 +96,9 @@ impl VecWriter {
         self.put_back(with_each(held, bytes));
     }
 
-    /// Makes room for so many more bytes, unless memory is refused. The vector is handed over and back by value, for
-    /// speed: a vector that is lent to a call, here for its growth, stays in memory, also around writes that need none.
+    /// Makes room for `additional` more bytes, unless the allocation is refused. Moves the vector out and back for
+    /// speed: a
+    /// vector that is lent to a call stays in memory, even around writes that don't grow it.
     #[inline(always)]
     fn grow(&mut self, additional: usize)
         ensures bytes { held_by self.new ≡ held_by self.old }
@@ -108,10 +109,10 @@ impl VecWriter {
     }
 }
 
-/// The least capacity of a vector that has memory.
+/// The smallest capacity that is allocated.
 const LEAST_CAPACITY: usize = 8;
 
-/// The same bytes with room for so many more and at least twice the capacity, or as they were where memory is refused.
+/// Reserves room for `additional` more bytes and at least twice the capacity; unchanged if the allocation is refused.
 #[cold]
 #[inline(never)]
 fn with_room(mut bytes: Vec<u8>, additional: usize) -> Vec<u8>
@@ -124,8 +125,8 @@ fn with_room(mut bytes: Vec<u8>, additional: usize) -> Vec<u8>
     bytes
 }
 
-/// Bytes with a few more behind them, one by one: LLVM makes one store of as many as it knows, where the library's copy
-/// of a slice first tests whether it overlaps the vector.
+/// Appends a few bytes one by one: LLVM makes few stores of them, while the copy of a slice first checks whether it
+/// overlaps the vector.
 #[inline(always)]
 fn with_each(mut held: Vec<u8>, bytes: &[u8]) -> Vec<u8>
     requires { length held.items + length bytes.now ≤ vec_capacity held }
@@ -157,7 +158,7 @@ impl Writer for VecWriter {
 
     ghost announces = { λ a all b. MakesRoom all a b };
 
-    /// Where the piece is longer than the room, the capacity at least doubles.
+    /// If the piece does not fit, the capacity at least doubles.
     #[inline(always)]
     fn write(&mut self, bytes: &[u8]) -> Result<(), EncodeError>
         ensures piece { TakesPiece VecAdds VecRefuses (λ _. 0) (λ _. []) bytes.now result self.old self.new }
@@ -182,7 +183,7 @@ impl Writer for VecWriter {
         Ok(())
     }
 
-    /// Makes room for them all, unless memory is refused.
+    /// Makes room for all bytes of the number, unless the allocation is refused.
     #[inline(always)]
     fn write_tag(&mut self, byte: u8, all: usize) -> Result<(), EncodeError>
         ensures piece { TakesPiece VecAdds VecRefuses (λ _. 0) (λ _. []) (byte ∷ []) result self.old self.new }

@@ -1,4 +1,4 @@
-//! Writers.
+//! The trait of writers, and the writer into a slice.
 ghost use Rattle.std.specs.Prelude.{◌≡◌, ◌+◌, ◌-◌, ◌^◌, ◌<◌, ◌≤◌, ◌⊎◌, ℕ, List, []};
 ghost use Rattle.std.specs.Prelude.{◌∷◌, ◌++◌, length, true, Option, Some, OnOk, IfErr};
 ghost use Rattle.std.specs.Borrow.{GName};
@@ -15,43 +15,43 @@ pub use crate::size_writer::SizeWriter;
 pub use crate::vec_writer::VecWriter;
 use bincode_base::error::EncodeError;
 
-/// A target of bytes, which come piece by piece.
+/// A sink of bytes, which arrive piece by piece.
 pub trait Writer: Drop {
-    /// Whether it only counts. Then the length of a number is all that it is told: by `write_tag`, before the
-    /// branches that write a number, which are then none. What is written is the same.
+    /// `true` for a writer that only counts bytes: integers then report their length once, through `write_tag`, before
+    /// any branch.
     const COUNTS: bool = false;
 
     /// What a write that succeeds does to a writer.
     ghost adds: { Self → List ℕ → Self → Type 0 };
 
-    /// What a write that fails answers, and does to it.
+    /// What a write that fails returns, and does to the writer.
     ghost refuses: { Self → List ℕ → EncodeError → Self → Type 0 };
 
-    /// How many bytes it can still take, if that is limited.
+    /// The number of bytes that it can still take, if that is limited.
     ghost room: { Self → Option ℕ };
 
-    /// How often the device failed. A count that stands at its last value, 2^64 - 1, is taken for one that rose.
+    /// How often the device failed. A counter at its maximum, 2^64 - 1, passes for one that was increased.
     ghost failures: { Self → ℕ };
 
-    /// An error that may come at any call.
+    /// The errors that may come at any call.
     ghost device: { EncodeError → Type 0 };
 
     /// The references that it writes through. No call changes them.
     ghost loans: { Self → List GName };
 
-    /// What `write` does to a writer besides, by the piece, where `write_tag` does something else.
+    /// What else `write` does to a writer, if `write_tag` does something different.
     ghost writes: { Self → List ℕ → Self → Type 0 } = { λ _ _ _. Unit {0} };
 
-    /// What `write_tag` does to it besides, by the length that it is told.
+    /// What else `write_tag` does to it, given the announced length.
     ghost announces: { Self → ℕ → Self → Type 0 } = { λ _ _ _. Unit {0} };
 
-    /// Writes a piece. Fails where it is longer than the room, where memory is refused, or where the device fails.
+    /// Writes a piece. Fails if it is longer than the room, an allocation is refused, or the device fails.
     fn write(&mut self, bytes: &[u8]) -> Result<(), EncodeError>
         ensures piece { TakesPiece adds refuses failures loans bytes.now result self.old self.new }
         ensures besides { OnOk result (writes self.old bytes.now self.new) };
 
-    /// Writes a byte that begins a number of so many bytes in all. A writer that grows makes room for them all, so that
-    /// it has no code to grow after each piece. The provided one writes the byte alone.
+    /// Writes the first byte of an integer of `_all` bytes. A writer that grows reserves all of them here, so that no
+    /// code to grow follows each piece. The provided method writes the byte alone.
     #[inline(always)]
     fn write_tag(&mut self, byte: u8, _all: usize) -> Result<(), EncodeError>
         ensures piece { TakesPiece adds refuses failures loans (byte ∷ []) result self.old self.new }
@@ -60,7 +60,7 @@ pub trait Writer: Drop {
         self.write(&[byte])
     }
 
-    /// Writes a piece of few bytes that `write_tag` made room for. A writer that grows makes no more room for it.
+    /// Writes the few bytes that follow `write_tag`. A writer that grows reserves nothing for them.
     #[inline(always)]
     fn write_payload(&mut self, bytes: &[u8]) -> Result<(), EncodeError>
         ensures { TakesPiece adds refuses failures loans bytes.now result self.old self.new }
@@ -68,8 +68,8 @@ pub trait Writer: Drop {
         self.write(bytes)
     }
 
-    /// Whether it surely has room for so many bytes. It is asked for speed alone, before the pieces of a value whose
-    /// length is known: where it has, the compiler drops the test of each piece. The provided one never knows.
+    /// Returns `true` only if `_count` more bytes are sure to fit. For speed only: after `true` the compiler drops the
+    /// checks of the pieces. The provided method always returns `false`.
     #[inline(always)]
     fn has_room_for(&self, _count: usize) -> bool
         ensures { result ≡ true → (piece : List ℕ) → length piece ≡ _count
@@ -78,32 +78,32 @@ pub trait Writer: Drop {
         false
     }
 
-    /// A writer that stays as it is has added the empty piece.
+    /// Adding the empty piece changes nothing.
     ghost adds_none: { (w : Self) → adds w [] w };
 
-    /// Two pieces in turn are their join.
+    /// Adding two pieces in turn adds their concatenation.
     ghost adds_join: { (a b c : Self) (x y : List ℕ) → adds a x b → adds b y c → adds a (x ++ y) c };
 
-    /// A write that succeeds takes nothing off the count of failures,
+    /// A write that succeeds does not lower the count of failures,
     ghost adds_count: { (a b : Self) (piece : List ℕ) → adds a piece b → failures a ≤ failures b };
 
     /// nor does one that fails.
     ghost refuses_count: { (a b : Self) (piece : List ℕ) (e : EncodeError) → refuses a piece e b → failures a
         ≤ failures b };
 
-    /// Why a write fails.
+    /// A write fails because the piece is too long, memory is refused or the device fails.
     ghost refuses_why: { (a b : Self) (piece : List ℕ) (e : EncodeError) → refuses a piece e b →
         TooLong (room a) piece ⊎ WriterFails device (failures a) (failures b) e };
 
-    /// A writer that added the empty piece stayed as it was.
+    /// Adding the empty piece is only possible without a change.
     ghost adds_nothing: { (a b : Self) → adds a [] b → b ≡ a };
 
-    /// A piece that was added was within the room, and the room is then what is left of it.
+    /// A piece that was added did fit, and takes its length off the room.
     ghost adds_room: { (a b : Self) (piece : List ℕ) → adds a piece b → TakesRoom (room a) piece (room b) };
 }
 
-/// A writer into the front of a slice. It holds how many bytes are left beside how many were written, so that no write
-/// has to reckon one from the other.
+/// A writer into the front of a slice. It keeps both the number of bytes written and the number left, so that no write
+/// computes one from the other.
 pub struct SliceWriter<'s> {
     slice: &'s mut [u8],
     written: usize,
@@ -128,7 +128,7 @@ impl Drop for SliceWriter<'_> {
 impl<'s> SliceWriter<'s> {
     ghost use Rattle.bincode_io.specs.Slices.{bytes_of, written_by, loan_of};
 
-    /// A writer into these bytes, of which none is written.
+    /// A writer into these bytes, from their start.
     pub fn new(bytes: &'s mut [u8]) -> SliceWriter<'s>
         ensures loans { loan_of result ≡ bytes.entry.ghost_name }
         ensures bytes { bytes_of result ≡ bytes.old }
@@ -142,7 +142,7 @@ impl<'s> SliceWriter<'s> {
         }
     }
 
-    /// How many bytes were written.
+    /// The number of bytes written.
     pub fn bytes_written(&self) -> usize
         ensures { result ≡ written_by self.now }
     {
@@ -179,7 +179,7 @@ impl Writer for SliceWriter<'_> {
         Ok(())
     }
 
-    /// Whether so many bytes are left, exactly.
+    /// Exact: `true` if and only if `count` bytes are left.
     #[inline(always)]
     fn has_room_for(&self, count: usize) -> bool
         ensures room { result ≡ true → (piece : List ℕ) → length piece ≡ count
@@ -211,8 +211,8 @@ impl Writer for SliceWriter<'_> {
         (written_by b) piece h.0 h.2 (front-within _ _ _ b.within) };
 }
 
-/// Copies a piece over as many bytes: a short one by its first and its last bytes, which may be the same ones. The
-/// tests go down to the shortest, so that a name or a key takes few of them.
+/// Copies `piece` into `target` of equal length; up to 32 bytes by two overlapping loads and stores. The branches go
+/// down to the shortest, so that a name or a key takes few of them.
 #[inline(always)]
 fn copy_piece(target: &mut [u8], piece: &[u8])
     requires { length target.old ≡ length piece.now }
@@ -227,7 +227,7 @@ fn copy_piece(target: &mut [u8], piece: &[u8])
     }
 }
 
-/// The same for a piece of less than 8 bytes.
+/// `copy_piece` for less than 8 bytes.
 #[inline(always)]
 fn copy_few(target: &mut [u8], piece: &[u8])
     requires same { length target.old ≡ length piece.now }
@@ -245,7 +245,7 @@ fn copy_few(target: &mut [u8], piece: &[u8])
     }
 }
 
-/// The same for a piece of more than 16 bytes. It stands apart, so that `copy_piece` stays small where it is inlined.
+/// `copy_piece` for more than 16 bytes. Kept out of line, so that `copy_piece` stays small where it is inlined.
 #[inline(never)]
 fn copy_long(target: &mut [u8], piece: &[u8])
     requires same { length target.old ≡ length piece.now }
@@ -259,7 +259,7 @@ fn copy_long(target: &mut [u8], piece: &[u8])
     }
 }
 
-/// The same by the first `F` and the last `B` bytes of a piece that these cover.
+/// Copies the first `F` and the last `B` bytes of a piece, which together cover it.
 #[inline(always)]
 fn copy_ends<const F: usize, const B: usize>(target: &mut [u8], piece: &[u8])
     requires same { length target.old ≡ length piece.now }

@@ -1,4 +1,4 @@
-//! Values whose type is described at run time, from a slice, counted before they are made.
+//! Values whose type is known at run time alone, counted before they are made.
 ghost use Rattle.std.specs.Prelude.{◌≡◌, ◌≤◌, ℕ, IfOk, IfErr};
 ghost use Rattle.bincode_spec.specs.Answer.{answer};
 ghost use Rattle.bincode_spec.specs.Decoding.{Decodes, DecodeFailure};
@@ -17,21 +17,21 @@ use bincode_shape_codec::measure::measure_shape;
 use bincode_shape_codec::within::{DecodeWithinError, Measure};
 use std::alloc::Global;
 
-/// Reads a word of a shape from the front of a slice without making a value of it, and answers how many values
-/// `decode_shaped` makes of it and how many bytes it has. It takes no memory, and of elements without bytes it reads
-/// the first alone, so a long list of them takes no time. Fails as `decode_shaped` does, but never with `Memory`.
+/// Validates an encoding at the front of a slice without making a value, and returns its length in bytes and how many
+/// values `decode_shaped` would make of it. Does not allocate. Of a list of elements without bytes only the first is
+/// read, so that a long one takes no time. Errors are those of `decode_shaped`, save `Memory`.
 pub fn measure_shaped<C: Config>(
     alloc: Global,
     shape: &Shape,
     src: &[u8],
     config: C,
 ) -> Result<Measure, DecodeError>
-    // What is measured is a word within the limit, of so many bytes, of which so many values are made.
+    // On `Ok` the front of the slice is an encoding within the limit, with its length and its number of values.
     ensures word { IfOk result (λ x. Decoded (format_of shape.now C.setting) C.bound src.now
         (λ m. IsCounted shape.now m x.values) x.bytes) }
-    // Each word within the limit is measured,
+    // Each encoding within the limit is accepted,
     ensures found { FindsWords (format_of shape.now C.setting) C.bound ⊥ src.now result }
-    // each fault within the limit is told,
+    // each fault within the limit is reported,
     ensures fault { TellsFaults (format_of shape.now C.setting) C.bound ⊥ src.now result }
     // and charges that pass the limit are refused.
     ensures limit { KeepsLimit (format_of shape.now C.setting) C.bound ⊥ src.now result }
@@ -44,7 +44,7 @@ pub fn measure_shaped<C: Config>(
     })
 }
 
-/// Reads a word of a shape by a decoder that borrows its reader and its configuration.
+/// Measures an encoding with a decoder that borrows its reader and its configuration.
 fn measure_with<'a, R: BorrowReader<'a>, C: Config>(
     alloc: Global,
     shape: &Shape,
@@ -62,11 +62,10 @@ fn measure_with<'a, R: BorrowReader<'a>, C: Config>(
     measure_shape::<&'a [u8], LentDecoder<'_, R, C, ()>>(shape, &mut decoder)
 }
 
-/// Reads a value of a shape from the front of a slice as `decode_shaped` does, but at most so many values: one for the
-/// whole, and one for each part, element and part of a part, those without bytes too. They are counted before the first
-/// of them is made, so this is the call for input that is not trusted. Fails with `TooManyValues` exactly where the
-/// bytes begin with a word within the limit that has more, and with `Decode` and the error of `decode_shaped` where
-/// that fails. Memory may be refused of a word alone that has no more than `most`. It goes as deep as `decode_shaped`.
+/// Decodes a value of a shape like `decode_shaped`, if it is made of at most `most` values: one for the whole, and one
+/// for each part, element and part of a part, even without bytes. They are counted before the first is made, so this is
+/// the call for untrusted input. Fails with `TooManyValues` for an encoding within the limit that has more, else with
+/// `Decode` and the error of `decode_shaped`. `Memory` comes only for an encoding that has no more than `most`.
 pub fn decode_shaped_within<C: Config>(
     alloc: Global,
     shape: &Shape,
@@ -74,16 +73,16 @@ pub fn decode_shaped_within<C: Config>(
     config: C,
     most: usize,
 ) -> Result<(Value, usize), DecodeWithinError>
-    // What is read is a word within the limit, of so many bytes; the value fits, means what it does, and is no more
-    // than so many.
+    // On `Ok((v, n))` the first `n` bytes are an encoding within the limit, `v` fits the shape and has its meaning, and
+    // it is made of at most `most` values.
     ensures word { IfOk result (λ x. Decoded (format_of shape.now C.setting) C.bound src.now
         (λ m. IsImage shape.now m x.0 × (values_in x.0 ≤ most)) x.1) }
-    // Each word within the limit that has no more values is read,
+    // Each encoding within the limit that has no more values is accepted,
     ensures found { FindsFew (format_of shape.now C.setting) C.bound (TakesMemory shape.now) (count_of shape.now)
         most src.now result }
-    // each that has more is refused by their number,
+    // each that has more is refused with their number,
     ensures many { RefusesMany (format_of shape.now C.setting) C.bound (count_of shape.now) most src.now result }
-    // each fault within the limit is told,
+    // each fault within the limit is reported,
     ensures fault { TellsDecodeFaults (format_of shape.now C.setting) C.bound src.now result }
     // and charges that pass the limit are refused.
     ensures limit { KeepsDecodeLimit (format_of shape.now C.setting) C.bound src.now result }

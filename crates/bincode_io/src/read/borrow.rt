@@ -1,4 +1,4 @@
-//! Readers that lend what they read.
+//! Readers that lend the bytes of their source.
 ghost use Rattle.std.specs.Prelude.{◌≡◌, ◌++◌, length, IfOk, IfErr};
 ghost use Rattle.bincode_spec.specs.Device.{FallsShort};
 ghost use Rattle.bincode_spec.specs.Lending.{TakesBytes};
@@ -7,10 +7,11 @@ ghost use Rattle.bincode_base.specs.declared.error.DecodeError.TheVariants.{Unex
 use super::{Reader, SliceReader};
 use bincode_base::error::DecodeError;
 
-/// A reader of bytes that outlive it.
+/// A reader whose source outlives it, so that it can lend bytes instead of copying them.
 pub trait BorrowReader<'storage>: Reader {
-    /// Takes the next `count` bytes, which are the source's own and not a copy. Fails where too few are left, or where
-    /// the device fails; then some front of them is taken, unless the error is one that the device does not count.
+    /// Consumes the next `count` bytes and lends them. Fails if fewer remain or the device fails; then a prefix of them
+    /// is
+    /// consumed, unless the error is one that the device does not count.
     fn take_bytes(&mut self, count: usize) -> Result<&'storage [u8], DecodeError>
         ensures { TakesBytes Self.is_known Self.remaining Self.failures Self.loans Self.end_error Self.device
             (λ s. s.now) count result self.old self.new };
@@ -19,7 +20,7 @@ pub trait BorrowReader<'storage>: Reader {
 impl<'storage> BorrowReader<'storage> for SliceReader<'storage> {
     ghost use Rattle.bincode_io.specs.Slices.{left_of};
 
-    /// Fails exactly where too few bytes are left, and then takes none.
+    /// Fails exactly if fewer bytes remain, and then consumes none.
     fn take_bytes(&mut self, count: usize) -> Result<&'storage [u8], DecodeError>
         ensures next { IfOk result (λ s. (left_of self.old ≡ s.now ++ left_of self.new)
             × (length s.now ≡ count)) }

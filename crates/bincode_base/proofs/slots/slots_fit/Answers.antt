@@ -3,7 +3,7 @@ use prog.Memory.{capped}
 use prog.Capped.{capped_is}
 use Rattle.bincode_base.proofs.slots.slots_fit.Goals as goal
 
--- what a word holds of a size, so many times, fits a word where the size itself, so many times, is below 2^63
+-- the size as a machine number times n fits 64 bits, if the size times n is below 2^63
 held_fits : (held size n : ℕ) → held ≡ capped size → n * size < 2 ^ 63 → held * n < 2 ^ 64
 held_fits held size zero e h = omega arith
 held_fits held size (suc n) e h =

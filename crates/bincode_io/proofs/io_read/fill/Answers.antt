@@ -6,7 +6,7 @@ use borrow.Rule.Slice.PartMut.{put_mid, post_of}
 use lib.Seq.{take-add, take-append-le}
 use Rattle.bincode_io.proofs.io_read.fill.Goals as goal
 
--- the first part, and then what stands behind it
+-- the first part, and then what follows it
 take_split : (a b : ℕ) (old new : List ℕ) → a ≤ b → take a new ≡ take a old → take a old ++ slice_range new a b ≡ take b new
 take_split a b old new h front =
     let same : a + (b - a) ≡ b = omega arith in
