@@ -13,8 +13,7 @@ use std::alloc::Global;
 
 /// Decodes a value from the front of a slice, like `decode_from_slice`. The value may borrow bytes of the slice instead
 /// of copying them, and so it lives no longer than the slice. Errors are those of `decode_from_slice`; a type that
-/// never
-/// allocates (`&[u8]`, `&str` and what is made of such) is never refused with `Memory`.
+/// never allocates (`&[u8]`, `&str` and what is made of such) is never refused with `Memory`.
 pub fn borrow_decode_from_slice<'a, D: BorrowDecode<&'a [u8], ()>, C: Config>(
     alloc: Global,
     src: &'a [u8],

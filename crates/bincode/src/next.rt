@@ -32,9 +32,8 @@ fn has_ended<R: BufRead>(stream: &mut R) -> Result<bool, StreamError>
 }
 
 /// Decodes the next value of a buffered stream and consumes just its encoding; `None` if the stream has ended before
-/// its
-/// first byte. Errors are those of `decode_from_std_read`; a stream that ends within an encoding gives `Io`. So a loop
-/// tells a clean end of the stream from a cut one:
+/// its first byte. Errors are those of `decode_from_std_read`; a stream that ends within an encoding gives `Io`. So a
+/// loop tells a clean end of the stream from a cut one:
 ///
 /// ```
 /// for _ in 0..u64::MAX {

@@ -32,8 +32,7 @@ pub use within::{decode_shaped_within, measure_shaped};
 /// written.
 ///
 /// Recursion is as deep as the shape: a stack of 8 MB was enough for 1,000 nested lists. `Shape::depth` tells the
-/// depth,
-/// so that a caller may refuse a shape.
+/// depth, so that a caller may refuse a shape.
 pub fn encode_shaped<W: Writer, C: Config>(
     shape: &Shape,
     value: &Value,
@@ -80,9 +79,9 @@ fn encode_fitting<W: Writer, C: Config>(
 /// bytes after them are not read. Fails with the first fault of the bytes, `LimitExceeded` if the charges pass the
 /// limit, or `Memory` if an allocation is refused.
 ///
-/// `Limit<N>` bounds bytes, not memory: each list and array has at most N elements, and all of them together at most
-/// N * N / 8. Each element is a `Value` of 32 bytes, even one without bytes, which claims one: a few bytes may make N
-/// values, and lists in lists some N * N / 64. For untrusted input call `decode_shaped_within`.
+/// `Limit<N>` bounds bytes, not memory: each list and array has at most N elements, and all of them together at most N
+/// times N / 8. Each element is a `Value` of 32 bytes, even one without bytes, which claims one: a few bytes may make N
+/// values, and lists in lists some N times N / 64. For untrusted input call `decode_shaped_within`.
 ///
 /// Recursion is as deep as the shape: a stack of 8 MB was enough for 1,000 nested lists, not for 3,000 nested options.
 /// `Shape::depth` tells the depth, so that a caller may refuse a shape.

@@ -33,8 +33,8 @@ pub fn encode_to_vec<E: Encode, C: Config>(
     encode_in_room(alloc, &val, counter.bytes_written, &config)
 }
 
-/// Encodes into a vector of this capacity. If the value no longer fits (its type may write another encoding each
-/// time), retries with twice the capacity plus one.
+/// Encodes into a vector of this capacity. If the value no longer fits (its type may write another encoding each time),
+/// retries with twice the capacity plus one.
 fn encode_in_room<E: Encode, C: Config>(
     alloc: Global,
     val: &E,

@@ -18,8 +18,7 @@ pub use borrow::BorrowReader;
 /// A source of bytes, which are consumed in order.
 pub trait Reader: Drop {
     /// Whether an integer is decoded from a peek, if enough bytes are buffered for the longest encoding of its type.
-    /// The
-    /// result is the same. Faster for readers whose `read` does more than copy from a slice.
+    /// The result is the same. Faster for readers whose `read` does more than copy from a slice.
     const PEEKS_FIRST: bool = true;
 
     /// The remaining bytes are known (a slice), or not (a file). Clauses about `remaining` assume that they are.
@@ -32,8 +31,7 @@ pub trait Reader: Drop {
     ghost buffered_len: { Self → ℕ };
 
     /// How often the device failed with an error that it counts. A counter at its maximum, 2^64 - 1, passes for one
-    /// that
-    /// was increased.
+    /// that was increased.
     ghost failures: { Self → ℕ };
 
     /// The errors of a read that asks for this many bytes more than remain.
@@ -136,8 +134,7 @@ impl Reader for SliceReader<'_> {
         ensures left { OnErr result (left_of self.new ≡ left_of self.old) }
     {
         // The position is compared with the last one at which the bytes fit, so that LLVM sees one length checked by
-        // several
-        // reads.
+        // several reads.
         if self.slice.len() < bytes.len() || self.slice.len() - bytes.len() < self.taken {
             return Err(DecodeError::UnexpectedEnd {
                 additional: bytes.len() - self.bytes_left(),

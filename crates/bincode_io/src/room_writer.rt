@@ -11,8 +11,8 @@ use crate::write::Writer;
 use bincode_base::error::EncodeError;
 use std::alloc::Global;
 
-/// A writer into a vector that never grows, for a value that was counted before: so no code to grow follows each
-/// piece. Fails with `UnexpectedEnd` if the capacity is too small, and keeps what was written before.
+/// A writer into a vector that never grows, for a value that was counted before: so no code to grow follows each piece.
+/// Fails with `UnexpectedEnd` if the capacity is too small, and keeps what was written before.
 #[derive(Drop)]
 pub struct RoomWriter {
     held: VecWriter,

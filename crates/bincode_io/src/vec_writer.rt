@@ -63,8 +63,7 @@ impl VecWriter {
     }
 
     /// Puts the vector back. The empty one in its place has no memory: it is forgotten, so that no code checks whether
-    /// to
-    /// free it.
+    /// to free it.
     #[inline(always)]
     fn put_back(&mut self, bytes: Vec<u8>)
         ensures { self.new.bytes ≡ bytes }
@@ -97,8 +96,7 @@ impl VecWriter {
     }
 
     /// Makes room for `additional` more bytes, unless the allocation is refused. Moves the vector out and back for
-    /// speed: a
-    /// vector that is lent to a call stays in memory, even around writes that don't grow it.
+    /// speed: a vector that is lent to a call stays in memory, even around writes that don't grow it.
     #[inline(always)]
     fn grow(&mut self, additional: usize)
         ensures bytes { held_by self.new ≡ held_by self.old }

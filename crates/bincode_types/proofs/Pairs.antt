@@ -1,5 +1,5 @@
--- What a pair keeps.
+-- Properties of a pair.
 
--- the one holds of its first part, and the other of its second
+-- one holds of the first part, the other of the second
 abbrev pub both_keep : {A B : Type 0} → (A → Type 0) → (B → Type 0) → A × B → Type 0
 both_keep P Q e = P e.0 × (Q e.1 × Unit {0})

@@ -8,7 +8,7 @@ use lib.Pointwise.{bytes_decides}
 use Rattle.bincode_spec.specs.Meaning.{Meaning, IsBytes}
 use Rattle.bincode_lemmas.specs.TextLaws.{text-same}
 
--- texts of one meaning are those of equal paths
+-- texts of one meaning are texts of equal paths
 pub paths-alike : (xs ys : List ℕ) (m : Meaning) → IsBytes xs m → IsBytes ys m → is_eq (path_cmp xs ys) ≡ true
 paths-alike xs ys m a b =
     let same : xs ≡ ys = text-same xs ys m a b in

@@ -1,4 +1,4 @@
--- What a C string has, and the error of making one.
+-- The parts of a C string, and of the error of making one.
 use Rattle.std.specs.Prelude.{ℕ, List}
 use Rattle.std.specs.declared.vec.Vec.{Vec}
 use Rattle.std.specs.declared.alloc.Global.{Global}
@@ -10,15 +10,15 @@ use Rattle.bincode_types.specs.declared.own.ffi.NulError.{NulError}
 abbrev pub c_string_vec : CString → Vec ℕ Global
 c_string_vec s = s.bytes
 
--- the bytes of a C string that is owned
+-- the bytes of an owned C string
 abbrev pub c_string_bytes : CString → List ℕ
 c_string_bytes s = (c_string_vec s).items
 
--- the bytes of one that is lent
+-- the bytes of a borrowed one
 abbrev pub c_str_bytes : CStr → List ℕ
 c_str_bytes s = s.bytes.now
 
--- where the first zero byte stands
+-- the index of the first zero byte
 abbrev pub nul_place : NulError → ℕ
 nul_place e = e.position
 

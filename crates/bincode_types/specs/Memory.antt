@@ -1,7 +1,7 @@
--- Whether decoding takes memory.
+-- Whether decoding allocates.
 use Rattle.std.specs.Prelude.{Bool, true, false}
 
--- what a type says of it, by a truth value
+-- a flag as a proposition
 abbrev pub Allocates : Bool → Type 0
 Allocates true = Unit {0}
 Allocates false = ⊥

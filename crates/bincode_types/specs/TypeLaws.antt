@@ -1,4 +1,4 @@
--- The laws that some types keep, of all that a type says of its words.
+-- The laws that some types have, of their `Words`.
 use Rattle.std.specs.Prelude.{◌≡◌, Bool, true}
 use Rattle.bincode_base.specs.Setting.{Setting}
 use Rattle.bincode_base.specs.declared.error.EncodeError.{EncodeError}
@@ -8,7 +8,7 @@ use Rattle.bincode_spec.specs.Format.{Format}
 use Rattle.bincode_spec.specs.Meaning.{Meaning}
 use Rattle.bincode_types.specs.TypeWords.{Words}
 
--- there is some word in every setting
+-- there is a word in every setting
 abbrev pub HasSomeWord : {A : Type 0} → Words A → Type 0
 HasSomeWord W = (s : Setting) → HasWord (W.format s)
 
@@ -20,19 +20,19 @@ AlwaysWritable {A} W = (s : Setting) (v : A) → W.valid v → W.writable s v
 pub record IsPlain {A : Type 0} (F : Setting → Format Meaning) (Valid : A → Type 0) (Means : A → Meaning → Type 0) (CanWrite : Setting → A → Type 0) (OwnErrors : EncodeError → Type 0) : Type 0 where
   -- every valid value can be written in every setting
   pub always_writable : (s : Setting) (v : A) → Valid v → CanWrite s v
-  -- the words that a value allows have one length
+  -- all words that a value allows have one length
   pub one_length : (s : Setting) (v : A) → Valid v → OneLength (AllowedWord (Means v) (F s))
-  -- encoding answers no error but the writer's
+  -- encoding fails with no error but the writer's
   pub names_none : (e : EncodeError) → OwnErrors e → ⊥
 
 abbrev pub PlainWords : {A : Type 0} → Words A → Type 0
 PlainWords W = IsPlain W.format W.valid W.means W.writable W.own_errors
 
--- the laws of a type whose words keep all of a value
+-- the laws of a type whose words lose nothing of a value
 pub record IsExact {A : Type 0} (Valid : A → Type 0) (Means : A → Meaning → Type 0) (DecodesTo : Meaning → A → Type 0) (eq : A → A → Bool) : Type 0 where
   -- values of one meaning are equal
   pub one_value : (v w : A) (m : Meaning) → Valid v → Valid w → Means v m → Means w m → eq v w ≡ true
-  -- what decoding gives for what a value means is equal to it
+  -- decoding what a value means gives an equal value
   pub comes_back : (v w : A) (m : Meaning) → Valid v → Means v m → DecodesTo m w → eq v w ≡ true
 
 abbrev pub ExactWords : {A : Type 0} → Words A → (A → A → Bool) → Type 0

@@ -1,4 +1,4 @@
--- What a type says of its words.
+-- The format of a type and its laws.
 use Rattle.std.specs.Prelude.{ℕ, ◌≤◌, List, max}
 use Rattle.std.proofs.Common.{arith}
 use Rattle.bincode_base.specs.Setting.{Setting}
@@ -13,40 +13,41 @@ use Rattle.bincode_lemmas.specs.NeedLaws.{Needs}
 use Rattle.bincode_lemmas.specs.ChargedLaws.{ChargesEnough}
 
 pub record Words (A : Type 0) : Type 1 where
-  -- the words, what they mean and cost, and the faults of all other inputs. They depend on the setting alone
+  -- the words, their meanings and charges, and the faults of all other inputs; they depend on the setting alone
   pub format : Setting → Format Meaning
-  -- what each value of the type keeps
+  -- what holds of each value of the type
   pub valid : A → Type 0
   -- what a value means
   pub means : A → Meaning → Type 0
-  -- the values that decoding gives for a meaning
+  -- the values that decoding returns for a meaning
   pub decodes_to : Meaning → A → Type 0
-  -- the inner type of each cell that the value holds has a word, and each valid value of it can be written
+  -- the inner type of each cell in the value has a word, and each valid value of it can be written
   pub writable : Setting → A → Type 0
-  -- the errors that encoding may answer beside the writer's
+  -- the errors of encoding that are the type's own, not the writer's
   pub own_errors : EncodeError → Type 0
-  -- decoding takes memory
+  -- decoding may allocate
   pub may_allocate : Type 0
-  -- how many bytes a container claims for an element
+  -- what a container claims for an element, in bytes
   pub claim : ℕ
-  -- how large a limit has to be for an input, by its parts: for the word that it begins with, or up to its first fault
+  -- how large a limit an input needs: for the word that it begins with, or up to its first fault
   pub need : Setting → List ℕ → ℕ
-  -- no word begins another, each has one meaning, and each input has one front that is a word or one fault
+  -- no word begins another, each has one meaning, and each input begins with one word or has one fault
   pub lawful : (s : Setting) → Lawful (format s)
-  -- what the steps of a word reserve they release
+  -- a word releases what it reserves
   pub balanced : (s : Setting) → Balanced (format s)
-  -- each valid value that can be written allows a word of bytes
+  -- each valid value that can be written allows a word, which is made of bytes
   pub has_word : (s : Setting) (v : A) → valid v → writable s v → SomeWord (AllowedWord (means v) (format s))
-  -- no error that a writer has is named
+  -- no error of a writer is the type's own
   pub errors_are_own : (e : EncodeError) → own_errors e → MayName e
-  -- it claims something for each element
+  -- it claims at least one byte
   pub claims : 1 ≤ claim
-  -- what an input needs is the most that is charged and held for it at once
+  -- what an input needs is the most that is charged and held at one time
   pub needs : (s : Setting) → Needs (need s) (format s)
-  -- no word has more bytes than one and a half times what it charges, and all that it holds claims something
+  -- no word has more bytes than one and a half times its charge, and each of its lists has elements that claim
+  -- something
   pub charges_enough : (s : Setting) → ChargesEnough (format s)
 
--- the words of a type whose values are written in one way each. A container claims its size in memory, and at least 1
+-- the `Words` of a scalar. A container claims its size in memory, and at least 1
 abbrev pub scalar_words : {A : Type 0} (form : Form A) → FormLaws form → (size : ℕ) → Words A
 scalar_words form laws size = record {
   format = form.format;
@@ -67,7 +68,7 @@ scalar_words form laws size = record {
   charges_enough = laws.charges_enough;
 }
 
--- the words of a value are those of its parts
+-- the `Words` of a type that is written as its parts
 abbrev pub words_by : {A B : Type 0} → Words B → (A → B) → Words A
 words_by W parts = record {
   format = W.format;
@@ -88,7 +89,7 @@ words_by W parts = record {
   charges_enough = W.charges_enough;
 }
 
--- the same words, of which a container claims another number of bytes for an element
+-- these `Words` with another claim
 abbrev pub with_claim : {A : Type 0} (n : ℕ) → 1 ≤ n → Words A → Words A
 with_claim n some W = record {
   format = W.format;

@@ -1,4 +1,4 @@
-//! Bags: items whose order is not told.
+//! What collections without an order are written as.
 ghost use Rattle.std.proofs.Common.{arith};
 ghost use Rattle.bincode_spec.specs.Need.{list_needs};
 ghost use Rattle.bincode_lemmas.specs.NeedLaws.{list-needs};
@@ -12,7 +12,7 @@ ghost use Rattle.bincode_lemmas.specs.BagLaws.{bag-has_word};
 use crate::laws::{Canonical, Inhabited, Plain, Writable};
 use crate::wire::Wire;
 
-/// Items that are written one after the other, in whatever order. It stands in proofs alone.
+/// The items of a collection in any order: what a heap is written as. Ghost type, never constructed.
 #[derive(Drop)]
 pub struct Bag<T> {
     pub items: [T; 0],

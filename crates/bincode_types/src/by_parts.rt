@@ -1,20 +1,20 @@
-//! Types that have the words of their parts.
+//! Types that are encoded as their parts.
 ghost use Rattle.std.specs.Prelude.{◌≡◌};
 ghost use Rattle.bincode_spec.specs.Promises.{Promise, no_more};
 
 use crate::laws::{Canonical, ConstantCharge, Exact, Inhabited, Plain, Writable};
 use crate::wire::Wire;
 
-/// A type whose values have the words of their parts: a struct has those of the tuple of its fields. It has `Wire` by
-/// this, and each law trait that the type of its parts has.
+/// A type that is encoded as its parts: a struct as the tuple of its fields. It gets `Wire` from this, and each law
+/// trait that the type of its parts has.
 pub trait ByParts {
-    /// What is written for a value.
+    /// The type of the parts.
     type Parts;
 
     /// The parts of a value.
     ghost parts: { Self → Self.Parts };
 
-    /// What decoding promises of a value, by what it promises of its parts.
+    /// What decoding promises of a value, beside what it promises of its parts.
     ghost promise: { Self → Promise } = { λ v. no_more };
 }
 
@@ -95,9 +95,9 @@ where
     }
 }
 
-/// A type whose values are equal just where their parts are. It is `Exact`, if the type of its parts is.
+/// A type whose values are equal exactly if their parts are. It is `Exact` if the type of its parts is.
 pub trait SameParts<Parts: PartialEq>: ByParts<Parts = Parts> + PartialEq {
-    /// Values are equal just where their parts are.
+    /// Values are equal exactly if their parts are.
     ghost same_parts: { (v w : Self) → Parts.eq (Self.parts v) (Self.parts w) ≡ Self.eq v w };
 }
 

@@ -1,4 +1,4 @@
-//! The bytes of characters.
+//! Characters as UTF-8 (RFC 3629).
 ghost use Rattle.std.specs.Prelude.{◌≡◌, ◌<◌, ◌≤◌, ◌∷◌, [], Some, None, IfOk, IfErr};
 ghost use Rattle.std.specs.Char.{encode_utf8};
 ghost use Rattle.bincode_spec.specs.Reads.{ReadsWord};
@@ -9,9 +9,9 @@ use bincode_base::error::DecodeError;
 use bincode_io::read::Reader;
 use bincode_varint::bytes::read_array;
 
-// Always inlined, as the decoding of numbers is: a call hands on a result with room for an error.
+// All are inlined, as the decoding of integers is: a call would return its result through memory, for the error in it.
 
-/// How many bytes a character has, by its first byte.
+/// The number of bytes of a character, from its first byte; `None` if it begins none.
 #[inline(always)]
 pub fn width_of_char(first: u8) -> Option<usize>
     ensures { result ≡ char_width first }
@@ -31,7 +31,7 @@ pub fn width_of_char(first: u8) -> Option<usize>
     }
 }
 
-/// The two bytes of a character, by its number.
+/// The two bytes of this code point.
 #[inline(always)]
 pub fn two_bytes_of_char(code: u32) -> [u8; 2]
     requires least { 128 ≤ code }
@@ -41,7 +41,7 @@ pub fn two_bytes_of_char(code: u32) -> [u8; 2]
     [192 + (code / 64) as u8, 128 + (code % 64) as u8]
 }
 
-/// The three bytes of a character, by its number.
+/// The three bytes of this code point.
 #[inline(always)]
 pub fn three_bytes_of_char(code: u32) -> [u8; 3]
     requires least { 2048 ≤ code }
@@ -55,7 +55,7 @@ pub fn three_bytes_of_char(code: u32) -> [u8; 3]
     ]
 }
 
-/// The four bytes of a character, by its number.
+/// The four bytes of this code point.
 #[inline(always)]
 pub fn four_bytes_of_char(code: u32) -> [u8; 4]
     requires least { 65536 ≤ code }
@@ -70,7 +70,7 @@ pub fn four_bytes_of_char(code: u32) -> [u8; 4]
     ]
 }
 
-// The digits of the bytes give a number. They spell it if it is a character's and is written as they are.
+// The bytes give a code point. They encode it if it is a character's and encodes to these bytes again.
 
 #[inline(always)]
 fn char_of_two(first: u8, second: u8) -> Option<char>
@@ -113,7 +113,7 @@ fn char_of_four(first: u8, second: u8, third: u8, fourth: u8) -> Option<char>
     char::from_u32(code)
 }
 
-/// The character that was found, or the fault of the bytes that spell none.
+/// The character, or `InvalidCharEncoding` with these bytes if there is none.
 #[inline(always)]
 fn char_or_fault(found: Option<char>, bytes: [u8; 4]) -> Result<char, DecodeError>
     ensures ok { IfOk result (λ c. found ≡ Some c) }
@@ -125,7 +125,7 @@ fn char_or_fault(found: Option<char>, bytes: [u8; 4]) -> Result<char, DecodeErro
     }
 }
 
-/// Reads the bytes behind the first one of a character.
+/// Reads the bytes after the first one of a character of `width` bytes.
 #[inline(always)]
 pub fn read_rest_of_char<R: Reader>(
     read: &mut R,

@@ -12,8 +12,7 @@ use crate::wire::Wire;
 use std::convert::Infallible;
 use std::marker::PhantomData;
 
-/// What the enum `Of` without variants is written as. It has no values and no words, and every input has the fault that
-/// says so.
+/// What the enum `Of` without variants is written as. It has no values; decoding any input fails with `EmptyEnum`.
 #[derive(Drop)]
 pub struct NoVariants<Of>(Infallible, PhantomData<Of>);
 

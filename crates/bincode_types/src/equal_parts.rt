@@ -1,16 +1,15 @@
-//! What the parts of equal rows are.
+//! Equality of rows, part by part.
 ghost use Rattle.std.specs.Prelude.{◌≡◌, true};
 ghost use Rattle.bincode_lemmas.specs.EqualLaws.{both-show};
 
 use crate::rows::{Cons, Cons4};
 
-/// Rows of which two are equal only where each part of one is equal to that of the other. So it is known part by part
-/// what a struct's own `==` tests.
+/// Rows that are equal only if each part is, so that `exact_by_fields` can use a struct's own `==`.
 pub trait EqualParts: PartialEq {
     /// Each part is equal to that of the other.
     ghost each_equal: { Self → Self → Type 0 };
 
-    /// It is, where the rows are equal.
+    /// Equal rows have equal parts.
     ghost parts_equal: { (v w : Self) → Self.eq v w ≡ true → each_equal v w };
 }
 

@@ -1,4 +1,4 @@
-//! Types that are made of others: what they are written as, and the laws that they have by it.
+//! Laws of a type from the laws of its parts.
 ghost use Rattle.std.specs.Prelude.{◌≡◌, true};
 ghost use Rattle.bincode_types.specs.TypeLaws.{AlwaysWritable, PlainWords, ExactWords, CanonicalWords};
 ghost use Rattle.bincode_types.specs.TypeWords.{words_by};
@@ -8,8 +8,8 @@ use crate::equal_parts::EqualParts;
 use crate::laws::{Canonical, Exact, Plain, Writable};
 use crate::wire::Wire;
 
-/// A type whose values have parts, which are of the type `Parts`: a struct has the tuple of its fields, and an enum
-/// `EnumOf` its variants.
+/// A type whose values have parts of the type `Parts`: a struct has the tuple of its fields, an enum the `EnumOf` its
+/// variants.
 pub trait HasParts<Parts> {
     /// The parts of a value.
     ghost parts: { Self → Parts };
@@ -19,21 +19,21 @@ impl<T: ByParts> HasParts<T::Parts> for T {
     ghost parts = { T.parts };
 }
 
-/// Tells that a type is writable, since its parts are.
+/// Proves that a type is `Writable`, if its parts are.
 pub fn writable_by_parts<Parts: Writable, T: HasParts<Parts>>()
     ensures { AlwaysWritable (words_by Parts.words T.parts) }
 {
     Parts::tell_writable();
 }
 
-/// Tells that a type is plain, since its parts are.
+/// Proves that a type is `Plain`, if its parts are.
 pub fn plain_by_parts<Parts: Plain, T: HasParts<Parts>>()
     ensures { PlainWords (words_by Parts.words T.parts) }
 {
     Parts::tell_plain();
 }
 
-/// Tells that a type is exact, since its parts are, and its values are equal where their parts are.
+/// Proves that a type is `Exact`, if its parts are and its values are equal where their parts are.
 pub fn exact_by_parts<Parts: Exact, T: HasParts<Parts> + PartialEq>()
     requires { (v w : T) → Parts.eq (T.parts v) (T.parts w) ≡ true → T.eq v w ≡ true }
     ensures { ExactWords (words_by Parts.words T.parts) T.eq }
@@ -41,8 +41,8 @@ pub fn exact_by_parts<Parts: Exact, T: HasParts<Parts> + PartialEq>()
     Parts::tell_exact();
 }
 
-/// Tells that a struct is exact, since its fields are, and its values are equal where each field is. `Fields` is the
-/// tuple of them, and `Cons` what that is written as, which is found by it.
+/// Proves that a struct is `Exact`, if its fields are and its values are equal where each field is. `Fields` is the
+/// tuple of the fields; `Cons`, what that is written as, is inferred.
 pub fn exact_by_fields<
     Fields: Exact + SameParts<Cons>,
     T: HasParts<Fields> + PartialEq,
@@ -55,7 +55,7 @@ pub fn exact_by_fields<
     Fields::tell_exact();
 }
 
-/// Tells that a type is canonical, since its parts are.
+/// Proves that a type is `Canonical`, if its parts are.
 pub fn canonical_by_parts<Parts: Canonical, T: HasParts<Parts>>()
     ensures { CanonicalWords (words_by Parts.words T.parts) }
 {

@@ -1,4 +1,4 @@
-//! Keys and entries in any order: what hashed sets and maps are written as.
+//! What hashed sets and maps are written as: keys and entries in any order.
 ghost use Rattle.std.proofs.Common.{arith};
 ghost use Rattle.bincode_spec.specs.Need.{list_needs};
 ghost use Rattle.bincode_lemmas.specs.NeedLaws.{list-needs};
@@ -16,8 +16,8 @@ ghost use Rattle.bincode_lemmas.specs.PairLaws.{pair-lawful, pair-balanced, pair
 use crate::laws::{Canonical, Exact, Inhabited, Plain, Writable};
 use crate::wire::Wire;
 
-/// The keys of a set, no two of them equal, in whatever order. Of equal keys that are decoded the first is taken. It
-/// stands in proofs alone.
+/// The keys of a set in any order, no two of them equal. Decoding keeps the first of equal keys. Ghost type, never
+/// constructed.
 #[derive(Drop)]
 pub struct HashedKeys<K> {
     pub keys: [K; 0],
@@ -79,8 +79,8 @@ impl<K: Exact + Canonical + Eq> Canonical for HashedKeys<K> {
     }
 }
 
-/// The entries of a map, no two of equal keys, in whatever order. Of entries of equal keys that are decoded the first
-/// key is taken, and the last value. It stands in proofs alone.
+/// The entries of a map in any order, no two of equal keys. Decoding keeps the first key and the last value of entries
+/// with equal keys. Ghost type, never constructed.
 #[derive(Drop)]
 pub struct HashedEntries<K, V> {
     pub entries: [(K, V); 0],

@@ -1,5 +1,5 @@
-//! Laws that some types keep beside those of `Wire`. Each is told by a function, which does nothing when it runs: a
-//! type that is made of others tells its law by calling those of the others.
+//! Laws that some types have beside those of `Wire`. Each trait has one function, which proves the law and does nothing
+//! at run time; for a type made of others it calls the functions of those.
 ghost use Rattle.std.specs.Prelude.{◌≤◌, ℕ};
 ghost use Rattle.bincode_base.specs.Setting.{Setting};
 ghost use Rattle.bincode_spec.specs.Limits.{Costs};
@@ -7,54 +7,52 @@ ghost use Rattle.bincode_types.specs.TypeLaws.{HasSomeWord, AlwaysWritable, Plai
 
 use crate::wire::Wire;
 
-/// A type that has some word in every setting.
+/// A type with at least one encoding in every setting.
 pub trait Inhabited: Wire {
-    /// Tells so.
+    /// Proves it.
     fn tell_inhabited()
         ensures { HasSomeWord Self.words };
 }
 
-/// A type whose every valid value can be written in every setting: one without cells, and a cell of such a type that
-/// has some word.
+/// A type whose valid values can all be encoded in every setting: one without cells, or a cell of such a type that is
+/// `Inhabited`.
 pub trait Writable: Wire {
-    /// Tells so.
+    /// Proves it.
     fn tell_writable()
         ensures { AlwaysWritable Self.words };
 }
 
-/// A type without cells: every valid value can be written, the words that a value allows have one length, and encoding
-/// answers no error but the writer's.
+/// A type without cells: every valid value can be encoded, all encodings of a value have one length, and encoding fails
+/// with no error but the writer's.
 pub trait Plain: Wire {
-    /// Tells so.
+    /// Proves it.
     fn tell_plain()
         ensures { PlainWords Self.words };
 }
 
-/// A plain type whose words keep all of a value: two values with one meaning are equal, and decoding gives an equal
-/// one.
+/// A plain type whose encoding loses nothing: values with one meaning are equal, and decoding gives an equal value.
 pub trait Exact: Plain + PartialEq {
-    /// Tells so.
+    /// Proves it.
     fn tell_exact()
         ensures { ExactWords Self.words Self.eq };
 }
 
-/// A plain type whose words are canonical: of all words that decode to what the written one decodes to, none is
-/// shorter.
+/// A plain type whose written encoding is canonical: no shorter one decodes to what it decodes to.
 pub trait Canonical: Plain {
-    /// Tells so.
+    /// Proves it.
     fn tell_canonical()
         ensures { CanonicalWords Self.words };
 }
 
-/// A type whose words all charge the same, so that a caller can tell how large a limit has to be.
+/// A type whose encodings all charge the same, so that a caller can tell how large a limit has to be.
 pub trait ConstantCharge: Wire {
-    /// How many bytes a word charges in all.
+    /// The number of bytes that an encoding charges.
     ghost cost: { ℕ };
 
-    /// How many bytes are charged and held for elements at once, at most.
+    /// The most that is charged at one time, in bytes, with what is held for elements.
     ghost peak: { ℕ };
 
-    /// Tells so.
+    /// Proves it.
     fn tell_costs()
         ensures costs { (s : Setting) → Costs peak cost (Self.words.format s) }
         ensures fits { cost ≤ peak };

@@ -1,4 +1,4 @@
-//! What each type says of its words.
+//! The format of each type: `Wire`, its laws, and what types are written as.
 #![tactic(auto)]
 
 pub mod bags;

@@ -1,4 +1,4 @@
-//! Lists: what is written for a collection whose items come one after the other.
+//! What lists are written as.
 ghost use Rattle.std.proofs.Common.{arith};
 ghost use Rattle.std.specs.Prelude.{max};
 ghost use Rattle.bincode_spec.specs.Need.{list_needs};
@@ -14,14 +14,14 @@ ghost use Rattle.bincode_types.specs.Memory.{Allocates};
 use crate::laws::{Canonical, Exact, Inhabited, Plain, Writable};
 use crate::wire::Wire;
 
-/// The items of a list, of which a container claims `SIZE` bytes. It stands in proofs alone: there it has any number of
-/// items. `ALLOCATES` says whether decoding takes memory for the list.
+/// The items of a list, of which a container claims `SIZE` bytes; `ALLOCATES` says whether decoding allocates. Ghost
+/// type, never constructed; in proofs `items` has any length.
 #[derive(Drop, PartialEq)]
 pub struct ListItems<T, const SIZE: usize, const ALLOCATES: bool> {
     pub items: [T; 0],
 }
 
-/// The items of a list for which decoding takes memory.
+/// `ListItems` for a list whose decoding allocates.
 pub type Items<T, const SIZE: usize> = ListItems<T, SIZE, true>;
 
 impl<T: Wire, const SIZE: usize, const ALLOCATES: bool> Wire for ListItems<T, SIZE, ALLOCATES> {

@@ -1,4 +1,4 @@
-//! Octets: the bytes that addresses are made of.
+//! Octets: the bytes of addresses.
 ghost use Rattle.std.proofs.Common.{arith};
 ghost use Rattle.std.specs.Prelude.{max};
 ghost use Rattle.bincode_lemmas.specs.NeedLaws.{octets-needs};
@@ -12,7 +12,7 @@ ghost use Rattle.bincode_lemmas.specs.OctetLaws.{octets-lawful, octets-balanced,
 use crate::laws::{Canonical, ConstantCharge, Exact, Inhabited, Plain, Writable};
 use crate::wire::Wire;
 
-/// So many bytes of an address, as they are in every setting: the highest comes first.
+/// The `N` bytes of an address, the highest first in every setting.
 #[derive(Drop, PartialEq)]
 pub struct Octets<const N: usize> {
     pub octets: [u8; N],

@@ -1,4 +1,4 @@
-//! Keys and entries in their order: what sets and maps are written as.
+//! What ordered sets and maps are written as: keys and entries in order.
 ghost use Rattle.std.proofs.Common.{arith};
 ghost use Rattle.bincode_spec.specs.Need.{list_needs};
 ghost use Rattle.bincode_lemmas.specs.NeedLaws.{list-needs};
@@ -16,8 +16,7 @@ ghost use Rattle.bincode_lemmas.specs.PairLaws.{pair-lawful, pair-balanced, pair
 use crate::laws::{Canonical, Exact, Inhabited, Plain, Writable};
 use crate::wire::Wire;
 
-/// The keys of a set, each below the next. Of equal keys that are decoded the first is taken. It stands in proofs
-/// alone.
+/// The keys of a set, each below the next. Decoding keeps the first of equal keys. Ghost type, never constructed.
 #[derive(Drop, PartialEq)]
 pub struct Keys<K> {
     pub keys: [K; 0],
@@ -79,8 +78,8 @@ impl<K: Exact + Canonical + Ord> Canonical for Keys<K> {
     }
 }
 
-/// The entries of a map, the key of each below that of the next. Of entries of equal keys that are decoded the first
-/// key is taken, and the last value. It stands in proofs alone.
+/// The entries of a map, each key below the next. Decoding keeps the first key and the last value of entries with equal
+/// keys. Ghost type, never constructed.
 #[derive(Drop, PartialEq)]
 pub struct Entries<K, V> {
     pub entries: [(K, V); 0],

@@ -1,4 +1,4 @@
-//! Types of this crate that stand for types of the standard library.
+//! Types that stand for types of the standard library.
 
 pub mod ffi;
 pub mod time;

@@ -1,11 +1,11 @@
-//! Ranges and bounds made of their parts.
+//! Ranges and bounds from their parts.
 ghost use Rattle.std.specs.Prelude.{◌≡◌};
 
 use crate::by_parts::ByParts;
 use crate::sums::VariantOf;
 use std::ops::{Bound, Range};
 
-/// The range with these ends.
+/// The range with this start and end.
 pub fn range_from_parts<T>(parts: (T, T)) -> Range<T>
     ensures { ⟦<Range<T> as ByParts>⟧.parts result ≡ parts }
 {

@@ -1,4 +1,4 @@
-//! Parts in a row: what tuples are written as.
+//! Heterogeneous lists (HLists): what tuples are written as.
 ghost use Rattle.std.specs.Prelude.{◌≡◌, ℕ, ◌⊎◌, ◌+◌, ◌-◌, ◌^◌, min, max, refl};
 ghost use Rattle.std.proofs.Common.{arith};
 ghost use Rattle.bincode_spec.specs.Meaning.{IsThen, IsFourThen};
@@ -42,12 +42,12 @@ impl FixedCharge for () {
     ghost charges = { λ s. nothing-costs };
 }
 
-/// What stands behind a part of a row: a row too, or `()` behind the last.
+/// The tail of a row: another row, or `()`.
 pub trait Tail {
-    /// What it adds to the claim of the row, of its own claim: `()` behind the last part is no part, and adds nothing.
+    /// What the tail adds to the claim of the row, if it claims this much itself; `()` adds nothing.
     ghost more: { ℕ → ℕ };
 
-    /// So much of this claim.
+    /// `more` at run time.
     fn more_size(claim: usize) -> usize
         ensures { result ≡ more claim };
 }
@@ -60,7 +60,7 @@ impl Tail for () {
     }
 }
 
-/// A part, and the others. What they claim is a sum, at most the greatest `usize`.
+/// A part and the tail. The claims add up, to at most `usize::MAX`.
 #[derive(Drop, PartialEq)]
 pub struct Cons<A, Others>(pub A, pub Others);
 
@@ -143,7 +143,7 @@ impl<A: ConstantCharge, Others: ConstantCharge + Tail> ConstantCharge for Cons<A
     }
 }
 
-/// Four parts, and the others.
+/// Four parts and the tail.
 #[derive(Drop, PartialEq)]
 pub struct Cons4<A, B, C, D, Others>(pub A, pub B, pub C, pub D, pub Others);
 

@@ -1,4 +1,4 @@
-//! One of several variants: what enums are written as.
+//! What enums are written as: the tag of a variant, then its part.
 ghost use Rattle.std.specs.Prelude.{◌≡◌, ◌⊎◌, ◌<◌, ◌≤◌, ◌+◌, ◌-◌, ◌^◌, ◌==◌};
 ghost use Rattle.std.specs.Prelude.{ℕ, true, false, min, max, pos, List, [], ◌∷◌, refl};
 ghost use Rattle.std.proofs.Common.{◌∙◌, arith};
@@ -27,15 +27,15 @@ use crate::wire::Wire;
 use std::convert::Infallible;
 use std::marker::PhantomData;
 
-/// A type of the tags of an enum. It does not stand on `Wire`, which the proof of a call would name at each variant.
+/// The integer type of an enum's tags: `u8` or `u32`. Not built on `Wire`, which every variant's proof would unfold.
 pub trait Tag {
-    /// The words of a tag, as a number.
+    /// The encoding of a tag, as a number.
     ghost tags: { Setting → Format ℕ };
 
-    /// What a tag charges, and what a container claims for it.
+    /// What a tag charges, and what a container claims for it, in bytes.
     ghost width: { ℕ };
 
-    /// The tags that it can hold.
+    /// The tags that fit the type.
     ghost Fits: { ℕ → Type 0 };
 
     ghost numerals: { Numerals width Fits pos tags };
@@ -44,7 +44,7 @@ pub trait Tag {
 
     ghost has_width: { 1 ≤ width };
 
-    /// How many bytes a container claims for a tag.
+    /// `width` at run time.
     fn tag_size() -> usize
         ensures { result ≡ width };
 }
@@ -85,21 +85,21 @@ impl Tag for u32 {
     }
 }
 
-/// The variants of an enum: one by its tag and its part, and the others, or none.
+/// The variants of an enum: the first with its tag and part, then the others.
 pub trait Variants {
-    /// The type of their tags.
+    /// The integer type of the tags.
     type Tag: Tag;
 
-    /// The tag of each, and what is written for its part.
+    /// The tag of each variant, and the format of its part.
     ghost variants: { List Variant };
 
-    /// The tag of a value, and what is written for its part.
+    /// The tag of a value, and the format of its part.
     ghost variant: { Self → Variant };
 
-    /// Its part is valid, and it is the first with its tag.
+    /// The part is valid, and no earlier variant has the tag.
     ghost valid: { Self → Type 0 };
 
-    /// Its tag picks it.
+    /// The tag selects the value's variant.
     ghost picked: { (s : Setting) (allowed : Allowed) (v : Self) → valid v → part s variants allowed (variant v).0
         ≡ map_format (Choice (variant v).0) ((variant v).1 s) };
 
@@ -124,7 +124,7 @@ pub trait Variants {
 
     ghost errors_are_own: { (e : EncodeError) → own_errors e → MayName e };
 
-    /// How large a limit has to be for the part that a tag picks.
+    /// How large a limit the part after this tag needs.
     ghost need: { Setting → ℕ → List ℕ → ℕ };
 
     ghost needs: { (s : Setting) (allowed : Allowed) (found : ℕ)
@@ -133,21 +133,21 @@ pub trait Variants {
     ghost charges_enough: { (s : Setting) (allowed : Allowed) (found : ℕ) → ChargesEnough
         (part s variants allowed found) };
 
-    /// What the widest part claims.
+    /// The largest claim of a part, in bytes.
     fn claim_size() -> usize
         ensures { result ≡ claim };
 }
 
-/// Variants whose every valid value can be written in every setting.
+/// Variants whose parts are `Writable`.
 pub trait WritableVariants: Variants {
-    /// Tells so.
+    /// Proves it.
     fn tell_writable()
         ensures { (s : Setting) (v : Self) → Self.valid v → Self.writable v s };
 }
 
-/// Variants without cells.
+/// Variants whose parts are `Plain`.
 pub trait PlainVariants: Variants {
-    /// Tells so.
+    /// Proves it.
     fn tell_plain()
         ensures always_writable { (s : Setting) (v : Self) → Self.valid v → Self.writable v s }
         ensures one_length { (s : Setting) (v : Self) → Self.valid v
@@ -155,9 +155,9 @@ pub trait PlainVariants: Variants {
         ensures names_none { (e : EncodeError) → Self.own_errors e → ⊥ };
 }
 
-/// Variants whose words keep all of their parts.
+/// Variants whose parts are `Exact`.
 pub trait ExactVariants: PlainVariants + PartialEq {
-    /// Tells so.
+    /// Proves it.
     fn tell_exact()
         ensures one_value { (v w : Self) (m : Meaning) → Self.valid v → Self.valid w → (Self.variant v).0
             ≡ (Self.variant w).0 → Self.means v m → Self.means w m → Self.eq v w ≡ true }
@@ -165,16 +165,16 @@ pub trait ExactVariants: PlainVariants + PartialEq {
             → Self.means v m → Self.decodes_to w m → Self.eq v w ≡ true };
 }
 
-/// Variants whose words are canonical.
+/// Variants whose parts are `Canonical`.
 pub trait CanonicalVariants: PlainVariants {
-    /// Tells so.
+    /// Proves it.
     fn tell_canonical()
         ensures { (s : Setting) (v w : Self) → Self.valid v → (Self.variant v).0 ≡ (Self.variant w).0
             → Shortest (Self.means v) (Self.decodes_to w) ((Self.variant v).1 s) };
 }
 
-/// No variant: the end of those of the enum `Of`, with tags of type `T`. It has no values. `Of` names the enum alone:
-/// an enum with type parameters stands there with `()` for each.
+/// The end of the variants of the enum `Of`, with tags of type `T`. It has no values. `Of` only names the enum: for one
+/// with type parameters write `()` for each.
 pub type NoMoreVariants<Of, T = u32> = (Infallible, PhantomData<(Of, T)>);
 
 impl<Of, T: Tag> Variants for NoMoreVariants<Of, T> {
@@ -235,7 +235,7 @@ impl<Of, T: Tag> CanonicalVariants for NoMoreVariants<Of, T> {
     fn tell_canonical() {}
 }
 
-/// The variant with this tag, by its part, or one of the others.
+/// The variant with the tag `TAG`, or one of the others.
 #[derive(Drop, PartialEq)]
 pub enum VariantOf<const TAG: u32, A, Others> {
     This(A),
@@ -330,7 +330,7 @@ impl<const TAG: u32, A: Canonical, Others: CanonicalVariants> CanonicalVariants
     }
 }
 
-/// What an enum is written as: the tag of a variant, and then its part.
+/// What an enum is written as: the tag of a variant, then its part.
 #[derive(Drop, PartialEq)]
 pub struct EnumOf<Of>(pub Of);
 
@@ -362,7 +362,7 @@ impl<Of: Variants> Wire for EnumOf<Of> {
     }
 }
 
-// An enum whose first tag is 0 has some word, if its first part has.
+// An enum whose first tag is 0 is `Inhabited` if its first part is.
 impl<A: Inhabited, Others: Variants> Inhabited for EnumOf<VariantOf<0, A, Others>> {
     fn tell_inhabited() {
         A::tell_inhabited();
@@ -375,9 +375,9 @@ impl<Of: WritableVariants> Writable for EnumOf<Of> {
     }
 }
 
-/// What enums are written as: `EnumOf` some variants.
+/// What an enum is written as, as a trait: implemented by `EnumOf`.
 pub trait Choice: Wire {
-    /// The type of the tags.
+    /// The integer type of the tags.
     type Tag: Tag;
 
     /// The variants.

@@ -1,4 +1,4 @@
-//! Texts: the bytes that stand for what a text holds.
+//! What texts are written as.
 ghost use Rattle.std.proofs.Common.{arith};
 ghost use Rattle.std.specs.Prelude.{max};
 ghost use Rattle.bincode_spec.specs.Need.{text_needs};
@@ -14,8 +14,8 @@ ghost use Rattle.bincode_types.specs.Memory.{Allocates};
 use crate::laws::{Canonical, Exact, Inhabited, Plain, Writable};
 use crate::wire::Wire;
 
-/// What a text holds: bytes that are UTF-8. A container claims `SIZE` bytes for it, and `ALLOCATES` says whether
-/// decoding takes memory for it. It stands in proofs alone.
+/// The bytes of a text, which are UTF-8. A container claims `SIZE` bytes for it; `ALLOCATES` says whether decoding
+/// allocates. Ghost type, never constructed.
 #[derive(Drop, PartialEq)]
 pub struct TextBytes<const SIZE: usize, const ALLOCATES: bool> {
     pub bytes: [u8; 0],

@@ -1,4 +1,4 @@
-//! Types whose values are those of another type that passed a test.
+//! Types whose values are checked after decoding.
 ghost use Rattle.std.specs.Prelude.{◌≡◌, Bool, true, is_ok, IfOk, IfErr};
 ghost use Rattle.std.proofs.Common.{rules};
 ghost use Rattle.std.specs.Cmp.Rules.{comparing};
@@ -13,41 +13,39 @@ use crate::laws::{Canonical, Exact, Plain, Writable};
 use crate::wire::Wire;
 use bincode_base::error::DecodeError;
 
-/// A type whose values hold one of another type that passed a test, as an even number does. Its words are those of the
-/// other type, and those that mean what fails the test have one fault, which the type names. `Validated` of it is what
-/// it is written as.
+/// A type that holds a value of another type which passes a test, as an even number does. It is encoded as that value;
+/// decoding what fails the test fails with the fault that the type names. It is written as `Validated<Self>`.
 pub trait Validate: Sized {
     /// The type that is tested.
     type Of: Wire;
 
-    /// The value that a value holds.
+    /// The value that is held.
     ghost of: { Self → Self.Of };
 
-    /// The test, of what was read.
+    /// The test, on the meaning of what was decoded.
     ghost passes: { Meaning → Bool };
 
-    /// The fault of what fails it.
+    /// The fault of a value that fails the test.
     ghost fault: { Fault };
 
-    /// The fault is no early end of the input: that one is told by what more bytes would mend.
+    /// The fault is not an early end of the input, which more bytes would mend.
     ghost is_no_end: { ¬ (IsEnd fault) };
 
-    /// The value that it holds.
+    /// The value that is held.
     fn of(&self) -> &Self::Of
         ensures { result.now ≡ of self.now };
 
-    /// Tests a value, and holds it. Fails with the error that tells the type's fault, exactly where the test fails what
-    /// the value is given for.
+    /// Tests a value and holds it. Fails with the error of the type's fault exactly if the test fails.
     fn validate(value: Self::Of) -> Result<Self, DecodeError>
         ensures holds { IfOk result (λ v. of v ≡ value) }
         ensures passes { (m : Meaning) → Self.Of.words.decodes_to m value → passes m ≡ is_ok result }
         ensures tells { IfErr result (TellsOwn fault) };
 
-    /// Each value passes the test, whatever it means.
+    /// Every value of the type passes the test.
     ghost each_passes: { (v : Self) (m : Meaning) → Self.Of.words.means (of v) m → passes m ≡ true };
 }
 
-/// A value of a type that passed its test, in place of what it holds: what a `Validate` type is written as.
+/// What a `Validate` type is written as.
 #[derive(Drop)]
 pub struct Validated<T>(pub T);
 

@@ -1,14 +1,14 @@
-//! The trait of all types that have words.
+//! The trait of all types that have a format.
 ghost use Rattle.std.specs.Prelude.{◌≡◌};
 ghost use Rattle.bincode_types.specs.TypeWords.{Words};
 
-/// What a type says of its words, so that encoding and decoding speak of the same. `Encode` and `Decode` stand on it. A
-/// type that is made of others has it by `ByParts`.
+/// The format of a type, shared by `Encode` and `Decode`: how it is encoded, what it charges, and its laws. A struct
+/// gets it from `ByParts`.
 pub trait Wire {
-    /// What it says of its words.
+    /// The format and its laws.
     ghost words: { Words Self };
 
-    /// How many bytes a container claims for an element. It stands for the size in memory.
+    /// What a container claims for an element, in bytes: it stands for the size in memory (docs/FORMAT.md, section 8).
     fn claim_size() -> usize
         ensures { result ≡ words.claim };
 }

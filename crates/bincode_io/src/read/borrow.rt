@@ -10,8 +10,7 @@ use bincode_base::error::DecodeError;
 /// A reader whose source outlives it, so that it can lend bytes instead of copying them.
 pub trait BorrowReader<'storage>: Reader {
     /// Consumes the next `count` bytes and lends them. Fails if fewer remain or the device fails; then a prefix of them
-    /// is
-    /// consumed, unless the error is one that the device does not count.
+    /// is consumed, unless the error is one that the device does not count.
     fn take_bytes(&mut self, count: usize) -> Result<&'storage [u8], DecodeError>
         ensures { TakesBytes Self.is_known Self.remaining Self.failures Self.loans Self.end_error Self.device
             (λ s. s.now) count result self.old self.new };

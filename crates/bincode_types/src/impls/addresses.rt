@@ -1,4 +1,4 @@
-//! The words of addresses.
+//! `Wire` for addresses.
 ghost use Rattle.std.specs.Prelude.{◌≡◌, refl};
 ghost use Rattle.std.specs.Net.Addr.{ipv4_octets, ipv6_octets, ipv6_segments};
 ghost use Rattle.std.specs.Net.Socket.{v4_ip, v4_port, v6_ip, v6_port, v6_flowinfo, v6_scope_id};
@@ -59,13 +59,13 @@ impl SameParts<(Ipv4Addr, u16)> for SocketAddrV4 {
     ghost same_parts = { λ v w. refl };
 }
 
-// It has no `SameParts`: its flow and its scope are not written, and `==` looks at them.
+// Not `SameParts`: the flow label and the scope id are not encoded, and `==` compares them.
 impl ByParts for SocketAddrV6 {
     type Parts = (Ipv6Addr, u16);
 
     ghost parts = { λ v. (v6_ip v, v6_port v) };
 
-    // What is decoded has neither flow nor scope.
+    // A decoded address has flow label 0 and scope id 0.
     ghost promise = { λ v. record {
       OfValue = (v6_flowinfo v ≡ 0) × (v6_scope_id v ≡ 0);
       Promised = λ of_parts. (v6_flowinfo v ≡ 0) × (v6_scope_id v ≡ 0) × of_parts;

@@ -1,4 +1,4 @@
-//! The words of arrays.
+//! `Wire` for arrays.
 ghost use Rattle.std.proofs.Common.{arith};
 ghost use Rattle.bincode_spec.specs.Need.{array_needs};
 ghost use Rattle.bincode_lemmas.specs.NeedLaws.{array-needs};
@@ -14,7 +14,7 @@ ghost use Rattle.bincode_lemmas.specs.RunAllowedLaws.{array-allows, each-has_wor
 use crate::laws::{Canonical, ConstantCharge, Exact, Inhabited, Plain, Writable};
 use crate::wire::Wire;
 
-// Decoding answers `Memory` where the slots that it fills can't exist, though the array itself could.
+// Decoding fails with `Memory` if the slots that it fills cannot exist, though the array itself could.
 impl<T: Wire, const N: usize> Wire for [T; N] {
     ghost words = { record {
       format = λ s. array N T.words.claim (T.words.format s);

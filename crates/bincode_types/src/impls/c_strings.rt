@@ -1,4 +1,4 @@
-//! The words of C strings.
+//! `Wire` for C strings.
 ghost use Rattle.std.specs.Prelude.{◌≡◌, length, refl, vec_capacity};
 ghost use Rattle.bincode_types.specs.CStrings.{c_string_vec, c_string_bytes, c_str_bytes};
 
@@ -11,7 +11,7 @@ impl ByParts for CString {
 
     ghost parts = { λ v. record { bytes = c_string_bytes v } };
 
-    // What is decoded has room for just its bytes.
+    // A decoded C string has no spare capacity.
     ghost promise = { λ v. record {
       OfValue = vec_capacity (c_string_vec v) ≡ length (c_string_bytes v);
       Promised = λ of_parts. of_parts × (vec_capacity (c_string_vec v) ≡ length (c_string_bytes v));

@@ -1,4 +1,4 @@
-//! The words of cells.
+//! `Wire` for cells.
 ghost use Rattle.bincode_lemmas.specs.NeedLaws.{rewritten-needs};
 ghost use Rattle.bincode_lemmas.specs.ChargedLaws.{rewritten-charged};
 ghost use Rattle.std.specs.Prelude.{◌⊎◌};

@@ -1,4 +1,4 @@
-//! The words of characters.
+//! `Wire` for characters.
 ghost use Rattle.bincode_spec.specs.Forms.{characters};
 ghost use Rattle.bincode_lemmas.specs.CharLaws.{characters-laws, character-same};
 ghost use Rattle.bincode_types.specs.TypeWords.{scalar_words};

@@ -1,4 +1,4 @@
-//! The words of truth values, `Option`, `Result` and `Bound`.
+//! `Wire` for `bool`, `Option`, `Result` and `Bound`.
 ghost use Rattle.std.specs.Prelude.{refl};
 ghost use Rattle.bincode_lemmas.specs.AllowedLaws.{truth-same};
 ghost use Rattle.bincode_spec.specs.Forms.{truths};

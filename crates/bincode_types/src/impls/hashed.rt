@@ -1,4 +1,4 @@
-//! The words of hashed sets and maps.
+//! `Wire` for hashed sets and maps.
 use crate::by_parts::ByParts;
 use crate::hashed::{HashedEntries, HashedKeys};
 use crate::laws::Exact;

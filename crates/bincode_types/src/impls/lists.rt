@@ -1,4 +1,4 @@
-//! The words of lists.
+//! `Wire` for lists.
 ghost use Rattle.std.specs.Prelude.{◌≡◌, length, vec_capacity, refl};
 ghost use Rattle.std.specs.Box.{boxed_slice_items};
 ghost use Rattle.std.specs.Cow.{cow_slice_items};
@@ -17,7 +17,7 @@ impl<T> ByParts for Vec<T> {
 
     ghost parts = { λ v. record { items = v.items } };
 
-    // What is decoded has room for just its items.
+    // A decoded vector has no spare capacity.
     ghost promise = { λ v. record {
       OfValue = vec_capacity v ≡ length v.items;
       Promised = λ of_parts. of_parts × (vec_capacity v ≡ length v.items);

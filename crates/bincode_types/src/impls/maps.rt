@@ -1,4 +1,4 @@
-//! The words of sets, maps and heaps.
+//! `Wire` for ordered sets and maps, and for heaps.
 ghost use Rattle.std.specs.Prelude.{refl};
 ghost use Rattle.std.specs.BinaryHeap.{heap_items};
 

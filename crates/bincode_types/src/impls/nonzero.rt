@@ -1,4 +1,4 @@
-//! The words of integers other than 0.
+//! `Wire` for `NonZero` integers.
 ghost use Rattle.std.specs.Prelude.{refl};
 ghost use Rattle.std.specs.Int.{w16, w32, w64, w128};
 ghost use Rattle.std.specs.Int.NonZero.{non_zero_u8_get, non_zero_u16_get, non_zero_u32_get, non_zero_u64_get};

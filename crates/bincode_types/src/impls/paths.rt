@@ -1,4 +1,4 @@
-//! The words of paths: those of their texts. Paths of different texts may be equal, as `a` and `a/` are.
+//! `Wire` for paths, which are encoded as texts. Paths of different texts may be equal, as `a` and `a/` are.
 ghost use Rattle.std.specs.Path.{path_bytes, path_buf_bytes};
 ghost use Rattle.bincode_types.specs.TypeLaws.{ExactWords};
 

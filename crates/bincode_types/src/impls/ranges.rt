@@ -1,4 +1,4 @@
-//! The words of ranges.
+//! `Wire` for ranges.
 ghost use Rattle.std.specs.Prelude.{◌≡◌, false, refl};
 ghost use Rattle.std.specs.Range.{range_inclusive_start, range_inclusive_end, range_inclusive_exhausted};
 
@@ -21,7 +21,7 @@ impl<T> ByParts for RangeInclusive<T> {
 
     ghost parts = { λ v. (range_inclusive_start v, range_inclusive_end v) };
 
-    // What is decoded is not exhausted.
+    // A decoded range is not exhausted.
     ghost promise = { λ v. record {
       OfValue = range_inclusive_exhausted v ≡ false;
       Promised = λ of_parts. (range_inclusive_exhausted v ≡ false) × of_parts;

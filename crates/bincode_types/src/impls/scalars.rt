@@ -1,4 +1,4 @@
-//! The laws of truth values, characters and `()`.
+//! Laws of `bool`, `char` and `()`.
 
 use crate::laws::{Canonical, ConstantCharge, Exact, Inhabited, Plain, Writable};
 use crate::scalars::{

@@ -1,4 +1,4 @@
-//! The laws of signed integers.
+//! Laws of signed integers.
 
 use crate::laws::{Canonical, ConstantCharge, Exact, Inhabited, Plain, Writable};
 use crate::scalars::{

@@ -1,4 +1,4 @@
-//! The words of texts.
+//! `Wire` for texts.
 ghost use Rattle.std.specs.Prelude.{◌≡◌, length, refl};
 ghost use Rattle.std.specs.String.{string_bytes, string_capacity};
 ghost use Rattle.std.specs.Box.{boxed_str_bytes};
@@ -16,7 +16,7 @@ impl ByParts for String {
 
     ghost parts = { λ v. record { bytes = string_bytes v } };
 
-    // What is decoded has room for just its bytes.
+    // A decoded text has no spare capacity.
     ghost promise = { λ v. record {
       OfValue = string_capacity v ≡ length (string_bytes v);
       Promised = λ of_parts. of_parts × (string_capacity v ≡ length (string_bytes v));

@@ -1,4 +1,4 @@
-//! The words of spans of time.
+//! `Wire` for `Duration`.
 ghost use Rattle.std.proofs.Common.{arith};
 ghost use Rattle.bincode_spec.specs.Need.{duration_needs};
 ghost use Rattle.bincode_lemmas.specs.NeedLaws.{duration-needs};

@@ -1,4 +1,4 @@
-//! The words of tuples.
+//! `Wire` for tuples.
 ghost use Rattle.std.specs.Prelude.{[], ◌∷◌};
 ghost use Rattle.bincode_types.specs.Rows.{row, four};
 ghost use Rattle.bincode_lemmas.specs.RowLaws.{row-same};

@@ -1,4 +1,4 @@
-//! The laws of unsigned integers.
+//! Laws of unsigned integers.
 
 use crate::laws::{Canonical, ConstantCharge, Exact, Inhabited, Plain, Writable};
 use crate::scalars::{

@@ -1,4 +1,4 @@
-//! The words of wrappers, pointers and references.
+//! `Wire` for wrappers, pointers and references.
 ghost use Rattle.std.proofs.Common.{arith};
 ghost use Rattle.std.specs.Prelude.{refl};
 ghost use Rattle.std.specs.Cow.{cow_value};
@@ -47,7 +47,7 @@ impl<T> SameParts<()> for PhantomData<T> {
     ghost same_parts = { λ v w. refl };
 }
 
-/// What a pointer points to, of which a container claims the pointer alone. It stands in proofs alone.
+/// The target of a pointer, of which a container claims the pointer alone. Ghost type, never constructed.
 #[derive(Drop, PartialEq)]
 pub struct PointerTo<T> {
     pub to: T,

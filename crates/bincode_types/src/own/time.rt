@@ -1,12 +1,12 @@
-//! Spans of time.
+//! `Duration`.
 ghost use Rattle.std.specs.Prelude.{◌<◌};
 
 mod methods;
 
-/// A span of time: whole seconds, and nanoseconds of less than a second.
+/// A span of time: whole seconds, and nanoseconds below one second.
 ///
-/// It stands for the standard library's `Duration`, of which no contract knows that its nanoseconds are less than a
-/// second; each converts into the other.
+/// It stands for the standard library's `Duration`, whose contracts do not bound its nanoseconds. Each converts into
+/// the other.
 #[derive(Clone, Copy, Debug)]
 pub struct Duration {
     secs: u64,

@@ -1,4 +1,4 @@
-//! What a span of time is made of, and what it gives.
+//! The constructor and the parts of a `Duration`.
 ghost use Rattle.std.specs.Prelude.{◌≡◌, ◌+◌, ◌/◌, ◌%◌, ◌^◌, ◌<◌, nat_eq};
 ghost use Rattle.std.proofs.Common.{rules};
 ghost use Rattle.std.specs.Cmp.{partial_order_from_own_ties};
@@ -17,7 +17,7 @@ use std::time::Duration as StdDuration;
 const NANOS_PER_SEC: u32 = 1_000_000_000;
 
 impl Duration {
-    /// So many seconds and nanoseconds. Whole seconds among the nanoseconds are carried.
+    /// A span of `secs` seconds and `nanos` nanoseconds. Nanoseconds from 1,000,000,000 on are carried.
     pub const fn new(secs: u64, nanos: u32) -> Duration
         requires { secs + nanos / second_in_nanos < 2 ^ 64 }
         ensures secs { secs_of result ≡ secs + nanos / second_in_nanos }
@@ -29,14 +29,14 @@ impl Duration {
         }
     }
 
-    /// Its whole seconds.
+    /// The whole seconds.
     pub const fn as_secs(&self) -> u64
         ensures { result ≡ secs_of self.now }
     {
         self.secs
     }
 
-    /// The nanoseconds beyond its whole seconds.
+    /// The nanoseconds below a second.
     pub const fn subsec_nanos(&self) -> u32
         ensures nanos { result ≡ nanos_of self.now }
         ensures below_a_second { result < second_in_nanos }
@@ -44,7 +44,7 @@ impl Duration {
         self.nanos
     }
 
-    /// The whole of it in nanoseconds.
+    /// The span in nanoseconds.
     pub const fn as_nanos(&self) -> u128
         ensures { result ≡ in_nanos self.now }
     {
