@@ -1,4 +1,4 @@
--- Numbers other than 0 are decoded as numbers, and 0 is refused.
+-- A `NonZero` integer is decoded as the integer, and 0 is refused.
 use Rattle.std.specs.Prelude.{◌≡◌, ◌<◌, ◌==◌, if◌then◌else◌, ℕ, unsigned_abs, Bool, true, false, Result, Ok, Err, List, Option, Some, None, refl}
 use Rattle.std.specs.Borrow.{GName}
 use Rattle.std.specs.Option.{MatchOption, ok_or}
@@ -21,18 +21,18 @@ use Rattle.bincode_lemmas.specs.DecodingLaws.{gave-takes}
 use Rattle.bincode_spec.specs.Values.{Reads}
 use Rattle.bincode_decoder.proofs.ReadAnswers.{read-as}
 
--- an answer with its meaning renamed
+-- an answer with its meaning mapped
 abbrev renamed : {A B : Type 0} → (A → B) → Answer A → Answer B
 renamed f (Gave a r d) = Gave (f a) r d
 renamed f (Refused why d) = Refused why d
 renamed f PassedLimit = PassedLimit
 
--- the size of a number, by its meaning
+-- the absolute value of a number, from its meaning
 abbrev pub size_of : Meaning → ℕ
 size_of (Number z) = unsigned_abs z
 size_of m = 1
 
--- the answer where 0 is refused, by that where it is not
+-- the answer with 0 refused
 abbrev tested : IntegerType → Answer Meaning → Answer Meaning
 tested name (Gave m r d) = if size_of m == 0 then Refused (Zero name) d else Gave m r d
 tested name (Refused why d) = Refused why d
@@ -86,7 +86,7 @@ module _ {A : Type 0} (f : A → Meaning) (size : A → ℕ) (name : IntegerType
   module _ {D T : Type 0} {is_known : D → Type 0} {remaining : D → List ℕ} {charge failures : D → ℕ} {loans : D → List GName} {limit : Option ℕ}
       {end_error : ℕ → DecodeError → Type 0} {device : DeviceErrors} (F : Format A) {decodes_to : Meaning → A → Type 0} {other : Meaning → T → Type 0}
       {start : ℕ} {old new : D} where
-    -- where the number stops, so does the number other than 0
+    -- if decoding the integer fails, so does decoding the `NonZero` one
     pub stops-too : (e : DecodeError) → Reads is_known remaining charge failures loans limit end_error device ⊥ (map_format f F) decodes_to start (Err e) old new →
         Reads is_known remaining charge failures loans limit end_error device ⊥ (map_format f (not_zero_by size name F)) other start (Err e) old new
     stops-too e read =
@@ -94,7 +94,7 @@ module _ {A : Type 0} (f : A → Meaning) (size : A → ℕ) (name : IntegerType
         (λ known. rw (by_size limit F (remaining old) start) (tested_stop name end_error device ⊥ (failures old) (failures new) (remaining old) (remaining new) e
         (answer limit (map_format f F) (remaining old) start) (read.err known))) (λ _. tt) read
 
-    -- and a number is tested
+    -- otherwise the integer is tested
     pub read-tested : (get : T → A) (zero n k : A) (number : Option T) (r : Result T DecodeError) → size zero ≡ 0 → Lawful F →
         ((x : T) → 0 < size (get x)) → ((m : Meaning) → decodes_to m n → m ≡ f n) → ((x : T) (m : Meaning) → m ≡ f (get x) → other m x) →
         k ≡ n → MatchOption number (k ≡ zero) (λ x. get x ≡ k) → r ≡ ok_or number (NonZeroTypeIsZero name) →

@@ -1,4 +1,4 @@
-//! What can be decoded as pieces of the source, without a copy.
+//! What can be decoded with borrowed parts of the source.
 ghost use Rattle.std.specs.Prelude.{◌≡◌, ◌⊎◌, false, IfOk};
 ghost use Rattle.bincode_spec.specs.Words.{variant_tags, in_order, allowed_tags, part};
 ghost use Rattle.bincode_spec.specs.Choices.{IsChoice};
@@ -10,14 +10,14 @@ use bincode_decoder::decoder::{BorrowDecoder, BorrowedBytes};
 use bincode_decoder::tags::Listed;
 use bincode_types::wire::Wire;
 
-/// A type whose values can be read by a decoder that lends bytes of its source, in a context. `B` is `&'de [u8]`, and
-/// stands for the lifetime `'de` of the source.
+/// A type whose values can be decoded, in a context, by a decoder that lends bytes of its source. `B` is `&'de [u8]`,
+/// and stands for the lifetime `'de` of the source.
 pub trait BorrowDecode<B: BorrowedBytes, Context: Drop>: Wire + Drop + Sized {
-    /// How many values in a row are read, as `Decode::Run` says.
+    /// How a slice of values is decoded, as `Decode::Run`.
     type Run: DecodeRun<Self>;
 
-    /// Reads a word and gives a value for its meaning, which may hold bytes of the source. Fails and leaves what
-    /// `Decode::decode` does.
+    /// Decodes a value, which may borrow bytes of the source. Errors, and what is left after them, are those of
+    /// `Decode::decode`.
     fn borrow_decode<D: BorrowDecoder<B, Context = Context>>(
         decoder: &mut D,
     ) -> Result<Self, DecodeError>
@@ -26,9 +26,9 @@ pub trait BorrowDecode<B: BorrowedBytes, Context: Drop>: Wire + Drop + Sized {
             decoder.old decoder.new };
 }
 
-/// Variants whose parts can be read by a decoder that lends bytes of its source, in a context.
+/// Variants whose parts can be decoded, in a context, by a decoder that lends bytes of its source.
 pub trait BorrowDecodeVariants<B: BorrowedBytes, Context: Drop>: Listed + Drop + Sized {
-    /// Reads what follows a tag, where these are left of `All` variants.
+    /// Decodes the part that follows this tag, with these variants left of `All`.
     fn borrow_decode_part<All: Listed, D: BorrowDecoder<B, Context = Context>>(
         found: u32,
         decoder: &mut D,

@@ -1,4 +1,4 @@
-//! Runs and arrays of values that may hold bytes of the source.
+//! Vectors and arrays of values that may borrow bytes of the source, without a length prefix.
 ghost use Rattle.std.specs.Prelude.{◌≡◌, ◌*◌, ◌<◌, ◌⊎◌, length, IfOk, vec_capacity};
 ghost use Rattle.bincode_spec.specs.Format.{elements};
 ghost use Rattle.bincode_base.specs.Slots.{SlotsFit};
@@ -11,9 +11,9 @@ use bincode_base::error::DecodeError;
 use bincode_collections::{arrays, runs};
 use bincode_decoder::decoder::{BorrowDecoder, BorrowedBytes};
 
-/// Reads `len` values, whose room `claim_container_read` has reserved, into a vector with room for just so many: each
-/// one's share is released before it is read. Fails where a value does, or with `Memory` where the room for the values
-/// is refused; of no values it is never refused.
+/// Decodes `len` values into a vector of that capacity. `claim_container_read` must have reserved their claims; each is
+/// released before its value is read. Fails with the error of a value, or with `Memory` if the allocation is refused;
+/// never so for no values.
 #[inline]
 pub fn borrow_decode_vec<B: BorrowedBytes, D: BorrowDecoder<B>, T: BorrowDecode<B, D::Context>>(
     decoder: &mut D,
@@ -29,9 +29,9 @@ pub fn borrow_decode_vec<B: BorrowedBytes, D: BorrowDecoder<B>, T: BorrowDecode<
     runs::decode_vec::<D, ByBorrowDecode<B, T>>(decoder, len)
 }
 
-/// Reads `N` elements in turn, whose room `claim_container_read` has reserved, and releases each one's share before it.
-/// So the charge at the end is that at the start, with the full widths of the elements in place of their room. Fails
-/// where an element does, or with `Memory` where `N` slots of `Option<T>` can't exist (`slots_fit`).
+/// Decodes `N` elements into an array. `claim_container_read` must have reserved their claims; each is released before
+/// its element is read, so that in the end only the elements' own charges are added. Fails with the error of an
+/// element, or with `Memory` if `N` slots of `Option<T>` cannot exist (`slots_fit`).
 #[inline]
 pub fn borrow_decode_array<
     B: BorrowedBytes,

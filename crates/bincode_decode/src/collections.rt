@@ -1,4 +1,4 @@
-//! Lists of a user's own, which are filled item by item.
+//! Collections of your own, which are filled item by item.
 ghost use Rattle.bincode_spec.specs.Run.{IsListOf};
 ghost use Rattle.bincode_spec.specs.Values.{Reads};
 ghost use Rattle.bincode_spec.specs.Words.{list};
@@ -10,10 +10,10 @@ use bincode_collections::fill_list;
 use bincode_collections::fill_list::FillList;
 use bincode_decoder::decoder::Decoder;
 
-/// Reads a length and so many items, as `Vec<T>` does, and puts each into a list of one's own. The room of the items is
-/// claimed before the list is begun, and each one's share is released before it is read. Fails where the length can't
-/// be read, with `LimitExceeded` where the room passes the limit, with `Memory` where the list does, and where an item
-/// does. A fault leaves what was charged before it.
+/// Decodes a length prefix and that many items, as `Vec<T>` does, and puts each into a collection of your own. The
+/// claims of all items are charged before it is made, and each is released before its item is read. Fails with the
+/// error of the length or an item, `LimitExceeded` if the claims pass the limit, or `Memory` if the collection refuses
+/// to be made or filled. A fault leaves the charges made before it.
 #[inline]
 pub fn decode_collection<
     Context: Drop,

@@ -1,4 +1,4 @@
-//! Decoding of what stands for enums without variants.
+//! Decoding of `NoVariants`.
 
 use crate::borrow_decode::BorrowDecode;
 use crate::decode::Decode;

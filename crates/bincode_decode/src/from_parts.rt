@@ -1,4 +1,4 @@
-//! Types of a user's own that are made of all their parts at once.
+//! Types of your own that are made of all their parts at once.
 ghost use Rattle.std.specs.Prelude.{◌≡◌};
 ghost use Rattle.bincode_spec.specs.Values.{Reads};
 
@@ -7,14 +7,14 @@ use bincode_base::error::DecodeError;
 use bincode_decoder::decoder::Decoder;
 use bincode_types::has_parts::HasParts;
 
-/// A type whose values are made of their parts.
+/// A type that is made from its parts.
 pub trait FromParts<Parts>: HasParts<Parts> {
     /// The value with these parts.
     fn from_parts(parts: Parts) -> Self
         ensures { Self.parts result ≡ parts };
 }
 
-/// Reads the parts of a value, and makes it of them: for a struct of many fields. Fails where a part does.
+/// Decodes the parts of a value and makes it from them: for a struct of many fields. Errors are those of the parts.
 #[inline(always)]
 pub fn decode_by_parts<Parts: Decode<D::Context>, T: FromParts<Parts>, D: Decoder>(
     decoder: &mut D,

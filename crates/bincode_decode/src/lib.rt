@@ -1,4 +1,4 @@
-//! Decoding.
+//! The traits `Decode` and `BorrowDecode`, and their impls for the types of the format.
 #![tactic(auto)]
 
 pub mod borrow_decode;

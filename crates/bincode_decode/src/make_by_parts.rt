@@ -1,4 +1,4 @@
-//! Types that are decoded by their parts.
+//! Types that are decoded as their parts.
 ghost use Rattle.std.specs.Prelude.{◌≡◌};
 
 use crate::borrow_decode::BorrowDecode;
@@ -11,8 +11,8 @@ use bincode_decoder::decoder::{BorrowDecoder, BorrowedBytes, Decoder};
 use bincode_types::by_parts::ByParts;
 use std::marker::PhantomData;
 
-/// A type whose values are made of their parts. It has `Decode` and `BorrowDecode` by
-/// this, where the type of the parts has.
+/// A type that is made from its parts. It gets `Decode` and `BorrowDecode` from this, if the type of the parts has
+/// them.
 pub trait MakeByParts: ByParts {
     /// The value with these parts.
     fn make_by_parts(parts: Self::Parts) -> Self
@@ -20,7 +20,7 @@ pub trait MakeByParts: ByParts {
         ensures promise { (Self.promise result).OfValue };
 }
 
-/// Reads values by their parts, which are read by `V`.
+/// Decodes values from their parts, which `V` reads.
 struct ReadByParts<V, T>(PhantomData<(V, T)>);
 
 impl<D: Decoder, V: ReadValues<D>, T: MakeByParts + ByParts<Parts = V::Value> + Drop> MakeWhole<D>

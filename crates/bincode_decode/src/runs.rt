@@ -1,4 +1,4 @@
-//! Runs and arrays of values whose room has been reserved, without a length.
+//! Slices, vectors and arrays of values, without a length prefix.
 ghost use Rattle.std.specs.Prelude.{◌≡◌, ◌*◌, ◌<◌, ◌⊎◌, length, IfOk, vec_capacity};
 ghost use Rattle.bincode_spec.specs.Format.{elements};
 ghost use Rattle.bincode_base.specs.Slots.{SlotsFit};
@@ -11,10 +11,10 @@ use bincode_base::error::DecodeError;
 use bincode_collections::{arrays, runs};
 use bincode_decoder::decoder::Decoder;
 
-/// Reads as many values as `values` has, over them, whose room `claim_container_read` has reserved: each one's share is
-/// released before it is read. A type may read them otherwise (`Decode::Run`), with the same answer. Fails
-/// where a value does. Then some front of the input is taken, unless the error is one that the device does not count,
-/// and no more than the room of the values is given back; what `values` has then is not said.
+/// Decodes into each element of `values`. `claim_container_read` must have reserved their claims; each is released
+/// before its value is read. Errors are those of a value. After an error a prefix of the input is consumed, unless the
+/// error is one that the device does not count, no more than the claims is released, and the content of `values` is
+/// unspecified. `Decode::Run` may read them in bulk, with the same result.
 #[inline]
 pub fn decode_run<Context: Drop, T: Decode<Context>, D: Decoder<Context = Context>>(
     decoder: &mut D,
@@ -28,8 +28,8 @@ pub fn decode_run<Context: Drop, T: Decode<Context>, D: Decoder<Context = Contex
     runs::decode_run::<D, ByDecode<T>>(decoder, values)
 }
 
-/// Reads `len` values, as `decode_run` does, into a vector with room for just so many. Fails where a value does, or
-/// with `Memory` where the room for the values is refused; of no values it is never refused.
+/// Decodes `len` values, as `decode_run` does, into a vector of that capacity. Fails with the error of a value, or with
+/// `Memory` if the allocation is refused; never so for no values.
 #[inline]
 pub fn decode_vec<Context: Drop, T: Decode<Context>, D: Decoder<Context = Context>>(
     decoder: &mut D,
@@ -45,9 +45,9 @@ pub fn decode_vec<Context: Drop, T: Decode<Context>, D: Decoder<Context = Contex
     runs::decode_vec::<D, ByDecode<T>>(decoder, len)
 }
 
-/// Reads `N` elements in turn, whose room `claim_container_read` has reserved, and releases each one's share before it.
-/// So the charge at the end is that at the start, with the full widths of the elements in place of their room. Fails
-/// where an element does, or with `Memory` where `N` slots of `Option<T>` can't exist (`slots_fit`).
+/// Decodes `N` elements into an array. `claim_container_read` must have reserved their claims; each is released before
+/// its element is read, so that in the end only the elements' own charges are added. Fails with the error of an
+/// element, or with `Memory` if `N` slots of `Option<T>` cannot exist (`slots_fit`).
 #[inline]
 pub fn decode_array<
     Context: Drop,

@@ -1,4 +1,4 @@
-//! The ways by which values are read: by `Decode`, and by `BorrowDecode`.
+//! How values are read by the generic decoders: with `Decode`, or with `BorrowDecode`.
 
 use crate::borrow_decode::{BorrowDecode, BorrowDecodeVariants};
 use crate::decode::Decode;
@@ -10,7 +10,7 @@ use bincode_decoder::decoder::{BorrowDecoder, BorrowedBytes, Decoder};
 use bincode_decoder::tags::Listed;
 use std::marker::PhantomData;
 
-/// Reads values by their `Decode`.
+/// Reads values with their `Decode`.
 pub(crate) struct ByDecode<T>(PhantomData<T>);
 
 impl<D: Decoder, T: Decode<D::Context>> ReadValues<D> for ByDecode<T> {
@@ -24,7 +24,7 @@ impl<D: Decoder, T: Decode<D::Context>> ReadValues<D> for ByDecode<T> {
     }
 }
 
-/// Reads the parts of variants by their `Decode`: of those that are left of `All`.
+/// Reads the parts of variants with their `Decode`: of those that are left of `All`.
 pub(crate) struct PartByDecode<All, Left>(PhantomData<(All, Left)>);
 
 impl<D: Decoder, All: Listed, Left: DecodeVariants<D::Context>> ReadVariants<D>
@@ -39,7 +39,7 @@ impl<D: Decoder, All: Listed, Left: DecodeVariants<D::Context>> ReadVariants<D>
     }
 }
 
-/// Reads values by their `BorrowDecode`.
+/// Reads values with their `BorrowDecode`.
 pub(crate) struct ByBorrowDecode<B, T>(PhantomData<(B, T)>);
 
 impl<B: BorrowedBytes, D: BorrowDecoder<B>, T: BorrowDecode<B, D::Context>> ReadValues<D>
@@ -54,7 +54,7 @@ impl<B: BorrowedBytes, D: BorrowDecoder<B>, T: BorrowDecode<B, D::Context>> Read
     }
 }
 
-/// Reads the parts of variants by their `BorrowDecode`: of those that are left of `All`.
+/// Reads the parts of variants with their `BorrowDecode`: of those that are left of `All`.
 pub(crate) struct PartByBorrowDecode<B, All, Left>(PhantomData<(B, All, Left)>);
 
 impl<

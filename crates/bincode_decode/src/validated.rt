@@ -1,4 +1,4 @@
-//! Decoding of types whose values passed a test.
+//! Decoding of types whose values are checked after decoding.
 ghost use Rattle.std.specs.Prelude.{◌≤◌, length};
 ghost use Rattle.bincode_spec.specs.Fault.{IsOther};
 
@@ -38,7 +38,7 @@ where
     }
 }
 
-/// The error that tells a fault of a user's own by this text of at most 22 bytes, without memory.
+/// `DecodeError::Other` with this text, for a fault of a type of your own. Does not allocate.
 pub fn other_error(text: &str) -> DecodeError
     requires { length text.now ≤ 22 }
     ensures { IsOther text.now result }

@@ -15,9 +15,9 @@ use bincode_decoder::tags::{DecodeTag, Listed, Named};
 use bincode_types::sums::{EnumOf, NoMoreVariants, Tag, VariantOf, Variants};
 use bincode_types::wire::Wire;
 
-/// Variants whose parts can be read, in a context.
+/// Variants whose parts can be decoded, in a context.
 pub trait DecodeVariants<Context: Drop>: Listed + Drop + Sized {
-    /// Reads what follows a tag, where these are left of `All` variants.
+    /// Decodes the part that follows this tag, with these variants left of `All`.
     fn decode_part<All: Listed, D: Decoder<Context = Context>>(
         found: u32,
         decoder: &mut D,
@@ -54,8 +54,7 @@ impl<
     }
 }
 
-/// Variants of which there is at least one. An enum without variants is read as `NoVariants`, which fails before it
-/// reads.
+/// At least one variant. An enum without variants is decoded as `NoVariants`, which fails before it reads.
 pub trait SomeVariants: Variants {}
 
 impl<const TAG: u32, A: Wire, Others: Variants> SomeVariants for VariantOf<TAG, A, Others> {}

@@ -1,4 +1,4 @@
--- The formats of shapes, by those of their parts.
+-- The formats of shapes, from those of their parts.
 use Rattle.std.specs.Prelude.{◌≡◌, ◌==◌, ◌<◌, ◌≤◌, ◌+◌, ◌++◌, true, ℕ, List, [], ◌∷◌, length, Box, refl}
 use Rattle.std.specs.declared.alloc.Global.{Global}
 use Rattle.std.specs.declared.vec.Vec.{Vec}
@@ -49,11 +49,11 @@ choice_described v variants s d counted = rw (formats_of-vec v, d.1) (chosen-par
   chosen-parts [] (w ∷ ws) some h = absurd h
   chosen-parts (p ∷ ps) (w ∷ ws) some h = chosen-same tag s _ _ h
 
--- no variants
+-- the list ends: no variants
 pub no_variants_described : (before : List Shape) → DescribesVariants before before []
 no_variants_described before = ([], sym (append-nil before), λ n s h. tt)
 
--- a variant before the others
+-- one variant, then the others
 pub next_variant_described : (before with_part after : List Shape) (part : Shape) (n : ℕ) (F : Setting → Format Meaning) (others : List Variant) →
     with_part ≡ before ++ part ∷ [] → ((s : Setting) → SameWords (format_of part s) (F s)) → DescribesVariants with_part after others →
     DescribesVariants before after ((n, F) ∷ others)
@@ -64,15 +64,15 @@ next_variant_described before with_part after part n F others e f d = (
       let p = both-show (n == m) _ (λ h. h) h in (sym (eqb-true n m p.0), f s, d.2 (m + 1) s p.1),
 )
 
--- a tuple, by its row
+-- a tuple, through its row
 pub tuple_described : {A : Type 0} (v : Vec Shape Global) (W : Words A) → DescribesRow [] v.items W → Describes (shapes.Tuple v) W
 tuple_described v W row s = rw (formats_of-vec v, row.1) (row.2 s)
 
--- no parts
+-- the row ends: no parts
 pub none_described : {A : Type 0} (before : List Shape) (W : Words A) → ((s : Setting) → SameWords nothing (W.format s)) → DescribesRow before before W
 none_described before W h = ([], sym (append-nil before), h)
 
--- a part before the others
+-- one part, then the others
 pub next_described : (before with_part after : List Shape) (part : Shape) (F rest : Setting → Format Meaning) →
     with_part ≡ before ++ part ∷ [] → ((s : Setting) → SameWords (format_of part s) (F s)) →
     ((parts : List Shape) × (after ≡ with_part ++ parts) × ((s : Setting) → SameWords (tuple (at s (formats parts))) (rest s))) →

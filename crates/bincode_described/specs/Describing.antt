@@ -1,4 +1,4 @@
--- What it is for a shape to describe a type.
+-- When a shape describes a type.
 use Rattle.std.specs.Prelude.{◌≡◌, ℕ, List, ◌++◌, true}
 use Rattle.bincode_base.specs.Setting.{Setting}
 use Rattle.bincode_spec.specs.Words.{Variant, variant_tags, in_order, tuple}
@@ -9,15 +9,15 @@ use Rattle.bincode_shape.specs.SameChoices.{SameVariants}
 use Rattle.bincode_shape.specs.Shapes.{format_of, at, numbered}
 use Rattle.bincode_types.specs.TypeWords.{Words}
 
--- the shape has the type's words, with their meanings and steps, and its faults, in each setting
+-- the shape has the type's words, meanings, steps and faults in each setting
 abbrev pub Describes : {A : Type 0} → Shape → Words A → Type 0
 Describes shape W = (s : Setting) → SameWords (format_of shape s) (W.format s)
 
--- behind the shapes before there stand such that, in order, have the words of a row
+-- the shapes that were appended have, in order, the words of a row
 abbrev pub DescribesRow : {A : Type 0} → List Shape → List Shape → Words A → Type 0
 DescribesRow before after W = (parts : List Shape) × (after ≡ before ++ parts) × ((s : Setting) → SameWords (tuple (at s (formats parts))) (W.format s))
 
--- behind the shapes before there stand such that, numbered in order, have the words of variants whose tags stand in order
+-- the shapes that were appended have, numbered in order, the words of variants whose tags are consecutive
 abbrev pub DescribesVariants : List Shape → List Shape → List Variant → Type 0
 DescribesVariants before after variants =
     (parts : List Shape) × (after ≡ before ++ parts)

@@ -1,4 +1,4 @@
-//! The shapes of options, and of enums whose tags count from 0.
+//! Shapes of options, and of enums whose tags count from 0.
 ghost use Rattle.std.specs.Prelude.{◌≡◌, ◌<◌, IfSome, true, length, refl};
 ghost use Rattle.std.proofs.Common.{arith};
 ghost use Rattle.bincode_spec.specs.Words.{variant_tags, in_order};
@@ -27,9 +27,9 @@ impl<T: Described, U: Described> Described for Result<T, U> {
     }
 }
 
-/// Variants of an enum, each of which holds what has a shape.
+/// Variants whose parts all have a shape.
 pub trait DescribedVariants: Variants {
-    /// Puts the shapes of what they hold behind these. `None` where memory is refused.
+    /// Appends the shapes of the parts. `None` if an allocation is refused.
     fn put_shapes(alloc: Global, shapes: Vec<Shape>) -> Option<Vec<Shape>>
         ensures { IfSome result (λ put. DescribesVariants shapes.items put.items Self.variants) };
 }
@@ -49,12 +49,12 @@ impl<const TAG: u32, A: Described, Others: DescribedVariants> DescribedVariants
     }
 }
 
-/// Variants whose tags are 0, 1 and so on: of one to eight.
+/// One to eight variants with the tags 0, 1 and so on.
 pub trait CountedVariants: Variants<Tag = u32> {
     ghost failures_monotone: { (0 < length Self.variants) × (in_order 0 (variant_tags Self.variants) ≡ true) };
 }
 
-/// An enum whose tags count from 0 is described as the choice of what its variants hold.
+/// The shape is a `Choice` of the shapes of the parts.
 impl<Of: DescribedVariants + CountedVariants> Described for EnumOf<Of> {
     #[tactic(auto, using(crate::proofs::Formats::choice_described))]
     fn shape(alloc: Global) -> Option<Shape> {

@@ -1,4 +1,4 @@
-//! Types that are described at run time: each tells a shape that has its words.
+//! Types that are described at run time: each has a shape with the same format.
 #![tactic(auto, using(crate::proofs::Formats::same_itself))]
 
 pub mod choices;

@@ -1,4 +1,4 @@
-//! The shapes of lists, arrays, texts and boxes.
+//! Shapes of lists, arrays, texts and boxes.
 use crate::described::Described;
 use bincode_shape::shape::Shape;
 use bincode_types::wire::Wire;

@@ -1,4 +1,4 @@
-//! The shapes of tuples, by those of their parts.
+//! Shapes of tuples, from those of their parts.
 ghost use Rattle.std.specs.Prelude.{◌≡◌, ◌++◌, ◌∷◌, [], IfSome};
 ghost use Rattle.bincode_shape.specs.declared.shape.Shape.{Shape};
 ghost use Rattle.bincode_described.specs.Describing.{Describes, DescribesRow};
@@ -10,9 +10,9 @@ use bincode_types::rows::{Cons, Cons4, Tail};
 use bincode_types::wire::Wire;
 use std::alloc::Global;
 
-/// Parts in a row, each of which has a shape.
+/// A row whose parts all have a shape.
 pub trait DescribedRow: Wire {
-    /// Puts the shapes of the parts behind these. `None` where memory is refused.
+    /// Appends the shapes of the parts. `None` if an allocation is refused.
     fn put_shapes(alloc: Global, shapes: Vec<Shape>) -> Option<Vec<Shape>>
         ensures { IfSome result (λ put. DescribesRow shapes.items put.items Self.words) };
 }
@@ -47,7 +47,7 @@ impl<
     }
 }
 
-/// The shape of a tuple, by the row that it is written as.
+/// The shape of a tuple, through the row that it is written as.
 #[tactic(auto, using(crate::proofs::Formats::tuple_described))]
 pub(crate) fn tuple_shape<T: ByParts>(alloc: Global) -> Option<Shape>
 where
@@ -58,7 +58,7 @@ where
     Some(Shape::Tuple(parts))
 }
 
-/// Puts the shape of a type behind these. `None` where memory is refused.
+/// Appends the shape of a type. `None` if an allocation is refused.
 pub(crate) fn put_shape<T: Described>(alloc: Global, shapes: Vec<Shape>) -> Option<Vec<Shape>>
     ensures { IfSome result (λ put. (part : Shape) × (put.items ≡ shapes.items ++ part ∷ [])
         × Describes part T.words) }

@@ -1,4 +1,4 @@
-//! The shapes of numbers, truth values, characters and nothing.
+//! Shapes of numbers, `bool`, `char` and `()`.
 use crate::described::Described;
 use bincode_shape::shape::Shape;
 use std::alloc::Global;

@@ -1,4 +1,4 @@
-//! The shapes of tuples.
+//! Shapes of tuples.
 use crate::described::Described;
 use crate::rows::tuple_shape;
 use bincode_shape::shape::Shape;

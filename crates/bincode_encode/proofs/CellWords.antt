@@ -1,4 +1,4 @@
--- What a cell holds is written for the cell.
+-- A cell is written as what it holds.
 use Rattle.std.specs.Prelude.{◌⊎◌, ℕ, List, ◌++◌, Result}
 use Rattle.std.specs.Borrow.{GName}
 use Rattle.std.proofs.Common.{inl, inr}
@@ -14,7 +14,7 @@ use Rattle.bincode_spec.specs.Encoding.{Adds, Refuses, Writes, Ready, Begins, Is
 use Rattle.bincode_lemmas.specs.EncodingLaws.{writes-same}
 
 module _ (F : Format Meaning) (f : Lawful F) (P : Meaning → Type 0) {W : Type 0} (adds : Adds W) where
-  -- its word is one of the cell
+  -- a word of the inner value is one of the cell
   held_writes : (before after : W) → Writes adds (AllowedWord P F) before after → Writes adds (AllowedWord IsAny (of_cell F)) before after
   held_writes before after w = writes-same adds _ _ before after (cell-allows F f P) w
 
@@ -30,14 +30,14 @@ module _ (F : Format Meaning) (f : Lawful F) (P : Meaning → Type 0) {W : Type 
     own_or_held front e (inl o) = inl o
     own_or_held front e (inr b) = inr (held_begins front b)
 
-    -- a front of its word is one of the cell
+    -- a prefix of such a word is a prefix of one of the cell
     held_halts : (refuses : Refuses W) (N M : EncodeError → Type 0) → ((e : EncodeError) → N e → M e) → (before after : W) (e : EncodeError) →
         EncodeFailure adds refuses (Ready R (AllowedWord P F)) N before after e →
         EncodeFailure adds refuses (Ready S (AllowedWord IsAny (of_cell F))) M before after e
     held_halts refuses N M more before after e (by_writer front piece middle h r b) = by_writer front piece middle h r (held_begins (front ++ piece) b)
     held_halts refuses N M more before after e (by_name front h n b) = by_name front h (more e n) (own_or_held front e b)
 
--- what was written for what a cell holds was written for the cell
+-- encoding the inner value encodes the cell
 pub held-encodes :
     {F : Format Meaning} (f : Lawful F) {P : Meaning → Type 0} {R S : Type 0} (inner : S → R) (has_word : R → SomeWord (AllowedWord P F))
     {E W T : Type 0} {adds : Adds W} {refuses : Refuses W} {writer_of : E → W} {loans : E → List GName} {N M : EncodeError → Type 0}

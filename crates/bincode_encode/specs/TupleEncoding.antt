@@ -1,4 +1,4 @@
--- What encoding does passes from the first part of a tuple and the others to the tuple.
+-- Encoding a tuple: its first part, then the others.
 use Rattle.std.specs.Prelude.{◌⊎◌, List, Result, Ok, Err}
 use Rattle.std.specs.Borrow.{GName}
 use Rattle.bincode_base.specs.declared.error.EncodeError.{EncodeError}
@@ -12,12 +12,12 @@ use Rattle.bincode_encoder.proofs.EncodingAnswers.{Joined, first-halts, next-enc
 
 module _ {P Q : Meaning → Type 0} {F : Format Meaning} (others : Format Meaning) {R S : Type 0} {N M : EncodeError → Type 0} {E W T V : Type 0}
     {adds : Adds W} {refuses : Refuses W} {writer_of : E → W} {loans : E → List GName} {old new : E} where
-  -- the first part halts
+  -- encoding fails in the first part
   pub tuple-halts : {e : EncodeError} → Encodes {T = T} adds refuses writer_of loans R (AllowedWord P F) N (Err e) old new →
       Encodes {T = V} adds refuses writer_of loans (R × S) (AllowedWord (IsThen P Q) (first_and F others)) (λ d. N d ⊎ M d) (Err e) old new
   tuple-halts = first-halts {R = R} {S = S} (λ r s. (r, s)) (λ u. u) (tuple-allows P Q F others) (allowed-tuple P Q F others) {N = N} {M = M} (λ e n. n)
 
-  -- the first part, and then the others
+  -- the first part succeeds, then the others are encoded
   pub tuple-encodes : {t : T} {r : Result V EncodeError} {between : E} → Joined adds →
       Encodes adds refuses writer_of loans R (AllowedWord P F) N (Ok t) old between →
       Encodes adds refuses writer_of loans S (AllowedWord Q others) M r between new →

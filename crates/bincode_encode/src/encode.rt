@@ -11,27 +11,28 @@ use bincode_base::error::EncodeError;
 use bincode_encoder::encoder::Encoder;
 use bincode_types::wire::Wire;
 
-/// A type whose values can be written.
+/// A type whose values can be encoded.
 pub trait Encode: Wire + Drop {
-    /// How many bytes a value takes at most where integers are fixed, if that is known. It stands for speed alone: a
-    /// list or a map asks its writer once for the room of all of a short item, and `encode_into_slice` tests its slice
-    /// once for a value that may be longer than a number.
+    /// The maximum size of a value in bytes under fixed integers, if it is known. For speed only: a list or a map asks
+    /// its writer once for the room of all its short items, and `encode_into_slice` checks its slice once for a value
+    /// that may be longer than a number.
     const MAX_FIXED_SIZE: Option<usize> = None;
 
-    /// Says of the value in hand that it is valid.
+    /// Proves that this value is valid; it has no other effect. A collection walks its items: O(n). For a number `let
+    /// _value = *self;` is enough, since reading it proves that it is in the range of its type.
     fn tell_valid(&self)
         ensures { Self.words.valid self.now };
 
-    /// Writes a word that the value allows. Fails where the writer refuses a piece, or by an error that the type names.
-    /// Then what was written before begins an allowed word, if the inner type of each cell that the value holds has
-    /// one, and unless the error is one of a user's type.
+    /// Writes the encoding of this value. Fails with the error of the writer, or with an error of the type. After an
+    /// error a prefix of an encoding is written, if the inner type of each cell in the value has one, and unless the
+    /// error comes from a type of your own.
     fn encode<E: Encoder>(&self, encoder: &mut E) -> Result<(), EncodeError>
         ensures { Encodes E.W.adds E.W.refuses E.writer_of E.loans (Self.words.writable E.C.setting self.now)
             (AllowedWord (Self.words.means self.now) (Self.words.format E.C.setting)) Self.words.own_errors result
             encoder.old encoder.new };
 
-    /// The bytes of a run of values, if the type's values are the bytes of their words: `encode_run` writes them in one
-    /// piece. Each other type answers `None`.
+    /// The bytes of a slice of values, if they are their own encoding in every setting: `encode_run` then writes them
+    /// in one piece. `None` for every other type.
     fn as_bytes(_items: &[Self]) -> Option<&[u8]>
     where
         Self: Sized,

@@ -1,4 +1,4 @@
-//! Types that are encoded by their parts.
+//! Types that are encoded as their parts.
 ghost use Rattle.bincode_spec.specs.Allowed.{AllowedWord};
 ghost use Rattle.bincode_spec.specs.Encoding.{Encodes};
 
@@ -9,19 +9,19 @@ use bincode_encoder::encoder::Encoder;
 use bincode_types::by_parts::ByParts;
 use bincode_types::wire::Wire;
 
-/// A type whose values are written by their parts. It has `Encode` by this, and so have most types here that are made
-/// of others. An enum with type parameters has to go this way: `Encode::as_bytes` of the enum itself would ask that the
-/// sum of its variants takes less than 2^63 bytes, of which nothing is known for a parameter.
+/// A type that is encoded as its parts. It gets `Encode` from this, like most types here that are made of others. An
+/// enum with type parameters has to use it: `Encode::as_bytes` of the enum itself asks that the sum of its variants
+/// takes less than 2^63 bytes, which cannot be known of a parameter.
 pub trait EncodeParts: Wire + ByParts + Drop {
-    /// How many bytes a value takes at most, as `Encode::MAX_FIXED_SIZE` tells. A type with parameters whose size in
-    /// memory is not known has to say it itself.
+    /// The maximum size of a value, as `Encode::MAX_FIXED_SIZE`. To be set for a type with parameters whose size in
+    /// memory is not known.
     const MOST_OF_PARTS: Option<usize> = None;
 
-    /// Says that the value in hand is valid, by its parts.
+    /// Proves that this value is valid, like `Encode::tell_valid`.
     fn tell_valid_parts(&self)
         ensures { Self.words.valid self.now };
 
-    /// Writes a word of the value, by its parts. It does, fails and leaves what `Encode::encode` does.
+    /// Writes the encoding of this value, like `Encode::encode`.
     fn encode_parts<E: Encoder>(&self, encoder: &mut E) -> Result<(), EncodeError>
         ensures { Encodes E.W.adds E.W.refuses E.writer_of E.loans
             (Self.words.writable E.C.setting self.now)

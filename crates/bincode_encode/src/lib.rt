@@ -1,4 +1,4 @@
-//! Encoding.
+//! The trait `Encode`, and its impls for the types of the format.
 #![tactic(auto)]
 
 pub mod encode;

@@ -1,4 +1,4 @@
-//! Parts in a row by reference: what tuples are encoded as.
+//! Rows of references: what tuples are encoded as.
 ghost use Rattle.bincode_spec.specs.Allowed.{AllowedWord};
 ghost use Rattle.bincode_spec.specs.Encoding.{Encodes};
 
@@ -11,9 +11,9 @@ use bincode_encoder::runs::WriteValues;
 use bincode_types::rows::{Cons, Cons4, Tail};
 use bincode_types::wire::Wire;
 
-/// Parts in a row, of which it may be known how many bytes they take at most.
+/// A row whose maximum size may be known.
 pub trait MostOfRow {
-    /// How many bytes they take at most where integers are fixed, as `Encode::MAX_FIXED_SIZE` tells.
+    /// The maximum size in bytes under fixed integers, as `Encode::MAX_FIXED_SIZE`.
     const MOST: Option<usize>;
 }
 
@@ -33,16 +33,16 @@ impl<A: Encode, B: Encode, C: Encode, D: Encode, Others: MostOfRow> MostOfRow
     );
 }
 
-/// Parts that were lent in a row. A row is no `Encode` itself: the proof for a tuple would then show of the reference
-/// to each part all that `Encode` stands on, which takes long.
+/// A row of references to parts. Not an `Encode`, since the proof for a tuple would then prove, of each reference, all
+/// that `Encode` stands on, which takes long.
 pub trait EncodeRow: Drop {
     /// The row of the parts themselves.
     type Parts: Wire + Tail;
 
-    /// The parts that were lent.
+    /// The parts that are referred to.
     ghost borrowed_parts: { Self → Self.Parts };
 
-    /// Writes a word of the parts. It does, fails and leaves what `Encode::encode` does.
+    /// Writes the encoding of the parts, like `Encode::encode`.
     fn encode_row<E: Encoder>(&self, encoder: &mut E) -> Result<(), EncodeError>
         ensures { Encodes E.W.adds E.W.refuses E.writer_of E.loans
             (Self.Parts.words.writable E.C.setting (Self.borrowed_parts self.now))
@@ -50,8 +50,7 @@ pub trait EncodeRow: Drop {
             Self.Parts.words.own_errors result encoder.old encoder.new };
 }
 
-// Always inlined: LLVM takes a call behind several `?` for a rare one, and a call hands on a result with room for an
-// error.
+// All are inlined: LLVM takes a call after several `?` for a rare one, and a call returns its result through memory.
 
 impl EncodeRow for () {
     type Parts = ();
@@ -64,7 +63,7 @@ impl EncodeRow for () {
     }
 }
 
-/// A part, and the others: a row too, or `()` behind the last.
+/// A part and the tail: another row, or `()`.
 #[derive(Drop)]
 pub struct ConsRef<'a, A, Others>(pub &'a A, pub Others);
 
@@ -80,7 +79,7 @@ impl<'a, A: Encode, Others: EncodeRow> EncodeRow for ConsRef<'a, A, Others> {
     }
 }
 
-/// Four parts, and the others.
+/// Four parts and the tail.
 #[derive(Drop)]
 pub struct Cons4Ref<'a, A, B, C, D, Others>(pub &'a A, pub &'a B, pub &'a C, pub &'a D, pub Others);
 

@@ -1,4 +1,4 @@
-//! Runs of values, without a length.
+//! Slices of values, without a length prefix.
 ghost use Rattle.std.specs.Prelude.{length};
 ghost use Rattle.std.specs.List.{All};
 ghost use Rattle.bincode_spec.specs.Words.{array};
@@ -14,7 +14,7 @@ use bincode_encoder::runs;
 use bincode_encoder::runs::WriteValues;
 use std::marker::PhantomData;
 
-/// Writes values by their `Encode`.
+/// Writes values with their `Encode`.
 pub(crate) struct ByEncode<T>(PhantomData<T>);
 
 impl<T: Encode> WriteValues for ByEncode<T> {
@@ -38,8 +38,8 @@ impl<T: Encode> WriteValues for ByEncode<T> {
     }
 }
 
-/// Writes the items in turn, without a length: in one piece, if the type's values are the bytes of their words. Fails
-/// where an item does, and then leaves what `Encode::encode` does: what was written before begins a word of the run.
+/// Writes the items in turn, without a length prefix; in one piece if their bytes are their encoding. Errors are those
+/// of an item. After an error a prefix of an encoding is written, with the exceptions of `Encode::encode`.
 #[inline]
 pub fn encode_run<T: Encode, E: Encoder>(items: &[T], encoder: &mut E) -> Result<(), EncodeError>
     ensures { Encodes E.W.adds E.W.refuses E.writer_of E.loans (All (T.words.writable E.C.setting) items.now)

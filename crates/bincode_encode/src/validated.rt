@@ -1,4 +1,4 @@
-//! Encoding of types whose values passed a test.
+//! Encoding of types whose values are checked after decoding.
 ghost use Rattle.std.specs.Prelude.{◌≡◌, true};
 ghost use Rattle.bincode_spec.specs.Meaning.{Meaning};
 ghost use Rattle.bincode_spec.specs.Validated.{with_test};
@@ -10,7 +10,7 @@ use bincode_base::error::EncodeError;
 use bincode_encoder::encoder::Encoder;
 use bincode_types::validated::Validate;
 
-/// Writes a value that passed a test: what it holds. It does, fails and leaves what `Encode::encode` of that does.
+/// Writes the value that is held, like its `Encode::encode`.
 #[inline(always)]
 pub fn encode_validated<T: Validate, E: Encoder>(
     value: &T,
@@ -25,7 +25,7 @@ where
     value.of().encode(encoder)
 }
 
-/// Says of a value in hand that it is valid as what it is written as: what it holds is, and whatever that means passes.
+/// Proves that a value is valid as `Validated`: the value that it holds is valid, and passes the test.
 #[inline]
 pub fn tell_validated<T: Validate>(value: &T)
 where

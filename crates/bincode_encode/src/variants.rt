@@ -16,8 +16,8 @@ use bincode_encoder::variants::EncodeTag;
 use bincode_types::has_parts::HasParts;
 use bincode_types::sums::Choice;
 
-/// Writes the value of an enum, which is made of `Parts`: the tag of its variant, and then the part. Of an enum with
-/// type parameters the value has references to what they stand for, since its parts have to have a known size.
+/// Writes an enum as the tag of its variant and then the part. The parts need a known size: an enum with type
+/// parameters passes references to them.
 #[inline(always)]
 pub fn encode_variant<Parts: Choice, T: HasParts<Parts>, A: Encode, E: Encoder>(
     value: &T,

@@ -1,4 +1,4 @@
--- What is read where no variant has a tag.
+-- Decoding a tag that no variant has.
 use Rattle.std.specs.Prelude.{◌≡◌, ℕ, List, [], ◌∷◌, refl}
 use Rattle.bincode_base.specs.Setting.{Setting}
 use Rattle.bincode_spec.specs.Fault.{Allowed, UnexpectedVariant}

@@ -1,4 +1,4 @@
--- What an enum says of its words, variant by variant.
+-- The format of an enum, variant by variant.
 use Rattle.std.specs.Prelude.{◌≡◌, ◌⊎◌, ◌<◌, ◌+◌, ◌-◌, ◌^◌, ◌==◌, ℕ, true, false, min, max, pos, Bool, List, [], ◌∷◌, Option, refl}
 use Rattle.std.proofs.Common.{◌∙◌, sym, subst, arith}
 use Rattle.bincode_base.specs.Setting.{Setting}
@@ -25,42 +25,42 @@ use Rattle.bincode_types.specs.TypeWords.{Words}
 use Rattle.bincode_types.specs.declared.sums.VariantOf.{VariantOf}
 use Rattle.bincode_types.specs.declared.sums.VariantOf.TheVariants.{This, Other}
 
--- the value made of a part, or of one of the others
+-- the value made from the part of one variant, or from one of the others
 abbrev pub by : {n : ℕ} {A B C : Type 0} → (A → C) → (B → C) → VariantOf n A B → C
 by f g (This a) = f a
 by f g (Other o) = g o
 
--- a tag is none of these
+-- the tag is none of these
 abbrev pub IsNone : ℕ → List ℕ → Type 0
 IsNone found [] = Unit {0}
 IsNone found (n ∷ tags) = ((found == n) ≡ false) × IsNone found tags
 
--- a format is read as another
+-- two formats decode alike
 abbrev pub ReadAlike : Format Meaning → Format Meaning → Type 0
 ReadAlike F G = (limit : Option ℕ) (input : List ℕ) (c : ℕ) → answer limit F input c ≡ answer limit G input c
 
--- what the variants say of their words, and the laws that they have where all of their parts have them
+-- the formats of the variants, and the laws that they have if all of their parts have them
 pub record VariantWords (A : Type 0) : Type 1 where
-  -- the tag of each, and what is written for its part
+  -- the tag of each variant, and the format of its part
   pub variants : List Variant
-  -- the tag of a value, and what is written for its part
+  -- the tag of a value, and the format of its part
   pub variant : A → Variant
-  -- its part is valid, and it is the first with its tag
+  -- the part is valid, and no earlier variant has the tag
   pub valid : A → Type 0
-  -- its tag picks it
+  -- the tag selects the value's variant
   pub picked : (s : Setting) (allowed : Allowed) (v : A) → valid v → part s variants allowed (variant v).0 ≡ map_format (Choice (variant v).0) ((variant v).1 s)
   pub means : A → Meaning → Type 0
   pub decodes_to : A → Meaning → Type 0
   pub writable : A → Setting → Type 0
   pub own_errors : EncodeError → Type 0
   pub may_allocate : Type 0
-  -- what the widest part claims
+  -- the largest claim of a part, in bytes
   pub claim : ℕ
   pub lawful : (s : Setting) → AllLawful s variants
   pub balanced : (s : Setting) → AllBalanced s variants
   pub has_word : (s : Setting) (v : A) → valid v → writable v s → SomeWord (AllowedWord (means v) ((variant v).1 s))
   pub errors_are_own : (e : EncodeError) → own_errors e → MayName e
-  -- how large a limit has to be for the part that a tag picks
+  -- how large a limit the part after this tag needs
   pub need : Setting → ℕ → List ℕ → ℕ
   pub needs : (s : Setting) (allowed : Allowed) (found : ℕ) → Needs (need s found) (part s variants allowed found)
   pub charges_enough : (s : Setting) (allowed : Allowed) (found : ℕ) → ChargesEnough (part s variants allowed found)
@@ -72,7 +72,7 @@ pub record VariantWords (A : Type 0) : Type 1 where
   pub plain_writable : AllPlain → (s : Setting) (v : A) → valid v → writable v s
   pub one_length : AllPlain → (s : Setting) (v : A) → valid v → OneLength (AllowedWord (means v) ((variant v).1 s))
   pub names_none : AllPlain → (e : EncodeError) → own_errors e → ⊥
-  -- each part is exact, where values are tested so
+  -- each part is exact, under this equality of values
   pub AllExact : (A → A → Bool) → Type 0
   pub one_value : (eq : A → A → Bool) → AllExact eq → (v w : A) (m : Meaning) → valid v → valid w → (variant v).0 ≡ (variant w).0 → means v m → means w m → eq v w ≡ true
   pub comes_back : (eq : A → A → Bool) → AllExact eq → (v w : A) (m : Meaning) → valid v → (variant v).0 ≡ (variant w).0 → means v m → decodes_to w m → eq v w ≡ true
@@ -113,7 +113,7 @@ no_more = record {
   shortest = λ all s v w h. absurd h;
 }
 
--- a variant with this tag and this part, and the others
+-- the variant with this tag and part, then the others
 abbrev pub or_else : {A B : Type 0} (n : ℕ) → Words A → VariantWords B → VariantWords (VariantOf n A B)
 or_else {A} {B} n W V = record {
   variants = (n, W.format) ∷ V.variants;
@@ -179,7 +179,7 @@ or_else {A} {B} n W V = record {
 pub tag-numerals : Numerals 4 (λ n. n < 2 ^ 32) pos tag
 tag-numerals = unsigned-numerals U32 4 (Four refl)
 
--- the words of an enum whose values are these: the tag of a variant, and then its part
+-- the format of an enum: the tag of a variant, then its part
 abbrev pub enum_words : {A B : Type 0} → VariantWords B → (A → B) → Words A
 enum_words V parts = record {
   format = tag_then_part tag V.variants;
@@ -228,26 +228,26 @@ module _ {A B : Type 0} (V : VariantWords B) (parts : A → B) where
 
 -- the variants of an enum, and what its laws ask of their parts
 pub record EnumVariants (A : Type 0) : Type 1 where
-  -- the tag of each variant, and what is written for its part
+  -- the tag of each variant, and the format of its part
   pub variants : List Variant
-  -- each part can always be written, and is plain, exact where values are tested so, and canonical
+  -- each part can always be written; is plain; is exact, under this equality of values; is canonical
   pub AllWritable : Type 0
   pub AllPlain : Type 0
   pub AllExact : (A → A → Bool) → Type 0
   pub AllCanonical : Type 0
 
--- what the words of an enum keep
+-- the laws of the format of an enum
 pub record EnumLaws {A : Type 0} (W : Words A) (E : EnumVariants A) : Type 0 where
-  -- a value is written as the tag of its variant, and then its part
+  -- a value is written as the tag of its variant, then its part
   pub written : (s : Setting) → WrittenAlike (W.format s) (tag_then_part tag E.variants s)
-  -- and read so
+  -- and decoded so
   pub read : (s : Setting) → ReadAlike (W.format s) (tag_then_part tag E.variants s)
   pub writable : E.AllWritable → AlwaysWritable W
   pub plain : E.AllPlain → PlainWords W
   pub exact : (eq : A → A → Bool) → E.AllExact eq → ExactWords W eq
   pub canonical : E.AllCanonical → CanonicalWords W
 
--- the variants of an enum whose values are made of parts
+-- the variants of an enum whose values are made from parts
 abbrev pub enum_variants : {A B : Type 0} → VariantWords B → (B → A) → EnumVariants A
 enum_variants V made = record {
   variants = V.variants;

@@ -1,4 +1,4 @@
-//! Enums that hold bytes of their source, read by the tag of a variant and then its part.
+//! Decoding of enums that borrow bytes of the source.
 ghost use Rattle.std.specs.Prelude.{◌≡◌};
 ghost use Rattle.bincode_spec.specs.Format.{map_format};
 ghost use Rattle.bincode_spec.specs.Meaning.{Choice};
@@ -13,9 +13,9 @@ use bincode_decode::borrow_decode::BorrowDecode;
 use bincode_decoder::decoder::{BorrowDecoder, BorrowedBytes};
 use bincode_decoder::tags::DecodeTag;
 
-/// An enum whose variants can be read by a decoder that lends bytes of its source, in a context.
+/// An enum whose variants can be decoded, in a context, by a decoder that lends bytes of its source.
 pub trait BorrowDecodeVariants<B: BorrowedBytes, Context: Drop>: Enum + Drop + Sized {
-    /// Reads what follows this tag.
+    /// Decodes the part that follows this tag.
     fn borrow_decode_variant<D: BorrowDecoder<B, Context = Context>>(
         tag: u32,
         decoder: &mut D,
@@ -25,7 +25,7 @@ pub trait BorrowDecodeVariants<B: BorrowedBytes, Context: Drop>: Enum + Drop + S
             (D.charge decoder.old) result decoder.old decoder.new };
 }
 
-/// Reads the tag of a variant, and then what follows it. Fails where one of them does.
+/// Decodes the tag of a variant, then its part. Errors are those of the two.
 #[inline(always)]
 pub fn borrow_decode_by_tag<
     B: BorrowedBytes,
@@ -40,7 +40,7 @@ pub fn borrow_decode_by_tag<
     T::borrow_decode_variant(tag, decoder)
 }
 
-/// Reads the part of the variant of `T` that has this number, by which the tag picks it. Fails where the part does.
+/// Decodes the part of the variant of `T` at index `number`, whose tag is `tag`. Errors are those of the part.
 #[inline(always)]
 pub fn borrow_decode_part<
     B: BorrowedBytes,

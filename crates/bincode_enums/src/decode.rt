@@ -1,4 +1,4 @@
-//! Enums, read by the tag of a variant and then its part.
+//! Decoding of enums: the tag of a variant, then its part.
 ghost use Rattle.std.specs.Prelude.{◌≡◌, true, false};
 ghost use Rattle.bincode_spec.specs.Format.{map_format};
 ghost use Rattle.bincode_spec.specs.Meaning.{Choice};
@@ -13,9 +13,9 @@ use bincode_decode::decode::Decode;
 use bincode_decoder::decoder::Decoder;
 use bincode_decoder::tags::DecodeTag;
 
-/// An enum whose variants can be read, in a context.
+/// An enum whose variants can be decoded, in a context.
 pub trait DecodeVariants<Context: Drop>: Enum + Drop + Sized {
-    /// Reads what follows this tag.
+    /// Decodes the part that follows this tag.
     fn decode_variant<D: Decoder<Context = Context>>(
         tag: u32,
         decoder: &mut D,
@@ -25,7 +25,7 @@ pub trait DecodeVariants<Context: Drop>: Enum + Drop + Sized {
             (D.charge decoder.old) result decoder.old decoder.new };
 }
 
-/// Reads the tag of a variant, and then what follows it. Fails where one of them does.
+/// Decodes the tag of a variant, then its part. Errors are those of the two.
 #[inline(always)]
 pub fn decode_by_tag<T: DecodeVariants<D::Context>, D: Decoder>(
     decoder: &mut D,
@@ -38,7 +38,7 @@ pub fn decode_by_tag<T: DecodeVariants<D::Context>, D: Decoder>(
     T::decode_variant(tag, decoder)
 }
 
-/// Reads the part of the variant of `T` that has this number, by which the tag picks it. Fails where the part does.
+/// Decodes the part of the variant of `T` at index `number`, whose tag is `tag`. Errors are those of the part.
 #[inline(always)]
 pub fn decode_part<Context: Drop, T: Enum, A: Decode<Context>, D: Decoder<Context = Context>>(
     tag: u32,
@@ -56,7 +56,7 @@ pub fn decode_part<Context: Drop, T: Enum, A: Decode<Context>, D: Decoder<Contex
     A::decode(decoder)
 }
 
-/// Refuses a tag that no variant has, where the tags are 0 to `last`, in order.
+/// Refuses an unknown tag with `UnexpectedVariant`, if the valid tags are `0..=last`.
 #[inline(always)]
 pub fn decode_no_variant<T: Enum, D: Decoder>(
     tag: u32,
@@ -74,8 +74,8 @@ pub fn decode_no_variant<T: Enum, D: Decoder>(
     Err(DecodeError::unexpected_variant(decoder.alloc(), T::type_name(), tag, range))
 }
 
-/// Refuses a tag that no variant has, where the tags do not stand in order. It takes memory for the list of them, and
-/// where that is refused, answers so.
+/// Refuses an unknown tag with `UnlistedVariant`, if the valid tags are no range from 0. Allocates the list of them,
+/// and returns `Memory` if that is refused.
 #[inline(always)]
 pub fn decode_unlisted_variant<T: Enum, D: Decoder>(
     tag: u32,

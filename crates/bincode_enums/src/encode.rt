@@ -1,4 +1,4 @@
-//! Enums, written as the tag of a variant and then its part.
+//! Encoding of enums: the tag of a variant, then its part.
 ghost use Rattle.std.specs.Prelude.{◌<◌, ◌^◌};
 ghost use Rattle.bincode_base.specs.declared.error.EncodeError.{EncodeError};
 ghost use Rattle.bincode_spec.specs.Format.{map_format};
@@ -14,7 +14,7 @@ use bincode_encode::encode::Encode;
 use bincode_encoder::encoder::Encoder;
 use bincode_encoder::variants::EncodeTag;
 
-/// Writes the value of an enum: the tag of its variant, and then the part.
+/// Writes the tag of the value's variant, then its part. Errors are those of the writer and of the part.
 #[inline(always)]
 pub fn encode_variant<T: Enum, A: Encode, E: Encoder>(
     value: &T,

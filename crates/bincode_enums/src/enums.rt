@@ -1,4 +1,4 @@
-//! What an enum says of its variants, and what tells its laws by them.
+//! Enums by their variants, and functions that prove their laws.
 ghost use Rattle.std.specs.Prelude.{◌≡◌, ◌+◌, ◌-◌, ◌^◌, min};
 ghost use Rattle.bincode_types.specs.TypeLaws.{AlwaysWritable, PlainWords, ExactWords, CanonicalWords};
 ghost use Rattle.bincode_enums.specs.EnumWords.{VariantWords, EnumVariants, EnumLaws};
@@ -6,54 +6,54 @@ ghost use Rattle.bincode_enums.specs.EnumWords.{VariantWords, EnumVariants, Enum
 use bincode_base::short_text::TypeName;
 use bincode_types::wire::Wire;
 
-/// An enum whose values have the parts `Of`: a variant, and what it holds.
+/// An enum whose values are made from `Of`: a variant with its part.
 pub trait Sum<Of> {
-    /// What the variants say of their words.
+    /// The formats of the variants.
     ghost variants: { VariantWords Of };
 
-    /// The variant of a value, by its part.
+    /// The variant of a value, with its part.
     ghost parts: { Self → Of };
 
     /// The value with this variant.
     ghost made: { Of → Self };
 }
 
-/// An enum that is written as the tag of a variant, and then its part.
+/// An enum that is encoded as the tag of a variant, then its part.
 pub trait Enum: Wire {
-    /// Its variants, and what its laws ask of their parts.
+    /// The variants, and what the laws of the enum ask of their parts.
     ghost choices: { EnumVariants Self };
 
-    /// The name by which errors tell the enum.
+    /// The name of the enum in errors.
     fn type_name() -> TypeName;
 
     ghost laws: { EnumLaws Self.words choices };
 }
 
-/// Tells that an enum is writable, since the part of each variant is.
+/// Proves that an enum is `Writable`, if all parts are.
 pub fn writable_by_variants<T: Enum>()
     requires { T.choices.AllWritable }
     ensures { AlwaysWritable T.words }
 {}
 
-/// Tells that an enum is plain, since the part of each variant is.
+/// Proves that an enum is `Plain`, if all parts are.
 pub fn plain_by_variants<T: Enum>()
     requires { T.choices.AllPlain }
     ensures { PlainWords T.words }
 {}
 
-/// Tells that an enum is exact, since the part of each variant is.
+/// Proves that an enum is `Exact`, if all parts are.
 pub fn exact_by_variants<T: Enum + PartialEq>()
     requires { T.choices.AllExact T.eq }
     ensures { ExactWords T.words T.eq }
 {}
 
-/// Tells that an enum is canonical, since the part of each variant is.
+/// Proves that an enum is `Canonical`, if all parts are.
 pub fn canonical_by_variants<T: Enum>()
     requires { T.choices.AllCanonical }
     ensures { CanonicalWords T.words }
 {}
 
-/// How many bytes a container claims for an enum, by what the widest part claims.
+/// What a container claims for an enum, in bytes, from the largest claim of a part: 4 more.
 pub fn enum_claim(widest: usize) -> usize
     ensures { result ≡ min (4 + widest) (2 ^ 64 - 1) }
 {

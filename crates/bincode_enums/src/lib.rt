@@ -1,4 +1,4 @@
-//! Enums of a user's own, variant by variant: their laws, and how they are encoded and decoded.
+//! Enums of your own, variant by variant: their laws, and how they are encoded and decoded.
 #![tactic(auto)]
 
 pub mod borrow;

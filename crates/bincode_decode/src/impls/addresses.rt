@@ -39,7 +39,7 @@ impl MakeByParts for Ipv4Addr {
     }
 }
 
-/// The address that has these octets.
+/// The address with these octets.
 #[inline]
 fn address_of(octets: &[u8; 16]) -> Ipv6Addr
     ensures { ipv6_octets result ≡ octets.now }

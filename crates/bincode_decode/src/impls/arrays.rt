@@ -12,7 +12,7 @@ impl<Context: Drop, T: Decode<Context>, const N: usize> Decode<Context> for [T; 
 
     fn decode<D: Decoder<Context = Context>>(decoder: &mut D) -> Result<[T; N], DecodeError> {
         decoder.claim_container_read::<T>(N)?;
-        // Not by `runs::decode_array`: each call that hands on a whole array copies it.
+        // Not with `runs::decode_array`: each call that returns a whole array copies it.
         decode_array::<D, ByDecode<T>, N>(decoder)
     }
 }

@@ -1,4 +1,4 @@
-//! Decoding of C strings that are owned, each of which takes memory for its bytes.
+//! Decoding of owned C strings. Each allocates its bytes.
 use crate::borrow_decode::BorrowDecode;
 use crate::decode::Decode;
 use bincode_base::error::DecodeError;

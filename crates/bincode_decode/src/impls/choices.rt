@@ -1,4 +1,4 @@
-//! Decoding of truth values, `Option`, `Result` and `Bound`.
+//! Decoding of `bool`, `Option`, `Result` and `Bound`.
 
 use crate::borrow_decode::BorrowDecode;
 use crate::decode::Decode;

@@ -1,4 +1,4 @@
-//! Decoding of integers other than 0.
+//! Decoding of `NonZero` integers.
 
 use crate::borrow_decode::BorrowDecode;
 use crate::decode::Decode;

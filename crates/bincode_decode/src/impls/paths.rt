@@ -1,4 +1,4 @@
-//! Decoding of paths, which are read as their texts.
+//! Decoding of paths, as texts.
 use crate::borrow_decode::BorrowDecode;
 use crate::decode::Decode;
 use bincode_base::error::DecodeError;

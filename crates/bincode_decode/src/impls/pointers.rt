@@ -1,4 +1,4 @@
-//! Decoding of pointers, each of which takes memory for what it points to.
+//! Decoding of pointers. Each allocates its target.
 use crate::borrow_decode::BorrowDecode;
 use crate::decode::Decode;
 use crate::make_by_parts::MakeByParts;

@@ -1,4 +1,4 @@
-//! Decoding of texts, each of which takes memory for its bytes.
+//! Decoding of texts. Each allocates its bytes.
 use crate::borrow_decode::BorrowDecode;
 use crate::decode::Decode;
 use bincode_base::error::DecodeError;

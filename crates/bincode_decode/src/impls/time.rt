@@ -1,4 +1,4 @@
-//! Decoding of spans of time.
+//! Decoding of `Duration`.
 use crate::borrow_decode::BorrowDecode;
 use crate::decode::Decode;
 use bincode_base::error::DecodeError;

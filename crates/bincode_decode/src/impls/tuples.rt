@@ -67,7 +67,7 @@ impl<
 
     #[inline]
     fn decode<Z: Decoder<Context = Context>>(decoder: &mut Z) -> Result<Self, DecodeError> {
-        // Not by `?`, which copies the parts once more: two numbers of four bytes are then one of eight.
+        // Not with `?`, which copies the parts once more: two numbers of four bytes then become one of eight.
         match Decode::decode(decoder) {
             Ok(parts) => {
                 let Cons(a, Cons(b, Cons(c, Cons(d, others)))) = parts;
@@ -93,7 +93,7 @@ impl<
     fn borrow_decode<Y: BorrowDecoder<Z, Context = Context>>(
         decoder: &mut Y,
     ) -> Result<Self, DecodeError> {
-        // Not by `?`, which copies the parts once more: two numbers of four bytes are then one of eight.
+        // Not with `?`: see `Decode` above.
         match BorrowDecode::borrow_decode(decoder) {
             Ok(parts) => {
                 let Cons(a, Cons(b, Cons(c, Cons(d, others)))) = parts;

@@ -10,7 +10,7 @@ use bincode_encoder::c_strings::encode_c_string;
 use bincode_encoder::encoder::Encoder;
 use bincode_types::own::ffi::{CStr, CString};
 
-/// Says of the C string in hand that it has no zero, that its bytes are bytes, and that their number is a length.
+/// Proves that no byte is 0 and that the length fits 64 bits.
 fn tell_c_string_valid(text: CStr<'_>)
     ensures { HasNoZero (c_str_bytes text.entry) × All (λ b. b < 256) (c_str_bytes text.entry)
         × (length (c_str_bytes text.entry) < 2 ^ 64) }

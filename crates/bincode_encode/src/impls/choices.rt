@@ -1,4 +1,4 @@
-//! Encoding of truth values, `Option`, `Result` and `Bound`.
+//! Encoding of `bool`, `Option`, `Result` and `Bound`.
 use crate::encode::Encode;
 use crate::encode_parts::EncodeParts;
 use crate::variants::encode_variant;

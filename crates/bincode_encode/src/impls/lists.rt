@@ -25,7 +25,7 @@ impl<T: Encode> Encode for Vec<T> {
     }
 }
 
-/// Says of the items of a queue in hand that each is valid, and that their number is a length.
+/// Proves that each item of a queue is valid and that its length fits 64 bits. Walks the items: O(n).
 fn tell_deque_valid<T: Encode>(queue: &VecDeque<T>)
     ensures { AreValid T.words.valid queue.now.items }
 {

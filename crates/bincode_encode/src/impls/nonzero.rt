@@ -1,4 +1,4 @@
-//! Encoding of integers other than 0.
+//! Encoding of `NonZero` integers.
 ghost use Rattle.std.specs.Prelude.{◌<◌};
 ghost use Rattle.bincode_spec.specs.Format.{map_format};
 ghost use Rattle.bincode_spec.specs.Meaning.{Number, IsNumber};
@@ -17,7 +17,7 @@ use std::num::{
     NonZeroU16, NonZeroU32, NonZeroU64, NonZeroU128, NonZeroUsize,
 };
 
-/// Writes an integer other than 0.
+/// Writes an integer that is not 0.
 #[inline]
 fn encode_not_zero<T: Integer, E: Encoder>(encoder: &mut E, val: T) -> Result<(), EncodeError>
     requires fits { T.spelling.Fits val }

@@ -1,4 +1,4 @@
-//! Encoding of paths, as their texts.
+//! Encoding of paths, as texts.
 use super::texts::tell_text_valid;
 use crate::encode_parts::EncodeParts;
 use bincode_base::error::EncodeError;

@@ -1,4 +1,4 @@
-//! Encoding of pointers: what they point to is written.
+//! Encoding of pointers, as their targets.
 use crate::encode::Encode;
 use crate::encode_parts::EncodeParts;
 use bincode_base::error::EncodeError;

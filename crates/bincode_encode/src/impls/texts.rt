@@ -10,7 +10,7 @@ use std::borrow::CowStr;
 use std::boxed::BoxedStr;
 use std::rc::RcStr;
 
-/// Says of the text in hand that its bytes are UTF-8, and that their number is a length.
+/// Proves that the text is UTF-8 and that its length fits 64 bits. Takes constant time.
 pub(super) fn tell_text_valid(text: &str)
     ensures { IsUtf8 text.now × (length text.now < 2 ^ 64) }
 {

@@ -1,4 +1,4 @@
-//! Encoding of spans of time.
+//! Encoding of `Duration`.
 use crate::encode::Encode;
 use bincode_base::error::EncodeError;
 use bincode_encoder::encoder::Encoder;

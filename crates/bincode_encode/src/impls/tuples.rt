@@ -6,8 +6,7 @@ use bincode_encoder::answers::rebuild_result;
 use bincode_encoder::encoder::Encoder;
 use bincode_types::by_parts::ByParts;
 
-// Always inlined: LLVM takes a call behind several `?` for a rare one, and a call hands on a result with room for an
-// error.
+// All are inlined: LLVM takes a call after several `?` for a rare one, and a call returns its result through memory.
 
 impl Encode for () {
     const MAX_FIXED_SIZE: Option<usize> = Some(0);
@@ -20,7 +19,7 @@ impl Encode for () {
     }
 }
 
-/// Says of four values in hand that they are valid.
+/// Proves that four values are valid.
 fn tell_four_valid<A: Encode, B: Encode, C: Encode, D: Encode>(a: &A, b: &B, c: &C, d: &D)
     ensures first { A.words.valid a.now }
     ensures second { B.words.valid b.now }
