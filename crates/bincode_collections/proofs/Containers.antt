@@ -1,4 +1,4 @@
--- Values behind the claim of their room.
+-- Values after the claim for them.
 use Rattle.std.specs.Prelude.{◌≡◌, ℕ, ◌*◌, List, Option, Result, Ok, Err, IfOk, refl}
 use Rattle.std.specs.Borrow.{GName}
 use Rattle.std.proofs.Common.{◌∙◌, arith}
@@ -27,7 +27,7 @@ pub both_ok : {T E : Type 0} (r : Result T E) (P Q S : T → Type 0) → ((v : T
 both_ok (Ok v) P Q S f p q = f v p q
 both_ok (Err e) P Q S f p q = tt
 
--- what was read, with a fact of it
+-- what was read, with a fact about it
 pub reads-with :
     {D A T : Type 0} {is_known : D → Type 0} {remaining : D → List ℕ} {charge failures : D → ℕ} {loans : D → List GName} {limit : Option ℕ}
     {end_error : ℕ → DecodeError → Type 0} {device : DeviceErrors} {may_allocate : Type 0} {format : Format A} {decodes_to other : A → T → Type 0} {start : ℕ} {P : T → Type 0}
@@ -37,7 +37,7 @@ pub reads-with :
     Reads is_known remaining charge failures loans limit end_error device may_allocate format other start r old new
 reads-with r both fact read = read-as (λ known. both_ok r _ _ _ (λ v p d. made-of (λ m k. both m v k p) d) fact (read.ok known)) read.err read.within read
 
--- a run that is read behind the claim of its room is an array
+-- a run that is read after the claim for it is an array
 pub array-reads :
     {D R C A T : Type 0} {is_known : D → Type 0} {remaining : D → List ℕ} {charge failures : D → ℕ} {reader_of : D → R} {context_of : D → C} {loans : D → List GName}
     {limit : Option ℕ} {end_error : ℕ → DecodeError → Type 0} {device : DeviceErrors} {may_allocate : Type 0} {claim : ℕ} {format : Format Meaning}
@@ -58,7 +58,7 @@ array-reads {remaining = remaining} {charge = charge} {failures = failures} {lim
       same_loans = run.same_loans ∙ kept.same_loans;
     }
 
--- and of what the values of the run make
+-- and so is what is made of its values
 pub made-reads :
     {D R C A T : Type 0} {is_known : D → Type 0} {remaining : D → List ℕ} {charge failures : D → ℕ} {reader_of : D → R} {context_of : D → C} {loans : D → List GName}
     {limit : Option ℕ} {end_error : ℕ → DecodeError → Type 0} {device : DeviceErrors} {may_allocate : Type 0} {claim : ℕ} {format : Format Meaning}
@@ -73,13 +73,13 @@ made-reads {r = r} Making values kept h items made run =
 
 module _ {D A : Type 0} {is_known : D → Type 0} {remaining : D → List ℕ} {charge failures : D → ℕ} {loans : D → List GName} {limit : Option ℕ}
     {end_error : ℕ → DecodeError → Type 0} {device : DeviceErrors} {may_allocate : Type 0} (s : Setting) (claim : ℕ) (format : Format Meaning) {decodes_to : Meaning → A → Type 0} {start : ℕ} {old : D} where
-  -- where the length stops, so does the list
+  -- if decoding the length fails, so does the list
   pub length-stops : {e : DecodeError} {new : D} →
       Reads is_known remaining charge failures loans limit end_error device ⊥ (len s) (λ n v. n ≡ v) start (Err e) old new →
       Reads is_known remaining charge failures loans limit end_error device may_allocate (list s claim format) decodes_to start (Err e) old new
   length-stops read = first-stops (len s) (λ n. array n claim format) (λ none. absurd none) read
 
-  -- behind its length comes an array
+  -- after the length comes an array
   pub length-reads : {n : ℕ} {r : Result A DecodeError} {middle new : D} →
       Reads is_known remaining charge failures loans limit end_error device ⊥ (len s) (λ n v. n ≡ v) start (Ok n) old middle →
       Reads is_known remaining charge failures loans limit end_error device may_allocate (array n claim format) decodes_to (charge middle) r middle new →

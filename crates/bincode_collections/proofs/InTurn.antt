@@ -1,4 +1,4 @@
--- What is read is put into a hashed set or map in turn.
+-- Inserting items into a hashed set or map, one by one.
 use Rattle.std.specs.Prelude.{◌≡◌, Bool, true, false, not, List, [], ◌∷◌, ◌++◌, Option, MatchOption, refl}
 use Rattle.std.specs.Bool.{MatchBool}
 use Rattle.std.specs.List.{list_any}
@@ -7,7 +7,7 @@ use Rattle.std.specs.Map.{lookup, set_value}
 use Rattle.std.proofs.Common.{subst}
 use Rattle.bincode_spec.specs.Hashed.{PutsAll, PutsKey, PutsEntry}
 
--- one item more is put behind those before it
+-- one more item is inserted after those before it
 pub puts-push : {A : Type 0} (Puts : List A → A → List A → Type 0) (before between : List A) (items : List A) (item : A) (after : List A) →
     PutsAll Puts before items between → Puts between item after → PutsAll Puts before (items ++ item ∷ []) after
 puts-push Puts before between [] item after h p = (after, subst (λ l. Puts l item after) h p, refl)

@@ -1,4 +1,4 @@
--- What was read is made into another value, for which memory may be refused.
+-- Making a value from another, for which an allocation may be refused.
 use Rattle.std.specs.Prelude.{◌≡◌, ℕ, List, Option, Ok, Err}
 use Rattle.std.specs.Borrow.{GName}
 use Rattle.bincode_base.specs.declared.error.DecodeError.{DecodeError}
@@ -23,7 +23,7 @@ module _ {D A T U : Type 0} {is_known : D → Type 0} {remaining : D → List �
       Reads is_known remaining charge failures loans limit end_error device (Unit {0}) F other charged (Err e) old new
   read-refused f e read = read-as (λ known. tt) (λ known. let d = read.ok known in by_memory tt e (gave-takes limit F f (remaining old) charged d.meaning (remaining new) (charge new) d.answer_is)) (λ _. tt) read
 
-  -- nothing was read
+  -- decoding the other value failed
   pub read-failed : {e : DecodeError} → Reads is_known remaining charge failures loans limit end_error device G F decodes_to charged (Err e) old new →
       Reads is_known remaining charge failures loans limit end_error device (Unit {0}) F other charged (Err e) old new
   read-failed read = read-as (λ known. tt) (λ known. stops-besides _ _ _ _ (λ _. tt) _ _ _ _ _ _ (read.err known)) (λ _. tt) read

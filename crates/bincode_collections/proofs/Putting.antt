@@ -1,4 +1,4 @@
--- What is read is put into a collection in turn.
+-- Putting items into a collection, one by one.
 use Rattle.std.specs.Prelude.{◌≡◌, ℕ, ◌*◌, ◌≤◌, List, [], ◌∷◌, ◌++◌, Option, Result, Ok, Err, MatchResult, refl}
 use Rattle.std.specs.Borrow.{GName}
 use Rattle.std.specs.BTreeMap.{insert_entry}
@@ -17,7 +17,7 @@ use Rattle.bincode_spec.specs.Values.{RunRead}
 use Rattle.bincode_decoder.proofs.Rooms.{held-within}
 use Rattle.bincode_collections.proofs.Reading.{RunSoFar, none-so_far, all-so_far}
 
--- one key more is put behind those before it,
+-- one more key is inserted after those before it,
 pub keys-push : {K : Type 0} (cmp : K → K → Ordering) (keys items : List K) (k : K) → put_keys cmp keys (items ++ k ∷ []) ≡ insert_key cmp (put_keys cmp keys items) k
 keys-push cmp keys [] k = refl
 keys-push cmp keys (item ∷ items) k = keys-push cmp (insert_key cmp keys item) items k
@@ -28,7 +28,7 @@ pub entries-push : {K V : Type 0} (cmp : K → K → Ordering) (entries items : 
 entries-push cmp entries [] k v = refl
 entries-push cmp entries (item ∷ items) k v = entries-push cmp (insert_entry cmp entries item.0 item.1) items k v
 
--- the room for what was read is refused
+-- an allocation for what was read is refused
 pub refused-so_far :
     {D A T : Type 0} {is_known : D → Type 0} {remaining : D → List ℕ} {charge failures : D → ℕ} {loans : D → List GName} {limit : Option ℕ} {claim : ℕ}
     {format : Format Meaning} {decodes_to : Meaning → T → Type 0} {count read : ℕ} {vs : List T} {old now : D} {end_error : ℕ → DecodeError → Type 0}
@@ -47,7 +47,7 @@ refused-so_far {charge = charge} {limit = limit} {claim = claim} {count = count}
 
 module _ {D T : Type 0} {is_known : D → Type 0} {remaining : D → List ℕ} {charge failures : D → ℕ} {loans : D → List GName} {limit : Option ℕ} {claim : ℕ}
     {format : Format Meaning} {decodes_to : Meaning → T → Type 0} {count : ℕ} {vs : List T} {old now : D} where
-  -- nothing was read yet, and what it is put into is there: the decoder may have another context
+  -- nothing was read yet, and the collection was made: the decoder may have another context
   pub begun-so_far : (is_known old → is_known now) → remaining now ≡ remaining old → charge now ≡ charge old → failures now ≡ failures old → loans now ≡ loans old →
       CanRelease limit (charge old) (count * claim) → vs ≡ [] → RunSoFar is_known remaining charge failures loans limit claim format decodes_to count 0 vs old now
   begun-so_far tells same_remaining same_charge same_failures same_loans h none =
@@ -62,7 +62,7 @@ module _ {D T : Type 0} {is_known : D → Type 0} {remaining : D → List ℕ} {
         same_loans = same_loans;
       }
 
-  -- all were read, and what is made of them is there or refused
+  -- all were read, and the result is made of them or refused
   pub finished-so_far : {A : Type 0} {end_error : ℕ → DecodeError → Type 0} {device : DeviceErrors} {values : A → List T} {read : ℕ} (r : Result A DecodeError) →
       RunSoFar is_known remaining charge failures loans limit claim format decodes_to count read vs old now → read ≡ count →
       MatchResult r (λ v. values v ≡ vs) (λ e. e ≡ Memory) →

@@ -1,4 +1,4 @@
--- How a run is read, value by value.
+-- Decoding a run, value by value.
 use Rattle.std.specs.Prelude.{◌≡◌, ℕ, suc, ◌+◌, ◌-◌, ◌*◌, ◌<◌, ◌≤◌, List, [], ◌∷◌, ◌++◌, Option, Result, Ok, Err, refl}
 use Rattle.std.specs.Borrow.{GName}
 use Rattle.std.proofs.Common.{◌∙◌, arith}
@@ -14,7 +14,7 @@ use Rattle.bincode_lemmas.specs.RunLaws.{ReadSoFar, none-read, one-more, one_sto
 use Rattle.bincode_spec.specs.Values.{Reads, RunRead}
 use Rattle.bincode_decoder.proofs.Rooms.{held-within, unclaimed-within}
 
--- of a run of so many values these were read, and the room of the others is still reserved
+-- of a run of `count` values these were read, and the claims of the others are still reserved
 pub record RunSoFar {D T : Type 0} (is_known : D → Type 0) (remaining : D → List ℕ) (charge failures : D → ℕ) (loans : D → List GName) (limit : Option ℕ)
     (claim : ℕ) (format : Format Meaning) (decodes_to : Meaning → T → Type 0) (count read : ℕ) (vs : List T) (old now : D) : Type 0 where
   pub known : is_known old →
@@ -26,7 +26,7 @@ pub record RunSoFar {D T : Type 0} (is_known : D → Type 0) (remaining : D → 
   pub failures_monotone : failures old ≤ failures now
   pub same_loans : loans now ≡ loans old
 
--- one value fewer is left
+-- one value less is left
 one_fewer : (count read : ℕ) → read < count → count - read ≡ suc (count - (read + 1))
 one_fewer count read l = omega (arith, l)
 
@@ -106,7 +106,7 @@ module _ {D T : Type 0} {is_known : D → Type 0} {remaining : D → List ℕ} {
           same_loans = r.same_loans ∙ h.same_loans;
         }
 
--- a run that is read at all places where memory may be refused too, and to another value of the same items
+-- memory may be refused for more reasons, and the result is another value with the same items
 pub read-besides :
     {D A B T : Type 0} {is_known : D → Type 0} {remaining : D → List ℕ} {charge failures : D → ℕ} {loans : D → List GName} {limit : Option ℕ}
     {end_error : ℕ → DecodeError → Type 0} {device : DeviceErrors} {G H : Type 0} {claim : ℕ} {format : Format Meaning} {decodes_to : Meaning → T → Type 0}
@@ -141,7 +141,7 @@ read-of k same r = record {
   same_loans = r.same_loans;
 }
 
--- in each case
+-- memory may be refused for more reasons
 pub read-widened :
     {D A T : Type 0} {is_known : D → Type 0} {remaining : D → List ℕ} {charge failures : D → ℕ} {loans : D → List GName} {limit : Option ℕ}
     {end_error : ℕ → DecodeError → Type 0} {device : DeviceErrors} {G H : Type 0} {claim : ℕ} {format : Format Meaning} {decodes_to : Meaning → T → Type 0}

@@ -1,4 +1,4 @@
--- What was read is tested.
+-- Testing a value that was decoded.
 use Rattle.std.specs.Prelude.{◌≡◌, ℕ, List, Option, Ok, Err, Bool, true, false}
 use Rattle.std.specs.Borrow.{GName}
 use Rattle.bincode_base.specs.declared.error.DecodeError.{DecodeError}

@@ -1,4 +1,4 @@
-//! Arrays of elements whose room has been reserved.
+//! Decoding of arrays, after the claim for their elements.
 ghost use Rattle.std.specs.Prelude.{◌≡◌, ◌*◌, ◌⊎◌, List, Option, Some, length, map, OnOk, IfOk};
 ghost use Rattle.bincode_spec.specs.Format.{elements};
 ghost use Rattle.bincode_base.specs.Slots.{SlotsFit};
@@ -12,7 +12,7 @@ use bincode_base::slots::{empty_slots, slots_fit, unwrap_all};
 use bincode_decoder::decoder::Decoder;
 use bincode_types::wire::Wire;
 
-/// Fills each slot with an element, before which it releases the element's share.
+/// Fills each slot with an element. Releases the claim of an element before it is read.
 fn decode_slots<D: Decoder, V: ReadValues<D>>(
     decoder: &mut D,
     slots: &mut [Option<V::Value>],
@@ -29,7 +29,7 @@ fn decode_slots<D: Decoder, V: ReadValues<D>>(
     Ok(())
 }
 
-/// Fills the slots, and makes an array of their values.
+/// Fills the slots and unwraps them into an array.
 fn decode_into<D: Decoder, V: ReadValues<D>, const N: usize>(
     decoder: &mut D,
     mut slots: [Option<V::Value>; N],
@@ -43,7 +43,7 @@ fn decode_into<D: Decoder, V: ReadValues<D>, const N: usize>(
     Ok(unwrap_all(slots))
 }
 
-/// Reads the elements over those of an array.
+/// Decodes over the elements of an array.
 #[inline]
 fn decode_over<D: Decoder, V: ReadValues<D>, const N: usize>(
     decoder: &mut D,
@@ -58,9 +58,9 @@ fn decode_over<D: Decoder, V: ReadValues<D>, const N: usize>(
     Ok(values)
 }
 
-/// Reads `N` elements in turn, whose room `claim_container_read` has reserved, and releases each one's share before it.
-/// So the charge at the end is that at the start, with the full widths of the elements in place of their room. Fails
-/// where an element does, or with `Memory` where `N` slots of `Option<V::Value>` can't exist (`slots_fit`).
+/// Decodes `N` elements into an array. `claim_container_read` must have reserved their claims; each is released before
+/// its element is read, so that in the end only the elements' own charges are added. Fails with the error of an
+/// element, or with `Memory` if `N` slots of `Option<V::Value>` cannot exist (`slots_fit`).
 pub fn decode_array<D: Decoder, V: ReadValues<D>, const N: usize>(
     decoder: &mut D,
 ) -> Result<[V::Value; N], DecodeError>

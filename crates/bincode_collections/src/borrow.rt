@@ -1,4 +1,4 @@
-//! Lists of bytes behind their length that a decoder lends of its source, without a copy.
+//! Length-prefixed lists of bytes that are borrowed from the source.
 ghost use Rattle.std.specs.Prelude.{pos};
 ghost use Rattle.bincode_spec.specs.Integers.{unsigned_byte};
 ghost use Rattle.bincode_spec.specs.Meaning.{IsNumber};
@@ -10,8 +10,7 @@ use bincode_base::error::DecodeError;
 use bincode_decoder::decoder::{BorrowDecoder, BorrowedBytes, ClaimContainer};
 use bincode_decoder::lengths::decode_length;
 
-/// Claims the room of `len` bytes, and takes them of the source, without a copy. Fails with `LimitExceeded` where the
-/// claim passes the limit, and where the reader does. A fault leaves what was charged before it. It takes no memory.
+/// Claims `len` bytes, then borrows them from the source. Fails with `LimitExceeded`, or the error of the reader.
 fn take_claimed<B: BorrowedBytes, D: BorrowDecoder<B>>(
     decoder: &mut D,
     len: usize,
@@ -24,9 +23,8 @@ fn take_claimed<B: BorrowedBytes, D: BorrowDecoder<B>>(
     decoder.take_bytes(len)
 }
 
-/// Reads a length, and takes so many bytes of the source as a list, without a copy. Fails where the length can't be
-/// read, with `LimitExceeded` where the room of the bytes passes the limit, and where the reader does. A fault leaves
-/// what was charged before it. It takes no memory.
+/// Reads a length prefix, then borrows that many bytes as a list; they are claimed first. Does not allocate. Fails with
+/// the error of the length, `LimitExceeded`, or the error of the reader.
 pub fn take_list<B: BorrowedBytes, D: BorrowDecoder<B>>(decoder: &mut D) -> Result<B, DecodeError>
     ensures { Reads D.is_known D.remaining D.charge D.failures D.loans D.C.bound D.R.end_error D.R.device ⊥
         (list D.C.setting 1 (natural_number unsigned_byte)) (λ m v. IsListOf (λ x n. IsNumber (pos x) n) (B.bytes v) m)

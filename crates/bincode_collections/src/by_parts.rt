@@ -1,4 +1,4 @@
-//! Values that are made of their parts.
+//! Decoding of values that are made from their parts.
 ghost use Rattle.std.specs.Prelude.{◌≡◌};
 ghost use Rattle.bincode_spec.specs.Values.{Reads};
 
@@ -7,15 +7,15 @@ use bincode_decoder::decoder::Decoder;
 use bincode_types::by_parts::ByParts;
 use bincode_types::wire::Wire;
 
-/// A way to read the parts of a type's values, by a decoder, and to make values of them.
+/// How the parts of a type are read, and a value is made from them.
 pub trait MakeWhole<D: Decoder> {
-    /// What it is made of.
+    /// The type of the parts.
     type Parts: Wire;
 
-    /// What is made.
+    /// The type of the values.
     type Whole: ByParts<Parts = Self::Parts> + Drop;
 
-    /// Reads the parts. It does, fails and leaves what `Decode::decode` does.
+    /// Decodes the parts, like `Decode::decode`.
     fn read_parts(decoder: &mut D) -> Result<Self::Parts, DecodeError>
         ensures { Reads D.is_known D.remaining D.charge D.failures D.loans D.C.bound D.R.end_error D.R.device
             Self.Parts.words.may_allocate (Self.Parts.words.format D.C.setting) Self.Parts.words.decodes_to
@@ -27,7 +27,7 @@ pub trait MakeWhole<D: Decoder> {
         ensures promise { (Self.Whole.promise result).OfValue };
 }
 
-/// Reads the parts of a value, and makes it. Fails where a part does.
+/// Decodes the parts and makes the value. Errors are those of the parts.
 #[inline(always)]
 pub fn decode_whole<D: Decoder, W: MakeWhole<D>>(decoder: &mut D) -> Result<W::Whole, DecodeError>
 where

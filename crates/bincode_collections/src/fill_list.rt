@@ -1,4 +1,4 @@
-//! Lists of a user's own, which are filled item by item.
+//! Collections of your own, which are filled item by item.
 ghost use Rattle.std.specs.Prelude.{◌≡◌, ◌*◌, ◌++◌, ◌∷◌, List, [], MatchResult};
 ghost use Rattle.bincode_base.specs.declared.error.DecodeError.TheVariants.{Memory};
 ghost use Rattle.bincode_spec.specs.Run.{CanRelease, IsListOf};
@@ -13,37 +13,37 @@ use bincode_decoder::lengths::decode_length;
 use bincode_types::wire::Wire;
 use std::alloc::Global;
 
-/// A list that is decoded item by item. It says how one is begun, how an item is put into it, and what is made of it in
-/// the end; `decode_collection` does the rest.
+/// A collection that is decoded item by item: how it is begun, how an item is added, and how it is finished.
+/// `decode_collection` does the rest.
 pub trait FillList<Context: Drop>: Sized {
-    /// What it is a list of.
+    /// The type of the items.
     type Item: Wire;
 
-    /// A list that is being filled.
+    /// A collection that is being filled.
     type Filling: Drop;
 
-    /// The items of a list.
+    /// The items of a collection.
     ghost items: { Self → List Self.Item };
 
-    /// What was put so far, the last at the end.
+    /// The items added so far, in order.
     ghost held_items: { Self.Filling → List Self.Item };
 
-    /// Begins a list of `len` items, which has none yet. Fails with `Memory` where its room is refused.
+    /// Begins a collection of `len` items, without any. Fails with `Memory` if an allocation is refused.
     fn start(alloc: Global, context: &mut Context, len: usize) -> Result<Self::Filling, DecodeError>
         ensures { MatchResult result (λ filling. held_items filling ≡ []) (λ e. e ≡ Memory) };
 
-    /// Puts an item behind those before it. Fails with `Memory` where its room is refused.
+    /// Adds an item at the end. Fails with `Memory` if an allocation is refused.
     fn put(filling: &mut Self::Filling, item: Self::Item) -> Result<(), DecodeError>
         ensures { MatchResult result (λ _. held_items filling.new ≡ held_items filling.old ++ item ∷ [])
             (λ e. e ≡ Memory) };
 
-    /// Makes the list of what was put. Fails with `Memory` where its room is refused.
+    /// Finishes the collection. Fails with `Memory` if an allocation is refused.
     fn finish(filling: Self::Filling) -> Result<Self, DecodeError>
         ensures { MatchResult result (λ v. items v ≡ held_items filling) (λ e. e ≡ Memory) };
 }
 
-/// Reads `len` items, whose room `claim_container_read` has reserved, and puts each into the list: its share is
-/// released before it is read. Fails where an item does, or with `Memory` where the list does.
+/// Decodes `len` items and adds each to the collection. `claim_container_read` must have reserved their claims; each is
+/// released before its item is read. Errors are those of the items and of the collection.
 fn decode_items<D: Decoder, V: ReadValues<D>, K: FillList<D::Context, Item = V::Value>>(
     decoder: &mut D,
     len: usize,
@@ -61,8 +61,8 @@ fn decode_items<D: Decoder, V: ReadValues<D>, K: FillList<D::Context, Item = V::
     K::finish(filling)
 }
 
-/// Claims the room of `len` items, and reads them. Fails with `LimitExceeded` where the claim passes the limit, before
-/// the list is begun, and where `decode_items` does. A fault leaves what was charged before it.
+/// Claims `len` items, and decodes them. Fails with `LimitExceeded` before the collection is begun, or like
+/// `decode_items`.
 fn decode_claimed_items<D: Decoder, V: ReadValues<D>, K: FillList<D::Context, Item = V::Value>>(
     decoder: &mut D,
     len: usize,
@@ -76,9 +76,9 @@ fn decode_claimed_items<D: Decoder, V: ReadValues<D>, K: FillList<D::Context, It
     decode_items::<D, V, K>(decoder, len)
 }
 
-/// Reads a length and so many items, whose room is claimed before the list is begun. Fails where the length can't be
-/// read, with `LimitExceeded` where the room passes the limit, with `Memory` where the list does, and where an item
-/// does. A fault leaves what was charged before it.
+/// Decodes a length prefix and that many items, which are claimed before the collection is begun. Fails with the error
+/// of the length, `LimitExceeded`, `Memory` from the collection, or the error of an item. A fault leaves the charges
+/// made before it.
 pub fn decode_collection<D: Decoder, V: ReadValues<D>, K: FillList<D::Context, Item = V::Value>>(
     decoder: &mut D,
 ) -> Result<K, DecodeError>

@@ -1,4 +1,5 @@
-//! Values read by a way to read one: wholes of their parts, runs, arrays, lists, sets and maps.
+//! Decoding of collections, pointers and enums, generic over how one value is read. After an error the charges made
+//! before it stay.
 #![tactic(auto)]
 
 pub mod arrays;

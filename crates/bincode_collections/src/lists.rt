@@ -1,4 +1,4 @@
-//! Lists behind their length, whose room is reserved at once.
+//! Decoding of length-prefixed lists, in one allocation.
 ghost use Rattle.std.specs.Prelude.{◌≡◌, ◌<◌, length, IfOk, vec_capacity};
 ghost use Rattle.std.specs.BinaryHeap.{heap_items};
 ghost use Rattle.std.specs.Box.{boxed_slice_items};
@@ -18,8 +18,7 @@ use std::boxed::BoxedSlice;
 use std::collections::{BinaryHeap, VecDeque};
 use std::rc::RcSlice;
 
-/// Claims the room of `len` values, and reads them. Fails with `LimitExceeded` where the claim passes the limit, before
-/// any room is made, and where `decode_vec` does. A fault leaves what was charged before it.
+/// Claims `len` values, and decodes them. Fails with `LimitExceeded` before it allocates, or like `decode_vec`.
 fn decode_claimed<D: Decoder, V: ReadValues<D>>(
     decoder: &mut D,
     len: usize,
@@ -34,9 +33,9 @@ fn decode_claimed<D: Decoder, V: ReadValues<D>>(
     decode_vec::<D, V>(decoder, len)
 }
 
-/// Reads a length and so many values, whose room is claimed before any is made: the vector has room for just so many.
-/// Fails where the length can't be read, with `LimitExceeded` where the room passes the limit, with `Memory` where it
-/// is refused, and where a value does. A fault leaves what was charged before it.
+/// Decodes a length prefix and that many values into a vector without spare capacity; they are claimed before it
+/// allocates. Fails with the error of the length, `LimitExceeded`, `Memory` if the allocation is refused, or the error
+/// of a value.
 pub fn decode_list<D: Decoder, V: ReadValues<D>>(
     decoder: &mut D,
 ) -> Result<Vec<V::Value>, DecodeError>
@@ -50,7 +49,7 @@ pub fn decode_list<D: Decoder, V: ReadValues<D>>(
     decode_claimed::<D, V>(decoder, len)
 }
 
-/// Reads a list as `decode_list` does, and makes a heap of its values.
+/// Decodes like `decode_list`, and makes a heap of the vector.
 pub fn decode_heap<D: Decoder, V: ReadValues<D>>(
     decoder: &mut D,
 ) -> Result<BinaryHeap<V::Value>, DecodeError>
@@ -66,7 +65,7 @@ where
     Ok(BinaryHeap::from(values))
 }
 
-/// Reads a list as `decode_list` does, and makes a queue of its values.
+/// Decodes like `decode_list`, and makes a queue of the vector.
 #[inline]
 pub fn decode_queue<D: Decoder, V: ReadValues<D>>(
     decoder: &mut D,
@@ -81,7 +80,7 @@ pub fn decode_queue<D: Decoder, V: ReadValues<D>>(
     Ok(VecDeque::from(list))
 }
 
-/// Reads a list as `decode_list` does, and makes a boxed slice of its values.
+/// Decodes like `decode_list`, and makes a boxed slice of the vector.
 #[inline]
 pub fn decode_boxed_slice<D: Decoder, V: ReadValues<D>>(
     decoder: &mut D,
@@ -96,8 +95,8 @@ pub fn decode_boxed_slice<D: Decoder, V: ReadValues<D>>(
     Ok(list.into_boxed_slice())
 }
 
-/// Reads a list as `decode_list` does, and makes a shared slice of its values. Fails where the list does, or with
-/// `Memory` where the room for the shared slice is refused.
+/// Decodes like `decode_list`, and makes a shared slice of the vector. That allocates once more: `Memory` if it is
+/// refused.
 #[inline]
 pub fn decode_rc_slice<D: Decoder, V: ReadValues<D>>(
     decoder: &mut D,

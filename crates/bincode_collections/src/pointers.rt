@@ -1,4 +1,4 @@
-//! Pointers and cells, each of which holds a value.
+//! Decoding of pointers and cells.
 ghost use Rattle.std.specs.Prelude.{◌≡◌};
 ghost use Rattle.std.specs.Arc.{arc_value};
 ghost use Rattle.bincode_spec.specs.Cells.{IsAny};
@@ -12,7 +12,7 @@ use std::cell::{Cell, RefCell};
 use std::rc::Rc;
 use std::sync::Arc;
 
-/// Reads a value, and makes a box of it. Fails where the value does, or with `Memory` where the room for it is refused.
+/// Decodes a value into a box. Fails with the error of the value, or with `Memory` if the allocation is refused.
 #[inline]
 pub fn decode_box<D: Decoder, V: ReadValues<D>>(
     decoder: &mut D,
@@ -28,7 +28,7 @@ pub fn decode_box<D: Decoder, V: ReadValues<D>>(
     Ok(pointer)
 }
 
-/// Reads a value, and makes a shared pointer to it. Fails as `decode_box` does.
+/// Decodes a value into an `Rc`. Errors are those of `decode_box`.
 #[inline]
 pub fn decode_rc<D: Decoder, V: ReadValues<D>>(decoder: &mut D) -> Result<Rc<V::Value>, DecodeError>
     ensures { Reads D.is_known D.remaining D.charge D.failures D.loans D.C.bound D.R.end_error D.R.device (Unit {0})
@@ -42,7 +42,7 @@ pub fn decode_rc<D: Decoder, V: ReadValues<D>>(decoder: &mut D) -> Result<Rc<V::
     Ok(pointer)
 }
 
-/// Reads a value, and makes a pointer to it that threads share. Fails as `decode_box` does.
+/// Decodes a value into an `Arc`. Errors are those of `decode_box`.
 #[inline]
 pub fn decode_arc<D: Decoder, V: ReadValues<D>>(
     decoder: &mut D,
@@ -58,7 +58,7 @@ pub fn decode_arc<D: Decoder, V: ReadValues<D>>(
     Ok(pointer)
 }
 
-/// Reads a value into a cell. Fails where the value does.
+/// Decodes a value into a cell. Errors are those of the value.
 #[inline]
 pub fn decode_cell<D: Decoder, V: ReadValues<D>>(
     decoder: &mut D,
@@ -70,7 +70,7 @@ pub fn decode_cell<D: Decoder, V: ReadValues<D>>(
     Ok(Cell::new(V::read_value(decoder)?))
 }
 
-/// Reads a value into a cell that is borrowed by a count. Fails where the value does.
+/// Decodes a value into a `RefCell`. Errors are those of the value.
 #[inline]
 pub fn decode_ref_cell<D: Decoder, V: ReadValues<D>>(
     decoder: &mut D,

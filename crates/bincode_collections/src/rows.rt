@@ -1,4 +1,4 @@
-//! Parts in a row.
+//! Decoding of rows.
 ghost use Rattle.std.specs.Prelude.{◌⊎◌};
 ghost use Rattle.bincode_spec.specs.Meaning.{IsThen};
 ghost use Rattle.bincode_spec.specs.Words.{first_and};
@@ -9,7 +9,7 @@ use bincode_base::error::DecodeError;
 use bincode_decoder::decoder::Decoder;
 use bincode_types::rows::Cons;
 
-/// Reads a part, and the others behind it. Fails where one of them does.
+/// Decodes a part, then the tail. Errors are those of the two.
 #[inline(always)]
 pub fn decode_row<D: Decoder, A: ReadValues<D>, Others: ReadValues<D>>(
     decoder: &mut D,

@@ -1,4 +1,4 @@
-//! Runs of values whose room has been reserved, without a length.
+//! Decoding of slices and vectors of values, after the claim for them and without a length prefix.
 ghost use Rattle.std.specs.Prelude.{◌≡◌, ◌*◌, ◌<◌, length, IfOk, IfSome, IfErr, vec_capacity};
 ghost use Rattle.bincode_base.specs.declared.error.DecodeError.TheVariants.{Memory};
 ghost use Rattle.bincode_spec.specs.Answer.{after_release};
@@ -11,10 +11,10 @@ use bincode_decoder::decoder::Decoder;
 use bincode_types::wire::Wire;
 use std::alloc::Global;
 
-/// Reads as many values as `values` has, over them, whose room `claim_container_read` has reserved: each one's share is
-/// released before it is read. A type may read them otherwise (`DecodeRun`), with the same answer. Fails
-/// where a value does. Then some front of the input is taken, unless the error is one that the device does not count,
-/// and no more than the room of the values is given back; what `values` has then is not said.
+/// Decodes into each element of `values`. `claim_container_read` must have reserved their claims; each is released
+/// before its value is read. Errors are those of a value. After an error a prefix of the input is consumed, unless the
+/// error is one that the device does not count, no more than the claims is released, and the content of `values` is
+/// unspecified. `DecodeRun` may read them in bulk, with the same result.
 #[inline]
 pub fn decode_run<D: Decoder, V: ReadValues<D>>(
     decoder: &mut D,
@@ -34,7 +34,7 @@ pub fn decode_run<D: Decoder, V: ReadValues<D>>(
     decode_each::<D, V>(decoder, values)
 }
 
-/// The same, one by one.
+/// `decode_run` one by one.
 #[inline]
 fn decode_each<D: Decoder, V: ReadValues<D>>(
     decoder: &mut D,
@@ -51,7 +51,7 @@ fn decode_each<D: Decoder, V: ReadValues<D>>(
     Ok(())
 }
 
-/// Releases the share of one value, of the room that is reserved, and reads it.
+/// Releases the claim of one value, and decodes it.
 #[inline(always)]
 pub(crate) fn decode_next<D: Decoder, V: ReadValues<D>>(
     decoder: &mut D,
@@ -65,8 +65,8 @@ pub(crate) fn decode_next<D: Decoder, V: ReadValues<D>>(
     V::read_value(decoder)
 }
 
-/// Reads `len` values, as `decode_run` does, into a vector with room for just so many. Fails where a value does, or
-/// with `Memory` where the room for the values is refused; of no values it is never refused.
+/// Decodes `len` values, as `decode_run` does, into a vector of that capacity. Fails with the error of a value, or with
+/// `Memory` if the allocation is refused; never so for no values.
 pub fn decode_vec<D: Decoder, V: ReadValues<D>>(
     decoder: &mut D,
     len: usize,
@@ -85,7 +85,7 @@ pub fn decode_vec<D: Decoder, V: ReadValues<D>>(
     Ok(values)
 }
 
-/// The same for a type without blank values.
+/// `decode_vec` for a type without default values to decode over.
 fn decode_by_pushes<D: Decoder, V: ReadValues<D>>(
     decoder: &mut D,
     len: usize,
@@ -106,8 +106,8 @@ fn decode_by_pushes<D: Decoder, V: ReadValues<D>>(
     Ok(values)
 }
 
-/// So many values to read over, if the type has such at hand and its values claim a byte each, as those do that are
-/// read at once: others are pushed, which takes less than zeros first. Fails with `Memory` where the room for them is
+/// A vector of `len` default values, if the type has them and claims one byte for each, as types do that are decoded in
+/// bulk: others are pushed, which is faster than to write zeros first. Fails with `Memory` if the allocation is
 /// refused.
 fn blank_values<D: Decoder, V: ReadValues<D>>(
     alloc: Global,

@@ -1,4 +1,4 @@
-//! Sets and maps behind their length, into which what is read is put in turn.
+//! Decoding of length-prefixed sets and maps.
 ghost use Rattle.std.specs.Prelude.{ℕ, ◌≡◌, ◌<◌, ◌≤◌, ◌*◌, ◌++◌, ◌∷◌, List, [], IfOk, MatchResult};
 ghost use Rattle.std.specs.HashMap.{spare};
 ghost use Rattle.std.specs.HashSet.{spare as set_spare};
@@ -20,27 +20,27 @@ use std::alloc::Global;
 use std::collections::{BTreeMap, BTreeSet, HashMap, HashSet};
 use std::hash::{BuildHasher, Hash};
 
-/// A set or a map, into which items are put in turn: keys into a set, entries into a map.
+/// A set or a map that is filled item by item: with keys, or with entries.
 pub trait InsertAll: Drop + Sized {
-    /// What is put.
+    /// The type of the items.
     type Item: Wire;
 
-    /// What it holds.
+    /// What the collection holds.
     ghost held_items: { Self → List Self.Item };
 
-    /// These items, put one after the other into one that holds nothing, make it hold those.
+    /// What the collection holds after these items were inserted into an empty one, in order.
     ghost makes: { Makes Self.Item };
 
-    /// It has room for this many items more, if it reserves any.
+    /// There is room for this many items more, if it reserves any.
     ghost has_room: { Self → ℕ → Type 0 };
 
-    /// One that holds nothing, with room for `len` items if it reserves any. Fails with `Memory` where the room is
-    /// refused, which it never is for none.
+    /// An empty collection, with room for `len` items if it reserves any. Fails with `Memory` if the allocation is
+    /// refused; never so for none.
     fn start(alloc: Global, len: usize) -> Result<Self, DecodeError>
         ensures begun { MatchResult result (λ v. makes [] (held_items v)) (λ e. (0 < len) × (e ≡ Memory)) }
         ensures room { IfOk result (λ v. has_room v len) };
 
-    /// Puts an item. Fails with `Memory` where its room is refused.
+    /// Inserts an item. Fails with `Memory` if an allocation is refused.
     fn put(&mut self, item: Self::Item) -> Result<(), DecodeError>
         ensures { MatchResult result
             (λ _. (items : List _) → makes items (held_items self.old) → makes (items ++ item ∷ [])
@@ -154,8 +154,8 @@ impl<K: Wire + Eq + Hash + Drop, V: Wire + Drop, S: BuildHasher + Default + Drop
     }
 }
 
-/// Reads `len` items, whose room `claim_container_read` has reserved, and puts them in turn: each one's share is
-/// released before it is read. Fails where an item does, or with `Memory` where room is refused.
+/// Decodes `len` items and inserts each. `claim_container_read` must have reserved their claims; each is released
+/// before its item is read. Fails with the error of an item, or with `Memory` if an allocation is refused.
 fn decode_items<D: Decoder, V: ReadValues<D>, M: InsertAll<Item = V::Value>>(
     decoder: &mut D,
     len: usize,
@@ -174,8 +174,7 @@ fn decode_items<D: Decoder, V: ReadValues<D>, M: InsertAll<Item = V::Value>>(
     Ok(filling)
 }
 
-/// Claims the room of `len` items, and reads them. Fails with `LimitExceeded` where the claim passes the limit, before
-/// any room is made, and where `decode_items` does. A fault leaves what was charged before it.
+/// Claims `len` items, and decodes them. Fails with `LimitExceeded` before it allocates, or like `decode_items`.
 fn decode_claimed<D: Decoder, V: ReadValues<D>, M: InsertAll<Item = V::Value>>(
     decoder: &mut D,
     len: usize,
@@ -189,10 +188,10 @@ fn decode_claimed<D: Decoder, V: ReadValues<D>, M: InsertAll<Item = V::Value>>(
     decode_items::<D, V, M>(decoder, len)
 }
 
-/// Reads a length, and so many keys or entries, which are put into a set or a map in turn: of equal keys the first
-/// stays, with the last value. Their room is claimed as that of a list; ordered ones reserve none of it, and hashed
-/// ones all of it at once. Fails where the length can't be read, with `LimitExceeded` where the claim passes the limit,
-/// with `Memory` where room is refused, and where an item does. A fault leaves what was charged before it.
+/// Decodes a length prefix and that many keys or entries, and inserts them in order: of equal keys the first stays,
+/// with the last value. Items are claimed like those of a list; a hashed collection allocates for all at once, an
+/// ordered one for none. Fails with the error of the length, `LimitExceeded`, `Memory` if an allocation is refused, or
+/// the error of an item.
 pub fn decode_keyed<D: Decoder, V: ReadValues<D>, M: InsertAll<Item = V::Value>>(
     decoder: &mut D,
 ) -> Result<M, DecodeError>

@@ -1,4 +1,4 @@
-//! Values that passed a test.
+//! Decoding of values that are checked afterwards.
 ghost use Rattle.std.specs.Prelude.{◌≡◌, true};
 ghost use Rattle.bincode_spec.specs.Validated.{with_test};
 ghost use Rattle.bincode_spec.specs.Values.{Reads};
@@ -8,7 +8,7 @@ use bincode_base::error::DecodeError;
 use bincode_decoder::decoder::Decoder;
 use bincode_types::validated::{Validate, Validated};
 
-/// Reads a value, and tests it. Fails where the value does, or with the type's own error where the test fails.
+/// Decodes a value, and tests it. Fails with the error of the value, or with the type's own if the test fails.
 #[inline]
 pub fn decode_validated<D: Decoder, V: ReadValues<D>, T: Validate<Of = V::Value> + Drop>(
     decoder: &mut D,

@@ -1,4 +1,4 @@
-//! A way to read one value, by which the functions of this crate read more.
+//! `ReadValues`: how one element is decoded. The collection decoders are generic over it.
 ghost use Rattle.std.specs.Prelude.{◌≡◌, ◌*◌, ◌<◌, length};
 ghost use Rattle.std.specs.Option.{MatchOption};
 ghost use Rattle.bincode_spec.specs.Answer.{Allows};
@@ -10,29 +10,29 @@ use bincode_decoder::bytes::decode_bytes;
 use bincode_decoder::decoder::Decoder;
 use bincode_types::wire::Wire;
 
-/// A way to read the values of a type, by a decoder.
+/// How the values of a type are decoded.
 pub trait ReadValues<D: Decoder> {
-    /// What is read.
+    /// The type of the values.
     type Value: Wire + Drop + Sized;
 
-    /// Reads a word and gives a value for its meaning. It does, fails and leaves what `Decode::decode` does.
+    /// Decodes a value, like `Decode::decode`.
     fn read_value(decoder: &mut D) -> Result<Self::Value, DecodeError>
         ensures { Reads D.is_known D.remaining D.charge D.failures D.loans D.C.bound D.R.end_error D.R.device
             Self.Value.words.may_allocate (Self.Value.words.format D.C.setting) Self.Value.words.decodes_to
             (D.charge decoder.old) result decoder.old decoder.new };
 
-    /// How a run of them is read.
+    /// How a slice of them is decoded.
     type Run: DecodeRun<Self::Value>;
 }
 
-/// How the values of a type are read where many stand in a row.
+/// How slices of a type's values are decoded.
 pub trait DecodeRun<T: Wire> {
-    /// An array to read values over, whatever it holds, if there is one at hand. With `None` an array is made of slots,
+    /// An array of default values to decode over, if the type has them. With `None` an array is made through slots,
     /// which takes longer.
     fn blank_array<A: ArrayOf<T>>() -> Option<A>;
 
-    /// Reads as many values as `values` has, over them and in one piece, if the values are the bytes of their words.
-    /// `decode_run` calls it, with a charge within the limit. With `None` nothing is read.
+    /// Decodes into all of `values` in one read, if the bytes of the values are their encoding. Reads nothing and
+    /// returns `None` otherwise. Only `decode_run` calls it.
     fn decode_at_once<D: Decoder>(
         decoder: &mut D,
         values: &mut [T],
@@ -45,7 +45,7 @@ pub trait DecodeRun<T: Wire> {
             decoder.old decoder.new) };
 }
 
-/// Values that are read one by one, and put where they stand: all but numbers and bytes.
+/// Values that are decoded one by one: all but numbers and bytes.
 pub struct Sequential;
 
 impl<T: Wire> DecodeRun<T> for Sequential {
@@ -65,7 +65,7 @@ impl<T: Wire> DecodeRun<T> for Sequential {
     }
 }
 
-/// Values that are read one by one, over default values: numbers and such.
+/// Values that are decoded one by one over default values: numbers and such.
 pub struct OverDefaults;
 
 impl<T: Wire + Default> DecodeRun<T> for OverDefaults {
@@ -85,7 +85,7 @@ impl<T: Wire + Default> DecodeRun<T> for OverDefaults {
     }
 }
 
-/// Bytes, which are read in one piece.
+/// Bytes, which are decoded in one read.
 pub struct Bulk;
 
 impl DecodeRun<u8> for Bulk {
@@ -105,7 +105,7 @@ impl DecodeRun<u8> for Bulk {
 
 /// An array of a type's values.
 pub trait ArrayOf<T> {
-    /// The array in which each place has the default value.
+    /// The array of default values.
     fn of_defaults() -> Self
     where
         T: Default;

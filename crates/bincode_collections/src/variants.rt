@@ -1,4 +1,4 @@
-//! Enums, variant by variant.
+//! Decoding of enums, variant by variant.
 ghost use Rattle.std.specs.Prelude.{◌≡◌, ◌⊎◌, false, IfOk};
 ghost use Rattle.bincode_spec.specs.Words.{variant_tags, in_order, allowed_tags, part, tag_then_part};
 ghost use Rattle.bincode_spec.specs.Choices.{IsChoice};
@@ -11,15 +11,15 @@ use bincode_decoder::tags::{DecodeTag, Listed, Named, unexpected_tag};
 use bincode_types::sums::{EnumOf, NoMoreVariants, Tag, VariantOf, Variants};
 use bincode_types::wire::Wire;
 
-/// A way to read what follows a tag, by a decoder.
+/// How the part that follows a tag is decoded.
 pub trait ReadVariants<D: Decoder> {
     /// All variants of the enum.
     type All: Listed;
 
-    /// The variants that are left of them.
+    /// The variants of `All` that are left.
     type Left: Variants + Drop;
 
-    /// Reads what follows a tag, where the tag is none of the variants before.
+    /// Decodes the part that follows a tag that no earlier variant has.
     fn read_part(found: u32, decoder: &mut D) -> Result<Self::Left, DecodeError>
         ensures reads { Reads D.is_known D.remaining D.charge D.failures D.loans D.C.bound D.R.end_error D.R.device
             ((in_order 0 (variant_tags Self.All.variants) ≡ false) ⊎ Self.Left.may_allocate)
@@ -28,7 +28,7 @@ pub trait ReadVariants<D: Decoder> {
         ensures tag { IfOk result (λ v. (Self.Left.variant v).0 ≡ found) };
 }
 
-/// Answers the error of a tag that none of `All` variants of the enum `Of` has.
+/// Fails with the error of a tag that none of the `All` variants of the enum `Of` has.
 #[inline]
 pub fn decode_none<D: Decoder, Of: Named, T: Tag, All: Listed>(
     found: u32,
@@ -44,8 +44,8 @@ pub fn decode_none<D: Decoder, Of: Named, T: Tag, All: Listed>(
     Err(unexpected_tag::<Of, All, D>(decoder, found))
 }
 
-/// Reads the part of the variant with this tag, or that of one of the others. Fails where the part does, or as
-/// `decode_none` where no variant has the tag.
+/// Decodes the part of the variant with this tag, or of one of the others. Errors are those of the part, or of
+/// `decode_none` for an unknown tag.
 #[inline]
 pub fn decode_or<D: Decoder, const TAG: u32, A: ReadValues<D>, Others: ReadVariants<D>>(
     found: u32,
@@ -68,7 +68,7 @@ pub fn decode_or<D: Decoder, const TAG: u32, A: ReadValues<D>, Others: ReadVaria
     Ok(VariantOf::Other(other))
 }
 
-/// Reads a tag, and the part of the variant that has it. Fails where one of them does.
+/// Decodes a tag, then the part of its variant. Errors are those of the two.
 #[inline]
 pub fn decode_one_of<D: Decoder, Of: Listed + Drop, W: ReadVariants<D, All = Of, Left = Of>>(
     decoder: &mut D,

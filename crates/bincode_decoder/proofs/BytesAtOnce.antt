@@ -1,4 +1,4 @@
--- Bytes that are read at once, in place of one by one.
+-- Reading bytes at once is the same as reading them one by one.
 use Rattle.std.specs.Prelude.{◌≡◌, ◌⊎◌, ℕ, suc, ◌+◌, ◌-◌, ◌*◌, ◌<◌, pos, List, [], ◌∷◌, ◌++◌, length, map, nat_lt, Option, Some, None, false, Result, Ok, Err, IfErr, refl}
 use Rattle.std.proofs.Common.{sym, ◌∙◌, ap, subst, inl, inr, arith, append_assoc, append-nil}
 use Rattle.std.proofs.lemmas.Bool.{le-ltb, le-leb}
@@ -24,7 +24,7 @@ number b = Number (pos b)
 byte_word : (b : ℕ) (remaining : List ℕ) → nat_lt (length (b ∷ remaining)) 1 ≡ false
 byte_word b remaining = le-ltb (length (b ∷ remaining)) 1 (omega arith)
 
--- a byte whose share was released
+-- reading a byte whose claim was released
 byte_gave : (limit : Option ℕ) (b : ℕ) (remaining : List ℕ) (c : ℕ) → Allows limit c → CanRelease limit c 1 → answer limit (natural_number unsigned_byte) (b ∷ remaining) (after_release limit c 1) ≡ Gave (number b) remaining c
 unfolding answer unsigned_byte byte fixed_bytes step pure ◌>>=◌
 byte_gave None b remaining c l h = rw (byte_word b remaining) refl
@@ -45,7 +45,7 @@ listed_bytes [] = refl
 listed_bytes (b ∷ bytes) = record { first = number b; others = list_meaning (map number bytes); meaning_is = refl; is_first = refl; are_others = listed_bytes bytes }
 
 module _ (limit : Option ℕ) (all : Answer (List Meaning)) (input : List ℕ) (c : ℕ) (l : Allows limit c) where
-  -- so many bytes are read
+  -- n bytes are read
   bytes_read : (bytes remaining : List ℕ) (ms : List Meaning) (n k : ℕ) → n ≡ length bytes + k →
       ReadSoFar limit 1 (natural_number unsigned_byte) all input ms n (bytes ++ remaining) c →
       ReadSoFar limit 1 (natural_number unsigned_byte) all input (ms ++ map number bytes) k remaining c
@@ -66,7 +66,7 @@ module _ (limit : Option ℕ) (all : Answer (List Meaning)) (input : List ℕ) (
   run_ends ms n h = sym h.is_rest ∙ ap (behind ms) (byte_ends limit n c l (one_of limit c n h.is_reserved))
 
 module _ (limit : Option ℕ) (n : ℕ) (input : List ℕ) (c : ℕ) (l : Allows limit c) (h : CanRelease limit c (n * 1)) where
-  -- bytes that are read at once are those that are read one by one
+  -- the bytes read at once are those read one by one
   pub bytes-decode : (bytes remaining : List ℕ) → input ≡ bytes ++ remaining → length bytes ≡ n →
       Decodes (λ ms. IsListOf (λ x m. IsNumber (pos x) m) bytes (list_meaning ms)) (answer limit (elements n 1 (natural_number unsigned_byte)) input c) remaining c
   bytes-decode bytes remaining e k =
@@ -84,7 +84,7 @@ module _ (limit : Option ℕ) (n : ℕ) (input : List ℕ) (c : ℕ) (l : Allows
       let r = bytes_read limit all input c l input [] [] n (suc (n - length input - 1)) (omega (arith, k)) start in
       run_ends limit all input c l (map number input) (n - length input - 1) r
 
-  -- where the bytes can't be read at once, the run of them stops
+  -- if the bytes cannot be read at once, reading them one by one fails too
   pub bytes-stop : (end_error : ℕ → DecodeError → Type 0) (device : DeviceErrors) (H : Type 0) (before after : ℕ) (remaining : List ℕ) {now : ℕ} (e : DecodeError) → now ≡ c →
       FallsShort end_error input n e ⊎ (device.is_uncounted e ⊎ (device.is_counted e × Rose before after)) → device.is_uncounted e ⊎ Takes input remaining →
       DecodeFailure end_error device H (answer limit (elements n 1 (natural_number unsigned_byte)) input c) before after input remaining now e

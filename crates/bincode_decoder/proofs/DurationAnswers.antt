@@ -1,4 +1,4 @@
--- Where the decoding of a span of time ends.
+-- Decoding a `Duration`.
 use Rattle.std.specs.Prelude.{◌≡◌, ℕ, ◌+◌, ◌/◌, ◌%◌, ◌<◌, ◌≤◌, ◌^◌, List, Option, Some, None, is_some, SomeIff, true, false}
 use Rattle.std.proofs.Common.{◌∙◌, sym, ap, refl, arith}
 use Rattle.std.proofs.lemmas.Bool.{true≢false, false≢true}
@@ -39,7 +39,7 @@ module _ (limit : Option ℕ) (s : Setting) (input : List ℕ) (c : ℕ) where
         answer-next limit (unsigned_integer integers.U64 8 s) (λ k. map_format (λ n. (k, n)) (unsigned_integer integers.U32 4 s)) input c seconds middle d a
         ∙ map-gave (λ n. (seconds, n)) limit (unsigned_integer integers.U32 4 s) middle d nanos remaining after b
 
-    -- a span is given for its seconds and nanoseconds, of which whole seconds are carried
+    -- the result has the seconds and nanoseconds, with whole seconds carried
     pub span-decodes : (x y : ℕ) → seconds + nanos / second_in_nanos < 2 ^ 64 → x ≡ seconds + nanos / second_in_nanos → y ≡ nanos % second_in_nanos →
         Decodes (IsSpan x y) (answer limit (duration s) input c) remaining after
     span-decodes x y h p q = record {
@@ -64,12 +64,12 @@ module _ (limit : Option ℕ) (s : Setting) (input : List ℕ) (c : ℕ) where
     parts_stop : DecodeFailure end_error device H (answer limit (seconds_and_nanos s) input c) before after input remaining now e → DecodeFailure end_error device H (answer limit (duration s) input c) before after input remaining now e
     parts_stop h = rw in_parts (stops-first end_error device H H (λ k. k) limit (seconds_and_nanos s) (λ parts. from_result (duration_of parts.0 parts.1)) input c before after remaining e h)
 
-    -- the seconds stop
+    -- reading the seconds fails
     pub span-stops_first : DecodeFailure end_error device H (answer limit (unsigned_integer integers.U64 8 s) input c) before after input remaining now e →
         DecodeFailure end_error device H (answer limit (duration s) input c) before after input remaining now e
     span-stops_first h = parts_stop (stops-first end_error device H H (λ k. k) limit (unsigned_integer integers.U64 8 s) (λ k. map_format (λ n. (k, n)) (unsigned_integer integers.U32 4 s)) input c before after remaining e h)
 
-    -- the nanoseconds stop
+    -- reading the nanoseconds fails
     pub span-stops_next : (seconds : ℕ) (middle : List ℕ) (d between : ℕ) → answer limit (unsigned_integer integers.U64 8 s) input c ≡ Gave seconds middle d → before ≤ between →
         DecodeFailure end_error device H (answer limit (unsigned_integer integers.U32 4 s) middle d) between after middle remaining now e → DecodeFailure end_error device H (answer limit (duration s) input c) before after input remaining now e
     span-stops_next seconds middle d between a le h =

@@ -1,4 +1,4 @@
--- Bytes that are taken of a source, as the words that they are.
+-- Bytes that are lent by a source, as words.
 use Rattle.std.specs.Prelude.{◌≡◌, ℕ, ◌+◌, ◌*◌, pos, List, nat_le, Option, Some, None, Result, Ok, Err, IfOk}
 use Rattle.std.specs.Borrow.{GName}
 use Rattle.std.proofs.Common.{arith}
@@ -23,7 +23,7 @@ pub both-of_ok : {T E : Type 0} (r : Result T E) (P Q : T → Type 0) → IfOk r
 both-of_ok (Ok v) P Q p q = (p, q)
 both-of_ok (Err e) P Q p q = tt
 
--- they are read as one word,
+-- they are one word,
 pub taken-reads :
     {R T : Type 0} {is_known : R → Type 0} {remaining : R → List ℕ} {failures : R → ℕ} {loans : R → List GName} {end_error : ℕ → DecodeError → Type 0}
     {device : DeviceErrors} {bytes : T → List ℕ} (n : ℕ) {r : Result T DecodeError} {old new : R} →
@@ -37,7 +37,7 @@ taken-reads {remaining = remaining} {failures = failures} {end_error = end_error
   same_loans = takes.same_loans;
 }
 
--- and as a run of bytes, whose room was claimed
+-- and a run of bytes, whose claim was made
 pub taken-run :
     {D T : Type 0} {is_known : D → Type 0} {remaining : D → List ℕ} {charge failures : D → ℕ} {loans : D → List GName} {limit : Option ℕ}
     {end_error : ℕ → DecodeError → Type 0} {device : DeviceErrors} {H : Type 0} {bytes : T → List ℕ} {n : ℕ} {r : Result T DecodeError} {old new : D} →
@@ -54,7 +54,7 @@ taken-run {remaining = remaining} {charge = charge} {failures = failures} {limit
   same_loans = takes.same_loans;
 }
 
--- a claim that stands can be released
+-- a claim that succeeded can be released
 pub claimed-room : (limit : Option ℕ) (before n after : ℕ) → Claimed limit before n after → CanRelease limit after n
 claimed-room None before n after h = tt
 claimed-room (Some limit) before n after h = let e = claimed_by (nat_le (before + n) limit) (before + n) after h in omega (arith, e)

@@ -1,4 +1,4 @@
--- Bytes that are read in one piece, of which it isn't said by how many an input is short.
+-- Bytes that are read in one piece: the fault of a short input leaves open by how many.
 use Rattle.std.specs.Prelude.{◌≡◌, ◌-◌, ◌<◌, ◌⊎◌, ℕ, Bool, true, false, List, [], ◌++◌, Some, None, length, Result, Ok, Err, refl}
 use Rattle.std.specs.Borrow.{GName}
 use Rattle.std.specs.Str.{IsUtf8, is_utf8}
@@ -37,7 +37,7 @@ misread end_error device remaining remaining' n before after e (inl h) (inr t) =
 misread end_error device remaining remaining' n before after e (inr (inl h)) (inr t) = by_device h
 misread end_error device remaining remaining' n before after e (inr (inr h)) (inr t) = by_failure h.0 h.1 t
 
--- bytes that are filled are read
+-- a buffer that was filled is read
 pub filled-reads :
     {R : Type 0} {is_known : R → Type 0} {remaining : R → List ℕ} {failures : R → ℕ} {loans : R → List GName} {end_error : ℕ → DecodeError → Type 0}
     {device : DeviceErrors} {before bytes : List ℕ} (n : ℕ) {r : Result (Unit {0}) DecodeError} {old new : R} →
@@ -56,14 +56,14 @@ filled-reads {remaining = remaining} {failures = failures} {end_error = end_erro
 pub text-bytes : {Z : Type 0} (t : String Z) (v : Vec ℕ Z) → string_vec t ≡ v → v.items ≡ string_bytes t
 text-bytes t v e = ap vec_items (sym e)
 
--- and its room is that of the bytes,
+-- and its capacity is their number,
 pub text-room : {Z : Type 0} (t : String Z) (v : Vec ℕ Z) → string_vec t ≡ v → vec_capacity v ≡ length v.items → string_capacity t ≡ length (string_bytes t)
 text-room t v e h = ap vec_capacity e ∙ h ∙ ap length (text-bytes t v e)
 
 pub text-passes : {Z : Type 0} (t : String Z) (v : Vec ℕ Z) → string_vec t ≡ v → text_of v.items ≡ Ok (Bytes v.items)
 text-passes t v e = text_of-passes v.items (rw (sym (text-bytes t v e)) at (IsUtf8-string_bytes t))
 
--- and others are refused
+-- and bytes that are not UTF-8 are refused
 pub text-fails : (bytes : List ℕ) → ¬ (IsUtf8 bytes) → text_of bytes ≡ Err Utf8
 text-fails bytes h = refuses (is_utf8 bytes) refl
   where

@@ -1,4 +1,4 @@
--- Octets that are filled are read.
+-- Octets from a buffer that was filled.
 use Rattle.std.specs.Prelude.{◌≡◌, ℕ, List, length, Result}
 use Rattle.std.specs.Borrow.{GName}
 use Rattle.std.proofs.Common.{◌∙◌, ap}

@@ -1,4 +1,4 @@
--- What is read in turn: a first part, and what follows it.
+-- Decoding parts in turn: a first part, then what follows it.
 use Rattle.std.specs.Prelude.{◌≡◌, ℕ, List, Option, Result, Ok, Err}
 use Rattle.std.specs.Borrow.{GName}
 use Rattle.std.proofs.Common.{◌∙◌}
@@ -26,7 +26,7 @@ reads-besides {limit = limit} {end_error = end_error} {device = device} {G = G} 
 module _ {D A B T U : Type 0} {is_known : D → Type 0} {remaining : D → List ℕ} {charge failures : D → ℕ} {loans : D → List GName} {limit : Option ℕ}
     {end_error : ℕ → DecodeError → Type 0} {device : DeviceErrors} {G H : Type 0} (F : Format A) (S : A → Format B) {start : ℕ} {old : D}
     {whole : B → U → Type 0} where
-  -- where the first part stops, so does the whole
+  -- if decoding the first part fails, so does the whole
   pub first-stops : {decodes_to : A → T → Type 0} {e : DecodeError} {new : D} → (G → H) →
       Reads is_known remaining charge failures loans limit end_error device G F decodes_to start (Err e) old new →
       Reads is_known remaining charge failures loans limit end_error device H (F >>= S) whole start (Err e) old new

@@ -1,4 +1,4 @@
--- What was read, by what was read for it.
+-- `Reads` of a whole, from `Reads` of what it is made of.
 use Rattle.std.specs.Prelude.{◌≡◌, ℕ, ℤ, List, [], Option, Result, Err, IfOk, IfErr, refl}
 use Rattle.std.specs.Borrow.{GName}
 use Rattle.std.proofs.Common.{◌∙◌, ap, sym, arith}
@@ -20,14 +20,14 @@ module _ {D A B T U : Type 0} {is_known : D → Type 0} {remaining : D → List 
     {end_error : ℕ → DecodeError → Type 0} {device : DeviceErrors} {G H : Type 0} {F : Format A} {decodes_to : A → T → Type 0} {charge_then : ℕ}
     {r : Result T DecodeError} {old new : D} where
   module _ {whole : Format B} {other : B → U → Type 0} {q : Result U DecodeError} where
-    -- what was read is read for something else
+    -- reading one format as another
     pub read-as : (is_known old → IfOk q (λ v. Decodes (λ m. other m v) (answer limit whole (remaining old) charge_then) (remaining new) (charge new))) →
         (is_known old → IfErr q (DecodeFailure end_error device H (answer limit whole (remaining old) charge_then) (failures old) (failures new) (remaining old) (remaining new) (charge new))) →
         (Allows limit charge_then → IfOk q (λ _. Allows limit (charge new))) →
         Reads is_known remaining charge failures loans limit end_error device G F decodes_to charge_then r old new → Reads is_known remaining charge failures loans limit end_error device H whole other charge_then q old new
     read-as h k w read = record { ok = h; err = k; failures_monotone = read.failures_monotone; tells = read.tells; charge_kept = read.charge_kept; within = w; same_loans = read.same_loans }
 
-    -- and what is read behind it with it
+    -- and one after it
     pub read-behind : {K C V : Type 0} {S : Format C} {next : C → V → Type 0} {p : Result V DecodeError} {end : D} →
         (is_known old → IfOk q (λ v. Decodes (λ m. other m v) (answer limit whole (remaining old) charge_then) (remaining end) (charge end))) →
         (is_known old → IfErr q (DecodeFailure end_error device H (answer limit whole (remaining old) charge_then) (failures old) (failures end) (remaining old) (remaining end) (charge end))) →
@@ -45,18 +45,18 @@ module _ {D A B T U : Type 0} {is_known : D → Type 0} {remaining : D → List 
       same_loans = second.same_loans ∙ first.same_loans;
     }
 
--- what is made of a value that was read is given for its meaning
+-- what is made of a value that was read
 pub made-of : {A : Type 0} {P Q : A → Type 0} {a : Answer A} {remaining : List ℕ} {c : ℕ} → ((m : A) → P m → Q m) → Decodes P a remaining c → Decodes Q a remaining c
 made-of h d = record { meaning = d.meaning; answer_is = d.answer_is; is_decoded = h d.meaning d.is_decoded }
 
--- the one value of an answer
+-- the only value of an answer
 pub exactly : {A : Type 0} {a : Answer A} {v : A} {remaining : List ℕ} {c : ℕ} → Decodes (λ n. n ≡ v) a remaining c → a ≡ Gave v remaining c
 exactly {remaining = remaining} {c = c} d = d.answer_is ∙ ap (λ n. Gave n remaining c) d.is_decoded
 
 module _ {D R C : Type 0} {is_known : D → Type 0} {remaining : D → List ℕ} {charge failures : D → ℕ} {reader_of : D → R} {context_of : D → C}
     {loans : D → List GName} {limit : Option ℕ} {end_error : ℕ → DecodeError → Type 0} {device : DeviceErrors} {old now : D}
     (kept : OnlyCharged is_known remaining failures reader_of context_of loans old now) where
-  -- a claim that passes the limit
+  -- a claim passes the limit
   pub claim-passed : {A T G : Type 0} {F : Format A} {decodes_to : A → T → Type 0} {e : DecodeError} (n : ℕ) →
       OverClaimed limit (charge old) n (charge now) →
       DecodeFailure end_error device G (answer limit F (remaining old) (charge old)) (failures old) (failures now) (remaining old) (remaining now) (charge now) e →
@@ -71,7 +71,7 @@ module _ {D R C : Type 0} {is_known : D → Type 0} {remaining : D → List ℕ}
     same_loans = kept.same_loans;
   }
 
-  -- one that stands, and memory is refused behind it
+  -- a claim succeeds, then memory is refused
   pub charge-refused : {A T G : Type 0} {F : Format A} {decodes_to : A → T → Type 0} (n : ℕ) → Claimed limit (charge old) n (charge now) → G →
       Reads is_known remaining charge failures loans limit end_error device G F decodes_to (charge old) (Err Memory) old now
   charge-refused n claim grows = record {
@@ -84,7 +84,7 @@ module _ {D R C : Type 0} {is_known : D → Type 0} {remaining : D → List ℕ}
     same_loans = kept.same_loans;
   }
 
-  -- one that stands, and what is read behind it
+  -- a claim succeeds, then a word is read
   pub charge_then-reads : {A T : Type 0} {F : Format A} {mean : T → A} {r : Result T DecodeError} {new : D} (n : ℕ) →
       Claimed limit (charge old) n (charge now) → ReadsWord is_known remaining failures loans end_error device F mean r now new → charge new ≡ charge now →
       Reads is_known remaining charge failures loans limit end_error device ⊥ (charge_then n F) (λ a v. a ≡ mean v) (charge old) r old new
@@ -104,7 +104,7 @@ module _ {D R C : Type 0} {is_known : D → Type 0} {remaining : D → List ℕ}
     same_loans = read.same_loans ∙ kept.same_loans;
   }
 
--- what a reader fills is filled by the one who lends it
+-- what a reader fills is filled through its lender
 pub lent-fills :
     {R S : Type 0} {is_known : R → Type 0} {remaining : R → List ℕ} {failures : R → ℕ} {loans : R → List GName} {is_known' : S → Type 0} {remaining' : S → List ℕ}
     {failures' : S → ℕ} {loans' : S → List GName} {end_error : ℕ → DecodeError → Type 0} {device : DeviceErrors} {bytes filled : List ℕ}
@@ -121,7 +121,7 @@ lent-fills known left failed knows leaves fails placed fills = record {
   same_loans = placed fills.same_loans;
 }
 
--- a number that was read is its meaning read
+-- reading a number reads its meaning
 pub number-reads :
     {D A B : Type 0} {is_known : D → Type 0} {remaining : D → List ℕ} {charge failures : D → ℕ} {loans : D → List GName} {limit : Option ℕ}
     {end_error : ℕ → DecodeError → Type 0} {device : DeviceErrors} {F : Format A} {decodes_to : B → A → Type 0} {start : ℕ} {r : Result A DecodeError}
@@ -135,7 +135,7 @@ number-reads {limit = limit} {F = F} {r = r} f g read =
     read.within
     read
 
--- so an integer is read with what it means
+-- so an integer is read as its meaning
 pub integer-reads :
     {D A : Type 0} {is_known : D → Type 0} {remaining : D → List ℕ} {charge failures : D → ℕ} {loans : D → List GName} {limit : Option ℕ}
     {end_error : ℕ → DecodeError → Type 0} {device : DeviceErrors} {F : Format A} {width : ℕ} {r : Result A DecodeError} {old new : D} (integer : A → ℤ) →

@@ -1,4 +1,4 @@
--- Memory is refused only for what holds something.
+-- Memory is refused only for what is not empty.
 use Rattle.std.specs.Prelude.{◌≡◌, ◌<◌, ◌⊎◌, ℕ, List, Option, Some, None, Result, Ok, Err, IfErr}
 use Rattle.std.specs.Borrow.{GName}
 use Rattle.std.proofs.Common.{inl, inr}
@@ -17,7 +17,7 @@ use Rattle.bincode_spec.specs.Words.{len}
 use Rattle.bincode_decoder.specs.Memory.{BeginsWithSome, IsOfReader, RefusedForSome}
 use Rattle.bincode_decoder.proofs.ReadAnswers.{exactly}
 
--- no fault but the end of the input is told as refused memory
+-- no fault but the end of the input gives `Memory`
 fault-memory : (end_error : ℕ → DecodeError → Type 0) (why : Fault) (e : DecodeError) → Tells end_error why e → e ≡ Memory → (missing : ℕ) × end_error missing e
 fault-memory end_error (End (Some missing)) e h k = (missing, h)
 fault-memory end_error (End None) e h k = h
@@ -36,7 +36,7 @@ fault-memory end_error (LengthMismatch required found) e h k = absurd (cc)
 fault-memory end_error EmptyEnum e h k = let t = h.1 in absurd (cc)
 fault-memory end_error (OutsideUsize n) e h k = absurd (cc)
 
--- what stops with refused memory was refused some, or the reader told so
+-- a failure with `Memory` is a refused allocation, or an error of the reader
 stops-memory : {A : Type 0} {end_error : ℕ → DecodeError → Type 0} {device : DeviceErrors} {G : Type 0} {a : Answer A} {before after : ℕ} {remaining remaining' : List ℕ} {charge : ℕ} (e : DecodeError) →
     DecodeFailure end_error device G a before after remaining remaining' charge e → e ≡ Memory → G ⊎ IsOfReader end_error device e
 stops-memory {end_error = end_error} e (by_fault why a h t) k = inr (inl (fault-memory end_error why e h k))
@@ -63,7 +63,7 @@ begins s limit input c n remaining d h k = let t = weighed-took limit c ((len s)
 
 module _ {D T : Type 0} {is_known : D → Type 0} {remaining : D → List ℕ} {charge failures : D → ℕ} {loans : D → List GName} {limit : Option ℕ}
     {end_error : ℕ → DecodeError → Type 0} {device : DeviceErrors} (s : Setting) {start : ℕ} {old : D} where
-  -- where nothing takes memory, none is refused
+  -- if nothing allocates, nothing is refused
   pub none-refused : {A : Type 0} {F : Format A} {decodes_to : A → T → Type 0} {e : DecodeError} {new : D} →
       Reads is_known remaining charge failures loans limit end_error device ⊥ F decodes_to start (Err e) old new →
       is_known old → e ≡ Memory → BeginsWithSome s (remaining old) ⊎ IsOfReader end_error device e
@@ -73,7 +73,7 @@ module _ {D T : Type 0} {is_known : D → Type 0} {remaining : D → List ℕ} {
       none (inl h) = absurd h
       none (inr h) = inr h
 
-  -- behind a length, memory is refused where what follows takes it for some alone
+  -- after a length, memory is refused only for a length above 0
   pub some-refused : {A : Type 0} {F : Format A} {decodes_to : A → T → Type 0} {n c : ℕ} (r : Result T DecodeError) {middle new : D} →
       Reads is_known remaining charge failures loans limit end_error device ⊥ (len s) (λ m v. m ≡ v) start (Ok n) old middle →
       Reads is_known remaining charge failures loans limit end_error device (0 < n) F decodes_to c r middle new →

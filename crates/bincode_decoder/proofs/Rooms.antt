@@ -1,4 +1,4 @@
--- The room that is held for a run of values.
+-- The claims that are reserved for a run of values.
 use Rattle.std.specs.Prelude.{if◌then◌else◌, ◌≡◌, ℕ, zero, suc, ◌+◌, ◌-◌, ◌*◌, ◌^◌, ◌<◌, ◌≤◌, nat_lt, nat_le, Bool, true, false, is_some, List, Option, Some, None, Result, Ok, Err, IfOk, refl}
 use Rattle.std.specs.Bool.{MatchBool}
 use Rattle.std.specs.Borrow.{GName}
@@ -11,22 +11,22 @@ use Rattle.bincode_spec.specs.Answer.{Allows, Claimed, OverClaimed, after_releas
 use Rattle.bincode_spec.specs.Run.{Held}
 use Rattle.bincode_lemmas.specs.AnswerLaws.{claim-falls}
 
--- the room of fewer values is within that of more
+-- the claims of fewer values are within those of more
 pub held-within : (limit : Option ℕ) (share n m start c : ℕ) → n ≤ m → Held limit (n * share) start c → Held limit (m * share) start c
 held-within None share n m start c le h = h
 held-within (Some limit) share n m start c le h = let k : n * share ≤ m * share = mul-le-mul_right share le in omega arith
 
--- where nothing was released, the room of any values is held
+-- if nothing was released, the claims are still reserved
 pub held-still : (limit : Option ℕ) (room charge : ℕ) → Held limit room charge charge
 held-still None room charge = omega arith
 held-still (Some limit) room charge = omega arith
 
--- the charge behind a claim that stands
+-- the charge after a claim that succeeded
 pub claimed_by : (b : Bool) (raised after : ℕ) → (if b then Some raised else None) ≡ Some after → after ≡ raised
 claimed_by true raised after e = cc
 claimed_by false raised after e = absurd (cc)
 
--- a claim that stands gives nothing back,
+-- a claim that succeeds lowers nothing,
 pub claimed-grows : (limit : Option ℕ) (before n after : ℕ) → Claimed limit before n after → before ≤ after
 claimed-grows None before n after h = let e : after ≡ before = cc in omega (arith, e)
 claimed-grows (Some limit) before n after h = let e = claimed_by (nat_le (before + n) limit) (before + n) after h in omega (arith, e)
@@ -48,12 +48,12 @@ pub unclaimed-within : (limit : Option ℕ) (charge n : ℕ) → Allows limit ch
 unclaimed-within None charge n h = tt
 unclaimed-within (Some limit) charge n h = omega arith
 
--- a fact that doesn't depend on what was given
+-- a fact that does not depend on the value
 pub whatever_given : {T E : Type 0} (r : Result T E) {P : Type 0} → P → IfOk r (λ _. P)
 whatever_given (Ok v) p = p
 whatever_given (Err e) p = tt
 
--- nor does what holds its room,
+-- nor does it lower what is reserved,
 pub claimed-held : (limit : Option ℕ) (before n after end : ℕ) → Claimed limit before n after → Held limit n after end → before ≤ end
 claimed-held None before n after end h k = let e : after ≡ before = cc in omega (arith, e, k)
 claimed-held (Some limit) before n after end h k = let e = claimed_by (nat_le (before + n) limit) (before + n) after h in omega (arith, e, k)
@@ -79,7 +79,7 @@ over-claims (Some limit) before n e fits h = record {
   err = (refl, (claim-falls limit before n (let k = fits limit refl in omega arith), rw (le-ltb (before + n) (2 ^ 64) (omega arith)) refl));
 }
 
--- room that is there where it is none was refused for some
+-- memory that can be refused is for at least one
 pub refused-some : (n : ℕ) → (n ≡ 0 → false ≡ true) → 0 < n
 refused-some zero h = absurd (false≢true (h refl))
 refused-some (suc n) h = omega arith
@@ -94,6 +94,6 @@ pub unclaimed-some : (limit : Option ℕ) (charge n : ℕ) → true ≡ is_some 
 unclaimed-some None charge n e = absurd (true≢false e)
 unclaimed-some (Some limit) charge n e = refl
 
--- what a test of two numbers tells
+-- a comparison of two numbers, as a fact
 pub leb-tells : (a b : ℕ) → MatchBool (nat_le a b) (a ≤ b) (¬ (a ≤ b))
 leb-tells a b = cases_from_iff (leb-true a b, le-leb a b)

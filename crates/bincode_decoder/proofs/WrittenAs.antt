@@ -1,4 +1,4 @@
--- What is written doesn't change what is read.
+-- What is written does not change what is read.
 use Rattle.std.specs.Prelude.{◌≡◌, ℕ, List, Option, refl}
 use Rattle.bincode_spec.specs.Format.{Format, written_as}
 use Rattle.bincode_spec.specs.Answer.{answer}

@@ -1,4 +1,4 @@
--- A decoder with a context of its own, and who lent it.
+-- A decoder with a context of its own, and its lender.
 use Rattle.std.specs.Borrow.{MutBor}
 use Rattle.bincode_decoder.specs.declared.context.WithContext.{WithContext}
 

@@ -1,4 +1,4 @@
-//! Bytes and texts behind their length that a decoder lends of its source, without a copy.
+//! Length-prefixed bytes and texts that are borrowed from the source.
 ghost use Rattle.std.specs.Prelude.{◌≡◌};
 ghost use Rattle.bincode_spec.specs.Format.{fixed_bytes, without_count, charge_then};
 ghost use Rattle.bincode_spec.specs.Meaning.{IsBytes};
@@ -9,8 +9,7 @@ use crate::decoder::{BorrowDecoder, BorrowedBytes};
 use crate::lengths::decode_length;
 use bincode_base::error::DecodeError;
 
-/// Charges for so many bytes, and takes them of the source, without a copy. Fails with `LimitExceeded` where the charge
-/// passes the limit, and where the reader does. A fault leaves what was charged before it. It takes no memory.
+/// Charges `count` bytes, then borrows them from the source. Fails with `LimitExceeded`, or the error of the reader.
 fn take_claimed<B: BorrowedBytes, D: BorrowDecoder<B>>(
     decoder: &mut D,
     count: usize,
@@ -23,9 +22,8 @@ fn take_claimed<B: BorrowedBytes, D: BorrowDecoder<B>>(
     decoder.take_bytes(count)
 }
 
-/// Reads a length, and takes so many bytes of the source, without a copy. Fails where the length can't be read, with
-/// `LimitExceeded` where the charge for the bytes passes the limit, and where the reader fails. A fault leaves what was
-/// charged before it. It takes no memory.
+/// Reads a length prefix, then borrows that many bytes from the source; they are charged first. Does not allocate.
+/// Fails with the error of the length, `LimitExceeded`, or the error of the reader.
 pub fn take_length_prefixed<B: BorrowedBytes, D: BorrowDecoder<B>>(
     decoder: &mut D,
 ) -> Result<B, DecodeError>
@@ -37,9 +35,8 @@ pub fn take_length_prefixed<B: BorrowedBytes, D: BorrowDecoder<B>>(
     take_claimed(decoder, count)
 }
 
-/// Reads a length, and takes so many bytes of the source as a text, without a copy. Fails where `take_length_prefixed`
-/// does, or with `Utf8` where the bytes, all of which are taken, are no text. A fault leaves what was charged before
-/// it. It takes no memory.
+/// Borrows a length-prefixed text, like `take_length_prefixed`. Fails with `Utf8` if the bytes are not UTF-8; they are
+/// then consumed.
 pub fn take_text<'de, D: BorrowDecoder<&'de [u8]>>(decoder: &mut D) -> Result<&'de str, DecodeError>
     ensures { Reads D.is_known D.remaining D.charge D.failures D.loans D.C.bound D.R.end_error D.R.device ⊥
         (text D.C.setting) (λ m v. IsBytes v.now m) (D.charge decoder.old) result decoder.old decoder.new }

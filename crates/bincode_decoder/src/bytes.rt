@@ -1,4 +1,4 @@
-//! Runs of bytes, read at once through any decoder.
+//! Bytes that are read at once.
 ghost use Rattle.std.specs.Prelude.{◌*◌, pos, length};
 ghost use Rattle.bincode_spec.specs.Integers.{unsigned_byte};
 ghost use Rattle.bincode_spec.specs.Meaning.{IsNumber};
@@ -11,9 +11,8 @@ use crate::decoder::Decoder;
 use crate::integers::read_from;
 use bincode_base::error::DecodeError;
 
-/// Fills `values` with the next bytes, whose room `claim_container_read` has reserved, by one read. It is called with a
-/// charge within the limit, and then has the answer of reading one by one, each one's share released before it. Fails
-/// where the reader does.
+/// Fills `values` with the next bytes, in one read. `claim_container_read` must have reserved their claims. The result
+/// is that of reading one by one with each claim released first. Errors are those of the reader.
 #[inline(always)]
 pub fn decode_bytes<D: Decoder>(decoder: &mut D, values: &mut [u8]) -> Result<(), DecodeError>
     requires { CanRelease D.C.bound (D.charge decoder.old) (length values.old * 1)

@@ -1,4 +1,4 @@
-//! C strings behind their length, read through any decoder.
+//! Decoding of length-prefixed C strings.
 ghost use Rattle.std.specs.Prelude.{◌≡◌, length, vec_capacity};
 ghost use Rattle.bincode_spec.specs.Meaning.{IsBytes};
 ghost use Rattle.bincode_spec.specs.Words.{without_nul};
@@ -11,9 +11,8 @@ use crate::texts::decode_length_prefixed;
 use bincode_base::error::DecodeError;
 use bincode_types::own::ffi::CString;
 
-/// Reads a length, and so many bytes as a C string, with room for just so many. Fails where `decode_length_prefixed`
-/// does, or with `CStringNulError` where one of the bytes, all of which are read, is zero, with the place of the first.
-/// A fault leaves what was charged before it.
+/// Decodes a C string into a vector without spare capacity. Fails like `decode_length_prefixed`, or with
+/// `CStringNulError` and the index of the first zero byte; the bytes are then consumed.
 pub fn decode_c_string<D: Decoder>(decoder: &mut D) -> Result<CString, DecodeError>
     ensures read { Reads D.is_known D.remaining D.charge D.failures D.loans D.C.bound D.R.end_error D.R.device
         (Unit {0}) (without_nul D.C.setting)

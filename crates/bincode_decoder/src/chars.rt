@@ -1,4 +1,4 @@
-//! Characters, read through any decoder.
+//! Decoding of characters.
 ghost use Rattle.std.specs.Prelude.{◌≡◌, Some};
 ghost use Rattle.bincode_spec.specs.Format.{charge_then};
 ghost use Rattle.bincode_spec.specs.Reads.{ReadsUncharged};
@@ -11,7 +11,7 @@ use crate::integers::read_byte_from;
 use bincode_base::error::DecodeError;
 use bincode_types::chars::{read_rest_of_char, width_of_char};
 
-// Always inlined, as numbers are: a call hands on a result with room for an error.
+// All are inlined, as for numbers: a call returns its result through memory, for the error in it.
 
 #[inline(always)]
 fn read_rest_of_char_from<D: Decoder>(
@@ -26,8 +26,7 @@ fn read_rest_of_char_from<D: Decoder>(
     read_rest_of_char(decoder.reader(), first, width)
 }
 
-/// Charges for a character of so many bytes, and reads those behind the first. A fault leaves what was charged before
-/// it.
+/// Charges a character of `width` bytes, and reads those after the first one.
 #[inline(always)]
 pub fn decode_rest_of_char<D: Decoder>(
     decoder: &mut D,
@@ -42,8 +41,8 @@ pub fn decode_rest_of_char<D: Decoder>(
     read_rest_of_char_from(decoder, first, width)
 }
 
-/// Reads the first byte of a character, and then charges for all its bytes and reads the others. A fault leaves what
-/// was charged before it.
+/// Reads the first byte of a character, charges all its bytes, and reads the others. Fails with `InvalidCharEncoding`,
+/// `LimitExceeded`, or the error of the reader.
 #[inline(always)]
 pub fn decode_char<D: Decoder>(decoder: &mut D) -> Result<char, DecodeError>
     ensures { Reads D.is_known D.remaining D.charge D.failures D.loans D.C.bound D.R.end_error D.R.device ⊥ character

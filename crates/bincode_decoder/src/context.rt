@@ -8,8 +8,7 @@ use crate::decoder::{BorrowDecoder, BorrowedBytes, Decoder};
 use bincode_base::error::DecodeError;
 use std::alloc::Global;
 
-/// A decoder that was lent, with a context of its own. All else is the lender's: what it reads from, its configuration
-/// and its charge.
+/// A borrowed decoder with a context of its own. The reader, the configuration and the charge are the lender's.
 pub struct WithContext<'a, D, Context> {
     decoder: &'a mut D,
     context: Context,
@@ -26,10 +25,10 @@ impl<D, Context: Drop> Drop for WithContext<'_, D, Context> {
     }
 }
 
-/// Decoders that can be lent with another context: all of them.
+/// Decoders that can be borrowed with another context: all of them.
 pub trait LendInContext: Decoder {
-    /// Lends the decoder with this context. When the borrow ends, the decoder is as the last call left it. No contract
-    /// says that a call through the loan leaves the decoder's own context as it was.
+    /// Borrows the decoder with this context. What calls through the borrow read and charge stays so afterwards. No
+    /// contract says that they leave the decoder's own context as it was.
     fn with_context<'a, Context: Drop>(
         &'a mut self,
         context: Context,

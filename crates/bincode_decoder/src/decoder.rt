@@ -17,7 +17,7 @@ pub use borrow::{BorrowDecoder, BorrowedBytes};
 use std::alloc::Global;
 
 pub(crate) mod sealed {
-    /// Only the decoders of this crate are decoders.
+    /// Seals `Decoder`: only this crate implements it.
     pub trait Sealed {}
 }
 
@@ -31,28 +31,28 @@ pub trait Decoder: Sealed {
 
     type Context: Drop;
 
-    /// That its reader tells the bytes that are left. What is said of `remaining` is said where it does.
+    /// The remaining bytes are known (a slice), or not (a file). Clauses about `remaining` assume that they are.
     ghost is_known: { Self → Type 0 };
 
-    /// The bytes that are left.
+    /// The remaining bytes.
     ghost remaining: { Self → List ℕ };
 
     /// How often the device failed.
     ghost failures: { Self → ℕ };
 
-    /// How many bytes are charged.
+    /// The number of bytes that are charged.
     ghost charge: { Self → ℕ };
 
-    /// Its reader.
+    /// The reader.
     ghost reader_of: { Self → Self.R };
 
-    /// The same with another reader.
+    /// The decoder with another reader.
     ghost put_reader: { Self → Self.R → Self };
 
-    /// Its context.
+    /// The context.
     ghost context_of: { Self → Self.Context };
 
-    /// The same with another context.
+    /// The decoder with another context.
     ghost put_context: { Self → Self.Context → Self };
 
     /// The references that it reads through. No call changes them.
@@ -71,44 +71,44 @@ pub trait Decoder: Sealed {
     /// Lends the configuration.
     fn config(&self) -> &Self::C;
 
-    /// Gives the allocator of what is decoded.
+    /// The allocator for what is decoded.
     fn alloc(&self) -> Global;
 
-    /// Charges `n` bytes. Without a limit nothing is counted. Fails with `LimitExceeded` where the raised charge is
-    /// above the limit: the raised charge is kept if it fits 64 bits, else the charge stays.
+    /// Charges `n` bytes; without a limit nothing is counted. Fails with `LimitExceeded` if the new charge is above the
+    /// limit. It is kept then too, unless it does not fit 64 bits.
     fn claim_bytes_read(&mut self, n: usize) -> Result<(), DecodeError>
         ensures { MakesClaim is_known remaining charge failures reader_of context_of loans Self.C.bound n result
             self.old self.new };
 
-    /// Whether the charge is within the limit. After a claim that passed it, it may not be.
+    /// Whether the charge is within the limit. After a claim that failed it may not be.
     fn is_within_limit(&self) -> bool
         ensures { MatchBool result (Allows Self.C.bound (charge self.now))
             (¬ (Allows Self.C.bound (charge self.now))) };
 
-    /// Takes `n` bytes off the charge, of those that a container claimed. Without a limit nothing is counted.
+    /// Releases `n` of the bytes that a container claimed; without a limit nothing is counted.
     fn unclaim_bytes_read(&mut self, n: usize)
         requires { CanRelease Self.C.bound (charge self.old) n }
         ensures { MakesRelease is_known remaining charge failures reader_of context_of loans Self.C.bound n self.old
             self.new };
 
-    /// A reader that was put is the reader, and a context beside it stays,
+    /// Lens laws: `reader_of` after `put_reader` is the reader put; `put_context` leaves it,
     ghost reader_put: { (d : Self) (r : Self.R) → reader_of (put_reader d r) ≡ r };
 
     ghost reader_kept: { (d : Self) (x : Self.Context) → reader_of (put_context d x) ≡ reader_of d };
 
-    /// and so it is with a context.
+    /// and likewise for the context.
     ghost context_put: { (d : Self) (x : Self.Context) → context_of (put_context d x) ≡ x };
 
     ghost context_kept: { (d : Self) (r : Self.R) → context_of (put_reader d r) ≡ context_of d };
 
-    /// What the reader tells and counts is what the decoder does.
+    /// The decoder knows and counts what its reader does.
     ghost reader_is_known: { (d : Self) → is_known d → Self.R.is_known (reader_of d) };
 
     ghost remaining_is: { (d : Self) → Self.R.remaining (reader_of d) ≡ remaining d };
 
     ghost failures_is: { (d : Self) → Self.R.failures (reader_of d) ≡ failures d };
 
-    /// Another reader changes what is read, and not the charge,
+    /// Replacing the reader changes what remains, and not the charge,
     ghost put_is_known: { (d : Self) (r : Self.R) → Self.R.is_known r → is_known (put_reader d r) };
 
     ghost put_remaining: { (d : Self) (r : Self.R) → remaining (put_reader d r) ≡ Self.R.remaining r };
@@ -120,7 +120,7 @@ pub trait Decoder: Sealed {
     ghost put_loans: { (d : Self) (r : Self.R) → Self.R.loans r ≡ Self.R.loans (reader_of d)
         → loans (put_reader d r) ≡ loans d };
 
-    /// and another context neither.
+    /// and replacing the context changes neither.
     ghost context_is_known: { (d : Self) (x : Self.Context) → is_known d → is_known (put_context d x) };
 
     ghost context_remaining: { (d : Self) (x : Self.Context) → remaining (put_context d x) ≡ remaining d };
@@ -132,10 +132,10 @@ pub trait Decoder: Sealed {
     ghost context_loans: { (d : Self) (x : Self.Context) → loans (put_context d x) ≡ loans d };
 }
 
-/// Claims for containers, by every decoder.
+/// Claims of containers, for every decoder.
 pub trait ClaimContainer: Decoder {
-    /// Charges for a container of `len` elements: `claim_bytes_read` of `len` times the claim size of `T`. A product
-    /// that does not fit 64 bits is above each limit, and then the charge stays.
+    /// Charges a container of `len` elements: `len` times the claim of `T`. Fails with `LimitExceeded` if that passes
+    /// the limit; a product that does not fit 64 bits passes every limit and leaves the charge as it was.
     fn claim_container_read<T: Wire>(&mut self, len: usize) -> Result<(), DecodeError>
         ensures { MakesClaim Self.is_known Self.remaining Self.charge Self.failures Self.reader_of Self.context_of
             Self.loans Self.C.bound (len * T.words.claim) result self.old self.new };
@@ -147,8 +147,7 @@ impl<D: Decoder> ClaimContainer for D {
     }
 }
 
-/// Charges for `len` elements, each of which claims so many bytes. A product that does not fit 64 bits is above each
-/// limit, and then the charge stays.
+/// `claim_container_read` with the claim of an element in bytes.
 pub fn claim_room<D: Decoder>(decoder: &mut D, len: usize, claim: usize) -> Result<(), DecodeError>
     ensures { MakesClaim D.is_known D.remaining D.charge D.failures D.reader_of D.context_of D.loans D.C.bound
         (len * claim) result decoder.old decoder.new }
@@ -160,7 +159,7 @@ pub fn claim_room<D: Decoder>(decoder: &mut D, len: usize, claim: usize) -> Resu
     }
 }
 
-/// Charges `n` bytes under a limit.
+/// Charges `n` bytes if there is a limit.
 fn claim(limit: Option<usize>, bytes_read: &mut usize, n: usize) -> Result<(), DecodeError>
     ensures { Claims limit bytes_read.old n bytes_read.new result }
 {
@@ -188,7 +187,7 @@ fn is_within(limit: Option<usize>, bytes_read: usize) -> bool
     }
 }
 
-/// Takes `n` bytes off the charge under a limit.
+/// Releases `n` bytes if there is a limit.
 fn unclaim(limit: Option<usize>, bytes_read: &mut usize, n: usize)
     requires { CanRelease limit bytes_read.old n }
     ensures { bytes_read.new ≡ after_release limit bytes_read.old n }
@@ -220,7 +219,7 @@ impl<R: Drop, C: Drop, Context: Drop> Drop for DecoderImpl<R, C, Context> {
 }
 
 impl<R: Reader, C: Config, Context: Drop> DecoderImpl<R, C, Context> {
-    /// A decoder of this reader, which has charged nothing.
+    /// A decoder of this reader, with a charge of 0.
     pub fn new(alloc: Global, reader: R, config: C, context: Context) -> DecoderImpl<R, C, Context>
         ensures reader { ⟦<DecoderImpl<R, C, Context> as Decoder>⟧.reader_of result ≡ reader }
         ensures context { ⟦<DecoderImpl<R, C, Context> as Decoder>⟧.context_of result ≡ context }
@@ -326,7 +325,7 @@ impl<R: Reader, C: Config, Context: Drop> Decoder for DecoderImpl<R, C, Context>
     ghost context_loans = { λ d x. refl };
 }
 
-/// A decoder whose reader, configuration and context are lent.
+/// A decoder that borrows its reader, its configuration and its context.
 pub struct LentDecoder<'a, R, C, Context> {
     reader: &'a mut R,
     config: &'a C,
@@ -350,7 +349,7 @@ impl<R, C, Context> Drop for LentDecoder<'_, R, C, Context> {
 }
 
 impl<'a, R: Reader, C: Config, Context: Drop> LentDecoder<'a, R, C, Context> {
-    /// A decoder of this reader, which has charged nothing.
+    /// A decoder of this reader, with a charge of 0.
     pub fn new(
         alloc: Global,
         reader: &'a mut R,

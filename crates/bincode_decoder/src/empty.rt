@@ -1,4 +1,4 @@
-//! Enums without variants, read through any decoder.
+//! Decoding of enums without variants.
 ghost use Rattle.bincode_spec.specs.Fault.{EmptyEnum};
 ghost use Rattle.bincode_spec.specs.Format.{fail};
 ghost use Rattle.bincode_spec.specs.Meaning.{Meaning};
@@ -9,8 +9,7 @@ use crate::tags::Named;
 use bincode_base::error::DecodeError;
 use bincode_base::short_text::ShortText;
 
-/// Refuses to read the enum `Of` without variants, with `EmptyEnum`, which has its name. Nothing is read and nothing is
-/// charged, so neither the input nor the limit matters.
+/// Fails with `EmptyEnum` and the name of `Of`. Reads and charges nothing, so neither the input nor the limit matters.
 #[inline]
 pub fn decode_no_variants<Of: Named, T, D: Decoder>(decoder: &mut D) -> Result<T, DecodeError>
     ensures { Reads D.is_known D.remaining D.charge D.failures D.loans D.C.bound D.R.end_error D.R.device ⊥

@@ -1,4 +1,4 @@
-//! Integers and bytes, read through any decoder.
+//! Decoding of integers and bytes.
 ghost use Rattle.std.specs.Prelude.{◌≡◌, pos, ok_or};
 ghost use Rattle.bincode_base.specs.declared.error.DecodeError.TheVariants.{NonZeroTypeIsZero};
 ghost use Rattle.bincode_spec.specs.Device.{FillsBuffer};
@@ -16,8 +16,8 @@ use bincode_types::wire::Wire;
 use bincode_varint::bytes::{read_byte, read_i8};
 use bincode_varint::number::Integer;
 
-/// Charges for all bytes of an integer, and reads it as the configuration says. Fails where the charge passes the
-/// limit, and where `Integer::read` does. A fault leaves what was charged before it.
+/// Charges the width of an integer, and reads it in the integer encoding and byte order of the configuration. Fails
+/// with `LimitExceeded`, or with the errors of `Integer::read`.
 #[inline(always)]
 pub fn decode_integer<T: Integer + Wire, D: Decoder>(decoder: &mut D) -> Result<T, DecodeError>
     requires { T.words.claim ≡ T.width }
@@ -38,7 +38,7 @@ fn read_integer_from<T: Integer, D: Decoder>(decoder: &mut D) -> Result<T, Decod
     T::read(decoder.reader(), endian, encoding)
 }
 
-/// Charges for a byte, and reads it. A fault leaves what was charged before it.
+/// Charges a byte, and reads it.
 pub fn decode_byte<D: Decoder>(decoder: &mut D) -> Result<u8, DecodeError>
     ensures { ReadsInteger D.is_known D.remaining D.charge D.failures D.loans D.C.bound D.R.end_error D.R.device
         unsigned_byte pos 1 result decoder.old decoder.new }
@@ -54,7 +54,7 @@ pub fn read_byte_from<D: Decoder>(decoder: &mut D) -> Result<u8, DecodeError>
     read_byte(decoder.reader())
 }
 
-/// Charges for a signed byte, and reads it. A fault leaves what was charged before it.
+/// Charges a signed byte, and reads it.
 pub fn decode_signed_byte<D: Decoder>(decoder: &mut D) -> Result<i8, DecodeError>
     ensures { ReadsInteger D.is_known D.remaining D.charge D.failures D.loans D.C.bound D.R.end_error D.R.device
         signed_byte (λ z. z) 1 result decoder.old decoder.new }
@@ -79,7 +79,7 @@ pub fn read_from<D: Decoder>(decoder: &mut D, bytes: &mut [u8]) -> Result<(), De
     decoder.reader().read(bytes)
 }
 
-/// The number, unless it was 0. A fault speaks of it by name.
+/// Unwraps a `NonZero`; `None` (it was 0) is `NonZeroTypeIsZero` with this type's name.
 #[inline]
 pub fn not_zero<T>(number: Option<T>, name: IntegerType) -> Result<T, DecodeError>
     ensures { result ≡ ok_or number (NonZeroTypeIsZero name) }

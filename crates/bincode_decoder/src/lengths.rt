@@ -1,4 +1,4 @@
-//! Lengths of lists, read through any decoder.
+//! Decoding of length prefixes.
 ghost use Rattle.std.specs.Prelude.{◌≡◌};
 ghost use Rattle.bincode_spec.specs.Words.{len};
 ghost use Rattle.bincode_spec.specs.Values.{ReadsCharged};
@@ -7,8 +7,8 @@ use crate::decoder::Decoder;
 use crate::integers::decode_integer;
 use bincode_base::error::DecodeError;
 
-/// Charges for the 8 bytes of a length, and reads it. Fails where the charge passes the limit, and where the number
-/// can't be read; each length fits `usize`, which has 64 bits here. A fault leaves what was charged before it.
+/// Charges the 8 bytes of a length prefix, and reads it. Every length fits `usize`, which has 64 bits here. Fails with
+/// `LimitExceeded`, or with the errors of `Integer::read`.
 #[inline(always)]
 pub fn decode_length<D: Decoder>(decoder: &mut D) -> Result<usize, DecodeError>
     ensures { ReadsCharged D.is_known D.remaining D.charge D.failures D.loans D.C.bound D.R.end_error D.R.device

@@ -1,5 +1,5 @@
-//! Decoders, and what is read through any of them: numbers, characters, truth values, spans of time, octets, tags and
-//! texts.
+//! Decoders, and how integers, characters, `bool`, durations, octets, tags and texts are read through them. Functions
+//! charge and read in the order of docs/FORMAT.md, section 10. After an error the charges made before it stay.
 #![tactic(auto)]
 
 pub mod borrow;

@@ -1,4 +1,4 @@
-//! Octets of addresses, read through any decoder.
+//! Decoding of the octets of addresses.
 ghost use Rattle.bincode_spec.specs.Meaning.{IsBytes};
 ghost use Rattle.bincode_spec.specs.Octets.{octets};
 ghost use Rattle.bincode_spec.specs.Values.{Reads};
@@ -8,8 +8,7 @@ use crate::integers::read_from;
 use bincode_base::error::DecodeError;
 use bincode_types::octets::Octets;
 
-/// Charges for octets, one byte each, and then reads all of them as they are. Fails where the charge passes the limit,
-/// which is before any is read, and where the reader fails. A fault leaves what was charged before it.
+/// Charges `N` bytes, then reads them as they are. Fails with `LimitExceeded`, or the error of the reader.
 #[inline]
 pub fn decode_octets<D: Decoder, const N: usize>(decoder: &mut D) -> Result<Octets<N>, DecodeError>
     ensures { Reads D.is_known D.remaining D.charge D.failures D.loans D.C.bound D.R.end_error D.R.device ⊥ (octets N)

@@ -1,4 +1,4 @@
-//! Tags of enums, read through any decoder, and the error of one that no variant has.
+//! Decoding of the tags of enums, and the error of an unknown tag.
 ghost use Rattle.std.specs.Prelude.{◌≡◌, ◌⊎◌, ◌++◌, false, OnOk, IfOk};
 ghost use Rattle.bincode_spec.specs.Fault.{TellsTag};
 ghost use Rattle.bincode_base.specs.declared.error.DecodeError.TheVariants.{Memory};
@@ -15,7 +15,7 @@ use std::alloc::{AllocError, Global};
 use std::net::{IpAddr, SocketAddr};
 use std::ops::Bound;
 
-/// A type that errors name.
+/// A type with a name for error messages.
 pub trait Named {
     fn type_name() -> TypeName;
 }
@@ -75,15 +75,15 @@ impl DecodeTag for u32 {
 
 /// Variants whose tags an error can list.
 pub trait Listed: Variants {
-    /// Whether the tags stand in order, from `next` on.
+    /// Whether the tags are consecutive, from `next` on.
     fn are_in_order(next: u64) -> bool
         ensures { result ≡ in_order next (variant_tags Self.variants) };
 
-    /// The last tag, or the one before where there is none.
+    /// The last tag, or `before` if there are no variants.
     fn last_tag(before: u32) -> u32
         ensures { result ≡ last_of before (variant_tags Self.variants) };
 
-    /// Adds the tags to a list.
+    /// Appends the tags to a list. Fails if an allocation is refused.
     fn push_tags(tags: &mut Vec<u32>) -> Result<(), AllocError>
         ensures { OnOk result (tags.new.items ≡ tags.old.items ++ variant_tags Self.variants) };
 }
@@ -117,7 +117,8 @@ impl<const TAG: u32, A: Wire, Others: Listed> Listed for VariantOf<TAG, A, Other
     }
 }
 
-/// The error of a tag that was read and that none of a type's `All` variants has.
+/// The error of a tag that none of the `All` variants has: `UnexpectedVariant`, or `UnlistedVariant` if the tags are
+/// not 0, 1 and so on; `Memory` if the list of that cannot be allocated.
 #[inline(always)]
 pub fn unexpected_tag<Of: Named, All: Listed, D: Decoder>(decoder: &D, found: u32) -> DecodeError
     ensures { ((name : _) × TellsTag name (allowed_tags (variant_tags All.variants)) found result)
@@ -126,7 +127,7 @@ pub fn unexpected_tag<Of: Named, All: Listed, D: Decoder>(decoder: &D, found: u3
     unexpected::<Of, All>(decoder.alloc(), found)
 }
 
-/// The same: it takes memory for a list of tags that do not stand in order.
+/// `unexpected_tag` with the allocator.
 #[cold]
 #[inline(never)]
 fn unexpected<Of: Named, All: Listed>(alloc: Global, found: u32) -> DecodeError

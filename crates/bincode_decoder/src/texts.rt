@@ -1,4 +1,4 @@
-//! Texts behind their length, read through any decoder.
+//! Decoding of length-prefixed texts.
 ghost use Rattle.std.specs.Prelude.{◌≡◌, ◌<◌, length, IfOk, IfErr, vec_len, vec_capacity};
 ghost use Rattle.bincode_base.specs.declared.error.DecodeError.TheVariants.{Memory};
 ghost use Rattle.std.specs.String.{string_bytes, string_capacity};
@@ -14,7 +14,7 @@ use crate::lengths::decode_length;
 use bincode_base::error::DecodeError;
 use std::alloc::Global;
 
-/// So many zeros, with room for just so many. Fails with `Memory` where the room is refused, and never for none.
+/// `count` zeros, without spare capacity. Fails with `Memory` if the allocation is refused; never for none.
 fn zeros(alloc: Global, count: usize) -> Result<Vec<u8>, DecodeError>
     ensures length { IfOk result (λ v. vec_len v ≡ count) }
     ensures room { IfOk result (λ v. vec_capacity v ≡ count) }
@@ -29,9 +29,8 @@ fn zeros(alloc: Global, count: usize) -> Result<Vec<u8>, DecodeError>
     Ok(bytes)
 }
 
-/// Charges for so many bytes, makes room for them and reads them in one piece. Fails with `LimitExceeded` where the
-/// charge passes the limit, before any room is made, with `Memory` where the room is refused, which it never is for no
-/// bytes, and where the reader does. A fault leaves what was charged before it.
+/// Charges `count` bytes, allocates for them and reads them in one piece. Fails with `LimitExceeded` before it
+/// allocates, `Memory` if the allocation is refused (never for no bytes), or the error of the reader.
 fn decode_claimed<D: Decoder>(decoder: &mut D, count: usize) -> Result<Vec<u8>, DecodeError>
     ensures room { IfOk result (λ v. vec_capacity v ≡ length v.items) }
     ensures read { Reads D.is_known D.remaining D.charge D.failures D.loans D.C.bound D.R.end_error D.R.device
@@ -44,10 +43,9 @@ fn decode_claimed<D: Decoder>(decoder: &mut D, count: usize) -> Result<Vec<u8>, 
     Ok(bytes)
 }
 
-/// Reads a length, and then so many bytes in one piece, into a vector with room for just so many. Fails where the
-/// length can't be read, with `LimitExceeded` where the charge for the bytes passes the limit, with `Memory` where
-/// their room is refused, which it never is for no bytes, and where the reader fails. A fault leaves what was charged
-/// before it.
+/// Reads a length prefix, then that many bytes in one piece into a vector without spare capacity. Fails with the error
+/// of the length, `LimitExceeded` before it allocates, `Memory` if the allocation is refused (never for no bytes), or
+/// the error of the reader.
 pub fn decode_length_prefixed<D: Decoder>(decoder: &mut D) -> Result<Vec<u8>, DecodeError>
     ensures room { IfOk result (λ v. vec_capacity v ≡ length v.items) }
     ensures read { Reads D.is_known D.remaining D.charge D.failures D.loans D.C.bound D.R.end_error D.R.device
@@ -59,9 +57,8 @@ pub fn decode_length_prefixed<D: Decoder>(decoder: &mut D) -> Result<Vec<u8>, De
     decode_claimed(decoder, count)
 }
 
-/// Reads a length, and so many bytes as a text, with room for just so many. Fails where `decode_length_prefixed` does,
-/// or with
-/// `Utf8` where the bytes, all of which are read, are no text. A fault leaves what was charged before it.
+/// Decodes a text without spare capacity. Fails like `decode_length_prefixed`, or with `Utf8` if the bytes are not
+/// UTF-8; they are then consumed.
 pub fn decode_text<D: Decoder>(decoder: &mut D) -> Result<String, DecodeError>
     ensures read { Reads D.is_known D.remaining D.charge D.failures D.loans D.C.bound D.R.end_error D.R.device
         (Unit {0}) (text D.C.setting) (λ m v. IsBytes (string_bytes v) m × (string_capacity v ≡ length

@@ -1,4 +1,4 @@
-//! Spans of time, read through any decoder.
+//! Decoding of `Duration`.
 ghost use Rattle.std.specs.Prelude.{pos};
 ghost use Rattle.bincode_spec.specs.Meaning.{IsNumber, IsThen, IsNothing};
 ghost use Rattle.bincode_spec.specs.Words.{duration};
@@ -10,9 +10,8 @@ use crate::integers::decode_integer;
 use bincode_base::error::DecodeError;
 use bincode_types::own::time::Duration;
 
-/// Charges for the seconds and reads them, and then for the nanoseconds, of which whole seconds are carried. Fails
-/// where one of the numbers does, or with `InvalidDuration`, which has both as they were read, where the seconds pass
-/// 64 bits. A fault leaves what was charged before it.
+/// Charges and reads the seconds, then the nanoseconds, of which whole seconds are carried. Fails with the error of one
+/// of the numbers, or with `InvalidDuration` and both numbers as read if the seconds pass 64 bits.
 pub fn decode_duration<D: Decoder>(decoder: &mut D) -> Result<Duration, DecodeError>
     ensures { Reads D.is_known D.remaining D.charge D.failures D.loans D.C.bound D.R.end_error D.R.device ⊥
         (duration D.C.setting) (λ m v. IsThen (IsNumber (pos (secs_of v))) (IsThen (IsNumber (pos (nanos_of v)))

@@ -1,4 +1,4 @@
-//! Truth values, read through any decoder.
+//! Decoding of `bool`.
 ghost use Rattle.bincode_spec.specs.Meaning.{IsTruth};
 ghost use Rattle.bincode_spec.specs.Words.{truth};
 ghost use Rattle.bincode_spec.specs.Values.{ReadsCharged};
@@ -7,7 +7,7 @@ use crate::decoder::Decoder;
 use crate::integers::decode_byte;
 use bincode_base::error::DecodeError;
 
-/// Charges for a truth value, and reads it. A fault leaves what was charged before it.
+/// Charges a byte, and reads it as a `bool`. Fails with `InvalidBooleanValue` if it is neither 0 nor 1.
 pub fn decode_truth<D: Decoder>(decoder: &mut D) -> Result<bool, DecodeError>
     ensures { ReadsCharged D.is_known D.remaining D.charge D.failures D.loans D.C.bound D.R.end_error D.R.device truth
         (λ m v. IsTruth v m) 1 result decoder.old decoder.new }

@@ -1,4 +1,4 @@
--- What was written, by what was written for it.
+-- `Encodes` of a whole, from `Encodes` of its pieces.
 use Rattle.std.specs.Prelude.{◌≡◌, ◌⊎◌, ℕ, ◌<◌, ℤ, List, [], ◌++◌, Result, Ok, Err, OnOk, IfErr}
 use Rattle.std.specs.Borrow.{GName}
 use Rattle.std.proofs.Common.{◌∙◌}
@@ -13,13 +13,13 @@ use Rattle.bincode_lemmas.specs.AllowedLaws.{not_zero-allows, allowed-not_zero}
 use Rattle.bincode_spec.specs.Encoding.{Adds, Refuses, Ready, Encodes}
 use Rattle.bincode_lemmas.specs.EncodingLaws.{writes-alone, writes-both, writes-same, halts-alone, halts-within, halts-same, halts-named, halts-where, halts-in_first, halts-in_next, ready-as}
 
--- a writer whose writes in turn are one write
+-- writes in turn are one write
 abbrev pub Joined : {W : Type 0} → Adds W → Type 0
 Joined {W} adds = (a b c : W) (x y : List ℕ) → adds a x b → adds b y c → adds a (x ++ y) c
 
 module _ {E W : Type 0} {adds : Adds W} {refuses : Refuses W} {writer_of : E → W} {loans : E → List GName} {old new : E} {T R : Type 0}
     {A : List ℕ → Type 0} {N : EncodeError → Type 0} {r : Result T EncodeError} where
-  -- one piece that is the whole word
+  -- one piece is the whole word
   pub piece-encodes : {piece : List ℕ} → ((w : W) → adds w [] w) → Ready R A piece → OnOk r (adds (writer_of old) piece (writer_of new)) →
       IfErr r (λ e. refuses (writer_of old) piece e (writer_of new)) → loans new ≡ loans old → Encodes adds refuses writer_of loans R A N r old new
   piece-encodes {piece = piece} none a ok err same = record {
@@ -28,7 +28,7 @@ module _ {E W : Type 0} {adds : Adds W} {refuses : Refuses W} {writer_of : E →
     same_loans = same;
   }
 
-  -- the same words by another name, of a value that can be written where another can, with errors that more may name
+  -- equal words, fewer conditions of writing, and more errors
   pub encodes-as : {S : Type 0} {B : List ℕ → Type 0} {M : EncodeError → Type 0} → ((bytes : List ℕ) → A bytes → B bytes) →
       ((bytes : List ℕ) → B bytes → A bytes) → (S → R) → ((e : EncodeError) → N e → M e) →
       Encodes adds refuses writer_of loans R A N r old new → Encodes adds refuses writer_of loans S B M r old new
@@ -39,7 +39,7 @@ module _ {E W : Type 0} {adds : Adds W} {refuses : Refuses W} {writer_of : E →
     same_loans = w.same_loans;
   }
 
-  -- words among others: where one of those is allowed, one of these is
+  -- words among others: one of these is allowed if one of those is
   pub encodes-within : {B : List ℕ → Type 0} → ((bytes : List ℕ) → A bytes → B bytes) → ((bytes : List ℕ) → B bytes → (word : List ℕ) × A word) →
       Encodes adds refuses writer_of loans R A N r old new → Encodes adds refuses writer_of loans R B N r old new
   encodes-within {B = B} to from w = record {
@@ -49,15 +49,15 @@ module _ {E W : Type 0} {adds : Adds W} {refuses : Refuses W} {writer_of : E →
     same_loans = w.same_loans;
   }
 
--- A whole whose words are those of two parts in turn, and that can be written where they can.
+-- A whole whose words are those of two parts in turn, and which can be written if they can.
 module _ {R S U : Type 0} (pair : R → S → U) (split : U → R × S) {A B C : List ℕ → Type 0} (to : (bytes : List ℕ) → Both A B bytes → C bytes)
     (from : (bytes : List ℕ) → C bytes → Both A B bytes) {N M K : EncodeError → Type 0} (more : (e : EncodeError) → N e ⊎ M e → K e)
     {E W T V : Type 0} {adds : Adds W} {refuses : Refuses W} {writer_of : E → W} {loans : E → List GName} {old new : E} where
-  -- where its first part halts, it does
+  -- if encoding the first part fails, so does the whole
   pub first-halts : {e : EncodeError} → Encodes {T = T} adds refuses writer_of loans R A N (Err e) old new → Encodes {T = V} adds refuses writer_of loans U C K (Err e) old new
   first-halts {e} w = record { ok = tt; err = halts-in_first pair split to from adds refuses N M K e (more e) _ _ w.err; same_loans = w.same_loans }
 
-  -- and behind its first part it is written as the second
+  -- after its first part it is encoded as the second
   pub next-encodes : {t : T} {r : Result V EncodeError} {between : E} → Joined adds → Encodes adds refuses writer_of loans R A N (Ok t) old between →
       Encodes adds refuses writer_of loans S B M r between new → Encodes adds refuses writer_of loans U C K r old new
   next-encodes {r = r} join first next = record {
@@ -66,7 +66,7 @@ module _ {R S U : Type 0} (pair : R → S → U) (split : U → R × S) {A B C :
     same_loans = next.same_loans ∙ first.same_loans;
   }
 
--- a number other than 0 is written as the number
+-- a `NonZero` number is written as the number
 pub not_zero-encodes :
     {A : Type 0} (integer : A → ℤ) (one : (a b : A) → integer a ≡ integer b → a ≡ b) (size : A → ℕ) (name : IntegerType) (F : Format A) {a : A} →
     0 < size a →

@@ -1,4 +1,4 @@
--- What was done so far with the items that an iterator gives.
+-- Encoding the items that an iterator gives, one by one.
 use Rattle.std.specs.Prelude.{◌≡◌, ℕ, List, [], ◌∷◌, ◌++◌, length, refl}
 use Rattle.std.specs.List.{All}
 use Rattle.std.proofs.Common.{sym, ◌∙◌, ap, subst, append_assoc, append-nil}
@@ -15,7 +15,7 @@ use Rattle.bincode_lemmas.specs.EncodingLaws.{writes-same}
 use Rattle.bincode_encoder.proofs.EncodingAnswers.{Joined}
 use Rattle.bincode_encoder.proofs.RunAnswers.{writes-push, halts-between, halts_array}
 
--- these are left of the items, and it was done with those before them
+-- these items are left, and `Done` holds of those before them
 abbrev pub SoFar : {A : Type 0} → (List A → Type 0) → List A → List A → Type 0
 SoFar {A} Done vs left = (xs : List A) × (xs ++ left ≡ vs) × Done xs
 
@@ -23,7 +23,7 @@ SoFar {A} Done vs left = (xs : List A) × (xs ++ left ≡ vs) × Done xs
 pub so_far-none : {A : Type 0} (Done : List A → Type 0) {vs left : List A} → left ≡ vs → Done [] → SoFar Done vs left
 so_far-none Done e d = ([], e, d)
 
--- an item that is left is one of those that were given
+-- an item that is left is one of the items
 so_far_step : {A : Type 0} {vs left rest : List A} (v : A) (xs : List A) → xs ++ left ≡ vs → left ≡ v ∷ rest → (xs ++ v ∷ []) ++ rest ≡ vs
 so_far_step {rest = rest} v xs e f = append_assoc xs (v ∷ []) rest ∙ ap (λ z. xs ++ z) (sym f) ∙ e
 
@@ -55,7 +55,7 @@ module _ {W : Type 0} (adds : Adds W) {A : Type 0} (Means : A → Meaning → Ty
       writes-same adds _ _ _ _ (λ bytes. array-allows Means share F (length vs) vs bytes refl)
       (so_far-all (λ xs. Writes adds (AllowsEach (λ v. AllowedWord (Means v) F) xs) _ _) w f)
 
-  -- where an item stops, so does the array
+  -- if encoding an item fails, so does the array
   pub written-halts : (refuses : Refuses W) → Joined adds → (share : ℕ) (Writable : A → Type 0) (N : EncodeError → Type 0) {vs left rest : List A} {v : A}
       {before between after : W} {e : EncodeError} →
       WrittenSoFar vs left before between → left ≡ v ∷ rest → EncodeFailure adds refuses (Ready (Writable v) (AllowedWord (Means v) F)) N between after e →

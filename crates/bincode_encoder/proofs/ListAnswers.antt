@@ -1,4 +1,4 @@
--- What encoding does passes from a length and the run behind it to the list.
+-- `Encodes` of a list, from those of its length and its items.
 use Rattle.std.specs.Prelude.{◌⊎◌, ℕ, List, ◌++◌, length, Result, Ok, Err}
 use Rattle.std.specs.List.{All}
 use Rattle.std.specs.Borrow.{GName}
@@ -19,12 +19,12 @@ use Rattle.bincode_lemmas.specs.BagLaws.{bag-has_word, bag-list}
 use Rattle.bincode_spec.specs.Encoding.{Adds, Refuses, Encodes}
 use Rattle.bincode_encoder.proofs.EncodingAnswers.{Joined, encodes-within, first-halts, next-encodes}
 
--- a list names what its items do: a length names nothing
+-- the errors of a list are those of its items
 behind_length : (N : EncodeError → Type 0) (e : EncodeError) → ⊥ ⊎ N e → N e
 behind_length N e (inl k) = absurd k
 behind_length N e (inr k) = k
 
--- what one of two runs names both name
+-- the errors of one of two runs are errors of both
 of_both : (N : EncodeError → Type 0) (e : EncodeError) → N e ⊎ N e → N e
 of_both N e (inl k) = k
 of_both N e (inr k) = k
@@ -35,12 +35,12 @@ All_parts P vs ws h = (subst (All P) (take-append_seam vs ws) (All-take P (lengt
 
 module _ {E W T V : Type 0} {adds : Adds W} {refuses : Refuses W} {writer_of : E → W} {loans : E → List GName} {old new : E}
     {A : Type 0} (Means : A → Meaning → Type 0) (s : Setting) (share : ℕ) (F : Format Meaning) {N : EncodeError → Type 0} where
-  -- where its length halts, a list does
+  -- if encoding the length fails, so does the list
   pub length-halts : (vs : List A) {R : Type 0} {e : EncodeError} → Encodes {T = T} adds refuses writer_of loans (Unit {0}) (LengthWord s (length vs)) (λ _. ⊥) (Err e) old new →
       Encodes {T = V} adds refuses writer_of loans R (AllowedWord (IsListOf Means vs) (list s share F)) N (Err e) old new
   length-halts vs {R} = first-halts {R = Unit {0}} (λ _ r. r) (λ r. (tt, r)) (list-allows Means s share F vs) (allowed-list Means s share F vs) {M = N} (behind_length N)
 
-  -- and behind it the list is written as its run
+  -- after the length the list is encoded as its items
   pub list-encodes : (vs : List A) {R : Type 0} {t : T} {r : Result V EncodeError} {between : E} → Joined adds →
       Encodes adds refuses writer_of loans (Unit {0}) (LengthWord s (length vs)) (λ _. ⊥) (Ok t) old between →
       Encodes adds refuses writer_of loans R (AllowedWord (IsListOf Means vs) (array (length vs) share F)) N r between new →
@@ -49,13 +49,13 @@ module _ {E W T V : Type 0} {adds : Adds W} {refuses : Refuses W} {writer_of : E
 
 module _ {E W T V : Type 0} {adds : Adds W} {refuses : Refuses W} {writer_of : E → W} {loans : E → List GName} {old new : E}
     {A : Type 0} (Means : A → Meaning → Type 0) (share : ℕ) (F : Format Meaning) {N : EncodeError → Type 0} where
-  -- where the first of two runs halts, both do
+  -- if encoding the first of two runs fails, so do both
   pub first_run-halts : (Writable : A → Type 0) (vs ws : List A) {e : EncodeError} →
       Encodes {T = T} adds refuses writer_of loans (All Writable vs) (AllowedWord (IsListOf Means vs) (array (length vs) share F)) N (Err e) old new →
       Encodes {T = V} adds refuses writer_of loans (All Writable (vs ++ ws)) (AllowedWord (IsListOf Means (vs ++ ws)) (array (length (vs ++ ws)) share F)) N (Err e) old new
   first_run-halts Writable vs ws = first-halts (All-append Writable vs ws) (All_parts Writable vs ws) (array-join Means share F vs ws) (array-split Means share F vs ws) (of_both N)
 
-  -- and behind it they are written as the second
+  -- after the first run both are encoded as the second
   pub runs-encode : (Writable : A → Type 0) (vs ws : List A) {t : T} {r : Result V EncodeError} {between : E} → Joined adds →
       Encodes adds refuses writer_of loans (All Writable vs) (AllowedWord (IsListOf Means vs) (array (length vs) share F)) N (Ok t) old between →
       Encodes adds refuses writer_of loans (All Writable ws) (AllowedWord (IsListOf Means ws) (array (length ws) share F)) N r between new →

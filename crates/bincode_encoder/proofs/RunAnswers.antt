@@ -1,4 +1,4 @@
--- What encoding does passes from the items of a run to the run.
+-- `Encodes` of a run, from those of its items.
 use Rattle.std.specs.Prelude.{◌≡◌, ◌⊎◌, ℕ, ◌+◌, ◌<◌, ◌≤◌, List, [], ◌∷◌, ◌++◌, length, take, drop, slice_index_or, refl}
 use Rattle.std.specs.List.{All}
 use Rattle.std.proofs.Common.{sym, ◌∙◌, ap, subst, inl, inr, append_assoc, append-nil}
@@ -14,14 +14,14 @@ use Rattle.bincode_lemmas.specs.RunAllowedLaws.{array-allows, allowed-array, eac
 use Rattle.bincode_spec.specs.Encoding.{Adds, Refuses, Writes, Ready, EncodeFailure}
 use Rattle.bincode_lemmas.specs.EncodingLaws.{writes-both, writes-same, halts-first, halts-next, halts-same, halts-named, ready-as}
 
--- the items before an index, the item there and those behind it
+-- the items before an index, the item there, and those after it
 around : {A : Type 0} (vs : List A) (i : ℕ) (v : A) → i < length vs → v ≡ slice_index_or vs i v → vs ≡ take i vs ++ v ∷ drop (i + 1) vs
 around vs i v h e =
     let p : take (i + 1) vs ≡ take i vs ++ v ∷ [] = take_more vs i v h ∙ ap (λ z. take i vs ++ z ∷ []) (sym e) in
     sym (take-append-drop (i + 1) vs) ∙ ap (λ z. z ++ drop (i + 1) vs) p ∙ append_assoc (take i vs) (v ∷ []) (drop (i + 1) vs)
 
 module _ {W : Type 0} (adds : Adds W) where
-  -- one item more
+  -- one more item
   pub writes-push : ((a b c : W) (x y : List ℕ) → adds a x b → adds b y c → adds a (x ++ y) c) →
       {A : Type 0} (Allowed : A → List ℕ → Type 0) (before between after : W) (vs : List A) (v : A) →
       Writes adds (AllowsEach Allowed vs) before between → Writes adds (Allowed v) between after → Writes adds (AllowsEach Allowed (vs ++ v ∷ [])) before after
@@ -44,7 +44,7 @@ module _ {W : Type 0} (adds : Adds W) where
   writes-array Means share F n i vs before after e h w =
       writes-same adds _ _ before after (λ bytes. array-allows Means share F n vs bytes e) (subst (λ z. Writes adds (AllowsEach (λ v. AllowedWord (Means v) F) z) before after) (take_all i vs h) w)
 
--- what each value allows, where it can be written
+-- what each value allows, if it can be written
 module _ {A : Type 0} (Writable : A → Type 0) (Allowed : A → List ℕ → Type 0) where
   abbrev pub ReadyEach : A → List ℕ → Type 0
   ReadyEach v = Ready (Writable v) (Allowed v)
@@ -67,7 +67,7 @@ module _ {A : Type 0} (Writable : A → Type 0) (Allowed : A → List ℕ → Ty
       let w = each_ready vs y b in
       record { is_writable = All-cons Writable v vs a.is_writable w.is_writable; is_allowed = (x, y, e, a.is_allowed, w.is_allowed) }
 
-  -- those before one, that one and those behind it
+  -- those before one, that one, and those after it
   ready_around : (xs ys : List A) (v : A) (bytes : List ℕ) →
       Both (Ready (All Writable xs) (AllowsEach Allowed xs)) (Both (ReadyEach v) (AllowsEach ReadyEach ys)) bytes →
       Ready (All Writable (xs ++ v ∷ ys)) (AllowsEach Allowed (xs ++ v ∷ ys)) bytes
@@ -85,7 +85,7 @@ module _ {W : Type 0} (adds : Adds W) (refuses : Refuses W) where
   one_of N e (inr (inl h)) = h
   one_of N e (inr (inr h)) = h
 
-  -- where an item stops, so does the run
+  -- if encoding an item fails, so does the run
   pub halts-between : ((a b c : W) (x y : List ℕ) → adds a x b → adds b y c → adds a (x ++ y) c) →
       {A : Type 0} (Writable : A → Type 0) (Allowed : A → List ℕ → Type 0) (N : EncodeError → Type 0) (before between after : W) (xs ys : List A) (v : A) (e : EncodeError) →
       Writes adds (AllowsEach Allowed xs) before between → EncodeFailure adds refuses (Ready (Writable v) (Allowed v)) N between after e →

@@ -1,4 +1,4 @@
-//! C strings, written through any encoder.
+//! Encoding of C strings.
 ghost use Rattle.bincode_spec.specs.Meaning.{IsBytes};
 ghost use Rattle.bincode_spec.specs.Words.{without_nul};
 ghost use Rattle.bincode_spec.specs.Allowed.{AllowedWord};
@@ -10,8 +10,8 @@ use crate::lists::encode_length;
 use bincode_base::error::EncodeError;
 use bincode_types::own::ffi::CStr;
 
-/// Writes a C string: its length in bytes, and then all its bytes in one piece, with no zero behind them. Fails where
-/// the writer refuses a piece; those before it stay written.
+/// Writes a C string: its length in bytes, then the bytes in one piece, without a closing zero. Errors are those of the
+/// writer.
 #[inline]
 pub fn encode_c_string<E: Encoder>(encoder: &mut E, val: CStr<'_>) -> Result<(), EncodeError>
     ensures { Encodes E.W.adds E.W.refuses E.writer_of E.loans (Unit {0})

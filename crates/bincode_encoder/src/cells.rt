@@ -4,7 +4,7 @@ ghost use Rattle.bincode_spec.specs.Cells.{IsBorrowed};
 use bincode_base::error::EncodeError;
 use bincode_base::short_text::ShortText;
 
-/// The error of a cell that is borrowed for writing.
+/// The error of a `RefCell` that is mutably borrowed.
 pub fn borrowed_cell() -> EncodeError
     ensures { IsBorrowed result }
 {

@@ -1,4 +1,4 @@
-//! Characters, written through any encoder.
+//! Encoding of characters.
 ghost use Rattle.std.specs.Prelude.{◌≡◌};
 ghost use Rattle.std.specs.Char.{encode_utf8, IsScalar};
 ghost use Rattle.bincode_spec.specs.Meaning.{IsCharacter};
@@ -10,7 +10,7 @@ use crate::encoder::{Encoder, write_from};
 use bincode_base::error::EncodeError;
 use bincode_types::chars::{four_bytes_of_char, three_bytes_of_char, two_bytes_of_char};
 
-// Each number of bytes has its write: one of a length that the compiler knows is a store.
+// Each length has a write of its own: one of a constant length becomes a store.
 
 #[inline(always)]
 fn write_char<E: Encoder>(encoder: &mut E, code: u32, bytes: &[u8]) -> Result<(), EncodeError>
@@ -22,7 +22,7 @@ fn write_char<E: Encoder>(encoder: &mut E, code: u32, bytes: &[u8]) -> Result<()
     write_from(encoder, bytes)
 }
 
-/// Writes a character as UTF-8. Fails where the writer refuses its bytes.
+/// Writes a character as UTF-8. Errors are those of the writer.
 #[inline(always)]
 pub fn encode_char<E: Encoder>(encoder: &mut E, val: char) -> Result<(), EncodeError>
     ensures { Encodes E.W.adds E.W.refuses E.writer_of E.loans (Unit {0})

@@ -10,7 +10,7 @@ use bincode_base::error::EncodeError;
 use bincode_io::write::Writer;
 
 mod sealed {
-    /// Only the encoders of this crate are encoders.
+    /// Seals `Encoder`: only this crate implements it.
     pub trait Sealed {}
 }
 
@@ -22,10 +22,10 @@ pub trait Encoder: Sealed {
 
     type C: Config;
 
-    /// Its writer.
+    /// The writer.
     ghost writer_of: { Self → Self.W };
 
-    /// The same with another writer.
+    /// The encoder with another writer.
     ghost put_writer: { Self → Self.W → Self };
 
     /// The references that it writes through. No call changes them.
@@ -39,7 +39,7 @@ pub trait Encoder: Sealed {
     /// Lends the configuration.
     fn config(&self) -> &Self::C;
 
-    /// Whether the writer surely has room for so many bytes, as `Writer::has_room_for` tells.
+    /// Returns `true` only if `count` more bytes are sure to fit (`Writer::has_room_for`).
     fn has_room_for(&self, count: usize) -> bool
         ensures { result ≡ true → (piece : List ℕ) → length piece ≡ count
             → WithinRoom (Self.W.room (writer_of self.now)) piece };
@@ -73,7 +73,7 @@ impl<W: Writer, C: Config> EncoderImpl<W, C> {
         EncoderImpl { writer, config }
     }
 
-    /// The writer, as the calls since then left it.
+    /// Returns the writer with what was written.
     pub fn into_writer(self) -> W
         ensures { result ≡ ⟦<EncoderImpl<W, C> as Encoder>⟧.writer_of self }
     {
@@ -113,7 +113,7 @@ impl<W: Writer, C: Config> Encoder for EncoderImpl<W, C> {
     ghost put_loans = { λ e w h. h };
 }
 
-/// An encoder whose writer and configuration are lent.
+/// An encoder that borrows its writer and its configuration.
 pub struct LentEncoder<'a, W, C> {
     writer: &'a mut W,
     config: &'a C,
@@ -203,7 +203,7 @@ impl<E: Encoder> Encoder for &mut E {
     ghost put_loans = { λ e w h. ap (λ z. e.ghost_name ∷ z) (E.put_loans e.now w h) };
 }
 
-/// Writes a piece to the writer of an encoder.
+/// Writes a piece to the encoder's writer.
 #[inline(always)]
 pub fn write_from<E: Encoder>(encoder: &mut E, bytes: &[u8]) -> Result<(), EncodeError>
     ensures { TakesPiece (λ a piece b. E.W.adds (E.writer_of a) piece (E.writer_of b))

@@ -1,4 +1,4 @@
-//! Hashed sets and maps, written through any encoder.
+//! Encoding of hashed sets and maps.
 ghost use Rattle.std.specs.Prelude.{length};
 ghost use Rattle.std.specs.List.{All, IsDistinct};
 ghost use Rattle.std.specs.Map.{keys_of};
@@ -18,7 +18,7 @@ use bincode_types::wire::Wire;
 use std::collections::{HashMap, HashSet};
 use std::hash::{BuildHasher, Hash};
 
-/// Says of a set in hand that its keys are valid and no two of them equal, and that their number is a length.
+/// Proves that the keys of a set are valid and distinct, and that their number fits 64 bits. Walks the keys: O(n).
 pub fn tell_set_valid<V: WriteValues, S: BuildHasher>(set: &HashSet<V::Value, S>)
 where
     V::Value: Eq + Hash,
@@ -30,7 +30,8 @@ where
     }
 }
 
-/// Says of a map in hand that its entries are valid and no two of its keys equal, and that their number is a length.
+/// Proves that the entries of a map are valid, its keys distinct, and their number fits 64 bits. Walks the entries:
+/// O(n).
 pub fn tell_map_valid<K: WriteValues, V: WriteValues, S: BuildHasher>(
     map: &HashMap<K::Value, V::Value, S>,
 )
@@ -45,9 +46,8 @@ where
     }
 }
 
-/// Writes the length of a set, and then its keys in the order in which it holds them, though any order would be a word
-/// of it. Fails where the writer refuses a piece of the length or a key fails, and then leaves what `Encode::encode`
-/// does: what was written before begins a word of the set.
+/// Writes the length of a set, then its keys in the order of the table; decoding accepts any order. Errors, and what is
+/// left after them, are those of the writer and of a key's `Encode::encode`.
 #[inline]
 pub fn encode_set<V: WriteValues, S: BuildHasher, E: Encoder>(
     set: &HashSet<V::Value, S>,
@@ -64,7 +64,7 @@ where
     rebuild_result(encode_keys::<V, S, E>(set, encoder))
 }
 
-/// Its keys alone.
+/// Writes the keys alone.
 #[inline]
 fn encode_keys<V: WriteValues, S: BuildHasher, E: Encoder>(
     set: &HashSet<V::Value, S>,
@@ -83,9 +83,8 @@ where
     Ok(())
 }
 
-/// Writes the length of a map, and then its entries in the order in which it holds them, each as a pair, though any
-/// order would be a word of it. Fails where the writer refuses a piece of the length or a key or value fails, and then
-/// leaves what `Encode::encode` does: what was written before begins a word of the map.
+/// Writes the length of a map, then its entries in the order of the table, each as key and value; decoding accepts any
+/// order. Errors, and what is left after them, are those of the writer and of `Encode::encode` of a key or value.
 #[inline]
 pub fn encode_map<K: WriteValues, V: WriteValues, S: BuildHasher, E: Encoder>(
     map: &HashMap<K::Value, V::Value, S>,
@@ -104,7 +103,7 @@ where
     rebuild_result(encode_entries::<K, V, S, E>(map, encoder))
 }
 
-/// Its entries alone.
+/// Writes the entries alone.
 #[inline]
 fn encode_entries<K: WriteValues, V: WriteValues, S: BuildHasher, E: Encoder>(
     map: &HashMap<K::Value, V::Value, S>,

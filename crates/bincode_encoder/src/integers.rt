@@ -1,4 +1,4 @@
-//! Integers and bytes, written through any encoder.
+//! Encoding of integers and bytes.
 ghost use Rattle.std.specs.Prelude.{pos, FitsSigned, length};
 ghost use Rattle.std.specs.List.{All};
 ghost use Rattle.std.specs.Int.{w8};
@@ -17,7 +17,7 @@ use bincode_base::error::EncodeError;
 use bincode_varint::bytes::byte_of_i8;
 use bincode_varint::number::Integer;
 
-/// Writes an integer as the configuration says. Fails where the writer refuses a piece; those before it stay written.
+/// Writes an integer in the integer encoding and byte order of the configuration. Errors are those of the writer.
 #[inline(always)]
 pub fn encode_integer<T: Integer, E: Encoder>(encoder: &mut E, val: T) -> Result<(), EncodeError>
     requires fits { T.spelling.Fits val }
@@ -31,7 +31,7 @@ pub fn encode_integer<T: Integer, E: Encoder>(encoder: &mut E, val: T) -> Result
     rebuild_result(val.write(encoder.writer(), endian, encoding))
 }
 
-/// Writes a byte as it is. Fails where the writer refuses it.
+/// Writes a byte as it is. Errors are those of the writer.
 #[inline(always)]
 pub fn encode_byte<E: Encoder>(encoder: &mut E, val: u8) -> Result<(), EncodeError>
     ensures { Encodes E.W.adds E.W.refuses E.writer_of E.loans (Unit {0})
@@ -40,7 +40,7 @@ pub fn encode_byte<E: Encoder>(encoder: &mut E, val: u8) -> Result<(), EncodeErr
     write_from(encoder, &[val])
 }
 
-/// Writes a signed byte by its two's complement. Fails where the writer refuses it.
+/// Writes a signed byte in two's complement. Errors are those of the writer.
 #[inline(always)]
 pub fn encode_signed_byte<E: Encoder>(encoder: &mut E, val: i8) -> Result<(), EncodeError>
     requires { FitsSigned w8 val }
@@ -50,7 +50,7 @@ pub fn encode_signed_byte<E: Encoder>(encoder: &mut E, val: i8) -> Result<(), En
     write_from(encoder, &[byte_of_i8(val)])
 }
 
-/// The words of bytes in turn: the bytes themselves.
+/// Returns the bytes: they are their own encoding.
 #[inline(always)]
 pub fn words_of_bytes(values: &[u8]) -> &[u8]
     ensures { Ready (All (λ _. Unit {0}) values.now) (AllowedWord (IsListOf (λ v. IsNumber (pos v)) values.now)

@@ -1,5 +1,5 @@
-//! Encoders, and the integers, characters, truth values, octets, texts, runs, lists and variants that are written
-//! through any of them.
+//! Encoders, and how integers, characters, `bool`, octets, texts, lists, maps and enums are written through them. If
+//! the writer refuses a piece, the pieces before it stay written.
 #![tactic(auto)]
 
 pub mod answers;

@@ -1,4 +1,4 @@
-//! Lists behind their length, written through any encoder.
+//! Encoding of length-prefixed lists.
 ghost use Rattle.std.specs.List.{All};
 ghost use Rattle.std.specs.BinaryHeap.{heap_items};
 ghost use Rattle.bincode_spec.specs.Words.{list};
@@ -14,7 +14,7 @@ use crate::runs::{WriteValues, encode_each, encode_run, tell_each_valid};
 use bincode_base::error::EncodeError;
 use std::collections::{BinaryHeap, VecDeque};
 
-/// Writes a length as a `u64`. Fails where the writer refuses a piece; those before it stay written.
+/// Writes a length prefix: a `u64`. Errors are those of the writer.
 #[inline(always)]
 pub fn encode_length<E: Encoder>(encoder: &mut E, len: usize) -> Result<(), EncodeError>
     ensures { Encodes E.W.adds E.W.refuses E.writer_of E.loans (Unit {0}) (LengthWord E.C.setting len)
@@ -23,7 +23,7 @@ pub fn encode_length<E: Encoder>(encoder: &mut E, len: usize) -> Result<(), Enco
     rebuild_result(encode_integer(encoder, len as u64))
 }
 
-/// Says of the items in hand that each is valid, and that their number is a length.
+/// Proves that each item is valid and that their number fits 64 bits. Walks the items: O(n).
 pub fn tell_list_valid<V: WriteValues>(items: &[V::Value])
     ensures { AreValid V.Value.words.valid items.now }
 {
@@ -31,8 +31,8 @@ pub fn tell_list_valid<V: WriteValues>(items: &[V::Value])
     tell_each_valid::<V>(items);
 }
 
-/// Writes the length of a list, and then its items. Fails where the writer refuses a piece of the length or an item
-/// fails, and then leaves what `Encode::encode` does: what was written before begins a word of the list.
+/// Writes the length prefix of a list, then its items. Errors, and what is left after them, are those of the writer and
+/// of an item's `Encode::encode`.
 #[inline]
 pub fn encode_list<V: WriteValues, E: Encoder>(
     items: &[V::Value],
@@ -47,8 +47,7 @@ pub fn encode_list<V: WriteValues, E: Encoder>(
     rebuild_result(encode_run::<V, E>(items, encoder))
 }
 
-/// Writes the length of a queue, and then its items: the two runs in which it holds them. Fails where the writer
-/// refuses a piece of the length or an item fails, and then leaves what `encode_list` does.
+/// Writes a queue like `encode_list`, from the two slices that hold it.
 #[inline]
 pub fn encode_deque<V: WriteValues, E: Encoder>(
     queue: &VecDeque<V::Value>,
@@ -66,9 +65,8 @@ pub fn encode_deque<V: WriteValues, E: Encoder>(
     rebuild_result(encode_run::<V, E>(second, encoder))
 }
 
-/// Writes the length of a heap, and then its items one by one, as the original does, in the order in which it holds
-/// them, though any order would be a word of it. Fails where the writer refuses a piece of the length or an item fails;
-/// what was written before begins a word of the heap.
+/// Writes a heap like `encode_list`, item by item as bincode does, in the order of the heap; decoding accepts any
+/// order.
 #[inline]
 pub fn encode_heap<V: WriteValues, E: Encoder>(
     heap: &BinaryHeap<V::Value>,

@@ -1,4 +1,4 @@
-//! Octets of addresses, written through any encoder.
+//! Encoding of the octets of addresses.
 ghost use Rattle.std.specs.Prelude.{pos};
 ghost use Rattle.bincode_base.specs.declared.error.IntegerType.TheVariants.{U16};
 ghost use Rattle.bincode_spec.specs.Integers.{unsigned_integer};
@@ -12,7 +12,7 @@ use crate::encoder::{Encoder, write_from};
 use crate::integers::encode_integer;
 use bincode_base::error::EncodeError;
 
-/// Writes octets as they are, in one piece. Fails where the writer refuses it.
+/// Writes octets as they are, in one piece. Errors are those of the writer.
 #[inline]
 pub fn encode_octets<E: Encoder, const N: usize>(
     encoder: &mut E,
@@ -24,8 +24,7 @@ pub fn encode_octets<E: Encoder, const N: usize>(
     write_from(encoder, val)
 }
 
-/// Writes the octets of an address in one piece, and then a port. Fails where the writer refuses a piece; those before
-/// it stay written.
+/// Writes the octets of an address in one piece, then the port. Errors are those of the writer.
 #[inline]
 pub fn encode_socket<E: Encoder, const N: usize>(
     encoder: &mut E,

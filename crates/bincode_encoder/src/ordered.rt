@@ -1,4 +1,4 @@
-//! Ordered sets and maps, written through any encoder.
+//! Encoding of ordered sets and maps.
 ghost use Rattle.std.specs.Prelude.{length};
 ghost use Rattle.std.specs.List.{All};
 ghost use Rattle.std.specs.List.Sorted.{IsStrictlySortedBy};
@@ -18,7 +18,7 @@ use bincode_base::error::EncodeError;
 use bincode_types::wire::Wire;
 use std::collections::{BTreeMap, BTreeSet};
 
-/// Says of a set in hand that its keys are valid and ascend, and that their number is a length.
+/// Proves that the keys of a set are valid and ascend, and that their number fits 64 bits. Walks the keys: O(n).
 pub fn tell_set_valid<V: WriteValues>(set: &BTreeSet<V::Value>)
 where
     V::Value: Ord,
@@ -30,7 +30,7 @@ where
     }
 }
 
-/// Says of a map in hand that its entries are valid and its keys ascend, and that their number is a length.
+/// Proves that the entries of a map are valid, its keys ascend, and their number fits 64 bits. Walks the entries: O(n).
 pub fn tell_map_valid<K: WriteValues, V: WriteValues>(map: &BTreeMap<K::Value, V::Value>)
 where
     K::Value: Ord,
@@ -43,8 +43,8 @@ where
     }
 }
 
-/// Writes the length of a set, and then its keys in ascending order. Fails where the writer refuses a piece of the
-/// length or a key fails, and then leaves what `Encode::encode` does: what was written before begins a word of the set.
+/// Writes the length of a set, then its keys in ascending order. Errors, and what is left after them, are those of the
+/// writer and of a key's `Encode::encode`.
 #[inline]
 pub fn encode_set<V: WriteValues, E: Encoder>(
     set: &BTreeSet<V::Value>,
@@ -61,7 +61,7 @@ where
     rebuild_result(encode_keys::<V, E>(set, encoder))
 }
 
-/// Its keys alone.
+/// Writes the keys alone.
 #[inline]
 fn encode_keys<V: WriteValues, E: Encoder>(
     set: &BTreeSet<V::Value>,
@@ -80,9 +80,8 @@ where
     Ok(())
 }
 
-/// Writes the length of a map, and then its entries in ascending order of their keys, each as a pair. Fails where the
-/// writer refuses a piece of the length or a key or value fails, and then leaves what `Encode::encode` does: what was
-/// written before begins a word of the map.
+/// Writes the length of a map, then its entries in ascending order of the keys, each as key and value. Errors, and what
+/// is left after them, are those of the writer and of `Encode::encode` of a key or value.
 #[inline]
 pub fn encode_map<K: WriteValues, V: WriteValues, E: Encoder>(
     map: &BTreeMap<K::Value, V::Value>,
@@ -101,7 +100,7 @@ where
     rebuild_result(encode_entries::<K, V, E>(map, encoder))
 }
 
-/// Its entries alone.
+/// Writes the entries alone.
 #[inline]
 fn encode_entries<K: WriteValues, V: WriteValues, E: Encoder>(
     map: &BTreeMap<K::Value, V::Value>,
@@ -122,7 +121,7 @@ where
     Ok(())
 }
 
-/// Writes a key and its value, as a pair. Fails where one of the two does.
+/// Writes a key and its value. Errors are those of the two.
 #[inline(always)]
 pub fn encode_entry<K: WriteValues, V: WriteValues, E: Encoder>(
     key: &K::Value,
@@ -141,7 +140,7 @@ pub fn encode_entry<K: WriteValues, V: WriteValues, E: Encoder>(
     encode_pair::<K, V, E>(key, value, encoder)
 }
 
-/// The same without a test of the room for both.
+/// `encode_entry` without the check of the room for both.
 #[inline(always)]
 fn encode_pair<K: WriteValues, V: WriteValues, E: Encoder>(
     key: &K::Value,

@@ -1,4 +1,4 @@
-//! Runs of values, without a length, by a way to write one.
+//! Encoding of slices of values, without a length prefix, generic over how one value is written.
 ghost use Rattle.std.specs.Prelude.{IfSome, length};
 ghost use Rattle.std.specs.List.{All};
 ghost use Rattle.bincode_base.specs.Setting.{Setting};
@@ -12,32 +12,32 @@ use crate::room::fits_in_one_check;
 use bincode_base::error::EncodeError;
 use bincode_types::wire::Wire;
 
-/// A way to write the values of a type.
+/// How the values of a type are written. The encoders of collections are generic over it.
 pub trait WriteValues {
-    /// What is written.
+    /// The type of the values.
     type Value: Wire;
 
-    /// How many bytes a value takes at most where integers are fixed, as `Encode::MAX_FIXED_SIZE` tells.
+    /// The maximum size in bytes under fixed integers, as `Encode::MAX_FIXED_SIZE`.
     const MAX_FIXED_SIZE: Option<usize>;
 
-    /// Says of a value in hand that it is valid.
+    /// Proves that a value is valid, like `Encode::tell_valid`: O(n) for a collection.
     fn tell_valid(value: &Self::Value)
         ensures { Self.Value.words.valid value.now };
 
-    /// Writes a word that the value allows. It does, fails and leaves what `Encode::encode` does.
+    /// Writes the encoding of a value, like `Encode::encode`.
     fn write_value<E: Encoder>(value: &Self::Value, encoder: &mut E) -> Result<(), EncodeError>
         ensures { Encodes E.W.adds E.W.refuses E.writer_of E.loans (Self.Value.words.writable E.C.setting value.now)
             (AllowedWord (Self.Value.words.means value.now) (Self.Value.words.format E.C.setting))
             Self.Value.words.own_errors result encoder.old encoder.new };
 
-    /// The bytes of a run of values, if the values are the bytes of their words.
+    /// The bytes of a slice of values, if they are their own encoding.
     fn as_bytes(items: &[Self::Value]) -> Option<&[u8]>
         ensures { IfSome result (λ bytes. (s : Setting) → Ready (All (Self.Value.words.writable s) items.now)
             (AllowedWord (IsListOf Self.Value.words.means items.now)
             (array (length items.now) Self.Value.words.claim (Self.Value.words.format s))) bytes.now) };
 }
 
-/// Says of each of the values in hand that it is valid.
+/// Proves that each of the values is valid. Walks them: O(n).
 pub fn tell_each_valid<V: WriteValues>(items: &[V::Value])
     ensures { All V.Value.words.valid items.now }
 {
@@ -46,8 +46,8 @@ pub fn tell_each_valid<V: WriteValues>(items: &[V::Value])
     }
 }
 
-/// Writes the items in turn, without a length: in one piece, if they are the bytes of their words. Fails where an item
-/// does, and then leaves what `Encode::encode` does: what was written before begins a word of the run.
+/// Writes the items in turn, without a length prefix; in one piece if their bytes are their encoding. Errors, and what
+/// is left after them, are those of an item's `Encode::encode`.
 #[inline]
 pub fn encode_run<V: WriteValues, E: Encoder>(
     items: &[V::Value],
@@ -64,8 +64,8 @@ pub fn encode_run<V: WriteValues, E: Encoder>(
     encode_each::<V, E>(items, encoder)
 }
 
-/// The same one by one, also where the items are the bytes of their words: so a writer with too little room holds those
-/// that it has room for.
+/// `encode_run` one by one, even if the bytes of the items are their encoding: so a writer with too little room keeps
+/// the items that fit.
 #[inline]
 pub(crate) fn encode_each<V: WriteValues, E: Encoder>(
     items: &[V::Value],
@@ -82,8 +82,8 @@ pub(crate) fn encode_each<V: WriteValues, E: Encoder>(
     Ok(())
 }
 
-/// Writes an item of a list or a key of a set, and asks once for the room of all of it, if that is known
-/// (`fits_in_one_check`). It does, fails and leaves what `write_value` does.
+/// Writes an item of a list or a key of a set like `write_value`, with one check of the room if possible
+/// (`fits_in_one_check`).
 #[inline(always)]
 pub(crate) fn write_whole<V: WriteValues, E: Encoder>(
     item: &V::Value,

@@ -1,4 +1,4 @@
-//! Texts, written through any encoder.
+//! Encoding of texts.
 ghost use Rattle.bincode_spec.specs.Meaning.{IsBytes};
 ghost use Rattle.bincode_spec.specs.Words.{text};
 ghost use Rattle.bincode_spec.specs.Allowed.{AllowedWord};
@@ -8,8 +8,7 @@ use crate::encoder::{Encoder, write_from};
 use crate::lists::encode_length;
 use bincode_base::error::EncodeError;
 
-/// Writes a text: its length in bytes, and then all its bytes in one piece. Fails where the writer refuses a piece;
-/// those before it stay written.
+/// Writes a text: its length in bytes, then the bytes in one piece. Errors are those of the writer.
 #[inline(always)]
 pub fn encode_text<E: Encoder>(encoder: &mut E, val: &str) -> Result<(), EncodeError>
     ensures { Encodes E.W.adds E.W.refuses E.writer_of E.loans (Unit {0})

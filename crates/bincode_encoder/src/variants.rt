@@ -1,4 +1,4 @@
-//! Values of enums, written variant by variant: a tag, and a part by a way to write it.
+//! Encoding of enums: a tag, then a part.
 ghost use Rattle.std.specs.Prelude.{pos};
 ghost use Rattle.bincode_spec.specs.Format.{map_format};
 ghost use Rattle.bincode_base.specs.declared.error.EncodeError.{EncodeError};
@@ -18,7 +18,7 @@ use bincode_types::sums::{Choice, Tag};
 
 /// A type of tags that can be written.
 pub trait EncodeTag: Tag {
-    /// Writes a tag.
+    /// Writes a tag. Errors are those of the writer.
     fn encode_tag<E: Encoder>(tag: u32, encoder: &mut E) -> Result<(), EncodeError>
         requires { Self.Fits tag }
         ensures { Encodes E.W.adds E.W.refuses E.writer_of E.loans (Unit {0})
@@ -40,8 +40,8 @@ impl EncodeTag for u32 {
     }
 }
 
-/// Writes the value of an enum, which is made of `Parts`: the tag of its variant, and then the part. Of an enum with
-/// type parameters the value has references to what they stand for, since its parts have to have a known size.
+/// Writes an enum as the tag of its variant, then the part. The parts need a known size: an enum with type parameters
+/// passes references to them.
 #[inline(always)]
 pub fn encode_variant<Parts: Choice, T: HasParts<Parts>, V: WriteValues, E: Encoder>(
     value: &T,

@@ -1,4 +1,4 @@
--- How a test of a shape goes over its parts and items.
+-- Testing a value against the parts of a shape.
 use Rattle.std.specs.Prelude.{◌≡◌, ℕ, zero, suc, ◌+◌, ◌<◌, ◌≤◌, Bool, true, false, ◌&&◌, List, [], ◌∷◌, length, get_or, drop, Box, Some, refl}
 use Rattle.std.specs.List.{slice_get}
 use Rattle.std.proofs.Common.{ap, sym, arith}
@@ -29,7 +29,7 @@ lengths-differ (p ∷ ps) (v ∷ vs) h = let k = lengths-differ ps vs (λ e. h (
     and-false true = refl
     and-false false = refl
 
--- the next part and the next item
+-- the next part with the next item
 pub each-next : (ps : List Shape) (vs : List Value) (i : ℕ) (p : Shape) (v : Value) → i < length ps → i < length vs →
     each_passes (tests (drop i ps)) (drop i vs) ≡ (fits (get_or ps i p) (get_or vs i v) && each_passes (tests (drop (i + 1) ps)) (drop (i + 1) vs))
 each-next ps vs i p v h k = rw (drop_more ps i p h, drop_more vs i v k) refl
@@ -45,7 +45,7 @@ picked-none [] n v h = refl
 picked-none (q ∷ ps) zero v h = absurd (omega arith)
 picked-none (q ∷ ps) (suc n) v h = picked-none ps n v (omega (arith, h))
 
--- the part at a place
+-- the part at an index
 pub picked-at : (ps : List Shape) (n : ℕ) (p : Shape) (v : Value) → n < length ps → p ≡ get_or ps n p → picked_passes (tests ps) n v ≡ fits p v
 picked-at [] n p v h e = absurd (omega arith)
 picked-at (q ∷ ps) zero p v h e = ap (λ z. fits z v) (sym e)

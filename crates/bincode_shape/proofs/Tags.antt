@@ -1,4 +1,4 @@
--- What is read behind a tag: the part that it picks, or the fault that none has it.
+-- What follows the tag of a shape: the selected part, or the fault of an unknown tag.
 use Rattle.std.specs.Prelude.{◌≡◌, ℕ, zero, suc, ◌+◌, ◌<◌, ◌≤◌, true, List, [], ◌∷◌, length, get_or, refl}
 use Rattle.std.proofs.Common.{◌∙◌, ap, arith}
 use Rattle.std.proofs.lemmas.Bool.{eq-eqb, ne_eqb}
@@ -19,12 +19,12 @@ last_of-numbered : (before n : ℕ) (F : Setting → Format Meaning) (Fs : List 
 last_of-numbered before n F [] = omega arith
 last_of-numbered before n F (G ∷ Fs) = let h = last_of-numbered n (n + 1) G Fs in omega (arith, h)
 
--- so a fault tells the last one
+-- so a fault reports the last one
 pub allowed-numbered : (F : Setting → Format Meaning) (Fs : List (Setting → Format Meaning)) → allowed_tags (variant_tags (numbered 0 (F ∷ Fs))) ≡ Between 0 (length Fs)
 allowed-numbered F Fs = let k : 0 + length Fs ≡ length Fs = omega arith in rw (in_order-numbered 0 (F ∷ Fs), last_of-numbered 0 0 F Fs, k) refl
 
 module _ (s : Setting) (allowed : Allowed) where
-  -- a tag picks the part of its number,
+  -- a tag selects the part of its number,
   pub numbered-here : (n i : ℕ) (Fs : List (Setting → Format Meaning)) (F : Setting → Format Meaning) → i < length Fs → get_or Fs i F ≡ F →
       part s (numbered n Fs) allowed (n + i) ≡ map_format (Choice (n + i)) (F s)
   numbered-here n i [] F h e = absurd (omega arith)

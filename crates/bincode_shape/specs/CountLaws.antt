@@ -1,4 +1,4 @@
--- What is counted of a meaning is how many values its image has.
+-- The number of values counted from a meaning is that of its image.
 use Rattle.std.specs.Prelude.{◌≡◌, ℕ, zero, suc, ◌+◌, Bool, true, false, ◌&&◌, ◌==◌, length, refl}
 use Rattle.std.specs.List.{list_all}
 use Rattle.std.proofs.Common.{◌∙◌, ap}
@@ -39,7 +39,7 @@ signed-one : (width : ℕ) (v : Value) → is_signed width v ≡ true → values
 signed-one width (values.Signed z) h = refl
 signed-one width v h = absurd (cc)
 
--- elements in turn
+-- elements, one by one
 each-counted : (test : Value → Bool) (count : Meaning → ℕ) → ((v : Value) → test v ≡ true → count (meaning v) ≡ values_in v) →
     {m : _} → (items : Row_of-Value m) → list_all test (items-the_row-Value _ items) ≡ true → count_each count (list_meaning (meanings_of items)) ≡ values_of_all items
 each-counted test count f end_of-Value h = refl
@@ -94,6 +94,6 @@ mutual
   picked-counted (more_of-Shape part parts) zero v h = fitting-counted part v h
   picked-counted (more_of-Shape part parts) (suc n) v h = picked-counted parts n v h
 
--- Each image of a meaning has as many values as are counted of it.
+-- Each image of a meaning has as many values as are counted from the meaning.
 pub image-counted : (shape : Shape) (m : Meaning) (v : Value) → IsImage shape m v → count_of shape m ≡ values_in v
 image-counted shape m v h = ap (count_of shape) h.1 ∙ fitting-counted shape v h.0

@@ -1,4 +1,4 @@
--- How many values the image of a word has, and which words are empty.
+-- How many values the image of a word has, and which shapes have empty words only.
 use Rattle.std.specs.Prelude.{◌≡◌, ℕ, zero, suc, ◌+◌, ◌-◌, ◌^◌, min, Bool, true, false, ◌&&◌, ◌||◌, ◌==◌, List, [], ◌∷◌}
 use Rattle.bincode_spec.specs.Meaning.{Meaning, Then, Choice}
 use Rattle.bincode_shape.specs.declared.shape.Shape as shapes
@@ -19,12 +19,12 @@ abbrev mutual
   values_of_all end_of-Value = 0
   values_of_all (more_of-Value item others) = values_in item + values_of_all others
 
--- each element of a list, by one count,
+-- each element of a list, with one count,
 abbrev pub count_each : (Meaning → ℕ) → Meaning → ℕ
 count_each count (Then m others) = count m + count_each count others
 count_each count _ = 0
 
--- each part of a tuple, by its own,
+-- each part of a tuple, with its own,
 abbrev pub count_parts : List (Meaning → ℕ) → Meaning → ℕ
 count_parts (count ∷ counts) (Then m others) = count m + count_parts counts others
 count_parts _ _ = 0
@@ -46,7 +46,7 @@ count_choice counts (Choice n m) = count_picked counts n m
 count_choice counts _ = 0
 
 abbrev mutual
-  -- how many values the image of a meaning has: itself, and those of its parts
+  -- the number of values in the image of a meaning: itself, and those of its parts
   pub count_of : Shape → Meaning → ℕ
   count_of (shapes.Seq' claim p element) m = count_each (count_of element) m + 1
   count_of (shapes.Array' len claim p element) m = count_each (count_of element) m + 1
@@ -59,7 +59,7 @@ abbrev mutual
   counts_of end_of-Shape = []
   counts_of (more_of-Shape part others) = count_of part ∷ counts_of others
 
--- as `u128` tells it
+-- as a `u128`, at most its maximum
 abbrev pub capped : ℕ → ℕ
 capped n = min n (2 ^ 128 - 1)
 

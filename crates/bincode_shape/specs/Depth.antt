@@ -1,10 +1,10 @@
--- How deep shapes stand in one another.
+-- How deep shapes are nested.
 use Rattle.std.specs.Prelude.{ℕ, ◌+◌, ◌-◌, ◌^◌, max, min, List, [], ◌∷◌}
 use Rattle.bincode_shape.specs.declared.shape.Shape as shapes
 use Rattle.bincode_shape.specs.declared.shape.Shape.{Shape, Row_of-Shape, end_of-Shape, more_of-Shape}
 
 abbrev mutual
-  -- one more than the deepest part, and 0 of what holds none
+  -- one more than the deepest part, and 0 without parts
   pub depth : Shape → ℕ
   depth (shapes.Seq' claim p element) = depth element + 1
   depth (shapes.Array' len claim p element) = depth element + 1
@@ -22,7 +22,7 @@ abbrev pub deepest : List Shape → ℕ
 deepest [] = 0
 deepest (shape ∷ others) = max (depth shape) (deepest others)
 
--- as `usize` tells it
+-- as a `usize`, at most its maximum
 abbrev pub capped_depth : Shape → ℕ
 capped_depth shape = min (depth shape) (2 ^ 64 - 1)
 

@@ -1,4 +1,4 @@
--- What holds shapes and values in a vector, by its items.
+-- What vectors of shapes and values stand for, by their items.
 use Rattle.std.specs.Prelude.{ℕ, ◌≡◌, ◌+◌, ◌&&◌, max, List, [], ◌∷◌, map, Bool, true, refl}
 use Rattle.std.specs.List.{list_all}
 use Rattle.std.proofs.Common.{◌∙◌, ap}
@@ -51,14 +51,14 @@ meanings_of-vec v = meanings_of-items (hidden-the_row-Value-0 v) ∙ ap (map mea
 abbrev pub AreImages : List Shape → Meaning → List Value → Type 0
 AreImages shapes m vs = (each_passes (tests shapes) vs ≡ true) × (m ≡ list_meaning (map meaning vs))
 
--- a word of the shape for the value, and one of the shapes in turn for the values
+-- a word of the shape for the value, and one of the shapes in order for the values
 abbrev pub AllowsImage : Setting → Shape → Value → List ℕ → Type 0
 AllowsImage s shape v = AllowedWord (IsMeant v) (format_of shape s)
 
 abbrev pub AllowsImages : Setting → List Shape → List Value → List ℕ → Type 0
 AllowsImages s shapes vs = AllowedWord (λ m. m ≡ list_meaning (map meaning vs)) (tuple (at s (formats shapes)))
 
--- what is counted of some shapes, and the values of some values
+-- the counts of some shapes, and the number of values in a list
 abbrev pub counts : List Shape → List (Meaning → ℕ)
 counts [] = []
 counts (shape ∷ others) = count_of shape ∷ counts others

@@ -1,4 +1,4 @@
--- One format for another.
+-- Equality of formats.
 use Rattle.std.specs.Prelude.{◌≡◌, ℕ, zero, suc, List, [], ◌∷◌, refl}
 use Rattle.std.proofs.Common.{subst, sym}
 use Rattle.bincode_base.specs.Setting.{Setting}
@@ -9,7 +9,7 @@ use Rattle.bincode_spec.specs.Words.{len, first_and, array, list}
 use Rattle.bincode_spec.specs.Allowed.{WrittenAlike}
 use Rattle.bincode_lemmas.specs.AllowedLaws.{map-written, written-map}
 
--- the same words, meanings, steps and faults, of which the same are written
+-- the formats have equal words, meanings, steps and faults, and write equal words
 pub record SameWords (F G : Format Meaning) : Type 0 where
   pub read : F.read ≡ G.read
   pub written : WrittenAlike F G

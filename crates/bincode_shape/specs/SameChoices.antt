@@ -1,4 +1,4 @@
--- One choice for another.
+-- Equality of choices.
 use Rattle.std.specs.Prelude.{◌≡◌, ℕ, ◌==◌, Bool, true, false, List, [], ◌∷◌, refl}
 use Rattle.std.proofs.Common.{subst, sym}
 use Rattle.bincode_base.specs.Setting.{Setting}
@@ -20,7 +20,7 @@ map-alike f F G h bytes m w = let t = written-map f F bytes m w in subst (λ z. 
 map-same : (f : Meaning → Meaning) {F G : Format Meaning} → SameWords F G → SameWords (map_format f F) (map_format f G)
 map-same f {F} {G} h = record { read = map-read f F G h.read; written = (map-alike f F G h.written.0, map-alike f G F h.written.1) }
 
--- variants of the same tags, whose parts have the same words
+-- the variants have equal tags and equal formats
 abbrev pub SameVariants : Setting → List Variant → List Variant → Type 0
 SameVariants s [] [] = Unit {0}
 SameVariants s [] (w ∷ ws) = ⊥

@@ -1,4 +1,4 @@
--- The format of each shape keeps the laws.
+-- The laws of the format of each shape.
 use Rattle.std.specs.Prelude.{ℕ, ◌+◌, ◌≤◌, ◌==◌, List, [], ◌∷◌, refl}
 use Rattle.std.proofs.Common.{arith}
 use Rattle.bincode_base.specs.declared.error.IntegerType.TheVariants as integers
@@ -25,7 +25,7 @@ use Rattle.bincode_lemmas.specs.CharLaws.{character-lawful, character-balanced}
 use Rattle.bincode_lemmas.specs.TextLaws.{text-lawful, text-balanced}
 use Rattle.bincode_lemmas.specs.TupleLaws.{nothing-lawful, nothing-balanced, then-lawful, then-balanced}
 
--- each of the formats keeps the laws, and is balanced
+-- each of the formats is lawful, and balanced
 abbrev EachLawful : Setting → List (Setting → Format Meaning) → Type 0
 EachLawful s [] = Unit {0}
 EachLawful s (F ∷ others) = Lawful (F s) × EachLawful s others
@@ -88,7 +88,7 @@ mutual
   parts-lawful (more_of-Shape part others) s = (format_of-lawful part s, parts-lawful others s)
 
 mutual
-  -- What the steps of a word reserve they release.
+  -- A word releases what it reserves.
   pub format_of-balanced : (shape : Shape) (s : Setting) → Balanced (format_of shape s)
   format_of-balanced shapes.Unit s = nothing-balanced
   format_of-balanced shapes.Bool s = truth-balanced
@@ -116,7 +116,7 @@ mutual
   parts-balanced end_of-Shape s = tt
   parts-balanced (more_of-Shape part others) s = (format_of-balanced part s, parts-balanced others s)
 
--- each of the formats is charged for
+-- each of the formats charges enough
 abbrev EachCharged : Setting → List (Setting → Format Meaning) → Type 0
 EachCharged s [] = Unit {0}
 EachCharged s (F ∷ others) = ChargesEnough (F s) × EachCharged s others
@@ -148,7 +148,7 @@ share-some : (claim : ℕ) → 1 ≤ share claim
 share-some claim = omega arith
 
 mutual
-  -- The steps of a word of a shape charge for its bytes, and claim a byte at least for each element.
+  -- A word charges for its bytes, and at least one byte for each element.
   pub format_of-charged : (shape : Shape) (s : Setting) → ChargesEnough (format_of shape s)
   format_of-charged shapes.Unit s = nothing-charged
   format_of-charged shapes.Bool s = test-charged unsigned_byte truth_of unsigned_byte-charged

@@ -1,4 +1,4 @@
--- What shapes and values stand for: the format of a shape, what a value means, and which values fit a shape.
+-- Shapes and values: the format of a shape, the meaning of a value, and which values fit a shape.
 use Rattle.std.specs.Prelude.{◌≡◌, ℕ, zero, suc, ◌+◌, ◌*◌, ◌^◌, nat_lt, ℤ, pos, negsuc, max, Bool, true, false, ◌&&◌, ◌==◌, List, [], ◌∷◌, length, string_bytes}
 use Rattle.std.specs.List.{list_all}
 use Rattle.bincode_base.specs.declared.error.IntegerType.TheVariants as integers
@@ -13,7 +13,7 @@ use Rattle.bincode_shape.specs.declared.shape.Shape.{Shape, Row_of-Shape, end_of
 use Rattle.bincode_shape.specs.declared.shape.Value as values
 use Rattle.bincode_shape.specs.declared.shape.Value.{Value, Row_of-Value, end_of-Value, more_of-Value, items-the_row-Value, None', Some'}
 
--- an element claims a byte at least
+-- an element claims at least one byte
 abbrev pub share : ℕ → ℕ
 share claim = max claim 1
 
@@ -25,7 +25,7 @@ byte_tag s = unsigned_byte
 abbrev pub optional : (Setting → Format Meaning) → List Variant
 optional F = (0, λ s. nothing) ∷ (1, F) ∷ []
 
--- of no variants there is no word
+-- without variants there is no word
 abbrev pub one_of : List Variant → Setting → Format Meaning
 one_of [] s = fail EmptyEnum
 one_of (variant ∷ others) s = tag_then_part tag (variant ∷ others) s
@@ -35,7 +35,7 @@ abbrev pub at : Setting → List (Setting → Format Meaning) → List (Format M
 at s [] = []
 at s (F ∷ others) = F s ∷ at s others
 
--- variants, whose tags go up by one
+-- variants with consecutive tags
 abbrev pub numbered : ℕ → List (Setting → Format Meaning) → List Variant
 numbered n [] = []
 numbered n (F ∷ others) = (n, F) ∷ numbered (n + 1) others
@@ -69,7 +69,7 @@ abbrev mutual
   formats_of end_of-Shape = []
   formats_of (more_of-Shape part others) = format_of part ∷ formats_of others
 
--- decoding takes memory for a text, and for what holds parts
+-- decoding allocates for a text, and for what has parts
 abbrev pub TakesMemory : Shape → Type 0
 TakesMemory shapes.Text = Unit {0}
 TakesMemory (shapes.Seq' _ _ _) = Unit {0}
@@ -115,12 +115,12 @@ abbrev pub is_text : Value → Bool
 is_text (values.Text _) = true
 is_text _ = false
 
--- an unsigned number of so many bytes
+-- an unsigned number of `width` bytes
 abbrev pub is_unsigned : ℕ → Value → Bool
 is_unsigned width (values.Unsigned n) = nat_lt n (256 ^ width)
 is_unsigned width _ = false
 
--- twice its size is below all numbers of so many bytes
+-- twice its size is below 256^width
 abbrev pub has_sign_bit : ℕ → ℤ → Bool
 has_sign_bit width (pos n) = nat_lt (2 * n) (256 ^ width)
 has_sign_bit width (negsuc n) = nat_lt (2 * n) (256 ^ width)
@@ -152,14 +152,14 @@ each_passes [] (item ∷ items) = false
 each_passes (test ∷ tests) [] = false
 each_passes (test ∷ tests) (item ∷ items) = test item && each_passes tests items
 
--- there is a test of this number, and the value passes it
+-- the value passes the test of this number, if there is one
 abbrev pub picked_passes : List (Value → Bool) → ℕ → Value → Bool
 picked_passes [] n v = false
 picked_passes (test ∷ tests) zero v = test v
 picked_passes (test ∷ tests) (suc n) v = picked_passes tests n v
 
 abbrev mutual
-  -- the value is one of those that the shape describes
+  -- the value has the shape
   pub fits : Shape → Value → Bool
   fits shapes.Unit v = is_unit v
   fits shapes.Bool v = is_truth v
@@ -187,10 +187,10 @@ abbrev mutual
   tests_of end_of-Shape = []
   tests_of (more_of-Shape part others) = fits part ∷ tests_of others
 
--- it is this value of the shape that means this
+-- the value has the shape and this meaning
 abbrev pub IsImage : Shape → Meaning → Value → Type 0
 IsImage shape m v = (fits shape v ≡ true) × (m ≡ meaning v)
 
--- it is what the value means
+-- the meaning is the value's
 abbrev pub IsMeant : Value → Meaning → Type 0
 IsMeant v m = m ≡ meaning v

@@ -5,6 +5,6 @@ use Rattle.bincode_base.specs.declared.short_text.Text.{Text}
 use Rattle.bincode_base.specs.declared.error.EncodeError.{EncodeError}
 use Rattle.bincode_base.specs.declared.error.EncodeError.TheVariants as errors
 
--- it tells so by its text
+-- `Other` with the text that says so
 abbrev pub IsUnfit : EncodeError → Type 0
 IsUnfit e = (text : Text 22) × (e ≡ errors.Other text) × (text_bytes text ≡ codes "value does not fit the shape")

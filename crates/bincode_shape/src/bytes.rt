@@ -1,12 +1,12 @@
-//! Which shapes have words without bytes.
+//! Shapes whose encoding is always empty.
 ghost use Rattle.std.specs.Prelude.{◌≡◌};
 ghost use Rattle.std.specs.List.{list_all};
 ghost use Rattle.bincode_shape.specs.Counts.{without_bytes};
 
 use crate::shape::Shape;
 
-/// Whether all words of the shape are empty: it is of nothing, of parts without bytes, or of an array of such or of no
-/// elements. Of each other shape each word has a byte at least.
+/// Whether every encoding of the shape is empty: `Unit`, a tuple of such, and an array of such or without elements.
+/// Every encoding of another shape has at least one byte.
 #[cycle(bytes)]
 pub fn has_no_bytes(shape: &Shape) -> bool
     ensures { result ≡ without_bytes shape.now }
@@ -23,7 +23,7 @@ pub fn has_no_bytes(shape: &Shape) -> bool
     }
 }
 
-/// Whether all words of each part are empty.
+/// Whether every encoding of each part is empty.
 #[cycle(bytes)]
 fn have_no_bytes(parts: &[Shape]) -> bool
     ensures { result ≡ list_all without_bytes parts.now }

@@ -1,13 +1,13 @@
-//! How deep shapes stand in one another.
+//! How deep shapes are nested.
 ghost use Rattle.std.specs.Prelude.{◌≡◌};
 ghost use Rattle.bincode_shape.specs.Depth.{capped_depth, capped_deepest};
 
 use crate::shape::Shape;
 
 impl Shape {
-    /// How deep shapes stand in one another: 0 where it holds no other, and one more than the deepest that it holds
-    /// where it does; a list of numbers has 1, as has a tuple without parts. A caller may refuse a shape that is too
-    /// deep before it is handed to a call that goes as deep. A depth above `usize::MAX` is told as that.
+    /// How deep the shape is nested: 0 for one that holds no other, else one more than the deepest that it holds. A
+    /// list of numbers has 1, and so has a tuple without parts. At most `usize::MAX`. Calls that take a shape recurse
+    /// as deep, so that a caller may want to refuse it; so does `depth` itself.
     #[cycle(depth)]
     pub fn depth(&self) -> usize
         ensures { result ≡ capped_depth self.now }
@@ -27,7 +27,7 @@ impl Shape {
     }
 }
 
-/// How deep the deepest of the parts is, and 0 of none.
+/// The depth of the deepest part, and 0 without parts.
 #[cycle(depth)]
 fn depth_of(parts: &[Shape]) -> usize
     ensures { result ≡ capped_deepest parts.now }

@@ -1,4 +1,4 @@
-//! Types that are described at run time: their shapes, and the images of their values.
+//! Types that are described at run time: shapes, and generic values.
 #![tactic(auto)]
 
 pub mod bytes;

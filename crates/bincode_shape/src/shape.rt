@@ -1,17 +1,17 @@
-//! Shapes of types, and images of their values.
+//! Shapes of types, and generic values.
 
-/// What the words of a type are like, told at run time. A type of a user's own, or of a program that has no Rust types
-/// at all, may be described by it. How deep shapes may stand in one another is not promised: the calls that take them
-/// go as deep as they do, and so does letting one go. `depth` tells how deep one is.
+/// The encoding of a type, described at run time: of a type of your own, or of a program that has no Rust types at all.
+/// Calls that take a shape recurse as deep as it is nested, and so does dropping it: no depth is promised. `depth`
+/// tells how deep a shape is.
 #[derive(Debug, Drop, PartialEq)]
 pub enum Shape {
-    /// No bytes, as of `()`.
+    /// No bytes, like `()`.
     Unit,
-    /// A truth value, as of `bool`.
+    /// A truth value, like `bool`.
     Bool,
-    /// A character, as of `char`.
+    /// A character, like `char`.
     Char,
-    /// A text behind its length, as of `String`.
+    /// A length-prefixed text, like `String`.
     Text,
     U8,
     U16,
@@ -25,31 +25,31 @@ pub enum Shape {
     I64,
     I128,
     Isize,
-    /// A list behind its length, as of `Vec<T>`.
+    /// A length-prefixed list, like `Vec<T>`.
     Seq {
-        /// How many bytes are claimed for an element. 0 counts as 1.
+        /// How many bytes an element claims. 0 counts as 1.
         claim: usize,
-        /// What each element is like.
+        /// The shape of each element.
         element: Box<Shape>,
     },
-    /// So many elements, as of `[T; N]`.
+    /// `len` elements without a length prefix, like `[T; N]`.
     Array {
-        /// How many elements there are.
+        /// The number of elements.
         len: usize,
-        /// How many bytes are claimed for an element. 0 counts as 1.
+        /// How many bytes an element claims. 0 counts as 1.
         claim: usize,
-        /// What each element is like.
+        /// The shape of each element.
         element: Box<Shape>,
     },
-    /// Parts in order, as of a tuple: any number of them.
+    /// Any number of parts in order, like a tuple.
     Tuple(Vec<Shape>),
-    /// A byte 0, or a byte 1 and a part, as of `Option<T>`.
+    /// A byte 0, or a byte 1 and a part, like `Option<T>`.
     Optional(Box<Shape>),
-    /// The tag of one of these parts, from 0 on, and that part, as of an enum.
+    /// The tag of one of these parts, from 0 on, then that part, like an enum.
     Choice(Vec<Shape>),
 }
 
-/// A value of a type that is described by a shape.
+/// A generic value: one of a type that a shape describes.
 #[derive(Debug, Drop, PartialEq)]
 pub enum Value {
     /// Of `Shape::Unit`.
@@ -60,15 +60,14 @@ pub enum Value {
     Char(char),
     /// Of `Shape::Text`.
     Text(String),
-    /// Of the unsigned integers, within the range of each.
+    /// Of the unsigned integers, within the range of the shape.
     Unsigned(u128),
-    /// Of the signed integers, within the range of each.
+    /// Of the signed integers, within the range of the shape.
     Signed(i128),
-    /// Of `Shape::Seq`, of `Shape::Array` with as many items as it has elements, and of `Shape::Tuple` with an item for
-    /// each part.
+    /// Of `Shape::Seq`; of `Shape::Array`, with its number of items; and of `Shape::Tuple`, with an item for each part.
     List(Vec<Value>),
     /// Of `Shape::Optional`: nothing, or the part.
     Optional(Option<Box<Value>>),
-    /// Of `Shape::Choice`: the number of the part, from 0 on, and the part.
+    /// Of `Shape::Choice`: the index of the part, from 0 on, and the part.
     Choice(u32, Box<Value>),
 }

@@ -1,4 +1,4 @@
--- Elements without bytes: where one is read, so are all that come after it, since less is charged for them.
+-- Elements without bytes: if one is decoded, so are all after it, since less is charged for them.
 use Rattle.std.specs.Prelude.{◌≡◌, ℕ, zero, suc, ◌+◌, ◌*◌, ◌-◌, ◌<◌, ◌≤◌, ◌==◌, ◌||◌, ◌&&◌, Bool, true, false, List, [], ◌∷◌, ◌++◌, Option, Some, None, Ok, refl}
 use Rattle.std.specs.Borrow.{GName}
 use Rattle.std.proofs.lemmas.Bool.{ne_eqb}
@@ -25,7 +25,7 @@ use Rattle.bincode_shape.specs.declared.shape.Shape.{Shape, Row_of-Shape, end_of
 use Rattle.bincode_shape.specs.Shapes.{format_of, formats_of, share, at}
 use Rattle.bincode_shape.specs.Counts.{without_bytes, all_without}
 
--- each input begins with the same empty word, for which nothing is charged
+-- each input begins with an empty word of one meaning, for which nothing is charged
 pub record Empty {A : Type 0} (F : Format A) : Type 0 where
   pub meaning : A
   pub steps : List Step
@@ -83,7 +83,7 @@ both true b h = (refl, h)
 both false b h = absurd (cc)
 
 mutual
-  -- so it is of a shape without bytes
+  -- the words of a shape without bytes are such
   pub shape-empty : (shape : Shape) (s : Setting) → without_bytes shape ≡ true → Empty (format_of shape s)
   shape-empty shapes.Unit s h = nothing-empty
   shape-empty (shapes.Array' len claim p element) s h =
@@ -96,7 +96,7 @@ mutual
   parts-empty (more_of-Shape part others) s h =
       let p = both (without_bytes part) (all_without others) h in first_and-empty (shape-empty part s p.0) (parts-empty others s p.1)
 
--- steps that give back what they take lead from each lower charge to itself
+-- steps that release what they reserve lead from each lower charge to itself
 falls : (limit : Option ℕ) (c d after : ℕ) (steps : List Step) → IsBacked 0 steps → reserved_bytes steps ≡ released_bytes steps → charged_bytes steps ≡ 0 → Allows limit c → d ≤ c →
     charge_behind limit c steps ≡ Some after → charge_behind limit d steps ≡ Some d
 falls None c d after steps b e f a le h = stays-behind None d 0 steps b (omega arith) tt
@@ -112,7 +112,7 @@ gave_is a m input remaining after None e = absurd (cc)
 same_some : (a b : ℕ) → ◌≡◌ {A = Option ℕ} (Some a) (Some b) → a ≡ b
 same_some a b e = cc
 
--- where one is read, each is from a lower charge
+-- if one is decoded, so is each from a lower charge
 answers-alike : {F : Format Meaning} (h : Empty F) → Balanced F → (limit : Option ℕ) (input remaining : List ℕ) (c after : ℕ) (m : Meaning) → Allows limit c →
     answer limit F input c ≡ Gave m remaining after → (m ≡ h.meaning) × (remaining ≡ input) × (after ≡ c) × ((d : ℕ) (i : List ℕ) → d ≤ c → answer limit F i d ≡ Gave h.meaning i d)
 unfolding answer
@@ -128,7 +128,7 @@ answers-alike h b limit input remaining c after m a e =
       λ d i le. ap (weigh_reading limit d) (h.reads i) ∙ ap (gave_at h.meaning i) (falls limit c d after h.steps backed (omega (arith, even)) h.uncharged a le p.2),
     )
 
--- as many copies of it
+-- n copies
 abbrev pub copies : {A : Type 0} → ℕ → A → List A
 copies zero a = []
 copies (suc n) a = a ∷ copies n a
@@ -146,7 +146,7 @@ unclaimed-twice None c n share = refl
 unclaimed-twice (Some limit) c n share = let k : suc n * share ≡ n * share + share = omega arith in omega (arith, k)
 
 module _ (limit : Option ℕ) (share : ℕ) (F : Format Meaning) (f : Lawful F) (b : Balanced F) (all : Answer (List Meaning)) (input : List ℕ) (m : Meaning) (remaining : List ℕ) where
-  -- all others are read
+  -- all others are decoded
   others-alike : (n : ℕ) (ms : List Meaning) (c : ℕ) → ((d : ℕ) → d ≤ c → answer limit F remaining d ≡ Gave m remaining d) → ReadSoFar limit share F all input ms n remaining c →
       ReadSoFar limit share F all input (ms ++ copies n m) 0 remaining (after_release limit c (n * share))
   others-alike zero ms c each h =
@@ -184,7 +184,7 @@ held-alike (Some limit) count claim start c some h k = let e = times count claim
 
 module _ {D R C T : Type 0} {is_known : D → Type 0} {remaining : D → List ℕ} {charge failures : D → ℕ} {reader_of : D → R} {context_of : D → C} {loans : D → List GName}
     {limit : Option ℕ} {end_error : ℕ → DecodeError → Type 0} {device : DeviceErrors} {may_allocate : Type 0} {claim : ℕ} {format : Format Meaning} {decodes_to : Meaning → T → Type 0} where
-  -- The first of a run was read, and the room of the others was released: all are read.
+  -- The first of a run was read, and the claims of the others were released: then all are read.
   pub alike-so_far : {count : ℕ} {v : T} {old middle now : D} (h : Empty format) → Lawful format → Balanced format → 0 < count → Allows limit (charge old) →
       CanRelease limit (charge old) (count * claim) →
       Reads is_known remaining charge failures loans limit end_error device may_allocate format decodes_to (after_release limit (charge old) claim) (Ok v) old middle →

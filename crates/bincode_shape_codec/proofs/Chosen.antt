@@ -1,4 +1,4 @@
--- A choice is read by its tag and the part that it picks.
+-- Decoding a choice: its tag, then the part that it selects.
 use Rattle.std.specs.Prelude.{◌≡◌, ℕ, ◌+◌, ◌<◌, ◌≤◌, List, [], length, get_or, Box, Option, Ok, Err, refl}
 use Rattle.std.specs.Borrow.{GName}
 use Rattle.std.specs.declared.alloc.Global.{Global}
@@ -29,7 +29,7 @@ use Rattle.bincode_shape_codec.specs.Held.{IsChosen}
 use Rattle.bincode_shape_codec.proofs.Picked.{one_of-some, no-parts, picked, unpicked}
 use Rattle.bincode_shape_codec.proofs.Renamed.{map-reads, map-reads_none}
 
--- the image of a part is one of what was chosen
+-- the image of a part is one of the choice
 pub chosen-image : (ps : List Shape) (found : ℕ) (p : Shape) (held : Box Value Global) → found < length ps → p ≡ get_or ps found p →
     (m : Meaning) → IsImage p m held.value → IsChosen ps (Choice found m) (found, held)
 chosen-image ps found p held h e m k = (picked-at ps found p held.value h e ∙ k.0, ap (Choice found) k.1)

@@ -1,4 +1,4 @@
--- How many values a word makes, by what its parts make.
+-- How many values a word makes, from how many its parts make.
 use Rattle.std.specs.Prelude.{◌≡◌, ℕ, zero, suc, ◌+◌, ◌*◌, ◌-◌, ◌<◌, ◌≤◌, List, [], ◌∷◌, ◌++◌, length, get_or, Option, Result, Ok, Err, refl}
 use Rattle.std.specs.Borrow.{GName}
 use Rattle.std.proofs.Common.{sym, ◌∙◌, ap, arith}
@@ -25,7 +25,7 @@ use Rattle.bincode_shape_codec.proofs.Chosen.{held-reads, held-stops}
 use Rattle.bincode_shape_codec.proofs.Optional.{some-reads, some-stops}
 use Rattle.bincode_shape_codec.proofs.Parts.{before, before-push, behind, behind-none, behind-push, part-then, part-stops, stops-behind, nothing-gives}
 
--- what is counted in parts
+-- counts of two parts
 pub capped-adds : (a b c d : ℕ) → a ≡ capped c → b ≡ capped d → capped (a + b) ≡ capped (c + d)
 capped-adds a b c d h k = omega (arith, h, k)
 
@@ -47,7 +47,7 @@ pub total-copies : (k n : ℕ) → total (copies k n) ≡ n * k
 total-copies zero n = omega arith
 total-copies (suc k) n = let h = total-copies k n in let e : n * suc k ≡ n + n * k = omega arith in omega (arith, h, e)
 
--- so often the same
+-- n times one count
 pub total-alike : (len n : ℕ) → 0 < len → total (n ∷ copies (len - 1) n) ≡ n * len
 total-alike zero n h = absurd (omega arith)
 total-alike (suc k) n h =
@@ -56,7 +56,7 @@ total-alike (suc k) n h =
     let one : suc k - 1 ≡ k = omega arith in
     rw one (omega (arith, e, f))
 
--- of the part that a tag picks
+-- of the part that a tag selects
 pub picked-counts : (ps : List Shape) (n : ℕ) (p : Shape) (m : Meaning) → n < length ps → p ≡ get_or ps n p → count_of p m ≡ count_picked (counts ps) n m
 picked-counts [] n p m h e = absurd (omega arith)
 picked-counts (q ∷ ps) zero p m h e = ap (λ z. count_of z m) e
@@ -72,7 +72,7 @@ module _ {D : Type 0} {is_known : D → Type 0} {remaining : D → List ℕ} {ch
       read-as (λ known. made-of (λ m h. let one : 1 ≡ capped 1 = omega arith in capped-adds n 1 (count m) 1 h one ∙ ap capped (sym (e m))) (read.ok known)) (λ known. tt) read.within read
   whole-counted count whole (Err e) more read = read-as (λ known. tt) read.err (λ _. tt) read
 
--- of the parts of a tuple these are left, and so many values were counted
+-- these parts of a tuple are left, and n values were counted
 pub record PartsCounted {D : Type 0} (is_known : D → Type 0) (remaining : D → List ℕ) (charge failures : D → ℕ) (loans : D → List GName) (limit : Option ℕ)
     (s : Setting) (parts left : List Shape) (n : ℕ) (old now : D) : Type 0 where
   pub known : is_known old →
@@ -174,7 +174,7 @@ module _ {D : Type 0} {is_known : D → Type 0} {remaining : D → List ℕ} {ch
 
 module _ {D : Type 0} {is_known : D → Type 0} {remaining : D → List ℕ} {charge failures : D → ℕ} {loans : D → List GName} {limit : Option ℕ}
     {end_error : ℕ → DecodeError → Type 0} {device : DeviceErrors} {may_allocate : Type 0} {start : ℕ} (s : Setting) where
-  -- what is counted of the part of an option,
+  -- the count of the part of an option,
   pub some-counted : (part : Shape) {b : ℕ} {old middle new : D} (r : Result ℕ DecodeError) → b ≡ 1 →
       Reads is_known remaining charge failures loans limit end_error device ⊥ unsigned_byte (λ n v. n ≡ v) start (Ok b) old middle →
       Reads is_known remaining charge failures loans limit end_error device may_allocate (format_of part s) (IsCounted part) (charge middle) r middle new →
@@ -182,7 +182,7 @@ module _ {D : Type 0} {is_known : D → Type 0} {remaining : D → List ℕ} {ch
   some-counted part (Ok v) one first read = some-reads s part one (λ m h. h) first read
   some-counted part (Err e) one first read = some-stops s part one first read
 
-  -- and of the part that a tag picks
+  -- and of the part that a tag selects
   pub held-counted : (ps : List Shape) (found : ℕ) (p : Shape) {old middle new : D} (r : Result ℕ DecodeError) → 0 < length ps → found < length ps → p ≡ get_or ps found p →
       Reads is_known remaining charge failures loans limit end_error device ⊥ (tag s) (λ n v. n ≡ v) start (Ok found) old middle →
       Reads is_known remaining charge failures loans limit end_error device may_allocate (format_of p s) (IsCounted p) (charge middle) r middle new →

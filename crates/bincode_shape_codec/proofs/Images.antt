@@ -1,4 +1,4 @@
--- What was read of a shape, by what was read of its parts.
+-- What was decoded of a shape, from what was decoded of its parts.
 use Rattle.bincode_spec.specs.Number.{FitsIn}
 use Rattle.bincode_lemmas.specs.DecodingLaws.{stops-besides, nothing-decodes}
 use Rattle.std.specs.Prelude.{◌≡◌, ℕ, ◌*◌, ◌^◌, ℤ, pos, negsuc, true, List, [], ◌∷◌, map, length, Option, Ok, Err, Box, refl}
@@ -31,7 +31,7 @@ images-of element (v ∷ vs) m h =
     let remaining = images-of element vs h.others h.are_others in
     (rw (h.is_first.0, remaining.0) refl, h.meaning_is ∙ rw (h.is_first.1, remaining.1) refl)
 
--- a fault of what was read is one of what is made of it
+-- a fault of a part is one of the whole
 module _ {D A T U : Type 0} {is_known : D → Type 0} {remaining : D → List ℕ} {charge failures : D → ℕ} {loans : D → List GName} {limit : Option ℕ}
     {end_error : ℕ → DecodeError → Type 0} {device : DeviceErrors} {start : ℕ} {old new : D} {G H : Type 0} {F : Format A} {decodes_to : A → T → Type 0} {whole : A → U → Type 0} where
   pub stops-alike : {e : DecodeError} → (G → H) →

@@ -1,4 +1,4 @@
--- An option is read by its byte and its part.
+-- Decoding an option: its byte, then its part.
 use Rattle.std.specs.Prelude.{◌≡◌, ℕ, List, [], Option, Ok, Err, refl}
 use Rattle.std.specs.Borrow.{GName}
 use Rattle.std.proofs.Common.{arith}

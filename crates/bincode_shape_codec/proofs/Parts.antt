@@ -1,4 +1,4 @@
--- How the parts of a tuple are read, one by one.
+-- Decoding the parts of a tuple, one by one.
 use Rattle.std.proofs.lemmas.List.{drop_more}
 use Rattle.std.specs.Prelude.{◌≡◌, ℕ, zero, suc, ◌+◌, ◌<◌, ◌≤◌, length, get_or, drop, ◌&&◌, List, [], ◌∷◌, ◌++◌, map, Option, Ok, Err, refl}
 use Rattle.std.specs.Borrow.{GName}
@@ -23,7 +23,7 @@ use Rattle.bincode_shape.specs.Shapes.{format_of, at, each_passes, meaning, IsIm
 use Rattle.bincode_shape.specs.ShapeLaws.{format_of-lawful}
 use Rattle.bincode_shape.specs.Rows.{formats, tests, AreImages}
 
--- these meanings, and then that of the others
+-- these meanings, then that of the others
 abbrev pub before : List Meaning → Meaning → Meaning
 before [] m = m
 before (x ∷ ms) m = Then x (before ms m)
@@ -54,7 +54,7 @@ last-then limit x (Gave m remaining c) = answer-pure limit (Then x m) remaining 
 last-then limit x (Refused why c) = refl
 last-then limit x PassedLimit = refl
 
--- the first part, and then the others
+-- the first part, then the others
 pub part-then : (limit : Option ℕ) (F others : Format Meaning) (input remaining : List ℕ) (c d : ℕ) (x : Meaning) → answer limit F input c ≡ Gave x remaining d →
     answer limit (first_and F others) input c ≡ and_then (answer limit others remaining d) (λ m r e. Gave (Then x m) r e)
 unfolding first_and
@@ -84,7 +84,7 @@ map-push : (vs : List Value) (v : Value) → map meaning (vs ++ v ∷ []) ≡ ma
 map-push [] v = refl
 map-push (w ∷ vs) v = ap (λ z. meaning w ∷ z) (map-push vs v)
 
--- of the parts these are left, and these values were read
+-- these parts are left, and these values were decoded
 pub record PartsSoFar {D : Type 0} (is_known : D → Type 0) (remaining : D → List ℕ) (charge failures : D → ℕ) (loans : D → List GName) (limit : Option ℕ)
     (s : Setting) (parts left : List Shape) (vs : List Value) (old now : D) : Type 0 where
   pub known : is_known old →
@@ -181,7 +181,7 @@ module _ {D : Type 0} {is_known : D → Type 0} {remaining : D → List ℕ} {ch
         same_loans = r.same_loans ∙ h.same_loans;
       }
 
--- what is left of the parts, at the next one and at the end
+-- the parts that are left at the next one and at the end
 pub next-part : (ps : List Shape) (i : ℕ) (p : Shape) → i < length ps → p ≡ get_or ps i p → drop i ps ≡ p ∷ drop (i + 1) ps
 next-part ps i p h e = drop_more ps i p h ∙ ap (λ z. z ∷ drop (i + 1) ps) (sym e)
 

@@ -1,4 +1,4 @@
--- The part that a tag picks.
+-- The part that a tag selects.
 use Rattle.std.specs.Prelude.{◌≡◌, ℕ, zero, suc, ◌+◌, ◌<◌, ◌≤◌, ◌==◌, true, false, List, [], ◌∷◌, length, get_or, refl}
 use Rattle.std.proofs.Common.{sym, ◌∙◌, ap, arith}
 use Rattle.bincode_base.specs.Setting.{Setting}
@@ -35,7 +35,7 @@ pub no-parts : (ps : List Shape) → length ps ≡ 0 → ps ≡ []
 no-parts [] h = refl
 no-parts (p ∷ ps) h = absurd (omega (arith, h))
 
--- the part that a tag picks
+-- the part that a tag selects
 pub picked : (s : Setting) (ps : List Shape) (found : ℕ) (p : Shape) → found < length ps → p ≡ get_or ps found p → behind_tag (numbered 0 (formats ps)) s found ≡ map_format (Choice found) (format_of p s)
 picked s ps found p h e =
     let k : 0 + found ≡ found = omega arith in
@@ -51,7 +51,7 @@ unpicked s (p ∷ ps) found last n h =
     numbered-none s (allowed_tags (variant_tags (numbered 0 (formats (p ∷ ps))))) 0 found (formats (p ∷ ps)) (omega (arith, l, h))
     ∙ ap (λ a. fail (UnexpectedVariant a found)) (allowed-numbered (format_of p) (formats ps) ∙ ap (λ z. Between 0 z) k)
 
--- a tag that picks a test is that of a part
+-- a tag that selects a test selects a part
 pub picked-within : (ps : List Shape) (n : ℕ) (v : Value) → picked_passes (tests ps) n v ≡ true → n < length ps
 picked-within [] n v h = absurd (cc)
 picked-within (p ∷ ps) zero v h = omega arith
@@ -67,6 +67,6 @@ same_there (p ∷ ps) (suc n) h = get_or-default ps n shapes.Unit (get_or ps n s
     get_or-default (q ∷ qs) zero d e h = refl
     get_or-default (q ∷ qs) (suc i) d e h = get_or-default qs i d e (omega (arith, h))
 
--- the format that it picks
+-- the format that a tag selects
 pub picked-there : (s : Setting) (ps : List Shape) (n : ℕ) → n < length ps → behind_tag (numbered 0 (formats ps)) s n ≡ map_format (Choice n) (format_of (get_or ps n shapes.Unit) s)
 picked-there s ps n h = picked s ps n (get_or ps n shapes.Unit) h (same_there ps n h)

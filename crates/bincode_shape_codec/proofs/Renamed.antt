@@ -1,4 +1,4 @@
--- What was read, under another meaning.
+-- Decoding with the meaning mapped.
 use Rattle.std.specs.Prelude.{ℕ, List, Option, Ok, Err}
 use Rattle.std.specs.Borrow.{GName}
 use Rattle.bincode_base.specs.declared.error.DecodeError.{DecodeError}
@@ -8,7 +8,7 @@ use Rattle.bincode_spec.specs.Values.{Reads}
 use Rattle.bincode_lemmas.specs.DecodingLaws.{map-gave, map-stops}
 use Rattle.bincode_decoder.proofs.ReadAnswers.{read-as}
 
--- what was read is read under another meaning
+-- decoding a mapped format gives the mapped meaning
 pub map-reads :
     {D A B T U : Type 0} {is_known : D → Type 0} {remaining : D → List ℕ} {charge failures : D → ℕ} {loans : D → List GName} {limit : Option ℕ}
     {end_error : ℕ → DecodeError → Type 0} {device : DeviceErrors} {H : Type 0} {F : Format A} {decodes_to : A → T → Type 0} {whole : B → U → Type 0} {start : ℕ}

@@ -1,4 +1,4 @@
--- How the parts of a tuple are written, one by one.
+-- Encoding the parts of a tuple, one by one.
 use Rattle.std.specs.Prelude.{◌≡◌, ℕ, List, [], ◌∷◌, ◌++◌, map, refl}
 use Rattle.std.proofs.Common.{sym, ◌∙◌, ap, subst, append_assoc}
 use Rattle.bincode_base.specs.Setting.{Setting}
@@ -14,7 +14,7 @@ use Rattle.bincode_shape.specs.declared.shape.Value.{Value}
 use Rattle.bincode_shape.specs.Shapes.{format_of, at, meaning, IsMeant}
 use Rattle.bincode_shape.specs.Rows.{formats, AllowsImage, AllowsImages}
 
--- items of one kind
+-- items of one shape
 pub list-meant : (vs : List Value) (m : Meaning) → IsListOf IsMeant vs m → m ≡ list_meaning (map meaning vs)
 list-meant [] m h = h
 list-meant (v ∷ vs) m h = h.meaning_is ∙ rw (h.is_first, list-meant vs h.others h.are_others) refl
@@ -34,7 +34,7 @@ module _ (s : Setting) (shape : Shape) (shapes : List Shape) (v : Value) (vs : L
       allowed-tuple (IsMeant v) (λ m. m ≡ list_meaning (map meaning vs)) (format_of shape s) (tuple (at s (formats shapes))) bytes
       (more-allowed (λ m h. record { first = meaning v; others = list_meaning (map meaning vs); meaning_is = h; is_first = refl; are_others = refl }) bytes w)
 
--- some bytes were written, which any word of the rest makes a word of the whole
+-- some bytes were written, which any word of the rest completes to a word of the whole
 pub record WritesSome {W : Type 0} (adds : Adds W) (Rest Whole : List ℕ → Type 0) (before after : W) : Type 0 where
   pub front : List ℕ
   pub added : adds before front after
@@ -62,7 +62,7 @@ module _ {W : Type 0} (adds : Adds W) (join : (a b c : W) (x y : List ℕ) → a
       ap (λ z. h.front ++ z) (append_assoc front p.0 b.1) ∙ sym (append_assoc h.front front (p.0 ++ b.1)) in
       (p.0 ++ b.1, record { is_writable = tt; is_allowed = subst Whole e (h.completes ((front ++ p.0) ++ b.1) q) })
 
-  -- where a part halts, so does the whole
+  -- if encoding a part fails, so does the whole
   pub some-halts : (refuses : Refuses W) (before between after : W) (e : EncodeError) → WritesSome adds Rest Whole before between →
       EncodeFailure adds refuses (Ready (Unit {0}) Part) (λ _. ⊥) between after e → EncodeFailure adds refuses (Ready (Unit {0}) Whole) (λ _. ⊥) before after e
   some-halts refuses before between after e h (by_writer front piece middle a r g) =
@@ -70,6 +70,6 @@ module _ {W : Type 0} (adds : Adds W) (join : (a b c : W) (x y : List ℕ) → a
       (subst (Begins (Ready (Unit {0}) Whole)) (sym (append_assoc h.front front piece)) (begins-more before between h (front ++ piece) g))
   some-halts refuses before between after e h (by_name front a n o) = absurd n
 
--- nothing was written yet, and all was
+-- at first nothing was written, at last everything
 pub some-none : {W : Type 0} (adds : Adds W) (none : (w : W) → adds w [] w) (Whole : List ℕ → Type 0) (w : W) → WritesSome adds Whole Whole w w
 some-none adds none Whole w = record { front = []; added = none w; completes = λ rest h. h; is_left = λ some h. (some, h) }

@@ -1,4 +1,4 @@
--- What was written of a shape, by what was written of its parts.
+-- What was encoded of a shape, from what was encoded of its parts.
 use Rattle.std.specs.declared.alloc.Global.{Global}
 use Rattle.std.specs.declared.vec.Vec.{Vec}
 use Rattle.std.proofs.lemmas.Bool.{eqb-true}
@@ -34,7 +34,7 @@ none_more : (e : EncodeError) → ⊥ ⊎ ⊥ → ⊥
 none_more e = elim [ inl k ↦ k | inr k ↦ k ]
 
 module _ (tags : Setting → Format ℕ) (variants : List Variant) (s : Setting) (n : ℕ) (F : Format Meaning) (picked : behind_tag variants s n ≡ map_format (Choice n) F) (part : Meaning) where
-  -- a choice allows what its tag does, and then what its part does
+  -- a choice allows the tag followed by the part
   tagged : (bytes : List ℕ) → Both (AllowedWord (IsNumber (pos n)) (natural_number (tags s))) (AllowedWord (λ m. m ≡ part) F) bytes → AllowedWord (λ m. m ≡ Choice n part) (tag_then_part tags variants s) bytes
   tagged bytes b = more-allowed (λ m h. h.meaning_is ∙ ap (Choice n) h.is_part) bytes (choice-allows tags variants s n F (same-alike picked) (λ m. m ≡ part) bytes b)
 
@@ -54,7 +54,7 @@ module _ (tags : Setting → Format ℕ) (variants : List Variant) (s : Setting)
         Encodes adds refuses writer_of loans (Unit {0}) (AllowedWord (λ m. m ≡ Choice n part) (tag_then_part tags variants s)) (λ _. ⊥) r old new
     choice-encodes = next-encodes {R = Unit {0}} {S = Unit {0}} {U = Unit {0}} (λ _ _. tt) (λ _. (tt, tt)) tagged untagged {M = λ _. ⊥} none_more
 
--- of a variant without a part the tag is all
+-- a variant without a part is its tag alone
 module _ (tags : Setting → Format ℕ) (variants : List Variant) (s : Setting) (n : ℕ) (picked : behind_tag variants s n ≡ map_format (Choice n) nothing) where
   alone : (bytes : List ℕ) → AllowedWord (IsNumber (pos n)) (natural_number (tags s)) bytes → AllowedWord (λ m. m ≡ Choice n Nothing) (tag_then_part tags variants s) bytes
   alone bytes a = tagged tags variants s n nothing picked Nothing bytes (bytes, [], sym (append-nil bytes), a, nothing-allows)
@@ -78,7 +78,7 @@ both_right : (x y : Bool) → x && y ≡ true → y ≡ true
 both_right true y k = k
 both_right false y k = absurd (cc)
 
--- each of these items fits, that at a place and those behind it
+-- if these items fit, so do the one at an index and those after it
 pub all-there : (test : Value → Bool) (vs : List Value) (i : ℕ) (v : Value) → i < length vs → v ≡ get_or vs i v → list_all test (drop i vs) ≡ true → test v ≡ true
 all-there test vs i v h e a = both_left (test v) (list_all test (drop (i + 1) vs)) (rw (drop_more vs i v h, ← e) at a)
 
@@ -157,12 +157,12 @@ drop_all [] (suc i) h = refl
 drop_all (x ∷ xs) zero h = absurd (omega arith)
 drop_all (x ∷ xs) (suc i) h = drop_all xs i (omega (arith, h))
 
--- what is left at a place
+-- what is left at an index
 left_at : {A : Type 0} (xs : List A) (i : ℕ) (x : A) → i < length xs → x ≡ get_or xs i x → drop i xs ≡ x ∷ drop (i + 1) xs
 left_at xs i x h e = drop_more xs i x h ∙ ap (λ z. z ∷ drop (i + 1) xs) (sym e)
 
 module _ (s : Setting) (ps : List Shape) (vs : List Value) (i : ℕ) (p : Shape) (v : Value) (h : i < length ps) (k : i < length vs) (at_p : p ≡ get_or ps i p) (at_v : v ≡ get_or vs i v) where
-  -- that there fits, and so do those behind it
+  -- the item there fits, and so do those after it
   pub each-there : each_passes (tests (drop i ps)) (drop i vs) ≡ true → fits p v ≡ true
   each-there a = both_left (fits p v) (each_passes (tests (drop (i + 1) ps)) (drop (i + 1) vs)) (rw (left_at ps i p h at_p, left_at vs i v k at_v) at a)
 

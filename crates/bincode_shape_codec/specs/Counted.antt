@@ -8,7 +8,7 @@ abbrev pub total : List ℕ → ℕ
 total [] = 0
 total (n ∷ ns) = n + total ns
 
--- what holds the values that were counted is one more
+-- one more for the value that holds those counted
 abbrev pub with_whole : Result ℕ DecodeError → Result ℕ DecodeError
 with_whole (Ok n) = Ok (capped (n + 1))
 with_whole (Err e) = Err e

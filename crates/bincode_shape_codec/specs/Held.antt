@@ -12,6 +12,6 @@ abbrev pub IsOptional : Shape → Meaning → Option (Box Value Global) → Type
 IsOptional part m None = m ≡ Choice 0 Nothing
 IsOptional part m (Some held) = (fits part held.value ≡ true) × (m ≡ Choice 1 (meaning held.value))
 
--- the image of the part that a tag picks
+-- the image of the part that a tag selects
 abbrev pub IsChosen : List Shape → Meaning → ℕ × Box Value Global → Type 0
 IsChosen parts m v = (picked_passes (tests parts) v.0 v.1.value ≡ true) × (m ≡ Choice v.0 (meaning v.1.value))

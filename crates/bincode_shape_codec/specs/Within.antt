@@ -1,4 +1,4 @@
--- Decoding to so many values at most.
+-- Decoding into a bounded number of values.
 use Rattle.std.specs.Prelude.{◌≡◌, ◌<◌, ◌≤◌, ◌++◌, ℕ, List, Option, Result, IsErrAnd, MatchResult}
 use Rattle.bincode_base.specs.declared.error.DecodeError.{DecodeError}
 use Rattle.bincode_base.specs.declared.error.DecodeError.TheVariants.{LimitExceeded}
@@ -13,25 +13,25 @@ use Rattle.bincode_shape.specs.Counts.{capped}
 use Rattle.bincode_shape_codec.specs.declared.within.DecodeWithinError.{DecodeWithinError}
 use Rattle.bincode_shape_codec.specs.declared.within.DecodeWithinError.TheVariants as errors
 
--- so many values are too many
+-- the error of this many values
 abbrev pub IsTooMany : ℕ → ℕ → DecodeWithinError → Type 0
 IsTooMany values most e = e ≡ errors.TooManyValues values most
 
--- decoding failed by such an error
+-- decoding failed with such an error
 abbrev pub IsDecode : (DecodeError → Type 0) → DecodeWithinError → Type 0
 IsDecode Why e = (why : DecodeError) × (e ≡ errors.Decode why) × Why why
 
--- each word within the limit that has no more values is read, unless memory is refused
+-- each word within the limit that has no more values is accepted, unless memory is refused
 abbrev pub FindsFew : {A : Type 0} → Format Meaning → Option ℕ → Type 0 → (Meaning → ℕ) → ℕ → List ℕ → Result A DecodeWithinError → Type 0
 FindsFew F limit MayAllocate count most input result = (word remaining : List ℕ) (meaning : Meaning) (steps : List Step) → input ≡ word ++ remaining → F.Word word meaning steps → StaysWithin limit 0 steps →
     count meaning ≤ most → MatchResult result (λ _. Unit {0}) (IsDecode (IsRefused MayAllocate))
 
--- each that has more is refused by their number
+-- each that has more is refused with their number
 abbrev pub RefusesMany : {A : Type 0} → Format Meaning → Option ℕ → (Meaning → ℕ) → ℕ → List ℕ → Result A DecodeWithinError → Type 0
 RefusesMany F limit count most input result = (word remaining : List ℕ) (meaning : Meaning) (steps : List Step) → input ≡ word ++ remaining → F.Word word meaning steps → StaysWithin limit 0 steps →
     most < count meaning → IsErrAnd result (IsTooMany (capped (count meaning)) most)
 
--- each fault within the limit is told
+-- each fault within the limit is reported
 abbrev pub TellsDecodeFaults : {A : Type 0} → Format Meaning → Option ℕ → List ℕ → Result A DecodeWithinError → Type 0
 TellsDecodeFaults F limit input result = (why : Fault) (steps : List Step) → F.Faults input why steps → StaysWithin limit 0 steps → IsErrAnd result (IsDecode (Tells EndsSlice why))
 

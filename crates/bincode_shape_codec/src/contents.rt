@@ -1,4 +1,4 @@
-//! What values that fit a shape hold.
+//! The contents of values that fit a shape.
 ghost use Rattle.std.specs.Prelude.{◌≡◌, ℕ, Bool, true, List, string_bytes, String, Box};
 ghost use Rattle.std.specs.declared.alloc.Global.{Global};
 ghost use Rattle.std.specs.declared.vec.Vec.{Vec};
@@ -10,7 +10,7 @@ ghost use Rattle.bincode_shape.specs.Rows.{tests};
 
 use bincode_shape::shape::{Shape, Value};
 
-/// The truth value that it is.
+/// Unwraps a `Bool`.
 pub(crate) fn truth_of(value: &Value) -> bool
     requires { is_truth value.now ≡ true }
     ensures { value.now ≡ values.Bool result }
@@ -21,7 +21,7 @@ pub(crate) fn truth_of(value: &Value) -> bool
     }
 }
 
-/// The character that it is.
+/// Unwraps a `Char`.
 pub(crate) fn char_of(value: &Value) -> char
     requires { is_character value.now ≡ true }
     ensures { value.now ≡ values.Char result }
@@ -32,7 +32,7 @@ pub(crate) fn char_of(value: &Value) -> char
     }
 }
 
-/// The text that it is.
+/// Unwraps a `Text`.
 pub(crate) fn text_of(value: &Value) -> &str
     requires { is_text value.now ≡ true }
     ensures { (text : String Global) × (value.now ≡ values.Text text) × (result.now ≡ string_bytes text) }
@@ -43,7 +43,7 @@ pub(crate) fn text_of(value: &Value) -> &str
     }
 }
 
-/// The unsigned number that it is.
+/// Unwraps an `Unsigned`.
 pub(crate) fn unsigned_of(value: &Value) -> u128
     requires { (width : ℕ) × (is_unsigned width value.now ≡ true) }
     ensures { value.now ≡ values.Unsigned result }
@@ -54,7 +54,7 @@ pub(crate) fn unsigned_of(value: &Value) -> u128
     }
 }
 
-/// The signed number that it is.
+/// Unwraps a `Signed`.
 pub(crate) fn signed_of(value: &Value) -> i128
     requires { (width : ℕ) × (is_signed width value.now ≡ true) }
     ensures { value.now ≡ values.Signed result }
@@ -65,7 +65,7 @@ pub(crate) fn signed_of(value: &Value) -> i128
     }
 }
 
-/// The items of the list that it is.
+/// Unwraps a `List`.
 pub(crate) fn items_of(value: &Value) -> &[Value]
     requires { (test : List Value → Bool) × (is_list test value.now ≡ true) }
     ensures { (items : Vec Value Global) × (value.now ≡ values.List items) × (result.now ≡ items.items) }
@@ -76,7 +76,7 @@ pub(crate) fn items_of(value: &Value) -> &[Value]
     }
 }
 
-/// The option that it is.
+/// Unwraps an `Optional`.
 pub(crate) fn option_of(value: &Value) -> &Option<Box<Value>>
     requires { (test : Value → Bool) × (is_optional test value.now ≡ true) }
     ensures { value.now ≡ values.Optional result.now }
@@ -87,7 +87,7 @@ pub(crate) fn option_of(value: &Value) -> &Option<Box<Value>>
     }
 }
 
-/// The items of the list that it is, one for each of these parts.
+/// Unwraps a `List` with one item for each of these parts.
 pub(crate) fn items_for<'a>(_parts: &[Shape], value: &'a Value) -> &'a [Value]
     requires { is_list (each_passes (tests _parts.now)) value.now ≡ true }
     ensures list { (items : Vec Value Global) × (value.now ≡ values.List items) × (result.now ≡ items.items) }
@@ -96,7 +96,7 @@ pub(crate) fn items_for<'a>(_parts: &[Shape], value: &'a Value) -> &'a [Value]
     items_of(value)
 }
 
-/// The number of one of these parts, and the value of it.
+/// Unwraps a `Choice` of one of these parts.
 pub(crate) fn choice_for<'a>(_parts: &[Shape], value: &'a Value) -> (u32, &'a Value)
     requires { is_choice (picked_passes (tests _parts.now)) value.now ≡ true }
     ensures choice { (held : Box Value Global) × (value.now ≡ values.Choice result.0 held)

@@ -1,4 +1,4 @@
-//! Values of a shape, read through any decoder.
+//! Decoding of values of a shape, with any decoder.
 ghost use Rattle.std.specs.Prelude.{◌≡◌, ◌*◌, length, IfOk, vec_capacity};
 ghost use Rattle.bincode_spec.specs.Answer.{after_release};
 ghost use Rattle.bincode_spec.specs.Run.{CanRelease, IsListOf};
@@ -17,9 +17,9 @@ use bincode_decoder::integers::{decode_byte, decode_integer};
 use bincode_decoder::lengths::decode_length;
 use bincode_shape::shape::{Shape, Value};
 
-/// Reads a word of a shape, and gives its value. Fails with the first fault of the bytes, with `LimitExceeded` where
-/// the charges pass the limit, with `Memory` where memory is refused, and where the reader fails. A fault leaves what
-/// was charged before it.
+/// Decodes a value of a shape. Fails with the first fault of the bytes, `LimitExceeded` if the charges pass the limit,
+/// `Memory` if an allocation is refused, or the error of the reader. A fault leaves the charges made before it.
+/// Recurses as deep as the shape.
 #[cycle(decode)]
 pub fn decode_shape<D: Decoder>(shape: &Shape, decoder: &mut D) -> Result<Value, DecodeError>
     ensures { Reads D.is_known D.remaining D.charge D.failures D.loans D.C.bound D.R.end_error D.R.device
@@ -70,7 +70,7 @@ pub fn decode_shape<D: Decoder>(shape: &Shape, decoder: &mut D) -> Result<Value,
     }
 }
 
-/// Reads a length, and so many elements behind the claim of their room.
+/// Reads a length prefix and the elements, after claiming for them.
 #[cycle(decode)]
 fn decode_list<D: Decoder>(
     element: &Shape,
@@ -86,7 +86,7 @@ fn decode_list<D: Decoder>(
     decode_array(element, claim, len, decoder)
 }
 
-/// Reads so many elements behind the claim of their room.
+/// Reads the elements, after claiming for them.
 #[cycle(decode)]
 fn decode_array<D: Decoder>(
     element: &Shape,
@@ -104,8 +104,8 @@ fn decode_array<D: Decoder>(
     decode_elements(element, claim, len, decoder)
 }
 
-/// Reads so many elements, whose room is claimed, into a vector with room for just so many: each one's share is
-/// released before it is read.
+/// Reads elements that were claimed for into a vector of capacity `len`. Each claim is released before its element is
+/// read.
 #[cycle(decode)]
 fn decode_elements<D: Decoder>(
     element: &Shape,
@@ -130,7 +130,7 @@ fn decode_elements<D: Decoder>(
     Ok(values)
 }
 
-/// Releases the share of an element, and reads it.
+/// Releases the claim of an element, and reads it.
 #[cycle(decode)]
 fn decode_element<D: Decoder>(
     element: &Shape,
@@ -146,7 +146,7 @@ fn decode_element<D: Decoder>(
     decode_shape(element, decoder)
 }
 
-/// Reads a word of each part in turn, into a vector with room for just so many.
+/// Reads each part in order, into a vector of that capacity.
 #[cycle(decode)]
 fn decode_parts<D: Decoder>(parts: &[Shape], decoder: &mut D) -> Result<Vec<Value>, DecodeError>
     ensures read { Reads D.is_known D.remaining D.charge D.failures D.loans D.C.bound D.R.end_error D.R.device
@@ -164,7 +164,7 @@ fn decode_parts<D: Decoder>(parts: &[Shape], decoder: &mut D) -> Result<Vec<Valu
     Ok(values)
 }
 
-/// Reads nothing, or a part.
+/// Reads the byte of an option, and the part if there is one.
 #[cycle(decode)]
 fn decode_optional<D: Decoder>(
     part: &Shape,
@@ -190,7 +190,7 @@ fn decode_optional<D: Decoder>(
     }
 }
 
-/// Reads a part, and puts it on the heap.
+/// Reads a part into a box.
 #[cycle(decode)]
 fn decode_held<D: Decoder>(part: &Shape, decoder: &mut D) -> Result<Box<Value>, DecodeError>
     ensures { Reads D.is_known D.remaining D.charge D.failures D.loans D.C.bound D.R.end_error D.R.device (Unit {0})
@@ -204,7 +204,7 @@ fn decode_held<D: Decoder>(part: &Shape, decoder: &mut D) -> Result<Box<Value>, 
     }
 }
 
-/// Reads a tag, and the part that it picks.
+/// Reads a tag, and the part that it selects.
 #[cycle(decode)]
 fn decode_choice<D: Decoder>(
     parts: &[Shape],

@@ -1,4 +1,4 @@
-//! Values of a shape, written through any encoder.
+//! Encoding of values of a shape, with any encoder.
 ghost use Rattle.std.specs.Prelude.{◌≡◌, ℕ, true, length};
 ghost use Rattle.std.specs.List.{list_all};
 ghost use Rattle.bincode_spec.specs.Allowed.{AllowedWord};
@@ -21,8 +21,8 @@ use bincode_encoder::texts::encode_text;
 use bincode_encoder::truth::encode_truth;
 use bincode_shape::shape::{Shape, Value};
 
-/// Writes a value that fits the shape, as its parts are written. Fails where the writer refuses a piece; what was
-/// written before begins a word of the value.
+/// Writes a value that fits the shape. Fails with the error of the writer; then a prefix of the encoding is written.
+/// Recurses as deep as the shape.
 #[cycle(encode)]
 pub fn encode_shape<E: Encoder>(
     shape: &Shape,
@@ -65,7 +65,7 @@ pub fn encode_shape<E: Encoder>(
     }
 }
 
-/// Writes the length of a list, and then its items.
+/// Writes a length prefix, then the items.
 #[cycle(encode)]
 fn encode_list<E: Encoder>(
     element: &Shape,
@@ -81,7 +81,7 @@ fn encode_list<E: Encoder>(
     encode_items(element, items, encoder)
 }
 
-/// Writes items in turn.
+/// Writes the items in turn.
 #[cycle(encode)]
 fn encode_items<E: Encoder>(
     element: &Shape,
@@ -100,7 +100,7 @@ fn encode_items<E: Encoder>(
     Ok(())
 }
 
-/// Writes an item for each part, in turn.
+/// Writes an item for each part, in order.
 #[cycle(encode)]
 fn encode_parts<E: Encoder>(
     parts: &[Shape],
@@ -137,7 +137,7 @@ fn encode_optional<E: Encoder>(
     }
 }
 
-/// Writes the tag of a part, and the part.
+/// Writes the tag of a part, then the part.
 #[cycle(encode)]
 fn encode_choice<E: Encoder>(
     parts: &[Shape],

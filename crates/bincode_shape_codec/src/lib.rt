@@ -1,4 +1,4 @@
-//! Values of a shape, read and written through any decoder and encoder.
+//! Encoding and decoding of values of a shape, with any encoder and decoder.
 #![tactic(auto)]
 
 mod contents;

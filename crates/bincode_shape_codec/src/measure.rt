@@ -1,4 +1,4 @@
-//! Words of a shape, read through any decoder that lends, without values: how many a word would make.
+//! Counts the values in an encoding without making them, with any decoder that lends.
 ghost use Rattle.std.specs.Prelude.{◌≡◌, ◌*◌, ◌<◌, ℕ, List, true, IfOk};
 ghost use Rattle.bincode_spec.specs.Answer.{Allows, after_release};
 ghost use Rattle.bincode_spec.specs.Claims.{MakesRelease};
@@ -22,7 +22,7 @@ use bincode_decoder::lengths::decode_length;
 use bincode_shape::bytes::has_no_bytes;
 use bincode_shape::shape::Shape;
 
-/// Bytes that a decoder lends of its source, which can be looked at.
+/// Bytes that are lent by a decoder and can be looked at.
 pub trait LentBytes: BorrowedBytes {
     /// The bytes.
     fn as_bytes(&self) -> &[u8]
@@ -35,10 +35,9 @@ impl<'de> LentBytes for &'de [u8] {
     }
 }
 
-/// Reads a word of a shape as `decode_shape` does, but makes no value of it, and answers how many it would make: one,
-/// and those of its parts. A count above `u128::MAX` is told as that. Fails with the first fault of the bytes, with
-/// `LimitExceeded` where the charges pass the limit, and where the reader fails. A fault leaves what was charged before
-/// it. It takes no memory. Of elements without bytes only the first is read, and the others are counted as it is.
+/// Decodes as `decode_shape` does, but only counts the values that it would make: one, and those of the parts; at most
+/// `u128::MAX`. Does not allocate, and never fails with `Memory` for that. Of elements without bytes only the first is
+/// read. Other errors, and what is charged after them, are those of `decode_shape`.
 #[cycle(measure)]
 pub fn measure_shape<B: LentBytes, D: BorrowDecoder<B>>(
     shape: &Shape,
@@ -64,7 +63,7 @@ pub fn measure_shape<B: LentBytes, D: BorrowDecoder<B>>(
     }
 }
 
-/// One more than the count.
+/// Adds one to the count.
 fn with_itself(count: Result<u128, DecodeError>) -> Result<u128, DecodeError>
     ensures { result ≡ with_whole count }
 {
@@ -74,7 +73,7 @@ fn with_itself(count: Result<u128, DecodeError>) -> Result<u128, DecodeError>
     }
 }
 
-/// Reads a word that makes one value.
+/// Reads what makes one value.
 fn measure_scalar<D: Decoder>(shape: &Shape, decoder: &mut D) -> Result<u128, DecodeError>
     ensures { Reads D.is_known D.remaining D.charge D.failures D.loans D.C.bound D.R.end_error D.R.device
         (TakesMemory shape.now) (format_of shape.now D.C.setting) (λ m n. n ≡ 1) (D.charge decoder.old) result
@@ -86,7 +85,7 @@ fn measure_scalar<D: Decoder>(shape: &Shape, decoder: &mut D) -> Result<u128, De
     }
 }
 
-/// Reads a text without a copy.
+/// Reads a text without copying it.
 fn measure_text<B: LentBytes, D: BorrowDecoder<B>>(decoder: &mut D) -> Result<u128, DecodeError>
     ensures { Reads D.is_known D.remaining D.charge D.failures D.loans D.C.bound D.R.end_error D.R.device ⊥
         (text D.C.setting) (λ m n. n ≡ 1) (D.charge decoder.old) result decoder.old decoder.new }
@@ -98,7 +97,7 @@ fn measure_text<B: LentBytes, D: BorrowDecoder<B>>(decoder: &mut D) -> Result<u1
     }
 }
 
-/// Reads a length, and so many elements behind the claim of their room.
+/// Reads a length prefix and the elements, after claiming for them.
 #[cycle(measure)]
 fn measure_list<B: LentBytes, D: BorrowDecoder<B>>(
     element: &Shape,
@@ -114,7 +113,7 @@ fn measure_list<B: LentBytes, D: BorrowDecoder<B>>(
     measure_array::<B, D>(element, claim, len, decoder)
 }
 
-/// Reads so many elements behind the claim of their room.
+/// Reads the elements, after claiming for them.
 #[cycle(measure)]
 fn measure_array<B: LentBytes, D: BorrowDecoder<B>>(
     element: &Shape,
@@ -131,7 +130,7 @@ fn measure_array<B: LentBytes, D: BorrowDecoder<B>>(
     measure_elements::<B, D>(element, claim, len, decoder)
 }
 
-/// Reads so many elements, whose room is claimed.
+/// Reads elements that were claimed for.
 #[cycle(measure)]
 fn measure_elements<B: LentBytes, D: BorrowDecoder<B>>(
     element: &Shape,
@@ -152,7 +151,7 @@ fn measure_elements<B: LentBytes, D: BorrowDecoder<B>>(
     }
 }
 
-/// Reads so many elements, whose room is claimed, one by one.
+/// Reads elements that were claimed for, one by one.
 #[cycle(measure)]
 fn measure_each<B: LentBytes, D: BorrowDecoder<B>>(
     element: &Shape,
@@ -173,7 +172,7 @@ fn measure_each<B: LentBytes, D: BorrowDecoder<B>>(
     Ok(count)
 }
 
-/// Reads so many elements without bytes, whose room is claimed: the first, after which the others can't pass the limit.
+/// Reads the first of elements without bytes, that were claimed for; after it the others cannot pass the limit.
 #[cycle(measure)]
 fn measure_alike<B: LentBytes, D: BorrowDecoder<B>>(
     element: &Shape,
@@ -194,7 +193,7 @@ fn measure_alike<B: LentBytes, D: BorrowDecoder<B>>(
     Ok(values.saturating_mul(len as u128))
 }
 
-/// Releases the room of so many elements.
+/// Releases the claims of `len` elements.
 fn release_room<D: Decoder>(decoder: &mut D, len: usize, claim: usize)
     requires room { CanRelease D.C.bound (D.charge decoder.old) (len * claim) }
     requires within { Allows D.C.bound (D.charge decoder.old) }
@@ -206,7 +205,7 @@ fn release_room<D: Decoder>(decoder: &mut D, len: usize, claim: usize)
     }
 }
 
-/// Releases the share of an element, and reads it.
+/// Releases the claim of an element, and reads it.
 #[cycle(measure)]
 fn measure_element<B: LentBytes, D: BorrowDecoder<B>>(
     element: &Shape,
@@ -222,7 +221,7 @@ fn measure_element<B: LentBytes, D: BorrowDecoder<B>>(
     measure_shape::<B, D>(element, decoder)
 }
 
-/// Reads a word of each part in turn.
+/// Reads each part in order.
 #[cycle(measure)]
 fn measure_parts<B: LentBytes, D: BorrowDecoder<B>>(
     parts: &[Shape],
@@ -240,7 +239,7 @@ fn measure_parts<B: LentBytes, D: BorrowDecoder<B>>(
     Ok(count)
 }
 
-/// Reads nothing, or a part.
+/// Reads the byte of an option, and the part if there is one.
 #[cycle(measure)]
 fn measure_optional<B: LentBytes, D: BorrowDecoder<B>>(
     part: &Shape,
@@ -264,7 +263,7 @@ fn measure_optional<B: LentBytes, D: BorrowDecoder<B>>(
     }
 }
 
-/// Reads a tag, and the part that it picks.
+/// Reads a tag, and the part that it selects.
 #[cycle(measure)]
 fn measure_choice<B: LentBytes, D: BorrowDecoder<B>>(
     parts: &[Shape],

@@ -1,4 +1,4 @@
-//! The integers that shapes name.
+//! Integers of a shape.
 ghost use Rattle.std.specs.Prelude.{◌≡◌, true, FitsSigned};
 ghost use Rattle.std.specs.Int.{w8};
 ghost use Rattle.bincode_spec.specs.Allowed.{AllowedWord};
@@ -21,16 +21,16 @@ use bincode_shape::shape::Value;
 use bincode_types::wire::Wire;
 use bincode_varint::number::Integer;
 
-/// An integer type of more than one byte, and its shape.
+/// An integer type wider than one byte, with its shape.
 pub(crate) trait ShapedInteger: Integer + Wire {
-    /// Its shape.
+    /// The shape.
     ghost shape: { Shape };
 
-    /// The image of a number.
+    /// Makes a value of an integer.
     fn to_value(self) -> Value
         ensures { IsImage shape (Number (Self.spelling.integer self)) result };
 
-    /// The number whose image it is.
+    /// The integer of a value that fits the shape.
     fn of_value(value: &Value) -> Self
         requires { fits shape value.now ≡ true }
         ensures meant { meaning value.now ≡ Number (Self.spelling.integer result) }
@@ -157,7 +157,7 @@ impl ShapedInteger for isize {
     }
 }
 
-/// The byte whose image the value is.
+/// The byte of a value that fits `U8`.
 pub(crate) fn byte_of(value: &Value) -> u8
     requires { fits shapes.U8 value.now ≡ true }
     ensures { value.now ≡ values.Unsigned result }
@@ -165,7 +165,7 @@ pub(crate) fn byte_of(value: &Value) -> u8
     unsigned_of(value) as u8
 }
 
-/// The signed byte whose image the value is.
+/// The signed byte of a value that fits `I8`.
 pub(crate) fn signed_byte_of(value: &Value) -> i8
     requires { fits shapes.I8 value.now ≡ true }
     ensures value { value.now ≡ values.Signed result }
@@ -174,7 +174,7 @@ pub(crate) fn signed_byte_of(value: &Value) -> i8
     signed_of(value) as i8
 }
 
-/// Writes the integer whose image the value is. Fails where the writer refuses a piece.
+/// Writes the integer of a value. Fails with the error of the writer.
 pub(crate) fn encode_number<T: ShapedInteger, E: Encoder>(
     value: &Value,
     encoder: &mut E,
@@ -187,7 +187,7 @@ pub(crate) fn encode_number<T: ShapedInteger, E: Encoder>(
     encode_integer(encoder, T::of_value(value))
 }
 
-/// Charges for an integer, reads it, and gives its image.
+/// Charges for an integer, reads it, and makes a value of it.
 pub(crate) fn decode_number<T: ShapedInteger, D: Decoder>(
     decoder: &mut D,
 ) -> Result<Value, DecodeError>
@@ -202,7 +202,7 @@ pub(crate) fn decode_number<T: ShapedInteger, D: Decoder>(
     }
 }
 
-/// Reads a byte.
+/// Reads an unsigned byte.
 pub(crate) fn decode_u8<D: Decoder>(decoder: &mut D) -> Result<Value, DecodeError>
     ensures { Reads D.is_known D.remaining D.charge D.failures D.loans D.C.bound D.R.end_error D.R.device ⊥
         (format_of shapes.U8 D.C.setting) (IsImage shapes.U8) (D.charge decoder.old) result decoder.old decoder.new }

@@ -1,25 +1,25 @@
-//! How large a word of a shape is, and why no more than so many values were made of it.
+//! The size of an encoding of a shape, and the error for one of too many values.
 
 use bincode_base::error::DecodeError;
 use std::error::Error;
 use std::fmt;
 
-/// How large a word of a shape is.
+/// The size of an encoding of a shape.
 #[derive(Clone, Copy, Debug, PartialEq)]
 pub struct Measure {
     /// How many values `decode_shaped` makes of it: one for the whole, and one for each part, element and part of a
-    /// part, those without bytes too. A count above `u128::MAX` is told as that.
+    /// part, even without bytes. At most `u128::MAX`.
     pub values: u128,
-    /// How many bytes it has.
+    /// Its length in bytes.
     pub bytes: usize,
 }
 
-/// Why bytes could not be decoded to so many values at most.
+/// Why bytes could not be decoded into a bounded number of values.
 #[derive(Debug, Drop)]
 pub enum DecodeWithinError {
-    /// The bytes begin with a word within the limit, of which more values would be made than are allowed.
+    /// The bytes begin with an encoding within the limit, of which more values would be made than are allowed.
     TooManyValues {
-        /// How many would be made. A count above `u128::MAX` is told as that.
+        /// How many would be made; at most `u128::MAX`.
         values: u128,
         /// How many are allowed.
         most: usize,

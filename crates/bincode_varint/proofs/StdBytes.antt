@@ -1,4 +1,4 @@
--- The library's bytes of a number are its digits.
+-- The bytes of a number in std are its digits.
 use Rattle.std.specs.Prelude.{◌≡◌, ℕ, zero, suc, ◌+◌, ◌-◌, ◌*◌, ◌/◌, ◌%◌, ◌^◌, ◌≤◌, List, [], ◌∷◌, ◌++◌, length, reverse, refl, slice_index}
 use Rattle.std.specs.Int.{byte_at, byte_worth, bytes_low_first, bytes_high_first, sum_through}
 use Rattle.std.proofs.Common.{sym, ◌∙◌, ap, arith}
@@ -17,7 +17,7 @@ digits_from : (k i n : ℕ) → low_first_digits k (n / 256 ^ i) ≡ bytes_low_f
 digits_from zero i n = refl
 digits_from (suc k) i n = rw (byte_at_div i n, div_pow i n) (ap (λ z. byte_at i n ∷ z) (digits_from k (suc i) n))
 
--- its lowest bytes, the lowest first
+-- the bytes of a number, the lowest first
 pub low_first-std : (k n : ℕ) → bytes_low_first 0 k n ≡ low_first_digits k n
 low_first-std k n = let d : n / 1 ≡ n = omega arith in sym (digits_from k 0 n) ∙ ap (low_first_digits k) d
 
@@ -32,7 +32,7 @@ high_first_reverse (suc k) n =
     let s : bytes_low_first 0 (suc k) n ≡ bytes_low_first 0 k n ++ byte_at k n ∷ [] = bytes_snoc k 0 n ∙ ap (λ z. bytes_low_first 0 k n ++ byte_at z n ∷ []) e in
     ap (λ z. byte_at k n ∷ z) (high_first_reverse k n) ∙ sym (reverse-append (bytes_low_first 0 k n) (byte_at k n ∷ [])) ∙ ap reverse (sym s)
 
--- its lowest bytes, the highest first
+-- the bytes of a number, the highest first
 pub high_first-std : (k n : ℕ) → bytes_high_first k n ≡ reverse (low_first_digits k n)
 high_first-std k n = high_first_reverse k n ∙ ap reverse (low_first-std k n)
 

@@ -1,4 +1,4 @@
--- What a slice reader found in a window.
+-- What is decoded from a window of a slice reader.
 use Rattle.std.specs.Prelude.{◌≡◌, ◌≤◌, ◌-◌, ℕ, List, [], ◌∷◌, ◌++◌, slice_index_or, length, drop, take, Some, None, Ok, Err, refl}
 use Rattle.std.specs.Borrow.{GName}
 use Rattle.std.proofs.Common.{sym, ap, ◌∙◌, arith, append_assoc, length-append, drop_at, take-append-drop}
@@ -39,7 +39,7 @@ front-is F G same l window left m taken given e =
           same (window ++ more) ∙ rw (split, long_as, drop-front b.word (left ++ more)) (l.word_read b.word (left ++ more) m [] b.is_word);
     }
 
--- the error of a tag tells no end of the input, and the same of each reader
+-- the error of a tag is no end of the input, and every reader reports it alike
 tag-told : (end_error other : ℕ → DecodeError → Type 0) (why : Fault) (x y : IntegerType) → ((n : ℕ) → end_error n (InvalidIntegerType x y) → ⊥) → Tells end_error why (InvalidIntegerType x y) →
     (¬ (IsEnd why)) × Tells other why (InvalidIntegerType x y)
 tag-told end_error other (End (Some n)) x y never h = absurd (never n h)
@@ -86,7 +86,7 @@ split n window input shown = ap (λ x. x ++ drop n input) shown ∙ take-append-
 
 module _ {R A T : Type 0} {is_known : R → Type 0} {remaining : R → List ℕ} {failures : R → ℕ} {loans : R → List GName} {end_error : ℕ → DecodeError → Type 0}
     {device : DeviceErrors} {F : Format A} {mean : T → A} {old middle : R} {window : List ℕ} (n : ℕ) where
-  -- a tag that is refused in the window is not taken
+  -- a refused tag in the window is not consumed
   pub window-fails : {e : DecodeError} → FrontFails F window e → (is_known old → window ≡ take n (remaining old)) →
       Unmoved (is_known old) (is_known middle) (remaining old) (remaining middle) (failures old) (failures middle) (loans old) (loans middle) →
       ReadsWord is_known remaining failures loans end_error device F mean (Err e) old middle
@@ -98,7 +98,7 @@ module _ {R A T : Type 0} {is_known : R → Type 0} {remaining : R → List ℕ}
     same_loans = kept.2;
   }
 
-  -- a word that the window begins with is read
+  -- a word at the front of the window is read
   pub window-reads : {new : R} {v : T} {taken : ℕ} → FrontIs F window (mean v) taken → (is_known old → window ≡ take n (remaining old)) →
       Unmoved (is_known old) (is_known middle) (remaining old) (remaining middle) (failures old) (failures middle) (loans old) (loans middle) →
       TakesShown is_known remaining failures loans taken middle new → ReadsWord is_known remaining failures loans end_error device F mean (Ok v) old new
@@ -119,7 +119,7 @@ byte-shown [] one = absurd (omega (arith, one))
 byte-shown (b ∷ []) one = record { within = omega arith; reads = λ more. byte-took (b ∷ more) (b ∷ []) more (fixed_bytes-read (b ∷ []) more 1 refl) }
 byte-shown (b ∷ c ∷ more) one = absurd (omega (arith, one))
 
--- what a varint is read by: a lawful format at every width
+-- the parts of a varint are lawful formats at every width
 behind-lawful : (order : Endianness) (why : Fault) (first : ℕ) (f : FirstByte) → ¬ (IsEnd why) → Lawful (behind order why first f)
 behind-lawful order why first Itself never = pure-lawful first
 behind-lawful order why first (Before n) never = digits-lawful order n

@@ -1,4 +1,4 @@
--- What was read, by what was read for it.
+-- `ReadsWord` of a whole, from that of its parts.
 use Rattle.std.specs.Prelude.{◌≡◌, ℕ, List, [], Result, Ok, Err, IfOk, IfErr}
 use Rattle.std.specs.Borrow.{GName}
 use Rattle.std.proofs.Common.{◌∙◌, arith}
@@ -11,7 +11,7 @@ use Rattle.bincode_varint.proofs.Words.{misreads-more}
 
 module _ {R A B T U : Type 0} {is_known : R → Type 0} {remaining : R → List ℕ} {failures : R → ℕ} {loans : R → List GName} {end_error : ℕ → DecodeError → Type 0}
     {device : DeviceErrors} {F : Format A} {G : Format B} {f : T → A} {g : U → B} {old : R} where
-  -- what was read is read for something else
+  -- reading one format as another
   pub word-as : {r : Result T DecodeError} {q : Result U DecodeError} {new : R} →
       (is_known old → IfOk q (λ v. G.read (remaining old) ≡ Took (g v) (remaining new) [])) →
       (is_known old → IfErr q (ReadFailure end_error device (G.read (remaining old)) (failures old) (failures new) (remaining old) (remaining new))) →
@@ -29,7 +29,7 @@ module _ {R A B T U : Type 0} {is_known : R → Type 0} {remaining : R → List 
       ReadsWord is_known remaining failures loans end_error device F f (Ok v) old new → ReadsWord is_known remaining failures loans end_error device G g (Ok u) old new
   part-gives same read = word-as (λ known. same (read.ok known)) (λ known. tt) read
 
-  -- what is read behind a part
+  -- what is read after a part
   pub behind-part :
       {C V : Type 0} {H : Format C} {h : V → C} {r : Result T DecodeError} {p : Result V DecodeError} {q : Result U DecodeError} {middle new : R} →
       (is_known old → IfOk q (λ v. G.read (remaining old) ≡ Took (g v) (remaining new) [])) →
@@ -44,7 +44,7 @@ module _ {R A B T U : Type 0} {is_known : R → Type 0} {remaining : R → List 
     same_loans = next.same_loans ∙ first.same_loans;
   }
 
--- what is read from a reader is read by the one who lends it
+-- what is read from a reader is read through its lender
 pub lent-word :
     {R S A T : Type 0} {is_known : R → Type 0} {remaining : R → List ℕ} {failures : R → ℕ} {loans : R → List GName} {is_known' : S → Type 0} {remaining' : S → List ℕ}
     {failures' : S → ℕ} {loans' : S → List GName} {end_error : ℕ → DecodeError → Type 0} {device : DeviceErrors} {F : Format A} {f : T → A}

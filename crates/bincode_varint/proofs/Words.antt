@@ -26,17 +26,17 @@ use Rattle.bincode_spec.specs.Device.{DeviceErrors, FallsShort, Rose, Takes, Sto
 use mir.Val.{to_z, of_z, Fits}
 use Rattle.bincode_spec.specs.Reads.{ReadFailure, by_fault, by_device, by_failure}
 
--- so many bytes are there
+-- n bytes are there
 pub fixed_bytes-read : (bytes remaining : List ℕ) (n : ℕ) → length bytes ≡ n → (fixed_bytes n).read (bytes ++ remaining) ≡ Took bytes remaining []
 unfolding fixed_bytes
 fixed_bytes-read bytes remaining n e = (fixed_bytes-lawful n).word_read bytes remaining bytes [] (e, refl, refl)
 
--- too few bytes are there
+-- fewer than n bytes are there
 raw_too_short : (input : List ℕ) (n : ℕ) → length input < n → (fixed_bytes n).read input ≡ Failed (End (Some (n - length input))) []
 unfolding fixed_bytes
 raw_too_short input n h = (fixed_bytes-lawful n).fault_read input (End (Some (n - length input))) [] (h, refl, refl)
 
--- a byte, and digits, are so many bytes as they are
+-- the first byte of a list
 first_of_index : (bytes : List ℕ) → first_of bytes ≡ slice_index bytes 0
 first_of_index [] = refl
 first_of_index (b ∷ bytes) = refl
@@ -66,7 +66,7 @@ pub map-failed : {A B : Type 0} (f : A → B) (F : Format A) (input : List ℕ) 
 unfolding ◌>>=◌
 map-failed f F input why e = rw e refl
 
--- why a read of so many bytes failed
+-- why a read of n bytes failed
 pub fixed_bytes-misreads : (end_error : ℕ → DecodeError → Type 0) (device : DeviceErrors) (remaining remaining' : List ℕ) (n before after : ℕ) (e : DecodeError) →
     FallsShort end_error remaining n e ⊎ (device.is_uncounted e ⊎ (device.is_counted e × Rose before after)) → device.is_uncounted e ⊎ Takes remaining remaining' →
     ReadFailure end_error device ((fixed_bytes n).read remaining) before after remaining remaining' e
@@ -82,7 +82,7 @@ misreads-more end_error device part whole before after remaining remaining' e sa
 misreads-more end_error device part whole before after remaining remaining' e same (by_failure d h k) = by_failure d h k
 misreads-more end_error device part whole before after remaining remaining' e same (by_device h) = by_device h
 
--- what was taken before, and then more
+-- what was consumed before, then more
 takes-then : (remaining middle remaining' : List ℕ) → Takes remaining middle → Takes middle remaining' → Takes remaining remaining'
 takes-then remaining middle remaining' (a, e) (b, f) = (a ++ b, e ∙ ap (λ z. a ++ z) f ∙ sym (append_assoc a b remaining'))
 
@@ -105,17 +105,17 @@ module _ (tags : ℕ → IntegerType) (name : IntegerType) (order : Endianness) 
   unfolding varint written_as ◌>>=◌
   varint-none why e = rw e refl
 
-  -- a byte is the number itself
+  -- a first byte that is the number itself
   pub varint-itself : (first n : ℕ) → byte.read input ≡ Took first remaining [] → first_byte width first ≡ Itself → n ≡ first → (varint tags name order width).read input ≡ Took n remaining []
   unfolding pure
   varint-itself first n e row same = varint_then first e ∙ rw (row, same) refl
 
-  -- a tag, and then the digits
+  -- a tag, then the digits
   pub varint-digits : (first k : ℕ) → byte.read input ≡ Took first remaining [] → first_byte width first ≡ Before k → (varint tags name order width).read input ≡ (digits order k).read remaining
   varint-digits first k e row = varint_then first e ∙ rw row refl
 
   module _ (end_error : ℕ → DecodeError → Type 0) (device : DeviceErrors) where
-    -- a tag that is too wide
+    -- a tag that is too wide for the type
     pub varint-too_wide : (first before after : ℕ) (e : DecodeError) → byte.read input ≡ Took first remaining [] → first_byte width first ≡ TooWide →
         e ≡ InvalidIntegerType name (tags first) → ReadFailure end_error device ((varint tags name order width).read input) before after input remaining e
     unfolding fail
@@ -123,7 +123,7 @@ module _ (tags : ℕ → IntegerType) (name : IntegerType) (order : Endianness) 
         let p = byte-lawful.read_word input remaining first [] b in
         by_fault (InvalidInteger name (tags first)) (varint_then first b ∙ rw row refl) same (p.word, p.input_is)
 
-    -- digits that are missing
+    -- digits are missing
     pub varint-misreads : (first k before between after : ℕ) (remaining' : List ℕ) (e : DecodeError) → byte.read input ≡ Took first remaining [] → first_byte width first ≡ Before k → before ≤ between →
         ReadFailure end_error device ((digits order k).read remaining) between after remaining remaining' e → ReadFailure end_error device ((varint tags name order width).read input) before after input remaining' e
     varint-misreads first k before between after remaining' e b row le (by_fault why h t f) =
@@ -134,11 +134,11 @@ module _ (tags : ℕ → IntegerType) (name : IntegerType) (order : Endianness) 
         by_failure d (rose-then before between after le h) (takes-then input remaining remaining' (p.word, p.input_is) f)
     varint-misreads first k before between after remaining' e b row le (by_device h) = by_device h
 
--- what a first byte says
+-- what a first byte stands for
 pub small-itself : (width first : ℕ) → first ≤ 250 → first_byte width first ≡ Itself
 small-itself width first h = let a : nat_le first 250 ≡ true = le-leb first 250 h in rw a refl
 
--- a tag that its width does not have
+-- a tag that the width does not have
 pub tag-too_wide : (width first : ℕ) → 250 < first → first ≢ 251 → first ≢ 252 ⊎ (width < 4) → first ≢ 253 ⊎ (width < 8) → first ≢ 254 ⊎ (width < 16) → first_byte width first ≡ TooWide
 tag-too_wide width first h a b c d =
     let p : nat_le first 250 ≡ false = lt-leb first 250 h in
@@ -148,7 +148,7 @@ tag-too_wide width first h a b c d =
     let t : ((first == 254) && nat_le 16 width) ≡ false = grind (arith, nat_tests) in
     rw (p, q, r, s, t) refl
 
--- a number of fewer bytes
+-- a number of fewer bytes fits more bytes
 pub below-wider : (n fewer width : ℕ) → n < 256 ^ fewer → fewer ≤ width → n < 256 ^ width
 below-wider n fewer width h i =
     let k : 256 ^ fewer ≤ 256 ^ width = pow-le-pow_right {n = 256} (omega arith) i in
@@ -173,7 +173,7 @@ module _ {W : Type 0} (adds : W → List ℕ → W → Type 0) (refuses : W → 
     refusal = k;
   }
 
--- an integer that is read by its number
+-- an integer that is read as a number
 module _ {A B : Type 0} (f : A → B) (F : Format A) where
   pub mapped-misreads : {T : Type 0} (end_error : ℕ → DecodeError → Type 0) (device : DeviceErrors) (before after : ℕ) (input remaining : List ℕ) (r : Result T DecodeError) →
       IfErr r (ReadFailure end_error device (F.read input) before after input remaining) → IfErr r (ReadFailure end_error device ((map_format f F).read input) before after input remaining)
@@ -183,7 +183,7 @@ pub signed-took : (w : Width) (f : ℕ → ℤ) (F : Format ℕ) (input remainin
     F.read input ≡ Took n remaining [] → (map_format f F).read input ≡ Took (to_z w (of_z w z)) remaining []
 signed-took w f F input remaining n z fits e h = map-took f F input remaining n _ (to_z-of_z w z fits ∙ e) h
 
--- an integer that fits its width, read as a wider one and then as one of its own width
+-- an integer that fits its width: read as a wider one, then as one of its own width
 signed_fits : (w : Width) (z : ℤ) → FitsIn (width_in_bytes w) z → FitsSigned w z
 signed_fits w8 (pos n) h = omega arith
 signed_fits w8 (negsuc n) h = omega arith
@@ -214,7 +214,7 @@ narrow-fits w z h = rw (to_z-of_z w128 z (widest_fits w z h)) (signed_fits w z h
 pub narrow-same : (w : Width) (z : ℤ) → FitsIn (width_in_bytes w) z → to_z w (of_z w (to_z w128 (of_z w128 z))) ≡ z
 narrow-same w z h = rw (to_z-of_z w128 z (widest_fits w z h)) (to_z-of_z w z (signed_fits w z h))
 
--- an integer by its bits
+-- an integer from its bits
 pub to_z-two_complement : (w : Width) (n : ℕ) → to_z w n ≡ from_two_complement (width_in_bytes w) n
 to_z-two_complement w8 n = search (ints, rules)
 to_z-two_complement w16 n = search (ints, rules)
@@ -222,7 +222,7 @@ to_z-two_complement w32 n = search (ints, rules)
 to_z-two_complement w64 n = search (ints, rules)
 to_z-two_complement w128 n = search (ints, rules)
 
--- a number that fits its bits
+-- a number fits its bits
 pub fits-bits : (w : Width) (n : ℕ) → n < 256 ^ width_in_bytes w → Fits w n
 fits-bits w8 n h = search rules
 fits-bits w16 n h = search rules
@@ -230,7 +230,7 @@ fits-bits w32 n h = search rules
 fits-bits w64 n h = search rules
 fits-bits w128 n h = search rules
 
--- words that are written by pieces
+-- words that are written in pieces
 module _ {W : Type 0} {adds : W → List ℕ → W → Type 0} {refuses : W → List ℕ → EncodeError → W → Type 0} {loans : W → List GName} {failures : W → ℕ} {before after : W} where
   -- the writer refused the first piece
   pub pieces-first : {word piece : List ℕ} {others : List (List ℕ)} {e : EncodeError} → ((w : W) → adds w [] w) →
@@ -256,7 +256,7 @@ module _ {W : Type 0} {adds : W → List ℕ → W → Type 0} {refuses : W → 
     same_loans = h.same_loans ∙ same;
   }
 
-  -- a fixed number is one piece
+  -- a fixed-width number is one piece
   module _ {r : Result (Unit {0}) EncodeError} {piece : List ℕ} {encoding : IntEncoding} (none : (w : W) → adds w [] w) (e : encoding ≡ Fixed) (order : Endianness) (width : ℕ) where
     pub pieces-fixed : (n : ℕ) → piece ≡ digits_of order width n → TakesPiece adds refuses failures loans piece r before after →
         TakesPieces adds refuses loans (spelling encoding order width n) (spelling_pieces encoding order width n) r before after

@@ -1,4 +1,4 @@
-//! Bytes as they are, and the bytes of a number in a byte order; integers in two's complement.
+//! Bytes, the bytes of a number in a byte order, and two's complement.
 ghost use Rattle.std.specs.Prelude.{◌≡◌};
 ghost use Rattle.bincode_spec.specs.Number.{number_of, digits_of, two_complement, from_two_complement};
 ghost use Rattle.bincode_spec.specs.Format.{fixed_bytes, map_format};
@@ -9,7 +9,7 @@ use bincode_base::config::Endianness;
 use bincode_base::error::DecodeError;
 use bincode_io::read::Reader;
 
-/// The two bytes of a number.
+/// The two bytes of a number in this byte order.
 pub fn bytes_of_u16(endian: Endianness, n: u16) -> [u8; 2]
     ensures { result ≡ digits_of endian 2 n }
 {
@@ -121,7 +121,7 @@ pub fn u128_of_bytes(endian: Endianness, bytes: [u8; 16]) -> u128
     }
 }
 
-/// Reads so many bytes as they are.
+/// Reads the next `N` bytes.
 pub fn read_array<R: Reader, const N: usize>(read: &mut R) -> Result<[u8; N], DecodeError>
     ensures { ReadsWord R.is_known R.remaining R.failures R.loans R.end_error R.device (fixed_bytes N) (λ v. v) result
         read.old read.new }
@@ -131,7 +131,7 @@ pub fn read_array<R: Reader, const N: usize>(read: &mut R) -> Result<[u8; N], De
     Ok(bytes)
 }
 
-/// Reads one byte: the one that a peek shows, where the reader says that it peeks first.
+/// Reads one byte: from a peek, if the reader has `PEEKS_FIRST`.
 #[inline(always)]
 pub fn read_byte<R: Reader>(read: &mut R) -> Result<u8, DecodeError>
     ensures { ReadsWord R.is_known R.remaining R.failures R.loans R.end_error R.device byte (λ v. v) result read.old
@@ -149,7 +149,7 @@ pub fn read_byte<R: Reader>(read: &mut R) -> Result<u8, DecodeError>
     }
 }
 
-/// The same by `read` alone.
+/// `read_byte` with `read` alone.
 pub(crate) fn read_byte_plain<R: Reader>(read: &mut R) -> Result<u8, DecodeError>
     ensures { ReadsWord R.is_known R.remaining R.failures R.loans R.end_error R.device byte (λ v. v) result read.old
         read.new }
@@ -203,14 +203,14 @@ pub fn read_i8<R: Reader>(read: &mut R) -> Result<i8, DecodeError>
     Ok(i8_of_byte(n))
 }
 
-/// The byte of a signed byte.
+/// The byte of a signed byte in two's complement.
 pub fn byte_of_i8(val: i8) -> u8
     ensures { result ≡ two_complement 1 val }
 {
     val.cast_unsigned()
 }
 
-/// The signed byte that a byte stands for.
+/// The signed byte of a byte in two's complement.
 pub fn i8_of_byte(n: u8) -> i8
     ensures { result ≡ from_two_complement 1 n }
 {

@@ -1,4 +1,4 @@
-//! Integers as bytes, and the words of integers.
+//! Integers as bytes (docs/FORMAT.md, sections 3 and 4).
 #![tactic(auto)]
 
 pub mod bytes;

@@ -1,4 +1,4 @@
-//! Integers of 2, 4, 8 or 16 bytes, in either encoding.
+//! Integers of 2, 4, 8 or 16 bytes, in either integer encoding.
 #![tactic(auto, using(crate::proofs::Words::by_number))]
 
 ghost use Rattle.std.specs.Prelude.{ℕ, refl};
@@ -26,21 +26,20 @@ use bincode_base::error::{DecodeError, EncodeError};
 use bincode_io::read::Reader;
 use bincode_io::write::Writer;
 
-/// An integer of 2, 4, 8 or 16 bytes: by the encoding it is a varint, or all its bytes in the byte order. The words are
-/// those of docs/FORMAT.md.
+/// An integer of 2, 4, 8 or 16 bytes: a varint, or all its bytes in the byte order (docs/FORMAT.md, section 4).
 pub trait Integer: Drop + Sized {
-    /// How many bytes it has: `usize` and `isize` have 8.
+    /// The width in bytes: 8 for `usize` and `isize`.
     ghost width: { ℕ };
 
-    /// Its words, and which of them is written.
+    /// Its encodings, and which of them is written.
     ghost spelling: { Spelling Self };
 
-    /// What is written of a value is one of its words, in one way for each integer.
+    /// Each value is written in one way, as one of its encodings.
     ghost spelling_laws: { SpellingLaws width spelling };
 
-    /// Reads a word: also a varint that is longer than its shortest spelling. Fails where bytes are missing, where the
-    /// tag of a varint is too wide for the type or reserved, and where the device fails. Then some front of the bytes
-    /// is taken, unless the error is one that the device does not count.
+    /// Decodes an integer, also from a varint that is longer than the shortest. Fails if bytes are missing, with
+    /// `InvalidIntegerType` if the tag byte of a varint is too wide for the type or reserved, or with the error of the
+    /// device. Then a prefix of the bytes is consumed, unless the error is one that the device does not count.
     fn read<R: Reader>(
         read: &mut R,
         endian: Endianness,
@@ -49,8 +48,8 @@ pub trait Integer: Drop + Sized {
         ensures { ReadsWord R.is_known R.remaining R.failures R.loans R.end_error R.device
             (spelling.read_by endian encoding) (λ v. v) result read.old read.new };
 
-    /// Writes its word: a varint by its tag and then its bytes, all its bytes in one piece. Where the writer refuses a
-    /// piece, those before it stay written.
+    /// Writes an integer: a varint as its tag byte and then its bytes, a fixed one in one piece. If the writer refuses
+    /// a piece, those before it stay written.
     fn write<W: Writer>(
         self,
         writer: &mut W,

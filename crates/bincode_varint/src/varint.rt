@@ -1,4 +1,5 @@
-//! Variable integers: one byte up to 250, else a tag and 2, 4, 8 or 16 bytes.
+//! Variable-length integers: up to 250 in one byte, else a tag byte and 2, 4, 8 or 16 bytes (docs/FORMAT.md, section
+//! 4).
 
 mod decode_signed;
 mod decode_unsigned;

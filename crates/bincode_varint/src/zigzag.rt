@@ -1,9 +1,9 @@
-//! Signed numbers as unsigned ones: 0, -1, 1, -2, 2 are numbered 0, 1, 2, 3, 4, and so on.
+//! Zigzag: signed integers as unsigned ones, 0, -1, 1, -2, 2 as 0, 1, 2, 3, 4 and so on (docs/FORMAT.md, section 4).
 ghost use Rattle.std.specs.Prelude.{◌≡◌, ◌<◌, ◌^◌, ℕ};
 ghost use Rattle.bincode_spec.specs.Number.{zigzag, unzigzag, FitsIn};
 ghost use Rattle.bincode_lemmas.specs.SignedLaws.{zigzag-unzigzag, unzigzag-zigzag, zigzag-fits, unzigzag-fits};
 
-/// The number of an integer. One to one, and that of an integer of so many bytes has so many bytes.
+/// Maps a signed integer to an unsigned one. Bijective, and keeps the width.
 #[inline]
 pub fn zigzag(val: i128) -> u128
     ensures number { result ≡ zigzag val }
@@ -14,7 +14,7 @@ pub fn zigzag(val: i128) -> u128
     if val < 0 { !bits * 2 + 1 } else { bits * 2 }
 }
 
-/// The integer with this number. One to one, and that of a number of so many bytes has so many bytes.
+/// Inverts `zigzag`.
 #[inline]
 pub fn unzigzag(n: u128) -> i128
     ensures integer { result ≡ unzigzag n }

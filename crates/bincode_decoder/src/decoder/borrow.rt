@@ -1,4 +1,4 @@
-//! Decoders that lend what they read.
+//! Decoders that lend the bytes of their source.
 ghost use Rattle.std.specs.Prelude.{ℕ, List};
 ghost use Rattle.bincode_spec.specs.Lending.{LendsBytes};
 
@@ -7,7 +7,7 @@ use bincode_base::config::Config;
 use bincode_base::error::DecodeError;
 use bincode_io::read::BorrowReader;
 
-/// Bytes that a decoder lends of its source: `&'de [u8]`, which stands for the lifetime `'de` of the source.
+/// Bytes that a decoder lends: `&'de [u8]`, which stands for the lifetime `'de` of the source.
 pub trait BorrowedBytes: Drop {
     /// The bytes.
     ghost bytes: { Self → List ℕ };
@@ -17,10 +17,9 @@ impl<'de> BorrowedBytes for &'de [u8] {
     ghost bytes = { λ s. s.now };
 }
 
-/// A decoder over bytes that outlive it.
+/// A decoder whose source outlives it.
 pub trait BorrowDecoder<B: BorrowedBytes>: Decoder {
-    /// Takes the next `count` bytes, which are the source's own and not a copy, and charges nothing. Fails where its
-    /// reader does (`BorrowReader::take_bytes`).
+    /// Consumes the next `count` bytes and lends them. Charges nothing. Errors are those of `BorrowReader::take_bytes`.
     fn take_bytes(&mut self, count: usize) -> Result<B, DecodeError>
         ensures { LendsBytes Self.is_known Self.remaining Self.charge Self.failures Self.loans Self.R.end_error
             Self.R.device B.bytes count result self.old self.new };

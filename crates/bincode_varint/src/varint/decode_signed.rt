@@ -1,4 +1,4 @@
-//! Signed numbers, read by zigzag.
+//! Decoding of signed varints, by zigzag.
 ghost use Rattle.std.specs.Prelude.{◌≤◌, IfOk};
 ghost use Rattle.bincode_spec.specs.Number.{unzigzag, FitsIn};
 ghost use Rattle.bincode_spec.specs.Format.{map_format};
@@ -12,8 +12,8 @@ use bincode_base::config::Endianness;
 use bincode_base::error::{DecodeError, IntegerType};
 use bincode_io::read::Reader;
 
-/// Reads a word of the number of an integer by zigzag. Fails where bytes are missing, and where the tag is too wide for
-/// the type or reserved.
+/// Decodes a signed varint. Fails if bytes are missing, or with `InvalidIntegerType` if the tag byte is too wide for
+/// the type or reserved. A varint that is longer than the shortest is accepted.
 pub fn varint_decode_i16<R: Reader>(read: &mut R, endian: Endianness) -> Result<i16, DecodeError>
     ensures { ReadsWord R.is_known R.remaining R.failures R.loans R.end_error R.device
         (map_format unzigzag (varint signed_tag I16 endian 2)) (λ v. v) result read.old read.new }
@@ -22,7 +22,7 @@ pub fn varint_decode_i16<R: Reader>(read: &mut R, endian: Endianness) -> Result<
     Ok(z as i16)
 }
 
-/// Reads a word of an `i32`, as `varint_decode_i16` does.
+/// Decodes an `i32`, like `varint_decode_i16`.
 pub fn varint_decode_i32<R: Reader>(read: &mut R, endian: Endianness) -> Result<i32, DecodeError>
     ensures { ReadsWord R.is_known R.remaining R.failures R.loans R.end_error R.device
         (map_format unzigzag (varint signed_tag I32 endian 4)) (λ v. v) result read.old read.new }
@@ -31,7 +31,7 @@ pub fn varint_decode_i32<R: Reader>(read: &mut R, endian: Endianness) -> Result<
     Ok(z as i32)
 }
 
-/// Reads a word of an `i64`, as `varint_decode_i16` does.
+/// Decodes an `i64`, like `varint_decode_i16`.
 pub fn varint_decode_i64<R: Reader>(read: &mut R, endian: Endianness) -> Result<i64, DecodeError>
     ensures { ReadsWord R.is_known R.remaining R.failures R.loans R.end_error R.device
         (map_format unzigzag (varint signed_tag I64 endian 8)) (λ v. v) result read.old read.new }
@@ -40,7 +40,7 @@ pub fn varint_decode_i64<R: Reader>(read: &mut R, endian: Endianness) -> Result<
     Ok(z as i64)
 }
 
-/// Reads a word of an `i128`, as `varint_decode_i16` does.
+/// Decodes an `i128`, like `varint_decode_i16`.
 pub fn varint_decode_i128<R: Reader>(read: &mut R, endian: Endianness) -> Result<i128, DecodeError>
     ensures { ReadsWord R.is_known R.remaining R.failures R.loans R.end_error R.device
         (map_format unzigzag (varint signed_tag I128 endian 16)) (λ v. v) result read.old read.new }
@@ -48,7 +48,7 @@ pub fn varint_decode_i128<R: Reader>(read: &mut R, endian: Endianness) -> Result
     varint_decode_signed(read, endian, IntegerType::I128, 16)
 }
 
-/// Reads a word of an `isize`, as `varint_decode_i16` does.
+/// Decodes an `isize`, like `varint_decode_i16`.
 pub fn varint_decode_isize<R: Reader>(
     read: &mut R,
     endian: Endianness,
@@ -60,7 +60,7 @@ pub fn varint_decode_isize<R: Reader>(
     Ok(z as isize)
 }
 
-/// The same for an integer of so many bytes, of which a fault speaks by name.
+/// Decodes a signed varint of this width; errors name `expected`.
 #[inline]
 fn varint_decode_signed<R: Reader>(
     read: &mut R,

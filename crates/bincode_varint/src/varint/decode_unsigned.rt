@@ -1,4 +1,4 @@
-//! Unsigned numbers, read in any spelling.
+//! Decoding of unsigned varints.
 ghost use Rattle.std.specs.Prelude.{◌≡◌, ◌<◌, ◌≤◌, ◌^◌, IfOk, IfErr, IfSome};
 ghost use Rattle.bincode_spec.specs.Integers.{varint, unsigned_tag, tag_types};
 ghost use Rattle.bincode_spec.specs.Reads.{ReadsWord};
@@ -12,8 +12,8 @@ use bincode_base::config::Endianness;
 use bincode_base::error::{DecodeError, IntegerType};
 use bincode_io::read::{Reader, SliceReader};
 
-/// Reads a word of a number, also one that is longer than its shortest spelling. Fails where bytes are missing, and
-/// where the tag is too wide for the type or reserved.
+/// Decodes an unsigned varint. Fails if bytes are missing, or with `InvalidIntegerType` if the tag byte is too wide for
+/// the type or reserved. A varint that is longer than the shortest is accepted.
 pub fn varint_decode_u16<R: Reader>(read: &mut R, endian: Endianness) -> Result<u16, DecodeError>
     ensures { ReadsWord R.is_known R.remaining R.failures R.loans R.end_error R.device
         (varint unsigned_tag U16 endian 2) (λ v. v) result read.old read.new }
@@ -22,7 +22,7 @@ pub fn varint_decode_u16<R: Reader>(read: &mut R, endian: Endianness) -> Result<
     Ok(n as u16)
 }
 
-/// Reads a word of a `u32`, as `varint_decode_u16` does.
+/// Decodes a `u32`, like `varint_decode_u16`.
 pub fn varint_decode_u32<R: Reader>(read: &mut R, endian: Endianness) -> Result<u32, DecodeError>
     ensures { ReadsWord R.is_known R.remaining R.failures R.loans R.end_error R.device
         (varint unsigned_tag U32 endian 4) (λ v. v) result read.old read.new }
@@ -31,7 +31,7 @@ pub fn varint_decode_u32<R: Reader>(read: &mut R, endian: Endianness) -> Result<
     Ok(n as u32)
 }
 
-/// Reads a word of a `u64`, as `varint_decode_u16` does.
+/// Decodes a `u64`, like `varint_decode_u16`.
 pub fn varint_decode_u64<R: Reader>(read: &mut R, endian: Endianness) -> Result<u64, DecodeError>
     ensures { ReadsWord R.is_known R.remaining R.failures R.loans R.end_error R.device
         (varint unsigned_tag U64 endian 8) (λ v. v) result read.old read.new }
@@ -40,7 +40,7 @@ pub fn varint_decode_u64<R: Reader>(read: &mut R, endian: Endianness) -> Result<
     Ok(n as u64)
 }
 
-/// Reads a word of a `u128`, as `varint_decode_u16` does.
+/// Decodes a `u128`, like `varint_decode_u16`.
 pub fn varint_decode_u128<R: Reader>(read: &mut R, endian: Endianness) -> Result<u128, DecodeError>
     ensures { ReadsWord R.is_known R.remaining R.failures R.loans R.end_error R.device
         (varint unsigned_tag U128 endian 16) (λ v. v) result read.old read.new }
@@ -48,7 +48,7 @@ pub fn varint_decode_u128<R: Reader>(read: &mut R, endian: Endianness) -> Result
     varint_decode(read, endian, IntegerType::U128, 16)
 }
 
-/// Reads a word of a `usize`, as `varint_decode_u16` does.
+/// Decodes a `usize`, like `varint_decode_u16`.
 pub fn varint_decode_usize<R: Reader>(
     read: &mut R,
     endian: Endianness,
@@ -60,9 +60,8 @@ pub fn varint_decode_usize<R: Reader>(
     Ok(n as usize)
 }
 
-/// The same for a number of so many bytes, of which a fault speaks by name. Where the reader says that it peeks first,
-/// and shows as many bytes as the longest word has, the number is read from these: just its word is taken, and nothing
-/// where its tag is refused.
+/// Decodes an unsigned varint of this width; errors name the expected type. If the reader has `PEEKS_FIRST` and buffers
+/// the longest encoding, the varint is decoded from a peek: then a refused tag byte is not consumed.
 #[inline(always)]
 pub(crate) fn varint_decode<R: Reader>(
     read: &mut R,
@@ -86,8 +85,8 @@ pub(crate) fn varint_decode<R: Reader>(
     varint_decode_plain(read, endian, name, width)
 }
 
-/// The number that a window begins with, and how many bytes its word has, if all of them stand there. Fails where the
-/// tag is too wide for the type or reserved.
+/// The number at the front of a window and the length of its encoding, if the window holds all of it. Fails if the tag
+/// byte is too wide for the type or reserved.
 #[inline(always)]
 fn number_of_window(
     window: &[u8],
@@ -110,7 +109,7 @@ fn number_of_window(
     }
 }
 
-/// The same by `read` alone: the tag, and then the bytes behind it.
+/// `varint_decode` with `read` alone: the tag byte, then the bytes after it.
 #[inline(always)]
 fn varint_decode_plain<R: Reader>(
     read: &mut R,
@@ -135,7 +134,7 @@ fn varint_decode_plain<R: Reader>(
     }
 }
 
-/// The error for a tag that is too wide for the type, or reserved.
+/// The error of a tag byte that is too wide for the type, or reserved.
 fn invalid_tag(expected: IntegerType, tag: u8) -> DecodeError
     ensures { result ≡ InvalidIntegerType expected (tag_types expected tag) }
 {
@@ -145,7 +144,7 @@ fn invalid_tag(expected: IntegerType, tag: u8) -> DecodeError
     }
 }
 
-/// The name of the type that a tag stands for: a signed one where a signed type is read.
+/// The type that a tag byte stands for: a signed one if a signed type is decoded.
 fn name_of_tag(expected: IntegerType, tag: u8) -> IntegerType
     ensures { result ≡ tag_types expected tag }
 {

@@ -1,4 +1,4 @@
-//! Signed numbers, written by zigzag.
+//! Encoding of signed varints, by zigzag.
 ghost use Rattle.bincode_spec.specs.Number.{zigzag};
 ghost use Rattle.bincode_spec.specs.Integers.{shortest_word, shortest_pieces};
 ghost use Rattle.bincode_spec.specs.Device.{TakesPieces};
@@ -9,8 +9,7 @@ use bincode_base::config::Endianness;
 use bincode_base::error::EncodeError;
 use bincode_io::write::Writer;
 
-/// Writes the shortest spelling of the number of an integer by zigzag. Where the writer refuses a piece, those before
-/// it stay written.
+/// Writes the shortest varint of a signed integer. If the writer refuses a piece, those before it stay written.
 #[inline(always)]
 pub fn varint_encode_i16<W: Writer>(
     writer: &mut W,
@@ -24,7 +23,7 @@ pub fn varint_encode_i16<W: Writer>(
     varint_encode_u16(writer, endian, zigzag(i128::from(val)) as u16)
 }
 
-/// Writes the shortest spelling of the number of an `i32`, as `varint_encode_i16` does.
+/// Writes an `i32`, like `varint_encode_i16`.
 #[inline(always)]
 pub fn varint_encode_i32<W: Writer>(
     writer: &mut W,
@@ -38,7 +37,7 @@ pub fn varint_encode_i32<W: Writer>(
     varint_encode_u32(writer, endian, zigzag(i128::from(val)) as u32)
 }
 
-/// Writes the shortest spelling of the number of an `i64`, as `varint_encode_i16` does.
+/// Writes an `i64`, like `varint_encode_i16`.
 #[inline(always)]
 pub fn varint_encode_i64<W: Writer>(
     writer: &mut W,
@@ -52,7 +51,7 @@ pub fn varint_encode_i64<W: Writer>(
     varint_encode_u64(writer, endian, zigzag(i128::from(val)) as u64)
 }
 
-/// Writes the shortest spelling of the number of an `i128`, as `varint_encode_i16` does.
+/// Writes an `i128`, like `varint_encode_i16`.
 #[inline(always)]
 pub fn varint_encode_i128<W: Writer>(
     writer: &mut W,
@@ -66,7 +65,7 @@ pub fn varint_encode_i128<W: Writer>(
     varint_encode_u128(writer, endian, zigzag(val))
 }
 
-/// Writes the shortest spelling of the number of an `isize`, as `varint_encode_i16` does.
+/// Writes an `isize`, like `varint_encode_i16`.
 #[inline(always)]
 pub fn varint_encode_isize<W: Writer>(
     writer: &mut W,

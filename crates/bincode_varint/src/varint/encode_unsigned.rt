@@ -1,4 +1,4 @@
-//! Unsigned numbers, written in their shortest spelling.
+//! Encoding of unsigned varints.
 ghost use Rattle.std.specs.Prelude.{[], ◌∷◌, ◌≡◌, length};
 ghost use Rattle.bincode_base.specs.declared.config.Endianness.{Endianness};
 ghost use Rattle.bincode_spec.specs.Integers.{shortest_word, shortest_pieces, first_of};
@@ -10,8 +10,8 @@ use bincode_base::config::Endianness;
 use bincode_base::error::EncodeError;
 use bincode_io::write::Writer;
 
-/// Writes the shortest spelling of a number: its tag, then its bytes in the order. Where the writer refuses a piece,
-/// those before it stay written.
+/// Writes the shortest varint of a number: the tag byte, then the bytes in this byte order. If the writer refuses a
+/// piece, those before it stay written.
 #[inline(always)]
 pub fn varint_encode_u16<W: Writer>(
     writer: &mut W,
@@ -31,7 +31,7 @@ pub fn varint_encode_u16<W: Writer>(
     }
 }
 
-/// Writes the shortest spelling of a `u32`, as `varint_encode_u16` does.
+/// Writes a `u32`, like `varint_encode_u16`.
 #[inline(always)]
 pub fn varint_encode_u32<W: Writer>(
     writer: &mut W,
@@ -53,7 +53,7 @@ pub fn varint_encode_u32<W: Writer>(
     }
 }
 
-/// Writes the shortest spelling of a `u64`, as `varint_encode_u16` does.
+/// Writes a `u64`, like `varint_encode_u16`.
 #[inline(always)]
 pub fn varint_encode_u64<W: Writer>(
     writer: &mut W,
@@ -77,7 +77,7 @@ pub fn varint_encode_u64<W: Writer>(
     }
 }
 
-/// Writes the shortest spelling of a `u128`, as `varint_encode_u16` does.
+/// Writes a `u128`, like `varint_encode_u16`.
 #[inline(always)]
 pub fn varint_encode_u128<W: Writer>(
     writer: &mut W,
@@ -100,7 +100,7 @@ pub fn varint_encode_u128<W: Writer>(
     }
 }
 
-/// Writes the shortest spelling of a `usize`, as `varint_encode_u16` does.
+/// Writes a `usize`, like `varint_encode_u16`.
 pub fn varint_encode_usize<W: Writer>(
     writer: &mut W,
     endian: Endianness,
@@ -112,7 +112,7 @@ pub fn varint_encode_usize<W: Writer>(
     varint_encode_u64(writer, endian, val as u64)
 }
 
-/// Writes a tag, and then the bytes behind it.
+/// Writes a tag byte, then the bytes after it.
 #[inline(always)]
 fn write_tagged<W: Writer>(writer: &mut W, tag: u8, bytes: &[u8]) -> Result<(), EncodeError>
     ensures { TakesPieces W.adds W.refuses W.loans (tag ∷ bytes.now) ((tag ∷ []) ∷ bytes.now ∷ [])
@@ -122,8 +122,7 @@ fn write_tagged<W: Writer>(writer: &mut W, tag: u8, bytes: &[u8]) -> Result<(), 
     writer.write_payload(bytes)
 }
 
-/// Writes the shortest spelling of a number to a writer that is told its length before all branches: of one that only
-/// counts nothing else is left.
+/// Used for counting writers: reports the length before branching on it.
 #[inline(always)]
 fn write_at_once<W: Writer>(writer: &mut W, endian: Endianness, val: u64) -> Result<(), EncodeError>
     ensures { TakesPieces W.adds W.refuses W.loans (shortest_word endian val) (shortest_pieces endian val)
@@ -142,7 +141,7 @@ fn write_at_once<W: Writer>(writer: &mut W, endian: Endianness, val: u64) -> Res
     }
 }
 
-/// The first byte of the shortest spelling of a number, and how many bytes that has.
+/// The first byte of the shortest varint of a number, and its length in bytes.
 #[inline(always)]
 fn front_of(val: u64) -> (u8, usize)
     ensures first { (endian : Endianness) → first_of (shortest_word endian val) ≡ result.0 }

@@ -8,7 +8,7 @@ use Rattle.bincode_lemmas.specs.ChoiceLaws.{choice-allows, allowed-choice}
 use Rattle.bincode_encoder.proofs.EncodingAnswers.{encodes-as, first-halts, next-encodes}
 use Rattle.bincode_encoder.proofs.variants.encode_variant.Goals as goal
 
--- the same meanings allow the same words
+-- equal meanings allow the same words
 allows-as : {P Q : Meaning → Type 0} {F : Format Meaning} → SameMeanings P Q → (bytes : List ℕ) → AllowedWord P F bytes → AllowedWord Q F bytes
 allows-as same bytes w = record { meaning = w.meaning; is_meant = same.0 w.meaning w.is_meant; is_written = w.is_written }
 
