@@ -1,11 +1,11 @@
--- What is said of two readers that had the same bytes left.
+-- How two readers agree that have the same bytes left.
 use Rattle.std.specs.Prelude.{◌≡◌, ◌⊎◌, ℕ, List, Result, Ok, Err}
 use Rattle.bincode_base.specs.declared.error.DecodeError.{DecodeError}
 use Rattle.bincode_base.specs.declared.error.DecodeError.TheVariants.{LimitExceeded}
 use Rattle.bincode_spec.specs.Device.{DeviceErrors, Rose}
 use Rattle.bincode_spec.specs.Fault.{Fault, Tells}
 
--- both errors say that the limit was passed, or both tell one fault, each as its reader tells the end of the input
+-- both errors are `LimitExceeded`, or both tell one fault, each with its reader's error for the end of the input
 pub data TellAlike (end_error end_error' : ℕ → DecodeError → Type 0) (d e : DecodeError) : Type 0 where
   both_passed : d ≡ LimitExceeded → e ≡ LimitExceeded → TellAlike end_error end_error' d e
   both_tell : (why : Fault) → Tells end_error why d → Tells end_error' why e → TellAlike end_error end_error' d e
@@ -14,7 +14,7 @@ pub data TellAlike (end_error end_error' : ℕ → DecodeError → Type 0) (d e 
 abbrev pub DeviceFailed : DeviceErrors → ℕ → ℕ → DecodeError → Type 0
 DeviceFailed device before after e = (device.is_counted e × Rose before after) ⊎ device.is_uncounted e
 
--- the values are given for one meaning, and the same bytes and the same charge are left
+-- the values are given for one meaning, and equal bytes and an equal charge are left
 pub record GivenAlike {A T : Type 0} (DecodesTo : A → T → Type 0) (remaining remaining' : List ℕ) (charge charge' : ℕ) (v w : T) : Type 0 where
   pub meaning : A
   pub first : DecodesTo meaning v
@@ -22,7 +22,7 @@ pub record GivenAlike {A T : Type 0} (DecodesTo : A → T → Type 0) (remaining
   pub same_remaining : remaining' ≡ remaining
   pub same_charge : charge' ≡ charge
 
--- what both readers answer: values alike, or errors that tell the same, unless one of the errors is excused
+-- the results of both readers: values alike, or errors of one fault, unless one of the errors is excused
 abbrev pub ReadAlike : {A T : Type 0} → (end_error end_error' : ℕ → DecodeError → Type 0) → (Excused Excused' : DecodeError → Type 0) → (A → T → Type 0) → (remaining remaining' : List ℕ) → (charge charge' : ℕ) → Result T DecodeError → Result T DecodeError → Type 0
 ReadAlike end_error end_error' Excused Excused' DecodesTo remaining remaining' charge charge' (Ok v) (Ok w) = GivenAlike DecodesTo remaining remaining' charge charge' v w
 ReadAlike end_error end_error' Excused Excused' DecodesTo remaining remaining' charge charge' (Ok v) (Err e) = Excused' e

@@ -7,7 +7,7 @@ use Rattle.bincode_spec.specs.Charge.{Step}
 use Rattle.bincode_spec.specs.Format.{Format}
 use Rattle.bincode_spec.specs.Meaning.{Meaning}
 
--- a word that is written for something that the value means
+-- the bytes are written for one of the meanings of a value
 pub record AllowedWord (Means : Meaning → Type 0) (F : Format Meaning) (bytes : List ℕ) : Type 0 where
   pub meaning : Meaning
   pub is_meant : Means meaning
@@ -24,12 +24,12 @@ MayName (errors.Io _ _) = ⊥
 MayName errors.InvalidPathCharacters = ⊥
 MayName errors.Memory = ⊥
 
--- what is written in one format is what is written in the other
+-- both formats write the same words for each meaning
 abbrev pub WrittenAlike : Format Meaning → Format Meaning → Type 0
 WrittenAlike F G =
     ((bytes : List ℕ) (meaning : Meaning) → F.Written bytes meaning → G.Written bytes meaning) × ((bytes : List ℕ) (meaning : Meaning) → G.Written bytes meaning → F.Written bytes meaning)
 
--- what is meant in one way is what is meant in the other
+-- both predicates hold of the same meanings
 abbrev pub SameMeanings : (Meaning → Type 0) → (Meaning → Type 0) → Type 0
 SameMeanings P Q = ((meaning : Meaning) → P meaning → Q meaning) × ((meaning : Meaning) → Q meaning → P meaning)
 
@@ -43,7 +43,7 @@ pub record SomeWord (Allowed : List ℕ → Type 0) : Type 0 where
   pub are_bytes : All (λ b. b < 256) bytes
   pub is_allowed : Allowed bytes
 
--- no word of the one kind of meanings is shorter than one that is written for the other
+-- no word that is read for a meaning in `Read` is shorter than one that is written for a meaning in `Written`
 abbrev pub NoneShorter : (Written Read : Meaning → Type 0) → Format Meaning → Type 0
 NoneShorter Written Read F =
     (written bytes : List ℕ) (meaning : Meaning) (steps : List Step) → AllowedWord Written F written → All
@@ -53,12 +53,12 @@ NoneShorter Written Read F =
 abbrev pub Shortest : (Means DecodesTo : Meaning → Type 0) → Format Meaning → Type 0
 Shortest Means DecodesTo F = NoneShorter (λ m. Means m × DecodesTo m) DecodesTo F
 
--- a value without cells has a word; those that it allows have one length, and none is shorter
+-- a value without cells: it has a word, all its words have one length, and none that decodes to it is shorter
 pub record Spelled (Means : Meaning → Type 0) (F : Format Meaning) : Type 0 where
   pub has_word : SomeWord (AllowedWord Means F)
   pub one_length : OneLength (AllowedWord Means F)
   pub none_shorter : NoneShorter Means Means F
 
--- what one part allows, and then what the other does
+-- what one part allows, then what the other does
 abbrev pub Both : (List ℕ → Type 0) → (List ℕ → Type 0) → List ℕ → Type 0
 Both First Second bytes = (x y : List ℕ) × (bytes ≡ x ++ y) × First x × Second y

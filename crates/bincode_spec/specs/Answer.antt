@@ -1,4 +1,4 @@
--- What decoding answers, by a format, a limit, and the charge at the start.
+-- The answer of decoding: from a format, a limit, and the charge at the start.
 use Rattle.std.specs.Prelude.{◌≡◌, ℕ, ◌+◌, ◌*◌, ◌-◌, ◌≤◌, ◌⊎◌, ◌^◌, nat_le, nat_lt, if◌then◌else◌, List, [], ◌∷◌, ◌++◌, Option, Some, None}
 use Rattle.bincode_spec.specs.Fault.{Fault}
 use Rattle.bincode_spec.specs.Charge.{Step, Charge, Reserve, Release}
@@ -14,15 +14,15 @@ abbrev pub after_claim : Option ℕ → ℕ → ℕ → Option ℕ
 after_claim None charge n = Some charge
 after_claim (Some limit) charge n = if nat_le (charge + n) limit then Some (charge + n) else None
 
--- the claim of n bytes stands
+-- the claim of n bytes succeeds
 abbrev pub Claimed : Option ℕ → ℕ → ℕ → ℕ → Type 0
 Claimed limit before n after = after_claim limit before n ≡ Some after
 
--- it passes the limit: the raised charge is kept if it fits 64 bits, else the charge stays
+-- the claim passes the limit: the new charge is kept if it fits 64 bits
 abbrev pub OverClaimed : Option ℕ → ℕ → ℕ → ℕ → Type 0
 OverClaimed limit before n after = (after_claim limit before n ≡ None) × (after ≡ (if nat_lt (before + n) (2 ^ 64) then before + n else before))
 
--- A claim of n bytes was made: it stands or passes the limit, and no byte was given back.
+-- A claim of n bytes was made: it succeeded or passed the limit, and released nothing.
 abbrev pub Charges : Option ℕ → ℕ → ℕ → ℕ → Type 0
 Charges limit before n after = Claimed limit before n after ⊎ OverClaimed limit before n after
 
@@ -41,13 +41,13 @@ abbrev pub on_some : Option ℕ → (ℕ → Option ℕ) → Option ℕ
 on_some (Some n) next = next n
 on_some None next = None
 
--- the charge behind the steps, if none passes the limit
+-- the charge after the steps, if none passes the limit
 abbrev pub charge_behind : Option ℕ → ℕ → List Step → Option ℕ
 charge_behind limit charge [] = Some charge
 charge_behind limit charge (s ∷ steps) = on_some (after_step limit charge s) (λ after. charge_behind limit after steps)
 
--- a meaning with the bytes behind the word and the charge behind its steps; a fault with the charge behind the steps before
--- it; or a step that passed the limit
+-- a meaning, with the bytes after the word and the charge after its steps; a fault, with the charge after the steps
+-- before it; or a step that passed the limit
 pub data Answer (A : Type 0) : Type 0 where
   Gave : A → List ℕ → ℕ → Answer A
   Refused : Fault → ℕ → Answer A
@@ -61,7 +61,7 @@ abbrev pub refused_at : {A : Type 0} → Fault → Option ℕ → Answer A
 refused_at why (Some charge) = Refused why charge
 refused_at why None = PassedLimit
 
--- what a limit makes of a reading
+-- the answer that a limit makes of a reading
 abbrev pub weigh_reading : {A : Type 0} → Option ℕ → ℕ → Reading A → Answer A
 weigh_reading limit charge (Took a remaining steps) = gave_at a remaining (charge_behind limit charge steps)
 weigh_reading limit charge (Failed why steps) = refused_at why (charge_behind limit charge steps)
@@ -76,7 +76,7 @@ and_then (Gave a remaining charge) next = next a remaining charge
 and_then (Refused why charge) next = Refused why charge
 and_then PassedLimit next = PassedLimit
 
--- these are the steps of the word that the input begins with, or those before its fault
+-- the steps of the word that begins the input, or those before its fault
 pub data StepsOf {A : Type 0} (F : Format A) (input : List ℕ) (steps : List Step) : Type 0 where
   of_word : (word remaining : List ℕ) (meaning : A) → F.Word word meaning steps → input ≡ word ++ remaining → StepsOf F input steps
   of_fault : (why : Fault) → F.Faults input why steps → StepsOf F input steps

@@ -1,4 +1,4 @@
--- What is said of cells: no contract says what one holds.
+-- Cells: no contract says what one holds.
 use Rattle.std.specs.Prelude.{◌≡◌}
 use Rattle.bincode_base.specs.declared.short_text.Text.{Text}
 use Rattle.bincode_base.specs.declared.error.EncodeError.{EncodeError}
@@ -11,7 +11,7 @@ use Rattle.bincode_spec.specs.Allowed.{AllowedWord, SomeWord}
 abbrev pub IsAny : Meaning → Type 0
 IsAny m = Unit {0}
 
--- a cell is borrowed for writing
+-- the error of a cell that is mutably borrowed
 abbrev pub IsBorrowed : EncodeError → Type 0
 IsBorrowed e = (name : Text 22) × (e ≡ RefCellAlreadyBorrowed name)
 

@@ -1,14 +1,14 @@
--- What reading costs under a limit.
+-- What reading charges against a limit.
 use Rattle.std.specs.Prelude.{◌≡◌, ℕ, ◌+◌, ◌*◌, ◌-◌, ◌<◌, ◌≤◌, List, [], ◌∷◌, ◌++◌, Option, Some, None}
 
--- A change of the charge. A part that is read is charged. A container reserves room for so many elements of so many bytes
--- each, and releases it element by element.
+-- A change of the charge. What is read is charged. A container reserves `n` times the claim of an element, and releases
+-- it element by element.
 pub data Step : Type 0 where
   Charge : ℕ → Step
   Reserve : ℕ → ℕ → Step
   Release : ℕ → Step
 
--- the full width of all that is read
+-- all that is charged for what is read
 abbrev pub charged_bytes : List Step → ℕ
 charged_bytes [] = 0
 charged_bytes ((Charge n) ∷ steps) = n + charged_bytes steps
@@ -29,23 +29,23 @@ released_bytes ((Charge n) ∷ steps) = released_bytes steps
 released_bytes ((Reserve n share) ∷ steps) = released_bytes steps
 released_bytes ((Release n) ∷ steps) = n + released_bytes steps
 
--- the charge behind these steps
+-- the charge after these steps
 abbrev pub charge_after : ℕ → List Step → ℕ
 charge_after charge steps = charge + charged_bytes steps + reserved_bytes steps - released_bytes steps
 
--- some front of the steps brings the charge above the number
+-- some prefix of the steps brings the charge above the number
 pub record Exceeds (limit charge : ℕ) (steps : List Step) : Type 0 where
   pub front : List Step
   pub back : List Step
   pub steps_are : steps ≡ front ++ back
   pub above : limit < charge_after charge front
 
--- some front of the steps passes the limit; no steps do where there is none
+-- some prefix of the steps passes the limit; never without one
 abbrev pub Passes : Option ℕ → ℕ → List Step → Type 0
 Passes None charge steps = ⊥
 Passes (Some limit) charge steps = Exceeds limit charge steps
 
--- no front of the steps passes the limit
+-- no prefix of the steps passes the limit
 abbrev pub StaysWithin : Option ℕ → ℕ → List Step → Type 0
 StaysWithin None charge steps = Unit {0}
 StaysWithin (Some limit) charge steps = (front back : List Step) → steps ≡ front ++ back → charge_after charge front ≤ limit

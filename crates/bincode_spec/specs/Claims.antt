@@ -1,16 +1,16 @@
--- What a claim answers and what it keeps.
+-- What a claim returns and what it leaves unchanged.
 use Rattle.std.specs.Prelude.{◌≡◌, ℕ, List, Option, Result, OnOk, IfErr}
 use Rattle.std.specs.Borrow.{GName}
 use Rattle.bincode_base.specs.declared.error.DecodeError.{DecodeError}
 use Rattle.bincode_base.specs.declared.error.DecodeError.TheVariants.{LimitExceeded}
 use Rattle.bincode_spec.specs.Answer.{Claimed, OverClaimed, after_release}
 
--- n bytes are claimed: they stand, or are refused as passing the limit
+-- a claim of n bytes succeeds, or fails because it passes the limit
 pub record Claims (limit : Option ℕ) (before n after : ℕ) (result : Result (Unit {0}) DecodeError) : Type 0 where
   pub ok : OnOk result (Claimed limit before n after)
   pub err : IfErr result (λ e. (e ≡ LimitExceeded) × OverClaimed limit before n after)
 
--- a decoder that was at `old` and is at `new` has its input, its failures, its reader, its context and its references as before
+-- a decoder (`old` before, `new` after) has the input, failures, reader, context and references that it had
 pub record OnlyCharged {D R C : Type 0} (is_known : D → Type 0) (remaining : D → List ℕ) (failures : D → ℕ) (reader_of : D → R) (context_of : D → C) (loans : D → List GName) (old new : D) : Type 0 where
   pub same_remaining : remaining new ≡ remaining old
   pub same_failures : failures new ≡ failures old
@@ -19,13 +19,13 @@ pub record OnlyCharged {D R C : Type 0} (is_known : D → Type 0) (remaining : D
   pub same_context : context_of new ≡ context_of old
   pub same_loans : loans new ≡ loans old
 
--- such a decoder claimed n bytes, and nothing else
+-- it claimed n bytes, and did nothing else
 pub record MakesClaim {D R C : Type 0} (is_known : D → Type 0) (remaining : D → List ℕ) (charge failures : D → ℕ) (reader_of : D → R) (context_of : D → C) (loans : D → List GName)
     (limit : Option ℕ) (n : ℕ) (result : Result (Unit {0}) DecodeError) (old new : D) : Type 0 where
   pub claimed : Claims limit (charge old) n (charge new) result
   pub kept : OnlyCharged is_known remaining failures reader_of context_of loans old new
 
--- it released n bytes of its charge, and nothing else
+-- it released n bytes of its charge, and did nothing else
 pub record MakesRelease {D R C : Type 0} (is_known : D → Type 0) (remaining : D → List ℕ) (charge failures : D → ℕ) (reader_of : D → R) (context_of : D → C) (loans : D → List GName)
     (limit : Option ℕ) (n : ℕ) (old new : D) : Type 0 where
   pub released : charge new ≡ after_release limit (charge old) n

@@ -1,4 +1,4 @@
--- Lists behind their length, and what the values of a collection are made of: the items of a word, in turn.
+-- Length-prefixed lists, and what collections are made of: the items of a word, in order.
 use Rattle.std.specs.Prelude.{◌≡◌, ◌<◌, ◌^◌, ℕ, pos, List, [], ◌∷◌, length}
 use Rattle.std.specs.List.{All}
 use Rattle.std.specs.List.Sorted.{IsPermutation}
@@ -11,19 +11,19 @@ use Rattle.bincode_spec.specs.Words.{natural_number, len}
 use Rattle.bincode_spec.specs.Allowed.{AllowedWord}
 use Rattle.bincode_spec.specs.Run.{IsListOf}
 
--- what is written for a length
+-- the words of a length
 abbrev pub LengthWord : Setting → ℕ → List ℕ → Type 0
 LengthWord s n = AllowedWord (IsNumber (pos n)) (natural_number (len s))
 
--- each item is valid, and their number is a length
+-- each item is valid, and their number fits 64 bits
 abbrev pub AreValid : {A : Type 0} → (A → Type 0) → List A → Type 0
 AreValid Valid vs = (length vs < 2 ^ 64) × All Valid vs
 
--- these items, one after the other, make a collection of those
+-- these items, inserted in order, make a collection of those
 abbrev pub Makes : Type 0 → Type 1
 Makes A = List A → List A → Type 0
 
--- it is a list of items that make the collection
+-- the meaning is a list of items that make the collection
 abbrev pub IsMadeOf : {A : Type 0} → Makes A → (A → Meaning → Type 0) → List A → Meaning → Type 0
 IsMadeOf {A} Making Is vs m = (items : List A) × Making items vs × IsListOf Is items m
 
@@ -31,7 +31,7 @@ IsMadeOf {A} Making Is vs m = (items : List A) × Making items vs × IsListOf Is
 abbrev pub MakesBag : {A : Type 0} → Makes A
 MakesBag items vs = IsPermutation items vs
 
--- keys that are put in turn: of equal ones the first stays
+-- keys that are inserted in order: of equal ones the first stays
 abbrev pub put_keys : {K : Type 0} → (K → K → Ordering) → List K → List K → List K
 put_keys cmp keys [] = keys
 put_keys cmp keys (k ∷ items) = put_keys cmp (insert_key cmp keys k) items
@@ -39,7 +39,7 @@ put_keys cmp keys (k ∷ items) = put_keys cmp (insert_key cmp keys k) items
 abbrev pub MakesSet : {K : Type 0} → (K → K → Ordering) → Makes K
 MakesSet cmp items keys = keys ≡ put_keys cmp [] items
 
--- entries that are put in turn: of equal keys the first stays, with the last value
+-- entries that are inserted in order: of equal keys the first stays, with the last value
 abbrev pub put_entries : {K V : Type 0} → (K → K → Ordering) → List (K × V) → List (K × V) → List (K × V)
 put_entries cmp entries [] = entries
 put_entries cmp entries (e ∷ items) = put_entries cmp (insert_entry cmp entries e.0 e.1) items

@@ -1,4 +1,4 @@
--- What decoding does and leaves.
+-- What decoding returns and leaves.
 use Rattle.std.specs.Prelude.{◌≡◌, ◌⊎◌, ◌++◌, ℕ, List, Option, Result, IsErrAnd, MatchResult}
 use Rattle.bincode_base.specs.declared.error.DecodeError.{DecodeError}
 use Rattle.bincode_base.specs.declared.error.DecodeError.TheVariants.{LimitExceeded, Memory}
@@ -9,15 +9,15 @@ use Rattle.bincode_spec.specs.Meaning.{Meaning}
 use Rattle.bincode_spec.specs.Device.{DeviceErrors, Rose, Takes}
 use Rattle.bincode_spec.specs.Answer.{Answer, Gave, Refused, PassedLimit, StepsOf}
 
--- what was given is given for the meaning of the answer, which ends at this rest and this charge
+-- the value is given for the meaning of the answer, which ends with these bytes left and at this charge
 pub record Decodes {A : Type 0} (DecodesTo : A → Type 0) (a : Answer A) (remaining : List ℕ) (charge : ℕ) : Type 0 where
   pub meaning : A
   pub answer_is : a ≡ Gave meaning remaining charge
   pub is_decoded : DecodesTo meaning
 
--- The error tells the answer, and the charge is the one behind the steps before the fault; memory was refused where decoding
--- takes some; or the device failed by an error that it counts; some front of the input was taken. Or it failed by one that it
--- does not count, and then nothing is said of the input.
+-- The error tells the answer, and the charge is the one after the steps before the fault; or memory was refused, and
+-- decoding may allocate; or the device failed with an error that it counts. A prefix of the input was taken. Or the
+-- device failed with an error that it does not count, and then nothing is said of the input.
 pub data DecodeFailure {A : Type 0} (end_error : ℕ → DecodeError → Type 0) (device : DeviceErrors) (MayAllocate : Type 0) (a : Answer A) (before after : ℕ) (remaining remaining' : List ℕ) (charge : ℕ) (e : DecodeError) : Type 0 where
   by_fault : (why : Fault) → a ≡ Refused why charge → Tells end_error why e → Takes remaining remaining' → DecodeFailure end_error device MayAllocate a before after remaining remaining' charge e
   by_limit : a ≡ PassedLimit → e ≡ LimitExceeded → Takes remaining remaining' → DecodeFailure end_error device MayAllocate a before after remaining remaining' charge e
@@ -25,11 +25,11 @@ pub data DecodeFailure {A : Type 0} (end_error : ℕ → DecodeError → Type 0)
   by_failure : device.is_counted e → Rose before after → Takes remaining remaining' → DecodeFailure end_error device MayAllocate a before after remaining remaining' charge e
   by_device : device.is_uncounted e → DecodeFailure end_error device MayAllocate a before after remaining remaining' charge e
 
--- memory was refused, where decoding takes some
+-- memory was refused, and decoding may allocate
 abbrev pub IsRefused : Type 0 → DecodeError → Type 0
 IsRefused MayAllocate e = MayAllocate × (e ≡ Memory)
 
--- memory was refused where decoding takes some, or the device failed
+-- memory was refused, and decoding may allocate; or the device failed
 abbrev pub IsExcused : DeviceErrors → Type 0 → ℕ → ℕ → DecodeError → Type 0
 IsExcused device MayAllocate before after e = IsRefused MayAllocate e ⊎ ((device.is_counted e × Rose before after) ⊎ device.is_uncounted e)
 
@@ -43,15 +43,15 @@ pub record WordRead (F : Format Meaning) (limit : Option ℕ) (input remaining :
   pub within : StaysWithin limit 0 steps
   pub is_decoded : DecodesTo meaning
 
--- where the input begins with a word whose steps stay within the limit, decoding succeeds, unless it is excused
+-- if a word whose steps stay within the limit begins the input, decoding succeeds, unless it is excused
 abbrev pub AcceptsAll : {A : Type 0} → Format Meaning → Option ℕ → (DecodeError → Type 0) → List ℕ → Result A DecodeError → Type 0
 AcceptsAll F limit Excused input result = (word remaining : List ℕ) (meaning : Meaning) (steps : List Step) → input ≡ word ++ remaining → F.Word word meaning steps → StaysWithin limit 0 steps →
     MatchResult result (λ _. Unit {0}) Excused
 
--- where the input has a fault and the steps before it stay within the limit, the error tells it, unless it is excused
+-- if the input has a fault and the steps before it stay within the limit, the error tells it, unless it is excused
 abbrev pub ReportsFault : {A : Type 0} → (ℕ → DecodeError → Type 0) → Format Meaning → Option ℕ → (DecodeError → Type 0) → List ℕ → Result A DecodeError → Type 0
 ReportsFault end_error F limit Excused input result = (why : Fault) (steps : List Step) → F.Faults input why steps → StaysWithin limit 0 steps → IsErrAnd result (λ e. Tells end_error why e ⊎ Excused e)
 
--- where the steps of the word or before the fault pass the limit, the error says so, unless it is excused
+-- if the steps of the word or before the fault pass the limit, the error is `LimitExceeded`, unless it is excused
 abbrev pub EnforcesLimit : {A : Type 0} → Format Meaning → Option ℕ → (DecodeError → Type 0) → List ℕ → Result A DecodeError → Type 0
 EnforcesLimit F limit Excused input result = (steps : List Step) → StepsOf F input steps → Passes limit 0 steps → IsErrAnd result (λ e. (e ≡ LimitExceeded) ⊎ Excused e)

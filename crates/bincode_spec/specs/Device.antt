@@ -7,8 +7,8 @@ use Rattle.bincode_base.specs.declared.error.DecodeError.TheVariants.{Unexpected
 use Rattle.bincode_base.specs.declared.error.EncodeError.{EncodeError}
 use Rattle.bincode_base.specs.declared.error.EncodeError.TheVariants.{Memory}
 
--- the errors by which a device of a reader fails: those at which its count of failures rises, and those that it does
--- not count, which may come at any call
+-- the errors of a reader's device: those that raise its count of failures, and those that it does not count, which may
+-- come at any call
 pub record DeviceErrors : Type 1 where
   pub is_counted : DecodeError → Type 0
   pub is_uncounted : DecodeError → Type 0
@@ -17,29 +17,29 @@ pub record DeviceErrors : Type 1 where
 abbrev pub no_device : DeviceErrors
 no_device = record { is_counted = λ _. ⊥; is_uncounted = λ _. ⊥ }
 
--- the error that tells that so many bytes are missing
+-- the error for this many missing bytes
 abbrev pub IsEndError : ℕ → DecodeError → Type 0
 IsEndError missing e = (e ≡ UnexpectedEnd missing) ⊎ ((inner : StreamError) × (e ≡ Io inner missing))
 
--- a count of failures rose; one that stands at its last value is taken for one that rose
+-- a count of failures rose; one at its maximum passes for one that rose
 abbrev pub Rose : ℕ → ℕ → Type 0
 Rose before after = (before < after) ⊎ (after ≡ 2 ^ 64 - 1)
 
--- some front was taken
+-- a prefix was taken
 abbrev pub Takes : List ℕ → List ℕ → Type 0
 Takes before after = (front : List ℕ) × (before ≡ front ++ after)
 
--- a call left the failures and the references as they were, and the rest where it is told
+-- a call left the failures and the references as they were, and what remains if it is known
 abbrev pub Unmoved : Type 0 → Type 0 → List ℕ → List ℕ → ℕ → ℕ → List GName → List GName → Type 0
 Unmoved is_known is_known' remaining remaining' failures failures' loans loans' = (is_known → is_known' × (remaining' ≡ remaining)) × (failures' ≡ failures) × (loans' ≡ loans)
 
--- a read of so many bytes has too few: what it answers where so many are missing is `end_error`
+-- a read of `wanted` bytes has too few: `end_error` has the error for the number that is missing
 abbrev pub FallsShort : (ℕ → DecodeError → Type 0) → List ℕ → ℕ → DecodeError → Type 0
 FallsShort end_error remaining wanted e = (length remaining < wanted) × end_error (wanted - length remaining) e
 
--- A reader, which was at `old` and is at `new`, was asked to fill some bytes. They are the next ones; or too few are left, or
--- the device failed, and then some front of what was left is taken, unless the error is one that the device does not count.
--- The reader tells what is left as before, counts failures up, and reads through the same references.
+-- A reader (`old` before, `new` after) was asked to fill a buffer. It holds the next bytes; or too few are left, or the
+-- device failed, and then a prefix of what was left is taken, unless the device does not count the error. What remains
+-- stays known, failures don't fall, and the references are unchanged.
 pub record FillsBuffer {R : Type 0} (is_known : R → Type 0) (remaining : R → List ℕ) (failures : R → ℕ) (loans : R → List GName)
     (end_error : ℕ → DecodeError → Type 0) (device : DeviceErrors) (before after : List ℕ) (result : Result (Unit {0}) DecodeError) (old new : R) : Type 0 where
   pub next : is_known old → OnOk result (remaining old ≡ after ++ remaining new)
@@ -49,15 +49,15 @@ pub record FillsBuffer {R : Type 0} (is_known : R → Type 0) (remaining : R →
   pub tells : is_known old → is_known new
   pub same_loans : loans new ≡ loans old
 
--- it was asked to take bytes that it showed
+-- it was asked to consume bytes of a peek
 pub record TakesShown {R : Type 0} (is_known : R → Type 0) (remaining : R → List ℕ) (failures : R → ℕ) (loans : R → List GName) (n : ℕ) (old new : R) : Type 0 where
   pub taken : is_known old → remaining new ≡ drop n (remaining old)
   pub same_failures : failures new ≡ failures old
   pub tells : is_known old → is_known new
   pub same_loans : loans new ≡ loans old
 
--- A writer, which was at `old` and is at `new`, was given a piece: it was added, or it was refused, and the error tells why.
--- Failures are counted up, and it writes through the same references.
+-- A writer (`old` before, `new` after) was given a piece: it was added, or it was refused and the error tells why.
+-- Failures don't fall, and the references are unchanged.
 pub record TakesPiece {W : Type 0} (adds : W → List ℕ → W → Type 0) (refuses : W → List ℕ → EncodeError → W → Type 0) (failures : W → ℕ)
     (loans : W → List GName) (piece : List ℕ) (result : Result (Unit {0}) EncodeError) (old new : W) : Type 0 where
   pub ok : OnOk result (adds old piece new)
@@ -65,31 +65,31 @@ pub record TakesPiece {W : Type 0} (adds : W → List ℕ → W → Type 0) (ref
   pub failures_monotone : failures old ≤ failures new
   pub same_loans : loans new ≡ loans old
 
--- a piece is longer than the room
+-- the piece is longer than the room
 abbrev pub TooLong : Option ℕ → List ℕ → Type 0
 TooLong None piece = ⊥
 TooLong (Some room) piece = room < length piece
 
--- a piece is within the room
+-- the piece fits the room
 abbrev pub WithinRoom : Option ℕ → List ℕ → Type 0
 WithinRoom None piece = Unit {0}
 WithinRoom (Some room) piece = length piece ≤ room
 
--- the room that is left behind a piece
+-- the room that is left after a piece
 abbrev pub room_behind : Option ℕ → List ℕ → Option ℕ
 room_behind None piece = None
 room_behind (Some room) piece = Some (room - length piece)
 
--- a piece that was added was within the room, and takes of it what it is long
+-- a piece that was added did fit, and takes its length off the room
 pub record TakesRoom (before : Option ℕ) (piece : List ℕ) (after : Option ℕ) : Type 0 where
   pub within : WithinRoom before piece
   pub left : after ≡ room_behind before piece
 
--- memory was refused, or the device failed, which tells it by the error or by its count of failures
+-- memory was refused, or the device failed: its error says so, or its count of failures
 abbrev pub WriterFails : (EncodeError → Type 0) → ℕ → ℕ → EncodeError → Type 0
 WriterFails device before after e = (e ≡ Memory) ⊎ (device e ⊎ Rose before after)
 
--- the join of pieces
+-- the concatenation of pieces
 abbrev pub concat_pieces : List (List ℕ) → List ℕ
 concat_pieces [] = []
 concat_pieces (piece ∷ pieces) = piece ++ concat_pieces pieces
@@ -104,8 +104,8 @@ pub record StopsAmong {W : Type 0} (adds : W → List ℕ → W → Type 0) (ref
   pub added : adds before (concat_pieces written) middle
   pub refusal : refuses middle piece e after
 
--- A writer, which was at `old` and is at `new`, was given a word by its pieces in turn: all were added, or it refused one, and
--- the error tells why. It writes through the same references.
+-- A writer (`old` before, `new` after) was given the pieces of a word in order: all were added, or it refused one and
+-- the error tells why. The references are unchanged.
 pub record TakesPieces {W : Type 0} (adds : W → List ℕ → W → Type 0) (refuses : W → List ℕ → EncodeError → W → Type 0) (loans : W → List GName)
     (word : List ℕ) (pieces : List (List ℕ)) (result : Result (Unit {0}) EncodeError) (old new : W) : Type 0 where
   pub ok : OnOk result (adds old word new)

@@ -1,4 +1,4 @@
--- The faults of an input, by what is claimed of them, and the errors that tell them.
+-- The faults of an input, and the errors that tell them.
 use Rattle.std.specs.Prelude.{◌≡◌, ℕ, List, Option, Some, None, Box, string_bytes}
 use Rattle.std.specs.declared.string.String.{String}
 use Rattle.std.specs.declared.vec.Vec.{Vec}
@@ -10,13 +10,13 @@ use Rattle.bincode_base.specs.declared.error.DecodeError.{DecodeError}
 use Rattle.bincode_base.specs.declared.error.DecodeError.TheVariants as errors
 use Rattle.bincode_base.specs.ShortText.{text_bytes}
 
--- the tags that a choice has
+-- the valid tags of a choice
 pub data Allowed : Type 0 where
   Between : ℕ → ℕ → Allowed
   OneOf : List ℕ → Allowed
 
 pub data Fault : Type 0 where
-  -- the input ends too early; by how many bytes, where that is promised
+  -- the input ends too early; by how many bytes, if that is promised
   End : Option ℕ → Fault
   InvalidInteger : IntegerType → IntegerType → Fault
   Zero : IntegerType → Fault
@@ -26,7 +26,7 @@ pub data Fault : Type 0 where
   InvalidBool : ℕ → Fault
   InvalidDuration : ℕ → ℕ → Fault
   NulAt : ℕ → Fault
-  -- a fault of a user's type, by its text
+  -- a fault of a user's type, with its text
   Other : List ℕ → Fault
   LengthMismatch : ℕ → ℕ → Fault
   EmptyEnum : Fault
@@ -47,17 +47,17 @@ IsEnd (LengthMismatch _ _) = ⊥
 IsEnd EmptyEnum = ⊥
 IsEnd (OutsideUsize _) = ⊥
 
--- a type of this name has no variant of this tag, and has these
+-- the error of a type of this name for an unknown tag, with the valid ones
 abbrev pub TellsTag : Text 10 → Allowed → ℕ → DecodeError → Type 0
 TellsTag name (Between min max) found e = e ≡ errors.UnexpectedVariant name found min max
 TellsTag name (OneOf tags) found e = (listed : Box (Vec ℕ Global) Global) × (e ≡ errors.UnlistedVariant name found listed) × (listed.value.items ≡ tags)
 
--- an error of a user's type, with this text
+-- the error of a user's type with this text
 pub data IsOther (text : List ℕ) (e : DecodeError) : Type 0 where
   short : (t : Text 22) → e ≡ errors.Other t → text_bytes t ≡ text → IsOther text e
   long : (t : Box (String Global) Global) → e ≡ errors.OtherString t → string_bytes t.value ≡ text → IsOther text e
 
--- The error that tells a fault. What a reader answers where so many bytes are missing is `end_error`.
+-- The error that tells a fault. `end_error` has the reader's error for a number of missing bytes.
 abbrev pub Tells : (ℕ → DecodeError → Type 0) → Fault → DecodeError → Type 0
 Tells ended (End (Some missing)) e = ended missing e
 Tells ended (End None) e = (missing : ℕ) × ended missing e

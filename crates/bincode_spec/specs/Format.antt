@@ -1,11 +1,11 @@
--- A format is a language: its words, each with a meaning and its steps, which of them is written, and the fault of
--- each input that begins with no word. Beside these relations stands the plain program that reads a word or a fault
--- from an input; the laws say that the two agree. All formats are made of the few below.
+-- A format is a language: its words, each with a meaning and its steps, which of them is written, and the fault of each
+-- input that begins with no word. Beside these relations stands the program that reads a word or a fault from an input;
+-- the laws say that the two agree. All formats are made of the few below.
 use Rattle.std.specs.Prelude.{◌≡◌, ℕ, zero, suc, ◌-◌, ◌<◌, ◌⊎◌, List, [], ◌∷◌, ◌++◌, length, take, drop, nat_lt, if◌then◌else◌, Result, Ok, Err, Some, None}
 use Rattle.bincode_spec.specs.Fault.{Fault, End, InvalidInteger, Zero, UnexpectedVariant, Utf8, InvalidChar, InvalidBool, InvalidDuration, NulAt, Other, LengthMismatch, EmptyEnum, OutsideUsize}
 use Rattle.bincode_spec.specs.Charge.{Step, Charge, Reserve, Release}
 
--- What reading gives, with the steps that were taken: a meaning and the bytes behind the word, or a fault.
+-- The result of reading, with the steps taken: a meaning and the bytes after the word, or a fault.
 pub data Reading (A : Type 0) : Type 0 where
   Took : A → List ℕ → List Step → Reading A
   Failed : Fault → List Step → Reading A
@@ -55,7 +55,7 @@ step change = record {
   read = λ input. Took tt input (change ∷ []);
 }
 
--- any bytes of this number, which mean themselves
+-- any n bytes, which mean themselves
 unfoldable pub fixed_bytes : ℕ → Format (List ℕ)
 fixed_bytes n = record {
   Word = λ bytes meaning steps. (length bytes ≡ n) × (meaning ≡ bytes) × (steps ≡ []);
@@ -64,7 +64,7 @@ fixed_bytes n = record {
   read = λ input. if nat_lt (length input) n then Failed (End (Some (n - length input))) [] else Took (take n input) (drop n input) [];
 }
 
--- a word of the first, and then a word of what its meaning asks for
+-- a word of the first, then one of the second, which depends on the meaning of the first
 pub record InTurn {A B : Type 0} (F : Format A) (G : A → Format B) (bytes : List ℕ) (meaning : B) (steps : List Step) : Type 0 where
   pub first : List ℕ
   pub second : List ℕ
@@ -84,7 +84,7 @@ pub record WrittenInTurn {A B : Type 0} (F : Format A) (G : A → Format B) (byt
   pub first_written : F.Written first head
   pub second_written : (G head).Written second meaning
 
--- a word of the first, and then a rest that faults in the second
+-- a word of the first, then what faults in the second
 pub record FaultsLater {A B : Type 0} (F : Format A) (G : A → Format B) (input : List ℕ) (fault : Fault) (steps : List Step) : Type 0 where
   pub first : List ℕ
   pub remaining : List ℕ
@@ -105,11 +105,11 @@ F >>= G = record {
   read = λ input. then_read (F.read input) (λ head remaining. (G head).read remaining);
 }
 
--- the same words, of which these alone are written
+-- the words of F, of which only the chosen ones are written
 unfoldable pub written_as : {A : Type 0} → (List ℕ → A → Type 0) → Format A → Format A
 written_as Chosen F = record { Word = F.Word; Written = Chosen; Faults = F.Faults; read = F.read }
 
--- the same fault, but of the end it isn't said by how many bytes
+-- the fault, without how many bytes the input lacks
 abbrev pub fault_without_count : Fault → Fault
 fault_without_count (End missing) = End None
 fault_without_count (InvalidInteger expected found) = InvalidInteger expected found
@@ -129,17 +129,17 @@ abbrev pub reading_without_count : {A : Type 0} → Reading A → Reading A
 reading_without_count (Took a remaining steps) = Took a remaining steps
 reading_without_count (Failed why steps) = Failed (fault_without_count why) steps
 
--- some fault of F, told vaguely
+-- a fault of F, without how many bytes the input lacks
 pub record FaultsWithoutCount {A : Type 0} (F : Format A) (input : List ℕ) (fault : Fault) (steps : List Step) : Type 0 where
   pub inner : Fault
   pub faults : F.Faults input inner steps
   pub fault_is : fault ≡ fault_without_count inner
 
--- the same format, which doesn't say by how many bytes an input ends too early
+-- the format F, whose faults leave open how many bytes the input lacks
 unfoldable pub without_count : {A : Type 0} → Format A → Format A
 without_count F = record { Word = F.Word; Written = F.Written; Faults = FaultsWithoutCount F; read = λ input. reading_without_count (F.read input) }
 
--- the same words, each of which may be written: of a cell it isn't said what it holds
+-- any word may be written: of a cell it is not known what it holds
 pub record AnyWord {A : Type 0} (F : Format A) (bytes : List ℕ) (meaning : A) : Type 0 where
   pub steps : List Step
   pub is_word : F.Word bytes meaning steps
@@ -147,7 +147,7 @@ pub record AnyWord {A : Type 0} (F : Format A) (bytes : List ℕ) (meaning : A) 
 abbrev pub of_cell : {A : Type 0} → Format A → Format A
 of_cell F = written_as (AnyWord F) F
 
--- what a test of a meaning leaves: another meaning, or a fault
+-- the result of a test of a meaning: another meaning, or a fault
 abbrev pub from_result : {A : Type 0} → Result A Fault → Format A
 from_result (Ok a) = pure a
 from_result (Err why) = fail why
@@ -155,15 +155,16 @@ from_result (Err why) = fail why
 abbrev pub map_format : {A B : Type 0} → (A → B) → Format A → Format B
 map_format f F = F >>= λ a. pure (f a)
 
--- a charge, and then the words
+-- a charge, then a word
 abbrev pub charge_then : {A : Type 0} → ℕ → Format A → Format A
 charge_then n F = step (Charge n) >>= λ _. F
 
--- n words in turn, before each of which its share is released. A run may be read at once, so the end of the input is vague.
+-- n words in order, before each of which its claim is released. They may be read at once, so that a fault leaves open
+-- how many bytes the input lacks
 abbrev pub elements : {A : Type 0} → ℕ → ℕ → Format A → Format (List A)
 elements zero share F = pure []
 elements (suc n) share F = step (Release share) >>= λ _. without_count F >>= λ a. map_format (λ others. a ∷ others) (elements n share F)
 
--- room for n elements is reserved, and then they come
+-- the claims of n elements are reserved, then the elements follow
 abbrev pub sequence : {A : Type 0} → ℕ → ℕ → Format A → Format (List A)
 sequence n share F = step (Reserve n share) >>= λ _. elements n share F

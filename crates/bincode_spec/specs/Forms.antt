@@ -1,4 +1,4 @@
--- The forms of scalars: numbers, truth values and characters. The type of each is a line that names its form.
+-- The forms of scalars: numbers, truth values and characters.
 use Rattle.std.specs.Prelude.{ℕ, List, ◌<◌, ◌^◌, ℤ, pos, unsigned_abs, FitsSigned, Bool}
 use Rattle.std.specs.Int.{Width, w8}
 use Rattle.std.specs.Char.{IsScalar}
@@ -11,14 +11,14 @@ use Rattle.bincode_spec.specs.Meaning.{Meaning, Number, IsNumber, IsTruth, IsCha
 use Rattle.bincode_spec.specs.Need.{char_needs}
 use Rattle.bincode_spec.specs.Words.{not_zero_by, truth, character, nothing}
 
--- the words, which values there are, what each means, and what an input needs of a limit
+-- the format, which values are in bounds, what each means, and how large a limit an input needs
 pub record Form (A : Type 0) : Type 1 where
   pub format : Setting → Format Meaning
   pub Bounds : A → Type 0
   pub means : A → Meaning → Type 0
   pub need : List ℕ → ℕ
 
--- the forms of numbers by what a value has of them, and of those other than 0
+-- forms of integers, and of `NonZero` ones, by the integer of a value
 module _ {A B : Type 0} (width : ℕ) (integer : A → ℤ) (Bounds : A → Type 0) (F : Setting → Format A) (get : B → A) where
   abbrev pub numbers : Form B
   numbers = record { format = λ s. map_format (λ k. Number (integer k)) (F s); Bounds = λ v. Bounds (get v); means = λ v. IsNumber (integer (get v)); need = λ _. width }
@@ -45,7 +45,7 @@ signed_bytes = numbers 1 (λ z. z) (FitsSigned w8) (λ s. signed_byte) (λ z. z)
 abbrev pub signed_numbers : IntegerType → Width → Form ℤ
 signed_numbers name w = numbers (width_in_bytes w) (λ z. z) (FitsSigned w) (signed_integer name (width_in_bytes w)) (λ z. z)
 
--- numbers other than 0, by what a value gives
+-- `NonZero` integers, by the integer of a value
 module _ {A : Type 0} where
   abbrev pub bytes_not_zero : (A → ℕ) → Form A
   bytes_not_zero get = numbers_not_zero 1 pos (λ n. n < 2 ^ 8) (λ s. unsigned_byte) get (λ n. n) U8

@@ -1,4 +1,4 @@
--- The words of numbers.
+-- The formats of integers.
 use Rattle.std.specs.Int.{Width, w8, w16, w32, w64, w128}
 use Rattle.std.specs.Prelude.{◌≡◌, ℕ, ◌<◌, ◌^◌, nat_lt, nat_le, ◌==◌, if◌then◌else◌, ◌&&◌, ℤ, List, [], ◌∷◌}
 use Rattle.bincode_base.specs.declared.config.Endianness.{Endianness}
@@ -11,7 +11,7 @@ use Rattle.bincode_spec.specs.Number.{number_of, digits_of, zigzag, unzigzag, tw
 use Rattle.bincode_spec.specs.Fault.{Fault, InvalidInteger}
 use Rattle.bincode_spec.specs.Format.{Format, pure, fail, fixed_bytes, ◌>>=◌, map_format, written_as, charge_then}
 
--- so many bytes, as digits in the order
+-- `width` digits in the byte order
 unfoldable pub digits : Endianness → ℕ → Format ℕ
 digits order width = written_as (λ bytes n. (n < 256 ^ width) × (bytes ≡ digits_of order width n)) (map_format (number_of order) (fixed_bytes width))
 
@@ -24,7 +24,7 @@ first_of (b ∷ _) = b
 unfoldable pub byte : Format ℕ
 byte = map_format first_of (fixed_bytes 1)
 
--- what the first byte of a number says: up to 250 it is the number, and from 251 on a tag of so many bytes
+-- the meaning of a first byte: up to 250 the number itself, from 251 on a tag for a number of digits
 pub data FirstByte : Type 0 where
   Itself : FirstByte
   Before : ℕ → FirstByte
@@ -46,14 +46,14 @@ behind order why first Itself = pure first
 behind order why first (Before n) = digits order n
 behind order why first TooWide = fail why
 
--- the names that a fault gives a tag that is too wide
+-- the types that tags stand for in faults
 abbrev pub unsigned_tag : ℕ → IntegerType
 unsigned_tag tag = if tag == 252 then U32 else if tag == 253 then U64 else if tag == 254 then U128 else Reserved
 
 abbrev pub signed_tag : ℕ → IntegerType
 signed_tag tag = if tag == 252 then I32 else if tag == 253 then I64 else if tag == 254 then I128 else Reserved
 
--- by the name of the type
+-- by the name of the type that is read
 abbrev pub tag_types : IntegerType → ℕ → IntegerType
 tag_types I8 = signed_tag
 tag_types I16 = signed_tag
@@ -63,7 +63,7 @@ tag_types I128 = signed_tag
 tag_types Isize = signed_tag
 tag_types _ = unsigned_tag
 
--- the shortest spelling: a number up to 250 is its byte, a larger one has the first tag behind which it fits
+-- the shortest varint: a number up to 250 is its byte, a larger one has the first tag that is wide enough
 abbrev pub shortest_word : Endianness → ℕ → List ℕ
 shortest_word order n =
     if nat_le n 250 then n ∷ []
@@ -72,7 +72,7 @@ shortest_word order n =
     else if nat_lt n (2 ^ 64) then 253 ∷ digits_of order 8 n
     else 254 ∷ digits_of order 16 n
 
--- the pieces in which it is written: the tag, and then the digits
+-- the pieces in which it is written: the tag, then the digits
 abbrev pub shortest_pieces : Endianness → ℕ → List (List ℕ)
 shortest_pieces order n =
     if nat_le n 250 then (n ∷ []) ∷ []
@@ -81,7 +81,7 @@ shortest_pieces order n =
     else if nat_lt n (2 ^ 64) then (253 ∷ []) ∷ digits_of order 8 n ∷ []
     else (254 ∷ []) ∷ digits_of order 16 n ∷ []
 
--- a number of `width` bytes by a tag and digits, however small it is; the tags by their names in faults
+-- a number of `width` bytes as a tag and digits, however small it is; faults name the tags
 unfoldable pub varint : (ℕ → IntegerType) → IntegerType → Endianness → ℕ → Format ℕ
 varint tags name order width = written_as (λ bytes n. (n < 256 ^ width) × (bytes ≡ shortest_word order n)) (byte >>= λ first. behind order (InvalidInteger name (tags first)) first (first_byte width first))
 
@@ -90,7 +90,7 @@ abbrev pub number_by : (ℕ → IntegerType) → IntegerType → Endianness → 
 number_by tags name order width Fixed = digits order width
 number_by tags name order width Variable = varint tags name order width
 
--- an unsigned number of `width` bytes, for more than one
+-- an unsigned integer wider than one byte
 unfoldable pub unsigned_integer : IntegerType → ℕ → Setting → Format ℕ
 unsigned_integer name width setting = charge_then width (number_by unsigned_tag name setting.order width setting.encoding)
 
@@ -104,7 +104,7 @@ abbrev pub number_for : ℕ → IntEncoding → ℤ → ℕ
 number_for width Fixed z = two_complement width z
 number_for width Variable z = zigzag z
 
--- a signed number of `width` bytes, for more than one
+-- a signed integer wider than one byte
 unfoldable pub signed_integer : IntegerType → ℕ → Setting → Format ℤ
 signed_integer name width setting = charge_then width (map_format (integer_by width setting.encoding) (number_by signed_tag name setting.order width setting.encoding))
 
@@ -125,14 +125,14 @@ abbrev pub spelling_pieces : IntEncoding → Endianness → ℕ → ℕ → List
 spelling_pieces Fixed order width n = digits_of order width n ∷ []
 spelling_pieces Variable order width n = shortest_pieces order n
 
--- the width of a number of more than one byte
+-- the widths of integers wider than one byte
 pub data IsWidth (width : ℕ) : Type 0 where
   Two : width ≡ 2 → IsWidth width
   Four : width ≡ 4 → IsWidth width
   Eight : width ≡ 8 → IsWidth width
   Sixteen : width ≡ 16 → IsWidth width
 
--- how many bytes a signed type of Rust has
+-- the width in bytes of a signed type
 abbrev pub width_in_bytes : Width → ℕ
 width_in_bytes w8 = 1
 width_in_bytes w16 = 2

@@ -1,4 +1,4 @@
--- What decoding under a limit answers, by what an input needs, and how much it can give.
+-- Decoding under a limit, for an input whose need is known, and how much it can return.
 use Rattle.std.specs.Prelude.{◌≡◌, ◌⊎◌, ◌<◌, ◌≤◌, ◌++◌, ℕ, List, length, None, Result, IfErr, IsErrAnd}
 use Rattle.bincode_base.specs.declared.error.DecodeError.{DecodeError}
 use Rattle.bincode_base.specs.declared.error.DecodeError.TheVariants.{LimitExceeded}
@@ -8,8 +8,8 @@ use Rattle.bincode_spec.specs.Meaning.{Meaning}
 use Rattle.bincode_spec.specs.Decoding.{AcceptsAll, ReportsFault}
 use Rattle.bincode_spec.specs.Room.{Bounded}
 
--- The limit is told to be passed exactly where the input needs more than it; else the answer is the one without a limit: each
--- word is read and each fault is told. All that unless the call is excused.
+-- `LimitExceeded` comes exactly if the input needs more than the limit; else the answer is that without a limit: each
+-- word is accepted and each fault is reported. All that unless the call is excused.
 pub record LimitedBy {A : Type 0} (end_error : ℕ → DecodeError → Type 0) (F : Format Meaning) (need : List ℕ → ℕ) (limit : ℕ) (Excused : DecodeError → Type 0) (input : List ℕ) (result : Result A DecodeError) : Type 0 where
   pub passed : limit < need input → IsErrAnd result (λ e. (e ≡ LimitExceeded) ⊎ Excused e)
   pub kept : need input ≤ limit → IfErr result (λ e. e ≡ LimitExceeded → Excused e)

@@ -37,7 +37,7 @@ IsBytes bytes m = m ≡ Bytes bytes
 abbrev pub IsNothing : Meaning → Type 0
 IsNothing m = m ≡ Nothing
 
--- it is a list by what its first is, and what the others are
+-- a list with such a first item, and such others
 pub record IsThen (First Others : Meaning → Type 0) (m : Meaning) : Type 0 where
   pub first : Meaning
   pub others : Meaning
@@ -45,6 +45,6 @@ pub record IsThen (First Others : Meaning → Type 0) (m : Meaning) : Type 0 whe
   pub is_first : First first
   pub are_others : Others others
 
--- by what its first four are, and what the others are
+-- a list with such first four items, and such others
 abbrev pub IsFourThen : (Meaning → Type 0) → (Meaning → Type 0) → (Meaning → Type 0) → (Meaning → Type 0) → (Meaning → Type 0) → Meaning → Type 0
 IsFourThen P Q R S Others = IsThen P (IsThen Q (IsThen R (IsThen S Others)))

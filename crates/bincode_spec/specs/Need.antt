@@ -1,5 +1,5 @@
--- What a limit has to hold for an input, told by its parts: those of the word that it begins with, or those up to and with
--- the one that faults.
+-- How large a limit an input needs, from its parts: those of the word that begins it, or those up to the one that
+-- faults.
 use Rattle.std.specs.Prelude.{ℕ, zero, suc, ◌+◌, ◌*◌, max, Bool, true, false, List, [], ◌∷◌, Option, Some, None}
 use Rattle.bincode_base.specs.Setting.{Setting}
 use Rattle.bincode_spec.specs.Charge.{charged_bytes}
@@ -8,33 +8,34 @@ use Rattle.bincode_base.specs.declared.error.IntegerType.TheVariants as integers
 use Rattle.bincode_spec.specs.Integers.{unsigned_integer}
 use Rattle.bincode_spec.specs.Words.{len, char_width}
 
--- behind a word: its full width, and what the rest needs; behind a fault nothing is read
+-- after a word: its full width, and what the rest needs; after a fault nothing is read
 abbrev pub behind_word : {A : Type 0} → Reading A → (A → List ℕ → ℕ) → ℕ
 behind_word (Took a rest steps) next = charged_bytes steps + next a rest
 behind_word (Failed why steps) next = 0
 
--- parts in order: the greatest, over the parts, of the full widths of those before with what the part needs
+-- parts in order: the maximum, over the parts, of the widths of those before and what the part needs
 abbrev pub then_needs : {A : Type 0} → Format A → (List ℕ → ℕ) → (A → List ℕ → ℕ) → List ℕ → ℕ
 then_needs F first next input = max (first input) (behind_word (F.read input) next)
 
--- n elements: the greatest, over the elements, of the full widths of those before with the room of those behind it and what it needs
+-- n elements: the maximum, over the elements, of the widths of those before, the claims of those after it, and what the
+-- element needs
 abbrev pub each_needs : {A : Type 0} → ℕ → ℕ → Format A → (List ℕ → ℕ) → List ℕ → ℕ
 each_needs zero share F need input = 0
 each_needs (suc n) share F need input = max (n * share + need input) (behind_word (F.read input) (λ _ rest. each_needs n share F need rest))
 
--- and the room of all of them
+-- and the claims of all
 abbrev pub array_needs : {A : Type 0} → ℕ → ℕ → Format A → (List ℕ → ℕ) → List ℕ → ℕ
 array_needs n share F need input = max (n * share) (each_needs n share F need input)
 
--- the same behind a length
+-- length-prefixed elements
 abbrev pub list_needs : {A : Type 0} → Setting → ℕ → Format A → (List ℕ → ℕ) → List ℕ → ℕ
 list_needs setting share F need = then_needs (len setting) (λ _. 8) (λ n. array_needs n share F need)
 
--- bytes behind their length
+-- length-prefixed bytes
 abbrev pub text_needs : Setting → List ℕ → ℕ
 text_needs setting = then_needs (len setting) (λ _. 8) (λ n _. n)
 
--- the bytes of a character, by its first byte; none where there is none, or it begins nothing
+-- the bytes of a character, from its first byte; 0 if there is none, or it begins no character
 abbrev pub width_needs : Option ℕ → ℕ
 width_needs None = 0
 width_needs (Some width) = width
@@ -43,7 +44,7 @@ abbrev pub char_needs : List ℕ → ℕ
 char_needs [] = 0
 char_needs (first ∷ _) = width_needs (char_width first)
 
--- the part that a tag picks, or one of the others
+-- the part that a tag selects, or one of the others
 abbrev pub picked_needs : Bool → (List ℕ → ℕ) → (List ℕ → ℕ) → List ℕ → ℕ
 picked_needs true p q = p
 picked_needs false p q = q

@@ -1,6 +1,6 @@
 -- What decoding promises of a value that is made of parts.
 
--- it is at least what it promises of the parts, and follows from that and from what holds of the value alone
+-- it implies what is promised of the parts, and follows from that and from what holds of the value alone
 pub record Promise : Type 1 where
   pub OfValue : Type 0
   pub Promised : (OfParts : Type 0) → Type 0

@@ -1,4 +1,4 @@
--- What a call answers that reads a format without steps.
+-- Reading a format without steps.
 use Rattle.std.specs.Prelude.{◌≡◌, ◌≤◌, ℕ, List, [], Result, IfOk, IfErr}
 use Rattle.std.specs.Borrow.{GName}
 use Rattle.bincode_base.specs.declared.error.DecodeError.{DecodeError}
@@ -6,16 +6,15 @@ use Rattle.bincode_spec.specs.Fault.{Fault, Tells}
 use Rattle.bincode_spec.specs.Format.{Format, Reading, Took, Failed}
 use Rattle.bincode_spec.specs.Device.{DeviceErrors, Rose, Takes}
 
--- The error tells the fault of the input, or the device failed by an error that it counts, and some front of the input
--- was taken; or by one that it does not count, and then nothing is said of the input.
+-- The error tells the fault of the input, or the device failed with an error that it counts, and a prefix of the input
+-- was taken; or with one that it does not count, and then nothing is said of the input.
 pub data ReadFailure {A : Type 0} (end_error : ℕ → DecodeError → Type 0) (device : DeviceErrors) (reading : Reading A) (before after : ℕ) (remaining remaining' : List ℕ) (e : DecodeError) : Type 0 where
   by_fault : (why : Fault) → reading ≡ Failed why [] → Tells end_error why e → Takes remaining remaining' → ReadFailure end_error device reading before after remaining remaining' e
   by_failure : device.is_counted e → Rose before after → Takes remaining remaining' → ReadFailure end_error device reading before after remaining remaining' e
   by_device : device.is_uncounted e → ReadFailure end_error device reading before after remaining remaining' e
 
--- A reader, which was at `old` and is at `new`, read a word of a format without steps: what was given has its meaning, or
--- the error tells why there is none; failures are counted up. The reader tells what is left as before, and reads through
--- the same references.
+-- A reader (`old` before, `new` after) read a word of a format without steps: the value has its meaning, or the error
+-- tells why there is none. Failures don't fall, what remains stays known, and the references are unchanged.
 pub record ReadsWord {R A T : Type 0} (is_known : R → Type 0) (remaining : R → List ℕ) (failures : R → ℕ) (loans : R → List GName)
     (end_error : ℕ → DecodeError → Type 0) (device : DeviceErrors) (format : Format A) (mean : T → A) (result : Result T DecodeError)
     (old new : R) : Type 0 where
@@ -25,7 +24,7 @@ pub record ReadsWord {R A T : Type 0} (is_known : R → Type 0) (remaining : R �
   pub tells : is_known old → is_known new
   pub same_loans : loans new ≡ loans old
 
--- the same by a decoder, which charged nothing
+-- a decoder did so, and charged nothing
 pub record ReadsUncharged {D A T : Type 0} (is_known : D → Type 0) (remaining : D → List ℕ) (charge failures : D → ℕ) (loans : D → List GName)
     (end_error : ℕ → DecodeError → Type 0) (device : DeviceErrors) (format : Format A) (mean : T → A) (result : Result T DecodeError)
     (old new : D) : Type 0 where

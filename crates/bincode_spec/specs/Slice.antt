@@ -10,30 +10,30 @@ use Rattle.bincode_spec.specs.Allowed.{OneLength}
 use Rattle.bincode_spec.specs.Decoding.{IsRefused, AcceptsAll, ReportsFault, EnforcesLimit}
 use Rattle.bincode_spec.specs.Encoding.{Begins, IsOwn}
 
--- these bytes stand at the front of the slice, and those after them stay
+-- these bytes replace the front of the slice, and those after them are unchanged
 abbrev pub ReplacesFront : List ℕ → List ℕ → List ℕ → Type 0
 ReplacesFront bytes old new = new ≡ bytes ++ drop (length bytes) old
 
--- an allowed word of so many bytes stands at the front, and the bytes after it stay
+-- an allowed word of n bytes replaces the front, and the bytes after it are unchanged
 pub record WordWritten (Allowed : List ℕ → Type 0) (n : ℕ) (old new : List ℕ) : Type 0 where
   pub word : List ℕ
   pub is_allowed : Allowed word
   pub count : n ≡ length word
   pub fills : ReplacesFront word old new
 
--- some bytes stand at the front, which begin an allowed word unless the error is one of a user's type
+-- some bytes replace the front, which begin an allowed word unless the error is one of a user's type
 pub record FrontWritten (Allowed : List ℕ → Type 0) (old new : List ℕ) (e : EncodeError) : Type 0 where
   pub front : List ℕ
   pub fills : ReplacesFront front old new
   pub begins : IsOwn e ⊎ Begins Allowed front
 
--- An error that the type doesn't name comes only where some front of an allowed word is longer than the room. So a value
--- whose words have one length, and whose type names no error, is written exactly where that length is within the room.
+-- An error that is not the type's own comes only if a prefix of an allowed word is longer than the slice. So if all
+-- words of a value have one length and its type has no errors, it is written exactly if that length fits.
 pub record FitsExactly (Allowed : List ℕ → Type 0) (OwnErrors : EncodeError → Type 0) (room : ℕ) (result : Result ℕ EncodeError) : Type 0 where
   pub short : IfErr result (λ e. OwnErrors e ⊎ ((front : List ℕ) × Begins Allowed front × (room < length front)))
   pub exact : OneLength Allowed → ((e : EncodeError) → ¬ (OwnErrors e)) → (word : List ℕ) → Allowed word → IsOk result ↔ (length word ≤ room)
 
--- the error that a slice without enough bytes ends in
+-- the error of a slice that ends too early
 abbrev pub EndsSlice : ℕ → DecodeError → Type 0
 EndsSlice missing e = e ≡ UnexpectedEnd missing
 
@@ -49,19 +49,19 @@ pub record Decoded (F : Format Meaning) (limit : Option ℕ) (input : List ℕ) 
   pub count : n ≡ length word
   pub is_decoded : DecodesTo meaning
 
--- each word within the limit is read, unless memory is refused
+-- each word within the limit is accepted, unless memory is refused
 abbrev pub FindsWords : {A : Type 0} → Format Meaning → Option ℕ → Type 0 → List ℕ → Result A DecodeError → Type 0
 FindsWords F limit MayAllocate input result = AcceptsAll F limit (IsRefused MayAllocate) input result
 
--- each fault within the limit is told, unless memory is refused
+-- each fault within the limit is reported, unless memory is refused
 abbrev pub TellsFaults : {A : Type 0} → Format Meaning → Option ℕ → Type 0 → List ℕ → Result A DecodeError → Type 0
 TellsFaults F limit MayAllocate input result = ReportsFault EndsSlice F limit (IsRefused MayAllocate) input result
 
--- charges that pass the limit are refused as such, unless memory is refused
+-- charges that pass the limit give `LimitExceeded`, unless memory is refused
 abbrev pub KeepsLimit : {A : Type 0} → Format Meaning → Option ℕ → Type 0 → List ℕ → Result A DecodeError → Type 0
 KeepsLimit F limit MayAllocate input result = EnforcesLimit F limit (IsRefused MayAllocate) input result
 
--- all that a call that decodes promises of its answer to a slice
+-- all that a call that decodes from a slice promises
 pub record IsAnswer {T : Type 0} (F : Format Meaning) (limit : Option ℕ) (MayAllocate : Type 0) (DecodesTo : Meaning → T → Type 0) (input : List ℕ) (result : Result (T × ℕ) DecodeError) : Type 0 where
   pub word : IfOk result (λ x. Decoded F limit input (λ m. DecodesTo m x.0) x.1)
   pub found : FindsWords F limit MayAllocate input result

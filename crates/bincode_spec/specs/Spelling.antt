@@ -1,4 +1,4 @@
--- How integers of more than one byte are spelled.
+-- How integers wider than one byte are encoded.
 use Rattle.std.specs.Prelude.{ℕ, ◌<◌, ◌^◌, ℤ, pos, unsigned_abs, List}
 use Rattle.bincode_base.specs.declared.config.Endianness.{Endianness}
 use Rattle.bincode_base.specs.declared.config.IntEncoding.{IntEncoding}
@@ -8,8 +8,8 @@ use Rattle.bincode_spec.specs.Number.{FitsIn}
 use Rattle.bincode_spec.specs.Format.{Format, map_format}
 use Rattle.bincode_spec.specs.Integers.{number_by, integer_by, number_for, unsigned_tag, signed_tag, unsigned_integer, signed_integer, spelling, spelling_pieces}
 
--- its name in faults, the words of a type, what is read of them behind the charge, and the word that is written for each value, whole and
--- in pieces; which integer a value is, its absolute value, and which values the type has
+-- the type's name in faults, its format, what is read of a word after the charge, and the word that is written for a
+-- value, in pieces; the integer of a value, its absolute value, and which values the type has
 pub record Spelling (A : Type 0) : Type 1 where
   pub name : IntegerType
   pub words : Setting → Format A

@@ -1,4 +1,4 @@
--- What the reading of a value, and of a run of values, promises.
+-- What decoding a value, and a run of values, promises.
 use Rattle.std.specs.Prelude.{◌≡◌, ℕ, ℤ, ◌*◌, ◌≤◌, List, Option, Result, IfOk, IfErr}
 use Rattle.std.specs.Borrow.{GName}
 use Rattle.bincode_base.specs.declared.error.DecodeError.{DecodeError}
@@ -9,10 +9,9 @@ use Rattle.bincode_spec.specs.Answer.{answer, Allows, Charges}
 use Rattle.bincode_spec.specs.Decoding.{Decodes, DecodeFailure}
 use Rattle.bincode_spec.specs.Run.{IsListOf, Held}
 
--- A decoder, which was at `old` and is at `new`, read one value from where so many bytes were charged: what was given is
--- given for the meaning of a word, or the error tells why it stops; failures are counted up. The reader tells what is left
--- as before, nothing that was charged is given back, after a success the charge is within the limit if it was before, and
--- the decoder reads through the same references.
+-- A decoder (`old` before, `new` after) read one value, from a charge of `charged`: it is given for the meaning of a
+-- word, or the error tells why there is none. Failures don't fall, what remains stays known, no earlier charge is
+-- released, after a success the charge is within the limit if it was before, and the references are unchanged.
 pub record Reads {D A T : Type 0} (is_known : D → Type 0) (remaining : D → List ℕ) (charge failures : D → ℕ) (loans : D → List GName) (limit : Option ℕ)
     (end_error : ℕ → DecodeError → Type 0) (device : DeviceErrors) (may_allocate : Type 0) (format : Format A) (decodes_to : A → T → Type 0) (charged : ℕ)
     (result : Result T DecodeError) (old new : D) : Type 0 where
@@ -24,14 +23,14 @@ pub record Reads {D A T : Type 0} (is_known : D → Type 0) (remaining : D → L
   pub within : Allows limit charged → IfOk result (λ _. Allows limit (charge new))
   pub same_loans : loans new ≡ loans old
 
--- It read a value whose words have so many bytes: a claim for them was made, whether one was there or not.
+-- It read a value whose width is known: that was claimed, whether the bytes were there or not.
 pub record ReadsCharged {D A T : Type 0} (is_known : D → Type 0) (remaining : D → List ℕ) (charge failures : D → ℕ) (loans : D → List GName) (limit : Option ℕ)
     (end_error : ℕ → DecodeError → Type 0) (device : DeviceErrors) (format : Format A) (decodes_to : A → T → Type 0) (width : ℕ)
     (result : Result T DecodeError) (old new : D) : Type 0 where
   pub reads : Reads is_known remaining charge failures loans limit end_error device ⊥ format decodes_to (charge old) result old new
   pub charges : Charges limit (charge old) width (charge new)
 
--- It read an integer in the same way: the one that a word stands for, and so what the word means.
+-- It read an integer so: the one that a word stands for, which is what the word means.
 pub record ReadsInteger {D A : Type 0} (is_known : D → Type 0) (remaining : D → List ℕ) (charge failures : D → ℕ) (loans : D → List GName) (limit : Option ℕ)
     (end_error : ℕ → DecodeError → Type 0) (device : DeviceErrors) (format : Format A) (integer : A → ℤ) (width : ℕ)
     (result : Result A DecodeError) (old new : D) : Type 0 where
@@ -39,7 +38,7 @@ pub record ReadsInteger {D A : Type 0} (is_known : D → Type 0) (remaining : D 
   pub means : Reads is_known remaining charge failures loans limit end_error device ⊥ (map_format (λ k. Number (integer k)) format) (λ m v. IsNumber (integer v) m) (charge old) result old new
   pub charges : Charges limit (charge old) width (charge new)
 
--- It read a run of so many values, whose room was reserved, in the same way: no more than the room was given back.
+-- It read a run of `count` values so, whose claims were reserved: no more than these were released.
 pub record RunRead {D A T : Type 0} (is_known : D → Type 0) (remaining : D → List ℕ) (charge failures : D → ℕ) (loans : D → List GName) (limit : Option ℕ)
     (end_error : ℕ → DecodeError → Type 0) (device : DeviceErrors) (may_allocate : Type 0) (claim : ℕ) (format : Format Meaning) (decodes_to : Meaning → T → Type 0)
     (count : ℕ) (values : A → List T) (result : Result A DecodeError) (old new : D) : Type 0 where

@@ -1,4 +1,4 @@
--- The formats of the types, row by row.
+-- The formats of the types, family by family.
 use Rattle.std.specs.Prelude.{◌≡◌, ℕ, ◌+◌, ◌-◌, ◌*◌, ◌<◌, ◌/◌, ◌%◌, ◌^◌, nat_lt, ◌==◌, if◌then◌else◌, ℤ, pos, ◌&&◌, Bool, true, false}
 use Rattle.std.specs.Prelude.{List, [], ◌∷◌, ◌++◌, take, Result, Ok, Err, Option, Some, None, position, MatchOption}
 use Rattle.std.specs.Str.{is_utf8}
@@ -19,7 +19,7 @@ natural_number F = map_format (λ n. Number (pos n)) F
 abbrev pub integer_number : Format ℤ → Format Meaning
 integer_number F = map_format Number F
 
--- a number other than 0, by its size
+-- a number that is not 0, from its absolute value
 abbrev pub not_zero_of : {A : Type 0} → IntegerType → ℕ → A → Result A Fault
 not_zero_of name size a = if size == 0 then Err (Zero name) else Ok a
 
@@ -33,14 +33,14 @@ len = unsigned_integer integers.U64 8
 abbrev pub tag : Setting → Format ℕ
 tag = unsigned_integer integers.U32 4
 
--- no part, and a first part with the others
+-- no part, and a first part before the others
 unfoldable pub nothing : Format Meaning
 nothing = pure Nothing
 
 unfoldable pub first_and : Format Meaning → Format Meaning → Format Meaning
 first_and F others = F >>= λ m. map_format (Then m) others
 
--- four parts with the others
+-- four parts before the others
 abbrev pub four_and : Format Meaning → Format Meaning → Format Meaning → Format Meaning → Format Meaning → Format Meaning
 four_and F G H I others = first_and F (first_and G (first_and H (first_and I others)))
 
@@ -61,7 +61,7 @@ truth_byte v = if v then 1 else 0
 abbrev pub truth : Format Meaning
 truth = unsigned_byte >>= λ b. from_result (truth_of b)
 
--- a variant of a choice: its tag, and what is written for its part
+-- a variant of a choice: its tag, and the format of its part
 abbrev pub Variant : Type 1
 Variant = ℕ × (Setting → Format Meaning)
 
@@ -69,7 +69,7 @@ abbrev pub variant_tags : List Variant → List ℕ
 variant_tags [] = []
 variant_tags (variant ∷ others) = variant.0 ∷ variant_tags others
 
--- the tags stand in order, each one above that before it
+-- the tags are consecutive, from `next` on
 abbrev pub in_order : ℕ → List ℕ → Bool
 in_order next [] = true
 in_order next (tag ∷ tags) = (tag == next) && in_order (next + 1) tags
@@ -78,11 +78,11 @@ abbrev pub last_of : ℕ → List ℕ → ℕ
 last_of before [] = before
 last_of before (tag ∷ tags) = last_of tag tags
 
--- how a fault tells the tags: by the last one if they stand in order from 0
+-- the valid tags in a fault: by the last one if they are consecutive from 0
 abbrev pub allowed_tags : List ℕ → Allowed
 allowed_tags tags = if in_order 0 tags then Between 0 (last_of 0 tags) else OneOf tags
 
--- one part where it is picked, and another where not
+-- one part if it is selected, else another
 abbrev pub if_picked : Bool → Format Meaning → Format Meaning → Format Meaning
 if_picked true F others = F
 if_picked false F others = others
@@ -96,18 +96,18 @@ part setting (variant ∷ others) allowed found = if_picked (found == variant.0)
 abbrev pub behind_tag : List Variant → Setting → ℕ → Format Meaning
 behind_tag variants setting found = part setting variants (allowed_tags (variant_tags variants)) found
 
--- the tag, and then the part that it picks
+-- the tag, then the part that it selects
 unfoldable pub tag_then_part : (Setting → Format ℕ) → List Variant → Setting → Format Meaning
 tag_then_part tags variants setting = tags setting >>= behind_tag variants setting
 
--- elements, each with its share of the room
+-- elements, each with its claim
 abbrev pub array : ℕ → ℕ → Format Meaning → Format Meaning
 array n share F = map_format list_meaning (sequence n share F)
 
 abbrev pub list : Setting → ℕ → Format Meaning → Format Meaning
 list setting share F = len setting >>= λ n. array n share F
 
--- bytes behind their length, which may be read in pieces, so that the end of the input is vague
+-- length-prefixed bytes; they may be read in pieces, so that a fault leaves open how many bytes the input lacks
 abbrev pub length_prefixed : Setting → Format (List ℕ)
 length_prefixed setting = len setting >>= λ n. charge_then n (without_count (fixed_bytes n))
 
@@ -126,7 +126,7 @@ without_nul setting = length_prefixed setting >>= λ bytes. from_result (without
 
 -- characters
 
--- how many bytes a character has, by its first byte
+-- the number of bytes of a character, from its first byte
 abbrev pub char_width : ℕ → Option ℕ
 char_width first =
     if nat_lt first 128 then Some 1
@@ -136,7 +136,7 @@ char_width first =
     else if nat_lt first 245 then Some 4
     else None
 
--- the digits in base 64 behind those of a number
+-- the digits in base 64 after those of a number
 abbrev pub low_digits : ℕ → List ℕ → ℕ
 low_digits n [] = n
 low_digits n (b ∷ bytes) = low_digits (n * 64 + b % 64) bytes
@@ -148,14 +148,14 @@ code_point (first ∷ b ∷ []) = low_digits (first % 32) (b ∷ [])
 code_point (first ∷ b ∷ c ∷ []) = low_digits (first % 16) (b ∷ c ∷ [])
 code_point (first ∷ b ∷ c ∷ bytes) = low_digits (first % 8) (b ∷ c ∷ bytes)
 
--- the bytes read, and zeros up to four
+-- the bytes read, filled up with zeros to four
 abbrev pub four_bytes : List ℕ → List ℕ
 four_bytes bytes = take 4 (bytes ++ 0 ∷ 0 ∷ 0 ∷ 0 ∷ [])
 
 abbrev pub char_of : List ℕ → Result Meaning Fault
 char_of bytes = if is_utf8 bytes then Ok (Character (code_point bytes)) else Err (InvalidChar (four_bytes bytes))
 
--- the bytes behind the first, and the check of all
+-- the bytes after the first one, and the check of all
 abbrev pub rest_of_char : ℕ → ℕ → Format Meaning
 rest_of_char first width = fixed_bytes (width - 1) >>= λ bytes. from_result (char_of (first ∷ bytes))
 
@@ -166,11 +166,11 @@ behind_char first (Some width) = charge_then width (rest_of_char first width)
 abbrev pub character : Format Meaning
 character = byte >>= λ first. behind_char first (char_width first)
 
--- the character that was found is what the bytes spell, or they spell none
+-- the bytes encode the character that was found, or they encode none
 abbrev pub Spells : List ℕ → Option ℕ → Type 0
 Spells bytes found = MatchOption found (char_of bytes ≡ Err (InvalidChar (four_bytes bytes))) (λ c. char_of bytes ≡ Ok (Character c))
 
--- seconds and nanoseconds, of which whole seconds are carried; written with less than a second of nanoseconds
+-- seconds and nanoseconds, of which whole seconds are carried; written with nanoseconds below a second
 
 abbrev pub second_in_nanos : ℕ
 second_in_nanos = 1_000_000_000

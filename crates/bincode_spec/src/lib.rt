@@ -1,2 +1,3 @@
-//! What is promised: the formats of types, and what reading and writing do and leave. The definitions stand in `specs`.
+//! What is promised: the formats of types, and what reading and writing return and leave. The definitions are in
+//! `specs`.
 #![tactic(auto)]
