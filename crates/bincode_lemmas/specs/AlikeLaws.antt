@@ -1,4 +1,4 @@
--- What two readers with the same rest answer, whatever each shows.
+-- How two readers agree that have the same bytes left, whatever each buffers.
 use Rattle.std.specs.Prelude.{◌≡◌, ◌⊎◌, ℕ, List, [], Option, Result, Ok, Err, refl}
 use Rattle.std.specs.Borrow.{GName}
 use Rattle.std.proofs.Common.{sym, ◌∙◌, subst, inl, inr}
@@ -13,9 +13,9 @@ use Rattle.bincode_spec.specs.Reads as reads
 use Rattle.bincode_spec.specs.Reads.{ReadFailure, ReadsWord}
 use Rattle.bincode_spec.specs.Values.{Reads}
 
--- an error of the answer, or that of another cause
+-- an error of the answer, or one of another cause
 module _ {A : Type 0} (a : Answer A) (MayAllocate : Type 0) where
-  -- what an error says where a value was to be given
+  -- an error, though the answer is a value
   excused-gave : (end_error : ℕ → DecodeError → Type 0) (device : DeviceErrors) (before after : ℕ) (remaining remaining' : List ℕ) (charge : ℕ) (e : DecodeError) (m : A) (left : List ℕ) (end : ℕ) → a ≡ Gave m left end →
       DecodeFailure end_error device MayAllocate a before after remaining remaining' charge e → IsExcused device MayAllocate before after e
   excused-gave end_error device before after remaining remaining' charge e m left end given (by_fault why stopped tells takes) = absurd (cc)
@@ -24,7 +24,7 @@ module _ {A : Type 0} (a : Answer A) (MayAllocate : Type 0) where
   excused-gave end_error device before after remaining remaining' charge e m left end given (by_failure counted rose takes) = inr (inl (counted, rose))
   excused-gave end_error device before after remaining remaining' charge e m left end given (by_device is_uncounted) = inr (inr is_uncounted)
 
-  -- what two errors say
+  -- two errors
   module _ (end_error end_error' : ℕ → DecodeError → Type 0) (device device' : DeviceErrors) (before after before' after' : ℕ) (input remaining input' remaining' : List ℕ) (charge charge' : ℕ) (d e : DecodeError) where
     abbrev Said : Type 0
     Said = IsExcused device MayAllocate before after d ⊎ (IsExcused device' MayAllocate before' after' e ⊎ TellAlike end_error end_error' d e)
@@ -45,7 +45,7 @@ module _ {A : Type 0} (a : Answer A) (MayAllocate : Type 0) where
     both-stop (by_limit stopped is takes) (by_fault why stopped' tells takes') = absurd (cc)
     both-stop (by_limit stopped is takes) (by_limit stopped' is' takes') = inr (inr (both_passed is is'))
 
--- two decoders that had the same rest, the same limit and the same charge, and read a value of one format
+-- two decoders with the same bytes left, the same limit and the same charge, reading a value of one format
 module _ {D D' A T : Type 0} {is_known : D → Type 0} {remaining : D → List ℕ} {charge failures : D → ℕ} {loans : D → List GName} {end_error : ℕ → DecodeError → Type 0} {device : DeviceErrors}
     {is_known' : D' → Type 0} {remaining' : D' → List ℕ} {charge' failures' : D' → ℕ} {loans' : D' → List GName} {end_error' : ℕ → DecodeError → Type 0} {device' : DeviceErrors}
     (limit : Option ℕ) (MayAllocate : Type 0) (F : Format A) (DecodesTo : A → T → Type 0) (charged : ℕ) {old new : D} {old' new' : D'} where
@@ -65,7 +65,7 @@ module _ {D D' A T : Type 0} {is_known : D → Type 0} {remaining : D → List �
       let q = rw same at (y.ok k') in excused-gave _ MayAllocate end_error device _ _ _ _ _ d q.meaning _ _ q.answer_is (x.err k)
   read-alike (Err d) (Err e) k k' same x y = both-stop _ MayAllocate end_error end_error' device device' _ _ _ _ _ _ _ _ _ _ d e (x.err k) (rw same at (y.err k'))
 
--- and two readers that had the same rest, and read a word of one format without steps
+-- two readers with the same bytes left, reading a word of one format without steps
 module _ {A : Type 0} (reading : Reading A) where
   failed-took : (end_error : ℕ → DecodeError → Type 0) (device : DeviceErrors) (before after : ℕ) (remaining remaining' : List ℕ) (e : DecodeError) (m : A) (left : List ℕ) → reading ≡ Took m left [] →
       ReadFailure end_error device reading before after remaining remaining' e → DeviceFailed device before after e

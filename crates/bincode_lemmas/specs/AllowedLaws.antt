@@ -1,4 +1,4 @@
--- What numbers and wholes allow, by what their parts allow.
+-- What numbers allow, and what wholes allow, from what their parts allow.
 use Rattle.std.specs.Prelude.{◌≡◌, ℕ, ◌+◌, ◌<◌, ◌^◌, ℤ, pos, Result, Ok, Err, List, [], ◌∷◌, ◌++◌, length, refl, nat_eq, Bool, true}
 use Rattle.std.specs.Ordering.{int_eq}
 use Rattle.std.specs.Cmp.{signed_Decides, booleans_Decides}
@@ -17,7 +17,7 @@ use Rattle.bincode_spec.specs.Words.{natural_number, integer_number, not_zero_of
 use Rattle.bincode_lemmas.specs.WordsLaws.{not_zero-passes, not_zero-passed, truth_byte-passes, truth_byte-passed}
 use Rattle.bincode_spec.specs.Allowed.{AllowedWord, OneLength, NoneShorter, Both}
 
--- a written word whose meaning passes a test is one behind the test, and back
+-- a written word whose meaning passes a test is a written word after the test, and conversely
 module _ {A B : Type 0} (test : A → Result B Fault) (F : Format A) where
   pub from_result-written : (bytes : List ℕ) (a : A) (b : B) → test a ≡ Ok b → F.Written bytes a → (F >>= λ x. from_result (test x)).Written bytes b
   unfolding ◌>>=◌ pure
@@ -35,7 +35,7 @@ module _ {A B : Type 0} (test : A → Result B Fault) (F : Format A) where
       let e : bytes ≡ w.first = w.bytes_are ∙ ap (λ z. w.first ++ z) p.0 ∙ append-nil w.first in
       (w.head, p.1, subst (λ z. F.Written z w.head) (sym e) w.first_written)
 
--- a written word of a format is one of the format with its meanings renamed, and back
+-- a written word of a format is one of the mapped format, and conversely
 pub map-written : {A B : Type 0} (f : A → B) (F : Format A) (bytes : List ℕ) (a : A) → F.Written bytes a → (map_format f F).Written bytes (f a)
 map-written f F bytes a w = from_result-written (λ z. Ok (f z)) F bytes a (f a) refl w
 
@@ -107,7 +107,7 @@ allowed-signed_byte z bytes a =
     let q = written-map first_of (fixed_bytes 1) u.second p.0 p.2 in
     ap length e ∙ q.2.0
 
--- a truth value allows its byte
+-- a `bool` allows its byte
 pub truth-allows : (v : Bool) → AllowedWord (IsTruth v) truth (truth_byte v ∷ [])
 truth-allows v = record {
   meaning = Truth v;
@@ -122,7 +122,7 @@ allowed-truth v bytes a =
     unsigned_byte-written bytes p.0 p.2 ∙ ap (λ b. b ∷ []) q
 
 module _ {A : Type 0} (integer : A → ℤ) (one : (a b : A) → integer a ≡ integer b → a ≡ b) (size : A → ℕ) (name : IntegerType) (F : Format A) where
-  -- a number other than 0 allows what it does as a number
+  -- a number that is not 0 allows what it does as a number
   pub not_zero-allows : (bytes : List ℕ) (a : A) → 0 < size a → AllowedWord (IsNumber (integer a)) (map_format (λ k. Number (integer k)) F) bytes →
       AllowedWord (IsNumber (integer a)) (map_format (λ k. Number (integer k)) (not_zero_by size name F)) bytes
   not_zero-allows bytes a h w =
@@ -136,11 +136,11 @@ module _ {A : Type 0} (integer : A → ℤ) (one : (a b : A) → integer a ≡ i
       let p = written-from_result (λ x. not_zero_of name (size x) x) F bytes a (allowed-number integer one (not_zero_by size name F) bytes a w) in
       number-allows integer one F bytes a (subst (λ x. F.Written bytes x) (not_zero-passed name (size p.0) p.0 a p.1) p.2)
 
--- what is meant in more ways allows more
+-- more meanings allow more
 pub more-allowed : {P Q : Meaning → Type 0} {F : Format Meaning} → ((m : Meaning) → P m → Q m) → (bytes : List ℕ) → AllowedWord P F bytes → AllowedWord Q F bytes
 more-allowed more bytes w = record { meaning = w.meaning; is_meant = more w.meaning w.is_meant; is_written = w.is_written }
 
--- of fewer meanings none is shorter either
+-- with fewer meanings none is shorter either
 pub fewer-none_shorter : {P Q P' Q' : Meaning → Type 0} {F : Format Meaning} → ((m : Meaning) → P m → P' m) → ((m : Meaning) → Q m → Q' m) → NoneShorter P' Q' F → NoneShorter P Q F
 fewer-none_shorter p q least written bytes m s w h u e = least written bytes m s (more-allowed p written w) h u (q m e)
 
@@ -149,7 +149,7 @@ pub alone-one_length : (Allowed : List ℕ → Type 0) (word : List ℕ) → ((b
 alone-one_length Allowed word only x y a b = ap length (only x a ∙ sym (only y b))
 
 module _ (P Q : Meaning → Type 0) (F : Format Meaning) (others : Format Meaning) where
-  -- a tuple allows what its first part allows, and then what the others do
+  -- a tuple allows what its first part allows, then what the others do
   pub tuple-allows : (bytes : List ℕ) → Both (AllowedWord P F) (AllowedWord Q others) bytes → AllowedWord (IsThen P Q) (first_and F others) bytes
   unfolding first_and ◌>>=◌
   tuple-allows bytes b = record {
@@ -214,7 +214,7 @@ both-one_length A B a b x y p q =
     ∙ ap (λ k. length q.0 + k) (b p.1 q.1 p.4 q.4)
     ∙ sym (length-append q.0 q.1) ∙ sym (ap length q.2)
 
--- of words that are these, the length is that of these
+-- words among words of one length have one length
 pub same-one_length : (A B : List ℕ → Type 0) → ((bytes : List ℕ) → B bytes → A bytes) → OneLength A → OneLength B
 same-one_length A B from a x y p q = a x y (from x p) (from y q)
 

@@ -1,4 +1,4 @@
--- What decoding answers, part by part, and what each answer says of the words, the faults and the limit.
+-- The answer of decoding, part by part, and what each answer says of the words, the faults and the limit.
 use Rattle.std.specs.Prelude.{◌≡◌, ℕ, ◌+◌, ◌*◌, ◌-◌, ◌<◌, ◌≤◌, ◌⊎◌, List, [], ◌∷◌, ◌++◌, refl, Option, Some, None}
 use Rattle.std.proofs.Common.{sym, ◌∙◌, ap, subst, inl, inr, arith}
 use Rattle.std.proofs.lemmas.Bool.{cases_lt, le-leb, lt-leb}
@@ -63,12 +63,12 @@ pub answer-then : {A B : Type 0} (limit : Option ℕ) (F : Format A) (G : A → 
 unfolding answer ◌>>=◌
 answer-then limit F G input charge = weighed_then limit (λ a remaining. (G a).read remaining) charge (F.read input)
 
--- What takes no steps is read as it is.
+-- A word without steps is given as it is read.
 pub answer-took : {A : Type 0} (limit : Option ℕ) (F : Format A) (input remaining : List ℕ) (m : A) (charge : ℕ) → F.read input ≡ Took m remaining [] → answer limit F input charge ≡ Gave m remaining charge
 unfolding answer
 answer-took limit F input remaining m charge e = ap (weigh_reading limit charge) e
 
--- What faults with no steps before is refused.
+-- A fault without steps before it is refused.
 pub answer-failed : {A : Type 0} (limit : Option ℕ) (F : Format A) (input : List ℕ) (why : Fault) (charge : ℕ) → F.read input ≡ Failed why [] → answer limit F input charge ≡ Refused why charge
 unfolding answer
 answer-failed limit F input why charge e = ap (weigh_reading limit charge) e
@@ -88,17 +88,17 @@ pub answer-release : (limit : Option ℕ) (n : ℕ) (input : List ℕ) (charge :
 unfolding answer step
 answer-release limit n input charge = refl
 
--- the charge after a claim that stands; without a limit nothing is counted
+-- the charge after a claim that succeeds; without a limit nothing is counted
 abbrev pub raised : Option ℕ → ℕ → ℕ → ℕ
 raised None charge n = charge
 raised (Some limit) charge n = charge + n
 
--- where the limit allows the raised charge, the claim stands
+-- if the limit allows the new charge, the claim succeeds
 pub claim-stands : (limit : Option ℕ) (charge n : ℕ) → Allows limit (charge + n) → after_claim limit charge n ≡ Some (raised limit charge n)
 claim-stands None charge n h = refl
 claim-stands (Some limit) charge n h = rw (le-leb (charge + n) limit h) refl
 
--- where it does not, the claim falls
+-- if it does not, the claim fails
 pub claim-falls : (limit charge n : ℕ) → limit < charge + n → after_claim (Some limit) charge n ≡ None
 claim-falls limit charge n h = rw (lt-leb (charge + n) limit h) refl
 
@@ -108,14 +108,14 @@ unfolding answer step
 step-answered limit change input charge (Some n) e = ap (λ z. gave_at tt input (on_some z (λ after. charge_behind limit after []))) e
 step-answered limit change input charge None e = ap (λ z. gave_at tt input (on_some z (λ after. charge_behind limit after []))) e
 
--- the limit and the fronts of the steps
+-- the limit and the prefixes of the steps
 
--- the charge behind steps that stay within the limit; without a limit nothing is counted
+-- the charge after steps that stay within the limit; without a limit nothing is counted
 abbrev pub counted_after : Option ℕ → ℕ → List Step → ℕ
 counted_after None charge steps = charge
 counted_after (Some limit) charge steps = charge_after charge steps
 
--- either the charge behind the steps is counted and they stay within the limit, or they pass it
+-- either the charge after the steps is counted and they stay within the limit, or they pass it
 data Weighing (limit : Option ℕ) (charge : ℕ) (steps : List Step) : Type 0 where
   stays : charge_behind limit charge steps ≡ Some (counted_after limit charge steps) → (Allows limit charge → StaysWithin limit charge steps) → Weighing limit charge steps
   passes : charge_behind limit charge steps ≡ None → Passes limit charge steps → Weighing limit charge steps
@@ -340,7 +340,7 @@ module _ {A : Type 0} (F : Format A) (f : Lawful F) (b : Balanced F) (limit : Op
       ap (weigh_reading limit charge) (f.word_read word remaining m steps u)
       ∙ ap (gave_at m remaining) (stays-behind limit charge 0 steps (word_backed word m steps u) (omega arith) w)
 
-  -- A fault before which the limit is not passed is refused, with the charge behind the steps before it.
+  -- A fault before which the limit is not passed is refused, with the charge after the steps before it.
   pub fault-refused : (input : List ℕ) (why : Fault) (steps : List Step) (charge : ℕ) → F.Faults input why steps → StaysWithin limit charge steps →
       answer limit F input charge ≡ Refused why (counted_after limit charge steps)
   unfolding answer
@@ -357,7 +357,7 @@ module _ {A : Type 0} (F : Format A) (f : Lawful F) (b : Balanced F) (limit : Op
   unfolding answer
   passes-passed input steps charge l s w = weighed_passes input steps charge s (passes-behind limit charge 0 steps (steps_backed input steps s) (omega arith) l w)
 
--- A word is charged its full width, and gives back what was held before and is not after.
+-- A word charges its full width, and releases what was held before and is not held after.
 pub gave-recharged :
     {A : Type 0} (F : Format A) (f : Lawful F) (held left : ℕ) (b : Holds held left F) (limit : ℕ) (input remaining : List ℕ) (m : A) (charge after : ℕ) →
     held ≤ charge → answer (Some limit) F input charge ≡ Gave m remaining after →
@@ -384,7 +384,7 @@ gave-is_uncounted F f input remaining m charge after e =
     is_uncounted charge ((Reserve n share) ∷ steps) after e = is_uncounted charge steps after e
     is_uncounted charge ((Release n) ∷ steps) after e = is_uncounted charge steps after e
 
--- A balanced one is charged its full width.
+-- A balanced one charges its full width.
 pub gave-charge : {A : Type 0} (F : Format A) (f : Lawful F) (b : Balanced F) (limit : ℕ) (input remaining : List ℕ) (m : A) (charge after : ℕ) →
     answer (Some limit) F input charge ≡ Gave m remaining after → (steps : List Step) × BeginsWith F input m remaining steps × (after ≡ charge + charged_bytes steps)
 gave-charge F f b limit input remaining m charge after e =
@@ -392,7 +392,7 @@ gave-charge F f b limit input remaining m charge after e =
     let k = p.2 in
     (p.0, p.1, omega arith)
 
--- A whole word gives back no more than it claims.
+-- A whole word releases no more than it claims.
 pub gave-grows : {A : Type 0} (F : Format A) (f : Lawful F) (b : Balanced F) (limit : ℕ) (input remaining : List ℕ) (m : A) (charge after : ℕ) →
     answer (Some limit) F input charge ≡ Gave m remaining after → charge ≤ after
 gave-grows F f b limit input remaining m charge after e = let p = gave-charge F f b limit input remaining m charge after e in let k = p.2 in omega arith

@@ -1,4 +1,4 @@
--- Bags: what a list of their items allows, in any order.
+-- Bags: lists of their items in any order.
 use Rattle.std.specs.Prelude.{◌≡◌, ℕ, pos, List, ◌++◌, length, refl}
 use Rattle.std.specs.List.{All}
 use Rattle.std.specs.List.Sorted.{IsPermutation}
@@ -22,7 +22,7 @@ module _ {A : Type 0} (Means : A → Meaning → Type 0) (s : Setting) (share : 
   pub bag-has_word : (vs : List A) (bytes : List ℕ) → AllowedWord (IsListOf Means vs) (list s share F) bytes → AllowedWord (IsMadeOf MakesBag Means vs) (list s share F) bytes
   bag-has_word vs = more-allowed (λ m i. (vs, IsPermutation-refl vs, i))
 
-  -- in this order its words have the same length
+  -- its words have one length, whatever the order
   in_order : (vs : List A) (bytes : List ℕ) → AllowedWord (IsMadeOf MakesBag Means vs) (list s share F) bytes →
       (other : List ℕ) × Both (LengthWord s (length vs)) (AllowsEach (λ v. AllowedWord (Means v) F) vs) other × (length other ≡ length bytes)
   in_order vs bytes w =
@@ -33,7 +33,7 @@ module _ {A : Type 0} (Means : A → Meaning → Type 0) (s : Setting) (share : 
       let number : LengthWord s (length vs) b.0 = subst (λ n. LengthWord s n b.0) (sym (length_permutation items vs moved)) b.3 in
       (b.0 ++ p.0, (b.0, p.0, refl, number, p.1), omega (arith, length-append b.0 p.0, length-append b.0 b.1, p.2, ap length b.2))
 
-  -- so where it has a word, it has one in its own order
+  -- so if it has a word, it has one in its own order
   pub bag-list : (vs : List A) (bytes : List ℕ) → AllowedWord (IsMadeOf MakesBag Means vs) (list s share F) bytes → (word : List ℕ) × AllowedWord (IsListOf Means vs) (list s share F) word
   bag-list vs bytes w = let p = in_order vs bytes w in (p.0, each-list Means s share F vs p.0 p.1)
 

@@ -104,12 +104,12 @@ settles_then : {A B : Type 0} (before between after : ℕ) (G : A → Format B) 
 settles_then before between after G g (Took a remaining s) h = settles_after before between after s ((G a).read remaining) h.0 h.1 ((g a).settles remaining)
 settles_then before between after G g (Failed why s) h = h
 
--- the second begins with what the first leaves
+-- the second begins with what the first holds
 pub turn-holds : {A B : Type 0} (before between after : ℕ) (F : Format A) (G : A → Format B) → Holds before between F → ((a : A) → Holds between after (G a)) → Holds before after (F >>= G)
 unfolding ◌>>=◌
 turn-holds before between after F G f g = record { settles = λ input. settles_then before between after G g (F.read input) (f.settles input) }
 
--- which word is written is no matter
+-- which word is written does not matter
 pub rewritten-holds : {A : Type 0} (before after : ℕ) (Chosen : List ℕ → A → Type 0) (F : Format A) → Holds before after F → Holds before after (written_as Chosen F)
 unfolding written_as
 rewritten-holds before after Chosen F f = record { settles = f.settles }
@@ -118,7 +118,7 @@ settles_vaguely : {A : Type 0} (before after : ℕ) (r : Reading A) → Settles 
 settles_vaguely before after (Took a remaining s) h = h
 settles_vaguely before after (Failed why s) h = h
 
--- how a fault is told is no matter
+-- whether a fault says how many bytes are missing does not matter
 pub without_count-holds : {A : Type 0} (before after : ℕ) (F : Format A) → Holds before after F → Holds before after (without_count F)
 unfolding without_count
 without_count-holds before after F f = record { settles = λ input. settles_vaguely before after (F.read input) (f.settles input) }
@@ -146,7 +146,7 @@ test-balanced F test f = turn-holds 0 0 0 F (λ a. from_result (test a)) f (λ a
 pub map-balanced : {A B : Type 0} (f : A → B) (F : Format A) → Balanced F → Balanced (map_format f F)
 map-balanced f F h = turn-holds 0 0 0 F (λ a. pure (f a)) h (λ a. pure-holds 0 (f a))
 
--- a charge goes before
+-- a charge before it
 pub charge_then-balanced : {A : Type 0} (n : ℕ) (F : Format A) → Balanced F → Balanced (charge_then n F)
 charge_then-balanced n F f = turn-holds 0 0 0 (step (Charge n)) (λ _. F) (charge-holds 0 n) (λ _. f)
 

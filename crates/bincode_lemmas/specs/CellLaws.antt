@@ -1,4 +1,4 @@
--- Cells keep the laws, and the words that they allow.
+-- Cells are lawful; the words that they allow.
 use Rattle.std.specs.Prelude.{ℕ, ◌<◌, List}
 use Rattle.std.specs.List.{All}
 use Rattle.bincode_base.specs.declared.error.EncodeError.{EncodeError}

@@ -1,4 +1,4 @@
--- What decoding a character answers, by its first byte, the claim and the bytes behind.
+-- The answer of decoding a character, from its first byte, the claim and the bytes after it.
 use Rattle.std.specs.Prelude.{◌≡◌, ℕ, ◌-◌, ◌≤◌, List, [], ◌∷◌, length, slice_index, Option, Some, None, Result, Ok, Err, IfOk, IfErr, refl}
 use Rattle.std.proofs.Common.{sym, ◌∙◌, ap, subst, arith}
 use Rattle.bincode_spec.specs.Device.{DeviceErrors}
@@ -21,7 +21,7 @@ use Rattle.bincode_spec.specs.Decoding as stops
 use Rattle.bincode_lemmas.specs.DecodingLaws.{answer-next, stops-first, stops-next}
 
 module _ (first width : ℕ) (input : List ℕ) where
-  -- the bytes behind the first are there, and pass the test
+  -- the bytes after the first are there, and pass the test
   pub rest_of_char-took : (bytes remaining : List ℕ) (m : Meaning) → (fixed_bytes (width - 1)).read input ≡ Took bytes remaining [] → char_of (first ∷ bytes) ≡ Ok m →
       (rest_of_char first width).read input ≡ Took m remaining []
   unfolding ◌>>=◌ pure
@@ -39,7 +39,7 @@ module _ (first width : ℕ) (input : List ℕ) where
   rest_of_char-short why e = rw e refl
 
   module _ (end_error : ℕ → DecodeError → Type 0) (device : DeviceErrors) (before after : ℕ) (remaining : List ℕ) (e : DecodeError) where
-    -- a read of the bytes behind the first that failed
+    -- reading the bytes after the first failed
     pub rest_of_char-misread : ReadFailure end_error device ((fixed_bytes (width - 1)).read input) before after input remaining e → ReadFailure end_error device ((rest_of_char first width).read input) before after input remaining e
     rest_of_char-misread (by_fault why h t k) = by_fault why (rest_of_char-short why h) t k
     rest_of_char-misread (by_failure d h k) = by_failure d h k
@@ -85,7 +85,7 @@ module _ (input bytes remaining : List ℕ) where
   unfolding fixed_bytes
   fixed_bytes-took_3 r = let u = (fixed_bytes-lawful 3).read_word input remaining bytes [] r in long_3 bytes (rw u.is_word.1 u.is_word.0)
 
--- bytes behind the first that were read, with the character that was found for all of them
+-- bytes after the first that were read, with the character that was found for all of them
 module _ (first width : ℕ) (input bytes remaining tail : List ℕ) (found : Option ℕ) (read : (fixed_bytes (width - 1)).read input ≡ Took bytes remaining [])
     (bytes_are : bytes ≡ tail) (spells : Spells (first ∷ tail) found) where
   pub rest_of_char-found : (r : Result ℕ DecodeError) → IfOk r (λ c. found ≡ Some c) → IfOk r (λ c. (rest_of_char first width).read input ≡ Took (Character c) remaining [])
@@ -107,7 +107,7 @@ rest_of_char-alone first width input w h =
     rest_of_char-took first width input [] input (Character first) r (char_of-alone first width w h)
 
 module _ (limit : Option ℕ) (input middle : List ℕ) (c first : ℕ) (read : byte.read input ≡ Took first middle []) where
-  -- the answer is that behind the first byte
+  -- the answer is that after the first byte
   pub character-next : (width : Option ℕ) → char_width first ≡ width → answer limit character input c ≡ answer limit (behind_char first width) middle c
   character-next width e =
       answer-next limit byte (λ z. behind_char z (char_width z)) input c first middle c (answer-took limit byte input middle first c read) ∙ ap (λ z. answer limit (behind_char first z) middle c) e
@@ -130,7 +130,7 @@ module _ (limit : Option ℕ) (input middle : List ℕ) (c first : ℕ) (read : 
         let p = byte-lawful.read_word input middle first [] read in
         stops.by_fault (InvalidChar (first ∷ 0 ∷ 0 ∷ 0 ∷ [])) (character-none w ∙ ap (Refused (InvalidChar (first ∷ 0 ∷ 0 ∷ 0 ∷ []))) (sym still)) t (p.word, p.input_is)
 
-    -- where what follows the first byte stops, so does the whole
+    -- if decoding what follows the first byte fails, so does the whole
     pub character-stops_behind : (width before between after : ℕ) (remaining : List ℕ) {now : ℕ} (e : DecodeError) → char_width first ≡ Some width → before ≤ between →
         DecodeFailure end_error device H (answer limit (charge_then width (rest_of_char first width)) middle c) between after middle remaining now e →
         DecodeFailure end_error device H (answer limit character input c) before after input remaining now e
@@ -139,7 +139,7 @@ module _ (limit : Option ℕ) (input middle : List ℕ) (c first : ℕ) (read : 
         (answer-took limit byte input middle first c read) le
         (subst (λ z. DecodeFailure end_error device H (answer limit (behind_char first z) middle c) between after middle remaining now e) (sym w) s)
 
--- a first byte that could not be read
+-- reading the first byte failed
 pub character-stops_first :
     (limit : Option ℕ) (input : List ℕ) (c : ℕ) (end_error : ℕ → DecodeError → Type 0) (device : DeviceErrors) (H : Type 0) (before after : ℕ) (remaining : List ℕ) {now : ℕ} (e : DecodeError) → now ≡ c →
     ReadFailure end_error device (byte.read input) before after input remaining e →

@@ -1,4 +1,4 @@
--- The format of a character keeps the laws, and its words are the bytes that std gives for it.
+-- The format of a character is lawful, and its words are the bytes that std gives for it.
 use Rattle.std.specs.Prelude.{◌≡◌, ℕ, ◌+◌, ◌-◌, ◌/◌, ◌%◌, ◌<◌, ◌≤◌, ◌⊎◌, nat_lt, nat_eq, Bool, true, false, not, if◌then◌else◌, List, [], ◌∷◌, ◌++◌}
 use Rattle.std.specs.Prelude.{length, refl, Result, Ok, Err, Option, Some, None, SomeIff}
 use Rattle.std.specs.List.{All}
@@ -38,11 +38,11 @@ settles_by false m bytes = λ h. h
 char_settles : (first : ℕ) → IsSettling (λ bytes. char_of (first ∷ bytes))
 char_settles first bytes = settles_by (is_utf8 (first ∷ bytes)) (Character (code_point (first ∷ bytes))) (four_bytes (first ∷ bytes))
 
--- the bytes behind the first keep the laws
+-- the bytes after the first are lawful
 pub rest_of_char-lawful : (first width : ℕ) → Lawful (rest_of_char first width)
 rest_of_char-lawful first width = test-lawful (fixed_bytes (width - 1)) (λ bytes. char_of (first ∷ bytes)) (fixed_bytes-lawful (width - 1)) (char_settles first)
 
--- and the balance
+-- and balanced
 pub rest_of_char-balanced : (first width : ℕ) → Balanced (rest_of_char first width)
 rest_of_char-balanced first width = test-balanced (fixed_bytes (width - 1)) (λ bytes. char_of (first ∷ bytes)) (fixed_bytes-holds 0 (width - 1))
 
@@ -54,7 +54,7 @@ behind_balanced : (first : ℕ) (width : Option ℕ) → Balanced (behind_char f
 behind_balanced first None = fail-holds 0 0 (InvalidChar (four_bytes (first ∷ [])))
 behind_balanced first (Some width) = charge_then-balanced width (rest_of_char first width) (rest_of_char-balanced first width)
 
--- a character keeps the laws
+-- a character is lawful
 pub character-lawful : Lawful character
 character-lawful = turn-lawful byte (λ first. behind_char first (char_width first)) byte-lawful (λ first. behind_lawful first (char_width first))
 
@@ -103,7 +103,7 @@ length-encoded_2 c h = ⊎_elim (λ k. omega (arith, length-encoded_1 c k)) (λ 
 pub length-encoded_3 : (c : ℕ) → c < 65536 → length (encode_utf8 c) ≤ 3
 length-encoded_3 c h = ⊎_elim (λ k. omega (arith, length-encoded_2 c k)) (λ k. omega (arith, ap length (encoded-3 c k h))) (cases_lt c 2048)
 
--- the bytes of a character have the width that the first one says, and its number
+-- the bytes of a character have the width that the first one says, and the digits of its code point
 pub record Spelled (c : ℕ) : Type 0 where
   pub first : ℕ
   pub tail : List ℕ
@@ -188,7 +188,7 @@ no_bytes : (bytes : List ℕ) → length bytes ≡ 0 → bytes ≡ []
 no_bytes [] e = refl
 no_bytes (b ∷ bytes) e = absurd (omega arith)
 
--- bytes of the width that the first one says are those of one character
+-- bytes of the width that the first one says are one character
 pub record OneChar (bytes : List ℕ) (m : Meaning) : Type 0 where
   pub code : ℕ
   pub is_scalar : IsScalar code
@@ -269,7 +269,7 @@ byte_word bytes b s u =
     let h : u.first ≡ first_of u.first ∷ [] = one_byte u.first u.first_word.0 in
     (e ∙ h ∙ ap (λ z. z ∷ []) (sym (u.second_word.1 ∙ ap first_of u.first_word.1)), u.steps_are ∙ ap (λ z. z ++ u.second_steps) u.first_word.2 ∙ u.second_word.2)
 
--- one character, which is charged in full
+-- one character, with its whole charge
 pub record CharWord (bytes : List ℕ) (m : Meaning) (steps : List Step) : Type 0 where
   pub one_char : OneChar bytes m
   pub steps_are : steps ≡ Charge (length bytes) ∷ []
@@ -361,7 +361,7 @@ character-none_shorter c written bytes m s w h u e =
 pub character-has_word : (c : ℕ) → IsScalar c → SomeWord (AllowedWord (IsCharacter c) character)
 character-has_word c h = record { bytes = encode_utf8 c; are_bytes = let p = spelled c h in rw p.bytes_are p.are_bytes; is_allowed = character-allows c h }
 
--- characters keep the laws
+-- characters are lawful
 pub characters-laws : FormLaws characters
 characters-laws = record {
   lawful = λ s. character-lawful;
@@ -395,10 +395,10 @@ char_of-low first h = subst (λ z. char_of z ≡ Ok (Character first)) (encoded-
 pub char_of-alone : (first width : ℕ) → char_width first ≡ Some width → width ≤ 1 → char_of (first ∷ []) ≡ Ok (Character first)
 char_of-alone first width w l = char_of-low first (ltb-true first 128 (width_1_by (nat_lt first 128) (nat_lt first 194) (nat_lt first 224) (nat_lt first 240) (nat_lt first 245) width w l))
 
--- bytes in hand
+-- bytes that were read
 
 module _ (first : ℕ) (tail : List ℕ) (w : char_width first ≡ Some (length (first ∷ tail))) (n : ℕ) (code_is : code_point (first ∷ tail) ≡ n) where
-  -- bytes whose digits are no character's number, or are not how it is written, spell none
+  -- bytes whose digits are no code point, or are not its encoding, spell no character
   pub spells-none : (IsScalar n → first ∷ tail ≡ encode_utf8 n → ⊥) → Spells (first ∷ tail) None
   spells-none other =
       let no = λ (e : is_utf8 (first ∷ tail) ≡ true).
@@ -425,6 +425,6 @@ module _ (first : ℕ) (tail : List ℕ) (w : char_width first ≡ Some (length 
   spells_by None e other = spells-none (λ s h. other s)
   spells_by (Some c) e h = subst (λ z. char_of z ≡ Ok (Character c)) (sym e) (char_of-encoded n h.0 ∙ ap (λ z. Ok (Character z)) (sym h.1))
 
-  -- those that are how the number is written spell it where it is a character's
+  -- the encoding of a code point spells it
   pub spells-found : (found : Option ℕ) (xs : List ℕ) → xs ≡ encode_utf8 n → false ≡ not (pointwise nat_eq xs (first ∷ tail)) → SomeIff found (IsScalar n) n → Spells (first ∷ tail) found
   spells-found found xs e same = spells_by found (sym ((bytes_decides xs (first ∷ tail)).0 (not-false _ (sym same))) ∙ e)

@@ -1,5 +1,5 @@
--- No word is longer than one and a half times what it charges, and each container claims something for an element: so a limit
--- bounds both.
+-- No word is longer than one and a half times what it charges, and each container claims something for an element: so a
+-- limit bounds both.
 use Rattle.std.specs.Prelude.{◌≡◌, ℕ, zero, suc, ◌+◌, ◌-◌, ◌*◌, ◌/◌, ◌≤◌, List, [], ◌∷◌, ◌++◌, refl, Option, Some, None, Result, Ok, Err, nat_lt, nat_le, length, Bool, true, false, if◌then◌else◌, ◌==◌, ◌&&◌, position}
 use Rattle.std.proofs.Common.{sym, ◌∙◌, ap, subst, arith, append-nil}
 use Rattle.std.proofs.Common.{length-append}
@@ -89,7 +89,7 @@ map-charged f F h = turn_charged F (λ a. pure (f a)) h (λ a. pure_charged (f a
 pub test-charged : {A B : Type 0} (F : Format A) (test : A → Result B Fault) → ChargesEnough F → ChargesEnough (F >>= λ a. from_result (test a))
 test-charged F test h = turn_charged F (λ a. from_result (test a)) h (λ a. from_result_charged (test a))
 
--- words of at most so many bytes, without steps
+-- words of at most k bytes, without steps
 
 record Short (n : ℕ) {A : Type 0} (F : Format A) : Type 0 where
   bytes : (word : List ℕ) (m : A) (s : List Step) → F.Word word m s → length word ≤ n
@@ -158,7 +158,7 @@ byte_short : Short 1 byte
 unfolding byte
 byte_short = map_short 1 first_of (fixed_bytes 1) (fixed_bytes_short 1)
 
--- the bytes behind a tag are within the width
+-- the bytes after a tag fit the width
 abbrev FitsBehind : ℕ → FirstByte → Type 0
 FitsBehind width Itself = Unit {0}
 FitsBehind width (Before n) = n ≤ width
@@ -313,7 +313,7 @@ pub chosen-charged : (tags : Setting → Format ℕ) (variants : List Variant) (
 unfolding tag_then_part
 chosen-charged tags variants s t g = turn_charged (tags s) (behind_tag variants s) t g
 
--- a span of time
+-- a duration
 pub duration-charged : (s : Setting) → ChargesEnough (duration s)
 duration-charged s =
     rewritten-charged _ _ (test-charged (seconds_and_nanos s) (λ parts. duration_of parts.0 parts.1)
@@ -322,7 +322,7 @@ duration-charged s =
 
 -- what a limit bounds
 
--- a claim that stands is within the limit
+-- a claim that succeeds is within the limit
 claim_within : (limit charge n after : ℕ) → after_claim (Some limit) charge n ≡ Some after → charge + n ≤ limit
 claim_within limit charge n after e = leb-true (charge + n) limit (by (nat_le (charge + n) limit) e) where
   by : (test : Bool) → (if test then Some (charge + n) else None) ≡ Some after → test ≡ true

@@ -1,4 +1,4 @@
--- What the decoding of a choice does, by what that of its tag and of its part does.
+-- Decoding a choice, from decoding its tag and its part.
 use Rattle.std.specs.Prelude.{◌≡◌, ℕ, ◌≤◌, ◌==◌, List, Option, refl}
 use Rattle.std.proofs.Common.{◌∙◌}
 use Rattle.std.proofs.lemmas.Bool.{eq-eqb, ne_eqb}
@@ -15,7 +15,7 @@ use Rattle.bincode_spec.specs.Decoding.{Decodes, DecodeFailure}
 use Rattle.bincode_lemmas.specs.DecodingLaws.{answer-next, stops-first, stops-next, stops-besides, map-gave, map-stops}
 
 module _ (limit : Option ℕ) (tags : Setting → Format ℕ) (variants : List Variant) (s : Setting) (input : List ℕ) (c : ℕ) where
-  -- where the tag stops, so does the whole
+  -- if decoding the tag fails, so does the whole
   pub choice-stops_tag :
       (end_error : ℕ → DecodeError → Type 0) (device : DeviceErrors) (K : Type 0) (before after : ℕ) (remaining : List ℕ) {now : ℕ} (e : DecodeError) →
       DecodeFailure end_error device ⊥ (answer limit (tags s) input c) before after input remaining now e →
@@ -31,7 +31,7 @@ module _ (limit : Option ℕ) (tags : Setting → Format ℕ) (variants : List V
     unfolding tag_then_part
     choice-decodes P remaining after p = record { meaning = p.meaning; answer_is = answer-next limit (tags s) (behind_tag variants s) input c found middle d gave ∙ p.answer_is; is_decoded = p.is_decoded }
 
-    -- and where it stops, so does the whole
+    -- and if decoding that fails, so does the whole
     pub choice-stops_part : Lawful (tags s) →
         (end_error : ℕ → DecodeError → Type 0) (device : DeviceErrors) (H : Type 0) (before between after : ℕ) (remaining : List ℕ) {now : ℕ} (e : DecodeError) →
         before ≤ between → DecodeFailure end_error device H (answer limit (behind_tag variants s found) middle d) between after middle remaining now e →
@@ -41,7 +41,7 @@ module _ (limit : Option ℕ) (tags : Setting → Format ℕ) (variants : List V
         stops-next end_error device H H (λ h. h) limit (tags s) (behind_tag variants s) t input c before between after found middle remaining d e gave
 
 module _ (limit : Option ℕ) (found tag : ℕ) (F others : Format Meaning) (input : List ℕ) (c : ℕ) where
-  -- the tag picks the first part
+  -- the tag selects the first part
   pub here-decodes : found ≡ tag → (P : Meaning → Type 0) (remaining : List ℕ) (d : ℕ) → Decodes P (answer limit F input c) remaining d →
       Decodes (IsChoice found P) (answer limit (if_picked (found == tag) (map_format (Choice found) F) others) input c) remaining d
   here-decodes same P remaining d p = record {
@@ -55,7 +55,7 @@ module _ (limit : Option ℕ) (found tag : ℕ) (F others : Format Meaning) (inp
         DecodeFailure end_error device K (answer limit (if_picked (found == tag) (map_format (Choice found) F) others) input c) before after input remaining now e
     here-stops same p = rw (eq-eqb found tag same) (stops-besides end_error device H K grow _ before after input remaining e (map-stops (Choice found) end_error device H limit F input c before after remaining e p))
 
-    -- the tag picks one of the others
+    -- the tag selects one of the others
     pub there-stops : (found ≡ tag → ⊥) → DecodeFailure end_error device H (answer limit others input c) before after input remaining now e →
         DecodeFailure end_error device K (answer limit (if_picked (found == tag) (map_format (Choice found) F) others) input c) before after input remaining now e
     there-stops differ p = rw (ne_eqb found tag differ) (stops-besides end_error device H K grow _ before after input remaining e p)

@@ -1,4 +1,4 @@
--- Choices, by what their tags and their parts do: their formats keep the laws, what they allow, and that they are spelled.
+-- Choices, from their tags and their parts: they are lawful, what they allow, and that they are `Spelled`.
 use Rattle.std.specs.Prelude.{◌≡◌, ℕ, ◌<◌, pos, Bool, true, false, ◌==◌, Result, Ok, List, [], ◌∷◌, ◌++◌, refl}
 use Rattle.std.proofs.Common.{sym, ◌∙◌, ap, subst}
 use Rattle.std.proofs.lemmas.Bool.{eq-eqb}
@@ -19,7 +19,7 @@ use Rattle.bincode_spec.specs.Cells.{HasWord}
 use Rattle.bincode_lemmas.specs.CellLaws.{held-word, word-held}
 use Rattle.bincode_spec.specs.Choices.{IsChoice, AllLawful, AllBalanced}
 
--- what holds of each part holds of the one that is picked
+-- what holds of each part holds of the selected one
 by_pick : (P : Format Meaning → Type 0) (picked : Bool) {F G : Format Meaning} → P F → P G → P (if_picked picked F G)
 by_pick P true f g = f
 by_pick P false f g = g
@@ -48,11 +48,11 @@ module _ (s : Setting) (allowed : Allowed) (found : ℕ) where
       by_pick (λ F. F.Word bytes m steps → (n : Meaning) × (m ≡ Choice found n)) (found == variant.0)
       (λ u. let p = word-from_result (λ k. Ok (Choice found k)) (variant.1 s) bytes m steps u in (p.0, cc)) (part_word others bytes m steps)
 
--- a tag picks its variant
+-- a tag selects its variant
 pub part-here : (s : Setting) (allowed : Allowed) (tag : ℕ) (F : Setting → Format Meaning) (others : List Variant) → part s ((tag, F) ∷ others) allowed tag ≡ map_format (Choice tag) (F s)
 part-here s allowed tag F others = rw (eq-eqb tag tag refl) refl
 
--- another tag picks one of the others
+-- another tag selects one of the others
 pub part-there : (s : Setting) (allowed : Allowed) (found tag : ℕ) (F : Setting → Format Meaning) (others : List Variant) → (found == tag) ≡ false →
     part s ((tag, F) ∷ others) allowed found ≡ part s others allowed found
 part-there s allowed found tag F others h = rw h refl
@@ -62,7 +62,7 @@ pub same-alike : {F G : Format Meaning} → G ≡ F → WrittenAlike F G
 same-alike e = (λ bytes m w. subst (λ H. H.Written bytes m) (sym e) w, λ bytes m w. subst (λ H. H.Written bytes m) e w)
 
 module _ (tags : Setting → Format ℕ) (variants : List Variant) (s : Setting) where
-  -- a tag and the part that it picks keep the laws
+  -- a tag and the part that it selects are lawful
   pub chosen-lawful : Lawful (tags s) → AllLawful s variants → Lawful (tag_then_part tags variants s)
   unfolding tag_then_part
   chosen-lawful t h = turn-lawful (tags s) (behind_tag variants s) t (λ found. part_lawful s _ found variants h)
@@ -71,9 +71,9 @@ module _ (tags : Setting → Format ℕ) (variants : List Variant) (s : Setting)
   unfolding tag_then_part
   chosen-balanced t h = turn-holds 0 0 0 (tags s) (behind_tag variants s) t (λ found. part_balanced s _ found variants h)
 
-  -- the tag `found` picks what is written for F
+  -- the tag `found` selects what F writes
   module _ (found : ℕ) (F : Format Meaning) (alike : WrittenAlike (map_format (Choice found) F) (behind_tag variants s found)) (P : Meaning → Type 0) where
-    -- a choice allows what is written for its tag, and then what its part allows
+    -- a choice allows what is written for its tag, then what its part allows
     pub choice-allows : (bytes : List ℕ) → Both (AllowedWord (IsNumber (pos found)) (natural_number (tags s))) (AllowedWord P F) bytes → AllowedWord (IsChoice found P) (tag_then_part tags variants s) bytes
     unfolding tag_then_part ◌>>=◌
     choice-allows bytes b = record {
@@ -116,7 +116,7 @@ module _ (tags : Setting → Format ℕ) (variants : List Variant) (s : Setting)
     pub choice-one_length : OneLength (AllowedWord (IsNumber (pos found)) (natural_number (tags s))) → OneLength (AllowedWord P F) → OneLength (AllowedWord (IsChoice found P) (tag_then_part tags variants s))
     choice-one_length t p = same-one_length _ _ allowed-choice (both-one_length _ _ t p)
 
-  -- the tag `found` picks the format F
+  -- the tag `found` selects the format F
   module _ (found : ℕ) (F : Format Meaning) (at : behind_tag variants s found ≡ map_format (Choice found) F) (P P' : Meaning → Type 0) where
     -- no word of it is shorter, if none of the tag is and none of the part
     choice_none_shorter : NoneShorter (IsNumber (pos found)) (IsNumber (pos found)) (natural_number (tags s)) → NoneShorter P P' F →
@@ -137,7 +137,7 @@ module _ (tags : Setting → Format ℕ) (variants : List Variant) (s : Setting)
         (λ below. t b.0 u.first (Number (pos found)) u.first_steps b.3 below x refl)
         (λ below. f b.1 u.second q.0 q.1 b.4 below q.3 (subst P' j e.is_part))
 
-  -- and none that decodes to the same
+  -- and none that decodes to what it decodes to
   module _ (found other : ℕ) (F : Format Meaning) (at : behind_tag variants s found ≡ map_format (Choice found) F) (P P' : Meaning → Type 0) where
     pub choice-shortest : NoneShorter (IsNumber (pos found)) (IsNumber (pos found)) (natural_number (tags s)) → (found ≡ other → Shortest P P' F) →
         Shortest (IsChoice found P) (IsChoice other P') (tag_then_part tags variants s)
@@ -154,7 +154,7 @@ module _ (tags : Setting → Format ℕ) (variants : List Variant) (s : Setting)
         } in
         choice_none_shorter found F at (λ n. P n × P' n) P' t (f k) written bytes m steps x h u (subst (λ z. IsChoice z P' m) (sym k) e)
 
-  -- it has a word, if the tag and the part that it picks have
+  -- it has a word, if the tag and the part that it selects have
   pub choice-some_word : (found : ℕ) (F : Format Meaning) → behind_tag variants s found ≡ map_format (Choice found) F → Lawful (tags s) →
       SomeWord (AllowedWord (IsNumber (pos found)) (natural_number (tags s))) → HasWord F → HasWord (tag_then_part tags variants s)
   unfolding tag_then_part ◌>>=◌

@@ -1,4 +1,4 @@
--- What the words of a format charge, where all of them charge the same.
+-- The charge of the words of a format, if it is the same for all.
 use Rattle.std.specs.Prelude.{◌≡◌, ℕ, zero, suc, ◌+◌, ◌*◌, ◌≤◌, max, List, [], ◌∷◌, ◌++◌, refl, length, Option, Some, None, Result, Ok, Err}
 use Rattle.std.proofs.Common.{sym, ◌∙◌, ap, subst, arith, append_assoc}
 use Rattle.std.proofs.Math.Nat.{mul-le-mul_left}
@@ -23,13 +23,13 @@ use Rattle.bincode_spec.specs.Run.{IsListOf}
 use Rattle.bincode_lemmas.specs.ListLaws.{array-word_length}
 use Rattle.bincode_lemmas.specs.Balance.{full_append, reserved_append, released_append, FrontOfBoth, in_first, in_second, front_of_both}
 
--- the limit allows the steps of a word, where it allows the peak
+-- if the limit allows the peak, it allows the steps of a word
 pub cost-within : {A : Type 0} (F : Format A) (peak cost : ℕ) → Costs peak cost F → (limit : Option ℕ) (charge : ℕ) → Allows limit (charge + peak) →
     (word : List ℕ) (m : A) (s : List Step) → F.Word word m s → StaysWithin limit charge s
 cost-within F peak cost c None charge h word m s w = tt
 cost-within F peak cost c (Some limit) charge h word m s w = λ front back e. let p = c.stays word m s w front back e in omega arith
 
--- where the limit allows the peak, the steps of each word stay within it
+-- if the limit allows the peak, the steps of each word stay within it
 pub cost-fits : (F : Format Meaning) (peak cost : ℕ) → Costs peak cost F → (limit : Option ℕ) → Allows limit peak → (word : List ℕ) → FitsLimit F limit word
 cost-fits F peak cost c None h word = λ m s u. tt
 cost-fits F peak cost c (Some limit) h word = λ m s u front back e. let q = c.stays word m s u front back e in omega arith
@@ -199,11 +199,11 @@ signed_byte-costs = charge_then-costs 1 _ (map-costs 0 0 (from_two_complement 1)
 pub truth-costs : Costs 1 1 truth
 truth-costs = test-costs 1 1 unsigned_byte truth_of unsigned_byte-costs
 
--- a number other than 0 what the number does,
+-- a `NonZero` number charges what the number does,
 pub not_zero-costs : {A : Type 0} (size : A → ℕ) (name : IntegerType) (width : ℕ) (F : Format A) → Costs width width F → Costs width width (not_zero_by size name F)
 not_zero-costs size name width F c = test-costs width width F (λ a. not_zero_of name (size a) a) c
 
--- a span of time its two numbers
+-- a duration charges its two numbers
 pub duration-costs : (s : Setting) → Costs 12 12 (duration s)
 duration-costs s =
     rewritten-costs 12 12 _ _ (test-costs 12 12 (seconds_and_nanos s) (λ parts. duration_of parts.0 parts.1)
@@ -228,7 +228,7 @@ four-costs f g h i others = then-costs f (then-costs g (then-costs h (then-costs
 
 -- arrays
 
--- The same of words that release what was held before: so much more than they reserve.
+-- `Costs` of words that release what was held before: `held` more than they reserve.
 record Frees (held peak cost : ℕ) {A : Type 0} (F : Format A) : Type 0 where
   charges : (word : List ℕ) (m : A) (s : List Step) → F.Word word m s → charged_bytes s ≡ cost
   evens : (word : List ℕ) (m : A) (s : List Step) → F.Word word m s → reserved_bytes s + held ≡ released_bytes s
@@ -338,7 +338,8 @@ reserve_costs n share peak cost F h f = record {
       (front_of_both w.first_steps w.second_steps front back (sym w.steps_are ∙ e));
 }
 
--- n elements charge n times what one does; of their room and what they charge no more than n times the greater is held at once
+-- n elements charge n times what one does; of their room and what they charge no more than n times the greater is held
+-- at once
 pub array-costs : (F : Format Meaning) (n share peak cost most : ℕ) → share ≤ most → peak ≤ most → cost ≤ most → Costs peak cost F → Costs (n * most) (n * cost) (array n share F)
 array-costs F n share peak cost most h i j f =
     map-costs (n * most) (n * cost) list_meaning (sequence n share F)

@@ -1,4 +1,4 @@
--- What is answered to an input by each longer one, and by each front of it, from a slice.
+-- The answers to each longer input, and to each prefix of one, from a slice.
 use Rattle.std.specs.Prelude.{◌≡◌, ◌⊎◌, ◌++◌, ◌<◌, ◌+◌, ℕ, List, [], ◌∷◌, length, Option, Some, None, Result, Ok, Err, IsErrAnd, refl}
 use Rattle.std.specs.List.{All}
 use Rattle.std.proofs.Common.{sym, ◌∙◌, ap, subst, inl, inr, arith, append_assoc, append-nil, length-append}
@@ -19,7 +19,7 @@ use Rattle.bincode_lemmas.specs.FormatLaws.{one-word, end-or-other}
 
 -- faults
 
--- an end is told by how many bytes are missing
+-- the error of an end says how many bytes are missing
 pub end-told : (fault : Fault) (e : DecodeError) → IsEnd fault → Tells EndsSlice fault e → IsCut e
 end-told (End (Some missing)) e h t = (missing, t)
 end-told (End None) e h t = t
@@ -36,7 +36,7 @@ end-told (LengthMismatch _ _) e h t = absurd h
 end-told EmptyEnum e h t = absurd h
 end-told (OutsideUsize _) e h t = absurd h
 
--- another fault is not
+-- another error does not
 other_told : (fault : Fault) (e : DecodeError) → ¬ (IsEnd fault) → Tells EndsSlice fault e → ¬ (IsCut e)
 other_told (End _) e h t c = h tt
 other_told (InvalidInteger _ _) e h t c = let p = c.1 in cc
@@ -56,12 +56,12 @@ other_told (OutsideUsize _) e h t c = let p = c.1 in cc
 
 -- steps
 
--- a front of steps that stay within a limit does so too
+-- a prefix of steps that stay within a limit does so too
 pub front-within : (limit : Option ℕ) (front back : List Step) → StaysWithin limit 0 (front ++ back) → StaysWithin limit 0 front
 front-within None front back h = tt
 front-within (Some n) front back h = λ a b e. h a (b ++ back) (ap (λ z. z ++ back) e ∙ append_assoc a b back)
 
--- steps whose front passes a limit pass it too
+-- steps with a prefix that passes a limit pass it too
 more_passes : (limit : Option ℕ) (front back : List Step) → Passes limit 0 front → Passes limit 0 (front ++ back)
 more_passes None front back h = absurd h
 more_passes (Some n) front back h = record { front = h.front; back = h.back ++ back; steps_are = ap (λ z. z ++ back) h.steps_are ∙ append_assoc h.front h.back back; above = h.above }
@@ -111,14 +111,14 @@ module _ (F : Format Meaning) (f : Lawful F) (b : Balanced F) (limit : Option �
           second = subst (λ z. DecodesTo z y.0) (sym q.1) e.is_decoded;
         }
 
-    -- where a word within the limit begins both inputs, one is read as the other is
+    -- if a word within the limit begins both inputs, both are read alike
     both_read : (a c : Result (T × ℕ) DecodeError) (word remaining remaining' : List ℕ) (m : Meaning) (steps : List Step) → F.Word word m steps → StaysWithin limit 0 steps →
         IsAnswer F limit MayAllocate DecodesTo (word ++ remaining) a → IsAnswer F limit MayAllocate DecodesTo (word ++ remaining') c → WasRefused MayAllocate a ⊎ (WasRefused MayAllocate c ⊎ SameAnswer DecodesTo a c)
     both_read (Ok x) (Ok y) word remaining remaining' m steps u w p q = inr (inr (same_reading x y word remaining remaining' m steps u p.word q.word))
     both_read (Ok x) (Err e) word remaining remaining' m steps u w p q = inr (inl (q.found word remaining' m steps refl u w))
     both_read (Err d) c word remaining remaining' m steps u w p q = inl (p.found word remaining m steps refl u w)
 
-    -- of both inputs the limit is passed
+    -- both inputs pass the limit
     both_pass : (a c : Result (T × ℕ) DecodeError) → IsErrAnd a (λ e. (e ≡ LimitExceeded) ⊎ IsRefused MayAllocate e) → IsErrAnd c (λ e. (e ≡ LimitExceeded) ⊎ IsRefused MayAllocate e) →
         WasRefused MayAllocate a ⊎ (WasRefused MayAllocate c ⊎ SameAnswer DecodesTo a c)
     both_pass (Ok x) c h k = absurd h
@@ -136,7 +136,7 @@ module _ (F : Format Meaning) (f : Lawful F) (b : Balanced F) (limit : Option �
     both_fail (Err d) (Err e) why n (inl p) (inr r) = inr (inl r)
     both_fail (Err d) (Err e) why n (inl p) (inl q) = inr (inr (both_tell why n p q))
 
-    -- a cut input is told as such, unless memory is refused
+    -- a cut input gives the error that says so, unless memory is refused
     cut_told : (a : Result (T × ℕ) DecodeError) (why : Fault) → IsEnd why → IsErrAnd a (λ e. Tells EndsSlice why e ⊎ IsRefused MayAllocate e) → WasCut a ⊎ WasRefused MayAllocate a
     cut_told (Ok x) why h t = absurd t
     cut_told (Err e) why h (inl t) = inl (end-told why e h t)
@@ -189,7 +189,7 @@ module _ (F : Format Meaning) (f : Lawful F) (b : Balanced F) (limit : Option �
           absurd (cc)
     ]
 
-    -- Each proper front of a word within the limit is answered by an end, unless memory is refused.
+    -- Each proper prefix of a word within the limit gives the error of an end, unless memory is refused.
     pub front-ends : (front back : List ℕ) (m : Meaning) (steps : List Step) → F.Word (front ++ back) m steps → StaysWithin limit 0 steps → ¬ (back ≡ []) →
         (a : Result (T × ℕ) DecodeError) → IsAnswer F limit MayAllocate DecodesTo front a → WasCut a ⊎ WasRefused MayAllocate a
     front-ends front back m steps u w n a p = front_by front back m steps u w n a p (F.read front) refl
@@ -212,7 +212,7 @@ module _ (F : Format Meaning) (f : Lawful F) (b : Balanced F) (limit : Option �
         let h = passed-limit F f b limit input e in
         elim (p.keeps h.0 h.1 h.2) [ inl t ↦ absurd (not_limit d c t) | inr r ↦ absurd (not_memory d c r.1) ]
 
-    -- An input that is answered by an end begins one that is not.
+    -- An input with the error of an end is a prefix of one without.
     pub end-mended : (input : List ℕ) (a : Result (T × ℕ) DecodeError) → IsAnswer F limit MayAllocate DecodesTo input a → WasCut a →
         (more : List ℕ) × All (λ x. x < 256) more × ((c : Result (T × ℕ) DecodeError) → IsAnswer F limit MayAllocate DecodesTo (input ++ more) c → ¬ (WasCut c))
     end-mended input a p c =

@@ -1,4 +1,4 @@
--- What decoding does passes from parts to wholes.
+-- Decoding a whole, from decoding its parts.
 use Rattle.std.specs.Prelude.{◌≡◌, ◌⊎◌, ℕ, ◌<◌, ◌≤◌, Bool, Result, Ok, Err, List, [], ◌++◌, Option, Some, None, refl}
 use Rattle.std.proofs.Common.{sym, ◌∙◌, ap, subst, inl, inr, arith, append_assoc}
 use Rattle.bincode_base.specs.declared.error.DecodeError.{DecodeError}
@@ -18,12 +18,12 @@ use Rattle.bincode_spec.specs.Answer.{Answer, Gave, Refused, PassedLimit, answer
 use Rattle.bincode_lemmas.specs.AnswerLaws.{answer-then, answer-took, answer-failed, answer-pure, answer-fail, step-answered}
 use Rattle.bincode_spec.specs.Decoding.{Decodes, DecodeFailure, by_fault, by_limit, by_memory, by_failure, by_device}
 
--- a rise after a step that didn't fall
+-- a rise after what did not fall
 pub rose-then : (a b c : ℕ) → a ≤ b → Rose b c → Rose a c
 rose-then a b c h (inl r) = inl (omega arith)
 rose-then a b c h (inr r) = inr r
 
--- what was taken before, and then more
+-- what was taken before, then more
 pub takes-then : (remaining middle remaining' : List ℕ) → Takes remaining middle → Takes middle remaining' → Takes remaining remaining'
 takes-then remaining middle remaining' (a, e) (b, f) = (a ++ b, e ∙ ap (λ z. a ++ z) f ∙ sym (append_assoc a b remaining'))
 
@@ -49,7 +49,7 @@ weighed_took : {A : Type 0} (limit : Option ℕ) (c : ℕ) (r : Reading A) (a : 
 weighed_took limit c (Took b r s) a remaining d e = let p = gave_at_parts b a r remaining (charge_behind limit c s) d e in (s, cc)
 weighed_took limit c (Failed why s) a remaining d e = absurd (refused_at_gave why a remaining (charge_behind limit c s) d e)
 
--- an answer that gave a meaning took a front of the input
+-- an answer that gave a meaning took a prefix of the input
 pub gave-takes : {A : Type 0} (limit : Option ℕ) (F : Format A) → Lawful F → (input : List ℕ) (c : ℕ) (a : A) (remaining : List ℕ) (d : ℕ) → answer limit F input c ≡ Gave a remaining d → Takes input remaining
 unfolding answer
 gave-takes limit F f input c a remaining d e =
@@ -57,13 +57,13 @@ gave-takes limit F f input c a remaining d e =
     let b = f.read_word input remaining a t.0 t.1 in
     (b.word, b.input_is)
 
--- one part, and then what follows
+-- one part, then what follows
 pub answer-next : {A B : Type 0} (limit : Option ℕ) (F : Format A) (G : A → Format B) (input : List ℕ) (c : ℕ) (a : A) (remaining : List ℕ) (d : ℕ) →
     answer limit F input c ≡ Gave a remaining d → answer limit (F >>= G) input c ≡ answer limit (G a) remaining d
 answer-next limit F G input c a remaining d e = answer-then limit F G input c ∙ ap (λ o. and_then o (λ b r after. answer limit (G b) r after)) e
 
 module _ {A B : Type 0} (end_error : ℕ → DecodeError → Type 0) (device : DeviceErrors) (H K : Type 0) (grow : H → K) (limit : Option ℕ) (F : Format A) (G : A → Format B) where
-  -- where the first part stops, so does the whole
+  -- if decoding the first part fails, so does the whole
   pub stops-first : (input : List ℕ) (c before after : ℕ) (remaining' : List ℕ) {now : ℕ} (e : DecodeError) →
       DecodeFailure end_error device H (answer limit F input c) before after input remaining' now e →
       DecodeFailure end_error device K (answer limit (F >>= G) input c) before after input remaining' now e
@@ -73,7 +73,7 @@ module _ {A B : Type 0} (end_error : ℕ → DecodeError → Type 0) (device : D
   stops-first input c before after remaining' e (by_failure d h k) = by_failure d h k
   stops-first input c before after remaining' e (by_device h) = by_device h
 
-  -- where what follows stops, so does the whole
+  -- if decoding what follows fails, so does the whole
   pub stops-next : Lawful F → (input : List ℕ) (c before between after : ℕ) (a : A) (remaining remaining' : List ℕ) (d : ℕ) {now : ℕ} (e : DecodeError) → answer limit F input c ≡ Gave a remaining d → before ≤ between →
       DecodeFailure end_error device H (answer limit (G a) remaining d) between after remaining remaining' now e → DecodeFailure end_error device K (answer limit (F >>= G) input c) before after input remaining' now e
   stops-next f input c before between after a remaining remaining' d e g le (by_fault why h t k) =
@@ -85,7 +85,7 @@ module _ {A B : Type 0} (end_error : ℕ → DecodeError → Type 0) (device : D
       by_failure x (rose-then before between after le h) (takes-then input remaining remaining' (gave-takes limit F f input c a remaining d g) k)
   stops-next f input c before between after a remaining remaining' d e g le (by_device h) = by_device h
 
--- a claim that stands, and one that passes the limit
+-- a claim that succeeds, and one that passes the limit
 pub claimed-answer : (limit : Option ℕ) (c n d : ℕ) (input : List ℕ) → Claimed limit c n d → answer limit (step (Charge n)) input c ≡ Gave tt input d
 claimed-answer limit c n d input h = step-answered limit (Charge n) input c (Some d) h
 
@@ -93,7 +93,7 @@ pub over_claimed-answer : (limit : Option ℕ) (c n d : ℕ) (input : List ℕ) 
 over_claimed-answer limit c n d input h = step-answered limit (Charge n) input c None h.0
 
 module _ {A : Type 0} (limit : Option ℕ) (n : ℕ) (F : Format A) (input : List ℕ) (c : ℕ) where
-  -- a charge, and then a word
+  -- a charge, then a word
   pub charge_then-gave : (d : ℕ) (middle remaining : List ℕ) (a : A) → Claimed limit c n d → middle ≡ input → F.read middle ≡ Took a remaining [] → answer limit (charge_then n F) input c ≡ Gave a remaining d
   charge_then-gave d middle remaining a h same r =
       answer-next limit (step (Charge n)) (λ _. F) input c tt input d (claimed-answer limit c n d input h) ∙ answer-took limit F input remaining a d (ap F.read (sym same) ∙ r)
@@ -105,7 +105,7 @@ module _ {A : Type 0} (limit : Option ℕ) (n : ℕ) (F : Format A) (input : Lis
     charge_then-passed d before after remaining e h k same =
         by_limit (answer-then limit (step (Charge n)) (λ _. F) input c ∙ ap (λ o. and_then o (λ _ r after. answer limit F r after)) (over_claimed-answer limit c n d input h)) k ([], sym same)
 
-    -- a charge, and then a fault
+    -- a charge, then a fault
     pub charge_then-misread : (d before between after : ℕ) (middle remaining : List ℕ) {now : ℕ} (e : DecodeError) → now ≡ d → Claimed limit c n d → middle ≡ input →
         between ≡ before → ReadFailure end_error device (F.read middle) between after middle remaining e →
         DecodeFailure end_error device H (answer limit (charge_then n F) input c) before after input remaining now e
@@ -117,7 +117,7 @@ module _ {A : Type 0} (limit : Option ℕ) (n : ℕ) (F : Format A) (input : Lis
     charge_then-misread d before between after middle remaining e still h same count (reads.by_failure x r k) = by_failure x (subst (λ z. Rose z after) count r) (subst (λ z. Takes z remaining) same k)
     charge_then-misread d before between after middle remaining e still h same count (reads.by_device k) = by_device k
 
--- meanings renamed
+-- a mapped format
 pub map-gave : {A B : Type 0} (f : A → B) (limit : Option ℕ) (F : Format A) (input : List ℕ) (c : ℕ) (a : A) (remaining : List ℕ) (d : ℕ) →
     answer limit F input c ≡ Gave a remaining d → answer limit (map_format f F) input c ≡ Gave (f a) remaining d
 map-gave f limit F input c a remaining d e = answer-next limit F (λ z. pure (f z)) input c a remaining d e ∙ answer-pure limit (f a) remaining d
@@ -148,7 +148,7 @@ module _ (limit : Option ℕ) (input : List ℕ) (c b : ℕ) (remaining : List �
   truth-refuses e h = from_result-refused truth_of limit unsigned_byte input c b remaining d (InvalidBool b) e (truth-fails b h)
 
 module _ (limit : Option ℕ) (F : Format Meaning) (others : Format Meaning) (input : List ℕ) (c : ℕ) where
-  -- the first part of a tuple, and then the others
+  -- the first part of a tuple, then the others
   pub tuple-gave : (a b : Meaning) (middle remaining : List ℕ) (d after : ℕ) → answer limit F input c ≡ Gave a middle d →
       answer limit others middle d ≡ Gave b remaining after → answer limit (first_and F others) input c ≡ Gave (Then a b) remaining after
   unfolding first_and

@@ -49,7 +49,7 @@ pub number_of-digits_of : (order : Endianness) (width n : ℕ) → n < 256 ^ wid
 number_of-digits_of Little width n h = low_first_number_digits width n h
 number_of-digits_of Big width n h = rw (reverse-reverse (low_first_digits width n)) (low_first_number_digits width n h)
 
--- bytes are a number of so many bytes
+-- `width` bytes are a number below 256^width
 pub number_of-below : (order : Endianness) (width : ℕ) (bytes : List ℕ) → length bytes ≡ width → All (λ b. b < 256) bytes → number_of order bytes < 256 ^ width
 number_of-below Little width bytes e h = rw (← e) (low_first_number_below bytes h)
 number_of-below Big width bytes e h =

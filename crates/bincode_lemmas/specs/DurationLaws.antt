@@ -1,4 +1,4 @@
--- Spans of time keep the laws, and the words that they allow.
+-- Durations are lawful; the words that they allow.
 use Rattle.std.specs.Prelude.{◌≡◌, ℕ, ◌+◌, ◌*◌, ◌/◌, ◌%◌, ◌<◌, ◌≤◌, ◌^◌, nat_lt, nat_eq, if◌then◌else◌, pos, Bool, true, false, Result, Ok, Err, List, [], ◌∷◌, ◌++◌, refl}
 use Rattle.std.proofs.Common.{sym, ◌∙◌, ap, subst, arith, eq-eqb}
 use Rattle.std.proofs.lemmas.Bool.{lt-ltb, le-ltb}
@@ -33,7 +33,7 @@ module _ (s : Setting) where
   parts_balanced : Balanced (seconds_and_nanos s)
   parts_balanced = turn-holds 0 0 0 _ _ (unsigned-balanced integers.U64 8 s) (λ seconds. map-balanced (λ nanos. (seconds, nanos)) (unsigned_integer integers.U32 4 s) (unsigned-balanced integers.U32 4 s))
 
-  -- spans of time keep the laws
+  -- durations are lawful
   pub duration-lawful : Lawful (duration s)
   duration-lawful =
       rewritten-lawful _ (seconds_and_nanos s >>= λ parts. from_result (duration_of parts.0 parts.1))

@@ -1,4 +1,4 @@
--- What encoding does passes from parts to wholes.
+-- Encoding a whole, from encoding its parts.
 use Rattle.std.specs.Prelude.{◌≡◌, ◌⊎◌, ℕ, List, [], ◌∷◌, ◌++◌, refl}
 use Rattle.std.proofs.Common.{sym, ◌∙◌, ap, subst, inl, inr, append_assoc, append-nil}
 use Rattle.bincode_base.specs.declared.error.EncodeError.{EncodeError}
@@ -22,7 +22,7 @@ begins_within A B to from bytes h some b =
 pub ready : (A : List ℕ → Type 0) (bytes : List ℕ) → A bytes → Ready (Unit {0}) A bytes
 ready A bytes a = record { is_writable = tt; is_allowed = a }
 
--- the same words by another name
+-- equal words
 pub ready-as : (R : Type 0) (A B : List ℕ → Type 0) → ((bytes : List ℕ) → A bytes → B bytes) → (bytes : List ℕ) → Ready R A bytes → Ready R B bytes
 ready-as R A B to bytes w = record { is_writable = w.is_writable; is_allowed = to bytes w.is_allowed }
 
@@ -50,7 +50,7 @@ module _ {W : Type 0} (adds : Adds W) where
     added = join before between after v.word w.word v.added w.added;
   }
 
-  -- the same words by another name
+  -- equal words
   pub writes-same : (A B : List ℕ → Type 0) (before after : W) → ((bytes : List ℕ) → A bytes → B bytes) → Writes adds A before after → Writes adds B before after
   writes-same A B before after to v = record { word = v.word; is_allowed = to v.word v.is_allowed; added = v.added }
 
@@ -70,13 +70,13 @@ module _ {W : Type 0} (adds : Adds W) (refuses : Refuses W) where
   halts-next join R A B N M before between after e v (by_name front g n b) =
       by_name (v.word ++ front) (join before between after v.word front v.added g) (inr n) (own_or B (Both (Ready R A) B) e front (v.word ++ front) (begins_next R A B v.word front v.is_allowed) b)
 
-  -- words among others: where one of those is allowed, one of these is
+  -- words among others: one of these is allowed if one of those is
   pub halts-within : (A B : List ℕ → Type 0) (N : EncodeError → Type 0) (before after : W) (e : EncodeError) → ((bytes : List ℕ) → A bytes → B bytes) →
       ((bytes : List ℕ) → B bytes → (word : List ℕ) × A word) → EncodeFailure adds refuses A N before after e → EncodeFailure adds refuses B N before after e
   halts-within A B N before after e to from (by_writer front piece middle h r b) = by_writer front piece middle h r (begins_within A B to from (front ++ piece) b)
   halts-within A B N before after e to from (by_name front h n b) = by_name front h n (own_or A B e front front (begins_within A B to from front) b)
 
-  -- the same words by another name
+  -- equal words
   pub halts-same : (A B : List ℕ → Type 0) (N : EncodeError → Type 0) (before after : W) (e : EncodeError) → ((bytes : List ℕ) → A bytes → B bytes) →
       ((bytes : List ℕ) → B bytes → A bytes) → EncodeFailure adds refuses A N before after e → EncodeFailure adds refuses B N before after e
   halts-same A B N before after e to from = halts-within A B N before after e to (λ bytes b. (bytes, from bytes b))
@@ -87,7 +87,7 @@ module _ {W : Type 0} (adds : Adds W) (refuses : Refuses W) where
   halts-named A N M before after e more (by_writer front piece middle h r b) = by_writer front piece middle h r b
   halts-named A N M before after e more (by_name front h n b) = by_name front h (more n) b
 
-  -- a value that can be written where another can
+  -- a value that can be written if another can
   pub halts-where : (R S : Type 0) (A : List ℕ → Type 0) → (S → R) → (N : EncodeError → Type 0) (before after : W) (e : EncodeError) →
       EncodeFailure adds refuses (Ready R A) N before after e → EncodeFailure adds refuses (Ready S A) N before after e
   halts-where R S A f N before after e (by_writer front piece middle h r b) = by_writer front piece middle h r (begins_where R S A f (front ++ piece) b)
@@ -98,7 +98,7 @@ module _ {W : Type 0} (adds : Adds W) (refuses : Refuses W) where
       (N : EncodeError → Type 0) (before after : W) (e : EncodeError) → refuses before piece e after → EncodeFailure adds refuses A N before after e
   halts-alone none A piece a N before after e r = by_writer [] piece before (none before) r (λ some h. ([], subst A (sym (append-nil piece)) a))
 
-  -- pieces whose join is the whole word
+  -- pieces whose concatenation is the whole word
   pub halts-among : (A : List ℕ → Type 0) (pieces : List (List ℕ)) → A (concat_pieces pieces) →
       (N : EncodeError → Type 0) (before after : W) (e : EncodeError) → StopsAmong adds refuses pieces before e after →
       EncodeFailure adds refuses A N before after e
@@ -110,7 +110,7 @@ module _ {W : Type 0} (adds : Adds W) (refuses : Refuses W) where
       joined_append [] y = refl
       joined_append (p ∷ x) y = ap (λ z. p ++ z) (joined_append x y) ∙ sym (append_assoc p (concat_pieces x) (concat_pieces y))
 
--- A whole whose words are those of two parts in turn, and that can be written where they can.
+-- A whole whose words are those of two parts in turn, and which can be written if they can.
 module _ {R S U : Type 0} (pair : R → S → U) (split : U → R × S) {A B C : List ℕ → Type 0} (to : (bytes : List ℕ) → Both A B bytes → C bytes) (from : (bytes : List ℕ) → C bytes → Both A B bytes) where
   whole_ready : (bytes : List ℕ) → Both (Ready R A) (Ready S B) bytes → Ready U C bytes
   whole_ready bytes (x, y, e, a, b) = record { is_writable = pair a.is_writable b.is_writable; is_allowed = to bytes (x, y, e, a.is_allowed, b.is_allowed) }
@@ -122,13 +122,13 @@ module _ {R S U : Type 0} (pair : R → S → U) (split : U → R × S) {A B C :
       (b.0, b.1, b.2, record { is_writable = r.0; is_allowed = b.3 }, record { is_writable = r.1; is_allowed = b.4 })
 
   module _ {W : Type 0} (adds : Adds W) (refuses : Refuses W) (N M K : EncodeError → Type 0) (e : EncodeError) (more : N e ⊎ M e → K e) where
-    -- where its first part halts, it does
+    -- if encoding its first part fails, so does the whole
     pub halts-in_first : (before after : W) → EncodeFailure adds refuses (Ready R A) N before after e → EncodeFailure adds refuses (Ready U C) K before after e
     halts-in_first before after h =
         halts-same adds refuses (Both (Ready R A) (Ready S B)) (Ready U C) K before after e whole_ready parts_ready
         (halts-named adds refuses (Both (Ready R A) (Ready S B)) (λ d. N d ⊎ M d) K before after e more (halts-first adds refuses (Ready R A) (Ready S B) N M before after e h))
 
-    -- and where the second does
+    -- and if encoding the second does
     pub halts-in_next : ((a b c : W) (x y : List ℕ) → adds a x b → adds b y c → adds a (x ++ y) c) → (before between after : W) →
         Writes adds A before between → EncodeFailure adds refuses (Ready S B) M between after e → EncodeFailure adds refuses (Ready U C) K before after e
     halts-in_next join before between after v h =

@@ -1,4 +1,4 @@
--- The forms of scalars keep the laws: each value in bounds is written in one way, which is the shortest.
+-- The forms of scalars are lawful: each value in bounds is written in one way, which is the shortest.
 use Rattle.std.specs.Prelude.{◌≡◌, ℕ, ◌≤◌, ◌<◌, ◌^◌, ℤ, pos, unsigned_abs, FitsSigned, true}
 use Rattle.std.specs.Int.{Width, w8, w16, w32, w64, w128}
 use Rattle.std.proofs.Common.{sym, ◌∙◌, arith}
@@ -35,7 +35,7 @@ pub record FormLaws {A : Type 0} (form : Form A) : Type 0 where
   pub needs : (s : Setting) → Needs form.need (form.format s)
   pub charges_enough : (s : Setting) → ChargesEnough (form.format s)
 
--- the same of numbers, before they are taken as meanings
+-- `FormLaws` of integers, before they are mapped to meanings
 pub record Numerals {A : Type 0} (width : ℕ) (Bounds : A → Type 0) (integer : A → ℤ) (F : Setting → Format A) : Type 0 where
   pub lawful : (s : Setting) → Lawful (F s)
   pub balanced : (s : Setting) → Balanced (F s)

@@ -1,4 +1,4 @@
--- Each way to make a format keeps the laws, so every format of `Words` does.
+-- Each way to make a format gives a lawful one, and so every format of `Words` is lawful.
 use Rattle.std.specs.Prelude.{Some, ◌≡◌, ℕ, zero, suc, ◌-◌, ◌<◌, ◌≤◌, ◌⊎◌, List, [], ◌∷◌, ◌++◌, length, take, drop, refl, Result, Ok, Err, replicate, All}
 use Rattle.std.proofs.Common.{sym, ◌∙◌, ap, subst, inl, inr, append_assoc, arith, append-nil, lit<}
 use Rattle.std.proofs.Math.Seq.{take-append_seam, drop-append_seam}
@@ -49,7 +49,7 @@ pure-lawful a = record {
   written_is_word = λ _ _ w. ([], (w.0, w.1, refl));
 }
 
--- the end of the input is no fault of its own: bytes that follow would have to mend it
+-- the end of the input cannot be the fault: more bytes would have to complete the input
 pub fail-lawful : {A : Type 0} (why : Fault) → ¬ (IsEnd why) → Lawful (fail {A = A} why)
 unfolding fail
 fail-lawful {A} why other = record {
@@ -76,7 +76,7 @@ step-lawful change = record {
   written_is_word = λ _ _ w. (change ∷ [], (w, refl));
 }
 
--- reading bytes as they are, by whether there are enough
+-- reading n bytes: there are enough, or not
 fixed_bytes_enough : (n : ℕ) (input : List ℕ) → n ≤ length input → (fixed_bytes n).read input ≡ Took (take n input) (drop n input) []
 unfolding fixed_bytes
 fixed_bytes_enough n input h = rw (le-ltb (length input) n h) refl
@@ -85,7 +85,7 @@ fixed_bytes_short : (n : ℕ) (input : List ℕ) → length input < n → (fixed
 unfolding fixed_bytes
 fixed_bytes_short n input h = rw (lt-ltb (length input) n h) refl
 
--- one program after another, backwards
+-- from a reading of two programs to one of each
 pub record TookBoth {A B : Type 0} (first : Reading A) (next : A → List ℕ → Reading B) (m : B) (remaining : List ℕ) (s : List Step) : Type 0 where
   pub head : A
   pub middle : List ℕ
@@ -188,7 +188,7 @@ end-or-other (LengthMismatch _ _) = inr (λ h. h)
 end-or-other EmptyEnum = inr (λ h. h)
 end-or-other (OutsideUsize _) = inr (λ h. h)
 
--- what is answered stays answered behind more steps
+-- what is answered stays answered after more steps
 answered_after : {B : Type 0} (s : List Step) (r : Reading B) → IsAnswered r → IsAnswered (after_steps s r)
 answered_after s (Took _ _ _) h = tt
 answered_after s (Failed _ _) h = h
@@ -261,7 +261,7 @@ module _ {A B : Type 0} (F : Format A) (G : A → Format B) (f : Lawful F) (g : 
   turn_read_fault input fault s (inl h) = inl (f.read_fault input fault s h)
   turn_read_fault input fault s (inr b) = inr (turn_later input fault s b)
 
-  -- the first word stands in each longer input
+  -- the first word begins each longer input
   first_stands : (input more middle : List ℕ) (head : A) (s : List Step) → F.read input ≡ Took head middle s → (F >>= G).read (input ++ more) ≡ after_steps s ((G head).read (middle ++ more))
   unfolding ◌>>=◌
   first_stands input more middle head s e =
@@ -291,7 +291,7 @@ module _ {A B : Type 0} (F : Format A) (G : A → Format B) (f : Lawful F) (g : 
       let p = (g b.head).begun b.middle more fault b.second_steps end b.second_is in
       rw (first_stands input more b.middle b.head b.first_steps b.first_is, b.steps_are) (begun_after b.first_steps b.second_steps ((G b.head).read (b.middle ++ more)) p)
 
-  -- where the second is mended, so is the whole
+  -- if the second is completed, so is the whole
   later_mended : (input middle : List ℕ) (head : A) (s : List Step) → F.read input ≡ Took head middle s → Mended (G head).read middle → Mended (F >>= G).read input
   unfolding ◌>>=◌
   later_mended input middle head s e h = record {
@@ -304,7 +304,7 @@ module _ {A B : Type 0} (F : Format A) (G : A → Format B) (f : Lawful F) (g : 
   failed_mended head middle why t (inl h) e = (g head).mended middle why t h e
   failed_mended head middle why t (inr h) e = record { more = []; are_bytes = All-nil (λ b. b < 256); answered = rw (append-nil middle) (rw e h) }
 
-  -- an input that is answered wants no more bytes, and one that ends too early is mended
+  -- an input that is answered needs no more bytes, and one that ends too early is completed
   second_mended : (head : A) (middle : List ℕ) (r : Reading B) → (G head).read middle ≡ r → Mended (G head).read middle
   second_mended head middle (Took m remaining t) e = record { more = []; are_bytes = All-nil (λ b. b < 256); answered = rw (append-nil middle) (rw e tt) }
   second_mended head middle (Failed why t) e = failed_mended head middle why t (end-or-other why) e
@@ -365,7 +365,7 @@ rewritten-lawful Chosen F f chosen = record {
   written_is_word = chosen;
 }
 
--- A vague fault is the end of the input exactly where the fault is.
+-- A fault without a count is the end of the input exactly if the fault is.
 vague_end : (fault : Fault) → IsEnd (fault_without_count fault) → IsEnd fault
 vague_end (End missing) h = tt
 vague_end (InvalidInteger _ _) h = h
@@ -434,7 +434,7 @@ without_count-lawful F f = record {
   written_is_word = f.written_is_word;
 }
 
--- a test that never answers the end of the input
+-- a test whose fault is never the end of the input
 abbrev pub Settles : {A : Type 0} → Result A Fault → Type 0
 Settles (Ok a) = Unit {0}
 Settles (Err why) = ¬ (IsEnd why)

@@ -1,4 +1,4 @@
--- What a stopped encoding leaves of a value that can be written: for callers with types that have the law `Writable`.
+-- What an encoding that failed leaves of a value that can be written: for callers with `Writable` types.
 use Rattle.std.specs.Prelude.{◌⊎◌, ℕ, List}
 use Rattle.std.proofs.Common.{inl, inr}
 use Rattle.bincode_base.specs.declared.error.EncodeError.{EncodeError}
@@ -13,6 +13,6 @@ module _ (Writable : Type 0) (Allowed : List ℕ → Type 0) (w : Writable) wher
   begins_or front e (inl o) = inl o
   begins_or front e (inr b) = inr (begins front b)
 
-  -- a front of a word that is ready is one of an allowed word
+  -- a prefix of a word that is ready is one of an allowed word
   pub front-written : (old new : List ℕ) (e : EncodeError) → FrontWritten (Ready Writable Allowed) old new e → FrontWritten Allowed old new e
   front-written old new e f = record { front = f.front; fills = f.fills; begins = begins_or f.front e f.begins }

@@ -1,4 +1,4 @@
--- Hashed sets and maps: no order of theirs is told, and what a word has, put in turn, is what it decodes to.
+-- Hashed sets and maps: their order is not known, and a word decodes to what its items, inserted in order, make.
 use Rattle.std.specs.Prelude.{◌≡◌, ℕ, ◌+◌, ◌≤◌, ◌||◌, ◌&&◌, ◌⊎◌, cond, Bool, true, false, List, [], ◌∷◌, ◌++◌, length, map, Option, MatchOption, refl}
 use Rattle.std.specs.declared.option.Option.TheVariants.{None, Some}
 use Rattle.std.specs.Bool.{MatchBool}
@@ -30,13 +30,13 @@ use Rattle.bincode_lemmas.specs.PairLaws.{pair_of, IsPair}
 use Rattle.bincode_lemmas.specs.ReadLaws.{ReadsAs, fewer-read, pair-reads, reads-pair}
 use Rattle.bincode_lemmas.specs.RunAllowedLaws.{run-same}
 
--- no more are there than were put
+-- there are no more than were inserted
 puts-length : {A : Type 0} (Puts : List A → A → List A → Type 0) → ((before : List A) (x : A) (after : List A) → Puts before x after → length after ≤ length before + 1) →
     (before items after : List A) → PutsAll Puts before items after → length after ≤ length before + length items
 puts-length Puts most before [] after p = omega (arith, ap length p)
 puts-length Puts most before (x ∷ items) after (between, p, q) = omega (arith, most before x between p, puts-length Puts most between items after q)
 
--- what is put, laid beside its words: what is left charged no more
+-- inserted values beside their words: those that stay charge no more
 module _ {A W : Type 0} (Puts : List A → A → List A → Type 0) (plain : W → A) (IsLaid : W → Type 0) (weight : W → ℕ) where
   abbrev Left : List A → ℕ → Type 0
   Left after most = (ys : List W) × (after ≡ map plain ys) × All IsLaid ys × (sum_by weight ys ≤ most)
@@ -50,13 +50,13 @@ module _ {A W : Type 0} (Puts : List A → A → List A → Type 0) (plain : W �
       let others = puts-laid put one.0 items after one.2 (All-tail IsLaid x items k) (subst (λ l. PutsAll Puts l (map plain items) after) one.1 q) in
       (others.0, others.1, others.2, omega (arith, others.3, one.3, sum_by-cons weight x items))
 
-  -- one more somewhere
+  -- one more, somewhere
   more-laid : (xs : List W) (x : W) (after : List A) → All IsLaid xs → IsLaid x → IsPermutation (plain x ∷ map plain xs) after → Left after (sum_by weight xs + weight x)
   more-laid xs x after h k p =
       let q = map-permuted plain (x ∷ xs) after p in
       (q.0, q.2, All-permutation IsLaid (x ∷ xs) q.0 q.1 (All-cons IsLaid x xs k h), omega (arith, sum_by-IsPermutation weight (x ∷ xs) q.0 q.1, sum_by-cons weight x xs))
 
--- keys that are put
+-- inserting keys
 
 module _ {K : Type 0} (eq : K → K → Bool) where
   key-length : (there : Bool) (before after : List K) (k : K) → MatchBool there (after ≡ before) (IsPermutation (k ∷ before) after) → length after ≤ length before + 1
@@ -66,7 +66,7 @@ module _ {K : Type 0} (eq : K → K → Bool) where
   pub length-hashed_set : (items keys : List K) → MakesHashedSet eq items keys → length keys ≤ length items
   length-hashed_set items keys p = omega (arith, puts-length (PutsKey eq) (λ before k after. key-length (list_any (eq k) before) before after k) [] items keys p)
 
-  -- keys that are put in turn have words that are no longer
+  -- the keys that inserting leaves have words that are no longer
   module _ (Allowed : K → List ℕ → Type 0) where
     abbrev key : K × List ℕ → K
     key x = x.0
@@ -91,7 +91,7 @@ module _ {K : Type 0} (eq : K → K → Bool) where
         let r = laid-each Allowed key KeyLaid key_weight (λ x h. (x.1, h, refl)) put.0 put.2 in
         (r.0, subst (λ l. AllowsEach Allowed l r.0) (sym put.1) r.1, omega (arith, r.2, p.3, put.3))
 
--- entries that are put
+-- inserting entries
 module _ {K V : Type 0} (eq : K → K → Bool) where
   entry-length : (old : Option V) (before after : List (K × V)) (e : K × V) → MatchOption old (IsPermutation (e ∷ before) after) (λ _. after ≡ set_value (eq e.0) before e.1) →
       length after ≤ length before + 1
@@ -101,7 +101,8 @@ module _ {K V : Type 0} (eq : K → K → Bool) where
   pub length-hashed_map : (items entries : List (K × V)) → MakesHashedMap eq items entries → length entries ≤ length items
   length-hashed_map items entries p = omega (arith, puts-length (PutsEntry eq) (λ before e after. entry-length (lookup (eq e.0) before) before after e) [] items entries p)
 
-  -- entries that are put in turn have words that are no longer, if a word of an entry is one of its key and one of its value: a key that stays keeps its word
+  -- entries that are inserted in order have words that are no longer, if a word of an entry is one of its key and one
+  -- of its value: a key that stays keeps its word
   module _ (Keys : K → List ℕ → Type 0) (Values : V → List ℕ → Type 0) (Allowed : K × V → List ℕ → Type 0) where
     abbrev entry : (K × List ℕ) × (V × List ℕ) → K × V
     entry x = (x.0.0, x.1.0)
@@ -112,7 +113,7 @@ module _ {K V : Type 0} (eq : K → K → Bool) where
     abbrev entry_weight : (K × List ℕ) × (V × List ℕ) → ℕ
     entry_weight x = length x.0.1 + length x.1.1
 
-    -- where a key takes another value
+    -- a key takes another value
     module _ (k : K) (value : V × List ℕ) where
       abbrev HasTaken : List ((K × List ℕ) × (V × List ℕ)) → Type 0
       HasTaken xs = Left (PutsEntry eq) entry EntryLaid entry_weight (set_value (eq k) (map entry xs) value.0) (sum_by entry_weight xs + length value.1)
@@ -149,7 +150,7 @@ module _ {K V : Type 0} (eq : K → K → Bool) where
         let r = laid-each Allowed entry EntryLaid entry_weight (λ x h. (x.0.1 ++ x.1.1, join (entry x) (x.0.1 ++ x.1.1) (x.0.1, x.1.1, refl, h.0, h.1), length-append x.0.1 x.1.1)) put.0 put.2 in
         (r.0, subst (λ l. AllowsEach Allowed l r.0) (sym put.1) r.1, omega (arith, r.2, p.3, put.3))
 
--- what has no two equal keys is put as it is, in any order
+-- distinct keys are inserted as they are, in any order
 
 module _ {K : Type 0} (eq : K → K → Bool) (laws : IsEquivalence eq) where
   -- what is equal, one by one, to keys that differ are keys that differ
@@ -323,7 +324,8 @@ module _ {K : Type 0} (eq : K → K → Bool) (laws : IsEquivalence eq) (Means D
 
 -- maps
 module _ {K V : Type 0} (eq : K → K → Bool) (laws : IsEquivalence eq) (Means DecodesTo : K × V → Meaning → Type 0) (Valid : K × V → Type 0) where
-  -- what decodes to what entries of different keys mean are its entries, in some order, and each is alike to one of those
+  -- what decodes to what entries of different keys mean are its entries, in some order, and each is alike to one of
+  -- those
   pub given_entries : (same : K × V → K × V → Bool) → ((x y : K × V) → same x y ≡ true → eq x.0 y.0 ≡ true) →
       ((v w : K × V) (m : Meaning) → Valid v → Means v m → DecodesTo w m → same v w ≡ true) → (entries others : List (K × V)) (m : Meaning) → IsDistinct eq (keys_of entries) → All Valid entries →
       (meant : IsMadeOf MakesBag Means entries m) → (given : IsMadeOf (MakesHashedMap eq) DecodesTo others m) →
@@ -351,7 +353,8 @@ module _ {K V : Type 0} (eq : K → K → Bool) (laws : IsEquivalence eq) (Valid
   abbrev DecodesTo : K × V → Meaning → Type 0
   DecodesTo e = IsPair (GivenKey e.0) (GivenValue e.1)
 
-  -- no word that decodes to it is shorter, if none of an entry is: of words of equal keys those of the first key and of the last value count
+  -- no word that decodes to it is shorter, if none of an entry is: of words of equal keys those of the first key and of
+  -- the last value count
   pub hashed_map-shortest : ((v w : K × V) (m : Meaning) → Valid v → Means v m → DecodesTo w m → eq v.0 w.0 ≡ true) → (s : Setting) (share : ℕ) (F G : Format Meaning) →
       ((v w : K × V) → Valid v → Shortest (Means v) (DecodesTo w) (pair_of F G)) → (entries others : List (K × V)) → AreValid Valid entries →
       IsDistinct eq (keys_of entries) → Shortest (IsMadeOf MakesBag Means entries) (IsMadeOf (MakesHashedMap eq) DecodesTo others) (list s share (pair_of F G))

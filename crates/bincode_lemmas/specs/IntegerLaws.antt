@@ -1,4 +1,4 @@
--- The formats of numbers keep the laws.
+-- The formats of numbers are lawful.
 use Rattle.std.specs.Prelude.{◌≡◌, ℕ, suc, ◌^◌, ◌<◌, ◌≤◌, ◌⊎◌, Bool, true, false, ◌==◌, if◌then◌else◌, ◌&&◌, nat_lt, nat_le, ℤ, pos, negsuc, FitsSigned, List, [], ◌∷◌, ◌++◌, length, refl}
 use Rattle.std.specs.List.{All}
 use Rattle.std.specs.Int.{Width, w8, w16, w32, w64, w128}
@@ -70,7 +70,7 @@ behind_lawful order why first (Before n) h = digits-lawful order n
 behind_lawful order why first TooWide h = fail-lawful why h
 
 module _ (tags : ℕ → IntegerType) (name : IntegerType) (order : Endianness) (width : ℕ) where
-  -- a small number is its byte
+  -- a number up to 250 is its byte
   small_word : (n : ℕ) → n ≤ 250 → (varint tags name order width).Word (n ∷ []) n []
   unfolding varint written_as ◌>>=◌ pure
   small_word n h =
@@ -87,7 +87,7 @@ module _ (tags : ℕ → IntegerType) (name : IntegerType) (order : Endianness) 
         second_word = rw e (refl, refl, refl);
       }
 
-  -- a tag goes before digits
+  -- a tag before digits
   tagged_word : (tag count n : ℕ) → first_byte width tag ≡ Before count → n < 256 ^ count → (varint tags name order width).Word (tag ∷ digits_of order count n) n []
   unfolding varint written_as ◌>>=◌
   tagged_word tag count n e h = record {
@@ -143,7 +143,7 @@ at_most_16 width n (Four e) h = let l : n < 256 ^ 4 = rw e at h in omega (arith,
 at_most_16 width n (Eight e) h = let l : n < 256 ^ 8 = rw e at h in omega (arith, l)
 at_most_16 width n (Sixteen e) h = rw e at h
 
--- how large a number is, by the tests of the shortest spelling
+-- the sizes of numbers, by the tests of the shortest spelling
 data Size (n : ℕ) : Type 0 where
   Small : n ≤ 250 → Size n
   InTwo : 250 < n → n < 65536 → Size n
@@ -439,9 +439,9 @@ written-signed_byte z h =
     (subst (λ y. (map_format (from_two_complement 1) byte).Written (two_complement 1 z ∷ []) y) e
     (map_written (from_two_complement 1) byte (two_complement 1 z ∷ []) (two_complement 1 z) (byte_written (two_complement 1 z))))
 
--- words, backwards
+-- from words to their parts
 
--- what the first byte says is true
+-- what a first byte stands for
 abbrev Tells : ℕ → FirstByte → Type 0
 Tells first Itself = first ≤ 250
 Tells first (Before n) = IsWidth n
@@ -466,7 +466,7 @@ word_map f F bytes b s h =
     let e : bytes ≡ h.first = h.bytes_are ∙ ap (λ z. h.first ++ z) h.second_word.0 ∙ append-nil h.first in
     (h.head, h.first_steps, subst (λ z. F.Word z h.head h.first_steps) (sym e) h.first_word, h.second_word.1)
 
--- a word behind a charge is a word
+-- a word after a charge is a word
 pub word-charged : {A : Type 0} (n : ℕ) (F : Format A) (bytes : List ℕ) (m : A) (s : List Step) → (charge_then n F).Word bytes m s → (t : List Step) × F.Word bytes m t
 unfolding ◌>>=◌ step
 word-charged n F bytes m s h =
@@ -487,7 +487,7 @@ word_digits order width bytes n s h =
     let p = word_map (number_of order) (fixed_bytes width) bytes n s h in
     (p.2.0, p.3 ∙ ap (number_of order) p.2.1)
 
--- a word is a first byte, and what it says
+-- a word is a first byte and what it asks for
 record FirstThen (tags : ℕ → IntegerType) (name : IntegerType) (order : Endianness) (width : ℕ) (bytes : List ℕ) (n : ℕ) : Type 0 where
   pub head : ℕ
   pub tail : List ℕ

@@ -1,4 +1,4 @@
--- The values of a run beside their words, so that both can be put in another order.
+-- The values of a run beside their words, so that both can be reordered together.
 use Rattle.std.specs.Prelude.{◌≡◌, ℕ, List, [], ◌∷◌, ◌++◌, length, map, refl}
 use Rattle.std.specs.List.{All, sum_by, swap}
 use Rattle.std.specs.List.Sorted.{IsPermutation}
@@ -10,7 +10,7 @@ use Rattle.std.proofs.lemmas.List.Sums.{sum_by-cons}
 use Rattle.std.proofs.lemmas.List.Sorted.{IsPermutation-refl, IsPermutation-trans, IsPermutation-swap, IsPermutation-keeps, All-permutation, sum_by-IsPermutation}
 use Rattle.bincode_spec.specs.Run.{AllowsEach}
 
--- each value of a run, laid beside its word: what the value and the length of the word are can be told from it
+-- each value of a run beside its word: the value and the length of the word can be read off it
 
 module _ {A W : Type 0} (Allowed : A → List ℕ → Type 0) (plain : W → A) (IsLaid : W → Type 0) (weight : W → ℕ) where
   pub each-laid : ((v : A) (bytes : List ℕ) → Allowed v bytes → (x : W) × (v ≡ plain x) × IsLaid x × (length bytes ≡ weight x)) →

@@ -1,4 +1,4 @@
--- What another limit changes, and what is read back within one.
+-- What another limit changes, and what is decoded again within one.
 use Rattle.std.specs.Prelude.{◌≡◌, ℕ, List, [], ◌++◌, length, take, drop, Option, Some, None, Result, Ok, Err, IfOk, MatchResult, refl}
 use Rattle.std.proofs.Common.{sym, ◌∙◌, ap, subst, arith, append-nil}
 use Rattle.std.proofs.Math.Seq.{take-append_seam}
@@ -15,13 +15,14 @@ use Rattle.bincode_spec.specs.Slice.{WordWritten, Decoded, FindsWords}
 use Rattle.bincode_lemmas.specs.AnswerLaws.{counted_after, gave-word, word-gave}
 use Rattle.bincode_lemmas.specs.FormatLaws.{one-word}
 
--- what stays within a limit stays within each larger one, and where there is none
+-- what stays within a limit stays within each larger one, and without one
 pub within-larger : (small large : Option ℕ) (charge : ℕ) (steps : List Step) → NoTighter small large → StaysWithin small charge steps → StaysWithin large charge steps
 within-larger small None charge steps h w = tt
 within-larger None (Some large) charge steps h w = absurd h
 within-larger (Some small) (Some large) charge steps h w = λ front back e. let p = w front back e in omega arith
 
--- Where a limit lets a decode succeed, each larger limit and none give the same meaning and the same rest.
+-- If decoding succeeds under a limit, it gives the same meaning and leaves the same bytes under each larger one and
+-- none.
 pub larger-gives : {A : Type 0} (F : Format A) (f : Lawful F) (b : Balanced F) (small large : Option ℕ) → NoTighter small large → (input remaining : List ℕ) (m : A) (charge : ℕ) →
     answer small F input 0 ≡ Gave m remaining charge → (after : ℕ) × (answer large F input 0 ≡ Gave m remaining after)
 larger-gives F f b small large h input remaining m charge g =
@@ -29,8 +30,8 @@ larger-gives F f b small large h input remaining m charge g =
     let e = word-gave F f b large w.word remaining m w.steps 0 w.is_word (within-larger small large 0 w.steps h w.within) in
     (counted_after large 0 w.steps, ap (λ z. answer large F z 0) w.input_is ∙ e)
 
--- The same of the calls that decode: what was decoded within a limit is decoded within each larger one, to a value that is
--- given for the same meaning, of as many bytes, unless memory is refused.
+-- So do the decoding calls: what is decoded within a limit is decoded within each larger one, to a value of the same
+-- meaning and from as many bytes, unless memory is refused.
 pub larger-decodes : {A : Type 0} (F : Format Meaning) (f : Lawful F) (small large : Option ℕ) → NoTighter small large → (input : List ℕ) (DecodesTo : Meaning → A → Type 0) (a : A) (n : ℕ) →
     Decoded F small input (λ m. DecodesTo m a) n → (MayAllocate : Type 0) (result : Result (A × ℕ) DecodeError) → IfOk result (λ x. Decoded F large input (λ m. DecodesTo m x.0) x.1) →
     FindsWords F large MayAllocate input result → MatchResult result (λ x. ((m : Meaning) × DecodesTo m a × DecodesTo m x.0) × (x.1 ≡ n)) (IsRefused MayAllocate)
@@ -42,8 +43,8 @@ larger-decodes F f small large h input DecodesTo a n d MayAllocate (Err e) g fou
 
 module _ {A : Type 0} (F : Format Meaning) (f : Lawful F) (limit : Option ℕ) (Means : Meaning → Type 0)
     (DecodesTo : Meaning → A → Type 0) (Same : A → Type 0) (same : (a : A) (m : Meaning) → Means m → DecodesTo m a → Same a) where
-  -- A word that was written is read back under each limit that its own steps stay within: an equal value, of as many bytes,
-  -- whatever follows them, unless memory is refused.
+  -- A word that was written is read back under each limit that its own steps stay within: an equal value, of as many
+  -- bytes, whatever follows them, unless memory is refused.
   pub read-back : (word remaining : List ℕ) → AllowedWord Means F word → FitsLimit F limit word →
       (MayAllocate : Type 0) (result : Result (A × ℕ) DecodeError) → IfOk result (λ x. Decoded F limit (word ++ remaining) (λ m. DecodesTo m x.0) x.1) →
       FindsWords F limit MayAllocate (word ++ remaining) result → MatchResult result (λ x. Same x.0 × (x.1 ≡ length word)) (IsRefused MayAllocate)
@@ -55,7 +56,7 @@ module _ {A : Type 0} (F : Format Meaning) (f : Lawful F) (limit : Option ℕ) (
       let u = f.written_is_word word w.meaning w.is_written in
       found word remaining w.meaning u.0 refl u.1 (within w.meaning u.0 u.1)
 
-  -- the same of a slice that it was written into
+  -- so is a slice that it was written into
   pub read-back_slice : (n : ℕ) (old new : List ℕ) → WordWritten (AllowedWord Means F) n old new → FitsLimit F limit (take n new) →
       (MayAllocate : Type 0) (result : Result (A × ℕ) DecodeError) → IfOk result (λ x. Decoded F limit new (λ m. DecodesTo m x.0) x.1) →
       FindsWords F limit MayAllocate new result → MatchResult result (λ x. Same x.0 × (x.1 ≡ n)) (IsRefused MayAllocate)
@@ -67,7 +68,7 @@ module _ {A : Type 0} (F : Format Meaning) (f : Lawful F) (limit : Option ℕ) (
       (subst (λ input. IfOk result (λ x. Decoded F limit input (λ m. DecodesTo m x.0) x.1)) w.fills d)
       (subst (λ input. FindsWords F limit MayAllocate input result) w.fills found))
 
-  -- and of a vector
+  -- and a vector
   pub read-back_vec : (bytes : List ℕ) → AllowedWord Means F bytes → FitsLimit F limit bytes →
       (MayAllocate : Type 0) (result : Result (A × ℕ) DecodeError) → IfOk result (λ x. Decoded F limit bytes (λ m. DecodesTo m x.0) x.1) →
       FindsWords F limit MayAllocate bytes result → MatchResult result (λ x. Same x.0 × (x.1 ≡ length bytes)) (IsRefused MayAllocate)

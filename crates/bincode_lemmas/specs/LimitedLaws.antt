@@ -1,4 +1,4 @@
--- What the calls that decode answer under a limit, of types whose need is told, and of those that are charged for.
+-- What the decoding calls return under a limit, for types whose need is known and for types that charge enough.
 use Rattle.std.specs.Prelude.{◌≡◌, ◌⊎◌, ◌≤◌, ◌++◌, ◌-◌, length, ℕ, List, refl, Option, Some, None, Result, Ok, Err, IfOk, IfErr}
 use Rattle.std.proofs.Common.{◌∙◌, ap, subst, arith, inl, inr, length-append}
 use Rattle.bincode_base.specs.declared.error.DecodeError.{DecodeError}
@@ -16,7 +16,7 @@ use Rattle.bincode_lemmas.specs.NeedLaws.{Needs, peak-passes, peak-stays}
 use Rattle.bincode_lemmas.specs.ChargedLaws.{ChargesEnough, within-bounded}
 use Rattle.bincode_spec.specs.Limited.{LimitedBy, WordBounded}
 
--- no fault is told by that the limit was passed, unless the end of the input is
+-- no fault gives `LimitExceeded`, unless the end of the input does
 module _ (end_error : ℕ → DecodeError → Type 0) (never : (missing : ℕ) (e : DecodeError) → end_error missing e → e ≡ LimitExceeded → ⊥) where
   tells_limit : (why : Fault) (e : DecodeError) → e ≡ LimitExceeded → Tells end_error why e → ⊥
   tells_limit (End (Some missing)) e i h = never missing e h i
@@ -76,14 +76,14 @@ module _ (F : Format Meaning) (f : Lawful F) (input : List ℕ) where
         faults = λ h why s w u. told why s w (stays_by s (fault_steps why s w) h);
       }
 
--- of what a call that reads promises, where its limit is this one
+-- `LimitedBy` from what a call that reads promises under this limit
 pub read-limited : {A : Type 0} (F : Format Meaning) → Lawful F → (need : List ℕ → ℕ) → Needs need F → (end_error : ℕ → DecodeError → Type 0) → ((missing : ℕ) (e : DecodeError) → end_error missing e → e ≡ LimitExceeded → ⊥) →
     (Excused : DecodeError → Type 0) (input : List ℕ) (bound : Option ℕ) (result : Result A DecodeError) → AcceptsAll F bound Excused input result → ReportsFault end_error F bound Excused input result → EnforcesLimit F bound Excused input result →
     (limit : ℕ) → bound ≡ Some limit → LimitedBy end_error F need limit Excused input result
 read-limited F f need n end_error never Excused input bound result found told over limit e =
     limited F f input need n limit end_error never Excused result (subst (λ b. AcceptsAll F b Excused input result) e found) (subst (λ b. ReportsFault end_error F b Excused input result) e told) (subst (λ b. EnforcesLimit F b Excused input result) e over)
 
--- and of an answer to a slice
+-- and from an answer to a slice
 pub answer-limited : {A : Type 0} (F : Format Meaning) → Lawful F → (need : List ℕ → ℕ) → Needs need F → (MayAllocate : Type 0) (DecodesTo : Meaning → A → Type 0) (input : List ℕ) (bound : Option ℕ) (result : Result (A × ℕ) DecodeError) →
     IsAnswer F bound MayAllocate DecodesTo input result → (limit : ℕ) → bound ≡ Some limit → LimitedBy EndsSlice F need limit (IsRefused MayAllocate) input result
 answer-limited F f need n MayAllocate DecodesTo input bound result a =

@@ -1,4 +1,4 @@
--- Lists behind their length keep the laws, and what they allow, by what their values do.
+-- Length-prefixed lists are lawful; what they allow, from what their values allow.
 use Rattle.std.specs.Prelude.{◌≡◌, ℕ, zero, suc, ◌<◌, ◌^◌, pos, Result, Ok, List, [], ◌∷◌, ◌++◌, length, refl}
 use Rattle.std.specs.List.{All}
 use Rattle.std.proofs.Common.{sym, ◌∙◌, ap, subst, arith, append-nil}
@@ -84,7 +84,7 @@ module _ (share : ℕ) (F : Format Meaning) where
       let k : m ≡ list_meaning t.0 = cc in
       is_list-length Is vs t.0 (subst (IsListOf Is vs) k h) ∙ elements_word n t.3.second t.0 t.3.second_steps t.3.second_word
 
--- lists keep the laws
+-- lists are lawful
 pub list-lawful : (s : Setting) (share : ℕ) (F : Format Meaning) → Lawful F → Lawful (list s share F)
 list-lawful s share F f = turn-lawful (len s) (λ n. array n share F) (unsigned-lawful U64 8 s (Eight refl)) (λ n. array-lawful n share F f)
 
@@ -92,7 +92,7 @@ pub list-balanced : (s : Setting) (share : ℕ) (F : Format Meaning) → Balance
 list-balanced s share F f = turn-holds 0 0 0 (len s) (λ n. array n share F) (unsigned-balanced U64 8 s) (λ n. array-balanced n share F f)
 
 module _ {A : Type 0} (Means : A → Meaning → Type 0) (s : Setting) (share : ℕ) (F : Format Meaning) where
-  -- a list allows what is written for its length, and then what its array allows
+  -- a list allows what is written for its length, then what its array allows
   pub list-allows : (vs : List A) (bytes : List ℕ) → Both (LengthWord s (length vs)) (AllowedWord (IsListOf Means vs) (array (length vs) share F)) bytes →
       AllowedWord (IsListOf Means vs) (list s share F) bytes
   unfolding ◌>>=◌

@@ -1,4 +1,5 @@
--- Maps: their entries in order are what they mean, and the entries of a word, put in turn, are what it decodes to.
+-- Maps: their entries in order are what they mean, and the entries of a word, inserted in order, are what it decodes
+-- to.
 use Rattle.std.specs.Prelude.{◌≡◌, ℕ, ◌+◌, ◌≤◌, ◌&&◌, Bool, true, List, [], ◌++◌, length, map, refl}
 use Rattle.std.specs.declared.cmp.Ordering.{Ordering}
 use Rattle.std.specs.Ordering.{is_eq}
@@ -25,7 +26,8 @@ use Rattle.bincode_lemmas.specs.OrderLaws.{sorted-put_entries, sorted-equal, map
 use Rattle.bincode_lemmas.specs.PairLaws.{pair_of, IsPair}
 use Rattle.bincode_lemmas.specs.ReadLaws.{ReadsAs, fewer-read, pair-reads, reads-pair}
 
--- entries that are put in turn have words that are no longer, if a word of an entry is one of its key and one of its value: a key that stays keeps its word
+-- entries that are inserted in order have words that are no longer, if a word of an entry is one of its key and one of
+-- its value: a key that stays keeps its word
 module _ {K V : Type 0} (cmp : K → K → Ordering) (Keys : K → List ℕ → Type 0) (Values : V → List ℕ → Type 0) (Allowed : K × V → List ℕ → Type 0) where
   pub put_entries-allowed : ((e : K × V) (bytes : List ℕ) → Allowed e bytes → Both (Keys e.0) (Values e.1) bytes) →
       ((e : K × V) (bytes : List ℕ) → Both (Keys e.0) (Values e.1) bytes → Allowed e bytes) → (items : List (K × V)) (bytes : List ℕ) → AllowsEach Allowed items bytes →
@@ -69,7 +71,8 @@ module _ {K V : Type 0} (cmp : K → K → Ordering) (eq : K → K → Bool) (to
       let alike = run-same Means DecodesTo Valid (λ x. Unit {0}) (λ x y. eq x.0 y.0 && same x.1 y.1) (λ v w n p q. comes_back v w n p) entries items h (λ k d lt. tt) m i j in
       subst (λ l. pointwise (λ x y. eq x.0 y.0 && same x.1 y.1) entries l ≡ true) (sym g.1) alike
 
-  -- no word that decodes to it is shorter, if none of an entry is: of words of equal keys those of the first key and of the last value count
+  -- no word that decodes to it is shorter, if none of an entry is: of words of equal keys those of the first key and of
+  -- the last value count
   module _ (Means : K × V → Meaning → Type 0) (GivenKey : K → Meaning → Type 0) (GivenValue : V → Meaning → Type 0) where
     abbrev DecodesTo : K × V → Meaning → Type 0
     DecodesTo e = IsPair (GivenKey e.0) (GivenValue e.1)

@@ -1,4 +1,4 @@
--- What a format needs is the greatest charge behind a front of its steps.
+-- What a format needs is the greatest charge after a prefix of its steps.
 use Rattle.std.specs.Prelude.{◌≡◌, ℕ, zero, suc, ◌+◌, ◌-◌, ◌*◌, ◌<◌, ◌≤◌, ◌⊎◌, max, List, [], ◌∷◌, ◌++◌, refl, Option, Some, None, Result, Ok, Err, nat_lt, length, take, drop, Bool, true, false, if◌then◌else◌, ◌==◌, position}
 use Rattle.std.proofs.Common.{sym, ◌∙◌, ap, subst, arith, inl, inr, append_assoc}
 use Rattle.std.proofs.lemmas.Bool.{cases_lt, le-ltb}
@@ -26,7 +26,7 @@ use Rattle.bincode_lemmas.specs.IntegerLaws.{unsigned-balanced, byte-balanced}
 
 -- steps
 
--- From a charge the steps reach the peak, and no front of them goes beyond it.
+-- From a charge the steps reach the peak, and no prefix of them goes beyond it.
 pub record IsPeak (charge peak : ℕ) (steps : List Step) : Type 0 where
   pub front : List Step
   pub back : List Step
@@ -34,7 +34,7 @@ pub record IsPeak (charge peak : ℕ) (steps : List Step) : Type 0 where
   pub reached : peak + released_bytes front ≡ charge + charged_bytes front + reserved_bytes front
   pub highest : (front back : List Step) → steps ≡ front ++ back → charge + charged_bytes front + reserved_bytes front ≤ peak + released_bytes front
 
--- the same from a larger charge
+-- and so they do from a larger charge
 peak_more : (charge peak more : ℕ) (steps : List Step) → IsPeak charge peak steps → IsPeak (charge + more) (peak + more) steps
 peak_more charge peak more steps p = record {
   front = p.front;
@@ -44,7 +44,7 @@ peak_more charge peak more steps p = record {
   highest = λ front back e. let h = p.highest front back e in omega arith;
 }
 
--- the whole is one of the fronts
+-- the whole is one of the prefixes
 peak_whole : (charge peak : ℕ) (steps : List Step) → IsPeak charge peak steps → charge + charged_bytes steps + reserved_bytes steps ≤ peak + released_bytes steps
 peak_whole charge peak steps p = p.highest steps [] (sym (append-nil steps))
 
@@ -105,7 +105,7 @@ module _ (charge between p q : ℕ) (s t : List Step) (e : between + released_by
   peak_append : IsPeak charge p s → IsPeak between q t → IsPeak charge (max p q) (s ++ t)
   peak_append = peak_by (cases_lt p q)
 
--- the limit: it is passed exactly where it is below the peak
+-- the limit is passed exactly if it is below the peak
 pub peak-passes : (limit peak : ℕ) (steps : List Step) → IsPeak 0 peak steps → limit < peak → Passes (Some limit) 0 steps
 peak-passes limit peak steps p h = let e = p.reached in record { front = p.front; back = p.back; steps_are = p.steps_are; above = omega arith }
 
@@ -118,7 +118,7 @@ peak-stays limit peak steps p h = λ front back e. let k = p.highest front back 
 pub record PeaksFrom (held : ℕ) (need : List ℕ → ℕ) {A : Type 0} (F : Format A) : Type 0 where
   pub peaks : (input : List ℕ) → IsPeak held (need input) (steps_of (F.read input))
 
--- a format needs so much of a limit
+-- a format needs this limit
 abbrev pub Needs : (List ℕ → ℕ) → {A : Type 0} → Format A → Type 0
 Needs need F = PeaksFrom 0 need F
 
@@ -153,7 +153,7 @@ without_count_peaks : {A : Type 0} (held : ℕ) (need : List ℕ → ℕ) (F : F
 unfolding without_count
 without_count_peaks held need F f = record { peaks = λ input. subst (IsPeak held (need input)) (sym (steps_vague (F.read input))) (f.peaks input) }
 
--- which word is written is no matter
+-- which word is written does not matter
 pub rewritten-needs : {A : Type 0} (need : List ℕ → ℕ) (Chosen : List ℕ → A → Type 0) (F : Format A) → Needs need F → Needs need (written_as Chosen F)
 unfolding written_as
 rewritten-needs need Chosen F f = record { peaks = f.peaks }
@@ -162,7 +162,7 @@ steps_after : {A : Type 0} (s : List Step) (r : Reading A) → steps_of (after_s
 steps_after s (Took a remaining t) = refl
 steps_after s (Failed why t) = refl
 
--- what is held behind the first is held before the second
+-- what is held after the first is held before the second
 behind_held : {A : Type 0} → ℕ → Reading A → (A → List ℕ → ℕ) → ℕ
 behind_held p (Took a remaining steps) next = max p (charged_bytes steps + next a remaining)
 behind_held p (Failed why steps) next = p
@@ -408,7 +408,7 @@ pub chosen-needs : (tags : Setting → Format ℕ) (variants : List Variant) (s 
 unfolding tag_then_part
 chosen-needs tags variants s width next b t g = turn_peaks 0 0 (behind_tag variants s) next g (λ _. width) (tags s) b t
 
--- a span of time: its two numbers
+-- a duration: its two numbers
 pub duration-needs : (s : Setting) → Needs (duration_needs s) (duration s)
 duration-needs s =
     rewritten-needs _ _ _ (test-needs _ (seconds_and_nanos s) (λ parts. duration_of parts.0 parts.1)

@@ -1,4 +1,4 @@
--- What worked inputs need, computed.
+-- What example inputs need, computed.
 use Rattle.std.specs.Prelude.{◌≡◌, ℕ, ◌==◌, refl, List, [], ◌∷◌}
 use Rattle.bincode_base.specs.Setting.{Setting}
 use Rattle.bincode_base.specs.declared.config.Endianness.TheVariants.{Little}

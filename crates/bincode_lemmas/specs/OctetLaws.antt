@@ -1,4 +1,4 @@
--- Octets keep the laws. They allow themselves alone.
+-- Octets are lawful. They allow themselves alone.
 use Rattle.std.specs.Prelude.{◌≡◌, ℕ, ◌<◌, List, [], ◌++◌, length, replicate, refl}
 use Rattle.std.specs.List.{All}
 use Rattle.std.proofs.Common.{sym, ◌∙◌, ap, arith}
@@ -34,7 +34,7 @@ module _ (n : ℕ) where
   unfolding ◌>>=◌ step fixed_bytes
   charged_octets bytes e = record { first = []; second = bytes; head = tt; bytes_are = refl; first_written = refl; second_written = (e, refl) }
 
-  -- so many bytes allow themselves
+  -- n bytes allow themselves
   pub octets-allow : (bytes : List ℕ) → length bytes ≡ n → AllowedWord (IsBytes bytes) (octets n) bytes
   octets-allow bytes e = record { meaning = Bytes bytes; is_meant = refl; is_written = map-written Bytes (charge_then n (fixed_bytes n)) bytes bytes (charged_octets bytes e) }
 

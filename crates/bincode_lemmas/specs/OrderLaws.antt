@@ -1,4 +1,4 @@
--- Keys and entries that are put in turn: those in order stay as they are, and what is left charged no more.
+-- Inserting keys and entries: sorted ones stay as they are, and those that stay charge no more.
 use Rattle.std.specs.Prelude.{◌≡◌, ℕ, ◌+◌, ◌≤◌, Bool, true, List, [], ◌∷◌, ◌++◌, length, map, refl}
 use Rattle.std.specs.declared.cmp.Ordering.{Ordering}
 use Rattle.std.specs.declared.cmp.Ordering.TheVariants.{Less, Equal, Greater}
@@ -19,7 +19,7 @@ use Rattle.std.proofs.lemmas.Map.Keys.{sorted_head, sorted_tail}
 use Rattle.std.proofs.lemmas.Map.Views.{All-insert_key}
 use Rattle.bincode_spec.specs.Collections.{put_keys, put_entries}
 
--- what stands in order
+-- sorted keys and entries
 
 module _ {K : Type 0} (cmp : K → K → Ordering) (total : IsTotalOrder cmp) where
   above : (x y : K) → cmp x y ≡ Less → cmp y x ≡ Greater
@@ -40,7 +40,7 @@ module _ {K : Type 0} (cmp : K → K → Ordering) (total : IsTotalOrder cmp) wh
       ∙ put_last (keys ++ k ∷ []) items (All-push (λ x. All (λ y. cmp y x ≡ Greater) items) keys k others first) (sorted_tail cmp k items s)
       ∙ append_assoc keys (k ∷ []) items
 
-  -- keys in order are put as they stand
+  -- inserting sorted keys leaves them as they are
   pub sorted-put_keys : (items : List K) → IsStrictlySortedBy cmp items → put_keys cmp [] items ≡ items
   sorted-put_keys items s = put_last [] items (All-nil (λ x. All (λ y. cmp y x ≡ Greater) items)) s
 
@@ -65,11 +65,11 @@ module _ {K : Type 0} (cmp : K → K → Ordering) (total : IsTotalOrder cmp) wh
         ∙ put_last_entries (entries ++ e ∷ []) items (All-push (λ x. All (λ y. cmp y.0 x.0 ≡ Greater) items) entries e others first) (sorted_tail cmp e.0 (keys_of items) s)
         ∙ append_assoc entries (e ∷ []) items
 
-    -- entries whose keys are in order are put as they stand
+    -- inserting entries with sorted keys leaves them as they are
     pub sorted-put_entries : (items : List (K × V)) → IsStrictlySortedBy cmp (keys_of items) → put_entries cmp [] items ≡ items
     sorted-put_entries items s = put_last_entries [] items (All-nil (λ x. All (λ y. cmp y.0 x.0 ≡ Greater) items)) s
 
-  -- what is equal, one by one, to keys in order is in order
+  -- what is equal, one by one, to sorted keys is sorted
   module _ (eq : K → K → Bool) (matches : (x y : K) → eq x y ≡ is_eq (cmp x y)) where
     equal : (x y : K) → eq x y ≡ true → cmp x y ≡ Equal
     equal x y e = (Equal-is (cmp x y)).0 (sym (matches x y) ∙ e)
@@ -91,7 +91,7 @@ module _ {K : Type 0} (cmp : K → K → Ordering) (total : IsTotalOrder cmp) wh
         let q = and_parts (eq x y) (pointwise eq xs ys) p in
         (below_equal x y q.0 xs ys q.1 s.0, sorted-equal xs ys q.1 s.1)
 
--- what is put
+-- what is inserted
 
 map_chosen : {A B : Type 0} (f : A → B) (o : Ordering) (a b c : List A) → map f (match_ordering o a b c) ≡ match_ordering o (map f a) (map f b) (map f c)
 map_chosen f Less a b c = refl
@@ -99,7 +99,7 @@ map_chosen f Equal a b c = refl
 map_chosen f Greater a b c = refl
 
 module _ {K : Type 0} (cmp : K → K → Ordering) where
-  -- keys that are told by part of what is put
+  -- keys that are part of what is inserted
   module _ {W : Type 0} (plain : W → K) where
     abbrev told : W → W → Ordering
     told x y = cmp (plain x) (plain y)
@@ -129,12 +129,12 @@ module _ {K : Type 0} (cmp : K → K → Ordering) where
     insert_charged [] k = omega (arith, sum_by-cons weight k [])
     insert_charged (x ∷ keys) k = chosen_charged (cmp k x) k x keys (insert_key cmp keys k) (insert_charged keys k)
 
-    -- no more than what was put
+    -- no more than what was inserted
     pub put_keys-charged : (keys items : List K) → sum_by weight (put_keys cmp keys items) ≤ sum_by weight keys + sum_by weight items
     put_keys-charged keys [] = omega arith
     put_keys-charged keys (x ∷ items) = omega (arith, put_keys-charged (insert_key cmp keys x) items, insert_charged keys x, sum_by-cons weight x items)
 
--- entries whose keys and values are told by parts of what is put
+-- entries whose keys and values are parts of what is inserted
 module _ {K V : Type 0} (cmp : K → K → Ordering) where
   module _ {W X : Type 0} (plain : W → K) (value : X → V) where
     abbrev told_by : W → W → Ordering
@@ -188,12 +188,12 @@ module _ {K V : Type 0} (cmp : K → K → Ordering) where
     insert_entry_charged [] k v = omega (arith, sum_by-cons total_of (k, v) [])
     insert_entry_charged (e ∷ es) k v = entry_charged (cmp k e.0) k v e es (insert_entry cmp es k v) (insert_entry_charged es k v)
 
-    -- no more than what was put
+    -- no more than what was inserted
     pub put_entries-charged : (es items : List (K × V)) → sum_by total_of (put_entries cmp es items) ≤ sum_by total_of es + sum_by total_of items
     put_entries-charged es [] = omega arith
     put_entries-charged es (e ∷ items) = omega (arith, put_entries-charged (insert_entry cmp es e.0 e.1) items, insert_entry_charged es e.0 e.1, sum_by-cons total_of e items)
 
--- no more than were put
+-- no more than were inserted
 ones : {A : Type 0} (xs : List A) → sum_by (λ x. 1) xs ≡ length xs
 ones [] = refl
 ones (x ∷ xs) = sum_by-cons (λ x. 1) x xs ∙ omega (arith, ones xs)

@@ -1,4 +1,4 @@
--- What pairs keep, if their parts do.
+-- The laws of pairs, from those of their parts.
 use Rattle.std.proofs.Common.{sym, ◌∙◌}
 use Rattle.std.specs.Prelude.{Bool, true, ◌&&◌, [], ◌∷◌, refl}
 use Rattle.std.proofs.lemmas.Bool.{and_parts}
@@ -41,10 +41,10 @@ module _ {F G : Format Meaning} (s : Setting) where
       pub pair-shortest : Shortest P P' F → Shortest Q Q' G → Shortest (IsPair P Q) (IsPair P' Q') (pair_of F G)
       pair-shortest f g = then-shortest f (then-shortest g (fewer-none_shorter (λ m h. h.0) (λ m h. h) nothing-none_shorter))
 
--- pairs are equal where their parts are
+-- pairs are equal if their parts are
 pub pair-same : {P Q P' Q' : Meaning → Type 0} {x y : Bool} → SameIn P P' x → SameIn Q Q' y → SameIn (IsPair P Q) (IsPair P' Q') (x && y)
 pair-same {x = x} {y = y} f g m p q = sym (row-same x (y ∷ [])) ∙ then-same f (then-same {x = y} {y = true} g (λ n h k. refl)) m p q
 
--- and their first parts are, whatever the second
+-- and their first parts are equal, whatever the second
 pub pair-first_same : {P Q P' Q' : Meaning → Type 0} {x : Bool} → SameIn P P' x → SameIn (IsPair P Q) (IsPair P' Q') x
 pair-first_same {x = x} f m p q = (and_parts x true (then-same {x = x} {y = true} f (λ n h k. refl) m p q)).0

@@ -1,18 +1,18 @@
--- A write into the middle of a list: nothing, and one piece after another.
+-- Writing into the middle of a list: nothing, and one piece after another.
 use Rattle.std.specs.Prelude.{◌≡◌, ◌+◌, ◌≤◌, ℕ, List, [], ◌++◌, length, take, drop, refl}
 use Rattle.std.proofs.Common.{sym, ◌∙◌, ap, arith, append_assoc, length-append}
 use Rattle.std.proofs.Math.Seq.{take-append_seam, drop-append-add}
 use Rattle.std.proofs.lemmas.List.{length-take-le, drop-drop, take-append-drop}
 use Rattle.bincode_spec.specs.Put.{put}
 
--- nothing is put
+-- writing nothing
 pub put-none : (n : ℕ) (s : List ℕ) → s ≡ put n [] s
 put-none n s = let e : n + 0 ≡ n = omega arith in rw e (sym (take-append-drop n s))
 
 seam : (q d y : List ℕ) (m k : ℕ) → length q ≡ m → take m (q ++ d) ++ (y ++ drop (m + k) (q ++ d)) ≡ q ++ (y ++ drop k d)
 seam q d y m k e = rw (← e, take-append_seam q d, drop-append-add q d k) refl
 
--- one piece after another is their join
+-- writing one piece after another writes their concatenation
 pub put-join : (n : ℕ) (x y s : List ℕ) → n ≤ length s → put (n + length x) y (put n x s) ≡ put n (x ++ y) s
 put-join n x y s h =
     let front : length (take n s ++ x) ≡ n + length x = length-append (take n s) x ∙ ap (λ k. k + length x) (length-take-le n s h) in

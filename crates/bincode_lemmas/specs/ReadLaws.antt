@@ -1,4 +1,4 @@
--- What words of lists decode to, by what those of their values do.
+-- What words of lists decode to, from what words of their values decode to.
 use Rattle.std.specs.Prelude.{◌≡◌, ℕ, ◌<◌, ◌≤◌, ◌^◌, ◌⊎◌, pos, Result, Ok, List, [], ◌∷◌, ◌++◌, length, refl}
 use Rattle.std.specs.List.{All}
 use Rattle.std.proofs.Common.{sym, ◌∙◌, ap, subst, inl, inr, arith, append-nil, length-append}
@@ -87,7 +87,7 @@ module _ {A : Type 0} (DecodesTo : A → Meaning → Type 0) (share : ℕ) (F : 
         },
       )
 
-  -- the same of arrays
+  -- and so are arrays
   array_read : (n : ℕ) (vs : List A) (bytes : List ℕ) → length vs ≡ n → ReadsAs (IsListOf DecodesTo vs) (array n share F) bytes → AllowsEach (λ v. ReadsAs (DecodesTo v) F) vs bytes
   unfolding step ◌>>=◌
   array_read n vs bytes e r =
@@ -125,7 +125,7 @@ module _ {A : Type 0} (DecodesTo : A → Meaning → Type 0) (share : ℕ) (F : 
         is_decoded = p.3;
       }
 
-  -- a word of a list is one of its length, and then one of each value
+  -- a word of a list is one of its length, then one of each value
   module _ (s : Setting) where
     pub list-reads : (vs : List A) (bytes : List ℕ) → ReadsAs (IsListOf DecodesTo vs) (list s share F) bytes →
         Both (ReadsAs (IsNumber (pos (length vs))) (natural_number (len s))) (AllowsEach (λ v. ReadsAs (DecodesTo v) F) vs) bytes
@@ -226,7 +226,7 @@ fewer-read DecodesTo share F s vs ws le below shed bytes r =
       omega (arith, x.2, y.2, length-append x.0 y.0, ap length b.2, length-append b.0 b.1),
     )
 
--- a tuple decodes to what its first part does, and then to what the others do
+-- a tuple decodes to what its first part does, then to what the others do
 module _ (P Q : Meaning → Type 0) (F others : Format Meaning) where
   tuple_reads : (bytes : List ℕ) → ReadsAs (IsThen P Q) (first_and F others) bytes → Both (ReadsAs P F) (ReadsAs Q others) bytes
   unfolding first_and ◌>>=◌

@@ -1,4 +1,4 @@
--- Parts are equal in a row where they are in a tuple.
+-- A row is equal exactly if the tuple is.
 use Rattle.std.specs.Prelude.{◌≡◌, refl, Bool, true, false, ◌&&◌, List, [], ◌∷◌}
 use Rattle.std.proofs.Common.{◌∙◌}
 
@@ -15,7 +15,7 @@ regrouped : (a b c : Bool) → a && (b && c) ≡ (a && b) && c
 regrouped true b c = refl
 regrouped false b c = refl
 
--- the row passes where the tuple does
+-- the row passes exactly if the tuple does
 pub row-same : (a : Bool) (bs : List Bool) → a && from_last bs ≡ from_first a bs
 row-same true [] = refl
 row-same false [] = refl

@@ -1,4 +1,4 @@
--- What decoding answers to a run, element by element.
+-- The answer of decoding a run, element by element.
 use Rattle.std.specs.Prelude.{◌≡◌, ℕ, suc, ◌+◌, ◌-◌, ◌*◌, ◌≤◌, List, [], ◌∷◌, ◌++◌, Option, Some, None, refl}
 use Rattle.std.proofs.Common.{sym, ◌∙◌, ap, subst, arith, append_assoc, append-nil}
 use Rattle.bincode_base.specs.declared.error.DecodeError.{DecodeError}
@@ -21,18 +21,18 @@ use Rattle.bincode_spec.specs.Run.{IsListOf, CanRelease, Held, RoomReturned}
 
 -- how far a run is read
 
--- these meanings, and then those of the answer
+-- these meanings, then those of the answer
 abbrev pub behind : List Meaning → Answer (List Meaning) → Answer (List Meaning)
 behind ms a = and_then a (λ others remaining charge. Gave (ms ++ others) remaining charge)
 
--- With these meanings read and so many elements left, the answer to all is that to the rest of the input behind them;
--- and the room of those that are left is still reserved.
+-- With these meanings read and n elements left, the answer to all is that to the rest of the input after them; and the
+-- room of those that are left is still reserved.
 pub record ReadSoFar (limit : Option ℕ) (share : ℕ) (F : Format Meaning) (all : Answer (List Meaning)) (input : List ℕ) (ms : List Meaning) (left : ℕ) (remaining : List ℕ) (charge : ℕ) : Type 0 where
   pub is_rest : behind ms (answer limit (elements left share F) remaining charge) ≡ all
   pub is_reserved : CanRelease limit charge (left * share)
   pub is_behind : Takes input remaining
 
--- an answer that doesn't say by how many bytes the input ends too early
+-- an answer whose fault leaves open how many bytes the input lacks
 
 abbrev vague_answer : Answer Meaning → Answer Meaning
 vague_answer (Gave m remaining charge) = Gave m remaining charge
@@ -55,7 +55,7 @@ answer_unsure : (limit : Option ℕ) (F : Format Meaning) (input : List ℕ) (c 
 unfolding answer without_count
 answer_unsure limit F input c = weighed_vaguely limit c (F.read input)
 
--- the error that tells a fault tells it vaguely
+-- the error of a fault is one of the fault without a count
 tells_vague : (end_error : ℕ → DecodeError → Type 0) (why : Fault) (e : DecodeError) → Tells end_error why e → Tells end_error (fault_without_count why) e
 tells_vague end_error (End (Some missing)) e h = (missing, h)
 tells_vague end_error (End None) e h = h
@@ -72,7 +72,7 @@ tells_vague end_error (LengthMismatch _ _) e h = h
 tells_vague end_error EmptyEnum e h = h
 tells_vague end_error (OutsideUsize _) e h = h
 
--- a claim of room that stands, and one that passes the limit
+-- a claim of elements that succeeds, and one that passes the limit
 reserved_answer : (limit : Option ℕ) (c n share d : ℕ) (input : List ℕ) → Claimed limit c (n * share) d → answer limit (step (Reserve n share)) input c ≡ Gave tt input d
 reserved_answer limit c n share d input h = step-answered limit (Reserve n share) input c (Some d) h
 
@@ -88,7 +88,7 @@ still_reserved (Some limit) share F f b n remaining c m remaining' d h e =
     let k : suc n * share ≡ n * share + share = omega arith in
     omega arith
 
--- what follows an element: the others behind it
+-- what follows an element: the others
 abbrev others_behind : Option ℕ → ℕ → Format Meaning → ℕ → Answer Meaning → Answer (List Meaning)
 others_behind limit share F n a = and_then a (λ m remaining c. behind (m ∷ []) (answer limit (elements n share F) remaining c))
 
@@ -103,7 +103,7 @@ module _ (limit : Option ℕ) (share : ℕ) (F : Format Meaning) where
   next_behind n (Refused why c) = refl
   next_behind n PassedLimit = refl
 
-  -- one element, whose share is released, and then the others
+  -- one element, whose claim is released, then the others
   element_then : (n : ℕ) (input : List ℕ) (c : ℕ) → answer limit (elements (suc n) share F) input c ≡ others_behind limit share F n (vague_answer (answer limit F input (after_release limit c share)))
   element_then n input c =
       answer-next limit (step (Release share)) (λ _. without_count F >>= λ m. map_format (λ others. m ∷ others) (elements n share F)) input c tt input (after_release limit c share)
@@ -118,7 +118,7 @@ module _ (limit : Option ℕ) (share : ℕ) (F : Format Meaning) where
   behind_push ms m PassedLimit = refl
 
   module _ (all : Answer (List Meaning)) (input : List ℕ) (ms : List Meaning) where
-    -- the answer to all, by that to the next element
+    -- the answer to all, from that to the next element
     so_far : (n : ℕ) (remaining : List ℕ) (c : ℕ) (a : Answer Meaning) → ReadSoFar limit share F all input ms (suc n) remaining c →
         answer limit F remaining (after_release limit c share) ≡ a → all ≡ behind ms (others_behind limit share F n (vague_answer a))
     so_far n remaining c a h e = sym h.is_rest ∙ ap (behind ms) (element_then n remaining c ∙ ap (λ z. others_behind limit share F n (vague_answer z)) e)
@@ -133,7 +133,7 @@ module _ (limit : Option ℕ) (share : ℕ) (F : Format Meaning) where
       is_behind = takes-then input remaining remaining' h.is_behind (gave-takes limit F f remaining (after_release limit c share) m remaining' d e);
     }
 
-    -- where an element stops, so does the run
+    -- if decoding an element fails, so does the run
     pub one_stops :
         (end_error : ℕ → DecodeError → Type 0) (device : DeviceErrors) (H : Type 0) (n : ℕ) (remaining : List ℕ) (c before between after : ℕ) (remaining' : List ℕ) {now : ℕ} (e : DecodeError) →
         before ≤ between → ReadSoFar limit share F all input ms (suc n) remaining c →
@@ -158,7 +158,7 @@ module _ (limit : Option ℕ) (share : ℕ) (F : Format Meaning) where
   pub none-read : (n : ℕ) (input : List ℕ) (c : ℕ) → CanRelease limit c (n * share) → ReadSoFar limit share F (answer limit (elements n share F) input c) input [] n input c
   none-read n input c h = record { is_rest = behind_none (answer limit (elements n share F) input c); is_reserved = h; is_behind = ([], refl) }
 
-  -- an array, behind the claim of its elements
+  -- an array, after the claim of its elements
   module _ (n : ℕ) (input : List ℕ) (c d : ℕ) where
     pub array-decodes : (DecodesTo : Meaning → Type 0) (remaining : List ℕ) (after : ℕ) → Claimed limit c (n * share) d →
         Decodes (λ ms. DecodesTo (list_meaning ms)) (answer limit (elements n share F) input d) remaining after →
@@ -187,17 +187,17 @@ module _ (limit : Option ℕ) (share : ℕ) (F : Format Meaning) where
         (by_limit (answer-then limit (step (Reserve n share)) (λ _. elements n share F) input c ∙ ap (λ o. and_then o (λ _ r after. answer limit (elements n share F) r after))
         (over_reserved_answer limit c n share d input h)) k ([], sym same))
 
--- one share of several
+-- one claim of several
 pub one-releases : (limit : Option ℕ) (c share n : ℕ) → CanRelease limit c (suc n * share) → CanRelease limit c share
 one-releases None c share n h = tt
 one-releases (Some limit) c share n h = let k : suc n * share ≡ n * share + share = omega arith in omega arith
 
--- what is left can be released after one share was, and while no more is
+-- the other claims can be released after one was, as long as no more is
 pub others-release : (limit : Option ℕ) (c share n d : ℕ) → CanRelease limit c (suc n * share) → after_release limit c share ≤ d → CanRelease limit d (n * share)
 others-release None c share n d h le = tt
 others-release (Some limit) c share n d h le = let k : suc n * share ≡ n * share + share = omega arith in omega arith
 
--- nothing was released; one share more was
+-- nothing was released; one more claim was
 pub held-none : (limit : Option ℕ) (share start : ℕ) → Held limit (0 * share) start start
 held-none None share start = omega arith
 held-none (Some limit) share start = omega arith
@@ -218,7 +218,7 @@ is_list-push Is (w ∷ vs) (n ∷ ms) v m h k =
     let b : h.others ≡ list_meaning ms = cc in
     record { first = n; others = list_meaning (ms ++ m ∷ []); meaning_is = refl; is_first = subst (Is w) a h.is_first; are_others = is_list-push Is vs ms v m (subst (IsListOf Is vs) b h.are_others) k }
 
--- what is read from a charge that holds the room of a run gives it back
+-- decoding from a charge that holds the claims of a run releases them
 pub run-returns : {A : Type 0} (limit : Option ℕ) (n share : ℕ) (F : Format A) → Lawful F → Balanced F →
     (input remaining : List ℕ) (ms : List A) (before after : ℕ) → CanRelease limit before (n * share) →
     answer limit (elements n share F) input before ≡ Gave ms remaining after → RoomReturned limit (elements n share F) (n * share) input remaining before after

@@ -1,4 +1,4 @@
--- Sets: their keys in order are what they mean, and the keys of a word, put in turn, are what it decodes to.
+-- Sets: their keys in order are what they mean, and the keys of a word, inserted in order, are what it decodes to.
 use Rattle.std.specs.Prelude.{◌≡◌, ℕ, ◌≤◌, Bool, true, List, [], length, map, refl}
 use Rattle.std.specs.declared.cmp.Ordering.{Ordering}
 use Rattle.std.specs.Ordering.{is_eq}
@@ -21,7 +21,7 @@ use Rattle.bincode_lemmas.specs.LaidLaws.{each-laid, laid-each}
 use Rattle.bincode_lemmas.specs.OrderLaws.{sorted-put_keys, sorted-equal, map-put_keys, All-put_keys, put_keys-charged, length-put_keys}
 use Rattle.bincode_lemmas.specs.ReadLaws.{ReadsAs, fewer-read}
 
--- keys that are put in turn have words that are no longer
+-- the keys that inserting leaves have words that are no longer
 pub put_keys-allowed : {K : Type 0} (cmp : K → K → Ordering) (Allowed : K → List ℕ → Type 0) (items : List K) (bytes : List ℕ) → AllowsEach Allowed items bytes →
     (other : List ℕ) × AllowsEach Allowed (put_keys cmp [] items) other × (length other ≤ length bytes)
 put_keys-allowed {K} cmp Allowed items bytes a =

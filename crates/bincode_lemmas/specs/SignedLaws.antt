@@ -1,4 +1,4 @@
--- Integers stand for numbers one to one, by zigzag and by two's complement, and keep within so many bytes.
+-- Zigzag and two's complement are bijective, and keep the width.
 use Rattle.std.specs.Prelude.{◌≡◌, ℕ, zero, suc, ◌+◌, ◌*◌, ◌-◌, ◌/◌, ◌%◌, ◌^◌, ◌<◌, ◌≤◌, ◌⊎◌, true, false, nat_lt, ℤ, pos, negsuc, refl}
 use Rattle.std.proofs.Common.{◌∙◌, ap, inl, inr, arith}
 use Rattle.std.proofs.Math.Nat.{pow-suc}
@@ -37,7 +37,7 @@ zigzag_by n (inr h) = ap zigzag (unzigzag_even n h) ∙ omega (arith, h)
 pub unzigzag-zigzag : (n : ℕ) → zigzag (unzigzag n) ≡ n
 unzigzag-zigzag n = zigzag_by n (cases_lt 0 (n % 2))
 
--- an integer of so many bytes has a number of so many
+-- an integer of `width` bytes has a number of `width` bytes
 pub zigzag-fits : (width : ℕ) (z : ℤ) → 0 < width → FitsIn width z → zigzag z < 256 ^ width
 zigzag-fits width (pos n) w h = h
 zigzag-fits width (negsuc n) w h = let p = half_of width w in omega (arith, p.1, h)
@@ -46,7 +46,7 @@ unzigzag_fits_by : (width n : ℕ) → n < 256 ^ width → (0 < n % 2) ⊎ (n % 
 unzigzag_fits_by width n h (inl k) = rw (unzigzag_odd n k) (let l : 2 * (n / 2) < 256 ^ width = omega (arith, h) in l)
 unzigzag_fits_by width n h (inr k) = rw (unzigzag_even n k) (let l : 2 * (n / 2) < 256 ^ width = omega (arith, h) in l)
 
--- and the other way round
+-- and conversely
 pub unzigzag-fits : (width n : ℕ) → n < 256 ^ width → FitsIn width (unzigzag n)
 unzigzag-fits width n h = unzigzag_fits_by width n h (cases_lt 0 (n % 2))
 
@@ -65,7 +65,7 @@ from_two_complement-two_complement width (negsuc n) w h =
     let e : 256 ^ width - (256 ^ width - (n + 1)) - 1 ≡ n = omega (arith, p.1, h) in
     high_half width (256 ^ width - (n + 1)) l ∙ ap negsuc e
 
--- a two's complement has so many bytes
+-- a two's complement has `width` bytes
 pub two_complement-fits : (width : ℕ) (z : ℤ) → FitsIn width z → two_complement width z < 256 ^ width
 two_complement-fits width (pos n) h = omega (arith, h)
 two_complement-fits width (negsuc n) h = omega (arith, h)
@@ -78,11 +78,11 @@ two_complement_by width n h (inr k) =
     let e : 256 ^ width - (256 ^ width - n - 1 + 1) ≡ n = omega (arith, h, k) in
     (ap (two_complement width) (high_half width n k) ∙ e, rw (high_half width n k) l)
 
--- a number of so many bytes is the two's complement of its integer
+-- a number of `width` bytes is the two's complement of its integer
 pub two_complement-from_two_complement : (width n : ℕ) → n < 256 ^ width → two_complement width (from_two_complement width n) ≡ n
 two_complement-from_two_complement width n h = (two_complement_by width n h (cases_lt (2 * n) (256 ^ width))).0
 
--- and the integer has so many bytes
+-- and the integer has `width` bytes
 pub from_two_complement-fits : (width n : ℕ) → n < 256 ^ width → FitsIn width (from_two_complement width n)
 from_two_complement-fits width n h = (two_complement_by width n h (cases_lt (2 * n) (256 ^ width))).1
 
@@ -96,12 +96,12 @@ pub number_for-integer_by : (width : ℕ) (encoding : IntEncoding) (n : ℕ) →
 number_for-integer_by width Fixed n h = two_complement-from_two_complement width n h
 number_for-integer_by width Variable n h = unzigzag-zigzag n
 
--- an integer of so many bytes has a number of so many, in either encoding
+-- an integer of `width` bytes has a number of `width` bytes, in either encoding
 pub number_for-fits : (width : ℕ) (encoding : IntEncoding) (z : ℤ) → 0 < width → FitsIn width z → number_for width encoding z < 256 ^ width
 number_for-fits width Fixed z w h = two_complement-fits width z h
 number_for-fits width Variable z w h = zigzag-fits width z w h
 
--- and the other way round
+-- and conversely
 pub integer_by-fits : (width : ℕ) (encoding : IntEncoding) (n : ℕ) → n < 256 ^ width → FitsIn width (integer_by width encoding n)
 integer_by-fits width Fixed n h = from_two_complement-fits width n h
 integer_by-fits width Variable n h = unzigzag-fits width n h

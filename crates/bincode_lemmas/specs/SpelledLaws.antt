@@ -1,4 +1,5 @@
--- Numbers and truth values are spelled: their words have one length, and none is shorter. Tuples are, if their parts are.
+-- Numbers and truth values are spelled: their words have one length, and none is shorter. Tuples are, if their parts
+-- are.
 use Rattle.std.specs.Prelude.{◌≡◌, ℕ, ◌<◌, ◌≤◌, ◌^◌, ℤ, pos, FitsSigned, Bool, true, false, Result, Ok, Err, List, [], ◌∷◌, ◌++◌, length, refl}
 use Rattle.std.specs.List.{All}
 use Rattle.std.specs.Int.{Width, w8}
@@ -25,7 +26,7 @@ use Rattle.bincode_lemmas.specs.AllowedLaws.{natural-one, allowed-number, unsign
 use Rattle.bincode_lemmas.specs.AllowedLaws.{allowed-signed, signed_byte-allows, allowed-signed_byte, truth-allows, allowed-truth, not_zero-allows}
 use Rattle.bincode_lemmas.specs.AllowedLaws.{allowed-not_zero, alone-one_length, same-one_length, allowed-nothing}
 
--- words behind a test of their meanings
+-- words after a test of their meanings
 
 module _ {A B : Type 0} (test : A → Result B Fault) (F : Format A) where
   nothing_read : (r : Result B Fault) (bytes : List ℕ) (b : B) (s : List Step) → (from_result r).Word bytes b s → (bytes ≡ []) × (r ≡ Ok b)
@@ -33,7 +34,7 @@ module _ {A B : Type 0} (test : A → Result B Fault) (F : Format A) where
   nothing_read (Ok c) bytes b s u = (u.0, ap Ok (sym u.1))
   nothing_read (Err why) bytes b s u = absurd u
 
-  -- a word behind a test is a word
+  -- a word after a test is a word
   pub word-from_result : (bytes : List ℕ) (b : B) (s : List Step) → (F >>= λ x. from_result (test x)).Word bytes b s → (a : A) × (t : List Step) × (test a ≡ Ok b) × F.Word bytes a t
   unfolding ◌>>=◌
   word-from_result bytes b s u =
@@ -41,7 +42,7 @@ module _ {A B : Type 0} (test : A → Result B Fault) (F : Format A) where
       let e : bytes ≡ u.first = u.bytes_are ∙ ap (λ z. u.first ++ z) p.0 ∙ append-nil u.first in
       (u.head, u.first_steps, p.1, subst (λ z. F.Word z u.head u.first_steps) (sym e) u.first_word)
 
-  -- and a word whose meaning passes is one behind the test
+  -- and a word whose meaning passes is a word after the test
   pub from_result-word : (bytes : List ℕ) (a : A) (b : B) (s : List Step) → test a ≡ Ok b → F.Word bytes a s → (F >>= λ x. from_result (test x)).Word bytes b s
   unfolding ◌>>=◌ pure
   from_result-word bytes a b s e u =
@@ -99,7 +100,7 @@ not_shorter P F f one written [] m s w h u e =
     omega (arith, ap length q)
 not_shorter P F f one written (b ∷ bytes) m s w h u e = omega (arith, one written w)
 
--- what is always one byte is spelled
+-- what is always one byte is `Spelled`
 pub one_byte-spelled : (P : Meaning → Type 0) (F : Format Meaning) (b : ℕ) → Lawful F → b < 256 → AllowedWord P F (b ∷ []) → ((bytes : List ℕ) → AllowedWord P F bytes → length bytes ≡ 1) → Spelled P F
 one_byte-spelled P F b f h w one = record {
   has_word = record { bytes = b ∷ []; are_bytes = All-cons (λ b. b < 256) b [] h (All-nil (λ b. b < 256)); is_allowed = w };
@@ -132,7 +133,7 @@ module _ {A : Type 0} (integer : A → ℤ) (one : (a b : A) → integer a ≡ i
       let e : q.0 ≡ p.0 = not_zero-passed name (size q.0) q.0 p.0 q.2 in
       (q.1, from_result-word (λ k. Ok (Number (integer k))) F bytes p.0 m q.1 p.2 (subst (λ x. F.Word bytes x q.1) e q.3))
 
-  -- a number other than 0 is spelled as the number
+  -- a number that is not 0 is spelled as the number
   pub number-not_zero : 0 < size a → Spelled (IsNumber (integer a)) (map_format (λ k. Number (integer k)) F) →
       Spelled (IsNumber (integer a)) (map_format (λ k. Number (integer k)) (not_zero_by size name F))
   number-not_zero h p = record {

@@ -1,4 +1,4 @@
--- The spellings of integers of more than one byte keep the laws.
+-- The laws of the spellings of integers wider than one byte.
 use Rattle.std.specs.Prelude.{◌≡◌, ℕ, unsigned_abs, refl}
 use Rattle.std.proofs.Common.{ap, append-nil}
 use Rattle.bincode_base.specs.declared.config.Endianness.{Endianness}
@@ -14,8 +14,8 @@ use Rattle.bincode_spec.specs.Integers.{IsWidth}
 use Rattle.bincode_lemmas.specs.IntegerLaws.{shortest-pieces, written-unsigned, written-signed}
 use Rattle.bincode_spec.specs.Spelling.{Spelling, unsigned_spelling, signed_spelling}
 
--- integers that are equal are of one value; a word is charged before it is read; the pieces are the word; and what is written of a value that
--- fits is a word
+-- integers that are equal are of one value; a word is charged before it is read; the pieces are the word; and what is
+-- written of a value that fits is a word
 pub record SpellingLaws (width : ℕ) {A : Type 0} (spelling : Spelling A) : Type 1 where
   pub one : (a b : A) → spelling.integer a ≡ spelling.integer b → a ≡ b
   pub charged_first : (s : Setting) → spelling.words s ≡ charge_then width (spelling.read_by s.order s.encoding)

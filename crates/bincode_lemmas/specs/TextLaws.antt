@@ -1,4 +1,4 @@
--- Bytes behind their length that pass a test keep the laws: texts, and C strings. They allow a word of their length and
+-- Bytes after their length that pass a test are lawful: texts, and C strings. They allow a word of their length and
 -- then the bytes, which no other word of them is shorter than.
 use Rattle.std.specs.Prelude.{◌≡◌, ℕ, nat_eq, ◌<◌, ◌^◌, Bool, true, false, if◌then◌else◌, Option, Some, None, Result, Ok, Err, List, [], ◌∷◌, ◌++◌, length, refl}
 use Rattle.std.specs.List.{All}
@@ -33,7 +33,7 @@ use Rattle.bincode_lemmas.specs.CharLaws.{spelled}
 
 -- the laws
 
--- bytes behind their length keep the laws
+-- length-prefixed bytes are lawful
 pub length_prefixed-lawful : (s : Setting) → Lawful (length_prefixed s)
 length_prefixed-lawful s =
     turn-lawful (len s) (λ n. charge_then n (without_count (fixed_bytes n))) (unsigned-lawful U64 8 s (Eight refl)) (λ n. charge_then-lawful n (without_count (fixed_bytes n)) (without_count-lawful (fixed_bytes n) (fixed_bytes-lawful n)))
@@ -69,7 +69,7 @@ module _ (test : List ℕ → Result Meaning Fault) (Is : List ℕ → Type 0) (
       let n : w.head ≡ length bytes = sym u.second_written.0 ∙ ap length (sym u.second_written.1) in
       (w.first, w.second, w.bytes_are, natural-allows (len s) w.first (length bytes) (subst ((len s).Written w.first) n w.first_written), b)
 
-  -- what passes allows a word of its length, and then its bytes
+  -- what passes allows a word of its length, then its bytes
   pub tested-allows : (bytes word : List ℕ) → Is bytes → Both (LengthWord s (length bytes)) (λ b. b ≡ bytes) word → AllowedWord (IsBytes bytes) (tested s) word
   tested-allows bytes word u b =
       record { meaning = Bytes bytes; is_meant = refl; is_written = from_result-written test (length_prefixed s) word bytes (Bytes bytes) (passes bytes u) (counted_written bytes word b) }
@@ -125,14 +125,14 @@ settles_by : (test : Bool) (bytes : List ℕ) → Settles {A = Meaning} (if test
 settles_by true bytes = tt
 settles_by false bytes = λ h. h
 
--- texts keep the laws
+-- texts are lawful
 pub text-lawful : (s : Setting) → Lawful (text s)
 text-lawful s = test-lawful (length_prefixed s) text_of (length_prefixed-lawful s) (λ bytes. settles_by (is_utf8 bytes) bytes)
 
 pub text-balanced : (s : Setting) → Balanced (text s)
 text-balanced s = test-balanced (length_prefixed s) text_of (length_prefixed-balanced s)
 
--- UTF-8 passes the test as it is
+-- UTF-8 passes the test
 pub text_of-passes : (bytes : List ℕ) → IsUtf8 bytes → text_of bytes ≡ Ok (Bytes bytes)
 text_of-passes bytes u = rw (is_utf8-from_IsUtf8 bytes u) refl
 
@@ -157,7 +157,7 @@ pub utf8-are_bytes : (bytes : List ℕ) → IsUtf8 bytes → All (λ b. b < 256)
 utf8-are_bytes bytes (cs, (h, e)) = subst (All (λ b. b < 256)) e (chars_are_bytes cs h)
 
 module _ (s : Setting) where
-  -- a text allows a word of its length, and then its bytes
+  -- a text allows a word of its length, then its bytes
   pub text-allows : (bytes word : List ℕ) → IsUtf8 bytes → Both (LengthWord s (length bytes)) (λ b. b ≡ bytes) word → AllowedWord (IsBytes bytes) (text s) word
   text-allows = tested-allows text_of IsUtf8 text_of-passes text_of-passed s
 
@@ -190,7 +190,7 @@ settles_at : (bytes : List ℕ) (place : Option ℕ) → Settles (without_nul_of
 settles_at bytes None = tt
 settles_at bytes (Some n) = λ h. h
 
--- C strings keep the laws
+-- C strings are lawful
 pub c_string-lawful : (s : Setting) → Lawful (without_nul s)
 c_string-lawful s = test-lawful (length_prefixed s) nul_test (length_prefixed-lawful s) (λ bytes. settles_at bytes (first_zero bytes))
 
@@ -210,7 +210,7 @@ pub nul_test-passed : (bytes : List ℕ) (m : Meaning) → nul_test bytes ≡ Ok
 nul_test-passed bytes m = passed_at bytes (first_zero bytes) m
 
 module _ (s : Setting) where
-  -- a C string allows a word of its length, and then its bytes
+  -- a C string allows a word of its length, then its bytes
   pub c_string-allows : (bytes word : List ℕ) → HasNoZero bytes → Both (LengthWord s (length bytes)) (λ b. b ≡ bytes) word → AllowedWord (IsBytes bytes) (without_nul s) word
   c_string-allows = tested-allows nul_test HasNoZero nul_test-passes nul_test-passed s
 
@@ -235,7 +235,7 @@ module _ (s : Setting) where
 
 -- equality
 
--- those of one meaning have the same bytes
+-- texts of one meaning have equal bytes
 pub text-same : (x y : List ℕ) (m : Meaning) → IsBytes x m → IsBytes y m → x ≡ y
 text-same x y m a b = let e : Bytes x ≡ Bytes y = sym a ∙ b in cc
 

@@ -1,4 +1,4 @@
--- What tuples keep, if their parts do: each law by the first part and the others.
+-- The laws of tuples, each from those of the first part and the others.
 use Rattle.std.specs.Prelude.{◌≡◌, ◌⊎◌, ◌<◌, [], ◌++◌, Bool, true, ◌&&◌, Result, Ok, refl}
 use Rattle.std.proofs.Common.{sym, ◌∙◌, ap, subst, inl, inr}
 use Rattle.std.proofs.lemmas.List.Elements.{All-nil, All-append}
@@ -74,7 +74,7 @@ pub either : {A B C : Type 0} → (A → C) → (B → C) → A ⊎ B → C
 either f g (inl a) = f a
 either f g (inr b) = g b
 
--- what has one meaning as both is equal
+-- what has one meaning under both is equal
 abbrev pub SameIn : (Meaning → Type 0) → (Meaning → Type 0) → Bool → Type 0
 SameIn P Q equal = (m : Meaning) → P m → Q m → equal ≡ true
 
@@ -99,7 +99,7 @@ then-none_shorter {P} {Q} {P'} {Q'} {F} {others} f g written bytes m s w h u e =
     (λ below. f b.0 u.first u.head u.first_steps b.3 below u.first_word (subst P' j e.is_first))
     (λ below. g b.1 u.second t.0 t.1 b.4 below t.3 (subst Q' k e.are_others))
 
--- and none that decodes to the same
+-- and none that decodes to what it decodes to
 both_then : {P Q P' Q' : Meaning → Type 0} (m : Meaning) → IsThen P Q m × IsThen P' Q' m → IsThen (λ n. P n × P' n) (λ n. Q n × Q' n) m
 both_then {P} {Q} {P'} {Q'} m b =
     let p = b.0 in
@@ -129,7 +129,7 @@ units-laws = record {
   charges_enough = λ s. nothing-charged;
 }
 
--- the same of four parts and the others
+-- the laws of four parts and the others
 module _ {F G H I others : Format Meaning} where
   pub four-lawful : Lawful F → Lawful G → Lawful H → Lawful I → Lawful others → Lawful (four_and F G H I others)
   four-lawful f g h i o = then-lawful f (then-lawful g (then-lawful h (then-lawful i o)))

@@ -1,4 +1,4 @@
--- Values that passed a test keep the laws that the tested ones keep.
+-- Values that passed a test have the laws of the values tested.
 use Rattle.std.specs.Prelude.{◌≡◌, ℕ, Bool, true, false, if◌then◌else◌, Result, Ok, Err, Some, None, List, refl}
 use Rattle.std.proofs.Common.{subst}
 use Rattle.bincode_base.specs.declared.error.DecodeError.{DecodeError}
@@ -15,7 +15,7 @@ use Rattle.bincode_lemmas.specs.Balance.{test-balanced}
 use Rattle.bincode_lemmas.specs.AllowedLaws.{from_result-written, written-from_result, same-one_length}
 use Rattle.bincode_lemmas.specs.SpelledLaws.{word-from_result}
 
--- what tells a fault of a user's own tells it whatever the reader
+-- the error of a type's own fault is that for every reader
 pub own-tells : (end_error : ℕ → DecodeError → Type 0) (why : Fault) (e : DecodeError) → TellsOwn why e → Tells end_error why e
 own-tells end_error (End (Some missing)) e h = absurd h
 own-tells end_error (End None) e h = absurd h.1
@@ -33,11 +33,11 @@ own-tells end_error EmptyEnum e h = h
 own-tells end_error (OutsideUsize _) e h = h
 
 module _ (passes : Meaning → Bool) (why : Fault) where
-  -- a meaning passes as it is
+  -- a meaning that passes stays
   pub with_test-is : (m : Meaning) → passes m ≡ true → passed_of passes why m ≡ Ok m
   with_test-is m h = rw h refl
 
-  -- and has the fault else
+  -- and another has the fault
   pub failed-is : (m : Meaning) → passes m ≡ false → passed_of passes why m ≡ Err why
   failed-is m h = rw h refl
 
@@ -86,7 +86,7 @@ module _ (passes : Meaning → Bool) (why : Fault) where
       pub with_test-one_length : OneLength (AllowedWord P F) → OneLength (AllowedWord P (with_test passes why F))
       with_test-one_length = same-one_length (AllowedWord P F) (AllowedWord P (with_test passes why F)) allowed-passed
 
-    -- of the words that pass none is shorter than the shortest
+    -- none of the words that pass is shorter than the shortest
     pub with_test-shortest : (P Q : Meaning → Type 0) → Shortest P Q F → Shortest P (λ m. Q m × (passes m ≡ true)) (with_test passes why F)
     with_test-shortest P Q least written bytes m s w h u e =
         let t = passed_word bytes m s u in

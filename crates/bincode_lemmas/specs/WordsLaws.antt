@@ -1,4 +1,4 @@
--- The formats of the types keep the laws, and the balance of their steps.
+-- The formats of the types are lawful and balanced.
 use Rattle.std.specs.Prelude.{◌≡◌, ◌<◌, ℕ, ◌==◌, if◌then◌else◌, Bool, true, false, Result, Ok, Err, refl}
 use Rattle.std.proofs.Common.{◌∙◌, ap, arith}
 use Rattle.std.proofs.lemmas.Bool.{ne_eqb, eqb-true}
@@ -13,7 +13,7 @@ use Rattle.bincode_spec.specs.Integers.{unsigned_byte}
 use Rattle.bincode_spec.specs.Meaning.{Meaning, Truth, list_meaning}
 use Rattle.bincode_spec.specs.Words.{not_zero_of, not_zero_by, truth_of, truth_byte, truth, array}
 
--- what is not 0 passes the test as it is
+-- what is not 0 passes the test
 module _ {A : Type 0} (name : IntegerType) (size : ℕ) (a : A) where
   pub not_zero-passes : 0 < size → not_zero_of name size a ≡ Ok a
   not_zero-passes h = rw (ne_eqb size 0 (λ e. omega (arith, e, h))) refl
@@ -26,14 +26,14 @@ module _ {A : Type 0} (name : IntegerType) (size : ℕ) (a : A) where
   settles_by true = λ h. h
   settles_by false = tt
 
-  -- what passes is given as it is
+  -- what passes is given unchanged
   pub not_zero-passed : (b : A) → not_zero_of name size a ≡ Ok b → a ≡ b
   not_zero-passed = passed_by (size == 0)
 
   not_zero_settles : Settles (not_zero_of name size a)
   not_zero_settles = settles_by (size == 0)
 
--- numbers other than 0 keep the laws
+-- `NonZero` numbers are lawful
 pub not_zero-lawful : {A : Type 0} (size : A → ℕ) (name : IntegerType) (F : Format A) → Lawful F → Lawful (not_zero_by size name F)
 not_zero-lawful size name F f = test-lawful F (λ a. not_zero_of name (size a) a) f (λ a. not_zero_settles name (size a) a)
 
@@ -56,7 +56,7 @@ truth_by b false false v h k e = absurd (cc)
 pub truth_byte-passed : (b : ℕ) (v : Bool) → truth_of b ≡ Ok (Truth v) → b ≡ truth_byte v
 truth_byte-passed b v = truth_by b (b == 0) (b == 1) v (eqb-true b 0) (eqb-true b 1)
 
--- a byte above 1 is its fault
+-- a byte above 1 is a fault
 pub truth-fails : (b : ℕ) → 1 < b → truth_of b ≡ Err (InvalidBool b)
 truth-fails b h = rw (ne_eqb b 0 (λ e. omega (arith, e, h)), ne_eqb b 1 (λ e. omega (arith, e, h))) refl
 
@@ -65,7 +65,7 @@ truth_settles_by b true one = tt
 truth_settles_by b false true = tt
 truth_settles_by b false false = λ h. h
 
--- truth values keep the laws
+-- truth values are lawful
 pub truth-lawful : Lawful truth
 truth-lawful = test-lawful unsigned_byte truth_of unsigned_byte-lawful (λ b. truth_settles_by b (b == 0) (b == 1))
 
