@@ -1,4 +1,4 @@
-//! Enums without fields, and with some of each kind.
+//! Enums without fields, and with fields of each kind.
 
 mod words;
 
@@ -9,7 +9,7 @@ pub enum Side {
     Right,
 }
 
-/// A shape on a plane.
+/// A figure in the plane.
 #[derive(Clone, Copy, Debug, PartialEq)]
 pub enum Figure {
     Empty,

@@ -1,4 +1,4 @@
-//! Types of a user's own in forms that `own_types` does not have, with the `impl`s that the program `derive` wrote.
+//! Types in forms that `own_types` does not have, with the `impl`s that the program `derive` wrote.
 #![tactic(auto)]
 
 pub mod enums;

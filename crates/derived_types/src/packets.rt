@@ -1,4 +1,4 @@
-//! A struct that may hold bytes of what it is decoded from.
+//! A struct that may borrow bytes of the input.
 
 mod words;
 

@@ -2,7 +2,7 @@
 
 mod words;
 
-/// What was asked for, or why it is not there.
+/// A reply: what was asked for, or why it is not there.
 #[derive(Debug, Drop, PartialEq)]
 pub enum Reply<T> {
     Nothing,

@@ -1,8 +1,8 @@
-//! Enums with tags of their own.
+//! Enums with explicit tags.
 
 mod words;
 
-/// The status of an answer, by numbers that stand in order but not one by one.
+/// The status of an answer, with ascending tags that are not consecutive.
 #[derive(Clone, Copy, Debug, PartialEq)]
 pub enum Status {
     Continue = 100,
@@ -12,7 +12,7 @@ pub enum Status {
     Broken = 500,
 }
 
-/// Numbers that stand in no order.
+/// Tags in no order.
 #[derive(Clone, Copy, Debug, PartialEq)]
 pub enum Mixed {
     Third = 3,

@@ -2,7 +2,7 @@
 
 mod words;
 
-/// What happens in a game: five variants of three fields.
+/// What happens in a game.
 #[derive(Debug, Drop, PartialEq)]
 pub enum Turn {
     Joined(u32, String, u8),

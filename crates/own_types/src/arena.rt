@@ -9,7 +9,7 @@ use bumpalo::Bump;
 use bumpalo::collections::into_bump_slice;
 use std::alloc::Global;
 
-/// Some items in a row, which stay in the arena until it is reset.
+/// A slice of items in an arena, where they stay until it is reset.
 #[derive(Clone, Copy, Debug)]
 pub struct ArenaList<'b, T> {
     pub items: &'b [T],

@@ -1,4 +1,4 @@
-//! Callers with arenas: which of two is lent, and how long its lists stay.
+//! Two arenas in a context: which one is lent to a decoder, and how long its lists live.
 ghost use Rattle.std.specs.Prelude.{◌≡◌, ℕ, List, length, IfOk};
 ghost use Rattle.bincode.specs.Run.{IsListOf};
 ghost use Rattle.bincode.specs.Slice.{Decoded};
@@ -11,14 +11,14 @@ use bincode::{Wire, decode_from_slice_with_context};
 use bumpalo::Bump;
 use std::alloc::Global;
 
-/// Two arenas: what goes into the one is kept, and into the other is not.
+/// Two arenas: one for what is kept, one for what is not.
 #[derive(Clone, Copy)]
 pub struct Arenas<'b> {
     pub kept: &'b Bump,
     pub passing: &'b Bump,
 }
 
-/// Lends the decoder with the arena of what is kept.
+/// Borrows the decoder with the arena for what is kept.
 pub fn with_kept<'a, 'b, D: Decoder<Context = Arenas<'b>>>(
     decoder: &'a mut D,
 ) -> WithContext<'a, D, &'b Bump>
@@ -28,8 +28,8 @@ pub fn with_kept<'a, 'b, D: Decoder<Context = Arenas<'b>>>(
     decoder.with_context(bump)
 }
 
-/// How many numbers a list has. The arena is free for the next one afterwards. Fails where the list can't be read, or
-/// with `Memory` where the arena has no room for it.
+/// The number of items of a list. The arena can be used again afterwards. Fails if the list cannot be decoded, or with
+/// `Memory` if the arena has no room for it.
 pub fn count_numbers<C: Config>(
     alloc: Global,
     bump: &mut Bump,

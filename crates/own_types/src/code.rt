@@ -1,4 +1,4 @@
-//! An enum with tags of its own.
+//! An enum with explicit tags.
 
 mod words;
 

@@ -1,4 +1,4 @@
-//! A struct that holds another type of its user's.
+//! A struct that contains another type of one's own.
 use crate::kind::Kind;
 
 mod words;

@@ -1,4 +1,4 @@
-//! A number that has to pass a test.
+//! A number that is checked after decoding.
 ghost use Rattle.std.specs.Prelude.{◌≡◌, ◌==◌, ◌%◌, true};
 
 use bincode::de::{

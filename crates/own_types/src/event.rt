@@ -1,4 +1,4 @@
-//! An enum that holds text of what it is decoded from.
+//! An enum that borrows text of the input.
 
 mod words;
 

@@ -1,4 +1,4 @@
-//! A struct without memory, with each law that there is, and with a shape.
+//! A struct that does not allocate, with every law trait, and with a shape.
 
 mod words;
 

@@ -1,4 +1,4 @@
-//! A list with a number before it, in the arena of a larger context.
+//! A list after a number, in an arena that is part of a larger context.
 ghost use Rattle.std.specs.Prelude.{◌≡◌};
 
 use crate::arena::ArenaList;
@@ -8,7 +8,7 @@ use bincode::error::{DecodeError, EncodeError};
 use bincode::{HasParts, Wire};
 use bumpalo::Bump;
 
-/// What decoding has at hand: an arena, and whom it reads for.
+/// A decoding context: an arena, and a number that says for whom it is read.
 #[derive(Clone, Copy)]
 pub struct Env<'b> {
     pub bump: &'b Bump,
@@ -17,7 +17,7 @@ pub struct Env<'b> {
 
 type Parts<'b> = (u8, ArenaList<'b, u32>);
 
-/// A list behind its kind.
+/// A list after its kind.
 #[derive(Clone, Copy, Debug)]
 pub struct Framed<'b> {
     pub kind: u8,

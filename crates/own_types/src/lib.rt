@@ -1,4 +1,4 @@
-//! Types of one's own, each written as docs/OWN_TYPES.md says.
+//! Types of one's own, each as docs/OWN_TYPES.md says.
 #![tactic(auto)]
 
 pub mod arena;

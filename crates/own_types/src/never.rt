@@ -2,6 +2,6 @@
 
 mod words;
 
-/// What never comes.
+/// A value that cannot exist.
 #[derive(Drop)]
 pub enum Never {}

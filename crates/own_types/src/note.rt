@@ -1,8 +1,8 @@
-//! A struct that holds bytes of what it is decoded from.
+//! A struct that borrows bytes of the input.
 
 mod words;
 
-/// A note: its title, and what is attached to it.
+/// A note: its title and its attachment.
 #[derive(Debug, Drop, PartialEq)]
 pub struct Note<'a> {
     pub title: &'a str,

@@ -1,4 +1,4 @@
-//! A list around a vector.
+//! A list in a vector.
 ghost use Rattle.std.specs.Prelude.{◌≡◌};
 
 use bincode::de::{Decode, Decoder, FillList, Sequential, decode_collection};
@@ -8,7 +8,7 @@ use bincode::laws::{Canonical, Exact, Plain, canonical_by_parts, exact_by_parts,
 use bincode::{HasParts, Items, Wire};
 use std::alloc::Global;
 
-/// Some items in a row.
+/// A list of items.
 #[derive(Debug, Drop, PartialEq)]
 pub struct Pack<T> {
     pub items: Vec<T>,

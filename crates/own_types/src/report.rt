@@ -1,11 +1,10 @@
-//! A struct of twelve fields, which are written in groups.
+//! A struct of twelve fields, which are encoded in groups.
 
 mod words;
 
-/// What a weather station saw: at which second, whether someone looked at it, and in which words; the air's temperature
-/// in tenths of a degree, its pressure in tenths of a hectopascal, its humidity in percent; the rain in hundredths of a
-/// millimetre; the wind's speed in centimetres a second and its direction in degrees; how many eighths of the sky are
-/// covered, and how many metres one sees.
+/// An observation of a weather station: the station, the second, whether someone checked it, remarks; air temperature
+/// in tenths of a degree, pressure in tenths of a hectopascal, humidity in percent; rain in hundredths of a millimetre;
+/// wind speed in centimetres a second and direction in degrees; cloud cover in eighths, and visibility in metres.
 #[derive(Debug, Drop, PartialEq)]
 pub struct Report {
     pub station: u32,

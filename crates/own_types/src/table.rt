@@ -3,7 +3,7 @@ use std::collections::BTreeMap;
 
 mod words;
 
-/// A table: its name, its entries, and the key that was last asked for.
+/// A table: its name, its entries, and the key of the last lookup.
 #[derive(Debug, Drop, PartialEq)]
 pub struct Table<K: Ord, V> {
     pub name: String,

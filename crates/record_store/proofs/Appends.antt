@@ -1,4 +1,4 @@
--- What was read back is an entry.
+-- A word that was decoded again is an entry.
 use Rattle.std.specs.Prelude.{◌≡◌, ℕ, List, [], Option, Err, refl}
 use Rattle.std.proofs.Common.{◌∙◌, sym, subst, inl, inr, append-nil}
 use Rattle.bincode_base.specs.Setting.{Setting}
@@ -29,7 +29,7 @@ read-entry W s limit v word valid allowed DecodesTo n d = record {
       subst (StaysWithin limit 0) (sym one.2) d.within;
 }
 
--- what is refused before anything is written leaves the store
+-- an error before anything is written leaves the store unchanged
 pub nothing-written : {A S : Type 0} (W : Words A) (s : Setting) (limit : Option ℕ) (v : A) (contents : S → Option (List ℕ)) (store : S) (e : AppendError) → WritesNothing e →
     Leaves W s limit v contents store store e
 nothing-written W s limit v contents store (failures.Encode _) h = refl
@@ -41,7 +41,7 @@ pub encode-memory : {A : Type 0} (W : Words A) → PlainWords W → (e : EncodeE
 encode-memory W plain e (inl m) = m
 encode-memory W plain e (inr n) = absurd (plain.names_none e n)
 
--- where they stay within the limit, only memory is when one is read back
+-- if words fit the limit, decoding one again fails only with refused memory
 pub read-memory : {A : Type 0} (W : Words A) (s : Setting) (limit : Option ℕ) (v : A) (word : List ℕ) → AllowedWord (W.means v) (W.format s) word → (MayAllocate : Type 0) (e : DecodeError) →
     FindsWords {A = Unit {0}} (W.format s) limit MayAllocate word (Err e) → FitsStore W s limit v → e ≡ decoding.Memory
 read-memory W s limit v word allowed MayAllocate e found fits =

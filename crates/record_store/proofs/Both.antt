@@ -1,4 +1,4 @@
--- What is listed of two values that were appended to an empty vector.
+-- Listing two values that were appended to an empty vector.
 use Rattle.std.specs.Prelude.{◌≡◌, ◌++◌, ℕ, List, [], Option, Some, Bool}
 use Rattle.std.proofs.Common.{◌∙◌, ap, sym, append-nil}
 use Rattle.bincode_base.specs.Setting.{Setting}

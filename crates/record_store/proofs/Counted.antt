@@ -1,4 +1,4 @@
--- What was read of a stream of values, and what is left.
+-- Values that were decoded from a stream, and what is left.
 use Rattle.std.specs.Prelude.{◌≡◌, ◌≢◌, ◌+◌, ℕ, zero, suc, List, [], Option, Err, refl}
 use Rattle.std.proofs.Common.{◌∙◌, ap, sym, subst, inr, arith, add-one}
 use Rattle.bincode_base.specs.declared.error.DecodeError.{DecodeError}
@@ -26,7 +26,7 @@ module _ (F : Format Meaning) (limit : Option ℕ) where
   pub leads-on : (n : ℕ) (bytes remaining after : List ℕ) (DecodesTo : Meaning → Type 0) → LeadsTo F limit n bytes remaining → WordRead F limit remaining after DecodesTo → LeadsTo F limit (n + 1) bytes after
   leads-on n bytes remaining after DecodesTo l w = subst (λ z. LeadsTo F limit z bytes after) (sym (add-one n)) (next-leads n bytes remaining after l (read-alone remaining after DecodesTo w))
 
-  -- nothing is left behind the last
+  -- nothing is left after the last
   pub leads-end : (n : ℕ) (bytes remaining : List ℕ) → LeadsTo F limit n bytes remaining → remaining ≡ [] → AreWords F limit n bytes
   leads-end n bytes remaining l none = subst (LeadsTo F limit n bytes) none l
 
@@ -40,7 +40,7 @@ module _ (F : Format Meaning) (limit : Option ℕ) where
         sym (f.word_read v.word a v.meaning v.steps v.is_word) ∙ ap F.read (sym v.input_is ∙ w.input_is) ∙ f.word_read w.word b w.meaning w.steps w.is_word in
         cc
 
-    -- behind the words that were read are the others
+    -- after the words that were read come the others
     pub others-left : (i n : ℕ) (bytes now : List ℕ) → LeadsTo F limit i bytes now → AreWords F limit n bytes → (k : ℕ) × (n ≡ i + k) × AreWords F limit k now
     others-left zero n bytes now same all = (n, omega arith, subst (AreWords F limit n) (sym same) all)
     others-left (suc i) zero bytes now (next, first, others) none = absurd (some-bytes bytes next first (sym none))

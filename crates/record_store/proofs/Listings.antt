@@ -1,4 +1,4 @@
--- What is listed of a store, by what was appended to it.
+-- Listing a store, from what was appended to it.
 use Rattle.std.specs.Prelude.{◌≡◌, ◌+◌, ◌-◌, ◌<◌, ◌≤◌, ◌⊎◌, ◌++◌, ℕ, List, [], ◌∷◌, length, take, drop, Option, Err, Bool, true, refl}
 use Rattle.std.proofs.Common.{◌∙◌, ap, sym, subst, inl, inr, arith, append_assoc, append-nil, length-append}
 use Rattle.std.proofs.lemmas.List.{length-drop, drop-drop, drop_at, take_all}
@@ -26,7 +26,7 @@ stopped_there : (offset here : ℕ) (why : DecodeError) (missing : ℕ) → offs
     (missing : ℕ) × (Stopped offset why ≡ Stopped here (UnexpectedEnd missing))
 stopped_there offset here why missing p q = (missing, rw (p, q) refl)
 
--- what is sliced from an offset on is all behind it
+-- slicing from an offset on is dropping what is before it
 abbrev sliced : List ℕ → ℕ → List ℕ
 sliced store at = take (length store - at) (drop at store)
 
@@ -50,7 +50,7 @@ stopped-at F limit MayAllocate store at e other h found tells keeps =
     )
 
 module _ {A : Type 0} (F : Format Meaning) (limit : Option ℕ) (decodes_to : Meaning → A → Type 0) where
-  -- one more word behind those that were read
+  -- one more word after those that were read
   next-read : (at : ℕ) (input : List ℕ) (listed : List (Listed A)) (end : ℕ) (remaining : List ℕ) → ReadFrom F limit decodes_to at input listed end remaining →
       (n : ℕ) (v : A) (d : Decoded F limit remaining (λ m. decodes_to m v) n) →
       ReadFrom F limit decodes_to at input (listed ++ (record { offset = end; size = n; value = v }) ∷ []) (end + n) d.remaining
@@ -61,7 +61,7 @@ module _ {A : Type 0} (F : Format Meaning) (limit : Option ℕ) (decodes_to : Me
   )
   next-read at input (l ∷ listed) end remaining r n v d = (r.0, r.1, next-read (at + l.size) r.0.remaining listed end remaining r.2 n v d)
 
-  -- the same of what was sliced from the end of those
+  -- one more word, from the slice after those that were read
   pub read-on : (store : List ℕ) (at : ℕ) (listed : List (Listed A)) (n : ℕ) (v : A) → at ≤ length store → ReadFrom F limit decodes_to 0 store listed at (drop at store) →
       Decoded F limit (sliced store at) (λ m. decodes_to m v) n →
       (at + n ≤ length store) × ReadFrom F limit decodes_to 0 store (listed ++ (record { offset = at; size = n; value = v }) ∷ []) (at + n) (drop (at + n) store)
@@ -82,7 +82,7 @@ module _ {A : Type 0} (W : Words A) (s : Setting) (limit : Option ℕ) (never : 
   f : Lawful F
   f = W.lawful s
 
-  -- the listed values are those of the entries, and then those of what is behind
+  -- the listed values are those of the entries, then those of what follows
   record Behind (at : ℕ) (entries : List (Entry A)) (behind : List ℕ) (listed : List (Listed A)) (end : ℕ) (remaining : List ℕ) : Type 0 where
     first : List (Listed A)
     others : List (Listed A)
@@ -180,7 +180,7 @@ module _ {A : Type 0} (W : Words A) (s : Setting) (limit : Option ℕ) (never : 
     whole-read : F.read whole ≡ Took meaning [] steps.0
     whole-read = ap F.read (sym (append-nil whole)) ∙ f.word_read whole [] meaning steps.0 steps.1
 
-    -- no word stands in a torn one
+    -- a torn word has no word as a prefix
     no-word : (word remaining : List ℕ) (m : Meaning) (u : List Step) → F.Word word m u → front ≡ word ++ remaining → ⊥
     no-word word remaining m u w e =
         let split : whole ≡ word ++ (remaining ++ t.back) = ap (λ z. z ++ t.back) e ∙ append_assoc word remaining t.back in

@@ -1,4 +1,4 @@
--- What is left of a store to which a value was not added, and what is listed of one to which two were.
+-- What an error leaves of a store, and what is listed after two values were added.
 use Rattle.std.specs.Prelude.{◌≡◌, ℕ, List, [], ◌∷◌, Option, Bool}
 use Rattle.bincode_base.specs.Setting.{Setting}
 use Rattle.bincode_types.specs.TypeWords.{Words}
@@ -8,7 +8,7 @@ use Rattle.record_store.specs.declared.adding.AddError.TheVariants as failures
 use Rattle.record_store.specs.declared.store.Ending.{Ending}
 use Rattle.record_store.specs.declared.store.Listed.{Listed}
 
--- it is as it was, or as `append` leaves it
+-- the store is unchanged, or as `append` leaves it
 abbrev pub LeavesBehind : {A S : Type 0} → Words A → Setting → Option ℕ → A → (S → Option (List ℕ)) → S → S → AddError → Type 0
 LeavesBehind W s limit value contents old new (failures.NotWhole _ _) = new ≡ old
 LeavesBehind W s limit value contents old new (failures.Append e) = Leaves W s limit value contents old new e
@@ -24,7 +24,7 @@ IsAddOutside (failures.Memory _) = Unit {0}
 abbrev pub both : {A : Type 0} → A → List ℕ → A → List ℕ → List (Entry A)
 both first word second other = (record { value = first; word = word }) ∷ (record { value = second; word = other }) ∷ []
 
--- words were appended for two values in turn, and these values are listed for them, with nothing else
+-- words were appended for two values, and these values alone are listed for them
 pub record ListsBoth {A : Type 0} (W : Words A) (s : Setting) (limit : Option ℕ) (eq : A → A → Bool) (first second : A) (listed : List (Listed A)) (ending : Ending) : Type 0 where
   pub word : List ℕ
   pub other : List ℕ

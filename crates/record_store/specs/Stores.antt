@@ -1,4 +1,4 @@
--- What a store holds: the words of values, one behind the other.
+-- What a store holds: the words of values, one after another.
 use Rattle.std.specs.Prelude.{◌≡◌, ◌+◌, ◌++◌, ℕ, List, [], ◌∷◌, length, Option, Bool, true}
 use Rattle.std.specs.Io.KnownBytes.{Appends}
 use Rattle.bincode_base.specs.Setting.{Setting}
@@ -25,7 +25,7 @@ use Rattle.record_store.specs.declared.store.Listed.{Listed}
 abbrev pub NoEmptyWord : {A : Type 0} → Format A → Type 0
 NoEmptyWord {A} F = (meaning : A) (steps : List Step) → F.Word [] meaning steps → ⊥
 
--- of no setting
+-- in no setting
 abbrev pub NeverEmpty : {A : Type 0} → Words A → Type 0
 NeverEmpty W = (s : Setting) → NoEmptyWord (W.format s)
 
@@ -37,14 +37,14 @@ pub record IsEntry {A : Type 0} (W : Words A) (s : Setting) (limit : Option ℕ)
   pub is_written : AllowedWord (W.means value) (W.format s) word
   pub is_within : FitsLimit (W.format s) limit word
 
--- the bytes, where they are known, grew by such a word, which has so many bytes
+-- the bytes, if they are known, grew by such a word of n bytes
 pub record Added {A : Type 0} (W : Words A) (s : Setting) (limit : Option ℕ) (value : A) (n : ℕ) (old new : Option (List ℕ)) : Type 0 where
   pub word : List ℕ
   pub is_entry : IsEntry W s limit value word
   pub count : n ≡ length word
   pub appended : Appends old new word
 
--- they grew by a front of such a word
+-- they grew by a prefix of such a word
 pub record FrontAdded {A : Type 0} (W : Words A) (s : Setting) (limit : Option ℕ) (value : A) (old new : Option (List ℕ)) : Type 0 where
   pub front : List ℕ
   pub back : List ℕ
@@ -67,7 +67,7 @@ WritesNothing (failures.Encode _) = Unit {0}
 WritesNothing (failures.ReadBack _) = Unit {0}
 WritesNothing (failures.Write _) = ⊥
 
--- what a store is after each error
+-- the store after each error
 abbrev pub Leaves : {A S : Type 0} → Words A → Setting → Option ℕ → A → (S → Option (List ℕ)) → S → S → AppendError → Type 0
 Leaves W s limit value contents old new (failures.Encode _) = new ≡ old
 Leaves W s limit value contents old new (failures.ReadBack _) = new ≡ old
@@ -83,12 +83,12 @@ abbrev pub AreEntries : {A : Type 0} → Words A → Setting → Option ℕ → 
 AreEntries W s limit [] = Unit {0}
 AreEntries W s limit (e ∷ entries) = IsEntry W s limit e.value e.word × AreEntries W s limit entries
 
--- their words, one behind the other
+-- their words, one after another
 abbrev pub words_of : {A : Type 0} → List (Entry A) → List ℕ
 words_of [] = []
 words_of (e ∷ entries) = e.word ++ words_of entries
 
--- a front of some value's word, neither empty nor whole
+-- a prefix of a value's word, neither empty nor whole
 pub record IsTorn {A : Type 0} (W : Words A) (s : Setting) (limit : Option ℕ) (front : List ℕ) : Type 0 where
   pub value : A
   pub back : List ℕ
@@ -98,7 +98,7 @@ pub record IsTorn {A : Type 0} (W : Words A) (s : Setting) (limit : Option ℕ) 
 
 -- what is listed
 
--- what begins at an offset is the words of the listed values, in turn; behind them, at `end`, is the rest
+-- at an offset the words of the listed values follow, in order; after them, at `end`, is the rest
 abbrev pub ReadFrom : {A : Type 0} → Format Meaning → Option ℕ → (Meaning → A → Type 0) → ℕ → List ℕ → List (Listed A) → ℕ → List ℕ → Type 0
 ReadFrom F limit decodes_to at input [] end remaining = (end ≡ at) × (remaining ≡ input)
 ReadFrom F limit decodes_to at input (l ∷ listed) end remaining =
@@ -110,20 +110,20 @@ pub record IsRefusedFor (F : Format Meaning) (limit : Option ℕ) (bytes : List 
   pub tells : (fault : Fault) (steps : List Step) → F.Faults bytes fault steps → StaysWithin limit 0 steps → Tells EndsSlice fault why
   pub keeps : (steps : List Step) → StepsOf F bytes steps → Passes limit 0 steps → why ≡ decoding.LimitExceeded
 
--- the ending is that of a store whose rest stands at this offset
+-- the ending is that of a store whose rest is at this offset
 abbrev pub EndsAt : Format Meaning → Option ℕ → ℕ → List ℕ → Ending → Type 0
 EndsAt F limit at remaining Whole = remaining ≡ []
 EndsAt F limit at remaining (Stopped offset why) = (offset ≡ at) × (remaining ≡ [] → ⊥) × IsRefusedFor F limit remaining why
 
--- the values are those of the words of the store, up to its end or to the first bytes that are no word
+-- the values are those of the words of the store, up to its end or to the first bytes that begin with no word
 pub record Lists {A : Type 0} (F : Format Meaning) (limit : Option ℕ) (decodes_to : Meaning → A → Type 0) (store : List ℕ) (listed : List (Listed A)) (ending : Ending) : Type 0 where
   pub end : ℕ
   pub remaining : List ℕ
   pub values : ReadFrom F limit decodes_to 0 store listed end remaining
   pub ends : EndsAt F limit end remaining ending
 
--- values are listed for entries that begin at an offset: equal ones, each behind the words of those before it, and of as many
--- bytes as its word has
+-- values are listed for entries from an offset on: equal ones, each at the end of the one before, with the length of
+-- its word
 abbrev pub ListedFor : {A : Type 0} → (A → A → Bool) → ℕ → List (Entry A) → List (Listed A) → Type 0
 ListedFor eq at [] [] = Unit {0}
 ListedFor eq at (e ∷ entries) (l ∷ listed) = (eq e.value l.value ≡ true) × (l.offset ≡ at) × (l.size ≡ length e.word) × ListedFor eq (at + length e.word) entries listed
@@ -141,6 +141,6 @@ pub record ListsFirst {A : Type 0} (eq : A → A → Bool) (entries : List (Entr
 abbrev pub ListsAll : {A : Type 0} → (A → A → Bool) → List (Entry A) → List (Listed A) → Ending → Type 0
 ListsAll eq entries listed ending = ListedFor eq 0 entries listed × (ending ≡ Whole)
 
--- these are all, and the store ends too early behind them
+-- these are all, and the store ends too early after them
 abbrev pub ListsBeforeTorn : {A : Type 0} → (A → A → Bool) → List (Entry A) → List (Listed A) → Ending → Type 0
 ListsBeforeTorn eq entries listed ending = ListedFor eq 0 entries listed × ((missing : ℕ) × (ending ≡ Stopped (length (words_of entries)) (decoding.UnexpectedEnd missing)))

@@ -1,4 +1,4 @@
-//! A value that is appended to a store that is whole.
+//! Appending a value to a store that is whole.
 ghost use Rattle.std.specs.Prelude.{◌≡◌, ◌++◌, ℕ, List, length, IsErr, IfOk, IfErr};
 ghost use Rattle.record_store.specs.Stores.{Entry, AreEntries, words_of, Added, IsTorn, FitsStore};
 ghost use Rattle.record_store.specs.Adding.{LeavesBehind, IsAddOutside};
@@ -10,38 +10,38 @@ use std::alloc::{AllocError, Global};
 use std::io::Write;
 use thiserror::Error;
 
-/// Where a value stands in a store.
+/// The position of a value in a store.
 #[derive(Debug, Drop, PartialEq)]
 pub struct Place {
-    /// How many bytes of the store are before its word.
+    /// The number of bytes before its encoding.
     pub offset: usize,
-    /// How many bytes its word has.
+    /// The length of its encoding in bytes.
     pub size: usize,
 }
 
 /// Why a value was not added to a store.
 #[derive(Debug, Drop, Error)]
 pub enum AddError {
-    /// The store holds bytes from this offset on that no word begins. Nothing was written.
+    /// From this offset on the bytes of the store begin with no encoding. Nothing was written.
     #[error("{what} at byte {offset} ({why}): nothing was added. \
         `head -c {offset}` prints what is whole", what = what_stands(.why))]
     NotWhole {
-        /// How many bytes are before them.
+        /// The number of whole bytes before.
         offset: usize,
-        /// What decoding answered there.
+        /// The error of decoding there.
         why: DecodeError,
     },
-    /// The value could not be appended.
+    /// Appending the value failed.
     #[error("{0}")]
     Append(#[from] AppendError),
-    /// Memory was refused. Nothing was written.
+    /// An allocation was refused. Nothing was written.
     #[error(transparent)]
     Memory(#[from(alloc)] AllocError),
 }
 
-/// Appends the word of a value to a store that holds these bytes, where they are whole, and answers its place. Fails
-/// before anything is written with `NotWhole` where they are not and with `Memory` where memory is refused, and with
-/// `Append` as `append` does.
+/// Appends a value to a store that holds the bytes `held`, after checking that they are whole, and returns its
+/// position. Decodes the whole store: O(n). Fails with `NotWhole` or `Memory` before anything is written, or like
+/// `append`.
 pub fn add<T: Stored, C: Config, W: Write>(
     alloc: Global,
     held: &[u8],
@@ -49,16 +49,16 @@ pub fn add<T: Stored, C: Config, W: Write>(
     value: &T,
     config: C,
 ) -> Result<Place, AddError>
-    // A word of the value stands behind what the store held, and its place is told.
+    // On `Ok` an encoding of the value follows what the store held.
     ensures added { IfOk result (λ place. (place.offset ≡ length held.now)
         × Added T.words C.setting C.bound value.now place.size (W.contents store.old) (W.contents store.new)) }
-    // To a store whose last word was cut nothing is added.
+    // To a store whose last record was cut nothing is added.
     ensures torn { (entries : List (Entry T)) (front : List ℕ) → AreEntries T.words C.setting C.bound entries
         → IsTorn T.words C.setting C.bound front → held.now ≡ words_of entries ++ front
         → IsErr result × (store.new ≡ store.old) }
-    // An error leaves what the store held, and at most a front of the word behind it.
+    // After an error the store holds what it held, and at most a prefix of the encoding after it.
     ensures left { IfErr result (LeavesBehind T.words C.setting C.bound value.now W.contents store.old store.new) }
-    // To what was appended in turn a value that can be read under the limit is added, unless memory is refused or the
+    // To values that were appended one by one a value that fits the limit is added, unless memory is refused or the
     // stream fails.
     ensures fits { (entries : List (Entry T)) → AreEntries T.words C.setting C.bound entries
         → held.now ≡ words_of entries → FitsStore T.words C.setting C.bound value.now → IfErr result IsAddOutside }
@@ -74,7 +74,7 @@ pub fn add<T: Stored, C: Config, W: Write>(
     }
 }
 
-/// Appends the word of a value behind so many bytes.
+/// Appends a value after `offset` bytes.
 fn add_behind<T: Stored, C: Config, W: Write>(
     alloc: Global,
     offset: usize,
@@ -93,7 +93,7 @@ fn add_behind<T: Stored, C: Config, W: Write>(
     }
 }
 
-/// What stands where no whole record begins, by the error that tells why.
+/// What the bytes after the last whole record are, by the error of decoding them.
 pub fn what_stands(why: &DecodeError) -> &'static str {
     match why {
         DecodeError::UnexpectedEnd { .. } => "a torn record",

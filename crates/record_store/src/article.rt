@@ -1,4 +1,4 @@
-//! What a stock keeps of an article.
+//! An article of a stock.
 ghost use Rattle.record_store.specs.Stores.{NeverEmpty};
 
 use crate::store::Stored;
@@ -14,13 +14,13 @@ type Parts = (String, u64, Option<u32>, BTreeMap<String, String>);
 /// An article.
 #[derive(Drop, PartialEq)]
 pub struct Article {
-    /// What it is called.
+    /// Its name.
     pub name: String,
     /// Its price, in cents.
     pub price: u64,
-    /// Its weight in grams, where it is known.
+    /// Its weight in grams, if it is known.
     pub weight: Option<u32>,
-    /// Texts about it, by their names.
+    /// Texts about it, by name.
     pub notes: BTreeMap<String, String>,
 }
 

@@ -1,4 +1,4 @@
-//! What the words behind the name of the program `records` ask for.
+//! The command line of the program `records`.
 
 use crate::article::Article;
 use std::alloc::{AllocError, Global};
@@ -12,16 +12,16 @@ pub enum Command {
     Add {
         /// The path of the file.
         file: String,
-        /// What is appended.
+        /// The article to append.
         article: Article,
     },
     /// Print the articles of these files.
     List(Vec<String>),
-    /// Say of each of these files whether it is whole.
+    /// Check for each of these files whether it is whole.
     Check(Vec<String>),
 }
 
-/// Why words spell no command.
+/// Why a command line was refused.
 #[derive(Debug, Drop, Error)]
 pub enum CommandError {
     /// There are no words.
@@ -30,28 +30,28 @@ pub enum CommandError {
     /// The first word is no command.
     #[error("no command {0:?}: there are add, list and check")]
     UnknownCommand(String),
-    /// No file is named.
+    /// The file is missing.
     #[error("which file? {usage}", usage = USAGE)]
     NoFile,
-    /// What is to be added has no name.
+    /// The name of the article is missing.
     #[error("add FILE NAME PRICE: the name is missing")]
     NoName,
-    /// What is to be added has no price.
+    /// The price of the article is missing.
     #[error("add FILE NAME PRICE: the price is missing")]
     NoPrice,
-    /// This is no price.
+    /// The price is not a number.
     #[error("a price is a number below 2^64, and not {0:?}")]
     BadPrice(String),
-    /// This word is one more weight.
+    /// There is more than one weight.
     #[error("two weights: {0:?} is one more")]
     TwoWeights(String),
-    /// This note has the name of another.
+    /// Two notes have one name.
     #[error("two notes of one name: {0:?}")]
     TwoNotes(String),
-    /// This word is neither a weight nor a note.
+    /// The word is neither a weight nor a note.
     #[error("a weight is a number below 2^32, and a note has a '=': {0:?} is neither")]
     NeitherWeightNorNote(String),
-    /// Memory was refused.
+    /// An allocation was refused.
     #[error(transparent)]
     Memory(#[from(alloc)] AllocError),
 }
@@ -59,7 +59,7 @@ pub enum CommandError {
 const USAGE: &str =
     "records add FILE NAME PRICE [WEIGHT] [NOTE=TEXT ..] | records list FILE .. | records check FILE ..";
 
-/// The command that these words spell. Fails where they spell none, and where memory is refused.
+/// Parses a command line, without the program's name.
 pub fn command_of(alloc: Global, words: Vec<String>) -> Result<Command, CommandError> {
     let mut words = words.into_iter();
     let Some(verb) = words.next() else {
@@ -74,7 +74,7 @@ pub fn command_of(alloc: Global, words: Vec<String>) -> Result<Command, CommandE
     }
 }
 
-/// These files, if there are any.
+/// The files, if there are any.
 fn some_files(files: Vec<String>) -> Result<Vec<String>, CommandError> {
     if files.is_empty() {
         return Err(CommandError::NoFile);
@@ -82,7 +82,7 @@ fn some_files(files: Vec<String>) -> Result<Vec<String>, CommandError> {
     Ok(files)
 }
 
-/// The command to append an article: its file, its name, its price, and then its weight and its notes.
+/// Parses the words after `add`: file, name, price, then weight and notes.
 fn add_command(alloc: Global, words: Vec<String>) -> Result<Command, CommandError> {
     let mut words = words.into_iter();
     let Some(file) = words.next() else {
@@ -106,7 +106,7 @@ fn add_command(alloc: Global, words: Vec<String>) -> Result<Command, CommandErro
     Ok(Command::Add { file, article })
 }
 
-/// The price that a word spells.
+/// Parses a price.
 fn price_of(word: String) -> Result<u64, CommandError> {
     match word.parse::<u64>() {
         Ok(price) => Ok(price),
@@ -114,7 +114,7 @@ fn price_of(word: String) -> Result<u64, CommandError> {
     }
 }
 
-/// Takes a word for a note of the article, or else for its weight.
+/// Parses a word as a note of the article, or as its weight.
 fn add_word(alloc: Global, article: &mut Article, word: String) -> Result<(), CommandError> {
     if let Some((name, text)) = word.split_once('=') {
         let name = String::from_str(alloc, name)?;

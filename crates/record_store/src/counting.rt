@@ -1,4 +1,4 @@
-//! The values of a store that is read as a stream, of which one at a time is held.
+//! Counting the values of a stream, one at a time in memory.
 ghost use Rattle.std.specs.Prelude.{◌-◌, ◌^◌, ◌<◌, ℕ, IfOk, IfErr};
 ghost use Rattle.bincode_spec.specs.Decoding.{IsExcused};
 ghost use Rattle.bincode_io.specs.Stream.{TellsBytes, known_bytes, stream_errors};
@@ -11,18 +11,17 @@ use bincode::error::DecodeError;
 use std::alloc::Global;
 use std::io::BufRead;
 
-/// Counts the values of a store up to the end of its stream. Fails with what decoding answers where no word within the
-/// limit stands, as with `Io` where the stream ends within a word or fails, and with `LimitExceeded` behind 2^64 - 1
-/// values.
+/// Counts the values of a store up to the end of its stream. Fails with the error of decoding a value, so with `Io` if
+/// the stream fails or ends within one, or with `LimitExceeded` after 2^64 - 1 values.
 pub fn count<T: Stored, C: Config, R: BufRead>(
     alloc: Global,
     store: &mut R,
     config: C,
 ) -> Result<u64, DecodeError>
-    // Of a stream that tells its bytes: they are the words of so many values within the limit, and nothing else.
+    // These clauses speak of streams whose bytes are known. They are the encodings of `n` values, and nothing else.
     ensures words { TellsBytes (R.remaining store.old) → IfOk result (λ n.
         AreWords (T.words.format C.setting) C.bound n (known_bytes (R.remaining store.old))) }
-    // Where they are such words, they are counted, unless the stream fails or memory is refused.
+    // If they are such encodings, they are counted, unless the stream fails or memory is refused.
     ensures total { TellsBytes (R.remaining store.old) → (n : ℕ) → n < 2 ^ 64 - 1
         → AreWords (T.words.format C.setting) C.bound n (known_bytes (R.remaining store.old))
         → IfErr result (IsExcused stream_errors T.words.may_allocate 0 0) }

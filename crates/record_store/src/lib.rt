@@ -1,5 +1,5 @@
-//! Values in a row in a file, each behind the one before, and the articles of a stock, of which the program `records`
-//! keeps such a file.
+//! A store of values: a file of encodings, one after another. With the articles of a stock, which the program `records`
+//! keeps in such a file.
 #![tactic(auto)]
 
 pub mod adding;

@@ -1,4 +1,4 @@
-//! The files of a stock: their settings, and what is told of them.
+//! The files of a stock: their configuration, and what is printed of them.
 
 use crate::adding::{Place, what_stands};
 use crate::article::Article;
@@ -8,19 +8,19 @@ use bincode::config::{Configuration, Limit, LittleEndian, Varint};
 use std::alloc::Global;
 use std::io::{Result, Write};
 
-/// How the files of a stock are written: by the standard configuration, and no article may claim more than 64 KiB.
+/// The configuration of a stock's files: the standard one, with a limit of 64 KiB for each article.
 pub fn settings() -> Configuration<LittleEndian, Varint, Limit<65536>> {
     config::standard().with_limit::<65536>()
 }
 
-/// Prints where an article stands in a file of this name.
+/// Prints the position of an article in a file of this name.
 pub fn print_place<W: Write>(out: &mut W, file: &str, place: &Place) -> Result<()> {
     let Place { offset, size } = place;
     writeln!(out, "{file}: {size} bytes at byte {offset}")
 }
 
-/// Prints the articles in these bytes of a file of this name, each behind its offset and its length in bytes, and then
-/// how the file ends. Answers whether it is whole. Fails where memory is refused, and where the text cannot be printed.
+/// Prints the articles in the bytes of a file of this name, each with its offset and its length in bytes, then how the
+/// file ends. Returns whether it is whole. Fails if an allocation is refused or the output fails.
 pub fn print_articles<W: Write>(
     alloc: Global,
     out: &mut W,
@@ -34,13 +34,13 @@ pub fn print_articles<W: Write>(
     print_ending(out, file, bytes.len(), &listing)
 }
 
-/// Prints how a file of this name that has these bytes ends. Answers and fails as `print_articles` does.
+/// Prints how a file of this name ends, and returns whether it is whole, like `print_articles`.
 pub fn print_check<W: Write>(alloc: Global, out: &mut W, file: &str, bytes: &[u8]) -> Result<bool> {
     let listing = list(alloc, bytes, settings())?;
     print_ending(out, file, bytes.len(), &listing)
 }
 
-/// Prints an article behind its offset and its length in bytes.
+/// Prints an article with its offset and its length in bytes.
 fn print_article<W: Write>(out: &mut W, listed: &Listed<Article>) -> Result<()> {
     let Listed {
         offset,
@@ -61,7 +61,7 @@ fn print_article<W: Write>(out: &mut W, listed: &Listed<Article>) -> Result<()> 
     writeln!(out)
 }
 
-/// Prints how a file of so many bytes ends, and answers whether it is whole.
+/// Prints how a file of `bytes` bytes ends, and returns whether it is whole.
 fn print_ending<W: Write>(
     out: &mut W,
     file: &str,

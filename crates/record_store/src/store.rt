@@ -1,5 +1,5 @@
-//! Stores: the words of values, each behind the one before, and nothing between them. A value is appended behind all
-//! others, so that a write that is cut loses no earlier one.
+//! Stores: encodings of values, one after another with nothing between them. A value is only appended, so that a write
+//! that is cut loses no earlier one.
 ghost use Rattle.std.specs.Prelude.{◌≡◌, ◌↔◌, ◌++◌, ℕ, List, IfOk, IfErr, IsTrue};
 ghost use Rattle.bincode_base.specs.declared.error.DecodeError.TheVariants.{Memory};
 ghost use Rattle.record_store.specs.Stores.{NeverEmpty, IsEntry, Entry, AreEntries, words_of, Added, WritesNothing};
@@ -17,9 +17,9 @@ use std::alloc::{AllocError, Global};
 use std::io::Write;
 use thiserror::Error;
 
-/// A type whose values a store can keep: what is read for a value is equal to it, and no word is empty.
+/// A type whose values can be stored: decoding gives an equal value, and no encoding is empty.
 pub trait Stored: Encode + Decode<()> + Exact {
-    /// Tells that no word is empty.
+    /// Proves that no encoding is empty. Does nothing at run time.
     fn tell_never_empty()
         ensures { NeverEmpty Self.words };
 }
@@ -27,66 +27,66 @@ pub trait Stored: Encode + Decode<()> + Exact {
 /// Why a value was not appended.
 #[derive(Debug, Drop, Error)]
 pub enum AppendError {
-    /// Its word could not be made. Nothing was written.
+    /// Encoding failed. Nothing was written.
     #[error("{0}")]
     Encode(EncodeError),
-    /// Its word could not be read back: it passes the limit, or memory was refused. Nothing was written.
+    /// Decoding the encoding again failed: it passes the limit, or memory was refused. Nothing was written.
     #[error("it cannot be read back: {0}")]
     ReadBack(DecodeError),
-    /// The stream failed. A front of the word may stand in it.
+    /// The stream failed. A prefix of the encoding may have been written.
     #[error("{0}")]
     Write(EncodeError),
 }
 
-/// A value that was read from a store.
+/// A value that was decoded from a store.
 #[derive(Drop)]
 pub struct Listed<T> {
-    /// How many bytes of the store are before its word.
+    /// The number of bytes of the store before its encoding.
     pub offset: usize,
-    /// How many bytes its word has.
+    /// The length of its encoding in bytes.
     pub size: usize,
-    /// The value that was read for it.
+    /// The value.
     pub value: T,
 }
 
 /// How a store ends.
 #[derive(Drop)]
 pub enum Ending {
-    /// Behind a word.
+    /// After a whole encoding.
     Whole,
-    /// Before bytes that no word within the limit begins.
+    /// Before bytes that begin with no encoding within the limit.
     Stopped {
-        /// How many bytes are before it.
+        /// The number of bytes before them.
         offset: usize,
-        /// What decoding answered there.
+        /// The error of decoding there.
         why: DecodeError,
     },
 }
 
-/// What a store holds.
+/// The contents of a store.
 #[derive(Drop)]
 pub struct Listing<T> {
-    /// The values of its words, in turn.
+    /// The values, in order.
     pub values: Vec<Listed<T>>,
-    /// Why no more were read.
+    /// Why there are no more.
     pub ending: Ending,
 }
 
-/// Appends the word of a value to a store, and answers how many bytes it has. Fails before anything is written with
-/// `Encode` where memory is refused, and with `ReadBack` where memory is or where the word passes the limit; and with
-/// `Write` where the stream fails, in which a front of the word may stand then.
+/// Appends a value to a store and returns the length of its encoding in bytes. The encoding is decoded once before it
+/// is written. Fails with `Encode` or `ReadBack` before anything is written, or with `Write` if the stream fails, which
+/// may then have taken a prefix of the encoding.
 pub fn append<T: Stored, C: Config, W: Write>(
     alloc: Global,
     store: &mut W,
     value: &T,
     config: C,
 ) -> Result<usize, AppendError>
-    // A word of the value stands behind what the store held.
+    // On `Ok(n)` an encoding of the value, of `n` bytes, follows what the store held.
     ensures added { IfOk result (λ n. Added T.words C.setting C.bound value.now n (W.contents store.old)
         (W.contents store.new)) }
-    // An error leaves what the store held, and at most a front of the word behind it.
+    // After an error the store holds what it held, and at most a prefix of the encoding after it.
     ensures left { IfErr result (Leaves T.words C.setting C.bound value.now W.contents store.old store.new) }
-    // A value that can be read under the limit is refused only where memory is, or where the stream fails.
+    // A value that fits the limit is refused only if memory is, or if the stream fails.
     ensures fits { FitsStore T.words C.setting C.bound value.now → IfErr result IsOutside }
 {
     let word = readable_word(alloc, value, config)?;
@@ -96,7 +96,7 @@ pub fn append<T: Stored, C: Config, W: Write>(
     }
 }
 
-/// A word of a value that is read back under the limit.
+/// Encodes a value and decodes it again under the limit.
 fn readable_word<T: Stored, C: Config>(
     alloc: Global,
     value: &T,
@@ -119,23 +119,23 @@ fn readable_word<T: Stored, C: Config>(
     }
 }
 
-/// Lists the values of a store, each with its place, up to the end or to the first bytes that are no word within the
-/// limit. Fails where memory is refused.
+/// Decodes the values of a store, each with its position, up to the end or to the first bytes that begin with no
+/// encoding within the limit. Fails if an allocation is refused.
 pub fn list<T: Stored, C: Config>(
     alloc: Global,
     store: &[u8],
     config: C,
 ) -> Result<Listing<T>, AllocError>
-    // The words of the store in turn are listed, and the ending tells why no further one was.
+    // The encodings in the store are listed in order, and the ending tells why there are no more.
     ensures words { IfOk result (λ l.
         Lists (T.words.format C.setting) C.bound T.words.decodes_to store.now l.values.items l.ending) }
-    // What was appended in turn is listed first, whatever stands behind it;
+    // What was appended is listed first, whatever follows it;
     ensures first { (entries : List (Entry T)) (behind : List ℕ) → AreEntries T.words C.setting C.bound entries
         → store.now ≡ words_of entries ++ behind → IfOk result (λ l. ListsFirst T.eq entries l.values.items) }
-    // where nothing does, that is all;
+    // if nothing does, that is all;
     ensures all { (entries : List (Entry T)) → AreEntries T.words C.setting C.bound entries
         → store.now ≡ words_of entries → IfOk result (λ l. ListsAll T.eq entries l.values.items l.ending) }
-    // and a last word that was cut is told at its offset.
+    // and if the last encoding was cut, the ending has its offset.
     ensures torn { (entries : List (Entry T)) (front : List ℕ) → AreEntries T.words C.setting C.bound entries
         → IsTorn T.words C.setting C.bound front → store.now ≡ words_of entries ++ front
         → IfOk result (λ l. ListsBeforeTorn T.eq entries l.values.items l.ending) }
@@ -144,7 +144,7 @@ pub fn list<T: Stored, C: Config>(
     list_words(alloc, store, config)
 }
 
-/// The same, of which the words alone are said.
+/// `list`, without what it promises of appended values.
 fn list_words<T: Stored, C: Config>(
     alloc: Global,
     store: &[u8],
@@ -184,7 +184,7 @@ fn list_words<T: Stored, C: Config>(
     })
 }
 
-/// Whether memory was refused.
+/// Whether the error is `Memory`.
 pub fn is_memory(error: &DecodeError) -> bool
     ensures { IsTrue result ↔ (error.now ≡ Memory) }
 {

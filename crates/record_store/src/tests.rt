@@ -1,4 +1,4 @@
-//! What the program `records` does, by its words and by the bytes of its files.
+//! The program `records`: its command lines, and the bytes of its files.
 
 mod streams;
 
@@ -11,7 +11,7 @@ use std::collections::BTreeMap;
 use std::io;
 use std::process::Abort;
 
-/// Salt at 40, and then tea at 1250, of a weight of 100 and from Assam.
+/// Salt at 40, then tea at 1250 with a weight of 100, from Assam.
 const STOCK: [u8; 31] = [
     4, 115, 97, 108, 116, 40, 0, 0, 3, 116, 101, 97, 251, 226, 4, 1, 100, 1, 6, 111, 114, 105, 103,
     105, 110, 5, 65, 115, 115, 97, 109,
@@ -27,7 +27,7 @@ fn salt(alloc: Global) -> Result<Article, AllocError> {
     })
 }
 
-/// Tea at 1250, of a weight of 100 and from Assam.
+/// Tea at 1250 with a weight of 100, from Assam.
 fn tea(alloc: Global) -> Result<Article, AllocError> {
     let mut notes = BTreeMap::new(alloc);
     let origin = String::from_str(alloc, "origin")?;
@@ -58,7 +58,7 @@ fn adds_behind_what_is_held(rt: HostRuntime) -> Result<(), AddError> {
     Ok(())
 }
 
-/// To a file of these bytes nothing is added, and the message is this one.
+/// Checks that nothing is added to a file of these bytes, with this message.
 fn refuses(rt: &(impl Abort + AllocGlobal), held: &[u8], message: &str) -> Result<(), AllocError> {
     let alloc = rt.alloc();
     let mut stock = Vec::new(alloc);
@@ -125,7 +125,7 @@ fn prints_how_files_end(rt: HostRuntime) -> io::Result<()> {
     Ok(())
 }
 
-/// The command that these words spell.
+/// Parses these words.
 fn spelled(alloc: Global, words: &[&str]) -> Result<Command, CommandError> {
     let mut owned = Vec::new(alloc);
     for word in words {
@@ -134,7 +134,7 @@ fn spelled(alloc: Global, words: &[&str]) -> Result<Command, CommandError> {
     command_of(alloc, owned)
 }
 
-/// Whether these words ask to add an article to a file of this path.
+/// Whether these words parse as adding an article to a file of this path.
 fn spells_add(
     alloc: Global,
     words: &[&str],
@@ -147,7 +147,7 @@ fn spells_add(
     }
 }
 
-/// Whether these words ask to list files of these paths.
+/// Whether these words parse as listing files of these paths.
 fn spells_list(alloc: Global, words: &[&str], paths: &[&str]) -> Result<bool, CommandError> {
     match spelled(alloc, words)? {
         Command::List(files) => Ok(are_paths(&files, paths)),
@@ -155,7 +155,7 @@ fn spells_list(alloc: Global, words: &[&str], paths: &[&str]) -> Result<bool, Co
     }
 }
 
-/// Whether these words ask to check files of these paths.
+/// Whether these words parse as checking files of these paths.
 fn spells_check(alloc: Global, words: &[&str], paths: &[&str]) -> Result<bool, CommandError> {
     match spelled(alloc, words)? {
         Command::Check(files) => Ok(are_paths(&files, paths)),
@@ -182,7 +182,7 @@ fn takes_words_in_their_order(rt: HostRuntime) -> Result<(), CommandError> {
     Ok(())
 }
 
-/// These words spell no command, which is told by this message.
+/// Checks that these words are refused with this message.
 fn spells_none(
     rt: &(impl Abort + AllocGlobal),
     words: &[&str],

@@ -1,4 +1,4 @@
-//! Two values that are appended to a vector in turn and then listed.
+//! Two values, appended to a vector and then listed.
 ghost use Rattle.std.specs.Prelude.{IfOk};
 ghost use Rattle.record_store.specs.Adding.{ListsBoth};
 
@@ -7,7 +7,7 @@ use crate::store::{Listing, Stored, append, list};
 use bincode::config::Config;
 use std::alloc::Global;
 
-/// Appends two values in turn to a store that is empty, and lists it. Fails as `append` and `list` do.
+/// Appends two values to an empty store, and lists it. Errors are those of `append` and `list`.
 pub fn list_both<T: Stored, C: Config>(
     alloc: Global,
     first: &T,

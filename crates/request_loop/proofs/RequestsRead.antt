@@ -1,4 +1,4 @@
--- A request that is read behind others.
+-- Decoding a request after others.
 use Rattle.std.specs.Prelude.{◌≡◌, ℕ, ◌+◌, ◌≤◌, ◌<◌, ◌++◌, List, [], ◌∷◌, length, take, drop, ◌-◌, Option, Some}
 use Rattle.std.specs.List.{All}
 use Rattle.std.proofs.Common.{◌∙◌, sym, ap, subst, arith, length-append}
@@ -14,7 +14,7 @@ use Rattle.bincode.specs.Slice.{Decoded}
 use Rattle.request_loop.specs.Requests.{FollowOn, IsBounded, IsRead}
 use Rattle.request_loop.specs.declared.requests.Request.{Request}
 
--- what is left behind a request
+-- what is left after a request
 abbrev left : List ℕ → ℕ → List ℕ
 left received start = take (length received - start) (drop start received)
 

@@ -1,4 +1,4 @@
-//! A server's loop: requests that came one behind the other, from anybody, read under a limit.
+//! A server's loop: requests one after another, from untrusted senders, decoded under a limit.
 ghost use Rattle.std.specs.Prelude.{◌≡◌, ◌≤◌, ℕ, Err, IfOk, MatchOption, Some, drop, length};
 ghost use Rattle.std.specs.List.{All};
 ghost use Rattle.bincode.specs.Slice.{IsAnswer};
@@ -12,46 +12,46 @@ use std::alloc::{AllocError, Global};
 
 type ServerConfig = Configuration<LittleEndian, Varint, Limit<65536>>;
 
-/// A request that was read.
+/// A request that was decoded.
 #[derive(Drop)]
 pub struct Request<T> {
-    /// How many of the bytes are before it.
+    /// The number of bytes before it.
     pub start: usize,
-    /// How many bytes it has.
+    /// Its length in bytes.
     pub size: usize,
-    /// What it asks for.
+    /// The request itself.
     pub value: T,
 }
 
-/// What was read of the bytes that were received.
+/// The requests in the bytes that were received.
 #[derive(Drop)]
 pub struct Requests<T> {
-    /// The requests, in turn.
+    /// The requests, in order.
     pub read: Vec<Request<T>>,
-    /// How many bytes they have together.
+    /// The number of bytes that they take.
     pub end: usize,
-    /// Why no more were read, unless it was enough: `UnexpectedEnd` where the rest of one has still to come.
+    /// Why there are no more, unless there were enough: `UnexpectedEnd` if the rest of one is still to come.
     pub stopped: Option<DecodeError>,
 }
 
-/// Reads at most so many requests. Fails where memory is refused; the bytes that were received are as before.
+/// Decodes at most `most` requests. Fails if an allocation is refused; the received bytes are only borrowed.
 pub fn read_requests<T: Decode<()>, C: Config>(
     alloc: Global,
     received: &[u8],
     most: usize,
     config: C,
 ) -> Result<Requests<T>, AllocError>
-    // Each request is a word within the limit, and its value is that of the word,
+    // Each request is an encoding of its value within the limit,
     ensures words { IfOk result (λ r.
         All (IsRead (T.words.format C.setting) C.bound T.words.decodes_to received.now) r.read.items) }
     // the limit bounds it,
     ensures bounded { (limit : ℕ) → C.bound ≡ Some limit
         → IfOk result (λ r. All (IsBounded (T.words.format C.setting) limit received.now) r.read.items) }
-    // they stand one behind the other,
+    // they follow one another,
     ensures in_turn { IfOk result (λ r. FollowOn 0 r.read.items r.end) }
-    // there are no more than were asked for,
+    // there are at most `most`,
     ensures at_most { IfOk result (λ r. length r.read.items ≤ most) }
-    // and where no more were read, decoding answered so to the bytes that are left.
+    // and if there are fewer, `stopped` is the error of decoding the bytes that are left.
     ensures stopped { IfOk result (λ r. MatchOption r.stopped (length r.read.items ≡ most) (λ why.
         IsAnswer (T.words.format C.setting) C.bound T.words.may_allocate T.words.decodes_to (drop r.end received.now)
         (Err why))) }
@@ -84,9 +84,8 @@ pub fn read_requests<T: Decode<()>, C: Config>(
     })
 }
 
-/// The loop of a server: what was received is read in turn, as `read_requests` does. No request takes more than 98304
-/// bytes, and none has a list, a map or an array that reserves more than 65536 bytes by the claim size of its elements,
-/// whatever was received.
+/// The loop of a server: decodes the requests in what was received, as `read_requests` does. Whatever was received, no
+/// request takes more than 98304 bytes, and no list, map or array in one claims more than 65536 bytes.
 pub fn serve<T: Decode<()>>(
     alloc: Global,
     received: &[u8],

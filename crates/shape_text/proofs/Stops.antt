@@ -1,4 +1,4 @@
--- Where the words of bytes stop.
+-- Why there are no more encodings in some bytes.
 use Rattle.std.specs.Prelude.{◌≡◌, ◌-◌, ◌<◌, ◌≤◌, ◌++◌, ℕ, List, length, take, drop, Option, Err, refl}
 use Rattle.std.proofs.Common.{ap, subst, inl, inr, arith, length-append}
 use Rattle.std.proofs.lemmas.List.{length-drop, take_all}
@@ -9,14 +9,14 @@ use Rattle.bincode_spec.specs.Slice.{Decoded, FindsWords, TellsFaults, KeepsLimi
 use Rattle.record_store.specs.declared.store.Ending.TheVariants.{Stopped}
 use Rattle.record_store.specs.Stores.{IsRefusedFor, EndsAt}
 
--- what is sliced from an offset on is all behind it
+-- slicing from an offset on is dropping what is before it
 abbrev sliced : List ℕ → ℕ → List ℕ
 sliced bytes at = take (length bytes - at) (drop at bytes)
 
 slice-rest : (bytes : List ℕ) (at : ℕ) → sliced bytes at ≡ drop at bytes
 slice-rest bytes at = let left = length-drop at bytes in take_all (length bytes - at) (drop at bytes) (omega (arith, left))
 
--- an error where no memory is taken tells why no word begins there
+-- if nothing allocates, the error tells why no word begins there
 pub refused-at : (F : Format Meaning) (limit : Option ℕ) (bytes : List ℕ) (at : ℕ) (e : DecodeError) → at < length bytes →
     FindsWords {A = Unit {0}} F limit ⊥ (sliced bytes at) (Err e) → TellsFaults {A = Unit {0}} F limit ⊥ (sliced bytes at) (Err e) →
     KeepsLimit {A = Unit {0}} F limit ⊥ (sliced bytes at) (Err e) → EndsAt F limit at (drop at bytes) (Stopped at e)

@@ -1,4 +1,4 @@
-//! What a file holds by a shape: a line of JSON for each word.
+//! The contents of a file by a shape: a line of JSON for each encoding.
 ghost use Rattle.std.specs.Prelude.{◌<◌, ◌≤◌, length, IfOk};
 
 use crate::json::{JsonError, write_json};
@@ -13,22 +13,22 @@ use std::io;
 use std::io::Write;
 use thiserror::Error;
 
-/// Why no more is printed. The lines of all words before it are.
+/// Why no more is printed. The lines before are.
 #[derive(Debug, Drop, Error)]
 pub enum DescribeError {
-    /// At this byte begins no word of the shape within the limit.
+    /// The bytes at this offset begin with no encoding of the shape within the limit.
     #[error("no {shape} at byte {offset}: {why}")]
     NoWord {
         shape: String,
         offset: usize,
         why: DecodeError,
     },
-    /// A word of the shape has no bytes, so it is not known how many there are.
+    /// An encoding of the shape has no bytes, so that the number of values is not known.
     #[error("a value of {shape} has no bytes: no count of them is known")]
     Empty {
         shape: String,
     },
-    /// The word at this byte has more values than are printed of one.
+    /// The encoding at this offset has more values than are printed of one.
     #[error("the {shape} at byte {offset} has {values} values, of which more than {most} would be printed")]
     TooManyValues {
         shape: String,
@@ -36,10 +36,10 @@ pub enum DescribeError {
         values: u128,
         most: usize,
     },
-    /// The output failed. A front of a line may have been written.
+    /// The output failed. A prefix of a line may have been written.
     #[error("{0}")]
     Write(io::Error),
-    /// Memory was refused for the text of the shape, which an error was to name.
+    /// The allocation of the shape's text, for an error, was refused.
     #[error("memory was refused")]
     Memory,
 }
@@ -56,10 +56,10 @@ impl From<AllocError> for DescribeError {
     }
 }
 
-/// Writes what the bytes of a file hold, as a request says: a line for each word, with its offset and its length in
-/// bytes. A word may claim up to 64 MiB. Each value is written as it is read, and none is kept. Fails where no word
-/// within the limit begins what is left, where words have no bytes, where more values of a word would be printed than
-/// the request allows, and where the output fails.
+/// Prints the contents of a file as a request says: a line for each encoding, with its offset and its length in bytes.
+/// An encoding may claim up to 64 MiB. Values are printed as they are read; none is kept. Fails if the rest begins with
+/// no encoding within the limit, if encodings have no bytes, if one has more values than the request allows, or if the
+/// output fails.
 pub fn describe<W: Write>(
     alloc: Global,
     request: &Request,
@@ -97,7 +97,7 @@ pub fn describe<W: Write>(
     }
 }
 
-/// Writes a line for each word, up to the end of the bytes.
+/// Prints a line for each encoding, up to the end of the bytes.
 fn print_words<C: Config, W: Write>(
     alloc: Global,
     shape: &Shape,
@@ -113,7 +113,7 @@ fn print_words<C: Config, W: Write>(
     Ok(())
 }
 
-/// Writes a line for the word at the front of what is left of the bytes, with its offset, and answers its length.
+/// Prints a line for the encoding at the front of the rest, with its offset, and returns its length in bytes.
 fn print_word<C: Config, W: Write>(
     alloc: Global,
     shape: &Shape,
@@ -160,8 +160,8 @@ fn print_word<C: Config, W: Write>(
     Ok(length)
 }
 
-/// Whether so many values of the word may be printed: of a word with many it is tried, since values that are told by
-/// their count alone are not printed.
+/// Whether few enough values of the encoding would be printed: of one with many it is tried, since values that are
+/// shown by their count are not printed. their count alone are not printed.
 fn is_printable<C: Config>(
     alloc: Global,
     shape: &Shape,
@@ -177,7 +177,7 @@ fn is_printable<C: Config>(
     tried.is_ok()
 }
 
-/// The error that no word begins at an offset, or that memory is refused for its text.
+/// The error of no encoding at an offset, or `Memory` if the shape's text cannot be allocated.
 fn no_word(alloc: Global, shape: &Shape, offset: usize, why: DecodeError) -> DescribeError {
     match text_of(alloc, shape) {
         Ok(shape) => DescribeError::NoWord { shape, offset, why },

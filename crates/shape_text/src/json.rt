@@ -1,4 +1,4 @@
-//! Words of a shape as JSON, without a value in between.
+//! Encodings of a shape as JSON, without a value in between.
 
 use crate::strings::{write_character, write_string};
 use crate::words::Words;
@@ -14,10 +14,10 @@ use std::io;
 use std::io::Write;
 use thiserror::Error;
 
-/// Why a word was not written as JSON. A front of its JSON may have been written.
+/// Why an encoding was not written as JSON. A prefix of its JSON may have been written.
 #[derive(Debug, Drop, Error)]
 pub enum JsonError {
-    /// The bytes begin with no word.
+    /// The bytes begin with no encoding.
     #[error("{0}")]
     Decode(DecodeError),
     /// More values would be written than are allowed.
@@ -40,15 +40,15 @@ impl From<io::Error> for JsonError {
     }
 }
 
-/// What is read, and how many more values may be written of it.
+/// The bytes that are read, and how many more values may be written of them.
 #[derive(Drop)]
 struct Source<'b, C: Config> {
     words: Words<'b, C>,
     left: usize,
 }
 
-/// Reads the word of a shape at the front of some bytes, writes it as JSON as it is read, and answers how many bytes it
-/// has. No value is kept. A value is written in the form that serde gives:
+/// Reads the encoding of a shape at the front of some bytes, writes it as JSON while reading, and returns its length in
+/// bytes. No value is kept. A value is written in the form that serde gives:
 ///
 /// | Of the shape | As |
 /// |---|---|
@@ -61,9 +61,9 @@ struct Source<'b, C: Config> {
 /// | a list or an array of elements that have no bytes | an object of their count, as `{"count":3}` |
 /// | a variant | an object of its tag and its part, as `{"1":"a"}` |
 ///
-/// The claims of lists are not charged: `measure_shaped` tells before whether a word is within a limit. Fails with
-/// `Decode` where no word begins the bytes, with `TooManyValues` where more than `most` values would be written, each
-/// list, option and variant counted as one more than its parts, and with `Write` where the output fails.
+/// The claims of lists are not charged: call `measure_shaped` before, to check the limit. Fails with `Decode` if the
+/// bytes begin with no encoding, `TooManyValues` if more than `most` values would be written (each list, option and
+/// variant counts one more than its parts), or `Write` if the output fails.
 pub fn write_json<C: Config, W: Write>(
     alloc: Global,
     shape: &Shape,
@@ -130,7 +130,7 @@ fn write_value<C: Config, W: Write>(
     Ok(())
 }
 
-/// Writes so many elements: their count alone, where they have no bytes.
+/// Writes `len` elements; only their count, if they have no bytes.
 #[cycle(json)]
 fn write_elements<C: Config, W: Write>(
     element: &Shape,
@@ -190,7 +190,7 @@ fn write_variant<C: Config, W: Write>(
     Ok(())
 }
 
-/// The error of a tag that no variant has.
+/// The error of an unknown tag.
 fn unknown_variant(found: u32, variants: &[Shape]) -> DecodeError {
     match variants.len().checked_sub(1) {
         Some(last) => DecodeError::UnexpectedVariant {
@@ -205,7 +205,7 @@ fn unknown_variant(found: u32, variants: &[Shape]) -> DecodeError {
     }
 }
 
-/// Writes a value whose text is its JSON.
+/// Writes a value whose `Display` is its JSON.
 fn write_plain<T: Decode<()> + Display + Drop, C: Config, W: Write>(
     source: &mut Source<'_, C>,
     out: &mut W,
@@ -227,7 +227,7 @@ fn write_char<C: Config, W: Write>(
     Ok(())
 }
 
-/// Writes a number, as a string where 64 bits do not hold it.
+/// Writes a number; as a string if it does not fit 64 bits.
 fn write_u128<C: Config, W: Write>(
     source: &mut Source<'_, C>,
     out: &mut W,
@@ -241,7 +241,7 @@ fn write_u128<C: Config, W: Write>(
     Ok(())
 }
 
-/// Writes a signed number, as a string where neither 64 bits nor 64 bits with a sign hold it.
+/// Writes a signed number; as a string if it fits neither `i64` nor `u64`.
 fn write_i128<C: Config, W: Write>(
     source: &mut Source<'_, C>,
     out: &mut W,

@@ -1,4 +1,4 @@
-//! Shapes in a short text, as `(u8, [u16], text?, u32|text)`, and what a file holds by a shape, as JSON.
+//! Shapes as short texts, such as `(u8, [u16], text?, u32|text)`, and the contents of a file by a shape, as JSON.
 #![tactic(auto)]
 
 pub mod describing;

@@ -1,4 +1,4 @@
-//! What bytes hold by a shape: its words, one behind the other.
+//! The encodings of a shape in some bytes, one after another.
 ghost use Rattle.std.specs.Prelude.{IfOk, IfErr};
 ghost use Rattle.bincode_shape.specs.Shapes.{format_of, IsImage};
 ghost use Rattle.record_store.specs.Stores.{Lists};
@@ -13,26 +13,26 @@ use thiserror::Error;
 /// Why nothing is listed.
 #[derive(Debug, Drop, Error)]
 pub enum ListError {
-    /// A value of the shape has no bytes, so it is not known how many there are.
+    /// A value of the shape has no bytes, so that the number of values is not known.
     #[error("a value of this shape has no bytes")]
     Empty,
-    /// The word at this byte has more values than are allowed.
+    /// The encoding at this offset has more values than are allowed.
     #[error("at byte {offset}: a word of {values} values")]
     TooManyValues {
-        /// How many bytes are before it.
+        /// The number of bytes before it.
         offset: usize,
-        /// How many values it has. A count above `u128::MAX` is told as that.
+        /// The number of its values, at most `u128::MAX`.
         values: u128,
     },
-    /// Memory was refused.
+    /// An allocation was refused.
     #[error("memory was refused")]
     Memory,
 }
 
-/// Lists the values that bytes hold by a shape, each with its place, up to the end or to the first bytes that are no
-/// word of the shape within the limit. At most `most` values are made of a word, the whole and all parts counted. Fails
-/// with `Empty` where a value has no bytes, with `TooManyValues` where a word has more values, and with `Memory` where
-/// memory is refused.
+/// Decodes the values in some bytes by a shape, each with its position, up to the end or to the first bytes that begin
+/// with no encoding within the limit. At most `most` values are made of an encoding, the whole and all parts counted.
+/// Fails with `Empty` if a value has no bytes, `TooManyValues` if an encoding has more, or `Memory` if an allocation is
+/// refused.
 pub fn list<C: Config>(
     alloc: Global,
     shape: &Shape,
@@ -40,10 +40,10 @@ pub fn list<C: Config>(
     config: C,
     most: usize,
 ) -> Result<Listing<Value>, ListError>
-    // The words of the bytes in turn are listed, and the ending tells why no further one was.
+    // The encodings are listed in order, and the ending tells why there are no more.
     ensures words { IfOk result (λ l. Lists (format_of shape.now C.setting) C.bound (λ m v. IsImage shape.now m v)
         bytes.now l.values.items l.ending) }
-    // Behind such words stands what an error names.
+    // After such encodings comes what an error names.
     ensures errors { IfErr result (IsReason shape.now C.setting C.bound most bytes.now) }
 {
     let mut values = Vec::new(alloc);

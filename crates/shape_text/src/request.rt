@@ -1,4 +1,4 @@
-//! What the words after the program's name ask for.
+//! The command line of the program `describe`.
 
 use crate::text::{ShapeTextError, shape_of};
 use bincode::config::{Endianness, IntEncoding};
@@ -9,43 +9,43 @@ use thiserror::Error;
 /// Which file is described, and how it was written.
 #[derive(Drop)]
 pub struct Request {
-    /// How its numbers were written.
+    /// The integer encoding of the file.
     pub encoding: IntEncoding,
-    /// In which order the bytes of its numbers stand.
+    /// The byte order of the file.
     pub endian: Endianness,
     /// The shape of its values.
     pub shape: Shape,
-    /// Where it is.
+    /// Its path.
     pub file: String,
-    /// How many values of a word are printed at most.
+    /// How many values of an encoding are printed at most.
     pub most_values: usize,
 }
 
-/// How many values of a word are printed at most, where a request says no more of it.
+/// How many values of an encoding are printed at most by default.
 pub const MOST_VALUES: usize = 1_000_000;
 
-/// Which words are asked for.
+/// The usage line.
 const USAGE: &str = "describe [--fixed] [--big-endian] SHAPE FILE";
 
-/// Why words spell no request.
+/// Why a command line was refused.
 #[derive(Debug, Drop, Error)]
 pub enum RequestError {
     /// No option has this name.
     #[error("no option {word:?}: {USAGE}")]
     UnknownOption { word: String },
-    /// This word stands after the file.
+    /// The word comes after the file.
     #[error("one word too many, {word:?}: {USAGE}")]
     OneTooMany { word: String },
     /// The shape or the file is missing.
     #[error("which shape, and which file? {USAGE}")]
     TooFew,
-    /// A text spells no shape.
+    /// The text is no shape.
     #[error("{text}: {why}")]
     NoShape { text: String, why: ShapeTextError },
 }
 
-/// The request that these words spell: the options, before, between or after the others, a shape, and a file. Fails
-/// where they spell none, and where memory is refused for the shape.
+/// Parses a command line: options anywhere, a shape, and a file. Fails if it cannot be parsed, or if an allocation for
+/// the shape is refused.
 pub fn request_of(alloc: Global, words: Vec<String>) -> Result<Request, RequestError> {
     let mut encoding = IntEncoding::Variable;
     let mut endian = Endianness::Little;

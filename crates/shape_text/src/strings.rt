@@ -1,9 +1,9 @@
-//! Texts as strings of JSON.
+//! Texts as JSON strings.
 
 use std::io;
 use std::io::Write;
 
-/// Writes a text as a string of JSON: in quotes, with quotes, backslashes and control characters escaped.
+/// Writes a text as a JSON string: quoted, with quotes, backslashes and control characters escaped.
 pub(crate) fn write_string<W: Write>(text: &str, out: &mut W) -> io::Result<()> {
     write!(out, "\"")?;
     for c in text.chars() {

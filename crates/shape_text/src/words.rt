@@ -1,4 +1,4 @@
-//! The words of scalars and texts, read one after the other.
+//! Encodings of scalars and texts, one after another.
 
 use bincode::config::Config;
 use bincode::de::Decode;
@@ -6,18 +6,18 @@ use bincode::error::DecodeError;
 use bincode::{borrow_decode_from_slice, decode_from_slice};
 use std::alloc::Global;
 
-/// What is left of some bytes, and how they are read.
+/// The rest of some bytes, and how it is read.
 #[derive(Drop)]
 pub(crate) struct Words<'b, C: Config> {
     alloc: Global,
     config: C,
     rest: &'b [u8],
-    /// How many bytes were read.
+    /// The number of bytes that were read.
     pub(crate) taken: usize,
 }
 
 impl<'b, C: Config> Words<'b, C> {
-    /// The words that begin some bytes.
+    /// A reader of encodings from the front of some bytes.
     pub(crate) fn new(alloc: Global, bytes: &'b [u8], config: C) -> Words<'b, C> {
         Words {
             alloc,
@@ -27,14 +27,14 @@ impl<'b, C: Config> Words<'b, C> {
         }
     }
 
-    /// Reads the next word. Fails as `decode_from_slice` does.
+    /// Decodes the next value. Errors are those of `decode_from_slice`.
     pub(crate) fn next<T: Decode<()>>(&mut self) -> Result<T, DecodeError> {
         let (value, size) = decode_from_slice(self.alloc, self.rest, self.config)?;
         self.skip(size);
         Ok(value)
     }
 
-    /// Reads a text, which is lent and not copied. Fails as `borrow_decode_from_slice` does.
+    /// Borrows the next text. Errors are those of `borrow_decode_from_slice`.
     pub(crate) fn next_text(&mut self) -> Result<&'b str, DecodeError> {
         let read = borrow_decode_from_slice(self.alloc, self.rest, self.config);
         match read {
@@ -46,7 +46,7 @@ impl<'b, C: Config> Words<'b, C> {
         }
     }
 
-    /// Leaves out so many bytes.
+    /// Skips `size` bytes.
     fn skip(&mut self, size: usize) {
         self.rest = self.rest.get(size..).unwrap_or(&[]);
         self.taken = self.taken.saturating_add(size);

@@ -1,4 +1,4 @@
--- Walks over trees whose nodes stand in a list.
+-- Walks over trees whose nodes are in a list.
 use Rattle.std.specs.Prelude.{◌≡◌, ◌<◌, ◌≤◌, ◌-◌, ◌⊎◌, ℕ, zero, suc, ◌+◌, Bool, true, false, ◌&&◌, ◌==◌, nat_lt, nat_le, List, [], ◌∷◌, ◌++◌, length, map, reverse, drop, Option, Some, None, refl}
 use Rattle.std.specs.List.{slice_get, flat_map, All}
 use Rattle.std.proofs.Common.{◌∙◌, sym, ap, subst, arith, get_or, add-one, add_assoc, add-suc, drop-cons, inl, inr}
@@ -32,7 +32,7 @@ turn-goes_on len i next nodes node h e holds = turn-step len i next nodes node h
 pub names-tells : (len i next : ℕ) (cs : List ℕ) → names_next len i next cs ≡ true → (i < next) × (next + length cs ≤ len) × (counts_up next cs ≡ true)
 names-tells len i next cs e = (grind (arith, nat_tests), grind (arith, nat_tests), grind (arith, nat_tests))
 
--- a child stands behind its node, within the list
+-- a child comes after its node, within the list
 abbrev pub IsBehind : ℕ → ℕ → ℕ → Type 0
 IsBehind len i c = (i < c) × (c < len)
 
@@ -62,7 +62,7 @@ turn-behind len i next (suc k) (first ∷ nodes) node e h =
     let at : i + 1 + k ≡ i + suc k = omega arith in
     subst (λ n. All (IsBehind len n) node.children.items) at (turn-behind len (i + 1) (next + length (children_of first)) k nodes node t.1 h)
 
--- a tree has a root, and the children of each node stand behind it
+-- a tree has a root, and the children of each node come after it
 pub tree-behind : (nodes : List Node) → is_tree (map children_of nodes) ≡ true → (k : ℕ) (node : Node) → slice_get nodes k ≡ Some node → All (IsBehind (length nodes) k) node.children.items
 tree-behind nodes e k node h =
     let b = turn-behind (length (map children_of nodes)) 0 1 k nodes node e h in
@@ -81,9 +81,9 @@ flat_map-same f g (x ∷ xs) all =
     let rest = flat_map-same f g xs (All-tail (λ x. f x ≡ g x) x xs all) in
     ap (λ a. a ++ flat_map f xs) head ∙ ap (λ b. g x ++ b) rest
 
--- the walks of a list whose nodes have their children behind them
+-- the walks of a list whose nodes have their children after them
 module _ (nodes : List Node) (behind : (k : ℕ) (node : Node) → slice_get nodes k ≡ Some node → All (IsBehind (length nodes) k) node.children.items) where
-  -- deep enough is as good as deeper
+  -- a sufficient depth gives what a larger one does
   enough : (a b i : ℕ) → length nodes ≤ a + i → length nodes ≤ b + i → below a nodes i ≡ below b nodes i
   unfolding below
   enough zero zero i h k = refl
@@ -99,7 +99,7 @@ module _ (nodes : List Node) (behind : (k : ℕ) (node : Node) → slice_get nod
         | inr past ↦ ap (found_at (λ c. below a nodes c)) past.1 ∙ sym (ap (found_at (λ c. below b nodes c)) past.1)
       ]
 
-  -- what a walk does at a node
+  -- one step of a walk at a node
   pub walk-at : (i : ℕ) (node : Node) → slice_get nodes i ≡ Some node → below (length nodes) nodes i ≡ node.value ∷ flat_map (λ c. below (length nodes) nodes c) node.children.items
   unfolding below
   walk-at i node e = enough (length nodes) (suc (length nodes)) i (omega arith) (omega arith) ∙ ap (found_at (λ c. below (length nodes) nodes c)) e
@@ -121,7 +121,7 @@ All-reverse : (P : ℕ → Type 0) (xs : List ℕ) → All P xs → All P (rever
 All-reverse P [] all = all
 All-reverse P (x ∷ xs) all = subst (All P) (sym (reverse-append (x ∷ []) xs)) (All-append P (reverse xs) (x ∷ []) (All-reverse P xs (All-tail P x xs all)) (All-cons P x [] (All-head P x xs all) (All-nil P)))
 
--- one round of a walk: the last of those that wait is taken, and its children wait in its place
+-- one round of a walk: the last of the waiting nodes is taken, and its children wait in its place
 module _ (nodes : List Node) (tree : is_tree (map children_of nodes) ≡ true) where
   pub one-round : (all values waiting fewer more children values' : List ℕ) (i : ℕ) (node : Node) → waiting ≡ fewer ++ i ∷ [] → All (λ k. k < length nodes) waiting → node ≡ get_or nodes i node
       → children ≡ node.children.items → more ≡ fewer ++ reverse children → values' ≡ values ++ node.value ∷ []

@@ -1,4 +1,4 @@
--- Trees whose nodes stand in a list: the root first, and then rank by rank.
+-- Trees whose nodes are in a list: the root first, then level by level.
 use Rattle.std.specs.Prelude.{ℕ, pos, zero, suc, ◌+◌, Bool, true, false, ◌&&◌, ◌==◌, nat_lt, nat_le, List, [], ◌∷◌, length, map, Option, Some, None}
 use Rattle.std.specs.List.{slice_get, flat_map}
 use Rattle.bincode.specs.Meaning.{Meaning, Number, Nothing, Then}
@@ -9,7 +9,7 @@ abbrev pub counts_up : ℕ → List ℕ → Bool
 counts_up next [] = true
 counts_up next (n ∷ others) = (n == next) && counts_up (next + 1) others
 
--- of so many nodes, the one at `index` was named before it comes, and names those from `next` on
+-- of `len` nodes, the one at `index` was named before it comes, and names those from `next` on
 abbrev pub names_next : ℕ → ℕ → ℕ → List ℕ → Bool
 names_next len index next children = nat_lt index next && (nat_le (next + length children) len && counts_up next children)
 
@@ -18,19 +18,19 @@ abbrev pub is_in_turn : ℕ → ℕ → ℕ → List (List ℕ) → Bool
 is_in_turn len index next [] = next == len
 is_in_turn len index next (children ∷ others) = names_next len index next children && is_in_turn len (index + 1) (next + length children) others
 
--- the lists of children, one behind the other, name the nodes behind the first in turn, each one before it comes
+-- the lists of children name the nodes after the first in order, each one before it comes
 abbrev pub is_tree : List (List ℕ) → Bool
 is_tree lists = is_in_turn (length lists) 0 1 lists
 
 abbrev pub children_of : Node → List ℕ
 children_of node = node.children.items
 
--- what a walk finds at a node: its value, and then what it finds at each child
+-- what a walk finds at a node: its value, then what it finds at each child
 abbrev pub found_at : (ℕ → List ℕ) → Option Node → List ℕ
 found_at Found None = []
 found_at Found (Some node) = node.value ∷ flat_map Found node.children.items
 
--- the values of the node that stands there and of all below it, down to this depth
+-- the values of the node at this index and of all below it, down to this depth
 unfoldable pub below : ℕ → List Node → ℕ → List ℕ
 below zero nodes index = []
 below (suc depth) nodes index = found_at (λ child. below depth nodes child) (slice_get nodes index)
@@ -39,7 +39,7 @@ below (suc depth) nodes index = found_at (λ child. below depth nodes child) (sl
 abbrev pub depth_first : List Node → List ℕ
 depth_first nodes = below (length nodes) nodes 0
 
--- what was read of a tree: a list of nodes, each a value and a list of numbers
+-- what was decoded of a tree: a list of nodes, each a value and a list of numbers
 
 abbrev pub head_of : Meaning → Meaning
 head_of (Then head others) = head

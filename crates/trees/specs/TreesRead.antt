@@ -1,4 +1,4 @@
--- What was read of a tree has its lists of children.
+-- The lists of children in what was decoded of a tree.
 use Rattle.std.specs.Prelude.{◌≡◌, ℕ, pos, List, [], ◌∷◌, map}
 use Rattle.std.proofs.Common.{◌∙◌, ap}
 use Rattle.bincode.specs.Meaning.{Meaning, IsNumber, IsThen}
@@ -17,14 +17,14 @@ lists-read Is each [] m h = ap lists_in h
 lists-read Is each (node ∷ nodes) m h =
     ap lists_in h.meaning_is ∙ ap (λ cs. cs ∷ lists_in h.others) (each node h.first h.is_first) ∙ ap (λ others. children_of node ∷ others) (lists-read Is each nodes h.others h.are_others)
 
--- the children of a node, of which its list is read by a relation that says as much
+-- the children of a node, from the meaning of its list
 node-read : (First Last Kids : Meaning → Type 0) (children : List ℕ) → ((m : Meaning) → Kids m → IsListOf (λ n. IsNumber (pos n)) children m) → (m : Meaning)
     → IsThen First (IsThen Kids Last) m → numbers_in (head_of (others_of m)) ≡ children
 node-read First Last Kids children kids m h =
     ap (λ x. numbers_in (head_of (others_of x))) h.meaning_is ∙ ap (λ x. numbers_in (head_of x)) h.are_others.meaning_is
     ∙ numbers-read (λ n. IsNumber (pos n)) (λ n x e. ap number_of e) children h.are_others.first (kids h.are_others.first h.are_others.is_first)
 
--- nodes, by what is read of each: a value, and its children
+-- nodes, from the meaning of each: a value, and its children
 pub tree-read : (First Last : Node → Meaning → Type 0) (Kids : Node → Meaning → Type 0) → ((node : Node) (m : Meaning) → Kids node m → IsListOf (λ n. IsNumber (pos n)) node.children.items m)
     → (nodes : List Node) (m : Meaning) → IsListOf (λ node. IsThen (First node) (IsThen (Kids node) (Last node))) nodes m → means_tree m ≡ is_tree (map children_of nodes)
 tree-read First Last Kids kids nodes m h =

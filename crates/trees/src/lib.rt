@@ -1,4 +1,4 @@
-//! A tree whose nodes stand in a list, as docs/OWN_TYPES.md says of a type that would hold itself.
+//! A tree whose nodes are in a list, as docs/OWN_TYPES.md says of a type that would contain itself.
 #![tactic(auto)]
 
 pub mod tree;

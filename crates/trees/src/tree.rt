@@ -1,4 +1,4 @@
-//! A tree whose nodes stand in a list.
+//! A tree whose nodes are in a list.
 ghost use Rattle.std.specs.Prelude.{◌≡◌, ◌+◌, ◌<◌, ◌≤◌, ◌^◌, ◌++◌, true, map, length, reverse, IfOk};
 ghost use Rattle.trees.specs.Trees.{counts_up, names_next, is_tree, children_of, depth_first};
 
@@ -13,20 +13,20 @@ use std::alloc::{AllocError, Global};
 
 type Parts = (u32, Vec<u32>);
 
-/// A node: its value, and where its children stand in the list.
+/// A node: its value, and the indices of its children in the list.
 #[derive(Debug, Drop, PartialEq)]
 pub struct Node {
     pub value: u32,
     pub children: Vec<u32>,
 }
 
-/// The nodes of a tree, before they are tested.
+/// The nodes of a tree, not yet validated.
 #[derive(Debug, Drop, PartialEq)]
 pub struct Nodes {
     pub list: Vec<Node>,
 }
 
-/// A tree: its nodes, the root first, and then rank by rank.
+/// A tree: its nodes, the root first, then level by level.
 #[derive(Debug, Drop, PartialEq)]
 pub struct Tree {
     nodes: Nodes,
@@ -219,7 +219,7 @@ impl<Context: Drop> Decode<Context> for Tree {
 }
 
 impl Tree {
-    /// The values of all nodes, each before those of its children.
+    /// The values of all nodes in preorder. Fails if an allocation is refused.
     pub fn depth_first(&self, alloc: Global) -> Result<Vec<u32>, AllocError>
         ensures { IfOk result (λ values. values.items ≡ depth_first self.now.nodes.list.items) }
     {
@@ -257,7 +257,7 @@ fn count_from(next: usize, children: &[u32]) -> bool
     true
 }
 
-/// Whether a node of so many was named before it comes, and its children are the nodes from `next` on.
+/// Whether the node at `index` was named before it comes, and its children are the nodes from `next` on.
 fn does_name_next(len: usize, index: usize, next: usize, children: &[u32]) -> bool
     requires { next ≤ len }
     ensures { result ≡ names_next len index next children.now }
@@ -265,7 +265,7 @@ fn does_name_next(len: usize, index: usize, next: usize, children: &[u32]) -> bo
     index < next && children.len() <= len - next && count_from(next, children)
 }
 
-/// Whether the lists of children, one behind the other, name the nodes behind the root in turn, each before it comes.
+/// Whether the lists of children name the nodes after the root in order, each before it comes.
 fn are_in_turn(nodes: &[Node]) -> bool
     ensures { result ≡ is_tree (map children_of nodes.now) }
 {

@@ -1,4 +1,4 @@
-//! Streams of values, read in a loop to their end.
+//! Streams of values that are decoded in a loop, to their end.
 
 use super::STOCK;
 use crate::article::Article;
@@ -13,7 +13,7 @@ use std::io::{BufRead, BufReader, ErrorKind, Read};
 /// The numbers 1, 300 and 7.
 const NUMBERS: [u8; 5] = [1, 251, 44, 1, 7];
 
-/// How many numbers a stream holds, and their sum. Fails where it ends within one.
+/// The number of values in a stream, and their sum. Fails if it ends within one.
 fn numbers_of<R: BufRead>(alloc: Global, stream: &mut R) -> Result<(u32, u64), DecodeError> {
     let mut count = 0u32;
     let mut sum = 0u64;
@@ -28,7 +28,7 @@ fn numbers_of<R: BufRead>(alloc: Global, stream: &mut R) -> Result<(u32, u64), D
     Ok((count, sum))
 }
 
-/// Whether a stream was told to end within a value, so many bytes of which are missing.
+/// Whether decoding failed at the end of the stream, with `missing` bytes missing.
 fn is_torn(outcome: Result<(u32, u64), DecodeError>, missing: usize) -> bool {
     match outcome {
         Err(DecodeError::Io { inner, additional }) => {
@@ -49,7 +49,7 @@ fn tells_the_end_of_a_stream_from_a_torn_value(rt: HostRuntime) {
     assert!(rt; matches!(numbers_of(alloc, &mut &NUMBERS[..]), Ok((3, 308))));
 }
 
-/// Gives one byte a call, each after an interruption, and fails after the last where it is told to.
+/// Gives one byte at each call, after an interruption, and fails after the last one if `breaks` is set.
 #[derive(Drop)]
 struct Faltering<'s> {
     bytes: &'s [u8],
@@ -71,7 +71,7 @@ impl Read for Faltering<'_> {
     }
 }
 
-/// A buffer of two bytes before a stream that gives one byte a call.
+/// A buffer of two bytes over a stream that gives one byte at each call.
 fn buffered(alloc: Global, bytes: &[u8], breaks: bool) -> io::Result<BufReader<Faltering<'_>>> {
     let stream = Faltering {
         bytes,
