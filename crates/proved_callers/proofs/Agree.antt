@@ -22,7 +22,7 @@ module _ {T : Type 0} (F : Format Meaning) (f : Lawful F) (limit : Option ℕ) (
       let b = e.count in
       record { same_length = omega (arith, l, s, a, b); meaning = e.meaning; first = subst (λ z. DecodesTo z x.0) m d.is_decoded; second = e.is_decoded }
 
-  -- what one reads the other does, unless memory is refused
+  -- what one decodes the other does, unless memory is refused
   both-read : (x : T × ℕ) (r : Result (T × ℕ) DecodeError) → Decoded F limit input (λ m. DecodesTo m x.0) x.1 → IfOk r (λ y. Decoded F limit input (λ m. DecodesTo m y.0) y.1) →
       FindsWords F limit MayAllocate input r → MatchResult r (SameReading DecodesTo x) (IsRefused MayAllocate)
   both-read x (Ok y) d e finds = same-reading x y d e

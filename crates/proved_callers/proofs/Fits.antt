@@ -1,4 +1,4 @@
--- What a plain value's fit in a room says.
+-- When a plain value fits a room.
 use Rattle.std.specs.Prelude.{ℕ, List, Option, Result, OnOk, IfErr}
 use Rattle.bincode_base.specs.declared.error.EncodeError.{EncodeError}
 use Rattle.bincode_spec.specs.Allowed.{OneLength}

@@ -1,4 +1,4 @@
--- What is read within a limit is read within a larger one.
+-- What is decoded within a limit is decoded within a larger one.
 use Rattle.std.specs.Prelude.{◌≡◌, ℕ, List, Option, Result, Ok, Err, IfOk, MatchResult}
 use Rattle.std.proofs.Common.{sym, subst}
 use Rattle.bincode_base.specs.Setting.{Setting}
@@ -24,7 +24,7 @@ module _ {T : Type 0} (DecodesTo : Meaning → T → Type 0) (MayAllocate : Type
   reads_larger F f small large h (Ok x) b d e found = as_reading x b (larger-decodes F f small large h input DecodesTo x.0 x.1 d MayAllocate b e found)
   reads_larger F f small large h (Err why) b d e found = tt
 
--- of two settings that are one
+-- with one setting twice
 pub larger-reads : {T : Type 0} (F : Setting → Format Meaning) → ((s : Setting) → Lawful (F s)) → (s t : Setting) → t ≡ s → (small large : Option ℕ) → NoTighter small large →
     (input : List ℕ) (MayAllocate : Type 0) (DecodesTo : Meaning → T → Type 0) (a b : Result (T × ℕ) DecodeError) →
     IfOk a (λ x. Decoded (F s) small input (λ m. DecodesTo m x.0) x.1) → IfOk b (λ y. Decoded (F t) large input (λ m. DecodesTo m y.0) y.1) →

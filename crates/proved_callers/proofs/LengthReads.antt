@@ -1,4 +1,4 @@
--- The number that a list begins with, and the share that is released before an item.
+-- The number that a list begins with, and the claim that is released before an item.
 use Rattle.std.specs.Prelude.{◌≡◌, ℕ, pos, List, Option, Result, refl}
 use Rattle.std.specs.Borrow.{GName}
 use Rattle.std.proofs.Common.{◌∙◌, sym}
@@ -20,7 +20,7 @@ abbrev number : ℕ → Meaning
 number n = Number (pos n)
 
 module _ (limit : Option ℕ) where
-  -- the answer behind which a number is named
+  -- an answer whose meaning is a number
   abbrev named : Answer ℕ → Answer Meaning
   named x = and_then x (λ n remaining after. answer limit (pure (number n)) remaining after)
 
@@ -72,7 +72,7 @@ module _ {D : Type 0} {is_known : D → Type 0} {remaining : D → List ℕ} {ch
       read.within
       read
 
-  -- an item is read behind the release of its share
+  -- an item is decoded after its claim is released
   pub item-read : {R C T : Type 0} {reader_of : D → R} {context_of : D → C} {format : Format Meaning} {decodes_to : Meaning → T → Type 0} {n claim : ℕ}
       {r : Result T DecodeError} {old middle new : D} →
       MakesRelease is_known remaining charge failures reader_of context_of loans limit n old middle → n ≡ claim →

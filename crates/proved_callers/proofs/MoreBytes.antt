@@ -1,4 +1,4 @@
--- What is read of some bytes, and of the first of them.
+-- Decoding from some bytes, and from the first of them.
 use Rattle.std.specs.Prelude.{◌≡◌, ◌⊎◌, ◌++◌, ◌<◌, ◌≤◌, ℕ, List, length, take, drop, Option, Result, Ok, Err, IfOk}
 use Rattle.std.proofs.Common.{◌∙◌, sym, ap, subst, arith}
 use Rattle.std.proofs.lemmas.List.{take-append-drop, take-append-le, length-drop}
@@ -11,14 +11,14 @@ use Rattle.bincode_spec.specs.Slice.{IsAnswer}
 use Rattle.bincode_lemmas.specs.CutLaws.{longer-answers, front-ends}
 
 module _ {T : Type 0} (F : Format Meaning) (f : Lawful F) (b : Balanced F) (limit : Option ℕ) (MayAllocate : Type 0) (DecodesTo : Meaning → T → Type 0) (bytes : List ℕ) (count : ℕ) where
-  -- an answer to the first that is no end is the answer to all
+  -- a result for the first that is no end is the result for all
   pub same-longer : (a c : Result (T × ℕ) DecodeError) → IsAnswer F limit MayAllocate DecodesTo (take count bytes) a → IsAnswer F limit MayAllocate DecodesTo bytes c →
       ¬ (WasCut a) → WasRefused MayAllocate a ⊎ (WasRefused MayAllocate c ⊎ SameAnswer DecodesTo a c)
   same-longer a c p q n =
       longer-answers F f b limit MayAllocate DecodesTo (take count bytes) (drop count bytes) a c p
       (subst (λ z. IsAnswer F limit MayAllocate DecodesTo z c) (sym (take-append-drop count bytes)) q) n
 
-  -- where the word goes on behind the first, their end is told
+  -- if the word goes on after the first, their error is an end
   pub front-cut : count ≤ length bytes → (a c : Result (T × ℕ) DecodeError) → IsAnswer F limit MayAllocate DecodesTo (take count bytes) a → IsAnswer F limit MayAllocate DecodesTo bytes c →
       IfOk c (λ x. count < x.1 → WasCut a ⊎ WasRefused MayAllocate a)
   front-cut h a (Err e) p q = tt

@@ -1,4 +1,4 @@
--- What two formats give of one input, of which one has the readings of the other.
+-- Decoding one input with two formats that have the same readings.
 use Rattle.std.specs.Prelude.{◌≡◌, ◌⊎◌, ◌+◌, ℕ, List, length, Option, Result, Ok, Err, MatchResult, OnOk, refl}
 use Rattle.std.proofs.Common.{◌∙◌, ap, sym, subst, inl, inr, arith, length-append}
 use Rattle.bincode_base.specs.Setting.{Setting}
@@ -65,7 +65,7 @@ module _ (F G : Format Meaning) (f : Lawful F) (g : Lawful G) (same : G.read ≡
         let b = e.count in
         omega (arith, l, k, a, b)
 
-  -- what two errors say
+  -- two errors
   module _ (MayAllocate MayAllocate' : Type 0) (d e : DecodeError) where
     abbrev Said : Type 0
     Said = IsRefused MayAllocate d ⊎ (IsRefused MayAllocate' e ⊎ TellAlike EndsSlice EndsSlice d e)
@@ -92,7 +92,7 @@ module _ (F G : Format Meaning) (f : Lawful F) (g : Lawful G) (same : G.read ≡
         let k = passed-limit F f b limit input h in
         both_limit (p.keeps k.0 k.1 k.2) (q.keeps k.0 (steps_carried k.0 k.1) k.2)
 
--- of a type, and of a shape that describes it
+-- a type, and a shape that describes it
 module _ {T : Type 0} (W : Words T) (shape : Shape) (s : Setting) (h : SameWords (format_of shape s) (W.format s)) where
   pub reads-alike : (limit : Option ℕ) (input : List ℕ) (r : Result (T × ℕ) DecodeError) (v : Result (Value × ℕ) DecodeError) →
       IsAnswer (W.format s) limit W.may_allocate W.decodes_to input r → IsAnswer (format_of shape s) limit (TakesMemory shape) (IsImage shape) input v →
@@ -118,7 +118,7 @@ module _ {T : Type 0} (W : Words T) (shape : Shape) (s : Setting) (h : SameWords
       by_answer (W.format s) (format_of shape s) (W.lawful s) (format_of-lawful shape s) h.read limit input W.may_allocate (TakesMemory shape) d e (W.balanced s) W.decodes_to (IsImage shape) p q
       (answer limit (W.format s) input 0) refl
 
-  -- what is written by the one is written by the other
+  -- what one format writes the other writes
   pub image-allowed : (image : Value) (word : List ℕ) → AllowsImage s shape image word → AllowsEachValue s W image word
   image-allowed image word a = λ v means. record {
     meaning = meaning image;

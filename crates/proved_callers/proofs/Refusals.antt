@@ -1,4 +1,4 @@
--- What is never answered where decoding takes no memory.
+-- `Memory` is never the error if decoding does not allocate.
 use Rattle.std.specs.Prelude.{◌≡◌, ◌⊎◌, ℕ, List, refl, Option, Some, None, Result, Ok, Err, IfErr}
 use Rattle.std.proofs.Common.{inl, inr}
 use Rattle.bincode_base.specs.declared.error.DecodeError.{DecodeError}
@@ -13,7 +13,7 @@ use Rattle.bincode_lemmas.specs.AnswerLaws.{gave-word, refused-fault, passed-lim
 use Rattle.bincode_spec.specs.Decoding.{IsRefused}
 use Rattle.bincode_spec.specs.Slice.{EndsSlice, FindsWords, TellsFaults, KeepsLimit}
 
--- no fault is told by it
+-- it is no error of a fault
 tells_none : (why : Fault) (e : DecodeError) → e ≡ Memory → Tells EndsSlice why e → ⊥
 tells_none (End (Some missing)) e i h = cc
 tells_none (End None) e i h = let k = h.1 in cc
@@ -53,7 +53,7 @@ module _ (F : Format Meaning) (f : Lawful F) (b : Balanced F) (limit : Option �
       let w = passed-limit F f b limit input h in
       of_limit e i (passed w.0 w.1 w.2)
 
-  -- the error is never that memory was refused
+  -- the error is never `Memory`
   pub no-memory : {A : Type 0} (result : Result A DecodeError) → FindsWords F limit MayAllocate input result → TellsFaults F limit MayAllocate input result →
       KeepsLimit F limit MayAllocate input result → IfErr result (λ e. ¬ (e ≡ Memory))
   no-memory (Ok a) found fault passed = tt

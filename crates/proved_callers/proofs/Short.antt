@@ -1,4 +1,4 @@
--- What a failure says of a value whose words have one length.
+-- The failure of a value whose words have one length.
 use Rattle.std.specs.Prelude.{◌≡◌, ◌⊎◌, ℕ, List, Result, Ok, Err, IfErr}
 use Rattle.std.proofs.Common.{inl, inr}
 use Rattle.std.proofs.Math.Nat.{lt_of_not-le}

@@ -1,4 +1,4 @@
--- What a caller is told where a slice is too short.
+-- The error of a slice that is too short.
 use Rattle.std.specs.Prelude.{◌≡◌, ◌<◌, ℕ, List, length}
 use Rattle.bincode_base.specs.declared.error.EncodeError.{EncodeError}
 use Rattle.bincode_base.specs.declared.error.EncodeError.TheVariants.{UnexpectedEnd}

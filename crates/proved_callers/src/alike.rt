@@ -1,4 +1,4 @@
-//! Callers that read the same bytes from two readers, and rest on the contracts of what they call alone.
+//! Callers that read equal bytes from two readers. Their proofs use the contracts of the calls alone.
 ghost use Rattle.std.specs.Prelude.{◌≡◌};
 ghost use Rattle.bincode_spec.specs.Alike.{DeviceFailed, ReadAlike};
 ghost use Rattle.bincode_spec.specs.Decoding.{IsExcused};
@@ -9,15 +9,15 @@ use bincode::de::{Decode, Decoder};
 use bincode::error::DecodeError;
 use bincode::varint::varint_decode_u64;
 
-/// What came of reading from the one, and from the other.
+/// The results of reading from one reader, and from the other.
 #[derive(Drop)]
 pub struct ReadBoth<T> {
     pub first: Result<T, DecodeError>,
     pub second: Result<T, DecodeError>,
 }
 
-/// Reads a number from two readers. Where both tell their bytes and have the same ones left, both give one number,
-/// after which the same bytes are left, or tell one fault, each in its own way, unless a device fails.
+/// Reads a number from two readers. If both know their bytes and have equal ones left, they give equal numbers and
+/// leave equal bytes, or errors of one fault, unless a device fails.
 pub fn read_number_from_both<R: Reader, S: Reader>(
     first: &mut R,
     second: &mut S,
@@ -33,9 +33,9 @@ pub fn read_number_from_both<R: Reader, S: Reader>(
     ReadBoth { first, second }
 }
 
-/// Reads a value by two decoders of one configuration. Where both tell their bytes, have the same ones left and have
-/// charged the same, both give values for one meaning, after which the same bytes are left and the same is charged, or
-/// tell one fault, each in its own way, unless memory is refused or a device fails.
+/// Decodes a value from two decoders of one configuration. If both know their bytes, have equal ones left and have
+/// equal charges, they give values for one meaning and leave equal bytes and charges, or errors of one fault, unless
+/// memory is refused or a device fails.
 pub fn decode_from_both<
     Context: Drop,
     T: Decode<Context>,

@@ -1,4 +1,4 @@
-//! Callers that rest on the contracts of borrowed decoding alone.
+//! Callers of borrowed decoding. Their proofs use the contracts of the calls alone.
 ghost use Rattle.std.specs.Prelude.{◌≡◌, IfErr, IfOk, MatchResult};
 ghost use Rattle.bincode_base.specs.declared.error.DecodeError.TheVariants.{Memory};
 ghost use Rattle.bincode_spec.specs.Agree.{SameReading};
@@ -10,15 +10,15 @@ use bincode::error::DecodeError;
 use bincode::{Wire, borrow_decode_from_slice, decode_from_slice};
 use std::alloc::Global;
 
-/// What came of reading a value by a copy, and of reading it by a loan.
+/// The results of decoding a value by copying, and by borrowing.
 #[derive(Drop)]
 pub struct ReadTwice<T> {
     pub owned: Result<(T, usize), DecodeError>,
     pub borrowed: Result<(T, usize), DecodeError>,
 }
 
-/// Reads a value from a slice in both ways. What one of them reads the other does, of as many bytes and for the same
-/// meaning, unless memory is refused.
+/// Decodes a value from a slice in both ways. They agree on whether it succeeds, on the meaning and on the length,
+/// unless memory is refused.
 pub fn read_twice<'a, T: Decode<()> + BorrowDecode<&'a [u8], ()>, C: Config>(
     alloc: Global,
     src: &'a [u8],
@@ -34,8 +34,7 @@ pub fn read_twice<'a, T: Decode<()> + BorrowDecode<&'a [u8], ()>, C: Config>(
     ReadTwice { owned, borrowed }
 }
 
-/// Reads a value that may hold bytes of the slice. Where its type takes no memory, the error is never that memory was
-/// refused.
+/// Decodes a value that may borrow bytes of the slice. If its type never allocates, the error is never `Memory`.
 pub fn borrow_read<'a, D: BorrowDecode<&'a [u8], ()>, C: Config>(
     alloc: Global,
     src: &'a [u8],
@@ -46,7 +45,7 @@ pub fn borrow_read<'a, D: BorrowDecode<&'a [u8], ()>, C: Config>(
     borrow_decode_from_slice(alloc, src, config)
 }
 
-/// Reads a pair of a text and bytes, which are lent by the slice and take no memory.
+/// Decodes a pair of a text and bytes, both borrowed from the slice, without allocation.
 pub fn borrow_pair<'a, C: Config>(
     alloc: Global,
     src: &'a [u8],

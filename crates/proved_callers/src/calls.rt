@@ -1,4 +1,4 @@
-//! Callers that rest on the contracts of the two calls alone.
+//! Callers of encoding and decoding. Their proofs use the contracts of the two calls alone.
 ghost use Rattle.std.specs.Prelude.{◌≡◌, ◌*◌, ◌≤◌, ℕ, true, IfErr, IfOk};
 ghost use Rattle.std.specs.Prelude.{MatchResult, Some, false, length, take, vec_capacity};
 ghost use Rattle.bincode_base.specs.declared.error.DecodeError.TheVariants.{Memory};
@@ -25,7 +25,7 @@ use std::net::{IpAddr, Ipv4Addr, Ipv6Addr, SocketAddr, SocketAddrV4, SocketAddrV
 use std::num::{NonZeroU16, Wrapping};
 use std::ops::{Bound, Range, RangeInclusive};
 
-/// Reads a value. Where its type takes no memory, the error is never that memory was refused.
+/// Decodes a value. If its type never allocates, the error is never `Memory`.
 pub fn read<D: Decode<()>, C: Config>(
     alloc: Global,
     src: &[u8],
@@ -36,16 +36,16 @@ pub fn read<D: Decode<()>, C: Config>(
     decode_from_slice(alloc, src, config)
 }
 
-/// What came of writing a value and reading it: how many bytes were written, and what was read.
+/// The result of a round trip: the number of bytes written, and what was decoded.
 #[derive(Drop)]
 pub struct RoundTrip<T> {
     pub written: usize,
     pub read: Result<(T, usize), DecodeError>,
 }
 
-/// Writes a value into the front of a slice, and reads it back from there, with the bytes behind it. Where the charges
-/// of the word that was written stay within the limit an equal value is read, of as many bytes, unless memory is
-/// refused. Fails with `UnexpectedEnd` where the slice is too short.
+/// Encodes a value into the front of a slice and decodes it from there, with the bytes after it. If the charges of the
+/// encoding stay within the limit, an equal value is decoded from as many bytes, unless memory is refused. Fails with
+/// `UnexpectedEnd` if the slice is too short.
 pub fn round_trip<T: Encode + Decode<()> + Exact, C: Config>(
     alloc: Global,
     value: &T,
@@ -66,16 +66,16 @@ pub fn round_trip<T: Encode + Decode<()> + Exact, C: Config>(
     Ok(RoundTrip { written, read })
 }
 
-/// What came of writing a value into a vector and reading it: the bytes of its word, and what was read.
+/// The result of a round trip through a vector: the encoding, and what was decoded.
 #[derive(Drop)]
 pub struct VecTrip<T> {
     pub bytes: Vec<u8>,
     pub read: Result<(T, usize), DecodeError>,
 }
 
-/// Writes a value into a vector, and reads it back from there. Where the charges of the word that was written stay
-/// within the limit an equal value is read, of as many bytes, unless memory is refused. Fails with `Memory` where the
-/// room of the vector is refused.
+/// Encodes a value into a vector and decodes it from there. If the charges of the encoding stay within the limit, an
+/// equal value is decoded from as many bytes, unless memory is refused. Fails with `Memory` if the allocation of the
+/// vector is refused.
 pub fn round_trip_by_vec<T: Encode + Decode<()> + Exact, C: Config>(
     alloc: Global,
     value: &T,
@@ -92,8 +92,8 @@ pub fn round_trip_by_vec<T: Encode + Decode<()> + Exact, C: Config>(
     Ok(VecTrip { bytes, read })
 }
 
-/// The same of a type whose words all charge the same: the limit has to allow what is charged and held at once, at
-/// most.
+/// `round_trip` for a type whose encodings all charge the same: the limit has to allow the most that is charged and
+/// held at one time.
 pub fn round_trip_within<T: Encode + Decode<()> + Exact + ConstantCharge, C: Config>(
     alloc: Global,
     value: &T,
@@ -110,7 +110,7 @@ pub fn round_trip_within<T: Encode + Decode<()> + Exact + ConstantCharge, C: Con
     round_trip(alloc, value, slice, config)
 }
 
-/// A number of 8 bytes and four of 4, under any limit from 24 on.
+/// `round_trip_within` for a number of 8 bytes and four of 4: any limit from 24 on is enough.
 pub fn round_trip_of_numbers<C: Config>(
     alloc: Global,
     value: &(u64, [u32; 4]),
@@ -126,7 +126,7 @@ pub fn round_trip_of_numbers<C: Config>(
     round_trip_within(alloc, value, slice, config)
 }
 
-/// Reads a list. Under a limit the room that it has, by the claim size of its items, is within the limit.
+/// Decodes a list. Under a limit its capacity, times the claim of an item, is within the limit.
 pub fn read_list<T: Decode<()>, C: Config>(
     alloc: Global,
     src: &[u8],
@@ -138,7 +138,7 @@ pub fn read_list<T: Decode<()>, C: Config>(
     decode_from_slice(alloc, src, config)
 }
 
-/// Says of a range that was read that it is not exhausted.
+/// Decodes a range, which is not exhausted.
 pub fn read_range<C: Config>(
     alloc: Global,
     src: &[u8],
@@ -149,7 +149,7 @@ pub fn read_range<C: Config>(
     decode_from_slice(alloc, src, config)
 }
 
-/// Reads a number, which takes no memory.
+/// Decodes a number, without allocation.
 pub fn read_number<C: Config>(
     alloc: Global,
     src: &[u8],
@@ -160,7 +160,7 @@ pub fn read_number<C: Config>(
     read(alloc, src, config)
 }
 
-/// Reads a cell, which takes no memory.
+/// Decodes a cell, without allocation.
 pub fn read_cell<C: Config>(
     alloc: Global,
     src: &[u8],
@@ -171,7 +171,7 @@ pub fn read_cell<C: Config>(
     read(alloc, src, config)
 }
 
-/// Types of each family that take no memory, so that `read` is never refused some at them.
+/// Types of each family that never allocate, so that `read` never fails with `Memory` for them.
 pub fn types_without_memory()
     ensures number { ⟦<u64 as Wire>⟧.words.may_allocate → ⊥ }
     ensures number_other_than_zero { ⟦<NonZeroU16 as Wire>⟧.words.may_allocate → ⊥ }
@@ -199,8 +199,7 @@ pub fn types_without_memory()
     ensures socket_v6 { ⟦<SocketAddrV6 as Wire>⟧.words.may_allocate → ⊥ }
 {}
 
-/// Writes a value of a type whose every valid value can be written. After a failure a front of an allowed word stands
-/// in the slice.
+/// Encodes a value of a `Writable` type. After an error the slice holds a prefix of an allowed encoding.
 pub fn write<T: Encode + Writable, C: Config>(
     value: &T,
     slice: &mut [u8],
@@ -214,7 +213,7 @@ pub fn write<T: Encode + Writable, C: Config>(
     encode_into_slice(value, slice, config)
 }
 
-/// Writes a cell.
+/// Encodes a cell.
 pub fn write_cell<C: Config>(
     value: &Cell<u8>,
     slice: &mut [u8],

@@ -1,4 +1,4 @@
-//! A reader and a writer of a user's own, over a line that is cut after so many calls.
+//! A reader and a writer of one's own, over a line that is cut after a number of calls.
 ghost use Rattle.std.specs.Prelude.{◌≡◌, ◌+◌, ◌-◌, ◌^◌, ◌<◌, ◌≤◌};
 ghost use Rattle.std.specs.Prelude.{◌⊎◌, ◌++◌, [], length};
 ghost use Rattle.std.specs.Prelude.{⊤, Some};
@@ -14,7 +14,7 @@ use bincode::enc::write::Writer;
 use bincode::error::{DecodeError, EncodeError};
 use bincode_base::short_text::ShortText;
 
-/// Reads a slice until the line is cut, and counts each read after that.
+/// Reads a slice until the line is cut, and counts each read after that as a failure.
 #[derive(Drop)]
 pub struct CutReader<'s> {
     reader: SliceReader<'s>,
@@ -23,7 +23,7 @@ pub struct CutReader<'s> {
 }
 
 impl<'s> CutReader<'s> {
-    /// A reader of these bytes, whose line is cut after so many reads.
+    /// A reader of these bytes, whose line is cut after `reads` reads.
     pub fn new(bytes: &'s [u8], reads: usize) -> CutReader<'s> {
         CutReader {
             reader: SliceReader::new(bytes),
@@ -32,7 +32,7 @@ impl<'s> CutReader<'s> {
         }
     }
 
-    /// How many reads the cut line refused.
+    /// The number of reads that failed.
     pub fn failures(&self) -> u64 {
         self.failures
     }
@@ -73,7 +73,8 @@ impl Reader for CutReader<'_> {
     ghost end_error_is = { λ missing e h. inl h };
 }
 
-/// Counts the bytes that are sent until the line is cut, and each piece after that. An empty piece is not sent.
+/// Counts the bytes that are sent until the line is cut, and each piece after that as a failure. An empty piece is not
+/// sent.
 #[derive(Drop)]
 pub struct CutWriter {
     sent: usize,
@@ -82,7 +83,7 @@ pub struct CutWriter {
 }
 
 impl CutWriter {
-    /// A writer whose line is cut after so many pieces.
+    /// A writer whose line is cut after `pieces` pieces.
     pub fn new(pieces: usize) -> CutWriter {
         CutWriter {
             sent: 0,
@@ -91,12 +92,12 @@ impl CutWriter {
         }
     }
 
-    /// How many bytes were sent.
+    /// The number of bytes that were sent.
     pub fn sent(&self) -> usize {
         self.sent
     }
 
-    /// How many pieces the cut line refused.
+    /// The number of pieces that failed.
     pub fn failures(&self) -> u64 {
         self.failures
     }

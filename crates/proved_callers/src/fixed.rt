@@ -1,4 +1,4 @@
-//! A writer of a user's own, into a vector of a fixed capacity.
+//! A writer of one's own, into a vector of fixed capacity.
 ghost use Rattle.std.specs.Prelude.{◌≡◌, ◌+◌, ◌-◌, ◌<◌, ◌≤◌, ◌++◌, Some, [], length};
 ghost use Rattle.std.proofs.Common.{◌∙◌, ap, sym, inl};
 ghost use Rattle.std.proofs.Common.{le_refl, zero-le, append_assoc, arith, refl, length-append};
@@ -11,8 +11,7 @@ use arrayvec::ArrayVec;
 use bincode::enc::write::Writer;
 use bincode::error::EncodeError;
 
-/// Holds at most `N` bytes, and never allocates. A piece is taken whole, or, where it is longer than what is left,
-/// refused with `UnexpectedEnd`.
+/// Holds at most `N` bytes and never allocates. A piece that does not fit is refused whole, with `UnexpectedEnd`.
 #[derive(Drop)]
 pub struct Fixed<const N: usize> {
     bytes: ArrayVec<u8, N>,
@@ -41,7 +40,7 @@ impl<const N: usize> Fixed<N> {
 impl<const N: usize> Writer for Fixed<N> {
     ghost use Rattle.proved_callers.specs.Fixed.{held_by};
 
-    // Said here, since the trait's own would ask that the array fits in memory, which of `N` is not known.
+    // Set here, since the trait's default would ask that the array fits in memory, which is not known of `N`.
     const COUNTS: bool = false;
 
     ghost adds = { λ a piece b. (held_by b ≡ held_by a ++ piece) × (length piece ≤ N - length (held_by a))
@@ -61,7 +60,7 @@ impl<const N: usize> Writer for Fixed<N> {
         if bytes.is_empty() {
             return Ok(());
         }
-        // says that what is held is within the capacity
+        // proves that what is held fits the capacity
         let _left = self.bytes.remaining_capacity();
         match self.bytes.try_extend_from_slice(bytes) {
             Ok(()) => Ok(()),

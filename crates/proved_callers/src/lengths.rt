@@ -1,4 +1,4 @@
-//! How many bytes a value takes, when nothing of it is kept.
+//! The length of an encoding, without writing it.
 ghost use Rattle.std.specs.Prelude.{◌≡◌, ℕ, List, IfOk, length};
 ghost use Rattle.bincode_spec.specs.Allowed.{AllowedWord};
 
@@ -9,7 +9,7 @@ use bincode::encode_into_writer;
 use bincode::error::EncodeError;
 use bincode::laws::Plain;
 
-/// How many bytes a value takes, wherever it is written: each word that it allows has this length.
+/// The length in bytes of every encoding of a value. Encodes it once into a counter.
 pub fn encoded_length<E: Encode + Plain, C: Config>(
     value: &E,
     config: C,

@@ -1,4 +1,5 @@
-//! What a user writes beside types: callers that rest on the contracts of the two calls, and devices that may fail.
+//! Code that a user writes beside types: callers whose proofs use the contracts of the calls, and devices that may
+//! fail.
 #![tactic(auto)]
 
 pub mod alike;

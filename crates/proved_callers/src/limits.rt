@@ -1,4 +1,4 @@
-//! Callers that read under a limit, and rest on the contracts of the calls alone.
+//! Callers that decode under a limit. Their proofs use the contracts of the calls alone.
 ghost use Rattle.std.specs.Prelude.{◌≡◌, ◌-◌, ℕ, length, Some, IfOk, MatchResult};
 ghost use Rattle.bincode_spec.specs.Agree.{SameReading};
 ghost use Rattle.bincode_spec.specs.Decoding.{IsExcused, IsRefused};
@@ -18,9 +18,8 @@ use bincode::{
 use std::alloc::Global;
 use std::io::Read;
 
-/// Reads a value from a slice. Under a limit that is answered to be passed exactly where the bytes need more than it;
-/// else the answer is the one without a limit. What is read is bounded by the limit: its bytes, and the elements of all
-/// that it holds.
+/// Decodes a value from a slice. Under a limit the error is `LimitExceeded` exactly if the bytes need more; else the
+/// result is that without a limit. The limit bounds what is decoded: its bytes, and the elements of all that it holds.
 pub fn read_within<T: Decode<()>, C: Config>(
     alloc: Global,
     src: &[u8],
@@ -34,7 +33,7 @@ pub fn read_within<T: Decode<()>, C: Config>(
     decode_from_slice(alloc, src, config)
 }
 
-/// The same of a value that may hold bytes of the slice.
+/// `read_within` for a value that may borrow bytes of the slice.
 pub fn borrow_read_within<'a, T: BorrowDecode<&'a [u8], ()>, C: Config>(
     alloc: Global,
     src: &'a [u8],
@@ -48,7 +47,7 @@ pub fn borrow_read_within<'a, T: BorrowDecode<&'a [u8], ()>, C: Config>(
     borrow_decode_from_slice(alloc, src, config)
 }
 
-/// The same from a reader that tells its bytes, and whose end is not told by that a limit was passed.
+/// `read_within` from a reader that knows its bytes, and whose end is not reported as `LimitExceeded`.
 pub fn read_within_from<T: Decode<()>, R: Reader, C: Config>(
     alloc: Global,
     reader: &mut R,
@@ -66,7 +65,7 @@ pub fn read_within_from<T: Decode<()>, R: Reader, C: Config>(
     decode_from_reader(alloc, reader, config)
 }
 
-/// The same from a stream that tells its bytes.
+/// `read_within` from a stream that knows its bytes.
 pub fn read_within_from_stream<T: Decode<()>, R: Read, C: Config>(
     alloc: Global,
     stream: &mut R,
@@ -82,15 +81,15 @@ pub fn read_within_from_stream<T: Decode<()>, R: Read, C: Config>(
     decode_from_std_read(alloc, stream, config)
 }
 
-/// What came of reading a value within a limit, and within a larger one.
+/// The results of decoding a value within a limit, and within a larger one.
 #[derive(Drop)]
 pub struct ReadUnderBoth<T> {
     pub small: Result<(T, usize), DecodeError>,
     pub large: Result<(T, usize), DecodeError>,
 }
 
-/// Reads a value under two configurations of one setting, of which the second has no limit or one as large as the
-/// first's. What the first reads the second does, of as many bytes and for the same meaning, unless memory is refused.
+/// Decodes a value under two configurations of one setting; the second has no limit, or one at least as large. What the
+/// first decodes the second does, from as many bytes and with the same meaning, unless memory is refused.
 pub fn read_under_both<T: Decode<()>, C: Config, D: Config>(
     alloc: Global,
     src: &[u8],

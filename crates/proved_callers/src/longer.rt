@@ -1,4 +1,4 @@
-//! Callers that read of more bytes and of fewer, and rest on the contracts of the two calls alone.
+//! Callers that decode from more bytes and from fewer. Their proofs use the contracts of the calls alone.
 ghost use Rattle.std.specs.Prelude.{◌≤◌, ◌<◌, ◌⊎◌, ◌++◌, ℕ, List, All, Result, length, IfOk};
 ghost use Rattle.bincode_base.specs.declared.error.DecodeError.{DecodeError};
 ghost use Rattle.bincode_spec.specs.Agree.{SameAnswer, WasCut, WasRefused};
@@ -10,16 +10,15 @@ use bincode::decode_from_slice;
 use bincode::error::DecodeError;
 use std::alloc::Global;
 
-/// What came of reading a value from the first of some bytes, and from all of them.
+/// The results of decoding a value from the first of some bytes, and from all of them.
 #[derive(Drop)]
 pub struct ReadLonger<T> {
     pub front: Result<(T, usize), DecodeError>,
     pub whole: Result<(T, usize), DecodeError>,
 }
 
-/// Reads a value from the first `count` bytes, and from all. What is answered to the first is answered to all, unless
-/// it is that the input ended too early or that memory was refused. Bytes with a front of a word and no more are told
-/// as such an end.
+/// Decodes a value from the first `count` bytes, and from all. Both results are equal, unless the first is an early end
+/// of the input or `Memory`. If an encoding goes on after the first bytes, that result is an early end.
 pub fn read_longer<T: Decode<()>, C: Config>(
     alloc: Global,
     bytes: &[u8],
@@ -37,8 +36,8 @@ pub fn read_longer<T: Decode<()>, C: Config>(
     ReadLonger { front, whole }
 }
 
-/// Reads a value from bytes to which more may be added. Where it is answered that they ended too early, there are such
-/// as can follow them with which this is answered no more.
+/// Decodes a value from bytes to which more may be added. If the error says that they ended too early, there are bytes
+/// that can follow them, with which it does not.
 pub fn read_part<T: Decode<()>, C: Config>(
     alloc: Global,
     bytes: &[u8],

@@ -1,4 +1,4 @@
-//! A list of a user's own that is read by its own claim and its own loop.
+//! A list of one's own that is decoded with its own claim and its own loop.
 ghost use Rattle.std.specs.Prelude.{◌≡◌, ◌*◌};
 ghost use Rattle.bincode.specs.Run.{CanRelease};
 ghost use Rattle.bincode.specs.Values.{RunRead};
@@ -8,7 +8,7 @@ use bincode::enc::{Encode, Encoder};
 use bincode::error::{DecodeError, EncodeError};
 use bincode::{HasParts, Items, Wire};
 
-/// Some items in a row.
+/// A list of items.
 #[derive(Debug, Drop, PartialEq)]
 pub struct Looped<T> {
     pub items: Vec<T>,
@@ -38,8 +38,8 @@ impl<T: Encode> Encode for Looped<T> {
     }
 }
 
-/// Reads `len` items, whose room is claimed: each one's share is released before it is read. Fails where an item does,
-/// or with `Memory` where the room is refused.
+/// Decodes `len` items whose claims were charged; each is released before its item is read. Fails with the error of an
+/// item, or with `Memory` if the allocation is refused.
 fn decode_claimed<Context: Drop, T: Decode<Context>, D: Decoder<Context = Context>>(
     decoder: &mut D,
     len: usize,

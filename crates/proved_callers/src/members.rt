@@ -1,4 +1,4 @@
-//! Callers that hold the library's own readers, writers and types to what their members say of them.
+//! Callers whose proofs use what the members of the library's readers, writers and types say.
 ghost use Rattle.std.specs.Prelude.{◌≡◌, ◌-◌, ◌^◌, ◌<◌, ◌⊎◌, ℕ, IfOk, IfErr, length, vec_capacity};
 ghost use Rattle.std.specs.Net.Socket.{v6_flowinfo, v6_scope_id};
 ghost use Rattle.std.specs.String.{string_bytes, string_capacity};
@@ -24,7 +24,7 @@ use std::io;
 use std::io::{BufReader, Write};
 use std::net::{IpAddr, SocketAddr, SocketAddrV6};
 
-/// A reader of a slice as a stream, which tells its bytes: those of the slice.
+/// A reader of a slice as a stream, whose bytes are known: those of the slice.
 pub fn stream_of_slice<'a>(bytes: &'a [u8]) -> IoReader<&'a [u8]>
     ensures is_known { ⟦<IoReader<&'a [u8]> as Reader>⟧.is_known result }
     ensures remaining { ⟦<IoReader<&'a [u8]> as Reader>⟧.remaining result ≡ bytes.now }
@@ -32,7 +32,7 @@ pub fn stream_of_slice<'a>(bytes: &'a [u8]) -> IoReader<&'a [u8]>
     IoReader::new(bytes)
 }
 
-/// The same with a buffer before it.
+/// `stream_of_slice` with a buffer.
 pub fn buffer_of_slice<'a>(alloc: Global, bytes: &'a [u8]) -> io::Result<BufReader<&'a [u8]>>
     ensures is_known { IfOk result ⟦<BufReader<&'a [u8]> as Reader>⟧.is_known }
     ensures remaining { IfOk result (λ r. ⟦<BufReader<&'a [u8]> as Reader>⟧.remaining r ≡ bytes.now) }
@@ -49,7 +49,7 @@ pub fn devices_of_writers<W: Write>()
         → (written : ℕ) × IsWriteIo written e }
 {}
 
-/// Counts a piece. Fails only where the count would pass 64 bits, and then stays as it was.
+/// Counts a piece. Fails only if the count would pass 64 bits, and then leaves it as it was.
 pub fn count_piece(counter: &mut SizeWriter, piece: &[u8]) -> Result<(), EncodeError>
     ensures { IfErr result (λ e. (e ≡ UnexpectedEnd) × (2 ^ 64 - 1 - counter.old.bytes_written < length piece.now)
         × (counter.new ≡ counter.old)) }
@@ -57,7 +57,7 @@ pub fn count_piece(counter: &mut SizeWriter, piece: &[u8]) -> Result<(), EncodeE
     counter.write(piece)
 }
 
-/// Reads an address, which takes no memory.
+/// Decodes an address, without allocation.
 pub fn read_address<C: Config>(
     alloc: Global,
     src: &[u8],
@@ -68,7 +68,7 @@ pub fn read_address<C: Config>(
     read(alloc, src, config)
 }
 
-/// Reads an address with its port.
+/// Decodes an address with its port.
 pub fn read_socket<C: Config>(
     alloc: Global,
     src: &[u8],
@@ -79,7 +79,7 @@ pub fn read_socket<C: Config>(
     read(alloc, src, config)
 }
 
-/// Reads an address of the sixth version with its port. It has neither flow nor scope.
+/// Decodes an IPv6 address with its port. Its flow label and its scope id are 0.
 pub fn read_socket_v6<C: Config>(
     alloc: Global,
     src: &[u8],
@@ -91,7 +91,7 @@ pub fn read_socket_v6<C: Config>(
     decode_from_slice(alloc, src, config)
 }
 
-/// Reads a text, which has room for just its bytes.
+/// Decodes a text, which has no spare capacity.
 pub fn read_text<C: Config>(
     alloc: Global,
     src: &[u8],
@@ -102,7 +102,7 @@ pub fn read_text<C: Config>(
     decode_from_slice(alloc, src, config)
 }
 
-/// Reads a C string, which has room for just its bytes.
+/// Decodes a C string, which has no spare capacity.
 pub fn read_c_string<C: Config>(
     alloc: Global,
     src: &[u8],
@@ -113,7 +113,7 @@ pub fn read_c_string<C: Config>(
     decode_from_slice(alloc, src, config)
 }
 
-/// Writes the number in a cell. Fails where the slice is too short, or where the cell is borrowed.
+/// Encodes the number in a cell. Fails if the slice is too short, or if the cell is mutably borrowed.
 pub fn write_ref_cell<C: Config>(
     cell: &RefCell<u8>,
     slice: &mut [u8],

@@ -1,5 +1,4 @@
-//! Callers that read and write the values of a type by a shape that describes it, and rest on the contracts of the
-//! calls alone.
+//! Callers that read and write values of a type through its shape. Their proofs use the contracts of the calls alone.
 ghost use Rattle.std.specs.Prelude.{◌≡◌, true, OnOk, IfSome, IsSome};
 ghost use Rattle.bincode.specs.Describing.{Describes};
 ghost use Rattle.bincode_spec.specs.Encoding.{Writes};
@@ -15,7 +14,7 @@ use bincode::shape::{Described, Shape, Value, decode_shaped, encode_shaped};
 use bincode::{Wire, decode_from_slice, encode_into_writer};
 use std::alloc::Global;
 
-/// The shape of a type, and what came of reading a value of it as the type does, and by the shape.
+/// The shape of a type, and the results of decoding a value by type and by shape.
 #[derive(Drop)]
 pub struct ReadByShape<T> {
     pub shape: Shape,
@@ -23,8 +22,9 @@ pub struct ReadByShape<T> {
     pub by_shape: Result<(Value, usize), DecodeError>,
 }
 
-/// Reads a value from a slice in both ways. By the shape an image of the value is read, of as many bytes and with its
-/// meaning, or the same fault is told, unless memory is refused. `None` says that memory for the shape was refused.
+/// Decodes a value from a slice in both ways. By shape an image of the value is decoded, from as many bytes and with
+/// its meaning, or both errors tell one fault, unless memory is refused. `None` if the allocation of the shape is
+/// refused.
 pub fn read_as_shaped<T: Described + Decode<()>, C: Config>(
     alloc: Global,
     src: &[u8],
@@ -45,8 +45,8 @@ pub fn read_as_shaped<T: Described + Decode<()>, C: Config>(
     })
 }
 
-/// Writes an image by a shape that describes the type: a word that each value of the type allows that means what the
-/// image does. Fails as `encode_shaped` does.
+/// Encodes an image by a shape that describes the type: the bytes are an encoding of each value of the type with the
+/// image's meaning. Errors are those of `encode_shaped`.
 pub fn write_as_shaped<T: Wire, W: Writer, C: Config>(
     shape: &Shape,
     image: &Value,
@@ -60,8 +60,8 @@ pub fn write_as_shaped<T: Wire, W: Writer, C: Config>(
     encode_shaped(shape, image, writer, config)
 }
 
-/// Writes a value of a type that the shape describes: a word of the shape for each image that means what the value
-/// does. Fails as `encode_into_writer` does.
+/// Encodes a value of a type that the shape describes: the bytes are an encoding by shape of each image with the
+/// value's meaning. Errors are those of `encode_into_writer`.
 pub fn write_as_typed<T: Encode, W: Writer, C: Config>(
     value: &T,
     shape: &Shape,
@@ -75,7 +75,7 @@ pub fn write_as_typed<T: Encode, W: Writer, C: Config>(
     encode_into_writer(value, writer, config)
 }
 
-/// Types whose shapes take no memory, and so are always told.
+/// Types whose shapes don't allocate, and so are always `Some`.
 pub fn shapes_without_memory()
     ensures nothing { ⟦<() as Described>⟧.shape_grows → ⊥ }
     ensures truth { ⟦<bool as Described>⟧.shape_grows → ⊥ }

@@ -1,4 +1,4 @@
-//! A reader of a user's own, which shows a part of what is left.
+//! A reader of one's own that buffers a part of what remains.
 ghost use Rattle.std.specs.Prelude.{◌≡◌, [], length, min, ⊤};
 ghost use Rattle.std.proofs.Common.{inl, arith};
 ghost use Rattle.bincode_base.specs.declared.error.DecodeError.TheVariants.{UnexpectedEnd};
@@ -7,7 +7,7 @@ ghost use Rattle.bincode_spec.specs.Device.{no_device};
 use bincode::de::read::Reader;
 use bincode::error::DecodeError;
 
-/// Reads a slice, of which a peek shows at most so many bytes.
+/// Reads a slice, of which a peek returns at most `most` bytes.
 #[derive(Drop)]
 pub struct Shows<'s> {
     bytes: &'s [u8],
@@ -15,12 +15,12 @@ pub struct Shows<'s> {
 }
 
 impl<'s> Shows<'s> {
-    /// A reader of these bytes, which shows at most so many of them.
+    /// A reader of these bytes, of which a peek returns at most `most`.
     pub fn new(bytes: &'s [u8], most: usize) -> Shows<'s> {
         Shows { bytes, most }
     }
 
-    /// How many bytes are left.
+    /// The number of bytes that remain.
     pub fn bytes_left(&self) -> usize {
         self.bytes.len()
     }
