@@ -1,4 +1,4 @@
-//! What comes of a user's own types that hold bytes of the slice that they are read from.
+//! Types of one's own that borrow bytes of the input.
 
 use bincode::de::BorrowDecode;
 use bincode::error::DecodeError;
@@ -11,8 +11,7 @@ use own_types::note::Note;
 use proved_callers::borrowed::{borrow_pair, read_twice};
 use std::alloc::Global;
 
-/// What is read from the front of these bytes, and how many bytes that takes. Where memory is refused they are read
-/// once more.
+/// What is read from the front of these bytes, and how many bytes that takes. Retries once if an allocation is refused.
 fn borrowed<'a, T: BorrowDecode<&'a [u8], ()>>(
     alloc: Global,
     input: &'a [u8],

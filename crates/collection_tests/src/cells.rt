@@ -1,4 +1,4 @@
-//! What is told of a cell that is borrowed for writing: its type, whatever it holds.
+//! The error of a cell that is mutably borrowed: it names the cell type, whatever it holds.
 
 use bincode::enc::Encode;
 use bincode::error::EncodeError;
@@ -7,7 +7,7 @@ use std::alloc::Global;
 use std::cell::RefCell;
 use test_helpers::rows::first_wrong;
 
-/// Whether the cell is told as borrowed, by the name of its type.
+/// Whether the error says that a cell is borrowed, with the name of its type.
 fn names_its_type<T: Drop>(outcome: Result<T, EncodeError>) -> bool {
     matches!(
         outcome,
@@ -15,7 +15,7 @@ fn names_its_type<T: Drop>(outcome: Result<T, EncodeError>) -> bool {
     )
 }
 
-/// What is told where a cell is borrowed, by itself and after a byte.
+/// Whether that is the error of a borrowed cell, by itself and after a byte.
 fn names_borrowed<T: Encode + Drop>(alloc: Global, value: T) -> bool {
     let cell = RefCell::new(value);
     let Ok(_borrowed) = cell.try_borrow_mut() else {

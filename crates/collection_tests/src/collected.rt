@@ -16,7 +16,7 @@ use test_helpers::checks::{decoded_with, each_call_writes, ends_at_each_place, w
 /// The numbers 1, 2 and 3.
 const NUMBERS: [u8; 4] = [3, 1, 2, 3];
 
-/// The same behind the kind 7.
+/// The numbers after the kind 7.
 const FRAMED: [u8; 5] = [7, 3, 1, 2, 3];
 
 #[test]
@@ -26,7 +26,7 @@ fn claims_before_it_begins(rt: HostRuntime) {
     assert!(rt; matches!(refused, Err(DecodeError::LimitExceeded)));
 }
 
-/// What is read of the numbers, with a byte behind them, into an arena.
+/// What is read of the numbers, with a byte after them, into an arena.
 fn listed<'b, C: Config>(
     alloc: Global,
     bump: &'b Bump,
@@ -83,7 +83,8 @@ fn lends_the_arena_of_a_context(rt: HostRuntime) {
     assert!(&rt; ends_at_each_place::<Env, Framed>(rt.alloc(), &FRAMED, env));
 }
 
-/// Whom a decoder reads for behind a list that it was lent for. Where memory is refused the list is not read.
+/// The context's number after a list that the decoder was borrowed for. If an allocation is refused the list is not
+/// read.
 fn id_behind(alloc: Global, env: Env<'_>) -> u32 {
     let reader = SliceReader::new(&FRAMED);
     let mut decoder = DecoderImpl::new(alloc, reader, config::standard(), env);
@@ -97,7 +98,7 @@ fn keeps_the_context_of_a_decoder(rt: HostRuntime) {
     assert!(&rt; id_behind(rt.alloc(), Env { bump: &bump, id: 5 }) == 5);
 }
 
-/// How many numbers are read over the arena. Where memory is refused they are read once more.
+/// How many numbers are read over the arena. Retries once if an allocation is refused.
 fn counted(alloc: Global, bump: &mut Bump, input: &[u8]) -> Result<usize, DecodeError> {
     match count_numbers(alloc, bump, input, config::standard()) {
         Err(DecodeError::Memory) => count_numbers(alloc, bump, input, config::standard()),

@@ -42,7 +42,7 @@ fn bytes(alloc: Global, times: u32) -> Result<Vec<u8>, AllocError> {
     Ok(list)
 }
 
-/// The numbers of a list. Where memory is refused they are listed once more.
+/// The numbers of a list. Retries once if an allocation is refused.
 fn list_of(alloc: Global, count: u32) -> Option<Vec<u32>> {
     match numbers(alloc, count) {
         Ok(list) => Some(list),
@@ -50,7 +50,7 @@ fn list_of(alloc: Global, count: u32) -> Option<Vec<u32>> {
     }
 }
 
-/// The same in one piece, of which there may be more owners.
+/// The numbers in one shared slice.
 fn shared(alloc: Global, count: u32) -> Option<RcSlice<u32>> {
     let list = list_of(alloc, count)?;
     either(
@@ -151,7 +151,7 @@ fn keeps_pointers(rt: HostRuntime) {
     assert_eq!(rt; first_wrong(&rows), None);
 }
 
-/// A queue with 15 pushed behind and 5 in front.
+/// A queue with 15 pushed at the back and 5 at the front.
 fn pushed(alloc: Global) -> Result<VecDeque<u32>, AllocError> {
     let mut queue = VecDeque::new(alloc);
     queue.push_back(15)?;

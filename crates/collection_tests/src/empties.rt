@@ -44,7 +44,7 @@ fn reads_none<T: Encode + Decode<()>>(alloc: Global) -> bool {
         && is_passed(decode_from_slice::<T, _>(alloc, &NONE, seven))
 }
 
-/// The same of borrowed decoding.
+/// Whether nothing is borrowed, without a limit and within 8, and 7 are too few.
 fn lends_none<'a, T: Encode + BorrowDecode<&'a [u8], ()>>(alloc: Global, source: &'a [u8]) -> bool {
     let eight = config::standard().with_limit::<8>();
     let seven = config::standard().with_limit::<7>();
@@ -53,7 +53,7 @@ fn lends_none<'a, T: Encode + BorrowDecode<&'a [u8], ()>>(alloc: Global, source:
         && is_passed(borrow_decode_from_slice::<T, _>(alloc, source, seven))
 }
 
-/// The same of both.
+/// Whether both kinds of decoding give nothing.
 fn gives_none<'a, T: Encode + Decode<()> + BorrowDecode<&'a [u8], ()>>(
     alloc: Global,
     source: &'a [u8],
@@ -117,13 +117,13 @@ fn reads_nothing_into_an_arena(rt: HostRuntime) {
     assert!(&rt; bump.allocated_bytes() == 0);
 }
 
-/// What is read of a length of 0 within 8. Where memory is refused it is read once more.
+/// What is read of a length of 0 within 8. Retries once if an allocation is refused.
 fn read_again<T: Encode + Decode<()>>(alloc: Global) -> bool {
     let eight = config::standard().with_limit::<8>();
     is_none(decoded::<T, _>(alloc, &NONE, eight))
 }
 
-/// The same of borrowed decoding.
+/// What is borrowed of a length of 0 within 8. Retries once if an allocation is refused.
 fn lent_again<'a, T: Encode + BorrowDecode<&'a [u8], ()>>(alloc: Global, source: &'a [u8]) -> bool {
     let eight = config::standard().with_limit::<8>();
     match borrow_decode_from_slice::<T, _>(alloc, source, eight) {
@@ -132,7 +132,7 @@ fn lent_again<'a, T: Encode + BorrowDecode<&'a [u8], ()>>(alloc: Global, source:
     }
 }
 
-/// The same of both.
+/// Whether both kinds of decoding give nothing again.
 fn given_again<'a, T: Encode + Decode<()> + BorrowDecode<&'a [u8], ()>>(
     alloc: Global,
     source: &'a [u8],

@@ -1,4 +1,4 @@
-//! An enum of one part or none for each variant, by a limit, and what is told of a tag that has none.
+//! An enum with one part or none for each variant, under limits, and the error of an unknown tag.
 
 use bincode::config::{self, Config};
 use bincode::de::{BorrowDecode, Decode, Named};
@@ -28,7 +28,7 @@ type Owned = EnumOf<
 /// The code 5.
 static STOP: [u8; 2] = [1, 5];
 
-/// The same under fixed numbers.
+/// Its encoding with fixed integers.
 static FIXED_STOP: [u8; 8] = [1, 0, 0, 0, 5, 0, 0, 0];
 
 /// A note of 24 bytes.
@@ -37,7 +37,7 @@ static NOTE: [u8; 26] = [
     97, 97,
 ];
 
-/// The same under fixed numbers.
+/// Its encoding with fixed integers.
 static FIXED_NOTE: [u8; 36] = [
     2, 0, 0, 0, 24, 0, 0, 0, 0, 0, 0, 0, 97, 97, 97, 97, 97, 97, 97, 97, 97, 97, 97, 97, 97, 97,
     97, 97, 97, 97, 97, 97, 97, 97, 97, 97,
@@ -46,7 +46,7 @@ static FIXED_NOTE: [u8; 36] = [
 /// A list of one event, which has no part.
 static ONE: [u8; 2] = [1, 0];
 
-/// The same under fixed numbers.
+/// Its encoding with fixed integers.
 static FIXED_ONE: [u8; 12] = [1, 0, 0, 0, 0, 0, 0, 0, 0, 0, 0, 0];
 
 /// Whether the whole word is read under the one configuration, and passes the limit of the other.
@@ -80,7 +80,7 @@ fn needs_just<T: Decode<()>, const LESS: usize, const ENOUGH: usize>(
         )
 }
 
-/// The same of what is lent. It takes no memory.
+/// `needs_just` for a borrowed event, which does not allocate.
 fn lends_just<const LESS: usize, const ENOUGH: usize>(
     alloc: Global,
     word: &[u8],
@@ -135,7 +135,7 @@ fn charges_tags_and_parts(rt: HostRuntime) {
     assert_eq!(rt; first_wrong(&rows), None);
 }
 
-/// Whether the tag 3 is told, where those from 0 to 2 are allowed, under this name.
+/// Whether the error is that of the tag 3, with 0 to 2 as the valid tags, under this name.
 fn is_no_tag<T: Drop>(outcome: Result<T, DecodeError>, name: &str) -> bool {
     let Err(
         DecodeError::UnexpectedVariant {
@@ -151,7 +151,7 @@ fn is_no_tag<T: Drop>(outcome: Result<T, DecodeError>, name: &str) -> bool {
     type_name.as_str() == name
 }
 
-/// Whether the tag 2 is told, where 1, 5 and 300 are allowed, under this name.
+/// Whether the error is that of the tag 2, with 1, 5 and 300 as the valid tags, under this name.
 fn is_no_listed_tag<T: Drop>(outcome: Result<T, DecodeError>, name: &str) -> bool {
     let Err(
         DecodeError::UnlistedVariant {
@@ -166,7 +166,7 @@ fn is_no_listed_tag<T: Drop>(outcome: Result<T, DecodeError>, name: &str) -> boo
     type_name.as_str() == name && allowed.as_slice() == [1, 5, 300].as_slice()
 }
 
-/// What is lent of a tag. Where memory is refused it is read once more.
+/// What is lent of a tag. Retries once if an allocation is refused.
 fn lent<'a, T: BorrowDecode<&'a [u8], ()>>(
     alloc: Global,
     word: &'a [u8],

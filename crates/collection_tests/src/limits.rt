@@ -15,10 +15,10 @@ use std::rc::{RcSlice, RcStr};
 use test_helpers::checks::{decoded, decoded_within, fault_of, is_cut, is_passed, leaves, within};
 use test_helpers::rows::first_wrong;
 
-/// A length of 2^64 - 1, behind which nothing stands.
+/// A length of 2^64 - 1, and nothing after it.
 const HUGE: [u8; 9] = [253, 255, 255, 255, 255, 255, 255, 255, 255];
 
-/// A length of 100000, behind which nothing stands.
+/// A length of 100000, and nothing after it.
 const LONG: [u8; 5] = [252, 160, 134, 1, 0];
 
 /// 2^64 - 1 seconds and a second in nanoseconds.
@@ -107,7 +107,7 @@ fn is_reserved(outcome: Result<(Vec<u16>, usize), DecodeError>) -> bool {
     expected == IntegerType::U16 && found == IntegerType::Reserved
 }
 
-/// A length of 2^32, behind which nothing stands.
+/// A length of 2^32, and nothing after it.
 const LISTS: [u8; 9] = [253, 0, 0, 0, 0, 1, 0, 0, 0];
 
 /// For a list in a list 24 are claimed, and given back where it begins; for an `Option<u8>` and a `u16` 2 are.
@@ -165,8 +165,8 @@ fn claims_for_what_lists_hold(rt: HostRuntime) {
     assert_eq!(rt; first_wrong(&rows), None);
 }
 
-/// Of what a text and its length charge, of the room of the items that were not read, and of a span of time: a fault
-/// gives none of it back, and claims no more.
+/// The charge of a text and its length, of items that were not read, and of a `Duration`: a fault releases none of it,
+/// and claims no more.
 #[test]
 fn keeps_the_charge_of_a_fault(rt: HostRuntime) {
     let alloc = rt.alloc();

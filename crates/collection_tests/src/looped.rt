@@ -14,7 +14,7 @@ use test_helpers::rows::first_wrong;
 /// The numbers 1, 300 and 7.
 const WORD: [u8; 6] = [3, 1, 251, 44, 1, 7];
 
-/// A length of 2^64 - 1, behind which nothing stands.
+/// A length of 2^64 - 1, and nothing after it.
 const HUGE: [u8; 9] = [253, 255, 255, 255, 255, 255, 255, 255, 255];
 
 /// Whether this is read as a number of another type.

@@ -13,7 +13,7 @@ fn set_of(alloc: Global, count: u32) -> Result<BTreeSet<u32>, AllocError> {
     Ok(set)
 }
 
-/// The same as keys, each with the next number.
+/// The numbers from 0 as keys, each with the next one.
 fn map_of(alloc: Global, count: u32) -> Result<BTreeMap<u32, u32>, AllocError> {
     let mut map = BTreeMap::new(alloc);
     for number in (0..count).rev() {
@@ -31,7 +31,7 @@ fn hashed_set_of(alloc: Global, count: u32) -> Result<HashSet<u32>, AllocError> 
     Ok(set)
 }
 
-/// The same as keys, each with the next number.
+/// The numbers from 0 as keys, each with the next one.
 fn hashed_map_of(alloc: Global, count: u32) -> Result<HashMap<u32, u32>, AllocError> {
     let mut map = HashMap::new(alloc);
     for number in 0..count {
@@ -40,7 +40,7 @@ fn hashed_map_of(alloc: Global, count: u32) -> Result<HashMap<u32, u32>, AllocEr
     Ok(map)
 }
 
-/// Whether an ordered set of so many is kept. Where memory is refused it is filled once more.
+/// Whether an ordered set of `count` keys is kept. Retries once if an allocation is refused.
 fn keeps_set(alloc: Global, count: u32) -> bool {
     match set_of(alloc, count) {
         Ok(set) => keeps_value(alloc, Some(set)),
@@ -48,7 +48,7 @@ fn keeps_set(alloc: Global, count: u32) -> bool {
     }
 }
 
-/// The same of a map.
+/// Whether an ordered map is kept.
 fn keeps_map(alloc: Global, count: u32) -> bool {
     match map_of(alloc, count) {
         Ok(map) => keeps_value(alloc, Some(map)),

@@ -1,4 +1,4 @@
-//! Trees whose nodes stand in a list, written and read.
+//! Trees whose nodes are in a list, written and read.
 
 use bincode::error::DecodeError;
 use std::alloc::Global;

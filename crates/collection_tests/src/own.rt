@@ -1,4 +1,4 @@
-//! What comes of a user's own types, written and read.
+//! Types of one's own, written and read.
 
 use bincode::de::Decode;
 use bincode::de::read::SliceReader;
@@ -25,7 +25,7 @@ use test_helpers::checks::{
 };
 use test_helpers::rows::{first_unequal, first_wrong};
 
-/// Whether this is a word of the type by each call, with bytes behind it, and no front of it is one.
+/// Whether this is a word of the type for each call, with bytes after it, and no prefix of it is one.
 fn has_word<T: Encode + Decode<()>>(alloc: Global, word: &[u8]) -> bool {
     each_call_keeps::<T>(alloc, word) && ends_at_each_place::<(), T>(alloc, word, ())
 }
@@ -63,7 +63,7 @@ fn keeps_each_variant(rt: HostRuntime) {
     }
 }
 
-/// The word of a report of the station 5, in twelve fields one behind the other.
+/// The word of a report of the station 5, in twelve fields.
 const REPORT: [u8; 19] = [
     5, 251, 44, 1, 1, 1, 97, 5, 251, 148, 39, 80, 12, 251, 251, 0, 250, 8, 9,
 ];

@@ -107,7 +107,7 @@ fn reserves_what_hashed_ones_claim(rt: HostRuntime) {
     assert_eq!(rt; (map.len(), map.capacity()), (100, spare.capacity()));
 }
 
-/// Room for a hundred numbers in an arena. Where memory is refused it is asked for once more.
+/// Room for a hundred numbers in an arena. Retries once if an allocation is refused.
 fn spare_list(bump: &Bump) -> Result<Vec<u32, &Bump>, AllocError> {
     match Vec::with_capacity(bump, 100) {
         Ok(spare) => Ok(spare),

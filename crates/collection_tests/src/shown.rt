@@ -11,7 +11,7 @@ use test_helpers::rows::first_wrong;
 /// The longest window that a number peeks.
 const MOST: usize = 17;
 
-/// What is read of some bytes by a reader that shows at most so many of them, and how many it leaves.
+/// What is read of some bytes by a reader that buffers at most this many, and how many it leaves.
 fn read_shown<T: Decode<()>, C: Config>(
     alloc: Global,
     input: &[u8],
@@ -23,7 +23,7 @@ fn read_shown<T: Decode<()>, C: Config>(
     (outcome, reader.bytes_left())
 }
 
-/// The same of a word with two 9s after it.
+/// What is read of a word with two 9s after it.
 fn read_front<T: Decode<()>, C: Config>(
     alloc: Global,
     word: &[u8],

@@ -1,4 +1,4 @@
-//! Stores of values: what is appended is listed at its offset, and a value that is cut off is told at its own.
+//! Stores of values: what is appended is listed at its offset, and so is a value that was cut.
 
 use bincode::config;
 use bincode::error::DecodeError;
@@ -68,8 +68,7 @@ fn tells_where_a_store_is_cut(rt: HostRuntime) {
     }
 }
 
-/// What comes of appending a value under a limit, tried once more where it fails by something else, since memory may be
-/// refused once.
+/// The result of appending a value under a limit. Retries once on another error, since an allocation may be refused.
 fn appended<const N: usize>(
     alloc: Global,
     store: &mut Vec<u8>,

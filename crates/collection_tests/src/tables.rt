@@ -1,4 +1,4 @@
-//! What is told of a table of worked rows, one of which doesn't hold.
+//! The output of a table of worked rows, one of which does not hold.
 
 use crate::broken::{Bare, Broken, Buffer};
 use bincode::config::{Config, Endianness};
@@ -115,7 +115,7 @@ fn reads_the_rows_from_streams(rt: HostRuntime) {
     }
 }
 
-/// A stream that breaks is told as broken at each of its calls, until it has given what the answer rests on.
+/// A stream that breaks gives its error at each of its calls, until it has given what the answer depends on.
 #[test]
 fn reads_the_rows_from_broken_streams(rt: HostRuntime) {
     let alloc = rt.alloc();
@@ -125,8 +125,8 @@ fn reads_the_rows_from_broken_streams(rt: HostRuntime) {
     }
 }
 
-/// Whether a case is decoded from its slice without memory: it is of a number, a truth value, a character, a choice, a
-/// span of time or a pair, or its length passes the limit.
+/// Whether a case is decoded from its slice without allocation: it is of a number, `bool`, `char`, a choice, a
+/// `Duration` or a pair, or its length passes the limit.
 fn takes_no_memory(case: &Case) -> bool {
     match case {
         Case::Decode(input) => {

@@ -28,7 +28,7 @@ fn text(alloc: Global, count: usize) -> Option<String> {
     either(text_of(alloc, count), text_of(alloc, count))
 }
 
-/// The same, of which there may be more owners.
+/// The text, shared.
 fn shared(alloc: Global, count: usize) -> Option<RcStr> {
     let text = text(alloc, count)?;
     either(
@@ -72,7 +72,7 @@ fn keeps_borrowed_texts(rt: HostRuntime) {
     assert!(rt; keeps_value(rt.alloc(), Some(borrowed)));
 }
 
-/// The fault of two bytes that are no text, and the byte that is read behind them.
+/// The fault of two bytes that are not UTF-8, and the byte that is read after them.
 fn fault_and_next<T: Decode<()>>(alloc: Global) -> (Option<DecodeError>, Option<u8>) {
     let reader = SliceReader::new(&[2, 195, 40, 77]);
     let mut decoder = DecoderImpl::new(alloc, reader, config::standard(), ());
@@ -80,7 +80,7 @@ fn fault_and_next<T: Decode<()>>(alloc: Global) -> (Option<DecodeError>, Option<
     (fault, u8::decode(&mut decoder).ok())
 }
 
-/// Whether they are refused, and then the next byte is read. Where memory is refused it is asked once more.
+/// Whether they are refused, and then the next byte is read. Retries once if an allocation is refused.
 fn goes_on_behind_no_text<T: Decode<()>>(alloc: Global) -> bool {
     let mut outcome = fault_and_next::<T>(alloc);
     if matches!(outcome, (Some(DecodeError::Memory), _)) {

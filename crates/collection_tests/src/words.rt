@@ -13,7 +13,7 @@ use std::alloc::Global;
 use std::cell::{Cell, RefCell};
 use test_helpers::checks::ends_at_each_place;
 
-/// What is answered to an input as one of the word's type. Where memory is refused it is asked once more.
+/// The result of decoding an input as the word's type. Retries once if an allocation is refused.
 fn answer<L: InternalLimitConfig + Copy>(
     alloc: Global,
     word: &Word,
@@ -62,10 +62,10 @@ fn ends_where_words_are_cut(rt: HostRuntime) {
     assert!(rt; ends_at_each_place::<(), RefCell<u32>>(alloc, &number, ()));
 }
 
-/// What is told of an input.
+/// The result expected of an input.
 #[derive(Clone, Copy)]
 enum Told {
-    /// A value of so many bytes is read.
+    /// A value of this many bytes is read.
     Read(usize),
     Ends,
     /// It passes the limit.
@@ -76,7 +76,7 @@ enum Told {
     NoVariant(u32, u32),
 }
 
-/// The fault that is told, if one is.
+/// The fault that is expected, if one is.
 fn fault_of(told: Told) -> Option<Fault> {
     match told {
         Read(_) => None,
@@ -87,7 +87,7 @@ fn fault_of(told: Told) -> Option<Fault> {
     }
 }
 
-/// Whether this is told.
+/// Whether the outcome is the expected one.
 fn is_told(outcome: &Result<usize, DecodeError>, told: Told) -> bool {
     match outcome {
         Ok(count) => matches!(told, Read(wanted) if *count == wanted),
@@ -95,7 +95,8 @@ fn is_told(outcome: &Result<usize, DecodeError>, told: Told) -> bool {
     }
 }
 
-/// Places of words, by the label of the row, and what is told within 100000 where 251 stands there, and 252 to 255.
+/// Positions in words, by the label of the row, and the results within 100000 with the byte 251 there, and with 252 to
+/// 255.
 struct Places {
     places: &'static [(&'static str, usize)],
     told: [Told; 5],
@@ -308,7 +309,7 @@ fn words_of_row(label: &str) -> [Option<Word>; 2] {
     [None, None]
 }
 
-/// Whether this is told of the word with another byte at a place.
+/// Whether this is the result for the word with another byte at a position.
 fn tells_of(alloc: Global, word: &Word, place: usize, byte: u8, told: Told) -> bool {
     let mut bytes = [0u8; 19];
     let Some(input) = bytes.get_mut(..word.bytes.len()) else {
@@ -322,7 +323,7 @@ fn tells_of(alloc: Global, word: &Word, place: usize, byte: u8, told: Told) -> b
     is_told(&answer(alloc, word, Limit::<100_000>, input), told)
 }
 
-/// Whether this is told of each word of a row, of which there is one at least.
+/// Whether this is the result for each word of a row, of which there is at least one.
 fn tells_of_row(alloc: Global, label: &str, place: usize, byte: u8, told: Told) -> bool {
     let [first, second] = words_of_row(label);
     let Some(word) = first else {
@@ -334,7 +335,7 @@ fn tells_of_row(alloc: Global, label: &str, place: usize, byte: u8, told: Told) 
     tells_of(alloc, &word, place, byte, told) && tells_of(alloc, &other, place, byte, told)
 }
 
-/// The first place of these and the first byte there of which something else is told.
+/// The first of these positions, and the first byte there, with another result.
 fn first_untold(alloc: Global, places: &Places) -> Option<(&'static str, usize, u8)> {
     for (label, place) in places.places {
         let mut byte = 251u8;

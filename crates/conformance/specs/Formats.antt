@@ -1,4 +1,4 @@
--- Worked rows, of the types' own formats: each row is a statement of the formats that it is given.
+-- Worked rows: each row is a statement about the formats of types that it is given.
 use Rattle.std.specs.Prelude.{Some, None, ◌≡◌, ℕ, ℤ, pos, negsuc, true, List, [], ◌∷◌, ◌++◌, map, replicate}
 use Rattle.bincode_base.specs.declared.config.Endianness.TheVariants.{Little, Big}
 use Rattle.bincode_base.specs.declared.config.IntEncoding.TheVariants.{Fixed, Variable}
@@ -102,7 +102,7 @@ SignedRows i8 i16 i32 i64 i128 isize non_zero_i16 = AllHold (
     (non_zero_i16 standard).read (1 ∷ []) gives Took (Number (negsuc 0)) [] (Charge 2 ∷ []) ∷
     [])
 
--- truth values, and what has parts
+-- booleans, and what has parts
 abbrev pub WholeRows : Formats → Formats → Formats → Formats → Formats → Formats → Formats → Type 0
 WholeRows bool unit pair five two_u16 two_units no_u16 = AllHold (
     (bool standard).read (1 ∷ []) gives Took (Truth true) [] (Charge 1 ∷ []) ∷
@@ -146,7 +146,7 @@ ChoiceRows option_u8 option_u32 option_bool result_u8 result_unit bound_u8 far =
     (far standard).read (2 ∷ []) gives Failed (UnexpectedVariant (OneOf (1 ∷ 5 ∷ 300 ∷ [])) 2) (Charge 4 ∷ []) ∷
     [])
 
--- spans of time
+-- durations
 abbrev pub DurationRows : Formats → Type 0
 DurationRows duration = AllHold (
     (duration standard).read (252 ∷ 255 ∷ 255 ∷ 255 ∷ 255 ∷ 252 ∷ 44 ∷ 203 ∷ 154 ∷ 59 ∷ []) gives Took (list_meaning (number 4294967296 ∷ number 300 ∷ [])) [] (Charge 8 ∷ Charge 4 ∷ []) ∷
@@ -237,7 +237,7 @@ ZigzagRows = AllHold (
     zigzag (negsuc 9223372036854775807) gives 18446744073709551615 ∷
     [])
 
--- what an input needs of a limit, under each setting
+-- how large a limit an input needs, under each setting
 abbrev pub Needs : Type 0
 Needs = Setting → List ℕ → ℕ
 
@@ -251,13 +251,13 @@ NeedRows char duration two_u16 two_lists lists = AllHold (
     char standard (240 ∷ []) gives 4 ∷
     char standard (128 ∷ []) gives 0 ∷
     char standard [] gives 0 ∷
-    -- a span of time: 8 bytes for its seconds, and then 4 for its nanoseconds
+    -- a duration: 8 bytes for its seconds, then 4 for its nanoseconds
     duration standard (5 ∷ 7 ∷ []) gives 12 ∷
     duration standard (5 ∷ []) gives 12 ∷
     duration standard [] gives 8 ∷
     duration standard (254 ∷ []) gives 8 ∷
     duration standard (253 ∷ replicate 8 255 ++ 252 ∷ 0 ∷ 202 ∷ 154 ∷ 59 ∷ []) gives 12 ∷
-    -- an array: the room of its elements, of which each gives its own back before it is read
+    -- an array: the claims of its elements, each of which is released before the element is read
     two_u16 standard (5 ∷ 6 ∷ []) gives 4 ∷
     two_u16 standard [] gives 4 ∷
     two_u16 standard (252 ∷ []) gives 4 ∷
@@ -270,18 +270,18 @@ NeedRows char duration two_u16 two_lists lists = AllHold (
     lists legacy [] gives 8 ∷
     [])
 
--- the steps by which a list that holds a list of two numbers is read
+-- the steps of reading a list that holds a list of two numbers
 abbrev one_list : Formats → List Step
 one_list lists = steps_of ((lists standard).read (1 ∷ 2 ∷ 7 ∷ 8 ∷ []))
 
--- how many elements stand behind a length: one list, and two numbers in it; those of an array are not counted
+-- how many elements follow a length prefix: one list, and two numbers in it; those of an array are not counted
 abbrev pub ElementRows : Formats → Formats → Type 0
 ElementRows lists arrays = AllHold (
     elements_behind 0 (one_list lists) gives 3 ∷
     elements_behind 0 (steps_of ((arrays standard).read (2 ∷ 1 ∷ 2 ∷ 3 ∷ 4 ∷ []))) gives 2 ∷
     [])
 
--- its word is bounded by a limit of 32, and not by one that the 24 bytes of the list in it pass
+-- its word is bounded by a limit of 32, and not by one that the 24 bytes of the inner list pass
 abbrev pub IsBounded : Formats → Type 0
 IsBounded lists = Bounded 32 (1 ∷ 2 ∷ 7 ∷ 8 ∷ []) (one_list lists)
 

@@ -1,4 +1,4 @@
-//! The cases of addresses, and how they are run.
+//! Cases of addresses, and how they are run.
 
 use crate::case::{Answer, Decoding, Encoding};
 use crate::run::{decodes, encodes};
@@ -21,7 +21,7 @@ pub enum Address {
     SocketTo18(Decoding<Socket, Limit<18>>),
 }
 
-/// What a `SocketAddrV6` has.
+/// The parts of a `SocketAddrV6`.
 #[derive(Clone, Copy)]
 pub struct Socket {
     pub ip: Ipv6Addr,
@@ -30,10 +30,10 @@ pub struct Socket {
     pub scope: u32,
 }
 
-/// The word of ::1 with the port 12345.
+/// The encoding of ::1 with the port 12345.
 pub(crate) const SOCKET: [u8; 19] = [0, 0, 0, 0, 0, 0, 0, 0, 0, 0, 0, 0, 0, 0, 0, 1, 251, 57, 48];
 
-/// Whether what the case says comes of the address.
+/// Whether the case holds.
 pub fn address_holds<S: Source>(alloc: Global, address: &Address) -> Result<bool, AllocError> {
     Ok(match address {
         Address::WriteIp(row) => encodes(alloc, row)?,
@@ -48,7 +48,7 @@ pub fn address_holds<S: Source>(alloc: Global, address: &Address) -> Result<bool
     })
 }
 
-/// The address that has these.
+/// The address with these parts.
 fn address_of(socket: Socket) -> SocketAddrV6 {
     SocketAddrV6::new(socket.ip, socket.port, socket.flow, socket.scope)
 }

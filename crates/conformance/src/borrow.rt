@@ -5,7 +5,7 @@ use bincode::error::DecodeError;
 use bincode::{borrow_decode_from_slice, config};
 use std::alloc::Global;
 
-/// Whether the input lends its texts.
+/// Whether the texts are borrowed from the input as the case says.
 pub fn borrows(alloc: Global, borrowed: &Borrowed) -> bool {
     match borrowed {
         Borrowed::List(row) => borrows_list(alloc, row.input, row),
@@ -13,7 +13,7 @@ pub fn borrows(alloc: Global, borrowed: &Borrowed) -> bool {
     }
 }
 
-/// What the input lends as a list. Where memory is refused it is read once more.
+/// Decodes a list of borrowed texts. Retries once if an allocation is refused.
 fn list_of(alloc: Global, input: &[u8]) -> Result<(Vec<&str>, usize), DecodeError> {
     match borrow_decode_from_slice(alloc, input, config::standard()) {
         Err(DecodeError::Memory) => borrow_decode_from_slice(alloc, input, config::standard()),
@@ -21,12 +21,12 @@ fn list_of(alloc: Global, input: &[u8]) -> Result<(Vec<&str>, usize), DecodeErro
     }
 }
 
-/// What it lends as an array of three.
+/// Decodes an array of three borrowed texts.
 fn three_of(alloc: Global, input: &[u8]) -> Result<([&str; 3], usize), DecodeError> {
     borrow_decode_from_slice(alloc, input, config::standard())
 }
 
-/// Whether it lends its texts to a list.
+/// Whether the texts are borrowed as a list.
 fn borrows_list(alloc: Global, input: &[u8], row: &Lending) -> bool {
     let Ok((texts, taken)) = list_of(alloc, input) else {
         return false;
@@ -34,7 +34,7 @@ fn borrows_list(alloc: Global, input: &[u8], row: &Lending) -> bool {
     taken == row.length && texts.as_slice() == row.texts
 }
 
-/// Whether it lends them to an array of three.
+/// Whether the texts are borrowed as an array of three.
 fn borrows_three(alloc: Global, input: &[u8], row: &Lending) -> bool {
     match three_of(alloc, input) {
         Ok(read) => read.1 == row.length && read.0.as_slice() == row.texts,

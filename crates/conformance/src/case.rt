@@ -6,7 +6,7 @@ use bincode::config::{Endianness, Limit, NoLimit};
 use bincode::error::IntegerType;
 use std::ops::Bound;
 
-/// What is run, and what has to come of it.
+/// What is run, and the result that it must have.
 #[derive(Drop)]
 pub enum Case {
     Encode(Value),
@@ -15,14 +15,14 @@ pub enum Case {
     Varint(Number),
     Decode(Input),
     DecodeWithin(Limited),
-    /// A pair that is read from a stream of one byte a call.
+    /// A pair that is decoded from a stream of one byte a call.
     DecodeBytewise(Decoding<(u32, u32), NoLimit>),
     Borrow(Borrowed),
     Address(Address),
     Shaped(Shaped),
 }
 
-/// A value that is written.
+/// A value that is encoded.
 #[derive(Drop)]
 pub enum Value {
     U8(Encoding<u8>),
@@ -31,7 +31,7 @@ pub enum Value {
     I8(Encoding<i8>),
     Char(Encoding<char>),
     Pair(Encoding<(u8, u32)>),
-    /// The `Duration` of so many seconds and nanoseconds.
+    /// The `Duration` of these seconds and nanoseconds.
     Duration(Encoding<(u64, u32)>),
     Option(Encoding<Option<u32>>),
     Result(Encoding<Result<u8, u8>>),
@@ -42,14 +42,14 @@ pub enum Value {
     Map(Encoding<&'static [(u8, u8)]>),
 }
 
-/// A value that is written and read back.
+/// A value that is encoded, and decoded again.
 #[derive(Drop)]
 pub enum Kept {
     Unit(Encoding<()>),
     Five(Encoding<(u8, u32, i128, char, [u8; 4])>),
 }
 
-/// A number that is written as a variable integer.
+/// A number that is encoded as a varint.
 #[derive(Drop)]
 pub enum Number {
     U32(Spelling<u32>),
@@ -60,7 +60,7 @@ pub enum Number {
     I128(Spelling<i128>),
 }
 
-/// An input that is read without a limit.
+/// An input that is decoded without a limit.
 #[derive(Drop)]
 pub enum Input {
     U16(Decoding<u16, NoLimit>),
@@ -83,7 +83,7 @@ pub enum Input {
     CString(Decoding<&'static [u8], NoLimit>),
 }
 
-/// An input that is read within a limit.
+/// An input that is decoded under a limit.
 #[derive(Drop)]
 pub enum Limited {
     U16To2(Decoding<u16, Limit<2>>),
@@ -107,7 +107,7 @@ pub enum Limited {
     OptionsTo12(Decoding<&'static [Option<()>], Limit<12>>),
 }
 
-/// An input whose texts are read as pieces of it.
+/// An input whose texts are borrowed.
 #[derive(Drop)]
 pub enum Borrowed {
     /// As a list.
@@ -116,7 +116,7 @@ pub enum Borrowed {
     Three(Lending),
 }
 
-/// A value, and the word that it is written as under a setting.
+/// A value, and its encoding under a setting.
 #[derive(Drop)]
 pub struct Encoding<T> {
     pub setting: Setting,
@@ -124,7 +124,7 @@ pub struct Encoding<T> {
     pub word: &'static [u8],
 }
 
-/// A value that is too long for a slice, and what the slice holds then.
+/// A value that does not fit a slice, and what the slice holds afterwards.
 #[derive(Drop)]
 pub struct Refusal<T> {
     pub value: T,
@@ -132,7 +132,7 @@ pub struct Refusal<T> {
     pub after: &'static [u8],
 }
 
-/// A number, and its word as a variable integer in an order.
+/// A number, and its varint in a byte order.
 #[derive(Drop)]
 pub struct Spelling<T> {
     pub endian: Endianness,
@@ -140,7 +140,7 @@ pub struct Spelling<T> {
     pub word: &'static [u8],
 }
 
-/// An input, and what is answered to it under a setting and a limit.
+/// An input, and its result under a setting and a limit.
 #[derive(Drop)]
 pub struct Decoding<T, L> {
     pub setting: Setting,
@@ -149,7 +149,7 @@ pub struct Decoding<T, L> {
     pub answer: Answer<T>,
 }
 
-/// An input, the texts that it lends, and the length of their word.
+/// An input, the texts that are borrowed from it, and the length of their encoding.
 #[derive(Drop)]
 pub struct Lending {
     pub input: &'static [u8],
@@ -157,22 +157,22 @@ pub struct Lending {
     pub length: usize,
 }
 
-/// What decoding answers.
+/// The result of decoding.
 #[derive(Drop)]
 pub enum Answer<T> {
-    /// A value, and the length of its word.
+    /// A value, and the length of its encoding.
     Value(T, usize),
     Fault(Fault),
 }
 
-/// The errors that are told apart, with their fields.
+/// The errors that the cases distinguish, with their fields.
 #[derive(Clone, Copy)]
 pub enum Fault {
-    /// The input ends too early: `Io` where it is a stream.
+    /// The input ends too early; `Io` if it is a stream.
     UnexpectedEnd {
         additional: usize,
     },
-    /// The same; by how many bytes is not said.
+    /// The input ends too early, by any number of bytes.
     EndsEarly,
     LimitExceeded,
     Utf8,
@@ -185,7 +185,7 @@ pub enum Fault {
     },
     InvalidCharEncoding([u8; 4]),
     InvalidBooleanValue(u8),
-    /// Of the allowed variants 0 to `max` none was found.
+    /// The tag is unknown; the valid ones are 0 to `max`.
     UnexpectedVariant {
         found: u32,
         max: u32,

@@ -1,4 +1,4 @@
-//! Cases of what is charged for addresses and for elements without bytes.
+//! Cases of the charges of addresses and of elements without bytes.
 
 use crate::addresses::{Address, SOCKET};
 use crate::case::{Answer, Case, Decoding, Fault, Limited, Setting};
@@ -6,7 +6,7 @@ use crate::rows::Row;
 use bincode::config::Limit;
 use std::net::{IpAddr, Ipv4Addr};
 
-/// Cases of addresses, and of elements that have no bytes of their own, within limits.
+/// Cases of addresses, and of elements without bytes, under limits.
 pub fn charge_table() -> &'static [Row] {
     &CHARGES
 }

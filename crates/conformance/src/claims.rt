@@ -1,5 +1,4 @@
-//! Worked rows of claim sizes: what each type says that a container claims for an element is what the description of
-//! the format expects.
+//! Worked rows of claim sizes: what each type claims as an element is what docs/FORMAT.md expects.
 ghost use Rattle.std.specs.Prelude.{◌≡◌};
 
 use bincode::Wire;
@@ -53,7 +52,7 @@ pub fn not_zero_claims()
     ensures of_not_zero_isize { ⟦<NonZeroIsize as Wire>⟧.words.claim ≡ 8 }
 {}
 
-/// Of truth values, characters and spans of time, and of what has no bytes: that counts 1.
+/// Of `bool`, `char` and `Duration`, and of what has no bytes: that counts 1.
 pub fn scalar_claims()
     ensures truth { ⟦<bool as Wire>⟧.words.claim ≡ 1 }
     ensures character { ⟦<char as Wire>⟧.words.claim ≡ 4 }

@@ -1,4 +1,4 @@
-//! Cases of maps, texts, spans of time and pairs.
+//! Cases of maps, texts, durations and pairs.
 
 use crate::case::{
     Answer, Borrowed, Case, Decoding, Encoding, Fault, Input, Lending, Refusal, Setting, Value,
@@ -6,7 +6,7 @@ use crate::case::{
 use crate::rows::Row;
 use bincode::config::NoLimit;
 
-/// Cases of maps, of texts that are owned and lent, of spans of time and of pairs.
+/// Cases of maps, of owned and borrowed texts, of durations and of pairs.
 pub fn collection_table() -> &'static [Row] {
     &COLLECTIONS
 }

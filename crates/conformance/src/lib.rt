@@ -1,5 +1,5 @@
-//! Worked rows of the format: of the formats that types name, and of the calls that write and read, with the loop that
-//! runs them.
+//! Worked rows of docs/FORMAT.md: about the formats of the types, and about the calls that encode and decode, with the
+//! loops that run them.
 #![tactic(auto)]
 
 pub mod addresses;

@@ -1,10 +1,10 @@
-//! Cases of characters, and of what a limit lets through.
+//! Cases of characters, and of what a limit allows.
 
 use crate::case::{Answer, Case, Decoding, Encoding, Fault, Input, Limited, Setting, Value};
 use crate::rows::Row;
 use bincode::config::{Limit, NoLimit};
 
-/// Cases of characters, of limits that are just enough, and of some that are one too small.
+/// Cases of characters, of limits that just suffice, and of some that are one too small.
 pub fn limit_table() -> &'static [Row] {
     &LIMITS
 }

@@ -7,8 +7,8 @@ use crate::rows::Row;
 use bincode::config::{Endianness, NoLimit};
 use bincode::error::IntegerType;
 
-/// Cases of numbers: what they are written as, what is read of them, and what is told of a wrong first byte. The first
-/// is of five values in turn.
+/// Cases of numbers: their encodings, what is decoded from them, and the errors of a wrong first byte. The first case
+/// has five values in turn.
 pub fn number_table() -> &'static [Row] {
     &NUMBERS
 }

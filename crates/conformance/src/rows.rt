@@ -1,4 +1,4 @@
-//! The cases of the program, and the loops over them.
+//! The tables of cases, and the loops over them.
 ghost use Rattle.std.specs.Prelude.{◌≤◌, length, IfOk};
 
 use crate::case::Case;
@@ -34,8 +34,8 @@ pub fn tables() -> [&'static [Row]; 6] {
     ]
 }
 
-/// The tables of the cases whose types are named in the code: all but those that are described at run time, and the
-/// cases that the program leaves out.
+/// The tables of the cases whose types are named in the code: all but those of shapes, and with those that the program
+/// leaves out.
 pub fn typed_tables() -> [&'static [Row]; 6] {
     [
         number_table(),
@@ -47,8 +47,8 @@ pub fn typed_tables() -> [&'static [Row]; 6] {
     ]
 }
 
-/// Runs the cases of some tables in turn; what is decoded as an owned type is read from `S`. Writes a line for each,
-/// whether it holds, and a last line with their number and how many failed, and answers the latter.
+/// Runs the cases of some tables; owned types are decoded from `S`. Writes a line for each case, whether it holds, and
+/// a last line with the number of cases and of failures, and returns the latter.
 pub fn run<S: Source, W: Write>(
     alloc: Global,
     tables: &[&[Row]],
@@ -64,7 +64,7 @@ pub fn run<S: Source, W: Write>(
     Ok(failed)
 }
 
-/// Runs the cases of a table in turn, writes a line for each, and answers how many failed.
+/// Runs the cases of a table, writes a line for each, and returns the number of failures.
 fn run_table<S: Source, W: Write>(alloc: Global, table: &[Row], out: &mut W) -> io::Result<usize>
     ensures { IfOk result (λ failed. failed ≤ length table.now) }
 {

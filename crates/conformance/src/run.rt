@@ -25,7 +25,7 @@ use std::alloc::{AllocError, Global};
 use std::collections::BTreeMap;
 use std::num::NonZeroU16;
 
-/// Whether what the case says comes of it.
+/// Whether the case holds.
 pub fn holds<S: Source>(alloc: Global, case: &Case) -> Result<bool, AllocError> {
     match case {
         Case::Encode(value) => encodes_value(alloc, value),
@@ -115,7 +115,7 @@ fn decodes_within<S: Source>(alloc: Global, limited: &Limited) -> Result<bool, A
     })
 }
 
-/// A number that is a variable integer by itself.
+/// A number that is a varint by itself.
 trait VarintNumber: Encode + Copy {
     fn varint_encode<W: Writer>(
         self,
@@ -184,7 +184,7 @@ pub(crate) fn encodes<T: Encode + Copy>(
     Ok(matches!(written, Ok(count) if count == row.word.len()) && slice.as_slice() == row.word)
 }
 
-/// Whether the span of so many seconds and nanoseconds is written as the word.
+/// Whether the `Duration` of these seconds and nanoseconds is written as the word.
 fn encodes_duration(alloc: Global, row: &Encoding<(u64, u32)>) -> Result<bool, AllocError> {
     let (secs, nanos) = row.value;
     if nanos >= 1_000_000_000 {
@@ -229,7 +229,7 @@ fn map_of(alloc: Global, entries: &[(u8, u8)]) -> Result<BTreeMap<u8, u8>, Alloc
     Ok(map)
 }
 
-/// Whether the value is written as the word, and the word read as the value.
+/// Whether the value is written as the word, and the word is decoded as the value.
 fn keeps<S, T>(alloc: Global, row: &Encoding<T>) -> Result<bool, AllocError>
 where
     S: Source,
@@ -297,7 +297,7 @@ fn decodes_nonzero<S: Source>(alloc: Global, row: &Decoding<u16, NoLimit>) -> bo
     )
 }
 
-/// Whether decoding the input as a span of time gives the answer.
+/// Whether decoding the input as a `Duration` gives the answer.
 fn decodes_duration<S: Source>(alloc: Global, row: &Decoding<(u64, u32), NoLimit>) -> bool {
     let outcome: Result<(Duration, usize), DecodeError> = decode_under::<S, _, _>(
         alloc,

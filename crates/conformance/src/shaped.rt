@@ -1,4 +1,4 @@
-//! Cases of values that are described at run time.
+//! Cases of shapes.
 
 use crate::case::{Answer, Case, Decoding, Encoding, Fault, Refusal, Setting};
 use crate::rows::Row;
@@ -10,7 +10,7 @@ use bincode::error::{DecodeError, EncodeError};
 use bincode::shape::{Shape, Value, decode_shaped, encode_shaped};
 use std::alloc::{AllocError, Global};
 
-/// A number and a list of numbers: what stands for a value of the shape of `(u8, Vec<u16>)`.
+/// A number and a list of numbers: the generic value of a `(u8, Vec<u16>)`.
 pub type Image = (u128, &'static [u128]);
 
 /// What is written or read by a shape, in the standard configuration.
@@ -26,7 +26,7 @@ pub enum Shaped {
     Fault(Misread),
 }
 
-/// An input, and the fault that is told of it by a shape.
+/// An input, and the fault that a shape reports of it.
 #[derive(Drop)]
 pub struct Misread {
     pub by: Outline,
@@ -34,7 +34,7 @@ pub struct Misread {
     pub fault: Fault,
 }
 
-/// A shape by its name, since a shape itself takes memory.
+/// The name of a shape, since a shape itself allocates.
 #[derive(Clone, Copy)]
 pub enum Outline {
     /// A choice of no parts.
@@ -71,7 +71,7 @@ fn shape_of(alloc: Global, outline: Outline) -> Result<Shape, AllocError> {
     }
 }
 
-/// The value that an image stands for.
+/// The generic value of an image.
 fn value_of(alloc: Global, image: Image) -> Result<Value, AllocError> {
     let mut numbers = Vec::new(alloc);
     for number in image.1 {
@@ -83,7 +83,7 @@ fn value_of(alloc: Global, image: Image) -> Result<Value, AllocError> {
     Ok(Value::List(parts))
 }
 
-/// Whether what the case says comes of it.
+/// Whether the case holds.
 pub(crate) fn shaped_holds(alloc: Global, shaped: &Shaped) -> Result<bool, AllocError> {
     match shaped {
         Shaped::Write(row) => writes(alloc, row),
@@ -106,7 +106,7 @@ fn writes(alloc: Global, row: &Encoding<Image>) -> Result<bool, AllocError> {
     Ok(whole && slice.as_slice() == row.word)
 }
 
-/// Whether the value is told not to fit, and the slice holds what it should then.
+/// Whether the value is refused since it does not fit, and the slice then holds what it should.
 fn refuses(alloc: Global, row: &Refusal<Image>) -> Result<bool, AllocError> {
     let mut slice = row.before.to_vec(alloc)?;
     let mut writer = SliceWriter::new(&mut slice);

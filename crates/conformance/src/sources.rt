@@ -1,4 +1,4 @@
-//! Where the input of a case is read from: a slice, a stream, or a buffer before a stream.
+//! What the input of a case is read from: a slice, a stream, or a stream with a buffer.
 
 use bincode::config::Config;
 use bincode::de::Decode;
@@ -8,9 +8,9 @@ use std::alloc::Global;
 use std::io;
 use std::io::{BufReader, ErrorKind, Read};
 
-/// A place from which values are read.
+/// A source of values.
 pub trait Source {
-    /// Reads a value, and answers how many bytes it took.
+    /// Decodes a value, and returns how many bytes it took.
     fn decode<T: Decode<()>, C: Config>(
         alloc: Global,
         input: &[u8],
@@ -60,7 +60,7 @@ impl Source for Bytewise {
     }
 }
 
-/// A buffer of so many bytes before such a stream.
+/// A buffer of `ROOM` bytes over such a stream.
 pub struct Buffered<const ROOM: usize>;
 
 impl<const ROOM: usize> Source for Buffered<ROOM> {

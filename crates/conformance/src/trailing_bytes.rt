@@ -5,7 +5,7 @@ use crate::rows::Row;
 use bincode::config::NoLimit;
 use std::ops::Bound;
 
-/// Cases that the program leaves out: signed numbers of one byte, and words of each kind with other bytes behind them.
+/// Cases that the program leaves out: signed numbers of one byte, and words of each kind with other bytes after them.
 pub fn trailing_cases() -> &'static [Row] {
     &MORE
 }

@@ -1,4 +1,4 @@
-//! How much of its bytes a reader has left behind a fault: all that stand behind the input that is no word.
+//! How many bytes a reader has left after a fault: all that follow the input that is no word.
 
 use bincode::de::read::SliceReader;
 use bincode::de::{BorrowDecode, Decode, DecoderImpl};
@@ -15,7 +15,7 @@ use std::path::{Path, PathBuf};
 use std::rc::RcStr;
 use test_helpers::rows::first_wrong;
 
-/// How many bytes a reader has left behind a fault, by a decoder that does not lend.
+/// How many bytes a reader has left after a fault, through a decoder that does not lend.
 fn left_owned<T: Decode<()>>(alloc: Global, input: &[u8]) -> Option<usize> {
     let mut reader = SliceReader::new(input);
     let outcome: Result<T, _> = decode_from_reader(alloc, &mut reader, config::standard());
@@ -25,7 +25,7 @@ fn left_owned<T: Decode<()>>(alloc: Global, input: &[u8]) -> Option<usize> {
     }
 }
 
-/// The same by a decoder that lends.
+/// How many it has left, through a decoder that lends.
 fn left_lent<'a, T: BorrowDecode<&'a [u8], ()>>(alloc: Global, input: &'a [u8]) -> Option<usize> {
     let mut reader = SliceReader::new(input);
     let mut decoder = DecoderImpl::new(alloc, &mut reader, config::standard(), ());
@@ -38,17 +38,17 @@ fn left_lent<'a, T: BorrowDecode<&'a [u8], ()>>(alloc: Global, input: &'a [u8]) 
     }
 }
 
-/// Whether three bytes are left behind a fault. Where memory is refused it is decoded once more.
+/// Whether three bytes are left after a fault. Retries once if an allocation is refused.
 fn leaves_three<T: Decode<()>>(alloc: Global, input: &[u8]) -> bool {
     left_owned::<T>(alloc, input) == Some(3) || left_owned::<T>(alloc, input) == Some(3)
 }
 
-/// The same of lent decoding.
+/// Whether three bytes are left after a fault of borrowed decoding.
 fn leaves_three_lent<'a, T: BorrowDecode<&'a [u8], ()>>(alloc: Global, input: &'a [u8]) -> bool {
     left_lent::<T>(alloc, input) == Some(3) || left_lent::<T>(alloc, input) == Some(3)
 }
 
-/// The same of both.
+/// Whether three bytes are left after a fault of both kinds of decoding.
 fn leaves_three_both<'a, T>(alloc: Global, input: &'a [u8]) -> bool
 where
     T: Decode<()> + BorrowDecode<&'a [u8], ()>,
@@ -62,7 +62,7 @@ static NO_TEXT: [u8; 6] = [2, 97, 255, 77, 78, 79];
 /// A C string with a zero before its last byte, and three bytes more.
 static ZERO: [u8; 7] = [3, 65, 0, 66, 77, 78, 79];
 
-/// The most seconds, and so many nanoseconds that they carry: 252 and four bytes. Three bytes more.
+/// The maximum of seconds, and nanoseconds that carry a second: 252 and four bytes. Three bytes more.
 static SECONDS: [u8; 17] = [
     253, 255, 255, 255, 255, 255, 255, 255, 255, 252, 0, 202, 154, 59, 77, 78, 79,
 ];
@@ -131,7 +131,7 @@ fn leaves_what_follows_a_scalar(rt: HostRuntime) {
     assert_eq!(rt; first_wrong(&rows), None);
 }
 
-/// Nothing is read behind the part at fault.
+/// Nothing is read after the part at fault.
 #[test]
 fn leaves_what_follows_a_part(rt: HostRuntime) {
     let alloc = rt.alloc();

@@ -32,7 +32,7 @@ fn reads_two<S: Read + Seek>(alloc: Global, stream: &mut S) -> io::Result<bool> 
     Ok(matches!(read, Ok((30, 50))))
 }
 
-/// The same through a buffer before it.
+/// Whether it is read so through a buffer.
 fn reads_two_through_a_buffer<S: Read + Seek>(alloc: Global, stream: &mut S) -> io::Result<bool> {
     stream.seek(SeekFrom::Start(0))?;
     let mut buffered = BufReader::new(alloc, stream)?;

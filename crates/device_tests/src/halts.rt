@@ -9,7 +9,7 @@ fn is_borrowed(error: Option<EncodeError>) -> bool {
     matches!(error, Some(EncodeError::RefCellAlreadyBorrowed { .. }))
 }
 
-/// A byte stands before a cell that is borrowed for writing, and another behind it.
+/// A byte before a cell that is mutably borrowed, and another after it.
 #[test]
 fn leaves_what_stands_before_a_borrowed_cell(rt: HostRuntime) {
     let cell = RefCell::new(300u32);

@@ -12,7 +12,7 @@ use std::net::{Ipv4Addr, Ipv6Addr, SocketAddrV4};
 use test_helpers::checks::{decoded, either};
 use test_helpers::rows::first_unequal;
 
-/// What stands in a slice of so many 9s behind a value, and whether it was refused for want of room.
+/// What a slice of `N` 9s holds after a value, and whether that was refused for lack of room.
 fn left_by<T: Encode, const N: usize>(value: &T) -> ([u8; N], bool) {
     let mut slice = [9u8; N];
     let outcome = encode_into_slice(value, &mut slice, config::standard());
@@ -87,7 +87,7 @@ fn leaves_no_octet_of_an_address(rt: HostRuntime) {
     assert_eq!(rt; first_unequal(&rows), None);
 }
 
-/// Five thousand bytes behind a length of one and of two bytes are one piece, also without a length.
+/// Five thousand bytes are one piece, after a length prefix in two pieces, and without one.
 #[test]
 fn leaves_nothing_of_many_bytes(rt: HostRuntime) {
     let alloc = rt.alloc();

@@ -1,4 +1,4 @@
-//! Writers that are lent, and writers that count: what is told ahead of a number comes once, through each reference.
+//! Borrowed writers, and writers that count: the length of a number is announced once, through each reference.
 
 use bincode::config::{self, Config};
 use bincode::enc::Encode;
@@ -53,12 +53,12 @@ fn counted<T: Encode, C: Config>(value: &T, config: C) -> [usize; 4] {
     ]
 }
 
-/// Whether each counter counts so many bytes of a value.
+/// Whether each counter counts this many bytes for a value.
 fn takes<T: Encode>(value: T, count: usize) -> bool {
     counted(&value, config::standard()) == [count; 4]
 }
 
-/// The same where integers are fixed.
+/// Whether each counter does so with fixed integers.
 fn takes_fixed<T: Encode>(value: T, count: usize) -> bool {
     counted(&value, config::legacy()) == [count; 4]
 }

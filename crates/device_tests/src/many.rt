@@ -10,7 +10,7 @@ use std::path::PathBuf;
 use test_helpers::checks::{decoded, either};
 use test_helpers::rows::first_wrong;
 
-/// What is read of a word with a byte behind it.
+/// What is read of a word with a byte after it.
 fn read<T: Decode<()>>(alloc: Global, input: &[u8]) -> Option<T> {
     match decoded(alloc, input, config::standard()) {
         Ok((value, taken)) if taken.saturating_add(1) == input.len() => Some(value),

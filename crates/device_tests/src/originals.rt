@@ -55,7 +55,7 @@ fn lends_options_of_bytes(rt: HostRuntime) {
     assert!(rt; lends_option(rt.alloc(), None, &[0]));
 }
 
-/// Whether the value is written as this word, and read of it with bytes behind.
+/// Whether the value is written as this word, and read from it with bytes after it.
 fn is_word<T: Encode + Decode<()> + PartialEq, C: Config>(
     alloc: Global,
     value: T,
@@ -170,7 +170,7 @@ fn keeps_an_array_of_256_numbers(rt: HostRuntime) {
     assert!(rt; is_word(rt.alloc(), ascending(), &fixed, config::legacy()));
 }
 
-/// Whether a value is read of this word, with a byte behind it, and written so.
+/// Whether a value is read from this word, with a byte after it, and written so.
 fn keeps_in<T: Encode + Decode<()>, C: Config>(alloc: Global, word: &[u8], config: C) -> bool {
     let mut input = [99u8; 40];
     let Some(front) = input.get_mut(..word.len()) else {
@@ -186,7 +186,7 @@ fn keeps_in<T: Encode + Decode<()>, C: Config>(alloc: Global, word: &[u8], confi
     taken == word.len() && matches!(written, Ok(count) if count == taken) && slice == input
 }
 
-/// The words of 5, 4, 3, 2 and 1 behind their count, of 5, of 5 behind its count, of -5 for 5, and of Hello.
+/// The words of the list of 5, 4, 3, 2 and 1, of 5, of the list of 5, of the map of 5 to -5, and of Hello.
 #[derive(Drop)]
 struct Words<'a> {
     list: &'a [u8],

@@ -65,7 +65,7 @@ impl<'c, B: BorrowedBytes> BorrowDecode<B, &'c Cell<u32>> for Numbered {
 /// A value, a list, an array and an option.
 type Several = (Numbered, Vec<Numbered>, [Numbered; 2], Option<Numbered>);
 
-/// Six values behind one another: the list has a length of 2, and the option its 1.
+/// Six values one after another: the list has a length of 2, and the option its 1.
 static WORD: [u8; 8] = [60, 2, 61, 62, 63, 64, 1, 65];
 
 /// Whether these values are those of the word from this one on, each with its number.
@@ -109,14 +109,14 @@ fn keeps_by_slice(alloc: Global) -> bool {
     is_read(read, &count)
 }
 
-/// The same of the call that lends.
+/// Whether the borrowing call does so.
 fn keeps_by_lending(alloc: Global) -> bool {
     let count = Cell::new(0u32);
     let read = borrow_decode_from_slice_with_context(alloc, &WORD, config::standard(), &count);
     is_read(read, &count)
 }
 
-/// The same of the call for streams.
+/// Whether the call for streams does so.
 fn keeps_by_stream(alloc: Global) -> bool {
     let count = Cell::new(0u32);
     let mut stream = WORD.as_slice();
@@ -132,7 +132,7 @@ fn keeps_by_stream(alloc: Global) -> bool {
     }
 }
 
-/// Whether a word that ends behind its second value leaves a context that counted two.
+/// Whether a word that ends after its second value leaves a context that counted two.
 fn counts_up_to_a_fault(alloc: Global) -> bool {
     let count = Cell::new(0u32);
     let read: Result<(Several, usize), DecodeError> = decode_from_slice_with_context(
@@ -144,7 +144,7 @@ fn counts_up_to_a_fault(alloc: Global) -> bool {
     matches!(read, Err(DecodeError::UnexpectedEnd { additional: 1 })) && count.get() == 2
 }
 
-/// Where memory is refused it is decoded once more.
+/// Retries once if an allocation is refused.
 #[test]
 fn keeps_its_context(rt: HostRuntime) {
     let alloc = rt.alloc();

@@ -1,4 +1,4 @@
-//! What is told and left where a value fails by an error that is for users' types. The rows are those of bincode 2.0.1.
+//! The errors for types of one's own, and what is left after them. The rows are those of bincode 2.0.1.
 
 ghost use Rattle.bincode.specs.Encoding.{IsOwn};
 
@@ -23,7 +23,7 @@ enum Cause {
 /// A text that is too long to be held inline.
 const LONG: &str = "the sensor was asked and gave no number";
 
-/// The long text, on the heap. Where memory is refused it is asked for once more.
+/// The long text, on the heap. Retries once if an allocation is refused.
 fn long_text(alloc: Global) -> Option<Box<String>> {
     let text = either(String::from_str(alloc, LONG), String::from_str(alloc, LONG))?;
     match Box::new(alloc, text) {
@@ -140,7 +140,7 @@ fn leaves_what_stands_before_a_value_that_fails(rt: HostRuntime) {
     }
 }
 
-/// What a slice of so many 9s holds behind two bytes and a value that fails, and whether that was told by its cause.
+/// What a slice of `N` 9s holds after two bytes and a value that fails, and whether the error was that of its cause.
 fn left_in<const N: usize>(alloc: Global) -> ([u8; N], bool) {
     let cause = Cause::Short;
     let value = (1u8, 2u8, Halting { alloc, cause });

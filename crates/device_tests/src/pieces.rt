@@ -24,7 +24,7 @@ fn share_of(share: Share, count: usize) -> usize {
     }
 }
 
-/// A stream that is interrupted so many times before each call that gives or takes something.
+/// A stream that is interrupted a number of times before each call that gives or takes something.
 #[derive(Drop)]
 pub struct Stream<B> {
     pub bytes: B,
@@ -80,7 +80,7 @@ impl Write for Stream<Vec<u8>> {
     }
 }
 
-/// The word of as many times the letter a, and another byte behind it.
+/// The word of `count` letters a, and another byte after it.
 pub fn word_of(alloc: Global, length: &[u8], count: usize) -> Result<Vec<u8>, io::Error> {
     let mut word = Vec::with_capacity(alloc, length.len().saturating_add(count).saturating_add(1))?;
     word.extend_from_slice(length)?;
@@ -103,7 +103,7 @@ pub fn is_all_a(text: &[u8], count: usize) -> bool {
     text.len() == count && text.iter().all(|&byte| byte == 97)
 }
 
-/// How many calls it takes to read a text of as many letters from a stream, if it is read and the byte behind it left.
+/// How many calls it takes to read a text of `count` letters from a stream, if it is read and the byte after it left.
 fn reading_calls(
     alloc: Global,
     word: &[u8],
@@ -153,7 +153,7 @@ const CALLS: [(Share, usize, usize); 5] = [
     (Share::One, 5, 6 * (1 + 2 + 1_000)),
 ];
 
-/// The calls that read a text. Where memory is refused it is read once more.
+/// The calls that read a text. Retries once if an allocation is refused.
 fn calls_to_read(
     alloc: Global,
     word: &[u8],
@@ -167,7 +167,7 @@ fn calls_to_read(
     }
 }
 
-/// The same of the calls that write it.
+/// The calls that write it. Retries once if an allocation is refused.
 fn calls_to_write(
     alloc: Global,
     word: &[u8],
@@ -355,7 +355,7 @@ fn written_of(kind: ErrorKind, good: usize) -> Option<usize> {
     }
 }
 
-/// A stream is asked no more once it failed, also where it would block, and behind a part of a piece.
+/// A stream is not called again once it failed, even if it would block, and after a part of a piece.
 #[test]
 fn keeps_the_kind_of_a_failure(rt: HostRuntime) {
     let alloc = rt.alloc();
@@ -400,7 +400,7 @@ impl Write for InterruptedOnce {
     }
 }
 
-/// The second failure is the one that is told.
+/// The second failure is the one that is returned.
 #[test]
 fn keeps_the_kind_behind_an_interruption(rt: HostRuntime) {
     let alloc = rt.alloc();

@@ -13,7 +13,7 @@ use std::io;
 use std::io::{ErrorKind, Read, Write};
 use std::process::Abort;
 
-/// The error of a tag that is not among these. Where memory is refused it is made once more.
+/// The error of a tag that is not among these. Retries once if an allocation is refused.
 fn unlisted(alloc: Global, tags: &[u32]) -> DecodeError {
     let allowed = AllowedEnumVariants::Allowed(tags);
     match DecodeError::unexpected_variant(alloc, TypeName::new("Code"), 9, allowed) {

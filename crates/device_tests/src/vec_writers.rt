@@ -60,7 +60,7 @@ fn collected(
     Ok(writer.collect())
 }
 
-/// Whether the bytes are collected that were written. Where memory is refused they are written once more.
+/// Whether the bytes are collected that were written. Retries once if an allocation is refused.
 fn collects(alloc: Global, bytes: &[u8], length: usize, call: Call) -> bool {
     let Some(held) = either(
         collected(alloc, bytes, length, call),
@@ -90,7 +90,7 @@ fn grows_by_each_call(rt: HostRuntime) {
     }
 }
 
-/// Bytes behind a number for which there is room are written without growing.
+/// Bytes after a number are written without growing, if there is room for them.
 #[test]
 fn writes_behind_into_the_room(rt: HostRuntime) {
     let alloc = rt.alloc();
@@ -196,7 +196,7 @@ fn numbers(alloc: Global, count: usize) -> Result<Vec<u32>, EncodeError> {
     }
 }
 
-/// 200,000 numbers of five bytes each, behind their count.
+/// 200,000 numbers of five bytes each, after their length prefix.
 #[test]
 fn encodes_a_million_bytes_of_numbers(rt: HostRuntime) {
     let alloc = rt.alloc();

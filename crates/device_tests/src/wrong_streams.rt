@@ -11,7 +11,7 @@ use std::io::{BufReader, ErrorKind};
 use test_helpers::checks::either;
 use test_helpers::rows::first_wrong;
 
-/// The word of as many times the letter a, and another byte behind it.
+/// The word of `count` letters a, and another byte after it.
 fn word(alloc: Global, length: &[u8], count: usize) -> Option<Vec<u8>> {
     either(word_of(alloc, length, count), word_of(alloc, length, count))
 }
@@ -24,7 +24,7 @@ fn is_text(outcome: Result<String, DecodeError>, count: usize) -> bool {
     }
 }
 
-/// How many calls it takes to read a text by a reader that owns its stream, if the byte behind it is left.
+/// How many calls it takes to read a text with a reader that owns its stream, if the byte after it is left.
 fn owned_calls(alloc: Global, word: &[u8], count: usize, share: Share) -> Option<usize> {
     let mut stream = stream_over(word, share, 0);
     let mut reader = IoReader::new(&mut stream);
@@ -49,7 +49,7 @@ fn buffered_calls(alloc: Global, word: &[u8], count: usize) -> Option<usize> {
     }
 }
 
-/// Whether a reader that owns its stream reads a text in so many calls. Where memory is refused it is read once more.
+/// Whether a reader that owns its stream reads a text in this many calls. Retries once if an allocation is refused.
 fn owned_asks(alloc: Global, word: &[u8], count: usize, share: Share, calls: usize) -> bool {
     owned_calls(alloc, word, count, share) == Some(calls)
         || owned_calls(alloc, word, count, share) == Some(calls)
@@ -94,7 +94,7 @@ fn failing_behind(alloc: Global, kind: ErrorKind) -> io::Result<BufReader<Failin
     BufReader::with_capacity(alloc, 8, failing(kind))
 }
 
-/// Whether this kind is told, and that a byte is missing.
+/// Whether the error has this kind, and says that a byte is missing.
 fn tells<T: Drop>(outcome: Result<T, DecodeError>, kind: ErrorKind) -> bool {
     match outcome {
         Err(DecodeError::Io { inner, additional }) => inner.kind() == kind && additional == 1,
@@ -137,7 +137,7 @@ fn keeps_the_kind_of_a_failure_in_each_reader(rt: HostRuntime) {
     }
 }
 
-/// How many bytes of a stream are left behind a fault.
+/// How many bytes of a stream are left after a fault.
 fn left_of_stream<T: Decode<()>>(alloc: Global, input: &[u8]) -> Option<usize> {
     let mut stream = input;
     let outcome: Result<T, _> = decode_from_std_read(alloc, &mut stream, config::standard());
@@ -147,7 +147,7 @@ fn left_of_stream<T: Decode<()>>(alloc: Global, input: &[u8]) -> Option<usize> {
     }
 }
 
-/// The same of a stream and of a buffer of four bytes before it.
+/// How many are left of a stream, and of one with a buffer of four bytes.
 fn left_behind<T: Decode<()>>(alloc: Global, input: &[u8]) -> Option<usize> {
     let mut buffered = BufReader::with_capacity(alloc, 4, input).ok()?;
     let outcome: Result<T, _> = decode_from_reader(alloc, &mut buffered, config::standard());
@@ -162,13 +162,13 @@ fn left_behind<T: Decode<()>>(alloc: Global, input: &[u8]) -> Option<usize> {
     }
 }
 
-/// Whether three bytes are left behind a fault of both. Where memory is refused they are read once more.
+/// Whether three bytes are left after a fault of both. Retries once if an allocation is refused.
 fn leaves_three<T: Decode<()>>(alloc: Global, input: &[u8]) -> bool {
     (left_of_stream::<T>(alloc, input) == Some(3) || left_of_stream::<T>(alloc, input) == Some(3))
         && (left_behind::<T>(alloc, input) == Some(3) || left_behind::<T>(alloc, input) == Some(3))
 }
 
-/// Nothing of a stream is read behind the part at fault. Of a number that a buffer shows whole, nothing is taken.
+/// Nothing of a stream is read after the part at fault. Of a number that a buffer holds whole, nothing is consumed.
 #[test]
 fn leaves_what_follows_in_a_stream(rt: HostRuntime) {
     let alloc = rt.alloc();

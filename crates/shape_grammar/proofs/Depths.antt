@@ -1,4 +1,4 @@
--- How deep the deepest of some shapes is, with one more.
+-- The depth of the deepest of some shapes, with one more.
 use Rattle.std.proofs.Common.{◌≡◌, max, List, [], ◌∷◌, ◌++◌, arith}
 use Rattle.bincode_shape.specs.declared.shape.Shape.{Shape}
 use Rattle.bincode_shape.specs.Depth.{depth, deepest}

@@ -1,4 +1,4 @@
--- What is spelled where more was read of a text.
+-- What a text spells after more of it was read.
 use Rattle.std.specs.Prelude.{◌≡◌, ℕ, List, [], ◌∷◌, ◌++◌, Box, Result, Ok, Err, IfOk}
 use Rattle.std.proofs.Common.{◌∙◌, ap, sym, subst}
 use Rattle.std.specs.declared.alloc.Global.{Global}
@@ -11,7 +11,7 @@ use Rattle.shape_grammar.specs.Claims.{claim, capped}
 use Rattle.shape_grammar.specs.Grammar.{Kind, Spells, Alone, Marked, Any, Variants, Parts, Length, nothing, tuple, tuple_comma, list, array, unmarked, optional, one, choice, variants, variant, part, parts}
 use Rattle.shape_grammar.specs.Marks.{Mark}
 
--- the same of an equal shape, of an equal rest, and of equal shapes
+-- `Spells` of an equal shape, an equal rest, and equal shapes
 as_shape : {k : Kind} {a b : List ℕ} {shape whole : Shape} → whole ≡ shape → Spells k a (shape ∷ []) b → Spells k a (whole ∷ []) b
 as_shape {k} {a} {b} e s = subst (λ z. Spells k a (z ∷ []) b) (sym e) s
 

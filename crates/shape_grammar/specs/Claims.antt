@@ -1,4 +1,4 @@
--- How many bytes a list claims for each element of a shape.
+-- What a list claims for each element of a shape, in bytes.
 use Rattle.std.specs.Prelude.{◌≡◌, ℕ, ◌+◌, ◌*◌, ◌-◌, ◌^◌, max, min, List, [], ◌∷◌, refl}
 use Rattle.std.proofs.Common.{◌∙◌, ap}
 use Rattle.std.specs.declared.alloc.Global.{Global}
@@ -8,7 +8,7 @@ use Rattle.bincode_shape.specs.declared.shape.Shape.{Shape, Row_of-Shape, end_of
 use Rattle.bincode_shape.specs.declared.shape.Shape.TheBlock.{hidden-the_row-Shape-0}
 
 abbrev mutual
-  -- the size of the types that have this shape, and at least a byte
+  -- the claim size of the types with this shape, at least 1
   pub claim : Shape → ℕ
   claim shapes.Unit = 1
   claim shapes.Bool = 1
@@ -63,6 +63,6 @@ greatest_of-items (more_of-Shape part others) = ap (λ z. max (claim part) z) (g
 pub greatest_of-vec : (v : Vec Shape Global) → greatest_of (hidden-the_row-Shape-0 v) ≡ greatest_claim v.items
 greatest_of-vec v = greatest_of-items (hidden-the_row-Shape-0 v) ∙ ap greatest_claim (items_hidden-the_row-Shape-0 v)
 
--- as `usize` tells it
+-- as a `usize`, at most its maximum
 abbrev pub capped : ℕ → ℕ
 capped n = min n (2 ^ 64 - 1)

@@ -1,12 +1,12 @@
-//! How much a list claims for each element of a shape.
+//! What a list claims for each element of a shape.
 ghost use Rattle.std.specs.Prelude.{◌≡◌, max};
 ghost use Rattle.shape_grammar.specs.Claims.{claim, claim_sum, greatest_claim, capped};
 
 use bincode_shape::shape::Shape;
 
 /// The claim size, in bytes, of the types that have this shape: that of `Vec` for a list, of `String` for a text, of
-/// `Option` and `Result` for an optional part and a choice, and the sum over the parts of a tuple. A sum or a product
-/// above `usize::MAX` is told as that.
+/// `Option` and `Result` for an optional part and a choice, and the sum over the parts of a tuple. At most
+/// `usize::MAX`.
 #[cycle(claims)]
 pub fn claim_of(shape: &Shape) -> usize
     ensures { result ≡ capped (claim shape.now) }

@@ -1,4 +1,4 @@
-//! Shapes in a short text, as `(u8, [u16], text?, u32|text)`: what a text spells, and the text of a shape.
+//! Shapes as short texts, such as `(u8, [u16], text?, u32|text)`: the parser, and the printer.
 #![tactic(auto)]
 
 pub mod claims;

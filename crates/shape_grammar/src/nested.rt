@@ -1,11 +1,11 @@
-//! Shapes that were read of a text, with how deep they stand in one another.
+//! Shapes that were parsed, with how deep they are nested.
 ghost use Rattle.std.specs.Prelude.{◌≡◌, ◌≤◌, ◌++◌, ◌∷◌, [], max, OnOk};
 ghost use Rattle.bincode_shape.specs.Depth.{depth, deepest};
 
 use bincode_shape::shape::Shape;
 use std::alloc::{AllocFailed, Global};
 
-/// A shape that was read.
+/// A shape that was parsed.
 #[derive(Drop)]
 pub(crate) struct Nested {
     pub(crate) shape: Shape,
@@ -14,7 +14,7 @@ pub(crate) struct Nested {
     ghost deep: { depth shape ≤ levels },
 }
 
-/// Shapes that were read, one after the other.
+/// Shapes that were parsed, in order.
 #[derive(Drop)]
 pub(crate) struct Parts {
     pub(crate) shapes: Vec<Shape>,
@@ -35,7 +35,7 @@ impl Parts {
         }
     }
 
-    /// Adds a shape after the others. Fails where memory is refused, and then adds nothing.
+    /// Adds a shape at the end. If the allocation is refused, it fails and adds nothing.
     pub(crate) fn push(&mut self, part: Nested) -> Result<(), AllocFailed<Shape>>
         ensures levels { OnOk result (self.new.levels ≡ max self.old.levels part.levels) }
         ensures shapes { OnOk result (self.new.shapes.items ≡ self.old.shapes.items ++ part.shape ∷ []) }

@@ -1,4 +1,4 @@
-//! What is left of a text while it is read from its front.
+//! The rest of a text while it is parsed.
 ghost use Rattle.std.specs.Prelude.{◌≡◌, ◌<◌, true, false};
 ghost use Rattle.shape_grammar.specs.Marks.{Mark, Word, IsEnd};
 
@@ -19,7 +19,7 @@ impl<'t> Scanner<'t> {
         }
     }
 
-    /// How many bytes of the text are before what is read next, spaces left out.
+    /// The offset in bytes of what is read next, after spaces.
     pub(crate) fn place(&self) -> usize {
         self.length.saturating_sub(self.rest.trim_start().len())
     }
@@ -31,7 +31,7 @@ impl<'t> Scanner<'t> {
         self.rest.trim_start().is_empty()
     }
 
-    /// Takes this mark, and the spaces before it, if it comes next.
+    /// Consumes this mark, and the spaces before it, if it comes next.
     pub(crate) fn takes(&mut self, mark: char) -> bool
         requires { mark < 128 }
         ensures taken { result ≡ true → Mark mark self.old.rest.now self.new.rest.now }
@@ -46,7 +46,7 @@ impl<'t> Scanner<'t> {
         }
     }
 
-    /// Takes the letters and digits that come next, and the spaces before them.
+    /// Consumes the letters and digits that come next, and the spaces before them.
     pub(crate) fn word(&mut self) -> &'t str
         ensures { Word result.now self.old.rest.now self.new.rest.now }
     {
@@ -65,7 +65,7 @@ impl<'t> Scanner<'t> {
     }
 }
 
-/// Whether a character may stand in a name or a number.
+/// Whether a character may be part of a name or a number.
 fn is_of_word(c: char) -> bool {
     c.is_ascii_alphanumeric() || c == '_'
 }

@@ -4,7 +4,7 @@ use bincode_shape::shape::Shape;
 use std::alloc::{AllocError, Global};
 use std::fmt;
 
-/// A shape that is shown as the text that spells it.
+/// Displays a shape as its text.
 #[derive(Drop)]
 pub struct Spelled<'s>(pub &'s Shape);
 
@@ -95,7 +95,7 @@ fn write_variants<W: fmt::Write>(variants: &[Shape], out: &mut fmt::Formatter<W>
     out.write_str(if variants.len() < 2 { "|)" } else { "" })
 }
 
-/// The name of a shape that holds no other, and nothing of one that does.
+/// The name of a shape without parts, and an empty text for one with parts.
 fn name_of(shape: &Shape) -> &'static str {
     match shape {
         Shape::Unit => "()",

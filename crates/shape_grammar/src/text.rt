@@ -32,24 +32,24 @@ use thiserror::Error;
 /// How many brackets, question marks and bars may stand around a part.
 const MAX_DEPTH: u32 = 64;
 
-/// Why a text spells no shape.
+/// Why a text is no shape.
 #[derive(Debug, Drop, Error)]
 pub enum ShapeTextError {
-    /// Something else is expected at this byte of the text.
+    /// Something else is expected at this offset.
     #[error("at byte {place}: expected {expected}")]
     Expected {
-        /// How many bytes of the text are before it.
+        /// The offset in bytes.
         place: usize,
-        /// What would have stood there.
+        /// What is expected there.
         expected: &'static str,
     },
-    /// With the bracket, question mark or bar at this byte more than 64 stand around a part.
+    /// With the bracket, question mark or bar at this offset more than 64 are around a part.
     #[error("at byte {place}: parts within parts, deeper than {MAX_DEPTH} levels")]
     TooDeep {
-        /// How many bytes of the text are before it.
+        /// The offset in bytes.
         place: usize,
     },
-    /// Memory was refused.
+    /// An allocation was refused.
     #[error("memory was refused")]
     Memory,
 }
@@ -66,12 +66,12 @@ impl<T: Drop> From<AllocFailed<T>> for ShapeTextError {
     }
 }
 
-/// The shape that a text spells. Fails with `Expected` or `TooDeep`, which name the place, where it spells none, and
-/// with `Memory` where memory is refused.
+/// Parses a shape. Fails with `Expected` or `TooDeep` and the offset if the text is no shape, or with `Memory` if an
+/// allocation is refused.
 pub fn shape_of(alloc: Global, text: &str) -> Result<Shape, ShapeTextError>
     // The whole text spells it,
     ensures spelled { IfOk result (IsSpelled text.now) }
-    // and at most 64 shapes stand in one another.
+    // and it is at most 64 deep.
     ensures deep { IfOk result (λ shape. depth_of shape ≤ 64) }
 {
     let mut scanner = Scanner::new(text);
@@ -120,7 +120,7 @@ fn optional_shape(
     question_marks(alloc, scanner, part, depth)
 }
 
-/// A name, or what stands in brackets.
+/// A name, or what is in brackets.
 #[cycle(shapes)]
 fn one_shape(alloc: Global, scanner: &mut Scanner<'_>, depth: u32) -> Result<Nested, ShapeTextError>
     ensures levels { IfOk result (λ read. read.levels ≤ depth) }
@@ -139,7 +139,7 @@ fn one_shape(alloc: Global, scanner: &mut Scanner<'_>, depth: u32) -> Result<Nes
     }
 }
 
-/// What stands after `(`: a part in brackets, or a tuple.
+/// What follows `(`: a part in brackets, or a tuple.
 #[cycle(shapes)]
 fn parts(alloc: Global, scanner: &mut Scanner<'_>, depth: u32) -> Result<Nested, ShapeTextError>
     requires { depth + 1 < 2 ^ 32 }
@@ -171,7 +171,7 @@ fn parts(alloc: Global, scanner: &mut Scanner<'_>, depth: u32) -> Result<Nested,
     expected(scanner, "`)`")
 }
 
-/// What stands after `[`: a list, or an array with its length.
+/// What follows `[`: a list, or an array with its length.
 #[cycle(shapes)]
 fn items(alloc: Global, scanner: &mut Scanner<'_>, depth: u32) -> Result<Nested, ShapeTextError>
     requires { depth + 1 < 2 ^ 32 }
@@ -199,7 +199,7 @@ fn items(alloc: Global, scanner: &mut Scanner<'_>, depth: u32) -> Result<Nested,
     Ok(Nested { shape, levels })
 }
 
-/// Takes the question marks that come next, and makes a part optional for each.
+/// Consumes the question marks that come next, and makes a part optional for each.
 fn question_marks(
     alloc: Global,
     scanner: &mut Scanner<'_>,
@@ -222,7 +222,7 @@ fn question_marks(
     expected(scanner, "fewer question marks")
 }
 
-/// An optional part, by the question mark at this place.
+/// An optional part, from the question mark at this offset.
 fn optional(alloc: Global, part: Nested, depth: u32, place: usize) -> Result<Nested, ShapeTextError>
     ensures levels { IfOk result (λ read. read.levels ≤ depth) }
     ensures shape { IfOk result (λ read. (held : Box Shape Global) × (held.value ≡ part.shape)
@@ -237,7 +237,7 @@ fn optional(alloc: Global, part: Nested, depth: u32, place: usize) -> Result<Nes
     })
 }
 
-/// One of some variants, by the first bar between them, at this place.
+/// A choice of some variants, from the first bar between them, at this offset.
 fn choice(variants: Parts, depth: u32, place: usize) -> Result<Nested, ShapeTextError>
     ensures levels { IfOk result (λ read. read.levels ≤ depth) }
     ensures shape { IfOk result (λ read. read.shape ≡ shapes.Choice variants.shapes) }
@@ -263,7 +263,7 @@ fn tuple(parts: Parts) -> Nested
     }
 }
 
-/// A shape in which no other stands.
+/// A shape without parts.
 fn innermost(shape: Shape) -> Nested
     requires { depth_of shape ≡ 0 }
     ensures levels { result.levels ≡ 0 }
@@ -272,7 +272,7 @@ fn innermost(shape: Shape) -> Nested
     Nested { shape, levels: 0 }
 }
 
-/// How many levels may stand in the bracket at this place.
+/// How many levels are left in the bracket at this offset.
 fn one_less(depth: u32, place: usize) -> Result<u32, ShapeTextError>
     ensures { IfOk result (λ less. depth ≡ less + 1) }
 {

@@ -30,7 +30,7 @@ fn scalar(index: usize) -> Option<Shape> {
     })
 }
 
-/// Whether these are the shapes of the first so many scalars.
+/// Whether these are the shapes of the first scalars.
 fn are_scalars(parts: &[Shape], count: usize) -> bool {
     for index in 0..parts.len() {
         match scalar(index) {
@@ -41,7 +41,7 @@ fn are_scalars(parts: &[Shape], count: usize) -> bool {
     parts.len() == count
 }
 
-/// Whether the type's shape is a tuple of the first so many scalars.
+/// Whether the type's shape is a tuple of the first `count` scalars.
 fn is_tuple<T: Described>(alloc: Global, count: usize) -> bool {
     match shape_of::<T>(alloc) {
         Some(Shape::Tuple(parts)) => are_scalars(&parts, count),
@@ -49,7 +49,7 @@ fn is_tuple<T: Described>(alloc: Global, count: usize) -> bool {
     }
 }
 
-/// Whether the type's shape is a choice of the first so many scalars.
+/// Whether the type's shape is a choice of the first `count` scalars.
 fn is_choice<T: Described>(alloc: Global, count: usize) -> bool {
     match shape_of::<T>(alloc) {
         Some(Shape::Choice(parts)) => are_scalars(&parts, count),

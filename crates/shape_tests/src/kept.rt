@@ -17,7 +17,7 @@ fn keeps(alloc: Global, shape: &Shape, value: &Value, word: &[u8]) -> bool {
     held == *value && taken == word.len() && writes(shape, value, setting, word)
 }
 
-/// The same of a type's own shape.
+/// Whether a type's own shape keeps the word of a value.
 fn keeps_of<T: Described>(alloc: Global, value: &Value, word: &[u8]) -> bool {
     match shape_of::<T>(alloc) {
         Some(shape) => keeps(alloc, &shape, value, word),
@@ -33,7 +33,7 @@ fn list_once(alloc: Global, first: u128, second: u128) -> Option<Value> {
     Some(Value::List(items))
 }
 
-/// The same. Where memory is refused it is made once more.
+/// `list_once`, retried if an allocation is refused.
 fn list_of(alloc: Global, first: u128, second: u128) -> Option<Value> {
     match list_once(alloc, first, second) {
         Some(list) => Some(list),
@@ -41,7 +41,7 @@ fn list_of(alloc: Global, first: u128, second: u128) -> Option<Value> {
     }
 }
 
-/// A number in a box. Where memory is refused it is made once more.
+/// A number in a box. Retries once if an allocation is refused.
 fn boxed(alloc: Global, number: u128) -> Option<Box<Value>> {
     match Box::new(alloc, Value::Unsigned(number)) {
         Ok(value) => Some(value),
@@ -59,7 +59,7 @@ fn choice_of(alloc: Global, part: u32, number: u128) -> Option<Value> {
     Some(Value::Choice(part, boxed(alloc, number)?))
 }
 
-/// A text. Where memory is refused it is made once more.
+/// A text. Retries once if an allocation is refused.
 fn text_of(alloc: Global, text: &str) -> Option<Value> {
     match String::from_str(alloc, text) {
         Ok(text) => Some(Value::Text(text)),
@@ -136,7 +136,7 @@ fn what_does_not_fit_is_refused(rt: HostRuntime) {
 /// A list of wholes, each of which takes memory for its shape and for its value.
 type Wholes = Vec<(String, Option<u8>, Result<u8, bool>)>;
 
-/// Where memory is refused, for a shape or for a value, just that is told.
+/// If an allocation for a shape or a value is refused, that is the error.
 #[test]
 fn refused_memory_is_told(rt: HostRuntime) {
     let alloc = rt.alloc();

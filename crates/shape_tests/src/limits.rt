@@ -18,7 +18,7 @@ fn passes<L: InternalLimitConfig + Copy>(
     matches!(read, Err(DecodeError::LimitExceeded))
 }
 
-/// Whether it is read within the limit, as a list of so many items.
+/// Whether it is read within the limit, as a list of this many items.
 fn lists<L: InternalLimitConfig + Copy>(
     alloc: Global,
     shape: &Shape,
@@ -32,7 +32,7 @@ fn lists<L: InternalLimitConfig + Copy>(
     }
 }
 
-/// A list of nothings, each of which claims so much. Where memory is refused it is made once more.
+/// A list of `()`, each with this claim. Retries once if an allocation is refused.
 fn nothings(alloc: Global, claim: usize) -> Result<Shape, AllocError> {
     let element = match Box::new(alloc, Shape::Unit) {
         Ok(element) => element,

@@ -7,7 +7,7 @@ use shape_text::listing::{ListError, list};
 use shape_text::text::shape_of;
 use std::alloc::Global;
 
-/// The listing of bytes by a shape, of at most so many values a word. Where memory is refused it is made once more.
+/// The listing of bytes by a shape, with at most `most` values a word. Retries once if an allocation is refused.
 fn listed(
     alloc: Global,
     text: &str,
@@ -21,7 +21,7 @@ fn listed(
     }
 }
 
-/// The shape of a text. Where memory is refused it is asked once more.
+/// The shape of a text. Retries once if an allocation is refused.
 fn shape_once_more(alloc: Global, text: &str) -> Option<Shape> {
     match shape_of(alloc, text) {
         Ok(shape) => Some(shape),

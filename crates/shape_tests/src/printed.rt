@@ -274,7 +274,7 @@ fn says_why_it_stops(rt: HostRuntime) {
     assert!(rt; prints(alloc, &["[u128]", "file"], &[252, 1, 0, 64, 0], "", limit));
 }
 
-/// 67,108,856 elements without bytes are told by their count.
+/// 67,108,856 elements without bytes are shown as their count.
 #[test]
 fn counts_nothings(rt: HostRuntime) {
     let line = "{\"offset\":0,\"length\":5,\"value\":{\"count\":67108856}}\n";
@@ -289,7 +289,7 @@ fn counts_nothings(rt: HostRuntime) {
     );
 }
 
-/// What is said of bytes where at most so many values of a word are printed.
+/// The output for bytes, with at most this many values printed of a word.
 fn said_of_most(alloc: Global, shape: &str, bytes: &[u8], most: usize) -> Option<String> {
     let mut request = request_of(alloc, words_of(alloc, &[shape, "file"]).ok()?).ok()?;
     if request.most_values != 1_000_000 {
@@ -310,7 +310,8 @@ fn says_of_most(alloc: Global, shape: &str, bytes: &[u8], most: usize, wanted: &
         || is_wanted(said_of_most(alloc, shape, bytes, most))
 }
 
-/// At most a million values of a word are printed, or as many as a request says: those told by a count are not.
+/// At most a million values of a word are printed, or as many as a request says; those shown as a count are not
+/// printed.
 #[test]
 fn prints_no_more_values_than_allowed(rt: HostRuntime) {
     let alloc = rt.alloc();
@@ -321,7 +322,7 @@ fn prints_no_more_values_than_allowed(rt: HostRuntime) {
     assert!(rt; says_of_most(alloc, "[()]", &[200], 1, ""));
 }
 
-/// How many bytes a word has that is written as JSON, of at most so many values.
+/// The length of a word that is written as JSON, of at most `most` values.
 fn written(alloc: Global, most: usize) -> Option<usize> {
     let shape = shape_of(alloc, "[u8?]").ok()?;
     let mut out = Vec::new(alloc);
@@ -344,7 +345,7 @@ fn writes_no_more_values_than_allowed(rt: HostRuntime) {
     assert_eq!(rt; written(alloc, 3), None);
 }
 
-/// Where the output takes no more, that is told.
+/// If the output fails, that is the error.
 #[test]
 fn a_failed_output_is_told(rt: HostRuntime) {
     let alloc = rt.alloc();

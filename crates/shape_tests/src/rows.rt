@@ -24,12 +24,12 @@ fn keeps<T: Described>(alloc: Global, setting: Setting, word: &[u8]) -> bool {
     }
 }
 
-/// The same of the word of a case.
+/// Whether a type's shape keeps the word of a case.
 fn keeps_word<T: Described, V>(alloc: Global, row: &Encoding<V>) -> bool {
     keeps::<T>(alloc, row.setting, row.word)
 }
 
-/// The same of the word of a number.
+/// Whether a type's shape keeps the word of a number.
 fn keeps_number<T: Described>(alloc: Global, row: &Spelling<T>) -> bool {
     let setting = match row.endian {
         Endianness::Little => Setting::Standard,
@@ -77,7 +77,7 @@ fn answers<T: Described, V, L: InternalLimitConfig + Copy>(
     answers_so::<T, L>(alloc, row.setting, row.limit, row.input, told)
 }
 
-/// The same of lists of lists.
+/// The image of lists of lists.
 fn answers_lists<L: InternalLimitConfig + Copy>(
     alloc: Global,
     row: &Decoding<&'static [&'static [u8]], L>,
@@ -101,7 +101,7 @@ fn refuses_once(alloc: Global, row: &Refusal<(u8, u32)>) -> Option<bool> {
     Some(matches!(written, Err(EncodeError::UnexpectedEnd)) && slice.as_slice() == row.after)
 }
 
-/// The same. Where memory is refused it is asked once more.
+/// `refuses_once`, retried if an allocation is refused.
 fn refuses(alloc: Global, row: &Refusal<(u8, u32)>) -> bool {
     match refuses_once(alloc, row) {
         Some(is_refused) => is_refused,
@@ -205,7 +205,7 @@ fn count_of(alloc: Global, table: &[Row]) -> Result<usize, &'static str> {
 }
 
 /// Of the 77 rows of types that are named in the code, those of other types are 22: of addresses 11, of bounds 2, of a
-/// C string, of spans of time 3, of maps 2, of a number that is not 0, and of texts that are lent 2.
+/// C string, of durations 3, of maps 2, of a number that is not 0, and of borrowed texts 2.
 #[test]
 fn rows_hold_by_shapes(rt: HostRuntime) {
     let alloc = rt.alloc();

@@ -17,7 +17,7 @@ pub fn shape_of<T: Described>(alloc: Global) -> Option<Shape> {
     }
 }
 
-/// Reads a value of a shape under the setting and the limit. Where memory is refused it is read once more.
+/// Reads a value of a shape under the setting and the limit. Retries once if an allocation is refused.
 pub fn read_under<L: InternalLimitConfig + Copy>(
     alloc: Global,
     shape: &Shape,
@@ -64,7 +64,7 @@ pub fn write_under(
     }
 }
 
-/// The same with a configuration.
+/// Writes a value of a shape with this configuration.
 fn write<C: Config>(
     shape: &Shape,
     value: &Value,

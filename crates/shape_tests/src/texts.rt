@@ -115,7 +115,7 @@ fn told(alloc: Global, text: &str) -> Option<String> {
     }
 }
 
-/// Whether this is told of the text. It is asked once more, since memory may be refused once.
+/// Whether this is the error of the text. Retries once, since an allocation may be refused.
 fn tells(alloc: Global, text: &str, wanted: &str) -> bool {
     let is_wanted = |told: Option<String>| told.is_some_and(|told| told.as_str() == wanted);
     is_wanted(told(alloc, text)) || is_wanted(told(alloc, text))
@@ -131,7 +131,7 @@ fn reads_shapes(rt: HostRuntime) {
     }
 }
 
-/// A text that begins and ends with so many of two marks.
+/// A text that begins and ends with `count` of two marks.
 fn marked(
     alloc: Global,
     (first, before): (usize, &str),

@@ -9,7 +9,7 @@ use bincode::shape::{
 };
 use std::alloc::{AllocError, Global};
 
-/// Whether the word has so many values and bytes.
+/// Whether the word has this many values and bytes.
 fn measures<C: Config>(
     alloc: Global,
     shape: &Shape,
@@ -24,7 +24,7 @@ fn measures<C: Config>(
     }
 }
 
-/// The same of a type's own shape, in the standard configuration.
+/// `measures` with a type's own shape, in the standard configuration.
 fn measures_of<T: Described>(alloc: Global, input: &[u8], values: u128) -> bool {
     match shape_of::<T>(alloc) {
         Some(shape) => measures(
@@ -39,7 +39,7 @@ fn measures_of<T: Described>(alloc: Global, input: &[u8], values: u128) -> bool 
     }
 }
 
-/// Reads no more than so many values. Where memory is refused it is read once more.
+/// Reads at most this many values. Retries once if an allocation is refused.
 fn read_within<C: Config>(
     alloc: Global,
     shape: &Shape,
@@ -55,7 +55,7 @@ fn read_within<C: Config>(
     }
 }
 
-/// The fault of the input, if that is what is told.
+/// The fault of the input, if that is the error.
 fn fault_within<C: Config>(
     alloc: Global,
     shape: &Shape,
@@ -69,7 +69,7 @@ fn fault_within<C: Config>(
     }
 }
 
-/// Whether more than so many values are refused, by their number.
+/// Whether more than this many values are refused, with their number.
 fn refuses<C: Config>(
     alloc: Global,
     shape: &Shape,
@@ -84,8 +84,8 @@ fn refuses<C: Config>(
     }
 }
 
-/// Whether the value of so many that the word makes is read where they are allowed, as it is without a bound, and
-/// refused where one fewer is.
+/// Whether the word is read with a bound of as many values as it makes, as it is without one, and refused with one
+/// less.
 fn is_bounded<T: Described>(alloc: Global, input: &[u8], values: usize) -> bool {
     let Some(shape) = shape_of::<T>(alloc) else {
         return false;
@@ -113,7 +113,7 @@ fn is_bounded<T: Described>(alloc: Global, input: &[u8], values: usize) -> bool 
         )
 }
 
-/// An array of this shape. Where memory is refused it is made once more.
+/// An array of this shape. Retries once if an allocation is refused.
 fn array_of(alloc: Global, len: usize, element: Shape) -> Result<Shape, AllocError> {
     let element = match Box::new(alloc, element) {
         Ok(element) => element,
@@ -126,7 +126,7 @@ fn array_of(alloc: Global, len: usize, element: Shape) -> Result<Shape, AllocErr
     })
 }
 
-/// A list of this shape. Where memory is refused it is made once more.
+/// A list of this shape. Retries once if an allocation is refused.
 fn list_of(alloc: Global, element: Shape) -> Result<Shape, AllocError> {
     let element = match Box::new(alloc, element) {
         Ok(element) => element,
@@ -135,8 +135,8 @@ fn list_of(alloc: Global, element: Shape) -> Result<Shape, AllocError> {
     Ok(Shape::Seq { claim: 0, element })
 }
 
-/// A length of 67,108,856 by four bytes, the lowest first, after the tag 252. With the 8 bytes of the length each of so
-/// many nothings, which claim a byte, is within the limit of 64 MiB.
+/// A length of 67,108,856 in four bytes, the lowest first, after the tag 252. With the 8 bytes of the length, that many
+/// `()`, which claim a byte each, are within the limit of 64 MiB.
 #[test]
 fn nothings_are_counted(rt: HostRuntime) -> Result<(), AllocError> {
     let alloc = rt.alloc();
@@ -198,8 +198,8 @@ fn values_are_bounded(rt: HostRuntime) {
     assert!(rt; is_bounded::<[(); 3]>(alloc, &[], 4));
 }
 
-/// With n = 2^64 - 1 an array of n arrays of n nothings makes 1 + n + n times n values, which is 2^128 - 2^64 + 1, and
-/// an array of n such more than are told.
+/// With n = 2^64 - 1 an array of n arrays of n `()` makes 1 + n + n times n values, which is 2^128 - 2^64 + 1; an array
+/// of n such makes more than a `u128` holds.
 #[test]
 fn counts_that_overflow_are_told(rt: HostRuntime) -> Result<(), AllocError> {
     let alloc = rt.alloc();

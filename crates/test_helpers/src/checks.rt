@@ -1,4 +1,4 @@
-//! What tests ask of a type: that its words are read and written, and what is read behind a fault.
+//! Checks of a type: that its words are read and written, and what is read after a fault.
 
 use bincode::config::Config;
 use bincode::de::read::SliceReader;
@@ -12,8 +12,8 @@ use bincode::{
 };
 use std::alloc::Global;
 
-/// Whether these bytes are read as a value, and it is written as them. Behind them the input has 99s, as the slice has
-/// that is written, so that what is read and what is written can't be longer.
+/// Whether these bytes are decoded as a value, and it is encoded as them. 99s follow them in the input, and the slice
+/// is full of 99s, so that what is read and what is written cannot be longer.
 pub fn keeps<T: Encode + Decode<()>>(alloc: Global, word: &[u8]) -> bool {
     let mut input = [99u8; 100];
     let Some(front) = input.get_mut(..word.len()) else {
@@ -39,7 +39,7 @@ pub fn goes_on<T: Decode<()>>(alloc: Global, input: &[u8]) -> bool {
     T::decode(&mut decoder).is_err() && matches!(u8::decode(&mut decoder), Ok(77))
 }
 
-/// The error of decoding within a hundred, and whether this much of it is left and no more.
+/// The error of decoding within a hundred, and whether just this much of the limit is left.
 fn left_behind<T: Decode<()>>(
     alloc: Global,
     input: &[u8],
@@ -52,7 +52,7 @@ fn left_behind<T: Decode<()>>(
     (fault, is_left)
 }
 
-/// Whether a fault leaves this much of a hundred. Where memory is refused the input is decoded once more.
+/// Whether a fault leaves this much of a limit of a hundred. Retries once if an allocation is refused.
 pub fn leaves<T: Decode<()>>(alloc: Global, input: &[u8], left: usize) -> bool {
     let (mut fault, mut is_left) = left_behind::<T>(alloc, input, left);
     if matches!(fault, Some(DecodeError::Memory)) {
@@ -61,7 +61,7 @@ pub fn leaves<T: Decode<()>>(alloc: Global, input: &[u8], left: usize) -> bool {
     fault.is_some() && is_left
 }
 
-/// What is read of the front of the input, if it has this length.
+/// What is decoded from the front of the input, if its encoding has this length.
 pub fn read_front<T: Decode<()>>(alloc: Global, input: &[u8], length: usize) -> Option<T> {
     let outcome: Result<(T, usize), DecodeError> = decode_from_slice(
         alloc,
@@ -74,7 +74,7 @@ pub fn read_front<T: Decode<()>>(alloc: Global, input: &[u8], length: usize) -> 
     }
 }
 
-/// What comes of decoding under a limit.
+/// The result of decoding under a limit.
 pub fn within<T: Decode<()>, const N: usize>(
     alloc: Global,
     input: &[u8],
@@ -82,7 +82,7 @@ pub fn within<T: Decode<()>, const N: usize>(
     decode_from_slice(alloc, input, config::standard().with_limit::<N>())
 }
 
-/// The same. Where memory is refused it is decoded once more.
+/// `within`, retried once if an allocation is refused.
 pub fn decoded_within<T: Decode<()>, const N: usize>(
     alloc: Global,
     input: &[u8],
@@ -96,7 +96,7 @@ pub fn fault_of<T: Decode<()>>(alloc: Global, input: &[u8]) -> Option<DecodeErro
     outcome.err()
 }
 
-/// Whether the byte is refused as a tag, under this name, where those from 0 to the greatest are allowed.
+/// Whether the byte is refused as a tag, under this name, with 0 to `greatest` as the valid tags.
 pub fn refuses_tag<T: Decode<()>>(alloc: Global, byte: u8, name: &str, greatest: u32) -> bool {
     let Some(
         DecodeError::UnexpectedVariant {
@@ -112,7 +112,7 @@ pub fn refuses_tag<T: Decode<()>>(alloc: Global, byte: u8, name: &str, greatest:
     type_name.as_str() == name && found == byte as u32 && max == greatest
 }
 
-/// What one of two equal calls makes, so that either may be refused memory.
+/// The result of one of two equal calls, so that one of them may be refused memory.
 pub fn either<T: Drop, E: Drop>(first: Result<T, E>, second: Result<T, E>) -> Option<T> {
     match first {
         Ok(value) => Some(value),
@@ -120,7 +120,7 @@ pub fn either<T: Drop, E: Drop>(first: Result<T, E>, second: Result<T, E>) -> Op
     }
 }
 
-/// What comes of writing a value into a vector. Where memory is refused it is written once more.
+/// The result of writing a value into a vector. Retries once if an allocation is refused.
 pub fn written<T: Encode>(alloc: Global, value: &T) -> Option<Vec<u8>> {
     match encode_to_vec(alloc, value, config::standard()) {
         Err(EncodeError::Memory) => encode_to_vec(alloc, value, config::standard()).ok(),
@@ -128,7 +128,7 @@ pub fn written<T: Encode>(alloc: Global, value: &T) -> Option<Vec<u8>> {
     }
 }
 
-/// What comes of decoding. Where memory is refused it is decoded once more.
+/// The result of decoding. Retries once if an allocation is refused.
 pub fn decoded<T: Decode<()>, C: Config>(
     alloc: Global,
     input: &[u8],
@@ -140,7 +140,7 @@ pub fn decoded<T: Decode<()>, C: Config>(
     }
 }
 
-/// What is read of a word, if it is taken whole. Where memory is refused it is decoded once more.
+/// What is read of a word, if it is taken whole. Retries once if an allocation is refused.
 pub fn read_word<T: Decode<()>>(alloc: Global, word: &[u8]) -> Option<T> {
     match decoded(alloc, word, config::standard()) {
         Ok((value, taken)) if taken == word.len() => Some(value),
@@ -148,7 +148,7 @@ pub fn read_word<T: Decode<()>>(alloc: Global, word: &[u8]) -> Option<T> {
     }
 }
 
-/// What comes of decoding with a context. Where memory is refused it is decoded once more.
+/// The result of decoding with a context. Retries once if an allocation is refused.
 pub fn decoded_with<Context: Copy + Drop, T: Decode<Context>, C: Config>(
     alloc: Global,
     input: &[u8],
@@ -161,7 +161,7 @@ pub fn decoded_with<Context: Copy + Drop, T: Decode<Context>, C: Config>(
     }
 }
 
-/// Whether each call that writes writes the value as this word.
+/// Whether each encoding call writes the value as this word.
 pub fn each_call_writes<T: Encode>(alloc: Global, value: &T, word: &[u8]) -> bool {
     let mut slice = [99u8; 100];
     let filled = encode_into_slice(value, &mut slice, config::standard());
@@ -177,7 +177,7 @@ pub fn each_call_writes<T: Encode>(alloc: Global, value: &T, word: &[u8]) -> boo
         && bytes.as_slice() == word
 }
 
-/// What is read of a reader over an input of 100 bytes, and how many it takes.
+/// What is decoded from a reader over an input of 100 bytes, and how many it takes.
 fn read_in_turn<T: Decode<()>>(
     alloc: Global,
     input: &[u8; 100],
@@ -187,7 +187,7 @@ fn read_in_turn<T: Decode<()>>(
     Ok((value, 100usize.saturating_sub(reader.bytes_left())))
 }
 
-/// Whether a value was read of this word, and each call writes it so.
+/// Whether a value was decoded from this word, and each call writes it so.
 fn is_read_of<T: Encode>(alloc: Global, read: Option<(T, usize)>, word: &[u8]) -> bool {
     let Some((value, taken)) = read else {
         return false;
@@ -195,7 +195,7 @@ fn is_read_of<T: Encode>(alloc: Global, read: Option<(T, usize)>, word: &[u8]) -
     taken == word.len() && each_call_writes(alloc, &value, word)
 }
 
-/// Whether each call that reads takes the word, with 99s behind it, for a value that each call writes so.
+/// Whether each decoding call reads the word, with 99s after it, as a value that each encoding call writes so.
 pub fn each_call_keeps<T: Encode + Decode<()>>(alloc: Global, word: &[u8]) -> bool {
     let mut input = [99u8; 100];
     let Some(front) = input.get_mut(..word.len()) else {
@@ -218,17 +218,17 @@ pub fn each_call_keeps<T: Encode + Decode<()>>(alloc: Global, word: &[u8]) -> bo
         && is_read_of(alloc, in_turn, word)
 }
 
-/// Whether decoding answers that the limit is passed.
+/// Whether the error is `LimitExceeded`.
 pub fn is_passed<T: Drop>(outcome: Result<T, DecodeError>) -> bool {
     matches!(outcome, Err(DecodeError::LimitExceeded))
 }
 
-/// Whether decoding answers that the input ends.
+/// Whether the error is that the input ended.
 pub fn is_cut<T: Drop>(outcome: Result<T, DecodeError>) -> bool {
     matches!(outcome, Err(DecodeError::UnexpectedEnd { additional: _ }))
 }
 
-/// Whether the input of each decoding with this context ends that has fewer bytes than the word.
+/// Whether decoding each proper prefix of the word with this context fails since the input ended.
 pub fn ends_at_each_place<Context: Copy + Drop, T: Decode<Context>>(
     alloc: Global,
     word: &[u8],
@@ -248,7 +248,7 @@ pub fn ends_at_each_place<Context: Copy + Drop, T: Decode<Context>>(
     true
 }
 
-/// Whether a value is written as this word.
+/// Whether a value is encoded as this word.
 pub fn is_written_as<T: Encode>(alloc: Global, value: Option<T>, word: &[u8]) -> bool {
     let Some(value) = value else {
         return false;
@@ -259,7 +259,7 @@ pub fn is_written_as<T: Encode>(alloc: Global, value: Option<T>, word: &[u8]) ->
     bytes.as_slice() == word
 }
 
-/// What is read of the word of a value, with a byte behind it, if so many bytes are taken as the word has.
+/// What is read of the word of a value, with a byte after it, if just the word is consumed.
 pub fn comes_back<T: Encode + Decode<()>>(alloc: Global, value: &T) -> Option<T> {
     let mut input = written(alloc, value)?;
     let length = input.len();
@@ -272,7 +272,7 @@ pub fn comes_back<T: Encode + Decode<()>>(alloc: Global, value: &T) -> Option<T>
     }
 }
 
-/// Whether a value is there, and an equal one is read of its word.
+/// Whether there is a value, and an equal one is decoded from its word.
 pub fn keeps_value<T: Encode + Decode<()> + PartialEq>(alloc: Global, value: Option<T>) -> bool {
     let Some(value) = value else {
         return false;

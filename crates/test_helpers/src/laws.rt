@@ -1,8 +1,8 @@
-//! Laws that a type is to have.
+//! Laws that a type must have.
 
 use bincode::laws::{Canonical, Exact, Inhabited};
 
-/// Tells the laws of a type that has them: it compiles for no other type.
+/// Compiles only for a type with these laws.
 pub fn tell_laws<T: Exact + Canonical + Inhabited>() {
     T::tell_exact();
     T::tell_canonical();

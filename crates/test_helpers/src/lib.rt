@@ -1,4 +1,4 @@
-//! What the crates of tests share: each of these is proved once, for every type that is tested.
+//! Checks that the test crates share: each is proved once, for every type that is tested.
 #![tactic(auto)]
 
 pub mod checks;

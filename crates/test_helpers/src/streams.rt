@@ -4,7 +4,7 @@ use bincode::error::DecodeError;
 use std::io;
 use std::io::{ErrorKind, Read};
 
-/// Gives one byte a call, and fails from the call on that is told.
+/// Gives one byte a call, and fails from a given call on.
 #[derive(Drop)]
 pub struct Breaking<'s> {
     pub bytes: &'s [u8],
