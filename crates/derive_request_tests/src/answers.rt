@@ -22,7 +22,7 @@ fn told(alloc: Global, action: Action, found: Option<&str>) -> Result<String, Al
     format!(in alloc; "{writes} {status} {printed}")
 }
 
-/// The same module in another layout and with another comment.
+/// That module in another layout and with another comment.
 const SAME: &str = "// Laid out.\ntype AParts = (\n    u8,\n    u16,\n);\n";
 
 /// A module for another type.

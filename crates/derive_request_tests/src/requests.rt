@@ -5,7 +5,7 @@ use derive_request::request::{Action, Request, request_of};
 use std::alloc::{AllocError, Global};
 use std::test::Fail;
 
-/// These words as the program is given them, behind its name.
+/// These words as the program is given them, after its name.
 pub fn words(alloc: Global, line: &str) -> Result<Vec<String>, AllocError> {
     let mut words = Vec::new(alloc);
     words.push(String::from_str(alloc, "derive")?)?;
