@@ -76,8 +76,8 @@ fn encode_fitting<W: Writer, C: Config>(
 }
 
 /// Decodes a value of a shape from the front of a slice, and returns it with the number of bytes of its encoding. The
-/// bytes after them are not read. Fails with the first fault of the bytes, `LimitExceeded` if the charges pass the
-/// limit, or `Memory` if an allocation is refused.
+/// bytes after them do not change the result. Fails with the first fault of the bytes, `LimitExceeded` if the charges
+/// pass the limit, or `Memory` if an allocation is refused.
 ///
 /// `Limit<N>` bounds bytes, not memory: each list and array has at most N elements, and all of them together at most N
 /// times N / 8. Each element is a `Value` of 32 bytes, even one without bytes, which claims one: a few bytes may make N

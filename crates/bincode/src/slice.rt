@@ -48,8 +48,8 @@ pub fn encode_into_slice<E: Encode, C: Config>(
 }
 
 /// Decodes a value from the front of a slice and returns it with the number of bytes of its encoding. The bytes after
-/// them are not read. Fails with the first fault of the bytes (docs/FORMAT.md lists them), `LimitExceeded` if the
-/// charges pass the limit, or `Memory` if an allocation is refused.
+/// them do not change the result. Fails with the first fault of the bytes (docs/FORMAT.md lists them), `LimitExceeded`
+/// if the charges pass the limit, or `Memory` if an allocation is refused.
 pub fn decode_from_slice<D: Decode<()>, C: Config>(
     alloc: Global,
     src: &[u8],

@@ -59,8 +59,8 @@ fn decode_over<D: Decoder, V: ReadValues<D>, const N: usize>(
 }
 
 /// Decodes `N` elements into an array. `claim_container_read` must have reserved their claims; each is released before
-/// its element is read, so that in the end only the elements' own charges are added. Fails with the error of an
-/// element, or with `Memory` if `N` slots of `Option<V::Value>` cannot exist (`slots_fit`).
+/// its element is read, so that in the end the elements' own charges stand in place of their claims. Fails with the
+/// error of an element, or with `Memory` if `N` slots of `Option<V::Value>` cannot exist (`slots_fit`).
 pub fn decode_array<D: Decoder, V: ReadValues<D>, const N: usize>(
     decoder: &mut D,
 ) -> Result<[V::Value; N], DecodeError>

@@ -46,8 +46,8 @@ pub fn decode_vec<Context: Drop, T: Decode<Context>, D: Decoder<Context = Contex
 }
 
 /// Decodes `N` elements into an array. `claim_container_read` must have reserved their claims; each is released before
-/// its element is read, so that in the end only the elements' own charges are added. Fails with the error of an
-/// element, or with `Memory` if `N` slots of `Option<T>` cannot exist (`slots_fit`).
+/// its element is read, so that in the end the elements' own charges stand in place of their claims. Fails with the
+/// error of an element, or with `Memory` if `N` slots of `Option<T>` cannot exist (`slots_fit`).
 #[inline]
 pub fn decode_array<
     Context: Drop,

@@ -75,7 +75,7 @@ pub trait Decoder: Sealed {
     fn alloc(&self) -> Global;
 
     /// Charges `n` bytes; without a limit nothing is counted. Fails with `LimitExceeded` if the new charge is above the
-    /// limit. It is kept then too, unless it does not fit 64 bits.
+    /// limit. Even then the new charge is kept, if it fits 64 bits.
     fn claim_bytes_read(&mut self, n: usize) -> Result<(), DecodeError>
         ensures { MakesClaim is_known remaining charge failures reader_of context_of loans Self.C.bound n result
             self.old self.new };

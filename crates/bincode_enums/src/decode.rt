@@ -74,7 +74,7 @@ pub fn decode_no_variant<T: Enum, D: Decoder>(
     Err(DecodeError::unexpected_variant(decoder.alloc(), T::type_name(), tag, range))
 }
 
-/// Refuses an unknown tag with `UnlistedVariant`, if the valid tags are no range from 0. Allocates the list of them,
+/// Refuses an unknown tag with `UnlistedVariant`, if the valid tags are not 0, 1 and so on. Allocates the list of them,
 /// and returns `Memory` if that is refused.
 #[inline(always)]
 pub fn decode_unlisted_variant<T: Enum, D: Decoder>(

@@ -8,7 +8,7 @@ use crate::write::Writer;
 use bincode_base::error::EncodeError;
 
 /// Counts bytes modulo 2^64, to reserve a capacity before encoding. Never fails. Since no addition is checked, a list
-/// of fixed-width numbers is counted by one multiplication. `SizeWriter` counts with a check.
+/// of fixed-width numbers is counted by a product. `SizeWriter` counts with a check.
 #[derive(Default, Drop)]
 pub struct RoomCounter {
     /// The number of bytes written, modulo 2^64.

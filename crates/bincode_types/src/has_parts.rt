@@ -8,8 +8,8 @@ use crate::equal_parts::EqualParts;
 use crate::laws::{Canonical, Exact, Plain, Writable};
 use crate::wire::Wire;
 
-/// A type whose values have parts of the type `Parts`: a struct has the tuple of its fields, an enum the `EnumOf` its
-/// variants.
+/// A type whose values have parts of the type `Parts`: a struct has the tuple of its fields, an enum the `EnumOf` of
+/// its variants.
 pub trait HasParts<Parts> {
     /// The parts of a value.
     ghost parts: { Self → Parts };

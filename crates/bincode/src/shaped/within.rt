@@ -19,7 +19,7 @@ use std::alloc::Global;
 
 /// Validates an encoding at the front of a slice without making a value, and returns its length in bytes and how many
 /// values `decode_shaped` would make of it. Does not allocate. Of a list of elements without bytes only the first is
-/// read, so that a long one takes no time. Errors are those of `decode_shaped`, save `Memory`.
+/// read, so that a long one takes constant time. Errors are those of `decode_shaped`, save `Memory`.
 pub fn measure_shaped<C: Config>(
     alloc: Global,
     shape: &Shape,

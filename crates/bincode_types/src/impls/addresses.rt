@@ -1,4 +1,4 @@
-//! `Wire` for addresses.
+//! `Wire` for addresses: their octets, the first one first (RFC 791, RFC 4291).
 ghost use Rattle.std.specs.Prelude.{◌≡◌, refl};
 ghost use Rattle.std.specs.Net.Addr.{ipv4_octets, ipv6_octets, ipv6_segments};
 ghost use Rattle.std.specs.Net.Socket.{v4_ip, v4_port, v6_ip, v6_port, v6_flowinfo, v6_scope_id};

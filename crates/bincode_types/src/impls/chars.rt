@@ -1,4 +1,4 @@
-//! `Wire` for characters.
+//! `Wire` for characters: UTF-8 (RFC 3629).
 ghost use Rattle.bincode_spec.specs.Forms.{characters};
 ghost use Rattle.bincode_lemmas.specs.CharLaws.{characters-laws, character-same};
 ghost use Rattle.bincode_types.specs.TypeWords.{scalar_words};

@@ -1,4 +1,4 @@
-//! `Wire` for hashed sets and maps.
+//! `Wire` for hashed sets and maps (docs/FORMAT.md, section 6).
 use crate::by_parts::ByParts;
 use crate::hashed::{HashedEntries, HashedKeys};
 use crate::laws::Exact;

@@ -1,4 +1,4 @@
-//! `Wire` for ordered sets and maps, and for heaps.
+//! `Wire` for ordered sets and maps (docs/FORMAT.md, section 6), and for heaps.
 ghost use Rattle.std.specs.Prelude.{refl};
 ghost use Rattle.std.specs.BinaryHeap.{heap_items};
 

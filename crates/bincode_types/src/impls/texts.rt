@@ -1,4 +1,4 @@
-//! `Wire` for texts.
+//! `Wire` for texts: UTF-8 (RFC 3629).
 ghost use Rattle.std.specs.Prelude.{◌≡◌, length, refl};
 ghost use Rattle.std.specs.String.{string_bytes, string_capacity};
 ghost use Rattle.std.specs.Box.{boxed_str_bytes};
