@@ -1,4 +1,4 @@
--- Why a value is not put into a writer, by the writer's room.
+-- Why encoding to a writer fails, from the writer's room.
 use Rattle.std.specs.Prelude.{◌⊎◌, ◌≤◌, ◌++◌, ℕ, List, Option, Result, Ok, Err}
 use Rattle.std.proofs.Common.{inl, inr, arith}
 use Rattle.std.specs.Borrow.{GName}

@@ -1,4 +1,4 @@
--- What a text shows, by what was put into it.
+-- What a text shows, from what was stored in it.
 use Rattle.std.specs.Prelude.{◌≡◌, ℕ, ◌-◌, ◌<◌, ◌≤◌, ◌⊎◌, true, false, List, [], ◌++◌, length, take, drop, cond, MatchResult, IsUtf8, Result, Ok, Err, refl}
 use Rattle.std.proofs.Common.{arith, inl, inr, sym, ap, subst, ◌∙◌, take_at, take_all, take-append-drop, Bor, Bool, ltb, ltb→lt, nltb→le, T, not}
 use Rattle.std.specs.Str.{is_utf8, IsCharBoundary}

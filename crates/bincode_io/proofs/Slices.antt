@@ -24,7 +24,7 @@ copied at room s part piece is e =
     ap (λ l. take at s ++ (l ++ drop room (drop at s))) is
     ∙ ap (λ l. take at s ++ (piece ++ l)) (drop-drop room at s ∙ ap (λ n. drop (at + n) s) e)
 
--- what is put within a list keeps its length
+-- writing into a list keeps its length
 pub put-length : (n : ℕ) (piece s : List ℕ) → n + length piece ≤ length s → length (put n piece s) ≡ length s
 put-length n piece s within =
     let front = length-take-le n s (omega arith) in

@@ -34,7 +34,7 @@ pub each-next : (ps : List Shape) (vs : List Value) (i : ℕ) (p : Shape) (v : V
     each_passes (tests (drop i ps)) (drop i vs) ≡ (fits (get_or ps i p) (get_or vs i v) && each_passes (tests (drop (i + 1) ps)) (drop (i + 1) vs))
 each-next ps vs i p v h k = rw (drop_more ps i p h, drop_more vs i v k) refl
 
--- the part that a tag picks
+-- the part that a tag selects
 pub picked-found : (ps : List Shape) (n : ℕ) (p : Shape) (v : Value) → slice_get ps n ≡ Some p → picked_passes (tests ps) n v ≡ fits p v
 picked-found [] n p v e = absurd (cc)
 picked-found (q ∷ ps) zero p v e = let h : q ≡ p = cc in ap (λ z. fits z v) h

@@ -6,7 +6,7 @@ pub data Meaning : Type 0 where
   Number : ℤ → Meaning
   Character : ℕ → Meaning
   Bytes : List ℕ → Meaning
-  -- the empty list, and a list by its first and the others
+  -- the empty list, and a first item before the others
   Nothing : Meaning
   Then : Meaning → Meaning → Meaning
   -- one of several kinds, with its part

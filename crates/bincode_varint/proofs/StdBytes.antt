@@ -36,7 +36,7 @@ high_first_reverse (suc k) n =
 pub high_first-std : (k n : ℕ) → bytes_high_first k n ≡ reverse (low_first_digits k n)
 high_first-std k n = high_first_reverse k n ∙ ap reverse (low_first-std k n)
 
--- a sum by its first part, by equal parts, and by a factor
+-- a sum: its first summand, equal summands, and a common factor
 sum_first : (f : ℕ → ℕ) (k : ℕ) → sum_through f (suc k) ≡ f 0 + sum_through (λ i. f (suc i)) k
 sum_first f zero = refl
 sum_first f (suc k) = let e = sum_first f k in omega arith
