@@ -118,7 +118,7 @@ impl<const TAG: u32, A: Wire, Others: Listed> Listed for VariantOf<TAG, A, Other
 }
 
 /// The error of a tag that none of the `All` variants has: `UnexpectedVariant`, or `UnlistedVariant` if the tags are
-/// not 0, 1 and so on; `Memory` if the list of that cannot be allocated.
+/// not 0, 1 and so on; `Memory` if that list cannot be allocated.
 #[inline(always)]
 pub fn unexpected_tag<Of: Named, All: Listed, D: Decoder>(decoder: &D, found: u32) -> DecodeError
     ensures { ((name : _) × TellsTag name (allowed_tags (variant_tags All.variants)) found result)

@@ -163,7 +163,7 @@ impl<R: Read + Drop> Reader for IoReader<R> {
     ghost end_error_is = { λ missing e h. inr h };
 }
 
-/// `IoReader` over a borrowed stream, which its owner uses on afterwards.
+/// `IoReader` over a borrowed stream, which its owner can use afterwards.
 pub struct LentIoReader<'a, R> {
     stream: &'a mut R,
 }

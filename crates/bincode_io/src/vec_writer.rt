@@ -14,8 +14,8 @@ use bincode_base::error::EncodeError;
 use std::alloc::Global;
 use std::mem::{forget, replace};
 
-/// A writer into a vector that grows when it is full, to at least twice its capacity. Fails with `Memory` if the
-/// allocation is refused, and keeps what was written before.
+/// A writer into a vector that grows when a piece does not fit, to at least twice its capacity. Fails with `Memory` if
+/// the allocation is refused, and keeps what was written before.
 #[derive(Drop)]
 pub struct VecWriter {
     bytes: Vec<u8>,

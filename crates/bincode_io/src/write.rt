@@ -78,7 +78,7 @@ pub trait Writer: Drop {
         false
     }
 
-    /// Adding the empty piece changes nothing.
+    /// A writer that is unchanged has added the empty piece.
     ghost adds_none: { (w : Self) → adds w [] w };
 
     /// Adding two pieces in turn adds their concatenation.
@@ -95,7 +95,7 @@ pub trait Writer: Drop {
     ghost refuses_why: { (a b : Self) (piece : List ℕ) (e : EncodeError) → refuses a piece e b →
         TooLong (room a) piece ⊎ WriterFails device (failures a) (failures b) e };
 
-    /// Adding the empty piece is only possible without a change.
+    /// A writer that added the empty piece is unchanged.
     ghost adds_nothing: { (a b : Self) → adds a [] b → b ≡ a };
 
     /// A piece that was added did fit, and takes its length off the room.

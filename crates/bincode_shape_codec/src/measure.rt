@@ -36,8 +36,8 @@ impl<'de> LentBytes for &'de [u8] {
 }
 
 /// Decodes as `decode_shape` does, but only counts the values that it would make: one, and those of the parts; at most
-/// `u128::MAX`. Does not allocate, and never fails with `Memory` for that. Of elements without bytes only the first is
-/// read. Other errors, and what is charged after them, are those of `decode_shape`.
+/// `u128::MAX`. Does not allocate. Of elements without bytes only the first is read. Errors, and what is charged after
+/// them, are those of `decode_shape`, save `Memory`.
 #[cycle(measure)]
 pub fn measure_shape<B: LentBytes, D: BorrowDecoder<B>>(
     shape: &Shape,

@@ -14,8 +14,8 @@ ghost use Rattle.bincode_types.specs.Memory.{Allocates};
 use crate::laws::{Canonical, Exact, Inhabited, Plain, Writable};
 use crate::wire::Wire;
 
-/// The items of a list, of which a container claims `SIZE` bytes; `ALLOCATES` says whether decoding allocates. Ghost
-/// type, never constructed; in proofs `items` has any length.
+/// The items of a list. A container claims `SIZE` bytes for the list; `ALLOCATES` says whether decoding allocates.
+/// Ghost type, never constructed; in proofs `items` has any length.
 #[derive(Drop, PartialEq)]
 pub struct ListItems<T, const SIZE: usize, const ALLOCATES: bool> {
     pub items: [T; 0],
