@@ -1,4 +1,4 @@
-//! Streams that break: where they are read, at each of their calls in turn.
+//! Streams that fail at each of their calls in turn.
 
 use bincode::config::Config;
 use bincode::de::Decode;
@@ -50,8 +50,8 @@ impl Way for Buffer {
     }
 }
 
-/// A stream that breaks at its first call, at its second and so on: the first answer but that it broke, with how many
-/// bytes were given until then.
+/// A stream that fails at its first call, at its second and so on: the first result that is not this failure, with how
+/// many bytes were given until then.
 pub struct Broken<W>(PhantomData<W>);
 
 impl<W: Way> Source for Broken<W> {

@@ -1,4 +1,4 @@
-//! Lists of a user's own, which are filled item by item, and the arenas that some of them stand in.
+//! Lists of one's own, which are filled item by item, and arenas that some of them are in.
 
 use bincode::config::{self, Config};
 use bincode::de::read::SliceReader;

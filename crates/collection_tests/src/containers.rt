@@ -159,7 +159,7 @@ fn pushed(alloc: Global) -> Result<VecDeque<u32>, AllocError> {
     Ok(queue)
 }
 
-/// A queue of three in a room for three, the last of which stands before the first.
+/// A queue of three with a capacity of three, which wraps around: the last item is stored before the first.
 fn wrapped(alloc: Global) -> Result<VecDeque<u8>, AllocError> {
     let mut queue = VecDeque::with_capacity(alloc, 3)?;
     queue.push_back(9)?;
@@ -179,7 +179,7 @@ fn writes_queues_in_their_order(rt: HostRuntime) {
     assert!(rt; is_written_as(alloc, queue, &[3, 1, 2, 3]));
 }
 
-/// In which order the numbers of a heap are written is left open.
+/// The order in which the numbers of a heap are written is unspecified.
 #[test]
 fn keeps_the_bag_of_a_heap(rt: HostRuntime) {
     let alloc = rt.alloc();

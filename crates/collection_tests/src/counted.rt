@@ -14,7 +14,7 @@ struct Starts {
     len: usize,
 }
 
-/// A list of bytes that tells its context where it is begun.
+/// A list of bytes that reports to its context when it is begun.
 #[derive(Drop)]
 struct Told {
     items: Vec<u8>,

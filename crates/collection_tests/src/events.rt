@@ -11,7 +11,7 @@ use std::alloc::Global;
 use test_helpers::checks::{decoded, is_passed};
 use test_helpers::rows::first_wrong;
 
-/// By which errors name the variants below.
+/// Names the variants below in errors.
 struct OwnedEvent;
 
 impl Named for OwnedEvent {
@@ -99,7 +99,7 @@ fn lends_just<const LESS: usize, const ENOUGH: usize>(
         )
 }
 
-/// Whether the whole word is lent under the one configuration, and passes the limit of the other.
+/// Whether the whole word is decoded by borrowing under one configuration, and passes the limit of the other.
 fn lends<Less: Config, Enough: Config>(
     alloc: Global,
     word: &[u8],
@@ -166,7 +166,7 @@ fn is_no_listed_tag<T: Drop>(outcome: Result<T, DecodeError>, name: &str) -> boo
     type_name.as_str() == name && allowed.as_slice() == [1, 5, 300].as_slice()
 }
 
-/// What is lent of a tag. Retries once if an allocation is refused.
+/// The result of borrowed decoding of a tag. Retries once if an allocation is refused.
 fn lent<'a, T: BorrowDecode<&'a [u8], ()>>(
     alloc: Global,
     word: &'a [u8],
@@ -177,7 +177,7 @@ fn lent<'a, T: BorrowDecode<&'a [u8], ()>>(
     }
 }
 
-/// Owned or lent, the error of a tag that no variant has names the enum that was read.
+/// Owned or borrowed, the error of an unknown tag names the enum that was decoded.
 #[test]
 fn names_the_enum_of_a_tag(rt: HostRuntime) {
     let alloc = rt.alloc();

@@ -1,4 +1,4 @@
-//! What is answered to fewer bytes and to more.
+//! Results for fewer bytes and for more.
 
 use bincode::config;
 use bincode::error::DecodeError;

@@ -6,7 +6,7 @@ use bincode::error::DecodeError;
 use proved_callers::cut::CutReader;
 use std::process::Abort;
 
-/// The first number is read, and each after it answers the error of the line.
+/// The first number is read, and each after it fails with the error of the line.
 fn fails_behind_the_first<D: Decoder<Context = ()>>(rt: &impl Abort, decoder: &mut D) {
     assert!(rt; matches!(u8::decode(decoder), Ok(7)));
     assert!(rt; matches!(u16::decode(decoder), Err(DecodeError::Other(_))));

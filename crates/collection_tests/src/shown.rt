@@ -1,4 +1,4 @@
-//! Numbers are read alike, however many bytes a reader shows.
+//! Numbers are read alike, however many bytes a reader buffers.
 
 use bincode::config::{self, Config};
 use bincode::de::Decode;
@@ -39,7 +39,7 @@ fn read_front<T: Decode<()>, C: Config>(
     read_shown(alloc, &input[..length], config, most)
 }
 
-/// Whether the word is read as the number and no byte more is taken, however much is shown.
+/// Whether the word is read as the number and no byte more is taken, however much is buffered.
 fn reads<T: Decode<()> + PartialEq, C: Config>(
     alloc: Global,
     word: &[u8],
@@ -58,7 +58,7 @@ fn reads<T: Decode<()> + PartialEq, C: Config>(
     true
 }
 
-/// Whether the first byte is refused under these names, however much is shown.
+/// Whether the first byte is refused under these names, however much is buffered.
 fn refuses<T: Decode<()>>(
     alloc: Global,
     word: &[u8],
@@ -83,7 +83,7 @@ fn refuses<T: Decode<()>>(
     true
 }
 
-/// Whether the input ends too early, however much is shown.
+/// Whether the input ends too early, however much is buffered.
 fn ends<T: Decode<()>>(alloc: Global, word: &[u8]) -> bool {
     for most in 0..=MOST {
         let (outcome, _) = read_shown::<T, _>(alloc, word, config::standard(), most);
@@ -216,7 +216,7 @@ fn ends_however_much_is_shown(rt: HostRuntime) {
     assert_eq!(rt; first_wrong(&rows), None);
 }
 
-/// A tag that is refused is taken only where it is not shown with what might follow it.
+/// A tag that is refused is consumed unless it is buffered with what might follow it.
 #[test]
 fn leaves_a_tag_that_is_shown(rt: HostRuntime) {
     let alloc = rt.alloc();

@@ -8,7 +8,7 @@ use proved_callers::fixed::Fixed;
 use proved_callers::lengths::encoded_length;
 use std::process::Abort;
 
-/// The first number is written, and each after it answers the error of the line.
+/// The first number is written, and each after it fails with the error of the line.
 fn fails_behind_the_first<E: Encoder>(rt: &impl Abort, encoder: &mut E) {
     assert!(rt; 7u8.encode(encoder).is_ok());
     assert!(rt; matches!(300u16.encode(encoder), Err(EncodeError::Other(_))));

@@ -1,4 +1,4 @@
-//! The words of the cases, each with the type that it is read as, and what is answered to other inputs of that type.
+//! The encodings of the cases, each with the type that it is decoded as, and results for other inputs of that type.
 
 use crate::addresses::Address;
 use crate::case::{
@@ -19,7 +19,7 @@ use std::net::{IpAddr, Ipv4Addr, SocketAddrV6};
 use std::num::NonZeroU16;
 use std::ops::Bound;
 
-/// A word under a setting.
+/// An encoding under a setting.
 #[derive(Clone, Copy)]
 pub struct Word {
     pub kind: Kind,
@@ -27,7 +27,7 @@ pub struct Word {
     pub bytes: &'static [u8],
 }
 
-/// The type that a word is read as.
+/// The type that an encoding is decoded as.
 #[derive(Clone, Copy)]
 pub enum Kind {
     U8,
@@ -70,9 +70,9 @@ pub enum Kind {
     /// A list of `Option<()>`.
     Options,
     Map,
-    /// A list of texts that are lent.
+    /// A list of borrowed texts.
     Texts,
-    /// An array of three such.
+    /// An array of three borrowed texts.
     ThreeTexts,
     Ip,
     Ipv4,

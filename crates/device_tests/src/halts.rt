@@ -1,4 +1,4 @@
-//! What encoding leaves where it fails in the middle, at a cell that is borrowed.
+//! What encoding leaves after it fails in the middle, at a cell that is borrowed.
 
 use bincode::error::EncodeError;
 use bincode::{config, encode_into_slice, encode_into_std_write, encode_to_vec};

@@ -1,6 +1,6 @@
 //! Tests of streams that take or give a part, of files, of vectors that grow, of what a fault or a failed write leaves,
-//! of errors and contexts of a user's own, of writers that are lent, and of what the original crate's own tests ask.
-//! Expected values come from the description of the format, and where a file says so from bincode 2.0.1.
+//! of errors and contexts of one's own, of borrowed writers, and of what bincode's own tests check. Expected values
+//! come from the description of the format, and where a file says so from bincode 2.0.1.
 #![tactic(auto)]
 
 #[cfg(test)]

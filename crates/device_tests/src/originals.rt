@@ -1,4 +1,4 @@
-//! What the tests of bincode 2.0.1 ask of its types, where no other test here does.
+//! What the tests of bincode 2.0.1 check of its types, if no other test here does.
 
 use bincode::config::{self, Config};
 use bincode::de::Decode;
@@ -33,7 +33,7 @@ fn carries_seconds_to_the_last(rt: HostRuntime) {
     assert!(rt; span.subsec_nanos() == 294_967_295);
 }
 
-/// Whether an option of bytes is written as this word, and lent of it.
+/// Whether an option of bytes is written as this word, and borrowed from it.
 fn lends_option(alloc: Global, value: Option<&[u8]>, word: &[u8]) -> bool {
     let mut slice = [99u8; 32];
     let written = encode_into_slice(value, &mut slice, config::standard());

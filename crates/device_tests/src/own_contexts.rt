@@ -1,4 +1,4 @@
-//! Contexts of a user's own: each call hands its context on, and uses it once for each value that asks for it.
+//! Contexts of one's own: each call passes its context on, and uses it once for each value that asks for it.
 
 use bincode::de::{BorrowDecode, BorrowDecoder, BorrowedBytes, Decode, Decoder, Sequential};
 use bincode::error::DecodeError;

@@ -1,4 +1,4 @@
-//! Public functions that no other test calls, each once on its plain way.
+//! Public functions that no other test calls, each called once.
 
 use bincode::config::{self, Config, Endianness, IntEncoding};
 use bincode::de::read::SliceReader;

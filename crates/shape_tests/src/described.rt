@@ -1,4 +1,4 @@
-//! The shapes that types tell: each scalar's, tuples and enums of each number of parts, and types of a user's own.
+//! The shapes of types: of each scalar, of tuples and enums with each number of parts, and of types of one's own.
 
 use crate::shaped::shape_of;
 use bincode::shape::{Described, Shape};

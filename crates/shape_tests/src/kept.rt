@@ -67,7 +67,7 @@ fn text_of(alloc: Global, text: &str) -> Option<Value> {
     }
 }
 
-/// Whether this value is there and kept by the shape of the type.
+/// Whether there is a value, and the shape of the type keeps it.
 fn keeps_some<T: Described>(alloc: Global, value: Option<Value>, word: &[u8]) -> bool {
     match value {
         Some(value) => keeps_of::<T>(alloc, &value, word),
@@ -133,7 +133,7 @@ fn what_does_not_fit_is_refused(rt: HostRuntime) {
     assert!(rt; !keeps_some::<Result<u8, u8>>(alloc, choice, &[2, 1]));
 }
 
-/// A list of wholes, each of which takes memory for its shape and for its value.
+/// A list of tuples, each of which allocates for its shape and for its value.
 type Wholes = Vec<(String, Option<u8>, Result<u8, bool>)>;
 
 /// If an allocation for a shape or a value is refused, that is the error.

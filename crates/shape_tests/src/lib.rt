@@ -1,5 +1,5 @@
-//! Tests of shapes: that each case of the worked rows whose type is described is answered by the type's shape as by the
-//! type, and what each shape reads and writes. Expected values come from the description of the format.
+//! Tests of shapes: each case of the worked rows whose type is described has the same result by the type's shape, and
+//! each shape reads and writes its values. Expected values come from the description of the format.
 #![tactic(auto)]
 
 #[cfg(test)]

@@ -68,7 +68,7 @@ fn a_claim_that_overflows_passes_each_limit(rt: HostRuntime) -> Result<(), Alloc
     Ok(())
 }
 
-/// The room of a list is claimed before an item is read.
+/// A list claims for all items before one is read.
 #[test]
 fn the_claim_of_a_list_comes_first(rt: HostRuntime) -> Result<(), AllocError> {
     let alloc = rt.alloc();

@@ -59,7 +59,7 @@ fn lists_nothing_of_no_bytes(rt: HostRuntime) {
     assert!(rt; matches!(listing.ending, Ending::Whole));
 }
 
-/// A list of three nothings has four values.
+/// A list of three `()` has four values.
 #[test]
 fn lists_no_more_values_than_allowed(rt: HostRuntime) {
     let alloc = rt.alloc();

@@ -16,7 +16,7 @@ fn words_of(alloc: Global, words: &[&str]) -> Result<Vec<String>, AllocError> {
     Ok(owned)
 }
 
-/// What is printed of bytes by these words, and what is said of the end: nothing where all is printed.
+/// The output for bytes with these words, and the message at the end: empty if all is printed.
 fn printed_once(alloc: Global, words: &[&str], bytes: &[u8]) -> Option<(String, String)> {
     let request = match request_of(alloc, words_of(alloc, words).ok()?) {
         Ok(request) => request,
@@ -30,7 +30,7 @@ fn printed_once(alloc: Global, words: &[&str], bytes: &[u8]) -> Option<(String, 
     Some((String::from_utf8(out).ok()?, said))
 }
 
-/// Whether this is printed, and this is said. It is asked once more, since memory may be refused once.
+/// Whether this is the output, and this the message. Retries once, since an allocation may be refused.
 fn prints(alloc: Global, words: &[&str], bytes: &[u8], lines: &str, said: &str) -> bool {
     let is_wanted = |printed: Option<(String, String)>| {
         printed.is_some_and(|(text, end)| text.as_str() == lines && end.as_str() == said)
@@ -243,7 +243,7 @@ fn refuses_words(rt: HostRuntime) {
     assert!(rt; prints(alloc, &["u8]", "file"], &[], "", shape));
 }
 
-/// The lines of all words before it are printed, and what stops the listing is said.
+/// The lines of all words before it are printed, then the message of what stops the listing.
 #[test]
 fn says_why_it_stops(rt: HostRuntime) {
     let alloc = rt.alloc();
@@ -303,7 +303,7 @@ fn said_of_most(alloc: Global, shape: &str, bytes: &[u8], most: usize) -> Option
     }
 }
 
-/// Whether this is said. It is asked once more, since memory may be refused once.
+/// Whether this is the message. Retries once, since an allocation may be refused.
 fn says_of_most(alloc: Global, shape: &str, bytes: &[u8], most: usize, wanted: &str) -> bool {
     let is_wanted = |said: Option<String>| said.is_some_and(|said| said.as_str() == wanted);
     is_wanted(said_of_most(alloc, shape, bytes, most))

@@ -38,14 +38,14 @@ fn keeps_number<T: Described>(alloc: Global, row: &Spelling<T>) -> bool {
     keeps::<T>(alloc, setting, row.word)
 }
 
-/// What a type answers: how many bytes it takes, or a fault.
+/// The result of decoding by a type: how many bytes it takes, or a fault.
 #[derive(Clone, Copy)]
 enum Told {
     Length(usize),
     Fault(Fault),
 }
 
-/// Whether the type's shape answers so.
+/// Whether this is the result of decoding by the type's shape.
 fn answers_so<T: Described, L: InternalLimitConfig + Copy>(
     alloc: Global,
     setting: Setting,
@@ -65,7 +65,7 @@ fn answers_so<T: Described, L: InternalLimitConfig + Copy>(
     }
 }
 
-/// Whether the type's shape answers what the type does.
+/// Whether decoding by the type's shape has the result of the type.
 fn answers<T: Described, V, L: InternalLimitConfig + Copy>(
     alloc: Global,
     row: &Decoding<V, L>,
@@ -89,8 +89,8 @@ fn answers_lists<L: InternalLimitConfig + Copy>(
     answers_so::<Vec<Vec<u8>>, L>(alloc, row.setting, row.limit, row.input, told)
 }
 
-/// Whether a pair is too long for the slice by its shape too, and the slice holds what it should then. `None` where
-/// memory is refused.
+/// Whether a pair does not fit the slice by its shape either, and the slice then holds what it should. `None` if an
+/// allocation is refused.
 fn refuses_once(alloc: Global, row: &Refusal<(u8, u32)>) -> Option<bool> {
     let mut parts = Vec::new(alloc);
     parts.push(Value::Unsigned(u128::from(row.value.0))).ok()?;

@@ -9,7 +9,7 @@ use bincode::shape::{Described, Shape, Value, decode_shaped, encode_shaped};
 use conformance::case::Setting;
 use std::alloc::Global;
 
-/// The shape of a type. It is asked once more where memory is refused.
+/// The shape of a type. Retries once if an allocation is refused.
 pub fn shape_of<T: Described>(alloc: Global) -> Option<Shape> {
     match T::shape(alloc) {
         Some(shape) => Some(shape),

@@ -60,7 +60,7 @@ const SHAPES: [(&str, &str); 33] = [
     ("usize??", "Optional(Optional(Usize))"),
 ];
 
-/// Texts that spell none, and what is said of them.
+/// Texts that are no shape, and their error messages.
 const REFUSED: [(&str, &str); 9] = [
     (
         "",
@@ -107,7 +107,7 @@ const SHOWN: [&str; 15] = [
     "(u8|u16, [char|bool])",
 ];
 
-/// What is printed of the shape that a text spells, or of why it spells none.
+/// The text of the shape that was parsed from a text, or its error message.
 fn told(alloc: Global, text: &str) -> Option<String> {
     match shape_of(alloc, text) {
         Ok(shape) => format!(in alloc; "{shape:?}").ok(),
@@ -149,7 +149,7 @@ fn marked(
     Some(marked)
 }
 
-/// How deep the shape is that such a text spells, or the text of why it spells none.
+/// The depth of the shape of such a text, or its error message.
 fn depth_once(
     alloc: Global,
     front: (usize, &str),
@@ -162,7 +162,7 @@ fn depth_once(
     }
 }
 
-/// Whether it is so deep. It is asked once more, since memory may be refused once.
+/// Whether it is so deep. Retries once, since an allocation may be refused.
 fn is_deep(
     alloc: Global,
     front: (usize, &str),
@@ -187,7 +187,7 @@ fn is_too_deep(
         || tells_depth(alloc, depth_once(alloc, front, text, back), place)
 }
 
-/// Whether this message tells that it is too deep from this byte on.
+/// Whether the error message says that it is too deep from this byte on.
 fn tells_depth(alloc: Global, told: Option<Result<usize, String>>, place: usize) -> bool {
     let Some(Err(told)) = told else {
         return false;
@@ -223,7 +223,7 @@ fn shown(alloc: Global, text: &str) -> Option<String> {
     text_of(alloc, &shape_of(alloc, text).ok()?).ok()
 }
 
-/// Whether the shape of the text is shown so. It is asked once more, since memory may be refused once.
+/// Whether the shape of the text is shown so. Retries once, since an allocation may be refused.
 fn shows(alloc: Global, text: &str, wanted: &str) -> bool {
     let is_wanted = |shown: Option<String>| shown.is_some_and(|shown| shown.as_str() == wanted);
     is_wanted(shown(alloc, text)) || is_wanted(shown(alloc, text))

@@ -151,7 +151,7 @@ fn nothings_are_counted(rt: HostRuntime) -> Result<(), AllocError> {
     Ok(())
 }
 
-/// 300 lists of 4096 nothings: 4097 values each, and the list of them.
+/// 300 lists of 4096 `()`: 4097 values each, and the list of them.
 #[test]
 fn lists_in_lists_are_counted(rt: HostRuntime) -> Result<(), AllocError> {
     let alloc = rt.alloc();
@@ -216,8 +216,8 @@ fn counts_that_overflow_are_told(rt: HostRuntime) -> Result<(), AllocError> {
     Ok(())
 }
 
-/// A list of two arrays of four nothings: 8 for the length and 2 for the arrays; then the first gives its share back
-/// and claims 4, which is 13.
+/// A list of two arrays of four `()`: 8 for the length and 2 for the arrays; then the first releases its claim and
+/// claims 4, which is 13.
 #[test]
 fn claims_of_nothings_are_kept(rt: HostRuntime) -> Result<(), AllocError> {
     let alloc = rt.alloc();
