@@ -12,7 +12,6 @@ pub use Rattle.bincode_spec.specs.Fault
 pub use Rattle.bincode_spec.specs.Format
 pub use Rattle.bincode_spec.specs.Laws
 pub use Rattle.bincode_spec.specs.Integers
-pub use Rattle.bincode_spec.specs.Spelling
 pub use Rattle.bincode_spec.specs.Meaning
 pub use Rattle.bincode_spec.specs.NoZero
 pub use Rattle.bincode_spec.specs.Words
@@ -33,16 +32,21 @@ pub use Rattle.bincode_spec.specs.Promises
 pub use Rattle.bincode_spec.specs.Validated
 pub use Rattle.bincode_spec.specs.Put
 pub use Rattle.bincode_spec.specs.Device
-pub use Rattle.bincode_spec.specs.Reads
-pub use Rattle.bincode_spec.specs.Lending
 pub use Rattle.bincode_spec.specs.Decoding
-pub use Rattle.bincode_spec.specs.Values
 pub use Rattle.bincode_spec.specs.Encoding
-pub use Rattle.bincode_spec.specs.Claims
 pub use Rattle.bincode_spec.specs.Slice
 pub use Rattle.bincode_spec.specs.Vec
-pub use Rattle.bincode_spec.specs.Agree
-pub use Rattle.bincode_spec.specs.Alike
+pub use Rattle.bincode_layers.specs.Spelling
+pub use Rattle.bincode_layers.specs.Needs
+pub use Rattle.bincode_layers.specs.Meanings
+pub use Rattle.bincode_layers.specs.Pieces
+pub use Rattle.bincode_layers.specs.Reads
+pub use Rattle.bincode_layers.specs.Lending
+pub use Rattle.bincode_layers.specs.Claims
+pub use Rattle.bincode_layers.specs.Releases
+pub use Rattle.bincode_layers.specs.Values
+pub use Rattle.bincode_layers.specs.Agree
+pub use Rattle.bincode_layers.specs.Alike
 pub use Rattle.bincode_lemmas.specs.AlikeLaws
 pub use Rattle.bincode_lemmas.specs.AllowedLaws
 pub use Rattle.bincode_lemmas.specs.AnswerLaws
@@ -55,6 +59,7 @@ pub use Rattle.bincode_lemmas.specs.LimitLaws
 pub use Rattle.bincode_lemmas.specs.LimitedLaws
 pub use Rattle.bincode_lemmas.specs.NeedLaws
 pub use Rattle.bincode_lemmas.specs.RunLaws
+pub use Rattle.bincode_lemmas.specs.Sequences
 pub use Rattle.bincode_io.specs.RoomLaws
 pub use Rattle.bincode_io.specs.Slices
 pub use Rattle.bincode_io.specs.Stream
@@ -74,6 +79,7 @@ pub use Rattle.bincode_shape_codec.specs.Within
 pub use Rattle.bincode_types.specs.CStrings
 pub use Rattle.bincode_types.specs.Durations
 pub use Rattle.bincode_types.specs.Memory
+pub use Rattle.bincode_types.specs.Passes
 pub use Rattle.bincode_types.specs.Rows as TypeRows
 pub use Rattle.bincode_types.specs.Sums
 pub use Rattle.bincode_types.specs.TypeLaws

@@ -4,7 +4,8 @@ use Rattle.std.proofs.Common.{sym, ◌∙◌, ap, subst, inl, inr, arith, append
 use Rattle.std.proofs.lemmas.Bool.{le-ltb, le-leb}
 use Rattle.bincode_base.specs.declared.error.DecodeError.{DecodeError}
 use Rattle.bincode_spec.specs.Fault.{End}
-use Rattle.bincode_spec.specs.Device.{DeviceErrors, Rose, Takes, FallsShort}
+use Rattle.bincode_spec.specs.Device.{DeviceErrors, Rose, Takes}
+use Rattle.bincode_layers.specs.Pieces.{FallsShort}
 use Rattle.bincode_spec.specs.Format.{pure, fixed_bytes, step, ◌>>=◌, without_count, elements}
 use Rattle.bincode_lemmas.specs.FormatLaws.{map-lawful}
 use Rattle.bincode_lemmas.specs.Balance.{map-balanced}
@@ -14,7 +15,8 @@ use Rattle.bincode_spec.specs.Meaning.{Meaning, Number, IsNumber, list_meaning}
 use Rattle.bincode_spec.specs.Words.{natural_number}
 use Rattle.bincode_spec.specs.Answer.{Answer, Allows, Gave, Refused, answer, after_release}
 use Rattle.bincode_spec.specs.Decoding.{Decodes, DecodeFailure, by_fault, by_failure, by_device}
-use Rattle.bincode_spec.specs.Run.{IsListOf, CanRelease}
+use Rattle.bincode_spec.specs.Run.{IsListOf}
+use Rattle.bincode_layers.specs.Releases.{CanRelease}
 use Rattle.bincode_lemmas.specs.RunLaws.{ReadSoFar, behind, none-read, one-more, all-read}
 
 -- what a byte means

@@ -4,9 +4,10 @@ use Rattle.std.specs.Borrow.{GName}
 use Rattle.std.proofs.Common.{◌∙◌, ap}
 use Rattle.std.proofs.lemmas.Result.{on_ok_weaker, IfErr-weaker}
 use Rattle.bincode_base.specs.declared.error.DecodeError.{DecodeError}
-use Rattle.bincode_spec.specs.Device.{DeviceErrors, FillsBuffer}
+use Rattle.bincode_spec.specs.Device.{DeviceErrors}
+use Rattle.bincode_layers.specs.Pieces.{FillsBuffer}
 use Rattle.bincode_spec.specs.Format.{fixed_bytes}
-use Rattle.bincode_spec.specs.Reads.{ReadsWord}
+use Rattle.bincode_layers.specs.Reads.{ReadsWord}
 use Rattle.bincode_varint.proofs.Words.{fixed_bytes-read, fixed_bytes-misreads}
 use Rattle.bincode_decoder.proofs.BytesAtOnce.{both-of_err}
 

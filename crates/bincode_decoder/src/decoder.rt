@@ -4,8 +4,8 @@ ghost use Rattle.std.proofs.Common.{ap};
 ghost use Rattle.std.specs.Borrow.{GName, Lends, sem};
 ghost use Rattle.std.specs.Bool.{MatchBool};
 ghost use Rattle.bincode_spec.specs.Answer.{Allows, after_release};
-ghost use Rattle.bincode_spec.specs.Run.{CanRelease};
-ghost use Rattle.bincode_spec.specs.Claims.{Claims, MakesClaim, MakesRelease};
+ghost use Rattle.bincode_layers.specs.Releases.{CanRelease};
+ghost use Rattle.bincode_layers.specs.Claims.{Claims, MakesClaim, MakesRelease};
 
 mod borrow;
 

@@ -4,7 +4,8 @@ ghost use Rattle.bincode_base.specs.declared.error.EncodeError.{EncodeError};
 ghost use Rattle.bincode_spec.specs.Meaning.{Choice};
 ghost use Rattle.bincode_spec.specs.Words.{behind_tag, tag_then_part};
 ghost use Rattle.bincode_spec.specs.Choices.{IsChoice};
-ghost use Rattle.bincode_spec.specs.Allowed.{AllowedWord, WrittenAlike, SameMeanings};
+ghost use Rattle.bincode_spec.specs.Allowed.{AllowedWord, WrittenAlike};
+ghost use Rattle.bincode_layers.specs.Meanings.{SameMeanings};
 ghost use Rattle.bincode_spec.specs.Encoding.{Encodes};
 
 use crate::encode::Encode;

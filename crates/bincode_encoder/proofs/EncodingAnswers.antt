@@ -8,7 +8,8 @@ use Rattle.bincode_base.specs.declared.error.EncodeError.{EncodeError}
 use Rattle.bincode_spec.specs.Format.{Format, map_format}
 use Rattle.bincode_spec.specs.Meaning.{Number, IsNumber}
 use Rattle.bincode_spec.specs.Words.{not_zero_by}
-use Rattle.bincode_spec.specs.Allowed.{AllowedWord, Both}
+use Rattle.bincode_spec.specs.Allowed.{AllowedWord}
+use Rattle.bincode_lemmas.specs.Sequences.{Both}
 use Rattle.bincode_lemmas.specs.AllowedLaws.{not_zero-allows, allowed-not_zero}
 use Rattle.bincode_spec.specs.Encoding.{Adds, Refuses, Ready, Encodes}
 use Rattle.bincode_lemmas.specs.EncodingLaws.{writes-alone, writes-both, writes-same, halts-alone, halts-within, halts-same, halts-named, halts-where, halts-in_first, halts-in_next, ready-as}

@@ -8,7 +8,8 @@ use Rattle.bincode_spec.specs.Format.{Format}
 use Rattle.bincode_spec.specs.Meaning.{Meaning}
 use Rattle.bincode_spec.specs.Words.{array}
 use Rattle.bincode_spec.specs.Allowed.{AllowedWord}
-use Rattle.bincode_spec.specs.Run.{IsListOf, AllowsEach}
+use Rattle.bincode_spec.specs.Run.{IsListOf}
+use Rattle.bincode_lemmas.specs.Sequences.{AllowsEach}
 use Rattle.bincode_spec.specs.Encoding.{Adds, Refuses, Writes, Ready, EncodeFailure}
 use Rattle.bincode_lemmas.specs.RunAllowedLaws.{array-allows}
 use Rattle.bincode_lemmas.specs.EncodingLaws.{writes-same}

@@ -11,7 +11,7 @@ use Rattle.bincode_spec.specs.Fault.{Allowed, UnexpectedVariant}
 use Rattle.bincode_spec.specs.Format.{Format, map_format}
 use Rattle.bincode_spec.specs.Integers.{Four}
 use Rattle.bincode_spec.specs.Meaning.{Meaning, Choice, Number}
-use Rattle.bincode_spec.specs.Need.{then_needs, picked_needs}
+use Rattle.bincode_layers.specs.Needs.{then_needs, picked_needs}
 use Rattle.bincode_spec.specs.Words.{tag, Variant, variant_tags, allowed_tags, in_order, part, tag_then_part}
 use Rattle.bincode_lemmas.specs.AllowedLaws.{fewer-none_shorter}
 use Rattle.bincode_lemmas.specs.ChargedLaws.{ChargesEnough, picked-charged, fail-charged, map-charged, chosen-charged}

@@ -5,7 +5,8 @@ ghost use Rattle.bincode_spec.specs.Format.{map_format};
 ghost use Rattle.bincode_spec.specs.Meaning.{Choice};
 ghost use Rattle.bincode_spec.specs.Words.{behind_tag};
 ghost use Rattle.bincode_spec.specs.Choices.{IsChoice};
-ghost use Rattle.bincode_spec.specs.Allowed.{AllowedWord, WrittenAlike, SameMeanings};
+ghost use Rattle.bincode_spec.specs.Allowed.{AllowedWord, WrittenAlike};
+ghost use Rattle.bincode_layers.specs.Meanings.{SameMeanings};
 ghost use Rattle.bincode_spec.specs.Encoding.{Encodes};
 
 use crate::enums::Enum;

@@ -1,7 +1,8 @@
 -- How pieces use up a room.
 use Rattle.std.specs.Prelude.{◌≡◌, ◌+◌, ◌-◌, ◌≤◌, ℕ, List, [], ◌∷◌, ◌++◌, length, Option, Some, None, refl}
 use Rattle.std.proofs.Common.{ap, subst, arith, length-append}
-use Rattle.bincode_spec.specs.Device.{TooLong, WithinRoom, TakesRoom}
+use Rattle.bincode_spec.specs.Device.{TooLong, WithinRoom}
+use Rattle.bincode_layers.specs.Pieces.{TakesRoom}
 
 -- if a concatenation is empty, both parts are
 pub first-empty : (x y : List ℕ) → x ++ y ≡ [] → x ≡ []

@@ -15,7 +15,8 @@ use Rattle.bincode_lemmas.specs.IntegerLaws.{written-unsigned, unsigned-written,
 use Rattle.bincode_spec.specs.Meaning.{Meaning, Truth, Number, Nothing, Then, IsTruth, IsNumber, IsNothing, IsThen}
 use Rattle.bincode_spec.specs.Words.{natural_number, integer_number, not_zero_of, not_zero_by, truth_of, truth_byte, truth, nothing, first_and}
 use Rattle.bincode_lemmas.specs.WordsLaws.{not_zero-passes, not_zero-passed, truth_byte-passes, truth_byte-passed}
-use Rattle.bincode_spec.specs.Allowed.{AllowedWord, OneLength, NoneShorter, Both}
+use Rattle.bincode_spec.specs.Allowed.{AllowedWord, OneLength, NoneShorter}
+use Rattle.bincode_lemmas.specs.Sequences.{Both}
 
 -- a written word whose meaning passes a test is a written word after the test, and conversely
 module _ {A B : Type 0} (test : A → Result B Fault) (F : Format A) where

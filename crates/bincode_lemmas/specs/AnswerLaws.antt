@@ -8,7 +8,8 @@ use Rattle.bincode_spec.specs.Format.{Format, Reading, Took, Failed, after_steps
 use Rattle.bincode_spec.specs.Laws.{Lawful, BeginsWith, IsBacked, Balanced, Settles, Holds}
 use Rattle.bincode_lemmas.specs.Balance.{balanced-word, balanced-fault}
 use Rattle.bincode_spec.specs.Answer.{StepsOf, of_word, of_fault, Allows, after_claim, after_release, after_step, on_some, charge_behind}
-use Rattle.bincode_spec.specs.Answer.{Answer, Gave, Refused, PassedLimit, gave_at, refused_at, weigh_reading, answer, and_then}
+use Rattle.bincode_spec.specs.Answer.{Answer, Gave, Refused, PassedLimit, gave_at, refused_at, weigh_reading, answer}
+use Rattle.bincode_lemmas.specs.Sequences.{and_then}
 
 -- the answer, part by part
 

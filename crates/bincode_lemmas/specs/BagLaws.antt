@@ -8,9 +8,12 @@ use Rattle.bincode_base.specs.Setting.{Setting}
 use Rattle.bincode_spec.specs.Format.{Format}
 use Rattle.bincode_spec.specs.Meaning.{Meaning, IsNumber}
 use Rattle.bincode_spec.specs.Words.{natural_number, len, list}
-use Rattle.bincode_spec.specs.Allowed.{AllowedWord, OneLength, Shortest, Both}
-use Rattle.bincode_spec.specs.Run.{IsListOf, AllowsEach}
-use Rattle.bincode_spec.specs.Collections.{LengthWord, IsMadeOf, MakesBag}
+use Rattle.bincode_spec.specs.Allowed.{AllowedWord, OneLength, Shortest}
+use Rattle.bincode_lemmas.specs.Sequences.{Both}
+use Rattle.bincode_spec.specs.Run.{IsListOf}
+use Rattle.bincode_lemmas.specs.Sequences.{AllowsEach}
+use Rattle.bincode_layers.specs.Meanings.{LengthWord}
+use Rattle.bincode_spec.specs.Collections.{IsMadeOf, MakesBag}
 use Rattle.bincode_lemmas.specs.AllowedLaws.{more-allowed, both-one_length}
 use Rattle.bincode_lemmas.specs.RunAllowedLaws.{each-one_length}
 use Rattle.bincode_lemmas.specs.ListLaws.{each-list, list-each, list-shortest, length-one_length}

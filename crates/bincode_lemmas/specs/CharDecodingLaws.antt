@@ -5,7 +5,7 @@ use Rattle.bincode_spec.specs.Device.{DeviceErrors}
 use Rattle.bincode_base.specs.declared.error.DecodeError.{DecodeError}
 use Rattle.bincode_base.specs.declared.error.DecodeError.TheVariants.{InvalidCharEncoding}
 use Rattle.bincode_spec.specs.Fault.{Fault, InvalidChar}
-use Rattle.bincode_spec.specs.Reads.{ReadFailure, by_fault, by_failure, by_device}
+use Rattle.bincode_layers.specs.Reads.{ReadFailure, by_fault, by_failure, by_device}
 use Rattle.bincode_spec.specs.Format.{Took, Failed, pure, fail, fixed_bytes, charge_then, ◌>>=◌}
 use Rattle.bincode_lemmas.specs.FormatLaws.{fixed_bytes-lawful}
 use Rattle.bincode_spec.specs.Integers.{byte}

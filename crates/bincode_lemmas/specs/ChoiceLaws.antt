@@ -12,7 +12,8 @@ use Rattle.bincode_lemmas.specs.FormatLaws.{fail-lawful, turn-lawful, map-lawful
 use Rattle.bincode_lemmas.specs.Balance.{fail-holds, turn-holds, map-balanced}
 use Rattle.bincode_spec.specs.Meaning.{Meaning, Number, Choice, IsNumber}
 use Rattle.bincode_spec.specs.Words.{natural_number, Variant, if_picked, part, behind_tag, tag_then_part}
-use Rattle.bincode_spec.specs.Allowed.{AllowedWord, SomeWord, Both, WrittenAlike, OneLength, NoneShorter, Shortest}
+use Rattle.bincode_spec.specs.Allowed.{AllowedWord, SomeWord, WrittenAlike, OneLength, NoneShorter, Shortest}
+use Rattle.bincode_lemmas.specs.Sequences.{Both}
 use Rattle.bincode_lemmas.specs.AllowedLaws.{map-written, written-map, natural-allows, allowed-natural, same-one_length, both-one_length}
 use Rattle.bincode_lemmas.specs.SpelledLaws.{word-from_result, from_result-word, parts-no_longer}
 use Rattle.bincode_spec.specs.Cells.{HasWord}

@@ -4,7 +4,7 @@ use Rattle.std.specs.List.{All}
 use Rattle.std.proofs.Common.{sym, ◌∙◌, ap, subst, inl, inr, arith, append_assoc, append-nil, length-append}
 use Rattle.bincode_base.specs.declared.error.DecodeError.{DecodeError}
 use Rattle.bincode_base.specs.declared.error.DecodeError.TheVariants.{LimitExceeded, Memory}
-use Rattle.bincode_spec.specs.Agree.{SameReading, SameAnswer, both_passed, both_tell, IsCut, WasCut, WasRefused}
+use Rattle.bincode_layers.specs.Agree.{SameReading, SameAnswer, both_passed, both_tell, IsCut, WasCut, WasRefused}
 use Rattle.bincode_spec.specs.Answer.{Answer, Gave, Refused, PassedLimit, StepsOf, of_word, of_fault, answer}
 use Rattle.bincode_spec.specs.Charge.{Step, StaysWithin, Passes}
 use Rattle.bincode_spec.specs.Decoding.{IsRefused}

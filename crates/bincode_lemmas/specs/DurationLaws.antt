@@ -15,7 +15,8 @@ use Rattle.bincode_spec.specs.Integers.{Four, Eight}
 use Rattle.bincode_lemmas.specs.IntegerLaws.{unsigned-lawful, unsigned-balanced}
 use Rattle.bincode_spec.specs.Meaning.{Meaning, Number, list_meaning, IsNumber, IsThen, IsNothing}
 use Rattle.bincode_spec.specs.Words.{natural_number, second_in_nanos, duration_of, seconds_and_nanos, duration}
-use Rattle.bincode_spec.specs.Allowed.{AllowedWord, SomeWord, Both}
+use Rattle.bincode_spec.specs.Allowed.{AllowedWord, SomeWord}
+use Rattle.bincode_lemmas.specs.Sequences.{Both}
 use Rattle.bincode_spec.specs.Cells.{HasWord}
 use Rattle.bincode_lemmas.specs.CellLaws.{cell-has_word}
 use Rattle.bincode_lemmas.specs.AllowedLaws.{map-written, written-map, natural-allows, allowed-natural}

@@ -2,8 +2,8 @@
 use Rattle.std.specs.Prelude.{◌≡◌, ◌⊎◌, ℕ, List, [], ◌∷◌, ◌++◌, refl}
 use Rattle.std.proofs.Common.{sym, ◌∙◌, ap, subst, inl, inr, append_assoc, append-nil}
 use Rattle.bincode_base.specs.declared.error.EncodeError.{EncodeError}
-use Rattle.bincode_spec.specs.Device.{StopsAmong, concat_pieces}
-use Rattle.bincode_spec.specs.Allowed.{Both}
+use Rattle.bincode_layers.specs.Pieces.{StopsAmong, concat_pieces}
+use Rattle.bincode_lemmas.specs.Sequences.{Both}
 use Rattle.bincode_spec.specs.Encoding.{Adds, Refuses, Writes, Ready, Begins, IsOwn, EncodeFailure, by_writer, by_name}
 
 begins_first : (A B : List ℕ → Type 0) (bytes : List ℕ) → Begins A bytes → Begins (Both A B) bytes

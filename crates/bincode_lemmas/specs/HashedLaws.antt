@@ -20,8 +20,9 @@ use Rattle.bincode_base.specs.Setting.{Setting}
 use Rattle.bincode_spec.specs.Format.{Format}
 use Rattle.bincode_spec.specs.Meaning.{Meaning}
 use Rattle.bincode_spec.specs.Words.{list}
-use Rattle.bincode_spec.specs.Allowed.{Shortest, Both}
-use Rattle.bincode_spec.specs.Run.{AllowsEach}
+use Rattle.bincode_spec.specs.Allowed.{Shortest}
+use Rattle.bincode_lemmas.specs.Sequences.{Both}
+use Rattle.bincode_lemmas.specs.Sequences.{AllowsEach}
 use Rattle.bincode_spec.specs.Collections.{AreValid, IsMadeOf, MakesBag}
 use Rattle.bincode_spec.specs.Hashed.{PutsAll, PutsKey, PutsEntry, MakesHashedSet, MakesHashedMap}
 use Rattle.bincode_lemmas.specs.BagLaws.{bag-shortest}

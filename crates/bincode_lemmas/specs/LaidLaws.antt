@@ -8,7 +8,7 @@ use Rattle.std.proofs.lemmas.List.{map-set, length-map}
 use Rattle.std.proofs.lemmas.List.Elements.{All-nil, All-cons, All-head, All-tail}
 use Rattle.std.proofs.lemmas.List.Sums.{sum_by-cons}
 use Rattle.std.proofs.lemmas.List.Sorted.{IsPermutation-refl, IsPermutation-trans, IsPermutation-swap, IsPermutation-keeps, All-permutation, sum_by-IsPermutation}
-use Rattle.bincode_spec.specs.Run.{AllowsEach}
+use Rattle.bincode_lemmas.specs.Sequences.{AllowsEach}
 
 -- each value of a run beside its word: the value and the length of the word can be read off it
 

@@ -1,3 +1,4 @@
+pub mod Sequences
 pub mod AllowedLaws
 pub mod AnswerLaws
 pub mod BagLaws

@@ -12,10 +12,13 @@ use Rattle.bincode_spec.specs.Laws.{Lawful, Balanced}
 use Rattle.bincode_spec.specs.Integers.{Eight}
 use Rattle.bincode_spec.specs.Meaning.{Meaning, Number, IsNumber, list_meaning}
 use Rattle.bincode_spec.specs.Words.{natural_number, len, array, list}
-use Rattle.bincode_spec.specs.Allowed.{AllowedWord, SomeWord, OneLength, NoneShorter, Shortest, Both}
+use Rattle.bincode_spec.specs.Allowed.{AllowedWord, SomeWord, OneLength, NoneShorter, Shortest}
+use Rattle.bincode_lemmas.specs.Sequences.{Both}
 use Rattle.bincode_spec.specs.Cells.{HasWord}
-use Rattle.bincode_spec.specs.Run.{IsListOf, AllowsEach}
-use Rattle.bincode_spec.specs.Collections.{LengthWord, AreValid}
+use Rattle.bincode_spec.specs.Run.{IsListOf}
+use Rattle.bincode_lemmas.specs.Sequences.{AllowsEach}
+use Rattle.bincode_layers.specs.Meanings.{LengthWord}
+use Rattle.bincode_spec.specs.Collections.{AreValid}
 use Rattle.bincode_lemmas.specs.FormatLaws.{turn-lawful}
 use Rattle.bincode_lemmas.specs.Balance.{turn-holds}
 use Rattle.bincode_lemmas.specs.IntegerLaws.{unsigned-lawful, unsigned-balanced, unsigned-least}

@@ -16,8 +16,10 @@ use Rattle.bincode_base.specs.Setting.{Setting}
 use Rattle.bincode_spec.specs.Format.{Format}
 use Rattle.bincode_spec.specs.Meaning.{Meaning}
 use Rattle.bincode_spec.specs.Words.{list}
-use Rattle.bincode_spec.specs.Allowed.{Shortest, Both}
-use Rattle.bincode_spec.specs.Run.{IsListOf, AllowsEach}
+use Rattle.bincode_spec.specs.Allowed.{Shortest}
+use Rattle.bincode_lemmas.specs.Sequences.{Both}
+use Rattle.bincode_spec.specs.Run.{IsListOf}
+use Rattle.bincode_lemmas.specs.Sequences.{AllowsEach}
 use Rattle.bincode_spec.specs.Collections.{AreValid, IsMadeOf, MakesMap, put_entries}
 use Rattle.bincode_lemmas.specs.RunAllowedLaws.{run-same}
 use Rattle.bincode_lemmas.specs.ListLaws.{list-shortest}

@@ -16,7 +16,8 @@ use Rattle.bincode_spec.specs.Integers.{digits, byte, first_of, FirstByte, Itsel
 use Rattle.bincode_spec.specs.Integers.{unsigned_integer, signed_integer, unsigned_byte, signed_byte, integer_by}
 use Rattle.bincode_spec.specs.Laws.{steps_of, Settles, Holds, Balanced}
 use Rattle.bincode_spec.specs.Meaning.{Meaning, Bytes, Then, list_meaning}
-use Rattle.bincode_spec.specs.Need.{behind_word, then_needs, each_needs, array_needs, list_needs, text_needs, width_needs, char_needs, picked_needs, duration_needs}
+use Rattle.bincode_layers.specs.Needs.{behind_word, then_needs, each_needs, array_needs, list_needs, text_needs, picked_needs, duration_needs}
+use Rattle.bincode_spec.specs.Need.{width_needs, char_needs}
 use Rattle.bincode_spec.specs.Octets.{octets}
 use Rattle.bincode_spec.specs.Number.{number_of, from_two_complement}
 use Rattle.bincode_spec.specs.Words.{Variant, if_picked, behind_tag, tag_then_part, len, array, list, length_prefixed, text, text_of, without_nul, without_nul_of, character, behind_char, rest_of_char, char_width, char_of, first_and, nothing, duration, duration_of, seconds_and_nanos}

@@ -16,8 +16,9 @@ use Rattle.bincode_spec.specs.Format.{Format, pure, step, ◌>>=◌, without_cou
 use Rattle.bincode_spec.specs.Integers.{Two, Four, Eight, number_by, unsigned_integer, unsigned_tag, shortest_word, spelling}
 use Rattle.bincode_spec.specs.Meaning.{Meaning, Nothing, Then, Number, IsNumber, IsNothing, IsThen, list_meaning}
 use Rattle.bincode_spec.specs.Words.{natural_number, len, nothing, first_and, array, list}
-use Rattle.bincode_spec.specs.Allowed.{Both}
-use Rattle.bincode_spec.specs.Run.{IsListOf, AllowsEach}
+use Rattle.bincode_lemmas.specs.Sequences.{Both}
+use Rattle.bincode_spec.specs.Run.{IsListOf}
+use Rattle.bincode_lemmas.specs.Sequences.{AllowsEach}
 use Rattle.bincode_lemmas.specs.AllowedLaws.{natural-one, allowed-natural, allowed-unsigned}
 use Rattle.bincode_lemmas.specs.DigitLaws.{length-digits_of}
 use Rattle.bincode_lemmas.specs.IntegerLaws.{word-charged, unsigned-lawful, spelling-least, length-shortest, shortest-1, shortest-3, shortest-5, shortest-9, shortest-17}

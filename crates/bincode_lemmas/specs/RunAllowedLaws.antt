@@ -9,13 +9,15 @@ use Rattle.bincode_spec.specs.Charge.{Step, Reserve, Release}
 use Rattle.bincode_spec.specs.Format.{Format, pure, step, ◌>>=◌, without_count, map_format, elements, sequence}
 use Rattle.bincode_spec.specs.Meaning.{Meaning, Nothing, Then, list_meaning}
 use Rattle.bincode_spec.specs.Words.{array}
-use Rattle.bincode_spec.specs.Allowed.{AllowedWord, SomeWord, OneLength, Shortest, Both}
+use Rattle.bincode_spec.specs.Allowed.{AllowedWord, SomeWord, OneLength, Shortest}
+use Rattle.bincode_lemmas.specs.Sequences.{Both}
 use Rattle.bincode_lemmas.specs.AllowedLaws.{map-written, written-map, both-one_length}
 use Rattle.bincode_spec.specs.Cells.{HasWord}
 use Rattle.bincode_lemmas.specs.CellLaws.{held-word, word-held}
 use Rattle.bincode_lemmas.specs.TupleLaws.{then-same}
 use Rattle.bincode_lemmas.specs.SpelledLaws.{word-from_result, from_result-word, parts-no_longer}
-use Rattle.bincode_spec.specs.Run.{IsListOf, AllowsEach}
+use Rattle.bincode_spec.specs.Run.{IsListOf}
+use Rattle.bincode_lemmas.specs.Sequences.{AllowsEach}
 
 -- the words of a run, element by element
 

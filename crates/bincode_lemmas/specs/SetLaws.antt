@@ -13,7 +13,8 @@ use Rattle.bincode_spec.specs.Format.{Format}
 use Rattle.bincode_spec.specs.Meaning.{Meaning}
 use Rattle.bincode_spec.specs.Words.{list}
 use Rattle.bincode_spec.specs.Allowed.{Shortest}
-use Rattle.bincode_spec.specs.Run.{IsListOf, AllowsEach}
+use Rattle.bincode_spec.specs.Run.{IsListOf}
+use Rattle.bincode_lemmas.specs.Sequences.{AllowsEach}
 use Rattle.bincode_spec.specs.Collections.{AreValid, IsMadeOf, MakesSet, put_keys}
 use Rattle.bincode_lemmas.specs.RunAllowedLaws.{run-same}
 use Rattle.bincode_lemmas.specs.ListLaws.{list-shortest}

@@ -23,8 +23,9 @@ use Rattle.bincode_lemmas.specs.IntegerLaws.{unsigned-lawful, unsigned-balanced,
 use Rattle.bincode_spec.specs.Meaning.{Meaning, Bytes, IsBytes}
 use Rattle.bincode_spec.specs.NoZero.{first_zero, HasNoZero}
 use Rattle.bincode_spec.specs.Words.{len, length_prefixed, text_of, text, without_nul_of, without_nul}
-use Rattle.bincode_spec.specs.Allowed.{AllowedWord, SomeWord, OneLength, Shortest, Both}
-use Rattle.bincode_spec.specs.Collections.{LengthWord}
+use Rattle.bincode_spec.specs.Allowed.{AllowedWord, SomeWord, OneLength, Shortest}
+use Rattle.bincode_lemmas.specs.Sequences.{Both}
+use Rattle.bincode_layers.specs.Meanings.{LengthWord}
 use Rattle.bincode_spec.specs.Cells.{HasWord}
 use Rattle.bincode_lemmas.specs.AllowedLaws.{from_result-written, written-from_result, natural-allows, allowed-natural, both-one_length, same-one_length, alone-one_length, more-allowed}
 use Rattle.bincode_lemmas.specs.SpelledLaws.{unsigned-spelled, word-from_result, parts-no_longer}

@@ -9,7 +9,8 @@ use Rattle.bincode_lemmas.specs.FormatLaws.{pure-lawful, turn-lawful, map-lawful
 use Rattle.bincode_lemmas.specs.Balance.{pure-holds, turn-holds, map-balanced}
 use Rattle.bincode_spec.specs.Meaning.{Meaning, Nothing, Then, IsNothing, IsThen, IsFourThen}
 use Rattle.bincode_spec.specs.Words.{nothing, first_and, four_and}
-use Rattle.bincode_spec.specs.Allowed.{AllowedWord, SomeWord, OneLength, NoneShorter, Shortest, Both}
+use Rattle.bincode_spec.specs.Allowed.{AllowedWord, SomeWord, OneLength, NoneShorter, Shortest}
+use Rattle.bincode_lemmas.specs.Sequences.{Both}
 use Rattle.bincode_lemmas.specs.AllowedLaws.{tuple-allows, allowed-tuple, nothing-allows, allowed-nothing, alone-one_length, both-one_length, same-one_length, fewer-none_shorter}
 use Rattle.bincode_lemmas.specs.SpelledLaws.{word-from_result, from_result-word, parts-no_longer, nothing-none_shorter}
 use Rattle.bincode_spec.specs.Cells.{HasWord}

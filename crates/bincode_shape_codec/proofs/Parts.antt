@@ -8,12 +8,13 @@ use Rattle.std.proofs.Common.{sym, ◌∙◌, ap, arith, append_assoc, append-ni
 use Rattle.bincode_base.specs.Setting.{Setting}
 use Rattle.bincode_base.specs.declared.error.DecodeError.{DecodeError}
 use Rattle.bincode_base.specs.declared.error.DecodeError.TheVariants.{Memory}
-use Rattle.bincode_spec.specs.Answer.{Answer, Gave, Refused, PassedLimit, Allows, answer, and_then}
+use Rattle.bincode_spec.specs.Answer.{Answer, Gave, Refused, PassedLimit, Allows, answer}
+use Rattle.bincode_lemmas.specs.Sequences.{and_then}
 use Rattle.bincode_spec.specs.Decoding.{DecodeFailure, by_fault, by_limit, by_memory, by_failure, by_device}
 use Rattle.bincode_spec.specs.Device.{DeviceErrors, Takes}
 use Rattle.bincode_spec.specs.Format.{Format, pure, map_format}
 use Rattle.bincode_spec.specs.Meaning.{Meaning, Nothing, Then, list_meaning}
-use Rattle.bincode_spec.specs.Values.{Reads}
+use Rattle.bincode_layers.specs.Values.{Reads}
 use Rattle.bincode_spec.specs.Words.{nothing, first_and, tuple}
 use Rattle.bincode_lemmas.specs.AnswerLaws.{answer-then, answer-pure}
 use Rattle.bincode_lemmas.specs.DecodingLaws.{answer-next, stops-first, stops-besides, rose-then, takes-then, gave-takes, nothing-decodes}

@@ -3,7 +3,7 @@ use Rattle.std.specs.Prelude.{◌≡◌, ℕ, List, [], ◌∷◌, ◌++◌, map
 use Rattle.std.proofs.Common.{sym, ◌∙◌, ap, subst, append_assoc}
 use Rattle.bincode_base.specs.Setting.{Setting}
 use Rattle.bincode_base.specs.declared.error.EncodeError.{EncodeError}
-use Rattle.bincode_spec.specs.Allowed.{Both}
+use Rattle.bincode_lemmas.specs.Sequences.{Both}
 use Rattle.bincode_spec.specs.Encoding.{Adds, Refuses, Writes, Ready, Begins, EncodeFailure, by_writer, by_name}
 use Rattle.bincode_spec.specs.Meaning.{Meaning, list_meaning}
 use Rattle.bincode_spec.specs.Run.{IsListOf}

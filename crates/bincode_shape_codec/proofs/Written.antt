@@ -21,7 +21,8 @@ use Rattle.std.proofs.Common.{inl, inr, sym, ◌∙◌, ap, subst, arith, append
 use Rattle.std.proofs.lemmas.List.Elements.{All-nil, All-cons}
 use Rattle.bincode_base.specs.Setting.{Setting}
 use Rattle.bincode_base.specs.declared.error.EncodeError.{EncodeError}
-use Rattle.bincode_spec.specs.Allowed.{AllowedWord, Both}
+use Rattle.bincode_spec.specs.Allowed.{AllowedWord}
+use Rattle.bincode_lemmas.specs.Sequences.{Both}
 use Rattle.bincode_spec.specs.Encoding.{Adds, Refuses, Encodes}
 use Rattle.bincode_spec.specs.Format.{Format, map_format}
 use Rattle.bincode_spec.specs.Meaning.{Meaning, Nothing, Choice, IsNumber}

@@ -5,7 +5,7 @@ ghost use Rattle.bincode_spec.specs.Allowed.{AllowedWord};
 ghost use Rattle.bincode_spec.specs.Encoding.{Encodes};
 ghost use Rattle.bincode_spec.specs.Format.{map_format};
 ghost use Rattle.bincode_spec.specs.Meaning.{Number};
-ghost use Rattle.bincode_spec.specs.Values.{Reads};
+ghost use Rattle.bincode_layers.specs.Values.{Reads};
 ghost use Rattle.bincode_shape.specs.declared.shape.Shape.{Shape};
 ghost use Rattle.bincode_shape.specs.declared.shape.Shape.TheVariants as shapes;
 ghost use Rattle.bincode_shape.specs.declared.shape.Value as values;

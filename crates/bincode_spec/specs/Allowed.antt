@@ -1,11 +1,11 @@
 -- The words that a value allows.
-use Rattle.std.specs.Prelude.{◌≡◌, ℕ, ◌<◌, ◌≤◌, List, ◌++◌, length}
+use Rattle.std.specs.Prelude.{◌≡◌, ℕ, ◌<◌, ◌≤◌, List, length}
 use Rattle.std.specs.List.{All}
 use Rattle.bincode_base.specs.declared.error.EncodeError.{EncodeError}
-use Rattle.bincode_base.specs.declared.error.EncodeError.TheVariants as errors
 use Rattle.bincode_spec.specs.Charge.{Step}
 use Rattle.bincode_spec.specs.Format.{Format}
 use Rattle.bincode_spec.specs.Meaning.{Meaning}
+use Rattle.bincode_base.specs.declared.error.EncodeError.TheVariants as errors
 
 -- the bytes are written for one of the meanings of a value
 pub record AllowedWord (Means : Meaning → Type 0) (F : Format Meaning) (bytes : List ℕ) : Type 0 where
@@ -28,10 +28,6 @@ MayName errors.Memory = ⊥
 abbrev pub WrittenAlike : Format Meaning → Format Meaning → Type 0
 WrittenAlike F G =
     ((bytes : List ℕ) (meaning : Meaning) → F.Written bytes meaning → G.Written bytes meaning) × ((bytes : List ℕ) (meaning : Meaning) → G.Written bytes meaning → F.Written bytes meaning)
-
--- both predicates hold of the same meanings
-abbrev pub SameMeanings : (Meaning → Type 0) → (Meaning → Type 0) → Type 0
-SameMeanings P Q = ((meaning : Meaning) → P meaning → Q meaning) × ((meaning : Meaning) → Q meaning → P meaning)
 
 -- all of these words have one length
 abbrev pub OneLength : (List ℕ → Type 0) → Type 0
@@ -58,7 +54,3 @@ pub record Spelled (Means : Meaning → Type 0) (F : Format Meaning) : Type 0 wh
   pub has_word : SomeWord (AllowedWord Means F)
   pub one_length : OneLength (AllowedWord Means F)
   pub none_shorter : NoneShorter Means Means F
-
--- what one part allows, then what the other does
-abbrev pub Both : (List ℕ → Type 0) → (List ℕ → Type 0) → List ℕ → Type 0
-Both First Second bytes = (x y : List ℕ) × (bytes ≡ x ++ y) × First x × Second y

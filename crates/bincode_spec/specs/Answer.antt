@@ -1,5 +1,5 @@
 -- The answer of decoding: from a format, a limit, and the charge at the start.
-use Rattle.std.specs.Prelude.{◌≡◌, ℕ, ◌+◌, ◌*◌, ◌-◌, ◌≤◌, ◌⊎◌, ◌^◌, nat_le, nat_lt, if◌then◌else◌, List, [], ◌∷◌, ◌++◌, Option, Some, None}
+use Rattle.std.specs.Prelude.{◌≡◌, ℕ, ◌+◌, ◌*◌, ◌-◌, ◌≤◌, nat_le, if◌then◌else◌, List, [], ◌∷◌, ◌++◌, Option, Some, None}
 use Rattle.bincode_spec.specs.Fault.{Fault}
 use Rattle.bincode_spec.specs.Charge.{Step, Charge, Reserve, Release}
 use Rattle.bincode_spec.specs.Format.{Format, Reading, Took, Failed}
@@ -13,18 +13,6 @@ Allows (Some limit) charge = charge ≤ limit
 abbrev pub after_claim : Option ℕ → ℕ → ℕ → Option ℕ
 after_claim None charge n = Some charge
 after_claim (Some limit) charge n = if nat_le (charge + n) limit then Some (charge + n) else None
-
--- the claim of n bytes succeeds
-abbrev pub Claimed : Option ℕ → ℕ → ℕ → ℕ → Type 0
-Claimed limit before n after = after_claim limit before n ≡ Some after
-
--- the claim passes the limit: the new charge is kept if it fits 64 bits
-abbrev pub OverClaimed : Option ℕ → ℕ → ℕ → ℕ → Type 0
-OverClaimed limit before n after = (after_claim limit before n ≡ None) × (after ≡ (if nat_lt (before + n) (2 ^ 64) then before + n else before))
-
--- A claim of n bytes was made: it succeeded or passed the limit, and released nothing.
-abbrev pub Charges : Option ℕ → ℕ → ℕ → ℕ → Type 0
-Charges limit before n after = Claimed limit before n after ⊎ OverClaimed limit before n after
 
 -- the charge after a release
 abbrev pub after_release : Option ℕ → ℕ → ℕ → ℕ
@@ -69,12 +57,6 @@ weigh_reading limit charge (Failed why steps) = refused_at why (charge_behind li
 -- the answer to an input, from a charge
 unfoldable pub answer : {A : Type 0} → Option ℕ → Format A → List ℕ → ℕ → Answer A
 answer limit F input charge = weigh_reading limit charge (F.read input)
-
--- what follows an answer that gave a meaning
-abbrev pub and_then : {A B : Type 0} → Answer A → (A → List ℕ → ℕ → Answer B) → Answer B
-and_then (Gave a remaining charge) next = next a remaining charge
-and_then (Refused why charge) next = Refused why charge
-and_then PassedLimit next = PassedLimit
 
 -- the steps of the word that begins the input, or those before its fault
 pub data StepsOf {A : Type 0} (F : Format A) (input : List ℕ) (steps : List Step) : Type 0 where

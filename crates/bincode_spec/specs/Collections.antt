@@ -1,19 +1,12 @@
 -- Length-prefixed lists, and what collections are made of: the items of a word, in order.
-use Rattle.std.specs.Prelude.{◌≡◌, ◌<◌, ◌^◌, ℕ, pos, List, [], ◌∷◌, length}
+use Rattle.std.specs.Prelude.{◌≡◌, ◌<◌, ◌^◌, List, [], ◌∷◌, length}
 use Rattle.std.specs.List.{All}
 use Rattle.std.specs.List.Sorted.{IsPermutation}
 use Rattle.std.specs.BTreeMap.{insert_entry}
 use Rattle.std.specs.BTreeSet.{insert_key}
 use Rattle.std.specs.declared.cmp.Ordering.{Ordering}
-use Rattle.bincode_base.specs.Setting.{Setting}
-use Rattle.bincode_spec.specs.Meaning.{Meaning, IsNumber}
-use Rattle.bincode_spec.specs.Words.{natural_number, len}
-use Rattle.bincode_spec.specs.Allowed.{AllowedWord}
+use Rattle.bincode_spec.specs.Meaning.{Meaning}
 use Rattle.bincode_spec.specs.Run.{IsListOf}
-
--- the words of a length
-abbrev pub LengthWord : Setting → ℕ → List ℕ → Type 0
-LengthWord s n = AllowedWord (IsNumber (pos n)) (natural_number (len s))
 
 -- each item is valid, and their number fits 64 bits
 abbrev pub AreValid : {A : Type 0} → (A → Type 0) → List A → Type 0

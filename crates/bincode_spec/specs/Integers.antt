@@ -5,7 +5,7 @@ use Rattle.bincode_base.specs.declared.config.Endianness.{Endianness}
 use Rattle.bincode_base.specs.declared.config.IntEncoding.{IntEncoding}
 use Rattle.bincode_base.specs.declared.config.IntEncoding.TheVariants.{Fixed, Variable}
 use Rattle.bincode_base.specs.declared.error.IntegerType.{IntegerType}
-use Rattle.bincode_base.specs.declared.error.IntegerType.TheVariants.{U32, U64, U128, I8, I16, I32, I64, I128, Isize, Reserved}
+use Rattle.bincode_base.specs.declared.error.IntegerType.TheVariants.{U32, U64, U128, I32, I64, I128, Reserved}
 use Rattle.bincode_base.specs.Setting.{Setting}
 use Rattle.bincode_spec.specs.Number.{number_of, digits_of, zigzag, unzigzag, two_complement, from_two_complement}
 use Rattle.bincode_spec.specs.Fault.{Fault, InvalidInteger}
@@ -53,16 +53,6 @@ unsigned_tag tag = if tag == 252 then U32 else if tag == 253 then U64 else if ta
 abbrev pub signed_tag : ℕ → IntegerType
 signed_tag tag = if tag == 252 then I32 else if tag == 253 then I64 else if tag == 254 then I128 else Reserved
 
--- by the name of the type that is read
-abbrev pub tag_types : IntegerType → ℕ → IntegerType
-tag_types I8 = signed_tag
-tag_types I16 = signed_tag
-tag_types I32 = signed_tag
-tag_types I64 = signed_tag
-tag_types I128 = signed_tag
-tag_types Isize = signed_tag
-tag_types _ = unsigned_tag
-
 -- the shortest varint: a number up to 250 is its byte, a larger one has the first tag that is wide enough
 abbrev pub shortest_word : Endianness → ℕ → List ℕ
 shortest_word order n =
@@ -71,15 +61,6 @@ shortest_word order n =
     else if nat_lt n (2 ^ 32) then 252 ∷ digits_of order 4 n
     else if nat_lt n (2 ^ 64) then 253 ∷ digits_of order 8 n
     else 254 ∷ digits_of order 16 n
-
--- the pieces in which it is written: the tag, then the digits
-abbrev pub shortest_pieces : Endianness → ℕ → List (List ℕ)
-shortest_pieces order n =
-    if nat_le n 250 then (n ∷ []) ∷ []
-    else if nat_lt n (2 ^ 16) then (251 ∷ []) ∷ digits_of order 2 n ∷ []
-    else if nat_lt n (2 ^ 32) then (252 ∷ []) ∷ digits_of order 4 n ∷ []
-    else if nat_lt n (2 ^ 64) then (253 ∷ []) ∷ digits_of order 8 n ∷ []
-    else (254 ∷ []) ∷ digits_of order 16 n ∷ []
 
 -- a number of `width` bytes as a tag and digits, however small it is; faults name the tags
 unfoldable pub varint : (ℕ → IntegerType) → IntegerType → Endianness → ℕ → Format ℕ
@@ -119,11 +100,6 @@ signed_byte = charge_then 1 (map_format (from_two_complement 1) byte)
 abbrev pub spelling : IntEncoding → Endianness → ℕ → ℕ → List ℕ
 spelling Fixed order width n = digits_of order width n
 spelling Variable order width n = shortest_word order n
-
--- the pieces in which it is written
-abbrev pub spelling_pieces : IntEncoding → Endianness → ℕ → ℕ → List (List ℕ)
-spelling_pieces Fixed order width n = digits_of order width n ∷ []
-spelling_pieces Variable order width n = shortest_pieces order n
 
 -- the widths of integers wider than one byte
 pub data IsWidth (width : ℕ) : Type 0 where

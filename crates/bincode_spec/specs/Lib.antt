@@ -5,7 +5,6 @@ pub mod Fault
 pub mod Format
 pub mod Laws
 pub mod Integers
-pub mod Spelling
 pub mod Meaning
 pub mod NoZero
 pub mod Words
@@ -26,13 +25,7 @@ pub mod Promises
 pub mod Validated
 pub mod Put
 pub mod Device
-pub mod Reads
-pub mod Lending
 pub mod Decoding
-pub mod Values
 pub mod Encoding
-pub mod Claims
 pub mod Slice
 pub mod Vec
-pub mod Agree
-pub mod Alike

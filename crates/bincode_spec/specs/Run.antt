@@ -1,39 +1,8 @@
 -- Runs of values: their meanings, their words, and the claims that are reserved for them.
-use Rattle.std.specs.Prelude.{◌≡◌, ℕ, ◌+◌, ◌≤◌, List, [], ◌∷◌, Option, Some, None}
-use Rattle.bincode_spec.specs.Charge.{Step, charged_bytes}
-use Rattle.bincode_spec.specs.Laws.{BeginsWith}
-use Rattle.bincode_spec.specs.Format.{Format}
+use Rattle.std.specs.Prelude.{List, [], ◌∷◌}
 use Rattle.bincode_spec.specs.Meaning.{Meaning, IsNothing, IsThen}
-use Rattle.bincode_spec.specs.Allowed.{Both}
 
 -- the meaning is a list of what the values mean, one by one
 abbrev pub IsListOf : {A : Type 0} → (A → Meaning → Type 0) → List A → Meaning → Type 0
 IsListOf Is [] = IsNothing
 IsListOf Is (v ∷ vs) = IsThen (Is v) (IsListOf Is vs)
-
--- what each value allows, in order
-abbrev pub AllowsEach : {A : Type 0} → (A → List ℕ → Type 0) → List A → List ℕ → Type 0
-AllowsEach Allowed [] bytes = bytes ≡ []
-AllowsEach Allowed (v ∷ vs) bytes = Both (Allowed v) (AllowsEach Allowed vs) bytes
-
--- n bytes of the charge can be released; without a limit nothing is counted
-abbrev pub CanRelease : Option ℕ → ℕ → ℕ → Type 0
-CanRelease None charge n = Unit {0}
-CanRelease (Some limit) charge n = n ≤ charge
-
--- no more than this was released; without a limit nothing is counted
-abbrev pub Held : Option ℕ → ℕ → ℕ → ℕ → Type 0
-Held None room before after = before ≤ after
-Held (Some limit) room before after = before ≤ after + room
-
--- the charge after steps that released `room`: their full widths stand in its place; without a limit nothing is counted
-abbrev pub Recharged : Option ℕ → ℕ → List Step → ℕ → ℕ → Type 0
-Recharged None room steps before after = after ≡ before
-Recharged (Some limit) room steps before after = after + room ≡ before + charged_bytes steps
-
--- a word was read, and the claim that was reserved for it was released
-pub record RoomReturned {A : Type 0} (limit : Option ℕ) (F : Format A) (room : ℕ) (input remaining : List ℕ) (before after : ℕ) : Type 0 where
-  pub meaning : A
-  pub steps : List Step
-  pub begins : BeginsWith F input meaning remaining steps
-  pub charge_is : Recharged limit room steps before after

@@ -6,3 +6,4 @@ pub mod Sums
 pub mod TypeLaws
 pub mod TypeWords
 pub mod Memory
+pub mod Passes

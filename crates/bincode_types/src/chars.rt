@@ -1,7 +1,7 @@
 //! Characters as UTF-8 (RFC 3629).
 ghost use Rattle.std.specs.Prelude.{◌≡◌, ◌<◌, ◌≤◌, ◌∷◌, [], Some, None, IfOk, IfErr};
 ghost use Rattle.std.specs.Char.{encode_utf8};
-ghost use Rattle.bincode_spec.specs.Reads.{ReadsWord};
+ghost use Rattle.bincode_layers.specs.Reads.{ReadsWord};
 ghost use Rattle.bincode_spec.specs.Meaning.{Character};
 ghost use Rattle.bincode_spec.specs.Words.{char_width, rest_of_char, Spells};
 

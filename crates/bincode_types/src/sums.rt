@@ -7,7 +7,7 @@ ghost use Rattle.bincode_spec.specs.Format.{Format, map_format};
 ghost use Rattle.bincode_spec.specs.Integers.{unsigned_byte};
 ghost use Rattle.bincode_spec.specs.Integers.{Four};
 ghost use Rattle.bincode_spec.specs.Fault.{Allowed, UnexpectedVariant};
-ghost use Rattle.bincode_spec.specs.Need.{then_needs, picked_needs};
+ghost use Rattle.bincode_layers.specs.Needs.{then_needs, picked_needs};
 ghost use Rattle.bincode_lemmas.specs.NeedLaws.{Needs, picked-needs, fail-needs, map-needs, chosen-needs};
 ghost use Rattle.bincode_lemmas.specs.ChargedLaws.{ChargesEnough, picked-charged, fail-charged, map-charged};
 ghost use Rattle.bincode_lemmas.specs.ChargedLaws.{chosen-charged};

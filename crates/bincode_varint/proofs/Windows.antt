@@ -5,7 +5,8 @@ use Rattle.std.proofs.Common.{sym, ap, ◌∙◌, arith, append_assoc, length-ap
 use Rattle.bincode_base.specs.declared.error.DecodeError.{DecodeError}
 use Rattle.bincode_base.specs.declared.error.DecodeError.TheVariants.{UnexpectedEnd, InvalidIntegerType}
 use Rattle.bincode_base.specs.declared.error.IntegerType.{IntegerType}
-use Rattle.bincode_spec.specs.Device.{no_device, DeviceErrors, Unmoved, TakesShown}
+use Rattle.bincode_layers.specs.Pieces.{no_device, Unmoved, TakesShown}
+use Rattle.bincode_spec.specs.Device.{DeviceErrors}
 use Rattle.bincode_lemmas.specs.ValidatedLaws.{own-tells}
 use Rattle.bincode_spec.specs.Fault.{Fault, IsEnd, Tells, Between, OneOf, End, InvalidInteger, Zero, UnexpectedVariant, Utf8, InvalidChar, InvalidBool, InvalidDuration, NulAt, Other, LengthMismatch, EmptyEnum, OutsideUsize, short, long}
 use Rattle.bincode_base.specs.declared.config.Endianness.{Endianness}
@@ -14,7 +15,7 @@ use Rattle.bincode_spec.specs.Integers.{FirstByte, Itself, Before, TooWide, firs
 use Rattle.bincode_lemmas.specs.FormatLaws.{pure-lawful, fail-lawful, turn-lawful}
 use Rattle.bincode_lemmas.specs.IntegerLaws.{byte-lawful, digits-lawful}
 use Rattle.bincode_spec.specs.Laws.{Lawful}
-use Rattle.bincode_spec.specs.Reads.{ReadsWord, ReadFailure, by_fault, by_failure, by_device}
+use Rattle.bincode_layers.specs.Reads.{ReadsWord, ReadFailure, by_fault, by_failure, by_device}
 use Rattle.bincode_varint.specs.Window.{FrontIs, FrontFails}
 use Rattle.bincode_varint.proofs.Words.{fixed_bytes-read, byte-took}
 

@@ -21,10 +21,12 @@ use Rattle.bincode_lemmas.specs.FormatLaws.{fixed_bytes-lawful}
 use Rattle.bincode_lemmas.specs.IntegerLaws.{byte-lawful, shortest-1, shortest-3, shortest-5, shortest-9, shortest-17}
 use Rattle.bincode_base.specs.declared.config.IntEncoding.{IntEncoding}
 use Rattle.bincode_base.specs.declared.config.IntEncoding.TheVariants.{Fixed}
-use Rattle.bincode_spec.specs.Integers.{shortest_word, shortest_pieces, spelling, spelling_pieces, number_for, byte, digits, first_of, varint, first_byte, Itself, Before, TooWide, behind, width_in_bytes}
-use Rattle.bincode_spec.specs.Device.{DeviceErrors, FallsShort, Rose, Takes, StopsAmong, TakesPiece, TakesPieces}
+use Rattle.bincode_spec.specs.Integers.{shortest_word, spelling, number_for, byte, digits, first_of, varint, first_byte, Itself, Before, TooWide, behind, width_in_bytes}
+use Rattle.bincode_layers.specs.Spelling.{shortest_pieces, spelling_pieces}
+use Rattle.bincode_spec.specs.Device.{DeviceErrors, Rose, Takes}
+use Rattle.bincode_layers.specs.Pieces.{FallsShort, StopsAmong, TakesPiece, TakesPieces}
 use mir.Val.{to_z, of_z, Fits}
-use Rattle.bincode_spec.specs.Reads.{ReadFailure, by_fault, by_device, by_failure}
+use Rattle.bincode_layers.specs.Reads.{ReadFailure, by_fault, by_device, by_failure}
 
 -- n bytes are there
 pub fixed_bytes-read : (bytes remaining : List ℕ) (n : ℕ) → length bytes ≡ n → (fixed_bytes n).read (bytes ++ remaining) ≡ Took bytes remaining []

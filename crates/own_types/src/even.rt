@@ -19,7 +19,7 @@ pub struct Even {
 impl Validate for Even {
     ghost use Rattle.std.specs.Prelude.{codes};
     ghost use Rattle.bincode.specs.Fault.{Other};
-    ghost use Rattle.bincode.specs.Validated.{number_passes};
+    ghost use Rattle.bincode.specs.Passes.{number_passes};
 
     type Of = u8;
 

@@ -3,7 +3,7 @@ use Rattle.std.specs.Prelude.{◌≡◌, ◌⊎◌, ◌++◌, ◌<◌, ◌≤◌
 use Rattle.std.proofs.Common.{◌∙◌, sym, ap, subst, arith}
 use Rattle.std.proofs.lemmas.List.{take-append-drop, take-append-le, length-drop}
 use Rattle.bincode_base.specs.declared.error.DecodeError.{DecodeError}
-use Rattle.bincode_spec.specs.Agree.{SameAnswer, WasCut, WasRefused}
+use Rattle.bincode_layers.specs.Agree.{SameAnswer, WasCut, WasRefused}
 use Rattle.bincode_spec.specs.Format.{Format}
 use Rattle.bincode_spec.specs.Laws.{Lawful, Balanced}
 use Rattle.bincode_spec.specs.Meaning.{Meaning}

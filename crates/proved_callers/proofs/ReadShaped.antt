@@ -5,7 +5,7 @@ use Rattle.bincode_base.specs.Setting.{Setting}
 use Rattle.bincode_base.specs.declared.error.DecodeError.{DecodeError}
 use Rattle.bincode_base.specs.declared.error.DecodeError.TheVariants.{LimitExceeded}
 use Rattle.bincode_base.specs.declared.error.EncodeError.{EncodeError}
-use Rattle.bincode_spec.specs.Alike.{TellAlike, both_passed, both_tell}
+use Rattle.bincode_layers.specs.Alike.{TellAlike, both_passed, both_tell}
 use Rattle.bincode_spec.specs.Allowed.{AllowedWord}
 use Rattle.bincode_spec.specs.Answer.{Answer, Gave, Refused, PassedLimit, StepsOf, of_word, of_fault, answer}
 use Rattle.bincode_spec.specs.Charge.{Step}

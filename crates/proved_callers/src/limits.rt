@@ -1,6 +1,6 @@
 //! Callers that decode under a limit. Their proofs use the contracts of the calls alone.
 ghost use Rattle.std.specs.Prelude.{◌≡◌, ◌-◌, ℕ, length, Some, IfOk, MatchResult};
-ghost use Rattle.bincode_spec.specs.Agree.{SameReading};
+ghost use Rattle.bincode_layers.specs.Agree.{SameReading};
 ghost use Rattle.bincode_spec.specs.Decoding.{IsExcused, IsRefused};
 ghost use Rattle.bincode_spec.specs.Limited.{LimitedBy, WordBounded};
 ghost use Rattle.bincode_spec.specs.Limits.{NoTighter};

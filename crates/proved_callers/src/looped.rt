@@ -1,6 +1,6 @@
 //! A list of one's own that is decoded with its own claim and its own loop.
 ghost use Rattle.std.specs.Prelude.{◌≡◌, ◌*◌};
-ghost use Rattle.bincode.specs.Run.{CanRelease};
+ghost use Rattle.bincode.specs.Releases.{CanRelease};
 ghost use Rattle.bincode.specs.Values.{RunRead};
 
 use bincode::de::{ClaimContainer, Decode, Decoder, Sequential};

@@ -6,7 +6,8 @@ use Rattle.bincode_spec.specs.Meaning.{IsNumber}
 use Rattle.bincode_spec.specs.Words.{natural_number, array}
 use Rattle.bincode_spec.specs.Allowed.{AllowedWord}
 use Rattle.bincode_lemmas.specs.AllowedLaws.{byte-allows}
-use Rattle.bincode_spec.specs.Run.{IsListOf, AllowsEach}
+use Rattle.bincode_spec.specs.Run.{IsListOf}
+use Rattle.bincode_lemmas.specs.Sequences.{AllowsEach}
 use Rattle.bincode_lemmas.specs.RunAllowedLaws.{array-allows}
 use Rattle.bincode_encoder.proofs.integers.words_of_bytes.Goals as goal
 

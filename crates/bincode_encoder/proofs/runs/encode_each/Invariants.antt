@@ -1,6 +1,6 @@
 use Rattle.std.proofs.Common.{◌≡◌, take}
 use Rattle.bincode_spec.specs.Allowed.{AllowedWord}
-use Rattle.bincode_spec.specs.Run.{AllowsEach}
+use Rattle.bincode_lemmas.specs.Sequences.{AllowsEach}
 use Rattle.bincode_spec.specs.Encoding.{Writes}
 use Rattle.bincode_encoder.proofs.runs.encode_each.Given as goal
 

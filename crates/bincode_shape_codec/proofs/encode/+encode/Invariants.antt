@@ -1,7 +1,7 @@
 use Rattle.std.proofs.Common.{◌≡◌, true, take, drop}
 use Rattle.std.specs.List.{list_all}
 use Rattle.bincode_spec.specs.Encoding.{Writes}
-use Rattle.bincode_spec.specs.Run.{AllowsEach}
+use Rattle.bincode_lemmas.specs.Sequences.{AllowsEach}
 use Rattle.bincode_shape.specs.Shapes.{fits, each_passes}
 use Rattle.bincode_shape.specs.Rows.{tests, AllowsImage, AllowsImages}
 use Rattle.bincode_shape_codec.proofs.Writing.{WritesSome}

@@ -1,9 +1,21 @@
 -- What a claim returns and what it leaves unchanged.
-use Rattle.std.specs.Prelude.{◌≡◌, ℕ, List, Option, Result, OnOk, IfErr}
+use Rattle.std.specs.Prelude.{◌≡◌, ℕ, List, Option, Result, OnOk, IfErr, ◌+◌, ◌-◌, ◌⊎◌, ◌^◌, nat_lt, if◌then◌else◌, Some, None}
 use Rattle.std.specs.Borrow.{GName}
 use Rattle.bincode_base.specs.declared.error.DecodeError.{DecodeError}
 use Rattle.bincode_base.specs.declared.error.DecodeError.TheVariants.{LimitExceeded}
-use Rattle.bincode_spec.specs.Answer.{Claimed, OverClaimed, after_release}
+use Rattle.bincode_spec.specs.Answer.{after_release, after_claim}
+
+-- the claim of n bytes succeeds
+abbrev pub Claimed : Option ℕ → ℕ → ℕ → ℕ → Type 0
+Claimed limit before n after = after_claim limit before n ≡ Some after
+
+-- the claim passes the limit: the new charge is kept if it fits 64 bits
+abbrev pub OverClaimed : Option ℕ → ℕ → ℕ → ℕ → Type 0
+OverClaimed limit before n after = (after_claim limit before n ≡ None) × (after ≡ (if nat_lt (before + n) (2 ^ 64) then before + n else before))
+
+-- A claim of n bytes was made: it succeeded or passed the limit, and released nothing.
+abbrev pub Charges : Option ℕ → ℕ → ℕ → ℕ → Type 0
+Charges limit before n after = Claimed limit before n after ⊎ OverClaimed limit before n after
 
 -- a claim of n bytes succeeds, or fails because it passes the limit
 pub record Claims (limit : Option ℕ) (before n after : ℕ) (result : Result (Unit {0}) DecodeError) : Type 0 where
