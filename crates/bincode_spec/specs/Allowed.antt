@@ -19,10 +19,7 @@ MayName (errors.RefCellAlreadyBorrowed _) = Unit {0}
 MayName (errors.LockFailed _) = Unit {0}
 MayName (errors.Other _) = Unit {0}
 MayName (errors.OtherString _) = Unit {0}
-MayName errors.UnexpectedEnd = ⊥
-MayName (errors.Io _ _) = ⊥
-MayName errors.InvalidPathCharacters = ⊥
-MayName errors.Memory = ⊥
+MayName _ = ⊥
 
 -- both formats write the same words for each meaning
 abbrev pub WrittenAlike : Format Meaning → Format Meaning → Type 0

@@ -34,11 +34,7 @@ abbrev pub IsOwn : EncodeError → Type 0
 IsOwn (errors.LockFailed _) = Unit {0}
 IsOwn (errors.Other _) = Unit {0}
 IsOwn (errors.OtherString _) = Unit {0}
-IsOwn (errors.UnexpectedEnd) = ⊥
-IsOwn (errors.RefCellAlreadyBorrowed _) = ⊥
-IsOwn (errors.Io _ _) = ⊥
-IsOwn (errors.InvalidPathCharacters) = ⊥
-IsOwn (errors.Memory) = ⊥
+IsOwn _ = ⊥
 
 -- Some bytes were added. Then the writer refused a piece, and they with the piece begin an allowed word; or the error
 -- is the type's own, and they begin an allowed word unless it is one of a user's type.

@@ -34,18 +34,7 @@ pub data Fault : Type 0 where
 
 abbrev pub IsEnd : Fault → Type 0
 IsEnd (End missing) = Unit {0}
-IsEnd (InvalidInteger _ _) = ⊥
-IsEnd (Zero _) = ⊥
-IsEnd (UnexpectedVariant _ _) = ⊥
-IsEnd Utf8 = ⊥
-IsEnd (InvalidChar _) = ⊥
-IsEnd (InvalidBool _) = ⊥
-IsEnd (InvalidDuration _ _) = ⊥
-IsEnd (NulAt _) = ⊥
-IsEnd (Other _) = ⊥
-IsEnd (LengthMismatch _ _) = ⊥
-IsEnd EmptyEnum = ⊥
-IsEnd (OutsideUsize _) = ⊥
+IsEnd _ = ⊥
 
 -- the error of a type of this name for an unknown tag, with the valid ones
 abbrev pub TellsTag : Text 10 → Allowed → ℕ → DecodeError → Type 0

@@ -2,7 +2,7 @@
 -- input that begins with no word. Beside these relations stands the program that reads a word or a fault from an input;
 -- the laws say that the two agree. All formats are made of the few below.
 use Rattle.std.specs.Prelude.{◌≡◌, ℕ, zero, suc, ◌-◌, ◌<◌, ◌⊎◌, List, [], ◌∷◌, ◌++◌, length, take, drop, nat_lt, if◌then◌else◌, Result, Ok, Err, Some, None}
-use Rattle.bincode_spec.specs.Fault.{Fault, End, InvalidInteger, Zero, UnexpectedVariant, Utf8, InvalidChar, InvalidBool, InvalidDuration, NulAt, Other, LengthMismatch, EmptyEnum, OutsideUsize}
+use Rattle.bincode_spec.specs.Fault.{Fault, End}
 use Rattle.bincode_spec.specs.Charge.{Step, Charge, Reserve, Release}
 
 -- The result of reading, with the steps taken: a meaning and the bytes after the word, or a fault.
@@ -112,18 +112,7 @@ written_as Chosen F = record { Word = F.Word; Written = Chosen; Faults = F.Fault
 -- the fault, without how many bytes the input lacks
 abbrev pub fault_without_count : Fault → Fault
 fault_without_count (End missing) = End None
-fault_without_count (InvalidInteger expected found) = InvalidInteger expected found
-fault_without_count (Zero name) = Zero name
-fault_without_count (UnexpectedVariant allowed found) = UnexpectedVariant allowed found
-fault_without_count Utf8 = Utf8
-fault_without_count (InvalidChar bytes) = InvalidChar bytes
-fault_without_count (InvalidBool byte) = InvalidBool byte
-fault_without_count (InvalidDuration seconds nanos) = InvalidDuration seconds nanos
-fault_without_count (NulAt place) = NulAt place
-fault_without_count (Other text) = Other text
-fault_without_count (LengthMismatch required found) = LengthMismatch required found
-fault_without_count EmptyEnum = EmptyEnum
-fault_without_count (OutsideUsize n) = OutsideUsize n
+fault_without_count why = why
 
 abbrev pub reading_without_count : {A : Type 0} → Reading A → Reading A
 reading_without_count (Took a remaining steps) = Took a remaining steps
