@@ -7,3 +7,5 @@ pub mod Through
 mod StreamHalted
 pub mod Within
 mod EnumFormats
+mod Short
+mod Counts

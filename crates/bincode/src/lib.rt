@@ -8,6 +8,7 @@
 #![tactic(auto)]
 
 mod borrow;
+pub mod checked;
 pub mod de;
 pub mod enc;
 mod enum_shapes;

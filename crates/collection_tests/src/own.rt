@@ -1,5 +1,6 @@
 //! Types of one's own, written and read.
 
+use bincode::checked::{encoded_length, round_trip};
 use bincode::de::Decode;
 use bincode::de::read::SliceReader;
 use bincode::enc::Encode;
@@ -17,8 +18,6 @@ use own_types::pair::Pair;
 use own_types::report::Report;
 use own_types::table::Table;
 use own_types::track::Track;
-use proved_callers::calls::round_trip;
-use proved_callers::lengths::encoded_length;
 use std::alloc::Global;
 use test_helpers::checks::{
     decoded_within, each_call_keeps, ends_at_each_place, fault_of, goes_on, refuses_tag, within,

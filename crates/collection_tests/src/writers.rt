@@ -1,11 +1,11 @@
 //! Writing over a line that is cut, and into a fixed room.
 
+use bincode::checked::encoded_length;
 use bincode::enc::{Encode, Encoder, EncoderImpl};
 use bincode::error::EncodeError;
 use bincode::{config, encode_into_writer};
 use proved_callers::cut::CutWriter;
 use proved_callers::fixed::Fixed;
-use proved_callers::lengths::encoded_length;
 use std::process::Abort;
 
 /// The first number is written, and each after it fails with the error of the line.

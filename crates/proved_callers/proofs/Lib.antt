@@ -1,9 +1,7 @@
 mod Agree
 mod MoreBytes
-mod Counts
 mod Fits
 mod Larger
 mod LengthReads
 mod ReadShaped
 mod Refusals
-mod Short

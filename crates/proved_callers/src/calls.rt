@@ -1,22 +1,22 @@
 //! Callers of encoding and decoding. Their proofs use the contracts of the two calls alone.
 ghost use Rattle.std.specs.Prelude.{◌≡◌, ◌*◌, ◌≤◌, ℕ, true, IfErr, IfOk};
-ghost use Rattle.std.specs.Prelude.{MatchResult, Some, false, length, take, vec_capacity};
+ghost use Rattle.std.specs.Prelude.{MatchResult, Some, false, length, vec_capacity};
 ghost use Rattle.bincode_base.specs.declared.error.DecodeError.TheVariants.{Memory};
 ghost use Rattle.bincode_spec.specs.Allowed.{AllowedWord};
 ghost use Rattle.bincode_spec.specs.Answer.{Allows};
 ghost use Rattle.bincode_spec.specs.Decoding.{IsRefused};
-ghost use Rattle.bincode_spec.specs.Limits.{FitsLimit};
 ghost use Rattle.bincode_spec.specs.Slice.{FrontWritten};
-ghost use Rattle.proved_callers.specs.Short.{TooShort};
+ghost use Rattle.bincode.specs.Short.{TooShort};
 ghost use Rattle.std.specs.Range.{range_inclusive_exhausted};
 
+use bincode::checked::{RoundTrip, round_trip_within};
 use bincode::config::Config;
 use bincode::de::Decode;
 use bincode::enc::Encode;
 use bincode::error::{DecodeError, EncodeError};
-use bincode::laws::{ConstantCharge, Exact, Writable};
+use bincode::laws::Writable;
 use bincode::time::Duration;
-use bincode::{Wire, decode_from_slice, encode_into_slice, encode_to_vec};
+use bincode::{Wire, decode_from_slice, encode_into_slice};
 use std::alloc::Global;
 use std::cell::{Cell, RefCell};
 use std::cmp::Reverse;
@@ -34,80 +34,6 @@ pub fn read<D: Decode<()>, C: Config>(
     ensures memory { (D.words.may_allocate → ⊥) → IfErr result (λ e. ¬ (e ≡ Memory)) }
 {
     decode_from_slice(alloc, src, config)
-}
-
-/// The result of a round trip: the number of bytes written, and what was decoded.
-#[derive(Drop)]
-pub struct RoundTrip<T> {
-    pub written: usize,
-    pub read: Result<(T, usize), DecodeError>,
-}
-
-/// Encodes a value into the front of a slice and decodes it from there, with the bytes after it. If the charges of the
-/// encoding stay within the limit, an equal value is decoded from as many bytes, unless memory is refused. Fails with
-/// `UnexpectedEnd` if the slice is too short.
-pub fn round_trip<T: Encode + Decode<()> + Exact, C: Config>(
-    alloc: Global,
-    value: &T,
-    slice: &mut [u8],
-    config: C,
-) -> Result<RoundTrip<T>, EncodeError>
-    ensures back { IfOk result (λ trip. FitsLimit (T.words.format C.setting) C.bound (take trip.written slice.new) →
-        MatchResult trip.read (λ x. (T.eq value.now x.0 ≡ true) × (x.1 ≡ trip.written))
-        (IsRefused T.words.may_allocate)) }
-    ensures short { IfErr result (TooShort (AllowedWord (T.words.means value.now) (T.words.format C.setting))
-        (length slice.old)) }
-{
-    T::tell_plain();
-    T::tell_exact();
-    value.tell_valid();
-    let written = encode_into_slice(value, slice, config)?;
-    let read = decode_from_slice(alloc, slice, config);
-    Ok(RoundTrip { written, read })
-}
-
-/// The result of a round trip through a vector: the encoding, and what was decoded.
-#[derive(Drop)]
-pub struct VecTrip<T> {
-    pub bytes: Vec<u8>,
-    pub read: Result<(T, usize), DecodeError>,
-}
-
-/// Encodes a value into a vector and decodes it from there. If the charges of the encoding stay within the limit, an
-/// equal value is decoded from as many bytes, unless memory is refused. Fails with `Memory` if the allocation of the
-/// vector is refused.
-pub fn round_trip_by_vec<T: Encode + Decode<()> + Exact, C: Config>(
-    alloc: Global,
-    value: &T,
-    config: C,
-) -> Result<VecTrip<T>, EncodeError>
-    ensures { IfOk result (λ trip. FitsLimit (T.words.format C.setting) C.bound trip.bytes.items →
-        MatchResult trip.read (λ x. (T.eq value.now x.0 ≡ true) × (x.1 ≡ length trip.bytes.items))
-        (IsRefused T.words.may_allocate)) }
-{
-    T::tell_exact();
-    value.tell_valid();
-    let bytes = encode_to_vec(alloc, value, config)?;
-    let read = decode_from_slice(alloc, &bytes, config);
-    Ok(VecTrip { bytes, read })
-}
-
-/// `round_trip` for a type whose encodings all charge the same: the limit has to allow the most that is charged and
-/// held at one time.
-pub fn round_trip_within<T: Encode + Decode<()> + Exact + ConstantCharge, C: Config>(
-    alloc: Global,
-    value: &T,
-    slice: &mut [u8],
-    config: C,
-) -> Result<RoundTrip<T>, EncodeError>
-    ensures back { Allows C.bound T.peak → IfOk result (λ trip.
-        MatchResult trip.read (λ x. (T.eq value.now x.0 ≡ true) × (x.1 ≡ trip.written))
-        (IsRefused T.words.may_allocate)) }
-    ensures short { IfErr result (TooShort (AllowedWord (T.words.means value.now) (T.words.format C.setting))
-        (length slice.old)) }
-{
-    T::tell_costs();
-    round_trip(alloc, value, slice, config)
 }
 
 /// `round_trip_within` for a number of 8 bytes and four of 4: any limit from 24 on is enough.

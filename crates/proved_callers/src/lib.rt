@@ -7,7 +7,6 @@ pub mod borrowed;
 pub mod calls;
 pub mod cut;
 pub mod fixed;
-pub mod lengths;
 pub mod limits;
 pub mod longer;
 pub mod looped;

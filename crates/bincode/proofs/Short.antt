@@ -7,7 +7,7 @@ use Rattle.bincode_base.specs.declared.error.EncodeError.TheVariants.{Unexpected
 use Rattle.bincode_spec.specs.Allowed.{OneLength}
 use Rattle.bincode_spec.specs.Encoding.{Ready}
 use Rattle.bincode_spec.specs.Slice.{FitsExactly}
-use Rattle.proved_callers.specs.Short.{TooShort}
+use Rattle.bincode.specs.Short.{TooShort}
 
 only_end : (N : EncodeError → Type 0) → ((e : EncodeError) → N e → ⊥) → (e : EncodeError) → (e ≡ UnexpectedEnd) ⊎ N e → e ≡ UnexpectedEnd
 only_end N none e (inl h) = h

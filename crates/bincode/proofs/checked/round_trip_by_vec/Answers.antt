@@ -1,6 +1,6 @@
 use Rattle.std.proofs.Common.{◌≡◌, true}
 use Rattle.bincode_lemmas.specs.LimitLaws.{read-back_vec}
-use Rattle.proved_callers.proofs.calls.round_trip_by_vec.Goals as goal
+use Rattle.bincode.proofs.checked.round_trip_by_vec.Goals as goal
 
 pub returns : goal.returns
 returns g c = λ fits.

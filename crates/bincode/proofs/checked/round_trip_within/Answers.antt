@@ -1,6 +1,6 @@
 use Rattle.std.proofs.lemmas.Result.{IfOk-weaker}
 use Rattle.bincode_lemmas.specs.CostLaws.{cost-fits}
-use Rattle.proved_callers.proofs.calls.round_trip_within.Goals as goal
+use Rattle.bincode.proofs.checked.round_trip_within.Goals as goal
 
 pub returns : goal.returns
 returns g c = record {

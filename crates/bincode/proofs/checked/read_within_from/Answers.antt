@@ -1,5 +1,5 @@
 use Rattle.bincode_lemmas.specs.LimitedLaws.{read-limited, read-bounded}
-use Rattle.proved_callers.proofs.limits.read_within_from.Goals as goal
+use Rattle.bincode.proofs.checked.read_within_from.Goals as goal
 
 pub returns-clause-limited : goal.returns-clause-limited
 returns-clause-limited g c = λ told ends.

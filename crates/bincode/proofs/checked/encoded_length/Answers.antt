@@ -1,6 +1,6 @@
 use Rattle.std.proofs.Common.{refl}
-use Rattle.proved_callers.proofs.Counts.{counted-length}
-use Rattle.proved_callers.proofs.lengths.encoded_length.Goals as goal
+use Rattle.bincode.proofs.Counts.{counted-length}
+use Rattle.bincode.proofs.checked.encoded_length.Goals as goal
 
 pub returns : goal.returns
 returns g c =

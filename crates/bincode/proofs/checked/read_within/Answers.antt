@@ -1,5 +1,5 @@
 use Rattle.bincode_lemmas.specs.LimitedLaws.{answer-limited, answer-bounded}
-use Rattle.proved_callers.proofs.limits.read_within.Goals as goal
+use Rattle.bincode.proofs.checked.read_within.Goals as goal
 
 pub returns-clause-limited : goal.returns-clause-limited
 returns-clause-limited g c =

@@ -1,8 +1,8 @@
 use Rattle.std.proofs.Common.{◌≡◌, true}
 use Rattle.std.proofs.lemmas.Result.{err_from_is_err_and}
 use Rattle.bincode_lemmas.specs.LimitLaws.{read-back_slice}
-use Rattle.proved_callers.proofs.Short.{too-short}
-use Rattle.proved_callers.proofs.calls.round_trip.Goals as goal
+use Rattle.bincode.proofs.Short.{too-short}
+use Rattle.bincode.proofs.checked.round_trip.Goals as goal
 
 pub returns-clause-back : goal.returns-clause-back
 returns-clause-back g c = λ fits.
