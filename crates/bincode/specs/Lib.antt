@@ -66,7 +66,7 @@ pub use Rattle.bincode_io.specs.Slices
 pub use Rattle.bincode_io.specs.Stream
 pub use Rattle.bincode_io.specs.Vectors
 pub use Rattle.bincode_decoder.specs.Contexts
-pub use Rattle.bincode_described.specs.Describing
+pub use Rattle.bincode_shape.specs.Describing
 pub use Rattle.bincode_enums.specs.EnumWords
 pub use Rattle.bincode_shape.specs.Shapes
 pub use Rattle.bincode_shape.specs.Depth

@@ -3,10 +3,10 @@ ghost use Rattle.std.specs.Prelude.{◌≡◌, ◌<◌, ◌+◌, ◌++◌, ◌�
 ghost use Rattle.bincode_base.specs.Setting.{Setting};
 ghost use Rattle.bincode_spec.specs.Words.{tag_then_part, tag};
 ghost use Rattle.bincode_shape.specs.declared.shape.Shape.{Shape};
-ghost use Rattle.bincode_described.specs.Describing.{Describes};
+ghost use Rattle.bincode_shape.specs.Describing.{Describes};
 ghost use Rattle.bincode.specs.EnumShapes.{DescribesFirst, IsVariant};
 
-use bincode_described::described::Described;
+use bincode_shape::described::Described;
 use bincode_enums::enums::Enum;
 use bincode_shape::shape::Shape;
 use std::alloc::Global;

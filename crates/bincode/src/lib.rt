@@ -54,7 +54,7 @@ pub mod model {
 pub mod shape {
     pub use crate::enum_shapes::{describe_variants, put_variant, start_variants};
     pub use crate::shaped::{decode_shaped, decode_shaped_within, encode_shaped, measure_shaped};
-    pub use bincode_described::described::Described;
+    pub use bincode_shape::described::Described;
     pub use bincode_shape::fits::does_fit;
     pub use bincode_shape::shape::{Shape, Value};
     pub use bincode_shape_codec::within::{DecodeWithinError, Measure};

@@ -19,6 +19,6 @@ pub fn decode_validated<D: Decoder, V: ReadValues<D>, T: Validate<Of = V::Value>
         decoder.new }
 {
     let of = V::read_value(decoder)?;
-    let with_test = T::validate(of)?;
-    Ok(Validated(with_test))
+    let passed = T::validate(of)?;
+    Ok(Validated(passed))
 }

@@ -1,7 +1,14 @@
-//! Types that are described at run time: shapes, and generic values.
-#![tactic(auto)]
+//! Types that are described at run time: their shapes, the images of their values, and the shape that a type tells of
+//! itself.
+#![tactic(auto, using(crate::proofs::Formats::same_itself))]
 
 pub mod bytes;
+pub mod choices;
 pub mod depth;
+pub mod described;
 pub mod fits;
+mod lists;
+pub mod rows;
+mod scalars;
 pub mod shape;
+mod tuples;

@@ -16,7 +16,7 @@ use Rattle.bincode_shape.specs.Rows.{formats, formats_of-vec}
 use Rattle.bincode_shape.specs.Same.{SameWords, same-itself, list-same, array-same, first_and-same}
 use Rattle.bincode_shape.specs.SameChoices.{SameVariants, chosen-same}
 use Rattle.bincode_types.specs.TypeWords.{Words}
-use Rattle.bincode_described.specs.Describing.{Describes, DescribesRow, DescribesVariants}
+use Rattle.bincode_shape.specs.Describing.{Describes, DescribesRow, DescribesVariants}
 
 share-claims : (claim : ℕ) → 1 ≤ claim → share claim ≡ claim
 share-claims claim h = omega (arith, h)

@@ -1,6 +1,6 @@
 use Rattle.std.proofs.lemmas.Option.{IfSome_then}
-use Rattle.bincode_described.proofs.Formats.{next_described}
-use Rattle.bincode_described.proofs.rows.Cons4DescribedRow.put_shapes.Goals as goal
+use Rattle.bincode_shape.proofs.Formats.{next_described}
+use Rattle.bincode_shape.proofs.rows.Cons4DescribedRow.put_shapes.Goals as goal
 
 pub returns : goal.returns
 returns g c =

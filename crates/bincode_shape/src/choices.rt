@@ -2,11 +2,11 @@
 ghost use Rattle.std.specs.Prelude.{◌≡◌, ◌<◌, IfSome, true, length, refl};
 ghost use Rattle.std.proofs.Common.{arith};
 ghost use Rattle.bincode_spec.specs.Words.{variant_tags, in_order};
-ghost use Rattle.bincode_described.specs.Describing.{DescribesVariants};
+ghost use Rattle.bincode_shape.specs.Describing.{DescribesVariants};
 
 use crate::described::Described;
 use crate::rows::put_shape;
-use bincode_shape::shape::Shape;
+use crate::shape::Shape;
 use bincode_types::sums::{EnumOf, NoMoreVariants, VariantOf, Variants};
 use bincode_types::wire::Wire;
 use std::alloc::Global;

@@ -1,6 +1,6 @@
 use Rattle.std.proofs.Common.{◌++◌, ◌∷◌, [], ◌∙◌, ap, arith, refl}
-use Rattle.bincode_described.proofs.Formats.{choice_described, next_variant_described, no_variants_described}
-use Rattle.bincode_described.proofs.choices.ResultDescribed.shape.Goals as goal
+use Rattle.bincode_shape.proofs.Formats.{choice_described, next_variant_described, no_variants_described}
+use Rattle.bincode_shape.proofs.choices.ResultDescribed.shape.Goals as goal
 
 pub returns : goal.returns
 returns g c =
@@ -10,5 +10,5 @@ returns g c =
     record {
       described = λ s. choice_described c.in_ok-parts-2.parts _ s
           (next_variant_described [] _ _ first.0 0 _ _ from_none first.2 (next_variant_described _ _ _ second.0 1 _ _ second.1 second.2 (no_variants_described _))) (omega arith, refl);
-      is_known = λ none. absurd (none tt);
+      shaped = λ none. absurd (none tt);
     }

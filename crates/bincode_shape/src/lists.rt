@@ -1,6 +1,6 @@
 //! Shapes of lists, arrays, texts and boxes.
 use crate::described::Described;
-use bincode_shape::shape::Shape;
+use crate::shape::Shape;
 use bincode_types::wire::Wire;
 use std::alloc::Global;
 

@@ -1,6 +1,6 @@
 use Rattle.std.proofs.lemmas.Option.{IfSome_then}
-use Rattle.bincode_described.proofs.Formats.{next_variant_described}
-use Rattle.bincode_described.proofs.choices.VariantOfDescribedVariants.put_shapes.Goals as goal
+use Rattle.bincode_shape.proofs.Formats.{next_variant_described}
+use Rattle.bincode_shape.proofs.choices.VariantOfDescribedVariants.put_shapes.Goals as goal
 
 pub returns : goal.returns
 returns g c =

@@ -1,10 +1,10 @@
 //! Shapes of tuples, from those of their parts.
 ghost use Rattle.std.specs.Prelude.{◌≡◌, ◌++◌, ◌∷◌, [], IfSome};
 ghost use Rattle.bincode_shape.specs.declared.shape.Shape.{Shape};
-ghost use Rattle.bincode_described.specs.Describing.{Describes, DescribesRow};
+ghost use Rattle.bincode_shape.specs.Describing.{Describes, DescribesRow};
 
 use crate::described::Described;
-use bincode_shape::shape::Shape;
+use crate::shape::Shape;
 use bincode_types::by_parts::ByParts;
 use bincode_types::rows::{Cons, Cons4, Tail};
 use bincode_types::wire::Wire;

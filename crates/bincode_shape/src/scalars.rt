@@ -1,6 +1,6 @@
 //! Shapes of numbers, `bool`, `char` and `()`.
 use crate::described::Described;
-use bincode_shape::shape::Shape;
+use crate::shape::Shape;
 use std::alloc::Global;
 
 impl Described for () {

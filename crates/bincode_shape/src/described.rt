@@ -1,8 +1,8 @@
 //! Types that have a shape.
 ghost use Rattle.std.specs.Prelude.{IfSome, IsSome};
-ghost use Rattle.bincode_described.specs.Describing.{Describes};
+ghost use Rattle.bincode_shape.specs.Describing.{Describes};
 
-use bincode_shape::shape::Shape;
+use crate::shape::Shape;
 use bincode_types::wire::Wire;
 use std::alloc::Global;
 

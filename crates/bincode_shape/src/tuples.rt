@@ -1,7 +1,7 @@
 //! Shapes of tuples.
 use crate::described::Described;
 use crate::rows::tuple_shape;
-use bincode_shape::shape::Shape;
+use crate::shape::Shape;
 use std::alloc::Global;
 
 impl<A: Described> Described for (A,) {
