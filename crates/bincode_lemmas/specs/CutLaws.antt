@@ -160,7 +160,7 @@ module _ (F : Format Meaning) (f : Lawful F) (b : Balanced F) (limit : Option �
     longer_by input more a c p q n PassedLimit e =
         let h = passed-limit F f b limit input e in
         let k = longer_passes input more h.0 h.1 h.2 in
-        both_pass a c (p.keeps h.0 h.1 h.2) (q.keeps k.0 k.1 k.2)
+        both_pass a c (p.limit h.0 h.1 h.2) (q.limit k.0 k.1 k.2)
 
     -- An answer other than an end is the answer of each longer input, unless memory is refused.
     pub longer-answers : (input more : List ℕ) (a c : Result (T × ℕ) DecodeError) → IsAnswer F limit MayAllocate DecodesTo input a → IsAnswer F limit MayAllocate DecodesTo (input ++ more) c →
@@ -210,7 +210,7 @@ module _ (F : Format Meaning) (f : Lawful F) (b : Balanced F) (limit : Option �
         ]
     is_end input (Err d) p c PassedLimit e =
         let h = passed-limit F f b limit input e in
-        elim (p.keeps h.0 h.1 h.2) [ inl t ↦ absurd (not_limit d c t) | inr r ↦ absurd (not_memory d c r.1) ]
+        elim (p.limit h.0 h.1 h.2) [ inl t ↦ absurd (not_limit d c t) | inr r ↦ absurd (not_memory d c r.1) ]
 
     -- An input with the error of an end is a prefix of one without.
     pub end-mended : (input : List ℕ) (a : Result (T × ℕ) DecodeError) → IsAnswer F limit MayAllocate DecodesTo input a → WasCut a →

@@ -87,7 +87,7 @@ read-limited F f need n end_error never Excused input bound result found told ov
 pub answer-limited : {A : Type 0} (F : Format Meaning) → Lawful F → (need : List ℕ → ℕ) → Needs need F → (MayAllocate : Type 0) (DecodesTo : Meaning → A → Type 0) (input : List ℕ) (bound : Option ℕ) (result : Result (A × ℕ) DecodeError) →
     IsAnswer F bound MayAllocate DecodesTo input result → (limit : ℕ) → bound ≡ Some limit → LimitedBy EndsSlice F need limit (IsRefused MayAllocate) input result
 answer-limited F f need n MayAllocate DecodesTo input bound result a =
-    read-limited F f need n EndsSlice (λ missing e h l. cc) (IsRefused MayAllocate) input bound result a.found a.fault a.keeps
+    read-limited F f need n EndsSlice (λ missing e h l. cc) (IsRefused MayAllocate) input bound result a.found a.fault a.limit
 
 -- what was decoded under a limit is bounded by it
 module _ (F : Format Meaning) (f : Lawful F) (b : Balanced F) (h : ChargesEnough F) where

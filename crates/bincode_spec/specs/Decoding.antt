@@ -1,5 +1,5 @@
 -- What decoding returns and leaves.
-use Rattle.std.specs.Prelude.{◌≡◌, ◌⊎◌, ◌++◌, ℕ, List, Option, Result, IsErrAnd, MatchResult}
+use Rattle.std.specs.Prelude.{◌≡◌, ◌⊎◌, ◌++◌, ℕ, List, Option, Result, IfOk, IfErr, IsErrAnd, MatchResult}
 use Rattle.bincode_base.specs.declared.error.DecodeError.{DecodeError}
 use Rattle.bincode_base.specs.declared.error.DecodeError.TheVariants.{LimitExceeded, Memory}
 use Rattle.bincode_spec.specs.Fault.{Fault, Tells}
@@ -55,3 +55,19 @@ ReportsFault end_error F limit Excused input result = (why : Fault) (steps : Lis
 -- if the steps of the word or before the fault pass the limit, the error is `LimitExceeded`, unless it is excused
 abbrev pub EnforcesLimit : {A : Type 0} → Format Meaning → Option ℕ → (DecodeError → Type 0) → List ℕ → Result A DecodeError → Type 0
 EnforcesLimit F limit Excused input result = (steps : List Step) → StepsOf F input steps → Passes limit 0 steps → IsErrAnd result (λ e. (e ≡ LimitExceeded) ⊎ Excused e)
+
+-- All that a call that decodes promises of what it reads from: of a reader or a stream whose bytes are known. It was at
+-- `old` and is at `new`; an excused error tells nothing of the bytes, and one by which bytes are lost leaves any.
+pub record IsRead {R T : Type 0} (is_known : R → Type 0) (remaining : R → List ℕ) (end_error : ℕ → DecodeError → Type 0) (Excused Loses : DecodeError → Type 0)
+    (F : Format Meaning) (bound : Option ℕ) (DecodesTo : Meaning → T → Type 0) (result : Result T DecodeError) (old new : R) : Type 0 where
+  -- what is taken is a word within the limit, and the value is given for its meaning
+  pub word : is_known old → IfOk result (λ v. WordRead F bound (remaining old) (remaining new) (λ m. DecodesTo m v))
+  -- each word within the limit is read,
+  pub found : is_known old → AcceptsAll F bound Excused (remaining old) result
+  -- each fault within the limit is reported,
+  pub fault : is_known old → ReportsFault end_error F bound Excused (remaining old) result
+  -- and charges that pass the limit are refused
+  pub limit : is_known old → EnforcesLimit F bound Excused (remaining old) result
+  -- a failure leaves a rest of the input, unless bytes were lost
+  pub left : is_known old → IfErr result (λ e. Loses e ⊎ Takes (remaining old) (remaining new))
+  pub tells : is_known old → is_known new

@@ -62,8 +62,12 @@ abbrev pub KeepsLimit : {A : Type 0} → Format Meaning → Option ℕ → Type 
 KeepsLimit F limit MayAllocate input result = EnforcesLimit F limit (IsRefused MayAllocate) input result
 
 -- all that a call that decodes from a slice promises
-pub record IsAnswer {T : Type 0} (F : Format Meaning) (limit : Option ℕ) (MayAllocate : Type 0) (DecodesTo : Meaning → T → Type 0) (input : List ℕ) (result : Result (T × ℕ) DecodeError) : Type 0 where
-  pub word : IfOk result (λ x. Decoded F limit input (λ m. DecodesTo m x.0) x.1)
-  pub found : FindsWords F limit MayAllocate input result
-  pub fault : TellsFaults F limit MayAllocate input result
-  pub keeps : KeepsLimit F limit MayAllocate input result
+pub record IsAnswer {T : Type 0} (F : Format Meaning) (bound : Option ℕ) (MayAllocate : Type 0) (DecodesTo : Meaning → T → Type 0) (input : List ℕ) (result : Result (T × ℕ) DecodeError) : Type 0 where
+  -- what is read is a word within the limit, of this length, and the value is given for its meaning
+  pub word : IfOk result (λ x. Decoded F bound input (λ m. DecodesTo m x.0) x.1)
+  -- each word within the limit is read,
+  pub found : FindsWords F bound MayAllocate input result
+  -- each fault within the limit is reported,
+  pub fault : TellsFaults F bound MayAllocate input result
+  -- and charges that pass the limit are refused
+  pub limit : KeepsLimit F bound MayAllocate input result

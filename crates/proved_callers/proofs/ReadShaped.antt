@@ -90,7 +90,7 @@ module _ (F G : Format Meaning) (f : Lawful F) (g : Lawful G) (same : G.read ≡
         both_fault why (p.fault why k.0 k.1 k.2) (q.fault why k.0 (g.read_fault input why k.0 (same_read ∙ f.fault_read input why k.0 k.1)) k.2)
     by_answer b DecodesTo DecodesTo' p q PassedLimit h =
         let k = passed-limit F f b limit input h in
-        both_limit (p.keeps k.0 k.1 k.2) (q.keeps k.0 (steps_carried k.0 k.1) k.2)
+        both_limit (p.limit k.0 k.1 k.2) (q.limit k.0 (steps_carried k.0 k.1) k.2)
 
 -- a type, and a shape that describes it
 module _ {T : Type 0} (W : Words T) (shape : Shape) (s : Setting) (h : SameWords (format_of shape s) (W.format s)) where

@@ -21,5 +21,5 @@ returns-in-Err-clause-stopped g c =
       word = tt;
       found = answer-left (λ bytes. FindsWords {A = g.row.T.Denot × ℕ} F g.C.Config.bound MayAllocate bytes (Err c.in-Err.why)) c.args.received.now c.loop-alloc.end read.found;
       fault = answer-left (λ bytes. TellsFaults {A = g.row.T.Denot × ℕ} F g.C.Config.bound MayAllocate bytes (Err c.in-Err.why)) c.args.received.now c.loop-alloc.end read.fault;
-      keeps = answer-left (λ bytes. KeepsLimit {A = g.row.T.Denot × ℕ} F g.C.Config.bound MayAllocate bytes (Err c.in-Err.why)) c.args.received.now c.loop-alloc.end read.limit;
+      limit = answer-left (λ bytes. KeepsLimit {A = g.row.T.Denot × ℕ} F g.C.Config.bound MayAllocate bytes (Err c.in-Err.why)) c.args.received.now c.loop-alloc.end read.limit;
     }
