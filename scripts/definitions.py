@@ -1,11 +1,11 @@
 #!/usr/bin/env python3
 """Prints what there is to believe of some calls with some types: the definitions that their contracts cite.
 
-    scripts/definitions.py [--names | --text] [CALL .. [-- TYPE ..]]
+    scripts/definitions.py [--names | --text | --update] [CALL .. [-- TYPE ..]]
 
-Without arguments it takes `encode_into_slice` and `decode_from_slice`, with `(u32, String, Vec<u16>)`. It prints how many definitions
-these are, and how many lines; with --names also the name of each with its file, and with --text each in full, without comments: one
-after what it needs. Of what a type says of its words it takes the members that these contracts name. Laws are left out: they are proved of
+Without calls it takes `encode_into_slice` and `decode_from_slice`, with `(u32, String, Vec<u16>)`. It prints how many definitions
+these are, and how many lines; with --names also their names, file by file, and with --text each in full, without comments: one
+after what it needs. --update writes the names into docs/PROVED.md, between the two lines that name this script. Of what a type says of its words it takes the members that these contracts name. Laws are left out: they are proved of
 each type, and no contract of a call names one. So are the definitions of the standard library.
 """
 import glob, os, re, sys
@@ -61,7 +61,7 @@ class Library:
         scope = parse_use(text, 'use')
         opened, current, name = [], None, None
         for line in lines:
-            if line.startswith(('use ', 'pub use', 'pub mod', 'mod ', 'syntax')):
+            if line.startswith(('use ', 'pub use', 'pub mod', 'mod ', 'syntax', 'infix')):
                 continue
             if line.startswith('module '):
                 opened, current = [line], None
@@ -129,21 +129,27 @@ class Library:
         return found
 
     def needed(self, starts):
-        """All that these need, each after what it needs."""
-        order, seen = [], set()
+        """All that these need, file by file, each after what it needs: a file stands after those that it imports."""
+        needs, waiting = {}, list(starts)
+        while waiting:
+            key = waiting.pop()
+            if key not in needs:
+                needs[key] = self.cited('\n'.join(self.made[key].lines), self.made[key].scope, key)
+                waiting += needs[key]
+        files = []
 
-        def visit(key):
-            if key in seen:
-                return
-            seen.add(key)
-            definition = self.made[key]
-            for other in self.cited('\n'.join(definition.lines), definition.scope, key):
-                visit(other)
-            order.append(key)
+        def visit(file):
+            for key in self.made:
+                if key in needs and key[:2] == file:
+                    for other in needs[key]:
+                        if other[:2] != file and other[:2] not in files:
+                            visit(other[:2])
+            if file not in files:
+                files.append(file)
 
         for key in starts:
-            visit(key)
-        return order
+            visit(key[:2])
+        return [key for file in files for key in self.made if key in needs and key[:2] == file]
 
 
     def chosen(self, text):
@@ -257,7 +263,7 @@ def clauses(call):
 
 def main():
     words = sys.argv[1:]
-    shows = next((word for word in words if word in ('--names', '--text')), None)
+    shows = next((word for word in words if word in ('--names', '--text', '--update')), None)
     words = [word for word in words if word != shows]
     calls, types = words, []
     if '--' in words:
@@ -280,15 +286,25 @@ def main():
     for text, scope in texts[len(calls):] + texts[:len(calls)]:
         starts += library.cited(text, scope)
     order = library.needed(dict.fromkeys(starts))
-    count = 0
-    for key in order:
-        lines = library.chosen('\n'.join(library.made[key].lines)).split('\n')
-        count += len(lines)
-        if shows == '--names':
-            print(f'{key[0]}/specs/{key[1]}.antt', key[2])
-        if shows == '--text':
-            print('\n'.join(lines) + '\n')
-    print(f'{len(order)} definitions, {count} lines, in {len({key[:2] for key in order})} files')
+    texts = {key: library.chosen('\n'.join(library.made[key].lines)) for key in order}
+    count = sum(text.count('\n') + 1 for text in texts.values())
+    files = list(dict.fromkeys(key[:2] for key in order))
+    total = f'{len(order)} definitions, {count} lines, in {len(files)} files'
+    rows = ['| File | Definitions |', '|---|---|']
+    for file in files:
+        rows.append(f'| `{file[0]}/specs/{file[1]}` | ' + ', '.join(f'`{key[2]}`' for key in order if key[:2] == file) + ' |')
+    if shows == '--text':
+        print('\n\n'.join(texts.values()) + '\n')
+    if shows == '--names':
+        print('\n'.join(rows))
+    if shows == '--update':
+        page = read(f'{ROOT}/docs/PROVED.md')
+        before, _, rest = page.partition('<!-- scripts/definitions.py -->\n')
+        _, _, after = rest.partition('<!-- end of scripts/definitions.py -->\n')
+        page = before + '<!-- scripts/definitions.py -->\n' + f'{total}:\n\n' + '\n'.join(rows) + '\n<!-- end of scripts/definitions.py -->\n' + after
+        with open(f'{ROOT}/docs/PROVED.md', 'w', encoding='utf-8') as file:
+            file.write(page)
+    print(total)
 
 
 main()
