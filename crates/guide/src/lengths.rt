@@ -1,10 +1,9 @@
 //! How long a value is, before it is written.
 
-use bincode::config;
 use bincode::enc::Encode;
 use bincode::enc::write::SizeWriter;
-use bincode::encode_into_writer;
 use bincode::error::EncodeError;
+use bincode::{config, encode_into_writer};
 
 /// How many bytes a value takes. Nothing is written.
 pub fn length_of<T: Encode>(value: &T) -> Result<usize, EncodeError> {

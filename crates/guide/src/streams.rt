@@ -13,7 +13,8 @@ pub fn total<R: BufRead>(alloc: Global, stream: &mut R) -> Result<u64, DecodeErr
     let config = config::standard().with_limit::<4096>();
     let mut sum = 0u64;
     for _ in 0..u64::MAX {
-        let Some((_, price)): Option<Sale> = decode_next_from_std_read(alloc, stream, config)? else {
+        let Some((_, price)): Option<Sale> = decode_next_from_std_read(alloc, stream, config)?
+        else {
             break;
         };
         sum = sum.saturating_add(u64::from(price));
