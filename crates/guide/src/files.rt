@@ -10,8 +10,7 @@ use std::io::{BufReader, BufWriter, Write};
 pub fn save(rt: &HostRuntime, path: &str, saved: &Saved) -> Result<()> {
     let mut out = BufWriter::new(rt.alloc(), File::create(rt, path)?)?;
     encode_into_std_write(saved, &mut out, config::standard())?;
-    out.flush()?;
-    Ok(())
+    Ok(out.flush()?)
 }
 
 /// Reads settings from the front of a file.

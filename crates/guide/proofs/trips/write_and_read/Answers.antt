@@ -1,10 +1,5 @@
-use Rattle.std.proofs.Common.{◌≡◌, true}
-use Rattle.bincode.specs.LimitLaws.{read-back_vec}
+use Rattle.std.proofs.lemmas.Result.{IfOk-weaker}
 use Rattle.guide.proofs.trips.write_and_read.Goals as goal
 
 pub returns : goal.returns
-returns g c =
-    read-back_vec _ (g.Saved.Wire.words.lawful _) _ _ _ (λ w. g.Saved.PartialEq.eq c.args.saved.now w ≡ true)
-    (λ w m. c.tell_exact.ensures.comes_back c.args.saved.now w m c.tell_valid.ensures)
-    c.in_ok-bytes.bytes.items c.in_ok-bytes.ensures.word (λ m s w. tt) _ _
-    (rw c.deref.ensures.value at c.decode_from_slice-read.ensures.word) (rw c.deref.ensures.value at c.decode_from_slice-read.ensures.found)
+returns g c = IfOk-weaker c.round_trip_by_vec.result _ _ (λ trip back. back (λ m s w. tt)) c.round_trip_by_vec.ensures
