@@ -4,9 +4,11 @@
     scripts/definitions.py [--names | --text | --update] [CALL .. [-- TYPE ..]]
 
 Without calls it takes `encode_into_slice` and `decode_from_slice`, with `(u32, String, Vec<u16>)`. It prints how many definitions
-these are, and how many lines; with --names also their names, file by file, and with --text each in full, without comments: one
-after what it needs. --update writes the names into docs/PROVED.md, between the two lines that name this script. Of what a type says of its words it takes the members that these contracts name. Laws are left out: they are proved of
-each type, and no contract of a call names one. So are the definitions of the standard library.
+these are, and how many lines without comments; with --names also their names, file by file, and with --text each in full, one after
+what it needs. --update writes the names into docs/PROVED.md, between the two lines that name this script.
+
+Of what a type says of its words it takes the members that these contracts name. Laws are left out: they are proved of each type, and
+no contract of a call names one. So are the definitions of the standard library.
 """
 import glob, os, re, sys
 
