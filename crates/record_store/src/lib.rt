@@ -6,8 +6,7 @@ pub mod adding;
 pub mod article;
 pub mod command;
 pub mod counting;
+pub mod program;
 pub mod stock;
 pub mod store;
-#[cfg(test)]
-mod tests;
 pub mod twice;

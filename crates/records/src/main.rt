@@ -5,11 +5,7 @@
 //!     records check FILE ..                                   counts them, and says where a file is torn
 #![tactic(auto)]
 
-mod files;
-#[cfg(test)]
-mod tests;
-
-use record_store::command::{Command, command_of};
+use record_store::program::run;
 use std::env;
 
 fn main(rt: HostRuntime) -> anyhow::Result<()> {
@@ -18,13 +14,4 @@ fn main(rt: HostRuntime) -> anyhow::Result<()> {
         words.push(word)?;
     }
     run(&rt, words)
-}
-
-/// Does what these words ask for. Fails where they spell no command, and as the command does.
-fn run(rt: &HostRuntime, words: Vec<String>) -> anyhow::Result<()> {
-    match command_of(rt.alloc(), words)? {
-        Command::Add { file, article } => files::add(rt, &file, &article),
-        Command::List(paths) => files::list(rt, &paths),
-        Command::Check(paths) => files::check(rt, &paths),
-    }
 }

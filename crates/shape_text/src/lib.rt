@@ -4,6 +4,7 @@
 pub mod describing;
 pub mod json;
 pub mod listing;
+pub mod program;
 pub mod request;
 mod strings;
 mod words;

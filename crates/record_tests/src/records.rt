@@ -1,22 +1,13 @@
-//! What the program does to files, and where it fails.
+//! What the program `records` does to files, and where it fails.
 
-use crate::run;
+use crate::articles::{STOCK, words_of};
+use record_store::program::run;
 use std::path::PathBuf;
 use std::{env, fs, io, process};
 
-/// Salt at 40, and then tea at 1250, of a weight of 100 and from Assam.
-const STOCK: [u8; 31] = [
-    4, 115, 97, 108, 116, 40, 0, 0, 3, 116, 101, 97, 251, 226, 4, 1, 100, 1, 6, 111, 114, 105, 103,
-    105, 110, 5, 65, 115, 115, 97, 109,
-];
-
 /// Runs the program with these words.
 fn run_with(rt: &HostRuntime, words: &[&str]) -> anyhow::Result<()> {
-    let mut owned = Vec::new(rt.alloc());
-    for word in words {
-        owned.push(String::from_str(rt.alloc(), word)?)?;
-    }
-    run(rt, owned)
+    run(rt, words_of(rt.alloc(), words)?)
 }
 
 /// Where a file of this name may stand, which no other run has.

@@ -1,16 +1,26 @@
-//! The files that the commands name.
+//! What the program `records` does with the files that its words name.
 
+use crate::adding;
+use crate::article::Article;
+use crate::command::{Command, command_of};
+use crate::stock::{print_articles, print_check, print_place, settings};
 use anyhow::{Context, Result, ensure};
-use record_store::adding;
-use record_store::article::Article;
-use record_store::stock::{print_articles, print_check, print_place, settings};
 use std::fs::OpenOptions;
 use std::io::ErrorKind;
 use std::{fs, io};
 
+/// Does what these words ask for. Fails where they spell no command, and as the command does.
+pub fn run(rt: &HostRuntime, words: Vec<String>) -> Result<()> {
+    match command_of(rt.alloc(), words)? {
+        Command::Add { file, article } => add(rt, &file, &article),
+        Command::List(paths) => list(rt, &paths),
+        Command::Check(paths) => check(rt, &paths),
+    }
+}
+
 /// Appends an article to a file, which is made where there is none, and prints its place. To a file that is not whole
 /// nothing is appended.
-pub fn add(rt: &HostRuntime, path: &str, article: &Article) -> Result<()> {
+fn add(rt: &HostRuntime, path: &str, article: &Article) -> Result<()> {
     let held = held_by(rt, path).context(format_args!("{path}"))?;
     let mut file = OpenOptions::new()
         .append(true)
@@ -34,7 +44,7 @@ fn held_by(rt: &HostRuntime, path: &str) -> io::Result<Vec<u8>> {
 
 /// Prints the articles of each file, and how it ends. Fails behind the last one where one is not whole, and at once
 /// where one cannot be read.
-pub fn list(rt: &HostRuntime, paths: &[String]) -> Result<()> {
+fn list(rt: &HostRuntime, paths: &[String]) -> Result<()> {
     let mut all_whole = true;
     for path in paths {
         let bytes = fs::read(rt, path).context(format_args!("{path}"))?;
@@ -45,7 +55,7 @@ pub fn list(rt: &HostRuntime, paths: &[String]) -> Result<()> {
 }
 
 /// Prints how each file ends. Fails as `list` does.
-pub fn check(rt: &HostRuntime, paths: &[String]) -> Result<()> {
+fn check(rt: &HostRuntime, paths: &[String]) -> Result<()> {
     let mut all_whole = true;
     for path in paths {
         let bytes = fs::read(rt, path).context(format_args!("{path}"))?;

@@ -1,11 +1,11 @@
 //! Streams of values that are decoded in a loop, to their end.
 
-use super::STOCK;
-use crate::article::Article;
-use crate::counting::count;
-use crate::stock::settings;
+use crate::articles::STOCK;
 use bincode::error::DecodeError;
 use bincode::{config, decode_next_from_std_read};
+use record_store::article::Article;
+use record_store::counting::count;
+use record_store::stock::settings;
 use std::alloc::Global;
 use std::io;
 use std::io::{BufRead, BufReader, ErrorKind, Read};

@@ -1,15 +1,12 @@
-//! Where the program fails.
+//! Where the program `describe` fails.
 
-use crate::run;
+use crate::articles::words_of;
+use shape_text::program::run;
 use std::{env, fs, process};
 
 /// Runs the program with these words.
 fn run_with(rt: &HostRuntime, words: &[&str]) -> anyhow::Result<()> {
-    let mut owned = Vec::new(rt.alloc());
-    for word in words {
-        owned.push(String::from_str(rt.alloc(), word)?)?;
-    }
-    run(rt, owned)
+    run(rt, words_of(rt.alloc(), words)?)
 }
 
 /// The numbers 7 and 300, and then without the last byte.
