@@ -130,7 +130,7 @@ fn keeps_lent<'a, T: Encode + BorrowDecode<&'a [u8], ()>>(alloc: Global, word: &
     taken == word.len() && is_written(address, word, config::standard())
 }
 
-/// The same, and by a decoder that does not.
+/// Whether a decoder that lends reads it so, and one that does not.
 fn keeps_both_ways<'a, T>(alloc: Global, word: &'a [u8]) -> bool
 where
     T: Encode + Decode<()> + BorrowDecode<&'a [u8], ()>,
@@ -191,7 +191,7 @@ fn claims_what_addresses_take(rt: HostRuntime) {
     assert_eq!(rt; first_unequal(&rows), None);
 }
 
-/// Twice the address ::1 with the port 1, and behind each a number.
+/// Twice the address ::1 with the port 1, each followed by a number.
 const TWICE: [u8; 37] = [
     2, 0, 0, 0, 0, 0, 0, 0, 0, 0, 0, 0, 0, 0, 0, 0, 1, 1, 10, 0, 0, 0, 0, 0, 0, 0, 0, 0, 0, 0, 0,
     0, 0, 0, 1, 1, 20,

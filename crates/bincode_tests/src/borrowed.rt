@@ -30,7 +30,7 @@ static WORD: [u8; 13] = [3, 3, 97, 98, 99, 3, 100, 101, 102, 3, 103, 104, 105];
 /// How many bytes are missing, by how many of the word are there: of a length one, and of a text what is left of it.
 const MISSING: [usize; 13] = [1, 1, 3, 2, 1, 1, 3, 2, 1, 1, 3, 2, 1];
 
-/// What comes of borrowed decoding. Where memory is refused it is decoded once more.
+/// The result of borrowed decoding. Retries once if an allocation is refused.
 fn borrowed<'a, T: BorrowDecode<&'a [u8], ()>, C: Config>(
     alloc: Global,
     source: &'a [u8],
@@ -42,7 +42,7 @@ fn borrowed<'a, T: BorrowDecode<&'a [u8], ()>, C: Config>(
     }
 }
 
-/// Whether these bytes are the texts, each behind its length.
+/// Whether these bytes are the texts, each length-prefixed.
 fn lie_in(bytes: &[u8], texts: &[&str]) -> bool {
     let mut left = bytes;
     for text in texts {
@@ -216,7 +216,7 @@ fn read_vec<'a, D: BorrowDecoder<&'a [u8], Context = ()>>(
     borrow_decode_vec(decoder, 2)
 }
 
-/// The same as an array.
+/// The two are read as an array.
 fn read_array<'a, D: BorrowDecoder<&'a [u8], Context = ()>>(
     decoder: &mut D,
 ) -> Result<[&'a str; 2], DecodeError> {

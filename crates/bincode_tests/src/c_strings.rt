@@ -47,7 +47,7 @@ fn charges_the_bytes(rt: HostRuntime) {
     assert!(rt; CString::claim_size() == 24 && CStr::<'_>::claim_size() == 16);
 }
 
-/// What comes of borrowed decoding.
+/// The result of borrowed decoding.
 fn borrowed(alloc: Global, source: &[u8]) -> Result<(CString, usize), DecodeError> {
     borrow_decode_from_slice(alloc, source, config::standard())
 }

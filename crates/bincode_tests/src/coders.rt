@@ -45,7 +45,7 @@ fn read_vec<D: Decoder<Context = ()>>(decoder: &mut D) -> Result<Vec<u8>, Decode
     decode_vec(decoder, 2)
 }
 
-/// The same as an array.
+/// The two are read as an array.
 fn read_array<D: Decoder<Context = ()>>(decoder: &mut D) -> Result<[u8; 2], DecodeError> {
     decoder.claim_container_read::<u8>(2)?;
     decode_array(decoder)

@@ -1,4 +1,4 @@
-//! Tuples, arrays, choices, ranges, spans of time and wrappers.
+//! Tuples, arrays, choices, ranges, durations and wrappers.
 
 use bincode::de::{Decode, collect_into_array};
 use bincode::enc::Encode;
@@ -62,7 +62,7 @@ fn keeps_tuples_of<T: Encode + Decode<()> + Copy>(alloc: Global) -> bool {
         && keeps::<Eight<T>>(alloc, &COUNT[..8])
 }
 
-/// The same of nine to fifteen parts.
+/// Whether tuples of nine to fifteen parts keep their words.
 fn keeps_longer_tuples_of<T: Encode + Decode<()> + Copy>(alloc: Global) -> bool {
     keeps::<Nine<T>>(alloc, &COUNT[..9])
         && keeps::<Ten<T>>(alloc, &COUNT[..10])
@@ -118,8 +118,7 @@ fn keeps_an_array_of_none(rt: HostRuntime) {
     assert!(rt; matches!(read, Ok((_, 0))));
 }
 
-/// The worked rows have no `Result` that is read, and no `Err`. They have all other choices, characters and spans of
-/// time.
+/// The worked rows decode no `Result`, and have no `Err`. They have all other choices, characters and durations.
 #[test]
 fn keeps_an_outcome(rt: HostRuntime) {
     let read: Option<Result<(), u8>> = read_front(rt.alloc(), &[1, 7, 99], 2);
@@ -200,10 +199,10 @@ fn converts_spans(rt: HostRuntime) {
     assert!(rt; Duration::default() == Duration::new(0, 0));
 }
 
-/// What comes of collecting three of the items from a place on, and the next item then.
+/// The result of collecting three of the items from an index on, and the next item.
 type Collected = (Option<Result<[u8; 3], u8>>, Option<Result<u8, u8>>);
 
-/// Collects three of the items behind so many.
+/// Collects three of the items from this index on.
 fn collected_behind(items: [Result<u8, u8>; 4], count: usize) -> Collected {
     let mut items = items.into_iter();
     for _ in 0..count {

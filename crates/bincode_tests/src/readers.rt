@@ -71,7 +71,7 @@ fn leaves_a_lent_stream_behind_a_word(rt: HostRuntime) {
     assert!(rt; stream == [7, 9].as_slice());
 }
 
-/// A stream that is interrupted so many times before each byte.
+/// A stream that is interrupted a number of times before each byte.
 #[derive(Drop)]
 struct Interrupted<'a> {
     bytes: &'a [u8],

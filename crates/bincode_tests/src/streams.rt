@@ -96,7 +96,7 @@ fn writes_to_a_stream(rt: HostRuntime) {
     assert!(rt; room == [30, 50, 9, 9]);
 }
 
-/// What is read of a word of seven bytes and another byte, from a stream that gives so many of them and fails then.
+/// What is read of a word of seven bytes and another byte, from a stream that fails after this many calls.
 fn read_of(alloc: Global, calls: usize) -> Result<(u8, u32, u16), DecodeError> {
     let mut stream = Breaking {
         bytes: &[7, 252, 0, 0, 1, 0, 5, 9],
@@ -114,7 +114,7 @@ fn tells_where_a_stream_breaks(rt: HostRuntime) {
     assert!(rt; matches!(read_of(alloc, 7), Ok((7, 65_536, 5))));
 }
 
-/// Takes so many pieces, each after an interruption, and fails from then on.
+/// Takes a number of pieces, each after an interruption, then fails.
 #[derive(Drop)]
 struct Failing {
     held: Vec<u8>,
@@ -141,7 +141,7 @@ impl Write for Failing {
     }
 }
 
-/// Whether a stream that fails behind so many pieces of a word has taken these bytes.
+/// Whether a stream that fails after this many pieces of a word has taken these bytes.
 fn fails_behind(alloc: Global, pieces: usize, taken: &[u8]) -> bool {
     let mut stream = Failing {
         held: Vec::new(alloc),

@@ -49,7 +49,7 @@ fn counts_no_further_than_it_can(rt: HostRuntime) {
     assert!(rt; counter.bytes_written == usize::MAX);
 }
 
-/// What stands in a slice of two 9s, where a value finds too little room there.
+/// What a slice of two 9s holds after a value that did not fit.
 fn left_by<T: Encode>(value: Option<T>) -> Option<[u8; 2]> {
     let mut slice = [9u8; 2];
     let outcome = encode_into_slice(value?, &mut slice, config::standard());
@@ -59,7 +59,7 @@ fn left_by<T: Encode>(value: Option<T>) -> Option<[u8; 2]> {
     }
 }
 
-/// Bytes are written in one piece behind their length, and signed bytes in turn.
+/// Bytes are written in one piece after their length, and signed bytes one by one.
 #[test]
 fn leaves_a_front_of_a_list(rt: HostRuntime) {
     let alloc = rt.alloc();
@@ -76,7 +76,7 @@ fn leaves_a_front_of_a_list(rt: HostRuntime) {
     assert!(rt; left_by(Some([1u8, 2, 3])) == Some([9, 9]));
 }
 
-/// What stands in a slice of thirteen 9s, where fixed pairs find too little room there.
+/// What a slice of thirteen 9s holds after fixed pairs that did not fit.
 fn left_by_pairs(pairs: Option<Vec<(u16, u8)>>) -> Option<[u8; 13]> {
     let mut slice = [9u8; 13];
     let outcome = encode_into_slice(pairs?, &mut slice, config::legacy());
@@ -97,7 +97,7 @@ fn leaves_a_part_of_an_item(rt: HostRuntime) {
     assert!(rt; left_by_pairs(pairs) == Some([2, 0, 0, 0, 0, 0, 0, 0, 1, 0, 2, 3, 0]));
 }
 
-/// What is written of two numbers and an option, which take 21 bytes at most, into so many 9s.
+/// What is written of two numbers and an option, which take 21 bytes at most, into `N` 9s.
 fn written_of_record<const N: usize>(option: Option<u32>) -> ([u8; N], Option<usize>) {
     let mut bytes = [9u8; N];
     let written = encode_into_slice((5u64, 6u64, option), &mut bytes, config::legacy());
