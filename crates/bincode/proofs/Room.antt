@@ -7,17 +7,17 @@ use Rattle.bincode_spec.specs.Allowed.{OneLength}
 use Rattle.bincode_spec.specs.Device.{Rose, TooLong, WithinRoom, WriterFails}
 use Rattle.bincode_layers.specs.Pieces.{TakesRoom}
 use Rattle.bincode_spec.specs.Encoding.{Adds, Refuses, Ready, Begins, EncodeFailure, by_writer, by_name, Encodes, FitsRoom}
-use Rattle.bincode_io.specs.RoomLaws.{too_long-behind, not-within, within-same}
+use Rattle.bincode_io.specs.RoomLaws.{too_long-after, not-within, within-same}
 
 -- the failures of a part of the call are failures of the call
-rose-behind : (before middle after : ℕ) → before ≤ middle → Rose middle after → Rose before after
-rose-behind before middle after h (inl r) = inl (omega arith)
-rose-behind before middle after h (inr r) = inr r
+rose-after : (before middle after : ℕ) → before ≤ middle → Rose middle after → Rose before after
+rose-after before middle after h (inl r) = inl (omega arith)
+rose-after before middle after h (inr r) = inr r
 
-fails-behind : (device : EncodeError → Type 0) (before middle after : ℕ) (e : EncodeError) → before ≤ middle → WriterFails device middle after e → WriterFails device before after e
-fails-behind device before middle after e h (inl memory) = inl memory
-fails-behind device before middle after e h (inr (inl d)) = inr (inl d)
-fails-behind device before middle after e h (inr (inr r)) = inr (inr (rose-behind before middle after h r))
+fails-after : (device : EncodeError → Type 0) (before middle after : ℕ) (e : EncodeError) → before ≤ middle → WriterFails device middle after e → WriterFails device before after e
+fails-after device before middle after e h (inl memory) = inl memory
+fails-after device before middle after e h (inr (inl d)) = inr (inl d)
+fails-after device before middle after e h (inr (inr r)) = inr (inr (rose-after before middle after h r))
 
 module _ {W : Type 0} (adds : Adds W) (refuses : Refuses W) (room : W → Option ℕ) (failures : W → ℕ) (device : EncodeError → Type 0)
     (adds_room : (a b : W) (piece : List ℕ) → adds a piece b → TakesRoom (room a) piece (room b))
@@ -29,8 +29,8 @@ module _ {W : Type 0} (adds : Adds W) (refuses : Refuses W) (room : W → Option
 
   refused-why : (front piece : List ℕ) (middle : W) (e : EncodeError) → adds before front middle → Begins (Ready R A) (front ++ piece) →
       TooLong (room middle) piece ⊎ WriterFails device (failures middle) (failures after) e → Why e
-  refused-why front piece middle e h b (inl long) = inr (inr (front ++ piece, b, too_long-behind (room before) (room middle) front piece (adds_room before middle front h) long))
-  refused-why front piece middle e h b (inr fails) = inr (inl (fails-behind device (failures before) (failures middle) (failures after) e (adds_count before middle front h) fails))
+  refused-why front piece middle e h b (inl long) = inr (inr (front ++ piece, b, too_long-after (room before) (room middle) front piece (adds_room before middle front h) long))
+  refused-why front piece middle e h b (inr fails) = inr (inl (fails-after device (failures before) (failures middle) (failures after) e (adds_count before middle front h) fails))
 
   halted-why : (e : EncodeError) → EncodeFailure adds refuses (Ready R A) N before after e → Why e
   halted-why e (by_writer front piece middle h r b) = refused-why front piece middle e h b (refuses_why middle after piece e r)

@@ -2,7 +2,7 @@
 ghost use Rattle.std.specs.Prelude.{◌≡◌, ◌≤◌, ℕ, IfOk, IfErr};
 ghost use Rattle.bincode_spec.specs.Answer.{answer};
 ghost use Rattle.bincode_spec.specs.Decoding.{Decodes, DecodeFailure};
-ghost use Rattle.bincode_spec.specs.Slice.{Decoded, FindsWords, TellsFaults, KeepsLimit};
+ghost use Rattle.bincode_spec.specs.Slice.{IsAnswer};
 
 use bincode_base::config::Config;
 use bincode_base::error::DecodeError;
@@ -19,15 +19,8 @@ pub fn borrow_decode_from_slice<'a, D: BorrowDecode<&'a [u8], ()>, C: Config>(
     src: &'a [u8],
     config: C,
 ) -> Result<(D, usize), DecodeError>
-    // On `Ok((v, n))` the first `n` bytes are an encoding of `v` whose charges stay within the limit.
-    ensures word { IfOk result (λ x. Decoded (D.words.format C.setting) C.bound src.now (λ m. D.words.decodes_to m x.0)
-        x.1) }
-    // Each encoding within the limit is accepted,
-    ensures found { FindsWords (D.words.format C.setting) C.bound D.words.may_allocate src.now result }
-    // each fault within the limit is reported,
-    ensures fault { TellsFaults (D.words.format C.setting) C.bound D.words.may_allocate src.now result }
-    // and charges that pass the limit are refused.
-    ensures limit { KeepsLimit (D.words.format C.setting) C.bound D.words.may_allocate src.now result }
+    // The fields of `IsAnswer` say what is read, and how each fault and each excess is reported.
+    ensures { IsAnswer (D.words.format C.setting) C.bound D.words.may_allocate D.words.decodes_to src.now result }
 {
     borrow_decode_from_slice_with_context(alloc, src, config, ())
 }
@@ -40,15 +33,8 @@ pub fn borrow_decode_from_slice_with_context<
     D: BorrowDecode<&'a [u8], Context>,
     C: Config,
 >(alloc: Global, src: &'a [u8], config: C, context: Context) -> Result<(D, usize), DecodeError>
-    // On `Ok((v, n))` the first `n` bytes are an encoding of `v` whose charges stay within the limit.
-    ensures word { IfOk result (λ x. Decoded (D.words.format C.setting) C.bound src.now (λ m. D.words.decodes_to m x.0)
-        x.1) }
-    // Each encoding within the limit is accepted,
-    ensures found { FindsWords (D.words.format C.setting) C.bound D.words.may_allocate src.now result }
-    // each fault within the limit is reported,
-    ensures fault { TellsFaults (D.words.format C.setting) C.bound D.words.may_allocate src.now result }
-    // and charges that pass the limit are refused.
-    ensures limit { KeepsLimit (D.words.format C.setting) C.bound D.words.may_allocate src.now result }
+    // The fields of `IsAnswer` say what is read, and how each fault and each excess is reported.
+    ensures { IsAnswer (D.words.format C.setting) C.bound D.words.may_allocate D.words.decodes_to src.now result }
 {
     let mut context = context;
     let mut reader = SliceReader::new(src);

@@ -6,8 +6,8 @@ ghost use Rattle.bincode_shape.specs.declared.shape.Shape.{Shape};
 ghost use Rattle.bincode_shape.specs.Describing.{Describes};
 ghost use Rattle.bincode.specs.EnumShapes.{DescribesFirst, IsVariant};
 
-use bincode_shape::described::Described;
 use bincode_enums::enums::Enum;
+use bincode_shape::described::Described;
 use bincode_shape::shape::Shape;
 use std::alloc::Global;
 

@@ -1,9 +1,7 @@
 //! Decoding from a reader.
-ghost use Rattle.std.specs.Prelude.{◌≡◌, ◌≤◌, ◌⊎◌, ℕ, IfOk, IfErr};
+ghost use Rattle.std.specs.Prelude.{◌≡◌, ◌≤◌, ℕ, IfOk, IfErr};
 ghost use Rattle.bincode_spec.specs.Answer.{answer};
-ghost use Rattle.bincode_spec.specs.Decoding.{Decodes, DecodeFailure, IsExcused, WordRead, AcceptsAll, ReportsFault};
-ghost use Rattle.bincode_spec.specs.Decoding.{EnforcesLimit};
-ghost use Rattle.bincode_spec.specs.Device.{Takes};
+ghost use Rattle.bincode_spec.specs.Decoding.{Decodes, DecodeFailure, IsExcused, IsRead};
 
 use bincode_base::config::Config;
 use bincode_base::error::DecodeError;
@@ -20,26 +18,11 @@ pub fn decode_from_reader<D: Decode<()>, R: Reader, C: Config>(
     reader: &mut R,
     config: C,
 ) -> Result<D, DecodeError>
-    // What was consumed is an encoding of the value whose charges stay within the limit.
-    ensures word { R.is_known reader.old → IfOk result (λ v. WordRead (D.words.format C.setting) C.bound
-        (R.remaining reader.old) (R.remaining reader.new) (λ m. D.words.decodes_to m v)) }
-    // Each encoding within the limit is accepted,
-    ensures found { R.is_known reader.old → AcceptsAll (D.words.format C.setting) C.bound
-        (IsExcused R.device D.words.may_allocate (R.failures reader.old) (R.failures reader.new))
-        (R.remaining reader.old) result }
-    // each fault within the limit is reported,
-    ensures fault { R.is_known reader.old → ReportsFault R.end_error (D.words.format C.setting) C.bound
-        (IsExcused R.device D.words.may_allocate (R.failures reader.old) (R.failures reader.new))
-        (R.remaining reader.old) result }
-    // and charges that pass the limit are refused.
-    ensures limit { R.is_known reader.old → EnforcesLimit (D.words.format C.setting) C.bound
-        (IsExcused R.device D.words.may_allocate (R.failures reader.old) (R.failures reader.new))
-        (R.remaining reader.old) result }
-    // After an error a suffix of the input is left, unless the device lost it.
-    ensures left { R.is_known reader.old → IfErr result (λ e. R.device.is_uncounted e
-        ⊎ Takes (R.remaining reader.old) (R.remaining reader.new)) }
+    // The fields of `IsRead` say what is taken, how each fault and each excess is reported, and what a failure leaves.
+    ensures answer { IsRead R.is_known R.remaining R.end_error
+        (IsExcused R.device D.words.may_allocate (R.failures reader.old) (R.failures reader.new)) R.device.is_uncounted
+        (D.words.format C.setting) C.bound D.words.decodes_to result reader.old reader.new }
     ensures count { R.failures reader.old ≤ R.failures reader.new }
-    ensures is_known { R.is_known reader.old → R.is_known reader.new }
     ensures loans { R.loans reader.new ≡ R.loans reader.old }
 {
     decode_from_reader_with(alloc, reader, &config, &mut ())
@@ -52,21 +35,11 @@ pub(crate) fn decode_from_reader_with<Context: Drop, D: Decode<Context>, R: Read
     config: &C,
     context: &mut Context,
 ) -> Result<D, DecodeError>
-    ensures word { R.is_known reader.old → IfOk result (λ v. WordRead (D.words.format C.setting) C.bound
-        (R.remaining reader.old) (R.remaining reader.new) (λ m. D.words.decodes_to m v)) }
-    ensures found { R.is_known reader.old → AcceptsAll (D.words.format C.setting) C.bound
-        (IsExcused R.device D.words.may_allocate (R.failures reader.old) (R.failures reader.new))
-        (R.remaining reader.old) result }
-    ensures fault { R.is_known reader.old → ReportsFault R.end_error (D.words.format C.setting) C.bound
-        (IsExcused R.device D.words.may_allocate (R.failures reader.old) (R.failures reader.new))
-        (R.remaining reader.old) result }
-    ensures limit { R.is_known reader.old → EnforcesLimit (D.words.format C.setting) C.bound
-        (IsExcused R.device D.words.may_allocate (R.failures reader.old) (R.failures reader.new))
-        (R.remaining reader.old) result }
-    ensures left { R.is_known reader.old → IfErr result (λ e. R.device.is_uncounted e
-        ⊎ Takes (R.remaining reader.old) (R.remaining reader.new)) }
+    // The fields of `IsRead` say what is taken, how each fault and each excess is reported, and what a failure leaves.
+    ensures answer { IsRead R.is_known R.remaining R.end_error
+        (IsExcused R.device D.words.may_allocate (R.failures reader.old) (R.failures reader.new)) R.device.is_uncounted
+        (D.words.format C.setting) C.bound D.words.decodes_to result reader.old reader.new }
     ensures count { R.failures reader.old ≤ R.failures reader.new }
-    ensures is_known { R.is_known reader.old → R.is_known reader.new }
     ensures loans { R.loans reader.new ≡ R.loans reader.old }
 {
     decode_with(alloc, reader, config, context)

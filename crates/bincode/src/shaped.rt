@@ -5,7 +5,7 @@ ghost use Rattle.bincode_spec.specs.Decoding.{Decodes, DecodeFailure};
 ghost use Rattle.bincode_spec.specs.Device.{WriterFails};
 ghost use Rattle.bincode_spec.specs.Encoding.{Ready, Writes, EncodeFailure, Encodes, FitsRoom};
 ghost use Rattle.bincode_spec.specs.Limited.{WordBounded};
-ghost use Rattle.bincode_spec.specs.Slice.{Decoded, FindsWords, TellsFaults, KeepsLimit};
+ghost use Rattle.bincode_spec.specs.Slice.{IsAnswer};
 ghost use Rattle.bincode_shape.specs.Shapes.{format_of, fits, IsImage, TakesMemory};
 ghost use Rattle.bincode_shape.specs.Rows.{AllowsImage};
 ghost use Rattle.bincode_shape.specs.Unfit.{IsUnfit};
@@ -91,15 +91,9 @@ pub fn decode_shaped<C: Config>(
     src: &[u8],
     config: C,
 ) -> Result<(Value, usize), DecodeError>
-    // On `Ok((v, n))` the first `n` bytes are an encoding within the limit, and `v` fits the shape and has its meaning.
-    ensures word { IfOk result (λ x. Decoded (format_of shape.now C.setting) C.bound src.now
-        (λ m. IsImage shape.now m x.0) x.1) }
-    // Each encoding within the limit is accepted,
-    ensures found { FindsWords (format_of shape.now C.setting) C.bound (TakesMemory shape.now) src.now result }
-    // each fault within the limit is reported,
-    ensures fault { TellsFaults (format_of shape.now C.setting) C.bound (TakesMemory shape.now) src.now result }
-    // and charges that pass the limit are refused.
-    ensures limit { KeepsLimit (format_of shape.now C.setting) C.bound (TakesMemory shape.now) src.now result }
+    // The fields of `IsAnswer` say what is read, and how each fault and each excess is reported.
+    ensures answer { IsAnswer (format_of shape.now C.setting) C.bound (TakesMemory shape.now) (IsImage shape.now)
+        src.now result }
     // Under a limit the encoding, each list and array, and the number of all elements are bounded by it.
     ensures bounded { IfOk result (λ x. (limit : ℕ) → C.bound ≡ Some limit
         → WordBounded (format_of shape.now C.setting) limit src.now x.1) }

@@ -3,8 +3,7 @@ ghost use Rattle.std.specs.Prelude.{◌≡◌, ◌⊎◌, IfOk, IfErr, length};
 ghost use Rattle.bincode_base.specs.declared.error.EncodeError.TheVariants.{UnexpectedEnd};
 ghost use Rattle.bincode_spec.specs.Allowed.{AllowedWord};
 ghost use Rattle.bincode_spec.specs.Encoding.{Ready};
-ghost use Rattle.bincode_spec.specs.Slice.{WordWritten, FrontWritten, FitsExactly, Decoded, FindsWords, TellsFaults};
-ghost use Rattle.bincode_spec.specs.Slice.{KeepsLimit};
+ghost use Rattle.bincode_spec.specs.Slice.{WordWritten, FrontWritten, FitsExactly, IsAnswer};
 
 use crate::reader::decode_with;
 use crate::short_slice::{encode_into_short, needs_checks};
@@ -55,15 +54,8 @@ pub fn decode_from_slice<D: Decode<()>, C: Config>(
     src: &[u8],
     config: C,
 ) -> Result<(D, usize), DecodeError>
-    // On `Ok((v, n))` the first `n` bytes are an encoding of `v` whose charges stay within the limit.
-    ensures word { IfOk result (λ x. Decoded (D.words.format C.setting) C.bound src.now (λ m. D.words.decodes_to m x.0)
-        x.1) }
-    // Each encoding within the limit is accepted,
-    ensures found { FindsWords (D.words.format C.setting) C.bound D.words.may_allocate src.now result }
-    // each fault within the limit is reported,
-    ensures fault { TellsFaults (D.words.format C.setting) C.bound D.words.may_allocate src.now result }
-    // and charges that pass the limit are refused.
-    ensures limit { KeepsLimit (D.words.format C.setting) C.bound D.words.may_allocate src.now result }
+    // The fields of `IsAnswer` say what is read, and how each fault and each excess is reported.
+    ensures { IsAnswer (D.words.format C.setting) C.bound D.words.may_allocate D.words.decodes_to src.now result }
 {
     decode_from_slice_with_context(alloc, src, config, ())
 }
@@ -76,15 +68,8 @@ pub fn decode_from_slice_with_context<Context: Drop, D: Decode<Context>, C: Conf
     config: C,
     context: Context,
 ) -> Result<(D, usize), DecodeError>
-    // On `Ok((v, n))` the first `n` bytes are an encoding of `v` whose charges stay within the limit.
-    ensures word { IfOk result (λ x. Decoded (D.words.format C.setting) C.bound src.now (λ m. D.words.decodes_to m x.0)
-        x.1) }
-    // Each encoding within the limit is accepted,
-    ensures found { FindsWords (D.words.format C.setting) C.bound D.words.may_allocate src.now result }
-    // each fault within the limit is reported,
-    ensures fault { TellsFaults (D.words.format C.setting) C.bound D.words.may_allocate src.now result }
-    // and charges that pass the limit are refused.
-    ensures limit { KeepsLimit (D.words.format C.setting) C.bound D.words.may_allocate src.now result }
+    // The fields of `IsAnswer` say what is read, and how each fault and each excess is reported.
+    ensures { IsAnswer (D.words.format C.setting) C.bound D.words.may_allocate D.words.decodes_to src.now result }
 {
     let mut context = context;
     let mut reader = SliceReader::new(src);

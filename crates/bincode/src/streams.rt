@@ -1,8 +1,7 @@
 //! Decoding from the streams of `std::io`, and encoding into them.
-ghost use Rattle.std.specs.Prelude.{◌⊎◌, IfOk, IfErr};
+ghost use Rattle.std.specs.Prelude.{IfOk, IfErr};
 ghost use Rattle.bincode_spec.specs.Allowed.{AllowedWord};
-ghost use Rattle.bincode_spec.specs.Decoding.{IsExcused, WordRead, AcceptsAll, ReportsFault, EnforcesLimit};
-ghost use Rattle.bincode_spec.specs.Device.{Takes};
+ghost use Rattle.bincode_spec.specs.Decoding.{IsExcused, IsRead};
 ghost use Rattle.bincode_spec.specs.Encoding.{Ready};
 ghost use Rattle.bincode_io.specs.Stream.{TellsBytes, known_bytes, EndsShort, IsIo, stream_errors};
 ghost use Rattle.bincode_io.specs.Stream.{StreamWritten, StreamHalts};
@@ -27,23 +26,10 @@ pub fn decode_from_std_read<D: Decode<()>, C: Config, R: Read>(
     src: &mut R,
     config: C,
 ) -> Result<D, DecodeError>
-    // These clauses speak of streams whose bytes are known. What was consumed is an encoding of the value within the
-    // limit.
-    ensures word { TellsBytes (R.remaining src.old) → IfOk result (λ v. WordRead (D.words.format C.setting) C.bound
-        (known_bytes (R.remaining src.old)) (known_bytes (R.remaining src.new)) (λ m. D.words.decodes_to m v)) }
-    // Each encoding within the limit is accepted,
-    ensures found { TellsBytes (R.remaining src.old) → AcceptsAll (D.words.format C.setting) C.bound
-        (IsExcused stream_errors D.words.may_allocate 0 0) (known_bytes (R.remaining src.old)) result }
-    // each fault within the limit is reported,
-    ensures fault { TellsBytes (R.remaining src.old) → ReportsFault EndsShort (D.words.format C.setting) C.bound
-        (IsExcused stream_errors D.words.may_allocate 0 0) (known_bytes (R.remaining src.old)) result }
-    // and charges that pass the limit are refused.
-    ensures limit { TellsBytes (R.remaining src.old) → EnforcesLimit (D.words.format C.setting) C.bound
-        (IsExcused stream_errors D.words.may_allocate 0 0) (known_bytes (R.remaining src.old)) result }
-    // After an error a suffix of the bytes is left, unless the stream failed.
-    ensures left { TellsBytes (R.remaining src.old) → IfErr result (λ e. IsIo e
-        ⊎ Takes (known_bytes (R.remaining src.old)) (known_bytes (R.remaining src.new))) }
-    ensures is_known { TellsBytes (R.remaining src.old) → TellsBytes (R.remaining src.new) }
+    // The fields of `IsRead` say what is taken, how each fault and each excess is reported, and what a failure leaves.
+    ensures { IsRead (λ stream. TellsBytes (R.remaining stream)) (λ stream. known_bytes (R.remaining stream)) EndsShort
+        (IsExcused stream_errors D.words.may_allocate 0 0) IsIo (D.words.format C.setting) C.bound D.words.decodes_to
+        result src.old src.new }
 {
     decode_from_std_read_with_context(alloc, src, config, ())
 }
@@ -55,23 +41,10 @@ pub fn decode_from_std_read_with_context<Context: Drop, D: Decode<Context>, C: C
     config: C,
     context: Context,
 ) -> Result<D, DecodeError>
-    // These clauses speak of streams whose bytes are known. What was consumed is an encoding of the value within the
-    // limit.
-    ensures word { TellsBytes (R.remaining src.old) → IfOk result (λ v. WordRead (D.words.format C.setting) C.bound
-        (known_bytes (R.remaining src.old)) (known_bytes (R.remaining src.new)) (λ m. D.words.decodes_to m v)) }
-    // Each encoding within the limit is accepted,
-    ensures found { TellsBytes (R.remaining src.old) → AcceptsAll (D.words.format C.setting) C.bound
-        (IsExcused stream_errors D.words.may_allocate 0 0) (known_bytes (R.remaining src.old)) result }
-    // each fault within the limit is reported,
-    ensures fault { TellsBytes (R.remaining src.old) → ReportsFault EndsShort (D.words.format C.setting) C.bound
-        (IsExcused stream_errors D.words.may_allocate 0 0) (known_bytes (R.remaining src.old)) result }
-    // and charges that pass the limit are refused.
-    ensures limit { TellsBytes (R.remaining src.old) → EnforcesLimit (D.words.format C.setting) C.bound
-        (IsExcused stream_errors D.words.may_allocate 0 0) (known_bytes (R.remaining src.old)) result }
-    // After an error a suffix of the bytes is left, unless the stream failed.
-    ensures left { TellsBytes (R.remaining src.old) → IfErr result (λ e. IsIo e
-        ⊎ Takes (known_bytes (R.remaining src.old)) (known_bytes (R.remaining src.new))) }
-    ensures is_known { TellsBytes (R.remaining src.old) → TellsBytes (R.remaining src.new) }
+    // The fields of `IsRead` say what is taken, how each fault and each excess is reported, and what a failure leaves.
+    ensures { IsRead (λ stream. TellsBytes (R.remaining stream)) (λ stream. known_bytes (R.remaining stream)) EndsShort
+        (IsExcused stream_errors D.words.may_allocate 0 0) IsIo (D.words.format C.setting) C.bound D.words.decodes_to
+        result src.old src.new }
 {
     let mut context = context;
     let mut reader = LentIoReader::new(src);

@@ -37,7 +37,7 @@ pub refused-so_far :
     RunRead is_known remaining charge failures loans limit end_error device may_allocate claim format decodes_to count values (Err Memory) old now
 refused-so_far {charge = charge} {limit = limit} {claim = claim} {count = count} {read = read} {old = old} {now = now} room h l = record {
   ok = λ k. tt;
-  err = λ k. by_memory room refl (h.known k).2.is_behind;
+  err = λ k. by_memory room refl (h.known k).2.is_after;
   failures_monotone = h.failures_monotone;
   tells = λ k. (h.known k).0;
   charge_kept = held-within limit claim read count (charge old) (charge now) l h.charge_kept;

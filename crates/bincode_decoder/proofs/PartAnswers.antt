@@ -11,7 +11,7 @@ use Rattle.bincode_spec.specs.Laws.{Lawful}
 use Rattle.bincode_spec.specs.Decoding.{by_fault}
 use Rattle.bincode_layers.specs.Values.{Reads}
 use Rattle.bincode_lemmas.specs.DecodingLaws.{answer-next, stops-first, stops-next, stops-besides, from_result-gave, from_result-refused, gave-takes}
-use Rattle.bincode_decoder.proofs.ReadAnswers.{read-as, read-behind, exactly}
+use Rattle.bincode_decoder.proofs.ReadAnswers.{read-as, read-after, exactly}
 
 -- memory may be refused for more reasons
 pub reads-besides :
@@ -38,7 +38,7 @@ module _ {D A B T U : Type 0} {is_known : D → Type 0} {remaining : D → List 
       Reads is_known remaining charge failures loans limit end_error device H (S (mean v)) whole (charge middle) r middle end →
       Reads is_known remaining charge failures loans limit end_error device H (F >>= S) whole start r old end
   next-reads {mean = mean} {v = v} {r = r} {middle = middle} {end = end} lawful first second =
-      read-behind
+      read-after
       (λ known. IfOk-weaker r _ _ (λ w d. record {
         meaning = d.meaning;
         answer_is = answer-next limit F S (remaining old) start (mean v) (remaining middle) (charge middle) (exactly (first.ok known)) ∙ d.answer_is;

@@ -19,25 +19,25 @@ use Rattle.bincode_layers.specs.Values.{Reads, ReadsInteger}
 use Rattle.bincode_decoder.proofs.Rooms.{claimed-grows, claimed-within, over-grows, whatever_given}
 
 module _ {D A B T U : Type 0} {is_known : D → Type 0} {remaining : D → List ℕ} {charge failures : D → ℕ} {loans : D → List GName} {limit : Option ℕ}
-    {end_error : ℕ → DecodeError → Type 0} {device : DeviceErrors} {G H : Type 0} {F : Format A} {decodes_to : A → T → Type 0} {charge_then : ℕ}
+    {end_error : ℕ → DecodeError → Type 0} {device : DeviceErrors} {G H : Type 0} {F : Format A} {decodes_to : A → T → Type 0} {charged : ℕ}
     {r : Result T DecodeError} {old new : D} where
   module _ {whole : Format B} {other : B → U → Type 0} {q : Result U DecodeError} where
     -- reading one format as another
-    pub read-as : (is_known old → IfOk q (λ v. Decodes (λ m. other m v) (answer limit whole (remaining old) charge_then) (remaining new) (charge new))) →
-        (is_known old → IfErr q (DecodeFailure end_error device H (answer limit whole (remaining old) charge_then) (failures old) (failures new) (remaining old) (remaining new) (charge new))) →
-        (Allows limit charge_then → IfOk q (λ _. Allows limit (charge new))) →
-        Reads is_known remaining charge failures loans limit end_error device G F decodes_to charge_then r old new → Reads is_known remaining charge failures loans limit end_error device H whole other charge_then q old new
+    pub read-as : (is_known old → IfOk q (λ v. Decodes (λ m. other m v) (answer limit whole (remaining old) charged) (remaining new) (charge new))) →
+        (is_known old → IfErr q (DecodeFailure end_error device H (answer limit whole (remaining old) charged) (failures old) (failures new) (remaining old) (remaining new) (charge new))) →
+        (Allows limit charged → IfOk q (λ _. Allows limit (charge new))) →
+        Reads is_known remaining charge failures loans limit end_error device G F decodes_to charged r old new → Reads is_known remaining charge failures loans limit end_error device H whole other charged q old new
     read-as h k w read = record { ok = h; err = k; failures_monotone = read.failures_monotone; tells = read.tells; charge_kept = read.charge_kept; within = w; same_loans = read.same_loans }
 
     -- and one after it
-    pub read-behind : {K C V : Type 0} {S : Format C} {next : C → V → Type 0} {p : Result V DecodeError} {end : D} →
-        (is_known old → IfOk q (λ v. Decodes (λ m. other m v) (answer limit whole (remaining old) charge_then) (remaining end) (charge end))) →
-        (is_known old → IfErr q (DecodeFailure end_error device H (answer limit whole (remaining old) charge_then) (failures old) (failures end) (remaining old) (remaining end) (charge end))) →
-        (Allows limit charge_then → IfOk q (λ _. Allows limit (charge end))) →
-        Reads is_known remaining charge failures loans limit end_error device G F decodes_to charge_then r old new →
+    pub read-after : {K C V : Type 0} {S : Format C} {next : C → V → Type 0} {p : Result V DecodeError} {end : D} →
+        (is_known old → IfOk q (λ v. Decodes (λ m. other m v) (answer limit whole (remaining old) charged) (remaining end) (charge end))) →
+        (is_known old → IfErr q (DecodeFailure end_error device H (answer limit whole (remaining old) charged) (failures old) (failures end) (remaining old) (remaining end) (charge end))) →
+        (Allows limit charged → IfOk q (λ _. Allows limit (charge end))) →
+        Reads is_known remaining charge failures loans limit end_error device G F decodes_to charged r old new →
         Reads is_known remaining charge failures loans limit end_error device K S next (charge new) p new end →
-        Reads is_known remaining charge failures loans limit end_error device H whole other charge_then q old end
-    read-behind h k w first second = record {
+        Reads is_known remaining charge failures loans limit end_error device H whole other charged q old end
+    read-after h k w first second = record {
       ok = h;
       err = k;
       failures_monotone = let a = first.failures_monotone in let b = second.failures_monotone in omega (arith, a, b);

@@ -6,7 +6,7 @@ use Rattle.std.proofs.lemmas.Result.{IfErr-weaker}
 use Rattle.bincode_base.specs.Setting.{Setting}
 use Rattle.bincode_base.specs.declared.error.DecodeError.{DecodeError}
 use Rattle.bincode_base.specs.declared.error.DecodeError.TheVariants.{Memory}
-use Rattle.bincode_spec.specs.Answer.{Answer, answer, Gave, weigh_reading, charge_behind, gave_at, refused_at}
+use Rattle.bincode_spec.specs.Answer.{Answer, answer, Gave, weigh_reading, charge_after_steps, gave_at, refused_at}
 use Rattle.bincode_spec.specs.Charge.{Step}
 use Rattle.bincode_spec.specs.Decoding.{DecodeFailure, by_fault, by_limit, by_memory, by_failure, by_device}
 use Rattle.bincode_spec.specs.Device.{DeviceErrors}
@@ -46,12 +46,12 @@ stops-memory e (by_failure h r t) k = inr (inr (inl h))
 stops-memory e (by_device h) k = inr (inr (inr h))
 
 weighed-took : {A : Type 0} (limit : Option ℕ) (c : ℕ) (r : Reading A) (a : A) (remaining : List ℕ) (d : ℕ) → weigh_reading limit c r ≡ Gave a remaining d → (s : List Step) × (r ≡ Took a remaining s)
-weighed-took limit c (Took b more steps) a remaining d h = took (charge_behind limit c steps) h
+weighed-took limit c (Took b more steps) a remaining d h = took (charge_after_steps limit c steps) h
   where
     took : (o : Option ℕ) → gave_at b more o ≡ Gave a remaining d → (s : List Step) × (Took b more steps ≡ Took a remaining s)
     took (Some n) k = (steps, cc)
     took None k = absurd (cc)
-weighed-took limit c (Failed why steps) a remaining d h = none (charge_behind limit c steps) h
+weighed-took limit c (Failed why steps) a remaining d h = none (charge_after_steps limit c steps) h
   where
     none : (o : Option ℕ) → refused_at why o ≡ Gave a remaining d → (s : List Step) × (Failed why steps ≡ Took a remaining s)
     none (Some n) k = absurd (cc)

@@ -86,9 +86,9 @@ refused-some zero h = absurd (false≢true (h refl))
 refused-some (suc n) h = omega arith
 
 -- a decoder to which nothing was done
-pub charge_then-still : {D R C : Type 0} {is_known : D → Type 0} {remaining : D → List ℕ} {failures : D → ℕ} {reader_of : D → R} {context_of : D → C} {loans : D → List GName} (d : D) →
+pub unchanged : {D R C : Type 0} {is_known : D → Type 0} {remaining : D → List ℕ} {failures : D → ℕ} {reader_of : D → R} {context_of : D → C} {loans : D → List GName} (d : D) →
     OnlyCharged is_known remaining failures reader_of context_of loans d d
-charge_then-still d = record { same_remaining = refl; same_failures = refl; tells = λ h. h; same_reader = refl; same_context = refl; same_loans = refl }
+unchanged d = record { same_remaining = refl; same_failures = refl; tells = λ h. h; same_reader = refl; same_context = refl; same_loans = refl }
 
 -- what is released under a limit is taken off
 pub unclaimed-some : (limit : Option ℕ) (charge n : ℕ) → true ≡ is_some limit → charge - n ≡ after_release limit charge n

@@ -2,7 +2,7 @@
 ghost use Rattle.bincode_spec.specs.Format.{map_format};
 ghost use Rattle.bincode_base.specs.declared.error.EncodeError.{EncodeError};
 ghost use Rattle.bincode_spec.specs.Meaning.{Choice};
-ghost use Rattle.bincode_spec.specs.Words.{behind_tag, tag_then_part};
+ghost use Rattle.bincode_spec.specs.Words.{after_tag, tag_then_part};
 ghost use Rattle.bincode_spec.specs.Choices.{IsChoice};
 ghost use Rattle.bincode_spec.specs.Allowed.{AllowedWord, WrittenAlike};
 ghost use Rattle.bincode_layers.specs.Meanings.{SameMeanings};
@@ -30,7 +30,7 @@ where
     Parts::Tag: EncodeTag,
     requires fits { Parts.Tag.Fits tag }
     requires picks { WrittenAlike (map_format (Choice tag) (A.words.format E.C.setting))
-        (behind_tag Parts.variants E.C.setting tag) }
+        (after_tag Parts.variants E.C.setting tag) }
     requires own_errors { (e : EncodeError) → A.words.own_errors e → Parts.words.own_errors e }
     requires means { SameMeanings (IsChoice tag (A.words.means part.now)) (Parts.words.means (T.parts value.now)) }
     requires writable { Parts.words.writable E.C.setting (T.parts value.now) → A.words.writable E.C.setting part.now }

@@ -21,9 +21,9 @@ use Rattle.bincode_spec.specs.Encoding.{Adds, Refuses, Encodes}
 use Rattle.bincode_encoder.proofs.EncodingAnswers.{Joined, encodes-within, first-halts, next-encodes}
 
 -- the errors of a list are those of its items
-behind_length : (N : EncodeError → Type 0) (e : EncodeError) → ⊥ ⊎ N e → N e
-behind_length N e (inl k) = absurd k
-behind_length N e (inr k) = k
+after_length : (N : EncodeError → Type 0) (e : EncodeError) → ⊥ ⊎ N e → N e
+after_length N e (inl k) = absurd k
+after_length N e (inr k) = k
 
 -- the errors of one of two runs are errors of both
 of_both : (N : EncodeError → Type 0) (e : EncodeError) → N e ⊎ N e → N e
@@ -39,14 +39,14 @@ module _ {E W T V : Type 0} {adds : Adds W} {refuses : Refuses W} {writer_of : E
   -- if encoding the length fails, so does the list
   pub length-halts : (vs : List A) {R : Type 0} {e : EncodeError} → Encodes {T = T} adds refuses writer_of loans (Unit {0}) (LengthWord s (length vs)) (λ _. ⊥) (Err e) old new →
       Encodes {T = V} adds refuses writer_of loans R (AllowedWord (IsListOf Means vs) (list s share F)) N (Err e) old new
-  length-halts vs {R} = first-halts {R = Unit {0}} (λ _ r. r) (λ r. (tt, r)) (list-allows Means s share F vs) (allowed-list Means s share F vs) {M = N} (behind_length N)
+  length-halts vs {R} = first-halts {R = Unit {0}} (λ _ r. r) (λ r. (tt, r)) (list-allows Means s share F vs) (allowed-list Means s share F vs) {M = N} (after_length N)
 
   -- after the length the list is encoded as its items
   pub list-encodes : (vs : List A) {R : Type 0} {t : T} {r : Result V EncodeError} {between : E} → Joined adds →
       Encodes adds refuses writer_of loans (Unit {0}) (LengthWord s (length vs)) (λ _. ⊥) (Ok t) old between →
       Encodes adds refuses writer_of loans R (AllowedWord (IsListOf Means vs) (array (length vs) share F)) N r between new →
       Encodes adds refuses writer_of loans R (AllowedWord (IsListOf Means vs) (list s share F)) N r old new
-  list-encodes vs {R} = next-encodes {R = Unit {0}} (λ _ r. r) (λ r. (tt, r)) (list-allows Means s share F vs) (allowed-list Means s share F vs) {M = N} (behind_length N)
+  list-encodes vs {R} = next-encodes {R = Unit {0}} (λ _ r. r) (λ r. (tt, r)) (list-allows Means s share F vs) (allowed-list Means s share F vs) {M = N} (after_length N)
 
 module _ {E W T V : Type 0} {adds : Adds W} {refuses : Refuses W} {writer_of : E → W} {loans : E → List GName} {old new : E}
     {A : Type 0} (Means : A → Meaning → Type 0) (share : ℕ) (F : Format Meaning) {N : EncodeError → Type 0} where

@@ -3,7 +3,7 @@ ghost use Rattle.std.specs.Prelude.{pos};
 ghost use Rattle.bincode_spec.specs.Format.{map_format};
 ghost use Rattle.bincode_base.specs.declared.error.EncodeError.{EncodeError};
 ghost use Rattle.bincode_spec.specs.Meaning.{Choice, IsNumber};
-ghost use Rattle.bincode_spec.specs.Words.{natural_number, behind_tag, tag_then_part};
+ghost use Rattle.bincode_spec.specs.Words.{natural_number, after_tag, tag_then_part};
 ghost use Rattle.bincode_spec.specs.Choices.{IsChoice};
 ghost use Rattle.bincode_spec.specs.Allowed.{AllowedWord, WrittenAlike};
 ghost use Rattle.bincode_layers.specs.Meanings.{SameMeanings};
@@ -54,7 +54,7 @@ where
     Parts::Tag: EncodeTag,
     requires fits { Parts.Tag.Fits tag }
     requires picks { WrittenAlike (map_format (Choice tag) (V.Value.words.format E.C.setting))
-        (behind_tag Parts.variants E.C.setting tag) }
+        (after_tag Parts.variants E.C.setting tag) }
     requires own_errors { (e : EncodeError) → V.Value.words.own_errors e → Parts.words.own_errors e }
     requires means { SameMeanings (IsChoice tag (V.Value.words.means part.now)) (Parts.words.means
         (T.parts value.now)) }

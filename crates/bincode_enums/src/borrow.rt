@@ -2,7 +2,7 @@
 ghost use Rattle.std.specs.Prelude.{◌≡◌};
 ghost use Rattle.bincode_spec.specs.Format.{map_format};
 ghost use Rattle.bincode_spec.specs.Meaning.{Choice};
-ghost use Rattle.bincode_spec.specs.Words.{behind_tag};
+ghost use Rattle.bincode_spec.specs.Words.{after_tag};
 ghost use Rattle.bincode_spec.specs.Choices.{IsChoice};
 ghost use Rattle.bincode_layers.specs.Values.{Reads};
 ghost use Rattle.bincode_enums.specs.EnumWords.{ReadAlike};
@@ -21,7 +21,7 @@ pub trait BorrowDecodeVariants<B: BorrowedBytes, Context: Drop>: Enum + Drop + S
         decoder: &mut D,
     ) -> Result<Self, DecodeError>
         ensures { Reads D.is_known D.remaining D.charge D.failures D.loans D.C.bound D.R.end_error D.R.device
-            Self.words.may_allocate (behind_tag Self.choices.variants D.C.setting tag) Self.words.decodes_to
+            Self.words.may_allocate (after_tag Self.choices.variants D.C.setting tag) Self.words.decodes_to
             (D.charge decoder.old) result decoder.old decoder.new };
 }
 
@@ -50,11 +50,11 @@ pub fn borrow_decode_part<
     D: BorrowDecoder<B, Context = Context>,
 >(tag: u32, number: u32, decoder: &mut D) -> Result<A, DecodeError>
     requires same { tag ≡ number }
-    requires picks { ReadAlike (behind_tag T.choices.variants D.C.setting number)
+    requires picks { ReadAlike (after_tag T.choices.variants D.C.setting number)
         (map_format (Choice number) (A.words.format D.C.setting)) }
     requires may_allocate { A.words.may_allocate → T.words.may_allocate }
     ensures { Reads D.is_known D.remaining D.charge D.failures D.loans D.C.bound D.R.end_error D.R.device
-        T.words.may_allocate (behind_tag T.choices.variants D.C.setting tag) (λ m a. IsChoice tag
+        T.words.may_allocate (after_tag T.choices.variants D.C.setting tag) (λ m a. IsChoice tag
         (λ p. A.words.decodes_to p a) m) (D.charge decoder.old) result decoder.old decoder.new }
 {
     A::borrow_decode(decoder)

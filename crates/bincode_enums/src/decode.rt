@@ -2,7 +2,7 @@
 ghost use Rattle.std.specs.Prelude.{◌≡◌, true, false};
 ghost use Rattle.bincode_spec.specs.Format.{map_format};
 ghost use Rattle.bincode_spec.specs.Meaning.{Choice};
-ghost use Rattle.bincode_spec.specs.Words.{behind_tag, variant_tags, in_order, last_of};
+ghost use Rattle.bincode_spec.specs.Words.{after_tag, variant_tags, in_order, last_of};
 ghost use Rattle.bincode_spec.specs.Choices.{IsChoice};
 ghost use Rattle.bincode_layers.specs.Values.{Reads};
 ghost use Rattle.bincode_enums.specs.EnumWords.{IsNone, ReadAlike};
@@ -21,7 +21,7 @@ pub trait DecodeVariants<Context: Drop>: Enum + Drop + Sized {
         decoder: &mut D,
     ) -> Result<Self, DecodeError>
         ensures { Reads D.is_known D.remaining D.charge D.failures D.loans D.C.bound D.R.end_error D.R.device
-            Self.words.may_allocate (behind_tag Self.choices.variants D.C.setting tag) Self.words.decodes_to
+            Self.words.may_allocate (after_tag Self.choices.variants D.C.setting tag) Self.words.decodes_to
             (D.charge decoder.old) result decoder.old decoder.new };
 }
 
@@ -46,11 +46,11 @@ pub fn decode_part<Context: Drop, T: Enum, A: Decode<Context>, D: Decoder<Contex
     decoder: &mut D,
 ) -> Result<A, DecodeError>
     requires same { tag ≡ number }
-    requires picks { ReadAlike (behind_tag T.choices.variants D.C.setting number)
+    requires picks { ReadAlike (after_tag T.choices.variants D.C.setting number)
         (map_format (Choice number) (A.words.format D.C.setting)) }
     requires may_allocate { A.words.may_allocate → T.words.may_allocate }
     ensures { Reads D.is_known D.remaining D.charge D.failures D.loans D.C.bound D.R.end_error D.R.device
-        T.words.may_allocate (behind_tag T.choices.variants D.C.setting tag) (λ m a. IsChoice tag
+        T.words.may_allocate (after_tag T.choices.variants D.C.setting tag) (λ m a. IsChoice tag
         (λ p. A.words.decodes_to p a) m) (D.charge decoder.old) result decoder.old decoder.new }
 {
     A::decode(decoder)
@@ -67,7 +67,7 @@ pub fn decode_no_variant<T: Enum, D: Decoder>(
     requires ordered { in_order 0 (variant_tags T.choices.variants) ≡ true }
     requires ends { last_of 0 (variant_tags T.choices.variants) ≡ last }
     ensures { Reads D.is_known D.remaining D.charge D.failures D.loans D.C.bound D.R.end_error D.R.device
-        T.words.may_allocate (behind_tag T.choices.variants D.C.setting tag) T.words.decodes_to (D.charge decoder.old)
+        T.words.may_allocate (after_tag T.choices.variants D.C.setting tag) T.words.decodes_to (D.charge decoder.old)
         result decoder.old decoder.new }
 {
     let range = AllowedEnumVariants::Range { min: 0, max: last };
@@ -87,7 +87,7 @@ pub fn decode_unlisted_variant<T: Enum, D: Decoder>(
     requires listed { tags.now ≡ variant_tags T.choices.variants }
     requires may_allocate { T.words.may_allocate }
     ensures { Reads D.is_known D.remaining D.charge D.failures D.loans D.C.bound D.R.end_error D.R.device
-        T.words.may_allocate (behind_tag T.choices.variants D.C.setting tag) T.words.decodes_to (D.charge decoder.old)
+        T.words.may_allocate (after_tag T.choices.variants D.C.setting tag) T.words.decodes_to (D.charge decoder.old)
         result decoder.old decoder.new }
 {
     let list = AllowedEnumVariants::Allowed(tags);

@@ -3,7 +3,7 @@ ghost use Rattle.std.specs.Prelude.{◌<◌, ◌^◌};
 ghost use Rattle.bincode_base.specs.declared.error.EncodeError.{EncodeError};
 ghost use Rattle.bincode_spec.specs.Format.{map_format};
 ghost use Rattle.bincode_spec.specs.Meaning.{Choice};
-ghost use Rattle.bincode_spec.specs.Words.{behind_tag};
+ghost use Rattle.bincode_spec.specs.Words.{after_tag};
 ghost use Rattle.bincode_spec.specs.Choices.{IsChoice};
 ghost use Rattle.bincode_spec.specs.Allowed.{AllowedWord, WrittenAlike};
 ghost use Rattle.bincode_layers.specs.Meanings.{SameMeanings};
@@ -24,7 +24,7 @@ pub fn encode_variant<T: Enum, A: Encode, E: Encoder>(
     encoder: &mut E,
 ) -> Result<(), EncodeError>
     requires picks { WrittenAlike (map_format (Choice tag) (A.words.format E.C.setting))
-        (behind_tag T.choices.variants E.C.setting tag) }
+        (after_tag T.choices.variants E.C.setting tag) }
     requires own_errors { (e : EncodeError) → A.words.own_errors e → T.words.own_errors e }
     requires means { SameMeanings (IsChoice tag (A.words.means part.now)) (T.words.means value.now) }
     requires writable { T.words.writable E.C.setting value.now → A.words.writable E.C.setting part.now }

@@ -25,10 +25,10 @@ room-taken size at size' at' piece e s within =
     record { within = omega arith; left = ap Some left }
 
 -- a piece that is too long after a prefix is too long with the prefix before it
-pub too_long-behind : (room after : Option ℕ) (front piece : List ℕ) → TakesRoom room front after → TooLong after piece →
+pub too_long-after : (room after : Option ℕ) (front piece : List ℕ) → TakesRoom room front after → TooLong after piece →
     TooLong room (front ++ piece)
-too_long-behind None after front piece h long = let P : Option ℕ → Type 0 = λ r. TooLong r piece in subst P h.left long
-too_long-behind (Some room) after front piece h long =
+too_long-after None after front piece h long = let P : Option ℕ → Type 0 = λ r. TooLong r piece in subst P h.left long
+too_long-after (Some room) after front piece h long =
     let P : Option ℕ → Type 0 = λ r. TooLong r piece in
     let behind = subst P h.left long in
     let both = length-append front piece in

@@ -9,19 +9,19 @@ use Rattle.bincode_spec.specs.Words.{len}
 use Rattle.bincode_base.specs.declared.error.IntegerType.TheVariants as integers
 
 -- after a word: its full width, and what the rest needs; after a fault nothing is read
-abbrev pub behind_word : {A : Type 0} → Reading A → (A → List ℕ → ℕ) → ℕ
-behind_word (Took a rest steps) next = charged_bytes steps + next a rest
-behind_word (Failed why steps) next = 0
+abbrev pub after_word : {A : Type 0} → Reading A → (A → List ℕ → ℕ) → ℕ
+after_word (Took a rest steps) next = charged_bytes steps + next a rest
+after_word (Failed why steps) next = 0
 
 -- parts in order: the maximum, over the parts, of the widths of those before and what the part needs
 abbrev pub then_needs : {A : Type 0} → Format A → (List ℕ → ℕ) → (A → List ℕ → ℕ) → List ℕ → ℕ
-then_needs F first next input = max (first input) (behind_word (F.read input) next)
+then_needs F first next input = max (first input) (after_word (F.read input) next)
 
 -- n elements: the maximum, over the elements, of the widths of those before, the claims of those after it, and what the
 -- element needs
 abbrev pub each_needs : {A : Type 0} → ℕ → ℕ → Format A → (List ℕ → ℕ) → List ℕ → ℕ
 each_needs zero share F need input = 0
-each_needs (suc n) share F need input = max (n * share + need input) (behind_word (F.read input) (λ _ rest. each_needs n share F need rest))
+each_needs (suc n) share F need input = max (n * share + need input) (after_word (F.read input) (λ _ rest. each_needs n share F need rest))
 
 -- and the claims of all
 abbrev pub array_needs : {A : Type 0} → ℕ → ℕ → Format A → (List ℕ → ℕ) → List ℕ → ℕ

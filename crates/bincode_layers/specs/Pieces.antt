@@ -52,14 +52,14 @@ pub record TakesPiece {W : Type 0} (adds : W → List ℕ → W → Type 0) (ref
   pub same_loans : loans new ≡ loans old
 
 -- the room that is left after a piece
-abbrev pub room_behind : Option ℕ → List ℕ → Option ℕ
-room_behind None piece = None
-room_behind (Some room) piece = Some (room - length piece)
+abbrev pub room_after : Option ℕ → List ℕ → Option ℕ
+room_after None piece = None
+room_after (Some room) piece = Some (room - length piece)
 
 -- a piece that was added did fit, and takes its length off the room
 pub record TakesRoom (before : Option ℕ) (piece : List ℕ) (after : Option ℕ) : Type 0 where
   pub within : WithinRoom before piece
-  pub left : after ≡ room_behind before piece
+  pub left : after ≡ room_after before piece
 
 -- the concatenation of pieces
 abbrev pub concat_pieces : List (List ℕ) → List ℕ

@@ -7,7 +7,7 @@ use Rattle.bincode_spec.specs.Charge.{Step, Charge, Reserve, Release, charged_by
 use Rattle.bincode_spec.specs.Format.{Format, Reading, Took, Failed, after_steps, then_read, pure, fail, step, ◌>>=◌}
 use Rattle.bincode_spec.specs.Laws.{Lawful, BeginsWith, IsBacked, Balanced, Settles, Holds}
 use Rattle.bincode_lemmas.specs.Balance.{balanced-word, balanced-fault}
-use Rattle.bincode_spec.specs.Answer.{StepsOf, of_word, of_fault, Allows, after_claim, after_release, after_step, on_some, charge_behind}
+use Rattle.bincode_spec.specs.Answer.{StepsOf, of_word, of_fault, Allows, after_claim, after_release, after_step, on_some, charge_after_steps}
 use Rattle.bincode_spec.specs.Answer.{Answer, Gave, Refused, PassedLimit, gave_at, refused_at, weigh_reading, answer}
 use Rattle.bincode_lemmas.specs.Sequences.{and_then}
 
@@ -21,28 +21,28 @@ on_some_same : (o : Option ℕ) (f g : ℕ → Option ℕ) → ((n : ℕ) → f 
 on_some_same (Some n) f g h = h n
 on_some_same None f g h = refl
 
-charge_behind_append : (limit : Option ℕ) (charge : ℕ) (s t : List Step) → charge_behind limit charge (s ++ t) ≡ on_some (charge_behind limit charge s) (λ after. charge_behind limit after t)
-charge_behind_append limit charge [] t = refl
-charge_behind_append limit charge (x ∷ s) t =
-    on_some_same (after_step limit charge x) (λ after. charge_behind limit after (s ++ t))
-    (λ after. on_some (charge_behind limit after s) (λ last. charge_behind limit last t)) (λ after. charge_behind_append limit after s t)
-    ∙ sym (on_some_twice (after_step limit charge x) (λ after. charge_behind limit after s) (λ last. charge_behind limit last t))
+charge_after_append : (limit : Option ℕ) (charge : ℕ) (s t : List Step) → charge_after_steps limit charge (s ++ t) ≡ on_some (charge_after_steps limit charge s) (λ after. charge_after_steps limit after t)
+charge_after_append limit charge [] t = refl
+charge_after_append limit charge (x ∷ s) t =
+    on_some_same (after_step limit charge x) (λ after. charge_after_steps limit after (s ++ t))
+    (λ after. on_some (charge_after_steps limit after s) (λ last. charge_after_steps limit last t)) (λ after. charge_after_append limit after s t)
+    ∙ sym (on_some_twice (after_step limit charge x) (λ after. charge_after_steps limit after s) (λ last. charge_after_steps limit last t))
 
 module _ {A B : Type 0} (limit : Option ℕ) where
   gave_weighed : (a : A) (remaining : List ℕ) (m : B) (more : List ℕ) (t : List Step) (o : Option ℕ) →
-      gave_at m more (on_some o (λ after. charge_behind limit after t)) ≡ and_then (gave_at a remaining o) (λ _ _ after. gave_at m more (charge_behind limit after t))
+      gave_at m more (on_some o (λ after. charge_after_steps limit after t)) ≡ and_then (gave_at a remaining o) (λ _ _ after. gave_at m more (charge_after_steps limit after t))
   gave_weighed a remaining m more t (Some n) = refl
   gave_weighed a remaining m more t None = refl
 
   refused_weighed : (a : A) (remaining : List ℕ) (why : Fault) (t : List Step) (o : Option ℕ) →
-      refused_at {A = B} why (on_some o (λ after. charge_behind limit after t)) ≡ and_then (gave_at a remaining o) (λ _ _ after. refused_at why (charge_behind limit after t))
+      refused_at {A = B} why (on_some o (λ after. charge_after_steps limit after t)) ≡ and_then (gave_at a remaining o) (λ _ _ after. refused_at why (charge_after_steps limit after t))
   refused_weighed a remaining why t (Some n) = refl
   refused_weighed a remaining why t None = refl
 
   weighed_after : (charge : ℕ) (a : A) (remaining : List ℕ) (s : List Step) (r : Reading B) →
-      weigh_reading limit charge (after_steps s r) ≡ and_then (gave_at a remaining (charge_behind limit charge s)) (λ _ _ after. weigh_reading limit after r)
-  weighed_after charge a remaining s (Took m more t) = ap (gave_at m more) (charge_behind_append limit charge s t) ∙ gave_weighed a remaining m more t (charge_behind limit charge s)
-  weighed_after charge a remaining s (Failed why t) = ap (refused_at {A = B} why) (charge_behind_append limit charge s t) ∙ refused_weighed a remaining why t (charge_behind limit charge s)
+      weigh_reading limit charge (after_steps s r) ≡ and_then (gave_at a remaining (charge_after_steps limit charge s)) (λ _ _ after. weigh_reading limit after r)
+  weighed_after charge a remaining s (Took m more t) = ap (gave_at m more) (charge_after_append limit charge s t) ∙ gave_weighed a remaining m more t (charge_after_steps limit charge s)
+  weighed_after charge a remaining s (Failed why t) = ap (refused_at {A = B} why) (charge_after_append limit charge s t) ∙ refused_weighed a remaining why t (charge_after_steps limit charge s)
 
   gave_on : (next : A → List ℕ → Reading B) (a : A) (remaining : List ℕ) (o : Option ℕ) →
       and_then (gave_at a remaining o) (λ _ _ after. weigh_reading limit after (next a remaining)) ≡ and_then (gave_at a remaining o) (λ m more after. weigh_reading limit after (next m more))
@@ -55,8 +55,8 @@ module _ {A B : Type 0} (limit : Option ℕ) where
 
   weighed_then : (next : A → List ℕ → Reading B) (charge : ℕ) (r : Reading A) →
       weigh_reading limit charge (then_read r next) ≡ and_then (weigh_reading limit charge r) (λ a remaining after. weigh_reading limit after (next a remaining))
-  weighed_then next charge (Took a remaining s) = weighed_after charge a remaining s (next a remaining) ∙ gave_on next a remaining (charge_behind limit charge s)
-  weighed_then next charge (Failed why s) = refused_on (λ a remaining after. weigh_reading limit after (next a remaining)) why (charge_behind limit charge s)
+  weighed_then next charge (Took a remaining s) = weighed_after charge a remaining s (next a remaining) ∙ gave_on next a remaining (charge_after_steps limit charge s)
+  weighed_then next charge (Failed why s) = refused_on (λ a remaining after. weigh_reading limit after (next a remaining)) why (charge_after_steps limit charge s)
 
 -- The answer goes part by part.
 pub answer-then : {A B : Type 0} (limit : Option ℕ) (F : Format A) (G : A → Format B) (input : List ℕ) (charge : ℕ) →
@@ -106,8 +106,8 @@ claim-falls limit charge n h = rw (lt-leb (charge + n) limit h) refl
 -- one step, by what it leaves of the charge
 pub step-answered : (limit : Option ℕ) (change : Step) (input : List ℕ) (charge : ℕ) (o : Option ℕ) → after_step limit charge change ≡ o → answer limit (step change) input charge ≡ gave_at tt input o
 unfolding answer step
-step-answered limit change input charge (Some n) e = ap (λ z. gave_at tt input (on_some z (λ after. charge_behind limit after []))) e
-step-answered limit change input charge None e = ap (λ z. gave_at tt input (on_some z (λ after. charge_behind limit after []))) e
+step-answered limit change input charge (Some n) e = ap (λ z. gave_at tt input (on_some z (λ after. charge_after_steps limit after []))) e
+step-answered limit change input charge None e = ap (λ z. gave_at tt input (on_some z (λ after. charge_after_steps limit after []))) e
 
 -- the limit and the prefixes of the steps
 
@@ -118,10 +118,10 @@ counted_after (Some limit) charge steps = charge_after charge steps
 
 -- either the charge after the steps is counted and they stay within the limit, or they pass it
 data Weighing (limit : Option ℕ) (charge : ℕ) (steps : List Step) : Type 0 where
-  stays : charge_behind limit charge steps ≡ Some (counted_after limit charge steps) → (Allows limit charge → StaysWithin limit charge steps) → Weighing limit charge steps
-  passes : charge_behind limit charge steps ≡ None → Passes limit charge steps → Weighing limit charge steps
+  stays : charge_after_steps limit charge steps ≡ Some (counted_after limit charge steps) → (Allows limit charge → StaysWithin limit charge steps) → Weighing limit charge steps
+  passes : charge_after_steps limit charge steps ≡ None → Passes limit charge steps → Weighing limit charge steps
 
-unlimited : (charge : ℕ) (steps : List Step) → charge_behind None charge steps ≡ Some charge
+unlimited : (charge : ℕ) (steps : List Step) → charge_after_steps None charge steps ≡ Some charge
 unlimited charge [] = refl
 unlimited charge ((Charge n) ∷ steps) = unlimited charge steps
 unlimited charge ((Reserve n share) ∷ steps) = unlimited charge steps
@@ -144,16 +144,16 @@ module _ (limit charge : ℕ) where
       ((front : List Step) → charge_after charge (x ∷ front) ≡ charge_after after front) → (charge ≤ limit → after ≤ limit) →
       Weighing (Some limit) after steps → Weighing (Some limit) charge (x ∷ steps)
   weigh_step after x steps e k l (stays p w) =
-      stays (ap (λ z. on_some z (λ n. charge_behind (Some limit) n steps)) e ∙ p ∙ ap Some (sym (k steps))) (λ h. within_step after x steps k h (w (l h)))
+      stays (ap (λ z. on_some z (λ n. charge_after_steps (Some limit) n steps)) e ∙ p ∙ ap Some (sym (k steps))) (λ h. within_step after x steps k h (w (l h)))
   weigh_step after x steps e k l (passes p w) =
-      passes (ap (λ z. on_some z (λ n. charge_behind (Some limit) n steps)) e ∙ p)
+      passes (ap (λ z. on_some z (λ n. charge_after_steps (Some limit) n steps)) e ∙ p)
       (record { front = x ∷ w.front; back = w.back; steps_are = ap (λ z. x ∷ z) w.steps_are; above = rw (k w.front) w.above })
 
   weigh_claim : (n : ℕ) (x : Step) (steps : List Step) → after_step (Some limit) charge x ≡ after_claim (Some limit) charge n →
       ((front : List Step) → charge_after charge (x ∷ front) ≡ charge_after (charge + n) front) → (limit < charge + n) ⊎ (charge + n ≤ limit) →
       Weighing (Some limit) (charge + n) steps → Weighing (Some limit) charge (x ∷ steps)
   weigh_claim n x steps e k (inl h) w =
-      passes (ap (λ z. on_some z (λ n. charge_behind (Some limit) n steps)) (e ∙ claim-falls limit charge n h))
+      passes (ap (λ z. on_some z (λ n. charge_after_steps (Some limit) n steps)) (e ∙ claim-falls limit charge n h))
       (record { front = x ∷ []; back = steps; steps_are = refl; above = rw (k []) (omega arith) })
   weigh_claim n x steps e k (inr h) w = weigh_step (charge + n) x steps (e ∙ claim-stands (Some limit) charge n h) k (λ _. h) w
 
@@ -193,49 +193,49 @@ not_both None charge steps h k = k
 not_both (Some limit) charge steps h k = let l : charge_after charge k.front ≤ limit = h k.front k.back k.steps_are in let m = k.above in omega arith
 
 module _ (limit : Option ℕ) (charge : ℕ) (steps : List Step) where
-  weighing_counted : (after : ℕ) → charge_behind limit charge steps ≡ Some after → Weighing limit charge steps → after ≡ counted_after limit charge steps
+  weighing_counted : (after : ℕ) → charge_after_steps limit charge steps ≡ Some after → Weighing limit charge steps → after ≡ counted_after limit charge steps
   weighing_counted after e (stays p w) = cc
   weighing_counted after e (passes p w) = absurd (cc)
 
-  weighing_stays : (after : ℕ) → charge_behind limit charge steps ≡ Some after → Allows limit charge → Weighing limit charge steps → StaysWithin limit charge steps
+  weighing_stays : (after : ℕ) → charge_after_steps limit charge steps ≡ Some after → Allows limit charge → Weighing limit charge steps → StaysWithin limit charge steps
   weighing_stays after e h (stays p w) = w h
   weighing_stays after e h (passes p w) = absurd (cc)
 
-  weighing_passes : charge_behind limit charge steps ≡ None → Weighing limit charge steps → Passes limit charge steps
+  weighing_passes : charge_after_steps limit charge steps ≡ None → Weighing limit charge steps → Passes limit charge steps
   weighing_passes e (stays p w) = absurd (cc)
   weighing_passes e (passes p w) = w
 
-  stays_weighing : StaysWithin limit charge steps → Weighing limit charge steps → charge_behind limit charge steps ≡ Some (counted_after limit charge steps)
+  stays_weighing : StaysWithin limit charge steps → Weighing limit charge steps → charge_after_steps limit charge steps ≡ Some (counted_after limit charge steps)
   stays_weighing h (stays p w) = p
   stays_weighing h (passes p w) = absurd (not_both limit charge steps h w)
 
-  passes_weighing : Passes limit charge steps → Allows limit charge → Weighing limit charge steps → charge_behind limit charge steps ≡ None
+  passes_weighing : Passes limit charge steps → Allows limit charge → Weighing limit charge steps → charge_after_steps limit charge steps ≡ None
   passes_weighing h l (stays p w) = absurd (not_both limit charge steps (w l) h)
   passes_weighing h l (passes p w) = p
 
 -- Steps that are backed lead to the charge that is counted.
-pub behind-counted : (limit : Option ℕ) (charge held : ℕ) (steps : List Step) (after : ℕ) → IsBacked held steps → held ≤ charge →
-    charge_behind limit charge steps ≡ Some after → after ≡ counted_after limit charge steps
-behind-counted limit charge held steps after h k e = weighing_counted limit charge steps after e (weigh limit charge held steps h k)
+pub after-counted : (limit : Option ℕ) (charge held : ℕ) (steps : List Step) (after : ℕ) → IsBacked held steps → held ≤ charge →
+    charge_after_steps limit charge steps ≡ Some after → after ≡ counted_after limit charge steps
+after-counted limit charge held steps after h k e = weighing_counted limit charge steps after e (weigh limit charge held steps h k)
 
 -- Steps that lead to a charge stay within the limit.
-pub behind-stays : (limit : Option ℕ) (charge held : ℕ) (steps : List Step) (after : ℕ) → IsBacked held steps → held ≤ charge → Allows limit charge →
-    charge_behind limit charge steps ≡ Some after → StaysWithin limit charge steps
-behind-stays limit charge held steps after h k l e = weighing_stays limit charge steps after e l (weigh limit charge held steps h k)
+pub after-stays : (limit : Option ℕ) (charge held : ℕ) (steps : List Step) (after : ℕ) → IsBacked held steps → held ≤ charge → Allows limit charge →
+    charge_after_steps limit charge steps ≡ Some after → StaysWithin limit charge steps
+after-stays limit charge held steps after h k l e = weighing_stays limit charge steps after e l (weigh limit charge held steps h k)
 
 -- Steps that lead to no charge pass the limit.
-pub behind-passes : (limit : Option ℕ) (charge held : ℕ) (steps : List Step) → IsBacked held steps → held ≤ charge → charge_behind limit charge steps ≡ None → Passes limit charge steps
-behind-passes limit charge held steps h k e = weighing_passes limit charge steps e (weigh limit charge held steps h k)
+pub after-passes : (limit : Option ℕ) (charge held : ℕ) (steps : List Step) → IsBacked held steps → held ≤ charge → charge_after_steps limit charge steps ≡ None → Passes limit charge steps
+after-passes limit charge held steps h k e = weighing_passes limit charge steps e (weigh limit charge held steps h k)
 
 -- Steps that stay within the limit lead to the charge that is counted.
-pub stays-behind : (limit : Option ℕ) (charge held : ℕ) (steps : List Step) → IsBacked held steps → held ≤ charge → StaysWithin limit charge steps →
-    charge_behind limit charge steps ≡ Some (counted_after limit charge steps)
-stays-behind limit charge held steps h k w = stays_weighing limit charge steps w (weigh limit charge held steps h k)
+pub stays-after : (limit : Option ℕ) (charge held : ℕ) (steps : List Step) → IsBacked held steps → held ≤ charge → StaysWithin limit charge steps →
+    charge_after_steps limit charge steps ≡ Some (counted_after limit charge steps)
+stays-after limit charge held steps h k w = stays_weighing limit charge steps w (weigh limit charge held steps h k)
 
 -- Steps that pass the limit lead to no charge.
-pub passes-behind : (limit : Option ℕ) (charge held : ℕ) (steps : List Step) → IsBacked held steps → held ≤ charge → Allows limit charge →
-    Passes limit charge steps → charge_behind limit charge steps ≡ None
-passes-behind limit charge held steps h k l w = passes_weighing limit charge steps w l (weigh limit charge held steps h k)
+pub passes-after : (limit : Option ℕ) (charge held : ℕ) (steps : List Step) → IsBacked held steps → held ≤ charge → Allows limit charge →
+    Passes limit charge steps → charge_after_steps limit charge steps ≡ None
+passes-after limit charge held steps h k l w = passes_weighing limit charge steps w l (weigh limit charge held steps h k)
 
 -- the answer and the language
 
@@ -257,9 +257,9 @@ module _ {A : Type 0} (m : A) (remaining : List ℕ) (after : ℕ) where
   refused_gave why None e = cc
 
   gave_by : (limit : Option ℕ) (charge : ℕ) (r : Reading A) → weigh_reading limit charge r ≡ Gave m remaining after →
-      (steps : List Step) × (r ≡ Took m remaining steps) × (charge_behind limit charge steps ≡ Some after)
-  gave_by limit charge (Took a more steps) e = let p = gave_at_is a more (charge_behind limit charge steps) e in (steps, rw (p.0, p.1) refl, p.2)
-  gave_by limit charge (Failed why steps) e = absurd (refused_gave why (charge_behind limit charge steps) e)
+      (steps : List Step) × (r ≡ Took m remaining steps) × (charge_after_steps limit charge steps ≡ Some after)
+  gave_by limit charge (Took a more steps) e = let p = gave_at_is a more (charge_after_steps limit charge steps) e in (steps, rw (p.0, p.1) refl, p.2)
+  gave_by limit charge (Failed why steps) e = absurd (refused_gave why (charge_after_steps limit charge steps) e)
 
 module _ {A : Type 0} (why : Fault) (after : ℕ) where
   refused_at_is : (fault : Fault) (o : Option ℕ) → ◌≡◌ {A = Answer A} (refused_at fault o) (Refused why after) → (fault ≡ why) × (o ≡ Some after)
@@ -271,9 +271,9 @@ module _ {A : Type 0} (why : Fault) (after : ℕ) where
   gave_refused a remaining None e = cc
 
   refused_by : (limit : Option ℕ) (charge : ℕ) (r : Reading A) → weigh_reading limit charge r ≡ Refused why after →
-      (steps : List Step) × (r ≡ Failed why steps) × (charge_behind limit charge steps ≡ Some after)
-  refused_by limit charge (Took a remaining steps) e = absurd (gave_refused a remaining (charge_behind limit charge steps) e)
-  refused_by limit charge (Failed fault steps) e = let p = refused_at_is fault (charge_behind limit charge steps) e in (steps, rw p.0 refl, p.1)
+      (steps : List Step) × (r ≡ Failed why steps) × (charge_after_steps limit charge steps ≡ Some after)
+  refused_by limit charge (Took a remaining steps) e = absurd (gave_refused a remaining (charge_after_steps limit charge steps) e)
+  refused_by limit charge (Failed fault steps) e = let p = refused_at_is fault (charge_after_steps limit charge steps) e in (steps, rw p.0 refl, p.1)
 
 gave_passed : {A : Type 0} (a : A) (remaining : List ℕ) (o : Option ℕ) → gave_at a remaining o ≡ PassedLimit → o ≡ None
 gave_passed a remaining (Some n) e = absurd (cc)
@@ -305,7 +305,7 @@ module _ {A : Type 0} (F : Format A) (f : Lawful F) (b : Balanced F) (limit : Op
         steps = p.0;
         input_is = q.input_is;
         is_word = q.is_word;
-        within = behind-stays limit 0 0 p.0 after (word_backed q.word m p.0 q.is_word) (omega arith) (allowed_none limit) p.2;
+        within = after-stays limit 0 0 p.0 after (word_backed q.word m p.0 q.is_word) (omega arith) (allowed_none limit) p.2;
       }
 
   -- What is refused has this fault, before which the limit is not passed.
@@ -314,24 +314,24 @@ module _ {A : Type 0} (F : Format A) (f : Lawful F) (b : Balanced F) (limit : Op
   refused-fault input why after e =
       let p = refused_by why after limit 0 (F.read input) e in
       let q = f.read_fault input why p.0 p.1 in
-      (p.0, q, behind-stays limit 0 0 p.0 after (fault_backed input why p.0 q) (omega arith) (allowed_none limit) p.2)
+      (p.0, q, after-stays limit 0 0 p.0 after (fault_backed input why p.0 q) (omega arith) (allowed_none limit) p.2)
 
   steps_backed : (input : List ℕ) (steps : List Step) → StepsOf F input steps → IsBacked 0 steps
   steps_backed input steps (of_word word remaining m u e) = word_backed word m steps u
   steps_backed input steps (of_fault why h) = fault_backed input why steps h
 
-  passed_by : (input : List ℕ) (r : Reading A) → F.read input ≡ r → weigh_reading limit 0 r ≡ PassedLimit → (steps : List Step) × StepsOf F input steps × (charge_behind limit 0 steps ≡ None)
+  passed_by : (input : List ℕ) (r : Reading A) → F.read input ≡ r → weigh_reading limit 0 r ≡ PassedLimit → (steps : List Step) × StepsOf F input steps × (charge_after_steps limit 0 steps ≡ None)
   passed_by input (Took m remaining steps) e h =
       let q = f.read_word input remaining m steps e in
-      (steps, of_word q.word remaining m q.is_word q.input_is, gave_passed m remaining (charge_behind limit 0 steps) h)
-  passed_by input (Failed why steps) e h = (steps, of_fault why (f.read_fault input why steps e), refused_passed {A = A} why (charge_behind limit 0 steps) h)
+      (steps, of_word q.word remaining m q.is_word q.input_is, gave_passed m remaining (charge_after_steps limit 0 steps) h)
+  passed_by input (Failed why steps) e h = (steps, of_fault why (f.read_fault input why steps e), refused_passed {A = A} why (charge_after_steps limit 0 steps) h)
 
   -- Where the limit was passed, the steps pass it.
   pub passed-limit : (input : List ℕ) → answer limit F input 0 ≡ PassedLimit → (steps : List Step) × StepsOf F input steps × Passes limit 0 steps
   unfolding answer
   passed-limit input e =
       let p = passed_by input (F.read input) refl e in
-      (p.0, p.1, behind-passes limit 0 0 p.0 (steps_backed input p.0 p.1) (omega arith) p.2)
+      (p.0, p.1, after-passes limit 0 0 p.0 (steps_backed input p.0 p.1) (omega arith) p.2)
 
   -- A word within the limit is given.
   pub word-gave : (word remaining : List ℕ) (m : A) (steps : List Step) (charge : ℕ) → F.Word word m steps → StaysWithin limit charge steps →
@@ -339,7 +339,7 @@ module _ {A : Type 0} (F : Format A) (f : Lawful F) (b : Balanced F) (limit : Op
   unfolding answer
   word-gave word remaining m steps charge u w =
       ap (weigh_reading limit charge) (f.word_read word remaining m steps u)
-      ∙ ap (gave_at m remaining) (stays-behind limit charge 0 steps (word_backed word m steps u) (omega arith) w)
+      ∙ ap (gave_at m remaining) (stays-after limit charge 0 steps (word_backed word m steps u) (omega arith) w)
 
   -- A fault before which the limit is not passed is refused, with the charge after the steps before it.
   pub fault-refused : (input : List ℕ) (why : Fault) (steps : List Step) (charge : ℕ) → F.Faults input why steps → StaysWithin limit charge steps →
@@ -347,16 +347,16 @@ module _ {A : Type 0} (F : Format A) (f : Lawful F) (b : Balanced F) (limit : Op
   unfolding answer
   fault-refused input why steps charge h w =
       ap (weigh_reading limit charge) (f.fault_read input why steps h)
-      ∙ ap (refused_at why) (stays-behind limit charge 0 steps (fault_backed input why steps h) (omega arith) w)
+      ∙ ap (refused_at why) (stays-after limit charge 0 steps (fault_backed input why steps h) (omega arith) w)
 
-  weighed_passes : (input : List ℕ) (steps : List Step) (charge : ℕ) → StepsOf F input steps → charge_behind limit charge steps ≡ None → weigh_reading limit charge (F.read input) ≡ PassedLimit
+  weighed_passes : (input : List ℕ) (steps : List Step) (charge : ℕ) → StepsOf F input steps → charge_after_steps limit charge steps ≡ None → weigh_reading limit charge (F.read input) ≡ PassedLimit
   weighed_passes input steps charge (of_word word remaining m u e) h = ap (λ z. weigh_reading limit charge (F.read z)) e ∙ ap (weigh_reading limit charge) (f.word_read word remaining m steps u) ∙ ap (gave_at m remaining) h
   weighed_passes input steps charge (of_fault why h) k = ap (weigh_reading limit charge) (f.fault_read input why steps h) ∙ ap (refused_at why) k
 
   -- Steps that pass the limit are answered by that.
   pub passes-passed : (input : List ℕ) (steps : List Step) (charge : ℕ) → Allows limit charge → StepsOf F input steps → Passes limit charge steps → answer limit F input charge ≡ PassedLimit
   unfolding answer
-  passes-passed input steps charge l s w = weighed_passes input steps charge s (passes-behind limit charge 0 steps (steps_backed input steps s) (omega arith) l w)
+  passes-passed input steps charge l s w = weighed_passes input steps charge s (passes-after limit charge 0 steps (steps_backed input steps s) (omega arith) l w)
 
 -- A word charges its full width, and releases what was held before and is not held after.
 pub gave-recharged :
@@ -367,7 +367,7 @@ unfolding answer
 gave-recharged F f held left b limit input remaining m charge after le e =
     let p = gave_by m remaining after (Some limit) charge (F.read input) e in
     let h : Settles held left (Took m remaining p.0) = subst (Settles held left) p.1 (b.settles input) in
-    let k : after ≡ charge_after charge p.0 = behind-counted (Some limit) charge held p.0 after h.0 le p.2 in
+    let k : after ≡ charge_after charge p.0 = after-counted (Some limit) charge held p.0 after h.0 le p.2 in
     let r : held + reserved_bytes p.0 ≡ left + released_bytes p.0 = h.1 in
     (p.0, f.read_word input remaining m p.0 p.1, omega arith)
 
@@ -379,7 +379,7 @@ gave-is_uncounted F f input remaining m charge after e =
     let p = gave_by m remaining after None charge (F.read input) e in
     (p.0, f.read_word input remaining m p.0 p.1, is_uncounted charge p.0 after p.2)
   where
-    is_uncounted : (charge : ℕ) (steps : List Step) (after : ℕ) → charge_behind None charge steps ≡ Some after → after ≡ charge
+    is_uncounted : (charge : ℕ) (steps : List Step) (after : ℕ) → charge_after_steps None charge steps ≡ Some after → after ≡ charge
     is_uncounted charge [] after e = cc
     is_uncounted charge ((Charge n) ∷ steps) after e = is_uncounted charge steps after e
     is_uncounted charge ((Reserve n share) ∷ steps) after e = is_uncounted charge steps after e

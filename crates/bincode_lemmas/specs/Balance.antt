@@ -30,14 +30,14 @@ pub data FrontOfBoth (s t front : List Step) : Type 0 where
   in_first : (back : List Step) → s ≡ front ++ back → FrontOfBoth s t front
   in_second : (more back : List Step) → front ≡ s ++ more → t ≡ more ++ back → FrontOfBoth s t front
 
-front_behind : (x y : Step) (s t front : List Step) → x ≡ y → FrontOfBoth s t front → FrontOfBoth (x ∷ s) t (y ∷ front)
-front_behind x y s t front e (in_first back h) = in_first back (cc)
-front_behind x y s t front e (in_second more back h k) = in_second more back (cc) k
+front_after : (x y : Step) (s t front : List Step) → x ≡ y → FrontOfBoth s t front → FrontOfBoth (x ∷ s) t (y ∷ front)
+front_after x y s t front e (in_first back h) = in_first back (cc)
+front_after x y s t front e (in_second more back h k) = in_second more back (cc) k
 
 pub front_of_both : (s t front back : List Step) → s ++ t ≡ front ++ back → FrontOfBoth s t front
 front_of_both [] t front back e = in_second front back refl e
 front_of_both (x ∷ s) t [] back e = in_first (x ∷ s) refl
-front_of_both (x ∷ s) t (y ∷ front) back e = front_behind x y s t front (cc) (front_of_both s t front back (cc))
+front_of_both (x ∷ s) t (y ∷ front) back e = front_after x y s t front (cc) (front_of_both s t front back (cc))
 
 backed_by : (before between : ℕ) (s t front : List Step) → IsBacked before s → before + reserved_bytes s ≡ between + released_bytes s → IsBacked between t →
     FrontOfBoth s t front → released_bytes front ≤ before + reserved_bytes front

@@ -11,7 +11,7 @@ use Rattle.bincode_lemmas.specs.FormatLaws.{fixed_bytes-lawful}
 use Rattle.bincode_spec.specs.Integers.{byte}
 use Rattle.bincode_lemmas.specs.IntegerLaws.{byte-lawful}
 use Rattle.bincode_spec.specs.Meaning.{Meaning, Character, IsCharacter}
-use Rattle.bincode_spec.specs.Words.{char_width, char_of, four_bytes, rest_of_char, behind_char, character}
+use Rattle.bincode_spec.specs.Words.{char_width, char_of, four_bytes, rest_of_char, after_char, character}
 use Rattle.bincode_spec.specs.Words.{Spells}
 use Rattle.bincode_lemmas.specs.CharLaws.{char_of-alone}
 use Rattle.bincode_spec.specs.Answer.{Gave, Refused, answer}
@@ -108,9 +108,9 @@ rest_of_char-alone first width input w h =
 
 module _ (limit : Option ℕ) (input middle : List ℕ) (c first : ℕ) (read : byte.read input ≡ Took first middle []) where
   -- the answer is that after the first byte
-  pub character-next : (width : Option ℕ) → char_width first ≡ width → answer limit character input c ≡ answer limit (behind_char first width) middle c
+  pub character-next : (width : Option ℕ) → char_width first ≡ width → answer limit character input c ≡ answer limit (after_char first width) middle c
   character-next width e =
-      answer-next limit byte (λ z. behind_char z (char_width z)) input c first middle c (answer-took limit byte input middle first c read) ∙ ap (λ z. answer limit (behind_char first z) middle c) e
+      answer-next limit byte (λ z. after_char z (char_width z)) input c first middle c (answer-took limit byte input middle first c read) ∙ ap (λ z. answer limit (after_char first z) middle c) e
 
   -- a byte that begins no character
   pub character-none : char_width first ≡ None → answer limit character input c ≡ Refused (InvalidChar (first ∷ 0 ∷ 0 ∷ 0 ∷ [])) c
@@ -131,13 +131,13 @@ module _ (limit : Option ℕ) (input middle : List ℕ) (c first : ℕ) (read : 
         stops.by_fault (InvalidChar (first ∷ 0 ∷ 0 ∷ 0 ∷ [])) (character-none w ∙ ap (Refused (InvalidChar (first ∷ 0 ∷ 0 ∷ 0 ∷ []))) (sym still)) t (p.word, p.input_is)
 
     -- if decoding what follows the first byte fails, so does the whole
-    pub character-stops_behind : (width before between after : ℕ) (remaining : List ℕ) {now : ℕ} (e : DecodeError) → char_width first ≡ Some width → before ≤ between →
+    pub character-stops_after : (width before between after : ℕ) (remaining : List ℕ) {now : ℕ} (e : DecodeError) → char_width first ≡ Some width → before ≤ between →
         DecodeFailure end_error device H (answer limit (charge_then width (rest_of_char first width)) middle c) between after middle remaining now e →
         DecodeFailure end_error device H (answer limit character input c) before after input remaining now e
-    character-stops_behind width before between after remaining {now} e w le s =
-        stops-next end_error device H H (λ z. z) limit byte (λ z. behind_char z (char_width z)) byte-lawful input c before between after first middle remaining c e
+    character-stops_after width before between after remaining {now} e w le s =
+        stops-next end_error device H H (λ z. z) limit byte (λ z. after_char z (char_width z)) byte-lawful input c before between after first middle remaining c e
         (answer-took limit byte input middle first c read) le
-        (subst (λ z. DecodeFailure end_error device H (answer limit (behind_char first z) middle c) between after middle remaining now e) (sym w) s)
+        (subst (λ z. DecodeFailure end_error device H (answer limit (after_char first z) middle c) between after middle remaining now e) (sym w) s)
 
 -- reading the first byte failed
 pub character-stops_first :
@@ -145,7 +145,7 @@ pub character-stops_first :
     ReadFailure end_error device (byte.read input) before after input remaining e →
     DecodeFailure end_error device H (answer limit character input c) before after input remaining now e
 character-stops_first limit input c end_error device H before after remaining e still (by_fault why h t k) =
-    stops-first end_error device H H (λ z. z) limit byte (λ z. behind_char z (char_width z)) input c before after remaining e
+    stops-first end_error device H H (λ z. z) limit byte (λ z. after_char z (char_width z)) input c before after remaining e
     (stops.by_fault why (answer-failed limit byte input why c h ∙ ap (Refused why) (sym still)) t k)
 character-stops_first limit input c end_error device H before after remaining e still (by_failure d h k) = stops.by_failure d h k
 character-stops_first limit input c end_error device H before after remaining e still (by_device h) = stops.by_device h

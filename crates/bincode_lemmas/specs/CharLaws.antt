@@ -27,7 +27,7 @@ use Rattle.bincode_spec.specs.Forms.{characters}
 use Rattle.bincode_lemmas.specs.FormLaws.{FormLaws}
 use Rattle.bincode_lemmas.specs.NeedLaws.{character-needs}
 use Rattle.bincode_lemmas.specs.ChargedLaws.{character-charged}
-use Rattle.bincode_spec.specs.Words.{Spells, char_width, code_point, four_bytes, char_of, rest_of_char, behind_char, character}
+use Rattle.bincode_spec.specs.Words.{Spells, char_width, code_point, four_bytes, char_of, rest_of_char, after_char, character}
 
 -- the laws
 
@@ -46,21 +46,21 @@ rest_of_char-lawful first width = test-lawful (fixed_bytes (width - 1)) (λ byte
 pub rest_of_char-balanced : (first width : ℕ) → Balanced (rest_of_char first width)
 rest_of_char-balanced first width = test-balanced (fixed_bytes (width - 1)) (λ bytes. char_of (first ∷ bytes)) (fixed_bytes-holds 0 (width - 1))
 
-behind_lawful : (first : ℕ) (width : Option ℕ) → Lawful (behind_char first width)
-behind_lawful first None = fail-lawful (InvalidChar (four_bytes (first ∷ []))) (λ h. h)
-behind_lawful first (Some width) = charge_then-lawful width (rest_of_char first width) (rest_of_char-lawful first width)
+after_lawful : (first : ℕ) (width : Option ℕ) → Lawful (after_char first width)
+after_lawful first None = fail-lawful (InvalidChar (four_bytes (first ∷ []))) (λ h. h)
+after_lawful first (Some width) = charge_then-lawful width (rest_of_char first width) (rest_of_char-lawful first width)
 
-behind_balanced : (first : ℕ) (width : Option ℕ) → Balanced (behind_char first width)
-behind_balanced first None = fail-holds 0 0 (InvalidChar (four_bytes (first ∷ [])))
-behind_balanced first (Some width) = charge_then-balanced width (rest_of_char first width) (rest_of_char-balanced first width)
+after_balanced : (first : ℕ) (width : Option ℕ) → Balanced (after_char first width)
+after_balanced first None = fail-holds 0 0 (InvalidChar (four_bytes (first ∷ [])))
+after_balanced first (Some width) = charge_then-balanced width (rest_of_char first width) (rest_of_char-balanced first width)
 
 -- a character is lawful
 pub character-lawful : Lawful character
-character-lawful = turn-lawful byte (λ first. behind_char first (char_width first)) byte-lawful (λ first. behind_lawful first (char_width first))
+character-lawful = turn-lawful byte (λ first. after_char first (char_width first)) byte-lawful (λ first. after_lawful first (char_width first))
 
 -- a character is balanced
 pub character-balanced : Balanced character
-character-balanced = turn-holds 0 0 0 byte (λ first. behind_char first (char_width first)) byte-balanced (λ first. behind_balanced first (char_width first))
+character-balanced = turn-holds 0 0 0 byte (λ first. after_char first (char_width first)) byte-balanced (λ first. after_balanced first (char_width first))
 
 -- the forms
 
@@ -245,12 +245,12 @@ rest_word first width bytes m s u =
     let h : u.head ≡ bytes = u.first_word.1 ∙ sym e in
     (ap length e ∙ u.first_word.0, subst (λ z. char_of (first ∷ z) ≡ Ok m) h p.1, u.steps_are ∙ ap (λ z. z ++ u.second_steps) u.first_word.2 ∙ p.2)
 
-behind_word : (first : ℕ) (width : Option ℕ) (bytes : List ℕ) (m : Meaning) (s : List Step) → char_width first ≡ width →
-    (behind_char first width).Word bytes m s →
+after_word : (first : ℕ) (width : Option ℕ) (bytes : List ℕ) (m : Meaning) (s : List Step) → char_width first ≡ width →
+    (after_char first width).Word bytes m s →
     (char_width first ≡ Some (length (first ∷ bytes))) × (char_of (first ∷ bytes) ≡ Ok m) × (s ≡ Charge (length (first ∷ bytes)) ∷ [])
 unfolding ◌>>=◌ fail step
-behind_word first None bytes m s w u = absurd u
-behind_word first (Some width) bytes m s w u =
+after_word first None bytes m s w u = absurd u
+after_word first (Some width) bytes m s w u =
     let e : bytes ≡ u.second = u.bytes_are ∙ ap (λ z. z ++ u.second) u.first_word.0 in
     let p = rest_word first width u.second m u.second_steps u.second_word in
     let b = char_width-bounds first width w in
@@ -279,7 +279,7 @@ pub word-character : (bytes : List ℕ) (m : Meaning) (s : List Step) → charac
 unfolding ◌>>=◌
 word-character bytes m s u =
     let p = byte_word u.first u.head u.first_steps u.first_word in
-    let q = behind_word u.head (char_width u.head) u.second m u.second_steps refl u.second_word in
+    let q = after_word u.head (char_width u.head) u.second m u.second_steps refl u.second_word in
     let e : bytes ≡ u.head ∷ u.second = u.bytes_are ∙ ap (λ z. z ++ u.second) p.0 in
     let t : s ≡ Charge (length (u.head ∷ u.second)) ∷ [] = u.steps_are ∙ ap (λ z. z ++ u.second_steps) p.1 ∙ q.2 in
     record { one_char = subst (λ z. OneChar z m) (sym e) (char_of-one u.head u.second q.0 m q.1); steps_are = t ∙ ap (λ z. Charge (length z) ∷ []) (sym e) }
@@ -307,9 +307,9 @@ rest_written first tail m e = record {
   second_written = from_result_written (char_of (first ∷ tail)) m e;
 }
 
-behind_written : (first : ℕ) (tail : List ℕ) (m : Meaning) → char_of (first ∷ tail) ≡ Ok m → (behind_char first (Some (length (first ∷ tail)))).Written tail m
+after_written : (first : ℕ) (tail : List ℕ) (m : Meaning) → char_of (first ∷ tail) ≡ Ok m → (after_char first (Some (length (first ∷ tail)))).Written tail m
 unfolding ◌>>=◌ step
-behind_written first tail m e = record { first = []; second = tail; head = tt; bytes_are = refl; first_written = refl; second_written = rest_written first tail m e }
+after_written first tail m e = record { first = []; second = tail; head = tt; bytes_are = refl; first_written = refl; second_written = rest_written first tail m e }
 
 char_written : (first : ℕ) (tail : List ℕ) (m : Meaning) → char_width first ≡ Some (length (first ∷ tail)) → char_of (first ∷ tail) ≡ Ok m → character.Written (first ∷ tail) m
 unfolding ◌>>=◌
@@ -319,7 +319,7 @@ char_written first tail m w e = record {
   head = first;
   bytes_are = refl;
   first_written = byte_written first;
-  second_written = subst (λ z. (behind_char first z).Written tail m) (sym w) (behind_written first tail m e);
+  second_written = subst (λ z. (after_char first z).Written tail m) (sym w) (after_written first tail m e);
 }
 
 -- what std gives for a character is written for it

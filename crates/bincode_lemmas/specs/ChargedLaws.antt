@@ -11,7 +11,7 @@ use Rattle.bincode_base.specs.declared.config.IntEncoding.{IntEncoding}
 use Rattle.bincode_base.specs.declared.config.IntEncoding.TheVariants.{Fixed, Variable}
 use Rattle.bincode_base.specs.declared.error.IntegerType.{IntegerType}
 use Rattle.bincode_base.specs.declared.error.IntegerType.TheVariants as integers
-use Rattle.bincode_spec.specs.Answer.{after_claim, on_some, after_step, charge_behind}
+use Rattle.bincode_spec.specs.Answer.{after_claim, on_some, after_step, charge_after_steps}
 use Rattle.bincode_spec.specs.Fault.{Fault}
 use Rattle.bincode_spec.specs.Charge.{Step, Charge, Reserve, Release, charged_bytes, charge_after, StaysWithin}
 use Rattle.bincode_spec.specs.Format.{Format, pure, fail, fixed_bytes, step, ◌>>=◌, without_count, written_as, from_result, map_format, charge_then, elements, sequence}
@@ -21,9 +21,9 @@ use Rattle.bincode_spec.specs.Laws.{Lawful, Balanced}
 use Rattle.bincode_spec.specs.Meaning.{Meaning, Bytes, Then, list_meaning}
 use Rattle.bincode_spec.specs.Octets.{octets}
 use Rattle.bincode_spec.specs.Number.{number_of, from_two_complement}
-use Rattle.bincode_spec.specs.Room.{EachContainer, elements_behind, Bounded}
-use Rattle.bincode_spec.specs.Words.{Variant, if_picked, behind_tag, tag_then_part, len, array, list, length_prefixed, text, text_of, without_nul, without_nul_of, character, behind_char, rest_of_char, char_width, char_of, first_and, nothing, duration, duration_of, seconds_and_nanos}
-use Rattle.bincode_lemmas.specs.AnswerLaws.{stays-behind, counted_after}
+use Rattle.bincode_spec.specs.Room.{EachContainer, elements_after, Bounded}
+use Rattle.bincode_spec.specs.Words.{Variant, if_picked, after_tag, tag_then_part, len, array, list, length_prefixed, text, text_of, without_nul, without_nul_of, character, after_char, rest_of_char, char_width, char_of, first_and, nothing, duration, duration_of, seconds_and_nanos}
+use Rattle.bincode_lemmas.specs.AnswerLaws.{stays-after, counted_after}
 use Rattle.bincode_lemmas.specs.Balance.{full_append, balanced-word}
 
 -- words and their steps
@@ -159,13 +159,13 @@ unfolding byte
 byte_short = map_short 1 first_of (fixed_bytes 1) (fixed_bytes_short 1)
 
 -- the bytes after a tag fit the width
-abbrev FitsBehind : ℕ → FirstByte → Type 0
-FitsBehind width Itself = Unit {0}
-FitsBehind width (Before n) = n ≤ width
-FitsBehind width TooWide = Unit {0}
+abbrev FitsAfter : ℕ → FirstByte → Type 0
+FitsAfter width Itself = Unit {0}
+FitsAfter width (Before n) = n ≤ width
+FitsAfter width TooWide = Unit {0}
 
 fits_by : (width : ℕ) (small two four eight sixteen w4 w8 w16 : Bool) → 2 ≤ width → (w4 ≡ true → 4 ≤ width) → (w8 ≡ true → 8 ≤ width) → (w16 ≡ true → 16 ≤ width) →
-    FitsBehind width (if small then Itself else if two then Before 2 else if four && w4 then Before 4 else if eight && w8 then Before 8 else if sixteen && w16 then Before 16 else TooWide)
+    FitsAfter width (if small then Itself else if two then Before 2 else if four && w4 then Before 4 else if eight && w8 then Before 8 else if sixteen && w16 then Before 16 else TooWide)
 fits_by width true two four eight sixteen w4 w8 w16 h a b c = tt
 fits_by width false true four eight sixteen w4 w8 w16 h a b c = h
 fits_by width false false true eight sixteen true w8 w16 h a b c = a refl
@@ -184,23 +184,23 @@ fits_by width false false false false true w4 w8 true h a b c = c refl
 fits_by width false false false false true w4 w8 false h a b c = tt
 fits_by width false false false false false w4 w8 w16 h a b c = tt
 
-first_fits : (width first : ℕ) → 2 ≤ width → FitsBehind width (first_byte width first)
+first_fits : (width first : ℕ) → 2 ≤ width → FitsAfter width (first_byte width first)
 first_fits width first h =
     fits_by width (nat_le first 250) (first == 251) (first == 252) (first == 253) (first == 254) (nat_le 4 width) (nat_le 8 width) (nat_le 16 width) h (leb-true 4 width) (leb-true 8 width) (leb-true 16 width)
 
 longer_short : {A : Type 0} (n k : ℕ) (F : Format A) → n ≤ k → Short n F → Short k F
 longer_short n k F h f = record { bytes = λ word m s w. let a = f.bytes word m s w in omega arith; free = f.free }
 
-behind_short : (order : Endianness) (why : Fault) (width first : ℕ) (b : FirstByte) → FitsBehind width b → Short width (behind order why first b)
-behind_short order why width first Itself h = pure_short width first
-behind_short order why width first (Before n) h = longer_short n width _ h (digits_short order n)
-behind_short order why width first TooWide h = fail_short _ width why
+after_short : (order : Endianness) (why : Fault) (width first : ℕ) (b : FirstByte) → FitsAfter width b → Short width (behind order why first b)
+after_short order why width first Itself h = pure_short width first
+after_short order why width first (Before n) h = longer_short n width _ h (digits_short order n)
+after_short order why width first TooWide h = fail_short _ width why
 
 varint_short : (tags : ℕ → IntegerType) (name : IntegerType) (order : Endianness) (width : ℕ) → 2 ≤ width → Short (suc width) (varint tags name order width)
 unfolding varint
 varint_short tags name order width h =
     rewritten_short (suc width) _ _ (turn_short 1 width (suc width) byte (λ first. behind order _ first (first_byte width first)) (omega arith) byte_short
-    (λ first. behind_short order _ width first (first_byte width first) (first_fits width first h)))
+    (λ first. after_short order _ width first (first_byte width first) (first_fits width first h)))
 
 number_short : (tags : ℕ → IntegerType) (name : IntegerType) (order : Endianness) (width : ℕ) (e : IntEncoding) → 2 ≤ width → Short (suc width) (number_by tags name order width e)
 number_short tags name order width Fixed h = longer_short width (suc width) _ (omega arith) (digits_short order width)
@@ -236,10 +236,10 @@ char_rest : (first : ℕ) (width : ℕ) → Short (width - 1) (rest_of_char firs
 char_rest first width =
     turn_short (width - 1) 0 (width - 1) (fixed_bytes (width - 1)) (λ bytes. from_result (char_of (first ∷ bytes))) (omega arith) (fixed_bytes_short (width - 1)) (λ bytes. from_result_short 0 (char_of (first ∷ bytes)))
 
-char_behind : (first : ℕ) (found : Option ℕ) → ((width : ℕ) → found ≡ Some width → 1 ≤ width) → (head word : List ℕ) (m : Meaning) (s : List Step) → length head ≤ 1 → (behind_char first found).Word word m s → IsCharged (head ++ word) s
+char_after : (first : ℕ) (found : Option ℕ) → ((width : ℕ) → found ≡ Some width → 1 ≤ width) → (head word : List ℕ) (m : Meaning) (s : List Step) → length head ≤ 1 → (after_char first found).Word word m s → IsCharged (head ++ word) s
 unfolding fail step ◌>>=◌
-char_behind first None h head word m s l w = absurd w
-char_behind first (Some width) h head word m s l w =
+char_after first None h head word m s l w = absurd w
+char_after first (Some width) h head word m s l w =
     let k = h width refl in
     let r = char_rest first width in
     let e : word ≡ w.second = w.bytes_are ∙ ap (λ z. z ++ w.second) w.first_word.0 in
@@ -256,7 +256,7 @@ character-charged = record {
       let l = byte_short.bytes w.first w.head w.first_steps w.first_word in
       let e : s ≡ w.second_steps = w.steps_are ∙ ap (λ z. z ++ w.second_steps) f in
       subst (λ v. IsCharged v s) (sym w.bytes_are) (subst (λ t. IsCharged (w.first ++ w.second) t) (sym e)
-      (char_behind w.head (char_width w.head) (width_by (nat_lt w.head 128) (nat_lt w.head 194) (nat_lt w.head 224) (nat_lt w.head 240) (nat_lt w.head 245)) w.first w.second m w.second_steps l w.second_word));
+      (char_after w.head (char_width w.head) (width_by (nat_lt w.head 128) (nat_lt w.head 194) (nat_lt w.head 224) (nat_lt w.head 240) (nat_lt w.head 245)) w.first w.second m w.second_steps l w.second_word));
 }
 
 -- parts in order, and elements
@@ -309,9 +309,9 @@ picked-charged false F G f g = g
 pub fail-charged : (why : Fault) → ChargesEnough (fail {A = Meaning} why)
 fail-charged why = fail_charged Meaning why
 
-pub chosen-charged : (tags : Setting → Format ℕ) (variants : List Variant) (s : Setting) → ChargesEnough (tags s) → ((found : ℕ) → ChargesEnough (behind_tag variants s found)) → ChargesEnough (tag_then_part tags variants s)
+pub chosen-charged : (tags : Setting → Format ℕ) (variants : List Variant) (s : Setting) → ChargesEnough (tags s) → ((found : ℕ) → ChargesEnough (after_tag variants s found)) → ChargesEnough (tag_then_part tags variants s)
 unfolding tag_then_part
-chosen-charged tags variants s t g = turn_charged (tags s) (behind_tag variants s) t g
+chosen-charged tags variants s t g = turn_charged (tags s) (after_tag variants s) t g
 
 -- a duration
 pub duration-charged : (s : Setting) → ChargesEnough (duration s)
@@ -329,15 +329,15 @@ claim_within limit charge n after e = leb-true (charge + n) limit (by (nat_le (c
   by true e = refl
   by false e = absurd (cc)
 
-behind_some : (o : Option ℕ) (next : ℕ → Option ℕ) (last : ℕ) → on_some o next ≡ Some last → (after : ℕ) × (o ≡ Some after) × (next after ≡ Some last)
-behind_some (Some n) next last e = (n, refl, e)
-behind_some None next last e = absurd (cc)
+after_some : (o : Option ℕ) (next : ℕ → Option ℕ) (last : ℕ) → on_some o next ≡ Some last → (after : ℕ) × (o ≡ Some after) × (next after ≡ Some last)
+after_some (Some n) next last e = (n, refl, e)
+after_some None next last e = absurd (cc)
 
-rooms_within : (limit charge last : ℕ) (s : List Step) → charge_behind (Some limit) charge s ≡ Some last → EachContainer (λ n share. n * share ≤ limit) s
+rooms_within : (limit charge last : ℕ) (s : List Step) → charge_after_steps (Some limit) charge s ≡ Some last → EachContainer (λ n share. n * share ≤ limit) s
 rooms_within limit charge last [] e = tt
-rooms_within limit charge last ((Charge n) ∷ s) e = let p = behind_some (after_step (Some limit) charge (Charge n)) _ last e in rooms_within limit p.0 last s p.2
+rooms_within limit charge last ((Charge n) ∷ s) e = let p = after_some (after_step (Some limit) charge (Charge n)) _ last e in rooms_within limit p.0 last s p.2
 rooms_within limit charge last ((Reserve n share) ∷ s) e =
-    let p = behind_some (after_step (Some limit) charge (Reserve n share)) _ last e in
+    let p = after_some (after_step (Some limit) charge (Reserve n share)) _ last e in
     let h = claim_within limit charge (n * share) p.0 p.1 in
     (omega arith, rooms_within limit p.0 last s p.2)
 rooms_within limit charge last ((Release n) ∷ s) e = rooms_within limit (charge - n) last s e
@@ -360,7 +360,7 @@ counts_by limit n last others k rest true e h i l = let p = e refl in let q : li
 counts_by limit n last others k rest false e h i l = (k, omega arith, omega arith)
 
 -- each length is charged
-lengths_within : (limit last : ℕ) (s : List Step) → EachContainer (λ n share. n ≤ limit) s → (k : ℕ) × (elements_behind last s ≤ limit * k) × (8 * k ≤ last + charged_bytes s)
+lengths_within : (limit last : ℕ) (s : List Step) → EachContainer (λ n share. n ≤ limit) s → (k : ℕ) × (elements_after last s ≤ limit * k) × (8 * k ≤ last + charged_bytes s)
 lengths_within limit last [] h = (0, omega arith, omega arith)
 lengths_within limit last ((Charge n) ∷ s) h = let p = lengths_within limit n s h in let a = p.1 in let b = p.2 in (p.0, a, omega arith)
 lengths_within limit last ((Reserve n share) ∷ s) h =
@@ -368,7 +368,7 @@ lengths_within limit last ((Reserve n share) ∷ s) h =
     let a = p.1 in
     let b = p.2 in
     let c : 8 * p.0 ≤ charged_bytes s = omega arith in
-    counts_by limit n last (elements_behind 0 s) p.0 (charged_bytes s) (last == 8) (eqb-true last 8) h.0 a c
+    counts_by limit n last (elements_after 0 s) p.0 (charged_bytes s) (last == 8) (eqb-true last 8) h.0 a c
 lengths_within limit last ((Release n) ∷ s) h = let p = lengths_within limit 0 s h in let a = p.1 in let b = p.2 in (p.0, a, omega arith)
 
 -- A word within a limit is bounded by it.
@@ -379,7 +379,7 @@ within-bounded F f b h limit word m s w stays =
     let p = balanced-word F word m s f b w in
     let even = p.1 in
     let all : charge_after 0 s ≤ limit = stays s [] (sym (append-nil s)) in
-    let room = rooms_within limit 0 (counted_after (Some limit) 0 s) s (stays-behind (Some limit) 0 0 s p.0 (omega arith) stays) in
+    let room = rooms_within limit 0 (counted_after (Some limit) 0 s) s (stays-after (Some limit) 0 0 s p.0 (omega arith) stays) in
     let counts = counts_within limit s x.claims room in
     let l = lengths_within limit 0 s counts in
     let c = l.1 in

@@ -8,7 +8,7 @@ use Rattle.bincode_base.specs.Setting.{Setting}
 use Rattle.bincode_spec.specs.Format.{Format, map_format}
 use Rattle.bincode_spec.specs.Laws.{Lawful}
 use Rattle.bincode_spec.specs.Meaning.{Meaning, Choice}
-use Rattle.bincode_spec.specs.Words.{Variant, if_picked, behind_tag, tag_then_part}
+use Rattle.bincode_spec.specs.Words.{Variant, if_picked, after_tag, tag_then_part}
 use Rattle.bincode_spec.specs.Choices.{IsChoice}
 use Rattle.bincode_spec.specs.Answer.{Gave, answer}
 use Rattle.bincode_spec.specs.Decoding.{Decodes, DecodeFailure}
@@ -21,24 +21,24 @@ module _ (limit : Option ℕ) (tags : Setting → Format ℕ) (variants : List V
       DecodeFailure end_error device ⊥ (answer limit (tags s) input c) before after input remaining now e →
       DecodeFailure end_error device K (answer limit (tag_then_part tags variants s) input c) before after input remaining now e
   unfolding tag_then_part
-  choice-stops_tag end_error device K before after remaining e = stops-first end_error device ⊥ K (λ h. absurd h) limit (tags s) (behind_tag variants s) input c before after remaining e
+  choice-stops_tag end_error device K before after remaining e = stops-first end_error device ⊥ K (λ h. absurd h) limit (tags s) (after_tag variants s) input c before after remaining e
 
   module _ (found : ℕ) (middle : List ℕ) (d : ℕ) (gave : answer limit (tags s) input c ≡ Gave found middle d) where
     -- what follows the tag is the whole
     pub choice-decodes : (P : Meaning → Type 0) (remaining : List ℕ) (after : ℕ) →
-        Decodes P (answer limit (behind_tag variants s found) middle d) remaining after →
+        Decodes P (answer limit (after_tag variants s found) middle d) remaining after →
         Decodes P (answer limit (tag_then_part tags variants s) input c) remaining after
     unfolding tag_then_part
-    choice-decodes P remaining after p = record { meaning = p.meaning; answer_is = answer-next limit (tags s) (behind_tag variants s) input c found middle d gave ∙ p.answer_is; is_decoded = p.is_decoded }
+    choice-decodes P remaining after p = record { meaning = p.meaning; answer_is = answer-next limit (tags s) (after_tag variants s) input c found middle d gave ∙ p.answer_is; is_decoded = p.is_decoded }
 
     -- and if decoding that fails, so does the whole
     pub choice-stops_part : Lawful (tags s) →
         (end_error : ℕ → DecodeError → Type 0) (device : DeviceErrors) (H : Type 0) (before between after : ℕ) (remaining : List ℕ) {now : ℕ} (e : DecodeError) →
-        before ≤ between → DecodeFailure end_error device H (answer limit (behind_tag variants s found) middle d) between after middle remaining now e →
+        before ≤ between → DecodeFailure end_error device H (answer limit (after_tag variants s found) middle d) between after middle remaining now e →
         DecodeFailure end_error device H (answer limit (tag_then_part tags variants s) input c) before after input remaining now e
     unfolding tag_then_part
     choice-stops_part t end_error device H before between after remaining e =
-        stops-next end_error device H H (λ h. h) limit (tags s) (behind_tag variants s) t input c before between after found middle remaining d e gave
+        stops-next end_error device H H (λ h. h) limit (tags s) (after_tag variants s) t input c before between after found middle remaining d e gave
 
 module _ (limit : Option ℕ) (found tag : ℕ) (F others : Format Meaning) (input : List ℕ) (c : ℕ) where
   -- the tag selects the first part

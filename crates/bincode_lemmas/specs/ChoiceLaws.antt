@@ -11,7 +11,7 @@ use Rattle.bincode_spec.specs.Laws.{Lawful, Balanced}
 use Rattle.bincode_lemmas.specs.FormatLaws.{fail-lawful, turn-lawful, map-lawful}
 use Rattle.bincode_lemmas.specs.Balance.{fail-holds, turn-holds, map-balanced}
 use Rattle.bincode_spec.specs.Meaning.{Meaning, Number, Choice, IsNumber}
-use Rattle.bincode_spec.specs.Words.{natural_number, Variant, if_picked, part, behind_tag, tag_then_part}
+use Rattle.bincode_spec.specs.Words.{natural_number, Variant, if_picked, part, after_tag, tag_then_part}
 use Rattle.bincode_spec.specs.Allowed.{AllowedWord, SomeWord, WrittenAlike, OneLength, NoneShorter, Shortest}
 use Rattle.bincode_lemmas.specs.Sequences.{Both}
 use Rattle.bincode_lemmas.specs.AllowedLaws.{map-written, written-map, natural-allows, allowed-natural, same-one_length, both-one_length}
@@ -66,14 +66,14 @@ module _ (tags : Setting → Format ℕ) (variants : List Variant) (s : Setting)
   -- a tag and the part that it selects are lawful
   pub chosen-lawful : Lawful (tags s) → AllLawful s variants → Lawful (tag_then_part tags variants s)
   unfolding tag_then_part
-  chosen-lawful t h = turn-lawful (tags s) (behind_tag variants s) t (λ found. part_lawful s _ found variants h)
+  chosen-lawful t h = turn-lawful (tags s) (after_tag variants s) t (λ found. part_lawful s _ found variants h)
 
   pub chosen-balanced : Balanced (tags s) → AllBalanced s variants → Balanced (tag_then_part tags variants s)
   unfolding tag_then_part
-  chosen-balanced t h = turn-holds 0 0 0 (tags s) (behind_tag variants s) t (λ found. part_balanced s _ found variants h)
+  chosen-balanced t h = turn-holds 0 0 0 (tags s) (after_tag variants s) t (λ found. part_balanced s _ found variants h)
 
   -- the tag `found` selects what F writes
-  module _ (found : ℕ) (F : Format Meaning) (alike : WrittenAlike (map_format (Choice found) F) (behind_tag variants s found)) (P : Meaning → Type 0) where
+  module _ (found : ℕ) (F : Format Meaning) (alike : WrittenAlike (map_format (Choice found) F) (after_tag variants s found)) (P : Meaning → Type 0) where
     -- a choice allows what is written for its tag, then what its part allows
     pub choice-allows : (bytes : List ℕ) → Both (AllowedWord (IsNumber (pos found)) (natural_number (tags s))) (AllowedWord P F) bytes → AllowedWord (IsChoice found P) (tag_then_part tags variants s) bytes
     unfolding tag_then_part ◌>>=◌
@@ -98,7 +98,7 @@ module _ (tags : Setting → Format ℕ) (variants : List Variant) (s : Setting)
         let p = part_written s _ u.head variants u.second w.meaning u.second_written in
         let e : Choice u.head p.0 ≡ Choice found m.part = sym p.1 ∙ m.meaning_is in
         let h : u.head ≡ found = cc in
-        let v : (behind_tag variants s found).Written u.second w.meaning = subst (λ k. (behind_tag variants s k).Written u.second w.meaning) h u.second_written in
+        let v : (after_tag variants s found).Written u.second w.meaning = subst (λ k. (after_tag variants s k).Written u.second w.meaning) h u.second_written in
         let q = written-map (Choice found) F u.second w.meaning (alike.1 u.second w.meaning v) in
         let i : Choice found m.part ≡ Choice found q.0 = sym m.meaning_is ∙ q.1 in
         let j : m.part ≡ q.0 = cc in
@@ -118,7 +118,7 @@ module _ (tags : Setting → Format ℕ) (variants : List Variant) (s : Setting)
     choice-one_length t p = same-one_length _ _ allowed-choice (both-one_length _ _ t p)
 
   -- the tag `found` selects the format F
-  module _ (found : ℕ) (F : Format Meaning) (at : behind_tag variants s found ≡ map_format (Choice found) F) (P P' : Meaning → Type 0) where
+  module _ (found : ℕ) (F : Format Meaning) (at : after_tag variants s found ≡ map_format (Choice found) F) (P P' : Meaning → Type 0) where
     -- no word of it is shorter, if none of the tag is and none of the part
     choice_none_shorter : NoneShorter (IsNumber (pos found)) (IsNumber (pos found)) (natural_number (tags s)) → NoneShorter P P' F →
         NoneShorter (IsChoice found P) (IsChoice found P') (tag_then_part tags variants s)
@@ -128,7 +128,7 @@ module _ (tags : Setting → Format ℕ) (variants : List Variant) (s : Setting)
         let p = part_word s _ u.head variants u.second m u.second_steps u.second_word in
         let c : Choice u.head p.0 ≡ Choice found e.part = sym p.1 ∙ e.meaning_is in
         let k : u.head ≡ found = cc in
-        let v : (behind_tag variants s found).Word u.second m u.second_steps = subst (λ k. (behind_tag variants s k).Word u.second m u.second_steps) k u.second_word in
+        let v : (after_tag variants s found).Word u.second m u.second_steps = subst (λ k. (after_tag variants s k).Word u.second m u.second_steps) k u.second_word in
         let q = word-from_result (λ n. Ok (Choice found n)) F u.second m u.second_steps (subst (λ G. G.Word u.second m u.second_steps) at v) in
         let i : ◌≡◌ {A = Result Meaning Fault} (Ok (Choice found q.0)) (Ok (Choice found e.part)) = q.2 ∙ ap Ok e.meaning_is in
         let j : e.part ≡ q.0 = cc in
@@ -139,7 +139,7 @@ module _ (tags : Setting → Format ℕ) (variants : List Variant) (s : Setting)
         (λ below. f b.1 u.second q.0 q.1 b.4 below q.3 (subst P' j e.is_part))
 
   -- and none that decodes to what it decodes to
-  module _ (found other : ℕ) (F : Format Meaning) (at : behind_tag variants s found ≡ map_format (Choice found) F) (P P' : Meaning → Type 0) where
+  module _ (found other : ℕ) (F : Format Meaning) (at : after_tag variants s found ≡ map_format (Choice found) F) (P P' : Meaning → Type 0) where
     pub choice-shortest : NoneShorter (IsNumber (pos found)) (IsNumber (pos found)) (natural_number (tags s)) → (found ≡ other → Shortest P P' F) →
         Shortest (IsChoice found P) (IsChoice other P') (tag_then_part tags variants s)
     choice-shortest t f written bytes m steps w h u e =
@@ -156,13 +156,13 @@ module _ (tags : Setting → Format ℕ) (variants : List Variant) (s : Setting)
         choice_none_shorter found F at (λ n. P n × P' n) P' t (f k) written bytes m steps x h u (subst (λ z. IsChoice z P' m) (sym k) e)
 
   -- it has a word, if the tag and the part that it selects have
-  pub choice-some_word : (found : ℕ) (F : Format Meaning) → behind_tag variants s found ≡ map_format (Choice found) F → Lawful (tags s) →
+  pub choice-some_word : (found : ℕ) (F : Format Meaning) → after_tag variants s found ≡ map_format (Choice found) F → Lawful (tags s) →
       SomeWord (AllowedWord (IsNumber (pos found)) (natural_number (tags s))) → HasWord F → HasWord (tag_then_part tags variants s)
   unfolding tag_then_part ◌>>=◌
   choice-some_word found F at f t x =
       let a = f.written_is_word t.bytes found (allowed-natural (tags s) t.bytes found t.is_allowed) in
       let b = held-word F x in
-      let c : (behind_tag variants s found).Word x.bytes (Choice found b.0) b.1 =
+      let c : (after_tag variants s found).Word x.bytes (Choice found b.0) b.1 =
       subst (λ G. G.Word x.bytes (Choice found b.0) b.1) (sym at) (from_result-word (λ n. Ok (Choice found n)) F x.bytes b.0 (Choice found b.0) b.1 refl b.2) in
       word-held (tag_then_part tags variants s) (t.bytes ++ x.bytes) (Choice found b.0) (a.0 ++ b.1) (All-append (λ b. b < 256) t.bytes x.bytes t.are_bytes x.are_bytes) (record {
         first = t.bytes;

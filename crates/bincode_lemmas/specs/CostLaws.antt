@@ -115,9 +115,9 @@ none_costs (Err why) = fail-costs 0 0 why
 
 module _ {A B : Type 0} (F : Format A) (G : A → Format B) (peak cost : ℕ) where
   -- what is free may follow,
-  pub free-behind : Costs peak cost F → ((a : A) → Costs 0 0 (G a)) → Costs peak cost (F >>= G)
+  pub free-after : Costs peak cost F → ((a : A) → Costs 0 0 (G a)) → Costs peak cost (F >>= G)
   unfolding ◌>>=◌
-  free-behind f g = record {
+  free-after f g = record {
     charges = λ word m s w.
         ap charged_bytes w.steps_are ∙ full_append w.first_steps w.second_steps
         ∙ ap (λ n. n + charged_bytes w.second_steps) (f.charges w.first w.head w.first_steps w.first_word)
@@ -147,13 +147,13 @@ module _ {A B : Type 0} (F : Format A) (G : A → Format B) (peak cost : ℕ) wh
       subst (λ n. Costs peak n (F >>= G)) e (turn-costs F G peak 0 0 peak cost (omega arith) (omega arith) f g)
 
 pub map-costs : {A B : Type 0} (peak cost : ℕ) (f : A → B) (F : Format A) → Costs peak cost F → Costs peak cost (map_format f F)
-map-costs peak cost f F c = free-behind F (λ a. pure (f a)) peak cost c (λ a. pure-costs (f a))
+map-costs peak cost f F c = free-after F (λ a. pure (f a)) peak cost c (λ a. pure-costs (f a))
 
 pub test-costs : {A B : Type 0} (peak cost : ℕ) (F : Format A) (test : A → Result B Fault) → Costs peak cost F → Costs peak cost (F >>= λ a. from_result (test a))
-test-costs peak cost F test c = free-behind F (λ a. from_result (test a)) peak cost c (λ a. none_costs (test a))
+test-costs peak cost F test c = free-after F (λ a. from_result (test a)) peak cost c (λ a. none_costs (test a))
 
 pub charge_then-costs : {A : Type 0} (n : ℕ) (F : Format A) → Costs 0 0 F → Costs n n (charge_then n F)
-charge_then-costs n F c = free-behind (step (Charge n)) (λ _. F) n n (charge-costs n) (λ _. c)
+charge_then-costs n F c = free-after (step (Charge n)) (λ _. F) n n (charge-costs n) (λ _. c)
 
 -- numbers
 
@@ -165,14 +165,14 @@ byte_costs : Costs 0 0 byte
 unfolding byte
 byte_costs = map-costs 0 0 first_of (fixed_bytes 1) (fixed_bytes-costs 1)
 
-behind_costs : (order : Endianness) (why : Fault) (first : ℕ) (b : FirstByte) → Costs 0 0 (behind order why first b)
-behind_costs order why first Itself = pure-costs first
-behind_costs order why first (Before n) = digits_cost order n
-behind_costs order why first TooWide = fail-costs 0 0 why
+after_costs : (order : Endianness) (why : Fault) (first : ℕ) (b : FirstByte) → Costs 0 0 (behind order why first b)
+after_costs order why first Itself = pure-costs first
+after_costs order why first (Before n) = digits_cost order n
+after_costs order why first TooWide = fail-costs 0 0 why
 
 varint_costs : (tags : ℕ → IntegerType) (name : IntegerType) (order : Endianness) (width : ℕ) → Costs 0 0 (varint tags name order width)
 unfolding varint
-varint_costs tags name order width = rewritten-costs 0 0 _ _ (free-behind byte _ 0 0 byte_costs (λ first. behind_costs order _ first (first_byte width first)))
+varint_costs tags name order width = rewritten-costs 0 0 _ _ (free-after byte _ 0 0 byte_costs (λ first. after_costs order _ first (first_byte width first)))
 
 number_costs : (tags : ℕ → IntegerType) (name : IntegerType) (order : Endianness) (width : ℕ) (e : IntEncoding) → Costs 0 0 (number_by tags name order width e)
 number_costs tags name order width Fixed = digits_cost order width
@@ -306,9 +306,9 @@ module _ {A : Type 0} (F : Format A) (share p c most : ℕ) (f : Costs p c F) (s
       (λ a. turn_frees (elements n share F) (λ others. pure (a ∷ others)) (n * most) (n * share) (n * most) (n * c) 0 0 0 (omega arith) (omega (arith, mul-le-mul_left n cost_fits))
       (elements_free n) (λ others. costs_free 0 0 0 0 (pure (a ∷ others)) refl (omega arith) (pure-costs (a ∷ others))))))
 
-stays_behind : (n share k peak : ℕ) (s more front : List Step) → n * share ≡ k → s ≡ Reserve n share ∷ [] → charged_bytes more + reserved_bytes more + k ≤ peak + released_bytes more → front ≡ s ++ more →
+stays_after : (n share k peak : ℕ) (s more front : List Step) → n * share ≡ k → s ≡ Reserve n share ∷ [] → charged_bytes more + reserved_bytes more + k ≤ peak + released_bytes more → front ≡ s ++ more →
     charged_bytes front + reserved_bytes front ≤ peak + released_bytes front
-stays_behind n share k peak s more front same e a i =
+stays_after n share k peak s more front same e a i =
     let b : reserved_bytes s ≡ n * share + 0 = ap reserved_bytes e in
     let c : charged_bytes s ≡ 0 = ap charged_bytes e in
     let d : released_bytes s ≡ 0 = ap released_bytes e in
@@ -319,7 +319,7 @@ sequence_stays : (n share k peak : ℕ) (s t front : List Step) → n * share �
 sequence_stays n share k peak s t [] same h e y f = omega arith
 sequence_stays n share k peak s t (x ∷ []) same h e y (in_first back i) = let p : x ≡ Reserve n share = cc in rw p (omega arith)
 sequence_stays n share k peak s t (x ∷ (z ∷ front)) same h e y (in_first back i) = absurd (cc)
-sequence_stays n share k peak s t (x ∷ front) same h e y (in_second more back i j) = stays_behind n share k peak s more (x ∷ front) same e (y more back j) i
+sequence_stays n share k peak s t (x ∷ front) same h e y (in_second more back i j) = stays_after n share k peak s more (x ∷ front) same e (y more back j) i
 
 reserve_costs : {A : Type 0} (n share peak cost : ℕ) (F : Format A) → n * share ≤ peak → Frees (n * share) peak cost F → Costs peak cost (step (Reserve n share) >>= λ _. F)
 unfolding ◌>>=◌ step

@@ -14,7 +14,7 @@ use Rattle.bincode_spec.specs.Integers.{unsigned_byte}
 use Rattle.bincode_spec.specs.Meaning.{Meaning, Truth, Nothing, Then, IsTruth, IsNothing, IsThen}
 use Rattle.bincode_spec.specs.Words.{truth_of, truth_byte, truth, nothing, first_and}
 use Rattle.bincode_lemmas.specs.WordsLaws.{truth_byte-passes, truth-fails}
-use Rattle.bincode_spec.specs.Answer.{Answer, Gave, Refused, PassedLimit, answer, weigh_reading, gave_at, refused_at, charge_behind}
+use Rattle.bincode_spec.specs.Answer.{Answer, Gave, Refused, PassedLimit, answer, weigh_reading, gave_at, refused_at, charge_after_steps}
 use Rattle.bincode_lemmas.specs.Sequences.{and_then}
 use Rattle.bincode_layers.specs.Claims.{Claimed, OverClaimed}
 use Rattle.bincode_lemmas.specs.AnswerLaws.{answer-then, answer-took, answer-failed, answer-pure, answer-fail, step-answered}
@@ -48,8 +48,8 @@ refused_at_gave why b s (Some c) d e = cc
 refused_at_gave why b s None d e = cc
 
 weighed_took : {A : Type 0} (limit : Option ℕ) (c : ℕ) (r : Reading A) (a : A) (remaining : List ℕ) (d : ℕ) → weigh_reading limit c r ≡ Gave a remaining d → (s : List Step) × (r ≡ Took a remaining s)
-weighed_took limit c (Took b r s) a remaining d e = let p = gave_at_parts b a r remaining (charge_behind limit c s) d e in (s, cc)
-weighed_took limit c (Failed why s) a remaining d e = absurd (refused_at_gave why a remaining (charge_behind limit c s) d e)
+weighed_took limit c (Took b r s) a remaining d e = let p = gave_at_parts b a r remaining (charge_after_steps limit c s) d e in (s, cc)
+weighed_took limit c (Failed why s) a remaining d e = absurd (refused_at_gave why a remaining (charge_after_steps limit c s) d e)
 
 -- an answer that gave a meaning took a prefix of the input
 pub gave-takes : {A : Type 0} (limit : Option ℕ) (F : Format A) → Lawful F → (input : List ℕ) (c : ℕ) (a : A) (remaining : List ℕ) (d : ℕ) → answer limit F input c ≡ Gave a remaining d → Takes input remaining

@@ -65,10 +65,10 @@ byte_word b = record {
   second_word = (refl, refl, refl);
 }
 
-behind_lawful : (order : Endianness) (why : Fault) (first : ℕ) (said : FirstByte) → ¬ (IsEnd why) → Lawful (behind order why first said)
-behind_lawful order why first Itself h = pure-lawful first
-behind_lawful order why first (Before n) h = digits-lawful order n
-behind_lawful order why first TooWide h = fail-lawful why h
+after_lawful : (order : Endianness) (why : Fault) (first : ℕ) (said : FirstByte) → ¬ (IsEnd why) → Lawful (behind order why first said)
+after_lawful order why first Itself h = pure-lawful first
+after_lawful order why first (Before n) h = digits-lawful order n
+after_lawful order why first TooWide h = fail-lawful why h
 
 module _ (tags : ℕ → IntegerType) (name : IntegerType) (order : Endianness) (width : ℕ) where
   -- a number up to 250 is its byte
@@ -243,7 +243,7 @@ unfolding varint written_as
 varint-lawful tags name order width w =
     rewritten-lawful _ (byte >>= λ first. behind order (InvalidInteger name (tags first)) first (first_byte width first))
     (turn-lawful byte (λ first. behind order (InvalidInteger name (tags first)) first (first_byte width first)) byte-lawful
-    (λ first. behind_lawful order (InvalidInteger name (tags first)) first (first_byte width first) (λ k. k)))
+    (λ first. after_lawful order (InvalidInteger name (tags first)) first (first_byte width first) (λ k. k)))
     (λ word n h. ([], subst (λ z. (varint tags name order width).Word z n []) (sym h.1) (shortest-word tags name order width n w h.0)))
 
 -- a number in either encoding is a lawful format
@@ -358,17 +358,17 @@ pub digits-balanced : (order : Endianness) (width : ℕ) → Balanced (digits or
 unfolding digits
 digits-balanced order width = rewritten-holds 0 0 _ (map_format (number_of order) (fixed_bytes width)) (map-balanced (number_of order) (fixed_bytes width) (fixed_bytes-holds 0 width))
 
-behind_balanced : (order : Endianness) (why : Fault) (first : ℕ) (said : FirstByte) → Balanced (behind order why first said)
-behind_balanced order why first Itself = pure-holds 0 first
-behind_balanced order why first (Before n) = digits-balanced order n
-behind_balanced order why first TooWide = fail-holds 0 0 why
+after_balanced : (order : Endianness) (why : Fault) (first : ℕ) (said : FirstByte) → Balanced (behind order why first said)
+after_balanced order why first Itself = pure-holds 0 first
+after_balanced order why first (Before n) = digits-balanced order n
+after_balanced order why first TooWide = fail-holds 0 0 why
 
 -- tags and digits are balanced
 pub varint-balanced : (tags : ℕ → IntegerType) (name : IntegerType) (order : Endianness) (width : ℕ) → Balanced (varint tags name order width)
 unfolding varint
 varint-balanced tags name order width =
     let G : ℕ → Format ℕ = λ first. behind order (InvalidInteger name (tags first)) first (first_byte width first) in
-    rewritten-holds 0 0 _ (byte >>= G) (turn-holds 0 0 0 byte G byte-balanced (λ first. behind_balanced order (InvalidInteger name (tags first)) first (first_byte width first)))
+    rewritten-holds 0 0 _ (byte >>= G) (turn-holds 0 0 0 byte G byte-balanced (λ first. after_balanced order (InvalidInteger name (tags first)) first (first_byte width first)))
 
 -- a number in either encoding is balanced
 pub number_by-balanced : (tags : ℕ → IntegerType) (name : IntegerType) (order : Endianness) (width : ℕ) (encoding : IntEncoding) → Balanced (number_by tags name order width encoding)
@@ -521,18 +521,18 @@ length_by order width n w h (InSixteen a) = rw (shortest-17 order n a).0 (omega 
 pub length-shortest : (order : Endianness) (width n : ℕ) → IsWidth width → n < 256 ^ width → length (shortest_word order n) ≤ suc width
 length-shortest order width n w h = length_by order width n w h (size_of n)
 
-shortest_behind : (order : Endianness) (why : Fault) (first : ℕ) (said : FirstByte) (tail : List ℕ) (n : ℕ) (s : List Step) → Tells first said →
+shortest_after : (order : Endianness) (why : Fault) (first : ℕ) (said : FirstByte) (tail : List ℕ) (n : ℕ) (s : List Step) → Tells first said →
     All (λ b. b < 256) tail → (behind order why first said).Word tail n s → length (shortest_word order n) ≤ suc (length tail)
 unfolding pure fail
-shortest_behind order why first Itself tail n s t h u =
+shortest_after order why first Itself tail n s t h u =
     let l : n ≤ 250 = rw u.1 t in
     rw (shortest-1 order n l).0 (omega arith)
-shortest_behind order why first (Before k) tail n s t h u =
+shortest_after order why first (Before k) tail n s t h u =
     let p = word_digits order k tail n s u in
     let l : n < 256 ^ k = rw p.1 (number_of-below order k tail p.0 h) in
     let q : length (shortest_word order n) ≤ suc k = length-shortest order k n t l in
     omega (arith, q, p.0)
-shortest_behind order why first TooWide tail n s t h u = absurd u
+shortest_after order why first TooWide tail n s t h u = absurd u
 
 -- no word of tags and digits is shorter than the shortest spelling of its meaning
 pub shortest-least : (tags : ℕ → IntegerType) (name : IntegerType) (order : Endianness) (width : ℕ) (bytes : List ℕ) (n : ℕ) (s : List Step) →
@@ -540,7 +540,7 @@ pub shortest-least : (tags : ℕ → IntegerType) (name : IntegerType) (order : 
 shortest-least tags name order width bytes n s h u =
     let p = word_varint tags name order width bytes n s u in
     let g : All (λ b. b < 256) p.tail = All-tail (λ b. b < 256) p.head p.tail (subst (All (λ b. b < 256)) p.bytes_are h) in
-    rw p.bytes_are (shortest_behind order (InvalidInteger name (tags p.head)) p.head (first_byte width p.head) p.tail n p.steps (first_byte_tells width p.head) g p.tail_word)
+    rw p.bytes_are (shortest_after order (InvalidInteger name (tags p.head)) p.head (first_byte width p.head) p.tail n p.steps (first_byte_tells width p.head) g p.tail_word)
 
 -- no word of a number is shorter than its spelling
 pub spelling-least :

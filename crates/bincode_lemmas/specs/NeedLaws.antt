@@ -16,11 +16,11 @@ use Rattle.bincode_spec.specs.Integers.{digits, byte, first_of, FirstByte, Itsel
 use Rattle.bincode_spec.specs.Integers.{unsigned_integer, signed_integer, unsigned_byte, signed_byte, integer_by}
 use Rattle.bincode_spec.specs.Laws.{steps_of, Settles, Holds, Balanced}
 use Rattle.bincode_spec.specs.Meaning.{Meaning, Bytes, Then, list_meaning}
-use Rattle.bincode_layers.specs.Needs.{behind_word, then_needs, each_needs, array_needs, list_needs, text_needs, picked_needs, duration_needs}
+use Rattle.bincode_layers.specs.Needs.{after_word, then_needs, each_needs, array_needs, list_needs, text_needs, picked_needs, duration_needs}
 use Rattle.bincode_spec.specs.Need.{width_needs, char_needs}
 use Rattle.bincode_spec.specs.Octets.{octets}
 use Rattle.bincode_spec.specs.Number.{number_of, from_two_complement}
-use Rattle.bincode_spec.specs.Words.{Variant, if_picked, behind_tag, tag_then_part, len, array, list, length_prefixed, text, text_of, without_nul, without_nul_of, character, behind_char, rest_of_char, char_width, char_of, first_and, nothing, duration, duration_of, seconds_and_nanos}
+use Rattle.bincode_spec.specs.Words.{Variant, if_picked, after_tag, tag_then_part, len, array, list, length_prefixed, text, text_of, without_nul, without_nul_of, character, after_char, rest_of_char, char_width, char_of, first_and, nothing, duration, duration_of, seconds_and_nanos}
 use Rattle.bincode_lemmas.specs.Balance.{full_append, reserved_append, released_append, FrontOfBoth, in_first, in_second, front_of_both}
 use Rattle.bincode_lemmas.specs.Balance.{release-holds, reserve-holds, without_count-holds, more-holds}
 use Rattle.bincode_lemmas.specs.IntegerLaws.{unsigned-balanced, byte-balanced}
@@ -164,13 +164,13 @@ steps_after s (Took a remaining t) = refl
 steps_after s (Failed why t) = refl
 
 -- what is held after the first is held before the second
-behind_held : {A : Type 0} → ℕ → Reading A → (A → List ℕ → ℕ) → ℕ
-behind_held p (Took a remaining steps) next = max p (charged_bytes steps + next a remaining)
-behind_held p (Failed why steps) next = p
+after_held : {A : Type 0} → ℕ → Reading A → (A → List ℕ → ℕ) → ℕ
+after_held p (Took a remaining steps) next = max p (charged_bytes steps + next a remaining)
+after_held p (Failed why steps) next = p
 
 module _ {A B : Type 0} (held left : ℕ) (G : A → Format B) (next : A → List ℕ → ℕ) (g : (a : A) → PeaksFrom left (next a) (G a)) where
   then_peaks : (p : ℕ) (r : Reading A) → Settles held left r → IsPeak held p (steps_of r) →
-      IsPeak held (max p (behind_word r next)) (steps_of (then_read r (λ a remaining. (G a).read remaining)))
+      IsPeak held (max p (after_word r next)) (steps_of (then_read r (λ a remaining. (G a).read remaining)))
   then_peaks p (Took a remaining s) h f =
       let e : held + reserved_bytes s ≡ left + released_bytes s = h.1 in
       let same : next a remaining + charged_bytes s ≡ charged_bytes s + next a remaining = omega arith in
@@ -231,16 +231,16 @@ module _ {A B : Type 0} (G : A → Format B) (g : (a : A) → Free (G a)) where
   then_free F f input = steps_then (F.read input) ∙ f input
 
   -- what has no steps may follow
-  free_behind : (held : ℕ) (need : List ℕ → ℕ) (F : Format A) → PeaksFrom held need F → PeaksFrom held need (F >>= G)
+  free_after : (held : ℕ) (need : List ℕ → ℕ) (F : Format A) → PeaksFrom held need F → PeaksFrom held need (F >>= G)
   unfolding ◌>>=◌
-  free_behind held need F f = record { peaks = λ input. subst (IsPeak held (need input)) (sym (steps_then (F.read input))) (f.peaks input) }
+  free_after held need F f = record { peaks = λ input. subst (IsPeak held (need input)) (sym (steps_then (F.read input))) (f.peaks input) }
 
 -- another meaning, and a test of it, need nothing
 pub map-needs : {A B : Type 0} (need : List ℕ → ℕ) (f : A → B) (F : Format A) → Needs need F → Needs need (map_format f F)
-map-needs need f F h = free_behind (λ a. pure (f a)) (λ a. pure_free (f a)) 0 need F h
+map-needs need f F h = free_after (λ a. pure (f a)) (λ a. pure_free (f a)) 0 need F h
 
 pub test-needs : {A B : Type 0} (need : List ℕ → ℕ) (F : Format A) (test : A → Result B Fault) → Needs need F → Needs need (F >>= λ a. from_result (test a))
-test-needs need F test h = free_behind (λ a. from_result (test a)) (λ a. from_result_free (test a)) 0 need F h
+test-needs need F test h = free_after (λ a. from_result (test a)) (λ a. from_result_free (test a)) 0 need F h
 
 -- a charge is needed in full, whether the bytes come or not
 charged_needs : {A : Type 0} (n : ℕ) (F : Format A) → Free F → Needs (λ _. n) (charge_then n F)
@@ -259,14 +259,14 @@ byte_free : Free byte
 unfolding byte
 byte_free = then_free (λ b. pure (first_of b)) (λ b. pure_free (first_of b)) (fixed_bytes 1) (fixed_bytes_free 1)
 
-behind_free : (order : Endianness) (why : Fault) (first : ℕ) (b : FirstByte) → Free (behind order why first b)
-behind_free order why first Itself = pure_free first
-behind_free order why first (Before n) = digits_free order n
-behind_free order why first TooWide = fail_free _ why
+after_free : (order : Endianness) (why : Fault) (first : ℕ) (b : FirstByte) → Free (behind order why first b)
+after_free order why first Itself = pure_free first
+after_free order why first (Before n) = digits_free order n
+after_free order why first TooWide = fail_free _ why
 
 varint_free : (tags : ℕ → IntegerType) (name : IntegerType) (order : Endianness) (width : ℕ) → Free (varint tags name order width)
 unfolding varint
-varint_free tags name order width = rewritten_free _ _ (then_free (λ first. behind order _ first (first_byte width first)) (λ first. behind_free order _ first (first_byte width first)) byte byte_free)
+varint_free tags name order width = rewritten_free _ _ (then_free (λ first. behind order _ first (first_byte width first)) (λ first. after_free order _ first (first_byte width first)) byte byte_free)
 
 number_free : (tags : ℕ → IntegerType) (name : IntegerType) (order : Endianness) (width : ℕ) (e : IntEncoding) → Free (number_by tags name order width e)
 number_free tags name order width Fixed = digits_free order width
@@ -290,7 +290,7 @@ unfolding signed_byte
 signed_byte-needs = charged_needs 1 _ (then_free (λ b. pure (from_two_complement 1 b)) (λ b. pure_free (from_two_complement 1 b)) byte byte_free)
 
 -- a character needs its bytes, once the first one tells how many
-char_rest : (first : ℕ) (width : Option ℕ) → Needs (λ _. width_needs width) (behind_char first width)
+char_rest : (first : ℕ) (width : Option ℕ) → Needs (λ _. width_needs width) (after_char first width)
 char_rest first None = fail_peaks 0 _
 char_rest first (Some width) = charged_needs width (rest_of_char first width) (then_free (λ bytes. from_result (char_of (first ∷ bytes))) (λ bytes. from_result_free (char_of (first ∷ bytes))) (fixed_bytes (width - 1)) (fixed_bytes_free (width - 1)))
 
@@ -298,7 +298,7 @@ byte_read : (first : ℕ) (input : List ℕ) → byte.read (first ∷ input) ≡
 unfolding byte fixed_bytes pure ◌>>=◌
 byte_read first input = let e : nat_lt (length (first ∷ input)) 1 ≡ false = le-ltb (length (first ∷ input)) 1 (omega arith) in rw e refl
 
-char_same : (input : List ℕ) → max 0 (behind_word (byte.read input) (λ first _. width_needs (char_width first))) ≡ char_needs input
+char_same : (input : List ℕ) → max 0 (after_word (byte.read input) (λ first _. width_needs (char_width first))) ≡ char_needs input
 unfolding byte fixed_bytes pure ◌>>=◌
 char_same [] = refl
 char_same (first ∷ input) = rw (byte_read first input) (omega arith)
@@ -306,7 +306,7 @@ char_same (first ∷ input) = rw (byte_read first input) (omega arith)
 pub character-needs : Needs char_needs character
 character-needs =
     needs_as 0 (then_needs byte (λ _. 0) (λ first _. width_needs (char_width first))) char_needs character char_same
-    (turn_peaks 0 0 (λ first. behind_char first (char_width first)) (λ first _. width_needs (char_width first)) (λ first. char_rest first (char_width first)) (λ _. 0) byte byte-balanced (free_peaks 0 byte byte_free))
+    (turn_peaks 0 0 (λ first. after_char first (char_width first)) (λ first _. width_needs (char_width first)) (λ first. char_rest first (char_width first)) (λ _. 0) byte byte-balanced (free_peaks 0 byte byte_free))
 
 -- parts in order
 pub nothing-needs : Needs (λ _. 0) nothing
@@ -319,13 +319,13 @@ then-needs {F} {others} {p} {q} b f g = turn_peaks 0 0 (λ m. map_format (Then m
 
 -- elements
 
-behind_vague : {A : Type 0} (r : Reading A) (next : A → List ℕ → ℕ) → behind_word (reading_without_count r) next ≡ behind_word r next
-behind_vague (Took a remaining s) next = refl
-behind_vague (Failed why s) next = refl
+after_vague : {A : Type 0} (r : Reading A) (next : A → List ℕ → ℕ) → after_word (reading_without_count r) next ≡ after_word r next
+after_vague (Took a remaining s) next = refl
+after_vague (Failed why s) next = refl
 
 -- what is held for the others is less than what the element needed beside it
 room_covered : {A : Type 0} (room p : ℕ) (next : List ℕ → ℕ) (r : Reading A) → Settles 0 0 r → IsPeak 0 p (steps_of r) →
-    max (p + room) (behind_word r (λ _ remaining. max room (next remaining))) ≡ max (room + p) (behind_word r (λ _ remaining. next remaining))
+    max (p + room) (after_word r (λ _ remaining. max room (next remaining))) ≡ max (room + p) (after_word r (λ _ remaining. next remaining))
 room_covered room p next (Took a remaining s) h f =
     let k = peak_whole 0 p s f in
     let e : 0 + reserved_bytes s ≡ 0 + released_bytes s = h.1 in
@@ -342,11 +342,11 @@ module _ {A : Type 0} (share : ℕ) (F : Format A) (need : List ℕ → ℕ) (b 
   abbrev element_needs : ℕ → List ℕ → ℕ
   element_needs n = then_needs (without_count F) (λ input. need input + n * share) (λ _. array_needs n share F need)
 
-  next_same : (n : ℕ) (input : List ℕ) → max (n * share + share) (behind_word ((step (Release share)).read input) (λ _. element_needs n)) ≡ array_needs (suc n) share F need input
+  next_same : (n : ℕ) (input : List ℕ) → max (n * share + share) (after_word ((step (Release share)).read input) (λ _. element_needs n)) ≡ array_needs (suc n) share F need input
   unfolding step without_count
   next_same n input =
       let e : suc n * share ≡ n * share + share = omega arith in
-      let v = behind_vague (F.read input) (λ _ remaining. array_needs n share F need remaining) in
+      let v = after_vague (F.read input) (λ _ remaining. array_needs n share F need remaining) in
       let k = room_covered (n * share) (need input) (each_needs n share F need) (F.read input) (b.settles input) (f.peaks input) in
       omega (arith, v, k)
 
@@ -357,11 +357,11 @@ module _ {A : Type 0} (share : ℕ) (F : Format A) (need : List ℕ → ℕ) (b 
       needs_as (suc n * share) _ (array_needs (suc n) share F need) (elements (suc n) share F) (next_same n)
       (rw e (turn_peaks (n * share + share) (n * share) (λ _. without_count F >>= element n) (λ _. element_needs n)
       (λ _. turn_peaks (n * share) (n * share) (element n) (λ _. array_needs n share F need)
-      (λ a. free_behind (λ others. pure (a ∷ others)) (λ others. pure_free (a ∷ others)) (n * share) (array_needs n share F need) (elements n share F) (elements_peaks n))
+      (λ a. free_after (λ others. pure (a ∷ others)) (λ others. pure_free (a ∷ others)) (n * share) (array_needs n share F need) (elements n share F) (elements_peaks n))
       (λ input. need input + n * share) (without_count F) (without_count-holds (n * share) (n * share) F (more-holds (n * share) F b)) (without_count_peaks (n * share) _ F (element_peaks (n * share))))
       (λ _. n * share + share) (step (Release share)) (release-holds (n * share) share) (release_peaks (n * share + share) share)))
 
-  room_same : (n : ℕ) (input : List ℕ) → max (0 + n * share) (behind_word ((step (Reserve n share)).read input) (λ _. array_needs n share F need)) ≡ array_needs n share F need input
+  room_same : (n : ℕ) (input : List ℕ) → max (0 + n * share) (after_word ((step (Reserve n share)).read input) (λ _. array_needs n share F need)) ≡ array_needs n share F need input
   unfolding step
   room_same n input = omega arith
 
@@ -405,9 +405,9 @@ pub fail-needs : (why : Fault) → Needs (λ _. 0) (fail {A = Meaning} why)
 fail-needs why = fail_peaks 0 why
 
 pub chosen-needs : (tags : Setting → Format ℕ) (variants : List Variant) (s : Setting) (width : ℕ) (next : ℕ → List ℕ → ℕ) → Balanced (tags s) → Needs (λ _. width) (tags s) →
-    ((found : ℕ) → Needs (next found) (behind_tag variants s found)) → Needs (then_needs (tags s) (λ _. width) next) (tag_then_part tags variants s)
+    ((found : ℕ) → Needs (next found) (after_tag variants s found)) → Needs (then_needs (tags s) (λ _. width) next) (tag_then_part tags variants s)
 unfolding tag_then_part
-chosen-needs tags variants s width next b t g = turn_peaks 0 0 (behind_tag variants s) next g (λ _. width) (tags s) b t
+chosen-needs tags variants s width next b t g = turn_peaks 0 0 (after_tag variants s) next g (λ _. width) (tags s) b t
 
 -- a duration: its two numbers
 pub duration-needs : (s : Setting) → Needs (duration_needs s) (duration s)

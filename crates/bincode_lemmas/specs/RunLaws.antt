@@ -13,7 +13,7 @@ use Rattle.bincode_lemmas.specs.FormatLaws.{elements-lawful}
 use Rattle.bincode_lemmas.specs.Balance.{elements-holds}
 use Rattle.bincode_spec.specs.Meaning.{Meaning, Nothing, list_meaning}
 use Rattle.bincode_spec.specs.Words.{array}
-use Rattle.bincode_spec.specs.Answer.{Answer, Gave, Refused, PassedLimit, answer, weigh_reading, gave_at, refused_at, charge_behind, after_release}
+use Rattle.bincode_spec.specs.Answer.{Answer, Gave, Refused, PassedLimit, answer, weigh_reading, gave_at, refused_at, charge_after_steps, after_release}
 use Rattle.bincode_lemmas.specs.Sequences.{and_then}
 use Rattle.bincode_layers.specs.Claims.{Claimed, OverClaimed}
 use Rattle.bincode_lemmas.specs.AnswerLaws.{answer-then, answer-pure, answer-release, step-answered, gave-grows, gave-recharged, gave-is_uncounted}
@@ -33,7 +33,7 @@ behind ms a = and_then a (λ others remaining charge. Gave (ms ++ others) remain
 pub record ReadSoFar (limit : Option ℕ) (share : ℕ) (F : Format Meaning) (all : Answer (List Meaning)) (input : List ℕ) (ms : List Meaning) (left : ℕ) (remaining : List ℕ) (charge : ℕ) : Type 0 where
   pub is_rest : behind ms (answer limit (elements left share F) remaining charge) ≡ all
   pub is_reserved : CanRelease limit charge (left * share)
-  pub is_behind : Takes input remaining
+  pub is_after : Takes input remaining
 
 -- an answer whose fault leaves open how many bytes the input lacks
 
@@ -51,8 +51,8 @@ failed_vaguely why (Some c) = refl
 failed_vaguely why None = refl
 
 weighed_vaguely : (limit : Option ℕ) (c : ℕ) (r : Reading Meaning) → weigh_reading limit c (reading_without_count r) ≡ vague_answer (weigh_reading limit c r)
-weighed_vaguely limit c (Took m remaining s) = took_vaguely m remaining (charge_behind limit c s)
-weighed_vaguely limit c (Failed why s) = failed_vaguely why (charge_behind limit c s)
+weighed_vaguely limit c (Took m remaining s) = took_vaguely m remaining (charge_after_steps limit c s)
+weighed_vaguely limit c (Failed why s) = failed_vaguely why (charge_after_steps limit c s)
 
 answer_unsure : (limit : Option ℕ) (F : Format Meaning) (input : List ℕ) (c : ℕ) → answer limit (without_count F) input c ≡ vague_answer (answer limit F input c)
 unfolding answer without_count
@@ -92,48 +92,48 @@ still_reserved (Some limit) share F f b n remaining c m remaining' d h e =
     omega arith
 
 -- what follows an element: the others
-abbrev others_behind : Option ℕ → ℕ → Format Meaning → ℕ → Answer Meaning → Answer (List Meaning)
-others_behind limit share F n a = and_then a (λ m remaining c. behind (m ∷ []) (answer limit (elements n share F) remaining c))
+abbrev others_after : Option ℕ → ℕ → Format Meaning → ℕ → Answer Meaning → Answer (List Meaning)
+others_after limit share F n a = and_then a (λ m remaining c. behind (m ∷ []) (answer limit (elements n share F) remaining c))
 
 module _ (limit : Option ℕ) (share : ℕ) (F : Format Meaning) where
-  last_behind : (m : Meaning) (a : Answer (List Meaning)) → and_then a (λ others remaining c. answer limit (pure (m ∷ others)) remaining c) ≡ behind (m ∷ []) a
-  last_behind m (Gave others remaining c) = answer-pure limit (m ∷ others) remaining c
-  last_behind m (Refused why c) = refl
-  last_behind m PassedLimit = refl
+  last_after : (m : Meaning) (a : Answer (List Meaning)) → and_then a (λ others remaining c. answer limit (pure (m ∷ others)) remaining c) ≡ behind (m ∷ []) a
+  last_after m (Gave others remaining c) = answer-pure limit (m ∷ others) remaining c
+  last_after m (Refused why c) = refl
+  last_after m PassedLimit = refl
 
-  next_behind : (n : ℕ) (a : Answer Meaning) → and_then a (λ m remaining c. answer limit (map_format (λ others. m ∷ others) (elements n share F)) remaining c) ≡ others_behind limit share F n a
-  next_behind n (Gave m remaining c) = answer-then limit (elements n share F) (λ others. pure (m ∷ others)) remaining c ∙ last_behind m (answer limit (elements n share F) remaining c)
-  next_behind n (Refused why c) = refl
-  next_behind n PassedLimit = refl
+  next_after : (n : ℕ) (a : Answer Meaning) → and_then a (λ m remaining c. answer limit (map_format (λ others. m ∷ others) (elements n share F)) remaining c) ≡ others_after limit share F n a
+  next_after n (Gave m remaining c) = answer-then limit (elements n share F) (λ others. pure (m ∷ others)) remaining c ∙ last_after m (answer limit (elements n share F) remaining c)
+  next_after n (Refused why c) = refl
+  next_after n PassedLimit = refl
 
   -- one element, whose claim is released, then the others
-  element_then : (n : ℕ) (input : List ℕ) (c : ℕ) → answer limit (elements (suc n) share F) input c ≡ others_behind limit share F n (vague_answer (answer limit F input (after_release limit c share)))
+  element_then : (n : ℕ) (input : List ℕ) (c : ℕ) → answer limit (elements (suc n) share F) input c ≡ others_after limit share F n (vague_answer (answer limit F input (after_release limit c share)))
   element_then n input c =
       answer-next limit (step (Release share)) (λ _. without_count F >>= λ m. map_format (λ others. m ∷ others) (elements n share F)) input c tt input (after_release limit c share)
       (answer-release limit share input c)
       ∙ answer-then limit (without_count F) (λ m. map_format (λ others. m ∷ others) (elements n share F)) input (after_release limit c share)
-      ∙ next_behind n (answer limit (without_count F) input (after_release limit c share))
-      ∙ ap (others_behind limit share F n) (answer_unsure limit F input (after_release limit c share))
+      ∙ next_after n (answer limit (without_count F) input (after_release limit c share))
+      ∙ ap (others_after limit share F n) (answer_unsure limit F input (after_release limit c share))
 
-  behind_push : (ms : List Meaning) (m : Meaning) (a : Answer (List Meaning)) → behind ms (behind (m ∷ []) a) ≡ behind (ms ++ m ∷ []) a
-  behind_push ms m (Gave others remaining c) = ap (λ z. Gave z remaining c) (sym (append_assoc ms (m ∷ []) others))
-  behind_push ms m (Refused why c) = refl
-  behind_push ms m PassedLimit = refl
+  after_push : (ms : List Meaning) (m : Meaning) (a : Answer (List Meaning)) → behind ms (behind (m ∷ []) a) ≡ behind (ms ++ m ∷ []) a
+  after_push ms m (Gave others remaining c) = ap (λ z. Gave z remaining c) (sym (append_assoc ms (m ∷ []) others))
+  after_push ms m (Refused why c) = refl
+  after_push ms m PassedLimit = refl
 
   module _ (all : Answer (List Meaning)) (input : List ℕ) (ms : List Meaning) where
     -- the answer to all, from that to the next element
     so_far : (n : ℕ) (remaining : List ℕ) (c : ℕ) (a : Answer Meaning) → ReadSoFar limit share F all input ms (suc n) remaining c →
-        answer limit F remaining (after_release limit c share) ≡ a → all ≡ behind ms (others_behind limit share F n (vague_answer a))
-    so_far n remaining c a h e = sym h.is_rest ∙ ap (behind ms) (element_then n remaining c ∙ ap (λ z. others_behind limit share F n (vague_answer z)) e)
+        answer limit F remaining (after_release limit c share) ≡ a → all ≡ behind ms (others_after limit share F n (vague_answer a))
+    so_far n remaining c a h e = sym h.is_rest ∙ ap (behind ms) (element_then n remaining c ∙ ap (λ z. others_after limit share F n (vague_answer z)) e)
 
     -- one element more is read
     pub one-more : Lawful F → Balanced F → (n : ℕ) (remaining : List ℕ) (c : ℕ) (m : Meaning) (remaining' : List ℕ) (d : ℕ) →
         ReadSoFar limit share F all input ms (suc n) remaining c → answer limit F remaining (after_release limit c share) ≡ Gave m remaining' d →
         ReadSoFar limit share F all input (ms ++ m ∷ []) n remaining' d
     one-more f b n remaining c m remaining' d h e = record {
-      is_rest = sym (so_far n remaining c (Gave m remaining' d) h e ∙ behind_push ms m (answer limit (elements n share F) remaining' d));
+      is_rest = sym (so_far n remaining c (Gave m remaining' d) h e ∙ after_push ms m (answer limit (elements n share F) remaining' d));
       is_reserved = still_reserved limit share F f b n remaining c m remaining' d h.is_reserved e;
-      is_behind = takes-then input remaining remaining' h.is_behind (gave-takes limit F f remaining (after_release limit c share) m remaining' d e);
+      is_after = takes-then input remaining remaining' h.is_after (gave-takes limit F f remaining (after_release limit c share) m remaining' d e);
     }
 
     -- if decoding an element fails, so does the run
@@ -142,24 +142,24 @@ module _ (limit : Option ℕ) (share : ℕ) (F : Format Meaning) where
         before ≤ between → ReadSoFar limit share F all input ms (suc n) remaining c →
         DecodeFailure end_error device H (answer limit F remaining (after_release limit c share)) between after remaining remaining' now e → DecodeFailure end_error device H all before after input remaining' now e
     one_stops end_error device H n remaining c before between after remaining' {now} e le h (by_fault why a t k) =
-        by_fault (fault_without_count why) (so_far n remaining c (Refused why now) h a) (tells_vague end_error why e t) (takes-then input remaining remaining' h.is_behind k)
-    one_stops end_error device H n remaining c before between after remaining' e le h (by_limit a t k) = by_limit (so_far n remaining c PassedLimit h a) t (takes-then input remaining remaining' h.is_behind k)
-    one_stops end_error device H n remaining c before between after remaining' e le h (by_memory g t k) = by_memory g t (takes-then input remaining remaining' h.is_behind k)
-    one_stops end_error device H n remaining c before between after remaining' e le h (by_failure d r k) = by_failure d (rose-then before between after le r) (takes-then input remaining remaining' h.is_behind k)
+        by_fault (fault_without_count why) (so_far n remaining c (Refused why now) h a) (tells_vague end_error why e t) (takes-then input remaining remaining' h.is_after k)
+    one_stops end_error device H n remaining c before between after remaining' e le h (by_limit a t k) = by_limit (so_far n remaining c PassedLimit h a) t (takes-then input remaining remaining' h.is_after k)
+    one_stops end_error device H n remaining c before between after remaining' e le h (by_memory g t k) = by_memory g t (takes-then input remaining remaining' h.is_after k)
+    one_stops end_error device H n remaining c before between after remaining' e le h (by_failure d r k) = by_failure d (rose-then before between after le r) (takes-then input remaining remaining' h.is_after k)
     one_stops end_error device H n remaining c before between after remaining' e le h (by_device g) = by_device g
 
     -- all is read
     pub all-read : (remaining : List ℕ) (c : ℕ) → ReadSoFar limit share F all input ms 0 remaining c → all ≡ Gave ms remaining c
     all-read remaining c h = sym h.is_rest ∙ ap (behind ms) (answer-pure limit [] remaining c) ∙ ap (λ z. Gave z remaining c) (append-nil ms)
 
-  behind_none : (a : Answer (List Meaning)) → behind [] a ≡ a
-  behind_none (Gave others remaining c) = refl
-  behind_none (Refused why c) = refl
-  behind_none PassedLimit = refl
+  after_none : (a : Answer (List Meaning)) → behind [] a ≡ a
+  after_none (Gave others remaining c) = refl
+  after_none (Refused why c) = refl
+  after_none PassedLimit = refl
 
   -- nothing is read yet
   pub none-read : (n : ℕ) (input : List ℕ) (c : ℕ) → CanRelease limit c (n * share) → ReadSoFar limit share F (answer limit (elements n share F) input c) input [] n input c
-  none-read n input c h = record { is_rest = behind_none (answer limit (elements n share F) input c); is_reserved = h; is_behind = ([], refl) }
+  none-read n input c h = record { is_rest = after_none (answer limit (elements n share F) input c); is_reserved = h; is_after = ([], refl) }
 
   -- an array, after the claim of its elements
   module _ (n : ℕ) (input : List ℕ) (c d : ℕ) where

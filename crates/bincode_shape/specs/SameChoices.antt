@@ -5,7 +5,7 @@ use Rattle.bincode_base.specs.Setting.{Setting}
 use Rattle.bincode_spec.specs.Fault.{Allowed, UnexpectedVariant}
 use Rattle.bincode_spec.specs.Format.{Format, Took, then_read, pure, fail, ◌>>=◌, map_format}
 use Rattle.bincode_spec.specs.Meaning.{Meaning, Choice}
-use Rattle.bincode_spec.specs.Words.{Variant, variant_tags, allowed_tags, if_picked, part, behind_tag, tag_then_part}
+use Rattle.bincode_spec.specs.Words.{Variant, variant_tags, allowed_tags, if_picked, part, after_tag, tag_then_part}
 use Rattle.bincode_lemmas.specs.AllowedLaws.{map-written, written-map}
 use Rattle.bincode_shape.specs.Same.{SameWords, same-itself}
 
@@ -43,15 +43,15 @@ part-same s allowed n [] (w ∷ ws) h = absurd h
 part-same s allowed n (v ∷ vs) [] h = absurd h
 part-same s allowed n (v ∷ vs) (w ∷ ws) h = rw h.0 (picked-same (n == w.0) (map-same (Choice n) h.1) (part-same s allowed n vs ws h.2))
 
-behind-same : (s : Setting) (n : ℕ) (vs ws : List Variant) → SameVariants s vs ws → SameWords (behind_tag vs s n) (behind_tag ws s n)
-behind-same s n vs ws h = rw (same-tags s vs ws h) (part-same s (allowed_tags (variant_tags ws)) n vs ws h)
+after-same : (s : Setting) (n : ℕ) (vs ws : List Variant) → SameVariants s vs ws → SameWords (after_tag vs s n) (after_tag ws s n)
+after-same s n vs ws h = rw (same-tags s vs ws h) (part-same s (allowed_tags (variant_tags ws)) n vs ws h)
 
-chosen-read : (tags : Setting → Format ℕ) (s : Setting) (vs ws : List Variant) → ((n : ℕ) → (behind_tag vs s n).read ≡ (behind_tag ws s n).read) → (tag_then_part tags vs s).read ≡ (tag_then_part tags ws s).read
+chosen-read : (tags : Setting → Format ℕ) (s : Setting) (vs ws : List Variant) → ((n : ℕ) → (after_tag vs s n).read ≡ (after_tag ws s n).read) → (tag_then_part tags vs s).read ≡ (tag_then_part tags ws s).read
 unfolding tag_then_part ◌>>=◌
 chosen-read tags s vs ws h = λ i input. then_read ((tags s).read input) (λ n rest. h n i rest)
 
 chosen-written : (tags : Setting → Format ℕ) (s : Setting) (vs ws : List Variant) →
-    ((n : ℕ) (bytes : List ℕ) (m : Meaning) → (behind_tag vs s n).Written bytes m → (behind_tag ws s n).Written bytes m) →
+    ((n : ℕ) (bytes : List ℕ) (m : Meaning) → (after_tag vs s n).Written bytes m → (after_tag ws s n).Written bytes m) →
     (bytes : List ℕ) (m : Meaning) → (tag_then_part tags vs s).Written bytes m → (tag_then_part tags ws s).Written bytes m
 unfolding tag_then_part ◌>>=◌
 chosen-written tags s vs ws h bytes m w =
@@ -59,6 +59,6 @@ chosen-written tags s vs ws h bytes m w =
 
 pub chosen-same : (tags : Setting → Format ℕ) (s : Setting) (vs ws : List Variant) → SameVariants s vs ws → SameWords (tag_then_part tags vs s) (tag_then_part tags ws s)
 chosen-same tags s vs ws h = record {
-  read = chosen-read tags s vs ws (λ n. (behind-same s n vs ws h).read);
-  written = (chosen-written tags s vs ws (λ n. (behind-same s n vs ws h).written.0), chosen-written tags s ws vs (λ n. (behind-same s n vs ws h).written.1));
+  read = chosen-read tags s vs ws (λ n. (after-same s n vs ws h).read);
+  written = (chosen-written tags s vs ws (λ n. (after-same s n vs ws h).written.0), chosen-written tags s ws vs (λ n. (after-same s n vs ws h).written.1));
 }

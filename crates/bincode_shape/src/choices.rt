@@ -51,7 +51,7 @@ impl<const TAG: u32, A: Described, Others: DescribedVariants> DescribedVariants
 
 /// One to eight variants with the tags 0, 1 and so on.
 pub trait CountedVariants: Variants<Tag = u32> {
-    ghost failures_monotone: { (0 < length Self.variants) × (in_order 0 (variant_tags Self.variants) ≡ true) };
+    ghost counts_from_zero: { (0 < length Self.variants) × (in_order 0 (variant_tags Self.variants) ≡ true) };
 }
 
 /// The shape is a `Choice` of the shapes of the parts.
@@ -64,22 +64,22 @@ impl<Of: DescribedVariants + CountedVariants> Described for EnumOf<Of> {
 }
 
 impl<A: Wire, Of> CountedVariants for VariantOf<0, A, NoMoreVariants<Of>> {
-    ghost failures_monotone = { (omega arith, refl) };
+    ghost counts_from_zero = { (omega arith, refl) };
 }
 
 impl<A: Wire, B: Wire, Of> CountedVariants
     for VariantOf<0, A, VariantOf<1, B, NoMoreVariants<Of>>> {
-    ghost failures_monotone = { (omega arith, refl) };
+    ghost counts_from_zero = { (omega arith, refl) };
 }
 
 impl<A: Wire, B: Wire, C: Wire, Of> CountedVariants
     for VariantOf<0, A, VariantOf<1, B, VariantOf<2, C, NoMoreVariants<Of>>>> {
-    ghost failures_monotone = { (omega arith, refl) };
+    ghost counts_from_zero = { (omega arith, refl) };
 }
 
 impl<A: Wire, B: Wire, C: Wire, D: Wire, Of> CountedVariants
     for VariantOf<0, A, VariantOf<1, B, VariantOf<2, C, VariantOf<3, D, NoMoreVariants<Of>>>>> {
-    ghost failures_monotone = { (omega arith, refl) };
+    ghost counts_from_zero = { (omega arith, refl) };
 }
 
 impl<A: Wire, B: Wire, C: Wire, D: Wire, E: Wire, Of> CountedVariants
@@ -88,7 +88,7 @@ impl<A: Wire, B: Wire, C: Wire, D: Wire, E: Wire, Of> CountedVariants
         A,
         VariantOf<1, B, VariantOf<2, C, VariantOf<3, D, VariantOf<4, E, NoMoreVariants<Of>>>>>,
     > {
-    ghost failures_monotone = { (omega arith, refl) };
+    ghost counts_from_zero = { (omega arith, refl) };
 }
 
 impl<A: Wire, B: Wire, C: Wire, D: Wire, E: Wire, F: Wire, Of> CountedVariants
@@ -101,7 +101,7 @@ impl<A: Wire, B: Wire, C: Wire, D: Wire, E: Wire, F: Wire, Of> CountedVariants
             VariantOf<2, C, VariantOf<3, D, VariantOf<4, E, VariantOf<5, F, NoMoreVariants<Of>>>>>,
         >,
     > {
-    ghost failures_monotone = { (omega arith, refl) };
+    ghost counts_from_zero = { (omega arith, refl) };
 }
 
 impl<A: Wire, B: Wire, C: Wire, D: Wire, E: Wire, F: Wire, G: Wire, Of> CountedVariants
@@ -122,7 +122,7 @@ impl<A: Wire, B: Wire, C: Wire, D: Wire, E: Wire, F: Wire, G: Wire, Of> CountedV
             >,
         >,
     > {
-    ghost failures_monotone = { (omega arith, refl) };
+    ghost counts_from_zero = { (omega arith, refl) };
 }
 
 impl<A: Wire, B: Wire, C: Wire, D: Wire, E: Wire, F: Wire, G: Wire, H: Wire, Of> CountedVariants
@@ -147,5 +147,5 @@ impl<A: Wire, B: Wire, C: Wire, D: Wire, E: Wire, F: Wire, G: Wire, H: Wire, Of>
             >,
         >,
     > {
-    ghost failures_monotone = { (omega arith, refl) };
+    ghost counts_from_zero = { (omega arith, refl) };
 }

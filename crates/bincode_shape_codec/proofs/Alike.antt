@@ -5,7 +5,7 @@ use Rattle.std.proofs.lemmas.Bool.{ne_eqb}
 use Rattle.std.proofs.Common.{sym, ◌∙◌, ap, subst, arith, append_assoc, append-nil}
 use Rattle.bincode_base.specs.Setting.{Setting}
 use Rattle.bincode_base.specs.declared.error.DecodeError.{DecodeError}
-use Rattle.bincode_spec.specs.Answer.{Answer, Gave, answer, weigh_reading, gave_at, charge_behind, Allows, after_release}
+use Rattle.bincode_spec.specs.Answer.{Answer, Gave, answer, weigh_reading, gave_at, charge_after_steps, Allows, after_release}
 use Rattle.bincode_spec.specs.Charge.{Step, Reserve, Release, charged_bytes, reserved_bytes, released_bytes, charge_after}
 use Rattle.bincode_layers.specs.Claims.{MakesRelease}
 use Rattle.bincode_spec.specs.Device.{DeviceErrors}
@@ -16,7 +16,7 @@ use Rattle.bincode_spec.specs.Run.{IsListOf}
 use Rattle.bincode_layers.specs.Releases.{CanRelease, Held}
 use Rattle.bincode_layers.specs.Values.{Reads}
 use Rattle.bincode_spec.specs.Words.{nothing, first_and, tuple, array}
-use Rattle.bincode_lemmas.specs.AnswerLaws.{behind-stays, stays-behind}
+use Rattle.bincode_lemmas.specs.AnswerLaws.{after-stays, stays-after}
 use Rattle.bincode_lemmas.specs.Balance.{full_append}
 use Rattle.bincode_lemmas.specs.RunLaws.{ReadSoFar, one-more, is_list-push}
 use Rattle.bincode_decoder.proofs.Rooms.{unclaimed-within}
@@ -99,12 +99,12 @@ mutual
 
 -- steps that release what they reserve lead from each lower charge to itself
 falls : (limit : Option ℕ) (c d after : ℕ) (steps : List Step) → IsBacked 0 steps → reserved_bytes steps ≡ released_bytes steps → charged_bytes steps ≡ 0 → Allows limit c → d ≤ c →
-    charge_behind limit c steps ≡ Some after → charge_behind limit d steps ≡ Some d
-falls None c d after steps b e f a le h = stays-behind None d 0 steps b (omega arith) tt
+    charge_after_steps limit c steps ≡ Some after → charge_after_steps limit d steps ≡ Some d
+falls None c d after steps b e f a le h = stays-after None d 0 steps b (omega arith) tt
 falls (Some limit) c d after steps b e f a le h =
-    let w = behind-stays (Some limit) c 0 steps after b (omega arith) a h in
+    let w = after-stays (Some limit) c 0 steps after b (omega arith) a h in
     let k : charge_after d steps ≡ d = omega (arith, e, f) in
-    stays-behind (Some limit) d 0 steps b (omega arith) (λ front back i. let q = w front back i in omega (arith, q, le)) ∙ ap (λ z. Some z) k
+    stays-after (Some limit) d 0 steps b (omega arith) (λ front back i. let q = w front back i in omega (arith, q, le)) ∙ ap (λ z. Some z) k
 
 gave_is : {A : Type 0} (a m : A) (input remaining : List ℕ) (after : ℕ) (o : Option ℕ) → gave_at a input o ≡ Gave m remaining after → (m ≡ a) × (remaining ≡ input) × (o ≡ Some after)
 gave_is a m input remaining after (Some n) e = (cc, cc, cc)
@@ -118,7 +118,7 @@ answers-alike : {F : Format Meaning} (h : Empty F) → Balanced F → (limit : O
     answer limit F input c ≡ Gave m remaining after → (m ≡ h.meaning) × (remaining ≡ input) × (after ≡ c) × ((d : ℕ) (i : List ℕ) → d ≤ c → answer limit F i d ≡ Gave h.meaning i d)
 unfolding answer
 answers-alike h b limit input remaining c after m a e =
-    let p = gave_is h.meaning m input remaining after (charge_behind limit c h.steps) (sym (ap (weigh_reading limit c) (h.reads input)) ∙ e) in
+    let p = gave_is h.meaning m input remaining after (charge_after_steps limit c h.steps) (sym (ap (weigh_reading limit c) (h.reads input)) ∙ e) in
     let q = rw (h.reads input) at (b.settles input) in
     let backed = q.0 in
     let even = q.1 in

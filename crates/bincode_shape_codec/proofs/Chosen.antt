@@ -12,7 +12,7 @@ use Rattle.bincode_spec.specs.Fault.{EmptyEnum, UnexpectedVariant, Between, Tell
 use Rattle.bincode_spec.specs.Integers.{Four}
 use Rattle.bincode_spec.specs.Meaning.{Meaning, Choice}
 use Rattle.bincode_layers.specs.Values.{Reads}
-use Rattle.bincode_spec.specs.Words.{tag, behind_tag, tag_then_part}
+use Rattle.bincode_spec.specs.Words.{tag, after_tag, tag_then_part}
 use Rattle.bincode_lemmas.specs.AnswerLaws.{answer-fail}
 use Rattle.bincode_lemmas.specs.IntegerLaws.{unsigned-lawful}
 use Rattle.bincode_decoder.proofs.PartAnswers.{first-stops, next-reads}
@@ -53,7 +53,7 @@ module _ {D T : Type 0} {is_known : D → Type 0} {remaining : D → List ℕ} {
         Reads is_known remaining charge failures loans limit end_error device ⊥ (tag s) (λ (n v : ℕ). n ≡ v) start (Err e) old new →
         Reads is_known remaining charge failures loans limit end_error device may_allocate (one_of (numbered 0 (formats ps)) s) whole start (Err e) old new
     unfolding tag_then_part
-    tag-stops read = rw (one_of-some ps s some) (first-stops (tag s) (behind_tag (numbered 0 (formats ps)) s) (λ none. absurd none) read)
+    tag-stops read = rw (one_of-some ps s some) (first-stops (tag s) (after_tag (numbered 0 (formats ps)) s) (λ none. absurd none) read)
 
     module _ {U : Type 0} {decodes_to : Meaning → U → Type 0} where
       pub held-reads : {found : ℕ} {p : Shape} {v : U} {w : T} {old middle new : D} → found < length ps → p ≡ get_or ps found p →
@@ -63,7 +63,7 @@ module _ {D T : Type 0} {is_known : D → Type 0} {remaining : D → List ℕ} {
           Reads is_known remaining charge failures loans limit end_error device may_allocate (one_of (numbered 0 (formats ps)) s) whole start (Ok w) old new
       unfolding tag_then_part
       held-reads {found = found} {p = p} h e gives first read =
-          rw (one_of-some ps s some) (next-reads (tag s) (behind_tag (numbered 0 (formats ps)) s) (unsigned-lawful integers.U32 4 s (Four refl)) first
+          rw (one_of-some ps s some) (next-reads (tag s) (after_tag (numbered 0 (formats ps)) s) (unsigned-lawful integers.U32 4 s (Four refl)) first
           (rw (picked s ps found p h e) (map-reads (Choice found) gives read)))
 
       pub held-stops : {found : ℕ} {p : Shape} {e : DecodeError} {old middle new : D} → found < length ps → p ≡ get_or ps found p →
@@ -72,7 +72,7 @@ module _ {D T : Type 0} {is_known : D → Type 0} {remaining : D → List ℕ} {
           Reads is_known remaining charge failures loans limit end_error device may_allocate (one_of (numbered 0 (formats ps)) s) whole start (Err e) old new
       unfolding tag_then_part
       held-stops {found = found} {p = p} h e first read =
-          rw (one_of-some ps s some) (next-reads (tag s) (behind_tag (numbered 0 (formats ps)) s) (unsigned-lawful integers.U32 4 s (Four refl)) first
+          rw (one_of-some ps s some) (next-reads (tag s) (after_tag (numbered 0 (formats ps)) s) (unsigned-lawful integers.U32 4 s (Four refl)) first
           (rw (picked s ps found p h e) (map-reads_none (Choice found) read)))
 
     pub unpicked-stops : {found last : ℕ} {e : DecodeError} {old new : D} → length ps ≡ last + 1 → length ps ≤ found → Tells end_error (UnexpectedVariant (Between 0 last) found) e →
@@ -80,7 +80,7 @@ module _ {D T : Type 0} {is_known : D → Type 0} {remaining : D → List ℕ} {
         Reads is_known remaining charge failures loans limit end_error device may_allocate (one_of (numbered 0 (formats ps)) s) whole start (Err e) old new
     unfolding tag_then_part
     unpicked-stops {found = found} {last = last} n h tells first =
-        rw (one_of-some ps s some) (next-reads (tag s) (behind_tag (numbered 0 (formats ps)) s) (unsigned-lawful integers.U32 4 s (Four refl)) first
+        rw (one_of-some ps s some) (next-reads (tag s) (after_tag (numbered 0 (formats ps)) s) (unsigned-lawful integers.U32 4 s (Four refl)) first
         (rw (unpicked s ps found last n h) (record {
           ok = λ known. tt;
           err = λ known. by_fault (UnexpectedVariant (Between 0 last) found) (answer-fail _ _ _ _) tells ([], refl);

@@ -23,7 +23,7 @@ use Rattle.bincode_shape_codec.specs.Counted.{total, with_whole}
 use Rattle.bincode_shape_codec.proofs.Alike.{copies}
 use Rattle.bincode_shape_codec.proofs.Chosen.{held-reads, held-stops}
 use Rattle.bincode_shape_codec.proofs.Optional.{some-reads, some-stops}
-use Rattle.bincode_shape_codec.proofs.Parts.{before, before-push, behind, behind-none, behind-push, part-then, part-stops, stops-behind, nothing-gives}
+use Rattle.bincode_shape_codec.proofs.Parts.{before, before-push, behind, after-none, after-push, part-then, part-stops, stops-after, nothing-gives}
 
 -- counts of two parts
 pub capped-adds : (a b c d : ℕ) → a ≡ capped c → b ≡ capped d → capped (a + b) ≡ capped (c + d)
@@ -100,7 +100,7 @@ module _ {D : Type 0} {is_known : D → Type 0} {remaining : D → List ℕ} {ch
     {s : Setting} {parts : List Shape} {old : D} where
   pub none-counted : PartsCounted is_known remaining charge failures loans limit s parts parts 0 old old
   none-counted = record {
-    known = λ k. (k, [], behind-none (answer limit (tuple (at s (formats parts))) (remaining old) (charge old)), ([], refl), λ m. none-yet (count_parts (counts parts) m));
+    known = λ k. (k, [], after-none (answer limit (tuple (at s (formats parts))) (remaining old) (charge old)), ([], refl), λ m. none-yet (count_parts (counts parts) m));
     small = omega arith;
     charge_kept = omega arith;
     within = λ a. a;
@@ -140,7 +140,7 @@ module _ {D : Type 0} {is_known : D → Type 0} {remaining : D → List ℕ} {ch
             let each = rw next at p.4 in (
               r.tells p.0,
               p.1 ++ x ∷ [],
-              sym (behind-push p.1 x (answer limit (tuple (at s (formats others))) (remaining after) (charge after)))
+              sym (after-push p.1 x (answer limit (tuple (at s (formats others))) (remaining after) (charge after)))
                   ∙ ap (behind p.1) (sym (part-then limit (format_of part s) (tuple (at s (formats others))) (remaining now) (remaining after) (charge now) (charge after) x d.answer_is))
                   ∙ is,
               takes-then (remaining old) (remaining now) (remaining after) p.3 (gave-takes limit (format_of part s) (format_of-lawful part s) (remaining now) (charge now) x (remaining after) (charge after) d.answer_is),
@@ -162,7 +162,7 @@ module _ {D : Type 0} {is_known : D → Type 0} {remaining : D → List ℕ} {ch
         err = λ k.
             let p = h.known k in
             let is = rw next at p.2 in
-            stops-behind end_error device may_allocate p.1 _ _ (failures old) (failures now) (failures after) (remaining old) (remaining now) (remaining after) e is p.3 h.failures_monotone
+            stops-after end_error device may_allocate p.1 _ _ (failures old) (failures now) (failures after) (remaining old) (remaining now) (remaining after) e is p.3 h.failures_monotone
             (part-stops end_error device may_allocate limit (format_of part s) (tuple (at s (formats others))) (remaining now) (charge now) (failures now) (failures after) (remaining after) e
             (stops-besides end_error device H may_allocate widen _ _ _ _ _ e (r.err p.0)));
         failures_monotone = let a = h.failures_monotone in let b = r.failures_monotone in omega (arith, a, b);

@@ -40,15 +40,15 @@ before-none (y ∷ ms) = ap (Then y) (before-none ms)
 abbrev pub behind : List Meaning → Answer Meaning → Answer Meaning
 behind ms a = and_then a (λ m remaining charge. Gave (before ms m) remaining charge)
 
-pub behind-none : (a : Answer Meaning) → behind [] a ≡ a
-behind-none (Gave m remaining c) = refl
-behind-none (Refused why c) = refl
-behind-none PassedLimit = refl
+pub after-none : (a : Answer Meaning) → behind [] a ≡ a
+after-none (Gave m remaining c) = refl
+after-none (Refused why c) = refl
+after-none PassedLimit = refl
 
-pub behind-push : (ms : List Meaning) (x : Meaning) (a : Answer Meaning) → behind ms (and_then a (λ m remaining charge. Gave (Then x m) remaining charge)) ≡ behind (ms ++ x ∷ []) a
-behind-push ms x (Gave m remaining c) = ap (λ z. Gave z remaining c) (sym (before-push ms x m))
-behind-push ms x (Refused why c) = refl
-behind-push ms x PassedLimit = refl
+pub after-push : (ms : List Meaning) (x : Meaning) (a : Answer Meaning) → behind ms (and_then a (λ m remaining charge. Gave (Then x m) remaining charge)) ≡ behind (ms ++ x ∷ []) a
+after-push ms x (Gave m remaining c) = ap (λ z. Gave z remaining c) (sym (before-push ms x m))
+after-push ms x (Refused why c) = refl
+after-push ms x PassedLimit = refl
 
 last-then : (limit : Option ℕ) (x : Meaning) (a : Answer Meaning) → and_then a (λ m remaining c. answer limit (pure (Then x m)) remaining c) ≡ and_then a (λ m remaining c. Gave (Then x m) remaining c)
 last-then limit x (Gave m remaining c) = answer-pure limit (Then x m) remaining c
@@ -69,14 +69,14 @@ pub part-stops : (end_error : ℕ → DecodeError → Type 0) (device : DeviceEr
 unfolding first_and
 part-stops end_error device H limit F others input c before after remaining e s = stops-first end_error device H H (λ h. h) limit F (λ m. map_format (Then m) others) input c before after remaining e s
 
-pub stops-behind : (end_error : ℕ → DecodeError → Type 0) (device : DeviceErrors) (H : Type 0) (ms : List Meaning) (a all : Answer Meaning) (before between after : ℕ) (input remaining remaining' : List ℕ) {now : ℕ} (e : DecodeError) →
+pub stops-after : (end_error : ℕ → DecodeError → Type 0) (device : DeviceErrors) (H : Type 0) (ms : List Meaning) (a all : Answer Meaning) (before between after : ℕ) (input remaining remaining' : List ℕ) {now : ℕ} (e : DecodeError) →
     behind ms a ≡ all → Takes input remaining → before ≤ between → DecodeFailure end_error device H a between after remaining remaining' now e → DecodeFailure end_error device H all before after input remaining' now e
-stops-behind end_error device H ms a all before between after input remaining remaining' e same took le (by_fault why h t k) =
+stops-after end_error device H ms a all before between after input remaining remaining' e same took le (by_fault why h t k) =
     by_fault why (sym same ∙ ap (behind ms) h) t (takes-then input remaining remaining' took k)
-stops-behind end_error device H ms a all before between after input remaining remaining' e same took le (by_limit h t k) = by_limit (sym same ∙ ap (behind ms) h) t (takes-then input remaining remaining' took k)
-stops-behind end_error device H ms a all before between after input remaining remaining' e same took le (by_memory h t k) = by_memory h t (takes-then input remaining remaining' took k)
-stops-behind end_error device H ms a all before between after input remaining remaining' e same took le (by_failure d r k) = by_failure d (rose-then before between after le r) (takes-then input remaining remaining' took k)
-stops-behind end_error device H ms a all before between after input remaining remaining' e same took le (by_device h) = by_device h
+stops-after end_error device H ms a all before between after input remaining remaining' e same took le (by_limit h t k) = by_limit (sym same ∙ ap (behind ms) h) t (takes-then input remaining remaining' took k)
+stops-after end_error device H ms a all before between after input remaining remaining' e same took le (by_memory h t k) = by_memory h t (takes-then input remaining remaining' took k)
+stops-after end_error device H ms a all before between after input remaining remaining' e same took le (by_failure d r k) = by_failure d (rose-then before between after le r) (takes-then input remaining remaining' took k)
+stops-after end_error device H ms a all before between after input remaining remaining' e same took le (by_device h) = by_device h
 
 pub nothing-gives : (limit : Option ℕ) (input : List ℕ) (c : ℕ) → answer limit nothing input c ≡ Gave Nothing input c
 nothing-gives limit input c = let d = nothing-decodes limit input c in d.answer_is ∙ ap (λ m. Gave m input c) d.is_decoded
@@ -100,7 +100,7 @@ module _ {D : Type 0} {is_known : D → Type 0} {remaining : D → List ℕ} {ch
     {s : Setting} {parts : List Shape} {old : D} where
   pub none-so_far : PartsSoFar is_known remaining charge failures loans limit s parts parts [] old old
   none-so_far = record {
-    known = λ k. (k, behind-none (answer limit (tuple (at s (formats parts))) (remaining old) (charge old)), ([], refl), λ ws. refl);
+    known = λ k. (k, after-none (answer limit (tuple (at s (formats parts))) (remaining old) (charge old)), ([], refl), λ ws. refl);
     charge_kept = omega arith;
     within = λ a. a;
     failures_monotone = omega arith;
@@ -152,7 +152,7 @@ module _ {D : Type 0} {is_known : D → Type 0} {remaining : D → List ℕ} {ch
             let gave : answer limit (format_of part s) (remaining now) (charge now) ≡ Gave (meaning v) (remaining after) (charge after) = d.answer_is ∙ ap (λ z. Gave z (remaining after) (charge after)) d.is_decoded.1 in
             rw (same, map-push vs v) (
               r.tells p.0,
-              sym (behind-push (map meaning vs) (meaning v) (answer limit (tuple (at s (formats others))) (remaining after) (charge after)))
+              sym (after-push (map meaning vs) (meaning v) (answer limit (tuple (at s (formats others))) (remaining after) (charge after)))
                   ∙ ap (behind (map meaning vs)) (sym (part-then limit (format_of part s) (tuple (at s (formats others))) (remaining now) (remaining after) (charge now) (charge after) (meaning v) gave))
                   ∙ is,
               takes-then (remaining old) (remaining now) (remaining after) p.2 (gave-takes limit (format_of part s) (format_of-lawful part s) (remaining now) (charge now) (meaning v) (remaining after) (charge after) gave),
@@ -172,7 +172,7 @@ module _ {D : Type 0} {is_known : D → Type 0} {remaining : D → List ℕ} {ch
         err = λ k.
             let p = h.known k in
             let is = rw next at p.1 in
-            stops-behind end_error device may_allocate (map meaning vs) _ _ (failures old) (failures now) (failures after) (remaining old) (remaining now) (remaining after) e is p.2 h.failures_monotone
+            stops-after end_error device may_allocate (map meaning vs) _ _ (failures old) (failures now) (failures after) (remaining old) (remaining now) (remaining after) e is p.2 h.failures_monotone
             (part-stops end_error device may_allocate limit (format_of part s) (tuple (at s (formats others))) (remaining now) (charge now) (failures now) (failures after) (remaining after) e
             (stops-besides end_error device H may_allocate widen _ _ _ _ _ e (r.err p.0)));
         failures_monotone = let a = h.failures_monotone in let b = r.failures_monotone in omega (arith, a, b);

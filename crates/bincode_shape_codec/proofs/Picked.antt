@@ -5,7 +5,7 @@ use Rattle.bincode_base.specs.Setting.{Setting}
 use Rattle.bincode_spec.specs.Fault.{UnexpectedVariant, Between}
 use Rattle.bincode_spec.specs.Format.{fail, map_format}
 use Rattle.bincode_spec.specs.Meaning.{Choice}
-use Rattle.bincode_spec.specs.Words.{tag, variant_tags, allowed_tags, behind_tag, tag_then_part}
+use Rattle.bincode_spec.specs.Words.{tag, variant_tags, allowed_tags, after_tag, tag_then_part}
 use Rattle.bincode_shape.specs.declared.shape.Shape as shapes
 use Rattle.bincode_shape.specs.declared.shape.Shape.{Shape}
 use Rattle.bincode_shape.specs.declared.shape.Value.{Value}
@@ -36,13 +36,13 @@ no-parts [] h = refl
 no-parts (p ∷ ps) h = absurd (omega (arith, h))
 
 -- the part that a tag selects
-pub picked : (s : Setting) (ps : List Shape) (found : ℕ) (p : Shape) → found < length ps → p ≡ get_or ps found p → behind_tag (numbered 0 (formats ps)) s found ≡ map_format (Choice found) (format_of p s)
+pub picked : (s : Setting) (ps : List Shape) (found : ℕ) (p : Shape) → found < length ps → p ≡ get_or ps found p → after_tag (numbered 0 (formats ps)) s found ≡ map_format (Choice found) (format_of p s)
 picked s ps found p h e =
     let k : 0 + found ≡ found = omega arith in
     let l = length-formats ps in
     rw k at (numbered-here s (allowed_tags (variant_tags (numbered 0 (formats ps)))) 0 found (formats ps) (format_of p) (omega (arith, h, l)) (formats-at ps found p ∙ ap format_of (sym e)))
 
-pub unpicked : (s : Setting) (ps : List Shape) (found last : ℕ) → length ps ≡ last + 1 → length ps ≤ found → behind_tag (numbered 0 (formats ps)) s found ≡ fail (UnexpectedVariant (Between 0 last) found)
+pub unpicked : (s : Setting) (ps : List Shape) (found last : ℕ) → length ps ≡ last + 1 → length ps ≤ found → after_tag (numbered 0 (formats ps)) s found ≡ fail (UnexpectedVariant (Between 0 last) found)
 unpicked s [] found last n h = absurd (omega arith)
 unpicked s (p ∷ ps) found last n h =
     let l = length-formats (p ∷ ps) in
@@ -68,5 +68,5 @@ same_there (p ∷ ps) (suc n) h = get_or-default ps n shapes.Unit (get_or ps n s
     get_or-default (q ∷ qs) (suc i) d e h = get_or-default qs i d e (omega (arith, h))
 
 -- the format that a tag selects
-pub picked-there : (s : Setting) (ps : List Shape) (n : ℕ) → n < length ps → behind_tag (numbered 0 (formats ps)) s n ≡ map_format (Choice n) (format_of (get_or ps n shapes.Unit) s)
+pub picked-there : (s : Setting) (ps : List Shape) (n : ℕ) → n < length ps → after_tag (numbered 0 (formats ps)) s n ≡ map_format (Choice n) (format_of (get_or ps n shapes.Unit) s)
 picked-there s ps n h = picked s ps n (get_or ps n shapes.Unit) h (same_there ps n h)

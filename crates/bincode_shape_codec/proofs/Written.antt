@@ -26,7 +26,7 @@ use Rattle.bincode_lemmas.specs.Sequences.{Both}
 use Rattle.bincode_spec.specs.Encoding.{Adds, Refuses, Encodes}
 use Rattle.bincode_spec.specs.Format.{Format, map_format}
 use Rattle.bincode_spec.specs.Meaning.{Meaning, Nothing, Choice, IsNumber}
-use Rattle.bincode_spec.specs.Words.{natural_number, nothing, Variant, behind_tag, tag_then_part}
+use Rattle.bincode_spec.specs.Words.{natural_number, nothing, Variant, after_tag, tag_then_part}
 use Rattle.bincode_lemmas.specs.AllowedLaws.{more-allowed, nothing-allows, allowed-nothing}
 use Rattle.bincode_lemmas.specs.ChoiceLaws.{same-alike, choice-allows, allowed-choice}
 use Rattle.bincode_encoder.proofs.EncodingAnswers.{Joined, encodes-as, first-halts, next-encodes}
@@ -34,7 +34,7 @@ use Rattle.bincode_encoder.proofs.EncodingAnswers.{Joined, encodes-as, first-hal
 none_more : (e : EncodeError) → ⊥ ⊎ ⊥ → ⊥
 none_more e = elim [ inl k ↦ k | inr k ↦ k ]
 
-module _ (tags : Setting → Format ℕ) (variants : List Variant) (s : Setting) (n : ℕ) (F : Format Meaning) (picked : behind_tag variants s n ≡ map_format (Choice n) F) (part : Meaning) where
+module _ (tags : Setting → Format ℕ) (variants : List Variant) (s : Setting) (n : ℕ) (F : Format Meaning) (picked : after_tag variants s n ≡ map_format (Choice n) F) (part : Meaning) where
   -- a choice allows the tag followed by the part
   tagged : (bytes : List ℕ) → Both (AllowedWord (IsNumber (pos n)) (natural_number (tags s))) (AllowedWord (λ m. m ≡ part) F) bytes → AllowedWord (λ m. m ≡ Choice n part) (tag_then_part tags variants s) bytes
   tagged bytes b = more-allowed (λ m h. h.meaning_is ∙ ap (Choice n) h.is_part) bytes (choice-allows tags variants s n F (same-alike picked) (λ m. m ≡ part) bytes b)
@@ -56,7 +56,7 @@ module _ (tags : Setting → Format ℕ) (variants : List Variant) (s : Setting)
     choice-encodes = next-encodes {R = Unit {0}} {S = Unit {0}} {U = Unit {0}} (λ _ _. tt) (λ _. (tt, tt)) tagged untagged {M = λ _. ⊥} none_more
 
 -- a variant without a part is its tag alone
-module _ (tags : Setting → Format ℕ) (variants : List Variant) (s : Setting) (n : ℕ) (picked : behind_tag variants s n ≡ map_format (Choice n) nothing) where
+module _ (tags : Setting → Format ℕ) (variants : List Variant) (s : Setting) (n : ℕ) (picked : after_tag variants s n ≡ map_format (Choice n) nothing) where
   alone : (bytes : List ℕ) → AllowedWord (IsNumber (pos n)) (natural_number (tags s)) bytes → AllowedWord (λ m. m ≡ Choice n Nothing) (tag_then_part tags variants s) bytes
   alone bytes a = tagged tags variants s n nothing picked Nothing bytes (bytes, [], sym (append-nil bytes), a, nothing-allows)
 
@@ -83,8 +83,8 @@ both_right false y k = absurd (cc)
 pub all-there : (test : Value → Bool) (vs : List Value) (i : ℕ) (v : Value) → i < length vs → v ≡ get_or vs i v → list_all test (drop i vs) ≡ true → test v ≡ true
 all-there test vs i v h e a = both_left (test v) (list_all test (drop (i + 1) vs)) (rw (drop_more vs i v h, ← e) at a)
 
-pub all-behind : (test : Value → Bool) (vs : List Value) (i : ℕ) (v : Value) → i < length vs → list_all test (drop i vs) ≡ true → list_all test (drop (i + 1) vs) ≡ true
-all-behind test vs i v h a = both_right (test (get_or vs i v)) (list_all test (drop (i + 1) vs)) (rw (drop_more vs i v h) at a)
+pub all-after : (test : Value → Bool) (vs : List Value) (i : ℕ) (v : Value) → i < length vs → list_all test (drop i vs) ≡ true → list_all test (drop (i + 1) vs) ≡ true
+all-after test vs i v h a = both_right (test (get_or vs i v)) (list_all test (drop (i + 1) vs)) (rw (drop_more vs i v h) at a)
 
 module _ {E W T : Type 0} {adds : Adds W} {refuses : Refuses W} {writer_of : E → W} {loans : E → List GName} {old new : E} {r : Result T EncodeError} where
   -- a list
@@ -167,8 +167,8 @@ module _ (s : Setting) (ps : List Shape) (vs : List Value) (i : ℕ) (p : Shape)
   pub each-there : each_passes (tests (drop i ps)) (drop i vs) ≡ true → fits p v ≡ true
   each-there a = both_left (fits p v) (each_passes (tests (drop (i + 1) ps)) (drop (i + 1) vs)) (rw (left_at ps i p h at_p, left_at vs i v k at_v) at a)
 
-  pub each-behind : each_passes (tests (drop i ps)) (drop i vs) ≡ true → each_passes (tests (drop (i + 1) ps)) (drop (i + 1) vs) ≡ true
-  each-behind a = both_right (fits p v) (each_passes (tests (drop (i + 1) ps)) (drop (i + 1) vs)) (rw (left_at ps i p h at_p, left_at vs i v k at_v) at a)
+  pub each-after : each_passes (tests (drop i ps)) (drop i vs) ≡ true → each_passes (tests (drop (i + 1) ps)) (drop (i + 1) vs) ≡ true
+  each-after a = both_right (fits p v) (each_passes (tests (drop (i + 1) ps)) (drop (i + 1) vs)) (rw (left_at ps i p h at_p, left_at vs i v k at_v) at a)
 
   module _ {W : Type 0} (adds : Adds W) (refuses : Refuses W) (Whole : List ℕ → Type 0) (before between after : W) (join : Joined adds) where
     pub parts-more : WritesSome adds (AllowsImages s (drop i ps) (drop i vs)) Whole before between → Writes adds (AllowsImage s p v) between after →

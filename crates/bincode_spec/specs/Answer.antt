@@ -30,9 +30,9 @@ on_some (Some n) next = next n
 on_some None next = None
 
 -- the charge after the steps, if none passes the limit
-abbrev pub charge_behind : Option ℕ → ℕ → List Step → Option ℕ
-charge_behind limit charge [] = Some charge
-charge_behind limit charge (s ∷ steps) = on_some (after_step limit charge s) (λ after. charge_behind limit after steps)
+abbrev pub charge_after_steps : Option ℕ → ℕ → List Step → Option ℕ
+charge_after_steps limit charge [] = Some charge
+charge_after_steps limit charge (s ∷ steps) = on_some (after_step limit charge s) (λ after. charge_after_steps limit after steps)
 
 -- a meaning, with the bytes after the word and the charge after its steps; a fault, with the charge after the steps
 -- before it; or a step that passed the limit
@@ -51,8 +51,8 @@ refused_at why None = PassedLimit
 
 -- the answer that a limit makes of a reading
 abbrev pub weigh_reading : {A : Type 0} → Option ℕ → ℕ → Reading A → Answer A
-weigh_reading limit charge (Took a remaining steps) = gave_at a remaining (charge_behind limit charge steps)
-weigh_reading limit charge (Failed why steps) = refused_at why (charge_behind limit charge steps)
+weigh_reading limit charge (Took a remaining steps) = gave_at a remaining (charge_after_steps limit charge steps)
+weigh_reading limit charge (Failed why steps) = refused_at why (charge_after_steps limit charge steps)
 
 -- the answer to an input, from a charge
 unfoldable pub answer : {A : Type 0} → Option ℕ → Format A → List ℕ → ℕ → Answer A

@@ -11,11 +11,11 @@ EachContainer P ((Release n) ∷ steps) = EachContainer P steps
 
 -- the number of elements of all containers that follow a length prefix, for which 8 bytes are charged; `last` is the
 -- last charge
-abbrev pub elements_behind : ℕ → List Step → ℕ
-elements_behind last [] = 0
-elements_behind last ((Charge n) ∷ steps) = elements_behind n steps
-elements_behind last ((Reserve n share) ∷ steps) = (if last == 8 then n else 0) + elements_behind 0 steps
-elements_behind last ((Release n) ∷ steps) = elements_behind 0 steps
+abbrev pub elements_after : ℕ → List Step → ℕ
+elements_after last [] = 0
+elements_after last ((Charge n) ∷ steps) = elements_after n steps
+elements_after last ((Reserve n share) ∷ steps) = (if last == 8 then n else 0) + elements_after 0 steps
+elements_after last ((Release n) ∷ steps) = elements_after 0 steps
 
 -- A word within a limit is at most one and a half times as long as the limit. Each of its containers claims no more
 -- than the limit, and so has no more elements; those with a length prefix have in all at most the limit times an eighth
@@ -24,4 +24,4 @@ pub record Bounded (limit : ℕ) (word : List ℕ) (steps : List Step) : Type 0 
   pub bytes : length word ≤ limit + limit / 2
   pub room : EachContainer (λ n share. n * share ≤ limit) steps
   pub counts : EachContainer (λ n share. n ≤ limit) steps
-  pub all_counts : elements_behind 0 steps ≤ limit * (limit / 8)
+  pub all_counts : elements_after 0 steps ≤ limit * (limit / 8)

@@ -93,12 +93,12 @@ part setting [] allowed found = fail (UnexpectedVariant allowed found)
 part setting (variant ∷ others) allowed found = if_picked (found == variant.0) (map_format (Choice found) (variant.1 setting)) (part setting others allowed found)
 
 -- what follows a tag
-abbrev pub behind_tag : List Variant → Setting → ℕ → Format Meaning
-behind_tag variants setting found = part setting variants (allowed_tags (variant_tags variants)) found
+abbrev pub after_tag : List Variant → Setting → ℕ → Format Meaning
+after_tag variants setting found = part setting variants (allowed_tags (variant_tags variants)) found
 
 -- the tag, then the part that it selects
 unfoldable pub tag_then_part : (Setting → Format ℕ) → List Variant → Setting → Format Meaning
-tag_then_part tags variants setting = tags setting >>= behind_tag variants setting
+tag_then_part tags variants setting = tags setting >>= after_tag variants setting
 
 -- elements, each with its claim
 abbrev pub array : ℕ → ℕ → Format Meaning → Format Meaning
@@ -159,12 +159,12 @@ char_of bytes = if is_utf8 bytes then Ok (Character (code_point bytes)) else Err
 abbrev pub rest_of_char : ℕ → ℕ → Format Meaning
 rest_of_char first width = fixed_bytes (width - 1) >>= λ bytes. from_result (char_of (first ∷ bytes))
 
-abbrev pub behind_char : ℕ → Option ℕ → Format Meaning
-behind_char first None = fail (InvalidChar (four_bytes (first ∷ [])))
-behind_char first (Some width) = charge_then width (rest_of_char first width)
+abbrev pub after_char : ℕ → Option ℕ → Format Meaning
+after_char first None = fail (InvalidChar (four_bytes (first ∷ [])))
+after_char first (Some width) = charge_then width (rest_of_char first width)
 
 abbrev pub character : Format Meaning
-character = byte >>= λ first. behind_char first (char_width first)
+character = byte >>= λ first. after_char first (char_width first)
 
 -- the bytes encode the character that was found, or they encode none
 abbrev pub Spells : List ℕ → Option ℕ → Type 0

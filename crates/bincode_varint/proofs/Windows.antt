@@ -121,10 +121,10 @@ byte-shown (b ∷ []) one = record { within = omega arith; reads = λ more. byte
 byte-shown (b ∷ c ∷ more) one = absurd (omega (arith, one))
 
 -- the parts of a varint are lawful formats at every width
-behind-lawful : (order : Endianness) (why : Fault) (first : ℕ) (f : FirstByte) → ¬ (IsEnd why) → Lawful (behind order why first f)
-behind-lawful order why first Itself never = pure-lawful first
-behind-lawful order why first (Before n) never = digits-lawful order n
-behind-lawful order why first TooWide never = fail-lawful why never
+after-lawful : (order : Endianness) (why : Fault) (first : ℕ) (f : FirstByte) → ¬ (IsEnd why) → Lawful (behind order why first f)
+after-lawful order why first Itself never = pure-lawful first
+after-lawful order why first (Before n) never = digits-lawful order n
+after-lawful order why first TooWide never = fail-lawful why never
 
 module _ (tags : ℕ → IntegerType) (name : IntegerType) (order : Endianness) (width : ℕ) where
   abbrev pub read_by : Format ℕ
@@ -133,7 +133,7 @@ module _ (tags : ℕ → IntegerType) (name : IntegerType) (order : Endianness) 
   pub read_by-lawful : Lawful read_by
   read_by-lawful =
       turn-lawful byte (λ first. behind order (InvalidInteger name (tags first)) first (first_byte width first)) byte-lawful
-      (λ first. behind-lawful order (InvalidInteger name (tags first)) first (first_byte width first) (λ k. k))
+      (λ first. after-lawful order (InvalidInteger name (tags first)) first (first_byte width first) (λ k. k))
 
   pub varint-reads : ReadsAs (varint tags name order width) read_by
   unfolding varint written_as

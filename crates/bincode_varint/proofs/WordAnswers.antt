@@ -30,13 +30,13 @@ module _ {R A B T U : Type 0} {is_known : R → Type 0} {remaining : R → List 
   part-gives same read = word-as (λ known. same (read.ok known)) (λ known. tt) read
 
   -- what is read after a part
-  pub behind-part :
+  pub after-part :
       {C V : Type 0} {H : Format C} {h : V → C} {r : Result T DecodeError} {p : Result V DecodeError} {q : Result U DecodeError} {middle new : R} →
       (is_known old → IfOk q (λ v. G.read (remaining old) ≡ Took (g v) (remaining new) [])) →
       (is_known old → IfErr q (ReadFailure end_error device (G.read (remaining old)) (failures old) (failures new) (remaining old) (remaining new))) →
       ReadsWord is_known remaining failures loans end_error device F f r old middle → ReadsWord is_known remaining failures loans end_error device H h p middle new →
       ReadsWord is_known remaining failures loans end_error device G g q old new
-  behind-part ok err first next = record {
+  after-part ok err first next = record {
     ok = ok;
     err = err;
     failures_monotone = let a = first.failures_monotone in let b = next.failures_monotone in omega (arith, a, b);

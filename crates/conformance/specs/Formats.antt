@@ -11,7 +11,7 @@ use Rattle.bincode_spec.specs.Format.{Format, Took, Failed}
 use Rattle.bincode_spec.specs.Meaning.{Meaning, Truth, Number, Character, Bytes, Nothing, Choice, IsNumber, list_meaning}
 use Rattle.bincode_spec.specs.Allowed.{AllowedWord}
 use Rattle.bincode_spec.specs.Laws.{steps_of}
-use Rattle.bincode_spec.specs.Room.{Bounded, elements_behind}
+use Rattle.bincode_spec.specs.Room.{Bounded, elements_after}
 use Rattle.bincode_spec.specs.Words.{list, text, without_nul}
 
 -- what is computed, and what docs/FORMAT.md expects
@@ -277,8 +277,8 @@ one_list lists = steps_of ((lists standard).read (1 ∷ 2 ∷ 7 ∷ 8 ∷ []))
 -- how many elements follow a length prefix: one list, and two numbers in it; those of an array are not counted
 abbrev pub ElementRows : Formats → Formats → Type 0
 ElementRows lists arrays = AllHold (
-    elements_behind 0 (one_list lists) gives 3 ∷
-    elements_behind 0 (steps_of ((arrays standard).read (2 ∷ 1 ∷ 2 ∷ 3 ∷ 4 ∷ []))) gives 2 ∷
+    elements_after 0 (one_list lists) gives 3 ∷
+    elements_after 0 (steps_of ((arrays standard).read (2 ∷ 1 ∷ 2 ∷ 3 ∷ 4 ∷ []))) gives 2 ∷
     [])
 
 -- its word is bounded by a limit of 32, and not by one that the 24 bytes of the inner list pass

@@ -3,9 +3,9 @@ ghost use Rattle.std.specs.Prelude.{◌≡◌, true, IfOk, MatchResult, length};
 ghost use Rattle.bincode.specs.Decoding.{IsRefused};
 
 use crate::settings::Saved;
+use bincode::checked::{VecTrip, round_trip_by_vec};
 use bincode::error::EncodeError;
 use bincode::{Wire, config};
-use proved_callers::calls::{VecTrip, round_trip_by_vec};
 use std::alloc::Global;
 
 /// Writes settings and reads them back: equal ones, of all the bytes, unless memory is refused.

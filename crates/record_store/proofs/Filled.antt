@@ -18,9 +18,9 @@ unfolding ◌>>=◌
 then-filled F G none m steps w =
     none w.head w.first_steps (subst (λ z. F.Word z w.head w.first_steps) (first-empty w.first w.second (sym w.bytes_are)) w.first_word)
 
-behind-filled : {A B : Type 0} (F : Format A) (G : A → Format B) → ((a : A) → NoEmptyWord (G a)) → NoEmptyWord (F >>= G)
+after-filled : {A B : Type 0} (F : Format A) (G : A → Format B) → ((a : A) → NoEmptyWord (G a)) → NoEmptyWord (F >>= G)
 unfolding ◌>>=◌
-behind-filled F G none m steps w =
+after-filled F G none m steps w =
     none w.head m w.second_steps (subst (λ z. (G w.head).Word z m w.second_steps) (second-empty w.first w.second (sym w.bytes_are)) w.second_word)
 
 written-filled : {A : Type 0} (Chosen : List ℕ → A → Type 0) (F : Format A) → NoEmptyWord F → NoEmptyWord (written_as Chosen F)
@@ -39,7 +39,7 @@ number-filled tags name order width h Variable = written-filled _ _ (then-filled
 
 length-filled : (name : IntegerType) (width : ℕ) → 0 < width → (s : Setting) → NoEmptyWord (unsigned_integer name width s)
 unfolding unsigned_integer
-length-filled name width h s = behind-filled _ _ (λ _. number-filled _ name s.order width h s.encoding)
+length-filled name width h s = after-filled _ _ (λ _. number-filled _ name s.order width h s.encoding)
 
 text-filled : (s : Setting) → NoEmptyWord (text s)
 text-filled s = then-filled _ _ (then-filled _ _ (length-filled _ 8 (omega arith) s))

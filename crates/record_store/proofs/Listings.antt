@@ -100,9 +100,9 @@ module _ {A : Type 0} (W : Words A) (s : Setting) (limit : Option ℕ) (never : 
       let u = f.written_is_word word i.is_written.meaning i.is_written.is_written in
       h.2.no_word word behind i.is_written.meaning u.0 e u.1 (i.is_within i.is_written.meaning u.0 u.1)
 
-  next-behind : (at : ℕ) (e : Entry A) (entries : List (Entry A)) (behind : List ℕ) (l : Listed A) (listed : List (Listed A)) (end : ℕ) (remaining : List ℕ) →
+  next-after : (at : ℕ) (e : Entry A) (entries : List (Entry A)) (behind : List ℕ) (l : Listed A) (listed : List (Listed A)) (end : ℕ) (remaining : List ℕ) →
       eq e.value l.value ≡ true → l.offset ≡ at → l.size ≡ length e.word → Behind (at + l.size) entries behind listed end remaining → Behind at (e ∷ entries) behind (l ∷ listed) end remaining
-  next-behind at e entries behind l listed end remaining same offset size b =
+  next-after at e entries behind l listed end remaining same offset size b =
       let here : at + l.size ≡ at + length e.word = ap (λ z. at + z) size in
       let both = length-append e.word (words_of entries) in
       let there : (at + l.size) + length (words_of entries) ≡ at + length (words_of (e ∷ entries)) = omega (arith, both, size) in
@@ -114,10 +114,10 @@ module _ {A : Type 0} (W : Words A) (s : Setting) (limit : Option ℕ) (never : 
         read = subst (λ z. ReadFrom F limit W.decodes_to z behind b.others end remaining) there b.read;
       }
 
-  behind-entries : (at : ℕ) (entries : List (Entry A)) (behind input : List ℕ) (listed : List (Listed A)) (end : ℕ) (remaining : List ℕ) (ending : Ending) →
+  after-entries : (at : ℕ) (entries : List (Entry A)) (behind input : List ℕ) (listed : List (Listed A)) (end : ℕ) (remaining : List ℕ) (ending : Ending) →
       AreEntries W s limit entries → input ≡ words_of entries ++ behind → ReadFrom F limit W.decodes_to at input listed end remaining → EndsAt F limit end remaining ending →
       Behind at entries behind listed end remaining
-  behind-entries at [] behind input listed end remaining ending are e r h =
+  after-entries at [] behind input listed end remaining ending are e r h =
       let here : at ≡ at + length (words_of {A = A} []) = omega arith in
       record {
         first = [];
@@ -126,9 +126,9 @@ module _ {A : Type 0} (W : Words A) (s : Setting) (limit : Option ℕ) (never : 
         for_entries = tt;
         read = subst (λ z. ReadFrom F limit W.decodes_to z behind listed end remaining) here (subst (λ z. ReadFrom F limit W.decodes_to at z listed end remaining) e r);
       }
-  behind-entries at (x ∷ entries) behind input [] end remaining ending are e r h =
+  after-entries at (x ∷ entries) behind input [] end remaining ending are e r h =
       absurd (ends-no-word x.value x.word (words_of entries ++ behind) remaining are.0 (r.1 ∙ e ∙ append_assoc x.word (words_of entries) behind) end ending h)
-  behind-entries at (x ∷ entries) behind input (l ∷ listed) end remaining ending are e r h =
+  after-entries at (x ∷ entries) behind input (l ∷ listed) end remaining ending are e r h =
       let i = are.0 in
       let m = i.is_written.meaning in
       let d = r.0 in
@@ -138,25 +138,25 @@ module _ {A : Type 0} (W : Words A) (s : Setting) (limit : Option ℕ) (never : 
       let p : Took m (words_of entries ++ behind) u.0 ≡ Took d.meaning d.remaining d.steps =
       sym (f.word_read x.word (words_of entries ++ behind) m u.0 u.1) ∙ ap F.read split ∙ f.word_read d.word d.remaining d.meaning d.steps d.is_word in
       let q : d.remaining ≡ words_of entries ++ behind = cc in
-      next-behind at x entries behind l listed end remaining
+      next-after at x entries behind l listed end remaining
       (exact.comes_back x.value l.value m i.is_valid i.is_written.is_meant (subst (λ z. W.decodes_to z l.value) (sym one.1) d.is_decoded))
       r.1 (d.count ∙ ap length (sym one.0))
-      (behind-entries (at + l.size) entries behind d.remaining listed end remaining ending are.1 q r.2 h)
+      (after-entries (at + l.size) entries behind d.remaining listed end remaining ending are.1 q r.2 h)
 
   module _ (store : List ℕ) (listed : List (Listed A)) (ending : Ending) (l : Lists F limit W.decodes_to store listed ending) (entries : List (Entry A)) (are : AreEntries W s limit entries) where
     begin : (behind : List ℕ) → store ≡ words_of entries ++ behind → Behind 0 entries behind listed l.end l.remaining
-    begin behind e = behind-entries 0 entries behind store listed l.end l.remaining ending are e l.values l.ends
+    begin behind e = after-entries 0 entries behind store listed l.end l.remaining ending are e l.values l.ends
 
     -- what was appended is listed first
     pub lists-first : (behind : List ℕ) → store ≡ words_of entries ++ behind → ListsFirst eq entries listed
     lists-first behind e = let b = begin behind e in record { first = b.first; others = b.others; listed_are = b.listed_are; for_entries = b.for_entries }
 
   -- nothing is read of nothing
-  none-behind : (at : ℕ) (entries : List (Entry A)) (listed first others : List (Listed A)) (end : ℕ) (remaining : List ℕ) (ending : Ending) → listed ≡ first ++ others →
+  none-after : (at : ℕ) (entries : List (Entry A)) (listed first others : List (Listed A)) (end : ℕ) (remaining : List ℕ) (ending : Ending) → listed ≡ first ++ others →
       ListedFor eq at entries first → (here : ℕ) → ReadFrom F limit W.decodes_to here [] others end remaining → EndsAt F limit end remaining ending → ListedFor eq at entries listed × (ending ≡ Whole)
-  none-behind at entries listed first [] end remaining Whole e all here r h = (subst (λ z. ListedFor eq at entries z) (sym (e ∙ append-nil first)) all, refl)
-  none-behind at entries listed first [] end remaining (Stopped offset why) e all here r h = absurd (h.1 r.1)
-  none-behind at entries listed first (l ∷ others) end remaining ending e all here r h =
+  none-after at entries listed first [] end remaining Whole e all here r h = (subst (λ z. ListedFor eq at entries z) (sym (e ∙ append-nil first)) all, refl)
+  none-after at entries listed first [] end remaining (Stopped offset why) e all here r h = absurd (h.1 r.1)
+  none-after at entries listed first (l ∷ others) end remaining ending e all here r h =
       let d = r.0 in
       let none : d.word ≡ [] = first-empty d.word d.remaining (sym d.input_is) in
       absurd (never s d.meaning d.steps (subst (λ z. F.Word z d.meaning d.steps) none d.is_word))
@@ -165,7 +165,7 @@ module _ {A : Type 0} (W : Words A) (s : Setting) (limit : Option ℕ) (never : 
       store ≡ words_of entries → ListsAll eq entries listed ending
   lists-all store listed ending l entries are e =
       let b = begin store listed ending l entries are [] (e ∙ sym (append-nil (words_of entries))) in
-      none-behind 0 entries listed b.first b.others l.end l.remaining ending b.listed_are b.for_entries _ b.read l.ends
+      none-after 0 entries listed b.first b.others l.end l.remaining ending b.listed_are b.for_entries _ b.read l.ends
 
   module _ (front : List ℕ) (t : IsTorn W s limit front) where
     abbrev whole : List ℕ
@@ -203,15 +203,15 @@ module _ {A : Type 0} (W : Words A) (s : Setting) (limit : Option ℕ) (never : 
     torn_of why h (Took m remaining u) e = let w = f.read_word front remaining m u e in absurd (no-word w.word remaining m u w.is_word w.input_is)
     torn_of why h (Failed fault u) e = torn_by why h fault u e (end-or-other fault)
 
-    torn-behind : (at : ℕ) (entries : List (Entry A)) (listed first others : List (Listed A)) (end : ℕ) (remaining : List ℕ) (ending : Ending) → listed ≡ first ++ others →
+    torn-after : (at : ℕ) (entries : List (Entry A)) (listed first others : List (Listed A)) (end : ℕ) (remaining : List ℕ) (ending : Ending) → listed ≡ first ++ others →
         ListedFor eq at entries first → (here : ℕ) → ReadFrom F limit W.decodes_to here front others end remaining → EndsAt F limit end remaining ending →
         ListedFor eq at entries listed × ((missing : ℕ) × (ending ≡ Stopped here (UnexpectedEnd missing)))
-    torn-behind at entries listed first [] end remaining Whole e all here r h = absurd (t.some_written (sym r.1 ∙ h))
-    torn-behind at entries listed first [] end remaining (Stopped offset why) e all here r h =
+    torn-after at entries listed first [] end remaining Whole e all here r h = absurd (t.some_written (sym r.1 ∙ h))
+    torn-after at entries listed first [] end remaining (Stopped offset why) e all here r h =
         let told = torn_of why (subst (λ z. IsRefusedFor F limit z why) r.1 h.2) (F.read front) refl in
         let place : offset ≡ here = h.0 ∙ r.0 in
         (subst (λ z. ListedFor eq at entries z) (sym (e ∙ append-nil first)) all, stopped_there offset here why told.0 place told.1)
-    torn-behind at entries listed first (l ∷ others) end remaining ending e all here r h =
+    torn-after at entries listed first (l ∷ others) end remaining ending e all here r h =
         let d = r.0 in absurd (no-word d.word d.remaining d.meaning d.steps d.is_word d.input_is)
 
     pub lists-before-torn : (store : List ℕ) (listed : List (Listed A)) (ending : Ending) → Lists F limit W.decodes_to store listed ending → (entries : List (Entry A)) → AreEntries W s limit entries →
@@ -219,5 +219,5 @@ module _ {A : Type 0} (W : Words A) (s : Setting) (limit : Option ℕ) (never : 
     lists-before-torn store listed ending l entries are e =
         let b = begin store listed ending l entries are front e in
         let here : 0 + length (words_of entries) ≡ length (words_of entries) = omega arith in
-        torn-behind 0 entries listed b.first b.others l.end l.remaining ending b.listed_are b.for_entries _
+        torn-after 0 entries listed b.first b.others l.end l.remaining ending b.listed_are b.for_entries _
         (subst (λ z. ReadFrom F limit W.decodes_to z front b.others l.end l.remaining) here b.read) l.ends

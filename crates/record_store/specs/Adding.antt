@@ -9,10 +9,10 @@ use Rattle.record_store.specs.declared.store.Ending.{Ending}
 use Rattle.record_store.specs.declared.store.Listed.{Listed}
 
 -- the store is unchanged, or as `append` leaves it
-abbrev pub LeavesBehind : {A S : Type 0} → Words A → Setting → Option ℕ → A → (S → Option (List ℕ)) → S → S → AddError → Type 0
-LeavesBehind W s limit value contents old new (failures.NotWhole _ _) = new ≡ old
-LeavesBehind W s limit value contents old new (failures.Append e) = Leaves W s limit value contents old new e
-LeavesBehind W s limit value contents old new (failures.Memory _) = new ≡ old
+abbrev pub LeavesAfter : {A S : Type 0} → Words A → Setting → Option ℕ → A → (S → Option (List ℕ)) → S → S → AddError → Type 0
+LeavesAfter W s limit value contents old new (failures.NotWhole _ _) = new ≡ old
+LeavesAfter W s limit value contents old new (failures.Append e) = Leaves W s limit value contents old new e
+LeavesAfter W s limit value contents old new (failures.Memory _) = new ≡ old
 
 -- memory was refused, or the stream failed
 abbrev pub IsAddOutside : AddError → Type 0

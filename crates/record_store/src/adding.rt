@@ -1,7 +1,7 @@
 //! Appending a value to a store that is whole.
 ghost use Rattle.std.specs.Prelude.{◌≡◌, ◌++◌, ℕ, List, length, IsErr, IfOk, IfErr};
 ghost use Rattle.record_store.specs.Stores.{Entry, AreEntries, words_of, Added, IsTorn, FitsStore};
-ghost use Rattle.record_store.specs.Adding.{LeavesBehind, IsAddOutside};
+ghost use Rattle.record_store.specs.Adding.{LeavesAfter, IsAddOutside};
 
 use crate::store::{AppendError, Ending, Listing, Stored, append, list};
 use bincode::config::Config;
@@ -57,7 +57,7 @@ pub fn add<T: Stored, C: Config, W: Write>(
         → IsTorn T.words C.setting C.bound front → held.now ≡ words_of entries ++ front
         → IsErr result × (store.new ≡ store.old) }
     // After an error the store holds what it held, and at most a prefix of the encoding after it.
-    ensures left { IfErr result (LeavesBehind T.words C.setting C.bound value.now W.contents store.old store.new) }
+    ensures left { IfErr result (LeavesAfter T.words C.setting C.bound value.now W.contents store.old store.new) }
     // To values that were appended one by one a value that fits the limit is added, unless memory is refused or the
     // stream fails.
     ensures fits { (entries : List (Entry T)) → AreEntries T.words C.setting C.bound entries
@@ -69,13 +69,13 @@ pub fn add<T: Stored, C: Config, W: Write>(
     };
     let Listing { values: _, ending } = listing;
     match ending {
-        Ending::Whole => add_behind(alloc, held.len(), store, value, config),
+        Ending::Whole => add_after(alloc, held.len(), store, value, config),
         Ending::Stopped { offset, why } => Err(AddError::NotWhole { offset, why }),
     }
 }
 
 /// Appends a value after `offset` bytes.
-fn add_behind<T: Stored, C: Config, W: Write>(
+fn add_after<T: Stored, C: Config, W: Write>(
     alloc: Global,
     offset: usize,
     store: &mut W,
@@ -84,7 +84,7 @@ fn add_behind<T: Stored, C: Config, W: Write>(
 ) -> Result<Place, AddError>
     ensures added { IfOk result (λ place. (place.offset ≡ offset)
         × Added T.words C.setting C.bound value.now place.size (W.contents store.old) (W.contents store.new)) }
-    ensures left { IfErr result (LeavesBehind T.words C.setting C.bound value.now W.contents store.old store.new) }
+    ensures left { IfErr result (LeavesAfter T.words C.setting C.bound value.now W.contents store.old store.new) }
     ensures fits { FitsStore T.words C.setting C.bound value.now → IfErr result IsAddOutside }
 {
     match append(alloc, store, value, config) {

@@ -33,42 +33,42 @@ pub names-tells : (len i next : ℕ) (cs : List ℕ) → names_next len i next c
 names-tells len i next cs e = (grind (arith, nat_tests), grind (arith, nat_tests), grind (arith, nat_tests))
 
 -- a child comes after its node, within the list
-abbrev pub IsBehind : ℕ → ℕ → ℕ → Type 0
-IsBehind len i c = (i < c) × (c < len)
+abbrev pub IsAfter : ℕ → ℕ → ℕ → Type 0
+IsAfter len i c = (i < c) × (c < len)
 
 counts-tells : (next c : ℕ) (cs : List ℕ) → counts_up next (c ∷ cs) ≡ true → (c ≡ next) × (counts_up (next + 1) cs ≡ true)
 counts-tells next c cs e = (grind (arith, nat_tests), grind (arith, nat_tests))
 
-counted-behind : (len i next : ℕ) (cs : List ℕ) → i < next → next + length cs ≤ len → counts_up next cs ≡ true → All (IsBehind len i) cs
-counted-behind len i next [] h k e = All-nil (IsBehind len i)
-counted-behind len i next (c ∷ cs) h k e =
+counted-after : (len i next : ℕ) (cs : List ℕ) → i < next → next + length cs ≤ len → counts_up next cs ≡ true → All (IsAfter len i) cs
+counted-after len i next [] h k e = All-nil (IsAfter len i)
+counted-after len i next (c ∷ cs) h k e =
     let t = counts-tells next c cs e in
     let more : next + 1 + length cs ≤ len = omega arith in
-    All-cons (IsBehind len i) c cs (omega (arith, t.0), omega (arith, t.0)) (counted-behind len i (next + 1) cs (omega arith) more t.1)
+    All-cons (IsAfter len i) c cs (omega (arith, t.0), omega (arith, t.0)) (counted-after len i (next + 1) cs (omega arith) more t.1)
 
 and-tells : (a b : Bool) → (a && b) ≡ true → (a ≡ true) × (b ≡ true)
 and-tells true b e = (refl, e)
 and-tells false b e = absurd (cc)
 
-turn-behind : (len i next k : ℕ) (nodes : List Node) (node : Node) → is_in_turn len i next (map children_of nodes) ≡ true → slice_get nodes k ≡ Some node → All (IsBehind len (i + k)) node.children.items
-turn-behind len i next k [] node e h = absurd (cc)
-turn-behind len i next zero (first ∷ nodes) node e h =
+turn-after : (len i next k : ℕ) (nodes : List Node) (node : Node) → is_in_turn len i next (map children_of nodes) ≡ true → slice_get nodes k ≡ Some node → All (IsAfter len (i + k)) node.children.items
+turn-after len i next k [] node e h = absurd (cc)
+turn-after len i next zero (first ∷ nodes) node e h =
     let t = and-tells (names_next len i next (children_of first)) _ e in
     let n = names-tells len i next (children_of first) t.0 in
     let same : first ≡ node = cc in
-    subst (λ (x : Node). All (IsBehind len (i + 0)) x.children.items) same (counted-behind len (i + 0) next (children_of first) (omega (arith, n.0)) n.1 n.2)
-turn-behind len i next (suc k) (first ∷ nodes) node e h =
+    subst (λ (x : Node). All (IsAfter len (i + 0)) x.children.items) same (counted-after len (i + 0) next (children_of first) (omega (arith, n.0)) n.1 n.2)
+turn-after len i next (suc k) (first ∷ nodes) node e h =
     let t = and-tells (names_next len i next (children_of first)) _ e in
     let at : i + 1 + k ≡ i + suc k = omega arith in
-    subst (λ n. All (IsBehind len n) node.children.items) at (turn-behind len (i + 1) (next + length (children_of first)) k nodes node t.1 h)
+    subst (λ n. All (IsAfter len n) node.children.items) at (turn-after len (i + 1) (next + length (children_of first)) k nodes node t.1 h)
 
 -- a tree has a root, and the children of each node come after it
-pub tree-behind : (nodes : List Node) → is_tree (map children_of nodes) ≡ true → (k : ℕ) (node : Node) → slice_get nodes k ≡ Some node → All (IsBehind (length nodes) k) node.children.items
-tree-behind nodes e k node h =
-    let b = turn-behind (length (map children_of nodes)) 0 1 k nodes node e h in
+pub tree-after : (nodes : List Node) → is_tree (map children_of nodes) ≡ true → (k : ℕ) (node : Node) → slice_get nodes k ≡ Some node → All (IsAfter (length nodes) k) node.children.items
+tree-after nodes e k node h =
+    let b = turn-after (length (map children_of nodes)) 0 1 k nodes node e h in
     let len : length (map children_of nodes) ≡ length nodes = length-map nodes children_of in
     let at : 0 + k ≡ k = omega arith in
-    subst (λ n. All (IsBehind n k) node.children.items) len (subst (λ n. All (IsBehind (length (map children_of nodes)) n) node.children.items) at b)
+    subst (λ n. All (IsAfter n k) node.children.items) len (subst (λ n. All (IsAfter (length (map children_of nodes)) n) node.children.items) at b)
 
 pub tree-rooted : (nodes : List Node) → is_tree (map children_of nodes) ≡ true → 0 < length nodes
 tree-rooted [] e = absurd (cc)
@@ -82,7 +82,7 @@ flat_map-same f g (x ∷ xs) all =
     ap (λ a. a ++ flat_map f xs) head ∙ ap (λ b. g x ++ b) rest
 
 -- the walks of a list whose nodes have their children after them
-module _ (nodes : List Node) (behind : (k : ℕ) (node : Node) → slice_get nodes k ≡ Some node → All (IsBehind (length nodes) k) node.children.items) where
+module _ (nodes : List Node) (behind : (k : ℕ) (node : Node) → slice_get nodes k ≡ Some node → All (IsAfter (length nodes) k) node.children.items) where
   -- a sufficient depth gives what a larger one does
   enough : (a b i : ℕ) → length nodes ≤ a + i → length nodes ≤ b + i → below a nodes i ≡ below b nodes i
   unfolding below
@@ -92,8 +92,8 @@ module _ (nodes : List Node) (behind : (k : ℕ) (node : Node) → slice_get nod
   enough (suc a) (suc b) i h k =
       elim (slice_get_cases nodes i).1 [
         | inl found ↦
-            let more : (cs : List ℕ) → All (IsBehind (length nodes) i) cs → All (λ c. below a nodes c ≡ below b nodes c) cs = λ cs all.
-            All-weaker (IsBehind (length nodes) i) (λ c. below a nodes c ≡ below b nodes c) (λ c l. enough a b c (omega (arith, l.0)) (omega (arith, l.0))) cs all in
+            let more : (cs : List ℕ) → All (IsAfter (length nodes) i) cs → All (λ c. below a nodes c ≡ below b nodes c) cs = λ cs all.
+            All-weaker (IsAfter (length nodes) i) (λ c. below a nodes c ≡ below b nodes c) (λ c l. enough a b c (omega (arith, l.0)) (omega (arith, l.0))) cs all in
             let same = flat_map-same (λ c. below a nodes c) (λ c. below b nodes c) found.0.children.items (more found.0.children.items (behind i found.0 found.2)) in
             ap (found_at (λ c. below a nodes c)) found.2 ∙ ap (λ others. found.0.value ∷ others) same ∙ sym (ap (found_at (λ c. below b nodes c)) found.2)
         | inr past ↦ ap (found_at (λ c. below a nodes c)) past.1 ∙ sym (ap (found_at (λ c. below b nodes c)) past.1)
@@ -134,8 +134,8 @@ module _ (nodes : List Node) (tree : is_tree (map children_of nodes) ≡ true) w
       let apart = All-pop Within waiting fewer (Some i) w within in
       let here : i < length nodes = apart.1 in
       let at : slice_get nodes i ≡ Some node = slice_get-get_or nodes i node here ∙ ap Some (sym is) in
-      let behind = tree-behind nodes tree in
-      let kids : All Within node.children.items = All-weaker (IsBehind (length nodes) i) Within (λ c l. l.1) node.children.items (behind i node at) in
+      let behind = tree-after nodes tree in
+      let kids : All Within node.children.items = All-weaker (IsAfter (length nodes) i) Within (λ c l. l.1) node.children.items (behind i node at) in
       let walk = walk-at nodes behind i node at in
       let pushed : more ≡ fewer ++ reverse node.children.items = m ∙ ap (λ a. fewer ++ reverse a) cs in (
         subst (All Within) (sym pushed) (All-append Within fewer (reverse node.children.items) apart.0 (All-reverse Within node.children.items kids)),

@@ -3,49 +3,33 @@ use Rattle.std.proofs.lemmas.Result.{err_from_is_err_and}
 use Rattle.bincode_lemmas.specs.LimitedLaws.{decoded-bounded}
 use Rattle.bincode_shape.specs.ShapeLaws.{format_of-lawful, format_of-balanced, format_of-charged}
 use Rattle.bincode.proofs.Decoded.{stopped-word, stopped-fault, stopped-limit, refused-alone, or_refused}
-use Rattle.bincode.proofs.Decoded.{decoded-word, decoded-shorter, decoded-fault, decoded-limit}
+use Rattle.bincode.proofs.Decoded.{decoded-word, decoded-shorter, decoded-fault, decoded-limit, no-value}
 use Rattle.bincode.proofs.shaped.decode_shaped.Goals as goal
 
-pub returns-in_err-value-clause-found : goal.returns-in_err-value-clause-found
-returns-in_err-value-clause-found g c =
+pub returns-in_err-value-clause-answer : goal.returns-in_err-value-clause-answer
+returns-in_err-value-clause-answer g c =
     let p = err_from_is_err_and c.from_residual.result c.from_residual.ensures.1 in
     let shape = c.args.shape.now in
-    λ word more m s i w within. rw (p.1, p.2) (refused-alone _ _ _ _ (stopped-word _ (format_of-lawful shape _) (format_of-balanced shape _) _ _ _ _ _ _ _ _ _
-    (rw c.new-reader.ensures at (c.in_err-value.ensures.err tt)).1 word more m s i w within))
-
-pub returns-in_err-value-clause-fault : goal.returns-in_err-value-clause-fault
-returns-in_err-value-clause-fault g c =
-    let p = err_from_is_err_and c.from_residual.result c.from_residual.ensures.1 in
-    let shape = c.args.shape.now in
-    λ why s u within. rw (p.1, p.2) (or_refused _ _ _ _ _ (stopped-fault _ (format_of-lawful shape _) (format_of-balanced shape _) _ _ _ _ _ _ _ _ _
-    (rw c.new-reader.ensures at (c.in_err-value.ensures.err tt)).1 why s u within))
-
-pub returns-in_err-value-clause-limit : goal.returns-in_err-value-clause-limit
-returns-in_err-value-clause-limit g c =
-    let p = err_from_is_err_and c.from_residual.result c.from_residual.ensures.1 in
-    let shape = c.args.shape.now in
-    λ s u h. rw (p.1, p.2) (or_refused _ _ _ _ _ (stopped-limit _ (format_of-lawful shape _) (format_of-balanced shape _) _ _ _ _ _ _ _ _ _
-    (rw c.new-reader.ensures at (c.in_err-value.ensures.err tt)).1 s u h))
+    record {
+      word = no-value _ c.from_residual.ensures.1;
+      found = λ word more m s i w within. rw (p.1, p.2) (refused-alone _ _ _ _ (stopped-word _ (format_of-lawful shape _) (format_of-balanced shape _) _ _ _ _ _ _ _ _ _ (rw c.new-reader.ensures at (c.in_err-value.ensures.err tt)).1 word more m s i w within));
+      fault = λ why s u within. rw (p.1, p.2) (or_refused _ _ _ _ _ (stopped-fault _ (format_of-lawful shape _) (format_of-balanced shape _) _ _ _ _ _ _ _ _ _ (rw c.new-reader.ensures at (c.in_err-value.ensures.err tt)).1 why s u within));
+      limit = λ s u h. rw (p.1, p.2) (or_refused _ _ _ _ _ (stopped-limit _ (format_of-lawful shape _) (format_of-balanced shape _) _ _ _ _ _ _ _ _ _ (rw c.new-reader.ensures at (c.in_err-value.ensures.err tt)).1 s u h));
+    }
 
 pub overflow_sub-result : goal.overflow_sub-result
 overflow_sub-result g c =
     let shape = c.args.shape.now in decoded-shorter _ (format_of-lawful shape _) (format_of-balanced shape _) _ _ _ _ _ (rw c.new-reader.ensures at (c.in_ok-value.ensures.ok tt)).1 _ c.bytes_left.ensures
 
-pub returns-clause-word : goal.returns-clause-word
-returns-clause-word g c =
+pub returns-clause-answer : goal.returns-clause-answer
+returns-clause-answer g c =
     let shape = c.args.shape.now in
-    decoded-word _ (format_of-lawful shape _) (format_of-balanced shape _) _ _ _ _ _ (rw c.new-reader.ensures at (c.in_ok-value.ensures.ok tt)).1 _ _ c.bytes_left.ensures refl
-
-pub returns-clause-fault : goal.returns-clause-fault
-returns-clause-fault g c =
-    let shape = c.args.shape.now in decoded-fault _ (format_of-lawful shape _) (format_of-balanced shape _) _ _ _ _ _ (rw c.new-reader.ensures at (c.in_ok-value.ensures.ok tt)).1
-
-pub returns-clause-limit : goal.returns-clause-limit
-returns-clause-limit g c =
-    let shape = c.args.shape.now in decoded-limit _ (format_of-lawful shape _) (format_of-balanced shape _) _ _ _ _ _ (rw c.new-reader.ensures at (c.in_ok-value.ensures.ok tt)).1
-
-pub returns-clause-found : goal.returns-clause-found
-returns-clause-found g c = λ word more m s i w within. tt
+    record {
+      word = decoded-word _ (format_of-lawful shape _) (format_of-balanced shape _) _ _ _ _ _ (rw c.new-reader.ensures at (c.in_ok-value.ensures.ok tt)).1 _ _ c.bytes_left.ensures refl;
+      found = λ word more m s i w within. tt;
+      fault = decoded-fault _ (format_of-lawful shape _) (format_of-balanced shape _) _ _ _ _ _ (rw c.new-reader.ensures at (c.in_ok-value.ensures.ok tt)).1;
+      limit = decoded-limit _ (format_of-lawful shape _) (format_of-balanced shape _) _ _ _ _ _ (rw c.new-reader.ensures at (c.in_ok-value.ensures.ok tt)).1;
+    }
 
 pub returns-clause-bounded : goal.returns-clause-bounded
 returns-clause-bounded g c = λ limit e.

@@ -1,6 +1,6 @@
 use Rattle.std.proofs.lemmas.Result.{err_from_is_err_and}
 use Rattle.bincode_lemmas.specs.DecodingLaws.{tuple-decodes, tuple-stops_first, tuple-stops_next}
-use Rattle.bincode_decoder.proofs.ReadAnswers.{read-as, read-behind}
+use Rattle.bincode_decoder.proofs.ReadAnswers.{read-as, read-after}
 use Rattle.bincode_collections.proofs.rows.decode_row.Goals as goal
 
 pub returns-in_err-first : goal.returns-in_err-first
@@ -15,10 +15,10 @@ returns-in_err-others g c =
     let a = c.in_ok-first.ensures in
     let b = c.in_err-others.ensures in
     rw (p.1, p.2)
-    (read-behind (λ known. tt) (λ known. tuple-stops_next _ _ _ _ _ _ _ _ _ (g.A.Value.Wire.words.lawful _) _ _ _ _ _ _ _ _ (a.ok known) a.failures_monotone (b.err (a.tells known))) (λ _. tt) a b)
+    (read-after (λ known. tt) (λ known. tuple-stops_next _ _ _ _ _ _ _ _ _ (g.A.Value.Wire.words.lawful _) _ _ _ _ _ _ _ _ (a.ok known) a.failures_monotone (b.err (a.tells known))) (λ _. tt) a b)
 
 pub returns : goal.returns
 returns g c =
     let a = c.in_ok-first.ensures in
     let b = c.in_ok-others.ensures in
-    read-behind (λ known. tuple-decodes _ _ _ _ _ _ _ _ _ _ _ (a.ok known) (b.ok (a.tells known))) (λ known. tt) (λ within. b.within (a.within within)) a b
+    read-after (λ known. tuple-decodes _ _ _ _ _ _ _ _ _ _ _ (a.ok known) (b.ok (a.tells known))) (λ known. tt) (λ within. b.within (a.within within)) a b

@@ -1,6 +1,6 @@
 use Rattle.std.proofs.lemmas.Result.{err_from_is_err_and}
 use Rattle.bincode_lemmas.specs.ChoiceDecodingLaws.{choice-decodes, choice-stops_tag, choice-stops_part}
-use Rattle.bincode_decoder.proofs.ReadAnswers.{read-as, read-behind, exactly}
+use Rattle.bincode_decoder.proofs.ReadAnswers.{read-as, read-after, exactly}
 use Rattle.bincode_collections.proofs.variants.decode_one_of.Goals as goal
 
 pub returns-in_err-found : goal.returns-in_err-found
@@ -15,11 +15,11 @@ returns-in_err-of g c =
     let tag = c.in_ok-found.ensures in
     let part = c.in_err-of.ensures.reads in
     rw (p.1, p.2)
-    (read-behind (λ known. tt) (λ known. choice-stops_part _ _ _ _ _ _ _ _ _ (exactly (tag.ok known)) (g.Of.Tag.Tag.numerals.lawful _) _ _ _ _ _ _ _ _ tag.failures_monotone
+    (read-after (λ known. tt) (λ known. choice-stops_part _ _ _ _ _ _ _ _ _ (exactly (tag.ok known)) (g.Of.Tag.Tag.numerals.lawful _) _ _ _ _ _ _ _ _ tag.failures_monotone
     (part.err (tag.tells known))) (λ _. tt) tag part)
 
 pub returns : goal.returns
 returns g c =
     let tag = c.in_ok-found.ensures in
     let part = c.in_ok-of.ensures.reads in
-    read-behind (λ known. rw c.in_ok-of.ensures.tag (choice-decodes _ _ _ _ _ _ _ _ _ (exactly (tag.ok known)) _ _ _ (part.ok (tag.tells known)))) (λ known. tt) (λ within. part.within (tag.within within)) tag part
+    read-after (λ known. rw c.in_ok-of.ensures.tag (choice-decodes _ _ _ _ _ _ _ _ _ (exactly (tag.ok known)) _ _ _ (part.ok (tag.tells known)))) (λ known. tt) (λ within. part.within (tag.within within)) tag part

@@ -1,7 +1,7 @@
 use Rattle.std.proofs.Common.{◌≡◌, sym, ◌∙◌, refl, Some, rules, arith}
 use Rattle.std.proofs.lemmas.Result.{IfOk-weaker, IfErr-weaker, err_from_is_err_and}
 use Rattle.bincode_spec.specs.Words.{char_width}
-use Rattle.bincode_lemmas.specs.CharDecodingLaws.{character-stops_first, character-stops_none, character-stops_behind, character-decodes}
+use Rattle.bincode_lemmas.specs.CharDecodingLaws.{character-stops_first, character-stops_none, character-stops_after, character-decodes}
 use Rattle.bincode_decoder.proofs.ReadAnswers.{exactly}
 use Rattle.bincode_decoder.proofs.chars.decode_char.Goals as goal
 
@@ -42,7 +42,7 @@ returns g c =
     let w : char_width c.in_ok-first.first ≡ Some c.in-Some.width = sym c.width_of_char.ensures ∙ c.in-Some.is in
     record {
       ok = λ known. IfOk-weaker c.decode_rest_of_char.result _ _ (λ v r. character-decodes _ _ _ _ _ (first.ok known) _ _ v _ w (exactly r)) (rw still at (others.ok (first.tells known)));
-      err = λ known. IfErr-weaker c.decode_rest_of_char.result _ _ (λ e r. character-stops_behind _ _ _ _ _ (first.ok known) _ _ _ _ _ _ _ _ e w first.failures_monotone r)
+      err = λ known. IfErr-weaker c.decode_rest_of_char.result _ _ (λ e r. character-stops_after _ _ _ _ _ (first.ok known) _ _ _ _ _ _ _ _ e w first.failures_monotone r)
           (rw still at (others.err (first.tells known)));
       failures_monotone = let a = first.failures_monotone in let b = others.failures_monotone in omega (arith, a, b);
       tells = λ known. others.tells (first.tells known);

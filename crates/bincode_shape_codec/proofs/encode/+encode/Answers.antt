@@ -40,7 +40,7 @@ pub encode_items-loop-item-preserved : goal.encode_items-loop-item-preserved
 encode_items-loop-item-preserved g t c = (
   writes-more _ g.met.E.W.Writer.adds_join _ _ _ _ c.args.items.now c.loop-item.item-index _ (omega arith) c.item-item.is c.loop-item.invariant.0 c.in_ok-encode_shape.ensures.ok,
   c.encode_shape.ensures.same_loans ∙ c.loop-item.invariant.1,
-  written.all-behind _ c.args.items.now c.loop-item.item-index c.item-item.result (omega arith) c.loop-item.invariant.2,
+  written.all-after _ c.args.items.now c.loop-item.item-index c.item-item.result (omega arith) c.loop-item.invariant.2,
 )
 
 pub encode_items-encode_shape-requires : goal.encode_items-encode_shape-requires
@@ -146,7 +146,7 @@ encode_parts-loop-index-preserved g t c =
       written.parts-more g.E.C.Config.setting parts items c.loop-index.index _ _ (omega arith) (omega (arith, same)) c.index-parts-index.is c.index-items-index.is _
           g.E.W.Writer.refuses _ _ _ _ g.met.E.W.Writer.adds_join c.loop-index.invariant.0 c.in_ok-encode_shape.ensures.ok,
       c.encode_shape.ensures.same_loans ∙ c.loop-index.invariant.1,
-      written.each-behind g.E.C.Config.setting parts items c.loop-index.index _ _ (omega arith) (omega (arith, same)) c.index-parts-index.is c.index-items-index.is c.loop-index.invariant.2,
+      written.each-after g.E.C.Config.setting parts items c.loop-index.index _ _ (omega arith) (omega (arith, same)) c.index-parts-index.is c.index-items-index.is c.loop-index.invariant.2,
     )
 
 pub encode_parts-returns : goal.encode_parts-returns

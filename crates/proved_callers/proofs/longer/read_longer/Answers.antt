@@ -6,13 +6,13 @@ returns-clause-same g c =
     let a = c.decode_from_slice-front.ensures in
     let b = c.decode_from_slice-whole.ensures in
     same-longer _ (g.T.Wire.words.lawful _) (g.T.Wire.words.balanced _) _ _ _ c.args.bytes.now c.args.count _ _
-    (record { word = a.word; found = a.found; fault = a.fault; keeps = a.limit })
-    (record { word = b.word; found = b.found; fault = b.fault; keeps = b.limit })
+    a
+    b
 
 pub returns-clause-cut : goal.returns-clause-cut
 returns-clause-cut g c =
     let a = c.decode_from_slice-front.ensures in
     let b = c.decode_from_slice-whole.ensures in
     front-cut _ (g.T.Wire.words.lawful _) (g.T.Wire.words.balanced _) _ _ _ c.args.bytes.now c.args.count c.requires _ _
-    (record { word = a.word; found = a.found; fault = a.fault; keeps = a.limit })
-    (record { word = b.word; found = b.found; fault = b.fault; keeps = b.limit })
+    a
+    b

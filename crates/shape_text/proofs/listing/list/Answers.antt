@@ -11,7 +11,7 @@ loop-offset-preserved g c =
     let so_far = c.loop-offset.invariant in
     let shape = c.args.shape.now in
     let read = c.in-Ok-decode_shaped in
-    let next = read-on (format_of shape g.C.Config.setting) g.C.Config.bound (λ m v. IsImage shape m v) c.args.bytes.now c.loop-offset.offset _ read.size read.value so_far.0 so_far.1 read.ensures.word in
+    let next = read-on (format_of shape g.C.Config.setting) g.C.Config.bound (λ m v. IsImage shape m v) c.args.bytes.now c.loop-offset.offset _ read.size read.value so_far.0 so_far.1 read.ensures.answer.word in
     (next.0, rw c.in-Ok-push.ensures.items next.1)
 
 pub returns-then-measure-most-clause-errors : goal.returns-then-measure-most-clause-errors

@@ -20,7 +20,7 @@ returns-in-Ok-decode_shaped-clause-word g c =
     let m = c.in-Ok.measure in
     let r = c.in-Ok-decode_shaped in
     few-word c.args.shape.now g.C.Config.setting g.C.Config.bound c.args.src.now m.values m.bytes c.args.most c.in-Ok.ensures.word (omega (arith, c.if-measure-most.false)) (omega arith)
-    r.value r.bytes r.ensures.word
+    r.value r.bytes r.ensures.answer.word
 
 pub returns-in-Ok-decode_shaped-clause-many : goal.returns-in-Ok-decode_shaped-clause-many
 returns-in-Ok-decode_shaped-clause-many g c =

@@ -3,7 +3,7 @@ use Rattle.std.proofs.lemmas.Result.{err_from_is_err_and, IfErr-weaker, IfOk-wea
 use Rattle.bincode_spec.specs.Integers.{first_byte, TooWide}
 use Rattle.bincode_lemmas.specs.IntegerLaws.{tag-252, tag-253, tag-254}
 use Rattle.bincode_varint.proofs.Words.{varint-none, varint-itself, varint-digits, varint-misreads, varint-too_wide, small-itself, tag-too_wide, below-wider}
-use Rattle.bincode_varint.proofs.WordAnswers.{word-as, part-fails, part-gives, behind-part}
+use Rattle.bincode_varint.proofs.WordAnswers.{word-as, part-fails, part-gives, after-part}
 use Rattle.bincode_varint.proofs.varint.decode_unsigned.varint_decode_plain.Goals.{in_default-via-in-252+else-width-ge4, in_default-via-in-253+else-width-ge8}
 use Rattle.bincode_varint.proofs.varint.decode_unsigned.varint_decode_plain.Goals.{in_default-via-in-254+else-width-ge16, in_default-via-in_default-1}
 use Rattle.bincode_varint.proofs.varint.decode_unsigned.varint_decode_plain.Goals as goal
@@ -25,14 +25,14 @@ returns-in_err-read_u16-in-251-clause-word g c =
     let tag = c.in_ok-tag.ensures in
     let digits = c.in_err-read_u16-in-251.ensures in
     rw (p.1, p.2)
-    (behind-part {r = Ok c.in_ok-tag.tag} (λ known. tt)
+    (after-part {r = Ok c.in_ok-tag.tag} (λ known. tt)
     (λ known. varint-misreads _ _ _ _ _ _ _ _ _ 2 _ _ _ _ _ (tag.ok known) (rw c.in-251.is refl) tag.failures_monotone (digits.err (tag.tells known))) tag digits)
 
 pub returns-in_ok-read_u16-in-251-clause-word : goal.returns-in_ok-read_u16-in-251-clause-word
 returns-in_ok-read_u16-in-251-clause-word g c =
     let tag = c.in_ok-tag.ensures in
     let digits = c.in_ok-read_u16-in-251.ensures in
-    behind-part {r = Ok c.in_ok-tag.tag} (λ known. rw c.from-in-251.ensures (varint-digits _ _ _ _ _ _ _ 2 (tag.ok known) (rw c.in-251.is refl) ∙ digits.ok (tag.tells known))) (λ known. tt) tag digits
+    after-part {r = Ok c.in_ok-tag.tag} (λ known. rw c.from-in-251.ensures (varint-digits _ _ _ _ _ _ _ 2 (tag.ok known) (rw c.in-251.is refl) ∙ digits.ok (tag.tells known))) (λ known. tt) tag digits
 
 pub returns-in_ok-read_u16-in-251-clause-fits : goal.returns-in_ok-read_u16-in-251-clause-fits
 returns-in_ok-read_u16-in-251-clause-fits g c = λ h. below-wider _ 2 _ (let t = rw c.in_ok-read_u16-in-251.was at c.read_u16.type_inv in rw c.from-in-251.ensures (omega (arith, t))) h
@@ -43,14 +43,14 @@ returns-in_err-read_u32-in-252-clause-word g c =
     let tag = c.in_ok-tag.ensures in
     let digits = c.in_err-read_u32-in-252.ensures in
     rw (p.1, p.2)
-    (behind-part {r = Ok c.in_ok-tag.tag} (λ known. tt)
+    (after-part {r = Ok c.in_ok-tag.tag} (λ known. tt)
     (λ known. varint-misreads _ _ _ _ _ _ _ _ _ 4 _ _ _ _ _ (tag.ok known) (rw c.in-252.is (tag-252 _ c.if-width-ge4.true)) tag.failures_monotone (digits.err (tag.tells known))) tag digits)
 
 pub returns-in_ok-read_u32-in-252-clause-word : goal.returns-in_ok-read_u32-in-252-clause-word
 returns-in_ok-read_u32-in-252-clause-word g c =
     let tag = c.in_ok-tag.ensures in
     let digits = c.in_ok-read_u32-in-252.ensures in
-    behind-part {r = Ok c.in_ok-tag.tag}
+    after-part {r = Ok c.in_ok-tag.tag}
     (λ known. rw c.from-in-252.ensures (varint-digits _ _ _ _ _ _ _ 4 (tag.ok known) (rw c.in-252.is (tag-252 _ c.if-width-ge4.true)) ∙ digits.ok (tag.tells known)))
     (λ known. tt) tag digits
 
@@ -64,14 +64,14 @@ returns-in_err-read_u64-in-253-clause-word g c =
     let tag = c.in_ok-tag.ensures in
     let digits = c.in_err-read_u64-in-253.ensures in
     rw (p.1, p.2)
-    (behind-part {r = Ok c.in_ok-tag.tag} (λ known. tt)
+    (after-part {r = Ok c.in_ok-tag.tag} (λ known. tt)
     (λ known. varint-misreads _ _ _ _ _ _ _ _ _ 8 _ _ _ _ _ (tag.ok known) (rw c.in-253.is (tag-253 _ c.if-width-ge8.true)) tag.failures_monotone (digits.err (tag.tells known))) tag digits)
 
 pub returns-in_ok-read_u64-in-253-clause-word : goal.returns-in_ok-read_u64-in-253-clause-word
 returns-in_ok-read_u64-in-253-clause-word g c =
     let tag = c.in_ok-tag.ensures in
     let digits = c.in_ok-read_u64-in-253.ensures in
-    behind-part {r = Ok c.in_ok-tag.tag}
+    after-part {r = Ok c.in_ok-tag.tag}
     (λ known. rw c.from-in-253.ensures (varint-digits _ _ _ _ _ _ _ 8 (tag.ok known) (rw c.in-253.is (tag-253 _ c.if-width-ge8.true)) ∙ digits.ok (tag.tells known)))
     (λ known. tt) tag digits
 
@@ -84,7 +84,7 @@ returns-in-254-clause-word g c =
     let tag = c.in_ok-tag.ensures in
     let digits = c.read_u128.ensures in
     let row = tag-254 _ c.if-width-ge16.true in
-    behind-part {r = Ok c.in_ok-tag.tag}
+    after-part {r = Ok c.in_ok-tag.tag}
     (λ known. IfOk-weaker c.read_u128.result _ _ (λ v h. varint-digits _ _ _ _ _ _ _ 16 (tag.ok known) (rw c.in-254.is row) ∙ h) (digits.ok (tag.tells known)))
     (λ known. IfErr-weaker c.read_u128.result _ _ (λ e h. varint-misreads _ _ _ _ _ _ _ _ _ 16 _ _ _ _ e (tag.ok known) (rw c.in-254.is row) tag.failures_monotone h) (digits.err (tag.tells known)))
     tag digits
