@@ -208,7 +208,7 @@ module _ {D R C T : Type 0} {is_known : D → Type 0} {remaining : D → List �
                   (others-alike limit claim format f b _ (remaining old) h.meaning (remaining middle) (count - 1) s.1 (charge middle) (λ d le. q.3 d (remaining middle) (omega (arith, le, lower))) s.2),
               copies-listed (λ x m. decodes_to m x) v h.meaning (rw (sym q.0) p.is_decoded) (count - 1) (v ∷ []) s.1 s.3,
             );
-        reserved_bytes = rw all_read (can-none limit (charge now) claim);
+        reserved = rw all_read (can-none limit (charge now) claim);
         charge_kept = rw release.released (held-alike limit count claim (charge old) (charge middle) some one.charge_kept one.reserved);
         within = λ a. rw release.released (unclaimed-within limit (charge middle) ((count - 1) * claim) (one.within a));
         failures_monotone = let a = one.failures_monotone in let e = kept.same_failures in omega (arith, a, e);
