@@ -1,8 +1,8 @@
 //! Tuples, arrays, choices, ranges, spans of time and wrappers.
 
+use crate::asserts::all_hold;
 use bincode::de::{Decode, collect_into_array};
 use bincode::enc::Encode;
-use bincode::error::DecodeError;
 use bincode::time::Duration;
 use bincode::{config, encode_into_slice};
 use std::alloc::Global;
@@ -11,8 +11,7 @@ use std::marker::PhantomData;
 use std::num::Wrapping;
 use std::ops::{Bound, Range, RangeInclusive};
 use std::time::Duration as StdDuration;
-use test_helpers::checks::{goes_on, keeps, read_front, refuses_tag, within};
-use test_helpers::rows::first_wrong;
+use test_helpers::checks::{goes_on, keeps, read_front, reads_just, refuses_tag, within};
 
 /// Tuples whose parts are of one type, by their length.
 type One<T> = (T,);
@@ -102,12 +101,7 @@ fn keeps_sixteen_bytes(rt: HostRuntime) {
 
 #[test]
 fn reserves_for_arrays(rt: HostRuntime) {
-    let refused = within::<[u16; 2], 3>(rt.alloc(), &[5, 6]);
-    assert!(rt; matches!(refused, Err(DecodeError::LimitExceeded)));
-    let read = within::<[u16; 2], 4>(rt.alloc(), &[5, 6, 9]);
-    assert!(rt; matches!(read, Ok((_, 2))));
-    let pair: Option<[u16; 2]> = read_front(rt.alloc(), &[5, 6, 9], 2);
-    assert!(rt; matches!(pair, Some(read) if read == [5, 6]));
+    assert!(rt; reads_just::<[u16; 2], 3, 4>(rt.alloc(), &[5, 6, 9], [5, 6], 2));
 }
 
 #[test]
@@ -131,13 +125,6 @@ fn keeps_an_outcome(rt: HostRuntime) {
 }
 
 #[test]
-fn names_a_tag_that_no_choice_has(rt: HostRuntime) {
-    assert!(rt; refuses_tag::<Option<u8>>(rt.alloc(), 2, "Option", 1));
-    assert!(rt; refuses_tag::<Result<(), u8>>(rt.alloc(), 2, "Result", 1));
-    assert!(rt; refuses_tag::<Bound<u8>>(rt.alloc(), 3, "Bound", 2));
-}
-
-#[test]
 fn keeps_wrappers(rt: HostRuntime) {
     let alloc = rt.alloc();
     let rows = [
@@ -151,7 +138,7 @@ fn keeps_wrappers(rt: HostRuntime) {
         ("PhantomData", keeps::<PhantomData<u8>>(alloc, &[])),
         ("[u16; 2]", keeps::<[u16; 2]>(alloc, &[5, 251, 44, 1])),
     ];
-    assert_eq!(rt; first_wrong(&rows), None);
+    all_hold(&rt, &rows);
 }
 
 /// A range that was read gives each of its numbers: it is not one that was gone through.
@@ -172,22 +159,38 @@ fn reads_an_inclusive_range(rt: HostRuntime) {
     assert!(rt; wanted == 6);
 }
 
+/// Whether a tag that no value has is refused under this name, and decoding goes on behind the front of the input.
+fn refuses_tag_and_goes_on<T: Decode<()>>(
+    alloc: Global,
+    (tag, name, greatest): (u8, &str, u32),
+    input: &[u8],
+) -> bool {
+    refuses_tag::<T>(alloc, tag, name, greatest) && goes_on::<T>(alloc, input)
+}
+
 /// Behind a tag, or a sum of seconds, that no value has.
 #[test]
-fn goes_on_behind_no_value(rt: HostRuntime) {
+fn names_a_tag_that_no_choice_has_and_goes_on_behind_no_value(rt: HostRuntime) {
     let alloc = rt.alloc();
     let seconds = [
         253, 255, 255, 255, 255, 255, 255, 255, 255, 252, 0, 202, 154, 59, 77,
     ];
     let rows = [
-        ("Option", goes_on::<Option<u8>>(alloc, &[2, 77])),
+        (
+            "Option",
+            refuses_tag_and_goes_on::<Option<u8>>(alloc, (2, "Option", 1), &[2, 77]),
+        ),
         (
             "Result",
-            goes_on::<Result<(), u8>>(alloc, &[251, 44, 1, 77]),
+            refuses_tag_and_goes_on::<Result<(), u8>>(alloc, (2, "Result", 1), &[251, 44, 1, 77]),
+        ),
+        (
+            "Bound",
+            refuses_tag_and_goes_on::<Bound<u8>>(alloc, (3, "Bound", 2), &[3, 77]),
         ),
         ("Duration", goes_on::<Duration>(alloc, &seconds)),
     ];
-    assert_eq!(rt; first_wrong(&rows), None);
+    all_hold(&rt, &rows);
 }
 
 #[test]

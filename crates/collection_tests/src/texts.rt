@@ -1,5 +1,6 @@
 //! Texts.
 
+use crate::asserts::all_hold;
 use bincode::config;
 use bincode::de::read::SliceReader;
 use bincode::de::{Decode, DecoderImpl};
@@ -9,7 +10,6 @@ use std::borrow::CowStr;
 use std::boxed::BoxedStr;
 use std::rc::RcStr;
 use test_helpers::checks::{either, is_written_as, keeps_value};
-use test_helpers::rows::first_wrong;
 
 /// A text of one character, which has four bytes.
 const FACE: &str = "\u{1F600}";
@@ -98,5 +98,5 @@ fn refuses_bytes_that_are_no_text(rt: HostRuntime) {
         ("RcStr", goes_on_behind_no_text::<RcStr>(alloc)),
         ("CowStr", goes_on_behind_no_text::<CowStr<'_>>(alloc)),
     ];
-    assert_eq!(rt; first_wrong(&rows), None);
+    all_hold(&rt, &rows);
 }

@@ -1,5 +1,6 @@
 //! How much of its bytes a reader has left behind a fault: all that stand behind the input that is no word.
 
+use crate::asserts::all_hold;
 use bincode::de::read::SliceReader;
 use bincode::de::{BorrowDecode, Decode, DecoderImpl};
 use bincode::ffi::CString;
@@ -13,7 +14,6 @@ use std::num::{NonZeroI64, NonZeroU8};
 use std::ops::Bound;
 use std::path::{Path, PathBuf};
 use std::rc::RcStr;
-use test_helpers::rows::first_wrong;
 
 /// How many bytes a reader has left behind a fault, by a decoder that does not lend.
 fn left_owned<T: Decode<()>>(alloc: Global, input: &[u8]) -> Option<usize> {
@@ -81,7 +81,7 @@ fn leaves_what_follows_a_text(rt: HostRuntime) {
         ("Path", leaves_three_lent::<Path<'_>>(alloc, &NO_TEXT)),
         ("CString", leaves_three_both::<CString>(alloc, &ZERO)),
     ];
-    assert_eq!(rt; first_wrong(&rows), None);
+    all_hold(&rt, &rows);
 }
 
 #[test]
@@ -128,7 +128,7 @@ fn leaves_what_follows_a_scalar(rt: HostRuntime) {
             leaves_three_both::<Vec<u8>>(alloc, &[254, 77, 78, 79]),
         ),
     ];
-    assert_eq!(rt; first_wrong(&rows), None);
+    all_hold(&rt, &rows);
 }
 
 /// Nothing is read behind the part at fault.
@@ -153,5 +153,5 @@ fn leaves_what_follows_a_part(rt: HostRuntime) {
             leaves_three_both::<Option<bool>>(alloc, &[1, 2, 77, 78, 79]),
         ),
     ];
-    assert_eq!(rt; first_wrong(&rows), None);
+    all_hold(&rt, &rows);
 }

@@ -1,5 +1,6 @@
 //! Readers that own a stream or hold a buffer before it: how often they ask it, how they fail, and what a fault leaves.
 
+use crate::asserts::all_hold;
 use crate::pieces::{Failing, KINDS, Share, is_all_a, stream_over, word_of};
 use bincode::de::read::Reader;
 use bincode::de::{Decode, IoReader};
@@ -9,7 +10,6 @@ use std::alloc::Global;
 use std::io;
 use std::io::{BufReader, ErrorKind};
 use test_helpers::checks::either;
-use test_helpers::rows::first_wrong;
 
 /// The word of as many times the letter a, and another byte behind it.
 fn word(alloc: Global, length: &[u8], count: usize) -> Option<Vec<u8>> {
@@ -187,7 +187,7 @@ fn leaves_what_follows_in_a_stream(rt: HostRuntime) {
             leaves_three::<Vec<bool>>(alloc, &[3, 1, 2, 77, 78, 79]),
         ),
     ];
-    assert_eq!(rt; first_wrong(&rows), None);
+    all_hold(&rt, &rows);
     let shown = [7, 252, 78, 79];
     assert!(rt;
         left_behind::<(u8, u16)>(alloc, &shown) == Some(3)

@@ -90,6 +90,30 @@ pub fn decoded_within<T: Decode<()>, const N: usize>(
     decoded(alloc, input, config::standard().with_limit::<N>())
 }
 
+/// What comes of decoding within the limit `ENOUGH`, if the input passes the limit `LESS`.
+pub fn within_just<T: Decode<()>, const LESS: usize, const ENOUGH: usize>(
+    alloc: Global,
+    input: &[u8],
+) -> Option<Result<(T, usize), DecodeError>> {
+    if !is_passed(decoded_within::<T, LESS>(alloc, input)) {
+        return None;
+    }
+    Some(decoded_within::<T, ENOUGH>(alloc, input))
+}
+
+/// Whether the input passes the limit `LESS`, and within the limit `ENOUGH` this value is read, of so many bytes.
+pub fn reads_just<T: Decode<()> + PartialEq, const LESS: usize, const ENOUGH: usize>(
+    alloc: Global,
+    input: &[u8],
+    value: T,
+    length: usize,
+) -> bool {
+    match within_just::<T, LESS, ENOUGH>(alloc, input) {
+        Some(Ok((read, taken))) => read == value && taken == length,
+        _ => false,
+    }
+}
+
 /// The fault of the input, if it has one.
 pub fn fault_of<T: Decode<()>>(alloc: Global, input: &[u8]) -> Option<DecodeError> {
     let outcome: Result<(T, usize), DecodeError> = decoded(alloc, input, config::standard());
