@@ -51,7 +51,7 @@ WITHOUT_MEMORY = {
         "numbers::goes_on_behind_no_number",
         "composites::keeps_tuples",
         "composites::keeps_sixteen_bytes",
-        "composites::reserves_for_arrays",
+        "composites::keeps_arrays_and_reserves_for_them",
         "composites::keeps_an_array_of_none",
         "composites::keeps_an_outcome",
         "composites::keeps_wrappers",

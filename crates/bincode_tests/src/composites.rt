@@ -11,7 +11,7 @@ use std::marker::PhantomData;
 use std::num::Wrapping;
 use std::ops::{Bound, Range, RangeInclusive};
 use std::time::Duration as StdDuration;
-use test_helpers::checks::{goes_on, keeps, read_front, reads_just, refuses_tag, within};
+use test_helpers::checks::{front_if_kept, goes_on, keeps, reads_just, refuses_tag, within};
 
 /// Tuples whose parts are of one type, by their length.
 type One<T> = (T,);
@@ -84,13 +84,13 @@ fn keeps_sixteen_of<T>(alloc: Global, parts: [T; 16]) -> bool
 where
     T: Encode + Decode<()> + Copy + PartialEq,
 {
-    let Some(v) = read_front::<Sixteen<T>>(alloc, &COUNT, 16) else {
+    let Some(v) = front_if_kept::<Sixteen<T>>(alloc, &COUNT, &COUNT) else {
         return false;
     };
     let read = [
         v.0, v.1, v.2, v.3, v.4, v.5, v.6, v.7, v.8, v.9, v.10, v.11, v.12, v.13, v.14, v.15,
     ];
-    read == parts && keeps::<Sixteen<T>>(alloc, &COUNT[..16])
+    read == parts
 }
 
 #[test]
@@ -99,9 +99,18 @@ fn keeps_sixteen_bytes(rt: HostRuntime) {
     assert!(rt; keeps_sixteen_of(rt.alloc(), parts));
 }
 
+/// Whether this is the value of two bytes within 4 and not within 3, and a word of the type is kept.
+fn keeps_and_reads_just<T: Encode + Decode<()> + PartialEq>(
+    alloc: Global,
+    value: T,
+    word: &[u8],
+) -> bool {
+    reads_just::<T, 3, 4>(alloc, &[5, 6, 9], value, 2) && keeps::<T>(alloc, word)
+}
+
 #[test]
-fn reserves_for_arrays(rt: HostRuntime) {
-    assert!(rt; reads_just::<[u16; 2], 3, 4>(rt.alloc(), &[5, 6, 9], [5, 6], 2));
+fn keeps_arrays_and_reserves_for_them(rt: HostRuntime) {
+    assert!(rt; keeps_and_reads_just(rt.alloc(), [5u16, 6], &[5, 251, 44, 1]));
 }
 
 #[test]
@@ -116,12 +125,8 @@ fn keeps_an_array_of_none(rt: HostRuntime) {
 /// time.
 #[test]
 fn keeps_an_outcome(rt: HostRuntime) {
-    let read: Option<Result<(), u8>> = read_front(rt.alloc(), &[1, 7, 99], 2);
+    let read: Option<Result<(), u8>> = front_if_kept(rt.alloc(), &[1, 7, 99], &[1, 7]);
     assert!(rt; matches!(read, Some(Err(7))));
-    let mut slice = [99u8; 3];
-    let outcome: Result<(), u8> = Err(7);
-    let written = encode_into_slice(outcome, &mut slice, config::standard());
-    assert!(rt; matches!(written, Ok(2)) && slice == [1, 7, 99]);
 }
 
 #[test]
@@ -129,14 +134,9 @@ fn keeps_wrappers(rt: HostRuntime) {
     let alloc = rt.alloc();
     let rows = [
         ("Range", keeps::<Range<u8>>(alloc, &[1, 9])),
-        (
-            "RangeInclusive",
-            keeps::<RangeInclusive<u8>>(alloc, &[1, 5]),
-        ),
         ("Wrapping", keeps::<Wrapping<u8>>(alloc, &[7])),
         ("Reverse", keeps::<Reverse<u8>>(alloc, &[8])),
         ("PhantomData", keeps::<PhantomData<u8>>(alloc, &[])),
-        ("[u16; 2]", keeps::<[u16; 2]>(alloc, &[5, 251, 44, 1])),
     ];
     all_hold(&rt, &rows);
 }
@@ -144,7 +144,7 @@ fn keeps_wrappers(rt: HostRuntime) {
 /// A range that was read gives each of its numbers: it is not one that was gone through.
 #[test]
 fn reads_an_inclusive_range(rt: HostRuntime) {
-    let read: Option<RangeInclusive<u8>> = read_front(rt.alloc(), &[1, 5, 99], 2);
+    let read = front_if_kept::<RangeInclusive<u8>>(rt.alloc(), &[1, 5, 99], &[1, 5]);
     let Some(range) = read else {
         assert!(rt; false);
         return;

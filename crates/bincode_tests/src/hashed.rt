@@ -8,7 +8,7 @@ use bincode::{Decode, borrow_decode_from_slice, encode_to_vec};
 use std::alloc::{AllocError, Global};
 use std::collections::{HashMap, HashSet};
 use std::hash::{BuildHasher, Hasher};
-use test_helpers::checks::{decoded, each_call_keeps, either, read_word};
+use test_helpers::checks::{decoded, either, read_if_kept};
 
 /// A hasher that gives each key the same hash.
 #[derive(Clone, Copy, Default, Drop)]
@@ -120,17 +120,11 @@ fn keeps_sets(rt: HostRuntime) {
     }
 }
 
+/// Each call keeps one entry.
 #[test]
-fn keeps_one_entry_by_each_call(rt: HostRuntime) {
-    let alloc = rt.alloc();
-    assert!(rt; each_call_keeps::<HashMap<u8, u8>>(alloc, &[1, 7, 9]));
-    assert!(rt; each_call_keeps::<HashSet<u8>>(alloc, &[1, 7]));
-}
-
-#[test]
-fn keeps_the_last_value_of_a_key(rt: HostRuntime) {
+fn keeps_one_entry_and_the_last_value_of_a_key(rt: HostRuntime) {
     let word = [3, 1, 10, 2, 20, 1, 30];
-    let Some(map) = read_word::<HashMap<u8, u8>>(rt.alloc(), &word) else {
+    let Some(map) = read_if_kept::<HashMap<u8, u8>>(rt.alloc(), &word, &[1, 7, 9]) else {
         assert!(rt; false);
         return;
     };
@@ -139,9 +133,10 @@ fn keeps_the_last_value_of_a_key(rt: HostRuntime) {
     assert!(rt; map.get(&2) == Some(&20));
 }
 
+/// Each call keeps one key.
 #[test]
-fn keeps_each_key_once(rt: HostRuntime) {
-    let Some(set) = read_word::<HashSet<u8>>(rt.alloc(), &[3, 5, 5, 1]) else {
+fn keeps_one_key_and_each_key_once(rt: HostRuntime) {
+    let Some(set) = read_if_kept::<HashSet<u8>>(rt.alloc(), &[3, 5, 5, 1], &[1, 7]) else {
         assert!(rt; false);
         return;
     };

@@ -7,9 +7,7 @@ use bincode::error::{DecodeError, IntegerType};
 use bincode::time::Duration;
 use proved_callers::calls::round_trip_of_numbers;
 use std::alloc::Global;
-use std::boxed::BoxedStr;
 use std::collections::{BTreeMap, BTreeSet};
-use std::rc::RcStr;
 use test_helpers::checks::{decoded, fault_of, is_cut, is_passed, leaves, within, within_just};
 use test_helpers::rows::first_wrong;
 
@@ -120,15 +118,12 @@ fn claims_for_what_lists_hold(rt: HostRuntime) {
     all_hold(&rt, &rows);
 }
 
-/// Of what a text and its length charge, of the room of the items that were not read, and of a span of time: a fault
-/// gives none of it back, and claims no more.
+/// Of the room of the items that were not read, and of a span of time: a fault gives none of it back, and claims no
+/// more.
 #[test]
 fn keeps_the_charge_of_a_fault(rt: HostRuntime) {
     let alloc = rt.alloc();
     let rows = [
-        ("String", leaves::<String>(alloc, &[2, 195, 40], 90)),
-        ("BoxedStr", leaves::<BoxedStr>(alloc, &[2, 195, 40], 90)),
-        ("RcStr", leaves::<RcStr>(alloc, &[2, 195, 40], 90)),
         ("Vec", leaves::<Vec<bool>>(alloc, &[3, 1, 2], 89)),
         ("BTreeSet", leaves::<BTreeSet<bool>>(alloc, &[3, 1, 2], 89)),
         (

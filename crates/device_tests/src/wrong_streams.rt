@@ -1,6 +1,5 @@
 //! Readers that own a stream or hold a buffer before it: how often they ask it, how they fail, and what a fault leaves.
 
-use crate::asserts::all_hold;
 use crate::pieces::{Failing, KINDS, Share, is_all_a, stream_over, word_of};
 use bincode::de::read::Reader;
 use bincode::de::{Decode, IoReader};
@@ -163,31 +162,15 @@ fn left_behind<T: Decode<()>>(alloc: Global, input: &[u8]) -> Option<usize> {
 }
 
 /// Whether three bytes are left behind a fault of both. Where memory is refused they are read once more.
-fn leaves_three<T: Decode<()>>(alloc: Global, input: &[u8]) -> bool {
+pub fn leaves_three<T: Decode<()>>(alloc: Global, input: &[u8]) -> bool {
     (left_of_stream::<T>(alloc, input) == Some(3) || left_of_stream::<T>(alloc, input) == Some(3))
         && (left_behind::<T>(alloc, input) == Some(3) || left_behind::<T>(alloc, input) == Some(3))
 }
 
-/// Nothing of a stream is read behind the part at fault. Of a number that a buffer shows whole, nothing is taken.
+/// Of a number that a buffer shows whole, nothing is taken.
 #[test]
-fn leaves_what_follows_in_a_stream(rt: HostRuntime) {
+fn leaves_a_number_that_a_buffer_shows(rt: HostRuntime) {
     let alloc = rt.alloc();
-    let rows = [
-        (
-            "String",
-            leaves_three::<String>(alloc, &[2, 97, 255, 77, 78, 79]),
-        ),
-        (
-            "char of three bytes",
-            leaves_three::<char>(alloc, &[237, 160, 128, 77, 78, 79]),
-        ),
-        ("u16", leaves_three::<u16>(alloc, &[252, 77, 78, 79])),
-        (
-            "the second of a list",
-            leaves_three::<Vec<bool>>(alloc, &[3, 1, 2, 77, 78, 79]),
-        ),
-    ];
-    all_hold(&rt, &rows);
     let shown = [7, 252, 78, 79];
     assert!(rt;
         left_behind::<(u8, u16)>(alloc, &shown) == Some(3)

@@ -296,6 +296,41 @@ pub fn comes_back<T: Encode + Decode<()>>(alloc: Global, value: &T) -> Option<T>
     }
 }
 
+/// What is read of the front of an input, if it has the length of a word, which is kept.
+pub fn front_if_kept<T: Encode + Decode<()>>(
+    alloc: Global,
+    input: &[u8],
+    word: &[u8],
+) -> Option<T> {
+    if !keeps::<T>(alloc, word) {
+        return None;
+    }
+    read_front(alloc, input, word.len())
+}
+
+/// What is read of a word, if each call keeps another one.
+pub fn read_if_kept<T: Encode + Decode<()>>(alloc: Global, word: &[u8], kept: &[u8]) -> Option<T> {
+    if !each_call_keeps::<T>(alloc, kept) {
+        return None;
+    }
+    read_word(alloc, word)
+}
+
+/// What is read of a word, if it is then written as the other one.
+pub fn read_as_written<T: Encode + Decode<()>>(
+    alloc: Global,
+    word: &[u8],
+    other: &[u8],
+) -> Option<T> {
+    let value: T = read_word(alloc, word)?;
+    let bytes = written(alloc, &value)?;
+    if bytes.as_slice() == other {
+        Some(value)
+    } else {
+        None
+    }
+}
+
 /// Whether a value is there, and an equal one is read of its word.
 pub fn keeps_value<T: Encode + Decode<()> + PartialEq>(alloc: Global, value: Option<T>) -> bool {
     let Some(value) = value else {
