@@ -1,5 +1,6 @@
 //! Addresses.
 
+use crate::asserts::{all_hold, none_wrong};
 use bincode::config::{self, Config};
 use bincode::de::Decode;
 use bincode::enc::Encode;
@@ -9,9 +10,9 @@ use std::alloc::{AllocError, Global};
 use std::collections::BTreeMap;
 use std::net::{IpAddr, Ipv4Addr, Ipv6Addr, SocketAddr, SocketAddrV4, SocketAddrV6};
 use test_helpers::checks::{
-    either, is_passed, is_written_as, keeps, read_word, refuses_tag, within,
+    either, is_passed, is_written_as, keeps, read_word, reads_just, refuses_tag, within,
 };
-use test_helpers::rows::{first_unequal, first_wrong};
+use test_helpers::rows::first_wrong;
 
 /// The word of ::1 with the port 12345.
 static SOCKET: [u8; 19] = [0, 0, 0, 0, 0, 0, 0, 0, 0, 0, 0, 0, 0, 0, 0, 1, 251, 57, 48];
@@ -29,92 +30,109 @@ fn is_written<T: Encode, C: Config>(address: T, word: &[u8], config: C) -> bool 
     matches!(written, Ok(count) if count == word.len()) && slice.starts_with(word)
 }
 
+/// In which settings an address is written.
+#[derive(Clone, Copy)]
+enum Settings {
+    Standard,
+    Big,
+    Legacy,
+    LegacyBig,
+}
+
+/// Which of these words, each with its name and its settings, an address is not written as.
+fn first_unwritten<T: Encode + Copy>(
+    address: T,
+    words: &[(&'static str, Settings, &[u8])],
+) -> Option<&'static str> {
+    for (name, settings, word) in words {
+        let is_word = match *settings {
+            Settings::Standard => is_written(address, word, config::standard()),
+            Settings::Big => is_written(address, word, config::standard().with_big_endian()),
+            Settings::Legacy => is_written(address, word, config::legacy()),
+            Settings::LegacyBig => is_written(address, word, config::legacy().with_big_endian()),
+        };
+        if !is_word {
+            return Some(*name);
+        }
+    }
+    None
+}
+
 #[test]
 fn writes_addresses(rt: HostRuntime) {
     let socket = SocketAddrV6::new(Ipv6Addr::LOCALHOST, 12345, 7, 9);
-    assert!(rt; is_written(socket, &SOCKET, config::standard()));
-    let ip = IpAddr::V4(Ipv4Addr::LOCALHOST);
-    assert!(rt; is_written(ip, &[0, 127, 0, 0, 1], config::standard()));
-    assert!(rt; is_written(ip, &[0, 0, 0, 0, 127, 0, 0, 1], config::legacy()));
-    let legacy = config::legacy().with_big_endian();
+    let rows: [(_, _, &[u8]); 1] = [("SocketAddrV6", Settings::Standard, &SOCKET)];
+    none_wrong(&rt, first_unwritten(socket, &rows));
+    let rows: [(_, _, &[u8]); 2] = [
+        ("IpAddr", Settings::Standard, &[0, 127, 0, 0, 1]),
+        (
+            "fixed IpAddr",
+            Settings::Legacy,
+            &[0, 0, 0, 0, 127, 0, 0, 1],
+        ),
+    ];
+    none_wrong(&rt, first_unwritten(IpAddr::V4(Ipv4Addr::LOCALHOST), &rows));
     let socket = SocketAddr::V4(SocketAddrV4::new(Ipv4Addr::LOCALHOST, 80));
-    assert!(rt; is_written(socket, &[0, 127, 0, 0, 1, 80], config::standard()));
-    assert!(rt; is_written(socket, &[0, 0, 0, 0, 127, 0, 0, 1, 0, 80], legacy));
+    let rows: [(_, _, &[u8]); 2] = [
+        ("SocketAddr", Settings::Standard, &[0, 127, 0, 0, 1, 80]),
+        (
+            "fixed big SocketAddr",
+            Settings::LegacyBig,
+            &[0, 0, 0, 0, 127, 0, 0, 1, 0, 80],
+        ),
+    ];
+    none_wrong(&rt, first_unwritten(socket, &rows));
 }
 
 /// The first octet comes first in either order of bytes, and the port's bytes do not.
 #[test]
 fn leaves_octets_in_their_order(rt: HostRuntime) {
-    let big = config::standard().with_big_endian();
-    let address = Ipv6Addr::from_octets(OCTETS);
-    assert!(rt; is_written(address, &OCTETS, config::standard()));
-    assert!(rt; is_written(address, &OCTETS, big));
-    assert!(rt; is_written(address, &OCTETS, config::legacy().with_big_endian()));
+    let rows: [(_, _, &[u8]); 3] = [
+        ("Ipv6Addr", Settings::Standard, &OCTETS),
+        ("big Ipv6Addr", Settings::Big, &OCTETS),
+        ("fixed big Ipv6Addr", Settings::LegacyBig, &OCTETS),
+    ];
+    none_wrong(&rt, first_unwritten(Ipv6Addr::from_octets(OCTETS), &rows));
     let socket = SocketAddrV4::new(Ipv4Addr::new(1, 2, 3, 4), 12345);
-    assert!(rt; is_written(socket, &[1, 2, 3, 4, 251, 48, 57], big));
+    let rows: [(_, _, &[u8]); 1] = [("big port", Settings::Big, &[1, 2, 3, 4, 251, 48, 57])];
+    none_wrong(&rt, first_unwritten(socket, &rows));
 }
 
-/// Whether what was read is this value, of as many bytes.
-fn is_read<T: PartialEq + Drop>(
-    outcome: Result<(T, usize), DecodeError>,
-    value: T,
-    length: usize,
-) -> bool {
-    let Ok((read, taken)) = outcome else {
-        return false;
-    };
-    read == value && taken == length
+/// Which row of four octets within limits does not hold.
+fn wrong_of_octets<T: Decode<()> + PartialEq>(alloc: Global, address: T) -> Option<&'static str> {
+    let ended = within::<T, 4>(alloc, &[127]);
+    let rows = [
+        (
+            "Ipv4Addr within 3 and 4",
+            reads_just::<T, 3, 4>(alloc, &[127, 0, 0, 1], address, 4),
+        ),
+        ("no octet within 3", is_passed(within::<T, 3>(alloc, &[]))),
+        (
+            "one octet",
+            matches!(ended, Err(DecodeError::UnexpectedEnd { additional: 3 })),
+        ),
+    ];
+    first_wrong(&rows)
 }
 
 /// Octets are charged before they are read, and a tag before them.
 #[test]
 fn charges_octets_before_it_reads(rt: HostRuntime) {
     let alloc = rt.alloc();
-    let ip = Ipv4Addr::LOCALHOST;
+    none_wrong(&rt, wrong_of_octets(alloc, Ipv4Addr::LOCALHOST));
     let socket = SocketAddrV6::new(Ipv6Addr::LOCALHOST, 12345, 0, 0);
+    let ip = IpAddr::V4(Ipv4Addr::LOCALHOST);
     let rows = [
         (
-            "SocketAddrV6 within 18",
-            is_read(within::<SocketAddrV6, 18>(alloc, &SOCKET), socket, 19),
+            "SocketAddrV6 within 17 and 18",
+            reads_just::<_, 17, 18>(alloc, &SOCKET, socket, 19),
         ),
         (
-            "SocketAddrV6 within 17",
-            is_passed(within::<SocketAddrV6, 17>(alloc, &SOCKET)),
-        ),
-        (
-            "Ipv4Addr within 4",
-            is_read(within::<Ipv4Addr, 4>(alloc, &[127, 0, 0, 1]), ip, 4),
-        ),
-        (
-            "Ipv4Addr within 3",
-            is_passed(within::<Ipv4Addr, 3>(alloc, &[127, 0, 0, 1])),
-        ),
-        (
-            "no octet within 3",
-            is_passed(within::<Ipv4Addr, 3>(alloc, &[])),
-        ),
-        (
-            "IpAddr within 8",
-            is_read(
-                within::<IpAddr, 8>(alloc, &[0, 127, 0, 0, 1]),
-                IpAddr::V4(ip),
-                5,
-            ),
-        ),
-        (
-            "IpAddr within 7",
-            is_passed(within::<IpAddr, 7>(alloc, &[0, 127, 0, 0, 1])),
+            "IpAddr within 7 and 8",
+            reads_just::<_, 7, 8>(alloc, &[0, 127, 0, 0, 1], ip, 5),
         ),
     ];
-    assert_eq!(rt; first_wrong(&rows), None);
-    let ended = within::<Ipv4Addr, 4>(alloc, &[127]);
-    assert!(rt; matches!(ended, Err(DecodeError::UnexpectedEnd { additional: 3 })));
-}
-
-#[test]
-fn names_a_tag_that_no_address_has(rt: HostRuntime) {
-    assert!(rt; refuses_tag::<IpAddr>(rt.alloc(), 2, "IpAddr", 1));
-    assert!(rt; refuses_tag::<SocketAddr>(rt.alloc(), 2, "SocketAddr", 1));
+    all_hold(&rt, &rows);
 }
 
 /// Whether the word is read as an address by a decoder that lends, and the address is written so.
@@ -130,65 +148,69 @@ fn keeps_lent<'a, T: Encode + BorrowDecode<&'a [u8], ()>>(alloc: Global, word: &
     taken == word.len() && is_written(address, word, config::standard())
 }
 
-/// Whether a decoder that lends reads it so, and one that does not.
-fn keeps_both_ways<'a, T>(alloc: Global, word: &'a [u8]) -> bool
+/// The same, and by a decoder that does not; and in a list the type claims so much.
+fn keeps_both_ways<'a, T>(alloc: Global, word: &'a [u8], claim: usize) -> bool
 where
     T: Encode + Decode<()> + BorrowDecode<&'a [u8], ()>,
 {
-    keeps_lent::<T>(alloc, word) && keeps::<T>(alloc, word)
+    keeps_lent::<T>(alloc, word) && keeps::<T>(alloc, word) && T::claim_size() == claim
+}
+
+/// The same of addresses of either kind, of which there is none with the tag 2, as its error tells by this name.
+fn keeps_either<'a, T>(
+    alloc: Global,
+    [four, six]: [&'a [u8]; 2],
+    claim: usize,
+    name: &str,
+) -> Option<&'static str>
+where
+    T: Encode + Decode<()> + BorrowDecode<&'a [u8], ()>,
+{
+    let rows = [
+        ("V4", keeps_both_ways::<T>(alloc, four, claim)),
+        ("V6", keeps_both_ways::<T>(alloc, six, claim)),
+        ("a tag that none has", refuses_tag::<T>(alloc, 2, name, 1)),
+    ];
+    first_wrong(&rows)
 }
 
 #[test]
-fn keeps_addresses(rt: HostRuntime) {
+fn keeps_addresses_of_one_kind(rt: HostRuntime) {
     let alloc = rt.alloc();
     let rows = [
-        ("Ipv4Addr", keeps_both_ways::<Ipv4Addr>(alloc, &OCTETS[..4])),
-        ("Ipv6Addr", keeps_both_ways::<Ipv6Addr>(alloc, &OCTETS)),
         (
-            "IpAddr of V4",
-            keeps_both_ways::<IpAddr>(alloc, &[0, 1, 2, 3, 4]),
+            "Ipv4Addr",
+            keeps_both_ways::<Ipv4Addr>(alloc, &OCTETS[..4], 4),
         ),
-        (
-            "IpAddr of V6",
-            keeps_both_ways::<IpAddr>(
-                alloc,
-                &[1, 1, 2, 3, 4, 5, 6, 7, 8, 9, 10, 11, 12, 13, 14, 15, 16],
-            ),
-        ),
+        ("Ipv6Addr", keeps_both_ways::<Ipv6Addr>(alloc, &OCTETS, 16)),
         (
             "SocketAddrV4",
-            keeps_both_ways::<SocketAddrV4>(alloc, &[1, 2, 3, 4, 251, 57, 48]),
+            keeps_both_ways::<SocketAddrV4>(alloc, &[1, 2, 3, 4, 251, 57, 48], 6),
         ),
         (
             "SocketAddrV6",
-            keeps_both_ways::<SocketAddrV6>(alloc, &SOCKET),
-        ),
-        (
-            "SocketAddr of V4",
-            keeps_both_ways::<SocketAddr>(alloc, &[0, 1, 2, 3, 4, 80]),
-        ),
-        (
-            "SocketAddr of V6",
-            keeps_both_ways::<SocketAddr>(
-                alloc,
-                &[1, 1, 2, 3, 4, 5, 6, 7, 8, 9, 10, 11, 12, 13, 14, 15, 16, 80],
-            ),
+            keeps_both_ways::<SocketAddrV6>(alloc, &SOCKET, 18),
         ),
     ];
-    assert_eq!(rt; first_wrong(&rows), None);
+    all_hold(&rt, &rows);
 }
 
 #[test]
-fn claims_what_addresses_take(rt: HostRuntime) {
-    let rows = [
-        ("Ipv4Addr", Ipv4Addr::claim_size(), 4),
-        ("Ipv6Addr", Ipv6Addr::claim_size(), 16),
-        ("IpAddr", IpAddr::claim_size(), 20),
-        ("SocketAddrV4", SocketAddrV4::claim_size(), 6),
-        ("SocketAddrV6", SocketAddrV6::claim_size(), 18),
-        ("SocketAddr", SocketAddr::claim_size(), 22),
+fn keeps_addresses_of_either_kind(rt: HostRuntime) {
+    let alloc = rt.alloc();
+    let words: [&[u8]; 2] = [
+        &[0, 1, 2, 3, 4],
+        &[1, 1, 2, 3, 4, 5, 6, 7, 8, 9, 10, 11, 12, 13, 14, 15, 16],
     ];
-    assert_eq!(rt; first_unequal(&rows), None);
+    none_wrong(&rt, keeps_either::<IpAddr>(alloc, words, 20, "IpAddr"));
+    let words: [&[u8]; 2] = [
+        &[0, 1, 2, 3, 4, 80],
+        &[1, 1, 2, 3, 4, 5, 6, 7, 8, 9, 10, 11, 12, 13, 14, 15, 16, 80],
+    ];
+    none_wrong(
+        &rt,
+        keeps_either::<SocketAddr>(alloc, words, 22, "SocketAddr"),
+    );
 }
 
 /// Twice the address ::1 with the port 1, each followed by a number.
@@ -205,13 +227,21 @@ fn scopes(alloc: Global) -> Result<BTreeMap<SocketAddrV6, u8>, AllocError> {
     Ok(map)
 }
 
+/// What is read of the word of a value, if it is this word.
+fn reread<T: Encode + Decode<()>>(alloc: Global, value: Option<T>, word: &[u8]) -> Option<T> {
+    if is_written_as(alloc, value, word) {
+        read_word(alloc, word)
+    } else {
+        None
+    }
+}
+
 /// A scope is no part of the word: keys that differ by it are written twice, and read as one.
 #[test]
 fn reads_one_key_where_scopes_differ(rt: HostRuntime) {
     let alloc = rt.alloc();
     let map = either(scopes(alloc), scopes(alloc));
-    assert!(rt; is_written_as(alloc, map, &TWICE));
-    let Some(map) = read_word::<BTreeMap<SocketAddrV6, u8>>(alloc, &TWICE) else {
+    let Some(map) = reread(alloc, map, &TWICE) else {
         assert!(rt; false);
         return;
     };

@@ -1,5 +1,6 @@
 //! Borrowed decoding: what is lent of the source, and a type of each kind.
 
+use crate::asserts::all_hold;
 use bincode::config::{self, Config};
 use bincode::de::read::{BorrowReader, SliceReader};
 use bincode::de::{
@@ -21,8 +22,7 @@ use std::ops::{Bound, Range, RangeInclusive};
 use std::process::Abort;
 use std::rc::{Rc, RcSlice, RcStr};
 use std::sync::Arc;
-use test_helpers::checks::either;
-use test_helpers::rows::first_wrong;
+use test_helpers::checks::{either, is_passed};
 
 /// The word of the list of abc, def and ghi.
 static WORD: [u8; 13] = [3, 3, 97, 98, 99, 3, 100, 101, 102, 3, 103, 104, 105];
@@ -68,30 +68,55 @@ fn is_behind_one(source: &[u8], lent: &[u8]) -> bool {
     behind == lent
 }
 
+/// What is lent within the limit `ENOUGH`, if the source passes the limit `LESS`.
+fn lent_just<'a, T: BorrowDecode<&'a [u8], ()>, const LESS: usize, const ENOUGH: usize>(
+    alloc: Global,
+    source: &'a [u8],
+) -> Option<(T, usize)> {
+    let less = config::standard().with_limit::<LESS>();
+    let enough = config::standard().with_limit::<ENOUGH>();
+    if !is_passed(borrowed::<T, _>(alloc, source, less)) {
+        return None;
+    }
+    borrowed::<T, _>(alloc, source, enough).ok()
+}
+
+/// Of how many bytes of the word no value is lent, or another number of bytes is told as missing.
+fn first_that_goes_on<'a, T: BorrowDecode<&'a [u8], ()>>(
+    alloc: Global,
+    word: &'a [u8; 13],
+) -> Option<usize> {
+    for count in 0..13 {
+        let ended = borrowed::<T, _>(alloc, &word[..count], config::standard());
+        if !matches!(ended, Err(DecodeError::UnexpectedEnd { additional }) if additional == MISSING[count])
+        {
+            return Some(count);
+        }
+    }
+    None
+}
+
+/// What is lent of the word within 56, if it passes 55 and ends at each place.
+fn lent_of_word<'a, T: BorrowDecode<&'a [u8], ()>>(
+    alloc: Global,
+    word: &'a [u8; 13],
+) -> (Option<usize>, Option<(T, usize)>) {
+    (
+        first_that_goes_on::<T>(alloc, word),
+        lent_just::<T, 55, 56>(alloc, word),
+    )
+}
+
 #[test]
-fn lends_texts_within_the_limit(rt: HostRuntime) {
-    let less = config::standard().with_limit::<55>();
-    let refused = borrowed::<Vec<&str>, _>(rt.alloc(), &WORD, less);
-    assert!(rt; matches!(refused, Err(DecodeError::LimitExceeded)));
-    let enough = config::standard().with_limit::<56>();
-    let Ok((texts, 13)) = borrowed::<Vec<&str>, _>(rt.alloc(), &WORD, enough) else {
+fn lends_texts_within_the_limit_and_ends_at_each_place(rt: HostRuntime) {
+    let (goes_on, lent) = lent_of_word::<Vec<&str>>(rt.alloc(), &WORD);
+    assert!(rt; goes_on.is_none());
+    let Some((texts, 13)) = lent else {
         assert!(rt; false);
         return;
     };
     assert!(rt; texts.as_slice() == ["abc", "def", "ghi"].as_slice());
     assert!(rt; lie_in(&WORD[1..], &texts));
-}
-
-#[test]
-fn ends_at_each_place(rt: HostRuntime) {
-    for count in 0..13 {
-        let ended = borrowed::<Vec<&str>, _>(rt.alloc(), &WORD[..count], config::standard());
-        let Err(DecodeError::UnexpectedEnd { additional }) = ended else {
-            assert!(rt; false);
-            return;
-        };
-        assert!(rt; additional == MISSING[count]);
-    }
 }
 
 /// The word of ten thousand texts of three bytes.
@@ -122,12 +147,8 @@ fn lends_ten_thousand_texts(rt: HostRuntime) {
 #[test]
 fn lends_bytes_within_the_limit(rt: HostRuntime) {
     let source = [3, 1, 2, 3];
-    let less = config::standard().with_limit::<10>();
-    let refused = borrowed::<&[u8], _>(rt.alloc(), &source, less);
-    assert!(rt; matches!(refused, Err(DecodeError::LimitExceeded)));
-    let enough = config::standard().with_limit::<11>();
-    let read = borrowed::<&[u8], _>(rt.alloc(), &source, enough);
-    assert!(rt; matches!(read, Ok((lent, 4)) if is_behind_one(&source, lent)));
+    let read = lent_just::<&[u8], 10, 11>(rt.alloc(), &source);
+    assert!(rt; matches!(read, Some((lent, 4)) if is_behind_one(&source, lent)));
 }
 
 #[test]
@@ -276,7 +297,7 @@ fn keeps_lists(rt: HostRuntime) {
             keeps::<BinaryHeap<&str>>(alloc, &[1, 1, 97, 99]),
         ),
     ];
-    assert_eq!(rt; first_wrong(&rows), None);
+    all_hold(&rt, &rows);
 }
 
 /// Numbers, and what is kept as they are.
@@ -298,7 +319,7 @@ fn keeps_scalars(rt: HostRuntime) {
             keeps::<RangeInclusive<u8>>(alloc, &[2, 8, 99]),
         ),
     ];
-    assert_eq!(rt; first_wrong(&rows), None);
+    all_hold(&rt, &rows);
 }
 
 /// What holds a text that is lent.
@@ -322,7 +343,7 @@ fn keeps_holders(rt: HostRuntime) {
             keeps::<(&str, u8, &str, bool, u16)>(alloc, &[1, 97, 7, 1, 98, 1, 5, 99]),
         ),
     ];
-    assert_eq!(rt; first_wrong(&rows), None);
+    all_hold(&rt, &rows);
 }
 
 /// Texts and bytes, lent or owned.
@@ -337,5 +358,5 @@ fn keeps_texts(rt: HostRuntime) {
         ("CowStr", keeps::<CowStr<'_>>(alloc, &text)),
         ("CowSlice", keeps::<CowSlice<'_, u8>>(alloc, &text)),
     ];
-    assert_eq!(rt; first_wrong(&rows), None);
+    all_hold(&rt, &rows);
 }

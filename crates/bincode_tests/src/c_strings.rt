@@ -1,13 +1,15 @@
 //! C strings.
 
+use crate::asserts::none_wrong;
 use bincode::error::DecodeError;
 use bincode::ffi::{CStr, CString, NulError};
-use bincode::{Wire, borrow_decode_from_slice, config};
+use bincode::{Decode, Encode, Wire, borrow_decode_from_slice, config};
 use std::alloc::Global;
 use test_helpers::checks::{
-    decoded_within, each_call_keeps, either, fault_of, is_written_as, read_word,
+    each_call_keeps, either, fault_of, is_written_as, read_word, within_just,
 };
 use test_helpers::laws::tell_laws;
+use test_helpers::rows::first_wrong;
 
 /// The word of Hello world.
 static WORD: [u8; 12] = [11, 72, 101, 108, 108, 111, 32, 119, 111, 114, 108, 100];
@@ -25,26 +27,26 @@ fn reads_what_was_lent(rt: HostRuntime) {
     assert!(rt; Some(text.as_c_str()) == lent);
 }
 
-#[test]
-fn each_call_keeps_a_c_string(rt: HostRuntime) {
-    assert!(rt; each_call_keeps::<CString>(rt.alloc(), &WORD));
+/// Which row of a C string does not hold. Three bytes are charged beside a length, which counts 8.
+fn wrong_of_c_string<T: Encode + Decode<()>>(alloc: Global) -> Option<&'static str> {
+    let fault = fault_of::<T>(alloc, &[3, 65, 0, 66]);
+    let within_11 = within_just::<T, 10, 11>(alloc, &[3, 65, 66, 67]);
+    let rows = [
+        ("each call", each_call_keeps::<T>(alloc, &WORD)),
+        (
+            "the first zero",
+            matches!(fault, Some(DecodeError::CStringNulError { position: 1 })),
+        ),
+        ("charge", matches!(within_11, Some(Ok(_)))),
+        ("claim", T::claim_size() == 24),
+    ];
+    first_wrong(&rows)
 }
 
 #[test]
-fn tells_the_first_zero_that_is_read(rt: HostRuntime) {
-    let fault = fault_of::<CString>(rt.alloc(), &[3, 65, 0, 66]);
-    assert!(rt; matches!(fault, Some(DecodeError::CStringNulError { position: 1 })));
-}
-
-/// Three bytes are charged beside a length, which counts 8.
-#[test]
-fn charges_the_bytes(rt: HostRuntime) {
-    let alloc = rt.alloc();
-    let word = [3, 65, 66, 67];
-    assert!(rt; decoded_within::<CString, 11>(alloc, &word).is_ok());
-    let refused = decoded_within::<CString, 10>(alloc, &word);
-    assert!(rt; matches!(refused, Err(DecodeError::LimitExceeded)));
-    assert!(rt; CString::claim_size() == 24 && CStr::<'_>::claim_size() == 16);
+fn keeps_and_charges_a_c_string_and_tells_the_first_zero(rt: HostRuntime) {
+    none_wrong(&rt, wrong_of_c_string::<CString>(rt.alloc()));
+    assert!(rt; CStr::<'_>::claim_size() == 16);
 }
 
 /// The result of borrowed decoding.

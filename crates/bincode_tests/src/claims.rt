@@ -1,5 +1,6 @@
 //! How much a container claims for an element of each type.
 
+use crate::asserts::all_equal;
 use bincode::Wire;
 use bincode::time::Duration;
 use std::borrow::{Cow, CowSlice, CowStr};
@@ -15,7 +16,6 @@ use std::num::{
 use std::ops::{Bound, Range, RangeInclusive};
 use std::rc::{Rc, RcSlice, RcStr};
 use std::sync::Arc;
-use test_helpers::rows::first_unequal;
 
 #[test]
 fn claims_what_scalars_take(rt: HostRuntime) {
@@ -49,7 +49,7 @@ fn claims_what_scalars_take(rt: HostRuntime) {
         ("()", <()>::claim_size(), 1),
         ("Duration", Duration::claim_size(), 12),
     ];
-    assert_eq!(rt; first_unequal(&rows), None);
+    all_equal(&rt, &rows);
 }
 
 #[test]
@@ -85,7 +85,7 @@ fn claims_what_parts_claim(rt: HostRuntime) {
         ("PhantomData<u64>", PhantomData::<u64>::claim_size(), 1),
         ("Cow<u16>", Cow::<u16>::claim_size(), 2),
     ];
-    assert_eq!(rt; first_unequal(&rows), None);
+    all_equal(&rt, &rows);
 }
 
 #[test]
@@ -112,5 +112,5 @@ fn claims_what_owners_take(rt: HostRuntime) {
         ("String", String::claim_size(), 24),
         ("CowStr", CowStr::claim_size(), 24),
     ];
-    assert_eq!(rt; first_unequal(&rows), None);
+    all_equal(&rt, &rows);
 }

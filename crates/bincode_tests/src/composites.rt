@@ -1,8 +1,8 @@
 //! Tuples, arrays, choices, ranges, durations and wrappers.
 
+use crate::asserts::all_hold;
 use bincode::de::{Decode, collect_into_array};
 use bincode::enc::Encode;
-use bincode::error::DecodeError;
 use bincode::time::Duration;
 use bincode::{config, encode_into_slice};
 use std::alloc::Global;
@@ -11,8 +11,7 @@ use std::marker::PhantomData;
 use std::num::Wrapping;
 use std::ops::{Bound, Range, RangeInclusive};
 use std::time::Duration as StdDuration;
-use test_helpers::checks::{goes_on, keeps, read_front, refuses_tag, within};
-use test_helpers::rows::first_wrong;
+use test_helpers::checks::{front_if_kept, goes_on, keeps, reads_just, refuses_tag, within};
 
 /// Tuples whose parts are of one type, by their length.
 type One<T> = (T,);
@@ -85,13 +84,13 @@ fn keeps_sixteen_of<T>(alloc: Global, parts: [T; 16]) -> bool
 where
     T: Encode + Decode<()> + Copy + PartialEq,
 {
-    let Some(v) = read_front::<Sixteen<T>>(alloc, &COUNT, 16) else {
+    let Some(v) = front_if_kept::<Sixteen<T>>(alloc, &COUNT, &COUNT) else {
         return false;
     };
     let read = [
         v.0, v.1, v.2, v.3, v.4, v.5, v.6, v.7, v.8, v.9, v.10, v.11, v.12, v.13, v.14, v.15,
     ];
-    read == parts && keeps::<Sixteen<T>>(alloc, &COUNT[..16])
+    read == parts
 }
 
 #[test]
@@ -100,14 +99,18 @@ fn keeps_sixteen_bytes(rt: HostRuntime) {
     assert!(rt; keeps_sixteen_of(rt.alloc(), parts));
 }
 
+/// Whether this is the value of two bytes within 4 and not within 3, and a word of the type is kept.
+fn keeps_and_reads_just<T: Encode + Decode<()> + PartialEq>(
+    alloc: Global,
+    value: T,
+    word: &[u8],
+) -> bool {
+    reads_just::<T, 3, 4>(alloc, &[5, 6, 9], value, 2) && keeps::<T>(alloc, word)
+}
+
 #[test]
-fn reserves_for_arrays(rt: HostRuntime) {
-    let refused = within::<[u16; 2], 3>(rt.alloc(), &[5, 6]);
-    assert!(rt; matches!(refused, Err(DecodeError::LimitExceeded)));
-    let read = within::<[u16; 2], 4>(rt.alloc(), &[5, 6, 9]);
-    assert!(rt; matches!(read, Ok((_, 2))));
-    let pair: Option<[u16; 2]> = read_front(rt.alloc(), &[5, 6, 9], 2);
-    assert!(rt; matches!(pair, Some(read) if read == [5, 6]));
+fn keeps_arrays_and_reserves_for_them(rt: HostRuntime) {
+    assert!(rt; keeps_and_reads_just(rt.alloc(), [5u16, 6], &[5, 251, 44, 1]));
 }
 
 #[test]
@@ -121,19 +124,8 @@ fn keeps_an_array_of_none(rt: HostRuntime) {
 /// The worked rows decode no `Result`, and have no `Err`. They have all other choices, characters and durations.
 #[test]
 fn keeps_an_outcome(rt: HostRuntime) {
-    let read: Option<Result<(), u8>> = read_front(rt.alloc(), &[1, 7, 99], 2);
+    let read: Option<Result<(), u8>> = front_if_kept(rt.alloc(), &[1, 7, 99], &[1, 7]);
     assert!(rt; matches!(read, Some(Err(7))));
-    let mut slice = [99u8; 3];
-    let outcome: Result<(), u8> = Err(7);
-    let written = encode_into_slice(outcome, &mut slice, config::standard());
-    assert!(rt; matches!(written, Ok(2)) && slice == [1, 7, 99]);
-}
-
-#[test]
-fn names_a_tag_that_no_choice_has(rt: HostRuntime) {
-    assert!(rt; refuses_tag::<Option<u8>>(rt.alloc(), 2, "Option", 1));
-    assert!(rt; refuses_tag::<Result<(), u8>>(rt.alloc(), 2, "Result", 1));
-    assert!(rt; refuses_tag::<Bound<u8>>(rt.alloc(), 3, "Bound", 2));
 }
 
 #[test]
@@ -141,22 +133,17 @@ fn keeps_wrappers(rt: HostRuntime) {
     let alloc = rt.alloc();
     let rows = [
         ("Range", keeps::<Range<u8>>(alloc, &[1, 9])),
-        (
-            "RangeInclusive",
-            keeps::<RangeInclusive<u8>>(alloc, &[1, 5]),
-        ),
         ("Wrapping", keeps::<Wrapping<u8>>(alloc, &[7])),
         ("Reverse", keeps::<Reverse<u8>>(alloc, &[8])),
         ("PhantomData", keeps::<PhantomData<u8>>(alloc, &[])),
-        ("[u16; 2]", keeps::<[u16; 2]>(alloc, &[5, 251, 44, 1])),
     ];
-    assert_eq!(rt; first_wrong(&rows), None);
+    all_hold(&rt, &rows);
 }
 
 /// A range that was read gives each of its numbers: it is not one that was gone through.
 #[test]
 fn reads_an_inclusive_range(rt: HostRuntime) {
-    let read: Option<RangeInclusive<u8>> = read_front(rt.alloc(), &[1, 5, 99], 2);
+    let read = front_if_kept::<RangeInclusive<u8>>(rt.alloc(), &[1, 5, 99], &[1, 5]);
     let Some(range) = read else {
         assert!(rt; false);
         return;
@@ -171,22 +158,38 @@ fn reads_an_inclusive_range(rt: HostRuntime) {
     assert!(rt; wanted == 6);
 }
 
+/// Whether a tag that no value has is refused under this name, and decoding goes on behind the front of the input.
+fn refuses_tag_and_goes_on<T: Decode<()>>(
+    alloc: Global,
+    (tag, name, greatest): (u8, &str, u32),
+    input: &[u8],
+) -> bool {
+    refuses_tag::<T>(alloc, tag, name, greatest) && goes_on::<T>(alloc, input)
+}
+
 /// Behind a tag, or a sum of seconds, that no value has.
 #[test]
-fn goes_on_behind_no_value(rt: HostRuntime) {
+fn names_a_tag_that_no_choice_has_and_goes_on_behind_no_value(rt: HostRuntime) {
     let alloc = rt.alloc();
     let seconds = [
         253, 255, 255, 255, 255, 255, 255, 255, 255, 252, 0, 202, 154, 59, 77,
     ];
     let rows = [
-        ("Option", goes_on::<Option<u8>>(alloc, &[2, 77])),
+        (
+            "Option",
+            refuses_tag_and_goes_on::<Option<u8>>(alloc, (2, "Option", 1), &[2, 77]),
+        ),
         (
             "Result",
-            goes_on::<Result<(), u8>>(alloc, &[251, 44, 1, 77]),
+            refuses_tag_and_goes_on::<Result<(), u8>>(alloc, (2, "Result", 1), &[251, 44, 1, 77]),
+        ),
+        (
+            "Bound",
+            refuses_tag_and_goes_on::<Bound<u8>>(alloc, (3, "Bound", 2), &[3, 77]),
         ),
         ("Duration", goes_on::<Duration>(alloc, &seconds)),
     ];
-    assert_eq!(rt; first_wrong(&rows), None);
+    all_hold(&rt, &rows);
 }
 
 #[test]

@@ -1,7 +1,7 @@
 //! Building configurations part by part, and how they are printed.
 
 use bincode::config::{self, Config, Endianness, IntEncoding};
-use std::alloc::AllocError;
+use std::alloc::{AllocError, Global};
 use test_helpers::checks::either;
 
 #[test]
@@ -22,12 +22,15 @@ fn changes_each_part(rt: HostRuntime) {
     assert!(rt; back.limit() == None);
 }
 
+/// How a configuration is printed.
+fn printed(alloc: Global) -> Result<String, AllocError> {
+    let limited = config::legacy().with_limit::<7>();
+    format!(in alloc; "{limited:?}")
+}
+
 #[test]
 fn prints_its_parts(rt: HostRuntime) {
-    let limited = config::legacy().with_limit::<7>();
-    let first: Result<String, AllocError> = format!(in rt.alloc(); "{limited:?}");
-    let second: Result<String, AllocError> = format!(in rt.alloc(); "{limited:?}");
-    let Some(text) = either(first, second) else {
+    let Some(text) = either(printed(rt.alloc()), printed(rt.alloc())) else {
         assert!(rt; false);
         return;
     };

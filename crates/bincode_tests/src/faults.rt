@@ -37,11 +37,14 @@ const NAMES: [(IntegerType, &str); 13] = [
     (IntegerType::Reserved, "Reserved"),
 ];
 
+/// How the type is printed.
+fn shown(alloc: Global, kind: IntegerType) -> Result<String, AllocError> {
+    format!(in alloc; "{kind:?}")
+}
+
 /// Whether the type is printed so.
 fn is_shown(alloc: Global, kind: IntegerType, name: &str) -> bool {
-    let first: Result<String, AllocError> = format!(in alloc; "{kind:?}");
-    let second: Result<String, AllocError> = format!(in alloc; "{kind:?}");
-    let Some(text) = either(first, second) else {
+    let Some(text) = either(shown(alloc, kind), shown(alloc, kind)) else {
         return false;
     };
     text.as_str() == name
@@ -54,8 +57,8 @@ fn prints_integer_types(rt: HostRuntime) {
     }
 }
 
-#[test]
-fn prints_errors(rt: HostRuntime) {
+/// How two errors are printed.
+fn printed(alloc: Global) -> Result<String, AllocError> {
     let fault = DecodeError::UnexpectedVariant {
         type_name: TypeName::new("Option"),
         found: 2,
@@ -63,9 +66,12 @@ fn prints_errors(rt: HostRuntime) {
         max: 1,
     };
     let refusal = EncodeError::UnexpectedEnd;
-    let first: Result<String, AllocError> = format!(in rt.alloc(); "{refusal} {fault}");
-    let second: Result<String, AllocError> = format!(in rt.alloc(); "{refusal} {fault}");
-    let Some(text) = either(first, second) else {
+    format!(in alloc; "{refusal} {fault}")
+}
+
+#[test]
+fn prints_errors(rt: HostRuntime) {
+    let Some(text) = either(printed(rt.alloc()), printed(rt.alloc())) else {
         assert!(rt; false);
         return;
     };

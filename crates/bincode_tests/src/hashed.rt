@@ -8,7 +8,7 @@ use bincode::{Decode, borrow_decode_from_slice, encode_to_vec};
 use std::alloc::{AllocError, Global};
 use std::collections::{HashMap, HashSet};
 use std::hash::{BuildHasher, Hasher};
-use test_helpers::checks::{decoded, each_call_keeps, either, read_word};
+use test_helpers::checks::{decoded, either, read_if_kept};
 
 /// A hasher that gives each key the same hash.
 #[derive(Clone, Copy, Default, Drop)]
@@ -56,27 +56,39 @@ fn map_of<S: BuildHasher + Default + Drop>(
     Ok(map)
 }
 
-/// Whether a value is there and its word has this length, and an equal one is read of the word, with nothing left.
-fn comes_back<T: Encode + Decode<()> + Exact + Canonical, C: Config>(
+/// Whether the word of a value has this length, and an equal one is read of the word, with nothing left.
+fn comes_back_in<T: Encode + Decode<()> + Exact + Canonical, C: Config>(
     alloc: Global,
-    value: Option<T>,
+    value: &T,
     config: C,
     length: usize,
 ) -> bool {
-    let Some(value) = value else {
-        return false;
-    };
     let Some(word) = either(
-        encode_to_vec(alloc, &value, config),
-        encode_to_vec(alloc, &value, config),
+        encode_to_vec(alloc, value, config),
+        encode_to_vec(alloc, value, config),
     ) else {
         return false;
     };
     let outcome: Result<(T, usize), DecodeError> = decoded(alloc, word.as_slice(), config);
     match outcome {
-        Ok((read, taken)) => read == value && word.len() == length && taken == length,
+        Ok((read, taken)) => read == *value && word.len() == length && taken == length,
         Err(_) => false,
     }
+}
+
+/// Whether a value is there and comes back of its word, by these lengths where numbers are variable and where they are
+/// fixed.
+fn comes_back<T: Encode + Decode<()> + Exact + Canonical>(
+    alloc: Global,
+    value: Option<T>,
+    variable: usize,
+    fixed: usize,
+) -> bool {
+    let Some(value) = value else {
+        return false;
+    };
+    comes_back_in(alloc, &value, config::standard(), variable)
+        && comes_back_in(alloc, &value, config::legacy(), fixed)
 }
 
 /// The map of three entries.
@@ -88,38 +100,31 @@ fn three<S: BuildHasher + Default + Drop>(alloc: Global) -> Option<HashMap<u8, u
 fn keeps_maps(rt: HostRuntime) {
     let alloc = rt.alloc();
     let map: Option<HashMap<u8, u8>> = three(alloc);
-    assert!(rt; comes_back(alloc, map, config::standard(), 7));
-    let map: Option<HashMap<u8, u8>> = three(alloc);
-    assert!(rt; comes_back(alloc, map, config::legacy(), 14));
+    assert!(rt; comes_back(alloc, map, 7, 14));
 }
 
 #[test]
 fn keeps_a_map_whose_keys_collide(rt: HostRuntime) {
     let alloc = rt.alloc();
     let map: Option<HashMap<u8, u8, Collides>> = three(alloc);
-    assert!(rt; comes_back(alloc, map, config::standard(), 7));
+    assert!(rt; comes_back(alloc, map, 7, 14));
 }
 
+/// Of the numbers from 0 to 9,999 those from 251 on take three bytes, where numbers are variable.
 #[test]
 fn keeps_sets(rt: HostRuntime) {
     let alloc = rt.alloc();
-    let set = either(set_of(alloc, 3), set_of(alloc, 3));
-    assert!(rt; comes_back(alloc, set, config::standard(), 4));
-    let set = either(set_of(alloc, 10_000), set_of(alloc, 10_000));
-    assert!(rt; comes_back(alloc, set, config::legacy(), 40_008));
+    for (count, variable, fixed) in [(3, 4, 20), (10_000, 3 + 251 + 3 * 9_749, 40_008)] {
+        let set = either(set_of(alloc, count), set_of(alloc, count));
+        assert!(rt; comes_back(alloc, set, variable, fixed), "{count}");
+    }
 }
 
+/// Each call keeps one entry.
 #[test]
-fn keeps_one_entry_by_each_call(rt: HostRuntime) {
-    let alloc = rt.alloc();
-    assert!(rt; each_call_keeps::<HashMap<u8, u8>>(alloc, &[1, 7, 9]));
-    assert!(rt; each_call_keeps::<HashSet<u8>>(alloc, &[1, 7]));
-}
-
-#[test]
-fn keeps_the_last_value_of_a_key(rt: HostRuntime) {
+fn keeps_one_entry_and_the_last_value_of_a_key(rt: HostRuntime) {
     let word = [3, 1, 10, 2, 20, 1, 30];
-    let Some(map) = read_word::<HashMap<u8, u8>>(rt.alloc(), &word) else {
+    let Some(map) = read_if_kept::<HashMap<u8, u8>>(rt.alloc(), &word, &[1, 7, 9]) else {
         assert!(rt; false);
         return;
     };
@@ -128,9 +133,10 @@ fn keeps_the_last_value_of_a_key(rt: HostRuntime) {
     assert!(rt; map.get(&2) == Some(&20));
 }
 
+/// Each call keeps one key.
 #[test]
-fn keeps_each_key_once(rt: HostRuntime) {
-    let Some(set) = read_word::<HashSet<u8>>(rt.alloc(), &[3, 5, 5, 1]) else {
+fn keeps_one_key_and_each_key_once(rt: HostRuntime) {
+    let Some(set) = read_if_kept::<HashSet<u8>>(rt.alloc(), &[3, 5, 5, 1], &[1, 7]) else {
         assert!(rt; false);
         return;
     };

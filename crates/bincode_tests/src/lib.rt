@@ -5,6 +5,8 @@
 #[cfg(test)]
 mod addresses;
 #[cfg(test)]
+mod asserts;
+#[cfg(test)]
 mod borrowed;
 #[cfg(test)]
 mod c_strings;

@@ -1,9 +1,9 @@
 //! Numbers: types that no worked row has, of the `NonZero` ones some, and what a failed decode has taken.
 
+use crate::asserts::all_hold;
 use bincode::{config, encode_into_slice};
 use std::num::{NonZeroI32, NonZeroI64, NonZeroU16, NonZeroUsize};
 use test_helpers::checks::{goes_on, keeps};
-use test_helpers::rows::first_wrong;
 
 #[test]
 fn keeps_numbers(rt: HostRuntime) {
@@ -42,5 +42,5 @@ fn goes_on_behind_no_number(rt: HostRuntime) {
             goes_on::<char>(alloc, &[237, 160, 128, 77]),
         ),
     ];
-    assert_eq!(rt; first_wrong(&rows), None);
+    all_hold(&rt, &rows);
 }

@@ -1,7 +1,8 @@
 //! Paths.
 
 use bincode::error::DecodeError;
-use bincode::{Wire, borrow_decode_from_slice, config};
+use bincode::{Decode, Encode, Wire, borrow_decode_from_slice, config};
+use std::alloc::Global;
 use std::collections::{BTreeMap, BTreeSet};
 use std::path::{Path, PathBuf};
 use test_helpers::checks::{each_call_keeps, fault_of, is_written_as, read_word};
@@ -20,19 +21,27 @@ fn writes_a_path(rt: HostRuntime) {
     assert!(rt; is_written_as(rt.alloc(), Some(Path::new(FOO)), &WORD));
 }
 
-#[test]
-fn each_call_keeps_a_path(rt: HostRuntime) {
-    assert!(rt; each_call_keeps::<PathBuf>(rt.alloc(), &WORD));
-    assert!(rt; PathBuf::claim_size() == 24 && Path::<'_>::claim_size() == 16);
+/// What is read of a word that each call keeps, with this claim in a list, and of which no bytes that are no text are one.
+fn value_of<T: Encode + Decode<()>>(alloc: Global, word: &[u8], claim: usize) -> Option<T> {
+    let fault = fault_of::<T>(alloc, &[2, 195, 40]);
+    let is_kept = each_call_keeps::<T>(alloc, word)
+        && matches!(fault, Some(DecodeError::Utf8 { inner: _ }))
+        && T::claim_size() == claim;
+    if is_kept {
+        read_word(alloc, word)
+    } else {
+        None
+    }
 }
 
 #[test]
-fn reads_a_path(rt: HostRuntime) {
-    let Some(path) = read_word::<PathBuf>(rt.alloc(), &WORD) else {
+fn keeps_a_path_and_refuses_bytes_that_are_no_text(rt: HostRuntime) {
+    let Some(path) = value_of::<PathBuf>(rt.alloc(), &WORD, 24) else {
         assert!(rt; false);
         return;
     };
     assert!(rt; path.as_str() == FOO);
+    assert!(rt; Path::<'_>::claim_size() == 16);
 }
 
 #[test]
@@ -43,12 +52,6 @@ fn lends_a_path(rt: HostRuntime) {
         config::standard(),
     );
     assert!(rt; matches!(read, Ok((path, 21)) if path.as_str() == FOO));
-}
-
-#[test]
-fn refuses_bytes_that_are_no_text(rt: HostRuntime) {
-    let fault = fault_of::<PathBuf>(rt.alloc(), &[2, 195, 40]);
-    assert!(rt; matches!(fault, Some(DecodeError::Utf8 { inner: _ })));
 }
 
 /// `a` and `a/` are equal, so the second is not put in.

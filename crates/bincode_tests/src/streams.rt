@@ -141,31 +141,32 @@ impl Write for Failing {
     }
 }
 
-/// Whether a stream that fails after this many pieces of a word has taken these bytes.
-fn fails_behind(alloc: Global, pieces: usize, taken: &[u8]) -> bool {
+/// What comes of writing 1 and 300 to a stream that takes so many pieces, and what it has taken.
+fn written_in(alloc: Global, pieces: usize) -> (Result<usize, EncodeError>, Vec<u8>) {
     let mut stream = Failing {
         held: Vec::new(alloc),
         pieces,
         interrupts: true,
     };
     let outcome = encode_into_std_write((1u8, 300u32), &mut stream, config::standard());
+    (outcome, stream.held)
+}
+
+/// Whether a stream that fails behind so many pieces of a word has taken these bytes.
+fn fails_behind(alloc: Global, pieces: usize, taken: &[u8]) -> bool {
+    let (outcome, held) = written_in(alloc, pieces);
     let Err(EncodeError::Io { inner, index }) = outcome else {
         return false;
     };
     let is_memory = inner.kind() == ErrorKind::OutOfMemory;
-    is_memory || (index == taken.len() && stream.held.as_slice() == taken)
+    is_memory || (index == taken.len() && held.as_slice() == taken)
 }
 
 /// Whether a stream that takes three pieces takes the word whole.
 fn writes_in_three_pieces(alloc: Global) -> bool {
-    let mut stream = Failing {
-        held: Vec::new(alloc),
-        pieces: 3,
-        interrupts: true,
-    };
-    let outcome = encode_into_std_write((1u8, 300u32), &mut stream, config::standard());
+    let (outcome, held) = written_in(alloc, 3);
     match outcome {
-        Ok(4) => stream.held.as_slice() == [1, 251, 44, 1].as_slice(),
+        Ok(4) => held.as_slice() == [1, 251, 44, 1].as_slice(),
         Err(EncodeError::Io { inner, index: _ }) => inner.kind() == ErrorKind::OutOfMemory,
         _ => false,
     }

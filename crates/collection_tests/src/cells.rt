@@ -1,11 +1,11 @@
 //! The error of a cell that is mutably borrowed: it names the cell type, whatever it holds.
 
+use crate::asserts::all_hold;
 use bincode::enc::Encode;
 use bincode::error::EncodeError;
 use bincode::{config, encode_into_slice, encode_to_vec};
 use std::alloc::Global;
 use std::cell::RefCell;
-use test_helpers::rows::first_wrong;
 
 /// Whether the error says that a cell is borrowed, with the name of its type.
 fn names_its_type<T: Drop>(outcome: Result<T, EncodeError>) -> bool {
@@ -34,5 +34,5 @@ fn names_the_type_of_a_borrowed_cell(rt: HostRuntime) {
         ("u32", names_borrowed(alloc, 300u32)),
         ("&str", names_borrowed(alloc, "ab")),
     ];
-    assert_eq!(rt; first_wrong(&rows), None);
+    all_hold(&rt, &rows);
 }

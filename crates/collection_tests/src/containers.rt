@@ -1,5 +1,6 @@
 //! Lists, heaps and pointers.
 
+use crate::asserts::all_hold;
 use bincode::config;
 use own_types::pack::Pack;
 use std::alloc::{AllocError, Global};
@@ -9,7 +10,6 @@ use std::collections::{BinaryHeap, VecDeque};
 use std::rc::{Rc, RcSlice};
 use std::sync::Arc;
 use test_helpers::checks::{comes_back, decoded, either, is_written_as, keeps_value, written};
-use test_helpers::rows::first_wrong;
 
 /// The numbers from 0, of which those from 251 on take three bytes or five.
 fn numbers(alloc: Global, count: u32) -> Result<Vec<u32>, AllocError> {
@@ -148,7 +148,7 @@ fn keeps_pointers(rt: HostRuntime) {
         ),
         ("Cow", keeps_value(alloc, Some(Cow::Borrowed(&300u32)))),
     ];
-    assert_eq!(rt; first_wrong(&rows), None);
+    all_hold(&rt, &rows);
 }
 
 /// A queue with 15 pushed at the back and 5 at the front.

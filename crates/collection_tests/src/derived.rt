@@ -1,5 +1,8 @@
 //! Words of the types of `derived_types`, worked out by hand: read, and written again.
 
+use crate::asserts::{all_hold, none_wrong};
+use bincode::de::Decode;
+use bincode::enc::Encode;
 use bincode::error::DecodeError;
 use bincode::{borrow_decode_from_slice, config, encode_into_slice};
 use derived_types::enums::{Figure, Side};
@@ -11,29 +14,58 @@ use std::alloc::Global;
 use test_helpers::checks::{fault_of, keeps, refuses_tag};
 use test_helpers::rows::first_wrong;
 
-#[test]
-fn keeps_enums(rt: HostRuntime) {
-    let alloc = rt.alloc();
+/// Which row of `Figure` does not hold: its words, and a tag that none of its variants has.
+fn wrong_of_figure<T: Encode + Decode<()>>(alloc: Global) -> Option<&'static str> {
     let rows = [
-        ("Side::Right", keeps::<Side>(alloc, &[1])),
-        ("Figure::Empty", keeps::<Figure>(alloc, &[0])),
-        ("Figure::Circle", keeps::<Figure>(alloc, &[1, 9])),
-        ("Figure::Rectangle", keeps::<Figure>(alloc, &[2, 3, 4])),
-        ("Figure::Triangle", keeps::<Figure>(alloc, &[3, 3, 4, 5])),
+        ("Empty", keeps::<T>(alloc, &[0])),
+        ("Circle", keeps::<T>(alloc, &[1, 9])),
+        ("Rectangle", keeps::<T>(alloc, &[2, 3, 4])),
+        ("Triangle", keeps::<T>(alloc, &[3, 3, 4, 5])),
+        ("no tag", refuses_tag::<T>(alloc, 4, "Figure", 3)),
     ];
-    assert!(rt; first_wrong(&rows).is_none());
+    first_wrong(&rows)
 }
 
 #[test]
-fn keeps_tags_of_its_own(rt: HostRuntime) {
+fn keeps_enums_and_names_a_tag_that_no_variant_has(rt: HostRuntime) {
+    assert!(rt; keeps::<Side>(rt.alloc(), &[1]));
+    none_wrong(&rt, wrong_of_figure::<Figure>(rt.alloc()));
+}
+
+/// Whether the error of the tag 0 lists those of `Mixed`.
+fn lists_tags(fault: Option<DecodeError>) -> bool {
+    let Some(
+        DecodeError::UnlistedVariant {
+            type_name,
+            found: 0,
+            allowed,
+        },
+    ) = fault
+    else {
+        return false;
+    };
+    type_name.as_str() == "Mixed" && allowed.as_slice() == [3, 1, 2].as_slice()
+}
+
+/// Which row of `Mixed` does not hold, whose tags do not stand in order: two words, and the tags of an error.
+fn wrong_of_mixed<T: Encode + Decode<()>>(alloc: Global) -> Option<&'static str> {
+    let rows = [
+        ("Third", keeps::<T>(alloc, &[3])),
+        ("Second", keeps::<T>(alloc, &[2])),
+        ("listed tags", lists_tags(fault_of::<T>(alloc, &[0]))),
+    ];
+    first_wrong(&rows)
+}
+
+#[test]
+fn keeps_tags_of_its_own_and_lists_them(rt: HostRuntime) {
     let alloc = rt.alloc();
     let rows = [
         ("Status::Continue", keeps::<Status>(alloc, &[100])),
         ("Status::NotFound", keeps::<Status>(alloc, &[251, 148, 1])),
-        ("Mixed::Third", keeps::<Mixed>(alloc, &[3])),
-        ("Mixed::Second", keeps::<Mixed>(alloc, &[2])),
     ];
-    assert!(rt; first_wrong(&rows).is_none());
+    all_hold(&rt, &rows);
+    none_wrong(&rt, wrong_of_mixed::<Mixed>(alloc));
 }
 
 #[test]
@@ -46,7 +78,7 @@ fn keeps_variants_of_many_fields(rt: HostRuntime) {
         ),
         ("Turn::Won", keeps::<Turn>(alloc, &[4, 251, 44, 1, 0, 255])),
     ];
-    assert!(rt; first_wrong(&rows).is_none());
+    all_hold(&rt, &rows);
 }
 
 #[test]
@@ -60,7 +92,7 @@ fn keeps_enums_with_type_parameters(rt: HostRuntime) {
             keeps::<Reply<bool>>(alloc, &[2, 251, 148, 1, 2, 110, 111]),
         ),
     ];
-    assert!(rt; first_wrong(&rows).is_none());
+    all_hold(&rt, &rows);
 }
 
 /// Whether these bytes are read as a packet of this payload, and it is written as them.
@@ -84,26 +116,4 @@ fn keeps_lent_bytes_that_may_be_missing(rt: HostRuntime) {
     let alloc = rt.alloc();
     assert!(rt; keeps_packet(alloc, &[7, 0], None));
     assert!(rt; keeps_packet(alloc, &[7, 1, 2, 5, 6], Some(&[5, 6])));
-}
-
-#[test]
-fn names_a_tag_that_no_variant_has(rt: HostRuntime) {
-    assert!(rt; refuses_tag::<Figure>(rt.alloc(), 4, "Figure", 3));
-}
-
-#[test]
-fn lists_tags_that_do_not_stand_in_order(rt: HostRuntime) {
-    let Some(
-        DecodeError::UnlistedVariant {
-            type_name,
-            found: 0,
-            allowed,
-        },
-    ) = fault_of::<Mixed>(rt.alloc(), &[0])
-    else {
-        assert!(rt; false);
-        return;
-    };
-    assert!(rt; type_name.as_str() == "Mixed");
-    assert!(rt; allowed.as_slice() == [3, 1, 2].as_slice());
 }

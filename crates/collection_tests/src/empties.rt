@@ -1,6 +1,7 @@
 //! What is read after a length of 0: nothing, for one byte, within a limit of 8. Where it takes no memory none may be
-//! refused.
+//! refused. And a length that passes the limit is refused before memory is asked for.
 
+use crate::asserts::all_hold;
 use bincode::config::{self, Config};
 use bincode::de::{BorrowDecode, Decode};
 use bincode::enc::Encode;
@@ -19,11 +20,21 @@ use std::collections::{BTreeMap, BTreeSet, BinaryHeap, HashMap, HashSet, VecDequ
 use std::path::{Path, PathBuf};
 use std::rc::{Rc, RcSlice, RcStr};
 use std::sync::Arc;
-use test_helpers::checks::{decoded, is_passed};
-use test_helpers::rows::first_wrong;
+use test_helpers::checks::{decoded, is_passed, within};
 
 /// A length of 0, and a byte after it.
 static NONE: [u8; 2] = [0, 9];
+
+/// A length of 2^64 - 1, behind which nothing stands.
+const HUGE: [u8; 9] = [253, 255, 255, 255, 255, 255, 255, 255, 255];
+
+/// A length of 100000, behind which nothing stands.
+const LONG: [u8; 5] = [252, 160, 134, 1, 0];
+
+/// Whether the limit of 100000 refuses both lengths, at the first call: no memory was asked for.
+fn passes_limit<T: Decode<()>>(alloc: Global) -> bool {
+    is_passed(within::<T, 100_000>(alloc, &HUGE)) && is_passed(within::<T, 100_000>(alloc, &LONG))
+}
 
 /// Whether what was read took one byte, and is written as a length of 0.
 fn is_none<T: Encode>(outcome: Result<(T, usize), DecodeError>) -> bool {
@@ -35,13 +46,14 @@ fn is_none<T: Encode>(outcome: Result<(T, usize), DecodeError>) -> bool {
     matches!(written, Ok(1)) && slice == NONE
 }
 
-/// Whether nothing is read, without a limit and within 8, and 7 are too few.
+/// Whether nothing is read, without a limit and within 8, and 7 are too few. And whether lengths pass the limit.
 fn reads_none<T: Encode + Decode<()>>(alloc: Global) -> bool {
     let eight = config::standard().with_limit::<8>();
     let seven = config::standard().with_limit::<7>();
     is_none(decode_from_slice::<T, _>(alloc, &NONE, config::standard()))
         && is_none(decode_from_slice::<T, _>(alloc, &NONE, eight))
         && is_passed(decode_from_slice::<T, _>(alloc, &NONE, seven))
+        && passes_limit::<T>(alloc)
 }
 
 /// Whether nothing is borrowed, without a limit and within 8, and 7 are too few.
@@ -62,7 +74,7 @@ fn gives_none<'a, T: Encode + Decode<()> + BorrowDecode<&'a [u8], ()>>(
 }
 
 #[test]
-fn reads_nothing_without_memory(rt: HostRuntime) {
+fn reads_nothing_and_refuses_lengths_without_memory(rt: HostRuntime) {
     let alloc = rt.alloc();
     let rows = [
         ("String", gives_none::<String>(alloc, &NONE)),
@@ -86,7 +98,7 @@ fn reads_nothing_without_memory(rt: HostRuntime) {
         ("HashMap", gives_none::<HashMap<u16, u8>>(alloc, &NONE)),
         ("Pack", reads_none::<Pack<u16>>(alloc)),
     ];
-    assert_eq!(rt; first_wrong(&rows), None);
+    all_hold(&rt, &rows);
 }
 
 /// What is read into an arena after a length of 0.
@@ -117,10 +129,10 @@ fn reads_nothing_into_an_arena(rt: HostRuntime) {
     assert!(&rt; bump.allocated_bytes() == 0);
 }
 
-/// What is read of a length of 0 within 8. Retries once if an allocation is refused.
+/// Whether nothing is read within 8, and lengths pass the limit. Where memory is refused it is read once more.
 fn read_again<T: Encode + Decode<()>>(alloc: Global) -> bool {
     let eight = config::standard().with_limit::<8>();
-    is_none(decoded::<T, _>(alloc, &NONE, eight))
+    is_none(decoded::<T, _>(alloc, &NONE, eight)) && passes_limit::<T>(alloc)
 }
 
 /// What is borrowed of a length of 0 within 8. Retries once if an allocation is refused.
@@ -142,7 +154,7 @@ fn given_again<'a, T: Encode + Decode<()> + BorrowDecode<&'a [u8], ()>>(
 
 /// A pointer has a block of its own, whatever it holds.
 #[test]
-fn reads_nothing_into_a_pointer(rt: HostRuntime) {
+fn reads_nothing_and_refuses_lengths_into_a_pointer(rt: HostRuntime) {
     let alloc = rt.alloc();
     let rows = [
         ("RcStr", given_again::<RcStr>(alloc, &NONE)),
@@ -151,5 +163,5 @@ fn reads_nothing_into_a_pointer(rt: HostRuntime) {
         ("Rc", given_again::<Rc<HashMap<u16, u8>>>(alloc, &NONE)),
         ("Arc", given_again::<Arc<String>>(alloc, &NONE)),
     ];
-    assert_eq!(rt; first_wrong(&rows), None);
+    all_hold(&rt, &rows);
 }

@@ -1,5 +1,6 @@
 //! An enum with one part or none for each variant, under limits, and the error of an unknown tag.
 
+use crate::asserts::{all_hold, none_wrong};
 use bincode::config::{self, Config};
 use bincode::de::{BorrowDecode, Decode, Named};
 use bincode::error::DecodeError;
@@ -111,31 +112,7 @@ fn lends<Less: Config, Enough: Config>(
     matches!(lent, Ok((_, taken)) if taken == word.len()) && is_passed(refused)
 }
 
-/// A tag charges 4 and a number 4; a text its length, 8, and its bytes. In a list an event claims 28: the tag, and what
-/// a `String` claims, which is the most.
-#[test]
-fn charges_tags_and_parts(rt: HostRuntime) {
-    let alloc = rt.alloc();
-    let rows = [
-        (
-            "owned stop",
-            needs_just::<Owned, 7, 8>(alloc, &STOP, &FIXED_STOP),
-        ),
-        (
-            "owned note",
-            needs_just::<Owned, 35, 36>(alloc, &NOTE, &FIXED_NOTE),
-        ),
-        (
-            "a list of owned ones",
-            needs_just::<Vec<Owned>, 35, 36>(alloc, &ONE, &FIXED_ONE),
-        ),
-        ("lent stop", lends_just::<7, 8>(alloc, &STOP, &FIXED_STOP)),
-        ("lent note", lends_just::<35, 36>(alloc, &NOTE, &FIXED_NOTE)),
-    ];
-    assert_eq!(rt; first_wrong(&rows), None);
-}
-
-/// Whether the error is that of the tag 3, with 0 to 2 as the valid tags, under this name.
+/// Whether the tag 3 is told, where those from 0 to 2 are allowed, under this name.
 fn is_no_tag<T: Drop>(outcome: Result<T, DecodeError>, name: &str) -> bool {
     let Err(
         DecodeError::UnexpectedVariant {
@@ -177,13 +154,46 @@ fn lent<'a, T: BorrowDecode<&'a [u8], ()>>(
     }
 }
 
-/// Owned or borrowed, the error of an unknown tag names the enum that was decoded.
+/// Which row of an event that owns its text does not hold, alone or in a list.
+fn wrong_of_owned<T: Decode<()>>(alloc: Global) -> Option<&'static str> {
+    let rows = [
+        ("stop", needs_just::<T, 7, 8>(alloc, &STOP, &FIXED_STOP)),
+        ("note", needs_just::<T, 35, 36>(alloc, &NOTE, &FIXED_NOTE)),
+        (
+            "list",
+            needs_just::<Vec<T>, 35, 36>(alloc, &ONE, &FIXED_ONE),
+        ),
+        (
+            "a tag that none has",
+            is_no_tag(decoded::<T, _>(alloc, &[3], config::standard()), "Event"),
+        ),
+    ];
+    first_wrong(&rows)
+}
+
+/// A tag charges 4 and a number 4; a text its length, 8, and its bytes. In a list an event claims 28: the tag, and what
+/// a `String` claims, which is the most. The error of a tag that no variant has names the enum that was read.
+#[test]
+fn charges_tags_and_parts_of_what_owns(rt: HostRuntime) {
+    none_wrong(&rt, wrong_of_owned::<Owned>(rt.alloc()));
+}
+
+/// The same of what is lent.
+#[test]
+fn charges_tags_and_parts_of_what_is_lent(rt: HostRuntime) {
+    let alloc = rt.alloc();
+    let rows = [
+        ("lent stop", lends_just::<7, 8>(alloc, &STOP, &FIXED_STOP)),
+        ("lent note", lends_just::<35, 36>(alloc, &NOTE, &FIXED_NOTE)),
+    ];
+    all_hold(&rt, &rows);
+}
+
+/// Also where it is lent, the error of a tag that no variant has names the enum that was read.
 #[test]
 fn names_the_enum_of_a_tag(rt: HostRuntime) {
     let alloc = rt.alloc();
-    let owned: Result<(Owned, usize), DecodeError> = decoded(alloc, &[3], config::standard());
     let rows = [
-        ("owned event", is_no_tag(owned, "Event")),
         ("lent event", is_no_tag(lent::<Event>(alloc, &[3]), "Event")),
         (
             "event that owns",
@@ -191,5 +201,5 @@ fn names_the_enum_of_a_tag(rt: HostRuntime) {
         ),
         ("code", is_no_listed_tag(lent::<Code>(alloc, &[2]), "Code")),
     ];
-    assert_eq!(rt; first_wrong(&rows), None);
+    all_hold(&rt, &rows);
 }

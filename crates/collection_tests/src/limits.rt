@@ -1,69 +1,30 @@
 //! What containers claim of the limit, and when.
 
+use crate::asserts::{all_hold, none_wrong};
 use bincode::config::{self, Config};
 use bincode::de::Decode;
 use bincode::error::{DecodeError, IntegerType};
-use bincode::ffi::CString;
 use bincode::time::Duration;
 use proved_callers::calls::round_trip_of_numbers;
 use std::alloc::Global;
-use std::borrow::{CowSlice, CowStr};
-use std::boxed::{BoxedSlice, BoxedStr};
-use std::collections::{BTreeMap, BTreeSet, BinaryHeap, HashMap, HashSet, VecDeque};
-use std::path::PathBuf;
-use std::rc::{RcSlice, RcStr};
-use test_helpers::checks::{decoded, decoded_within, fault_of, is_cut, is_passed, leaves, within};
+use std::collections::{BTreeMap, BTreeSet};
+use test_helpers::checks::{decoded, fault_of, is_cut, is_passed, leaves, within, within_just};
 use test_helpers::rows::first_wrong;
-
-/// A length of 2^64 - 1, and nothing after it.
-const HUGE: [u8; 9] = [253, 255, 255, 255, 255, 255, 255, 255, 255];
-
-/// A length of 100000, and nothing after it.
-const LONG: [u8; 5] = [252, 160, 134, 1, 0];
 
 /// 2^64 - 1 seconds and a second in nanoseconds.
 const NO_SPAN: [u8; 14] = [
     253, 255, 255, 255, 255, 255, 255, 255, 255, 252, 0, 202, 154, 59,
 ];
 
-/// Whether the limit of 100000 refuses both lengths, at the first call: no memory was asked for.
-fn passes_limit<T: Decode<()>>(alloc: Global) -> bool {
-    is_passed(within::<T, 100_000>(alloc, &HUGE)) && is_passed(within::<T, 100_000>(alloc, &LONG))
-}
-
-#[test]
-fn claims_before_it_reserves(rt: HostRuntime) {
-    let alloc = rt.alloc();
-    let rows = [
-        ("Vec", passes_limit::<Vec<u32>>(alloc)),
-        ("VecDeque", passes_limit::<VecDeque<u32>>(alloc)),
-        ("BinaryHeap", passes_limit::<BinaryHeap<u32>>(alloc)),
-        ("BTreeSet", passes_limit::<BTreeSet<u32>>(alloc)),
-        ("BTreeMap", passes_limit::<BTreeMap<u32, u32>>(alloc)),
-        ("HashSet", passes_limit::<HashSet<u32>>(alloc)),
-        ("HashMap", passes_limit::<HashMap<u32, u32>>(alloc)),
-        ("BoxedSlice", passes_limit::<BoxedSlice<u32>>(alloc)),
-        ("RcSlice", passes_limit::<RcSlice<u32>>(alloc)),
-        ("CowSlice", passes_limit::<CowSlice<'_, u32>>(alloc)),
-        ("String", passes_limit::<String>(alloc)),
-        ("BoxedStr", passes_limit::<BoxedStr>(alloc)),
-        ("RcStr", passes_limit::<RcStr>(alloc)),
-        ("CowStr", passes_limit::<CowStr<'_>>(alloc)),
-        ("PathBuf", passes_limit::<PathBuf>(alloc)),
-        ("CString", passes_limit::<CString>(alloc)),
-    ];
-    assert_eq!(rt; first_wrong(&rows), None);
-}
-
 #[test]
 fn refuses_room_that_cannot_be(rt: HostRuntime) {
-    let fault = fault_of::<Vec<u32>>(rt.alloc(), &HUGE);
+    let fault = fault_of::<Vec<u32>>(rt.alloc(), &[253, 255, 255, 255, 255, 255, 255, 255, 255]);
     assert!(rt; matches!(fault, Some(DecodeError::Memory)));
 }
 
 /// Whether a list of one empty list was read, in a list by itself.
-fn is_one_in_one(outcome: Result<(Vec<Vec<Vec<u8>>>, usize), DecodeError>) -> bool {
-    let Ok((lists, 3)) = outcome else {
+fn is_one_in_one(outcome: Option<Result<(Vec<Vec<Vec<u8>>>, usize), DecodeError>>) -> bool {
+    let Some(Ok((lists, 3))) = outcome else {
         return false;
     };
     let [list] = lists.as_slice() else {
@@ -76,22 +37,24 @@ fn is_one_in_one(outcome: Result<(Vec<Vec<Vec<u8>>>, usize), DecodeError>) -> bo
 }
 
 /// Whether 256 was read twice.
-fn is_twice_256(outcome: Result<(Vec<u16>, usize), DecodeError>) -> bool {
-    let Ok((numbers, 7)) = outcome else {
+fn is_twice_256(outcome: Option<Result<(Vec<u16>, usize), DecodeError>>) -> bool {
+    let Some(Ok((numbers, 7))) = outcome else {
         return false;
     };
     numbers.as_slice() == [256, 256].as_slice()
 }
 
 /// Whether 2 was found where an `Option` begins.
-fn is_no_option(outcome: Result<(Vec<Option<u8>>, usize), DecodeError>) -> bool {
-    let Err(
-        DecodeError::UnexpectedVariant {
-            type_name: _,
-            found: 2,
-            min: 0,
-            max: 1,
-        },
+fn is_no_option(outcome: Option<Result<(Vec<Option<u8>>, usize), DecodeError>>) -> bool {
+    let Some(
+        Err(
+            DecodeError::UnexpectedVariant {
+                type_name: _,
+                found: 2,
+                min: 0,
+                max: 1,
+            },
+        ),
     ) = outcome
     else {
         return false;
@@ -100,8 +63,8 @@ fn is_no_option(outcome: Result<(Vec<Option<u8>>, usize), DecodeError>) -> bool 
 }
 
 /// Whether the byte 255 was found where a `u16` begins.
-fn is_reserved(outcome: Result<(Vec<u16>, usize), DecodeError>) -> bool {
-    let Err(DecodeError::InvalidIntegerType { expected, found }) = outcome else {
+fn is_reserved(fault: Option<DecodeError>) -> bool {
+    let Some(DecodeError::InvalidIntegerType { expected, found }) = fault else {
         return false;
     };
     expected == IntegerType::U16 && found == IntegerType::Reserved
@@ -110,70 +73,57 @@ fn is_reserved(outcome: Result<(Vec<u16>, usize), DecodeError>) -> bool {
 /// A length of 2^32, and nothing after it.
 const LISTS: [u8; 9] = [253, 0, 0, 0, 0, 1, 0, 0, 0];
 
+/// Which row of lists of bytes in a list does not hold.
+fn wrong_of_lists<T: Decode<()>>(alloc: Global) -> Option<&'static str> {
+    let lists = [2, 1, 9, 1];
+    let within_56 = within_just::<T, 55, 56>(alloc, &lists);
+    let rows = [
+        ("two lists within 55 and 56", within_56.is_some_and(is_cut)),
+        (
+            "two lists",
+            is_cut(decoded::<T, _>(alloc, &lists, config::standard())),
+        ),
+        (
+            "many lists within 65536",
+            is_passed(within::<T, 65_536>(alloc, &LISTS)),
+        ),
+    ];
+    first_wrong(&rows)
+}
+
 /// For a list in a list 24 are claimed, and given back where it begins; for an `Option<u8>` and a `u16` 2 are.
 #[test]
 fn claims_for_what_lists_hold(rt: HostRuntime) {
     let alloc = rt.alloc();
-    let lists = [2, 1, 9, 1];
+    none_wrong(&rt, wrong_of_lists::<Vec<Vec<u8>>>(alloc));
     let numbers = [2, 251, 0, 1, 251, 0, 1];
     let rows = [
         (
-            "two lists within 55",
-            is_passed(decoded_within::<Vec<Vec<u8>>, 55>(alloc, &lists)),
+            "an empty list within 39 and 40",
+            is_one_in_one(within_just::<_, 39, 40>(alloc, &[1, 1, 0])),
         ),
         (
-            "two lists within 56",
-            is_cut(decoded_within::<Vec<Vec<u8>>, 56>(alloc, &lists)),
-        ),
-        (
-            "two lists",
-            is_cut(decoded::<Vec<Vec<u8>>, _>(alloc, &lists, config::standard())),
-        ),
-        (
-            "an empty list within 39",
-            is_passed(decoded_within::<Vec<Vec<Vec<u8>>>, 39>(alloc, &[1, 1, 0])),
-        ),
-        (
-            "an empty list within 40",
-            is_one_in_one(decoded_within::<_, 40>(alloc, &[1, 1, 0])),
-        ),
-        (
-            "many lists within 65536",
-            is_passed(within::<Vec<Vec<u8>>, 65_536>(alloc, &LISTS)),
-        ),
-        (
-            "options within 11",
-            is_passed(decoded_within::<Vec<Option<u8>>, 11>(alloc, &[2, 0, 2])),
-        ),
-        (
-            "options within 12",
-            is_no_option(decoded_within::<_, 12>(alloc, &[2, 0, 2])),
+            "options within 11 and 12",
+            is_no_option(within_just::<_, 11, 12>(alloc, &[2, 0, 2])),
         ),
         (
             "a reserved byte",
-            is_reserved(decoded(alloc, &[2, 255], config::standard())),
+            is_reserved(fault_of::<Vec<u16>>(alloc, &[2, 255])),
         ),
         (
-            "two numbers within 11",
-            is_passed(decoded_within::<Vec<u16>, 11>(alloc, &numbers)),
-        ),
-        (
-            "two numbers within 12",
-            is_twice_256(decoded_within::<_, 12>(alloc, &numbers)),
+            "two numbers within 11 and 12",
+            is_twice_256(within_just::<_, 11, 12>(alloc, &numbers)),
         ),
     ];
-    assert_eq!(rt; first_wrong(&rows), None);
+    all_hold(&rt, &rows);
 }
 
-/// The charge of a text and its length, of items that were not read, and of a `Duration`: a fault releases none of it,
-/// and claims no more.
+/// Of the room of the items that were not read, and of a span of time: a fault gives none of it back, and claims no
+/// more.
 #[test]
 fn keeps_the_charge_of_a_fault(rt: HostRuntime) {
     let alloc = rt.alloc();
     let rows = [
-        ("String", leaves::<String>(alloc, &[2, 195, 40], 90)),
-        ("BoxedStr", leaves::<BoxedStr>(alloc, &[2, 195, 40], 90)),
-        ("RcStr", leaves::<RcStr>(alloc, &[2, 195, 40], 90)),
         ("Vec", leaves::<Vec<bool>>(alloc, &[3, 1, 2], 89)),
         ("BTreeSet", leaves::<BTreeSet<bool>>(alloc, &[3, 1, 2], 89)),
         (
@@ -182,7 +132,7 @@ fn keeps_the_charge_of_a_fault(rt: HostRuntime) {
         ),
         ("Duration", leaves::<Duration>(alloc, &NO_SPAN, 88)),
     ];
-    assert_eq!(rt; first_wrong(&rows), None);
+    all_hold(&rt, &rows);
 }
 
 /// What is read back of a number and four under this configuration.

@@ -1,6 +1,6 @@
 //! Types of one's own, written and read.
 
-use bincode::checked::{encoded_length, round_trip};
+use crate::asserts::{all_equal, all_hold, none_wrong};
 use bincode::de::Decode;
 use bincode::de::read::SliceReader;
 use bincode::enc::Encode;
@@ -20,13 +20,30 @@ use own_types::table::Table;
 use own_types::track::Track;
 use std::alloc::Global;
 use test_helpers::checks::{
-    decoded_within, each_call_keeps, ends_at_each_place, fault_of, goes_on, refuses_tag, within,
+    decoded_within, each_call_keeps, ends_at_each_place, fault_of, goes_on, is_passed, reads_just,
+    refuses_tag, within, within_just,
 };
-use test_helpers::rows::{first_unequal, first_wrong};
+use test_helpers::rows::first_wrong;
 
 /// Whether this is a word of the type for each call, with bytes after it, and no prefix of it is one.
 fn has_word<T: Encode + Decode<()>>(alloc: Global, word: &[u8]) -> bool {
     each_call_keeps::<T>(alloc, word) && ends_at_each_place::<(), T>(alloc, word, ())
+}
+
+/// The same, and in a list the type claims so much.
+fn has_word_and_claim<T: Encode + Decode<()>>(alloc: Global, word: &[u8], claim: usize) -> bool {
+    has_word::<T>(alloc, word) && T::claim_size() == claim
+}
+
+/// The value of a word, if it is a word of the type as above.
+fn value_of<T: Encode + Decode<()>>(alloc: Global, word: &[u8], claim: usize) -> Option<T> {
+    if !has_word_and_claim::<T>(alloc, word, claim) {
+        return None;
+    }
+    match decoded_within::<T, 1000>(alloc, word) {
+        Ok((value, taken)) if taken == word.len() => Some(value),
+        _ => None,
+    }
 }
 
 #[test]
@@ -34,32 +51,14 @@ fn keeps_structs(rt: HostRuntime) {
     let alloc = rt.alloc();
     let track = [1, 99, 2, 1, 251, 44, 1, 2, 1];
     let rows = [
-        ("Foo", has_word::<Foo>(alloc, &[5, 10])),
-        ("Track", has_word::<Track>(alloc, &track)),
-        ("Even", has_word::<Even>(alloc, &[4])),
-        ("Book", has_word::<Book>(alloc, &BOOK)),
+        ("Track", has_word_and_claim::<Track>(alloc, &track, 50)),
         ("Pair", has_word::<Pair<u8, u16>>(alloc, &[7, 251, 44, 1])),
         (
             "Table",
             has_word::<Table<u16, bool>>(alloc, &[1, 97, 1, 2, 1, 1, 2]),
         ),
-        ("Report", has_word::<Report>(alloc, &REPORT)),
     ];
-    assert_eq!(rt; first_wrong(&rows), None);
-}
-
-#[test]
-fn keeps_each_variant(rt: HostRuntime) {
-    for word in [
-        [0].as_slice(),
-        &[1, 2, 97, 98, 251, 44, 1],
-        &[2, 1, 1, 99, 5],
-    ] {
-        assert!(rt; has_word::<Kind>(rt.alloc(), word));
-    }
-    for word in [[1].as_slice(), &[5], &[251, 44, 1]] {
-        assert!(rt; has_word::<Code>(rt.alloc(), word));
-    }
+    all_hold(&rt, &rows);
 }
 
 /// The word of a report of the station 5, in twelve fields.
@@ -68,15 +67,14 @@ const REPORT: [u8; 19] = [
 ];
 
 #[test]
-fn reads_a_report(rt: HostRuntime) {
-    let Ok((report, 19)) = decoded_within::<Report, 1000>(rt.alloc(), &REPORT) else {
+fn keeps_a_report(rt: HostRuntime) {
+    let Some(report) = value_of::<Report>(rt.alloc(), &REPORT, 53) else {
         assert!(rt; false);
         return;
     };
     assert!(rt; report.station == 5 && report.second == 300 && report.words.as_str() == "a");
     assert!(rt; report.temperature == -3 && report.pressure == 10132 && report.rain == 12);
     assert!(rt; report.wind_speed == 251 && report.wind_direction == 250 && report.sight == 9);
-    assert!(rt; Report::claim_size() == 53);
 }
 
 /// The word of a book of one contact, who works at `d` since 300 and was born in 1990, and of one note.
@@ -103,9 +101,26 @@ fn is_contact(contact: &Contact) -> bool {
         && company.as_str() == "d"
 }
 
+/// Whether the book is written into a slice as 24 bytes and read back. Where memory is refused it is read once more.
+fn comes_back(alloc: Global, book: &Book) -> bool {
+    let mut slice = [0; 30];
+    for _ in 0..2 {
+        let Ok(trip) = round_trip(alloc, book, &mut slice, config::standard()) else {
+            return false;
+        };
+        match trip.read {
+            Ok((again, taken)) => return trip.written == 24 && taken == 24 && again == *book,
+            Err(DecodeError::Memory) => {}
+            Err(_) => return false,
+        }
+    }
+    false
+}
+
 #[test]
-fn reads_a_book(rt: HostRuntime) {
-    let Ok((book, 24)) = decoded_within::<Book, 1000>(rt.alloc(), &BOOK) else {
+fn keeps_a_book(rt: HostRuntime) {
+    let alloc = rt.alloc();
+    let Some(book) = value_of::<Book>(alloc, &BOOK, 48) else {
         assert!(rt; false);
         return;
     };
@@ -116,68 +131,61 @@ fn reads_a_book(rt: HostRuntime) {
     assert!(rt; is_contact(contact));
     assert!(rt; matches!(encoded_length(contact, config::standard()), Ok(19)));
     assert!(rt; matches!(book.notes.get(&5), Some(note) if note.as_str() == "e"));
+    assert!(rt; comes_back(alloc, &book));
 }
 
-#[test]
-fn brings_a_book_back(rt: HostRuntime) {
-    let alloc = rt.alloc();
-    let Ok((book, 24)) = decoded_within::<Book, 1000>(alloc, &BOOK) else {
-        assert!(rt; false);
-        return;
-    };
-    let mut slice = [0; 30];
-    let Ok(mut trip) = round_trip(alloc, &book, &mut slice, config::standard()) else {
-        assert!(rt; false);
-        return;
-    };
-    assert!(rt; trip.written == 24);
-    if matches!(trip.read, Err(DecodeError::Memory)) {
-        let Ok(second) = round_trip(alloc, &book, &mut slice, config::standard()) else {
-            assert!(rt; false);
-            return;
-        };
-        trip = second;
+/// A value of this word, read of a reader with a byte behind it, if the type has the word and the claim.
+fn value_of_reader<T: Encode + Decode<()>>(
+    alloc: Global,
+    word: &[u8; 3],
+    claim: usize,
+) -> Option<T> {
+    if !has_word_and_claim::<T>(alloc, &word[..2], claim) {
+        return None;
     }
-    let Ok((again, 24)) = &trip.read else {
-        assert!(rt; false);
-        return;
-    };
-    assert!(rt; *again == book);
+    let mut reader = SliceReader::new(word);
+    let read: Result<T, DecodeError> = decode_from_reader(alloc, &mut reader, config::standard());
+    if reader.bytes_left() == 1 {
+        read.ok()
+    } else {
+        None
+    }
 }
 
 #[test]
 fn reads_from_a_reader(rt: HostRuntime) {
-    let mut reader = SliceReader::new(&[5, 10, 9]);
-    let read: Result<Foo, DecodeError> = decode_from_reader(
-        rt.alloc(),
-        &mut reader,
-        config::standard(),
-    );
-    assert!(rt; matches!(read, Ok(Foo { a: 5, b: 10 })));
-    assert!(rt; reader.bytes_left() == 1);
+    let read = value_of_reader::<Foo>(rt.alloc(), &[5, 10, 9], 8);
+    assert!(rt; matches!(read, Some(Foo { a: 5, b: 10 })));
+}
+
+/// Which row of `Kind` does not hold: its words, its private one within a limit, alone and in a list, and no tag.
+fn wrong_of_kind<T: Encode + Decode<()> + PartialEq>(
+    alloc: Global,
+    private: T,
+) -> Option<&'static str> {
+    let work = [1, 2, 97, 98, 251, 44, 1];
+    let rows = [
+        ("Private", has_word_and_claim::<T>(alloc, &[0], 30)),
+        ("Work", has_word::<T>(alloc, &work)),
+        ("Other", has_word::<T>(alloc, &[2, 1, 1, 99, 5])),
+        (
+            "Private within 3 and 4",
+            reads_just::<T, 3, 4>(alloc, &[0], private, 1),
+        ),
+        ("no tag", refuses_tag::<T>(alloc, 3, "Kind", 2)),
+    ];
+    first_wrong(&rows)
 }
 
 #[test]
-fn writes_a_code(rt: HostRuntime) {
-    let mut slice = [9u8; 5];
-    let length = encode_into_slice(Code::Late, &mut slice, config::legacy());
-    assert!(rt; matches!(length, Ok(4)));
-    assert!(rt; slice == [5, 0, 0, 0, 9]);
-}
-
-#[test]
-fn reads_kinds_within_a_limit(rt: HostRuntime) {
-    let private = within::<Kind, 4>(rt.alloc(), &[0]);
-    assert!(rt; matches!(private, Ok((Kind::Private, 1))));
-    let refused = within::<Kind, 3>(rt.alloc(), &[0]);
-    assert!(rt; matches!(refused, Err(DecodeError::LimitExceeded)));
+fn keeps_each_kind(rt: HostRuntime) {
+    none_wrong(&rt, wrong_of_kind(rt.alloc(), Kind::Private));
 }
 
 #[test]
 fn claims_for_kinds_in_lists(rt: HostRuntime) {
-    let refused = within::<Vec<Kind>, 37>(rt.alloc(), &[1, 0]);
-    assert!(rt; matches!(refused, Err(DecodeError::LimitExceeded)));
-    let Ok((kinds, 2)) = decoded_within::<Vec<Kind>, 38>(rt.alloc(), &[1, 0]) else {
+    let read = within_just::<Vec<Kind>, 37, 38>(rt.alloc(), &[1, 0]);
+    let Some(Ok((kinds, 2))) = read else {
         assert!(rt; false);
         return;
     };
@@ -185,26 +193,46 @@ fn claims_for_kinds_in_lists(rt: HostRuntime) {
     assert!(rt; matches!(kinds.first(), Some(Kind::Private)));
 }
 
-#[test]
-fn names_a_tag_that_no_variant_has(rt: HostRuntime) {
-    assert!(rt; refuses_tag::<Kind>(rt.alloc(), 3, "Kind", 2));
+/// Whether this code is written as its tag where integers are fixed.
+fn is_fixed_tag<T: Encode>(code: T) -> bool {
+    let mut slice = [9u8; 5];
+    let length = encode_into_slice(code, &mut slice, config::legacy());
+    matches!(length, Ok(4)) && slice == [5, 0, 0, 0, 9]
 }
 
-#[test]
-fn lists_tags_that_do_not_stand_in_order(rt: HostRuntime) {
+/// Whether the error of the tag 2 lists those of `Code`.
+fn lists_tags(fault: Option<DecodeError>) -> bool {
     let Some(
         DecodeError::UnlistedVariant {
             type_name,
             found: 2,
             allowed,
         },
-    ) = fault_of::<Code>(rt.alloc(), &[2])
+    ) = fault
     else {
-        assert!(rt; false);
-        return;
+        return false;
     };
-    assert!(rt; type_name.as_str() == "Code");
-    assert!(rt; allowed.as_slice() == [1, 5, 300].as_slice());
+    type_name.as_str() == "Code" && allowed.as_slice() == [1, 5, 300].as_slice()
+}
+
+/// Which row of `Code` does not hold: its words, one where integers are fixed, and the tags of an error.
+fn wrong_of_code<T: Encode + Decode<()>>(alloc: Global, late: T) -> Option<&'static str> {
+    let rows = [
+        ("1", has_word_and_claim::<T>(alloc, &[1], 4)),
+        ("5", has_word::<T>(alloc, &[5])),
+        ("300", has_word::<T>(alloc, &[251, 44, 1])),
+        ("fixed 5", is_fixed_tag(late)),
+        (
+            "tags that are listed",
+            lists_tags(fault_of::<T>(alloc, &[2])),
+        ),
+    ];
+    first_wrong(&rows)
+}
+
+#[test]
+fn keeps_each_code(rt: HostRuntime) {
+    none_wrong(&rt, wrong_of_code(rt.alloc(), Code::Late));
 }
 
 /// Whether this is the fault of an enum without variants, under this name.
@@ -215,17 +243,22 @@ fn is_empty_enum<T: Drop>(outcome: Result<T, DecodeError>, name: &str) -> bool {
     type_name.as_str() == name
 }
 
+/// Which row of an enum without variants does not hold.
+fn wrong_of_never<T: Decode<()>>(alloc: Global) -> Option<&'static str> {
+    let mut reader = SliceReader::new(&[0]);
+    let read: Result<T, DecodeError> = decode_from_reader(alloc, &mut reader, config::standard());
+    let rows = [
+        ("slice", is_empty_enum(within::<T, 0>(alloc, &[]), "Never")),
+        ("reader", is_empty_enum(read, "Never")),
+        ("byte that is left", reader.bytes_left() == 1),
+        ("claim", T::claim_size() == 1),
+    ];
+    first_wrong(&rows)
+}
+
 #[test]
 fn never_reads(rt: HostRuntime) {
-    assert!(rt; is_empty_enum(within::<Never, 0>(rt.alloc(), &[]), "Never"));
-    let mut reader = SliceReader::new(&[0]);
-    let read: Result<Never, DecodeError> = decode_from_reader(
-        rt.alloc(),
-        &mut reader,
-        config::standard(),
-    );
-    assert!(rt; is_empty_enum(read, "Never"));
-    assert!(rt; reader.bytes_left() == 1);
+    none_wrong(&rt, wrong_of_never::<Never>(rt.alloc()));
 }
 
 /// Whether this is an error of a type's own with this text.
@@ -236,31 +269,28 @@ fn is_other<T: Drop>(outcome: Result<T, DecodeError>, text: &str) -> bool {
     told.as_str() == text
 }
 
-#[test]
-fn refuses_odd_numbers(rt: HostRuntime) {
-    let refused = within::<Even, 0>(rt.alloc(), &[3]);
-    assert!(rt; matches!(refused, Err(DecodeError::LimitExceeded)));
-    assert!(rt; is_other(within::<Even, 1>(rt.alloc(), &[3]), "odd"));
+/// Which row of even numbers does not hold: 4, and 3, which is refused behind its claim. The byte of a number that fails
+/// its test is taken, and no other.
+fn wrong_of_even<T: Encode + Decode<()>>(alloc: Global) -> Option<&'static str> {
+    let rows = [
+        ("4", has_word_and_claim::<T>(alloc, &[4], 1)),
+        ("3 within 0", is_passed(within::<T, 0>(alloc, &[3]))),
+        ("3 within 1", is_other(within::<T, 1>(alloc, &[3]), "odd")),
+        ("what follows 3", goes_on::<T>(alloc, &[3, 77])),
+    ];
+    first_wrong(&rows)
 }
 
-/// The byte of a number that fails its test is taken, and no other.
 #[test]
-fn goes_on_behind_an_odd_number(rt: HostRuntime) {
-    assert!(rt; goes_on::<Even>(rt.alloc(), &[3, 77]));
+fn keeps_even_numbers_and_refuses_odd_ones(rt: HostRuntime) {
+    none_wrong(&rt, wrong_of_even::<Even>(rt.alloc()));
 }
 
 #[test]
 fn claims_what_own_types_claim(rt: HostRuntime) {
     let rows = [
-        ("Foo", Foo::claim_size(), 8),
         ("Pack", Pack::<u32>::claim_size(), 24),
-        ("Code", Code::claim_size(), 4),
-        ("Never", Never::claim_size(), 1),
-        ("Even", Even::claim_size(), 1),
-        ("Track", Track::claim_size(), 50),
-        ("Kind", Kind::claim_size(), 30),
         ("Contact", Contact::claim_size(), 91),
-        ("Book", Book::claim_size(), 48),
     ];
-    assert_eq!(rt; first_unequal(&rows), None);
+    all_equal(&rt, &rows);
 }

@@ -1,5 +1,6 @@
 //! What is reserved for a list: the room that its length claims, and no more.
 
+use crate::asserts::all_hold;
 use bincode::config;
 use bincode::de::Decode;
 use bincode::ffi::CString;
@@ -11,7 +12,6 @@ use std::alloc::{AllocError, Global};
 use std::collections::{BinaryHeap, HashMap, HashSet, VecDeque};
 use std::path::PathBuf;
 use test_helpers::checks::{decoded, decoded_with, either};
-use test_helpers::rows::first_wrong;
 
 /// The word of the list of the numbers from 1 to 100, of which each takes a byte, and of the text of these bytes.
 fn hundred() -> [u8; 101] {
@@ -76,7 +76,7 @@ fn reserves_what_lists_hold(rt: HostRuntime) {
             matches!(&pack, Some(it) if it.items.capacity() == 100),
         ),
     ];
-    assert_eq!(rt; first_wrong(&rows), None);
+    all_hold(&rt, &rows);
 }
 
 /// A set with room for a hundred.

@@ -1,12 +1,14 @@
 //! Numbers are read alike, however many bytes a reader buffers.
 
+use self::Told::{Big, Ends, Little, Wide};
+use crate::asserts::none_wrong;
 use bincode::config::{self, Config};
 use bincode::de::Decode;
 use bincode::decode_from_reader;
+use bincode::error::IntegerType::{I16, I32, I64, I128, Isize, Reserved, U16, U32, U64, U128};
 use bincode::error::{DecodeError, IntegerType};
 use proved_callers::shows::Shows;
 use std::alloc::Global;
-use test_helpers::rows::first_wrong;
 
 /// The longest window that a number peeks.
 const MOST: usize = 17;
@@ -94,126 +96,154 @@ fn ends<T: Decode<()>>(alloc: Global, word: &[u8]) -> bool {
     true
 }
 
-#[test]
-fn reads_numbers_however_much_is_shown(rt: HostRuntime) {
-    let alloc = rt.alloc();
+/// What is told of an input, however much of it is shown.
+#[derive(Clone, Copy)]
+enum Told<T> {
+    /// The number, whose lowest byte comes first.
+    Little(T),
+    /// The number, whose highest byte comes first.
+    Big(T),
+    /// A number of the first type was expected, and the first byte is one of the second.
+    Wide(IntegerType, IntegerType),
+    Ends,
+}
+
+/// The first row of a type that is told otherwise.
+fn first_untold<T: Decode<()> + PartialEq + Copy>(
+    alloc: Global,
+    rows: &[(&'static str, &[u8], Told<T>)],
+) -> Option<&'static str> {
     let little = config::standard();
-    let big = config::standard().with_big_endian();
-    assert!(rt; reads(alloc, &[251], little, 251u8));
-    assert!(rt; reads(alloc, &[10], little, 10u16));
-    assert!(rt; reads(alloc, &[251, 0, 10], little, 2_560u16));
-    assert!(rt; reads(alloc, &[251, 0, 10], big, 10u16));
-    assert!(rt; reads(alloc, &[250], little, 250u32));
-    assert!(rt; reads(alloc, &[251, 251, 0], little, 251u32));
-    assert!(rt; reads(alloc, &[252, 0, 0, 1, 0], little, 65_536u32));
-    assert!(rt;
-        reads(
-            alloc,
-            &[253, 0, 0, 0, 0, 0, 0, 0, 10],
-            little,
-            720_575_940_379_279_360u64
-        )
-    );
-    assert!(rt; reads(alloc, &[253, 0, 0, 0, 0, 0, 0, 0, 10], big, 10u64));
-    assert!(rt;
-        reads(
-            alloc,
-            &[254, 0, 0, 0, 0, 0, 0, 0, 0, 0, 0, 0, 0, 0, 0, 0, 10],
-            big,
-            10u128
-        )
-    );
-    assert!(rt; reads(alloc, &[1], little, -1i16));
-    assert!(rt; reads(alloc, &[251, 254, 255], little, i16::MAX));
-    assert!(rt; reads(alloc, &[252, 0, 1, 56, 128], big, 40_000i32));
-    assert!(rt;
-        reads(
-            alloc,
-            &[253, 0, 188, 160, 101, 1, 0, 0, 0],
-            little,
-            3_000_000_000i64
-        )
-    );
-    assert!(rt; reads(alloc, &[3], little, -2i128));
+    let big = little.with_big_endian();
+    for (name, word, told) in rows {
+        let holds = match *told {
+            Little(number) => reads(alloc, word, little, number),
+            Big(number) => reads(alloc, word, big, number),
+            Wide(expected, found) => refuses::<T>(alloc, word, expected, found),
+            Ends => ends::<T>(alloc, word),
+        };
+        if !holds {
+            return Some(*name);
+        }
+    }
+    None
 }
 
 #[test]
-fn reads_the_least_and_the_greatest_however_much_is_shown(rt: HostRuntime) {
+fn tells_of_short_unsigned_numbers_however_much_is_shown(rt: HostRuntime) {
     let alloc = rt.alloc();
-    let little = config::standard();
-    let big = config::standard().with_big_endian();
-    let greatest = [
-        254, 255, 255, 255, 255, 255, 255, 255, 255, 255, 255, 255, 255, 255, 255, 255, 255,
+    none_wrong(
+        &rt,
+        first_untold(alloc, &[("u8 251", &[251], Little(251u8))]),
+    );
+    let rows: [(_, &[u8], Told<u16>); 7] = [
+        ("u16 10", &[10], Little(10)),
+        ("u16 2560", &[251, 0, 10], Little(2_560)),
+        ("big u16 10", &[251, 0, 10], Big(10)),
+        ("u16 of 32 bits", &[252], Wide(U16, U32)),
+        ("u16 of a reserved byte", &[255], Wide(U16, Reserved)),
+        ("u16 of a tag", &[251], Ends),
+        ("u16 of a tag and a byte", &[251, 0], Ends),
     ];
-    let least = [253, 255, 255, 255, 255, 255, 255, 255, 255];
-    let long = [254, 0, 0, 0, 0, 0, 0, 0, 0, 0, 0, 0, 0, 0, 0, 0, 10];
-    let rows = [
-        ("65535", reads(alloc, &[251, 255, 255], little, 65_535u32)),
-        ("big 65535", reads(alloc, &[251, 255, 255], big, 65_535u32)),
-        ("2^128 - 1", reads(alloc, &greatest, little, u128::MAX)),
-        (
-            "little 10 times 2^120",
-            reads(
-                alloc,
-                &long,
-                little,
-                13_292_279_957_849_158_729_038_070_602_803_445_760u128,
-            ),
-        ),
-        ("256", reads(alloc, &[251, 0, 2], little, 256i16)),
-        ("big 256", reads(alloc, &[251, 2, 0], big, 256i16)),
-        ("-2^63", reads(alloc, &least, little, i64::MIN)),
-        ("-1", reads(alloc, &[255], little, -1i8)),
-        ("-11", reads(alloc, &[21], little, -11i128)),
-        (
-            "little 40000",
-            reads(alloc, &[252, 128, 56, 1, 0], little, 40_000i32),
-        ),
+    none_wrong(&rt, first_untold(alloc, &rows));
+    let rows: [(_, &[u8], Told<u32>); 6] = [
+        ("u32 250", &[250], Little(250)),
+        ("u32 251", &[251, 251, 0], Little(251)),
+        ("u32 65536", &[252, 0, 0, 1, 0], Little(65_536)),
+        ("u32 65535", &[251, 255, 255], Little(65_535)),
+        ("big u32 65535", &[251, 255, 255], Big(65_535)),
+        ("u32 of no byte", &[], Ends),
     ];
-    assert_eq!(rt; first_wrong(&rows), None);
+    none_wrong(&rt, first_untold(alloc, &rows));
 }
 
 #[test]
-fn refuses_tags_however_much_is_shown(rt: HostRuntime) {
+fn tells_of_long_unsigned_numbers_however_much_is_shown(rt: HostRuntime) {
     let alloc = rt.alloc();
-    assert!(rt; refuses::<u16>(alloc, &[252], IntegerType::U16, IntegerType::U32));
-    assert!(rt; refuses::<i16>(alloc, &[252], IntegerType::I16, IntegerType::I32));
-    assert!(rt;
-        refuses::<u64>(
-            alloc,
+    let ten = [253, 0, 0, 0, 0, 0, 0, 0, 10];
+    let rows: [(_, &[u8], Told<u64>); 4] = [
+        ("u64 10 times 2^56", &ten, Little(720_575_940_379_279_360)),
+        ("big u64 10", &ten, Big(10)),
+        (
+            "u64 of 128 bits",
             &[254, 0, 0, 0, 0, 0, 0, 0, 0],
-            IntegerType::U64,
-            IntegerType::U128
-        )
-    );
-    assert!(rt;
-        refuses::<u128>(
-            alloc,
+            Wide(U64, U128),
+        ),
+        ("u64 of a tag and five bytes", &[253, 0, 0, 0, 9, 9], Ends),
+    ];
+    none_wrong(&rt, first_untold(alloc, &rows));
+    let ten = [254, 0, 0, 0, 0, 0, 0, 0, 0, 0, 0, 0, 0, 0, 0, 0, 10];
+    let rows: [(_, &[u8], Told<u128>); 4] = [
+        ("big u128 10", &ten, Big(10)),
+        (
+            "u128 10 times 2^120",
+            &ten,
+            Little(13_292_279_957_849_158_729_038_070_602_803_445_760),
+        ),
+        (
+            "u128 2^128 - 1",
+            &[
+                254, 255, 255, 255, 255, 255, 255, 255, 255, 255, 255, 255, 255, 255, 255, 255, 255,
+            ],
+            Little(u128::MAX),
+        ),
+        (
+            "u128 of a reserved byte",
             &[255, 0, 0, 0, 0, 0, 0, 0, 0, 0, 0, 0, 0, 0, 0, 0, 0],
-            IntegerType::U128,
-            IntegerType::Reserved
-        )
-    );
-    assert!(rt; refuses::<isize>(alloc, &[254], IntegerType::Isize, IntegerType::I128));
-    assert!(rt; refuses::<u16>(alloc, &[255], IntegerType::U16, IntegerType::Reserved));
-    assert!(rt; refuses::<i64>(alloc, &[255], IntegerType::I64, IntegerType::Reserved));
+            Wide(U128, Reserved),
+        ),
+    ];
+    none_wrong(&rt, first_untold(alloc, &rows));
 }
 
 #[test]
-fn ends_however_much_is_shown(rt: HostRuntime) {
+fn tells_of_short_signed_numbers_however_much_is_shown(rt: HostRuntime) {
     let alloc = rt.alloc();
-    let rows = [
-        ("no byte", ends::<u32>(alloc, &[])),
-        ("a tag", ends::<u16>(alloc, &[251])),
-        ("a tag and a byte", ends::<u16>(alloc, &[251, 0])),
-        ("a tag of i32", ends::<i32>(alloc, &[251])),
-        ("a tag and a byte of i32", ends::<i32>(alloc, &[251, 0])),
-        (
-            "a tag and five bytes",
-            ends::<u64>(alloc, &[253, 0, 0, 0, 9, 9]),
-        ),
+    none_wrong(&rt, first_untold(alloc, &[("i8 -1", &[255], Little(-1i8))]));
+    let rows: [(_, &[u8], Told<i16>); 5] = [
+        ("i16 -1", &[1], Little(-1)),
+        ("i16 32767", &[251, 254, 255], Little(i16::MAX)),
+        ("i16 256", &[251, 0, 2], Little(256)),
+        ("big i16 256", &[251, 2, 0], Big(256)),
+        ("i16 of 32 bits", &[252], Wide(I16, I32)),
     ];
-    assert_eq!(rt; first_wrong(&rows), None);
+    none_wrong(&rt, first_untold(alloc, &rows));
+    let rows: [(_, &[u8], Told<i32>); 4] = [
+        ("big i32 40000", &[252, 0, 1, 56, 128], Big(40_000)),
+        ("i32 40000", &[252, 128, 56, 1, 0], Little(40_000)),
+        ("i32 of a tag", &[251], Ends),
+        ("i32 of a tag and a byte", &[251, 0], Ends),
+    ];
+    none_wrong(&rt, first_untold(alloc, &rows));
+}
+
+#[test]
+fn tells_of_long_signed_numbers_however_much_is_shown(rt: HostRuntime) {
+    let alloc = rt.alloc();
+    let rows: [(_, &[u8], Told<i64>); 3] = [
+        (
+            "i64 3000000000",
+            &[253, 0, 188, 160, 101, 1, 0, 0, 0],
+            Little(3_000_000_000),
+        ),
+        (
+            "i64 -2^63",
+            &[253, 255, 255, 255, 255, 255, 255, 255, 255],
+            Little(i64::MIN),
+        ),
+        ("i64 of a reserved byte", &[255], Wide(I64, Reserved)),
+    ];
+    none_wrong(&rt, first_untold(alloc, &rows));
+    let rows: [(_, &[u8], Told<i128>); 2] = [
+        ("i128 -2", &[3], Little(-2)),
+        ("i128 -11", &[21], Little(-11)),
+    ];
+    none_wrong(&rt, first_untold(alloc, &rows));
+    let isize_of_128 = first_untold::<isize>(
+        alloc,
+        &[("isize of 128 bits", &[254], Wide(Isize, I128))],
+    );
+    none_wrong(&rt, isize_of_128);
 }
 
 /// A tag that is refused is consumed unless it is buffered with what might follow it.

@@ -1,5 +1,6 @@
 //! Borrowed writers, and writers that count: the length of a number is announced once, through each reference.
 
+use crate::asserts::all_hold;
 use bincode::config::{self, Config};
 use bincode::enc::Encode;
 use bincode::enc::write::{SizeWriter, VecWriter};
@@ -9,7 +10,6 @@ use bincode_io::room_counter::RoomCounter;
 use std::alloc::Global;
 use std::net::{Ipv4Addr, SocketAddrV4};
 use test_helpers::checks::either;
-use test_helpers::rows::first_wrong;
 
 /// What a writer without room holds of the longest number, written through a reference to it.
 fn held_by_lent(alloc: Global) -> Result<Vec<u8>, EncodeError> {
@@ -58,26 +58,26 @@ fn takes<T: Encode>(value: T, count: usize) -> bool {
     counted(&value, config::standard()) == [count; 4]
 }
 
-/// Whether each counter does so with fixed integers.
-fn takes_fixed<T: Encode>(value: T, count: usize) -> bool {
-    counted(&value, config::legacy()) == [count; 4]
+/// The same, and so many where integers are fixed.
+fn takes_both<T: Encode>(value: T, count: usize, fixed: usize) -> bool {
+    counted(&value, config::standard()) == [count; 4]
+        && counted(&value, config::legacy()) == [fixed; 4]
 }
 
 #[test]
 fn counts_each_number_once(rt: HostRuntime) {
     let rows = [
-        ("250", takes(250u16, 1)),
-        ("251", takes(251u16, 3)),
+        ("250", takes_both(250u16, 1, 2)),
+        ("251", takes_both(251u16, 3, 2)),
         ("65,536", takes(65_536u32, 5)),
         ("2^32", takes(1u64 << 32, 9)),
-        ("2^64", takes(1u128 << 64, 17)),
+        ("7", takes_both(7u128, 1, 16)),
+        ("2^64", takes_both(1u128 << 64, 17, 16)),
         ("-126", takes(-126i64, 3)),
         ("-2^31", takes(i32::MIN, 5)),
         ("usize", takes(251usize, 3)),
-        ("fixed u16", takes_fixed(251u16, 2)),
-        ("fixed u128", takes_fixed(7u128, 16)),
     ];
-    assert_eq!(rt; first_wrong(&rows), None);
+    all_hold(&rt, &rows);
 }
 
 #[test]
@@ -85,16 +85,14 @@ fn counts_each_part_once(rt: HostRuntime) {
     let socket = SocketAddrV4::new(Ipv4Addr::new(1, 2, 3, 4), 300);
     let outcome: Result<u8, u64> = Err(1 << 32);
     let rows = [
-        ("enum", takes(outcome, 1 + 9)),
-        ("list", takes([300u32, 7].as_slice(), 1 + 3 + 1)),
+        ("enum", takes_both(outcome, 1 + 9, 4 + 8)),
+        ("list", takes_both([300u32, 7].as_slice(), 1 + 3 + 1, 8 + 8)),
         ("text", takes("文", 1 + 3)),
         ("character", takes('文', 3)),
         ("socket", takes(socket, 4 + 3)),
         ("row", takes((300u32, "ab", Some(70_000u32)), 3 + 3 + 6)),
-        ("fixed enum", takes_fixed(outcome, 4 + 8)),
-        ("fixed list", takes_fixed([300u32, 7].as_slice(), 8 + 8)),
     ];
-    assert_eq!(rt; first_wrong(&rows), None);
+    all_hold(&rt, &rows);
 }
 
 /// How much room the vector of a value has.

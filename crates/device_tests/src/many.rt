@@ -1,5 +1,6 @@
 //! Collections of more than a hundred thousand items, and texts of more than half a megabyte.
 
+use crate::asserts::all_hold;
 use crate::pieces::word_of;
 use bincode::config;
 use bincode::de::Decode;
@@ -8,7 +9,6 @@ use std::alloc::Global;
 use std::collections::{BTreeMap, BTreeSet, BinaryHeap, HashMap, HashSet};
 use std::path::PathBuf;
 use test_helpers::checks::{decoded, either};
-use test_helpers::rows::first_wrong;
 
 /// What is read of a word with a byte after it.
 fn read<T: Decode<()>>(alloc: Global, input: &[u8]) -> Option<T> {
@@ -45,7 +45,7 @@ fn reads_many_items(rt: HostRuntime) {
         ("HashSet", matches!(&hashed_set, Some(it) if it.len() == 1)),
         ("HashMap", matches!(&hashed_map, Some(it) if it.len() == 1)),
     ];
-    assert_eq!(rt; first_wrong(&rows), None);
+    all_hold(&rt, &rows);
 }
 
 #[test]

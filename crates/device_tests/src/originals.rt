@@ -1,5 +1,6 @@
 //! What the tests of bincode 2.0.1 check of its types, if no other test here does.
 
+use crate::asserts::all_hold;
 use bincode::config::{self, Config};
 use bincode::de::Decode;
 use bincode::enc::Encode;
@@ -15,7 +16,6 @@ use std::num::{NonZeroI8, NonZeroI128, NonZeroU8, NonZeroU64, Wrapping};
 use std::rc::{Rc, RcSlice};
 use std::sync::Arc;
 use test_helpers::checks::{decoded, read_front};
-use test_helpers::rows::first_wrong;
 
 /// 2^64 - 5 seconds and 2^32 - 1 nanoseconds, of which four seconds are carried.
 static SPAN: [u8; 14] = [
@@ -116,7 +116,7 @@ fn keeps_wrapped_numbers(rt: HostRuntime) {
         ("i8", keeps_wrapped(alloc, 5i8, &[5])),
         ("i128", keeps_wrapped(alloc, 5i128, &[10])),
     ];
-    assert_eq!(rt; first_wrong(&rows), None);
+    all_hold(&rt, &rows);
 }
 
 /// Sixty-one characters, of one to four bytes each.
@@ -150,6 +150,17 @@ fn ascending() -> [i32; 256] {
     numbers
 }
 
+/// Whether a value is this word where numbers are variable, and the other where they are fixed.
+fn is_word_in_both<T: Encode + Decode<()> + PartialEq>(
+    alloc: Global,
+    [first, second]: [T; 2],
+    variable: &[u8],
+    fixed: &[u8],
+) -> bool {
+    is_word(alloc, first, variable, config::standard())
+        && is_word(alloc, second, fixed, config::legacy())
+}
+
 /// The numbers to 125 take a byte each, and the 130 others three.
 #[test]
 fn keeps_an_array_of_256_numbers(rt: HostRuntime) {
@@ -162,12 +173,11 @@ fn keeps_an_array_of_256_numbers(rt: HostRuntime) {
         word[at + 1] = (2 * place % 256) as u8;
         word[at + 2] = (2 * place / 256) as u8;
     }
-    assert!(rt; is_word(rt.alloc(), ascending(), &word, config::standard()));
     let mut fixed = [0u8; 1_024];
     for place in 0..256usize {
         fixed[4 * place] = place as u8;
     }
-    assert!(rt; is_word(rt.alloc(), ascending(), &fixed, config::legacy()));
+    assert!(rt; is_word_in_both(rt.alloc(), [ascending(), ascending()], &word, &fixed));
 }
 
 /// Whether a value is read from this word, with a byte after it, and written so.

@@ -3,7 +3,7 @@
 use crate::shaped::{read_under, shape_of, write_under, writes};
 use bincode::config::{Endianness, InternalLimitConfig, NoLimit};
 use bincode::error::EncodeError;
-use bincode::shape::{Described, Value};
+use bincode::shape::{Described, Shape, Value};
 use conformance::case::{
     Answer, Case, Decoding, Encoding, Fault, Input, Kept, Limited, Number, Refusal, Setting,
     Spelling, Value as Written,
@@ -45,18 +45,19 @@ enum Told {
     Fault(Fault),
 }
 
-/// Whether this is the result of decoding by the type's shape.
-fn answers_so<T: Described, L: InternalLimitConfig + Copy>(
+/// Whether a type's shape, if there is one, answers so.
+fn answers_so<L: InternalLimitConfig + Copy>(
     alloc: Global,
+    shape: Option<&Shape>,
     setting: Setting,
     limit: L,
     input: &[u8],
     told: Told,
 ) -> bool {
-    let Some(shape) = shape_of::<T>(alloc) else {
+    let Some(shape) = shape else {
         return false;
     };
-    match read_under(alloc, &shape, setting, limit, input) {
+    match read_under(alloc, shape, setting, limit, input) {
         Ok((_value, taken)) => matches!(told, Told::Length(length) if length == taken),
         Err(error) => match told {
             Told::Fault(fault) => tells::<Slice>(&error, fault),
@@ -65,28 +66,30 @@ fn answers_so<T: Described, L: InternalLimitConfig + Copy>(
     }
 }
 
-/// Whether decoding by the type's shape has the result of the type.
-fn answers<T: Described, V, L: InternalLimitConfig + Copy>(
+/// Whether a type's shape answers what the type does.
+fn answers<V, L: InternalLimitConfig + Copy>(
     alloc: Global,
+    shape: Option<&Shape>,
     row: &Decoding<V, L>,
 ) -> bool {
     let told = match &row.answer {
         Answer::Value(_, length) => Told::Length(*length),
         Answer::Fault(fault) => Told::Fault(*fault),
     };
-    answers_so::<T, L>(alloc, row.setting, row.limit, row.input, told)
+    answers_so::<L>(alloc, shape, row.setting, row.limit, row.input, told)
 }
 
 /// The image of lists of lists.
 fn answers_lists<L: InternalLimitConfig + Copy>(
     alloc: Global,
+    shape: Option<&Shape>,
     row: &Decoding<&'static [&'static [u8]], L>,
 ) -> bool {
     let told = match row.answer {
         Answer::Value(_, length) => Told::Length(length),
         Answer::Fault(fault) => Told::Fault(fault),
     };
-    answers_so::<Vec<Vec<u8>>, L>(alloc, row.setting, row.limit, row.input, told)
+    answers_so::<L>(alloc, shape, row.setting, row.limit, row.input, told)
 }
 
 /// Whether a pair does not fit the slice by its shape either, and the slice then holds what it should. `None` if an
@@ -121,7 +124,10 @@ fn holds(alloc: Global, case: &Case) -> Option<bool> {
         Case::Varint(number) => Some(holds_of_number(alloc, number)),
         Case::Decode(input) => holds_of_input(alloc, input),
         Case::DecodeWithin(limited) => Some(holds_within(alloc, limited)),
-        Case::DecodeBytewise(row) => Some(answers::<(u32, u32), _, _>(alloc, row)),
+        Case::DecodeBytewise(row) => {
+            let shape = shape_of::<(u32, u32)>(alloc);
+            Some(answers(alloc, shape.as_ref(), row))
+        }
         Case::Borrow(_) | Case::Address(_) | Case::Shaped(_) => None,
     }
 }
@@ -153,16 +159,33 @@ fn holds_of_number(alloc: Global, number: &Number) -> bool {
 }
 
 fn holds_of_input(alloc: Global, input: &Input) -> Option<bool> {
+    let shape = match input {
+        Input::U16(_) => shape_of::<u16>(alloc),
+        Input::U64(_) => shape_of::<u64>(alloc),
+        Input::U128(_) => shape_of::<u128>(alloc),
+        Input::I16(_) => shape_of::<i16>(alloc),
+        Input::Isize(_) => shape_of::<isize>(alloc),
+        Input::Bool(_) => shape_of::<bool>(alloc),
+        Input::Char(_) => shape_of::<char>(alloc),
+        Input::Option(_) => shape_of::<Option<u8>>(alloc),
+        Input::Text(_) => shape_of::<String>(alloc),
+        Input::NonZeroU16(_)
+        | Input::Bound(_)
+        | Input::Duration(_)
+        | Input::Map(_)
+        | Input::CString(_) => None,
+    };
+    let shape = shape.as_ref();
     match input {
-        Input::U16(row) => Some(answers::<u16, _, _>(alloc, row)),
-        Input::U64(row) => Some(answers::<u64, _, _>(alloc, row)),
-        Input::U128(row) => Some(answers::<u128, _, _>(alloc, row)),
-        Input::I16(row) => Some(answers::<i16, _, _>(alloc, row)),
-        Input::Isize(row) => Some(answers::<isize, _, _>(alloc, row)),
-        Input::Bool(row) => Some(answers::<bool, _, _>(alloc, row)),
-        Input::Char(row) => Some(answers::<char, _, _>(alloc, row)),
-        Input::Option(row) => Some(answers::<Option<u8>, _, _>(alloc, row)),
-        Input::Text(row) => Some(answers::<String, _, _>(alloc, row)),
+        Input::U16(row) => Some(answers(alloc, shape, row)),
+        Input::U64(row) => Some(answers(alloc, shape, row)),
+        Input::U128(row) => Some(answers(alloc, shape, row)),
+        Input::I16(row) => Some(answers(alloc, shape, row)),
+        Input::Isize(row) => Some(answers(alloc, shape, row)),
+        Input::Bool(row) => Some(answers(alloc, shape, row)),
+        Input::Char(row) => Some(answers(alloc, shape, row)),
+        Input::Option(row) => Some(answers(alloc, shape, row)),
+        Input::Text(row) => Some(answers(alloc, shape, row)),
         Input::NonZeroU16(_)
         | Input::Bound(_)
         | Input::Duration(_)
@@ -171,23 +194,41 @@ fn holds_of_input(alloc: Global, input: &Input) -> Option<bool> {
     }
 }
 
-fn holds_within(alloc: Global, limited: &Limited) -> bool {
+fn shape_within(alloc: Global, limited: &Limited) -> Option<Shape> {
     match limited {
-        Limited::U16To2(row) => answers::<u16, _, _>(alloc, row),
-        Limited::U64To7(row) => answers::<u64, _, _>(alloc, row),
-        Limited::U64To8(row) => answers::<u64, _, _>(alloc, row),
-        Limited::CharTo0(row) => answers::<char, _, _>(alloc, row),
-        Limited::PairTo15(row) => answers::<(u64, u64), _, _>(alloc, row),
-        Limited::PairTo16(row) => answers::<(u64, u64), _, _>(alloc, row),
-        Limited::TextTo100000(row) => answers::<String, _, _>(alloc, row),
-        Limited::ListTo100000(row) => answers::<Vec<u32>, _, _>(alloc, row),
-        Limited::ListsTo31(row) => answers_lists(alloc, row),
-        Limited::ListsTo32(row) => answers_lists(alloc, row),
-        Limited::UnitsTo7(row) => answers::<Vec<()>, _, _>(alloc, row),
-        Limited::UnitsTo10(row) => answers::<Vec<()>, _, _>(alloc, row),
-        Limited::UnitsTo11(row) => answers::<Vec<()>, _, _>(alloc, row),
-        Limited::OptionsTo11(row) => answers::<Vec<Option<()>>, _, _>(alloc, row),
-        Limited::OptionsTo12(row) => answers::<Vec<Option<()>>, _, _>(alloc, row),
+        Limited::U16To2(_) => shape_of::<u16>(alloc),
+        Limited::U64To7(_) | Limited::U64To8(_) => shape_of::<u64>(alloc),
+        Limited::CharTo0(_) => shape_of::<char>(alloc),
+        Limited::PairTo15(_) | Limited::PairTo16(_) => shape_of::<(u64, u64)>(alloc),
+        Limited::TextTo100000(_) => shape_of::<String>(alloc),
+        Limited::ListTo100000(_) => shape_of::<Vec<u32>>(alloc),
+        Limited::ListsTo31(_) | Limited::ListsTo32(_) => shape_of::<Vec<Vec<u8>>>(alloc),
+        Limited::UnitsTo7(_) | Limited::UnitsTo10(_) | Limited::UnitsTo11(_) => {
+            shape_of::<Vec<()>>(alloc)
+        }
+        Limited::OptionsTo11(_) | Limited::OptionsTo12(_) => shape_of::<Vec<Option<()>>>(alloc),
+    }
+}
+
+fn holds_within(alloc: Global, limited: &Limited) -> bool {
+    let shape = shape_within(alloc, limited);
+    let shape = shape.as_ref();
+    match limited {
+        Limited::U16To2(row) => answers(alloc, shape, row),
+        Limited::U64To7(row) => answers(alloc, shape, row),
+        Limited::U64To8(row) => answers(alloc, shape, row),
+        Limited::CharTo0(row) => answers(alloc, shape, row),
+        Limited::PairTo15(row) => answers(alloc, shape, row),
+        Limited::PairTo16(row) => answers(alloc, shape, row),
+        Limited::TextTo100000(row) => answers(alloc, shape, row),
+        Limited::ListTo100000(row) => answers(alloc, shape, row),
+        Limited::ListsTo31(row) => answers_lists(alloc, shape, row),
+        Limited::ListsTo32(row) => answers_lists(alloc, shape, row),
+        Limited::UnitsTo7(row) => answers(alloc, shape, row),
+        Limited::UnitsTo10(row) => answers(alloc, shape, row),
+        Limited::UnitsTo11(row) => answers(alloc, shape, row),
+        Limited::OptionsTo11(row) => answers(alloc, shape, row),
+        Limited::OptionsTo12(row) => answers(alloc, shape, row),
     }
 }
 

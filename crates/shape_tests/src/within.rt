@@ -24,22 +24,7 @@ fn measures<C: Config>(
     }
 }
 
-/// `measures` with a type's own shape, in the standard configuration.
-fn measures_of<T: Described>(alloc: Global, input: &[u8], values: u128) -> bool {
-    match shape_of::<T>(alloc) {
-        Some(shape) => measures(
-            alloc,
-            &shape,
-            config::standard(),
-            input,
-            values,
-            input.len(),
-        ),
-        None => false,
-    }
-}
-
-/// Reads at most this many values. Retries once if an allocation is refused.
+/// Reads no more than so many values. Where memory is refused it is read once more.
 fn read_within<C: Config>(
     alloc: Global,
     shape: &Shape,
@@ -84,28 +69,37 @@ fn refuses<C: Config>(
     }
 }
 
-/// Whether the word is read with a bound of as many values as it makes, as it is without one, and refused with one
-/// less.
-fn is_bounded<T: Described>(alloc: Global, input: &[u8], values: usize) -> bool {
-    let Some(shape) = shape_of::<T>(alloc) else {
+/// Whether the whole input is a word of so many values of this shape.
+fn measures_all(alloc: Global, shape: Option<&Shape>, input: &[u8], values: u128) -> bool {
+    let Some(shape) = shape else {
         return false;
     };
-    let free = match decode_shaped(alloc, &shape, input, config::standard()) {
-        Err(DecodeError::Memory) => decode_shaped(alloc, &shape, input, config::standard()),
+    measures(alloc, shape, config::standard(), input, values, input.len())
+}
+
+/// Whether it is, and the value of so many is read where they are allowed, as it is without a bound, and refused where
+/// one fewer is.
+fn is_bounded(alloc: Global, shape: Option<&Shape>, input: &[u8], values: usize) -> bool {
+    let Some(shape) = shape else {
+        return false;
+    };
+    let free = match decode_shaped(alloc, shape, input, config::standard()) {
+        Err(DecodeError::Memory) => decode_shaped(alloc, shape, input, config::standard()),
         outcome => outcome,
     };
     let Ok((value, taken)) = free else {
         return false;
     };
-    let Ok(bounded) = read_within(alloc, &shape, config::standard(), input, values) else {
+    let Ok(bounded) = read_within(alloc, shape, config::standard(), input, values) else {
         return false;
     };
-    bounded.0 == value
+    measures_all(alloc, Some(shape), input, values as u128)
+        && bounded.0 == value
         && bounded.1 == taken
         && taken == input.len()
         && refuses(
             alloc,
-            &shape,
+            shape,
             config::standard(),
             input,
             values.saturating_sub(1),
@@ -174,28 +168,33 @@ fn lists_in_lists_are_counted(rt: HostRuntime) -> Result<(), AllocError> {
 #[test]
 fn parts_are_counted(rt: HostRuntime) {
     let alloc = rt.alloc();
-    assert!(rt; measures_of::<u32>(alloc, &[252, 112, 17, 1, 0], 1));
-    assert!(rt; measures_of::<(u8, String)>(alloc, &[5, 2, 97, 98], 3));
-    assert!(rt; measures_of::<Option<u8>>(alloc, &[0], 1));
-    assert!(rt; measures_of::<Option<u8>>(alloc, &[1, 9], 2));
-    assert!(rt; measures_of::<Result<u8, String>>(alloc, &[1, 1, 97], 2));
-    assert!(rt; measures_of::<Vec<Vec<()>>>(alloc, &[2, 3, 1], 7));
-    assert!(rt; measures_of::<Vec<[(); 3]>>(alloc, &[2], 9));
-    assert!(rt; measures_of::<Vec<u8>>(alloc, &[0], 1));
-    assert!(rt; measures_of::<[u16; 0]>(alloc, &[], 1));
+    let number = shape_of::<u32>(alloc);
+    assert!(rt; measures_all(alloc, number.as_ref(), &[252, 112, 17, 1, 0], 1));
+    let none = shape_of::<[u16; 0]>(alloc);
+    assert!(rt; measures_all(alloc, none.as_ref(), &[], 1));
 }
 
 #[test]
-fn values_are_bounded(rt: HostRuntime) {
+fn values_are_counted_and_bounded(rt: HostRuntime) {
     let alloc = rt.alloc();
-    assert!(rt; is_bounded::<u8>(alloc, &[7], 1));
-    assert!(rt; is_bounded::<Vec<u8>>(alloc, &[3, 7, 8, 9], 4));
-    assert!(rt; is_bounded::<(u8, String)>(alloc, &[5, 2, 97, 98], 3));
-    assert!(rt; is_bounded::<Option<u8>>(alloc, &[1, 9], 2));
-    assert!(rt; is_bounded::<Result<u8, String>>(alloc, &[1, 1, 97], 2));
-    assert!(rt; is_bounded::<Vec<Vec<()>>>(alloc, &[2, 3, 1], 7));
-    assert!(rt; is_bounded::<Vec<[(); 3]>>(alloc, &[2], 9));
-    assert!(rt; is_bounded::<[(); 3]>(alloc, &[], 4));
+    let byte = shape_of::<u8>(alloc);
+    assert!(rt; is_bounded(alloc, byte.as_ref(), &[7], 1));
+    let bytes = shape_of::<Vec<u8>>(alloc);
+    assert!(rt; measures_all(alloc, bytes.as_ref(), &[0], 1));
+    assert!(rt; is_bounded(alloc, bytes.as_ref(), &[3, 7, 8, 9], 4));
+    let pair = shape_of::<(u8, String)>(alloc);
+    assert!(rt; is_bounded(alloc, pair.as_ref(), &[5, 2, 97, 98], 3));
+    let option = shape_of::<Option<u8>>(alloc);
+    assert!(rt; measures_all(alloc, option.as_ref(), &[0], 1));
+    assert!(rt; is_bounded(alloc, option.as_ref(), &[1, 9], 2));
+    let outcome = shape_of::<Result<u8, String>>(alloc);
+    assert!(rt; is_bounded(alloc, outcome.as_ref(), &[1, 1, 97], 2));
+    let lists = shape_of::<Vec<Vec<()>>>(alloc);
+    assert!(rt; is_bounded(alloc, lists.as_ref(), &[2, 3, 1], 7));
+    let arrays = shape_of::<Vec<[(); 3]>>(alloc);
+    assert!(rt; is_bounded(alloc, arrays.as_ref(), &[2], 9));
+    let nothings = shape_of::<[(); 3]>(alloc);
+    assert!(rt; is_bounded(alloc, nothings.as_ref(), &[], 4));
 }
 
 /// With n = 2^64 - 1 an array of n arrays of n `()` makes 1 + n + n times n values, which is 2^128 - 2^64 + 1; an array

@@ -90,6 +90,30 @@ pub fn decoded_within<T: Decode<()>, const N: usize>(
     decoded(alloc, input, config::standard().with_limit::<N>())
 }
 
+/// What comes of decoding within the limit `ENOUGH`, if the input passes the limit `LESS`.
+pub fn within_just<T: Decode<()>, const LESS: usize, const ENOUGH: usize>(
+    alloc: Global,
+    input: &[u8],
+) -> Option<Result<(T, usize), DecodeError>> {
+    if !is_passed(decoded_within::<T, LESS>(alloc, input)) {
+        return None;
+    }
+    Some(decoded_within::<T, ENOUGH>(alloc, input))
+}
+
+/// Whether the input passes the limit `LESS`, and within the limit `ENOUGH` this value is read, of so many bytes.
+pub fn reads_just<T: Decode<()> + PartialEq, const LESS: usize, const ENOUGH: usize>(
+    alloc: Global,
+    input: &[u8],
+    value: T,
+    length: usize,
+) -> bool {
+    match within_just::<T, LESS, ENOUGH>(alloc, input) {
+        Some(Ok((read, taken))) => read == value && taken == length,
+        _ => false,
+    }
+}
+
 /// The fault of the input, if it has one.
 pub fn fault_of<T: Decode<()>>(alloc: Global, input: &[u8]) -> Option<DecodeError> {
     let outcome: Result<(T, usize), DecodeError> = decoded(alloc, input, config::standard());
@@ -272,7 +296,42 @@ pub fn comes_back<T: Encode + Decode<()>>(alloc: Global, value: &T) -> Option<T>
     }
 }
 
-/// Whether there is a value, and an equal one is decoded from its word.
+/// What is read of the front of an input, if it has the length of a word, which is kept.
+pub fn front_if_kept<T: Encode + Decode<()>>(
+    alloc: Global,
+    input: &[u8],
+    word: &[u8],
+) -> Option<T> {
+    if !keeps::<T>(alloc, word) {
+        return None;
+    }
+    read_front(alloc, input, word.len())
+}
+
+/// What is read of a word, if each call keeps another one.
+pub fn read_if_kept<T: Encode + Decode<()>>(alloc: Global, word: &[u8], kept: &[u8]) -> Option<T> {
+    if !each_call_keeps::<T>(alloc, kept) {
+        return None;
+    }
+    read_word(alloc, word)
+}
+
+/// What is read of a word, if it is then written as the other one.
+pub fn read_as_written<T: Encode + Decode<()>>(
+    alloc: Global,
+    word: &[u8],
+    other: &[u8],
+) -> Option<T> {
+    let value: T = read_word(alloc, word)?;
+    let bytes = written(alloc, &value)?;
+    if bytes.as_slice() == other {
+        Some(value)
+    } else {
+        None
+    }
+}
+
+/// Whether a value is there, and an equal one is read of its word.
 pub fn keeps_value<T: Encode + Decode<()> + PartialEq>(alloc: Global, value: Option<T>) -> bool {
     let Some(value) = value else {
         return false;
