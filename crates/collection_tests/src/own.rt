@@ -1,6 +1,7 @@
 //! Types of one's own, written and read.
 
 use crate::asserts::{all_equal, all_hold, none_wrong};
+use bincode::checked::{encoded_length, round_trip};
 use bincode::de::Decode;
 use bincode::de::read::SliceReader;
 use bincode::enc::Encode;
