@@ -8,7 +8,7 @@ pub returns-in_err-value : goal.returns-in_err-value
 returns-in_err-value g c =
     let p = err_from_is_err_and c.from_residual.result c.from_residual.ensures.1 in
     record {
-      word = no-value _ c.from_residual.ensures.1;
+      word = no-value _ _ _ c.from_residual.ensures.1;
       found = λ word more m s i w within. rw (p.1, p.2) (refused-alone _ _ _ _ (stopped-word _ (g.D.Wire.words.lawful _) (g.D.Wire.words.balanced _) _ _ _ _ _ _ _ _ _ (rw c.new-reader.ensures at (c.in_err-value.ensures.err tt)).1 word more m s i w within));
       fault = λ why s u within. rw (p.1, p.2) (or_refused _ _ _ _ _ (stopped-fault _ (g.D.Wire.words.lawful _) (g.D.Wire.words.balanced _) _ _ _ _ _ _ _ _ _ (rw c.new-reader.ensures at (c.in_err-value.ensures.err tt)).1 why s u within));
       limit = λ s u h. rw (p.1, p.2) (or_refused _ _ _ _ _ (stopped-limit _ (g.D.Wire.words.lawful _) (g.D.Wire.words.balanced _) _ _ _ _ _ _ _ _ _ (rw c.new-reader.ensures at (c.in_err-value.ensures.err tt)).1 s u h));
