@@ -3,7 +3,7 @@ use Rattle.std.proofs.lemmas.Result.{err_from_is_err_and}
 use Rattle.bincode_lemmas.specs.LimitedLaws.{decoded-bounded}
 use Rattle.bincode_shape.specs.ShapeLaws.{format_of-lawful, format_of-balanced, format_of-charged}
 use Rattle.bincode.proofs.Decoded.{stopped-word, stopped-fault, stopped-limit, refused-alone, or_refused}
-use Rattle.bincode.proofs.Decoded.{decoded-word, decoded-shorter, decoded-fault, decoded-limit, no-value}
+use Rattle.bincode.proofs.Decoded.{decoded-word, decoded-shorter, decoded-fault, decoded-limit}
 use Rattle.bincode.proofs.shaped.decode_shaped.Goals as goal
 
 pub returns-in_err-value-clause-answer : goal.returns-in_err-value-clause-answer
@@ -11,7 +11,7 @@ returns-in_err-value-clause-answer g c =
     let p = err_from_is_err_and c.from_residual.result c.from_residual.ensures.1 in
     let shape = c.args.shape.now in
     record {
-      word = no-value _ _ _ c.from_residual.ensures.1;
+      word = rw p.1 tt;
       found = λ word more m s i w within. rw (p.1, p.2) (refused-alone _ _ _ _ (stopped-word _ (format_of-lawful shape _) (format_of-balanced shape _) _ _ _ _ _ _ _ _ _ (rw c.new-reader.ensures at (c.in_err-value.ensures.err tt)).1 word more m s i w within));
       fault = λ why s u within. rw (p.1, p.2) (or_refused _ _ _ _ _ (stopped-fault _ (format_of-lawful shape _) (format_of-balanced shape _) _ _ _ _ _ _ _ _ _ (rw c.new-reader.ensures at (c.in_err-value.ensures.err tt)).1 why s u within));
       limit = λ s u h. rw (p.1, p.2) (or_refused _ _ _ _ _ (stopped-limit _ (format_of-lawful shape _) (format_of-balanced shape _) _ _ _ _ _ _ _ _ _ (rw c.new-reader.ensures at (c.in_err-value.ensures.err tt)).1 s u h));
