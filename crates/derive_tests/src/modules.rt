@@ -104,7 +104,11 @@ where
             VariantOf<
                 2,
                 Moved,
-                VariantOf<3, (PlayerId, u16), VariantOf<4, String, VariantOf<5, PlayerId, NoMoreVariants<Happening>>>>,
+                VariantOf<
+                    3,
+                    (PlayerId, u16),
+                    VariantOf<4, String, VariantOf<5, PlayerId, NoMoreVariants<Happening>>>,
+                >,
             >,
         >,
     >,

@@ -30,11 +30,12 @@ impl<'t> Fields<'t> {
     }
 }
 
-/// A variant: its name, its tag if the author gives one, and its fields.
+/// A variant: its name, its tag, and its fields. Where the author gives it no tag, that is one more than that of the
+/// variant before.
 #[derive(Drop)]
 pub struct Variant<'t> {
     pub name: &'t Token,
-    pub tag: Option<u32>,
+    pub tag: u32,
     pub fields: Fields<'t>,
 }
 
@@ -75,19 +76,50 @@ pub struct Item<'t> {
 impl<'t> Item<'t> {
     /// Whether it holds bytes of what it is decoded from.
     pub fn is_borrowing(&self) -> bool {
-        self.params.iter().any(|param| param.is_lifetime())
+        for param in self.params.iter() {
+            if param.is_lifetime() {
+                return true;
+            }
+        }
+        false
+    }
+
+    /// Its lifetime, and `""` if it has none.
+    pub fn lifetime(&self) -> &'t str {
+        for param in self.params.iter() {
+            if param.is_lifetime() {
+                return param.name.text.as_str();
+            }
+        }
+        ""
     }
 
     /// Whether it has a type parameter.
     pub fn is_generic(&self) -> bool {
-        self.params.iter().any(|param| !param.is_lifetime())
+        for param in self.params.iter() {
+            if !param.is_lifetime() {
+                return true;
+            }
+        }
+        false
     }
 
     /// Whether this is one of its type parameters.
     pub fn has_param(&self, word: &str) -> bool {
-        self.params
-            .iter()
-            .any(|param| param.name.text.as_str() == word)
+        for param in self.params.iter() {
+            if param.name.text.as_str() == word {
+                return true;
+            }
+        }
+        false
+    }
+
+    /// The variants of an enum, and none of a struct.
+    pub fn variants(&self) -> &[Variant<'t>] {
+        match &self.kind {
+            Kind::Struct(_) => &[],
+            Kind::Enum(variants) => variants.as_slice(),
+        }
     }
 
     /// The types of its fields, those of an enum variant by variant.

@@ -2,6 +2,7 @@
 //! the laws which they keep.
 #![tactic(auto)]
 
+mod blanks;
 mod by_tag;
 mod cursor;
 mod decoding;

@@ -351,13 +351,16 @@ fn is_note(text: &str) -> bool {
 /// Reads the variants of an enum.
 fn read_variants<'t>(alloc: Global, cursor: &mut Cursor<'t>) -> Result<Vec<Variant<'t>>, Fault> {
     let mut variants = Vec::new(alloc);
+    let mut next = 0u32;
     cursor.mark("{")?;
     for _ in 0..u64::MAX {
         let noted = read_variant_marks(alloc, cursor)?;
         if cursor.takes("}") {
             break;
         }
-        variants.push(read_variant(alloc, cursor, noted)?)?;
+        let variant = read_variant(alloc, cursor, noted.unwrap_or(next))?;
+        next = variant.tag.saturating_add(1);
+        variants.push(variant)?;
     }
     Ok(variants)
 }
@@ -385,18 +388,18 @@ fn read_tag(alloc: Global, cursor: &mut Cursor<'_>) -> Result<Option<u32>, Fault
     }
 }
 
-/// Reads a variant, and the comma behind it.
+/// Reads a variant, and the comma behind it. Where it says no tag itself, it has this one.
 fn read_variant<'t>(
     alloc: Global,
     cursor: &mut Cursor<'t>,
-    noted: Option<u32>,
+    tag: u32,
 ) -> Result<Variant<'t>, Fault> {
     let name = cursor.name()?;
     let fields = read_fields(alloc, cursor)?;
     let tag = if cursor.takes("=") {
-        Some(read_number(alloc, cursor)?)
+        read_number(alloc, cursor)?
     } else {
-        noted
+        tag
     };
     if cursor.text() != "}" {
         cursor.mark(",")?;

@@ -25,6 +25,7 @@ pub fn refuse<'t>(alloc: Global, source: &Source<'t>, item: &Item<'t>) -> Result
         refuse_type(alloc, item, of.as_slice())?;
     }
     refuse_params(alloc, item)?;
+    refuse_tags(alloc, item.variants())?;
     if item.notes.asks_for(Trait::Described) {
         refuse_described(alloc, item)?;
     }
@@ -151,37 +152,35 @@ fn is_enum(item: &Item<'_>) -> bool {
 
 /// Refuses a described enum of more than eight variants, or with tags that are not 0, 1 and so on.
 fn refuse_described(alloc: Global, item: &Item<'_>) -> Result<(), Fault> {
-    let tags = tags_of_item(alloc, item)?;
-    let is_long = tags.len() > 8 && !is_by_variants(item);
-    if is_long || !is_in_order(tags.as_slice()) {
+    let variants = item.variants();
+    let is_long = variants.len() > 8 && !is_by_variants(item);
+    if is_long || !is_in_order(variants) {
         let name = name_of(alloc, item)?;
         return Err(refused(item.name.place, Refusal::NotDescribed { name }));
     }
     Ok(())
 }
 
-/// The tag of each variant of an enum, and none of a struct.
-pub fn tags_of_item(alloc: Global, item: &Item<'_>) -> Result<Vec<u32>, Fault> {
-    match &item.kind {
-        Kind::Struct(_) => Ok(Vec::new(alloc)),
-        Kind::Enum(variants) => tags_of(alloc, variants),
-    }
-}
-
-/// The tag of each variant: its own, or one more than that of the one before. Fails where two are the same.
-pub fn tags_of(alloc: Global, variants: &Vec<Variant<'_>>) -> Result<Vec<u32>, Fault> {
-    let mut tags: Vec<u32> = Vec::new(alloc);
-    let mut next = 0u32;
-    for variant in variants.iter() {
-        let tag = variant.tag.unwrap_or(next);
-        if tags.contains(&tag) {
+/// Refuses the tag of a variant that one before has too.
+fn refuse_tags(alloc: Global, variants: &[Variant<'_>]) -> Result<(), Fault> {
+    for (at, variant) in variants.iter().enumerate() {
+        if has_tag(variants, at, variant.tag) {
             let name = variant.name.text.clone()?;
+            let tag = variant.tag;
             return Err(refused(variant.name.place, Refusal::SameTag { name, tag }));
         }
-        tags.push(tag)?;
-        next = tag.saturating_add(1);
     }
-    Ok(tags)
+    Ok(())
+}
+
+/// Whether one of the first variants, of which there are so many, has this tag.
+fn has_tag(variants: &[Variant<'_>], count: usize, tag: u32) -> bool {
+    for variant in variants.iter().take(count) {
+        if variant.tag == tag {
+            return true;
+        }
+    }
+    false
 }
 
 /// Whether a type holds itself, also by others of its source.
