@@ -42,12 +42,41 @@ fn add_blank(out: &mut Text, item: &Item<'_>, name: &str) {
         "parts" => add_parts(out, item),
         "parts_path" => add_path(out, item, "Parts"),
         "lifetime" => out.add(item.lifetime()),
+        "B" | "Context" | "D" | "E" => out.add(own_name(item, name)),
         _ => {
             if let Kind::Struct(fields) = &item.kind {
                 add_fields_blank(out, fields, name);
             }
         }
     }
+}
+
+/// The parameters that functions and `impl`s have of their own, and what they are named where a type says that name.
+const OWN_NAMES: [(&str, &str); 4] = [
+    ("B", "TheBytes"),
+    ("Context", "TheContext"),
+    ("D", "TheDecoder"),
+    ("E", "TheEncoder"),
+];
+
+/// What a parameter of this name is called in what is written for a type.
+fn own_name<'n>(item: &Item<'_>, name: &'n str) -> &'n str {
+    for (short, long) in OWN_NAMES {
+        if short == name && item.says(name) {
+            return long;
+        }
+    }
+    name
+}
+
+/// Whether this is what such a parameter is called in what is written for a type, since the type says its short name.
+pub fn is_own_name(item: &Item<'_>, name: &str) -> bool {
+    for (short, long) in OWN_NAMES {
+        if long == name && item.says(short) {
+            return true;
+        }
+    }
+    false
 }
 
 /// Adds what fills the blank of this name for a variant.

@@ -8,7 +8,7 @@ use crate::text::Text;
 
 /// The arm that reads the part of a variant.
 const ARM: &str =
-    "            $tag$ => match decode_part::<Context, $itself$, $part$, D>(tag, $tag$, decoder) {
+    "            $tag$ => match decode_part::<$Context$, $itself$, $part$, $D$>(tag, $tag$, decoder) {
                 Ok($bound$) => Ok($name$::$variant$$made$),
                 Err(error) => Err(error),
             },
@@ -16,7 +16,7 @@ const ARM: &str =
 
 /// The arm that reads it by borrowing.
 const BORROWING_ARM: &str =
-    "            $tag$ => match borrow_decode_part::<&$lifetime$ [u8], Context, $itself$, $part$, D>(tag, $tag$, decoder) {
+    "            $tag$ => match borrow_decode_part::<&$lifetime$ [u8], $Context$, $itself$, $part$, $D$>(tag, $tag$, decoder) {
                 Ok($bound$) => Ok($name$::$variant$$made$),
                 Err(error) => Err(error),
             },
@@ -24,7 +24,7 @@ const BORROWING_ARM: &str =
 
 /// The name and the bound of the function that reads a part by borrowing.
 const BORROWING_FN: &str =
-    "    fn borrow_decode_variant<D: BorrowDecoder<&$lifetime$ [u8], Context = Context>>";
+    "    fn borrow_decode_variant<$D$: BorrowDecoder<&$lifetime$ [u8], Context = $Context$>>";
 
 /// Adds the `impl`s by which an enum of these variants is read by its tag.
 pub fn add_decode_by_tag(out: &mut Text, item: &Item<'_>, variants: &[Variant<'_>]) {
@@ -32,7 +32,7 @@ pub fn add_decode_by_tag(out: &mut Text, item: &Item<'_>, variants: &[Variant<'_
     fill(
         out,
         item,
-        "(tag: u32, decoder: &mut D) -> Result<$itself$, DecodeError> {\n",
+        "(tag: u32, decoder: &mut $D$) -> Result<$itself$, DecodeError> {\n",
     );
     out.add("        match tag {\n");
     let arm = if item.is_borrowing() {
@@ -58,9 +58,9 @@ pub fn add_decode_by_tag(out: &mut Text, item: &Item<'_>, variants: &[Variant<'_
 
 /// Adds the head of the `impl` by which the part of each variant is read, and of its function up to the parameters.
 fn add_read_head(out: &mut Text, item: &Item<'_>) {
-    let before = "Context: Drop";
+    let before = "$Context$: Drop";
     if item.is_borrowing() {
-        let of = "BorrowDecodeVariants<&$lifetime$ [u8], Context>";
+        let of = "BorrowDecodeVariants<&$lifetime$ [u8], $Context$>";
         add_head(out, item, before, of, "");
         fill(out, item, BORROWING_FN);
     } else {
@@ -68,10 +68,14 @@ fn add_read_head(out: &mut Text, item: &Item<'_>) {
             out,
             item,
             before,
-            "DecodeVariants<Context>",
-            "Decode<Context>",
+            "DecodeVariants<$Context$>",
+            "Decode<$Context$>",
         );
-        out.add("    fn decode_variant<D: Decoder<Context = Context>>");
+        fill(
+            out,
+            item,
+            "    fn decode_variant<$D$: Decoder<Context = $Context$>>",
+        );
     }
 }
 

@@ -19,7 +19,7 @@ const NAMED: &str = "    fn type_name() -> TypeName {
 /// What stands before the arms that write each variant.
 const ENCODE: &str = "}
 
-    fn encode<E: Encoder>(&self, encoder: &mut E) -> Result<(), EncodeError> {
+    fn encode<$E$: Encoder>(&self, encoder: &mut $E$) -> Result<(), EncodeError> {
         match self {
 ";
 
@@ -49,7 +49,7 @@ pub fn add_enum_impls(out: &mut Text, item: &Item<'_>, variants: &[Variant<'_>])
         add_decode(
             out,
             item,
-            "        decode_no_variants::<$itself$, $itself$, D>(decoder)\n",
+            "        decode_no_variants::<$itself$, $itself$, $D$>(decoder)\n",
         );
         return;
     }
@@ -75,7 +75,7 @@ fn add_encode(out: &mut Text, item: &Item<'_>, variants: &[Variant<'_>], by: &st
         }
         out.add("        }\n    ");
     }
-    out.add(ENCODE);
+    fill(out, item, ENCODE);
     for variant in variants.iter() {
         fill_variant(
             out,

@@ -82,7 +82,7 @@ fn add_params(out: &mut Text, item: &Item<'_>, before: &str, bound: &str) {
     }
     if !before.is_empty() {
         open_or_part(out, is_first);
-        out.add(before);
+        fill(out, item, before);
         is_first = false;
     }
     for param in item.params.iter() {

@@ -1,7 +1,8 @@
 //! The structs and enums that stand in a source.
 
+use crate::laws::is_among;
 use crate::notes::Notes;
-use crate::text::text_at;
+use crate::text::{text_at, text_before};
 use crate::tokens::Token;
 use std::alloc::{AllocError, Global};
 
@@ -44,6 +45,33 @@ pub struct Variant<'t> {
 pub enum Kind<'t> {
     Struct(Fields<'t>),
     Enum(Vec<Variant<'t>>),
+}
+
+impl Kind<'_> {
+    /// Whether this stands in the type of a field.
+    fn says(&self, word: &str) -> bool {
+        match self {
+            Kind::Struct(fields) => say(fields.as_slice(), word),
+            Kind::Enum(variants) => {
+                for variant in variants.iter() {
+                    if say(variant.fields.as_slice(), word) {
+                        return true;
+                    }
+                }
+                false
+            }
+        }
+    }
+}
+
+/// Whether a word stands in the types of some fields.
+pub fn say(fields: &[Field<'_>], word: &str) -> bool {
+    for field in fields.iter() {
+        if is_among(field.of.as_slice(), word) {
+            return true;
+        }
+    }
+    false
 }
 
 /// A type parameter or a lifetime, and its bounds, each as it is written.
@@ -112,6 +140,11 @@ impl<'t> Item<'t> {
             }
         }
         false
+    }
+
+    /// Whether this is its name or that of a parameter, or stands in the type of a field.
+    pub fn says(&self, word: &str) -> bool {
+        self.name.text.as_str() == word || self.has_param(word) || self.kind.says(word)
     }
 
     /// The variants of an enum, and none of a struct.
@@ -192,9 +225,25 @@ pub struct Source<'t> {
     pub items: Vec<Item<'t>>,
     /// The `impl`s that it has: trait and type.
     pub impls: Vec<(&'t str, &'t str)>,
+    /// The names that it imports from the standard library.
+    pub std_names: Vec<&'t str>,
 }
 
 impl Source<'_> {
+    /// Whether the path that ends at this place of a type leads into the standard library.
+    pub fn is_of_std(&self, of: &[&Token], at: usize) -> bool {
+        let first = path_start(of, at);
+        if matches!(first, "std" | "core" | "alloc") {
+            return true;
+        }
+        for name in self.std_names.iter() {
+            if *name == first {
+                return true;
+            }
+        }
+        false
+    }
+
     /// Whether a type has this trait, by a derive or an `impl`.
     pub fn has(&self, item: &Item<'_>, name: &str) -> bool {
         let of = item.name.text.as_str();
@@ -204,4 +253,16 @@ impl Source<'_> {
                 .iter()
                 .any(|found| found.0 == name && found.1 == of)
     }
+}
+
+/// The first word of the path that ends at this place.
+fn path_start<'t>(of: &[&'t Token], at: usize) -> &'t str {
+    let mut at = at;
+    for _ in 0..of.len() {
+        if at < 2 || text_before(of, at) != "::" {
+            break;
+        }
+        at = at.saturating_sub(2);
+    }
+    text_at(of, at)
 }

@@ -30,6 +30,7 @@ pub fn source_of<'t>(alloc: Global, tokens: &'t [Token]) -> Result<Source<'t>, F
     let mut source = Source {
         items: Vec::new(alloc),
         impls: Vec::new(alloc),
+        std_names: Vec::new(alloc),
     };
     let mut cursor = Cursor::new(tokens);
     let mut marks = Marks::new(alloc);
@@ -52,6 +53,10 @@ fn read_token<'t>(
 ) -> Result<(), Fault> {
     match token.text.as_str() {
         "#" => read_attribute(cursor, &mut marks.derives),
+        "use" => {
+            *marks = Marks::new(alloc);
+            read_use(cursor, &mut source.std_names)
+        }
         "impl" => read_impl_head(alloc, cursor, &mut source.impls),
         "struct" => {
             let item = read_item(alloc, cursor, marks, false)?;
@@ -102,6 +107,24 @@ fn read_derives<'t>(cursor: &mut Cursor<'t>, derives: &mut Vec<&'t str>) -> Resu
         }
     }
     Err(refused(opened, Refusal::Unclosed))
+}
+
+/// Takes what stands behind a `use`, up to its end, and adds the names that it imports from the standard library.
+fn read_use<'t>(cursor: &mut Cursor<'t>, names: &mut Vec<&'t str>) -> Result<(), Fault> {
+    let is_std = matches!(cursor.text(), "std" | "core" | "alloc");
+    for _ in 0..u64::MAX {
+        let Some(token) = cursor.take() else {
+            break;
+        };
+        let text = token.text.as_str();
+        if text == ";" {
+            break;
+        }
+        if is_std && is_word(text) && !is_one_of(cursor.text(), &["::", "as"]) {
+            names.push(text)?;
+        }
+    }
+    Ok(())
 }
 
 /// Takes the head of an `impl`, and adds its trait and its type, if it has both.

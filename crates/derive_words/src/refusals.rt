@@ -1,7 +1,7 @@
 //! What is refused of a type that was read.
 
+use crate::blanks::is_own_name;
 use crate::by_tag::is_in_order;
-use crate::cursor::is_one_of;
 use crate::error::{Fault, Refusal, refused};
 use crate::heads::is_by_variants;
 use crate::items::{Item, Kind, Source, Variant};
@@ -14,15 +14,15 @@ use std::alloc::{AllocError, Global};
 
 /// Fails where a type can't be written, and says why.
 pub fn refuse<'t>(alloc: Global, source: &Source<'t>, item: &Item<'t>) -> Result<(), Fault> {
-    refuse_name(alloc, item.name)?;
+    refuse_name(alloc, item, item.name)?;
     for param in item.params.iter() {
-        refuse_name(alloc, param.name)?;
+        refuse_name(alloc, item, param.name)?;
     }
     for word in item.names(alloc)?.iter() {
-        refuse_name(alloc, word)?;
+        refuse_name(alloc, item, word)?;
     }
     for of in item.types(alloc)?.iter() {
-        refuse_type(alloc, item, of.as_slice())?;
+        refuse_type(alloc, source, item, of.as_slice())?;
     }
     refuse_params(alloc, item)?;
     refuse_tags(alloc, item.variants())?;
@@ -46,9 +46,9 @@ fn name_of(alloc: Global, item: &Item<'_>) -> Result<String, AllocError> {
 }
 
 /// Refuses a name of a type or a parameter that is written with another meaning.
-fn refuse_name(alloc: Global, name: &Token) -> Result<(), Fault> {
+fn refuse_name(alloc: Global, item: &Item<'_>, name: &Token) -> Result<(), Fault> {
     let text = name.text.as_str();
-    if is_one_of(text, &["B", "Context", "D", "E", "Words"]) || is_used(text) {
+    if text == "Words" || is_own_name(item, text) || is_used(text) {
         let name_text = String::from_str(alloc, text)?;
         return Err(refused(name.place, Refusal::TakenName { name: name_text }));
     }
@@ -56,24 +56,38 @@ fn refuse_name(alloc: Global, name: &Token) -> Result<(), Fault> {
 }
 
 /// Refuses the type of a field in which something stands that the library has no words for.
-fn refuse_type(alloc: Global, item: &Item<'_>, of: &[&Token]) -> Result<(), Fault> {
+fn refuse_type(
+    alloc: Global,
+    source: &Source<'_>,
+    item: &Item<'_>,
+    of: &[&Token],
+) -> Result<(), Fault> {
     for at in 0..of.len() {
-        let text = text_at(of, at);
-        let instead = if text == "&" {
-            instead_of_reference(of, at, item.is_borrowing())
-        } else {
-            instead_of(text)
+        let word = text_at(of, at);
+        let instead = match word {
+            "&" => instead_of_reference(of, at, item.is_borrowing()),
+            "Duration" | "CString" if source.is_of_std(of, at) => instead_of_std(word),
+            _ => instead_of(word),
         };
-        if let (Some(instead), Some(word)) = (instead, of.get(at)) {
-            let word_text = String::from_str(alloc, text)?;
-            let why = Refusal::NoWords {
-                word: word_text,
-                instead,
-            };
-            return Err(refused(word.place, why));
+        if let (Some(instead), Some(token)) = (instead, of.get(at)) {
+            return Err(no_words(alloc, token, instead)?);
         }
     }
     Ok(())
+}
+
+/// The refusal of what stands in the type of a field.
+fn no_words(alloc: Global, token: &Token, instead: &'static str) -> Result<Fault, AllocError> {
+    let word = token.text.clone()?;
+    Ok(refused(token.place, Refusal::NoWords { word, instead }))
+}
+
+/// What to hold in place of this type of the standard library.
+fn instead_of_std(name: &str) -> Option<&'static str> {
+    match name {
+        "Duration" => Some("hold a `bincode::time::Duration` in place of that of `std`"),
+        _ => Some("hold a `bincode::ffi::CString` in place of that of `std`"),
+    }
 }
 
 /// What to hold in place of the reference at this place, if it is not decoded.

@@ -12,7 +12,7 @@ const ENCODE: &str = "    fn tell_valid(&self) {
         $lent$.tell_valid();
     }
 
-    fn encode<E: Encoder>(&self, encoder: &mut E) -> Result<(), EncodeError> {
+    fn encode<$E$: Encoder>(&self, encoder: &mut $E$) -> Result<(), EncodeError> {
         $lent$.encode(encoder)
     }
 }

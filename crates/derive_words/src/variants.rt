@@ -2,8 +2,7 @@
 
 use crate::blanks::{fill, fill_variant};
 use crate::heads::{add_head, close, open_or_part};
-use crate::items::{Field, Item, Variant};
-use crate::laws::is_among;
+use crate::items::{Item, Variant, say};
 use crate::parts::{CLAUSE_WIDTH, add_pattern, add_sum_use};
 use crate::text::Text;
 use crate::wire::add_opening;
@@ -89,17 +88,7 @@ fn is_part_generic(item: &Item<'_>, variant: &Variant<'_>) -> bool {
 
 /// Whether a name stands in the fields of a variant.
 fn holds(variant: &Variant<'_>, name: &str) -> bool {
-    holds_in(variant.fields.as_slice(), name)
-}
-
-/// Whether a name stands in some fields.
-fn holds_in(fields: &[Field<'_>], name: &str) -> bool {
-    for field in fields.iter() {
-        if is_among(field.of.as_slice(), name) {
-            return true;
-        }
-    }
-    false
+    say(variant.fields.as_slice(), name)
 }
 
 /// The parameter that is all that a variant holds, if it is one.
