@@ -45,12 +45,20 @@ fn add_answers(out: &mut Text, declared: &str, item: &Item<'_>) {
     let (crate_name, module) = declared
         .split_once(".specs.declared")
         .unwrap_or((declared, ""));
-    fill(out, item, "A variant of $name$ holds a `Vec` alone. Write the file proofs");
+    fill(
+        out,
+        item,
+        "A variant of $name$ holds a `Vec` alone. Write the file proofs",
+    );
     for name in module.split('.') {
         out.add(if name.is_empty() { "" } else { "/" });
         out.add(name);
     }
-    fill(out, item, "/words/$name$Encode/encode/Answers.antt:\n\nuse Rattle.");
+    fill(
+        out,
+        item,
+        "/words/$name$Encode/encode/Answers.antt:\n\nuse Rattle.",
+    );
     out.add(crate_name);
     out.add(".proofs");
     out.add(module);

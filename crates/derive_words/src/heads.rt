@@ -1,7 +1,6 @@
 //! What stands before the brace of an `impl`: parameters, bounds, trait and type.
 
 use crate::blanks::fill;
-use crate::cursor::is_one_of;
 use crate::items::{Field, Item, Kind, Param};
 use crate::laws::is_among;
 use crate::notes::Trait;
@@ -259,7 +258,7 @@ fn holds_any(item: &Item<'_>, of: &[&Token]) -> bool {
 fn is_direct(item: &Item<'_>, of: &[&Token]) -> bool {
     for word in of.iter() {
         let text = word.text.as_str();
-        if !is_one_of(text, &["Vec", "Box", "<", ">"]) && !item.has_param(text) {
+        if !matches!(text, "Vec" | "Box" | "<" | ">") && !item.has_param(text) {
             return false;
         }
     }

@@ -1,6 +1,7 @@
 //! The structs and enums that stand in a source.
 
-use crate::laws::is_among;
+use crate::cursor::is_one_of;
+use crate::laws::{Keeps, is_among};
 use crate::notes::Notes;
 use crate::text::{text_at, text_before};
 use crate::tokens::Token;
@@ -99,6 +100,8 @@ pub struct Item<'t> {
     pub derives: Vec<&'t str>,
     /// What its notes say.
     pub notes: Notes,
+    /// What is written for it beside its words.
+    pub keeps: Keeps,
 }
 
 impl<'t> Item<'t> {
@@ -156,13 +159,13 @@ impl<'t> Item<'t> {
     }
 
     /// The types of its fields, those of an enum variant by variant.
-    pub fn types(&self, alloc: Global) -> Result<Vec<Vec<&'t Token>>, AllocError> {
+    pub fn types(&self, alloc: Global) -> Result<Vec<&[&'t Token]>, AllocError> {
         let mut types = Vec::new(alloc);
         match &self.kind {
-            Kind::Struct(fields) => add_types(alloc, &mut types, fields.as_slice())?,
+            Kind::Struct(fields) => add_types(&mut types, fields.as_slice())?,
             Kind::Enum(variants) => {
                 for variant in variants.iter() {
-                    add_types(alloc, &mut types, variant.fields.as_slice())?;
+                    add_types(&mut types, variant.fields.as_slice())?;
                 }
             }
         }
@@ -174,24 +177,19 @@ impl<'t> Item<'t> {
     pub fn names(&self, alloc: Global) -> Result<Vec<&'t Token>, AllocError> {
         let mut names = Vec::new(alloc);
         for of in self.types(alloc)?.iter() {
-            add_names(&mut names, of.as_slice())?;
+            add_names(&mut names, of)?;
         }
         Ok(names)
     }
 }
 
 /// Adds the types of some fields.
-fn add_types<'t>(
-    alloc: Global,
-    types: &mut Vec<Vec<&'t Token>>,
-    fields: &[Field<'t>],
+fn add_types<'f, 't>(
+    types: &mut Vec<&'f [&'t Token]>,
+    fields: &'f [Field<'t>],
 ) -> Result<(), AllocError> {
     for field in fields.iter() {
-        let mut of = Vec::new(alloc);
-        for word in field.of.iter() {
-            of.push(*word)?;
-        }
-        types.push(of)?;
+        types.push(field.of.as_slice())?;
     }
     Ok(())
 }
@@ -236,22 +234,23 @@ impl Source<'_> {
         if matches!(first, "std" | "core" | "alloc") {
             return true;
         }
-        for name in self.std_names.iter() {
-            if *name == first {
-                return true;
-            }
-        }
-        false
+        is_one_of(first, self.std_names.as_slice())
     }
 
     /// Whether a type has this trait, by a derive or an `impl`.
     pub fn has(&self, item: &Item<'_>, name: &str) -> bool {
         let of = item.name.text.as_str();
-        item.derives.iter().any(|derived| *derived == name)
-            || self
-                .impls
-                .iter()
-                .any(|found| found.0 == name && found.1 == of)
+        is_one_of(name, item.derives.as_slice()) || self.has_impl(name, of)
+    }
+
+    /// Whether an `impl` of this trait stands there for a type of this name.
+    fn has_impl(&self, name: &str, of: &str) -> bool {
+        for (found, found_of) in self.impls.iter() {
+            if *found == name && *found_of == of {
+                return true;
+            }
+        }
+        false
     }
 }
 

@@ -5,7 +5,7 @@ use crate::enums::add_enum_impls;
 use crate::error::{Fault, Refusal, refused};
 use crate::heads::is_by_variants;
 use crate::items::{Item, Kind, Source};
-use crate::laws::{Keeps, kept};
+use crate::laws::find_kept;
 use crate::layout::laid_out;
 use crate::parts::{add_alias, add_shown};
 use crate::read::source_of;
@@ -35,15 +35,15 @@ ghost use Rattle.bincode.specs.TypeLaws.{CanonicalWords, ExactWords, PlainWords}
 /// The module for the types of a source. It stands below the module of the types, as `mod words;`.
 pub fn module_of(alloc: Global, origin: &Origin<'_>, text: &str) -> Result<String, Fault> {
     let tokens = tokens_of(alloc, text)?;
-    let source = source_of(alloc, tokens.as_slice())?;
-    let all = kept(alloc, &source)?;
+    let mut source = source_of(alloc, tokens.as_slice())?;
+    find_kept(alloc, &mut source)?;
     let mut impls = Text::new(alloc);
     let mut left_out = Text::new(alloc);
-    for (item, keeps) in source.items.iter().zip(all.iter()) {
+    for item in source.items.iter() {
         if !item.notes.is_skipped {
             refuse(alloc, &source, item)?;
-            add_impls(&mut impls, origin, item, *keeps);
-            add_left_out(&mut left_out, item, *keeps);
+            add_impls(&mut impls, origin, item);
+            add_left_out(&mut left_out, item);
         }
     }
     let impls = impls.whole()?;
@@ -82,25 +82,26 @@ fn ghost_lines(source: &Source<'_>) -> &'static str {
 }
 
 /// Adds the alias and the `impl`s of a type.
-fn add_impls(out: &mut Text, origin: &Origin<'_>, item: &Item<'_>, keeps: Keeps) {
+fn add_impls(out: &mut Text, origin: &Origin<'_>, item: &Item<'_>) {
     add_alias(out, item);
     add_shown(out, item, origin.declared);
     add_words(out, item);
     if is_by_variants(item) {
         add_enum_by_variants(out, item, origin.declared);
     }
-    add_laws(out, item, keeps);
+    add_laws(out, item);
     match &item.kind {
         Kind::Struct(fields) => add_struct_impls(out, item, fields.as_slice()),
         Kind::Enum(variants) => add_enum_impls(out, item, variants.as_slice()),
     }
-    if keeps.is_lent && !item.is_borrowing() {
+    if item.keeps.is_lent && !item.is_borrowing() {
         add_lent_decode(out, item);
     }
 }
 
 /// Adds the line of the module's head that says which laws a type does not keep.
-fn add_left_out(out: &mut Text, item: &Item<'_>, keeps: Keeps) {
+fn add_left_out(out: &mut Text, item: &Item<'_>) {
+    let keeps = item.keeps;
     if keeps.plain && keeps.exact && keeps.canonical {
         return;
     }

@@ -3,6 +3,7 @@
 use crate::cursor::{Cursor, is_one_of, is_opening};
 use crate::error::{Fault, Refusal, refused};
 use crate::items::{Field, Fields, Item, Kind, Param, Source, Variant};
+use crate::laws::NOTHING;
 use crate::notes::{Notes, number_of, tag_of, unknown};
 use crate::text::text_at;
 use crate::tokens::{Token, is_word};
@@ -184,6 +185,7 @@ fn read_item<'t>(
         kind,
         derives,
         notes,
+        keeps: NOTHING,
     })
 }
 
@@ -245,6 +247,7 @@ fn skipped<'t>(alloc: Global, name: &'t Token, derives: Vec<&'t str>, notes: Not
         kind: Kind::Struct(Fields::Unit),
         derives,
         notes,
+        keeps: NOTHING,
     }
 }
 

@@ -22,7 +22,7 @@ pub fn refuse<'t>(alloc: Global, source: &Source<'t>, item: &Item<'t>) -> Result
         refuse_name(alloc, item, word)?;
     }
     for of in item.types(alloc)?.iter() {
-        refuse_type(alloc, source, item, of.as_slice())?;
+        refuse_type(alloc, source, item, of)?;
     }
     refuse_params(alloc, item)?;
     refuse_tags(alloc, item.variants())?;
@@ -141,12 +141,7 @@ fn instead_of(name: &str) -> Option<&'static str> {
 
 /// Refuses a second lifetime, and a type parameter of an enum.
 fn refuse_params(alloc: Global, item: &Item<'_>) -> Result<(), Fault> {
-    let lifetimes = item
-        .params
-        .iter()
-        .filter(|param| param.is_lifetime())
-        .count();
-    if lifetimes > 1 {
+    if lifetimes_of(item) > 1 {
         let name = name_of(alloc, item)?;
         return Err(refused(item.name.place, Refusal::TwoLifetimes { name }));
     }
@@ -155,6 +150,17 @@ fn refuse_params(alloc: Global, item: &Item<'_>) -> Result<(), Fault> {
         return Err(refused(item.name.place, Refusal::GenericEnum { name }));
     }
     Ok(())
+}
+
+/// How many lifetimes a type has.
+fn lifetimes_of(item: &Item<'_>) -> usize {
+    let mut count = 0usize;
+    for param in item.params.iter() {
+        if param.is_lifetime() {
+            count = count.saturating_add(1);
+        }
+    }
+    count
 }
 
 fn is_enum(item: &Item<'_>) -> bool {

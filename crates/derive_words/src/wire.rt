@@ -3,7 +3,6 @@
 use crate::blanks::{fill, fill_variant};
 use crate::heads::{add_head, is_by_variants};
 use crate::items::{Item, Kind};
-use crate::laws::Keeps;
 use crate::notes::Trait;
 use crate::text::Text;
 use crate::variants::{add_told_by_variants, add_words_by_variants};
@@ -135,7 +134,8 @@ pub fn add_opening(out: &mut Text, item: &Item<'_>, promise: &str) {
 }
 
 /// Adds the laws that a type keeps, and those that its notes ask for.
-pub fn add_laws(out: &mut Text, item: &Item<'_>, keeps: Keeps) {
+pub fn add_laws(out: &mut Text, item: &Item<'_>) {
+    let keeps = item.keeps;
     if keeps.plain {
         add_law(out, item, &PLAIN);
     }
