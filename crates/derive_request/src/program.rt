@@ -4,6 +4,7 @@ ghost use Rattle.std.specs.Prelude.{◌≡◌, ◌≢◌, IfOk, None, false, tru
 use crate::compare::{State, state_of};
 use crate::paths::{declared_path, file_name};
 use crate::request::{Action, Request};
+use derive_words::answers::answers_of;
 use derive_words::error::{Fault, Refusal};
 use derive_words::module::{Origin, module_of};
 use std::alloc::{AllocError, Global};
@@ -37,14 +38,23 @@ pub enum ProgramError {
     Memory(#[from(alloc)] AllocError),
 }
 
-/// The module for a source of this path, which stands at this place in the file system. Messages name its path.
+/// What is made of a source.
+#[derive(Drop)]
+pub struct Made {
+    /// The text of its module.
+    pub module: String,
+    /// What has to be written by hand beside it, with the paths of the files. Nothing for most types.
+    pub answers: String,
+}
+
+/// What is made of a source of this path, which stands at this place in the file system. Messages name its path.
 pub fn written_for(
     alloc: Global,
     request: &Request,
     file: &str,
     place: &str,
     text: &str,
-) -> Result<String, ProgramError> {
+) -> Result<Made, ProgramError> {
     let crate_name = request.crate_name.as_ref().map(String::as_str);
     let Some(declared) = declared_path(alloc, place, crate_name)? else {
         let file = String::from_str(alloc, file)?;
@@ -54,8 +64,15 @@ pub fn written_for(
         file_name: file_name(place),
         declared: declared.as_str(),
     };
-    match module_of(alloc, &origin, text) {
-        Ok(module) => Ok(module),
+    let module = told_of(alloc, file, module_of(alloc, &origin, text))?;
+    let answers = told_of(alloc, file, answers_of(alloc, &origin, text))?;
+    Ok(Made { module, answers })
+}
+
+/// What was made of a file, and an error with its name.
+fn told_of(alloc: Global, file: &str, made: Result<String, Fault>) -> Result<String, ProgramError> {
+    match made {
+        Ok(text) => Ok(text),
         Err(fault) => Err(in_file(alloc, file, fault)?),
     }
 }

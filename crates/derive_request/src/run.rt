@@ -91,14 +91,16 @@ fn run_file<S: Shelf>(
 ) -> Result<Outcome, ProgramError> {
     let text = named(alloc, file, shelf.text(file))?;
     let place = named(alloc, file, shelf.place(file))?;
-    let module = written_for(alloc, request, file, place.as_str(), text.as_str())?;
+    let made = written_for(alloc, request, file, place.as_str(), text.as_str())?;
     let path = module_path(alloc, file)?;
     let path = path.as_str();
     let found = named(alloc, path, found_at(shelf, path))?;
     let found = found.as_ref().map(String::as_str);
-    let outcome = outcome_of(alloc, request.action, file, path, module.as_str(), found)?;
+    let module = made.module.as_str();
+    let mut outcome = outcome_of(alloc, request.action, file, path, module, found)?;
     if outcome.is_written {
-        named(alloc, path, shelf.write(path, module.as_str()))?;
+        named(alloc, path, shelf.write(path, module))?;
+        outcome.printed.push_str(made.answers.as_str())?;
     }
     Ok(outcome)
 }

@@ -103,6 +103,42 @@ fn told(alloc: Global, memory: &mut Memory, line: &str) -> Result<String, AllocE
     format!(in alloc; "{status}\n{printed}--\n{complaints}")
 }
 
+/// An enum with variants that hold a `Vec` alone.
+const LISTS: &str = "#[derive(Drop)]
+enum A {
+    Two(u8, Vec<u8>),
+    Bytes(Vec<u8>),
+    Texts { texts: Vec<String> },
+}
+";
+
+#[test]
+fn tells_which_lines_of_proof_are_to_be_written(rt: HostRuntime) -> Result<(), Fail> {
+    let alloc = rt.alloc();
+    let mut memory = Memory::new(alloc, &[("src/shop/list.rt", LISTS)])?;
+    let written = told(alloc, &mut memory, "--crate app src/shop/list.rt")?;
+    assert_eq!(rt;
+        written.as_str(),
+        "0
+src/shop/list/words.rt: written
+A variant of A holds a `Vec` alone. Write the file proofs/shop/list/words/AEncode/encode/Answers.antt:
+
+use Rattle.app.proofs.shop.list.words.AEncode.encode.Goals as goal
+
+pub encode_variant-requires-in-Bytes-clause-means :
+    goal.encode_variant-requires-in-Bytes-clause-means
+encode_variant-requires-in-Bytes-clause-means g c = rw c.in-Bytes.is (λ m h. h, λ m h. h)
+
+pub encode_variant-requires-in-Texts-clause-means :
+    goal.encode_variant-requires-in-Texts-clause-means
+encode_variant-requires-in-Texts-clause-means g c = rw c.in-Texts.is (λ m h. h, λ m h. h)
+
+--
+"
+    );
+    Ok(())
+}
+
 #[test]
 fn tells_which_modules_are_stale_and_missing(rt: HostRuntime) -> Result<(), Fail> {
     let alloc = rt.alloc();

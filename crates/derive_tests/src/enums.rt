@@ -63,7 +63,11 @@ type KindMovePart = (i32, bool);
 type KindParts = VariantOf<
     0,
     KindIdlePart,
-    VariantOf<1, KindNotePart, VariantOf<2, KindWorkPart, VariantOf<3, KindMovePart, NoMoreVariants<Kind>>>>,
+    VariantOf<
+        1,
+        KindNotePart,
+        VariantOf<2, KindWorkPart, VariantOf<3, KindMovePart, NoMoreVariants<Kind>>>,
+    >,
 >;
 ",
     ),
@@ -220,7 +224,11 @@ use bincode::{NoMoreVariants, VariantOf, Wire};
 
 type EventNotePart<'a> = (&'a str, u8);
 
-type EventParts<'a> = VariantOf<0, EventStartPart, VariantOf<1, EventNotePart<'a>, NoMoreVariants<Event<'a>>>>;
+type EventParts<'a> = VariantOf<
+    0,
+    EventStartPart,
+    VariantOf<1, EventNotePart<'a>, NoMoreVariants<Event<'a>>>,
+>;
 ",
     ),
     (
@@ -229,8 +237,8 @@ type EventParts<'a> = VariantOf<0, EventStartPart, VariantOf<1, EventNotePart<'a
     ghost use Rattle.std.specs.Prelude.{min, ◌+◌, ◌-◌, ◌^◌};
     ghost use Rattle.bincode.specs.EnumWords.{enum_words};
 
-    ghost words = { enum_words ⟦<Event<'a> as Sum<EventParts<'a>>>⟧.variants ⟦<Event<'a> as
-        Sum<EventParts<'a>>>⟧.parts };
+    ghost words = { enum_words ⟦<Event<'a> as Sum<EventParts<'a>>>⟧.variants
+        ⟦<Event<'a> as Sum<EventParts<'a>>>⟧.parts };
 
     fn claim_size() -> usize
         ensures { result ≡ min (4 + ⟦<Event<'a> as Sum<EventParts<'a>>>⟧.variants.claim) (2 ^ 64 - 1) }
@@ -275,8 +283,11 @@ type EventParts<'a> = VariantOf<0, EventStartPart, VariantOf<1, EventNotePart<'a
         EITHER,
         "type EitherBothPart<K, V> = (K, V);
 
-type EitherParts<K, V> = VariantOf<0, K, VariantOf<1, V, VariantOf<2, EitherBothPart<K, V>, NoMoreVariants<Either<K,
-V>>>>>;
+type EitherParts<K, V> = VariantOf<
+    0,
+    K,
+    VariantOf<1, V, VariantOf<2, EitherBothPart<K, V>, NoMoreVariants<Either<K, V>>>>,
+>;
 
 impl<K: Wire, V: Wire> Sum<EitherParts<K, V>> for Either<K, V> {
 ",

@@ -4,7 +4,32 @@ use derive_words::module::{Origin, module_of};
 use std::test::Fail;
 
 /// Sources, each with lines of its module.
-const WRITTEN: [(&str, &str); 19] = [
+const WRITTEN: [(&str, &str); 22] = [
+    // Names that a function or an `impl` would have for parameters of its own.
+    (
+        "#[derive(Drop)]\nstruct Pair<D, E>(D, E);",
+        "    fn encode<TheEncoder: Encoder>(&self, encoder: &mut TheEncoder) -> Result<(), EncodeError> {\n",
+    ),
+    (
+        "#[derive(Drop)]\nenum Pair<Context, D> {\n    Left(Context),\n    Right(D),\n}",
+        "impl<TheContext: Drop, Context: Decode<TheContext>, D: Decode<TheContext>> DecodeVariants<TheContext>
+    for Pair<Context, D> {
+    fn decode_variant<TheDecoder: Decoder<Context = TheContext>>(
+        tag: u32,
+        decoder: &mut TheDecoder,
+    ) -> Result<Pair<Context, D>, DecodeError> {
+",
+    ),
+    (
+        "// bincode: with BorrowDecode\n#[derive(Drop)]\nstruct B(u8);",
+        "impl<TheBytes: BorrowedBytes, Context: Drop> BorrowDecode<TheBytes, Context> for B {
+    type Run = Sequential;
+
+    fn borrow_decode<D: BorrowDecoder<TheBytes, Context = Context>>(
+        decoder: &mut D,
+    ) -> Result<B, DecodeError> {
+",
+    ),
     // What holds nothing, and one field that is its own parts.
     (
         "#[derive(Clone, Copy)]\nstruct Ping;",
@@ -104,7 +129,11 @@ where
             VariantOf<
                 2,
                 Moved,
-                VariantOf<3, (PlayerId, u16), VariantOf<4, String, VariantOf<5, PlayerId, NoMoreVariants<Happening>>>>,
+                VariantOf<
+                    3,
+                    (PlayerId, u16),
+                    VariantOf<4, String, VariantOf<5, PlayerId, NoMoreVariants<Happening>>>,
+                >,
             >,
         >,
     >,

@@ -74,7 +74,7 @@ const UNREADABLE: [(&str, &str); 15] = [
 ];
 
 /// Types that can't be written, each with the message.
-const UNWRITABLE: [(&str, &str); 23] = [
+const UNWRITABLE: [(&str, &str); 26] = [
     (
         "",
         "1:1: no struct or enum stands in this file: write one, or take the note `skip` away",
@@ -161,12 +161,24 @@ const UNWRITABLE: [(&str, &str); 23] = [
         "5:5: H has the tag 1 of another variant: give it one of its own",
     ),
     (
-        "#[derive(Drop)]\nstruct Context(u8);",
-        "2:8: the name `Context` is used by what is written for your types: take another",
+        "#[derive(Drop)]\nstruct A<Words>(Words);",
+        "2:10: the name `Words` is used by what is written for your types: take another",
     ),
     (
-        "#[derive(Drop)]\nstruct A<E>(E);",
-        "2:10: the name `E` is used by what is written for your types: take another",
+        "#[derive(Drop)]\nstruct A<E, TheEncoder>(E, TheEncoder);",
+        "2:13: the name `TheEncoder` is used by what is written for your types: take another",
+    ),
+    (
+        "#[derive(Drop)]\nstruct A(Vec<std::time::Duration>);",
+        "2:25: the library has no words for `Duration`: hold a `bincode::time::Duration` in place of that of `std`",
+    ),
+    (
+        "use std::{time::Duration, mem};\n#[derive(Drop)]\nstruct A(Duration);",
+        "3:10: the library has no words for `Duration`: hold a `bincode::time::Duration` in place of that of `std`",
+    ),
+    (
+        "use std::ffi;\n#[derive(Drop)]\nstruct A(ffi::CString);",
+        "3:15: the library has no words for `CString`: hold a `bincode::ffi::CString` in place of that of `std`",
     ),
     (
         "#[derive(Drop)]\nstruct A(Vec<Shape>);",
@@ -175,7 +187,9 @@ const UNWRITABLE: [(&str, &str); 23] = [
 ];
 
 /// Sources that are written.
-const WRITABLE: [&str; 5] = [
+const WRITABLE: [&str; 7] = [
+    "use bincode::time::Duration;\nuse std::mem;\n#[derive(Drop)]\nstruct A(Duration, bincode::ffi::CString);",
+    "use std::time::Duration as Span;\nuse bincode::time::Duration;\n#[derive(Drop)]\nstruct A(Duration);",
     "fn f() -> bool {\n    1 < 2\n}\n#[derive(Drop)]\nstruct A(u8);",
     "/* struct B; */\nconst C: [&str; 2] = [\"struct {\", \"\\\"\"];\n#[derive(Clone, Copy)]\nstruct A;",
     "struct A<T>(T);\nimpl<T: Drop> Drop for A<T> {\n    fn drop(self) {\n        let A(_) = self;\n    }\n}",

@@ -1,104 +1,89 @@
 //! How an enum that is written variant by variant is read: by its tag, and then the part of the variant.
 
-use crate::decoding::decode;
-use crate::enums::arm_of;
-use crate::error::Fault;
-use crate::heads::{Part, Subject};
-use crate::refusals::tags_of_item;
-use crate::text::joined;
-use std::alloc::{AllocError, Global};
-
-/// The `impl`s by which an enum is read by its tag.
-pub fn decode_by_tag(alloc: Global, subject: &Subject<'_, '_>) -> Result<String, Fault> {
-    let read = read_variants(alloc, subject)?;
-    let by = match lifetime_of(subject) {
-        Some(_) => "borrow_decode_by_tag",
-        None => "decode_by_tag",
-    };
-    let body = format!(in alloc; "        {by}(decoder)\n")?;
-    let decode = decode(alloc, subject, body.as_str())?;
-    Ok(format!(in alloc; "{read}{decode}")?)
-}
-
-/// The lifetime of a type, if it has one.
-fn lifetime_of<'s>(subject: &'s Subject<'_, '_>) -> Option<&'s str> {
-    match subject.item.params.first() {
-        Some(first) if first.is_lifetime() => Some(first.name.text.as_str()),
-        _ => None,
-    }
-}
-
-/// The `impl` by which the part of each variant is read.
-fn read_variants(alloc: Global, subject: &Subject<'_, '_>) -> Result<String, Fault> {
-    let itself = subject.itself.as_str();
-    let arms = arms(alloc, subject)?;
-    let head = read_head(alloc, subject)?;
-    Ok(format!(in alloc;
-        "{head}(tag: u32, decoder: &mut D) -> Result<{itself}, DecodeError> {{
-        match tag {{
-{arms}        }}
-    }}
-}}
-
-"
-    )?)
-}
-
-/// The head of that `impl`, and of its function up to the parameters.
-fn read_head(alloc: Global, subject: &Subject<'_, '_>) -> Result<String, AllocError> {
-    let before = "Context: Drop";
-    let Some(lifetime) = lifetime_of(subject) else {
-        let head = subject.head(alloc, before, "DecodeVariants<Context>", "Decode<Context>")?;
-        return format!(in alloc; "{head}    fn decode_variant<D: Decoder<Context = Context>>");
-    };
-    let of = format!(in alloc; "BorrowDecodeVariants<&{lifetime} [u8], Context>")?;
-    let head = subject.head(alloc, before, of.as_str(), "")?;
-    format!(in alloc;
-        "{head}    fn borrow_decode_variant<D: BorrowDecoder<&{lifetime} [u8], Context = Context>>"
-    )
-}
-
-/// The arms that read the part of each variant, and the one that refuses another tag.
-fn arms(alloc: Global, subject: &Subject<'_, '_>) -> Result<String, Fault> {
-    let tags = tags_of_item(alloc, subject.item)?;
-    let mut arms = String::new(alloc);
-    for (part, tag) in subject.variants.iter().zip(tags.iter()) {
-        arms.push_str(arm(alloc, subject, part, *tag)?.as_str())?;
-    }
-    arms.push_str(last_arm(alloc, tags.as_slice())?.as_str())?;
-    Ok(arms)
-}
+use crate::blanks::{fill, fill_variant};
+use crate::decoding::add_decode;
+use crate::heads::add_head;
+use crate::items::{Item, Variant};
+use crate::text::Text;
 
 /// The arm that reads the part of a variant.
-fn arm(
-    alloc: Global,
-    subject: &Subject<'_, '_>,
-    part: &Part<'_, '_>,
-    tag: u32,
-) -> Result<String, AllocError> {
-    let itself = subject.itself.as_str();
-    let of = part.itself.as_str();
-    let by = match lifetime_of(subject) {
-        Some(lifetime) => format!(in alloc; "borrow_decode_part::<&{lifetime} [u8], Context, ")?,
-        None => String::from_str(alloc, "decode_part::<Context, ")?,
-    };
-    let arm = arm_of(alloc, subject, part.variant)?;
-    let held = arm.parts.as_str();
-    let made = arm.variant.as_str();
-    format!(in alloc;
-        "            {tag} => match {by}{itself}, {of}, D>(tag, {tag}, decoder) {{
-                Ok({held}) => Ok({made}),
+const ARM: &str =
+    "            $tag$ => match decode_part::<$Context$, $itself$, $part$, $D$>(tag, $tag$, decoder) {
+                Ok($bound$) => Ok($name$::$variant$$made$),
                 Err(error) => Err(error),
-            }},
-"
-    )
+            },
+";
+
+/// The arm that reads it by borrowing.
+const BORROWING_ARM: &str =
+    "            $tag$ => match borrow_decode_part::<&$lifetime$ [u8], $Context$, $itself$, $part$, $D$>(tag, $tag$, decoder) {
+                Ok($bound$) => Ok($name$::$variant$$made$),
+                Err(error) => Err(error),
+            },
+";
+
+/// The name and the bound of the function that reads a part by borrowing.
+const BORROWING_FN: &str =
+    "    fn borrow_decode_variant<$D$: BorrowDecoder<&$lifetime$ [u8], Context = $Context$>>";
+
+/// Adds the `impl`s by which an enum of these variants is read by its tag.
+pub fn add_decode_by_tag(out: &mut Text, item: &Item<'_>, variants: &[Variant<'_>]) {
+    add_read_head(out, item);
+    fill(
+        out,
+        item,
+        "(tag: u32, decoder: &mut $D$) -> Result<$itself$, DecodeError> {\n",
+    );
+    out.add("        match tag {\n");
+    let arm = if item.is_borrowing() {
+        BORROWING_ARM
+    } else {
+        ARM
+    };
+    for variant in variants.iter() {
+        fill_variant(out, item, variant, arm);
+    }
+    add_last_arm(out, variants);
+    out.add("        }\n    }\n}\n\n");
+    add_decode(
+        out,
+        item,
+        if item.is_borrowing() {
+            "        borrow_decode_by_tag(decoder)\n"
+        } else {
+            "        decode_by_tag(decoder)\n"
+        },
+    );
 }
 
-/// Whether some tags are 0, 1 and so on.
-pub fn is_in_order(tags: &[u32]) -> bool {
+/// Adds the head of the `impl` by which the part of each variant is read, and of its function up to the parameters.
+fn add_read_head(out: &mut Text, item: &Item<'_>) {
+    let before = "$Context$: Drop";
+    if item.is_borrowing() {
+        let of = "BorrowDecodeVariants<&$lifetime$ [u8], $Context$>";
+        add_head(out, item, before, of, "");
+        fill(out, item, BORROWING_FN);
+    } else {
+        add_head(
+            out,
+            item,
+            before,
+            "DecodeVariants<$Context$>",
+            "Decode<$Context$>",
+        );
+        fill(
+            out,
+            item,
+            "    fn decode_variant<$D$: Decoder<Context = $Context$>>",
+        );
+    }
+}
+
+/// Whether the tags of some variants are 0, 1 and so on.
+pub fn is_in_order(variants: &[Variant<'_>]) -> bool {
     let mut next = 0u32;
-    for tag in tags.iter() {
-        if *tag != next {
+    for variant in variants.iter() {
+        if variant.tag != next {
             return false;
         }
         next = next.saturating_add(1);
@@ -106,17 +91,18 @@ pub fn is_in_order(tags: &[u32]) -> bool {
     true
 }
 
-/// The arm that refuses a tag that no variant has, and tells which there are.
-fn last_arm(alloc: Global, tags: &[u32]) -> Result<String, AllocError> {
-    if is_in_order(tags) {
-        let last = tags.len().saturating_sub(1);
-        return format!(in alloc; "            _ => decode_no_variant(tag, {last}, decoder),\n");
+/// Adds the arm that refuses a tag that no variant has, and tells which there are.
+fn add_last_arm(out: &mut Text, variants: &[Variant<'_>]) {
+    if is_in_order(variants) {
+        out.add("            _ => decode_no_variant(tag, ");
+        out.add_number(variants.len().saturating_sub(1) as u64);
+        out.add(", decoder),\n");
+        return;
     }
-    let mut texts = Vec::new(alloc);
-    for tag in tags.iter() {
-        let tag = *tag;
-        texts.push(format!(in alloc; "{tag}")?)?;
+    out.add("            _ => decode_unlisted_variant(tag, &[");
+    for (at, variant) in variants.iter().enumerate() {
+        out.add(if at > 0 { ", " } else { "" });
+        out.add_number(u64::from(variant.tag));
     }
-    let list = joined(alloc, texts.as_slice(), ", ")?;
-    format!(in alloc; "            _ => decode_unlisted_variant(tag, &[{list}], decoder),\n")
+    out.add("], decoder),\n");
 }

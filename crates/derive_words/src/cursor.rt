@@ -121,7 +121,12 @@ impl<'t> Cursor<'t> {
 
 /// Whether a text is one of these.
 pub fn is_one_of(text: &str, texts: &[&str]) -> bool {
-    texts.iter().any(|other| *other == text)
+    for other in texts.iter() {
+        if *other == text {
+            return true;
+        }
+    }
+    false
 }
 
 /// How many brackets are open behind a token.

@@ -1,74 +1,74 @@
 //! The `impl`s of `Decode` and `BorrowDecode`.
 
-use crate::heads::Subject;
-use std::alloc::{AllocError, Global};
+use crate::blanks::fill;
+use crate::heads::add_head;
+use crate::items::Item;
+use crate::text::Text;
 
-/// The `impl` of `Decode` with this body, or for a type with a lifetime that of `BorrowDecode`.
-pub fn decode(alloc: Global, subject: &Subject<'_, '_>, body: &str) -> Result<String, AllocError> {
-    let itself = subject.itself.as_str();
-    match subject.item.params.first() {
-        Some(first) if first.is_lifetime() => {
-            borrow_decode(alloc, subject, first.name.text.as_str(), body)
-        }
-        _ => {
-            let of = "Decode<Context>";
-            let head = subject.head(alloc, "Context: Drop", of, of)?;
-            format!(in alloc;
-                "{head}    type Run = Sequential;
+/// What stands before the body of a function that reads.
+const DECODE: &str = "    type Run = Sequential;
 
-    fn decode<D: Decoder<Context = Context>>(decoder: &mut D) -> Result<{itself}, DecodeError> {{
-{body}    }}
-}}
+    fn decode<$D$: Decoder<Context = $Context$>>(decoder: &mut $D$) -> Result<$itself$, DecodeError> {
+";
 
-"
-            )
-        }
+/// What stands before the body of one that reads by borrowing.
+const BORROW_DECODE: &str = "    type Run = Sequential;
+
+    fn borrow_decode<$D$: BorrowDecoder<&$lifetime$ [u8], Context = $Context$>>(
+        decoder: &mut $D$,
+    ) -> Result<$itself$, DecodeError> {
+";
+
+/// What stands behind the body.
+pub const DECODE_END: &str = "    }
+}
+
+";
+
+/// The body where a value is made of its parts.
+pub const DECODE_PARTS: &str = "        decode_by_parts::<$parts$, $itself$, $D$>(decoder)\n";
+
+/// How a type is read by borrowing that owns all that it holds.
+const LENT_DECODE: &str = "    type Run = Sequential;
+
+    fn borrow_decode<$D$: BorrowDecoder<$B$, Context = $Context$>>(
+        decoder: &mut $D$,
+    ) -> Result<$itself$, DecodeError> {
+        $path$::decode(decoder)
     }
 }
 
-/// The `impl` of `BorrowDecode` of a type with this lifetime.
-fn borrow_decode(
-    alloc: Global,
-    subject: &Subject<'_, '_>,
-    lifetime: &str,
-    body: &str,
-) -> Result<String, AllocError> {
-    let itself = subject.itself.as_str();
-    let of = format!(in alloc; "BorrowDecode<&{lifetime} [u8], Context>")?;
-    let head = subject.head(alloc, "Context: Drop", of.as_str(), of.as_str())?;
-    format!(in alloc;
-        "{head}    type Run = Sequential;
+";
 
-    fn borrow_decode<D: BorrowDecoder<&{lifetime} [u8], Context = Context>>(
-        decoder: &mut D,
-    ) -> Result<{itself}, DecodeError> {{
-{body}    }}
-}}
-
-"
-    )
+/// Adds the `impl` of `Decode` with this body, a template, or for a type with a lifetime that of `BorrowDecode`.
+pub fn add_decode(out: &mut Text, item: &Item<'_>, body: &str) {
+    add_decode_front(out, item);
+    fill(out, item, body);
+    out.add(DECODE_END);
 }
 
-/// The `impl` of `BorrowDecode` of a type that owns all that it holds.
-pub fn lent_decode(alloc: Global, subject: &Subject<'_, '_>) -> Result<String, AllocError> {
-    let itself = subject.itself.as_str();
-    let path = subject.path(alloc, itself)?;
-    let head = subject.head(
-        alloc,
-        "B: BorrowedBytes, Context: Drop",
-        "BorrowDecode<B, Context>",
-        "Decode<Context>",
-    )?;
-    format!(in alloc;
-        "{head}    type Run = Sequential;
+/// Adds that `impl` up to its body.
+pub fn add_decode_front(out: &mut Text, item: &Item<'_>) {
+    if item.is_borrowing() {
+        let of = "BorrowDecode<&$lifetime$ [u8], $Context$>";
+        add_head(out, item, "$Context$: Drop", of, of);
+        fill(out, item, BORROW_DECODE);
+    } else {
+        let of = "Decode<$Context$>";
+        add_head(out, item, "$Context$: Drop", of, of);
+        fill(out, item, DECODE);
+    }
+}
 
-    fn borrow_decode<D: BorrowDecoder<B, Context = Context>>(
-        decoder: &mut D,
-    ) -> Result<{itself}, DecodeError> {{
-        {path}::decode(decoder)
-    }}
-}}
-
-"
-    )
+/// Adds the `impl` of `BorrowDecode` of a type that owns all that it holds.
+pub fn add_lent_decode(out: &mut Text, item: &Item<'_>) {
+    let before = "$B$: BorrowedBytes, $Context$: Drop";
+    add_head(
+        out,
+        item,
+        before,
+        "BorrowDecode<$B$, $Context$>",
+        "Decode<$Context$>",
+    );
+    fill(out, item, LENT_DECODE);
 }

@@ -16,18 +16,45 @@ pub struct Keeps {
     pub is_lent: bool,
 }
 
-/// What each type of a source keeps: what all that it holds does. A name that is neither the library's nor the source's
-/// is taken to keep all: where it does not, the prover refuses the `impl`.
-pub fn kept(alloc: Global, source: &Source<'_>) -> Result<Vec<Keeps>, AllocError> {
-    let mut all = Vec::new(alloc);
-    for item in source.items.iter() {
-        all.push(first_keeps(source, item))?;
+/// Finds what each type of a source keeps: what all that it holds does. A name that is neither the library's nor the
+/// source's is taken to keep all: where it does not, the prover refuses the `impl`.
+pub fn find_kept(alloc: Global, source: &mut Source<'_>) -> Result<(), AllocError> {
+    let count = source.items.len();
+    for at in 0..count {
+        let keeps = first_keeps_at(source, at);
+        set_keeps(source, at, keeps);
     }
     // What one type lacks, those that hold it lack: as many rounds as there are types are enough.
-    for _ in 0..source.items.len() {
-        all = next_round(alloc, source, &all)?;
+    for _ in 0..count {
+        for at in 0..count {
+            let keeps = next_keeps_at(alloc, source, at)?;
+            set_keeps(source, at, keeps);
+        }
     }
-    Ok(all)
+    Ok(())
+}
+
+/// Says what the type at this place keeps.
+fn set_keeps(source: &mut Source<'_>, at: usize, keeps: Keeps) {
+    if let Some(item) = source.items.get_mut(at) {
+        item.keeps = keeps;
+    }
+}
+
+/// What the type at this place keeps by its derives and its notes alone.
+fn first_keeps_at(source: &Source<'_>, at: usize) -> Keeps {
+    match source.items.get(at) {
+        Some(item) => first_keeps(source, item),
+        None => NOTHING,
+    }
+}
+
+/// What the type at this place keeps, if those that it holds keep what they say.
+fn next_keeps_at(alloc: Global, source: &Source<'_>, at: usize) -> Result<Keeps, AllocError> {
+    match source.items.get(at) {
+        Some(item) => next_keeps(alloc, source, item),
+        None => Ok(NOTHING),
+    }
 }
 
 /// What a type keeps by its derives and its notes alone.
@@ -49,25 +76,17 @@ fn has_values(item: &Item<'_>) -> bool {
     }
 }
 
-/// What each type keeps, if those that it holds keep this.
-fn next_round(
-    alloc: Global,
-    source: &Source<'_>,
-    all: &Vec<Keeps>,
-) -> Result<Vec<Keeps>, AllocError> {
-    let mut next = Vec::new(alloc);
-    for (item, keeps) in source.items.iter().zip(all.iter()) {
-        let mut keeps = *keeps;
-        for word in item.names(alloc)?.iter() {
-            keeps = both(keeps, keeps_of(source, all, word.text.as_str()));
-        }
-        if has_inexact_keys(alloc, source, all, item)? {
-            keeps = both(keeps, NOTHING);
-        }
-        keeps.is_lent = keeps.is_lent || is_held_by_borrower(alloc, source, all, item)?;
-        next.push(keeps)?;
+/// What a type keeps, if those that it holds keep what they say.
+fn next_keeps(alloc: Global, source: &Source<'_>, item: &Item<'_>) -> Result<Keeps, AllocError> {
+    let mut keeps = item.keeps;
+    for word in item.names(alloc)?.iter() {
+        keeps = both(keeps, keeps_of(source, word.text.as_str()));
     }
-    Ok(next)
+    if has_inexact_keys(alloc, source, item)? {
+        keeps = both(keeps, NOTHING);
+    }
+    keeps.is_lent = keeps.is_lent || is_held_by_borrower(alloc, source, item)?;
+    Ok(keeps)
 }
 
 /// What a type keeps that holds one of these. A law rests on its being plain.
@@ -82,17 +101,17 @@ fn both(keeps: Keeps, below: Keeps) -> Keeps {
 }
 
 /// What this name keeps.
-fn keeps_of(source: &Source<'_>, all: &Vec<Keeps>, name: &str) -> Keeps {
-    for (item, keeps) in source.items.iter().zip(all.iter()) {
+fn keeps_of(source: &Source<'_>, name: &str) -> Keeps {
+    for item in source.items.iter() {
         if item.name.text.as_str() == name {
-            return *keeps;
+            return item.keeps;
         }
     }
     library_keeps(name)
 }
 
 /// No law.
-const NOTHING: Keeps = Keeps {
+pub const NOTHING: Keeps = Keeps {
     plain: false,
     exact: false,
     canonical: false,
@@ -120,13 +139,11 @@ fn library_keeps(name: &str) -> Keeps {
 fn has_inexact_keys(
     alloc: Global,
     source: &Source<'_>,
-    all: &Vec<Keeps>,
     item: &Item<'_>,
 ) -> Result<bool, AllocError> {
     for of in item.types(alloc)?.iter() {
-        let of = of.as_slice();
         for at in 0..of.len() {
-            if is_keyed(text_at(of, at)) && !is_exact_key(source, all, of, at) {
+            if is_keyed(text_at(of, at)) && !is_exact_key(source, of, at) {
                 return Ok(true);
             }
         }
@@ -140,7 +157,7 @@ fn is_keyed(name: &str) -> bool {
 }
 
 /// Whether all that stands in the key of the set or map at this place is exact.
-fn is_exact_key(source: &Source<'_>, all: &Vec<Keeps>, of: &[&Token], at: usize) -> bool {
+fn is_exact_key(source: &Source<'_>, of: &[&Token], at: usize) -> bool {
     let mut depth = 0u64;
     for word in of.iter().skip(at.saturating_add(1)) {
         let text = word.text.as_str();
@@ -150,7 +167,7 @@ fn is_exact_key(source: &Source<'_>, all: &Vec<Keeps>, of: &[&Token], at: usize)
             "," if depth <= 1 => return true,
             _ => {}
         }
-        if depth == 0 || !keeps_of(source, all, text).exact {
+        if depth == 0 || !keeps_of(source, text).exact {
             return depth == 0;
         }
     }
@@ -161,11 +178,10 @@ fn is_exact_key(source: &Source<'_>, all: &Vec<Keeps>, of: &[&Token], at: usize)
 fn is_held_by_borrower(
     alloc: Global,
     source: &Source<'_>,
-    all: &Vec<Keeps>,
     held: &Item<'_>,
 ) -> Result<bool, AllocError> {
-    for (item, keeps) in source.items.iter().zip(all.iter()) {
-        let is_borrower = keeps.is_lent || item.is_borrowing();
+    for item in source.items.iter() {
+        let is_borrower = item.keeps.is_lent || item.is_borrowing();
         if is_borrower && is_among(item.names(alloc)?.as_slice(), held.name.text.as_str()) {
             return Ok(true);
         }
@@ -175,5 +191,10 @@ fn is_held_by_borrower(
 
 /// Whether a word stands among these.
 pub fn is_among(words: &[&Token], word: &str) -> bool {
-    words.iter().any(|other| other.text.as_str() == word)
+    for other in words.iter() {
+        if other.text.as_str() == word {
+            return true;
+        }
+    }
+    false
 }

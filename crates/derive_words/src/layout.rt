@@ -1,5 +1,6 @@
 //! Lines as `rt fmt` lays them out: one that is too long is broken where a list stands in brackets.
 
+use crate::text::Text;
 use crate::tokens::is_of_word;
 use std::alloc::{AllocError, Global};
 
@@ -33,97 +34,134 @@ struct Line {
     context: Context,
 }
 
+/// Lines one after the other. Where memory is refused on the way, `is_whole` says so.
+#[derive(Drop)]
+struct Lines {
+    alloc: Global,
+    all: Vec<Line>,
+    is_whole: bool,
+}
+
+impl Lines {
+    fn new(alloc: Global) -> Lines {
+        Lines {
+            alloc,
+            all: Vec::new(alloc),
+            is_whole: true,
+        }
+    }
+
+    /// Adds a line that has been made.
+    fn push(&mut self, line: Line) {
+        if self.all.push(line).is_err() {
+            self.is_whole = false;
+        }
+    }
+
+    /// Adds a line that is this behind that.
+    fn add(&mut self, front: &str, text: &str, context: Context) {
+        let mut line = Text::new(self.alloc);
+        line.add(front);
+        line.add(text);
+        match line.whole() {
+            Ok(text) => self.push(Line { text, context }),
+            Err(_) => self.is_whole = false,
+        }
+    }
+
+    /// Adds a part of a list, which stands one step further in than this, in a line of its own.
+    fn add_part(&mut self, indent: &str, part: &str, context: Context) {
+        let mut line = Text::new(self.alloc);
+        line.add("    ");
+        line.add(part);
+        line.add(",");
+        self.add(indent, line.as_str(), context);
+    }
+}
+
 /// Text whose lines are as long as they may be, as `rt fmt` lays it out.
 pub fn laid_out(alloc: Global, text: &str) -> Result<String, AllocError> {
-    let mut laid = String::new(alloc);
+    let mut laid = Text::new(alloc);
+    let mut is_whole = true;
     for line in text.lines() {
-        lay_line(alloc, &mut laid, line)?;
-    }
-    Ok(laid)
-}
-
-/// Adds a line, broken as often as it has to be.
-fn lay_line(alloc: Global, laid: &mut String, text: &str) -> Result<(), AllocError> {
-    let mut waiting = Vec::new(alloc);
-    waiting.push(first_line(alloc, text)?)?;
-    for _ in 0..u64::MAX {
-        let Some(line) = waiting.pop() else {
-            break;
-        };
-        let lines = broken(alloc, line.text.as_str(), line.context)?;
-        let mut lines = lines.into_iter();
-        if let Some(first) = lines.next() {
-            laid.push_str(first.text.as_str())?;
-            laid.push_str("\n")?;
-        }
-        for later in lines.rev() {
-            waiting.push(later)?;
+        if !lay_line(&mut laid, alloc, line) {
+            is_whole = false;
         }
     }
-    Ok(())
+    if is_whole {
+        laid.whole()
+    } else {
+        Err(AllocError)
+    }
 }
 
-/// A line of code, or of a type where an alias begins.
-fn first_line(alloc: Global, text: &str) -> Result<Line, AllocError> {
-    let is_type = text.starts_with("type ");
-    let context = if is_type {
+/// Adds a line, broken as often as it has to be. `false` where memory was refused.
+fn lay_line(laid: &mut Text, alloc: Global, text: &str) -> bool {
+    let context = if text.starts_with("type ") {
         Context::Type
     } else {
         Context::Code
     };
-    line_of(alloc, text, context)
+    let mut waiting = Lines::new(alloc);
+    waiting.add("", text, context);
+    for _ in 0..u64::MAX {
+        let Some(line) = waiting.all.pop() else {
+            break;
+        };
+        let mut lines = Lines::new(alloc);
+        break_line(&mut lines, line.text.as_str(), line.context);
+        hand_on(laid, &mut waiting, &mut lines);
+    }
+    waiting.is_whole
 }
 
-fn line_of(alloc: Global, text: &str, context: Context) -> Result<Line, AllocError> {
-    let text = String::from_str(alloc, text)?;
-    Ok(Line { text, context })
+/// Adds the first of the lines that a line was broken into, which is short enough. The others wait, the next on top.
+fn hand_on(laid: &mut Text, waiting: &mut Lines, lines: &mut Lines) {
+    waiting.is_whole = waiting.is_whole && lines.is_whole;
+    for _ in 0..u64::MAX {
+        let Some(line) = lines.all.pop() else {
+            break;
+        };
+        if lines.all.is_empty() {
+            laid.add(line.text.as_str());
+            laid.add("\n");
+        } else {
+            waiting.push(line);
+        }
+    }
 }
 
-/// The line itself, or what it is broken into, of which the first is short enough.
-fn broken(alloc: Global, text: &str, context: Context) -> Result<Vec<Line>, AllocError> {
+/// Adds the line itself, or what it is broken into, of which the first is short enough.
+fn break_line(lines: &mut Lines, text: &str, context: Context) {
     let code = text.trim_start();
     if is_never_broken(code) {
-        return whole(alloc, text);
+        lines.add("", text, Context::Code);
+    } else if code.starts_with("use ") {
+        break_use(lines, text);
+    } else if code.starts_with("fn ") || code.starts_with("impl") {
+        break_head(lines, text);
+    } else if has_long_pattern(text) {
+        break_long(lines, text, context);
+    } else if let Some(group) = wide_group(text, context) {
+        break_wide(lines, text, group, context);
+    } else if text.len() <= LINE_WIDTH {
+        lines.add("", text, Context::Code);
+    } else {
+        break_long(lines, text, context);
     }
-    if code.starts_with("use ") {
-        return use_lines(alloc, text);
-    }
-    if code.starts_with("fn ") || code.starts_with("impl") {
-        return head_lines(alloc, text);
-    }
-    if has_long_pattern(text) {
-        return long_lines(alloc, text, context);
-    }
-    if let Some(group) = wide_group(alloc, text, context)? {
-        return wide_lines(alloc, text, group, context);
-    }
-    if text.len() <= LINE_WIDTH {
-        return whole(alloc, text);
-    }
-    long_lines(alloc, text, context)
 }
 
 /// Whether a line stays as it is, however long it is.
 fn is_never_broken(code: &str) -> bool {
-    code.starts_with(|c| matches!(c, '|' | '⟦'))
-        || [
-            "ghost ",
-            "//",
-            "ensures ",
-            "(or_else ",
-            "(by ",
-            "(λ ",
-            "no_more",
-        ]
-        .iter()
-        .any(|front| code.starts_with(*front))
-}
-
-/// A line that is not broken.
-fn whole(alloc: Global, text: &str) -> Result<Vec<Line>, AllocError> {
-    let mut lines = Vec::new(alloc);
-    lines.push(line_of(alloc, text, Context::Code)?)?;
-    Ok(lines)
+    code.starts_with('|')
+        || code.starts_with('⟦')
+        || code.starts_with("ghost ")
+        || code.starts_with("//")
+        || code.starts_with("ensures ")
+        || code.starts_with("(or_else ")
+        || code.starts_with("(by ")
+        || code.starts_with("(λ ")
+        || code.starts_with("no_more")
 }
 
 /// Where the pattern of a line ends, of a `let` or an arm. 0 if there is none.
@@ -141,27 +179,26 @@ struct Group {
     close: usize,
 }
 
-/// The brackets of a line that stand in no others, and are closed in it.
-fn groups_of(alloc: Global, text: &str) -> Result<Vec<Group>, AllocError> {
-    let mut groups = Vec::new(alloc);
+/// The first bracket of a line behind this place that stands in no other, and is closed in the line.
+fn group_from(text: &str, from: usize) -> Option<Group> {
     let mut depth = 0u64;
     let mut open = 0;
     let mut before = ' ';
     for (at, c) in text.char_indices() {
-        if is_opening(c) {
+        if at >= from && is_opening(c) {
             if depth == 0 {
                 open = at;
             }
             depth = depth.saturating_add(1);
-        } else if is_closing(before, c) && depth > 0 {
+        } else if depth > 0 && is_closing(before, c) {
             depth = depth.saturating_sub(1);
             if depth == 0 {
-                groups.push(Group { open, close: at })?;
+                return Some(Group { open, close: at });
             }
         }
         before = c;
     }
-    Ok(groups)
+    None
 }
 
 fn is_opening(c: char) -> bool {
@@ -194,177 +231,252 @@ fn from_bracket(text: &str, group: Group) -> &str {
 }
 
 /// The first bracket that is too wide to stand in one line, however short the line is.
-fn wide_group(alloc: Global, text: &str, context: Context) -> Result<Option<Group>, AllocError> {
-    for group in groups_of(alloc, text)?.iter() {
+fn wide_group(text: &str, context: Context) -> Option<Group> {
+    let mut from = 0;
+    for _ in 0..u64::MAX {
+        let group = group_from(text, from)?;
         let is_pattern = context == Context::Pattern || group.open < pattern_end(text);
-        let group = innermost(alloc, text, *group, is_pattern)?;
-        if is_wide(alloc, text, group, is_pattern)? {
-            return Ok(Some(group));
+        let inner = innermost(text, group, is_pattern);
+        if is_wide(text, inner, is_pattern) {
+            return Some(inner);
         }
+        from = group.close;
     }
-    Ok(None)
+    None
 }
 
 /// The bracket that is broken in place of another, which holds one struct or one call alone.
-fn innermost(
-    alloc: Global,
-    text: &str,
-    group: Group,
-    is_pattern: bool,
-) -> Result<Group, AllocError> {
+fn innermost(text: &str, group: Group, is_pattern: bool) -> Group {
     let held = held_by(text, group);
-    let groups = groups_of(alloc, held)?;
-    match groups.as_slice() {
-        [only] if !is_pattern && is_lone(held, *only) => Ok(Group {
+    match group_from(held, 0) {
+        Some(only) if !is_pattern && is_lone(held, only) => Group {
             open: group.open.saturating_add(only.open).saturating_add(1),
             close: group.open.saturating_add(only.close).saturating_add(1),
-        }),
-        _ => Ok(group),
+        },
+        _ => group,
     }
 }
 
 /// Whether a text is one struct or one call, to which this bracket belongs.
 fn is_lone(text: &str, group: Group) -> bool {
     let name = text.get(..group.open).unwrap_or("").trim_end();
-    let is_name = !name.is_empty() && name.chars().all(|c| is_of_word(c) || c == ':');
-    is_name && group.close.saturating_add(1) == text.len()
+    group.close.saturating_add(1) == text.len() && is_path(name)
+}
+
+/// Whether a text is a name or a path.
+fn is_path(text: &str) -> bool {
+    for c in text.chars() {
+        if !is_of_word(c) && c != ':' {
+            return false;
+        }
+    }
+    !text.is_empty()
 }
 
 /// Whether a bracket is too wide to stand in one line. The tuple of a pattern may be as wide as the line.
-fn is_wide(alloc: Global, text: &str, group: Group, is_pattern: bool) -> Result<bool, AllocError> {
+fn is_wide(text: &str, group: Group, is_pattern: bool) -> bool {
     let held = held_by(text, group);
     let bracket = from_bracket(text, group);
     if bracket.starts_with('{') {
-        return Ok(held.trim().len() > FIELDS_WIDTH);
+        return held.trim().len() > FIELDS_WIDTH;
     }
     if is_pattern {
-        return Ok(false);
+        return false;
     }
     if bracket.starts_with('(') {
-        return Ok(held.len() > LIST_WIDTH);
+        return held.len() > LIST_WIDTH;
     }
-    holds_wide_tuple(alloc, held)
+    holds_wide_tuple(held)
 }
 
 /// Whether a tuple stands in a text that is too wide to stand in one line.
-fn holds_wide_tuple(alloc: Global, text: &str) -> Result<bool, AllocError> {
-    let mut opened = Vec::new(alloc);
+fn holds_wide_tuple(text: &str) -> bool {
     for (at, c) in text.char_indices() {
-        if c == '(' {
-            opened.push(at)?;
-        } else if c == ')' {
-            let open = opened.pop().unwrap_or(at);
-            if at.saturating_sub(open) > LIST_WIDTH.saturating_add(1) {
-                return Ok(true);
+        if c == '(' && tuple_size(text, at) > LIST_WIDTH {
+            return true;
+        }
+    }
+    false
+}
+
+/// How many bytes the tuple holds that opens at this place. 0 if it is not closed.
+fn tuple_size(text: &str, open: usize) -> usize {
+    let mut depth = 0u64;
+    for (at, c) in text.char_indices() {
+        if at >= open && c == '(' {
+            depth = depth.saturating_add(1);
+        } else if at >= open && c == ')' {
+            depth = depth.saturating_sub(1);
+            if depth == 0 {
+                return at.saturating_sub(open).saturating_sub(1);
             }
         }
     }
-    Ok(false)
+    0
 }
 
-/// The lines of a bracket that is too wide. What stands before it is cut off where it leaves it no room.
-fn wide_lines(
-    alloc: Global,
-    text: &str,
-    group: Group,
-    context: Context,
-) -> Result<Vec<Line>, AllocError> {
+/// Adds the lines of a bracket that is too wide. What stands before it is cut off where it leaves it no room.
+fn break_wide(lines: &mut Lines, text: &str, group: Group, context: Context) {
     let cut = cut_of(text);
     if cut < group.open && group.open >= LINE_WIDTH {
-        return cut_at(alloc, text, cut);
+        break_at(lines, text, cut);
+    } else {
+        break_group(lines, text, group, context);
     }
-    group_lines(alloc, text, group, context)
 }
 
-/// The lines of a bracket: what stands before it, its parts, and what stands behind it.
-fn group_lines(
-    alloc: Global,
-    text: &str,
-    group: Group,
-    context: Context,
-) -> Result<Vec<Line>, AllocError> {
-    let is_pattern = group.open < pattern_end(text);
-    let within = if is_pattern {
+/// Adds the lines of a bracket: what stands before it, its parts, and what stands behind it.
+fn break_group(lines: &mut Lines, text: &str, group: Group, context: Context) {
+    let within = if group.open < pattern_end(text) {
         Context::Pattern
     } else {
         context
     };
-    let parts = parts_of(alloc, held_by(text, group))?;
+    let held = held_by(text, group);
     let is_call = from_bracket(text, group).starts_with('(') && within == Context::Code;
     let indent = indent_of(text);
-    let mut lines = Vec::new(alloc);
     let front = text.get(..group.open.saturating_add(1)).unwrap_or(text);
-    lines.push(line_of(alloc, front, context)?)?;
-    if is_call && parts.iter().all(|part| part.len() <= SHORT_PART) {
-        fill(alloc, &mut lines, indent, &parts, LINE_WIDTH)?;
+    lines.add("", front, context);
+    if is_call && are_short(held) {
+        add_filled(lines, indent, held, LINE_WIDTH);
     } else {
-        list(alloc, &mut lines, indent, &parts, within)?;
+        add_each(lines, indent, held, within);
     }
-    add_tail(alloc, &mut lines, text, group, context)?;
-    Ok(lines)
+    add_tail(lines, text, group, context);
 }
 
-/// Adds each of some parts in a line of its own.
-fn list(
-    alloc: Global,
-    lines: &mut Vec<Line>,
-    indent: &str,
-    parts: &Vec<String>,
-    context: Context,
-) -> Result<(), AllocError> {
-    for part in parts.iter() {
-        let text = format!(in alloc; "{indent}    {part},")?;
-        lines.push(Line { text, context })?;
-    }
-    Ok(())
+/// The parts of a text between the commas that stand in no brackets.
+#[derive(Drop)]
+struct Parts<'t> {
+    text: &'t str,
+    from: usize,
 }
 
-/// Adds some parts in lines that are as long as they may be, of this many bytes.
-fn fill(
-    alloc: Global,
-    lines: &mut Vec<Line>,
-    indent: &str,
-    parts: &Vec<String>,
-    width: usize,
-) -> Result<(), AllocError> {
-    let mut filled = format!(in alloc; "{indent}   ")?;
-    for part in parts.iter() {
-        if filled.len().saturating_add(part.len()).saturating_add(2) > width {
-            lines.push(line_of(alloc, filled.as_str(), Context::Pattern)?)?;
-            filled = format!(in alloc; "{indent}   ")?;
+impl<'t> Parts<'t> {
+    fn new(text: &'t str) -> Parts<'t> {
+        Parts { text, from: 0 }
+    }
+
+    /// The part that comes next. What stands behind the last comma is none if it is empty.
+    fn take(&mut self) -> Option<&'t str> {
+        let text = self.text;
+        let end = part_end(text, self.from);
+        let part = text.get(self.from..end).unwrap_or("").trim();
+        self.from = end.saturating_add(1);
+        if end >= text.len() && part.is_empty() {
+            None
+        } else {
+            Some(part)
         }
-        filled.push_str(" ")?;
-        filled.push_str(part.as_str())?;
-        filled.push_str(",")?;
     }
-    lines.push(line_of(alloc, filled.as_str(), Context::Pattern)?)?;
-    Ok(())
+}
+
+/// Where the part ends that begins at this place.
+fn part_end(text: &str, from: usize) -> usize {
+    let mut depth = 0u64;
+    let mut before = ' ';
+    for (at, c) in text.char_indices() {
+        if at >= from {
+            if c == ',' && depth == 0 {
+                return at;
+            }
+            if is_opening(c) {
+                depth = depth.saturating_add(1);
+            } else if is_closing(before, c) {
+                depth = depth.saturating_sub(1);
+            }
+        }
+        before = c;
+    }
+    text.len()
+}
+
+/// Whether all parts of a text are short.
+fn are_short(text: &str) -> bool {
+    let mut parts = Parts::new(text);
+    for _ in 0..u64::MAX {
+        match parts.take() {
+            Some(part) if part.len() > SHORT_PART => return false,
+            Some(_) => {}
+            None => break,
+        }
+    }
+    true
+}
+
+/// Adds each part of a text in a line of its own.
+fn add_each(lines: &mut Lines, indent: &str, text: &str, context: Context) {
+    let mut parts = Parts::new(text);
+    for _ in 0..u64::MAX {
+        let Some(part) = parts.take() else {
+            break;
+        };
+        lines.add_part(indent, part, context);
+    }
+}
+
+/// Adds the parts of a text that stands in brackets, each in a line of its own.
+pub fn add_list(out: &mut Text, indent: &str, text: &Text) {
+    let text = text.as_str();
+    let held = text.get(1..text.len().saturating_sub(1)).unwrap_or("");
+    let mut parts = Parts::new(held);
+    for _ in 0..u64::MAX {
+        let Some(part) = parts.take() else {
+            break;
+        };
+        out.add(indent);
+        out.add(part);
+        out.add(",\n");
+    }
+}
+
+/// Adds the parts of a text in lines that are as long as they may be, of this many bytes.
+fn add_filled(lines: &mut Lines, indent: &str, text: &str, width: usize) {
+    let mut filled = Text::new(lines.alloc);
+    let mut parts = Parts::new(text);
+    for _ in 0..u64::MAX {
+        let Some(part) = parts.take() else {
+            break;
+        };
+        if filled.as_str().len().saturating_add(part.len()) > room_of(indent, width) {
+            lines.add(indent, filled.as_str(), Context::Pattern);
+            filled.clear();
+        }
+        filled.add(if filled.as_str().is_empty() {
+            "    "
+        } else {
+            " "
+        });
+        filled.add(part);
+        filled.add(",");
+    }
+    lines.add(indent, filled.as_str(), Context::Pattern);
+    lines.is_whole = lines.is_whole && filled.is_whole();
+}
+
+/// How many bytes of this many an indent, a space and a comma leave.
+fn room_of(indent: &str, width: usize) -> usize {
+    width.saturating_sub(indent.len()).saturating_sub(2)
 }
 
 /// Adds what stands behind a bracket. A call of a method stands in a line of its own where the bracket is wide.
-fn add_tail(
-    alloc: Global,
-    lines: &mut Vec<Line>,
-    text: &str,
-    group: Group,
-    context: Context,
-) -> Result<(), AllocError> {
+fn add_tail(lines: &mut Lines, text: &str, group: Group, context: Context) {
     let indent = indent_of(text);
     let tail = text.get(group.close..).unwrap_or("");
-    let is_wide = held_by(text, group).len() > LIST_WIDTH;
-    match tail.strip_prefix(").") {
-        Some(call) if is_wide => {
-            let bracket = format!(in alloc; "{indent})")?;
-            lines.push(line_of(alloc, bracket.as_str(), context)?)?;
-            let call = format!(in alloc; "{indent}    .{call}")?;
-            lines.push(line_of(alloc, call.as_str(), context)?)?;
-        }
-        _ => {
-            let tail = format!(in alloc; "{indent}{tail}")?;
-            lines.push(line_of(alloc, tail.as_str(), context)?)?;
-        }
+    if tail.starts_with(").") && held_by(text, group).len() > LIST_WIDTH {
+        lines.add(indent, ")", context);
+        add_call(lines, indent, tail.get(1..).unwrap_or(""), context);
+    } else {
+        lines.add(indent, tail, context);
     }
-    Ok(())
+}
+
+/// Adds a call of a method that stands one step further in than this.
+fn add_call(lines: &mut Lines, indent: &str, call: &str, context: Context) {
+    let mut line = Text::new(lines.alloc);
+    line.add("    ");
+    line.add(call);
+    lines.add(indent, line.as_str(), context);
 }
 
 /// The spaces at the front of a line.
@@ -373,85 +485,65 @@ fn indent_of(text: &str) -> &str {
     text.get(..size).unwrap_or("")
 }
 
-/// The parts between the commas that stand in no brackets.
-fn parts_of(alloc: Global, text: &str) -> Result<Vec<String>, AllocError> {
-    let mut parts = Vec::new(alloc);
-    let mut part = String::new(alloc);
-    let mut depth = 0u64;
-    let mut before = ' ';
-    for c in text.chars() {
-        if is_opening(c) {
-            depth = depth.saturating_add(1);
-        } else if is_closing(before, c) {
-            depth = depth.saturating_sub(1);
+/// Adds a `use` line, whose names are filled into lines where it is too long.
+fn break_use(lines: &mut Lines, text: &str) {
+    match text.split_once('{') {
+        Some((path, names)) if text.len() > LINE_WIDTH => {
+            lines.add(path, "{", Context::Code);
+            add_filled(lines, "", names.trim_end_matches("};"), USE_WIDTH);
+            lines.add("", "};", Context::Code);
         }
-        if c == ',' && depth == 0 {
-            parts.push(String::from_str(alloc, part.as_str().trim())?)?;
-            part.clear();
-        } else {
-            part.push(c)?;
-        }
-        before = c;
+        _ => lines.add("", text, Context::Code),
     }
-    if !part.as_str().trim().is_empty() {
-        parts.push(String::from_str(alloc, part.as_str().trim())?)?;
-    }
-    Ok(parts)
 }
 
-/// The parts of a text that stands in brackets.
-pub fn list_of(alloc: Global, text: &str) -> Result<Vec<String>, AllocError> {
-    let end = text.len().saturating_sub(1);
-    parts_of(alloc, text.get(1..end).unwrap_or(""))
-}
-
-/// A `use` line, whose names are filled into lines where it is too long.
-fn use_lines(alloc: Global, text: &str) -> Result<Vec<Line>, AllocError> {
-    let Some((path, names)) = text.split_once('{') else {
-        return whole(alloc, text);
-    };
+/// Adds the head of a function or an `impl`, broken at its parameters or before its `for` where it is too long.
+fn break_head(lines: &mut Lines, text: &str) {
     if text.len() <= LINE_WIDTH {
-        return whole(alloc, text);
+        lines.add("", text, Context::Code);
+        return;
     }
-    let mut lines = Vec::new(alloc);
-    let front = format!(in alloc; "{path}{{")?;
-    lines.push(line_of(alloc, front.as_str(), Context::Code)?)?;
-    let names = parts_of(alloc, names.trim_end_matches("};"))?;
-    fill(alloc, &mut lines, "", &names, USE_WIDTH)?;
-    lines.push(line_of(alloc, "};", Context::Code)?)?;
-    Ok(lines)
+    match params_of(text) {
+        Some(group) => break_group(lines, text, group, Context::Code),
+        None => break_at(lines, text, text.find(" for ").unwrap_or(text.len())),
+    }
 }
 
-/// The head of a function or an `impl`, broken at its parameters or before its `for` where it is too long.
-fn head_lines(alloc: Global, text: &str) -> Result<Vec<Line>, AllocError> {
-    if text.len() <= LINE_WIDTH {
-        return whole(alloc, text);
-    }
-    for group in groups_of(alloc, text)?.iter() {
-        if from_bracket(text, *group).starts_with('(') {
-            return group_lines(alloc, text, *group, Context::Code);
+/// The bracket with the parameters in the head of a function.
+fn params_of(text: &str) -> Option<Group> {
+    let mut from = 0;
+    for _ in 0..u64::MAX {
+        let group = group_from(text, from)?;
+        if from_bracket(text, group).starts_with('(') {
+            return Some(group);
         }
+        from = group.close;
     }
-    cut_at(alloc, text, text.find(" for ").unwrap_or(text.len()))
+    None
 }
 
-/// A line that is too long, though each of its brackets could stand in one line.
-fn long_lines(alloc: Global, text: &str, context: Context) -> Result<Vec<Line>, AllocError> {
-    match long_group(alloc, text)? {
-        Some(group) => group_lines(alloc, text, group, context),
-        None => cut_at(alloc, text, cut_of(text)),
+/// Adds a line that is too long, though each of its brackets could stand in one line.
+fn break_long(lines: &mut Lines, text: &str, context: Context) {
+    match long_group(text) {
+        Some(group) => break_group(lines, text, group, context),
+        None => break_at(lines, text, cut_of(text)),
     }
 }
 
 /// The bracket at which a line that is too long is broken: in its pattern if that is too long, and else the longest.
-fn long_group(alloc: Global, text: &str) -> Result<Option<Group>, AllocError> {
+fn long_group(text: &str) -> Option<Group> {
     let mut longest = None;
-    for group in groups_of(alloc, text)?.iter() {
-        if may_break(text, *group) && is_longer(text, *group, longest) {
-            longest = Some(*group);
+    let mut from = 0;
+    for _ in 0..u64::MAX {
+        let Some(group) = group_from(text, from) else {
+            break;
+        };
+        if may_break(text, group) && is_longer(text, group, longest) {
+            longest = Some(group);
         }
+        from = group.close;
     }
-    Ok(longest)
+    longest
 }
 
 /// Whether a line that is too long may be broken at a bracket.
@@ -487,18 +579,15 @@ fn cut_of(text: &str) -> usize {
     }
 }
 
-/// A line in two, the second of which begins behind a space at this place.
-fn cut_at(alloc: Global, text: &str, at: usize) -> Result<Vec<Line>, AllocError> {
+/// Adds a line in two, the second of which begins behind a space at this place.
+fn break_at(lines: &mut Lines, text: &str, at: usize) {
     let Some((front, back)) = text.split_at_checked(at) else {
-        return whole(alloc, text);
+        lines.add("", text, Context::Code);
+        return;
     };
-    let mut lines = Vec::new(alloc);
-    lines.push(line_of(alloc, front, Context::Code)?)?;
+    lines.add("", front, Context::Code);
     let back = back.trim_start();
     if !back.is_empty() {
-        let indent = indent_of(text);
-        let back = format!(in alloc; "{indent}    {back}")?;
-        lines.push(line_of(alloc, back.as_str(), Context::Code)?)?;
+        add_call(lines, indent_of(text), back, Context::Code);
     }
-    Ok(lines)
 }

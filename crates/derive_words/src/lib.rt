@@ -2,6 +2,8 @@
 //! the laws which they keep.
 #![tactic(auto)]
 
+pub mod answers;
+mod blanks;
 mod by_tag;
 mod cursor;
 mod decoding;

@@ -1,21 +1,21 @@
 //! The module that is written for the types of a source.
 
-use crate::decoding::lent_decode;
-use crate::enums::enum_impls;
+use crate::decoding::add_lent_decode;
+use crate::enums::add_enum_impls;
 use crate::error::{Fault, Refusal, refused};
-use crate::heads::Subject;
+use crate::heads::is_by_variants;
 use crate::items::{Item, Kind, Source};
-use crate::laws::{Keeps, kept};
+use crate::laws::find_kept;
 use crate::layout::laid_out;
-use crate::parts::{alias, shown};
+use crate::parts::{add_alias, add_shown};
 use crate::read::source_of;
 use crate::refusals::refuse;
-use crate::structs::struct_impls;
-use crate::text::joined;
+use crate::structs::add_struct_impls;
+use crate::text::Text;
 use crate::tokens::{Place, tokens_of};
-use crate::uses::use_lines;
-use crate::variants::enum_by_variants;
-use crate::wire::{laws, words};
+use crate::uses::add_uses;
+use crate::variants::add_enum_by_variants;
+use crate::wire::{add_laws, add_words};
 use std::alloc::{AllocError, Global};
 
 /// Where a source stands.
@@ -27,101 +27,98 @@ pub struct Origin<'o> {
     pub declared: &'o str,
 }
 
+/// The imports of what types with a lifetime promise.
+const GHOST_LINES: &str = "ghost use Rattle.std.specs.Prelude.{◌≡◌};
+ghost use Rattle.bincode.specs.TypeLaws.{CanonicalWords, ExactWords, PlainWords};
+";
+
 /// The module for the types of a source. It stands below the module of the types, as `mod words;`.
 pub fn module_of(alloc: Global, origin: &Origin<'_>, text: &str) -> Result<String, Fault> {
     let tokens = tokens_of(alloc, text)?;
-    let source = source_of(alloc, tokens.as_slice())?;
-    let all = kept(alloc, &source)?;
-    let mut impls = String::new(alloc);
-    let mut left_out = String::new(alloc);
-    for (item, keeps) in source.items.iter().zip(all.iter()) {
+    let mut source = source_of(alloc, tokens.as_slice())?;
+    find_kept(alloc, &mut source)?;
+    let mut impls = Text::new(alloc);
+    let mut left_out = Text::new(alloc);
+    for item in source.items.iter() {
         if !item.notes.is_skipped {
             refuse(alloc, &source, item)?;
-            impls.push_str(impls_of(alloc, origin, item, *keeps)?.as_str())?;
-            left_out.push_str(left_out_line(alloc, item, *keeps)?.as_str())?;
+            add_impls(&mut impls, origin, item);
+            add_left_out(&mut left_out, item);
         }
     }
+    let impls = impls.whole()?;
     if impls.is_empty() {
         return Err(refused(Place { line: 1, column: 1 }, Refusal::NoTypes));
     }
-    let head = head_of(alloc, origin, left_out.as_str())?;
-    let ghosts = ghost_lines(&source);
-    let uses = use_lines(alloc, impls.as_str())?;
-    let impls = impls.as_str().trim_end();
-    let module = format!(in alloc; "{head}{ghosts}\n{uses}\n{impls}\n")?;
-    Ok(laid_out(alloc, module.as_str())?)
+    let tokens = tokens_of(alloc, impls.as_str())?;
+    let mut module = Text::new(alloc);
+    add_module_head(&mut module, origin);
+    module.add_text(&left_out);
+    module.add(ghost_lines(&source));
+    module.add("\n");
+    add_uses(&mut module, tokens.as_slice());
+    module.add("\n");
+    module.add(impls.as_str().trim_end());
+    module.add("\n");
+    Ok(laid_out(alloc, module.whole()?.as_str())?)
 }
 
-/// What the module says of itself.
-fn head_of(alloc: Global, origin: &Origin<'_>, left_out: &str) -> Result<String, AllocError> {
-    let file_name = origin.file_name;
-    format!(in alloc;
-        "//! What the types of `{file_name}` are written as. Made from that file by the program `derive`, \
-        and not edited: run\n//! `derive` on the file again where its types change.\n{left_out}"
-    )
+/// Adds what the module says of itself.
+fn add_module_head(out: &mut Text, origin: &Origin<'_>) {
+    out.add("//! What the types of `");
+    out.add(origin.file_name);
+    out.add("` are written as. Made from that file by the program `derive`, and not edited: run\n");
+    out.add("//! `derive` on the file again where its types change.\n");
 }
 
 /// The imports of what types with a lifetime promise.
 fn ghost_lines(source: &Source<'_>) -> &'static str {
-    if source
-        .items
-        .iter()
-        .any(|item| item.is_borrowing() && !item.notes.is_skipped)
-    {
-        "ghost use Rattle.std.specs.Prelude.{◌≡◌};
-ghost use Rattle.bincode.specs.TypeLaws.{CanonicalWords, ExactWords, PlainWords};
-"
-    } else {
-        ""
-    }
-}
-
-/// The alias and the `impl`s of a type.
-fn impls_of(
-    alloc: Global,
-    origin: &Origin<'_>,
-    item: &Item<'_>,
-    keeps: Keeps,
-) -> Result<String, Fault> {
-    let subject = Subject::new(alloc, item)?;
-    let mut impls = alias(alloc, &subject)?;
-    impls.push_str(shown(alloc, &subject, origin.declared)?.as_str())?;
-    impls.push_str(words(alloc, &subject)?.as_str())?;
-    if !subject.variants.is_empty() {
-        impls.push_str(enum_by_variants(alloc, &subject, origin.declared)?.as_str())?;
-    }
-    impls.push_str(laws(alloc, &subject, keeps)?.as_str())?;
-    impls.push_str(read_and_written(alloc, &subject)?.as_str())?;
-    if keeps.is_lent && !item.is_borrowing() {
-        impls.push_str(lent_decode(alloc, &subject)?.as_str())?;
-    }
-    Ok(impls)
-}
-
-/// The `impl`s by which a type is read and written.
-fn read_and_written(alloc: Global, subject: &Subject<'_, '_>) -> Result<String, Fault> {
-    match &subject.item.kind {
-        Kind::Struct(fields) => Ok(struct_impls(alloc, subject, fields)?),
-        Kind::Enum(variants) => enum_impls(alloc, subject, variants),
-    }
-}
-
-/// The line of the module's head that says which laws a type does not keep.
-fn left_out_line(alloc: Global, item: &Item<'_>, keeps: Keeps) -> Result<String, AllocError> {
-    let mut laws = Vec::new(alloc);
-    for (is_kept, law) in [
-        (keeps.plain, "Plain"),
-        (keeps.exact, "Exact"),
-        (keeps.canonical, "Canonical"),
-    ] {
-        if !is_kept {
-            laws.push(String::from_str(alloc, law)?)?;
+    for item in source.items.iter() {
+        if item.is_borrowing() && !item.notes.is_skipped {
+            return GHOST_LINES;
         }
     }
-    if laws.is_empty() {
-        return Ok(String::new(alloc));
+    ""
+}
+
+/// Adds the alias and the `impl`s of a type.
+fn add_impls(out: &mut Text, origin: &Origin<'_>, item: &Item<'_>) {
+    add_alias(out, item);
+    add_shown(out, item, origin.declared);
+    add_words(out, item);
+    if is_by_variants(item) {
+        add_enum_by_variants(out, item, origin.declared);
     }
-    let name = item.name.text.as_str();
-    let laws = joined(alloc, laws.as_slice(), ", ")?;
-    format!(in alloc; "//! Left out of {name}: {laws}.\n")
+    add_laws(out, item);
+    match &item.kind {
+        Kind::Struct(fields) => add_struct_impls(out, item, fields.as_slice()),
+        Kind::Enum(variants) => add_enum_impls(out, item, variants.as_slice()),
+    }
+    if item.keeps.is_lent && !item.is_borrowing() {
+        add_lent_decode(out, item);
+    }
+}
+
+/// Adds the line of the module's head that says which laws a type does not keep.
+fn add_left_out(out: &mut Text, item: &Item<'_>) {
+    let keeps = item.keeps;
+    if keeps.plain && keeps.exact && keeps.canonical {
+        return;
+    }
+    out.add("//! Left out of ");
+    out.add(item.name.text.as_str());
+    let is_first = add_left_law(out, keeps.plain, "Plain", true);
+    let is_first = add_left_law(out, keeps.exact, "Exact", is_first);
+    add_left_law(out, keeps.canonical, "Canonical", is_first);
+    out.add(".\n");
+}
+
+/// Adds the name of a law, unless it is kept, and hands out whether another would be the first.
+fn add_left_law(out: &mut Text, is_kept: bool, law: &str, is_first: bool) -> bool {
+    if is_kept {
+        return is_first;
+    }
+    out.add(if is_first { ": " } else { ", " });
+    out.add(law);
+    false
 }

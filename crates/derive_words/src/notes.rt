@@ -42,12 +42,12 @@ impl Notes {
 
     /// Whether a note asks for this trait.
     pub fn asks_for(&self, asked: Trait) -> bool {
-        self.with.iter().any(|found| *found == asked)
+        has(self.with.as_slice(), asked)
     }
 
     /// Whether a note leaves this trait out.
     pub fn leaves_out(&self, asked: Trait) -> bool {
-        self.without.iter().any(|found| *found == asked)
+        has(self.without.as_slice(), asked)
     }
 
     /// Adds what a token says, if it is a note.
@@ -83,6 +83,16 @@ impl Notes {
         }
         Ok(())
     }
+}
+
+/// Whether a trait stands among these.
+fn has(traits: &[Trait], asked: Trait) -> bool {
+    for found in traits.iter() {
+        if *found == asked {
+            return true;
+        }
+    }
+    false
 }
 
 /// What the words of a note behind it say.

@@ -1,200 +1,209 @@
 //! The parts of a type, and how a value is shown as them.
 
+use crate::blanks::{fill, fill_variant};
 use crate::cursor::is_one_of;
-use crate::error::Fault;
-use crate::heads::Subject;
-use crate::items::{Field, Kind, Variant};
-use crate::layout::list_of;
-use crate::refusals::tags_of;
-use crate::text::{behind, joined, tuple, type_text};
-use crate::variants::{shown_by_variants, variant_aliases};
-use std::alloc::{AllocError, Global};
+use crate::heads::{add_head, is_by_variants};
+use crate::items::{Field, Item, Kind, Variant};
+use crate::layout::add_list;
+use crate::text::Text;
+use crate::variants::{add_shown_by_variants, add_variant_aliases};
 
 /// How long a clause is that stands in one line.
 pub const CLAUSE_WIDTH: usize = 100;
 
-/// The alias for the type of the parts.
-pub fn alias(alloc: Global, subject: &Subject<'_, '_>) -> Result<String, Fault> {
-    if !subject.variants.is_empty() {
-        return variant_aliases(alloc, subject);
-    }
-    let parts = subject.parts.as_str();
-    let of = match &subject.item.kind {
-        Kind::Struct(fields) => tuple(alloc, types_of(alloc, fields.as_slice())?)?,
-        Kind::Enum(variants) => sum_of(alloc, subject, variants)?,
-    };
-    Ok(format!(in alloc; "type {parts} = {of};\n\n")?)
+/// How a field stands in a tuple.
+#[derive(Clone, Copy)]
+pub enum Form {
+    /// As its type.
+    Type,
+    /// As the name that it is bound to.
+    Bound,
+    /// As the name that it is bound to in a clause.
+    InClause,
+    /// As that of the value `v` of a clause.
+    OfValue,
+    /// As that of `self`, lent.
+    Lent,
 }
 
-/// The types of some fields.
-pub fn types_of(alloc: Global, fields: &[Field<'_>]) -> Result<Vec<String>, AllocError> {
-    let mut types = Vec::new(alloc);
-    for field in fields.iter() {
-        types.push(type_text(alloc, field.of.as_slice())?)?;
-    }
-    Ok(types)
-}
-
-/// The sum of the variants of an enum.
-fn sum_of(
-    alloc: Global,
-    subject: &Subject<'_, '_>,
-    variants: &Vec<Variant<'_>>,
-) -> Result<String, Fault> {
-    let itself = subject.itself.as_str();
-    if variants.is_empty() {
-        return Ok(format!(in alloc; "NoVariants<{itself}>")?);
-    }
-    let tags = tags_of(alloc, variants)?;
-    let mut sum = String::from_str(alloc, "EnumOf<")?;
-    let mut closing = String::from_str(alloc, ">")?;
-    for (variant, tag) in variants.iter().zip(tags.iter()) {
-        let parts = tuple(alloc, types_of(alloc, variant.fields.as_slice())?)?;
-        let tag = *tag;
-        sum.push_str(format!(in alloc; "VariantOf<{tag}, {parts}, ")?.as_str())?;
-        closing.push_str(">")?;
-    }
-    Ok(format!(in alloc; "{sum}NoMoreVariants<{itself}>{closing}")?)
-}
-
-/// The `impl` that shows a value as its parts. `declared` is where the toolchain declares the types of the module.
-pub fn shown(alloc: Global, subject: &Subject<'_, '_>, declared: &str) -> Result<String, Fault> {
-    if !subject.variants.is_empty() {
-        return shown_by_variants(alloc, subject, declared);
-    }
-    let parts = subject.parts.as_str();
-    let of = format!(in alloc; "HasParts<{parts}>")?;
-    let head = subject.head(alloc, "", of.as_str(), "")?;
-    let body = match &subject.item.kind {
-        Kind::Struct(fields) => shown_fields(alloc, fields.as_slice())?,
+/// Adds the alias for the type of the parts.
+pub fn add_alias(out: &mut Text, item: &Item<'_>) {
+    match &item.kind {
+        Kind::Struct(_) => fill(out, item, "type $parts$ = $types$;\n\n"),
+        Kind::Enum(_) if is_by_variants(item) => add_variant_aliases(out, item),
         Kind::Enum(variants) => {
-            let name = subject.item.name.text.as_str();
-            shown_variants(alloc, declared, name, variants)?
+            fill(out, item, "type $parts$ = ");
+            add_sum(out, item, variants.as_slice());
+            out.add(";\n\n");
         }
-    };
-    Ok(format!(in alloc; "{head}{body}}}\n\n")?)
-}
-
-/// How a struct is shown as its parts.
-fn shown_fields(alloc: Global, fields: &[Field<'_>]) -> Result<String, AllocError> {
-    let read = behind(alloc, "v.", selectors(alloc, fields)?.as_slice())?;
-    let shown = value_of(alloc, read)?;
-    let line = format!(in alloc; "    ghost parts = {{ λ v. {shown} }};\n")?;
-    if line.len() <= CLAUSE_WIDTH {
-        return Ok(line);
     }
-    long_clause(alloc, shown.as_str())
 }
 
-/// The clause of parts that are too long to stand in one line.
-fn long_clause(alloc: Global, shown: &str) -> Result<String, AllocError> {
-    let mut clause = String::from_str(alloc, "    ghost parts = { λ v. (\n")?;
-    for row in list_of(alloc, shown)?.iter() {
-        clause.push_str("      ")?;
-        clause.push_str(row.as_str())?;
-        clause.push_str(",\n")?;
-    }
-    clause.push_str("    ) };\n")?;
-    Ok(clause)
-}
-
-/// The names by which fields are read.
-pub fn selectors(alloc: Global, fields: &[Field<'_>]) -> Result<Vec<String>, AllocError> {
-    let mut names = Vec::new(alloc);
-    for (at, field) in fields.iter().enumerate() {
-        names.push(match field.name {
-            Some(name) => String::from_str(alloc, name)?,
-            None => format!(in alloc; "{at}")?,
-        })?;
-    }
-    Ok(names)
-}
-
-/// Parts as a value in a clause.
-pub fn value_of(alloc: Global, parts: Vec<String>) -> Result<String, AllocError> {
-    if parts.is_empty() {
-        return String::from_str(alloc, "tt");
-    }
-    tuple(alloc, parts)
-}
-
-/// How an enum is shown as its parts.
-fn shown_variants(
-    alloc: Global,
-    declared: &str,
-    name: &str,
-    variants: &Vec<Variant<'_>>,
-) -> Result<String, AllocError> {
+/// Adds the sum of the variants of an enum.
+fn add_sum(out: &mut Text, item: &Item<'_>, variants: &[Variant<'_>]) {
     if variants.is_empty() {
-        return String::from_str(alloc, "    ghost parts = { elim [ ] };\n");
+        fill(out, item, "NoVariants<$itself$>");
+        return;
     }
-    let words = if variants.len() > 1 {
-        "this, other"
+    out.add("EnumOf<");
+    for variant in variants.iter() {
+        fill_variant(out, item, variant, "VariantOf<$tag$, $types$, ");
+    }
+    fill(out, item, "NoMoreVariants<$itself$>>");
+    out.add_times(">", variants.len());
+}
+
+/// Adds the `impl` that shows a value as its parts. `declared` is where the toolchain declares the types of the module.
+pub fn add_shown(out: &mut Text, item: &Item<'_>, declared: &str) {
+    if is_by_variants(item) {
+        add_shown_by_variants(out, item, declared);
+        return;
+    }
+    add_head(out, item, "", "HasParts<$parts$>", "");
+    match &item.kind {
+        Kind::Struct(fields) => add_shown_fields(out, fields.as_slice()),
+        Kind::Enum(variants) => add_shown_variants(out, item, declared, variants.as_slice()),
+    }
+    out.add("}\n\n");
+}
+
+/// Adds how a struct is shown as its parts.
+fn add_shown_fields(out: &mut Text, fields: &[Field<'_>]) {
+    let mut line = out.beside();
+    line.add("    ghost parts = { λ v. ");
+    add_value(&mut line, fields, Form::OfValue);
+    line.add(" };\n");
+    if line.as_str().len() <= CLAUSE_WIDTH {
+        out.add_text(&line);
     } else {
-        "this"
-    };
-    let names = names_of(alloc, variants)?;
-    let mut body = format!(in alloc;
-        "    ghost use Rattle.bincode.specs.Sums.{{{words}}};
-    ghost use Rattle.{declared}.{name}.TheVariants.{{{names}}};
-
-    ghost parts = {{ elim [
-"
-    )?;
-    let mut front = String::new(alloc);
-    let mut closing = String::new(alloc);
-    for variant in variants.iter() {
-        let shown = shown_variant(alloc, variant, front.as_str(), closing.as_str())?;
-        body.push_str(shown.as_str())?;
-        front.push_str("other (")?;
-        closing.push_str(")")?;
+        add_long_clause(out, fields);
     }
-    body.push_str("    ] };\n")?;
-    Ok(body)
 }
 
-/// The names of some variants.
-fn names_of(alloc: Global, variants: &Vec<Variant<'_>>) -> Result<String, AllocError> {
-    let mut names = Vec::new(alloc);
-    for variant in variants.iter() {
-        names.push(variant.name.text.clone()?)?;
-    }
-    joined(alloc, names.as_slice(), ", ")
+/// Adds the clause of parts that are too long to stand in one line.
+fn add_long_clause(out: &mut Text, fields: &[Field<'_>]) {
+    let mut shown = out.beside();
+    add_value(&mut shown, fields, Form::OfValue);
+    out.add("    ghost parts = { λ v. (\n");
+    add_list(out, "      ", &shown);
+    out.add("    ) };\n");
 }
 
-/// How a variant is shown as its parts, behind those before it.
-fn shown_variant(
-    alloc: Global,
-    variant: &Variant<'_>,
-    front: &str,
-    closing: &str,
-) -> Result<String, AllocError> {
-    let pattern = pattern_in_clause(alloc, variant)?;
-    let shown = value_of(alloc, bound_in_clause(alloc, variant.fields.as_slice())?)?;
-    format!(in alloc; "      | {pattern} ↦ record {{ 0 = {front}this {shown}{closing} }}\n")
+/// Adds the name by which the field at this place is read.
+pub fn add_selector(out: &mut Text, at: usize, field: &Field<'_>) {
+    match field.name {
+        Some(name) => out.add(name),
+        None => out.add_number(at as u64),
+    }
 }
 
-/// A variant in a clause, as the pattern that binds its fields.
-pub fn pattern_in_clause(alloc: Global, variant: &Variant<'_>) -> Result<String, AllocError> {
-    let mut pattern = variant.name.text.clone()?;
-    for name in bound_in_clause(alloc, variant.fields.as_slice())?.iter() {
-        pattern.push_str(" ")?;
-        pattern.push_str(name.as_str())?;
+/// Adds some fields as a tuple. One is itself.
+pub fn add_tuple(out: &mut Text, fields: &[Field<'_>], form: Form) {
+    let count = fields.len();
+    if count == 0 {
+        out.add("()");
     }
-    Ok(pattern)
+    for (at, field) in fields.iter().enumerate() {
+        out.open_part(at, count);
+        add_field(out, field, at, count, form);
+        out.close_part(at, count);
+    }
 }
 
-/// The names that fields are bound to in a clause: their own, but for those that mean something else there.
-pub fn bound_in_clause(alloc: Global, fields: &[Field<'_>]) -> Result<Vec<String>, AllocError> {
-    let mut names = Vec::new(alloc);
-    for (at, name) in bindings(alloc, fields)?.into_iter().enumerate() {
-        names.push(if is_reserved(name.as_str()) {
-            format!(in alloc; "part_{at}")?
-        } else {
-            name
-        })?;
+/// Adds some fields as a value in a clause.
+pub fn add_value(out: &mut Text, fields: &[Field<'_>], form: Form) {
+    if fields.is_empty() {
+        out.add("tt");
+    } else {
+        add_tuple(out, fields, form);
     }
-    Ok(names)
+}
+
+/// Adds the field at this place of so many.
+fn add_field(out: &mut Text, field: &Field<'_>, at: usize, count: usize, form: Form) {
+    match form {
+        Form::Type => out.add_type(field.of.as_slice()),
+        Form::Bound => add_bound(out, field, at, count),
+        Form::InClause => add_bound_in_clause(out, field, at, count),
+        Form::OfValue => {
+            out.add("v.");
+            add_selector(out, at, field);
+        }
+        Form::Lent => {
+            out.add(if count == 1 || is_reference(field) {
+                "self."
+            } else {
+                "&self."
+            });
+            add_selector(out, at, field);
+        }
+    }
+}
+
+/// Whether the type of a field is a reference. It is handed on as it is.
+fn is_reference(field: &Field<'_>) -> bool {
+    match field.of.first() {
+        Some(first) => first.text.as_str() == "&",
+        None => false,
+    }
+}
+
+/// Adds how an enum is shown as its parts.
+fn add_shown_variants(out: &mut Text, item: &Item<'_>, declared: &str, variants: &[Variant<'_>]) {
+    if variants.is_empty() {
+        out.add("    ghost parts = { elim [ ] };\n");
+        return;
+    }
+    add_sum_use(out, variants.len());
+    out.add("    ghost use Rattle.");
+    out.add(declared);
+    fill(out, item, ".$name$.TheVariants.{");
+    for (at, variant) in variants.iter().enumerate() {
+        out.add(if at > 0 { ", " } else { "" });
+        out.add(variant.name.text.as_str());
+    }
+    out.add("};\n\n    ghost parts = { elim [\n");
+    for (at, variant) in variants.iter().enumerate() {
+        add_pattern(out, "      | ", variant);
+        out.add(" ↦ record { 0 = ");
+        out.add_times("other (", at);
+        fill_variant(out, item, variant, "this $shown$");
+        out.add_times(")", at);
+        out.add(" }\n");
+    }
+    out.add("    ] };\n");
+}
+
+/// Adds the imports of the words by which an enum of so many variants is shown.
+pub fn add_sum_use(out: &mut Text, count: usize) {
+    out.add(if count > 1 {
+        "    ghost use Rattle.bincode.specs.Sums.{this, other};\n"
+    } else {
+        "    ghost use Rattle.bincode.specs.Sums.{this};\n"
+    });
+}
+
+/// Adds a variant in a clause, as the pattern that binds its fields, behind another text.
+pub fn add_pattern(out: &mut Text, front: &str, variant: &Variant<'_>) {
+    out.add(front);
+    out.add(variant.name.text.as_str());
+    let fields = variant.fields.as_slice();
+    for (at, field) in fields.iter().enumerate() {
+        out.add(" ");
+        add_bound_in_clause(out, field, at, fields.len());
+    }
+}
+
+/// Adds the name that the field at this place of so many is bound to in a clause: its own, unless that means something
+/// else there.
+fn add_bound_in_clause(out: &mut Text, field: &Field<'_>, at: usize, count: usize) {
+    match field.name {
+        Some(name) if is_reserved(name) => {
+            out.add("part_");
+            out.add_number(at as u64);
+        }
+        _ => add_bound(out, field, at, count),
+    }
 }
 
 /// Whether a name means something else in a clause.
@@ -245,31 +254,30 @@ fn is_reserved(name: &str) -> bool {
     )
 }
 
-/// The names that fields are bound to: their own, and in a tuple `first`, `second` and so on. A lone one is `value`.
-pub fn bindings(alloc: Global, fields: &[Field<'_>]) -> Result<Vec<String>, AllocError> {
-    let mut names = Vec::new(alloc);
-    for (at, field) in fields.iter().enumerate() {
-        names.push(match field.name {
-            Some("encoder") | None => nameless(alloc, at, fields.len())?,
-            Some(name) => String::from_str(alloc, name)?,
-        })?;
+/// Adds the name that the field at this place of so many is bound to: its own, and in a tuple `first`, `second` and so
+/// on. A lone one is `value`.
+pub fn add_bound(out: &mut Text, field: &Field<'_>, at: usize, count: usize) {
+    match field.name {
+        Some(name) if name != "encoder" => out.add(name),
+        _ if count == 1 => out.add("value"),
+        _ => add_nameless(out, at),
     }
-    Ok(names)
 }
 
-/// The name that a field is bound to that is the one at this place of so many, and has none of its own.
-fn nameless(alloc: Global, at: usize, count: usize) -> Result<String, AllocError> {
-    let name = match at {
-        _ if count == 1 => "value",
-        0 => "first",
-        1 => "second",
-        2 => "third",
-        3 => "fourth",
-        4 => "fifth",
-        5 => "sixth",
-        6 => "seventh",
-        7 => "eighth",
-        _ => return format!(in alloc; "part_{at}"),
-    };
-    String::from_str(alloc, name)
+/// Adds the name that the field at this place is bound to, which has none of its own.
+fn add_nameless(out: &mut Text, at: usize) {
+    match at {
+        0 => out.add("first"),
+        1 => out.add("second"),
+        2 => out.add("third"),
+        3 => out.add("fourth"),
+        4 => out.add("fifth"),
+        5 => out.add("sixth"),
+        6 => out.add("seventh"),
+        7 => out.add("eighth"),
+        _ => {
+            out.add("part_");
+            out.add_number(at as u64);
+        }
+    }
 }

@@ -3,6 +3,7 @@
 use crate::cursor::{Cursor, is_one_of, is_opening};
 use crate::error::{Fault, Refusal, refused};
 use crate::items::{Field, Fields, Item, Kind, Param, Source, Variant};
+use crate::laws::NOTHING;
 use crate::notes::{Notes, number_of, tag_of, unknown};
 use crate::text::text_at;
 use crate::tokens::{Token, is_word};
@@ -30,6 +31,7 @@ pub fn source_of<'t>(alloc: Global, tokens: &'t [Token]) -> Result<Source<'t>, F
     let mut source = Source {
         items: Vec::new(alloc),
         impls: Vec::new(alloc),
+        std_names: Vec::new(alloc),
     };
     let mut cursor = Cursor::new(tokens);
     let mut marks = Marks::new(alloc);
@@ -52,6 +54,10 @@ fn read_token<'t>(
 ) -> Result<(), Fault> {
     match token.text.as_str() {
         "#" => read_attribute(cursor, &mut marks.derives),
+        "use" => {
+            *marks = Marks::new(alloc);
+            read_use(cursor, &mut source.std_names)
+        }
         "impl" => read_impl_head(alloc, cursor, &mut source.impls),
         "struct" => {
             let item = read_item(alloc, cursor, marks, false)?;
@@ -102,6 +108,24 @@ fn read_derives<'t>(cursor: &mut Cursor<'t>, derives: &mut Vec<&'t str>) -> Resu
         }
     }
     Err(refused(opened, Refusal::Unclosed))
+}
+
+/// Takes what stands behind a `use`, up to its end, and adds the names that it imports from the standard library.
+fn read_use<'t>(cursor: &mut Cursor<'t>, names: &mut Vec<&'t str>) -> Result<(), Fault> {
+    let is_std = matches!(cursor.text(), "std" | "core" | "alloc");
+    for _ in 0..u64::MAX {
+        let Some(token) = cursor.take() else {
+            break;
+        };
+        let text = token.text.as_str();
+        if text == ";" {
+            break;
+        }
+        if is_std && is_word(text) && !is_one_of(cursor.text(), &["::", "as"]) {
+            names.push(text)?;
+        }
+    }
+    Ok(())
 }
 
 /// Takes the head of an `impl`, and adds its trait and its type, if it has both.
@@ -161,6 +185,7 @@ fn read_item<'t>(
         kind,
         derives,
         notes,
+        keeps: NOTHING,
     })
 }
 
@@ -222,6 +247,7 @@ fn skipped<'t>(alloc: Global, name: &'t Token, derives: Vec<&'t str>, notes: Not
         kind: Kind::Struct(Fields::Unit),
         derives,
         notes,
+        keeps: NOTHING,
     }
 }
 
@@ -351,13 +377,16 @@ fn is_note(text: &str) -> bool {
 /// Reads the variants of an enum.
 fn read_variants<'t>(alloc: Global, cursor: &mut Cursor<'t>) -> Result<Vec<Variant<'t>>, Fault> {
     let mut variants = Vec::new(alloc);
+    let mut next = 0u32;
     cursor.mark("{")?;
     for _ in 0..u64::MAX {
         let noted = read_variant_marks(alloc, cursor)?;
         if cursor.takes("}") {
             break;
         }
-        variants.push(read_variant(alloc, cursor, noted)?)?;
+        let variant = read_variant(alloc, cursor, noted.unwrap_or(next))?;
+        next = variant.tag.saturating_add(1);
+        variants.push(variant)?;
     }
     Ok(variants)
 }
@@ -385,18 +414,18 @@ fn read_tag(alloc: Global, cursor: &mut Cursor<'_>) -> Result<Option<u32>, Fault
     }
 }
 
-/// Reads a variant, and the comma behind it.
+/// Reads a variant, and the comma behind it. Where it says no tag itself, it has this one.
 fn read_variant<'t>(
     alloc: Global,
     cursor: &mut Cursor<'t>,
-    noted: Option<u32>,
+    tag: u32,
 ) -> Result<Variant<'t>, Fault> {
     let name = cursor.name()?;
     let fields = read_fields(alloc, cursor)?;
     let tag = if cursor.takes("=") {
-        Some(read_number(alloc, cursor)?)
+        read_number(alloc, cursor)?
     } else {
-        noted
+        tag
     };
     if cursor.text() != "}" {
         cursor.mark(",")?;

@@ -1,7 +1,7 @@
 //! What is refused of a type that was read.
 
+use crate::blanks::is_own_name;
 use crate::by_tag::is_in_order;
-use crate::cursor::is_one_of;
 use crate::error::{Fault, Refusal, refused};
 use crate::heads::is_by_variants;
 use crate::items::{Item, Kind, Source, Variant};
@@ -14,17 +14,18 @@ use std::alloc::{AllocError, Global};
 
 /// Fails where a type can't be written, and says why.
 pub fn refuse<'t>(alloc: Global, source: &Source<'t>, item: &Item<'t>) -> Result<(), Fault> {
-    refuse_name(alloc, item.name)?;
+    refuse_name(alloc, item, item.name)?;
     for param in item.params.iter() {
-        refuse_name(alloc, param.name)?;
+        refuse_name(alloc, item, param.name)?;
     }
     for word in item.names(alloc)?.iter() {
-        refuse_name(alloc, word)?;
+        refuse_name(alloc, item, word)?;
     }
     for of in item.types(alloc)?.iter() {
-        refuse_type(alloc, item, of.as_slice())?;
+        refuse_type(alloc, source, item, of)?;
     }
     refuse_params(alloc, item)?;
+    refuse_tags(alloc, item.variants())?;
     if item.notes.asks_for(Trait::Described) {
         refuse_described(alloc, item)?;
     }
@@ -45,9 +46,9 @@ fn name_of(alloc: Global, item: &Item<'_>) -> Result<String, AllocError> {
 }
 
 /// Refuses a name of a type or a parameter that is written with another meaning.
-fn refuse_name(alloc: Global, name: &Token) -> Result<(), Fault> {
+fn refuse_name(alloc: Global, item: &Item<'_>, name: &Token) -> Result<(), Fault> {
     let text = name.text.as_str();
-    if is_one_of(text, &["B", "Context", "D", "E", "Words"]) || is_used(text) {
+    if text == "Words" || is_own_name(item, text) || is_used(text) {
         let name_text = String::from_str(alloc, text)?;
         return Err(refused(name.place, Refusal::TakenName { name: name_text }));
     }
@@ -55,24 +56,38 @@ fn refuse_name(alloc: Global, name: &Token) -> Result<(), Fault> {
 }
 
 /// Refuses the type of a field in which something stands that the library has no words for.
-fn refuse_type(alloc: Global, item: &Item<'_>, of: &[&Token]) -> Result<(), Fault> {
+fn refuse_type(
+    alloc: Global,
+    source: &Source<'_>,
+    item: &Item<'_>,
+    of: &[&Token],
+) -> Result<(), Fault> {
     for at in 0..of.len() {
-        let text = text_at(of, at);
-        let instead = if text == "&" {
-            instead_of_reference(of, at, item.is_borrowing())
-        } else {
-            instead_of(text)
+        let word = text_at(of, at);
+        let instead = match word {
+            "&" => instead_of_reference(of, at, item.is_borrowing()),
+            "Duration" | "CString" if source.is_of_std(of, at) => instead_of_std(word),
+            _ => instead_of(word),
         };
-        if let (Some(instead), Some(word)) = (instead, of.get(at)) {
-            let word_text = String::from_str(alloc, text)?;
-            let why = Refusal::NoWords {
-                word: word_text,
-                instead,
-            };
-            return Err(refused(word.place, why));
+        if let (Some(instead), Some(token)) = (instead, of.get(at)) {
+            return Err(no_words(alloc, token, instead)?);
         }
     }
     Ok(())
+}
+
+/// The refusal of what stands in the type of a field.
+fn no_words(alloc: Global, token: &Token, instead: &'static str) -> Result<Fault, AllocError> {
+    let word = token.text.clone()?;
+    Ok(refused(token.place, Refusal::NoWords { word, instead }))
+}
+
+/// What to hold in place of this type of the standard library.
+fn instead_of_std(name: &str) -> Option<&'static str> {
+    match name {
+        "Duration" => Some("hold a `bincode::time::Duration` in place of that of `std`"),
+        _ => Some("hold a `bincode::ffi::CString` in place of that of `std`"),
+    }
 }
 
 /// What to hold in place of the reference at this place, if it is not decoded.
@@ -126,12 +141,7 @@ fn instead_of(name: &str) -> Option<&'static str> {
 
 /// Refuses a second lifetime, and a type parameter of an enum.
 fn refuse_params(alloc: Global, item: &Item<'_>) -> Result<(), Fault> {
-    let lifetimes = item
-        .params
-        .iter()
-        .filter(|param| param.is_lifetime())
-        .count();
-    if lifetimes > 1 {
+    if lifetimes_of(item) > 1 {
         let name = name_of(alloc, item)?;
         return Err(refused(item.name.place, Refusal::TwoLifetimes { name }));
     }
@@ -140,6 +150,17 @@ fn refuse_params(alloc: Global, item: &Item<'_>) -> Result<(), Fault> {
         return Err(refused(item.name.place, Refusal::GenericEnum { name }));
     }
     Ok(())
+}
+
+/// How many lifetimes a type has.
+fn lifetimes_of(item: &Item<'_>) -> usize {
+    let mut count = 0usize;
+    for param in item.params.iter() {
+        if param.is_lifetime() {
+            count = count.saturating_add(1);
+        }
+    }
+    count
 }
 
 fn is_enum(item: &Item<'_>) -> bool {
@@ -151,37 +172,35 @@ fn is_enum(item: &Item<'_>) -> bool {
 
 /// Refuses a described enum of more than eight variants, or with tags that are not 0, 1 and so on.
 fn refuse_described(alloc: Global, item: &Item<'_>) -> Result<(), Fault> {
-    let tags = tags_of_item(alloc, item)?;
-    let is_long = tags.len() > 8 && !is_by_variants(item);
-    if is_long || !is_in_order(tags.as_slice()) {
+    let variants = item.variants();
+    let is_long = variants.len() > 8 && !is_by_variants(item);
+    if is_long || !is_in_order(variants) {
         let name = name_of(alloc, item)?;
         return Err(refused(item.name.place, Refusal::NotDescribed { name }));
     }
     Ok(())
 }
 
-/// The tag of each variant of an enum, and none of a struct.
-pub fn tags_of_item(alloc: Global, item: &Item<'_>) -> Result<Vec<u32>, Fault> {
-    match &item.kind {
-        Kind::Struct(_) => Ok(Vec::new(alloc)),
-        Kind::Enum(variants) => tags_of(alloc, variants),
-    }
-}
-
-/// The tag of each variant: its own, or one more than that of the one before. Fails where two are the same.
-pub fn tags_of(alloc: Global, variants: &Vec<Variant<'_>>) -> Result<Vec<u32>, Fault> {
-    let mut tags: Vec<u32> = Vec::new(alloc);
-    let mut next = 0u32;
-    for variant in variants.iter() {
-        let tag = variant.tag.unwrap_or(next);
-        if tags.contains(&tag) {
+/// Refuses the tag of a variant that one before has too.
+fn refuse_tags(alloc: Global, variants: &[Variant<'_>]) -> Result<(), Fault> {
+    for (at, variant) in variants.iter().enumerate() {
+        if has_tag(variants, at, variant.tag) {
             let name = variant.name.text.clone()?;
+            let tag = variant.tag;
             return Err(refused(variant.name.place, Refusal::SameTag { name, tag }));
         }
-        tags.push(tag)?;
-        next = tag.saturating_add(1);
     }
-    Ok(tags)
+    Ok(())
+}
+
+/// Whether one of the first variants, of which there are so many, has this tag.
+fn has_tag(variants: &[Variant<'_>], count: usize, tag: u32) -> bool {
+    for variant in variants.iter().take(count) {
+        if variant.tag == tag {
+            return true;
+        }
+    }
+    false
 }
 
 /// Whether a type holds itself, also by others of its source.

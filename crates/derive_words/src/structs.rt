@@ -1,86 +1,66 @@
 //! How a struct is written and read.
 
-use crate::decoding::decode;
-use crate::heads::Subject;
-use crate::items::{Field, Fields};
-use crate::parts::{bindings, selectors};
-use crate::text::tuple;
+use crate::blanks::fill;
+use crate::decoding::{DECODE_END, DECODE_PARTS, add_decode, add_decode_front};
+use crate::heads::add_head;
+use crate::items::{Field, Item};
+use crate::text::Text;
 use crate::tokens::Token;
-use crate::values::made_of_bound;
-use std::alloc::{AllocError, Global};
 
-/// The `impl`s by which a struct of these fields is written and read.
-pub fn struct_impls(
-    alloc: Global,
-    subject: &Subject<'_, '_>,
-    fields: &Fields<'_>,
-) -> Result<String, AllocError> {
-    let encode = encode(alloc, subject, fields)?;
-    let name = subject.item.name.text.as_str();
-    let value = made_of_bound(alloc, name, fields)?;
-    let pattern = tuple(alloc, bindings(alloc, fields.as_slice())?)?;
-    let value = value.as_str();
-    let pattern = pattern.as_str();
-    let decode = if fields.as_slice().len() > 8 {
-        decode_by_parts(alloc, subject, pattern, value)?
+/// How a struct is written.
+const ENCODE: &str = "    fn tell_valid(&self) {
+        $lent$.tell_valid();
+    }
+
+    fn encode<$E$: Encoder>(&self, encoder: &mut $E$) -> Result<(), EncodeError> {
+        $lent$.encode(encoder)
+    }
+}
+
+";
+
+/// How a struct of many fields is made of its parts.
+const FROM_PARTS: &str = "    fn from_parts(parts: $parts$) -> $itself$ {
+        let $bound$ = parts;
+        $name$$made$
+    }
+}
+
+";
+
+/// Adds the `impl`s by which a struct of these fields is written and read.
+pub fn add_struct_impls(out: &mut Text, item: &Item<'_>, fields: &[Field<'_>]) {
+    add_head(out, item, "", "Encode", "Encode");
+    add_most_line(out, fields);
+    fill(out, item, ENCODE);
+    if fields.len() > 8 {
+        add_head(out, item, "", "FromParts<$parts$>", "");
+        fill(out, item, FROM_PARTS);
+        add_decode(out, item, DECODE_PARTS);
     } else {
-        decode_at_once(alloc, subject, pattern, value)?
-    };
-    format!(in alloc; "{encode}{decode}")
-}
-
-/// The `impl` of `Encode` of a struct.
-fn encode(
-    alloc: Global,
-    subject: &Subject<'_, '_>,
-    fields: &Fields<'_>,
-) -> Result<String, AllocError> {
-    let head = subject.head(alloc, "", "Encode", "Encode")?;
-    let most = most_line(alloc, most_of(fields.as_slice()))?;
-    let lent = lent(alloc, fields.as_slice())?;
-    format!(in alloc;
-        "{head}{most}    fn tell_valid(&self) {{
-        {lent}.tell_valid();
-    }}
-
-    fn encode<E: Encoder>(&self, encoder: &mut E) -> Result<(), EncodeError> {{
-        {lent}.encode(encoder)
-    }}
-}}
-
-"
-    )
-}
-
-/// The fields of `self`, lent as the tuple that is written. What is a reference is handed on as it is.
-fn lent(alloc: Global, fields: &[Field<'_>]) -> Result<String, AllocError> {
-    let is_alone = fields.len() == 1;
-    let mut parts = Vec::new(alloc);
-    for (name, field) in selectors(alloc, fields)?.iter().zip(fields.iter()) {
-        parts.push(if is_alone || is_reference(field) {
-            format!(in alloc; "self.{name}")?
-        } else {
-            format!(in alloc; "&self.{name}")?
-        })?;
-    }
-    tuple(alloc, parts)
-}
-
-/// Whether the type of a field is a reference.
-fn is_reference(field: &Field<'_>) -> bool {
-    match field.of.first() {
-        Some(first) => first.text.as_str() == "&",
-        None => false,
+        add_decode_at_once(out, item);
     }
 }
 
-/// The line that says how many bytes a value takes at most where integers are fixed, if it is known.
-fn most_line(alloc: Global, most: Option<u32>) -> Result<String, AllocError> {
-    match most {
-        Some(most) => format!(in alloc;
-            "    const MAX_FIXED_SIZE: Option<usize> = Some({most});\n\n"
-        ),
-        None => Ok(String::new(alloc)),
+/// Adds the `impl` by which a struct is read in one function.
+fn add_decode_at_once(out: &mut Text, item: &Item<'_>) {
+    add_decode_front(out, item);
+    fill(out, item, "        let $bound$: $parts$ = ");
+    out.add(if item.is_borrowing() {
+        "BorrowDecode::borrow_decode"
+    } else {
+        "Decode::decode"
+    });
+    fill(out, item, "(decoder)?;\n        Ok($name$$made$)\n");
+    out.add(DECODE_END);
+}
+
+/// Adds the line that says how many bytes a value takes at most where integers are fixed, if it is known.
+fn add_most_line(out: &mut Text, fields: &[Field<'_>]) {
+    if let Some(most) = most_of(fields) {
+        out.add("    const MAX_FIXED_SIZE: Option<usize> = Some(");
+        out.add_number(u64::from(most));
+        out.add(");\n\n");
     }
 }
 
@@ -106,47 +86,4 @@ fn fixed_size(of: &[&Token]) -> Option<u32> {
         "u128" | "i128" => Some(16),
         _ => None,
     }
-}
-
-/// The `impl` by which a struct is read in one function.
-fn decode_at_once(
-    alloc: Global,
-    subject: &Subject<'_, '_>,
-    pattern: &str,
-    value: &str,
-) -> Result<String, AllocError> {
-    let parts = subject.parts.as_str();
-    let by = if subject.item.is_borrowing() {
-        "BorrowDecode::borrow_decode"
-    } else {
-        "Decode::decode"
-    };
-    let body = format!(in alloc;
-        "        let {pattern}: {parts} = {by}(decoder)?;\n        Ok({value})\n"
-    )?;
-    decode(alloc, subject, body.as_str())
-}
-
-/// The `impl`s by which a struct of many fields is read.
-fn decode_by_parts(
-    alloc: Global,
-    subject: &Subject<'_, '_>,
-    pattern: &str,
-    value: &str,
-) -> Result<String, AllocError> {
-    let parts = subject.parts.as_str();
-    let itself = subject.itself.as_str();
-    let of = format!(in alloc; "FromParts<{parts}>")?;
-    let head = subject.head(alloc, "", of.as_str(), "")?;
-    let body = format!(in alloc; "        decode_by_parts::<{parts}, {itself}, D>(decoder)\n")?;
-    let decode = decode(alloc, subject, body.as_str())?;
-    format!(in alloc;
-        "{head}    fn from_parts(parts: {parts}) -> {itself} {{
-        let {pattern} = parts;
-        {value}
-    }}
-}}
-
-{decode}"
-    )
 }

@@ -1,57 +1,168 @@
-//! Texts made of parts.
+//! Text that is written piece by piece.
 
 use crate::tokens::Token;
 use std::alloc::{AllocError, Global};
 
-/// Parts with a text between each two.
-pub fn joined(alloc: Global, parts: &[String], between: &str) -> Result<String, AllocError> {
-    let mut text = String::new(alloc);
-    let mut is_first = true;
-    for part in parts.iter() {
-        if !is_first {
-            text.push_str(between)?;
+/// Text that is written piece by piece. Where memory is refused on the way, it is `whole` that says so.
+#[derive(Drop)]
+pub struct Text {
+    alloc: Global,
+    text: String,
+    is_whole: bool,
+}
+
+impl Text {
+    pub fn new(alloc: Global) -> Text {
+        Text {
+            alloc,
+            text: String::new(alloc),
+            is_whole: true,
         }
-        text.push_str(part.as_str())?;
-        is_first = false;
     }
-    Ok(text)
+
+    /// An empty text, of the memory of this one.
+    pub fn beside(&self) -> Text {
+        Text::new(self.alloc)
+    }
+
+    pub fn as_str(&self) -> &str {
+        self.text.as_str()
+    }
+
+    /// The text, if memory was never refused.
+    pub fn whole(self) -> Result<String, AllocError> {
+        if self.is_whole {
+            Ok(self.text)
+        } else {
+            Err(AllocError)
+        }
+    }
+
+    pub fn add(&mut self, piece: &str) {
+        if self.text.push_str(piece).is_err() {
+            self.is_whole = false;
+        }
+    }
+
+    pub fn clear(&mut self) {
+        self.text.clear();
+    }
+
+    /// Whether memory was never refused.
+    pub fn is_whole(&self) -> bool {
+        self.is_whole
+    }
+
+    /// Adds another text.
+    pub fn add_text(&mut self, other: &Text) {
+        self.add(other.as_str());
+        self.is_whole = self.is_whole && other.is_whole;
+    }
+
+    pub fn add_number(&mut self, number: u64) {
+        if write!(self.text, "{number}").is_err() {
+            self.is_whole = false;
+        }
+    }
+
+    /// Adds a piece so many times.
+    pub fn add_times(&mut self, piece: &str, times: usize) {
+        for _ in 0..times {
+            self.add(piece);
+        }
+    }
+
+    /// Adds the tokens of a type as its author writes them.
+    pub fn add_type(&mut self, tokens: &[&Token]) {
+        for at in 0..tokens.len() {
+            self.add_type_token(tokens, at);
+        }
+    }
+
+    /// Adds the token of a type that is at this place. A path that begins where the module of the types stands begins
+    /// one module above what is written.
+    fn add_type_token(&mut self, tokens: &[&Token], at: usize) {
+        let next = text_at(tokens, at);
+        let before = text_before(tokens, at);
+        if at > 0 && is_apart(before, next) {
+            self.add(" ");
+        }
+        self.add(match next {
+            "super" if before != "::" => "super::super",
+            "self" if before != "::" => "super",
+            _ => next,
+        });
+    }
+
+    /// Adds what stands before the part at this place of a tuple of so many: the comma, and the brackets that open
+    /// here. More than eight parts stand in groups of four, and groups of those. One part stands alone.
+    pub fn open_part(&mut self, at: usize, count: usize) {
+        if at > 0 {
+            self.add(", ");
+        }
+        let mut at = at;
+        let mut count = count;
+        for _ in 0..16u8 {
+            if count <= 8 || at % 4 > 0 {
+                break;
+            }
+            if count.saturating_sub(at) > 1 {
+                self.add("(");
+            }
+            at = at / 4;
+            count = count.div_ceil(4);
+        }
+        if at == 0 && count > 1 {
+            self.add("(");
+        }
+    }
+
+    /// Adds the brackets that close behind the part at this place of a tuple of so many.
+    pub fn close_part(&mut self, at: usize, count: usize) {
+        let mut at = at;
+        let mut count = count;
+        for _ in 0..16u8 {
+            if count <= 8 || at % 4 < 3 && at.saturating_add(1) < count {
+                break;
+            }
+            if count.saturating_sub(at - at % 4) > 1 {
+                self.add(")");
+            }
+            at = at / 4;
+            count = count.div_ceil(4);
+        }
+        if count > 1 && count <= 8 && at.saturating_add(1) == count {
+            self.add(")");
+        }
+    }
+
+    /// Adds how the part at this place of so many is read of the tuple of them, as `.2`, or `.1.0` where they stand in
+    /// groups. A lone one is read as it is.
+    pub fn add_selector(&mut self, at: usize, count: usize) {
+        for level in (0..16u8).rev() {
+            if let Some(place) = place_in_group(at, count, level) {
+                self.add(".");
+                self.add_number(place as u64);
+            }
+        }
+    }
 }
 
-/// Each of some parts behind another text.
-pub fn behind(alloc: Global, front: &str, parts: &[String]) -> Result<Vec<String>, AllocError> {
-    let mut texts = Vec::new(alloc);
-    for part in parts.iter() {
-        texts.push(format!(in alloc; "{front}{part}")?)?;
+/// Where a part stands in its group, or at a higher level where that group stands in its own. The part is the one at
+/// this place of so many. Nothing if it stands alone there, or if there is no such level.
+fn place_in_group(at: usize, count: usize, level: u8) -> Option<usize> {
+    let mut at = at;
+    let mut count = count;
+    for _ in 0..level {
+        if count <= 8 {
+            return None;
+        }
+        at = at / 4;
+        count = count.div_ceil(4);
     }
-    Ok(texts)
-}
-
-/// The tokens of a type as its author writes them.
-pub fn type_text(alloc: Global, tokens: &[&Token]) -> Result<String, AllocError> {
-    let mut text = String::new(alloc);
-    for at in 0..tokens.len() {
-        add_type_token(&mut text, tokens, at)?;
-    }
-    Ok(text)
-}
-
-/// Adds the token of a type that is at this place. A path that begins where the module of the types stands begins one
-/// module above what is written.
-fn add_type_token(text: &mut String, tokens: &[&Token], at: usize) -> Result<(), AllocError> {
-    let next = text_at(tokens, at);
-    let before = if at > 0 {
-        text_at(tokens, at.saturating_sub(1))
-    } else {
-        ""
-    };
-    if at > 0 && is_apart(before, next) {
-        text.push_str(" ")?;
-    }
-    text.push_str(match next {
-        "super" if before != "::" => "super::super",
-        "self" if before != "::" => "super",
-        _ => next,
-    })
+    let place = if count > 8 { at % 4 } else { at };
+    let is_alone = count.saturating_sub(at - place) <= 1;
+    if is_alone { None } else { Some(place) }
 }
 
 /// The text of the token at this place, and `""` where there is none.
@@ -59,6 +170,15 @@ pub fn text_at<'t>(tokens: &[&'t Token], at: usize) -> &'t str {
     match tokens.get(at) {
         Some(token) => token.text.as_str(),
         None => "",
+    }
+}
+
+/// The text of the token before this place, and `""` where there is none.
+pub fn text_before<'t>(tokens: &[&'t Token], at: usize) -> &'t str {
+    if at > 0 {
+        text_at(tokens, at.saturating_sub(1))
+    } else {
+        ""
     }
 }
 
@@ -76,68 +196,4 @@ fn is_apart(before: &str, next: &str) -> bool {
 /// Whether a token is a word or a lifetime.
 fn is_name(token: &str) -> bool {
     token.starts_with(|c: char| c.is_ascii_alphanumeric() || c == '_' || c == '\'')
-}
-
-/// Parts as a tuple, in groups of four and groups of those where there are more than eight. One is itself.
-pub fn tuple(alloc: Global, parts: Vec<String>) -> Result<String, AllocError> {
-    let mut rows = parts;
-    for _ in 0..16u8 {
-        if rows.len() <= 8 {
-            break;
-        }
-        rows = in_fours(alloc, &rows)?;
-    }
-    row(alloc, rows.as_slice())
-}
-
-/// How each of so many parts is read of the tuple of them, as `.2`, or `.1.0` where they stand in groups. A lone one is
-/// read as it is.
-pub fn selectors_of(alloc: Global, count: usize) -> Result<Vec<String>, AllocError> {
-    let mut selectors = Vec::new(alloc);
-    for at in 0..count {
-        selectors.push(selector(alloc, at, count)?)?;
-    }
-    Ok(selectors)
-}
-
-/// How the part at this place of so many is read: its place in its group, behind that of the group, and so on.
-fn selector(alloc: Global, at: usize, count: usize) -> Result<String, AllocError> {
-    let mut selector = String::new(alloc);
-    let mut at = at;
-    let mut count = count;
-    for _ in 0..16u8 {
-        if count <= 8 {
-            break;
-        }
-        let group = at / 4;
-        let size = count.saturating_sub(group.saturating_mul(4));
-        if size > 1 {
-            let within = at % 4;
-            selector = format!(in alloc; ".{within}{selector}")?;
-        }
-        at = group;
-        count = count.div_ceil(4);
-    }
-    if count > 1 {
-        selector = format!(in alloc; ".{at}{selector}")?;
-    }
-    Ok(selector)
-}
-
-/// Parts in groups of four.
-fn in_fours(alloc: Global, parts: &Vec<String>) -> Result<Vec<String>, AllocError> {
-    let mut rows = Vec::new(alloc);
-    for parts in parts.as_slice().chunks(4) {
-        rows.push(row(alloc, parts)?)?;
-    }
-    Ok(rows)
-}
-
-/// Parts as one tuple. One is itself.
-fn row(alloc: Global, parts: &[String]) -> Result<String, AllocError> {
-    let all = joined(alloc, parts, ", ")?;
-    if parts.len() == 1 {
-        return Ok(all);
-    }
-    format!(in alloc; "({all})")
 }

@@ -1,9 +1,8 @@
 //! The `use` lines of what is written.
 
 use crate::cursor::is_one_of;
-use crate::text::joined;
-use crate::tokens::{Token, tokens_of};
-use std::alloc::{AllocError, Global};
+use crate::text::Text;
+use crate::tokens::Token;
 
 /// The names of the library that are used, by their modules, as `rt fmt` sorts them.
 const LIBRARY: [(&str, &[&str]); 8] = [
@@ -90,32 +89,54 @@ const LIBRARY: [(&str, &[&str]); 8] = [
 
 /// Whether what is written uses this name of the library.
 pub fn is_used(name: &str) -> bool {
-    LIBRARY.iter().any(|module| is_one_of(name, module.1))
-}
-
-/// The `use` lines for the names that stand in some `impl`s, and for all that the module above has.
-pub fn use_lines(alloc: Global, impls: &str) -> Result<String, AllocError> {
-    let tokens = tokens_of(alloc, impls)?;
-    let mut lines = String::from_str(alloc, "use super::*;\n")?;
-    for (module, names) in LIBRARY {
-        let used = used_of(alloc, names, tokens.as_slice())?;
-        lines.push_str(use_line(alloc, module, used.as_slice())?.as_str())?;
-    }
-    if stands_in("Global", tokens.as_slice()) {
-        lines.push_str("use std::alloc::Global;\n")?;
-    }
-    Ok(lines)
-}
-
-/// Those of some names that stand among these tokens.
-fn used_of(alloc: Global, names: &[&str], tokens: &[Token]) -> Result<Vec<String>, AllocError> {
-    let mut used = Vec::new(alloc);
-    for name in names.iter() {
-        if stands_in(name, tokens) {
-            used.push(String::from_str(alloc, name)?)?;
+    for (_, names) in LIBRARY {
+        if is_one_of(name, names) {
+            return true;
         }
     }
-    Ok(used)
+    false
+}
+
+/// Adds the `use` lines for the names that stand in some `impl`s, and for all that the module above has.
+pub fn add_uses(out: &mut Text, impls: &[Token]) {
+    out.add("use super::*;\n");
+    for (module, names) in LIBRARY {
+        add_use(out, module, names, impls);
+    }
+    if stands_in("Global", impls) {
+        out.add("use std::alloc::Global;\n");
+    }
+}
+
+/// Adds the `use` line for those names of a module that stand among these tokens.
+fn add_use(out: &mut Text, module: &str, names: &[&str], tokens: &[Token]) {
+    let count = used_count(names, tokens);
+    if count == 0 {
+        return;
+    }
+    out.add("use ");
+    out.add(module);
+    out.add(if count > 1 { "::{" } else { "::" });
+    let mut is_first = true;
+    for name in names.iter() {
+        if stands_in(name, tokens) {
+            out.add(if is_first { "" } else { ", " });
+            out.add(name);
+            is_first = false;
+        }
+    }
+    out.add(if count > 1 { "};\n" } else { ";\n" });
+}
+
+/// How many of some names stand among these tokens.
+fn used_count(names: &[&str], tokens: &[Token]) -> usize {
+    let mut count = 0usize;
+    for name in names.iter() {
+        if stands_in(name, tokens) {
+            count = count.saturating_add(1);
+        }
+    }
+    count
 }
 
 /// Whether a name stands among these tokens. That of `NAME as OTHER` is `OTHER`.
@@ -124,15 +145,10 @@ fn stands_in(name: &str, tokens: &[Token]) -> bool {
         Some((_, other)) => other,
         None => name,
     };
-    tokens.iter().any(|token| token.text.as_str() == name)
-}
-
-/// The `use` line for these names of a module.
-fn use_line(alloc: Global, module: &str, names: &[String]) -> Result<String, AllocError> {
-    let list = joined(alloc, names, ", ")?;
-    match names.len() {
-        0 => Ok(String::new(alloc)),
-        1 => format!(in alloc; "use {module}::{list};\n"),
-        _ => format!(in alloc; "use {module}::{{{list}}};\n"),
+    for token in tokens.iter() {
+        if token.text.as_str() == name {
+            return true;
+        }
     }
+    false
 }

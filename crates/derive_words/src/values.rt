@@ -1,41 +1,43 @@
 //! Structs and variants as values and as patterns.
 
 use crate::items::{Field, Fields};
-use crate::parts::{bindings, selectors};
-use crate::text::joined;
-use std::alloc::{AllocError, Global};
+use crate::parts::{add_bound, add_selector};
+use crate::text::Text;
 
-/// A struct or a variant of this path, made of what its fields are bound to. It is also the pattern that binds them.
-pub fn made_of_bound(alloc: Global, path: &str, fields: &Fields<'_>) -> Result<String, AllocError> {
-    let names = bindings(alloc, fields.as_slice())?;
+/// Adds what stands behind the path of a struct or a variant that is made of what its fields are bound to. It is also
+/// the pattern that binds them.
+pub fn add_made(out: &mut Text, fields: &Fields<'_>) {
     match fields {
-        Fields::Unit => String::from_str(alloc, path),
-        Fields::Tuple(_) => {
-            let list = joined(alloc, names.as_slice(), ", ")?;
-            format!(in alloc; "{path}({list})")
+        Fields::Unit => {}
+        Fields::Tuple(fields) => {
+            out.add("(");
+            add_tuple_fields(out, fields.as_slice());
+            out.add(")");
         }
-        Fields::Named(fields) => named(alloc, path, fields.as_slice(), names.as_slice()),
+        Fields::Named(fields) if fields.is_empty() => out.add(" {}"),
+        Fields::Named(fields) => {
+            out.add(" { ");
+            add_named_fields(out, fields.as_slice());
+            out.add(" }");
+        }
     }
 }
 
-/// A struct or a variant whose fields have names, made of what they are bound to.
-fn named(
-    alloc: Global,
-    path: &str,
-    fields: &[Field<'_>],
-    bound: &[String],
-) -> Result<String, AllocError> {
-    let mut texts = Vec::new(alloc);
-    for (own, bound) in selectors(alloc, fields)?.iter().zip(bound.iter()) {
-        texts.push(if own.as_str() == bound.as_str() {
-            bound.clone()?
-        } else {
-            format!(in alloc; "{own}: {bound}")?
-        })?;
+/// Adds what the fields of a tuple are bound to.
+fn add_tuple_fields(out: &mut Text, fields: &[Field<'_>]) {
+    for (at, field) in fields.iter().enumerate() {
+        out.add(if at > 0 { ", " } else { "" });
+        add_bound(out, field, at, fields.len());
     }
-    let list = joined(alloc, texts.as_slice(), ", ")?;
-    if list.is_empty() {
-        return format!(in alloc; "{path} {{}}");
+}
+
+/// Adds fields with names, and what they are bound to where it is not that.
+fn add_named_fields(out: &mut Text, fields: &[Field<'_>]) {
+    for (at, field) in fields.iter().enumerate() {
+        out.add(if at > 0 { ", " } else { "" });
+        if field.name == Some("encoder") {
+            out.add("encoder: ");
+        }
+        add_bound(out, field, at, fields.len());
     }
-    format!(in alloc; "{path} {{ {list} }}")
 }

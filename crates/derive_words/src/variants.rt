@@ -1,306 +1,337 @@
 //! An enum that is written variant by variant: its parts, its words, and what its laws ask of the parts.
 
-use crate::error::Fault;
-use crate::heads::{Part, Subject};
-use crate::parts::{CLAUSE_WIDTH, bound_in_clause, pattern_in_clause, types_of, value_of};
-use crate::refusals::tags_of_item;
-use crate::text::{behind, joined, selectors_of, tuple};
-use crate::wire::opening_of;
-use std::alloc::{AllocError, Global};
+use crate::blanks::{fill, fill_variant};
+use crate::heads::{add_head, close, open_or_part};
+use crate::items::{Item, Variant, say};
+use crate::parts::{CLAUSE_WIDTH, add_pattern, add_sum_use};
+use crate::text::Text;
+use crate::wire::add_opening;
 
 /// How many characters a line of a clause has at most.
 const LONGEST_CLAUSE: usize = 120;
 
-/// The aliases for the part of each variant, and for the sum of them.
-pub fn variant_aliases(alloc: Global, subject: &Subject<'_, '_>) -> Result<String, Fault> {
-    let tags = tags_of_item(alloc, subject.item)?;
-    let mut aliases = String::new(alloc);
-    let mut sum = String::new(alloc);
-    let mut closing = String::new(alloc);
-    for (part, tag) in subject.variants.iter().zip(tags.iter()) {
-        let of = tuple(alloc, types_of(alloc, part.variant.fields.as_slice())?)?;
-        let itself = part.itself.as_str();
-        let tag = *tag;
-        if !part.is_param {
-            aliases.push_str(format!(in alloc; "type {itself} = {of};\n\n")?.as_str())?;
-        }
-        sum.push_str(format!(in alloc; "VariantOf<{tag}, {itself}, ")?.as_str())?;
-        closing.push_str(">")?;
-    }
-    let parts = subject.parts.as_str();
-    let itself = subject.itself.as_str();
-    Ok(format!(in alloc; "{aliases}type {parts} = {sum}NoMoreVariants<{itself}>{closing};\n\n")?)
-}
-
-/// The `impl` that shows a value as one of its variants, and makes it of them. `declared` is where the toolchain
-/// declares the types of the module.
-pub fn shown_by_variants(
-    alloc: Global,
-    subject: &Subject<'_, '_>,
-    declared: &str,
-) -> Result<String, Fault> {
-    let sum = subject.parts.as_str();
-    let of = format!(in alloc; "Sum<{sum}>")?;
-    let head = subject.head(alloc, "", of.as_str(), "Wire")?;
-    let words = if subject.variants.len() > 1 {
-        "this, other"
-    } else {
-        "this"
-    };
-    let uses = variant_uses(alloc, subject, declared)?;
-    let variants = nested(
-        alloc,
-        "variants",
-        words_of(alloc, subject)?.as_slice(),
-        "no_more",
-    )?;
-    let parts = shown_parts(alloc, subject)?;
-    let made = nested(
-        alloc,
-        "made",
-        made_of(alloc, subject)?.as_slice(),
-        "(λ n. elim (n.0) [ ])",
-    )?;
-    Ok(format!(in alloc;
-        "{head}    ghost use Rattle.bincode.specs.Sums.{{{words}}};
-    ghost use Rattle.bincode.specs.EnumWords.{{by, no_more, or_else}};
-{uses}
-{variants}
-    ghost parts = {{ elim [
-{parts}    ] }};
-
-{made}}}
-
-"
-    )?)
-}
-
-/// The imports of the names of the variants, in lines that are not too long.
-fn variant_uses(
-    alloc: Global,
-    subject: &Subject<'_, '_>,
-    declared: &str,
-) -> Result<String, AllocError> {
-    let name = subject.item.name.text.as_str();
-    let front = format!(in alloc; "    ghost use Rattle.{declared}.{name}.TheVariants.{{")?;
-    let mut lines = String::new(alloc);
-    let mut line = front.clone()?;
-    for part in subject.variants.iter() {
-        let variant = part.variant.name.text.as_str();
-        if line.len() > front.len() {
-            if line.len().saturating_add(variant.len()) > CLAUSE_WIDTH {
-                lines.push_str(format!(in alloc; "{line}}};\n")?.as_str())?;
-                line = front.clone()?;
-            } else {
-                line.push_str(", ")?;
-            }
-        }
-        line.push_str(variant)?;
-    }
-    format!(in alloc; "{lines}{line}}};\n")
-}
-
-/// What each variant says of its words.
-fn words_of(alloc: Global, subject: &Subject<'_, '_>) -> Result<Vec<String>, Fault> {
-    let tags = tags_of_item(alloc, subject.item)?;
-    let mut rows = Vec::new(alloc);
-    for (part, tag) in subject.variants.iter().zip(tags.iter()) {
-        let itself = part.itself.as_str();
-        let tag = *tag;
-        rows.push(if part.is_param {
-            format!(in alloc; "or_else {tag} {itself}.words")?
-        } else {
-            format!(in alloc; "or_else {tag} ⟦<{itself} as Wire>⟧.words")?
-        })?;
-    }
-    Ok(rows)
-}
-
-/// How each variant is made of its part.
-fn made_of(alloc: Global, subject: &Subject<'_, '_>) -> Result<Vec<String>, AllocError> {
-    let mut rows = Vec::new(alloc);
-    for part in subject.variants.iter() {
-        rows.push(made_of_part(alloc, part)?)?;
-    }
-    Ok(rows)
-}
-
-/// How a variant is made of its part.
-fn made_of_part(alloc: Global, part: &Part<'_, '_>) -> Result<String, AllocError> {
-    let variant = part.variant.name.text.as_str();
-    let selectors = selectors_of(alloc, part.variant.fields.as_slice().len())?;
-    let read = behind(alloc, " p", selectors.as_slice())?;
-    let read = joined(alloc, read.as_slice(), "")?;
-    format!(in alloc; "by (λ p. {variant}{read})")
-}
-
-/// A clause of rows, each within the one before, and what stands in the last. It has a line for each row if it is too
-/// long for one.
-fn nested(alloc: Global, name: &str, rows: &[String], last: &str) -> Result<String, AllocError> {
-    let line = nested_by(alloc, name, rows, last, " ")?;
-    if line.len() <= CLAUSE_WIDTH {
-        return Ok(line);
-    }
-    nested_by(alloc, name, rows, last, "\n        ")
-}
-
-/// A clause of rows with this between each two.
-fn nested_by(
-    alloc: Global,
-    name: &str,
-    rows: &[String],
-    last: &str,
-    between: &str,
-) -> Result<String, AllocError> {
-    let open = format!(in alloc; "{between}(")?;
-    let body = joined(alloc, rows, open.as_str())?;
-    let mut closing = String::new(alloc);
-    for _ in rows.iter().skip(1) {
-        closing.push_str(")")?;
-    }
-    format!(in alloc; "    ghost {name} = {{ {body}{between}{last}{closing} }};\n")
-}
-
-/// How each variant is shown as its part.
-fn shown_parts(alloc: Global, subject: &Subject<'_, '_>) -> Result<String, AllocError> {
-    let mut lines = String::new(alloc);
-    let mut front = String::new(alloc);
-    let mut closing = String::new(alloc);
-    for part in subject.variants.iter() {
-        let pattern = pattern_in_clause(alloc, part.variant)?;
-        let fields = part.variant.fields.as_slice();
-        let shown = value_of(alloc, bound_in_clause(alloc, fields)?)?;
-        let line = format!(in alloc; "      | {pattern} ↦ {front}this {shown}{closing}\n")?;
-        lines.push_str(line.as_str())?;
-        front.push_str("other (")?;
-        closing.push_str(")")?;
-    }
-    Ok(lines)
-}
-
-/// The `impl` that says what the words of an enum are.
-pub fn words_by_variants(alloc: Global, subject: &Subject<'_, '_>) -> Result<String, AllocError> {
-    let head = subject.head(alloc, "", "Wire", "Wire")?;
-    let sum = sum_text(alloc, subject)?;
-    let sum = sum.as_str();
-    let promise = format!(in alloc; "result ≡ min (4 + {sum}.variants.claim) (2 ^ 64 - 1)")?;
-    let opening = opening_of(alloc, subject, promise.as_str())?;
-    let uses = if subject.item.is_borrowing() {
-        "    ghost use Rattle.std.specs.Prelude.{min, ◌+◌, ◌-◌, ◌^◌};\n"
-    } else {
-        ""
-    };
-    let its = format!(in alloc; "    ghost words = {{ enum_words {sum}.variants")?;
-    let parts = format!(in alloc; "{sum}.parts }};")?;
-    let its = in_line_or_two(alloc, its.as_str(), parts.as_str())?;
-    let widest = widest_claim(alloc, subject)?;
-    format!(in alloc;
-        "{head}{uses}    ghost use Rattle.bincode.specs.EnumWords.{{enum_words}};
-
-{its}
-
-    fn claim_size() -> usize{opening}{widest}        enum_claim(widest)
-    }}
-}}
-
-"
-    )
-}
-
-/// Two halves of a clause in a line, or in two where that is too long.
-fn in_line_or_two(alloc: Global, front: &str, back: &str) -> Result<String, AllocError> {
-    let line = format!(in alloc; "{front} {back}")?;
-    if line.as_str().chars().count() <= LONGEST_CLAUSE {
-        return Ok(line);
-    }
-    format!(in alloc; "{front}\n        {back}")
-}
-
 /// The variants of an enum as clauses speak of them.
-fn sum_text(alloc: Global, subject: &Subject<'_, '_>) -> Result<String, AllocError> {
-    let itself = subject.itself.as_str();
-    let parts = subject.parts.as_str();
-    format!(in alloc; "⟦<{itself} as Sum<{parts}>>⟧")
+const SUM: &str = "⟦<$itself$ as Sum<$parts$>>⟧";
+
+/// What an enum promises of what a container claims for it.
+const CLAIM: &str = "result ≡ min (4 + ⟦<$itself$ as Sum<$parts$>>⟧.variants.claim) (2 ^ 64 - 1)";
+
+/// The function that names an enum.
+const TYPE_NAME: &str = "
+    fn type_name() -> TypeName {
+        TypeName::new(\"$name$\")
+    }
+
+";
+
+/// What a row of a clause says of a variant.
+#[derive(Clone, Copy, PartialEq)]
+enum Row {
+    /// Its words.
+    Words,
+    /// How it is made of its part.
+    Made,
 }
 
-/// The lines that find what the widest part claims, from the last part on.
-fn widest_claim(alloc: Global, subject: &Subject<'_, '_>) -> Result<String, AllocError> {
-    let mut lines = String::new(alloc);
-    let mut is_last = true;
-    for part in subject.variants.iter().rev() {
-        let path = part.path.as_str();
-        let line = if is_last {
-            format!(in alloc; "        let widest = {path}::claim_size().max(0);\n")?
+/// Adds the type of the part of a variant, with those parameters of the enum that its fields have. If it is a parameter
+/// itself, its type is that.
+pub fn add_part(out: &mut Text, item: &Item<'_>, variant: &Variant<'_>) {
+    match lone_param(item, variant) {
+        Some(param) => out.add(param),
+        None => add_part_type(out, item, variant),
+    }
+}
+
+/// Adds the same, as the path of a function begins with it.
+pub fn add_part_path(out: &mut Text, item: &Item<'_>, variant: &Variant<'_>) {
+    match lone_param(item, variant) {
+        Some(param) => out.add(param),
+        None if is_part_generic(item, variant) => {
+            out.add("<");
+            add_part_type(out, item, variant);
+            out.add(">");
+        }
+        None => add_part_name(out, item, variant),
+    }
+}
+
+/// Adds the name of the part of a variant, with its arguments.
+fn add_part_type(out: &mut Text, item: &Item<'_>, variant: &Variant<'_>) {
+    add_part_name(out, item, variant);
+    let mut is_first = true;
+    for param in item.params.iter() {
+        if holds(variant, param.name.text.as_str()) {
+            open_or_part(out, is_first);
+            out.add(param.name.text.as_str());
+            is_first = false;
+        }
+    }
+    close(out, is_first);
+}
+
+/// Adds the name of the part of a variant.
+fn add_part_name(out: &mut Text, item: &Item<'_>, variant: &Variant<'_>) {
+    out.add(item.name.text.as_str());
+    out.add(variant.name.text.as_str());
+    out.add("Part");
+}
+
+/// Whether a type parameter of an enum stands in the fields of a variant.
+fn is_part_generic(item: &Item<'_>, variant: &Variant<'_>) -> bool {
+    for param in item.params.iter() {
+        if !param.is_lifetime() && holds(variant, param.name.text.as_str()) {
+            return true;
+        }
+    }
+    false
+}
+
+/// Whether a name stands in the fields of a variant.
+fn holds(variant: &Variant<'_>, name: &str) -> bool {
+    say(variant.fields.as_slice(), name)
+}
+
+/// The parameter that is all that a variant holds, if it is one.
+fn lone_param<'t>(item: &Item<'t>, variant: &Variant<'t>) -> Option<&'t str> {
+    let [field] = variant.fields.as_slice() else {
+        return None;
+    };
+    let [word] = field.of.as_slice() else {
+        return None;
+    };
+    if item.has_param(word.text.as_str()) {
+        Some(word.text.as_str())
+    } else {
+        None
+    }
+}
+
+/// Adds the aliases for the part of each variant, and for the sum of them.
+pub fn add_variant_aliases(out: &mut Text, item: &Item<'_>) {
+    let variants = item.variants();
+    for variant in variants.iter() {
+        if lone_param(item, variant).is_none() {
+            fill_variant(out, item, variant, "type $part$ = $types$;\n\n");
+        }
+    }
+    fill(out, item, "type $parts$ = ");
+    for variant in variants.iter() {
+        fill_variant(out, item, variant, "VariantOf<$tag$, $part$, ");
+    }
+    fill(out, item, "NoMoreVariants<$itself$>");
+    out.add_times(">", variants.len());
+    out.add(";\n\n");
+}
+
+/// Adds the `impl` that shows a value as one of its variants, and makes it of them. `declared` is where the toolchain
+/// declares the types of the module.
+pub fn add_shown_by_variants(out: &mut Text, item: &Item<'_>, declared: &str) {
+    let variants = item.variants();
+    add_head(out, item, "", "Sum<$parts$>", "Wire");
+    add_sum_use(out, variants.len());
+    out.add("    ghost use Rattle.bincode.specs.EnumWords.{by, no_more, or_else};\n");
+    add_variant_uses(out, item, declared);
+    out.add("\n");
+    add_rows(out, item, Row::Words);
+    out.add("\n    ghost parts = { elim [\n");
+    for (at, variant) in variants.iter().enumerate() {
+        add_pattern(out, "      | ", variant);
+        out.add(" ↦ ");
+        out.add_times("other (", at);
+        fill_variant(out, item, variant, "this $shown$");
+        out.add_times(")", at);
+        out.add("\n");
+    }
+    out.add("    ] };\n\n");
+    add_rows(out, item, Row::Made);
+    out.add("}\n\n");
+}
+
+/// Adds the imports of the names of the variants, in lines that are not too long.
+fn add_variant_uses(out: &mut Text, item: &Item<'_>, declared: &str) {
+    let mut front = out.beside();
+    front.add("    ghost use Rattle.");
+    front.add(declared);
+    fill(&mut front, item, ".$name$.TheVariants.{");
+    let mut width = 0usize;
+    for variant in item.variants().iter() {
+        let name = variant.name.text.as_str();
+        let is_long = width > 0 && width.saturating_add(name.len()) > CLAUSE_WIDTH;
+        if is_long {
+            out.add("};\n");
+        }
+        if is_long || width == 0 {
+            out.add_text(&front);
+            width = front.as_str().len();
         } else {
-            format!(in alloc; "        let widest = {path}::claim_size().max(widest);\n")?
-        };
-        lines.push_str(line.as_str())?;
+            out.add(", ");
+            width = width.saturating_add(2);
+        }
+        out.add(name);
+        width = width.saturating_add(name.len());
+    }
+    out.add("};\n");
+}
+
+/// Adds a clause with a row for each variant, each within the one before. It has a line for each row if it is too long
+/// for one.
+fn add_rows(out: &mut Text, item: &Item<'_>, row: Row) {
+    let mut line = out.beside();
+    add_rows_by(&mut line, item, row, " ");
+    if line.as_str().len() <= CLAUSE_WIDTH {
+        out.add_text(&line);
+    } else {
+        add_rows_by(out, item, row, "\n        ");
+    }
+}
+
+/// Adds a clause of rows with this between each two.
+fn add_rows_by(out: &mut Text, item: &Item<'_>, row: Row, between: &str) {
+    let variants = item.variants();
+    out.add(match row {
+        Row::Words => "    ghost variants = { ",
+        Row::Made => "    ghost made = { ",
+    });
+    for (at, variant) in variants.iter().enumerate() {
+        if at > 0 {
+            out.add(between);
+            out.add("(");
+        }
+        add_row(out, item, variant, row);
+    }
+    out.add(between);
+    out.add(match row {
+        Row::Words => "no_more",
+        Row::Made => "(λ n. elim (n.0) [ ])",
+    });
+    out.add_times(")", variants.len().saturating_sub(1));
+    out.add(" };\n");
+}
+
+/// Adds the row of a variant.
+fn add_row(out: &mut Text, item: &Item<'_>, variant: &Variant<'_>, row: Row) {
+    if row == Row::Made {
+        add_made_row(out, variant);
+    } else if lone_param(item, variant).is_some() {
+        fill_variant(out, item, variant, "or_else $tag$ $part$.words");
+    } else {
+        fill_variant(out, item, variant, "or_else $tag$ ⟦<$part$ as Wire>⟧.words");
+    }
+}
+
+/// Adds how a variant is made of its part.
+fn add_made_row(out: &mut Text, variant: &Variant<'_>) {
+    out.add("by (λ p. ");
+    out.add(variant.name.text.as_str());
+    let count = variant.fields.as_slice().len();
+    for at in 0..count {
+        out.add(" p");
+        out.add_selector(at, count);
+    }
+    out.add(")");
+}
+
+/// Adds the `impl` that says what the words of an enum are.
+pub fn add_words_by_variants(out: &mut Text, item: &Item<'_>) {
+    add_head(out, item, "", "Wire", "Wire");
+    if item.is_borrowing() {
+        out.add("    ghost use Rattle.std.specs.Prelude.{min, ◌+◌, ◌-◌, ◌^◌};\n");
+    }
+    out.add("    ghost use Rattle.bincode.specs.EnumWords.{enum_words};\n\n");
+    add_in_line_or_two(
+        out,
+        item,
+        "    ghost words = { enum_words ",
+        "variants",
+        "parts };",
+    );
+    out.add("\n\n    fn claim_size() -> usize");
+    add_opening(out, item, CLAIM);
+    add_widest_claim(out, item);
+    out.add("        enum_claim(widest)\n    }\n}\n\n");
+}
+
+/// Adds a clause of two members of the sum of an enum in a line, or in two where that is too long.
+fn add_in_line_or_two(out: &mut Text, item: &Item<'_>, front: &str, member: &str, back: &str) {
+    let mut first = out.beside();
+    first.add(front);
+    fill(&mut first, item, SUM);
+    first.add(".");
+    first.add(member);
+    let mut second = out.beside();
+    fill(&mut second, item, SUM);
+    second.add(".");
+    second.add(back);
+    let width = width_of(&first).saturating_add(width_of(&second));
+    out.add_text(&first);
+    out.add(if width < LONGEST_CLAUSE {
+        " "
+    } else {
+        "\n        "
+    });
+    out.add_text(&second);
+}
+
+/// How many characters a text has.
+fn width_of(text: &Text) -> usize {
+    text.as_str().chars().count()
+}
+
+/// Adds the lines that find what the widest part claims, from the last part on.
+fn add_widest_claim(out: &mut Text, item: &Item<'_>) {
+    let mut is_last = true;
+    for variant in item.variants().iter().rev() {
+        fill_variant(
+            out,
+            item,
+            variant,
+            "        let widest = $part_path$::claim_size().max(",
+        );
+        out.add(if is_last { "0);\n" } else { "widest);\n" });
         is_last = false;
     }
-    Ok(lines)
 }
 
-/// The `impl` that says what an enum is named, and what its laws ask of the parts.
-pub fn enum_by_variants(
-    alloc: Global,
-    subject: &Subject<'_, '_>,
-    declared: &str,
-) -> Result<String, AllocError> {
-    let head = subject.head(alloc, "", "Enum", "Wire")?;
-    let name = subject.item.name.text.as_str();
-    let uses = variant_uses(alloc, subject, declared)?;
-    let sum = sum_text(alloc, subject)?;
-    let sum = sum.as_str();
-    let choices = format!(in alloc; "    ghost choices = {{ enum_variants {sum}.variants")?;
-    let made = format!(in alloc; "{sum}.made }};")?;
-    let choices = in_line_or_two(alloc, choices.as_str(), made.as_str())?;
-    let laws = laws_clause(alloc, subject, sum)?;
-    format!(in alloc;
-        "{head}    ghost use Rattle.std.specs.Prelude.{{refl}};
-    ghost use Rattle.bincode.specs.EnumWords.{{enum_laws, enum_variants}};
-{uses}
-{choices}
-
-    fn type_name() -> TypeName {{
-        TypeName::new(\"{name}\")
-    }}
-
-{laws}}}
-
-"
-    )
-}
-
-/// The clause for the laws of an enum, whose variants clauses speak of so.
-fn laws_clause(alloc: Global, subject: &Subject<'_, '_>, sum: &str) -> Result<String, AllocError> {
-    let laws = format!(in alloc; "    ghost laws = {{ enum_laws {sum}.variants")?;
-    let parts = format!(in alloc; "{sum}.parts")?;
-    let laws = in_line_or_two(alloc, laws.as_str(), parts.as_str())?;
-    let told = told_variants(alloc, subject)?;
-    format!(in alloc; "{laws}\n        {sum}.made (elim [\n{told}        ]) }};\n")
-}
-
-/// That each variant is made of what it is shown as.
-fn told_variants(alloc: Global, subject: &Subject<'_, '_>) -> Result<String, AllocError> {
-    let mut told = String::new(alloc);
-    for part in subject.variants.iter() {
-        let pattern = pattern_in_clause(alloc, part.variant)?;
-        told.push_str(format!(in alloc; "          | {pattern} ↦ refl\n")?.as_str())?;
+/// Adds the `impl` that says what an enum is named, and what its laws ask of the parts.
+pub fn add_enum_by_variants(out: &mut Text, item: &Item<'_>, declared: &str) {
+    add_head(out, item, "", "Enum", "Wire");
+    out.add("    ghost use Rattle.std.specs.Prelude.{refl};\n");
+    out.add("    ghost use Rattle.bincode.specs.EnumWords.{enum_laws, enum_variants};\n");
+    add_variant_uses(out, item, declared);
+    out.add("\n");
+    add_in_line_or_two(
+        out,
+        item,
+        "    ghost choices = { enum_variants ",
+        "variants",
+        "made };",
+    );
+    out.add("\n");
+    fill(out, item, TYPE_NAME);
+    add_in_line_or_two(
+        out,
+        item,
+        "    ghost laws = { enum_laws ",
+        "variants",
+        "parts",
+    );
+    out.add("\n        ");
+    fill(out, item, SUM);
+    out.add(".made (elim [\n");
+    for variant in item.variants().iter() {
+        add_pattern(out, "          | ", variant);
+        out.add(" ↦ refl\n");
     }
-    Ok(told)
+    out.add("        ]) };\n}\n\n");
 }
 
-/// The calls that tell a law of an enum: that of each part, and then that of all of them.
-pub fn told_by_variants(
-    alloc: Global,
-    subject: &Subject<'_, '_>,
-    law: &str,
-) -> Result<String, AllocError> {
-    let itself = subject.itself.as_str();
-    let mut calls = String::new(alloc);
-    for part in subject.variants.iter() {
-        let path = part.path.as_str();
-        calls.push_str(format!(in alloc; "{path}::tell_{law}();\n        ")?.as_str())?;
+/// Adds the calls that tell a law of an enum: that of each part, and then that of all of them.
+pub fn add_told_by_variants(out: &mut Text, item: &Item<'_>, law: &str) {
+    for variant in item.variants().iter() {
+        fill_variant(out, item, variant, "$part_path$::tell_");
+        out.add(law);
+        out.add("();\n        ");
     }
-    format!(in alloc; "{calls}{law}_by_variants::<{itself}>()")
+    out.add(law);
+    fill(out, item, "_by_variants::<$itself$>()");
 }

@@ -1,270 +1,225 @@
 //! The words of a type, and the laws that it keeps.
 
-use crate::heads::Subject;
-use crate::items::Kind;
-use crate::laws::Keeps;
+use crate::blanks::{fill, fill_variant};
+use crate::heads::{add_head, is_by_variants};
+use crate::items::{Item, Kind};
 use crate::notes::Trait;
-use crate::variants::{told_by_variants, words_by_variants};
-use std::alloc::{AllocError, Global};
+use crate::text::Text;
+use crate::variants::{add_told_by_variants, add_words_by_variants};
 
-/// The `impl` that says what the words of a type are.
-pub fn words(alloc: Global, subject: &Subject<'_, '_>) -> Result<String, AllocError> {
-    if !subject.variants.is_empty() {
-        return words_by_variants(alloc, subject);
+/// The words of a type by its parts.
+const WORDS: &str = "words_by ⟦<$parts$ as Wire>⟧.words ⟦<$itself$ as HasParts<$parts$>>⟧.parts";
+
+/// The imports of the words of which a container claims what a note says.
+const CLAIMED_USES: &str = "    ghost use Rattle.std.proofs.Common.{arith};
+    ghost use Rattle.bincode.specs.TypeWords.{with_claim, words_by};
+
+    ghost words = { with_claim ";
+
+/// How a type tells what it costs.
+const COSTS: &str = "    ghost cost = { ⟦<$parts$ as ConstantCharge>⟧.cost };
+
+    ghost peak = { ⟦<$parts$ as ConstantCharge>⟧.peak };
+
+    fn tell_costs() {
+        $parts_path$::tell_costs();
     }
-    let head = subject.head(alloc, "", "Wire", "Wire")?;
-    let parts = subject.parts.as_str();
-    let itself = subject.itself.as_str();
-    let its = format!(in alloc;
-        "words_by ⟦<{parts} as Wire>⟧.words ⟦<{itself} as HasParts<{parts}>>⟧.parts"
-    )?;
-    let its = its.as_str();
-    let body = match subject.item.notes.claim {
-        Some(claim) => claimed_words(alloc, subject, its, claim)?,
-        None => words_by_parts(alloc, subject, its)?,
-    };
-    format!(in alloc; "{head}{body}}}\n\n")
 }
 
-/// The words of a type by its parts, of which a container claims what it claims for them.
-fn words_by_parts(
-    alloc: Global,
-    subject: &Subject<'_, '_>,
-    its: &str,
-) -> Result<String, AllocError> {
-    let parts = subject.parts.as_str();
-    let promise = format!(in alloc; "result ≡ ⟦<{parts} as Wire>⟧.words.claim")?;
-    let opening = opening_of(alloc, subject, promise.as_str())?;
-    let path = subject.path(alloc, subject.parts.as_str())?;
-    format!(in alloc;
-        "    ghost use Rattle.bincode.specs.TypeWords.{{words_by}};
+";
 
-    ghost words = {{ {its} }};
-
-    fn claim_size() -> usize{opening}        {path}::claim_size()
-    }}
-"
-    )
+/// A law, and how it is told.
+struct Law {
+    /// The name of its trait.
+    name: &'static str,
+    /// Its name in those of functions.
+    word: &'static str,
+    /// What is promised.
+    promise: &'static str,
+    /// The call that tells it of a type by its parts.
+    call: &'static str,
 }
 
-/// The words of a type by its parts, of which a container claims what a note says.
-fn claimed_words(
-    alloc: Global,
-    subject: &Subject<'_, '_>,
-    its: &str,
-    claim: u32,
-) -> Result<String, AllocError> {
-    let promise = format!(in alloc; "result ≡ {claim}")?;
-    let opening = opening_of(alloc, subject, promise.as_str())?;
-    format!(in alloc;
-        "    ghost use Rattle.std.proofs.Common.{{arith}};
-    ghost use Rattle.bincode.specs.TypeWords.{{with_claim, words_by}};
+const PLAIN: Law = Law {
+    name: "Plain",
+    word: "plain",
+    promise: "PlainWords ⟦<$itself$ as Wire>⟧.words",
+    call: "plain_by_parts::<$parts$, $itself$>()",
+};
 
-    ghost words = {{ with_claim {claim} (omega arith) ({its}) }};
+const EXACT: Law = Law {
+    name: "Exact",
+    word: "exact",
+    promise: "ExactWords ⟦<$itself$ as Wire>⟧.words ⟦<$itself$ as PartialEq>⟧.eq",
+    call: "exact_by_parts::<$parts$, $itself$>()",
+};
 
-    fn claim_size() -> usize{opening}        {claim}
-    }}
-"
-    )
-}
+/// That of a struct of two fields or more.
+const EXACT_ROW: Law = Law {
+    name: "Exact",
+    word: "exact",
+    promise: "ExactWords ⟦<$itself$ as Wire>⟧.words ⟦<$itself$ as PartialEq>⟧.eq",
+    call: "exact_by_fields::<$parts$, $itself$, _>()",
+};
 
-/// What stands behind the head of a function, up to its body. A type with a lifetime writes out what is promised.
-pub fn opening_of(
-    alloc: Global,
-    subject: &Subject<'_, '_>,
-    promise: &str,
-) -> Result<String, AllocError> {
-    if subject.item.is_borrowing() {
-        return format!(in alloc; "\n        ensures {{ {promise} }}\n    {{\n");
+const CANONICAL: Law = Law {
+    name: "Canonical",
+    word: "canonical",
+    promise: "CanonicalWords ⟦<$itself$ as Wire>⟧.words",
+    call: "canonical_by_parts::<$parts$, $itself$>()",
+};
+
+const WRITABLE: Law = Law {
+    name: "Writable",
+    word: "writable",
+    promise: "AlwaysWritable ⟦<$itself$ as Wire>⟧.words",
+    call: "writable_by_parts::<$parts$, $itself$>()",
+};
+
+const INHABITED: Law = Law {
+    name: "Inhabited",
+    word: "inhabited",
+    promise: "HasSomeWord ⟦<$itself$ as Wire>⟧.words",
+    call: "$parts_path$::tell_inhabited()",
+};
+
+/// Adds the `impl` that says what the words of a type are.
+pub fn add_words(out: &mut Text, item: &Item<'_>) {
+    if is_by_variants(item) {
+        add_words_by_variants(out, item);
+        return;
     }
-    String::from_str(alloc, " {\n")
+    add_head(out, item, "", "Wire", "Wire");
+    match item.notes.claim {
+        Some(claim) => add_claimed_words(out, item, claim),
+        None => add_words_by_parts(out, item),
+    }
+    out.add("    }\n}\n\n");
 }
 
-/// The laws that a type keeps, and those that its notes ask for.
-pub fn laws(alloc: Global, subject: &Subject<'_, '_>, keeps: Keeps) -> Result<String, AllocError> {
-    let mut text = String::new(alloc);
+/// Adds the words of a type by its parts, of which a container claims what it claims for them.
+fn add_words_by_parts(out: &mut Text, item: &Item<'_>) {
+    out.add("    ghost use Rattle.bincode.specs.TypeWords.{words_by};\n\n    ghost words = { ");
+    fill(out, item, WORDS);
+    out.add(" };\n\n    fn claim_size() -> usize");
+    add_opening(out, item, "result ≡ ⟦<$parts$ as Wire>⟧.words.claim");
+    fill(out, item, "        $parts_path$::claim_size()\n");
+}
+
+/// Adds the words of a type by its parts, of which a container claims what a note says.
+fn add_claimed_words(out: &mut Text, item: &Item<'_>, claim: u32) {
+    let mut promise = out.beside();
+    promise.add("result ≡ ");
+    promise.add_number(u64::from(claim));
+    out.add(CLAIMED_USES);
+    out.add_number(u64::from(claim));
+    out.add(" (omega arith) (");
+    fill(out, item, WORDS);
+    out.add(") };\n\n    fn claim_size() -> usize");
+    add_opening(out, item, promise.as_str());
+    out.add("        ");
+    out.add_number(u64::from(claim));
+    out.add("\n");
+}
+
+/// Adds what stands behind the head of a function, up to its body. A type with a lifetime writes out what is promised.
+pub fn add_opening(out: &mut Text, item: &Item<'_>, promise: &str) {
+    if item.is_borrowing() {
+        out.add("\n        ensures { ");
+        fill(out, item, promise);
+        out.add(" }\n    {\n");
+    } else {
+        out.add(" {\n");
+    }
+}
+
+/// Adds the laws that a type keeps, and those that its notes ask for.
+pub fn add_laws(out: &mut Text, item: &Item<'_>) {
+    let keeps = item.keeps;
     if keeps.plain {
-        text.push_str(plain(alloc, subject)?.as_str())?;
+        add_law(out, item, &PLAIN);
     }
     if keeps.exact {
-        text.push_str(exact(alloc, subject)?.as_str())?;
+        add_law(out, item, if is_row(item) { &EXACT_ROW } else { &EXACT });
     }
     if keeps.canonical {
-        text.push_str(canonical(alloc, subject)?.as_str())?;
+        add_law(out, item, &CANONICAL);
     }
-    if subject.item.notes.asks_for(Trait::Writable) {
-        text.push_str(writable(alloc, subject)?.as_str())?;
-    }
-    if subject.item.notes.asks_for(Trait::Inhabited) {
-        text.push_str(inhabited(alloc, subject)?.as_str())?;
-    }
-    if subject.item.notes.asks_for(Trait::ConstantCharge) {
-        text.push_str(constant_charge(alloc, subject)?.as_str())?;
-    }
-    if subject.item.notes.asks_for(Trait::Described) {
-        text.push_str(described(alloc, subject)?.as_str())?;
-    }
-    Ok(text)
+    add_noted(out, item);
 }
 
-fn plain(alloc: Global, subject: &Subject<'_, '_>) -> Result<String, AllocError> {
-    let parts = subject.parts.as_str();
-    let itself = subject.itself.as_str();
-    let promise = format!(in alloc; "PlainWords ⟦<{itself} as Wire>⟧.words")?;
-    let call = if subject.variants.is_empty() {
-        format!(in alloc; "plain_by_parts::<{parts}, {itself}>()")?
-    } else {
-        told_by_variants(alloc, subject, "plain")?
-    };
-    law(
-        alloc,
-        subject,
-        "Plain",
-        "tell_plain",
-        promise.as_str(),
-        call.as_str(),
-    )
-}
-
-fn exact(alloc: Global, subject: &Subject<'_, '_>) -> Result<String, AllocError> {
-    let parts = subject.parts.as_str();
-    let itself = subject.itself.as_str();
-    let promise = format!(in alloc;
-        "ExactWords ⟦<{itself} as Wire>⟧.words ⟦<{itself} as PartialEq>⟧.eq"
-    )?;
-    let call = if is_row(subject) {
-        format!(in alloc; "exact_by_fields::<{parts}, {itself}, _>()")?
-    } else if subject.variants.is_empty() {
-        format!(in alloc; "exact_by_parts::<{parts}, {itself}>()")?
-    } else {
-        told_by_variants(alloc, subject, "exact")?
-    };
-    law(
-        alloc,
-        subject,
-        "Exact",
-        "tell_exact",
-        promise.as_str(),
-        call.as_str(),
-    )
+/// Adds the laws that the notes of a type ask for.
+fn add_noted(out: &mut Text, item: &Item<'_>) {
+    if item.notes.asks_for(Trait::Writable) {
+        add_law(out, item, &WRITABLE);
+    }
+    if item.notes.asks_for(Trait::Inhabited) {
+        add_law(out, item, &INHABITED);
+    }
+    if item.notes.asks_for(Trait::ConstantCharge) {
+        add_head(out, item, "", "ConstantCharge", "ConstantCharge");
+        fill(out, item, COSTS);
+    }
+    if item.notes.asks_for(Trait::Described) {
+        add_described(out, item);
+    }
 }
 
 /// Whether a type is a struct of two fields or more.
-fn is_row(subject: &Subject<'_, '_>) -> bool {
-    match &subject.item.kind {
+fn is_row(item: &Item<'_>) -> bool {
+    match &item.kind {
         Kind::Struct(fields) => fields.as_slice().len() > 1,
         Kind::Enum(_) => false,
     }
 }
 
-fn canonical(alloc: Global, subject: &Subject<'_, '_>) -> Result<String, AllocError> {
-    let parts = subject.parts.as_str();
-    let itself = subject.itself.as_str();
-    let promise = format!(in alloc; "CanonicalWords ⟦<{itself} as Wire>⟧.words")?;
-    let call = if subject.variants.is_empty() {
-        format!(in alloc; "canonical_by_parts::<{parts}, {itself}>()")?
+/// Adds a law that is told by one call, or by one for each variant of an enum.
+fn add_law(out: &mut Text, item: &Item<'_>, law: &Law) {
+    add_head(out, item, "", law.name, law.name);
+    out.add("    fn tell_");
+    out.add(law.word);
+    out.add("()");
+    add_opening(out, item, law.promise);
+    out.add("        ");
+    if is_by_variants(item) {
+        add_told_by_variants(out, item, law.word);
     } else {
-        told_by_variants(alloc, subject, "canonical")?
-    };
-    law(
-        alloc,
-        subject,
-        "Canonical",
-        "tell_canonical",
-        promise.as_str(),
-        call.as_str(),
-    )
-}
-
-fn writable(alloc: Global, subject: &Subject<'_, '_>) -> Result<String, AllocError> {
-    let parts = subject.parts.as_str();
-    let itself = subject.itself.as_str();
-    let promise = format!(in alloc; "AlwaysWritable ⟦<{itself} as Wire>⟧.words")?;
-    let call = if subject.variants.is_empty() {
-        format!(in alloc; "writable_by_parts::<{parts}, {itself}>()")?
-    } else {
-        told_by_variants(alloc, subject, "writable")?
-    };
-    law(
-        alloc,
-        subject,
-        "Writable",
-        "tell_writable",
-        promise.as_str(),
-        call.as_str(),
-    )
-}
-
-fn inhabited(alloc: Global, subject: &Subject<'_, '_>) -> Result<String, AllocError> {
-    let itself = subject.itself.as_str();
-    let promise = format!(in alloc; "HasSomeWord ⟦<{itself} as Wire>⟧.words")?;
-    let path = subject.path(alloc, subject.parts.as_str())?;
-    let call = format!(in alloc; "{path}::tell_inhabited()")?;
-    law(
-        alloc,
-        subject,
-        "Inhabited",
-        "tell_inhabited",
-        promise.as_str(),
-        call.as_str(),
-    )
-}
-
-/// A law that is told by one call. A type with a lifetime writes out what is promised.
-fn law(
-    alloc: Global,
-    subject: &Subject<'_, '_>,
-    law: &str,
-    tells: &str,
-    promise: &str,
-    call: &str,
-) -> Result<String, AllocError> {
-    let head = subject.head(alloc, "", law, law)?;
-    let opening = opening_of(alloc, subject, promise)?;
-    format!(in alloc; "{head}    fn {tells}(){opening}        {call};\n    }}\n}}\n\n")
-}
-
-fn constant_charge(alloc: Global, subject: &Subject<'_, '_>) -> Result<String, AllocError> {
-    let head = subject.head(alloc, "", "ConstantCharge", "ConstantCharge")?;
-    let parts = subject.parts.as_str();
-    let path = subject.path(alloc, subject.parts.as_str())?;
-    format!(in alloc;
-        "{head}    ghost cost = {{ ⟦<{parts} as ConstantCharge>⟧.cost }};
-
-    ghost peak = {{ ⟦<{parts} as ConstantCharge>⟧.peak }};
-
-    fn tell_costs() {{
-        {path}::tell_costs();
-    }}
-}}
-
-"
-    )
-}
-
-fn described(alloc: Global, subject: &Subject<'_, '_>) -> Result<String, AllocError> {
-    let head = subject.head(alloc, "", "Described", "Described")?;
-    let body = if subject.variants.is_empty() {
-        let path = subject.path(alloc, subject.parts.as_str())?;
-        format!(in alloc; "        {path}::shape(alloc)\n")?
-    } else {
-        described_variants(alloc, subject)?
-    };
-    format!(in alloc; "{head}    fn shape(alloc: Global) -> Option<Shape> {{\n{body}    }}\n}}\n\n")
-}
-
-/// What the shape of an enum is made by that is written variant by variant.
-fn described_variants(alloc: Global, subject: &Subject<'_, '_>) -> Result<String, AllocError> {
-    let itself = subject.itself.as_str();
-    let mut lines = format!(in alloc; "        let shapes = start_variants::<{itself}>(alloc);\n")?;
-    let mut number = 0u32;
-    for part in subject.variants.iter() {
-        let of = part.itself.as_str();
-        let line = format!(in alloc;
-            "        let shapes = put_variant::<{itself}, {of}>(alloc, {number}, shapes)?;\n"
-        )?;
-        lines.push_str(line.as_str())?;
-        number = number.saturating_add(1);
+        fill(out, item, law.call);
     }
-    format!(in alloc; "{lines}        Some(describe_variants::<{itself}>({number}, shapes))\n")
+    out.add(";\n    }\n}\n\n");
+}
+
+/// Adds how a type tells its shape.
+fn add_described(out: &mut Text, item: &Item<'_>) {
+    add_head(out, item, "", "Described", "Described");
+    out.add("    fn shape(alloc: Global) -> Option<Shape> {\n");
+    if is_by_variants(item) {
+        add_described_variants(out, item);
+    } else {
+        fill(out, item, "        $parts_path$::shape(alloc)\n");
+    }
+    out.add("    }\n}\n\n");
+}
+
+/// Adds what the shape of an enum is made by that is written variant by variant.
+fn add_described_variants(out: &mut Text, item: &Item<'_>) {
+    fill(
+        out,
+        item,
+        "        let shapes = start_variants::<$itself$>(alloc);\n",
+    );
+    let variants = item.variants();
+    for (at, variant) in variants.iter().enumerate() {
+        fill_variant(
+            out,
+            item,
+            variant,
+            "        let shapes = put_variant::<$itself$, $part$>(alloc, ",
+        );
+        out.add_number(at as u64);
+        out.add(", shapes)?;\n");
+    }
+    fill(out, item, "        Some(describe_variants::<$itself$>(");
+    out.add_number(variants.len() as u64);
+    out.add(", shapes))\n");
 }
