@@ -8,6 +8,8 @@ mod commands;
 #[cfg(test)]
 mod described;
 #[cfg(test)]
+mod frames;
+#[cfg(test)]
 mod records;
 #[cfg(test)]
 mod stocks;

@@ -1,0 +1,2 @@
+pub mod Crc
+pub mod CrcLaws

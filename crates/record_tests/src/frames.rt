@@ -1,0 +1,114 @@
+//! Frames: the published checks, worked frames, and bytes that are no frame.
+
+use crc32c::checksum;
+use frames::{Frame, HEADER, header, read_frame};
+
+/// The words of the worked frames of docs/FORMAT.md, and their headers.
+const WORKED: [(&[u8], [u8; HEADER]); 3] = [
+    (&[], [0, 0, 0, 0, 199, 75, 103, 72]),
+    (&[7], [1, 0, 0, 0, 114, 125, 169, 169]),
+    (
+        &[251, 44, 1, 2, 97, 98, 2, 5, 6],
+        [9, 0, 0, 0, 50, 165, 221, 120],
+    ),
+];
+
+/// The frame of the third of them.
+const RECORD: [u8; 17] = [
+    9, 0, 0, 0, 50, 165, 221, 120, 251, 44, 1, 2, 97, 98, 2, 5, 6,
+];
+
+/// Bytes that count up from 0.
+fn counted_up() -> [u8; 32] {
+    let mut bytes = [0; 32];
+    for i in 0..32 {
+        bytes[i] = i as u8;
+    }
+    bytes
+}
+
+/// Bytes that count down to 0.
+fn counted_down() -> [u8; 32] {
+    let mut bytes = [0; 32];
+    for i in 0..32 {
+        bytes[i] = 31 - i as u8;
+    }
+    bytes
+}
+
+/// RFC 3720, B.4, and the message that catalogues of such checks go by.
+#[test]
+fn makes_the_published_checks(rt: HostRuntime) {
+    assert_eq!(rt; checksum(&[0; 32]), 0x8A91_36AA);
+    assert_eq!(rt; checksum(&[255; 32]), 0x62A8_AB43);
+    assert_eq!(rt; checksum(&counted_up()), 0x46DD_794E);
+    assert_eq!(rt; checksum(&counted_down()), 0x113F_DB5C);
+    assert_eq!(rt; checksum(b"123456789"), 0xE306_9283);
+}
+
+/// Whether a word has this header, and is read from behind it with other bytes after it.
+fn is_framed(word: &[u8], wanted: &[u8; HEADER]) -> bool {
+    let mut bytes = [255; 32];
+    let end = HEADER + word.len();
+    if end > bytes.len() {
+        return false;
+    }
+    bytes[..HEADER].copy_from_slice(wanted);
+    bytes[HEADER..end].copy_from_slice(word);
+    let is_whole =
+        matches!(read_frame(&bytes, 16), Frame::Whole(read, size) if read == word && size == end);
+    header(word) == Some(*wanted) && is_whole
+}
+
+#[test]
+fn frames_words(rt: HostRuntime) {
+    for (word, wanted) in &WORKED {
+        assert!(rt; is_framed(word, wanted), "{word:?}");
+    }
+}
+
+/// Whether one changed bit of a frame is told.
+fn tells_bit(place: usize, bit: u8) -> bool {
+    let mut bytes = RECORD;
+    if place >= bytes.len() {
+        return false;
+    }
+    bytes[place] = bytes[place] ^ bit;
+    !matches!(read_frame(&bytes, 16), Frame::Whole(..) | Frame::End)
+}
+
+#[test]
+fn tells_each_changed_bit(rt: HostRuntime) {
+    for place in 0..RECORD.len() {
+        for bit in [1, 2, 4, 8, 16, 32, 64, 128] {
+            assert!(rt; tells_bit(place, bit), "{place}, {bit}");
+        }
+    }
+}
+
+/// How a front of this length is read.
+fn reads_front(length: usize) -> bool {
+    match RECORD.get(..length) {
+        Some(front) if front.is_empty() => matches!(read_frame(front, 16), Frame::End),
+        Some(front) if front.len() == RECORD.len() => {
+            matches!(read_frame(front, 16), Frame::Whole(_, 17))
+        }
+        Some(front) => matches!(read_frame(front, 16), Frame::Torn),
+        None => false,
+    }
+}
+
+#[test]
+fn tells_each_front(rt: HostRuntime) {
+    for length in 0..=RECORD.len() {
+        assert!(rt; reads_front(length), "{length}");
+    }
+}
+
+#[test]
+fn tells_what_is_no_frame(rt: HostRuntime) {
+    assert!(rt; matches!(read_frame(&[0; 9], 16), Frame::Damaged(8)));
+    assert!(rt; matches!(read_frame(&[255; 64], 16), Frame::TooLong(u32::MAX)));
+    assert!(rt; matches!(read_frame(&RECORD, 8), Frame::TooLong(9)));
+    assert!(rt; matches!(read_frame(&RECORD, 9), Frame::Whole(_, 17)));
+}
