@@ -10,7 +10,7 @@ chosen-bounded : (b : Bool) (x y : ℕ) → x < 2 ^ 32 → y < 2 ^ 32 → (if b 
 chosen-bounded true x y p q = p
 chosen-bounded false x y p q = q
 
-divided-bounded : (s : ℕ) → s < 2 ^ 32 → divided s < 2 ^ 32
+pub divided-bounded : (s : ℕ) → s < 2 ^ 32 → divided s < 2 ^ 32
 divided-bounded s h =
     let half : s / 2 < 2 ^ 32 = omega (arith, h) in
     chosen-bounded (s % 2 == 1) (bit_xor (s / 2) polynomial) (s / 2) (xor_lt 32 (s / 2) polynomial half (omega arith)) half

@@ -1,2 +1,4 @@
 pub mod Crc
 pub mod CrcLaws
+pub mod Linear
+pub mod Bursts

@@ -1,16 +1,19 @@
-//! Frames around words: each has a length and a check before its word, so that a reader tells a word that was cut, damaged
-//! or never written from a whole one. docs/FORMAT.md has the format.
+//! Frames around words: each has a length before its word and a check after it, so that a reader tells a word that was
+//! cut, damaged or never written from a whole one. docs/FORMAT.md has the format.
 #![tactic(auto)]
 
-ghost use Rattle.std.specs.Prelude.{◌≡◌, ◌↔◌, ℕ, ◌+◌, ◌^◌, ◌<◌, ◌≤◌, take, drop, length, ◌++◌, IfSome, IsSome};
+ghost use Rattle.std.specs.Prelude.{◌≡◌, ◌↔◌, ◌^◌, ◌<◌, length, ◌++◌, IfSome, IsSome};
 ghost use Rattle.std.specs.Int.{w32, from_le_bytes};
 ghost use Rattle.crc32c.specs.Crc.{crc32c};
 ghost use Rattle.frames.specs.Frames.{Reads, frame};
 
 use crc32c::Crc32c;
 
-/// The bytes of a header: a length and a check.
-pub const HEADER: usize = 8;
+/// The number of bytes of a length, and of a check.
+const FIELD: usize = 4;
+
+/// The number of bytes that a frame has beside its word: a length before it, and a check after it.
+pub const OVERHEAD: usize = 2 * FIELD;
 
 /// What stands where a frame is to begin.
 #[derive(Clone, Copy, Debug, Drop)]
@@ -24,7 +27,7 @@ pub enum Frame<'a> {
     /// The check does not fit the length and the word. The next frame begins after this number of bytes, if the length
     /// is not what was damaged.
     Damaged(usize),
-    /// A whole frame: its word, and its size in bytes with its header.
+    /// A whole frame: its word, and the number of bytes of the frame.
     Whole(&'a [u8], usize),
 }
 
@@ -35,50 +38,45 @@ pub fn read_frame<'a>(bytes: &'a [u8], most: u32) -> Frame<'a>
     if bytes.is_empty() {
         return Frame::End;
     }
-    if bytes.len() < HEADER {
+    if bytes.len() < FIELD {
         return Frame::Torn;
     }
-    let length = number_at(bytes, 0);
+    let (field, rest) = bytes.split_at(FIELD);
+    let length = number_of(field);
     if length > most {
         return Frame::TooLong(length);
     }
-    if bytes.len() - HEADER < length as usize {
+    let count = length as usize;
+    if rest.len() < FIELD || rest.len() - FIELD < count {
         return Frame::Torn;
     }
-    let size = HEADER + length as usize;
-    let word = &bytes[HEADER..size];
-    if number_at(bytes, 4) != check(&bytes[..4], word) {
+    let size = OVERHEAD + count;
+    let (word, after) = rest.split_at(count);
+    if number_of(&after[..FIELD]) != check(field, word) {
         return Frame::Damaged(size);
     }
     Frame::Whole(word, size)
 }
 
-/// The header of a word's frame; `None` where the length of the word is above 32 bits.
-pub fn header(word: &[u8]) -> Option<[u8; HEADER]>
-    ensures frame { IfSome result (λ header. header ++ word.now ≡ frame word.now) }
+/// What stands before a word in its frame, and after it: its length, and the check. `None` where the length is above
+/// 32 bits.
+pub fn around(word: &[u8]) -> Option<([u8; 4], [u8; 4])>
+    ensures frame { IfSome result (λ around. around.0 ++ (word.now ++ around.1) ≡ frame word.now) }
     ensures long { IsSome result ↔ (length word.now < 2 ^ 32) }
 {
     if word.len() > u32::MAX as usize {
         return None;
     }
-    let length = (word.len() as u32).to_le_bytes();
-    let sum = check(&length, word).to_le_bytes();
-    Some([
-        length[0], length[1], length[2], length[3], sum[0], sum[1], sum[2], sum[3],
-    ])
+    let field = (word.len() as u32).to_le_bytes();
+    Some((field, check(&field, word).to_le_bytes()))
 }
 
 /// Four bytes as a number, the lowest first.
-fn number_at(bytes: &[u8], place: usize) -> u32
-    requires { place + 4 ≤ length bytes.now }
-    ensures { result ≡ from_le_bytes w32 (take 4 (drop place bytes.now)) }
+fn number_of(field: &[u8]) -> u32
+    requires { length field.now ≡ 4 }
+    ensures { result ≡ from_le_bytes w32 field.now }
 {
-    u32::from_le_bytes([
-        bytes[place],
-        bytes[place + 1],
-        bytes[place + 2],
-        bytes[place + 3],
-    ])
+    u32::from_le_bytes([field[0], field[1], field[2], field[3]])
 }
 
 /// The check of a length and a word.

@@ -1,21 +1,22 @@
 //! Frames: the published checks, worked frames, and bytes that are no frame.
 
 use crc32c::checksum;
-use frames::{Frame, HEADER, header, read_frame};
+use frames::{Frame, OVERHEAD, around, read_frame};
 
-/// The words of the worked frames of docs/FORMAT.md, and their headers.
-const WORKED: [(&[u8], [u8; HEADER]); 3] = [
-    (&[], [0, 0, 0, 0, 199, 75, 103, 72]),
-    (&[7], [1, 0, 0, 0, 114, 125, 169, 169]),
+/// The words of the worked frames of docs/FORMAT.md, and what stands before them and after them.
+const WORKED: [(&[u8], [u8; 4], [u8; 4]); 3] = [
+    (&[], [0, 0, 0, 0], [199, 75, 103, 72]),
+    (&[7], [1, 0, 0, 0], [114, 125, 169, 169]),
     (
         &[251, 44, 1, 2, 97, 98, 2, 5, 6],
-        [9, 0, 0, 0, 50, 165, 221, 120],
+        [9, 0, 0, 0],
+        [50, 165, 221, 120],
     ),
 ];
 
 /// The frame of the third of them.
 const RECORD: [u8; 17] = [
-    9, 0, 0, 0, 50, 165, 221, 120, 251, 44, 1, 2, 97, 98, 2, 5, 6,
+    9, 0, 0, 0, 251, 44, 1, 2, 97, 98, 2, 5, 6, 50, 165, 221, 120,
 ];
 
 /// Bytes that count up from 0.
@@ -46,24 +47,25 @@ fn makes_the_published_checks(rt: HostRuntime) {
     assert_eq!(rt; checksum(b"123456789"), 0xE306_9283);
 }
 
-/// Whether a word has this header, and is read from behind it with other bytes after it.
-fn is_framed(word: &[u8], wanted: &[u8; HEADER]) -> bool {
+/// Whether a word stands between these bytes in its frame, and is read from there with other bytes after it.
+fn is_framed(word: &[u8], before: &[u8; 4], after: &[u8; 4]) -> bool {
     let mut bytes = [255; 32];
-    let end = HEADER + word.len();
-    if end > bytes.len() {
+    let end = 4 + word.len();
+    if end + 4 > bytes.len() {
         return false;
     }
-    bytes[..HEADER].copy_from_slice(wanted);
-    bytes[HEADER..end].copy_from_slice(word);
+    bytes[..4].copy_from_slice(before);
+    bytes[4..end].copy_from_slice(word);
+    bytes[end..end + 4].copy_from_slice(after);
     let is_whole =
-        matches!(read_frame(&bytes, 16), Frame::Whole(read, size) if read == word && size == end);
-    header(word) == Some(*wanted) && is_whole
+        matches!(read_frame(&bytes, 16), Frame::Whole(read, size) if read == word && size == end + 4);
+    around(word) == Some((*before, *after)) && is_whole
 }
 
 #[test]
 fn frames_words(rt: HostRuntime) {
-    for (word, wanted) in &WORKED {
-        assert!(rt; is_framed(word, wanted), "{word:?}");
+    for (word, before, after) in &WORKED {
+        assert!(rt; is_framed(word, before, after), "{word:?}");
     }
 }
 
@@ -107,7 +109,7 @@ fn tells_each_front(rt: HostRuntime) {
 
 #[test]
 fn tells_what_is_no_frame(rt: HostRuntime) {
-    assert!(rt; matches!(read_frame(&[0; 9], 16), Frame::Damaged(8)));
+    assert!(rt; matches!(read_frame(&[0; 9], 16), Frame::Damaged(OVERHEAD)));
     assert!(rt; matches!(read_frame(&[255; 64], 16), Frame::TooLong(u32::MAX)));
     assert!(rt; matches!(read_frame(&RECORD, 8), Frame::TooLong(9)));
     assert!(rt; matches!(read_frame(&RECORD, 9), Frame::Whole(_, 17)));
