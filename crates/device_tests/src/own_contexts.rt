@@ -1,6 +1,5 @@
 //! Contexts of one's own: each call passes its context on, and uses it once for each value that asks for it.
 
-use crate::asserts::none_wrong;
 use bincode::de::{BorrowDecode, BorrowDecoder, BorrowedBytes, Decode, Decoder, Sequential};
 use bincode::error::DecodeError;
 use bincode::{
@@ -9,7 +8,6 @@ use bincode::{
 };
 use std::alloc::Global;
 use std::cell::Cell;
-use test_helpers::rows::first_wrong;
 
 /// A byte, and how many were read by its context before it.
 #[derive(Clone, Copy, PartialEq)]
@@ -96,42 +94,6 @@ fn are_in_order(several: &Several) -> bool {
         && is_last
 }
 
-/// What comes of reading a word with a context, by each call.
-#[derive(Drop)]
-struct Outcomes<T> {
-    by_slice: Result<(T, usize), DecodeError>,
-    by_lending: Result<(T, usize), DecodeError>,
-    /// With how many bytes the stream has left.
-    by_stream: (Result<T, DecodeError>, usize),
-    /// By the call for slices, of the first three bytes of the word.
-    cut: Result<(T, usize), DecodeError>,
-}
-
-/// The contexts of the calls.
-#[derive(Drop)]
-struct Counts {
-    by_slice: Cell<u32>,
-    by_lending: Cell<u32>,
-    by_stream: Cell<u32>,
-    cut: Cell<u32>,
-}
-
-/// Reads the word by each call.
-fn outcomes_of<'c, T>(alloc: Global, counts: &'c Counts) -> Outcomes<T>
-where
-    T: Decode<&'c Cell<u32>> + BorrowDecode<&'static [u8], &'c Cell<u32>>,
-{
-    let config = config::standard();
-    let mut stream = WORD.as_slice();
-    let read = decode_from_std_read_with_context(alloc, &mut stream, config, &counts.by_stream);
-    Outcomes {
-        by_slice: decode_from_slice_with_context(alloc, &WORD, config, &counts.by_slice),
-        by_lending: borrow_decode_from_slice_with_context(alloc, &WORD, config, &counts.by_lending),
-        by_stream: (read, stream.len()),
-        cut: decode_from_slice_with_context(alloc, &WORD[..3], config, &counts.cut),
-    }
-}
-
 /// Whether the whole word was read as its six values, and the context counted six.
 fn is_read(read: Result<(Several, usize), DecodeError>, count: &Cell<u32>) -> bool {
     match read {
@@ -140,35 +102,54 @@ fn is_read(read: Result<(Several, usize), DecodeError>, count: &Cell<u32>) -> bo
     }
 }
 
-/// By which call the six values are not given, or the context did not count six; or two, where the word ends behind its
-/// second value.
-fn first_wrong_call(alloc: Global) -> Option<&'static str> {
-    let counts = Counts {
-        by_slice: Cell::new(0),
-        by_lending: Cell::new(0),
-        by_stream: Cell::new(0),
-        cut: Cell::new(0),
-    };
-    let outcomes = outcomes_of::<Several>(alloc, &counts);
-    let (of_stream, left) = outcomes.by_stream;
-    let of_stream = of_stream.map(|several| (several, 8usize.saturating_sub(left)));
-    let is_cut = matches!(
-        outcomes.cut,
-        Err(DecodeError::UnexpectedEnd { additional: 1 })
+/// Whether the call for slices gives the six values, and leaves a context that counted six.
+fn keeps_by_slice(alloc: Global) -> bool {
+    let count = Cell::new(0u32);
+    let read = decode_from_slice_with_context(alloc, &WORD, config::standard(), &count);
+    is_read(read, &count)
+}
+
+/// Whether the borrowing call does so.
+fn keeps_by_lending(alloc: Global) -> bool {
+    let count = Cell::new(0u32);
+    let read = borrow_decode_from_slice_with_context(alloc, &WORD, config::standard(), &count);
+    is_read(read, &count)
+}
+
+/// Whether the call for streams does so.
+fn keeps_by_stream(alloc: Global) -> bool {
+    let count = Cell::new(0u32);
+    let mut stream = WORD.as_slice();
+    let read: Result<Several, DecodeError> = decode_from_std_read_with_context(
+        alloc,
+        &mut stream,
+        config::standard(),
+        &count,
     );
-    let rows = [
-        ("slice", is_read(outcomes.by_slice, &counts.by_slice)),
-        ("lending", is_read(outcomes.by_lending, &counts.by_lending)),
-        ("stream", is_read(of_stream, &counts.by_stream)),
-        ("a word that is cut", is_cut && counts.cut.get() == 2),
-    ];
-    first_wrong(&rows)
+    match read {
+        Ok(several) => are_in_order(&several) && count.get() == 6 && stream.is_empty(),
+        Err(_error) => false,
+    }
+}
+
+/// Whether a word that ends after its second value leaves a context that counted two.
+fn counts_up_to_a_fault(alloc: Global) -> bool {
+    let count = Cell::new(0u32);
+    let read: Result<(Several, usize), DecodeError> = decode_from_slice_with_context(
+        alloc,
+        &WORD[..3],
+        config::standard(),
+        &count,
+    );
+    matches!(read, Err(DecodeError::UnexpectedEnd { additional: 1 })) && count.get() == 2
 }
 
 /// Retries once if an allocation is refused.
 #[test]
 fn keeps_its_context(rt: HostRuntime) {
-    if first_wrong_call(rt.alloc()).is_some() {
-        none_wrong(&rt, first_wrong_call(rt.alloc()));
-    }
+    let alloc = rt.alloc();
+    assert!(rt; keeps_by_slice(alloc) || keeps_by_slice(alloc));
+    assert!(rt; keeps_by_lending(alloc) || keeps_by_lending(alloc));
+    assert!(rt; keeps_by_stream(alloc) || keeps_by_stream(alloc));
+    assert!(rt; counts_up_to_a_fault(alloc) || counts_up_to_a_fault(alloc));
 }
