@@ -8,7 +8,7 @@ mod commands;
 #[cfg(test)]
 mod described;
 #[cfg(test)]
-mod frames;
+mod framed;
 #[cfg(test)]
 mod records;
 #[cfg(test)]
