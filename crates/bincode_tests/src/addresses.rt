@@ -156,22 +156,21 @@ where
     keeps_lent::<T>(alloc, word) && keeps::<T>(alloc, word) && T::claim_size() == claim
 }
 
-/// The same of addresses of either kind, of which there is none with the tag 2, as its error tells by this name.
+/// The same of an address of each kind, and whether the tag 2, which none has, is refused by this name.
 fn keeps_either<'a, T>(
     alloc: Global,
     [four, six]: [&'a [u8]; 2],
     claim: usize,
     name: &str,
-) -> Option<&'static str>
+) -> [bool; 3]
 where
     T: Encode + Decode<()> + BorrowDecode<&'a [u8], ()>,
 {
-    let rows = [
-        ("V4", keeps_both_ways::<T>(alloc, four, claim)),
-        ("V6", keeps_both_ways::<T>(alloc, six, claim)),
-        ("a tag that none has", refuses_tag::<T>(alloc, 2, name, 1)),
-    ];
-    first_wrong(&rows)
+    [
+        keeps_both_ways::<T>(alloc, four, claim),
+        keeps_both_ways::<T>(alloc, six, claim),
+        refuses_tag::<T>(alloc, 2, name, 1),
+    ]
 }
 
 #[test]
@@ -202,15 +201,26 @@ fn keeps_addresses_of_either_kind(rt: HostRuntime) {
         &[0, 1, 2, 3, 4],
         &[1, 1, 2, 3, 4, 5, 6, 7, 8, 9, 10, 11, 12, 13, 14, 15, 16],
     ];
-    none_wrong(&rt, keeps_either::<IpAddr>(alloc, words, 20, "IpAddr"));
+    let [four, six, tag] = keeps_either::<IpAddr>(alloc, words, 20, "IpAddr");
     let words: [&[u8]; 2] = [
         &[0, 1, 2, 3, 4, 80],
         &[1, 1, 2, 3, 4, 5, 6, 7, 8, 9, 10, 11, 12, 13, 14, 15, 16, 80],
     ];
-    none_wrong(
-        &rt,
-        keeps_either::<SocketAddr>(alloc, words, 22, "SocketAddr"),
+    let [four_port, six_port, tag_port] = keeps_either::<SocketAddr>(
+        alloc,
+        words,
+        22,
+        "SocketAddr",
     );
+    let rows = [
+        ("IpAddr of V4", four),
+        ("IpAddr of V6", six),
+        ("IpAddr of a tag that none has", tag),
+        ("SocketAddr of V4", four_port),
+        ("SocketAddr of V6", six_port),
+        ("SocketAddr of a tag that none has", tag_port),
+    ];
+    all_hold(&rt, &rows);
 }
 
 /// Twice the address ::1 with the port 1, each followed by a number.
