@@ -3,15 +3,11 @@
 use crc32c::checksum;
 use frames::{Frame, OVERHEAD, around, read_frame};
 
-/// The words of the worked frames of docs/FORMAT.md, and what stands before them and after them.
-const WORKED: [(&[u8], [u8; 4], [u8; 4]); 3] = [
-    (&[], [0, 0, 0, 0], [199, 75, 103, 72]),
-    (&[7], [1, 0, 0, 0], [114, 125, 169, 169]),
-    (
-        &[251, 44, 1, 2, 97, 98, 2, 5, 6],
-        [9, 0, 0, 0],
-        [50, 165, 221, 120],
-    ),
+/// The words of the worked frames of docs/FORMAT.md, and the frames.
+const WORKED: [(&[u8], &[u8]); 3] = [
+    (&[], &[0, 0, 0, 0, 199, 75, 103, 72]),
+    (&[7], &[1, 0, 0, 0, 7, 114, 125, 169, 169]),
+    (&[251, 44, 1, 2, 97, 98, 2, 5, 6], &RECORD),
 ];
 
 /// The frame of the third of them.
@@ -47,26 +43,30 @@ fn makes_the_published_checks(rt: HostRuntime) {
     assert_eq!(rt; checksum(b"123456789"), 0xE306_9283);
 }
 
-/// Whether a word stands between these bytes in its frame, and is read from there with other bytes after it.
-fn is_framed(word: &[u8], before: &[u8; 4], after: &[u8; 4]) -> bool {
-    let mut bytes = [255; 32];
-    let end = 4 + word.len();
-    if end + 4 > bytes.len() {
-        return false;
-    }
-    bytes[..4].copy_from_slice(before);
-    bytes[4..end].copy_from_slice(word);
-    bytes[end..end + 4].copy_from_slice(after);
+/// Whether a word has this frame, and is read from it.
+fn is_framed(word: &[u8], framed: &[u8]) -> bool {
     let is_whole =
-        matches!(read_frame(&bytes, 16), Frame::Whole(read, size) if read == word && size == end + 4);
-    around(word) == Some((*before, *after)) && is_whole
+        matches!(read_frame(framed, 16), Frame::Whole(read, size) if read == word && size == framed.len());
+    match around(word) {
+        Some((before, after)) => is_whole
+            && framed.starts_with(&before)
+            && framed.ends_with(&after),
+        None => false,
+    }
 }
 
 #[test]
 fn frames_words(rt: HostRuntime) {
-    for (word, before, after) in &WORKED {
-        assert!(rt; is_framed(word, before, after), "{word:?}");
+    for (word, framed) in &WORKED {
+        assert!(rt; is_framed(word, framed), "{word:?}");
     }
+}
+
+/// The frame of the byte 7, and other bytes after it.
+#[test]
+fn reads_a_frame_before_other_bytes(rt: HostRuntime) {
+    let bytes = [1, 0, 0, 0, 7, 114, 125, 169, 169, 255, 0];
+    assert!(rt; matches!(read_frame(&bytes, 16), Frame::Whole(&[7], 9)));
 }
 
 /// Whether one changed bit of a frame is told.
