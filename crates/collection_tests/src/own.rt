@@ -1,7 +1,7 @@
 //! Types of one's own, written and read.
 
 use crate::asserts::{all_equal, all_hold, none_wrong};
-use bincode::checked::{encoded_length, round_trip};
+use bincode::checked::{RoundTrip, encoded_length, round_trip};
 use bincode::de::Decode;
 use bincode::de::read::SliceReader;
 use bincode::enc::Encode;
@@ -109,8 +109,9 @@ fn comes_back(alloc: Global, book: &Book) -> bool {
         let Ok(trip) = round_trip(alloc, book, &mut slice, config::standard()) else {
             return false;
         };
-        match trip.read {
-            Ok((again, taken)) => return trip.written == 24 && taken == 24 && again == *book,
+        let RoundTrip { written, read } = trip;
+        match read {
+            Ok((again, taken)) => return written == 24 && taken == 24 && again == *book,
             Err(DecodeError::Memory) => {}
             Err(_) => return false,
         }
