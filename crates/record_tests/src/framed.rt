@@ -47,12 +47,12 @@ fn makes_the_published_checks(rt: HostRuntime) {
 fn is_framed(word: &[u8], framed: &[u8]) -> bool {
     let is_whole =
         matches!(read_frame(framed, 16), Frame::Whole(read, size) if read == word && size == framed.len());
-    match around(word) {
-        Some((before, after)) => is_whole
-            && framed.starts_with(&before)
-            && framed.ends_with(&after),
-        None => false,
-    }
+    let Some(around) = around(word) else {
+        return false;
+    };
+    let before = around.0;
+    let after = around.1;
+    is_whole && framed.starts_with(&before) && framed.ends_with(&after)
 }
 
 #[test]
