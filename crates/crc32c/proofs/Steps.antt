@@ -1,10 +1,10 @@
 -- Eight bits are divided out at once by a table.
-use Rattle.std.specs.Prelude.{◌≡◌, ℕ, zero, suc, ◌+◌, ◌*◌, ◌/◌, ◌%◌, ◌^◌, ◌<◌, ◌==◌, List, [], ◌∷◌, ◌++◌, length, Bool, true, false, ◌&&◌, slice_index_or, bit_xor}
+use Rattle.std.specs.Prelude.{◌≡◌, ℕ, zero, suc, ◌+◌, ◌*◌, ◌/◌, ◌%◌, ◌^◌, ◌<◌, ◌==◌, List, [], ◌∷◌, length, Bool, true, false, ◌&&◌, slice_index_or, bit_xor}
 use Rattle.std.proofs.Common.{◌∙◌, sym, ap, refl, arith, eqb-true}
 use Rattle.std.proofs.lemmas.Nat.{xor_shr, xor_mod, xor_comm}
 use Rattle.std.proofs.Math.Nat.{div-add-mod'}
 use Rattle.std.specs.Int.Bits.{xor_zero_r, xor_shifted}
-use Rattle.crc32c.specs.Crc.{divided_by_bits, after_byte, after_bytes, has_entries}
+use Rattle.crc32c.specs.Crc.{divided_by_bits, after_byte, has_entries}
 use Rattle.crc32c.specs.Linear.{both, xor-bits, high-bits}
 
 -- a state by its low byte and what is above it
@@ -19,10 +19,6 @@ by-table state byte small =
     let none : byte / 256 ≡ 0 = omega (arith, small) in
     let high : bit_xor state byte / 256 ≡ state / 256 = xor_shr state byte 8 ∙ (ap (bit_xor (state / 256)) none ∙ xor_zero_r (state / 256)) in
     sym (by-byte (bit_xor state byte) ∙ both (ap (divided_by_bits 8) low) high)
-
-pub after-append : (state : ℕ) (xs ys : List ℕ) → after_bytes state (xs ++ ys) ≡ after_bytes (after_bytes state xs) ys
-after-append state [] ys = refl
-after-append state (x ∷ xs) ys = after-append (after_byte state x) xs ys
 
 left-true : (s t : Bool) → (s && t) ≡ true → s ≡ true
 left-true true t h = refl

@@ -1,14 +1,14 @@
 -- Each change of at most 32 bits in a row changes the check.
 use Rattle.std.specs.Prelude.{◌≡◌, ◌≢◌, ℕ, zero, suc, ◌+◌, ◌-◌, ◌*◌, ◌/◌, ◌^◌, ◌<◌, List, [], ◌∷◌, ◌++◌, length, bit_xor}
 use Rattle.std.specs.List.{All}
-use Rattle.std.proofs.Common.{◌∙◌, sym, ap, refl, inl, inr, arith}
+use Rattle.std.proofs.Common.{◌∙◌, sym, ap, inl, inr, arith}
 use Rattle.std.proofs.lemmas.List.Elements.{All-head, All-tail}
 use Rattle.std.specs.Int.{w32, to_le_bytes}
 use Rattle.std.proofs.lemmas.Nat.{xor_comm, from_le_bytes-to_le_bytes_4}
 use Rattle.std.proofs.Math.Nat.{eq_of_mul-eq-mul_right, zero-mul}
 use Rattle.std.proofs.lemmas.Nat.{pow_pos}
 use Rattle.std.specs.Int.Bits.{xor_assoc, xor_self, xor_zero_l, xor_zero_r, xor_shifted, shifted_half, shifted_even}
-use Rattle.crc32c.specs.CrcLaws.{divided-bounded, crc32c-bounded}
+use Rattle.crc32c.specs.CrcLaws.{divided-bounded, crc32c-bounded, after-joined}
 use Rattle.crc32c.specs.Crc.{polynomial, divided, divided_by_bits, after_byte, after_bytes, crc32c}
 use Rattle.crc32c.specs.Linear.{even-divided, odd-divided, parity, both, cancelled, xor-bits, high-bits}
 
@@ -90,10 +90,6 @@ pub burst-told : (x y : List ℕ) → All (λ b. b < 256) x → All (λ b. b < 2
     bit_xor (number x) (number y) ≡ e * 2 ^ i → crc32c x ≢ crc32c y
 burst-told x y bx by one i e some small differ same =
     burst-moves x y bx by one i e some small differ (same-states (after_bytes (2 ^ 32 - 1) x) (after_bytes (2 ^ 32 - 1) y) same)
-
-after-joined : (state : ℕ) (xs ys : List ℕ) → after_bytes state (xs ++ ys) ≡ after_bytes (after_bytes state xs) ys
-after-joined state [] ys = refl
-after-joined state (x ∷ xs) ys = after-joined (after_byte state x) xs ys
 
 number-field : (n : ℕ) → n < 2 ^ 32 → number (to_le_bytes w32 n) ≡ n
 number-field n small = let same = from_le_bytes-to_le_bytes_4 n small in omega (arith, same)

@@ -1,7 +1,7 @@
--- What follows from the definition: a check has 32 bits.
-use Rattle.std.specs.Prelude.{ℕ, zero, suc, ◌-◌, ◌/◌, ◌%◌, ◌^◌, ◌<◌, ◌==◌, Bool, true, false, List, [], ◌∷◌, bit_xor, if◌then◌else◌}
+-- What follows from the definition: a check has 32 bits, and is made piece by piece.
+use Rattle.std.specs.Prelude.{◌≡◌, ℕ, zero, suc, ◌-◌, ◌/◌, ◌%◌, ◌^◌, ◌<◌, ◌==◌, Bool, true, false, List, [], ◌∷◌, ◌++◌, bit_xor, if◌then◌else◌}
 use Rattle.std.specs.List.{All}
-use Rattle.std.proofs.Common.{arith}
+use Rattle.std.proofs.Common.{refl, arith}
 use Rattle.std.proofs.lemmas.List.Elements.{All-head, All-tail}
 use Rattle.std.proofs.lemmas.Nat.{xor_lt}
 use Rattle.crc32c.specs.Crc.{polynomial, divided, divided_by_bits, after_byte, after_bytes, crc32c}
@@ -27,3 +27,7 @@ after-bounded state (byte ∷ bytes) h all =
 
 pub crc32c-bounded : (message : List ℕ) → All (λ b. b < 256) message → crc32c message < 2 ^ 32
 crc32c-bounded message all = xor_lt 32 (after_bytes (2 ^ 32 - 1) message) (2 ^ 32 - 1) (after-bounded (2 ^ 32 - 1) message (omega arith) all) (omega arith)
+
+pub after-joined : (state : ℕ) (xs ys : List ℕ) → after_bytes state (xs ++ ys) ≡ after_bytes (after_bytes state xs) ys
+after-joined state [] ys = refl
+after-joined state (x ∷ xs) ys = after-joined (after_byte state x) xs ys
