@@ -2,7 +2,7 @@ use Rattle.std.specs.Prelude.{Some, ◌+◌, ◌^◌, refl}
 use Rattle.std.proofs.Common.{sym, ◌∙◌, ap, arith}
 use Rattle.std.proofs.lemmas.Bool.{lt-ltb, le-ltb}
 use Rattle.bincode_lemmas.specs.AnswerLaws.{claim-stands, claim-falls}
-use Rattle.bincode_decoder.proofs.decoder.claim.Goals as goal
+use Rattle.bincode_decoder.proofs.decoder.charge.claim.Goals as goal
 
 pub returns-in_default : goal.returns-in_default
 returns-in_default c = rw c.in_default.is (record { ok = refl; err = tt })

@@ -1,6 +1,6 @@
 use Rattle.std.specs.Prelude.{◌∷◌}
 use Rattle.std.proofs.Common.{ap}
-use Rattle.bincode_decoder.proofs.decoder.RefMutDecoder.claim_bytes_read.Goals as goal
+use Rattle.bincode_decoder.proofs.decoder.reference.RefMutDecoder.claim_bytes_read.Goals as goal
 
 pub returns : goal.returns
 returns g c =
