@@ -11,7 +11,7 @@ pub use Rattle.bincode_spec.specs.Number
 pub use Rattle.bincode_spec.specs.Charge
 pub use Rattle.bincode_spec.specs.Fault
 pub use Rattle.bincode_spec.specs.Format
-pub use Rattle.bincode_spec.specs.Laws
+pub use Rattle.bincode_layers.specs.Laws
 pub use Rattle.bincode_spec.specs.Integers
 pub use Rattle.bincode_spec.specs.Meaning
 pub use Rattle.bincode_spec.specs.NoZero

@@ -5,7 +5,7 @@ use Rattle.bincode_base.specs.declared.error.DecodeError.{DecodeError}
 use Rattle.bincode_spec.specs.Device.{DeviceErrors}
 use Rattle.bincode_spec.specs.Fault.{Fault}
 use Rattle.bincode_spec.specs.Format.{Format}
-use Rattle.bincode_spec.specs.Laws.{Lawful}
+use Rattle.bincode_layers.specs.Laws.{Lawful}
 use Rattle.bincode_spec.specs.Meaning.{Meaning}
 use Rattle.bincode_spec.specs.Validated.{passed_of, with_test, TellsOwn}
 use Rattle.bincode_spec.specs.Decoding.{by_fault}

@@ -10,7 +10,7 @@ use Rattle.bincode_base.specs.declared.error.DecodeError.TheVariants.{NonZeroTyp
 use Rattle.bincode_spec.specs.Device.{DeviceErrors}
 use Rattle.bincode_spec.specs.Fault.{Zero}
 use Rattle.bincode_spec.specs.Format.{Format, from_result, pure, map_format}
-use Rattle.bincode_spec.specs.Laws.{Lawful}
+use Rattle.bincode_layers.specs.Laws.{Lawful}
 use Rattle.bincode_lemmas.specs.FormatLaws.{map-lawful}
 use Rattle.bincode_spec.specs.Meaning.{Meaning, Number}
 use Rattle.bincode_spec.specs.Words.{not_zero_of, not_zero_by}

@@ -6,7 +6,8 @@ use Rattle.bincode_base.specs.declared.error.EncodeError.{EncodeError}
 use Rattle.bincode_base.specs.declared.error.IntegerType.TheVariants.{U32}
 use Rattle.bincode_spec.specs.Allowed.{AllowedWord, SomeWord, MayName, WrittenAlike, Shortest, OneLength}
 use Rattle.bincode_spec.specs.Answer.{answer}
-use Rattle.bincode_spec.specs.Choices.{IsChoice, AllLawful, AllBalanced}
+use Rattle.bincode_spec.specs.Choices.{IsChoice}
+use Rattle.bincode_layers.specs.Laws.{AllLawful, AllBalanced}
 use Rattle.bincode_spec.specs.Fault.{Allowed, UnexpectedVariant}
 use Rattle.bincode_spec.specs.Format.{Format, map_format}
 use Rattle.bincode_spec.specs.Integers.{Four}

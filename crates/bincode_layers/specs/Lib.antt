@@ -1,4 +1,6 @@
 -- What the layers of the library promise one another, in the order of reading.
+pub mod Laws
+pub mod Chars
 pub mod Spelling
 pub mod Needs
 pub mod Meanings

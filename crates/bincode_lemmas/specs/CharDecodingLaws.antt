@@ -12,7 +12,7 @@ use Rattle.bincode_spec.specs.Integers.{byte}
 use Rattle.bincode_lemmas.specs.IntegerLaws.{byte-lawful}
 use Rattle.bincode_spec.specs.Meaning.{Meaning, Character, IsCharacter}
 use Rattle.bincode_spec.specs.Words.{char_width, char_of, four_bytes, rest_of_char, after_char, character}
-use Rattle.bincode_spec.specs.Words.{Spells}
+use Rattle.bincode_layers.specs.Chars.{Spells}
 use Rattle.bincode_lemmas.specs.CharLaws.{char_of-alone}
 use Rattle.bincode_spec.specs.Answer.{Gave, Refused, answer}
 use Rattle.bincode_lemmas.specs.AnswerLaws.{answer-took, answer-failed, answer-fail}

@@ -7,7 +7,7 @@ use Rattle.bincode_spec.specs.Fault.{Fault, UnexpectedVariant, Allowed}
 use Rattle.bincode_base.specs.Setting.{Setting}
 use Rattle.bincode_spec.specs.Charge.{Step}
 use Rattle.bincode_spec.specs.Format.{Format, fail, ◌>>=◌, map_format}
-use Rattle.bincode_spec.specs.Laws.{Lawful, Balanced}
+use Rattle.bincode_layers.specs.Laws.{Lawful, Balanced, AllLawful, AllBalanced}
 use Rattle.bincode_lemmas.specs.FormatLaws.{fail-lawful, turn-lawful, map-lawful}
 use Rattle.bincode_lemmas.specs.Balance.{fail-holds, turn-holds, map-balanced}
 use Rattle.bincode_spec.specs.Meaning.{Meaning, Number, Choice, IsNumber}
@@ -18,7 +18,7 @@ use Rattle.bincode_lemmas.specs.AllowedLaws.{map-written, written-map, natural-a
 use Rattle.bincode_lemmas.specs.SpelledLaws.{word-from_result, from_result-word, parts-no_longer}
 use Rattle.bincode_spec.specs.Cells.{HasWord}
 use Rattle.bincode_lemmas.specs.CellLaws.{held-word, word-held}
-use Rattle.bincode_spec.specs.Choices.{IsChoice, AllLawful, AllBalanced}
+use Rattle.bincode_spec.specs.Choices.{IsChoice}
 
 -- what holds of each part holds of the selected one
 by_pick : (P : Format Meaning → Type 0) (picked : Bool) {F G : Format Meaning} → P F → P G → P (if_picked picked F G)

@@ -9,7 +9,7 @@ use Rattle.bincode_spec.specs.Device.{DeviceErrors, Rose, Takes}
 use Rattle.bincode_layers.specs.Reads as reads
 use Rattle.bincode_layers.specs.Reads.{ReadFailure}
 use Rattle.bincode_spec.specs.Format.{Format, Reading, Took, Failed, pure, step, ◌>>=◌, from_result, map_format, charge_then}
-use Rattle.bincode_spec.specs.Laws.{Lawful}
+use Rattle.bincode_layers.specs.Laws.{Lawful}
 use Rattle.bincode_spec.specs.Integers.{unsigned_byte}
 use Rattle.bincode_spec.specs.Meaning.{Meaning, Truth, Nothing, Then, IsTruth, IsNothing, IsThen}
 use Rattle.bincode_spec.specs.Words.{truth_of, truth_byte, truth, nothing, first_and}

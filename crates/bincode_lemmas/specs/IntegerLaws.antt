@@ -14,7 +14,7 @@ use Rattle.bincode_spec.specs.Number.{number_of, digits_of, FitsIn, two_compleme
 use Rattle.bincode_spec.specs.Fault.{Fault, IsEnd, InvalidInteger}
 use Rattle.bincode_spec.specs.Charge.{Step}
 use Rattle.bincode_spec.specs.Format.{Format, pure, fail, fixed_bytes, step, ◌>>=◌, written_as, map_format, charge_then}
-use Rattle.bincode_spec.specs.Laws.{Lawful, Balanced}
+use Rattle.bincode_layers.specs.Laws.{Lawful, Balanced}
 use Rattle.bincode_lemmas.specs.FormatLaws.{pure-lawful, fail-lawful, fixed_bytes-lawful, turn-lawful, map-lawful, rewritten-lawful, charge_then-lawful}
 use Rattle.bincode_lemmas.specs.Balance.{pure-holds, fail-holds, fixed_bytes-holds, turn-holds, rewritten-holds, map-balanced, charge_then-balanced}
 use Rattle.bincode_layers.specs.Pieces.{concat_pieces}

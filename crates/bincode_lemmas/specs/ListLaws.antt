@@ -8,7 +8,7 @@ use Rattle.bincode_base.specs.declared.error.IntegerType.TheVariants.{U64}
 use Rattle.bincode_spec.specs.Fault.{Fault}
 use Rattle.bincode_spec.specs.Charge.{Step, Reserve}
 use Rattle.bincode_spec.specs.Format.{Format, pure, step, ◌>>=◌, without_count, elements, sequence}
-use Rattle.bincode_spec.specs.Laws.{Lawful, Balanced}
+use Rattle.bincode_layers.specs.Laws.{Lawful, Balanced}
 use Rattle.bincode_spec.specs.Integers.{Eight}
 use Rattle.bincode_spec.specs.Meaning.{Meaning, Number, IsNumber, list_meaning}
 use Rattle.bincode_spec.specs.Words.{natural_number, len, array, list}

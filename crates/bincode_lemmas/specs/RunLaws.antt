@@ -8,7 +8,7 @@ use Rattle.bincode_spec.specs.Fault.{InvalidBool, InvalidDuration, NulAt, Other,
 use Rattle.bincode_spec.specs.Charge.{Reserve, Release}
 use Rattle.bincode_spec.specs.Device.{DeviceErrors, Takes}
 use Rattle.bincode_spec.specs.Format.{Format, Reading, Took, Failed, pure, step, ◌>>=◌, fault_without_count, reading_without_count, without_count, map_format, elements, sequence}
-use Rattle.bincode_spec.specs.Laws.{Lawful, Balanced}
+use Rattle.bincode_layers.specs.Laws.{Lawful, Balanced}
 use Rattle.bincode_lemmas.specs.FormatLaws.{elements-lawful}
 use Rattle.bincode_lemmas.specs.Balance.{elements-holds}
 use Rattle.bincode_spec.specs.Meaning.{Meaning, Nothing, list_meaning}

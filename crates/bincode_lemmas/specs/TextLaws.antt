@@ -15,7 +15,7 @@ use Rattle.bincode_base.specs.Setting.{Setting}
 use Rattle.bincode_spec.specs.Fault.{Fault, Utf8}
 use Rattle.bincode_spec.specs.Charge.{Step}
 use Rattle.bincode_spec.specs.Format.{Format, fixed_bytes, step, ◌>>=◌, without_count, charge_then, from_result}
-use Rattle.bincode_spec.specs.Laws.{Lawful, Balanced}
+use Rattle.bincode_layers.specs.Laws.{Lawful, Balanced}
 use Rattle.bincode_lemmas.specs.FormatLaws.{Settles, fixed_bytes-lawful, turn-lawful, without_count-lawful, test-lawful, charge_then-lawful}
 use Rattle.bincode_lemmas.specs.Balance.{fixed_bytes-holds, turn-holds, without_count-holds, test-balanced, charge_then-balanced}
 use Rattle.bincode_spec.specs.Integers.{Eight}

@@ -10,7 +10,7 @@ use Rattle.bincode_spec.specs.Charge.{Step, Reserve, Release, charged_bytes, res
 use Rattle.bincode_layers.specs.Claims.{MakesRelease}
 use Rattle.bincode_spec.specs.Device.{DeviceErrors}
 use Rattle.bincode_spec.specs.Format.{Format, Took, after_steps, then_read, reading_without_count, pure, step, ◌>>=◌, without_count, elements}
-use Rattle.bincode_spec.specs.Laws.{Lawful, IsBacked, Balanced}
+use Rattle.bincode_layers.specs.Laws.{Lawful, IsBacked, Balanced}
 use Rattle.bincode_spec.specs.Meaning.{Meaning, Then, list_meaning}
 use Rattle.bincode_spec.specs.Run.{IsListOf}
 use Rattle.bincode_layers.specs.Releases.{CanRelease, Held}

@@ -12,22 +12,19 @@ pub data Step : Type 0 where
 abbrev pub charged_bytes : List Step → ℕ
 charged_bytes [] = 0
 charged_bytes ((Charge n) ∷ steps) = n + charged_bytes steps
-charged_bytes ((Reserve n share) ∷ steps) = charged_bytes steps
-charged_bytes ((Release n) ∷ steps) = charged_bytes steps
+charged_bytes (_ ∷ steps) = charged_bytes steps
 
 -- all that is reserved
 abbrev pub reserved_bytes : List Step → ℕ
 reserved_bytes [] = 0
-reserved_bytes ((Charge n) ∷ steps) = reserved_bytes steps
 reserved_bytes ((Reserve n share) ∷ steps) = n * share + reserved_bytes steps
-reserved_bytes ((Release n) ∷ steps) = reserved_bytes steps
+reserved_bytes (_ ∷ steps) = reserved_bytes steps
 
 -- all that is released
 abbrev pub released_bytes : List Step → ℕ
 released_bytes [] = 0
-released_bytes ((Charge n) ∷ steps) = released_bytes steps
-released_bytes ((Reserve n share) ∷ steps) = released_bytes steps
 released_bytes ((Release n) ∷ steps) = n + released_bytes steps
+released_bytes (_ ∷ steps) = released_bytes steps
 
 -- the charge after these steps
 abbrev pub charge_after : ℕ → List Step → ℕ

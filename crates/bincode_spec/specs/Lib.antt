@@ -3,7 +3,6 @@ pub mod Number
 pub mod Charge
 pub mod Fault
 pub mod Format
-pub mod Laws
 pub mod Integers
 pub mod Meaning
 pub mod NoZero

@@ -1,6 +1,6 @@
 -- The formats of the types, family by family.
 use Rattle.std.specs.Prelude.{◌≡◌, ℕ, ◌+◌, ◌-◌, ◌*◌, ◌<◌, ◌/◌, ◌%◌, ◌^◌, nat_lt, ◌==◌, if◌then◌else◌, ℤ, pos, ◌&&◌, Bool, true, false}
-use Rattle.std.specs.Prelude.{List, [], ◌∷◌, ◌++◌, take, Result, Ok, Err, Option, Some, None, position, MatchOption}
+use Rattle.std.specs.Prelude.{List, [], ◌∷◌, ◌++◌, take, Result, Ok, Err, Option, Some, None, position}
 use Rattle.std.specs.Str.{is_utf8}
 use Rattle.bincode_base.specs.declared.error.IntegerType.{IntegerType}
 use Rattle.bincode_base.specs.declared.error.IntegerType.TheVariants as integers
@@ -165,10 +165,6 @@ after_char first (Some width) = charge_then width (rest_of_char first width)
 
 abbrev pub character : Format Meaning
 character = byte >>= λ first. after_char first (char_width first)
-
--- the bytes encode the character that was found, or they encode none
-abbrev pub Spells : List ℕ → Option ℕ → Type 0
-Spells bytes found = MatchOption found (char_of bytes ≡ Err (InvalidChar (four_bytes bytes))) (λ c. char_of bytes ≡ Ok (Character c))
 
 -- seconds and nanoseconds, of which whole seconds are carried; written with nanoseconds below a second
 

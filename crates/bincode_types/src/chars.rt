@@ -3,7 +3,8 @@ ghost use Rattle.std.specs.Prelude.{◌≡◌, ◌<◌, ◌≤◌, ◌∷◌, []
 ghost use Rattle.std.specs.Char.{encode_utf8};
 ghost use Rattle.bincode_layers.specs.Reads.{ReadsWord};
 ghost use Rattle.bincode_spec.specs.Meaning.{Character};
-ghost use Rattle.bincode_spec.specs.Words.{char_width, rest_of_char, Spells};
+ghost use Rattle.bincode_spec.specs.Words.{char_width, rest_of_char};
+ghost use Rattle.bincode_layers.specs.Chars.{Spells};
 
 use bincode_base::error::DecodeError;
 use bincode_io::read::Reader;

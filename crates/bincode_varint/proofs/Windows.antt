@@ -14,7 +14,7 @@ use Rattle.bincode_spec.specs.Format.{Format, Took, ◌>>=◌, written_as}
 use Rattle.bincode_spec.specs.Integers.{FirstByte, Itself, Before, TooWide, first_byte, behind, byte, varint}
 use Rattle.bincode_lemmas.specs.FormatLaws.{pure-lawful, fail-lawful, turn-lawful}
 use Rattle.bincode_lemmas.specs.IntegerLaws.{byte-lawful, digits-lawful}
-use Rattle.bincode_spec.specs.Laws.{Lawful}
+use Rattle.bincode_layers.specs.Laws.{Lawful}
 use Rattle.bincode_layers.specs.Reads.{ReadsWord, ReadFailure, by_fault, by_failure, by_device}
 use Rattle.bincode_varint.specs.Window.{FrontIs, FrontFails}
 use Rattle.bincode_varint.proofs.Words.{fixed_bytes-read, byte-took}

@@ -6,7 +6,7 @@ use Rattle.bincode_base.specs.declared.error.DecodeError.{DecodeError}
 use Rattle.bincode_layers.specs.Agree.{SameReading}
 use Rattle.bincode_spec.specs.Decoding.{IsRefused}
 use Rattle.bincode_spec.specs.Format.{Format}
-use Rattle.bincode_spec.specs.Laws.{Lawful}
+use Rattle.bincode_layers.specs.Laws.{Lawful}
 use Rattle.bincode_spec.specs.Limits.{NoTighter}
 use Rattle.bincode_spec.specs.Meaning.{Meaning}
 use Rattle.bincode_spec.specs.Slice.{Decoded, FindsWords}

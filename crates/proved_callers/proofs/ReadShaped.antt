@@ -13,7 +13,7 @@ use Rattle.bincode_spec.specs.Decoding.{IsRefused}
 use Rattle.bincode_spec.specs.Encoding.{Adds, Writes}
 use Rattle.bincode_spec.specs.Fault.{Fault, Tells}
 use Rattle.bincode_spec.specs.Format.{Format, Took}
-use Rattle.bincode_spec.specs.Laws.{Lawful, Balanced}
+use Rattle.bincode_layers.specs.Laws.{Lawful, Balanced}
 use Rattle.bincode_spec.specs.Meaning.{Meaning}
 use Rattle.bincode_spec.specs.Slice.{Decoded, EndsSlice, FindsWords, IsAnswer}
 use Rattle.bincode_lemmas.specs.AnswerLaws.{gave-word, refused-fault, passed-limit}

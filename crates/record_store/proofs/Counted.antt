@@ -4,7 +4,7 @@ use Rattle.std.proofs.Common.{◌∙◌, ap, sym, subst, inr, arith, add-one}
 use Rattle.bincode_base.specs.declared.error.DecodeError.{DecodeError}
 use Rattle.bincode_spec.specs.Decoding.{IsExcused, WordRead, AcceptsAll}
 use Rattle.bincode_spec.specs.Format.{Format, Took}
-use Rattle.bincode_spec.specs.Laws.{Lawful}
+use Rattle.bincode_layers.specs.Laws.{Lawful}
 use Rattle.bincode_spec.specs.Meaning.{Meaning}
 use Rattle.bincode_io.specs.RoomLaws.{first-empty}
 use Rattle.bincode_io.specs.Stream.{IsIo, stream_errors}

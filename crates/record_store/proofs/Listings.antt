@@ -8,7 +8,7 @@ use Rattle.bincode_base.specs.declared.error.DecodeError.TheVariants.{Unexpected
 use Rattle.bincode_spec.specs.Charge.{Step, StaysWithin}
 use Rattle.bincode_spec.specs.Fault.{Fault, IsEnd}
 use Rattle.bincode_spec.specs.Format.{Format, Reading, Took, Failed}
-use Rattle.bincode_spec.specs.Laws.{Lawful, Begun, steps_of}
+use Rattle.bincode_layers.specs.Laws.{Lawful, Begun, steps_of}
 use Rattle.bincode_spec.specs.Meaning.{Meaning}
 use Rattle.bincode_spec.specs.Slice.{Decoded, FindsWords, TellsFaults, KeepsLimit}
 use Rattle.bincode_io.specs.RoomLaws.{first-empty, second-empty}

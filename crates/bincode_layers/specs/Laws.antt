@@ -1,8 +1,10 @@
 -- The laws of the format of every type.
-use Rattle.std.specs.Prelude.{◌≡◌, ℕ, ◌+◌, ◌<◌, ◌≤◌, List, ◌++◌, All}
+use Rattle.std.specs.Prelude.{◌≡◌, ℕ, ◌+◌, ◌<◌, ◌≤◌, List, [], ◌∷◌, ◌++◌, All}
+use Rattle.bincode_base.specs.Setting.{Setting}
 use Rattle.bincode_spec.specs.Fault.{Fault, IsEnd}
-use Rattle.bincode_spec.specs.Charge.{Step, reserved_bytes, released_bytes}
+use Rattle.bincode_spec.specs.Charge.{Step, charged_bytes, reserved_bytes, released_bytes}
 use Rattle.bincode_spec.specs.Format.{Format, Reading, Took, Failed}
+use Rattle.bincode_spec.specs.Words.{Variant}
 
 -- these steps are a prefix of those
 abbrev pub Begun : List Step → List Step → Type 0
@@ -59,3 +61,19 @@ pub record Holds (before after : ℕ) {A : Type 0} (F : Format A) : Type 0 where
 -- a word releases all that it reserves, and never too early
 abbrev pub Balanced : {A : Type 0} → Format A → Type 0
 Balanced F = Holds 0 0 F
+
+-- the part of each variant is lawful
+abbrev pub AllLawful : Setting → List Variant → Type 0
+AllLawful s [] = Unit {0}
+AllLawful s (variant ∷ others) = Lawful (variant.1 s) × AllLawful s others
+
+-- and is balanced
+abbrev pub AllBalanced : Setting → List Variant → Type 0
+AllBalanced s [] = Unit {0}
+AllBalanced s (variant ∷ others) = Balanced (variant.1 s) × AllBalanced s others
+
+-- Each word charges `cost` in all and releases what it reserves, and no front of its steps charges and holds more than `peak`.
+pub record Costs (peak cost : ℕ) {A : Type 0} (F : Format A) : Type 0 where
+  pub charges : (word : List ℕ) (m : A) (s : List Step) → F.Word word m s → charged_bytes s ≡ cost
+  pub evens : (word : List ℕ) (m : A) (s : List Step) → F.Word word m s → reserved_bytes s ≡ released_bytes s
+  pub stays : (word : List ℕ) (m : A) (s : List Step) → F.Word word m s → (front back : List Step) → s ≡ front ++ back → charged_bytes front + reserved_bytes front ≤ peak + released_bytes front
