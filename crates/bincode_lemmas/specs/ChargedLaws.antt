@@ -15,7 +15,7 @@ use Rattle.bincode_spec.specs.Answer.{after_claim, on_some, after_step, charge_a
 use Rattle.bincode_spec.specs.Fault.{Fault}
 use Rattle.bincode_spec.specs.Charge.{Step, Charge, Reserve, Release, charged_bytes, charge_after, StaysWithin}
 use Rattle.bincode_spec.specs.Format.{Format, pure, fail, fixed_bytes, step, ◌>>=◌, without_count, written_as, from_result, map_format, charge_then, elements, sequence}
-use Rattle.bincode_spec.specs.Integers.{digits, byte, first_of, FirstByte, Itself, Before, TooWide, first_byte, behind, varint, number_by, unsigned_tag, signed_tag}
+use Rattle.bincode_spec.specs.Integers.{digits, byte, first_of, FirstByte, Itself, Before, TooWide, first_byte, number_after, varint, number_by, unsigned_tag, signed_tag}
 use Rattle.bincode_spec.specs.Integers.{unsigned_integer, signed_integer, unsigned_byte, signed_byte, integer_by}
 use Rattle.bincode_layers.specs.Laws.{Lawful, Balanced}
 use Rattle.bincode_spec.specs.Meaning.{Meaning, Bytes, Then, list_meaning}
@@ -191,7 +191,7 @@ first_fits width first h =
 longer_short : {A : Type 0} (n k : ℕ) (F : Format A) → n ≤ k → Short n F → Short k F
 longer_short n k F h f = record { bytes = λ word m s w. let a = f.bytes word m s w in omega arith; free = f.free }
 
-after_short : (order : Endianness) (why : Fault) (width first : ℕ) (b : FirstByte) → FitsAfter width b → Short width (behind order why first b)
+after_short : (order : Endianness) (why : Fault) (width first : ℕ) (b : FirstByte) → FitsAfter width b → Short width (number_after order why first b)
 after_short order why width first Itself h = pure_short width first
 after_short order why width first (Before n) h = longer_short n width _ h (digits_short order n)
 after_short order why width first TooWide h = fail_short _ width why
@@ -199,7 +199,7 @@ after_short order why width first TooWide h = fail_short _ width why
 varint_short : (tags : ℕ → IntegerType) (name : IntegerType) (order : Endianness) (width : ℕ) → 2 ≤ width → Short (suc width) (varint tags name order width)
 unfolding varint
 varint_short tags name order width h =
-    rewritten_short (suc width) _ _ (turn_short 1 width (suc width) byte (λ first. behind order _ first (first_byte width first)) (omega arith) byte_short
+    rewritten_short (suc width) _ _ (turn_short 1 width (suc width) byte (λ first. number_after order _ first (first_byte width first)) (omega arith) byte_short
     (λ first. after_short order _ width first (first_byte width first) (first_fits width first h)))
 
 number_short : (tags : ℕ → IntegerType) (name : IntegerType) (order : Endianness) (width : ℕ) (e : IntEncoding) → 2 ≤ width → Short (suc width) (number_by tags name order width e)

@@ -13,7 +13,7 @@ use Rattle.bincode_base.specs.declared.config.IntEncoding.{IntEncoding}
 use Rattle.bincode_base.specs.declared.config.IntEncoding.TheVariants.{Fixed, Variable}
 use Rattle.bincode_base.specs.declared.error.IntegerType.{IntegerType}
 use Rattle.bincode_base.specs.declared.error.IntegerType.TheVariants as integers
-use Rattle.bincode_spec.specs.Integers.{digits, byte, first_of, FirstByte, Itself, Before, TooWide, first_byte, behind, varint, number_by, unsigned_tag, signed_tag}
+use Rattle.bincode_spec.specs.Integers.{digits, byte, first_of, FirstByte, Itself, Before, TooWide, first_byte, number_after, varint, number_by, unsigned_tag, signed_tag}
 use Rattle.bincode_spec.specs.Integers.{unsigned_integer, signed_integer, unsigned_byte, signed_byte, integer_by}
 use Rattle.bincode_spec.specs.Limits.{FitsLimit}
 use Rattle.bincode_layers.specs.Laws.{Costs}
@@ -166,7 +166,7 @@ byte_costs : Costs 0 0 byte
 unfolding byte
 byte_costs = map-costs 0 0 first_of (fixed_bytes 1) (fixed_bytes-costs 1)
 
-after_costs : (order : Endianness) (why : Fault) (first : ℕ) (b : FirstByte) → Costs 0 0 (behind order why first b)
+after_costs : (order : Endianness) (why : Fault) (first : ℕ) (b : FirstByte) → Costs 0 0 (number_after order why first b)
 after_costs order why first Itself = pure-costs first
 after_costs order why first (Before n) = digits_cost order n
 after_costs order why first TooWide = fail-costs 0 0 why

@@ -18,7 +18,7 @@ use Rattle.bincode_layers.specs.Laws.{Lawful, Balanced}
 use Rattle.bincode_lemmas.specs.FormatLaws.{pure-lawful, fail-lawful, fixed_bytes-lawful, turn-lawful, map-lawful, rewritten-lawful, charge_then-lawful}
 use Rattle.bincode_lemmas.specs.Balance.{pure-holds, fail-holds, fixed_bytes-holds, turn-holds, rewritten-holds, map-balanced, charge_then-balanced}
 use Rattle.bincode_layers.specs.Pieces.{concat_pieces}
-use Rattle.bincode_spec.specs.Integers.{digits, first_of, byte, FirstByte, Itself, Before, TooWide, first_byte, behind, unsigned_tag, signed_tag}
+use Rattle.bincode_spec.specs.Integers.{digits, first_of, byte, FirstByte, Itself, Before, TooWide, first_byte, number_after, unsigned_tag, signed_tag}
 use Rattle.bincode_spec.specs.Integers.{shortest_word, varint, number_by, unsigned_integer, integer_by, number_for, signed_integer, unsigned_byte}
 use Rattle.bincode_layers.specs.Spelling.{shortest_pieces}
 use Rattle.bincode_spec.specs.Integers.{signed_byte, spelling, IsWidth, Two, Four, Eight, Sixteen, width_in_bytes}
@@ -65,7 +65,7 @@ byte_word b = record {
   second_word = (refl, refl, refl);
 }
 
-after_lawful : (order : Endianness) (why : Fault) (first : ℕ) (said : FirstByte) → ¬ (IsEnd why) → Lawful (behind order why first said)
+after_lawful : (order : Endianness) (why : Fault) (first : ℕ) (said : FirstByte) → ¬ (IsEnd why) → Lawful (number_after order why first said)
 after_lawful order why first Itself h = pure-lawful first
 after_lawful order why first (Before n) h = digits-lawful order n
 after_lawful order why first TooWide h = fail-lawful why h
@@ -241,8 +241,8 @@ module _ (tags : ℕ → IntegerType) (name : IntegerType) (order : Endianness) 
 pub varint-lawful : (tags : ℕ → IntegerType) (name : IntegerType) (order : Endianness) (width : ℕ) → IsWidth width → Lawful (varint tags name order width)
 unfolding varint written_as
 varint-lawful tags name order width w =
-    rewritten-lawful _ (byte >>= λ first. behind order (InvalidInteger name (tags first)) first (first_byte width first))
-    (turn-lawful byte (λ first. behind order (InvalidInteger name (tags first)) first (first_byte width first)) byte-lawful
+    rewritten-lawful _ (byte >>= λ first. number_after order (InvalidInteger name (tags first)) first (first_byte width first))
+    (turn-lawful byte (λ first. number_after order (InvalidInteger name (tags first)) first (first_byte width first)) byte-lawful
     (λ first. after_lawful order (InvalidInteger name (tags first)) first (first_byte width first) (λ k. k)))
     (λ word n h. ([], subst (λ z. (varint tags name order width).Word z n []) (sym h.1) (shortest-word tags name order width n w h.0)))
 
@@ -358,7 +358,7 @@ pub digits-balanced : (order : Endianness) (width : ℕ) → Balanced (digits or
 unfolding digits
 digits-balanced order width = rewritten-holds 0 0 _ (map_format (number_of order) (fixed_bytes width)) (map-balanced (number_of order) (fixed_bytes width) (fixed_bytes-holds 0 width))
 
-after_balanced : (order : Endianness) (why : Fault) (first : ℕ) (said : FirstByte) → Balanced (behind order why first said)
+after_balanced : (order : Endianness) (why : Fault) (first : ℕ) (said : FirstByte) → Balanced (number_after order why first said)
 after_balanced order why first Itself = pure-holds 0 first
 after_balanced order why first (Before n) = digits-balanced order n
 after_balanced order why first TooWide = fail-holds 0 0 why
@@ -367,7 +367,7 @@ after_balanced order why first TooWide = fail-holds 0 0 why
 pub varint-balanced : (tags : ℕ → IntegerType) (name : IntegerType) (order : Endianness) (width : ℕ) → Balanced (varint tags name order width)
 unfolding varint
 varint-balanced tags name order width =
-    let G : ℕ → Format ℕ = λ first. behind order (InvalidInteger name (tags first)) first (first_byte width first) in
+    let G : ℕ → Format ℕ = λ first. number_after order (InvalidInteger name (tags first)) first (first_byte width first) in
     rewritten-holds 0 0 _ (byte >>= G) (turn-holds 0 0 0 byte G byte-balanced (λ first. after_balanced order (InvalidInteger name (tags first)) first (first_byte width first)))
 
 -- a number in either encoding is balanced
@@ -494,7 +494,7 @@ record FirstThen (tags : ℕ → IntegerType) (name : IntegerType) (order : Endi
   pub tail : List ℕ
   pub steps : List Step
   pub bytes_are : bytes ≡ head ∷ tail
-  pub tail_word : (behind order (InvalidInteger name (tags head)) head (first_byte width head)).Word tail n steps
+  pub tail_word : (number_after order (InvalidInteger name (tags head)) head (first_byte width head)).Word tail n steps
 
 word_varint : (tags : ℕ → IntegerType) (name : IntegerType) (order : Endianness) (width : ℕ) (bytes : List ℕ) (n : ℕ) (s : List Step) →
     (varint tags name order width).Word bytes n s → FirstThen tags name order width bytes n
@@ -522,7 +522,7 @@ pub length-shortest : (order : Endianness) (width n : ℕ) → IsWidth width →
 length-shortest order width n w h = length_by order width n w h (size_of n)
 
 shortest_after : (order : Endianness) (why : Fault) (first : ℕ) (said : FirstByte) (tail : List ℕ) (n : ℕ) (s : List Step) → Tells first said →
-    All (λ b. b < 256) tail → (behind order why first said).Word tail n s → length (shortest_word order n) ≤ suc (length tail)
+    All (λ b. b < 256) tail → (number_after order why first said).Word tail n s → length (shortest_word order n) ≤ suc (length tail)
 unfolding pure fail
 shortest_after order why first Itself tail n s t h u =
     let l : n ≤ 250 = rw u.1 t in

@@ -12,7 +12,7 @@ use Rattle.bincode_base.specs.declared.error.IntegerType.TheVariants as integers
 use Rattle.bincode_spec.specs.Fault.{Fault}
 use Rattle.bincode_spec.specs.Charge.{Step, Charge, Reserve, Release, charged_bytes, reserved_bytes, released_bytes, Passes, StaysWithin}
 use Rattle.bincode_spec.specs.Format.{Format, Reading, Took, Failed, after_steps, then_read, pure, fail, fixed_bytes, step, ◌>>=◌, reading_without_count, without_count, written_as, from_result, map_format, charge_then, elements, sequence}
-use Rattle.bincode_spec.specs.Integers.{digits, byte, first_of, FirstByte, Itself, Before, TooWide, first_byte, behind, varint, number_by, unsigned_tag, signed_tag}
+use Rattle.bincode_spec.specs.Integers.{digits, byte, first_of, FirstByte, Itself, Before, TooWide, first_byte, number_after, varint, number_by, unsigned_tag, signed_tag}
 use Rattle.bincode_spec.specs.Integers.{unsigned_integer, signed_integer, unsigned_byte, signed_byte, integer_by}
 use Rattle.bincode_layers.specs.Laws.{steps_of, Settles, Holds, Balanced}
 use Rattle.bincode_spec.specs.Meaning.{Meaning, Bytes, Then, list_meaning}
@@ -259,14 +259,14 @@ byte_free : Free byte
 unfolding byte
 byte_free = then_free (λ b. pure (first_of b)) (λ b. pure_free (first_of b)) (fixed_bytes 1) (fixed_bytes_free 1)
 
-after_free : (order : Endianness) (why : Fault) (first : ℕ) (b : FirstByte) → Free (behind order why first b)
+after_free : (order : Endianness) (why : Fault) (first : ℕ) (b : FirstByte) → Free (number_after order why first b)
 after_free order why first Itself = pure_free first
 after_free order why first (Before n) = digits_free order n
 after_free order why first TooWide = fail_free _ why
 
 varint_free : (tags : ℕ → IntegerType) (name : IntegerType) (order : Endianness) (width : ℕ) → Free (varint tags name order width)
 unfolding varint
-varint_free tags name order width = rewritten_free _ _ (then_free (λ first. behind order _ first (first_byte width first)) (λ first. after_free order _ first (first_byte width first)) byte byte_free)
+varint_free tags name order width = rewritten_free _ _ (then_free (λ first. number_after order _ first (first_byte width first)) (λ first. after_free order _ first (first_byte width first)) byte byte_free)
 
 number_free : (tags : ℕ → IntegerType) (name : IntegerType) (order : Endianness) (width : ℕ) (e : IntEncoding) → Free (number_by tags name order width e)
 number_free tags name order width Fixed = digits_free order width

@@ -41,10 +41,10 @@ first_byte width first =
     else TooWide
 
 -- what follows the first byte
-abbrev pub behind : Endianness → Fault → ℕ → FirstByte → Format ℕ
-behind order why first Itself = pure first
-behind order why first (Before n) = digits order n
-behind order why first TooWide = fail why
+abbrev pub number_after : Endianness → Fault → ℕ → FirstByte → Format ℕ
+number_after order why first Itself = pure first
+number_after order why first (Before n) = digits order n
+number_after order why first TooWide = fail why
 
 -- the types that tags stand for in faults
 abbrev pub unsigned_tag : ℕ → IntegerType
@@ -64,7 +64,7 @@ shortest_word order n =
 
 -- a number of `width` bytes as a tag and digits, however small it is; faults name the tags
 unfoldable pub varint : (ℕ → IntegerType) → IntegerType → Endianness → ℕ → Format ℕ
-varint tags name order width = written_as (λ bytes n. (n < 256 ^ width) × (bytes ≡ shortest_word order n)) (byte >>= λ first. behind order (InvalidInteger name (tags first)) first (first_byte width first))
+varint tags name order width = written_as (λ bytes n. (n < 256 ^ width) × (bytes ≡ shortest_word order n)) (byte >>= λ first. number_after order (InvalidInteger name (tags first)) first (first_byte width first))
 
 -- a number of `width` bytes in an encoding
 abbrev pub number_by : (ℕ → IntegerType) → IntegerType → Endianness → ℕ → IntEncoding → Format ℕ

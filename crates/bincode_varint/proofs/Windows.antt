@@ -11,7 +11,7 @@ use Rattle.bincode_lemmas.specs.ValidatedLaws.{own-tells}
 use Rattle.bincode_spec.specs.Fault.{Fault, IsEnd, Tells, Between, OneOf, End, InvalidInteger, Zero, UnexpectedVariant, Utf8, InvalidChar, InvalidBool, InvalidDuration, NulAt, Other, LengthMismatch, EmptyEnum, OutsideUsize, short, long}
 use Rattle.bincode_base.specs.declared.config.Endianness.{Endianness}
 use Rattle.bincode_spec.specs.Format.{Format, Took, ◌>>=◌, written_as}
-use Rattle.bincode_spec.specs.Integers.{FirstByte, Itself, Before, TooWide, first_byte, behind, byte, varint}
+use Rattle.bincode_spec.specs.Integers.{FirstByte, Itself, Before, TooWide, first_byte, number_after, byte, varint}
 use Rattle.bincode_lemmas.specs.FormatLaws.{pure-lawful, fail-lawful, turn-lawful}
 use Rattle.bincode_lemmas.specs.IntegerLaws.{byte-lawful, digits-lawful}
 use Rattle.bincode_layers.specs.Laws.{Lawful}
@@ -121,18 +121,18 @@ byte-shown (b ∷ []) one = record { within = omega arith; reads = λ more. byte
 byte-shown (b ∷ c ∷ more) one = absurd (omega (arith, one))
 
 -- the parts of a varint are lawful formats at every width
-after-lawful : (order : Endianness) (why : Fault) (first : ℕ) (f : FirstByte) → ¬ (IsEnd why) → Lawful (behind order why first f)
+after-lawful : (order : Endianness) (why : Fault) (first : ℕ) (f : FirstByte) → ¬ (IsEnd why) → Lawful (number_after order why first f)
 after-lawful order why first Itself never = pure-lawful first
 after-lawful order why first (Before n) never = digits-lawful order n
 after-lawful order why first TooWide never = fail-lawful why never
 
 module _ (tags : ℕ → IntegerType) (name : IntegerType) (order : Endianness) (width : ℕ) where
   abbrev pub read_by : Format ℕ
-  read_by = byte >>= λ first. behind order (InvalidInteger name (tags first)) first (first_byte width first)
+  read_by = byte >>= λ first. number_after order (InvalidInteger name (tags first)) first (first_byte width first)
 
   pub read_by-lawful : Lawful read_by
   read_by-lawful =
-      turn-lawful byte (λ first. behind order (InvalidInteger name (tags first)) first (first_byte width first)) byte-lawful
+      turn-lawful byte (λ first. number_after order (InvalidInteger name (tags first)) first (first_byte width first)) byte-lawful
       (λ first. after-lawful order (InvalidInteger name (tags first)) first (first_byte width first) (λ k. k))
 
   pub varint-reads : ReadsAs (varint tags name order width) read_by

@@ -21,7 +21,7 @@ use Rattle.bincode_lemmas.specs.FormatLaws.{fixed_bytes-lawful}
 use Rattle.bincode_lemmas.specs.IntegerLaws.{byte-lawful, shortest-1, shortest-3, shortest-5, shortest-9, shortest-17}
 use Rattle.bincode_base.specs.declared.config.IntEncoding.{IntEncoding}
 use Rattle.bincode_base.specs.declared.config.IntEncoding.TheVariants.{Fixed}
-use Rattle.bincode_spec.specs.Integers.{shortest_word, spelling, number_for, byte, digits, first_of, varint, first_byte, Itself, Before, TooWide, behind, width_in_bytes}
+use Rattle.bincode_spec.specs.Integers.{shortest_word, spelling, number_for, byte, digits, first_of, varint, first_byte, Itself, Before, TooWide, number_after, width_in_bytes}
 use Rattle.bincode_layers.specs.Spelling.{shortest_pieces, spelling_pieces}
 use Rattle.bincode_spec.specs.Device.{DeviceErrors, Rose, Takes}
 use Rattle.bincode_layers.specs.Pieces.{FallsShort, StopsAmong, TakesPiece, TakesPieces}
@@ -99,9 +99,9 @@ no_steps (Failed why steps) = refl
 
 module _ (tags : ℕ → IntegerType) (name : IntegerType) (order : Endianness) (width : ℕ) (input remaining : List ℕ) where
   varint_then : (first : ℕ) → byte.read input ≡ Took first remaining [] →
-      (varint tags name order width).read input ≡ (behind order (InvalidInteger name (tags first)) first (first_byte width first)).read remaining
+      (varint tags name order width).read input ≡ (number_after order (InvalidInteger name (tags first)) first (first_byte width first)).read remaining
   unfolding varint written_as ◌>>=◌
-  varint_then first e = rw e (no_steps ((behind order (InvalidInteger name (tags first)) first (first_byte width first)).read remaining))
+  varint_then first e = rw e (no_steps ((number_after order (InvalidInteger name (tags first)) first (first_byte width first)).read remaining))
 
   pub varint-none : (why : Fault) → byte.read input ≡ Failed why [] → (varint tags name order width).read input ≡ Failed why []
   unfolding varint written_as ◌>>=◌

@@ -39,6 +39,8 @@ mod own;
 #[cfg(test)]
 mod readers;
 #[cfg(test)]
+mod requests;
+#[cfg(test)]
 mod reserved;
 #[cfg(test)]
 mod shown;
