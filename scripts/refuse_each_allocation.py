@@ -30,7 +30,7 @@ import tempfile
 import time
 from pathlib import Path
 
-CRATES = ["bincode_tests", "device_tests", "collection_tests", "shape_tests"]
+CRATES = ["bincode_tests", "device_tests", "collection_tests", "shape_tests", "record_tests"]
 
 # The calls of these tests take no memory: what builds configurations, the varint calls over a slice, the claims, the readers and
 # writers of a slice and the one that counts, encoding plain values into a slice, and decoding from a slice, owned what holds
@@ -48,7 +48,7 @@ WITHOUT_MEMORY = {
         "writers::counts_no_further_than_it_can",
         "numbers::keeps_numbers",
         "numbers::writes_the_highest_byte_first",
-        "numbers::goes_on_behind_no_number",
+        "numbers::goes_on_after_no_number",
         "composites::keeps_tuples",
         "composites::keeps_sixteen_bytes",
         "composites::keeps_arrays_and_reserves_for_them",
@@ -56,7 +56,7 @@ WITHOUT_MEMORY = {
         "composites::keeps_an_outcome",
         "composites::keeps_wrappers",
         "composites::reads_an_inclusive_range",
-        "composites::names_a_tag_that_no_choice_has_and_goes_on_behind_no_value",
+        "composites::names_a_tag_that_no_choice_has_and_goes_on_after_no_value",
         "addresses::keeps_addresses_of_one_kind",
         "addresses::keeps_addresses_of_either_kind",
         "addresses::writes_addresses",
@@ -82,6 +82,7 @@ WITHOUT_MEMORY = {
     ],
     "device_tests": [],
     "shape_tests": [],
+    "record_tests": [],
 }
 
 # Sets and maps of 12,000 in an order. Those of three and of 300 are kept by `maps::keeps_sets_and_maps` through the same calls, and

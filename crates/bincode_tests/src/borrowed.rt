@@ -46,13 +46,13 @@ fn borrowed<'a, T: BorrowDecode<&'a [u8], ()>, C: Config>(
 fn lie_in(bytes: &[u8], texts: &[&str]) -> bool {
     let mut left = bytes;
     for text in texts {
-        let [length, behind @ ..] = left else {
+        let [length, after @ ..] = left else {
             return false;
         };
-        if *length as usize != text.len() || !behind.starts_with(text.as_bytes()) {
+        if *length as usize != text.len() || !after.starts_with(text.as_bytes()) {
             return false;
         }
-        let Some(rest) = behind.get(text.len()..) else {
+        let Some(rest) = after.get(text.len()..) else {
             return false;
         };
         left = rest;
@@ -61,11 +61,11 @@ fn lie_in(bytes: &[u8], texts: &[&str]) -> bool {
 }
 
 /// Whether what is lent is all of the source but its first byte.
-fn is_behind_one(source: &[u8], lent: &[u8]) -> bool {
-    let [_, behind @ ..] = source else {
+fn is_after_one(source: &[u8], lent: &[u8]) -> bool {
+    let [_, after @ ..] = source else {
         return false;
     };
-    behind == lent
+    after == lent
 }
 
 /// What is lent within the limit `ENOUGH`, if the source passes the limit `LESS`.
@@ -148,7 +148,7 @@ fn lends_ten_thousand_texts(rt: HostRuntime) {
 fn lends_bytes_within_the_limit(rt: HostRuntime) {
     let source = [3, 1, 2, 3];
     let read = lent_just::<&[u8], 10, 11>(rt.alloc(), &source);
-    assert!(rt; matches!(read, Some((lent, 4)) if is_behind_one(&source, lent)));
+    assert!(rt; matches!(read, Some((lent, 4)) if is_after_one(&source, lent)));
 }
 
 #[test]
@@ -159,9 +159,9 @@ fn lends_what_may_be_owned(rt: HostRuntime) {
         assert!(rt; false);
         return;
     };
-    assert!(rt; lent == "Foo" && is_behind_one(&source, lent.as_bytes()));
+    assert!(rt; lent == "Foo" && is_after_one(&source, lent.as_bytes()));
     let bytes = borrowed::<CowSlice<'_, u8>, _>(rt.alloc(), &source, config::standard());
-    assert!(rt; matches!(bytes, Ok((CowSlice::Borrowed(lent), 4)) if is_behind_one(&source, lent)));
+    assert!(rt; matches!(bytes, Ok((CowSlice::Borrowed(lent), 4)) if is_after_one(&source, lent)));
 }
 
 #[test]
@@ -208,7 +208,7 @@ fn takes_bytes(rt: HostRuntime) {
     let ended = reader.take_bytes(3);
     assert!(rt; matches!(ended, Err(DecodeError::UnexpectedEnd { additional: 1 })));
     let others = next_bytes(reader, 2);
-    assert!(rt; matches!(others, Ok(lent) if is_behind_one(&source, lent)));
+    assert!(rt; matches!(others, Ok(lent) if is_after_one(&source, lent)));
 }
 
 /// A text is lent by a reference to the decoder's own, and two bytes in another context. Of two more one is missing.

@@ -158,7 +158,7 @@ fn reads_an_inclusive_range(rt: HostRuntime) {
     assert!(rt; wanted == 6);
 }
 
-/// Whether a tag that no value has is refused under this name, and decoding goes on behind the front of the input.
+/// Whether a tag that no value has is refused under this name, and decoding goes on after the front of the input.
 fn refuses_tag_and_goes_on<T: Decode<()>>(
     alloc: Global,
     (tag, name, greatest): (u8, &str, u32),
@@ -169,7 +169,7 @@ fn refuses_tag_and_goes_on<T: Decode<()>>(
 
 /// Behind a tag, or a sum of seconds, that no value has.
 #[test]
-fn names_a_tag_that_no_choice_has_and_goes_on_behind_no_value(rt: HostRuntime) {
+fn names_a_tag_that_no_choice_has_and_goes_on_after_no_value(rt: HostRuntime) {
     let alloc = rt.alloc();
     let seconds = [
         253, 255, 255, 255, 255, 255, 255, 255, 255, 252, 0, 202, 154, 59, 77,
@@ -206,7 +206,7 @@ fn converts_spans(rt: HostRuntime) {
 type Collected = (Option<Result<[u8; 3], u8>>, Option<Result<u8, u8>>);
 
 /// Collects three of the items from this index on.
-fn collected_behind(items: [Result<u8, u8>; 4], count: usize) -> Collected {
+fn collected_after(items: [Result<u8, u8>; 4], count: usize) -> Collected {
     let mut items = items.into_iter();
     for _ in 0..count {
         let _ = items.next();
@@ -218,8 +218,8 @@ fn collected_behind(items: [Result<u8, u8>; 4], count: usize) -> Collected {
 #[test]
 fn collects_into_arrays(rt: HostRuntime) {
     let all = [Ok(1), Ok(2), Ok(3), Ok(4)];
-    assert!(rt; collected_behind(all, 0) == (Some(Ok([1, 2, 3])), Some(Ok(4))));
-    assert!(rt; collected_behind(all, 2) == (None, None));
+    assert!(rt; collected_after(all, 0) == (Some(Ok([1, 2, 3])), Some(Ok(4))));
+    assert!(rt; collected_after(all, 2) == (None, None));
     let stops = [Ok(1), Ok(2), Err(7), Ok(4)];
-    assert!(rt; collected_behind(stops, 0) == (Some(Err(7)), Some(Ok(4))));
+    assert!(rt; collected_after(stops, 0) == (Some(Err(7)), Some(Ok(4))));
 }

@@ -22,7 +22,7 @@ fn writes_the_highest_byte_first(rt: HostRuntime) {
 }
 
 #[test]
-fn goes_on_behind_no_number(rt: HostRuntime) {
+fn goes_on_after_no_number(rt: HostRuntime) {
     let alloc = rt.alloc();
     let rows = [
         ("u32 with a tag of u64", goes_on::<u32>(alloc, &[253, 77])),

@@ -21,7 +21,7 @@ fn writes_a_path(rt: HostRuntime) {
     assert!(rt; is_written_as(rt.alloc(), Some(Path::new(FOO)), &WORD));
 }
 
-/// What is read of a word that each call keeps, with this claim in a list, and of which no bytes that are no text are one.
+/// What is read of a word that each call keeps, with this claim in a list. Bytes that are no text are no such word.
 fn value_of<T: Encode + Decode<()>>(alloc: Global, word: &[u8], claim: usize) -> Option<T> {
     let fault = fault_of::<T>(alloc, &[2, 195, 40]);
     let is_kept = each_call_keeps::<T>(alloc, word)

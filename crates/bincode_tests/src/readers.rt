@@ -64,7 +64,7 @@ fn reads_one_and_shows_nothing<R: Reader>(rt: &impl Abort, reader: &mut R) {
 }
 
 #[test]
-fn leaves_a_lent_stream_behind_a_word(rt: HostRuntime) {
+fn leaves_a_lent_stream_after_a_word(rt: HostRuntime) {
     let bytes = [251, 251, 0, 7, 9];
     let mut stream = &bytes[..];
     reads_one_and_shows_nothing(&rt, &mut LentIoReader::new(&mut stream));

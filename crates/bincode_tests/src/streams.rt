@@ -152,8 +152,8 @@ fn written_in(alloc: Global, pieces: usize) -> (Result<usize, EncodeError>, Vec<
     (outcome, stream.held)
 }
 
-/// Whether a stream that fails behind so many pieces of a word has taken these bytes.
-fn fails_behind(alloc: Global, pieces: usize, taken: &[u8]) -> bool {
+/// Whether a stream that fails after so many pieces of a word has taken these bytes.
+fn fails_after(alloc: Global, pieces: usize, taken: &[u8]) -> bool {
     let (outcome, held) = written_in(alloc, pieces);
     let Err(EncodeError::Io { inner, index }) = outcome else {
         return false;
@@ -175,9 +175,9 @@ fn writes_in_three_pieces(alloc: Global) -> bool {
 #[test]
 fn leaves_what_a_stream_took(rt: HostRuntime) {
     let alloc = rt.alloc();
-    assert!(rt; fails_behind(alloc, 0, &[]));
-    assert!(rt; fails_behind(alloc, 1, &[1]));
-    assert!(rt; fails_behind(alloc, 2, &[1, 251]));
+    assert!(rt; fails_after(alloc, 0, &[]));
+    assert!(rt; fails_after(alloc, 1, &[1]));
+    assert!(rt; fails_after(alloc, 2, &[1, 251]));
     assert!(rt; writes_in_three_pieces(alloc));
 }
 

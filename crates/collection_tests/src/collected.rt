@@ -94,7 +94,7 @@ fn lends_the_arena_of_a_context(rt: HostRuntime) {
 
 /// The context's number after a list that the decoder was borrowed for. If an allocation is refused the list is not
 /// read.
-fn id_behind(alloc: Global, env: Env<'_>) -> u32 {
+fn id_after(alloc: Global, env: Env<'_>) -> u32 {
     let reader = SliceReader::new(&FRAMED);
     let mut decoder = DecoderImpl::new(alloc, reader, config::standard(), env);
     let _outcome = Framed::decode(&mut decoder);
@@ -104,7 +104,7 @@ fn id_behind(alloc: Global, env: Env<'_>) -> u32 {
 #[test]
 fn keeps_the_context_of_a_decoder(rt: HostRuntime) {
     let bump = Bump::new(rt.alloc());
-    assert!(&rt; id_behind(rt.alloc(), Env { bump: &bump, id: 5 }) == 5);
+    assert!(&rt; id_after(rt.alloc(), Env { bump: &bump, id: 5 }) == 5);
 }
 
 /// How many numbers are read over the arena. Retries once if an allocation is refused.

@@ -197,7 +197,7 @@ fn keeps_the_bag_of_a_heap(rt: HostRuntime) {
 }
 
 #[test]
-fn writes_a_heap_behind_its_length(rt: HostRuntime) {
+fn writes_a_heap_after_its_length(rt: HostRuntime) {
     let alloc = rt.alloc();
     let Some(heap) = list_of(alloc, 5).map(BinaryHeap::from) else {
         assert!(rt; false);

@@ -25,10 +25,10 @@ use test_helpers::checks::{decoded, is_passed, within};
 /// A length of 0, and a byte after it.
 static NONE: [u8; 2] = [0, 9];
 
-/// A length of 2^64 - 1, behind which nothing stands.
+/// A length of 2^64 - 1, after which nothing stands.
 const HUGE: [u8; 9] = [253, 255, 255, 255, 255, 255, 255, 255, 255];
 
-/// A length of 100000, behind which nothing stands.
+/// A length of 100000, after which nothing stands.
 const LONG: [u8; 5] = [252, 160, 134, 1, 0];
 
 /// Whether the limit of 100000 refuses both lengths, at the first call: no memory was asked for.

@@ -136,7 +136,7 @@ fn keeps_a_book(rt: HostRuntime) {
     assert!(rt; comes_back(alloc, &book));
 }
 
-/// A value of this word, read of a reader with a byte behind it, if the type has the word and the claim.
+/// A value of this word, read of a reader with a byte after it, if the type has the word and the claim.
 fn value_of_reader<T: Encode + Decode<()>>(
     alloc: Global,
     word: &[u8; 3],
@@ -271,7 +271,7 @@ fn is_other<T: Drop>(outcome: Result<T, DecodeError>, text: &str) -> bool {
     told.as_str() == text
 }
 
-/// Which row of even numbers does not hold: 4, and 3, which is refused behind its claim. The byte of a number that fails
+/// Which row of even numbers does not hold: 4, and 3, which is refused after its claim. The byte of a number that fails
 /// its test is taken, and no other.
 fn wrong_of_even<T: Encode + Decode<()>>(alloc: Global) -> Option<&'static str> {
     let rows = [

@@ -7,7 +7,7 @@ use proved_callers::cut::CutReader;
 use std::process::Abort;
 
 /// The first number is read, and each after it fails with the error of the line.
-fn fails_behind_the_first<D: Decoder<Context = ()>>(rt: &impl Abort, decoder: &mut D) {
+fn fails_after_the_first<D: Decoder<Context = ()>>(rt: &impl Abort, decoder: &mut D) {
     assert!(rt; matches!(u8::decode(decoder), Ok(7)));
     assert!(rt; matches!(u16::decode(decoder), Err(DecodeError::Other(_))));
     assert!(rt; matches!(u8::decode(decoder), Err(DecodeError::Other(_))));
@@ -17,6 +17,6 @@ fn fails_behind_the_first<D: Decoder<Context = ()>>(rt: &impl Abort, decoder: &m
 fn answers_the_error_of_a_cut_line(rt: HostRuntime) {
     let reader = CutReader::new(&[7, 251, 44, 1, 9], 2);
     let mut decoder = DecoderImpl::new(rt.alloc(), reader, config::standard(), ());
-    fails_behind_the_first(&rt, &mut decoder);
+    fails_after_the_first(&rt, &mut decoder);
     assert!(rt; decoder.reader().failures() == 2);
 }

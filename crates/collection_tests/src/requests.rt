@@ -30,9 +30,15 @@ fn serves_requests_up_to_one_that_is_torn(rt: HostRuntime) {
         assert!(rt; false);
         return;
     };
-    let is_torn = matches!(all.stopped, Some(DecodeError::UnexpectedEnd { additional: 2 }));
+    let is_torn = matches!(
+        all.stopped,
+        Some(DecodeError::UnexpectedEnd { additional: 2 })
+    );
     let rows = [
-        ("all", are_read(&all, &[(0, 1, 5), (1, 3, 300)]) && all.end == 4),
+        (
+            "all",
+            are_read(&all, &[(0, 1, 5), (1, 3, 300)]) && all.end == 4,
+        ),
         ("why there are no more", is_torn),
         ("one", are_read(&one, &[(0, 1, 5)]) && one.end == 1),
         ("no reason", one.stopped.is_none()),

@@ -82,7 +82,7 @@ fn fault_and_next<T: Decode<()>>(alloc: Global) -> (Option<DecodeError>, Option<
 
 /// Whether they are refused, and then the next byte is read, and 90 of a hundred are left, since a fault gives nothing
 /// back of what the text and its length charge. Where memory is refused it is asked once more.
-fn goes_on_behind_no_text<T: Decode<()>>(alloc: Global) -> bool {
+fn goes_on_after_no_text<T: Decode<()>>(alloc: Global) -> bool {
     let mut outcome = fault_and_next::<T>(alloc);
     if matches!(outcome, (Some(DecodeError::Memory), _)) {
         outcome = fault_and_next::<T>(alloc);
@@ -95,10 +95,10 @@ fn goes_on_behind_no_text<T: Decode<()>>(alloc: Global) -> bool {
 fn refuses_bytes_that_are_no_text_and_keeps_their_charge(rt: HostRuntime) {
     let alloc = rt.alloc();
     let rows = [
-        ("String", goes_on_behind_no_text::<String>(alloc)),
-        ("BoxedStr", goes_on_behind_no_text::<BoxedStr>(alloc)),
-        ("RcStr", goes_on_behind_no_text::<RcStr>(alloc)),
-        ("CowStr", goes_on_behind_no_text::<CowStr<'_>>(alloc)),
+        ("String", goes_on_after_no_text::<String>(alloc)),
+        ("BoxedStr", goes_on_after_no_text::<BoxedStr>(alloc)),
+        ("RcStr", goes_on_after_no_text::<RcStr>(alloc)),
+        ("CowStr", goes_on_after_no_text::<CowStr<'_>>(alloc)),
     ];
     all_hold(&rt, &rows);
 }

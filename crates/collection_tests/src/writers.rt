@@ -9,7 +9,7 @@ use proved_callers::fixed::Fixed;
 use std::process::Abort;
 
 /// The first number is written, and each after it fails with the error of the line.
-fn fails_behind_the_first<E: Encoder>(rt: &impl Abort, encoder: &mut E) {
+fn fails_after_the_first<E: Encoder>(rt: &impl Abort, encoder: &mut E) {
     assert!(rt; 7u8.encode(encoder).is_ok());
     assert!(rt; matches!(300u16.encode(encoder), Err(EncodeError::Other(_))));
     assert!(rt; matches!(9u8.encode(encoder), Err(EncodeError::Other(_))));
@@ -18,7 +18,7 @@ fn fails_behind_the_first<E: Encoder>(rt: &impl Abort, encoder: &mut E) {
 #[test]
 fn answers_the_error_of_a_cut_line(rt: HostRuntime) {
     let mut encoder = EncoderImpl::new(CutWriter::new(2), config::standard());
-    fails_behind_the_first(&rt, &mut encoder);
+    fails_after_the_first(&rt, &mut encoder);
     let writer = encoder.writer();
     assert!(rt; writer.sent() == 2);
     assert!(rt; writer.failures() == 2);

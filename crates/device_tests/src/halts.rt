@@ -35,7 +35,7 @@ fn first_wrong_call<T: Encode>(alloc: Global, value: &T) -> Option<&'static str>
     first_wrong(&rows)
 }
 
-/// A byte stands before a cell that is borrowed for writing, and another behind it.
+/// A byte stands before a cell that is borrowed for writing, and another after it.
 #[test]
 fn leaves_what_stands_before_a_borrowed_cell(rt: HostRuntime) {
     let cell = RefCell::new(300u32);

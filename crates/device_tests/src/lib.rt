@@ -4,9 +4,9 @@
 #![tactic(auto)]
 
 #[cfg(test)]
-mod asserts;
+mod after_faults;
 #[cfg(test)]
-mod behind_faults;
+mod asserts;
 #[cfg(test)]
 mod clones;
 #[cfg(test)]
@@ -14,7 +14,7 @@ mod files;
 #[cfg(test)]
 mod halts;
 #[cfg(test)]
-mod left_behind;
+mod left_after_errors;
 #[cfg(test)]
 mod lent_writers;
 #[cfg(test)]

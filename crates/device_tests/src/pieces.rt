@@ -402,7 +402,7 @@ impl Write for InterruptedOnce {
 
 /// The second failure is the one that is returned.
 #[test]
-fn keeps_the_kind_behind_an_interruption(rt: HostRuntime) {
+fn keeps_the_kind_after_an_interruption(rt: HostRuntime) {
     let alloc = rt.alloc();
     for kind in KINDS {
         let mut stream = InterruptedOnce { kind, calls: 0 };

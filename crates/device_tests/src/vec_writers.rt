@@ -53,9 +53,9 @@ fn collected(
         if rest.is_empty() {
             break;
         }
-        let (piece, behind) = rest.split_at(rest.len().min(length));
+        let (piece, after) = rest.split_at(rest.len().min(length));
         write_by(&mut writer, call, piece)?;
-        rest = behind;
+        rest = after;
     }
     Ok(writer.collect())
 }
@@ -92,7 +92,7 @@ fn grows_by_each_call(rt: HostRuntime) {
 
 /// Bytes after a number are written without growing, if there is room for them.
 #[test]
-fn writes_behind_into_the_room(rt: HostRuntime) {
+fn writes_after_into_the_room(rt: HostRuntime) {
     let alloc = rt.alloc();
     let Some(mut writer) = either(
         VecWriter::with_capacity(alloc, 5),

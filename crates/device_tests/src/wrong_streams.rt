@@ -89,7 +89,7 @@ fn failing(kind: ErrorKind) -> Failing {
 }
 
 /// A buffer before such a stream.
-fn failing_behind(alloc: Global, kind: ErrorKind) -> io::Result<BufReader<Failing>> {
+fn failing_after(alloc: Global, kind: ErrorKind) -> io::Result<BufReader<Failing>> {
     BufReader::with_capacity(alloc, 8, failing(kind))
 }
 
@@ -118,8 +118,8 @@ fn keeps_the_kind_of_a_failure_in_each_reader(rt: HostRuntime) {
         drop(reader);
         assert_eq!(rt; stream.calls, 1);
         let (Some(mut buffered), Some(mut other)) = (
-            either(failing_behind(alloc, kind), failing_behind(alloc, kind)),
-            either(failing_behind(alloc, kind), failing_behind(alloc, kind)),
+            either(failing_after(alloc, kind), failing_after(alloc, kind)),
+            either(failing_after(alloc, kind), failing_after(alloc, kind)),
         ) else {
             assert!(rt; false);
             return;
@@ -147,7 +147,7 @@ fn left_of_stream<T: Decode<()>>(alloc: Global, input: &[u8]) -> Option<usize> {
 }
 
 /// How many are left of a stream, and of one with a buffer of four bytes.
-fn left_behind<T: Decode<()>>(alloc: Global, input: &[u8]) -> Option<usize> {
+fn left_after<T: Decode<()>>(alloc: Global, input: &[u8]) -> Option<usize> {
     let mut buffered = BufReader::with_capacity(alloc, 4, input).ok()?;
     let outcome: Result<T, _> = decode_from_reader(alloc, &mut buffered, config::standard());
     match outcome {
@@ -161,10 +161,10 @@ fn left_behind<T: Decode<()>>(alloc: Global, input: &[u8]) -> Option<usize> {
     }
 }
 
-/// Whether three bytes are left behind a fault of both. Where memory is refused they are read once more.
+/// Whether three bytes are left after a fault of both. Where memory is refused they are read once more.
 pub fn leaves_three<T: Decode<()>>(alloc: Global, input: &[u8]) -> bool {
     (left_of_stream::<T>(alloc, input) == Some(3) || left_of_stream::<T>(alloc, input) == Some(3))
-        && (left_behind::<T>(alloc, input) == Some(3) || left_behind::<T>(alloc, input) == Some(3))
+        && (left_after::<T>(alloc, input) == Some(3) || left_after::<T>(alloc, input) == Some(3))
 }
 
 /// Of a number that a buffer shows whole, nothing is taken.
@@ -173,7 +173,7 @@ fn leaves_a_number_that_a_buffer_shows(rt: HostRuntime) {
     let alloc = rt.alloc();
     let shown = [7, 252, 78, 79];
     assert!(rt;
-        left_behind::<(u8, u16)>(alloc, &shown) == Some(3)
-            || left_behind::<(u8, u16)>(alloc, &shown) == Some(3)
+        left_after::<(u8, u16)>(alloc, &shown) == Some(3)
+            || left_after::<(u8, u16)>(alloc, &shown) == Some(3)
     );
 }

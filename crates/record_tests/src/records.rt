@@ -16,9 +16,9 @@ fn path_of(rt: &HostRuntime, name: &str) -> io::Result<PathBuf> {
     Ok(env::temp_dir(rt)?.join(rt.alloc(), name.as_str())?)
 }
 
-/// An article stands behind all that the file held, and a file that is torn is left as it is.
+/// An article stands after all that the file held, and a file that is torn is left as it is.
 #[test]
-fn adds_behind_what_a_file_holds(rt: HostRuntime) -> anyhow::Result<()> {
+fn adds_after_what_a_file_holds(rt: HostRuntime) -> anyhow::Result<()> {
     let file = path_of(&rt, "added.records")?;
     let path = file.as_str();
     run_with(&rt, &["add", path, "salt", "40"])?;
@@ -44,7 +44,7 @@ fn fails_by_torn<'a>(rt: &HostRuntime, command: &'a str, whole: &'a str, torn: &
         && run_with(rt, &[command, "missing.records"]).is_err()
 }
 
-/// A file that is torn, and one that is missing, is a failure, and so where a whole one stands behind it.
+/// A file that is torn, and one that is missing, is a failure, and so where a whole one stands after it.
 #[test]
 fn fails_where_a_file_is_not_whole(rt: HostRuntime) -> anyhow::Result<()> {
     let (whole, torn) = (

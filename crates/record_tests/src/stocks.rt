@@ -8,7 +8,7 @@ use std::io;
 use std::process::Abort;
 
 #[test]
-fn adds_behind_what_is_held(rt: HostRuntime) -> Result<(), AddError> {
+fn adds_after_what_is_held(rt: HostRuntime) -> Result<(), AddError> {
     let alloc = rt.alloc();
     let mut stock = Vec::new(alloc);
     let place = add(alloc, &[], &mut stock, &salt(alloc)?, settings())?;

@@ -40,7 +40,7 @@ pub fn goes_on<T: Decode<()>>(alloc: Global, input: &[u8]) -> bool {
 }
 
 /// The error of decoding within a hundred, and whether just this much of the limit is left.
-fn left_behind<T: Decode<()>>(
+fn left_after<T: Decode<()>>(
     alloc: Global,
     input: &[u8],
     left: usize,
@@ -54,9 +54,9 @@ fn left_behind<T: Decode<()>>(
 
 /// Whether a fault leaves this much of a limit of a hundred. Retries once if an allocation is refused.
 pub fn leaves<T: Decode<()>>(alloc: Global, input: &[u8], left: usize) -> bool {
-    let (mut fault, mut is_left) = left_behind::<T>(alloc, input, left);
+    let (mut fault, mut is_left) = left_after::<T>(alloc, input, left);
     if matches!(fault, Some(DecodeError::Memory)) {
-        (fault, is_left) = left_behind::<T>(alloc, input, left);
+        (fault, is_left) = left_after::<T>(alloc, input, left);
     }
     fault.is_some() && is_left
 }

@@ -57,7 +57,7 @@ where
     leaves_three::<T>(alloc, input) && leaves_three_lent::<T>(alloc, input)
 }
 
-/// The same, and of a stream and of a buffer before it: nothing is read behind the part at fault.
+/// The same, and of a stream and of a buffer before it: nothing is read after the part at fault.
 fn leaves_three_everywhere<'a, T>(alloc: Global, input: &'a [u8]) -> bool
 where
     T: Decode<()> + BorrowDecode<&'a [u8], ()>,
