@@ -1,16 +1,11 @@
 //! What a test asserts of a table of named rows.
 
 use std::process::Abort;
-use test_helpers::rows::{first_unequal, first_wrong};
+use test_helpers::rows::first_wrong;
 
 /// Each row holds.
 pub fn all_hold(rt: &impl Abort, rows: &[(&'static str, bool)]) {
     none_wrong(rt, first_wrong(rows));
-}
-
-/// The two numbers of each row are equal.
-pub fn all_equal(rt: &impl Abort, rows: &[(&'static str, usize, usize)]) {
-    none_wrong(rt, first_unequal(rows));
 }
 
 /// No row is wrong.
