@@ -229,8 +229,8 @@ fn add_bound_in_clause(out: &mut Text, field: &Field<'_>, at: usize, count: usiz
 /// The names that mean something else in a clause.
 const RESERVED: &str =
     "this other by no_more or_else refl tt result data record deriving module package open \
-    unfoldable abbrev axiom unfold unfolding ruleset mutual infix infixl infixr syntax elim coe fcoe tcoe hcom com rw cc \
-    ground assumption search grind simp omega";
+    unfoldable abbrev axiom unfold unfolding ruleset mutual infix infixl infixr syntax elim coe fcoe tcoe hcom com rw \
+    cc ground assumption search grind simp omega";
 
 /// Adds the name that the field at this place of so many is bound to: its own, and in a tuple `first`, `second` and so
 /// on. A lone one is `value`.
