@@ -346,7 +346,7 @@ const FORTY: &str = "\
 type LargeV39Part = (u32, String, u8);
 -----
         (or_else 39 ⟦<LargeV39Part as Wire>⟧.words
-        no_more
+        no_more))))))))))))))))))))))))))))))))))))))) };
 -----
         (by (λ p. V39 p.0 p.1 p.2)
 -----

@@ -91,35 +91,53 @@ impl Marks {
         let Some(words) = token.text.strip_prefix(NOTE) else {
             return;
         };
-        let mut verb = "";
+        let mut verb = Verb::Nothing;
         for word in words.split_whitespace() {
             let word = word.trim_end_matches(',');
-            if matches!(word, "with" | "without" | "claims") {
-                verb = word;
-            } else {
-                self.add_word(cursor, token.place, verb, word);
+            match verb_named(word) {
+                Some(next) => verb = next,
+                None => self.add_word(cursor, token.place, verb, word),
             }
         }
     }
 
     /// Adds a word that stands after a verb, or `skip`.
-    fn add_word<'t>(&mut self, cursor: &mut Cursor<'t>, place: Place, verb: &str, word: &'t str) {
+    fn add_word<'t>(&mut self, cursor: &mut Cursor<'t>, place: Place, verb: Verb, word: &'t str) {
         let is_known = match verb {
             _ if word == "skip" => {
                 self.is_skipped = true;
                 true
             }
-            "claims" => {
+            Verb::Claims => {
                 self.claim = Some(number_of(cursor, place, word));
                 true
             }
-            "with" => self.with.add(word),
-            "without" => self.without.add(word),
-            _ => false,
+            Verb::With => self.with.add(word),
+            Verb::Without => self.without.add(word),
+            Verb::Nothing => false,
         };
         if !is_known {
             cursor.refuse(Refusal::new(place, UNKNOWN_NOTE, word));
         }
+    }
+}
+
+/// What the words of a note after it say.
+#[derive(Clone, Copy)]
+enum Verb {
+    Nothing,
+    With,
+    Without,
+    Claims,
+}
+
+/// The verb of this name, if it is one.
+fn verb_named(word: &str) -> Option<Verb> {
+    match word {
+        "with" => Some(Verb::With),
+        "without" => Some(Verb::Without),
+        "claims" => Some(Verb::Claims),
+        _ => None,
     }
 }
 
