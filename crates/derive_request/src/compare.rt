@@ -1,7 +1,7 @@
 //! Whether a module that was written is still what would be written now.
 ghost use Rattle.std.specs.Prelude.{◌≡◌, IfOk, None};
 
-use derive_words::tokens::{Token, tokens_of};
+use derive_words::tokens::tokens_of;
 use std::alloc::{AllocError, Global};
 
 /// How a module that was written compares with what would be written now.
@@ -37,12 +37,12 @@ fn code_of(alloc: Global, text: &str) -> Result<String, AllocError> {
     let mut code = String::new(alloc);
     let mut is_comma = false;
     for token in tokens.iter() {
-        if is_comma && !is_closing(token) {
+        if is_comma && !is_closing(token.text) {
             code.push_str(", ")?;
         }
-        is_comma = token.text.as_str() == ",";
+        is_comma = token.text == ",";
         if !is_comma {
-            code.push_str(token.text.as_str())?;
+            code.push_str(token.text)?;
             code.push_str(" ")?;
         }
     }
@@ -50,6 +50,6 @@ fn code_of(alloc: Global, text: &str) -> Result<String, AllocError> {
 }
 
 /// Whether a comma before a token is there for the layout alone.
-fn is_closing(token: &Token) -> bool {
-    matches!(token.text.as_str(), ")" | "]" | "}" | ">")
+fn is_closing(token: &str) -> bool {
+    matches!(token, ")" | "]" | "}" | ">")
 }

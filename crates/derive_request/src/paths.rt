@@ -5,11 +5,14 @@ use std::alloc::{AllocError, Global};
 /// The path of the module for the source at this path: in the folder that has the modules below it.
 pub fn module_path(alloc: Global, file: &str) -> Result<String, AllocError> {
     let stem = stem_of(file);
-    match stem.rsplit_once('/') {
-        Some((folder, name)) if is_root(name) => format!(in alloc; "{folder}/words.rt"),
-        None if is_root(stem) => String::from_str(alloc, "words.rt"),
-        _ => format!(in alloc; "{stem}/words.rt"),
+    if is_root(stem) {
+        return String::from_str(alloc, "words.rt");
     }
+    let folder = match stem.rsplit_once('/') {
+        Some((folder, name)) if is_root(name) => folder,
+        _ => stem,
+    };
+    format!(in alloc; "{folder}/words.rt")
 }
 
 /// Where the toolchain declares the types of the source at this path, as `app.specs.declared.book` for

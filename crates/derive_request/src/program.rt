@@ -5,7 +5,7 @@ use crate::compare::{State, state_of};
 use crate::paths::{declared_path, file_name};
 use crate::request::{Action, Request};
 use derive_words::answers::answers_of;
-use derive_words::error::{Fault, Refusal};
+use derive_words::error::Fault;
 use derive_words::module::{Origin, module_of};
 use std::alloc::{AllocError, Global};
 use std::io;
@@ -25,7 +25,7 @@ pub enum ProgramError {
         file: String,
         line: usize,
         column: usize,
-        why: Refusal,
+        why: String,
     },
     /// A file can't be read or written.
     #[error("{path}: {why}")]
@@ -138,16 +138,15 @@ fn checked(alloc: Global, file: &str, path: &str, state: State) -> Result<Outcom
     ensures passes { state ≡ State.UpToDate → IfOk result (λ o. o.status ≡ 0) }
     ensures fails { state ≢ State.UpToDate → IfOk result (λ o. o.status ≡ 1) }
 {
-    let printed = match state {
-        State::UpToDate => format!(in alloc; "{path}: up to date\n")?,
-        State::Stale => format!(in alloc; "{path}: stale: run `derive {file}`\n")?,
-        State::Absent => format!(in alloc; "{path}: missing: run `derive {file}`\n")?,
+    let (found, file, end) = match state {
+        State::UpToDate => ("up to date", "", ""),
+        State::Stale => ("stale: run `derive ", file, "`"),
+        State::Absent => ("missing: run `derive ", file, "`"),
     };
-    let status = if state == State::UpToDate { 0 } else { 1 };
     Ok(Outcome {
         is_written: false,
-        printed,
-        status,
+        printed: format!(in alloc; "{path}: {found}{file}{end}\n")?,
+        status: if state == State::UpToDate { 0 } else { 1 },
     })
 }
 
@@ -158,14 +157,10 @@ fn written(alloc: Global, path: &str, state: State) -> Result<Outcome, AllocErro
     ensures passes { IfOk result (λ o. o.status ≡ 0) }
 {
     let is_written = state != State::UpToDate;
-    let printed = if is_written {
-        format!(in alloc; "{path}: written\n")?
-    } else {
-        format!(in alloc; "{path}: up to date\n")?
-    };
+    let done = if is_written { "written" } else { "up to date" };
     Ok(Outcome {
         is_written,
-        printed,
+        printed: format!(in alloc; "{path}: {done}\n")?,
         status: 0,
     })
 }

@@ -1,5 +1,6 @@
 //! What words ask for, and where the module goes.
 
+use crate::answers::wrong_in;
 use derive_request::paths::{declared_path, module_path};
 use derive_request::request::{Action, Request, request_of};
 use std::alloc::{AllocError, Global};
@@ -16,7 +17,7 @@ pub fn words(alloc: Global, line: &str) -> Result<Vec<String>, AllocError> {
 }
 
 /// A request in a line, as `check app src/book.rt`, or the text of its error.
-fn told(alloc: Global, line: &str) -> Result<String, AllocError> {
+pub fn request(alloc: Global, line: &str) -> Result<String, AllocError> {
     match request_of(alloc, words(alloc, line)?.as_slice()) {
         Ok(request) => told_request(alloc, &request),
         Err(error) => format!(in alloc; "{error}"),
@@ -38,63 +39,116 @@ fn told_request(alloc: Global, request: &Request) -> Result<String, AllocError> 
         text.push_str(" ")?;
         text.push_str(file.as_str())?;
     }
+    text.push_str("\n")?;
     Ok(text)
 }
 
-#[test]
-fn tells_what_words_ask_for(rt: HostRuntime) -> Result<(), Fail> {
-    for (line, expected) in [
-        ("src/book.rt", "write - src/book.rt"),
-        ("--check src/book.rt", "check - src/book.rt"),
-        ("src/book.rt --check", "check - src/book.rt"),
-        ("--print --crate app book.rt", "print app book.rt"),
-        ("a.rt --crate=app b.rt c.rt", "write app a.rt b.rt c.rt"),
-        ("-- --check", "write - --check"),
-        (
-            "",
-            "error: the following required arguments were not provided:
+/// Whether words ask for the help: then a word that says so, and else what `request` says of them.
+pub fn help(alloc: Global, line: &str) -> Result<String, AllocError> {
+    let text = request(alloc, line)?;
+    if text.as_str() == HELP {
+        return String::from_str(alloc, "helps\n");
+    }
+    Ok(text)
+}
+
+/// The path of the module of a file.
+pub fn module(alloc: Global, file: &str) -> Result<String, AllocError> {
+    let mut path = module_path(alloc, file)?;
+    path.push_str("\n")?;
+    Ok(path)
+}
+
+/// Where the types of a file are declared, after which the name of its crate may stand.
+pub fn declared(alloc: Global, words: &str) -> Result<String, AllocError> {
+    let (file, crate_name) = match words.split_once(' ') {
+        Some((file, name)) => (file, Some(name)),
+        None => (words, None),
+    };
+    let declared = declared_path(alloc, file, crate_name)?;
+    let declared = declared.as_ref().map_or("-", String::as_str);
+    format!(in alloc; "{declared}\n")
+}
+
+/// What words ask for.
+const REQUESTS: &str = "\
+request src/book.rt
+-----
+write - src/book.rt
+=====
+request --check src/book.rt
+-----
+check - src/book.rt
+=====
+request src/book.rt --check
+-----
+check - src/book.rt
+=====
+request --print --crate app book.rt
+-----
+print app book.rt
+=====
+request a.rt --crate=app b.rt c.rt
+-----
+write app a.rt b.rt c.rt
+=====
+request -- --check
+-----
+write - --check
+=====
+request
+-----
+error: the following required arguments were not provided:
   <FILE>...
 
 Usage: derive <FILE>...
 
 For more information, try '--help'.
-",
-        ),
-        (
-            "a.rt --crate",
-            "error: a value is required for '--crate <NAME>' but none was supplied
+=====
+request a.rt --crate
+-----
+error: a value is required for '--crate <NAME>' but none was supplied
 
 For more information, try '--help'.
-",
-        ),
-        (
-            "--fix a.rt",
-            "error: unexpected argument '--fix' found
+=====
+request --fix a.rt
+-----
+error: unexpected argument '--fix' found
 
   tip: to pass '--fix' as a value, use '-- --fix'
 
 Usage: derive [OPTIONS] <FILE>...
 
 For more information, try '--help'.
-",
-        ),
-        (
-            "--check --print a.rt",
-            "error: the argument '--check' cannot be used with '--print'
+=====
+request --check --print a.rt
+-----
+error: the argument '--check' cannot be used with '--print'
 
 Usage: derive --check <FILE>...
 
 For more information, try '--help'.
-",
-        ),
-        ("--version", "derive 1.0.0\n"),
-        ("-V", "derive 1.0.0\n"),
-    ] {
-        let answer = told(rt.alloc(), line)?;
-        assert_eq!(rt; answer.as_str(), expected);
-    }
-    Ok(())
-}
+=====
+request --version
+-----
+derive 1.0.0
+=====
+request -V
+-----
+derive 1.0.0
+=====
+help --help
+-----
+helps
+=====
+help -h
+-----
+helps
+=====
+help --check a.rt --help
+-----
+helps
+";
 
 /// The help.
 const HELP: &str =
@@ -120,51 +174,62 @@ Status:
 Each file is dealt with, also behind one that is refused. The status is the greatest of them.
 ";
 
-#[test]
-fn tells_what_the_options_and_the_status_mean(rt: HostRuntime) -> Result<(), Fail> {
-    for line in ["--help", "-h", "--check a.rt --help"] {
-        let answer = told(rt.alloc(), line)?;
-        assert_eq!(rt; answer.as_str(), HELP);
-    }
-    Ok(())
-}
+/// Where the module of a file goes, below that of its types, and which crate it is of, by its folder.
+const PATHS: &str = "\
+module src/book.rt
+-----
+src/book/words.rt
+=====
+module /projects/app/src/a/book.rt
+-----
+/projects/app/src/a/book/words.rt
+=====
+module ../app.old/book
+-----
+../app.old/book/words.rt
+=====
+module src/lib.rt
+-----
+src/words.rt
+=====
+module main.rt
+-----
+words.rt
+=====
+declared /projects/app/src/book.rt
+-----
+app.specs.declared.book
+=====
+declared /src/app/src/a/book.rt
+-----
+app.specs.declared.a.book
+=====
+declared /projects/app/src/lib.rt
+-----
+app.specs.declared
+=====
+declared /projects/app/src/book.rt own
+-----
+own.specs.declared.book
+=====
+declared /shelf/book.source app
+-----
+app.specs.declared.book
+=====
+declared /shelf/book.rt
+-----
+-
+=====
+declared /src/book.rt
+-----
+-
+";
 
 #[test]
-fn puts_the_module_below_that_of_the_types(rt: HostRuntime) -> Result<(), Fail> {
-    for (file, expected) in [
-        ("src/book.rt", "src/book/words.rt"),
-        (
-            "/projects/app/src/a/book.rt",
-            "/projects/app/src/a/book/words.rt",
-        ),
-        ("../app.old/book", "../app.old/book/words.rt"),
-        ("src/lib.rt", "src/words.rt"),
-        ("main.rt", "words.rt"),
-    ] {
-        let path = module_path(rt.alloc(), file)?;
-        assert_eq!(rt; path.as_str(), expected);
-    }
-    Ok(())
-}
-
-#[test]
-fn finds_the_crate_by_its_folder(rt: HostRuntime) -> Result<(), Fail> {
-    for (file, crate_name, expected) in [
-        ("/projects/app/src/book.rt", None, "app.specs.declared.book"),
-        ("/src/app/src/a/book.rt", None, "app.specs.declared.a.book"),
-        ("/projects/app/src/lib.rt", None, "app.specs.declared"),
-        (
-            "/projects/app/src/book.rt",
-            Some("own"),
-            "own.specs.declared.book",
-        ),
-        ("/shelf/book.source", Some("app"), "app.specs.declared.book"),
-        ("/shelf/book.rt", None, "-"),
-        ("/src/book.rt", None, "-"),
-    ] {
-        let declared = declared_path(rt.alloc(), file, crate_name)?;
-        let declared = declared.as_ref().map_or("-", String::as_str);
-        assert_eq!(rt; declared, expected);
-    }
+fn tells_what_words_ask_for_and_where_the_module_goes(rt: HostRuntime) -> Result<(), Fail> {
+    let wrong = wrong_in(rt.alloc(), REQUESTS)?;
+    assert_eq!(rt; wrong.as_str(), "");
+    let wrong = wrong_in(rt.alloc(), PATHS)?;
+    assert_eq!(rt; wrong.as_str(), "");
     Ok(())
 }

@@ -1,5 +1,6 @@
 //! Runs over several files, of which the shelf is in memory.
 
+use crate::answers::wrong_in;
 use crate::requests::words;
 use derive_request::run::{Report, Shelf, run};
 use std::alloc::{AllocError, Global};
@@ -15,7 +16,7 @@ struct File {
 
 /// Files in memory, below the folder `/app`.
 #[derive(Drop)]
-struct Memory {
+pub struct Memory {
     alloc: Global,
     files: Vec<File>,
     /// Nothing may be written.
@@ -23,17 +24,39 @@ struct Memory {
 }
 
 impl Memory {
-    /// These files, each with its text.
-    fn new(alloc: Global, files: &[(&str, &str)]) -> Result<Memory, AllocError> {
-        let mut memory = Memory {
+    /// No files.
+    pub fn new(alloc: Global) -> Memory {
+        Memory {
             alloc,
             files: Vec::new(alloc),
             is_locked: false,
-        };
-        for (path, text) in files.iter() {
-            memory.put(path, text)?;
         }
-        Ok(memory)
+    }
+
+    /// Does what a verb says: it puts a file, whose text begins in the next line, takes one away, locks the shelf,
+    /// lists the files, or runs the program with these words. The answer is what is listed or said.
+    pub fn answer(&mut self, verb: &str, rest: &str) -> Result<String, AllocError> {
+        match verb {
+            "put" => {
+                let (path, text) = rest.split_once('\n').unwrap_or((rest, ""));
+                self.put(path, text)?;
+            }
+            "remove" => self.remove(rest),
+            "lock" => self.is_locked = true,
+            "list" => return self.paths(),
+            _ => return self.run(rest),
+        }
+        Ok(String::new(self.alloc))
+    }
+
+    /// What a run with these words says: the status, what it prints, and what it complains of.
+    fn run(&mut self, line: &str) -> Result<String, AllocError> {
+        let alloc = self.alloc;
+        let report: Report = run(alloc, self, words(alloc, line)?.as_slice())?;
+        let status = report.status;
+        let printed = report.printed.as_str();
+        let complaints = report.complaints.as_str();
+        format!(in alloc; "{status}\n{printed}--\n{complaints}")
     }
 
     /// Puts a file in the place of another of its path, if there is one.
@@ -85,41 +108,20 @@ impl Shelf for Memory {
     }
 }
 
-/// A type that is written.
-const GOOD: &str = "#[derive(Clone, Copy)]\nstruct A(u8);\n";
-
-/// Another.
-const OTHER: &str = "#[derive(Clone, Copy)]\nstruct A(u16);\n";
-
-/// A type that is refused.
-const BAD: &str = "#[derive(Clone, Copy)]\nstruct A(f64);\n";
-
-/// What a run with these words says: the status, what it prints, and what it complains of.
-fn told(alloc: Global, memory: &mut Memory, line: &str) -> Result<String, AllocError> {
-    let report: Report = run(alloc, memory, words(alloc, line)?.as_slice())?;
-    let status = report.status;
-    let printed = report.printed.as_str();
-    let complaints = report.complaints.as_str();
-    format!(in alloc; "{status}\n{printed}--\n{complaints}")
-}
-
-/// An enum with variants that hold a `Vec` alone.
-const LISTS: &str = "#[derive(Drop)]
+/// An enum with variants that hold a `Vec` alone, for which lines of proof are to be written.
+const LISTS: &str = "\
+put src/shop/list.rt
+#[derive(Drop)]
 enum A {
     Two(u8, Vec<u8>),
     Bytes(Vec<u8>),
     Texts { texts: Vec<String> },
 }
-";
-
-#[test]
-fn tells_which_lines_of_proof_are_to_be_written(rt: HostRuntime) -> Result<(), Fail> {
-    let alloc = rt.alloc();
-    let mut memory = Memory::new(alloc, &[("src/shop/list.rt", LISTS)])?;
-    let written = told(alloc, &mut memory, "--crate app src/shop/list.rt")?;
-    assert_eq!(rt;
-        written.as_str(),
-        "0
+-----
+=====
+run --crate app src/shop/list.rt
+-----
+0
 src/shop/list/words.rt: written
 A variant of A holds a `Vec` alone. Write the file proofs/shop/list/words/AEncode/encode/Answers.antt:
 
@@ -134,108 +136,136 @@ pub encode_variant-requires-in-Texts-clause-means :
 encode_variant-requires-in-Texts-clause-means g c = rw c.in-Texts.is (λ m h. h, λ m h. h)
 
 --
-"
-    );
-    Ok(())
-}
+";
 
-#[test]
-fn tells_which_modules_are_stale_and_missing(rt: HostRuntime) -> Result<(), Fail> {
-    let alloc = rt.alloc();
-    let sources = [("src/a.rt", GOOD), ("src/b.rt", GOOD), ("src/c.rt", GOOD)];
-    let mut memory = Memory::new(alloc, &sources)?;
-    let written = told(alloc, &mut memory, "src/a.rt src/b.rt src/c.rt")?;
-    assert_eq!(rt;
-        written.as_str(),
-        "0
+/// Modules that are written, become stale and are missing.
+const MODULES: &str = "\
+put src/a.rt
+#[derive(Clone, Copy)]
+struct A(u8);
+-----
+=====
+put src/b.rt
+#[derive(Clone, Copy)]
+struct A(u8);
+-----
+=====
+put src/c.rt
+#[derive(Clone, Copy)]
+struct A(u8);
+-----
+=====
+run src/a.rt src/b.rt src/c.rt
+-----
+0
 src/a/words.rt: written
 src/b/words.rt: written
 src/c/words.rt: written
 --
-"
-    );
-    memory.put("src/b.rt", OTHER)?;
-    memory.remove("src/c/words.rt");
-    for (line, expected) in [
-        (
-            "--check src/a.rt src/b.rt src/c.rt",
-            "1
+=====
+put src/b.rt
+#[derive(Clone, Copy)]
+struct A(u16);
+-----
+=====
+remove src/c/words.rt
+-----
+=====
+run --check src/a.rt src/b.rt src/c.rt
+-----
+1
 src/a/words.rt: up to date
 src/b/words.rt: stale: run `derive src/b.rt`
 src/c/words.rt: missing: run `derive src/c.rt`
 --
-",
-        ),
-        ("--check src/a.rt", "0\nsrc/a/words.rt: up to date\n--\n"),
-        (
-            "src/a.rt src/b.rt src/c.rt",
-            "0
+=====
+run --check src/a.rt
+-----
+0
+src/a/words.rt: up to date
+--
+=====
+run src/a.rt src/b.rt src/c.rt
+-----
+0
 src/a/words.rt: up to date
 src/b/words.rt: written
 src/c/words.rt: written
 --
-",
-        ),
-        (
-            "--check src/c.rt src/b.rt",
-            "0\nsrc/c/words.rt: up to date\nsrc/b/words.rt: up to date\n--\n",
-        ),
-    ] {
-        let answer = told(alloc, &mut memory, line)?;
-        assert_eq!(rt; answer.as_str(), expected);
-    }
-    Ok(())
-}
+=====
+run --check src/c.rt src/b.rt
+-----
+0
+src/c/words.rt: up to date
+src/b/words.rt: up to date
+--
+";
 
-#[test]
-fn deals_with_each_file_behind_one_that_fails(rt: HostRuntime) -> Result<(), Fail> {
-    let alloc = rt.alloc();
-    let mut memory = Memory::new(alloc, &[("src/a.rt", BAD), ("src/b.rt", GOOD)])?;
-    for (line, expected) in [
-        (
-            "--check src/a.rt src/b.rt",
-            "2
+/// Files after one that fails.
+const FAILURES: &str = "\
+put src/a.rt
+#[derive(Clone, Copy)]
+struct A(f64);
+-----
+=====
+put src/b.rt
+#[derive(Clone, Copy)]
+struct A(u8);
+-----
+=====
+run --check src/a.rt src/b.rt
+-----
+2
 src/b/words.rt: missing: run `derive src/b.rt`
 --
 derive: src/a.rt:2:10: the library has no words for `f64`: hold its bits, as a `u64`
-",
-        ),
-        (
-            "src/a.rt src/gone.rt src/b.rt",
-            "2
+=====
+run src/a.rt src/gone.rt src/b.rt
+-----
+2
 src/b/words.rt: written
 --
 derive: src/a.rt:2:10: the library has no words for `f64`: hold its bits, as a `u64`
 derive: src/gone.rt: No such file or directory (os error 2)
-",
-        ),
-    ] {
-        let answer = told(alloc, &mut memory, line)?;
-        assert_eq!(rt; answer.as_str(), expected);
-    }
-    let paths = memory.paths()?;
-    assert_eq!(rt; paths.as_str(), "src/a.rt\nsrc/b.rt\nsrc/b/words.rt\n");
-    Ok(())
-}
+=====
+list
+-----
+src/a.rt
+src/b.rt
+src/b/words.rt
+";
 
-#[test]
-fn writes_nothing_where_it_may_not(rt: HostRuntime) -> Result<(), Fail> {
-    let alloc = rt.alloc();
-    let mut memory = Memory::new(alloc, &[("src/a.rt", GOOD)])?;
-    memory.is_locked = true;
-    for (line, expected) in [
-        (
-            "src/a.rt",
-            "2\n--\nderive: src/a/words.rt: Permission denied (os error 13)\n",
-        ),
-        (
-            "--check src/a.rt",
-            "1\nsrc/a/words.rt: missing: run `derive src/a.rt`\n--\n",
-        ),
-        ("--version", "0\nderive 1.0.0\n--\n"),
-        (
-            "",
-            "2
+/// A shelf on which nothing may be written.
+const LOCKED: &str = "\
+put src/a.rt
+#[derive(Clone, Copy)]
+struct A(u8);
+-----
+=====
+lock
+-----
+=====
+run src/a.rt
+-----
+2
+--
+derive: src/a/words.rt: Permission denied (os error 13)
+=====
+run --check src/a.rt
+-----
+1
+src/a/words.rt: missing: run `derive src/a.rt`
+--
+=====
+run --version
+-----
+0
+derive 1.0.0
+--
+=====
+run
+-----
+2
 --
 error: the following required arguments were not provided:
   <FILE>...
@@ -243,11 +273,13 @@ error: the following required arguments were not provided:
 Usage: derive <FILE>...
 
 For more information, try '--help'.
-",
-        ),
-    ] {
-        let answer = told(alloc, &mut memory, line)?;
-        assert_eq!(rt; answer.as_str(), expected);
+";
+
+#[test]
+fn deals_with_each_file_and_tells_which_modules_are_stale(rt: HostRuntime) -> Result<(), Fail> {
+    for table in [LISTS, MODULES, FAILURES, LOCKED] {
+        let wrong = wrong_in(rt.alloc(), table)?;
+        assert_eq!(rt; wrong.as_str(), "");
     }
     Ok(())
 }

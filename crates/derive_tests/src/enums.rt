@@ -1,58 +1,20 @@
 //! What is written for enums, variant by variant.
 
-use derive_words::module::{Origin, module_of};
+use crate::modules::wrong_in;
 use std::alloc::{AllocError, Global};
 use std::test::Fail;
 
-/// An enum with a variant of each kind.
-const KIND: &str = "#[derive(Drop, PartialEq)]
+/// Sources, each with lines of its module.
+const WRITTEN: &str = "\
+#[derive(Drop, PartialEq)]
 enum Kind {
     Idle,
     Note(String),
     Work(String, u16),
     Move { by: i32, back: bool },
 }
-";
-
-/// Tags that are not in order, and lines that are too long for one.
-const CODE: &str = "#[derive(Drop, PartialEq)]
-pub enum Code {
-    Done = 1,
-    // bincode: tag 5
-    Late(u16),
-    Refused(String) = 300,
-}
-";
-
-/// An enum with a lifetime.
-const EVENT: &str = "#[derive(Drop, PartialEq)]
-enum Event<'a> {
-    Start,
-    Note(&'a str, u8),
-}
-";
-
-/// An enum with type parameters.
-const EITHER: &str = "#[derive(Drop, PartialEq)]
-enum Either<K, V> {
-    Left(K),
-    Right(V),
-    Both(K, V),
-}
-";
-
-/// Nine fields in a variant.
-const WIDE: &str = "#[derive(Drop)]
-enum Wide {
-    Row(u8, u8, u8, u8, u8, u8, u8, u8, u16),
-}
-";
-
-/// Sources, each with lines of its module.
-const WRITTEN: [(&str, &str); 29] = [
-    (
-        KIND,
-        "type KindIdlePart = ();
+-----
+type KindIdlePart = ();
 
 type KindNotePart = String;
 
@@ -69,11 +31,8 @@ type KindParts = VariantOf<
         VariantOf<2, KindWorkPart, VariantOf<3, KindMovePart, NoMoreVariants<Kind>>>,
     >,
 >;
-",
-    ),
-    (
-        KIND,
-        "impl Sum<KindParts> for Kind {
+-----
+impl Sum<KindParts> for Kind {
     ghost use Rattle.bincode.specs.Sums.{this, other};
     ghost use Rattle.bincode.specs.EnumWords.{by, no_more, or_else};
     ghost use Rattle.app.specs.declared.types.Kind.TheVariants.{Idle, Note, Work, Move};
@@ -97,11 +56,8 @@ type KindParts = VariantOf<
         (by (λ p. Move p.0 p.1)
         (λ n. elim (n.0) [ ])))) };
 }
-",
-    ),
-    (
-        KIND,
-        "    ghost words = { enum_words ⟦<Kind as Sum<KindParts>>⟧.variants ⟦<Kind as Sum<KindParts>>⟧.parts };
+-----
+    ghost words = { enum_words ⟦<Kind as Sum<KindParts>>⟧.variants ⟦<Kind as Sum<KindParts>>⟧.parts };
 
     fn claim_size() -> usize {
         let widest = KindMovePart::claim_size().max(0);
@@ -110,11 +66,8 @@ type KindParts = VariantOf<
         let widest = KindIdlePart::claim_size().max(widest);
         enum_claim(widest)
     }
-",
-    ),
-    (
-        KIND,
-        "impl Enum for Kind {
+-----
+impl Enum for Kind {
     ghost use Rattle.std.specs.Prelude.{refl};
     ghost use Rattle.bincode.specs.EnumWords.{enum_laws, enum_variants};
     ghost use Rattle.app.specs.declared.types.Kind.TheVariants.{Idle, Note, Work, Move};
@@ -133,11 +86,8 @@ type KindParts = VariantOf<
           | Move part_0 back ↦ refl
         ]) };
 }
-",
-    ),
-    (
-        KIND,
-        "impl Exact for Kind {
+-----
+impl Exact for Kind {
     fn tell_exact() {
         KindIdlePart::tell_exact();
         KindNotePart::tell_exact();
@@ -146,15 +96,10 @@ type KindParts = VariantOf<
         exact_by_variants::<Kind>();
     }
 }
-",
-    ),
-    (
-        KIND,
-        "            Kind::Move { by, back } => encode_variant(self, 3, &(by, back), encoder),\n",
-    ),
-    (
-        KIND,
-        "impl<Context: Drop> DecodeVariants<Context> for Kind {
+-----
+            Kind::Move { by, back } => encode_variant(self, 3, &(by, back), encoder),
+-----
+impl<Context: Drop> DecodeVariants<Context> for Kind {
     fn decode_variant<D: Decoder<Context = Context>>(
         tag: u32,
         decoder: &mut D,
@@ -188,11 +133,8 @@ impl<Context: Drop> Decode<Context> for Kind {
         decode_by_tag(decoder)
     }
 }
-",
-    ),
-    (
-        KIND,
-        "use bincode::enums::{
+-----
+use bincode::enums::{
     DecodeVariants, Enum, Sum, canonical_by_variants, decode_by_tag, decode_no_variant,
     decode_part, encode_variant, enum_claim, exact_by_variants, plain_by_variants,
 };
@@ -200,27 +142,31 @@ use bincode::error::{DecodeError, EncodeError};
 use bincode::laws::{Canonical, Exact, Plain};
 use bincode::short_text::TypeName;
 use bincode::{NoMoreVariants, VariantOf, Wire};
-",
-    ),
-    (
-        CODE,
-        "            300 => match decode_part::<Context, Code, CodeRefusedPart, D>(tag, 300, decoder) {\n",
-    ),
-    (
-        CODE,
-        "            _ => decode_unlisted_variant(tag, &[1, 5, 300], decoder),\n",
-    ),
-    (
-        CODE,
-        "    ghost made = { by (λ p. Done)
+=====
+#[derive(Drop, PartialEq)]
+pub enum Code {
+    Done = 1,
+    // bincode: tag 5
+    Late(u16),
+    Refused(String) = 300,
+}
+-----
+            300 => match decode_part::<Context, Code, CodeRefusedPart, D>(tag, 300, decoder) {
+-----
+            _ => decode_unlisted_variant(tag, &[1, 5, 300], decoder),
+-----
+    ghost made = { by (λ p. Done)
         (by (λ p. Late p)
         (by (λ p. Refused p)
         (λ n. elim (n.0) [ ]))) };
-",
-    ),
-    (
-        EVENT,
-        "type EventStartPart = ();
+=====
+#[derive(Drop, PartialEq)]
+enum Event<'a> {
+    Start,
+    Note(&'a str, u8),
+}
+-----
+type EventStartPart = ();
 
 type EventNotePart<'a> = (&'a str, u8);
 
@@ -229,11 +175,8 @@ type EventParts<'a> = VariantOf<
     EventStartPart,
     VariantOf<1, EventNotePart<'a>, NoMoreVariants<Event<'a>>>,
 >;
-",
-    ),
-    (
-        EVENT,
-        "impl<'a> Wire for Event<'a> {
+-----
+impl<'a> Wire for Event<'a> {
     ghost use Rattle.std.specs.Prelude.{min, ◌+◌, ◌-◌, ◌^◌};
     ghost use Rattle.bincode.specs.EnumWords.{enum_words};
 
@@ -248,22 +191,16 @@ type EventParts<'a> = VariantOf<
         enum_claim(widest)
     }
 }
-",
-    ),
-    (
-        EVENT,
-        "    fn tell_exact()
+-----
+    fn tell_exact()
         ensures { ExactWords ⟦<Event<'a> as Wire>⟧.words ⟦<Event<'a> as PartialEq>⟧.eq }
     {
         EventStartPart::tell_exact();
         EventNotePart::tell_exact();
         exact_by_variants::<Event<'a>>();
     }
-",
-    ),
-    (
-        EVENT,
-        "impl<'a, Context: Drop> BorrowDecodeVariants<&'a [u8], Context> for Event<'a> {
+-----
+impl<'a, Context: Drop> BorrowDecodeVariants<&'a [u8], Context> for Event<'a> {
     fn borrow_decode_variant<D: BorrowDecoder<&'a [u8], Context = Context>>(
         tag: u32,
         decoder: &mut D,
@@ -275,13 +212,18 @@ type EventParts<'a> = VariantOf<
                 Ok(()) => Ok(Event::Start),
                 Err(error) => Err(error),
             },
-",
-    ),
-    (EVENT, "        borrow_decode_by_tag(decoder)\n"),
-    // A part that is a parameter is named by that.
-    (
-        EITHER,
-        "type EitherBothPart<K, V> = (K, V);
+-----
+        borrow_decode_by_tag(decoder)
+=====
+// A part that is a parameter is named by that.
+#[derive(Drop, PartialEq)]
+enum Either<K, V> {
+    Left(K),
+    Right(V),
+    Both(K, V),
+}
+-----
+type EitherBothPart<K, V> = (K, V);
 
 type EitherParts<K, V> = VariantOf<
     0,
@@ -290,20 +232,15 @@ type EitherParts<K, V> = VariantOf<
 >;
 
 impl<K: Wire, V: Wire> Sum<EitherParts<K, V>> for Either<K, V> {
-",
-    ),
-    (
-        EITHER,
-        "    ghost variants = { or_else 0 K.words
+-----
+    ghost variants = { or_else 0 K.words
         (or_else 1 V.words
         (or_else 2 ⟦<EitherBothPart<K, V> as Wire>⟧.words
         no_more)) };
-",
-    ),
-    (EITHER, "impl<K: Wire, V: Wire> Enum for Either<K, V> {\n"),
-    (
-        EITHER,
-        "impl<K: Plain, V: Plain> Plain for Either<K, V> {
+-----
+impl<K: Wire, V: Wire> Enum for Either<K, V> {
+-----
+impl<K: Plain, V: Plain> Plain for Either<K, V> {
     fn tell_plain() {
         K::tell_plain();
         V::tell_plain();
@@ -311,11 +248,8 @@ impl<K: Wire, V: Wire> Sum<EitherParts<K, V>> for Either<K, V> {
         plain_by_variants::<Either<K, V>>();
     }
 }
-",
-    ),
-    (
-        EITHER,
-        "impl<Context: Drop, K: Decode<Context>, V: Decode<Context>> DecodeVariants<Context>
+-----
+impl<Context: Drop, K: Decode<Context>, V: Decode<Context>> DecodeVariants<Context>
     for Either<K, V> {
     fn decode_variant<D: Decoder<Context = Context>>(
         tag: u32,
@@ -323,79 +257,105 @@ impl<K: Wire, V: Wire> Sum<EitherParts<K, V>> for Either<K, V> {
     ) -> Result<Either<K, V>, DecodeError> {
         match tag {
             0 => match decode_part::<Context, Either<K, V>, K, D>(tag, 0, decoder) {
-",
-    ),
-    (
-        "#[derive(Drop)]\nenum Some<K: Ord> {\n    Map(BTreeMap<K, u8>),\n}",
-        "impl<K: Ord> Sum<SomeParts<K>> for Some<K>
+=====
+#[derive(Drop)]
+enum Some<K: Ord> {
+    Map(BTreeMap<K, u8>),
+}
+-----
+impl<K: Ord> Sum<SomeParts<K>> for Some<K>
 where
     BTreeMap<K, u8>: Wire,
 {
-",
-    ),
-    // More than eight fields stand in groups of four.
-    (
-        WIDE,
-        "type WideRowPart = ((u8, u8, u8, u8), (u8, u8, u8, u8), u16);\n",
-    ),
-    (
-        WIDE,
-        "    ghost made = { by (λ p. Row p.0.0 p.0.1 p.0.2 p.0.3 p.1.0 p.1.1 p.1.2 p.1.3 p.2)
+=====
+// More than eight fields stand in groups of four.
+#[derive(Drop)]
+enum Wide {
+    Row(u8, u8, u8, u8, u8, u8, u8, u8, u16),
+}
+-----
+type WideRowPart = ((u8, u8, u8, u8), (u8, u8, u8, u8), u16);
+-----
+    ghost made = { by (λ p. Row p.0.0 p.0.1 p.0.2 p.0.3 p.1.0 p.1.1 p.1.2 p.1.3 p.2)
         (λ n. elim (n.0) [ ]) };
-",
-    ),
-    (WIDE, "    ghost use Rattle.bincode.specs.Sums.{this};\n"),
-    // The fields of a variant, one after the other.
-    (
-        "#[derive(Drop)]\nenum Kind {\n    Private,\n    Work { company: String, since: u16 },\n}",
-        "            Kind::Private => {}
+-----
+    ghost use Rattle.bincode.specs.Sums.{this};
+=====
+// The fields of a variant, one after the other.
+#[derive(Drop)]
+enum Kind {
+    Private,
+    Work { company: String, since: u16 },
+}
+-----
+            Kind::Private => {}
             Kind::Work { company, since } => {
                 company.tell_valid();
                 since.tell_valid();
             }
-",
-    ),
-    // The shape of an enum.
-    (
-        "// bincode: with Described\n#[derive(Drop)]\nenum Kind {\n    Private,\n    Other(u8),\n}",
-        "        let shapes = start_variants::<Kind>(alloc);
+=====
+// The shape of an enum.
+// bincode: with Described
+#[derive(Drop)]
+enum Kind {
+    Private,
+    Other(u8),
+}
+-----
+        let shapes = start_variants::<Kind>(alloc);
         let shapes = put_variant::<Kind, KindPrivatePart>(alloc, 0, shapes)?;
         let shapes = put_variant::<Kind, KindOtherPart>(alloc, 1, shapes)?;
         Some(describe_variants::<Kind>(2, shapes))
-",
-    ),
-    // What only a sum has.
-    (
-        "// bincode: claims 9\n#[derive(Drop)]\nenum Kind {\n    Private,\n    Other(u8),\n}",
-        "            Kind::Other(value) => encode_in_sum(self, 1, value, encoder),\n",
-    ),
-    (
-        "// bincode: with Writable\n#[derive(Drop)]\nenum Kind {\n    Private,\n    Other(u8),\n}",
-        "    fn tell_writable() {
+=====
+// What only a sum has.
+// bincode: claims 9
+#[derive(Drop)]
+enum Kind {
+    Private,
+    Other(u8),
+}
+-----
+            Kind::Other(value) => encode_in_sum(self, 1, value, encoder),
+=====
+// bincode: with Writable
+#[derive(Drop)]
+enum Kind {
+    Private,
+    Other(u8),
+}
+-----
+    fn tell_writable() {
         KindPrivatePart::tell_writable();
         KindOtherPart::tell_writable();
         writable_by_variants::<Kind>();
     }
-",
-    ),
-];
-
-/// Where the sources stand.
-const ORIGIN: Origin<'static> = Origin {
-    file_name: "types.rt",
-    declared: "app.specs.declared.types",
-};
+";
 
 #[test]
 fn writes_each_variant(rt: HostRuntime) -> Result<(), Fail> {
-    for (text, expected) in WRITTEN {
-        let module = module_of(rt.alloc(), &ORIGIN, text)?;
-        assert!(rt; module.as_str().contains(expected), "{module}");
-    }
+    let wrong = wrong_in(rt.alloc(), WRITTEN)?;
+    assert_eq!(rt; wrong.as_str(), "");
+    let wrong = wrong_in(rt.alloc(), forty(rt.alloc())?.as_str())?;
+    assert_eq!(rt; wrong.as_str(), "");
     Ok(())
 }
 
-/// An enum of forty variants, each with three fields.
+/// What the module of an enum of forty variants has, each of which has three fields.
+const FORTY: &str = "\
+-----
+type LargeV39Part = (u32, String, u8);
+-----
+        (or_else 39 ⟦<LargeV39Part as Wire>⟧.words
+        no_more))))))))))))))))))))))))))))))))))))))) };
+-----
+        (by (λ p. V39 p.0 p.1 p.2)
+-----
+            39 => match decode_part::<Context, Large, LargeV39Part, D>(tag, 39, decoder) {
+-----
+            _ => decode_no_variant(tag, 39, decoder),
+";
+
+/// That enum, with what its module has.
 fn forty(alloc: Global) -> Result<String, AllocError> {
     let mut source = String::from_str(alloc, "#[derive(Drop)]\nenum Large {\n")?;
     for number in 0..40u32 {
@@ -403,21 +363,6 @@ fn forty(alloc: Global) -> Result<String, AllocError> {
         source.push_str(line.as_str())?;
     }
     source.push_str("}\n")?;
+    source.push_str(FORTY)?;
     Ok(source)
-}
-
-#[test]
-fn writes_any_number_of_variants(rt: HostRuntime) -> Result<(), Fail> {
-    let source = forty(rt.alloc())?;
-    let module = module_of(rt.alloc(), &ORIGIN, source.as_str())?;
-    for expected in [
-        "type LargeV39Part = (u32, String, u8);\n",
-        "        (or_else 39 ⟦<LargeV39Part as Wire>⟧.words\n        no_more",
-        "        (by (λ p. V39 p.0 p.1 p.2)\n",
-        "            39 => match decode_part::<Context, Large, LargeV39Part, D>(tag, 39, decoder) {\n",
-        "            _ => decode_no_variant(tag, 39, decoder),\n",
-    ] {
-        assert!(rt; module.as_str().contains(expected), "{module}");
-    }
-    Ok(())
 }

@@ -3,7 +3,7 @@
 use crate::blanks::{fill, fill_variant};
 use crate::error::Fault;
 use crate::heads::is_by_variants;
-use crate::items::{Item, Variant};
+use crate::items::{Field, Item};
 use crate::module::Origin;
 use crate::read::source_of;
 use crate::text::{Text, text_at};
@@ -34,8 +34,8 @@ pub fn answers_of(alloc: Global, origin: &Origin<'_>, text: &str) -> Result<Stri
 /// Adds what has to be written for an enum, if that is anything.
 fn add_answers(out: &mut Text, declared: &str, item: &Item<'_>) {
     let mut answers = out.beside();
-    for variant in item.variants().iter() {
-        if is_list(variant) {
+    for variant in item.variants.iter() {
+        if is_list(item.fields_of(variant)) {
             fill_variant(&mut answers, item, variant, ANSWER);
         }
     }
@@ -67,10 +67,10 @@ fn add_answers(out: &mut Text, declared: &str, item: &Item<'_>) {
     out.add("\n");
 }
 
-/// Whether a variant holds a `Vec` alone.
-fn is_list(variant: &Variant<'_>) -> bool {
-    match variant.fields.as_slice() {
-        [field] => text_at(field.of.as_slice(), 0) == "Vec",
+/// Whether the fields of a variant are a `Vec` alone.
+fn is_list(fields: &[Field<'_>]) -> bool {
+    match fields {
+        [field] => text_at(field.of, 0) == "Vec",
         _ => false,
     }
 }

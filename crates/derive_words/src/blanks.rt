@@ -1,7 +1,7 @@
 //! Templates: texts with blanks, each between two `$`, which are filled for a type or for one of its variants.
 
 use crate::heads::{add_itself, add_parts, add_path};
-use crate::items::{Fields, Item, Kind, Variant};
+use crate::items::{Item, Variant};
 use crate::parts::{Form, add_tuple, add_value};
 use crate::text::Text;
 use crate::values::add_made;
@@ -36,71 +36,51 @@ pub fn fill_variant(out: &mut Text, item: &Item<'_>, variant: &Variant<'_>, temp
 /// Adds what fills the blank of this name for a type.
 fn add_blank(out: &mut Text, item: &Item<'_>, name: &str) {
     match name {
-        "name" => out.add(item.name.text.as_str()),
+        "name" => out.add(item.name.text),
         "itself" => add_itself(out, item),
         "path" => add_path(out, item, ""),
         "parts" => add_parts(out, item),
         "parts_path" => add_path(out, item, "Parts"),
-        "lifetime" => out.add(item.lifetime()),
-        "B" | "Context" | "D" | "E" => out.add(own_name(item, name)),
-        _ => {
-            if let Kind::Struct(fields) = &item.kind {
-                add_fields_blank(out, fields, name);
-            }
-        }
+        "lifetime" => out.add(item.lifetime),
+        _ if item.says(name) => out.add(own_name(name)),
+        _ => out.add(name),
     }
 }
 
-/// The parameters that functions and `impl`s have of their own, and what they are named where a type says that name.
-const OWN_NAMES: [(&str, &str); 4] = [
-    ("B", "TheBytes"),
-    ("Context", "TheContext"),
-    ("D", "TheDecoder"),
-    ("E", "TheEncoder"),
-];
-
-/// What a parameter of this name is called in what is written for a type.
-fn own_name<'n>(item: &Item<'_>, name: &'n str) -> &'n str {
-    for (short, long) in OWN_NAMES {
-        if short == name && item.says(name) {
-            return long;
-        }
+/// What a parameter that functions and `impl`s have of their own is named where a type says its short name.
+fn own_name(short: &str) -> &'static str {
+    match short {
+        "B" => "TheBytes",
+        "Context" => "TheContext",
+        "D" => "TheDecoder",
+        _ => "TheEncoder",
     }
-    name
 }
 
 /// Whether this is what such a parameter is called in what is written for a type, since the type says its short name.
 pub fn is_own_name(item: &Item<'_>, name: &str) -> bool {
-    for (short, long) in OWN_NAMES {
-        if long == name && item.says(short) {
-            return true;
-        }
+    match name {
+        "TheBytes" => item.says("B"),
+        "TheContext" => item.says("Context"),
+        "TheDecoder" => item.says("D"),
+        "TheEncoder" => item.says("E"),
+        _ => false,
     }
-    false
 }
 
 /// Adds what fills the blank of this name for a variant.
 fn add_variant_blank(out: &mut Text, item: &Item<'_>, variant: &Variant<'_>, name: &str) {
+    let fields = item.fields_of(variant);
     match name {
-        "variant" => out.add(variant.name.text.as_str()),
+        "variant" => out.add(variant.name.text),
         "tag" => out.add_number(u64::from(variant.tag)),
         "part" => add_part(out, item, variant),
         "part_path" => add_part_path(out, item, variant),
-        "types" | "bound" | "made" | "shown" | "pattern" => {
-            add_fields_blank(out, &variant.fields, name);
-        }
+        "types" => add_tuple(out, fields, Form::Type),
+        "bound" => add_tuple(out, fields, Form::Bound),
+        "lent" => add_tuple(out, fields, Form::Lent),
+        "made" => add_made(out, variant.brackets, fields),
+        "shown" => add_value(out, fields, Form::InClause),
         _ => add_blank(out, item, name),
-    }
-}
-
-/// Adds what fills the blank of this name for some fields.
-fn add_fields_blank(out: &mut Text, fields: &Fields<'_>, name: &str) {
-    match name {
-        "types" => add_tuple(out, fields.as_slice(), Form::Type),
-        "bound" => add_tuple(out, fields.as_slice(), Form::Bound),
-        "lent" => add_tuple(out, fields.as_slice(), Form::Lent),
-        "made" => add_made(out, fields),
-        "shown" => add_value(out, fields.as_slice(), Form::InClause),
-        _ => {}
     }
 }

@@ -15,8 +15,8 @@ const ARM: &str =
 ";
 
 /// The arm that reads it by borrowing.
-const BORROWING_ARM: &str =
-    "            $tag$ => match borrow_decode_part::<&$lifetime$ [u8], $Context$, $itself$, $part$, $D$>(tag, $tag$, decoder) {
+const BORROWING_ARM: &str = "            $tag$ => match \
+    borrow_decode_part::<&$lifetime$ [u8], $Context$, $itself$, $part$, $D$>(tag, $tag$, decoder) {
                 Ok($bound$) => Ok($name$::$variant$$made$),
                 Err(error) => Err(error),
             },
@@ -26,8 +26,8 @@ const BORROWING_ARM: &str =
 const BORROWING_FN: &str =
     "    fn borrow_decode_variant<$D$: BorrowDecoder<&$lifetime$ [u8], Context = $Context$>>";
 
-/// Adds the `impl`s by which an enum of these variants is read by its tag.
-pub fn add_decode_by_tag(out: &mut Text, item: &Item<'_>, variants: &[Variant<'_>]) {
+/// Adds the `impl`s by which an enum is read by its tag.
+pub fn add_decode_by_tag(out: &mut Text, item: &Item<'_>) {
     add_read_head(out, item);
     fill(
         out,
@@ -40,10 +40,10 @@ pub fn add_decode_by_tag(out: &mut Text, item: &Item<'_>, variants: &[Variant<'_
     } else {
         ARM
     };
-    for variant in variants.iter() {
+    for variant in item.variants.iter() {
         fill_variant(out, item, variant, arm);
     }
-    add_last_arm(out, variants);
+    add_last_arm(out, item.variants.as_slice());
     out.add("        }\n    }\n}\n\n");
     add_decode(
         out,

@@ -1,47 +1,58 @@
 //! What is left of some tokens while they are read from the front.
 
-use crate::error::{Fault, Refusal, refused};
+use crate::error::{Fault, MISSING, NO_MARK, Refusal, UNCLOSED};
 use crate::tokens::{Place, Token, is_word};
-use std::alloc::Global;
+use std::alloc::{AllocError, Global};
 
-/// Some tokens, and how many of them were taken.
+/// Some tokens, and how many of them were taken. Once something is refused, or memory is, no token is left, and
+/// `finish` says why.
 #[derive(Drop)]
 pub struct Cursor<'t> {
-    tokens: &'t [Token],
+    tokens: &'t [Token<'t>],
     taken: usize,
+    /// Where the last token stands.
+    last: Place,
+    /// What was refused first.
+    refusal: Option<Refusal<'t>>,
+    /// Memory was never refused.
+    is_whole: bool,
 }
 
 impl<'t> Cursor<'t> {
-    pub fn new(tokens: &'t [Token]) -> Cursor<'t> {
-        Cursor { tokens, taken: 0 }
+    pub fn new(tokens: &'t [Token<'t>]) -> Cursor<'t> {
+        let last = match tokens.last() {
+            Some(token) => token.place,
+            None => Place { line: 1, column: 1 },
+        };
+        Cursor {
+            tokens,
+            taken: 0,
+            last,
+            refusal: None,
+            is_whole: true,
+        }
     }
 
-    /// The token that comes next.
-    fn peek(&self) -> Option<&'t Token> {
+    /// The token that comes next. At the end one without text, where the last one stands.
+    pub fn token(&self) -> Token<'t> {
         let tokens = self.tokens;
-        tokens.get(self.taken)
+        match tokens.get(self.taken) {
+            Some(token) => *token,
+            None => Token {
+                text: "",
+                place: self.last,
+            },
+        }
     }
 
     /// The text of the token that comes next, and `""` at the end.
     pub fn text(&self) -> &'t str {
-        match self.peek() {
-            Some(token) => token.text.as_str(),
-            None => "",
-        }
-    }
-
-    /// Where the next token stands, or at the end the last one.
-    pub fn place(&self) -> Place {
-        let tokens = self.tokens;
-        match tokens.get(self.taken).or(tokens.last()) {
-            Some(token) => token.place,
-            None => Place { line: 1, column: 1 },
-        }
+        self.token().text
     }
 
     /// Takes the token that comes next.
-    pub fn take(&mut self) -> Option<&'t Token> {
-        let token = self.peek();
+    pub fn take(&mut self) -> Token<'t> {
+        let token = self.token();
         self.taken = self.taken.saturating_add(1);
         token
     }
@@ -55,106 +66,113 @@ impl<'t> Cursor<'t> {
         is_next
     }
 
+    /// Takes this token, if it comes next. `true` also where something was refused.
+    pub fn ends(&mut self, text: &str) -> bool {
+        self.takes(text) || self.refusal.is_some() || !self.is_whole
+    }
+
     /// Takes the name that comes next.
-    pub fn name(&mut self) -> Result<&'t Token, Fault> {
-        let place = self.place();
-        match self.take() {
-            Some(token) if is_word(token.text.as_str()) => Ok(token),
-            _ => Err(refused(place, Refusal::Missing { what: "a name" })),
+    pub fn name(&mut self) -> Token<'t> {
+        let token = self.take();
+        if !is_word(token.text) {
+            self.refuse(Refusal::new(token.place, MISSING, "a name"));
         }
+        token
     }
 
     /// Takes this mark, which has to come next.
-    pub fn mark(&mut self, mark: &'static str) -> Result<(), Fault> {
-        if self.takes(mark) {
-            return Ok(());
+    pub fn mark(&mut self, mark: &'static str) {
+        let place = self.token().place;
+        if !self.takes(mark) {
+            self.refuse(Refusal::new(place, NO_MARK, mark));
         }
-        Err(refused(self.place(), Refusal::NoMark { mark }))
+    }
+
+    /// Refuses something.
+    pub fn refuse(&mut self, refusal: Refusal<'t>) {
+        if self.refusal.is_none() {
+            self.refusal = Some(refusal);
+        }
+        self.taken = self.tokens.len();
+    }
+
+    /// Adds an item to a list.
+    pub fn push<T: Drop>(&mut self, list: &mut Vec<T>, item: T) {
+        if list.push(item).is_err() {
+            self.is_whole = false;
+            self.taken = self.tokens.len();
+        }
+    }
+
+    /// Fails where something was refused.
+    pub fn finish(&self, alloc: Global) -> Result<(), Fault> {
+        if !self.is_whole {
+            return Err(Fault::Memory(AllocError));
+        }
+        match self.refusal {
+            Some(refusal) => Err(refusal.fault(alloc)?),
+            None => Ok(()),
+        }
     }
 
     /// Takes what is left of a bracket that was opened at this place, up to what closes it.
-    pub fn skip_group(&mut self, opened: Place) -> Result<(), Fault> {
+    pub fn skip_group(&mut self, opened: Place) {
         let mut depth = 1u64;
-        for _ in 0..u64::MAX {
-            let Some(token) = self.take() else {
-                break;
-            };
-            depth = depth_behind(depth, token.text.as_str());
+        for _ in self.taken..self.tokens.len() {
+            depth = depth_after(depth, self.take().text);
             if depth == 0 {
-                return Ok(());
+                return;
             }
         }
-        Err(refused(opened, Refusal::Unclosed))
+        self.refuse(Refusal::new(opened, UNCLOSED, ""));
     }
 
     /// Takes a bracket with all that it holds, if one comes next.
-    pub fn skip_brackets(&mut self) -> Result<(), Fault> {
+    pub fn skip_brackets(&mut self) {
         if is_opening(self.text()) {
-            let opened = self.place();
-            self.take();
-            return self.skip_group(opened);
+            let opened = self.take().place;
+            self.skip_group(opened);
         }
-        Ok(())
     }
 
     /// Takes the tokens of a type or of bounds: up to the first of these that stands in no brackets, or up to what
     /// closes more brackets than were opened.
-    pub fn type_until(&mut self, alloc: Global, ends: &[&str]) -> Result<Vec<&'t Token>, Fault> {
-        let mut tokens = Vec::new(alloc);
+    pub fn type_until(&mut self, ends: &[&str]) -> &'t [Token<'t>] {
+        let tokens = self.tokens;
+        let start = self.taken;
         let mut depth = 1u64;
-        for _ in 0..u64::MAX {
-            let Some(token) = self.peek() else {
-                break;
-            };
-            let text = token.text.as_str();
-            let behind = type_depth_behind(depth, text);
-            if behind == 0 || depth == 1 && is_one_of(text, ends) {
+        for _ in start..tokens.len() {
+            let text = self.text();
+            let after = type_depth_after(depth, text);
+            if after == 0 || depth == 1 && (&*ends).contains(&text) {
                 break;
             }
-            depth = behind;
-            tokens.push(token)?;
-            self.take();
+            depth = after;
+            self.taken = self.taken.saturating_add(1);
         }
-        Ok(tokens)
+        tokens.get(start..self.taken).unwrap_or(&[])
     }
 }
 
-/// Whether a text is one of these.
-pub fn is_one_of(text: &str, texts: &[&str]) -> bool {
-    for other in texts.iter() {
-        if *other == text {
-            return true;
-        }
-    }
-    false
-}
-
-/// How many brackets are open behind a token.
-fn depth_behind(depth: u64, token: &str) -> u64 {
-    if is_opening(token) {
-        depth.saturating_add(1)
-    } else if is_closing(token) {
-        depth.saturating_sub(1)
-    } else {
-        depth
+/// How many brackets are open after a token.
+fn depth_after(depth: u64, token: &str) -> u64 {
+    match token {
+        "(" | "[" | "{" => depth.saturating_add(1),
+        ")" | "]" | "}" => depth.saturating_sub(1),
+        _ => depth,
     }
 }
 
-/// The same in a type, which has brackets `<` and `>` too.
-fn type_depth_behind(depth: u64, token: &str) -> u64 {
+/// How many are open after a token of a type, which has brackets `<` and `>` too.
+fn type_depth_after(depth: u64, token: &str) -> u64 {
     match token {
         "<" => depth.saturating_add(1),
         ">" => depth.saturating_sub(1),
-        _ => depth_behind(depth, token),
+        _ => depth_after(depth, token),
     }
 }
 
 /// Whether a token opens a bracket.
 pub fn is_opening(token: &str) -> bool {
-    is_one_of(token, &["(", "[", "{"])
-}
-
-/// Whether a token closes a bracket.
-fn is_closing(token: &str) -> bool {
-    is_one_of(token, &[")", "]", "}"])
+    matches!(token, "(" | "[" | "{")
 }

@@ -23,7 +23,10 @@ const ENCODE: &str = "}
         match self {
 ";
 
-/// What stands behind the arms of a function that has nothing else.
+/// What stands before the body of an arm.
+const ARM: &str = "            $name$::$variant$$made$ => ";
+
+/// What stands after the arms of a function that has nothing else.
 const ARMS_END: &str = "        }
     }
 }
@@ -36,16 +39,16 @@ const FROM_PARTS: &str = "impl FromParts<$parts$> for $itself$ {
         match parts.0 {
 ";
 
-/// Adds the `impl`s by which an enum of these variants is named, written and read.
-pub fn add_enum_impls(out: &mut Text, item: &Item<'_>, variants: &[Variant<'_>]) {
+/// Adds the `impl`s by which an enum is named, written and read.
+pub fn add_enum_impls(out: &mut Text, item: &Item<'_>) {
     if is_by_variants(item) {
-        add_encode(out, item, variants, "encode_variant");
-        add_decode_by_tag(out, item, variants);
+        add_encode(out, item, "encode_variant");
+        add_decode_by_tag(out, item);
         return;
     }
     add_head(out, item, "", "Named", "");
     fill(out, item, NAMED);
-    if variants.is_empty() {
+    if item.variants.is_empty() {
         add_decode(
             out,
             item,
@@ -53,68 +56,61 @@ pub fn add_enum_impls(out: &mut Text, item: &Item<'_>, variants: &[Variant<'_>])
         );
         return;
     }
-    add_encode(out, item, variants, "encode_in_sum");
+    add_encode(out, item, "encode_in_sum");
     if item.is_borrowing() {
-        add_decode_at_once(out, item, variants);
+        add_decode_at_once(out, item);
     } else {
         fill(out, item, FROM_PARTS);
-        add_matched_arms(out, item, variants);
+        add_matched_arms(out, item);
         out.add(ARMS_END);
         add_decode(out, item, DECODE_PARTS);
     }
 }
 
 /// Adds the `impl` of `Encode` of an enum, whose variants are written by the function of this name.
-fn add_encode(out: &mut Text, item: &Item<'_>, variants: &[Variant<'_>], by: &str) {
+fn add_encode(out: &mut Text, item: &Item<'_>, by: &str) {
     add_head(out, item, "", "Encode", "Encode");
     out.add("    fn tell_valid(&self) {");
-    if has_fields(variants) {
-        out.add("\n        match self {\n");
-        for variant in variants.iter() {
-            add_told_arm(out, item, variant);
-        }
-        out.add("        }\n    ");
+    if !item.fields.is_empty() {
+        add_told_arms(out, item);
     }
     fill(out, item, ENCODE);
-    for variant in variants.iter() {
-        fill_variant(
-            out,
-            item,
-            variant,
-            "            $name$::$variant$$made$ => ",
-        );
-        out.add(by);
-        fill_variant(out, item, variant, "(self, $tag$, ");
-        out.add(if variant.fields.as_slice().len() == 1 {
-            ""
-        } else {
-            "&"
-        });
-        fill_variant(out, item, variant, "$bound$, encoder),\n");
+    for variant in item.variants.iter() {
+        add_encode_arm(out, item, variant, by);
     }
     out.add(ARMS_END);
 }
 
-/// Whether some variant has fields.
-fn has_fields(variants: &[Variant<'_>]) -> bool {
-    for variant in variants.iter() {
-        if !variant.fields.as_slice().is_empty() {
-            return true;
-        }
+/// Adds the arm that writes a variant by the function of this name.
+fn add_encode_arm(out: &mut Text, item: &Item<'_>, variant: &Variant<'_>, by: &str) {
+    fill_variant(out, item, variant, ARM);
+    out.add(by);
+    fill_variant(
+        out,
+        item,
+        variant,
+        if item.fields_of(variant).len() == 1 {
+            "(self, $tag$, $bound$, encoder),\n"
+        } else {
+            "(self, $tag$, &$bound$, encoder),\n"
+        },
+    );
+}
+
+/// Adds the arms that tell what the fields of each variant keep.
+fn add_told_arms(out: &mut Text, item: &Item<'_>) {
+    out.add("\n        match self {\n");
+    for variant in item.variants.iter() {
+        add_told_arm(out, item, variant);
     }
-    false
+    out.add("        }\n    ");
 }
 
 /// Adds the arm that tells what the fields of a variant keep, one after the other: a call for their tuple would be
 /// looked up anew in each arm, and the compiler bounds how often.
 fn add_told_arm(out: &mut Text, item: &Item<'_>, variant: &Variant<'_>) {
-    fill_variant(
-        out,
-        item,
-        variant,
-        "            $name$::$variant$$made$ => ",
-    );
-    let fields = variant.fields.as_slice();
+    fill_variant(out, item, variant, ARM);
+    let fields = item.fields_of(variant);
     match fields.len() {
         0 => out.add("{}\n"),
         1 => fill_variant(out, item, variant, "$bound$.tell_valid(),\n"),
@@ -136,7 +132,7 @@ fn add_told_fields(out: &mut Text, fields: &[Field<'_>]) {
 }
 
 /// Adds the `impl` by which an enum with a lifetime is read in one function.
-fn add_decode_at_once(out: &mut Text, item: &Item<'_>, variants: &[Variant<'_>]) {
+fn add_decode_at_once(out: &mut Text, item: &Item<'_>) {
     add_decode_front(out, item);
     fill(
         out,
@@ -144,7 +140,7 @@ fn add_decode_at_once(out: &mut Text, item: &Item<'_>, variants: &[Variant<'_>])
         "        let parts: $parts$ = BorrowDecode::borrow_decode(decoder)?;\n",
     );
     out.add("        Ok(match parts.0 {\n");
-    for (at, variant) in variants.iter().enumerate() {
+    for (at, variant) in item.variants.iter().enumerate() {
         out.add("            ");
         out.add_times("VariantOf::Other(", at);
         fill_variant(out, item, variant, "VariantOf::This($bound$)");
@@ -156,13 +152,16 @@ fn add_decode_at_once(out: &mut Text, item: &Item<'_>, variants: &[Variant<'_>])
 }
 
 /// Adds the arms that make each variant of its parts, each match within the one before.
-fn add_matched_arms(out: &mut Text, item: &Item<'_>, variants: &[Variant<'_>]) {
-    for (at, variant) in variants.iter().enumerate() {
+fn add_matched_arms(out: &mut Text, item: &Item<'_>) {
+    for (at, variant) in item.variants.iter().enumerate() {
         if at > 0 {
-            add_indent(out, at.saturating_sub(1));
-            out.add("VariantOf::Other(rest) => match rest {\n");
+            add_indented(
+                out,
+                at.saturating_sub(1),
+                "VariantOf::Other(rest) => match rest {\n",
+            );
         }
-        add_indent(out, at);
+        add_indented(out, at, "");
         fill_variant(
             out,
             item,
@@ -170,14 +169,14 @@ fn add_matched_arms(out: &mut Text, item: &Item<'_>, variants: &[Variant<'_>]) {
             "VariantOf::This($bound$) => $name$::$variant$$made$,\n",
         );
     }
-    for depth in (1..variants.len()).rev() {
-        add_indent(out, depth.saturating_sub(1));
-        out.add("},\n");
+    for depth in (1..item.variants.len()).rev() {
+        add_indented(out, depth.saturating_sub(1), "},\n");
     }
 }
 
-/// Adds the spaces before an arm that stands in so many others.
-fn add_indent(out: &mut Text, depth: usize) {
+/// Adds a text that stands in so many arms.
+fn add_indented(out: &mut Text, depth: usize, text: &str) {
     out.add("            ");
     out.add_times("    ", depth);
+    out.add(text);
 }

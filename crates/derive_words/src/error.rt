@@ -1,88 +1,158 @@
 //! What is refused, and what to write instead.
 
+use crate::text::Text;
 use crate::tokens::Place;
-use std::alloc::AllocError;
+use std::alloc::{AllocError, Global};
 use thiserror::Error;
-
-/// Why something in a source is refused, and what to write instead.
-#[derive(Debug, Drop, Error)]
-pub enum Refusal {
-    /// A bracket has no other that closes it.
-    #[error("this bracket is not closed: close it")]
-    Unclosed,
-    /// This mark has to come next.
-    #[error("`{mark}` is missing here: write it")]
-    NoMark { mark: &'static str },
-    /// This has to come next.
-    #[error("{what} is missing here: write it")]
-    Missing { what: &'static str },
-    /// A note, or a word of it, is unknown where it stands.
-    #[error("no note {word:?} here: a type has skip, claims NUMBER, with TRAIT and \
-        without TRAIT, a variant tag NUMBER")]
-    UnknownNote { word: String },
-    /// The word behind `claims` or `tag`, or behind the `=` of a variant, is no number that may stand there.
-    #[error("{word:?} is no number below 2^32: write one")]
-    NoNumber { word: String },
-    /// A field is a fact, by which each value of the type has passed a test.
-    #[error("a ghost field says that a value was tested: write this type by hand, below a note `// bincode: skip`")]
-    GhostField,
-    /// A type has a const parameter.
-    #[error("a const parameter: write a type for each number that you have, or this one by hand, \
-        below a note `// bincode: skip`")]
-    ConstParameter,
-    /// A type borrows at two lifetimes.
-    #[error("{name} has two lifetimes: give it one")]
-    TwoLifetimes { name: String },
-    /// An enum has a type parameter, and a lifetime or what is written of a sum alone.
-    #[error("{name} is an enum with a type parameter, and a lifetime or a note that asks for more \
-        than laws: write an enum for each type that you have")]
-    GenericEnum { name: String },
-    /// The library has no words for this type.
-    #[error("the library has no words for `{word}`: {instead}")]
-    NoWords { word: String, instead: &'static str },
-    /// A type may not be let go.
-    #[error("{name} is neither `Drop` nor `Copy`: derive `Drop`")]
-    NotDroppable { name: String },
-    /// A type holds itself.
-    #[error("{name} holds itself, and the library has no words for it: hold its items in a `Vec`, \
-        and name them by index")]
-    HoldsItself { name: String },
-    /// A described enum has tags that are not 0, 1 and so on, or is one of too many variants with a type parameter, a
-    /// lifetime, or a note that asks for a sum.
-    #[error("{name} is described, and has tags that are not 0, 1 and so on, or more than eight \
-        variants and a parameter or another note: take `Described` away")]
-    NotDescribed { name: String },
-    /// Two variants have one tag.
-    #[error("{name} has the tag {tag} of another variant: give it one of its own")]
-    SameTag { name: String, tag: u32 },
-    /// The name of a type or a parameter is one that is written with another meaning.
-    #[error("the name `{name}` is used by what is written for your types: take another")]
-    TakenName { name: String },
-    /// No type stands in the file that is to be written.
-    #[error("no struct or enum stands in this file: write one, or take the note `skip` away")]
-    NoTypes,
-}
 
 /// Why no words were made of a source.
 #[derive(Debug, Drop, Error)]
 pub enum Fault {
-    /// Something in it is refused.
+    /// Something in it is refused. The text says why, and what to write instead.
     #[error("{line}:{column}: {why}")]
     Refused {
         line: usize,
         column: usize,
-        why: Refusal,
+        why: String,
     },
     /// Memory was refused.
     #[error(transparent)]
     Memory(#[from(alloc)] AllocError),
 }
 
-/// What is at this place is refused.
-pub(crate) fn refused(place: Place, why: Refusal) -> Fault {
-    Fault::Refused {
-        line: place.line,
-        column: place.column,
-        why,
+/// A bracket has no other that closes it.
+pub const UNCLOSED: &str = "this bracket is not closed: close it";
+
+/// A mark has to come next.
+pub const NO_MARK: &str = "`$word$` is missing here: write it";
+
+/// A name, or a part of a type, has to come next.
+pub const MISSING: &str = "$word$ is missing here: write it";
+
+/// A note, or a word of it, is unknown where it stands.
+pub const UNKNOWN_NOTE: &str =
+    "no note $quoted$ here: a type has skip, claims NUMBER, with TRAIT and \
+    without TRAIT, a variant tag NUMBER";
+
+/// The word after `claims` or `tag`, or after the `=` of a variant, is no number that may stand there.
+pub const NO_NUMBER: &str = "$quoted$ is no number below 2^32: write one";
+
+/// A field is a fact, by which each value of the type has passed a test.
+pub const GHOST_FIELD: &str =
+    "a ghost field says that a value was tested: write this type by hand, below a note `// bincode: skip`";
+
+/// A type has a const parameter.
+pub const CONST_PARAMETER: &str =
+    "a const parameter: write a type for each number that you have, or this one by hand, \
+    below a note `// bincode: skip`";
+
+/// A type borrows at two lifetimes.
+pub const TWO_LIFETIMES: &str = "$word$ has two lifetimes: give it one";
+
+/// An enum has a type parameter, and a lifetime or what is written of a sum alone.
+pub const GENERIC_ENUM: &str =
+    "$word$ is an enum with a type parameter, and a lifetime or a note that asks for more \
+    than laws: write an enum for each type that you have";
+
+/// The library has no words for a type.
+pub const NO_WORDS: &str = "the library has no words for `$word$`: $instead$";
+
+/// A type may not be let go.
+pub const NOT_DROPPABLE: &str = "$word$ is neither `Drop` nor `Copy`: derive `Drop`";
+
+/// A type holds itself.
+pub const HOLDS_ITSELF: &str =
+    "$word$ holds itself, and the library has no words for it: hold its items in a `Vec`, \
+    and name them by index";
+
+/// A described enum has tags that are not 0, 1 and so on, or is one of too many variants with a type parameter, a
+/// lifetime, or a note that asks for a sum.
+pub const NOT_DESCRIBED: &str =
+    "$word$ is described, and has tags that are not 0, 1 and so on, or more than eight \
+    variants and a parameter or another note: take `Described` away";
+
+/// Two variants have one tag.
+pub const SAME_TAG: &str = "$word$ has the tag $tag$ of another variant: give it one of its own";
+
+/// The name of a type or a parameter is one that is written with another meaning.
+pub const TAKEN_NAME: &str =
+    "the name `$word$` is used by what is written for your types: take another";
+
+/// No type stands in the file that is to be written.
+pub const NO_TYPES: &str =
+    "no struct or enum stands in this file: write one, or take the note `skip` away";
+
+/// What is refused: where it stands, and what is said of it.
+#[derive(Clone, Copy)]
+pub struct Refusal<'t> {
+    place: Place,
+    /// A template, with blanks for what follows.
+    says: &'static str,
+    word: &'t str,
+    instead: &'static str,
+    tag: u32,
+}
+
+impl<'t> Refusal<'t> {
+    /// This is said of a word at this place.
+    pub fn new(place: Place, says: &'static str, word: &'t str) -> Refusal<'t> {
+        Refusal {
+            place,
+            says,
+            word,
+            instead: "",
+            tag: 0,
+        }
+    }
+
+    /// The library has no words for a type, and this is to be written instead.
+    pub fn no_words(place: Place, word: &'t str, instead: &'static str) -> Refusal<'t> {
+        Refusal {
+            place,
+            says: NO_WORDS,
+            word,
+            instead,
+            tag: 0,
+        }
+    }
+
+    /// This variant has the tag of another.
+    pub fn same_tag(place: Place, word: &'t str, tag: u32) -> Refusal<'t> {
+        Refusal {
+            place,
+            says: SAME_TAG,
+            word,
+            instead: "",
+            tag,
+        }
+    }
+
+    /// Adds what fills the blank of this name.
+    fn add_blank(&self, out: &mut Text, name: &str) {
+        match name {
+            "word" => out.add(self.word),
+            "quoted" => out.add_quoted(self.word),
+            "instead" => out.add(self.instead),
+            _ => out.add_number(u64::from(self.tag)),
+        }
+    }
+
+    /// The fault for what is refused.
+    pub fn fault(&self, alloc: Global) -> Result<Fault, AllocError> {
+        let mut why = Text::new(alloc);
+        let mut is_blank = false;
+        for piece in self.says.split('$') {
+            if is_blank {
+                self.add_blank(&mut why, piece);
+            } else {
+                why.add(piece);
+            }
+            is_blank = !is_blank;
+        }
+        Ok(Fault::Refused {
+            line: self.place.line,
+            column: self.place.column,
+            why: why.whole()?,
+        })
     }
 }

@@ -1,9 +1,8 @@
 //! What stands before the brace of an `impl`: parameters, bounds, trait and type.
 
 use crate::blanks::fill;
-use crate::items::{Field, Item, Kind, Param};
+use crate::items::{Item, Param};
 use crate::laws::is_among;
-use crate::notes::Trait;
 use crate::text::Text;
 use crate::tokens::Token;
 
@@ -21,40 +20,48 @@ pub fn add_head(out: &mut Text, item: &Item<'_>, before: &str, of: &str, bound: 
 
 /// Adds a type with its arguments.
 pub fn add_itself(out: &mut Text, item: &Item<'_>) {
-    out.add(item.name.text.as_str());
-    add_arguments(out, item.params.as_slice());
+    out.add(item.name.text);
+    add_arguments(out, item);
 }
 
 /// Adds the type of the parts of a type with its arguments.
 pub fn add_parts(out: &mut Text, item: &Item<'_>) {
-    out.add(item.name.text.as_str());
+    out.add(item.name.text);
     out.add("Parts");
-    add_arguments(out, item.params.as_slice());
+    add_arguments(out, item);
 }
 
 /// Adds what the path of a function of a type begins with, whose name ends in this.
 pub fn add_path(out: &mut Text, item: &Item<'_>, ending: &str) {
-    if !item.is_generic() {
-        out.add(item.name.text.as_str());
-        out.add(ending);
-        return;
-    }
-    out.add("<");
-    out.add(item.name.text.as_str());
+    let is_generic = item.is_generic();
+    out.add(if is_generic { "<" } else { "" });
+    out.add(item.name.text);
     out.add(ending);
-    add_arguments(out, item.params.as_slice());
-    out.add(">");
+    if is_generic {
+        add_arguments(out, item);
+        out.add(">");
+    }
 }
 
 /// Adds the arguments of a type, as `<'a, K>`, or nothing.
-fn add_arguments(out: &mut Text, params: &[Param<'_>]) {
-    let mut is_first = true;
-    for param in params.iter() {
+fn add_arguments(out: &mut Text, item: &Item<'_>) {
+    let mut is_first = add_lifetime(out, item);
+    for param in item.params.iter() {
         open_or_part(out, is_first);
-        out.add(param.name.text.as_str());
+        out.add(param.name);
         is_first = false;
     }
     close(out, is_first);
+}
+
+/// Adds the lifetime of a type as the first part in angle brackets, and hands out whether there is none.
+fn add_lifetime(out: &mut Text, item: &Item<'_>) -> bool {
+    let is_first = item.lifetime.is_empty();
+    if !is_first {
+        out.add("<");
+        out.add(item.lifetime);
+    }
+    is_first
 }
 
 /// Adds what stands before a part in angle brackets.
@@ -69,59 +76,56 @@ pub fn close(out: &mut Text, is_empty: bool) {
     }
 }
 
-/// Adds the parameters of an `impl`: the lifetimes, the trait's own, and those of the type with their bounds.
+/// Adds the parameters of an `impl`: the lifetime, the trait's own, and those of the type with their bounds.
 fn add_params(out: &mut Text, item: &Item<'_>, before: &str, bound: &str) {
-    let mut is_first = true;
-    for param in item.params.iter() {
-        if param.is_lifetime() {
-            open_or_part(out, is_first);
-            out.add(param.name.text.as_str());
-            is_first = false;
-        }
-    }
+    let mut is_first = add_lifetime(out, item);
     if !before.is_empty() {
         open_or_part(out, is_first);
         fill(out, item, before);
         is_first = false;
     }
     for param in item.params.iter() {
-        if !param.is_lifetime() {
-            open_or_part(out, is_first);
-            add_bounded(out, item, param, bound);
-            is_first = false;
-        }
+        open_or_part(out, is_first);
+        add_bounded(out, item, param, bound);
+        is_first = false;
     }
     close(out, is_first);
 }
 
 /// Adds a parameter with its bounds: those of its type, and what a trait asks of it.
 fn add_bounded(out: &mut Text, item: &Item<'_>, param: &Param<'_>, bound: &str) {
-    out.add(param.name.text.as_str());
-    let mut is_first = true;
-    for own in param.bounds.iter() {
-        out.add(if is_first { ": " } else { " + " });
-        out.add_type(own.as_slice());
-        is_first = false;
+    out.add(param.name);
+    let mut is_first = add_own_bound(out, param.bounds, true);
+    for own in item.wheres.iter() {
+        is_first = add_own_bound(out, own.bounds_of(param.name), is_first);
     }
     let more = asked_of(item, param, bound);
-    if !is_told(param, more) {
+    if !is_told(item, param, more) {
         out.add(if is_first { ": " } else { " + " });
         fill(out, item, more);
     }
 }
 
+/// Adds what a type says of a parameter, if that is anything, and hands out whether another bound would be the first.
+fn add_own_bound(out: &mut Text, own: &[Token<'_>], is_first: bool) -> bool {
+    if own.is_empty() {
+        return is_first;
+    }
+    out.add(if is_first { ": " } else { " + " });
+    out.add_type(own);
+    false
+}
+
 /// Whether an enum is written variant by variant. One of which a note asks what stands for a sum alone is written as
 /// that.
 pub fn is_by_variants(item: &Item<'_>) -> bool {
-    let notes = &item.notes;
-    let is_sum = notes.claim.is_some()
-        || notes.asks_for(Trait::Described) && !item.params.is_empty()
-        || notes.asks_for(Trait::Inhabited)
-        || notes.asks_for(Trait::ConstantCharge);
-    match &item.kind {
-        Kind::Struct(_) => false,
-        Kind::Enum(variants) => !is_sum && !variants.is_empty(),
-    }
+    let marks = item.marks;
+    let has_params = item.is_generic() || item.is_borrowing();
+    let is_sum = marks.claim.is_some()
+        || marks.with.described && has_params
+        || marks.with.inhabited
+        || marks.with.constant_charge;
+    item.is_enum && !is_sum && !item.variants.is_empty()
 }
 
 /// What a trait asks of a parameter: its bound where the parameter is a field, and else what it takes to hold it.
@@ -145,32 +149,27 @@ fn asked_beside(bound: &str) -> &'static str {
 }
 
 /// Whether the bounds of a parameter say this.
-fn is_told(param: &Param<'_>, bound: &str) -> bool {
-    if bound == "PartialEq" && (has_bound(param, "Ord") || has_bound(param, "Eq")) {
-        return true;
-    }
-    bound.is_empty() || has_bound(param, bound)
+fn is_told(item: &Item<'_>, param: &Param<'_>, bound: &str) -> bool {
+    bound.is_empty()
+        || has_bound(item, param, bound)
+        || bound == "PartialEq" && (has_bound(item, param, "Ord") || has_bound(item, param, "Eq"))
 }
 
 /// Whether a parameter has this bound by its type.
-fn has_bound(param: &Param<'_>, bound: &str) -> bool {
-    for bounds in param.bounds.iter() {
-        if is_among(bounds.as_slice(), bound) {
+fn has_bound(item: &Item<'_>, param: &Param<'_>, bound: &str) -> bool {
+    for own in item.wheres.iter() {
+        if is_among(own.bounds_of(param.name), bound) {
             return true;
         }
     }
-    false
+    is_among(param.bounds, bound)
 }
 
 /// Adds the bounds of a `where`, and the brace: those of the type, and those on the types of fields that hold a
 /// parameter in another type.
 fn add_wheres(out: &mut Text, item: &Item<'_>, bound: &str) {
     let mut lines = out.beside();
-    for own in item.wheres.iter() {
-        lines.add("    ");
-        lines.add_type(own.as_slice());
-        lines.add(",\n");
-    }
+    add_own_wheres(&mut lines, item);
     if !bound.is_empty() {
         add_bounds(&mut lines, item, bound);
     }
@@ -183,22 +182,21 @@ fn add_wheres(out: &mut Text, item: &Item<'_>, bound: &str) {
     }
 }
 
-/// Adds a line for each type of a field that has this bound.
-fn add_bounds(lines: &mut Text, item: &Item<'_>, bound: &str) {
-    match &item.kind {
-        Kind::Struct(fields) => add_bounds_of(lines, item, fields.as_slice(), bound),
-        Kind::Enum(variants) => {
-            for variant in variants.iter() {
-                add_bounds_of(lines, item, variant.fields.as_slice(), bound);
-            }
+/// Adds a line for each bound of the `where` of a type that is on no parameter.
+fn add_own_wheres(lines: &mut Text, item: &Item<'_>) {
+    for own in item.wheres.iter() {
+        if !item.is_param(own.subject()) {
+            lines.add("    ");
+            lines.add_type(own.tokens);
+            lines.add(",\n");
         }
     }
 }
 
-/// Adds a line for the type of each of these fields that has this bound.
-fn add_bounds_of(lines: &mut Text, item: &Item<'_>, fields: &[Field<'_>], bound: &str) {
-    for field in fields.iter() {
-        let of = field.of.as_slice();
+/// Adds a line for the type of each field that has this bound.
+fn add_bounds(lines: &mut Text, item: &Item<'_>, bound: &str) {
+    for field in item.fields.iter() {
+        let of = field.of;
         if !is_direct(item, of) && !is_among(of, "PhantomData") && holds_any(item, of) {
             add_bound(lines, item, of, bound);
         }
@@ -206,7 +204,7 @@ fn add_bounds_of(lines: &mut Text, item: &Item<'_>, fields: &[Field<'_>], bound:
 }
 
 /// Adds the line that says that a type has this bound, unless it is there.
-fn add_bound(lines: &mut Text, item: &Item<'_>, of: &[&Token], bound: &str) {
+fn add_bound(lines: &mut Text, item: &Item<'_>, of: &[Token<'_>], bound: &str) {
     let mut line = lines.beside();
     line.add("    ");
     line.add_type(of);
@@ -220,24 +218,8 @@ fn add_bound(lines: &mut Text, item: &Item<'_>, of: &[&Token], bound: &str) {
 
 /// Whether a parameter is a field, or stands in a list or a box that is one: then it has the bound itself.
 fn stands_alone(item: &Item<'_>, param: &Param<'_>) -> bool {
-    match &item.kind {
-        Kind::Struct(fields) => stands_alone_in(item, param, fields.as_slice()),
-        Kind::Enum(variants) => {
-            for variant in variants.iter() {
-                if stands_alone_in(item, param, variant.fields.as_slice()) {
-                    return true;
-                }
-            }
-            false
-        }
-    }
-}
-
-/// Whether a parameter is one of these fields, or stands in a list or a box that is one.
-fn stands_alone_in(item: &Item<'_>, param: &Param<'_>, fields: &[Field<'_>]) -> bool {
-    for field in fields.iter() {
-        let of = field.of.as_slice();
-        if is_direct(item, of) && is_among(of, param.name.text.as_str()) {
+    for field in item.fields.iter() {
+        if is_direct(item, field.of) && is_among(field.of, param.name) {
             return true;
         }
     }
@@ -245,9 +227,9 @@ fn stands_alone_in(item: &Item<'_>, param: &Param<'_>, fields: &[Field<'_>]) -> 
 }
 
 /// Whether some type parameter stands in the type of a field.
-fn holds_any(item: &Item<'_>, of: &[&Token]) -> bool {
+fn holds_any(item: &Item<'_>, of: &[Token<'_>]) -> bool {
     for word in of.iter() {
-        if item.has_param(word.text.as_str()) && !word.text.starts_with('\'') {
+        if item.has_param(word.text) {
             return true;
         }
     }
@@ -255,12 +237,16 @@ fn holds_any(item: &Item<'_>, of: &[&Token]) -> bool {
 }
 
 /// Whether nothing but parameters, lists and boxes stands in the type of a field.
-fn is_direct(item: &Item<'_>, of: &[&Token]) -> bool {
+fn is_direct(item: &Item<'_>, of: &[Token<'_>]) -> bool {
     for word in of.iter() {
-        let text = word.text.as_str();
-        if !matches!(text, "Vec" | "Box" | "<" | ">") && !item.has_param(text) {
+        if !is_list_or_box(word.text) && !item.has_param(word.text) {
             return false;
         }
     }
     true
+}
+
+/// Whether a token stands in the type of a list or a box, beside that of what it holds.
+fn is_list_or_box(token: &str) -> bool {
+    matches!(token, "Vec" | "Box" | "<" | ">")
 }

@@ -1,105 +1,103 @@
 //! The structs and enums that stand in a source.
 
-use crate::cursor::is_one_of;
 use crate::laws::{Keeps, is_among};
-use crate::notes::Notes;
+use crate::notes::Marks;
 use crate::text::{text_at, text_before};
-use crate::tokens::Token;
-use std::alloc::{AllocError, Global};
+use crate::tokens::{Place, Token};
 
 /// A field: its name, which it has none of in a tuple, and its type.
-#[derive(Drop)]
+#[derive(Clone, Copy)]
 pub struct Field<'t> {
     pub name: Option<&'t str>,
-    pub of: Vec<&'t Token>,
-}
-
-/// The fields of a struct or of a variant.
-#[derive(Drop)]
-pub enum Fields<'t> {
-    Unit,
-    Tuple(Vec<Field<'t>>),
-    Named(Vec<Field<'t>>),
-}
-
-impl<'t> Fields<'t> {
-    /// The fields, one after the other.
-    pub fn as_slice(&self) -> &[Field<'t>] {
-        match self {
-            Fields::Unit => &[],
-            Fields::Tuple(fields) | Fields::Named(fields) => fields.as_slice(),
-        }
-    }
-}
-
-/// A variant: its name, its tag, and its fields. Where the author gives it no tag, that is one more than that of the
-/// variant before.
-#[derive(Drop)]
-pub struct Variant<'t> {
-    pub name: &'t Token,
-    pub tag: u32,
-    pub fields: Fields<'t>,
-}
-
-/// What a type is.
-#[derive(Drop)]
-pub enum Kind<'t> {
-    Struct(Fields<'t>),
-    Enum(Vec<Variant<'t>>),
-}
-
-impl Kind<'_> {
-    /// Whether this stands in the type of a field.
-    fn says(&self, word: &str) -> bool {
-        match self {
-            Kind::Struct(fields) => say(fields.as_slice(), word),
-            Kind::Enum(variants) => {
-                for variant in variants.iter() {
-                    if say(variant.fields.as_slice(), word) {
-                        return true;
-                    }
-                }
-                false
-            }
-        }
-    }
+    pub of: &'t [Token<'t>],
 }
 
 /// Whether a word stands in the types of some fields.
 pub fn say(fields: &[Field<'_>], word: &str) -> bool {
     for field in fields.iter() {
-        if is_among(field.of.as_slice(), word) {
+        if is_among(field.of, word) {
             return true;
         }
     }
     false
 }
 
-/// A type parameter or a lifetime, and its bounds, each as it is written.
-#[derive(Drop)]
-pub struct Param<'t> {
-    pub name: &'t Token,
-    pub bounds: Vec<Vec<&'t Token>>,
+/// What stands around the fields of a struct or of a variant.
+#[derive(Clone, Copy)]
+pub enum Brackets {
+    /// Nothing: it has no fields.
+    Missing,
+    /// `(` and `)`, around fields without names.
+    Round,
+    /// `{` and `}`, around fields with names.
+    Curly,
 }
 
-impl Param<'_> {
-    pub fn is_lifetime(&self) -> bool {
-        self.name.text.starts_with('\'')
+/// A variant. Where the author gives it no tag, that is one more than that of the variant before. A struct has one, of
+/// its own name.
+#[derive(Clone, Copy)]
+pub struct Variant<'t> {
+    pub name: Token<'t>,
+    pub tag: u32,
+    pub brackets: Brackets,
+    /// Where its fields begin and end among those of its type.
+    pub start: usize,
+    pub end: usize,
+}
+
+/// A type parameter, and the bounds that stand after its colon.
+#[derive(Clone, Copy)]
+pub struct Param<'t> {
+    pub name: &'t str,
+    pub place: Place,
+    pub bounds: &'t [Token<'t>],
+}
+
+/// What a `where` says of a type: the type, a colon, and its bounds.
+#[derive(Clone, Copy)]
+pub struct Predicate<'t> {
+    pub tokens: &'t [Token<'t>],
+}
+
+impl<'t> Predicate<'t> {
+    /// The type that it speaks of, if that is one word, and else `""`.
+    pub fn subject(&self) -> &'t str {
+        if text_at(self.tokens, 1) == ":" {
+            text_at(self.tokens, 0)
+        } else {
+            ""
+        }
+    }
+
+    /// The bounds of this type parameter, and nothing if it speaks of another type.
+    pub fn bounds_of(&self, param: &str) -> &'t [Token<'t>] {
+        if self.subject() == param {
+            self.tokens.get(2..).unwrap_or(&[])
+        } else {
+            &[]
+        }
     }
 }
 
 /// A struct or an enum.
 #[derive(Drop)]
 pub struct Item<'t> {
-    pub name: &'t Token,
+    pub name: Token<'t>,
+    pub is_enum: bool,
+    /// What stands above it.
+    pub marks: Marks,
+    /// Its first lifetime, and `""` if it has none.
+    pub lifetime: &'t str,
+    pub has_two_lifetimes: bool,
+    /// Its type parameters.
     pub params: Vec<Param<'t>>,
-    /// What its `where` says of other types than its parameters.
-    pub wheres: Vec<Vec<&'t Token>>,
-    pub kind: Kind<'t>,
-    /// The traits that it derives.
-    pub derives: Vec<&'t str>,
-    /// What its notes say.
-    pub notes: Notes,
+    /// What its `where` says.
+    pub wheres: Vec<Predicate<'t>>,
+    pub variants: Vec<Variant<'t>>,
+    /// The fields of its variants, one after the other.
+    pub fields: Vec<Field<'t>>,
+    /// The names and marks in the types of its fields that are those of the source or the library.
+    pub names: Vec<Token<'t>>,
     /// What is written for it beside its words.
     pub keeps: Keeps,
 }
@@ -107,113 +105,43 @@ pub struct Item<'t> {
 impl<'t> Item<'t> {
     /// Whether it holds bytes of what it is decoded from.
     pub fn is_borrowing(&self) -> bool {
-        for param in self.params.iter() {
-            if param.is_lifetime() {
-                return true;
-            }
-        }
-        false
-    }
-
-    /// Its lifetime, and `""` if it has none.
-    pub fn lifetime(&self) -> &'t str {
-        for param in self.params.iter() {
-            if param.is_lifetime() {
-                return param.name.text.as_str();
-            }
-        }
-        ""
+        !self.lifetime.is_empty()
     }
 
     /// Whether it has a type parameter.
     pub fn is_generic(&self) -> bool {
-        for param in self.params.iter() {
-            if !param.is_lifetime() {
-                return true;
-            }
-        }
-        false
+        !self.params.is_empty()
     }
 
     /// Whether this is one of its type parameters.
     pub fn has_param(&self, word: &str) -> bool {
         for param in self.params.iter() {
-            if param.name.text.as_str() == word {
+            if param.name == word {
                 return true;
             }
         }
         false
     }
 
+    /// Whether this is one of its parameters. `""` is none.
+    pub fn is_param(&self, word: &str) -> bool {
+        self.has_param(word) || self.is_borrowing() && self.lifetime == word
+    }
+
     /// Whether this is its name or that of a parameter, or stands in the type of a field.
     pub fn says(&self, word: &str) -> bool {
-        self.name.text.as_str() == word || self.has_param(word) || self.kind.says(word)
+        self.name.text == word || self.has_param(word) || say(self.fields.as_slice(), word)
     }
 
-    /// The variants of an enum, and none of a struct.
-    pub fn variants(&self) -> &[Variant<'t>] {
-        match &self.kind {
-            Kind::Struct(_) => &[],
-            Kind::Enum(variants) => variants.as_slice(),
-        }
-    }
-
-    /// The types of its fields, those of an enum variant by variant.
-    pub fn types(&self, alloc: Global) -> Result<Vec<&[&'t Token]>, AllocError> {
-        let mut types = Vec::new(alloc);
-        match &self.kind {
-            Kind::Struct(fields) => add_types(&mut types, fields.as_slice())?,
-            Kind::Enum(variants) => {
-                for variant in variants.iter() {
-                    add_types(&mut types, variant.fields.as_slice())?;
-                }
-            }
-        }
-        Ok(types)
-    }
-
-    /// The names in the types of its fields that are those of the source or the library. A name of another module,
-    /// behind the path of that, is none.
-    pub fn names(&self, alloc: Global) -> Result<Vec<&'t Token>, AllocError> {
-        let mut names = Vec::new(alloc);
-        for of in self.types(alloc)?.iter() {
-            add_names(&mut names, of)?;
-        }
-        Ok(names)
+    /// The fields of one of its variants.
+    pub fn fields_of(&self, variant: &Variant<'_>) -> &[Field<'t>] {
+        let fields = self.fields.as_slice();
+        fields.get(variant.start..variant.end).unwrap_or_default()
     }
 }
 
-/// Adds the types of some fields.
-fn add_types<'f, 't>(
-    types: &mut Vec<&'f [&'t Token]>,
-    fields: &'f [Field<'t>],
-) -> Result<(), AllocError> {
-    for field in fields.iter() {
-        types.push(field.of.as_slice())?;
-    }
-    Ok(())
-}
-
-/// Adds the words and marks of a type, but for those of other modules.
-fn add_names<'t>(names: &mut Vec<&'t Token>, of: &[&'t Token]) -> Result<(), AllocError> {
-    let mut is_elsewhere = false;
-    for at in 0..of.len() {
-        let is_inner = at > 0 && text_at(of, at.saturating_sub(1)) == "::";
-        let text = text_at(of, at);
-        if !is_inner && text != "::" {
-            is_elsewhere = text_at(of, at.saturating_add(1)) == "::" && !is_known(text);
-        }
-        if let Some(word) = of.get(at)
-            && !is_elsewhere
-        {
-            names.push(*word)?;
-        }
-    }
-    Ok(())
-}
-
-/// Whether the names behind this, at the front of a path, are those of the library or of the source.
-fn is_known(front: &str) -> bool {
+/// Whether the names after this, at the front of a path, are those of the library or of the source.
+pub fn is_known(front: &str) -> bool {
     matches!(front, "self" | "std" | "core" | "alloc" | "bincode")
 }
 
@@ -221,41 +149,34 @@ fn is_known(front: &str) -> bool {
 #[derive(Drop)]
 pub struct Source<'t> {
     pub items: Vec<Item<'t>>,
-    /// The `impl`s that it has: trait and type.
-    pub impls: Vec<(&'t str, &'t str)>,
+    /// The types that have an `impl` of `Drop` or `Copy`.
+    pub droppable: Vec<&'t str>,
+    /// The types that have an `impl` of `PartialEq`.
+    pub comparable: Vec<&'t str>,
     /// The names that it imports from the standard library.
     pub std_names: Vec<&'t str>,
 }
 
 impl Source<'_> {
     /// Whether the path that ends at this place of a type leads into the standard library.
-    pub fn is_of_std(&self, of: &[&Token], at: usize) -> bool {
+    pub fn is_of_std(&self, of: &[Token<'_>], at: usize) -> bool {
         let first = path_start(of, at);
-        if matches!(first, "std" | "core" | "alloc") {
-            return true;
-        }
-        is_one_of(first, self.std_names.as_slice())
+        matches!(first, "std" | "core" | "alloc") || self.std_names.as_slice().contains(&first)
     }
 
-    /// Whether a type has this trait, by a derive or an `impl`.
-    pub fn has(&self, item: &Item<'_>, name: &str) -> bool {
-        let of = item.name.text.as_str();
-        is_one_of(name, item.derives.as_slice()) || self.has_impl(name, of)
+    /// Whether a type is `Drop` or `Copy`, by a derive or an `impl`.
+    pub fn is_droppable(&self, item: &Item<'_>) -> bool {
+        item.marks.is_droppable || self.droppable.as_slice().contains(&item.name.text)
     }
 
-    /// Whether an `impl` of this trait stands there for a type of this name.
-    fn has_impl(&self, name: &str, of: &str) -> bool {
-        for (found, found_of) in self.impls.iter() {
-            if *found == name && *found_of == of {
-                return true;
-            }
-        }
-        false
+    /// Whether a type is `PartialEq`, by a derive or an `impl`.
+    pub fn is_comparable(&self, item: &Item<'_>) -> bool {
+        item.marks.is_comparable || self.comparable.as_slice().contains(&item.name.text)
     }
 }
 
 /// The first word of the path that ends at this place.
-fn path_start<'t>(of: &[&'t Token], at: usize) -> &'t str {
+fn path_start<'t>(of: &[Token<'t>], at: usize) -> &'t str {
     let mut at = at;
     for _ in 0..of.len() {
         if at < 2 || text_before(of, at) != "::" {

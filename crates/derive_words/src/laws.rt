@@ -1,10 +1,8 @@
 //! Which laws a type keeps, by the names that stand in the types of its fields.
 
-use crate::items::{Item, Kind, Source};
-use crate::notes::Trait;
+use crate::items::{Item, Source};
 use crate::text::text_at;
 use crate::tokens::Token;
-use std::alloc::{AllocError, Global};
 
 /// What is written for a type beside its words.
 #[derive(Clone, Copy)]
@@ -18,7 +16,7 @@ pub struct Keeps {
 
 /// Finds what each type of a source keeps: what all that it holds does. A name that is neither the library's nor the
 /// source's is taken to keep all: where it does not, the prover refuses the `impl`.
-pub fn find_kept(alloc: Global, source: &mut Source<'_>) -> Result<(), AllocError> {
+pub fn find_kept(source: &mut Source<'_>) {
     let count = source.items.len();
     for at in 0..count {
         let keeps = first_keeps_at(source, at);
@@ -27,11 +25,10 @@ pub fn find_kept(alloc: Global, source: &mut Source<'_>) -> Result<(), AllocErro
     // What one type lacks, those that hold it lack: as many rounds as there are types are enough.
     for _ in 0..count {
         for at in 0..count {
-            let keeps = next_keeps_at(alloc, source, at)?;
+            let keeps = next_keeps_at(source, at);
             set_keeps(source, at, keeps);
         }
     }
-    Ok(())
 }
 
 /// Says what the type at this place keeps.
@@ -50,43 +47,36 @@ fn first_keeps_at(source: &Source<'_>, at: usize) -> Keeps {
 }
 
 /// What the type at this place keeps, if those that it holds keep what they say.
-fn next_keeps_at(alloc: Global, source: &Source<'_>, at: usize) -> Result<Keeps, AllocError> {
+fn next_keeps_at(source: &Source<'_>, at: usize) -> Keeps {
     match source.items.get(at) {
-        Some(item) => next_keeps(alloc, source, item),
-        None => Ok(NOTHING),
+        Some(item) => next_keeps(source, item),
+        None => NOTHING,
     }
 }
 
 /// What a type keeps by its derives and its notes alone.
 fn first_keeps(source: &Source<'_>, item: &Item<'_>) -> Keeps {
-    let notes = &item.notes;
+    let marks = item.marks;
+    let has_values = !item.variants.is_empty();
     Keeps {
-        plain: !notes.leaves_out(Trait::Plain),
-        exact: has_values(item) && source.has(item, "PartialEq") && !notes.leaves_out(Trait::Exact),
-        canonical: !notes.leaves_out(Trait::Canonical),
-        is_lent: notes.asks_for(Trait::BorrowDecode),
-    }
-}
-
-/// Whether a type is no enum without variants.
-fn has_values(item: &Item<'_>) -> bool {
-    match &item.kind {
-        Kind::Struct(_) => true,
-        Kind::Enum(variants) => !variants.is_empty(),
+        plain: !marks.without.plain,
+        exact: has_values && source.is_comparable(item) && !marks.without.exact,
+        canonical: !marks.without.canonical,
+        is_lent: marks.with.borrow_decode,
     }
 }
 
 /// What a type keeps, if those that it holds keep what they say.
-fn next_keeps(alloc: Global, source: &Source<'_>, item: &Item<'_>) -> Result<Keeps, AllocError> {
+fn next_keeps(source: &Source<'_>, item: &Item<'_>) -> Keeps {
     let mut keeps = item.keeps;
-    for word in item.names(alloc)?.iter() {
-        keeps = both(keeps, keeps_of(source, word.text.as_str()));
+    for word in item.names.iter() {
+        keeps = both(keeps, keeps_of(source, word.text));
     }
-    if has_inexact_keys(alloc, source, item)? {
+    if has_inexact_keys(source, item) {
         keeps = both(keeps, NOTHING);
     }
-    keeps.is_lent = keeps.is_lent || is_held_by_borrower(alloc, source, item)?;
-    Ok(keeps)
+    keeps.is_lent = keeps.is_lent || is_held_by_borrower(source, item);
+    keeps
 }
 
 /// What a type keeps that holds one of these. A law rests on its being plain.
@@ -103,7 +93,7 @@ fn both(keeps: Keeps, below: Keeps) -> Keeps {
 /// What this name keeps.
 fn keeps_of(source: &Source<'_>, name: &str) -> Keeps {
     for item in source.items.iter() {
-        if item.name.text.as_str() == name {
+        if item.name.text == name {
             return item.keeps;
         }
     }
@@ -136,19 +126,23 @@ fn library_keeps(name: &str) -> Keeps {
 
 /// Whether a field of a type is a set or a map whose keys are not exact. Such a one keeps no law: its laws rest on it
 /// that different keys are written as different bytes.
-fn has_inexact_keys(
-    alloc: Global,
-    source: &Source<'_>,
-    item: &Item<'_>,
-) -> Result<bool, AllocError> {
-    for of in item.types(alloc)?.iter() {
-        for at in 0..of.len() {
-            if is_keyed(text_at(of, at)) && !is_exact_key(source, of, at) {
-                return Ok(true);
-            }
+fn has_inexact_keys(source: &Source<'_>, item: &Item<'_>) -> bool {
+    for field in item.fields.iter() {
+        if is_inexactly_keyed(source, field.of) {
+            return true;
         }
     }
-    Ok(false)
+    false
+}
+
+/// Whether a set or a map whose keys are not exact stands in a type.
+fn is_inexactly_keyed(source: &Source<'_>, of: &[Token<'_>]) -> bool {
+    for at in 0..of.len() {
+        if is_keyed(text_at(of, at)) && !is_exact_key(source, of, at) {
+            return true;
+        }
+    }
+    false
 }
 
 /// Whether a name is that of a set or a map.
@@ -157,10 +151,10 @@ fn is_keyed(name: &str) -> bool {
 }
 
 /// Whether all that stands in the key of the set or map at this place is exact.
-fn is_exact_key(source: &Source<'_>, of: &[&Token], at: usize) -> bool {
+fn is_exact_key(source: &Source<'_>, of: &[Token<'_>], at: usize) -> bool {
     let mut depth = 0u64;
     for word in of.iter().skip(at.saturating_add(1)) {
-        let text = word.text.as_str();
+        let text = word.text;
         match text {
             "<" | "(" | "[" => depth = depth.saturating_add(1),
             ">" | ")" | "]" => depth = depth.saturating_sub(1),
@@ -175,24 +169,20 @@ fn is_exact_key(source: &Source<'_>, of: &[&Token], at: usize) -> bool {
 }
 
 /// Whether a type of the source that is decoded by borrowing holds this one.
-fn is_held_by_borrower(
-    alloc: Global,
-    source: &Source<'_>,
-    held: &Item<'_>,
-) -> Result<bool, AllocError> {
+fn is_held_by_borrower(source: &Source<'_>, held: &Item<'_>) -> bool {
     for item in source.items.iter() {
         let is_borrower = item.keeps.is_lent || item.is_borrowing();
-        if is_borrower && is_among(item.names(alloc)?.as_slice(), held.name.text.as_str()) {
-            return Ok(true);
+        if is_borrower && is_among(item.names.as_slice(), held.name.text) {
+            return true;
         }
     }
-    Ok(false)
+    false
 }
 
 /// Whether a word stands among these.
-pub fn is_among(words: &[&Token], word: &str) -> bool {
+pub fn is_among(words: &[Token<'_>], word: &str) -> bool {
     for other in words.iter() {
-        if other.text.as_str() == word {
+        if other.text == word {
             return true;
         }
     }

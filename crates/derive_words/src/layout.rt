@@ -20,7 +20,7 @@ const FIELDS_WIDTH: usize = 18;
 const SHORT_PART: usize = 10;
 
 /// What a line is a part of, by which its lists are broken.
-#[derive(Clone, Copy, PartialEq)]
+#[derive(Clone, Copy)]
 enum Context {
     Code,
     Pattern,
@@ -235,7 +235,7 @@ fn wide_group(text: &str, context: Context) -> Option<Group> {
     let mut from = 0;
     for _ in 0..u64::MAX {
         let group = group_from(text, from)?;
-        let is_pattern = context == Context::Pattern || group.open < pattern_end(text);
+        let is_pattern = matches!(context, Context::Pattern) || group.open < pattern_end(text);
         let inner = innermost(text, group, is_pattern);
         if is_wide(text, inner, is_pattern) {
             return Some(inner);
@@ -333,7 +333,7 @@ fn break_group(lines: &mut Lines, text: &str, group: Group, context: Context) {
         context
     };
     let held = held_by(text, group);
-    let is_call = from_bracket(text, group).starts_with('(') && within == Context::Code;
+    let is_call = from_bracket(text, group).starts_with('(') && matches!(within, Context::Code);
     let indent = indent_of(text);
     let front = text.get(..group.open.saturating_add(1)).unwrap_or(text);
     lines.add("", front, context);

@@ -2,14 +2,14 @@
 
 use crate::decoding::add_lent_decode;
 use crate::enums::add_enum_impls;
-use crate::error::{Fault, Refusal, refused};
+use crate::error::{Fault, NO_TYPES, Refusal};
 use crate::heads::is_by_variants;
-use crate::items::{Item, Kind, Source};
+use crate::items::{Item, Source};
 use crate::laws::find_kept;
 use crate::layout::laid_out;
 use crate::parts::{add_alias, add_shown};
 use crate::read::source_of;
-use crate::refusals::refuse;
+use crate::refusals::{holds_itself, refusal_of};
 use crate::structs::add_struct_impls;
 use crate::text::Text;
 use crate::tokens::{Place, tokens_of};
@@ -36,31 +36,50 @@ ghost use Rattle.bincode.specs.TypeLaws.{CanonicalWords, ExactWords, PlainWords}
 pub fn module_of(alloc: Global, origin: &Origin<'_>, text: &str) -> Result<String, Fault> {
     let tokens = tokens_of(alloc, text)?;
     let mut source = source_of(alloc, tokens.as_slice())?;
-    find_kept(alloc, &mut source)?;
+    find_kept(&mut source);
+    refuse_any(alloc, &source)?;
     let mut impls = Text::new(alloc);
-    let mut left_out = Text::new(alloc);
-    for item in source.items.iter() {
-        if !item.notes.is_skipped {
-            refuse(alloc, &source, item)?;
-            add_impls(&mut impls, origin, item);
-            add_left_out(&mut left_out, item);
-        }
-    }
-    let impls = impls.whole()?;
-    if impls.is_empty() {
-        return Err(refused(Place { line: 1, column: 1 }, Refusal::NoTypes));
-    }
-    let tokens = tokens_of(alloc, impls.as_str())?;
     let mut module = Text::new(alloc);
     add_module_head(&mut module, origin);
-    module.add_text(&left_out);
+    for item in source.items.iter() {
+        if !item.marks.is_skipped {
+            add_impls(&mut impls, origin, item);
+            add_left_out(&mut module, item);
+        }
+    }
     module.add(ghost_lines(&source));
     module.add("\n");
-    add_uses(&mut module, tokens.as_slice());
-    module.add("\n");
-    module.add(impls.as_str().trim_end());
-    module.add("\n");
+    add_impls_used(&mut module, impls.whole()?.as_str())?;
     Ok(laid_out(alloc, module.whole()?.as_str())?)
+}
+
+/// Fails where a type can't be written, or where none is to be.
+fn refuse_any(alloc: Global, source: &Source<'_>) -> Result<(), Fault> {
+    let mut is_empty = true;
+    for item in source.items.iter() {
+        if !item.marks.is_skipped {
+            is_empty = false;
+            let holds_itself = holds_itself(alloc, source, item)?;
+            if let Some(refusal) = refusal_of(source, item, holds_itself) {
+                return Err(refusal.fault(alloc)?);
+            }
+        }
+    }
+    if is_empty {
+        let place = Place { line: 1, column: 1 };
+        return Err(Refusal::new(place, NO_TYPES, "").fault(alloc)?);
+    }
+    Ok(())
+}
+
+/// Adds some `impl`s, and before them the `use` lines for what they name.
+fn add_impls_used(module: &mut Text, impls: &str) -> Result<(), AllocError> {
+    let tokens = tokens_of(module.alloc(), impls)?;
+    add_uses(module, tokens.as_slice());
+    module.add("\n");
+    module.add(impls.trim_end());
+    module.add("\n");
+    Ok(())
 }
 
 /// Adds what the module says of itself.
@@ -74,7 +93,7 @@ fn add_module_head(out: &mut Text, origin: &Origin<'_>) {
 /// The imports of what types with a lifetime promise.
 fn ghost_lines(source: &Source<'_>) -> &'static str {
     for item in source.items.iter() {
-        if item.is_borrowing() && !item.notes.is_skipped {
+        if item.is_borrowing() && !item.marks.is_skipped {
             return GHOST_LINES;
         }
     }
@@ -90,9 +109,9 @@ fn add_impls(out: &mut Text, origin: &Origin<'_>, item: &Item<'_>) {
         add_enum_by_variants(out, item, origin.declared);
     }
     add_laws(out, item);
-    match &item.kind {
-        Kind::Struct(fields) => add_struct_impls(out, item, fields.as_slice()),
-        Kind::Enum(variants) => add_enum_impls(out, item, variants.as_slice()),
+    match item.variants.first() {
+        Some(fields) if !item.is_enum => add_struct_impls(out, item, fields),
+        _ => add_enum_impls(out, item),
     }
     if item.keeps.is_lent && !item.is_borrowing() {
         add_lent_decode(out, item);
@@ -106,7 +125,7 @@ fn add_left_out(out: &mut Text, item: &Item<'_>) {
         return;
     }
     out.add("//! Left out of ");
-    out.add(item.name.text.as_str());
+    out.add(item.name.text);
     let is_first = add_left_law(out, keeps.plain, "Plain", true);
     let is_first = add_left_law(out, keeps.exact, "Exact", is_first);
     add_left_law(out, keeps.canonical, "Canonical", is_first);

@@ -1,101 +1,128 @@
-//! The notes to this program that stand above a type, as `// bincode: with Described, Writable`.
+//! What stands above a type: what it derives, and notes to this program, as `// bincode: with Described, Writable`.
 
-use crate::error::{Fault, Refusal, refused};
+use crate::cursor::Cursor;
+use crate::error::{NO_NUMBER, Refusal, UNKNOWN_NOTE};
 use crate::tokens::{NOTE, Place, Token};
-use std::alloc::{AllocError, Global};
 
-/// A trait that is written where a note asks for it, or left out where one says so.
-#[derive(Clone, Copy, PartialEq)]
-pub enum Trait {
-    Plain,
-    Exact,
-    Canonical,
-    Writable,
-    Inhabited,
-    ConstantCharge,
-    Described,
-    BorrowDecode,
+/// Which traits a note names.
+#[derive(Clone, Copy)]
+pub struct Traits {
+    pub plain: bool,
+    pub exact: bool,
+    pub canonical: bool,
+    pub writable: bool,
+    pub inhabited: bool,
+    pub constant_charge: bool,
+    pub described: bool,
+    pub borrow_decode: bool,
 }
 
-/// What the notes above a type say.
-#[derive(Drop)]
-pub struct Notes {
-    /// Nothing is written for the type.
+impl Traits {
+    fn new() -> Traits {
+        Traits {
+            plain: false,
+            exact: false,
+            canonical: false,
+            writable: false,
+            inhabited: false,
+            constant_charge: false,
+            described: false,
+            borrow_decode: false,
+        }
+    }
+
+    /// Adds the trait of this name. `false` if notes speak of none that is called so.
+    fn add(&mut self, name: &str) -> bool {
+        match name {
+            "Plain" => self.plain = true,
+            "Exact" => self.exact = true,
+            "Canonical" => self.canonical = true,
+            "Writable" => self.writable = true,
+            "Inhabited" => self.inhabited = true,
+            "ConstantCharge" => self.constant_charge = true,
+            "Described" => self.described = true,
+            "BorrowDecode" => self.borrow_decode = true,
+            _ => return false,
+        }
+        true
+    }
+}
+
+/// What stands above a type.
+#[derive(Clone, Copy)]
+pub struct Marks {
+    /// It derives `Drop` or `Copy`.
+    pub is_droppable: bool,
+    /// It derives `PartialEq`.
+    pub is_comparable: bool,
+    /// Nothing is written for it.
     pub is_skipped: bool,
     /// What a container claims for a value.
     pub claim: Option<u32>,
     /// What is written beside what each type has.
-    pub with: Vec<Trait>,
+    pub with: Traits,
     /// What is left out.
-    pub without: Vec<Trait>,
+    pub without: Traits,
 }
 
-impl Notes {
-    pub fn new(alloc: Global) -> Notes {
-        Notes {
+impl Marks {
+    pub fn new() -> Marks {
+        Marks {
+            is_droppable: false,
+            is_comparable: false,
             is_skipped: false,
             claim: None,
-            with: Vec::new(alloc),
-            without: Vec::new(alloc),
+            with: Traits::new(),
+            without: Traits::new(),
         }
     }
 
-    /// Whether a note asks for this trait.
-    pub fn asks_for(&self, asked: Trait) -> bool {
-        has(self.with.as_slice(), asked)
-    }
-
-    /// Whether a note leaves this trait out.
-    pub fn leaves_out(&self, asked: Trait) -> bool {
-        has(self.without.as_slice(), asked)
+    /// Adds a trait that the type derives.
+    pub fn add_derived(&mut self, name: &str) {
+        match name {
+            "Drop" | "Copy" => self.is_droppable = true,
+            "PartialEq" => self.is_comparable = true,
+            _ => {}
+        }
     }
 
     /// Adds what a token says, if it is a note.
-    pub fn add(&mut self, alloc: Global, token: &Token) -> Result<(), Fault> {
+    pub fn add_note<'t>(&mut self, cursor: &mut Cursor<'t>, token: Token<'t>) {
         let Some(words) = token.text.strip_prefix(NOTE) else {
-            return Ok(());
+            return;
         };
         let mut verb = Verb::Nothing;
         for word in words.split_whitespace() {
             let word = word.trim_end_matches(',');
             match verb_named(word) {
                 Some(next) => verb = next,
-                None => self.add_word(alloc, token.place, verb, word)?,
+                None => self.add_word(cursor, token.place, verb, word),
             }
         }
-        Ok(())
     }
 
-    /// Adds a word that stands behind a verb, or `skip`.
-    fn add_word(
-        &mut self,
-        alloc: Global,
-        place: Place,
-        verb: Verb,
-        word: &str,
-    ) -> Result<(), Fault> {
-        match verb {
-            _ if word == "skip" => self.is_skipped = true,
-            Verb::Claims => self.claim = Some(number_of(alloc, place, word)?),
-            Verb::With => self.with.push(trait_of(alloc, place, word)?)?,
-            Verb::Without => self.without.push(trait_of(alloc, place, word)?)?,
-            Verb::Nothing => return Err(unknown(alloc, place, word)?),
+    /// Adds a word that stands after a verb, or `skip`.
+    fn add_word<'t>(&mut self, cursor: &mut Cursor<'t>, place: Place, verb: Verb, word: &'t str) {
+        let is_known = match verb {
+            _ if word == "skip" => {
+                self.is_skipped = true;
+                true
+            }
+            Verb::Claims => {
+                self.claim = Some(number_of(cursor, place, word));
+                true
+            }
+            Verb::With => self.with.add(word),
+            Verb::Without => self.without.add(word),
+            Verb::Nothing => false,
+        };
+        if !is_known {
+            cursor.refuse(Refusal::new(place, UNKNOWN_NOTE, word));
         }
-        Ok(())
     }
 }
 
-/// Whether a trait stands among these.
-fn has(traits: &[Trait], asked: Trait) -> bool {
-    for found in traits.iter() {
-        if *found == asked {
-            return true;
-        }
-    }
-    false
-}
-
-/// What the words of a note behind it say.
+/// What the words of a note after it say.
 #[derive(Clone, Copy)]
 enum Verb {
     Nothing,
@@ -114,57 +141,26 @@ fn verb_named(word: &str) -> Option<Verb> {
     }
 }
 
-/// The trait of this name.
-fn trait_of(alloc: Global, place: Place, word: &str) -> Result<Trait, Fault> {
-    match trait_named(word) {
-        Some(found) => Ok(found),
-        None => Err(unknown(alloc, place, word)?),
-    }
-}
-
-/// The trait of this name, if it is one that notes speak of.
-fn trait_named(word: &str) -> Option<Trait> {
-    match word {
-        "Plain" => Some(Trait::Plain),
-        "Exact" => Some(Trait::Exact),
-        "Canonical" => Some(Trait::Canonical),
-        "Writable" => Some(Trait::Writable),
-        "Inhabited" => Some(Trait::Inhabited),
-        "ConstantCharge" => Some(Trait::ConstantCharge),
-        "Described" => Some(Trait::Described),
-        "BorrowDecode" => Some(Trait::BorrowDecode),
-        _ => None,
-    }
-}
-
-/// The refusal of a word that no note has.
-pub fn unknown(alloc: Global, place: Place, word: &str) -> Result<Fault, AllocError> {
-    let word = String::from_str(alloc, word)?;
-    Ok(refused(place, Refusal::UnknownNote { word }))
-}
-
 /// The number that a word spells.
-pub fn number_of(alloc: Global, place: Place, word: &str) -> Result<u32, Fault> {
+pub fn number_of<'t>(cursor: &mut Cursor<'t>, place: Place, word: &'t str) -> u32 {
     match word.parse::<u32>() {
-        Ok(number) => Ok(number),
-        Err(_) => Err(no_number(alloc, place, word)?),
+        Ok(number) => number,
+        Err(_) => {
+            cursor.refuse(Refusal::new(place, NO_NUMBER, word));
+            0
+        }
     }
-}
-
-/// The refusal of a word that is no number.
-fn no_number(alloc: Global, place: Place, word: &str) -> Result<Fault, AllocError> {
-    let word = String::from_str(alloc, word)?;
-    Ok(refused(place, Refusal::NoNumber { word }))
 }
 
 /// The tag in a note above a variant, as `// bincode: tag 300`.
-pub fn tag_of(alloc: Global, token: &Token) -> Result<Option<u32>, Fault> {
-    let Some(words) = token.text.strip_prefix(NOTE) else {
-        return Ok(None);
-    };
+pub fn tag_of<'t>(cursor: &mut Cursor<'t>, token: Token<'t>) -> Option<u32> {
+    let words = token.text.strip_prefix(NOTE)?;
     let mut words = words.split_whitespace();
     match (words.next(), words.next()) {
-        (Some("tag"), Some(word)) => Ok(Some(number_of(alloc, token.place, word)?)),
-        _ => Err(unknown(alloc, token.place, token.text.as_str())?),
+        (Some("tag"), Some(word)) => Some(number_of(cursor, token.place, word)),
+        _ => {
+            cursor.refuse(Refusal::new(token.place, UNKNOWN_NOTE, token.text));
+            None
+        }
     }
 }

@@ -1,11 +1,11 @@
 //! The parts of a type, and how a value is shown as them.
 
 use crate::blanks::{fill, fill_variant};
-use crate::cursor::is_one_of;
 use crate::heads::{add_head, is_by_variants};
-use crate::items::{Field, Item, Kind, Variant};
+use crate::items::{Field, Item, Variant};
 use crate::layout::add_list;
-use crate::text::Text;
+use crate::text::{Text, text_at};
+use crate::uses::is_listed;
 use crate::variants::{add_shown_by_variants, add_variant_aliases};
 
 /// How long a clause is that stands in one line.
@@ -28,19 +28,22 @@ pub enum Form {
 
 /// Adds the alias for the type of the parts.
 pub fn add_alias(out: &mut Text, item: &Item<'_>) {
-    match &item.kind {
-        Kind::Struct(_) => fill(out, item, "type $parts$ = $types$;\n\n"),
-        Kind::Enum(_) if is_by_variants(item) => add_variant_aliases(out, item),
-        Kind::Enum(variants) => {
-            fill(out, item, "type $parts$ = ");
-            add_sum(out, item, variants.as_slice());
-            out.add(";\n\n");
+    if is_by_variants(item) {
+        add_variant_aliases(out, item);
+    } else {
+        fill(out, item, "type $parts$ = ");
+        if item.is_enum {
+            add_sum(out, item);
+        } else {
+            add_tuple(out, item.fields.as_slice(), Form::Type);
         }
+        out.add(";\n\n");
     }
 }
 
 /// Adds the sum of the variants of an enum.
-fn add_sum(out: &mut Text, item: &Item<'_>, variants: &[Variant<'_>]) {
+fn add_sum(out: &mut Text, item: &Item<'_>) {
+    let variants = item.variants.as_slice();
     if variants.is_empty() {
         fill(out, item, "NoVariants<$itself$>");
         return;
@@ -60,9 +63,10 @@ pub fn add_shown(out: &mut Text, item: &Item<'_>, declared: &str) {
         return;
     }
     add_head(out, item, "", "HasParts<$parts$>", "");
-    match &item.kind {
-        Kind::Struct(fields) => add_shown_fields(out, fields.as_slice()),
-        Kind::Enum(variants) => add_shown_variants(out, item, declared, variants.as_slice()),
+    if item.is_enum {
+        add_shown_variants(out, item, declared);
+    } else {
+        add_shown_fields(out, item.fields.as_slice());
     }
     out.add("}\n\n");
 }
@@ -122,7 +126,7 @@ pub fn add_value(out: &mut Text, fields: &[Field<'_>], form: Form) {
 /// Adds the field at this place of so many.
 fn add_field(out: &mut Text, field: &Field<'_>, at: usize, count: usize, form: Form) {
     match form {
-        Form::Type => out.add_type(field.of.as_slice()),
+        Form::Type => out.add_type(field.of),
         Form::Bound => add_bound(out, field, at, count),
         Form::InClause => add_bound_in_clause(out, field, at, count),
         Form::OfValue => {
@@ -142,36 +146,52 @@ fn add_field(out: &mut Text, field: &Field<'_>, at: usize, count: usize, form: F
 
 /// Whether the type of a field is a reference. It is handed on as it is.
 fn is_reference(field: &Field<'_>) -> bool {
-    match field.of.first() {
-        Some(first) => first.text.as_str() == "&",
-        None => false,
-    }
+    text_at(field.of, 0) == "&"
 }
 
 /// Adds how an enum is shown as its parts.
-fn add_shown_variants(out: &mut Text, item: &Item<'_>, declared: &str, variants: &[Variant<'_>]) {
+fn add_shown_variants(out: &mut Text, item: &Item<'_>, declared: &str) {
+    let variants = item.variants.as_slice();
     if variants.is_empty() {
         out.add("    ghost parts = { elim [ ] };\n");
         return;
     }
     add_sum_use(out, variants.len());
-    out.add("    ghost use Rattle.");
-    out.add(declared);
-    fill(out, item, ".$name$.TheVariants.{");
+    add_declared(out, item, declared);
     for (at, variant) in variants.iter().enumerate() {
         out.add(if at > 0 { ", " } else { "" });
-        out.add(variant.name.text.as_str());
+        out.add(variant.name.text);
     }
     out.add("};\n\n    ghost parts = { elim [\n");
     for (at, variant) in variants.iter().enumerate() {
-        add_pattern(out, "      | ", variant);
-        out.add(" ↦ record { 0 = ");
-        out.add_times("other (", at);
-        fill_variant(out, item, variant, "this $shown$");
-        out.add_times(")", at);
-        out.add(" }\n");
+        add_shown_row(out, item, variant, at, "record { 0 = ", " }\n");
     }
     out.add("    ] };\n");
+}
+
+/// Adds the import of the variants of an enum up to the first of them.
+pub fn add_declared(out: &mut Text, item: &Item<'_>, declared: &str) {
+    out.add("    ghost use Rattle.");
+    out.add(declared);
+    fill(out, item, ".$name$.TheVariants.{");
+}
+
+/// Adds how the variant at this place is shown in a sum, between these.
+pub fn add_shown_row(
+    out: &mut Text,
+    item: &Item<'_>,
+    variant: &Variant<'_>,
+    at: usize,
+    front: &str,
+    back: &str,
+) {
+    add_pattern(out, "      | ", item, variant);
+    out.add(" ↦ ");
+    out.add(front);
+    out.add_times("other (", at);
+    fill_variant(out, item, variant, "this $shown$");
+    out.add_times(")", at);
+    out.add(back);
 }
 
 /// Adds the imports of the words by which an enum of so many variants is shown.
@@ -184,10 +204,10 @@ pub fn add_sum_use(out: &mut Text, count: usize) {
 }
 
 /// Adds a variant in a clause, as the pattern that binds its fields, behind another text.
-pub fn add_pattern(out: &mut Text, front: &str, variant: &Variant<'_>) {
+pub fn add_pattern(out: &mut Text, front: &str, item: &Item<'_>, variant: &Variant<'_>) {
     out.add(front);
-    out.add(variant.name.text.as_str());
-    let fields = variant.fields.as_slice();
+    out.add(variant.name.text);
+    let fields = item.fields_of(variant);
     for (at, field) in fields.iter().enumerate() {
         out.add(" ");
         add_bound_in_clause(out, field, at, fields.len());
@@ -198,7 +218,7 @@ pub fn add_pattern(out: &mut Text, front: &str, variant: &Variant<'_>) {
 /// else there.
 fn add_bound_in_clause(out: &mut Text, field: &Field<'_>, at: usize, count: usize) {
     match field.name {
-        Some(name) if is_reserved(name) => {
+        Some(name) if is_listed(name, RESERVED) => {
             out.add("part_");
             out.add_number(at as u64);
         }
@@ -206,53 +226,11 @@ fn add_bound_in_clause(out: &mut Text, field: &Field<'_>, at: usize, count: usiz
     }
 }
 
-/// Whether a name means something else in a clause.
-fn is_reserved(name: &str) -> bool {
-    is_one_of(
-        name,
-        &[
-            "this",
-            "other",
-            "by",
-            "no_more",
-            "or_else",
-            "refl",
-            "tt",
-            "result",
-            "data",
-            "record",
-            "deriving",
-            "module",
-            "package",
-            "open",
-            "unfoldable",
-            "abbrev",
-            "axiom",
-            "unfold",
-            "unfolding",
-            "ruleset",
-            "mutual",
-            "infix",
-            "infixl",
-            "infixr",
-            "syntax",
-            "elim",
-            "coe",
-            "fcoe",
-            "tcoe",
-            "hcom",
-            "com",
-            "rw",
-            "cc",
-            "ground",
-            "assumption",
-            "search",
-            "grind",
-            "simp",
-            "omega",
-        ],
-    )
-}
+/// The names that mean something else in a clause.
+const RESERVED: &str =
+    "this other by no_more or_else refl tt result data record deriving module package open \
+    unfoldable abbrev axiom unfold unfolding ruleset mutual infix infixl infixr syntax elim coe fcoe tcoe hcom com rw \
+    cc ground assumption search grind simp omega";
 
 /// Adds the name that the field at this place of so many is bound to: its own, and in a tuple `first`, `second` and so
 /// on. A lone one is `value`.

@@ -1,372 +1,378 @@
 //! Reads the structs and enums of a source.
 
-use crate::cursor::{Cursor, is_one_of, is_opening};
-use crate::error::{Fault, Refusal, refused};
-use crate::items::{Field, Fields, Item, Kind, Param, Source, Variant};
+use crate::cursor::{Cursor, is_opening};
+use crate::error::{CONST_PARAMETER, Fault, GHOST_FIELD, MISSING, Refusal, UNCLOSED, UNKNOWN_NOTE};
+use crate::items::{Brackets, Field, Item, Param, Predicate, Source, Variant, is_known};
 use crate::laws::NOTHING;
-use crate::notes::{Notes, number_of, tag_of, unknown};
+use crate::notes::{Marks, number_of, tag_of};
 use crate::text::text_at;
 use crate::tokens::{Token, is_word};
-use std::alloc::{AllocError, Global};
-use std::mem;
-
-/// What stands above a type.
-#[derive(Drop)]
-struct Marks<'t> {
-    derives: Vec<&'t str>,
-    notes: Notes,
-}
-
-impl Marks<'_> {
-    fn new(alloc: Global) -> Self {
-        Marks {
-            derives: Vec::new(alloc),
-            notes: Notes::new(alloc),
-        }
-    }
-}
+use std::alloc::Global;
 
 /// What stands in these tokens.
-pub fn source_of<'t>(alloc: Global, tokens: &'t [Token]) -> Result<Source<'t>, Fault> {
-    let mut source = Source {
-        items: Vec::new(alloc),
-        impls: Vec::new(alloc),
-        std_names: Vec::new(alloc),
-    };
+pub fn source_of<'t>(alloc: Global, tokens: &'t [Token<'t>]) -> Result<Source<'t>, Fault> {
     let mut cursor = Cursor::new(tokens);
-    let mut marks = Marks::new(alloc);
-    for _ in 0..u64::MAX {
-        let Some(token) = cursor.take() else {
-            break;
-        };
-        read_token(alloc, token, &mut cursor, &mut marks, &mut source)?;
-    }
+    let source = read_source(alloc, &mut cursor);
+    cursor.finish(alloc)?;
     Ok(source)
 }
 
-/// Reads what a token begins.
-fn read_token<'t>(
-    alloc: Global,
-    token: &'t Token,
-    cursor: &mut Cursor<'t>,
-    marks: &mut Marks<'t>,
-    source: &mut Source<'t>,
-) -> Result<(), Fault> {
-    match token.text.as_str() {
-        "#" => read_attribute(cursor, &mut marks.derives),
-        "use" => {
-            *marks = Marks::new(alloc);
-            read_use(cursor, &mut source.std_names)
+/// Reads all that stands in a source.
+fn read_source<'t>(alloc: Global, cursor: &mut Cursor<'t>) -> Source<'t> {
+    let mut source = Source {
+        items: Vec::new(alloc),
+        droppable: Vec::new(alloc),
+        comparable: Vec::new(alloc),
+        std_names: Vec::new(alloc),
+    };
+    let mut marks = Marks::new();
+    for _ in 0..u64::MAX {
+        let token = cursor.take();
+        if token.text.is_empty() {
+            break;
         }
-        "impl" => read_impl_head(alloc, cursor, &mut source.impls),
-        "struct" => {
-            let item = read_item(alloc, cursor, marks, false)?;
-            Ok(source.items.push(item)?)
-        }
-        "enum" => {
-            let item = read_item(alloc, cursor, marks, true)?;
-            Ok(source.items.push(item)?)
-        }
-        ";" => {
-            *marks = Marks::new(alloc);
-            Ok(())
-        }
-        "{" => {
-            *marks = Marks::new(alloc);
-            cursor.skip_group(token.place)
-        }
-        text if is_opening(text) => cursor.skip_group(token.place),
-        _ => marks.notes.add(alloc, token),
+        marks = read_token(alloc, cursor, token, marks, &mut source);
     }
+    source
 }
 
-/// Takes what stands behind a `#`, and adds what it derives.
-fn read_attribute<'t>(cursor: &mut Cursor<'t>, derives: &mut Vec<&'t str>) -> Result<(), Fault> {
-    cursor.takes("!");
-    let opened = cursor.place();
-    cursor.mark("[")?;
-    if cursor.takes("derive") {
-        read_derives(cursor, derives)?;
+/// Reads what a token begins that stands below these marks, and hands out what then stands above the next one.
+fn read_token<'t>(
+    alloc: Global,
+    cursor: &mut Cursor<'t>,
+    token: Token<'t>,
+    marks: Marks,
+    source: &mut Source<'t>,
+) -> Marks {
+    match token.text {
+        "#" => return read_attribute(cursor, marks),
+        "use" => read_use(cursor, &mut source.std_names),
+        "impl" => {
+            read_impl_head(cursor, source);
+            return marks;
+        }
+        "struct" | "enum" => {
+            let item = read_item(alloc, cursor, marks, token.text == "enum");
+            cursor.push(&mut source.items, item);
+        }
+        ";" => {}
+        "{" => cursor.skip_group(token.place),
+        text => return read_other(cursor, token, marks, is_opening(text)),
     }
-    cursor.skip_group(opened)
+    Marks::new()
+}
+
+/// Takes a bracket that a token opens, or adds what it says, if it is a note.
+fn read_other<'t>(cursor: &mut Cursor<'t>, token: Token<'t>, marks: Marks, is_open: bool) -> Marks {
+    let mut marks = marks;
+    if is_open {
+        cursor.skip_group(token.place);
+    } else {
+        marks.add_note(cursor, token);
+    }
+    marks
+}
+
+/// Takes what stands after a `#`, and adds what it derives.
+fn read_attribute(cursor: &mut Cursor<'_>, marks: Marks) -> Marks {
+    let mut marks = marks;
+    cursor.takes("!");
+    let opened = cursor.token().place;
+    cursor.mark("[");
+    if cursor.takes("derive") {
+        read_derives(cursor, &mut marks);
+    }
+    cursor.skip_group(opened);
+    marks
 }
 
 /// Adds the traits that stand in a `derive`, up to its end.
-fn read_derives<'t>(cursor: &mut Cursor<'t>, derives: &mut Vec<&'t str>) -> Result<(), Fault> {
-    let opened = cursor.place();
-    cursor.mark("(")?;
+fn read_derives(cursor: &mut Cursor<'_>, marks: &mut Marks) {
+    let opened = cursor.token().place;
+    cursor.mark("(");
     for _ in 0..u64::MAX {
-        let Some(token) = cursor.take() else {
-            break;
-        };
-        let text = token.text.as_str();
+        let text = cursor.take().text;
         if text == ")" {
-            return Ok(());
+            return;
         }
-        if is_word(text) {
-            derives.push(text)?;
+        if text.is_empty() {
+            break;
         }
+        marks.add_derived(text);
     }
-    Err(refused(opened, Refusal::Unclosed))
+    cursor.refuse(Refusal::new(opened, UNCLOSED, ""));
 }
 
-/// Takes what stands behind a `use`, up to its end, and adds the names that it imports from the standard library.
-fn read_use<'t>(cursor: &mut Cursor<'t>, names: &mut Vec<&'t str>) -> Result<(), Fault> {
+/// Takes what stands after a `use`, up to its end, and adds the names that it imports from the standard library.
+fn read_use<'t>(cursor: &mut Cursor<'t>, names: &mut Vec<&'t str>) {
     let is_std = matches!(cursor.text(), "std" | "core" | "alloc");
     for _ in 0..u64::MAX {
-        let Some(token) = cursor.take() else {
-            break;
-        };
-        let text = token.text.as_str();
-        if text == ";" {
+        let text = cursor.take().text;
+        if text == ";" || text.is_empty() {
             break;
         }
-        if is_std && is_word(text) && !is_one_of(cursor.text(), &["::", "as"]) {
-            names.push(text)?;
+        if is_std && is_word(text) && !matches!(cursor.text(), "::" | "as") {
+            cursor.push(names, text);
         }
     }
-    Ok(())
 }
 
-/// Takes the head of an `impl`, and adds its trait and its type, if it has both.
-fn read_impl_head<'t>(
-    alloc: Global,
-    cursor: &mut Cursor<'t>,
-    impls: &mut Vec<(&'t str, &'t str)>,
-) -> Result<(), Fault> {
+/// Takes the head of an `impl`, and adds its type to those that have its trait.
+fn read_impl_head<'t>(cursor: &mut Cursor<'t>, source: &mut Source<'t>) {
     if cursor.takes("<") {
-        cursor.type_until(alloc, &[])?;
+        cursor.type_until(&[]);
         cursor.takes(">");
     }
-    let head = cursor.type_until(alloc, &["for", "{"])?;
+    let head = cursor.type_until(&["for", "{"]);
     if cursor.takes("for") {
-        impls.push((name_in(head.as_slice()), cursor.text()))?;
-    }
-    Ok(())
-}
-
-/// The name of a trait, without the path before it and the arguments behind it.
-fn name_in<'t>(head: &[&'t Token]) -> &'t str {
-    let arguments = head.iter().position(|token| token.text.as_str() == "<");
-    let end = arguments.unwrap_or(head.len());
-    match head.get(end.saturating_sub(1)) {
-        Some(token) => token.text.as_str(),
-        None => "",
+        let of = cursor.text();
+        match name_in(head) {
+            "Drop" | "Copy" => cursor.push(&mut source.droppable, of),
+            "PartialEq" => cursor.push(&mut source.comparable, of),
+            _ => {}
+        }
     }
 }
 
-/// Reads a struct or an enum, whose marks these are, from its name on.
-fn read_item<'t>(
-    alloc: Global,
-    cursor: &mut Cursor<'t>,
-    marks: &mut Marks<'t>,
-    is_enum: bool,
-) -> Result<Item<'t>, Fault> {
-    let Marks { derives, notes } = mem::replace(marks, Marks::new(alloc));
-    let name = cursor.name()?;
-    if notes.is_skipped {
-        return Ok(skipped(alloc, name, derives, notes));
-    }
-    let mut params = read_params(alloc, cursor)?;
-    let mut wheres = read_wheres(alloc, cursor, &mut params)?;
-    let kind = if is_enum {
-        Kind::Enum(read_variants(alloc, cursor)?)
-    } else {
-        Kind::Struct(read_fields(alloc, cursor)?)
-    };
-    // That of a struct without named fields stands behind them.
-    for bound in read_wheres(alloc, cursor, &mut params)? {
-        wheres.push(bound)?;
-    }
-    Ok(Item {
-        name,
-        params,
-        wheres,
-        kind,
-        derives,
-        notes,
-        keeps: NOTHING,
-    })
-}
-
-/// Reads a `where`, if one comes next: what it says of a parameter is added to those, and the rest is handed out.
-fn read_wheres<'t>(
-    alloc: Global,
-    cursor: &mut Cursor<'t>,
-    params: &mut Vec<Param<'t>>,
-) -> Result<Vec<Vec<&'t Token>>, Fault> {
-    let mut wheres = Vec::new(alloc);
-    if !cursor.takes("where") {
-        return Ok(wheres);
-    }
-    for _ in 0..u64::MAX {
-        if is_one_of(cursor.text(), &["{", ";", ""]) {
+/// The name of a trait, without the path before it and the arguments after it.
+fn name_in<'t>(head: &[Token<'t>]) -> &'t str {
+    let mut name = "";
+    for token in head.iter() {
+        if token.text == "<" {
             break;
         }
-        let bound = cursor.type_until(alloc, &[",", "{", ";"])?;
-        if bound.is_empty() {
-            return Err(refused(cursor.place(), Refusal::Missing { what: "a bound" }));
-        }
-        cursor.takes(",");
-        if let Some(bound) = left_of(alloc, params, bound)? {
-            wheres.push(bound)?;
-        }
+        name = token.text;
     }
-    Ok(wheres)
+    name
 }
 
-/// A bound of a `where`, or nothing if it is that of a parameter, to which it is added.
-fn left_of<'t>(
-    alloc: Global,
-    params: &mut Vec<Param<'t>>,
-    bound: Vec<&'t Token>,
-) -> Result<Option<Vec<&'t Token>>, AllocError> {
-    if text_at(bound.as_slice(), 1) != ":" {
-        return Ok(Some(bound));
-    }
-    let name = text_at(bound.as_slice(), 0);
-    for param in params.iter_mut() {
-        if param.name.text.as_str() == name {
-            let mut own = Vec::new(alloc);
-            for token in bound.iter().skip(2) {
-                own.push(*token)?;
-            }
-            param.bounds.push(own)?;
-            return Ok(None);
-        }
-    }
-    Ok(Some(bound))
-}
-
-/// A type that nothing is written for, of which nothing more is read.
-fn skipped<'t>(alloc: Global, name: &'t Token, derives: Vec<&'t str>, notes: Notes) -> Item<'t> {
-    Item {
-        name,
+/// Reads a struct or an enum, whose marks these are, from its name on. Of one that is to be skipped that is all.
+fn read_item<'t>(alloc: Global, cursor: &mut Cursor<'t>, marks: Marks, is_enum: bool) -> Item<'t> {
+    let mut item = Item {
+        name: cursor.name(),
+        is_enum,
+        marks,
+        lifetime: "",
+        has_two_lifetimes: false,
         params: Vec::new(alloc),
         wheres: Vec::new(alloc),
-        kind: Kind::Struct(Fields::Unit),
-        derives,
-        notes,
+        variants: Vec::new(alloc),
+        fields: Vec::new(alloc),
+        names: Vec::new(alloc),
         keeps: NOTHING,
+    };
+    if !marks.is_skipped {
+        read_params(cursor, &mut item);
+        read_wheres(cursor, &mut item.wheres);
+        read_body(cursor, &mut item);
+        item.names = names_of(alloc, cursor, item.fields.as_slice());
+    }
+    item
+}
+
+/// Reads what stands after the parameters of a type.
+fn read_body<'t>(cursor: &mut Cursor<'t>, item: &mut Item<'t>) {
+    if item.is_enum {
+        read_variants(cursor, item);
+    } else {
+        let name = item.name;
+        read_variant(cursor, item, name, 0);
+        // The `where` of a struct without named fields stands after them.
+        read_wheres(cursor, &mut item.wheres);
+    }
+}
+
+/// Reads a `where`, if one comes next, and adds what it says.
+fn read_wheres<'t>(cursor: &mut Cursor<'t>, wheres: &mut Vec<Predicate<'t>>) {
+    if !cursor.takes("where") {
+        return;
+    }
+    for _ in 0..u64::MAX {
+        if matches!(cursor.text(), "{" | ";" | "") {
+            break;
+        }
+        let place = cursor.token().place;
+        let tokens = cursor.type_until(&[",", "{", ";"]);
+        if tokens.is_empty() {
+            cursor.refuse(Refusal::new(place, MISSING, "a bound"));
+        }
+        cursor.takes(",");
+        cursor.push(wheres, Predicate { tokens });
     }
 }
 
 /// Reads the parameters in angle brackets, if some come next.
-fn read_params<'t>(alloc: Global, cursor: &mut Cursor<'t>) -> Result<Vec<Param<'t>>, Fault> {
-    let mut params = Vec::new(alloc);
-    let opened = cursor.place();
+fn read_params<'t>(cursor: &mut Cursor<'t>, item: &mut Item<'t>) {
+    let opened = cursor.token().place;
     if !cursor.takes("<") {
-        return Ok(params);
+        return;
     }
     for _ in 0..u64::MAX {
         if cursor.takes(">") {
-            return Ok(params);
+            return;
         }
-        if cursor.text() == "" {
+        if cursor.text().is_empty() {
             break;
         }
-        params.push(read_param(alloc, cursor)?)?;
+        read_param(cursor, item);
     }
-    Err(refused(opened, Refusal::Unclosed))
+    cursor.refuse(Refusal::new(opened, UNCLOSED, ""));
 }
 
-/// Reads a parameter with its bounds, and the comma behind it.
-fn read_param<'t>(alloc: Global, cursor: &mut Cursor<'t>) -> Result<Param<'t>, Fault> {
-    let place = cursor.place();
-    if cursor.text() == "const" {
-        return Err(refused(place, Refusal::ConstParameter));
+/// Reads a parameter with its bounds, and the comma after it.
+fn read_param<'t>(cursor: &mut Cursor<'t>, item: &mut Item<'t>) {
+    let name = cursor.take();
+    if name.text == "const" {
+        cursor.refuse(Refusal::new(name.place, CONST_PARAMETER, ""));
     }
-    let Some(name) = cursor.take() else {
-        return Err(refused(
-            place,
-            Refusal::Missing {
-                what: "a parameter",
-            },
-        ));
+    let bounds = if cursor.takes(":") {
+        cursor.type_until(&[",", "="])
+    } else {
+        &[]
     };
-    let bounds = read_bounds(alloc, cursor)?;
-    cursor.type_until(alloc, &[","])?;
+    cursor.type_until(&[","]);
     cursor.takes(",");
-    Ok(Param { name, bounds })
+    if name.text.starts_with('\'') {
+        item.has_two_lifetimes = item.is_borrowing();
+        item.lifetime = name.text;
+    } else {
+        let param = Param {
+            name: name.text,
+            place: name.place,
+            bounds,
+        };
+        cursor.push(&mut item.params, param);
+    }
 }
 
-/// Reads the bounds behind a colon, if one comes next.
-fn read_bounds<'t>(alloc: Global, cursor: &mut Cursor<'t>) -> Result<Vec<Vec<&'t Token>>, Fault> {
-    let mut bounds = Vec::new(alloc);
-    if cursor.takes(":") {
-        let own = cursor.type_until(alloc, &[",", "="])?;
-        if !own.is_empty() {
-            bounds.push(own)?;
+/// Reads the variants of an enum.
+fn read_variants<'t>(cursor: &mut Cursor<'t>, item: &mut Item<'t>) {
+    let mut next = 0u32;
+    cursor.mark("{");
+    for _ in 0..u64::MAX {
+        let tag = read_variant_marks(cursor).unwrap_or(next);
+        if cursor.ends("}") {
+            break;
+        }
+        let name = cursor.name();
+        next = read_variant(cursor, item, name, tag).saturating_add(1);
+        if cursor.text() != "}" {
+            cursor.mark(",");
         }
     }
-    Ok(bounds)
+}
+
+/// Takes the attributes and the notes above a variant. The tag is the one that a note gives it.
+fn read_variant_marks(cursor: &mut Cursor<'_>) -> Option<u32> {
+    let mut tag = None;
+    for _ in 0..u64::MAX {
+        if cursor.takes("#") {
+            cursor.skip_brackets();
+        } else if is_note(cursor.text()) {
+            let note = cursor.take();
+            tag = tag_of(cursor, note);
+        } else {
+            break;
+        }
+    }
+    tag
+}
+
+/// Reads the fields of a variant or of a struct, from what opens them on, and the tag after them, which is handed out.
+/// Where none stands there, it has this one.
+fn read_variant<'t>(
+    cursor: &mut Cursor<'t>,
+    item: &mut Item<'t>,
+    name: Token<'t>,
+    tag: u32,
+) -> u32 {
+    let start = item.fields.len();
+    let brackets = read_fields(cursor, &mut item.fields);
+    let tag = if cursor.takes("=") {
+        read_number(cursor)
+    } else {
+        tag
+    };
+    let variant = Variant {
+        name,
+        tag,
+        brackets,
+        start,
+        end: item.fields.len(),
+    };
+    cursor.push(&mut item.variants, variant);
+    tag
+}
+
+/// Takes the number that comes next.
+fn read_number(cursor: &mut Cursor<'_>) -> u32 {
+    let token = cursor.take();
+    number_of(cursor, token.place, token.text)
 }
 
 /// Reads the fields of a struct or of a variant.
-fn read_fields<'t>(alloc: Global, cursor: &mut Cursor<'t>) -> Result<Fields<'t>, Fault> {
+fn read_fields<'t>(cursor: &mut Cursor<'t>, fields: &mut Vec<Field<'t>>) -> Brackets {
     if cursor.takes("{") {
-        return Ok(Fields::Named(read_named_fields(alloc, cursor)?));
+        read_fields_until(cursor, fields, "}");
+        Brackets::Curly
+    } else if cursor.takes("(") {
+        read_fields_until(cursor, fields, ")");
+        Brackets::Round
+    } else {
+        Brackets::Missing
     }
-    if cursor.takes("(") {
-        return Ok(Fields::Tuple(read_tuple_fields(alloc, cursor)?));
-    }
-    Ok(Fields::Unit)
 }
 
-/// Reads the fields with names up to a `}`.
-fn read_named_fields<'t>(alloc: Global, cursor: &mut Cursor<'t>) -> Result<Vec<Field<'t>>, Fault> {
-    let mut fields = Vec::new(alloc);
+/// Reads the fields up to what closes the bracket around them, where those of a `}` have names.
+fn read_fields_until<'t>(cursor: &mut Cursor<'t>, fields: &mut Vec<Field<'t>>, end: &str) {
     for _ in 0..u64::MAX {
-        skip_marks(alloc, cursor)?;
-        if cursor.takes("}") {
+        skip_marks(cursor);
+        if cursor.ends(end) {
             break;
         }
-        let name = cursor.name()?;
-        if name.text.as_str() == "ghost" {
-            return Err(refused(name.place, Refusal::GhostField));
-        }
-        cursor.mark(":")?;
-        let of = cursor.type_until(alloc, &[","])?;
+        let field = read_field(cursor, end == "}");
         cursor.takes(",");
-        fields.push(Field {
-            name: Some(name.text.as_str()),
-            of,
-        })?;
+        cursor.push(fields, field);
     }
-    Ok(fields)
 }
 
-/// Reads the fields of a tuple up to a `)`.
-fn read_tuple_fields<'t>(alloc: Global, cursor: &mut Cursor<'t>) -> Result<Vec<Field<'t>>, Fault> {
-    let mut fields = Vec::new(alloc);
-    for _ in 0..u64::MAX {
-        skip_marks(alloc, cursor)?;
-        if cursor.takes(")") {
-            break;
-        }
-        let place = cursor.place();
-        let of = cursor.type_until(alloc, &[","])?;
-        if of.is_empty() {
-            return Err(refused(place, Refusal::Missing { what: "a type" }));
-        }
-        cursor.takes(",");
-        fields.push(Field { name: None, of })?;
+/// Reads a field, which has a name or none.
+fn read_field<'t>(cursor: &mut Cursor<'t>, is_named: bool) -> Field<'t> {
+    let name = if is_named {
+        Some(read_field_name(cursor))
+    } else {
+        None
+    };
+    let place = cursor.token().place;
+    let of = cursor.type_until(&[","]);
+    if of.is_empty() && !is_named {
+        cursor.refuse(Refusal::new(place, MISSING, "a type"));
     }
-    Ok(fields)
+    Field { name, of }
+}
+
+/// Takes the name of a field, and the colon after it.
+fn read_field_name<'t>(cursor: &mut Cursor<'t>) -> &'t str {
+    let name = cursor.name();
+    if name.text == "ghost" {
+        cursor.refuse(Refusal::new(name.place, GHOST_FIELD, ""));
+    }
+    cursor.mark(":");
+    name.text
 }
 
 /// Takes the attributes and the visibility that come next.
-fn skip_marks(alloc: Global, cursor: &mut Cursor<'_>) -> Result<(), Fault> {
+fn skip_marks(cursor: &mut Cursor<'_>) {
     for _ in 0..u64::MAX {
-        if is_note(cursor.text()) {
-            return Err(unknown(alloc, cursor.place(), cursor.text())?);
+        let token = cursor.token();
+        if is_note(token.text) {
+            cursor.refuse(Refusal::new(token.place, UNKNOWN_NOTE, token.text));
         }
         if !cursor.takes("#") && !cursor.takes("pub") {
             break;
         }
-        cursor.skip_brackets()?;
+        cursor.skip_brackets();
     }
-    Ok(())
 }
 
 /// Whether a token is a note to this program.
@@ -374,69 +380,28 @@ fn is_note(text: &str) -> bool {
     text.starts_with("//")
 }
 
-/// Reads the variants of an enum.
-fn read_variants<'t>(alloc: Global, cursor: &mut Cursor<'t>) -> Result<Vec<Variant<'t>>, Fault> {
-    let mut variants = Vec::new(alloc);
-    let mut next = 0u32;
-    cursor.mark("{")?;
-    for _ in 0..u64::MAX {
-        let noted = read_variant_marks(alloc, cursor)?;
-        if cursor.takes("}") {
-            break;
+/// The names in the types of some fields that are those of the source or the library. A name of another module, after
+/// the path of that, is none.
+fn names_of<'t>(alloc: Global, cursor: &mut Cursor<'t>, fields: &[Field<'t>]) -> Vec<Token<'t>> {
+    let mut names = Vec::new(alloc);
+    for field in fields.iter() {
+        add_names(cursor, &mut names, field.of);
+    }
+    names
+}
+
+/// Adds the words and marks of a type, but for those of other modules.
+fn add_names<'t>(cursor: &mut Cursor<'t>, names: &mut Vec<Token<'t>>, of: &'t [Token<'t>]) {
+    let mut is_elsewhere = false;
+    let mut before = "";
+    for (at, token) in of.iter().enumerate() {
+        let text = token.text;
+        if before != "::" && text != "::" {
+            is_elsewhere = text_at(of, at.saturating_add(1)) == "::" && !is_known(text);
         }
-        let variant = read_variant(alloc, cursor, noted.unwrap_or(next))?;
-        next = variant.tag.saturating_add(1);
-        variants.push(variant)?;
-    }
-    Ok(variants)
-}
-
-/// Takes the attributes and the notes above a variant. The tag is the one that a note gives it.
-fn read_variant_marks(alloc: Global, cursor: &mut Cursor<'_>) -> Result<Option<u32>, Fault> {
-    let mut tag = None;
-    for _ in 0..u64::MAX {
-        if cursor.takes("#") {
-            cursor.skip_brackets()?;
-        } else if is_note(cursor.text()) {
-            tag = read_tag(alloc, cursor)?;
-        } else {
-            break;
+        if !is_elsewhere {
+            cursor.push(names, *token);
         }
+        before = text;
     }
-    Ok(tag)
-}
-
-/// Takes a note above a variant, for the tag that it gives.
-fn read_tag(alloc: Global, cursor: &mut Cursor<'_>) -> Result<Option<u32>, Fault> {
-    match cursor.take() {
-        Some(token) => tag_of(alloc, token),
-        None => Ok(None),
-    }
-}
-
-/// Reads a variant, and the comma behind it. Where it says no tag itself, it has this one.
-fn read_variant<'t>(
-    alloc: Global,
-    cursor: &mut Cursor<'t>,
-    tag: u32,
-) -> Result<Variant<'t>, Fault> {
-    let name = cursor.name()?;
-    let fields = read_fields(alloc, cursor)?;
-    let tag = if cursor.takes("=") {
-        read_number(alloc, cursor)?
-    } else {
-        tag
-    };
-    if cursor.text() != "}" {
-        cursor.mark(",")?;
-    }
-    Ok(Variant { name, tag, fields })
-}
-
-/// Takes the number that comes next.
-fn read_number(alloc: Global, cursor: &mut Cursor<'_>) -> Result<u32, Fault> {
-    let place = cursor.place();
-    let text = cursor.text();
-    cursor.take();
-    number_of(alloc, place, text)
 }

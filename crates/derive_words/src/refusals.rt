@@ -2,195 +2,173 @@
 
 use crate::blanks::is_own_name;
 use crate::by_tag::is_in_order;
-use crate::error::{Fault, Refusal, refused};
+use crate::error::{
+    GENERIC_ENUM, HOLDS_ITSELF, NOT_DESCRIBED, NOT_DROPPABLE, Refusal, TAKEN_NAME, TWO_LIFETIMES,
+};
 use crate::heads::is_by_variants;
-use crate::items::{Item, Kind, Source, Variant};
+use crate::items::{Item, Source, Variant};
 use crate::laws::is_among;
-use crate::notes::Trait;
 use crate::text::text_at;
-use crate::tokens::Token;
-use crate::uses::is_used;
+use crate::tokens::{Place, Token};
+use crate::uses::{is_listed, is_used};
 use std::alloc::{AllocError, Global};
 
-/// Fails where a type can't be written, and says why.
-pub fn refuse<'t>(alloc: Global, source: &Source<'t>, item: &Item<'t>) -> Result<(), Fault> {
-    refuse_name(alloc, item, item.name)?;
+/// What is refused of a type, if it can't be written. `holds_itself` says that it holds itself.
+pub fn refusal_of<'t>(
+    source: &Source<'t>,
+    item: &Item<'t>,
+    holds_itself: bool,
+) -> Option<Refusal<'t>> {
+    refused_name(item)
+        .or(refused_type(source, item))
+        .or(refused_params(item))
+        .or(refused_tag(item.variants.as_slice()))
+        .or(refused_whole(source, item, holds_itself))
+}
+
+/// What is said of a type by its name.
+fn said_of<'t>(item: &Item<'t>, says: &'static str) -> Option<Refusal<'t>> {
+    Some(Refusal::new(item.name.place, says, item.name.text))
+}
+
+/// The first name of a type, its parameters or its fields that is written with another meaning.
+fn refused_name<'t>(item: &Item<'t>) -> Option<Refusal<'t>> {
+    if is_taken(item, item.name.text) {
+        return taken(item.name.place, item.name.text);
+    }
     for param in item.params.iter() {
-        refuse_name(alloc, item, param.name)?;
-    }
-    for word in item.names(alloc)?.iter() {
-        refuse_name(alloc, item, word)?;
-    }
-    for of in item.types(alloc)?.iter() {
-        refuse_type(alloc, source, item, of)?;
-    }
-    refuse_params(alloc, item)?;
-    refuse_tags(alloc, item.variants())?;
-    if item.notes.asks_for(Trait::Described) {
-        refuse_described(alloc, item)?;
-    }
-    if !source.has(item, "Drop") && !source.has(item, "Copy") {
-        let name = name_of(alloc, item)?;
-        return Err(refused(item.name.place, Refusal::NotDroppable { name }));
-    }
-    if holds_itself(alloc, source, item)? {
-        let name = name_of(alloc, item)?;
-        return Err(refused(item.name.place, Refusal::HoldsItself { name }));
-    }
-    Ok(())
-}
-
-/// The name of a type.
-fn name_of(alloc: Global, item: &Item<'_>) -> Result<String, AllocError> {
-    item.name.text.clone()
-}
-
-/// Refuses a name of a type or a parameter that is written with another meaning.
-fn refuse_name(alloc: Global, item: &Item<'_>, name: &Token) -> Result<(), Fault> {
-    let text = name.text.as_str();
-    if text == "Words" || is_own_name(item, text) || is_used(text) {
-        let name_text = String::from_str(alloc, text)?;
-        return Err(refused(name.place, Refusal::TakenName { name: name_text }));
-    }
-    Ok(())
-}
-
-/// Refuses the type of a field in which something stands that the library has no words for.
-fn refuse_type(
-    alloc: Global,
-    source: &Source<'_>,
-    item: &Item<'_>,
-    of: &[&Token],
-) -> Result<(), Fault> {
-    for at in 0..of.len() {
-        let word = text_at(of, at);
-        let instead = match word {
-            "&" => instead_of_reference(of, at, item.is_borrowing()),
-            "Duration" | "CString" if source.is_of_std(of, at) => instead_of_std(word),
-            _ => instead_of(word),
-        };
-        if let (Some(instead), Some(token)) = (instead, of.get(at)) {
-            return Err(no_words(alloc, token, instead)?);
+        if is_taken(item, param.name) {
+            return taken(param.place, param.name);
         }
     }
-    Ok(())
+    for word in item.names.iter() {
+        if is_taken(item, word.text) {
+            return taken(word.place, word.text);
+        }
+    }
+    None
 }
 
-/// The refusal of what stands in the type of a field.
-fn no_words(alloc: Global, token: &Token, instead: &'static str) -> Result<Fault, AllocError> {
-    let word = token.text.clone()?;
-    Ok(refused(token.place, Refusal::NoWords { word, instead }))
+/// The refusal of a name.
+fn taken(place: Place, name: &str) -> Option<Refusal<'_>> {
+    Some(Refusal::new(place, TAKEN_NAME, name))
+}
+
+/// Whether a name is written with another meaning for this type.
+fn is_taken(item: &Item<'_>, name: &str) -> bool {
+    name == "Words" || is_own_name(item, name) || is_used(name)
+}
+
+/// What the library has no words for in the types of the fields.
+fn refused_type<'t>(source: &Source<'t>, item: &Item<'t>) -> Option<Refusal<'t>> {
+    for field in item.fields.iter() {
+        let refusal = refused_in(source, field.of, item.is_borrowing());
+        if refusal.is_some() {
+            return refusal;
+        }
+    }
+    None
+}
+
+/// What the library has no words for in a type.
+fn refused_in<'t>(
+    source: &Source<'t>,
+    of: &'t [Token<'t>],
+    is_borrowing: bool,
+) -> Option<Refusal<'t>> {
+    for (at, token) in of.iter().enumerate() {
+        let instead = match token.text {
+            "&" => instead_of_reference(of, at, is_borrowing),
+            "Duration" | "CString" if source.is_of_std(of, at) => instead_of_std(token.text),
+            word => instead_of(word),
+        };
+        if !instead.is_empty() {
+            return Some(Refusal::no_words(token.place, token.text, instead));
+        }
+    }
+    None
 }
 
 /// What to hold in place of this type of the standard library.
-fn instead_of_std(name: &str) -> Option<&'static str> {
+fn instead_of_std(name: &str) -> &'static str {
     match name {
-        "Duration" => Some("hold a `bincode::time::Duration` in place of that of `std`"),
-        _ => Some("hold a `bincode::ffi::CString` in place of that of `std`"),
+        "Duration" => "hold a `bincode::time::Duration` in place of that of `std`",
+        _ => "hold a `bincode::ffi::CString` in place of that of `std`",
     }
 }
 
-/// What to hold in place of the reference at this place, if it is not decoded.
-fn instead_of_reference(of: &[&Token], at: usize, is_borrowing: bool) -> Option<&'static str> {
+/// What to hold in place of the reference at this place, and `""` if it is decoded.
+fn instead_of_reference(of: &[Token<'_>], at: usize, is_borrowing: bool) -> &'static str {
     if !is_borrowing {
-        return Some("hold the value, or give the type a lifetime");
+        return "hold the value, or give the type a lifetime";
     }
-    let has_lifetime = text_at(of, at.saturating_add(1)).starts_with('\'');
-    let at = if has_lifetime {
-        at.saturating_add(1)
+    let next = at.saturating_add(1);
+    let next = if text_at(of, next).starts_with('\'') {
+        next.saturating_add(1)
     } else {
-        at
+        next
     };
-    let is_bytes = text_at(of, at.saturating_add(1)) == "["
-        && text_at(of, at.saturating_add(2)) == "u8"
-        && text_at(of, at.saturating_add(3)) == "]";
-    if is_bytes || text_at(of, at.saturating_add(1)) == "str" {
-        None
+    if text_at(of, next) == "str" || is_bytes(of, next) {
+        ""
     } else {
-        Some("only `&str` and `&[u8]` are read by borrowing: hold the value, or a `Vec`")
+        "only `&str` and `&[u8]` are read by borrowing: hold the value, or a `Vec`"
     }
 }
 
-/// What to hold in place of this, if the library has no words for it.
-fn instead_of(name: &str) -> Option<&'static str> {
-    match name {
-        "*" => Some("hold the value"),
-        "Self" => Some("hold items in a `Vec`, and name them by index"),
-        "CStr" => Some("hold a `CString`"),
-        "f32" => Some("hold its bits, as a `u32`"),
-        "f64" => Some("hold its bits, as a `u64`"),
-        "Instant" | "SystemTime" => Some("hold a `Duration` or a number"),
-        "AtomicBool"
-        | "AtomicU8"
-        | "AtomicU16"
-        | "AtomicU32"
-        | "AtomicU64"
-        | "AtomicUsize"
-        | "AtomicI8"
-        | "AtomicI16"
-        | "AtomicI32"
-        | "AtomicI64"
-        | "AtomicIsize" => { Some("hold the value") }
-        "Weak" => Some("hold a number that names the value"),
-        "Mutex" | "RwLock" | "OnceLock" => Some("hold the value, and lock the whole"),
-        "LinkedList" => Some("hold a `Vec` or a `VecDeque`"),
-        "dyn" | "fn" => Some("hold a value of a type with a name"),
-        _ => None,
+/// Whether `[u8]` stands at this place.
+fn is_bytes(of: &[Token<'_>], at: usize) -> bool {
+    text_at(of, at) == "["
+        && text_at(of, at.saturating_add(1)) == "u8"
+        && text_at(of, at.saturating_add(2)) == "]"
+}
+
+/// What the library has no words for, line by line, each with what to hold in place of it.
+const NO_WORDS_FOR: &str = "\
+*: hold the value
+Self: hold items in a `Vec`, and name them by index
+CStr: hold a `CString`
+f32: hold its bits, as a `u32`
+f64: hold its bits, as a `u64`
+Instant SystemTime: hold a `Duration` or a number
+AtomicBool AtomicU8 AtomicU16 AtomicU32 AtomicU64 AtomicUsize: hold the value
+AtomicI8 AtomicI16 AtomicI32 AtomicI64 AtomicIsize: hold the value
+Weak: hold a number that names the value
+Mutex RwLock OnceLock: hold the value, and lock the whole
+LinkedList: hold a `Vec` or a `VecDeque`
+dyn fn: hold a value of a type with a name";
+
+/// What to hold in place of this, and `""` if the library may have words for it.
+fn instead_of(name: &str) -> &'static str {
+    for line in NO_WORDS_FOR.lines() {
+        if let Some((names, instead)) = line.split_once(": ")
+            && is_listed(name, names)
+        {
+            return instead;
+        }
     }
+    ""
 }
 
 /// Refuses a second lifetime, and a type parameter of an enum.
-fn refuse_params(alloc: Global, item: &Item<'_>) -> Result<(), Fault> {
-    if lifetimes_of(item) > 1 {
-        let name = name_of(alloc, item)?;
-        return Err(refused(item.name.place, Refusal::TwoLifetimes { name }));
+fn refused_params<'t>(item: &Item<'t>) -> Option<Refusal<'t>> {
+    if item.has_two_lifetimes {
+        return said_of(item, TWO_LIFETIMES);
     }
-    if is_enum(item) && item.is_generic() && (item.is_borrowing() || !is_by_variants(item)) {
-        let name = name_of(alloc, item)?;
-        return Err(refused(item.name.place, Refusal::GenericEnum { name }));
+    if item.is_enum && item.is_generic() && (item.is_borrowing() || !is_by_variants(item)) {
+        return said_of(item, GENERIC_ENUM);
     }
-    Ok(())
-}
-
-/// How many lifetimes a type has.
-fn lifetimes_of(item: &Item<'_>) -> usize {
-    let mut count = 0usize;
-    for param in item.params.iter() {
-        if param.is_lifetime() {
-            count = count.saturating_add(1);
-        }
-    }
-    count
-}
-
-fn is_enum(item: &Item<'_>) -> bool {
-    match &item.kind {
-        Kind::Enum(_) => true,
-        Kind::Struct(_) => false,
-    }
-}
-
-/// Refuses a described enum of more than eight variants, or with tags that are not 0, 1 and so on.
-fn refuse_described(alloc: Global, item: &Item<'_>) -> Result<(), Fault> {
-    let variants = item.variants();
-    let is_long = variants.len() > 8 && !is_by_variants(item);
-    if is_long || !is_in_order(variants) {
-        let name = name_of(alloc, item)?;
-        return Err(refused(item.name.place, Refusal::NotDescribed { name }));
-    }
-    Ok(())
+    None
 }
 
 /// Refuses the tag of a variant that one before has too.
-fn refuse_tags(alloc: Global, variants: &[Variant<'_>]) -> Result<(), Fault> {
+fn refused_tag<'t>(variants: &[Variant<'t>]) -> Option<Refusal<'t>> {
     for (at, variant) in variants.iter().enumerate() {
         if has_tag(variants, at, variant.tag) {
-            let name = variant.name.text.clone()?;
-            let tag = variant.tag;
-            return Err(refused(variant.name.place, Refusal::SameTag { name, tag }));
+            let name = variant.name;
+            return Some(Refusal::same_tag(name.place, name.text, variant.tag));
         }
     }
-    Ok(())
+    None
 }
 
 /// Whether one of the first variants, of which there are so many, has this tag.
@@ -203,41 +181,58 @@ fn has_tag(variants: &[Variant<'_>], count: usize, tag: u32) -> bool {
     false
 }
 
+/// Refuses a described enum of more than eight variants, or with tags that are not 0, 1 and so on, a type that may not
+/// be let go, and one that holds itself.
+fn refused_whole<'t>(
+    source: &Source<'t>,
+    item: &Item<'t>,
+    holds_itself: bool,
+) -> Option<Refusal<'t>> {
+    if item.marks.with.described && !may_be_described(item) {
+        said_of(item, NOT_DESCRIBED)
+    } else if !source.is_droppable(item) {
+        said_of(item, NOT_DROPPABLE)
+    } else if holds_itself {
+        said_of(item, HOLDS_ITSELF)
+    } else {
+        None
+    }
+}
+
+/// Whether a type is described where a note asks for it.
+fn may_be_described(item: &Item<'_>) -> bool {
+    let variants = item.variants.as_slice();
+    (variants.len() <= 8 || is_by_variants(item)) && is_in_order(variants)
+}
+
 /// Whether a type holds itself, also by others of its source.
-fn holds_itself<'t>(
+pub fn holds_itself<'t>(
     alloc: Global,
     source: &Source<'t>,
     item: &Item<'t>,
 ) -> Result<bool, AllocError> {
-    let mut held = item.names(alloc)?;
+    let mut held = Vec::new(alloc);
+    add_new(&mut held, item.names.as_slice())?;
     for _ in 0..source.items.len() {
-        add_held(alloc, &mut held, source)?;
+        add_held(&mut held, source)?;
     }
-    Ok(is_among(held.as_slice(), item.name.text.as_str()))
+    Ok(is_among(held.as_slice(), item.name.text))
 }
 
 /// Adds the words in the types of a source that are among these.
-fn add_held<'t>(
-    alloc: Global,
-    held: &mut Vec<&'t Token>,
-    source: &Source<'t>,
-) -> Result<(), AllocError> {
+fn add_held<'t>(held: &mut Vec<Token<'t>>, source: &Source<'t>) -> Result<(), AllocError> {
     for item in source.items.iter() {
-        if is_among(held.as_slice(), item.name.text.as_str()) {
-            add_new(alloc, held, item)?;
+        if is_among(held.as_slice(), item.name.text) {
+            add_new(held, item.names.as_slice())?;
         }
     }
     Ok(())
 }
 
-/// Adds the words in a type that are not there yet.
-fn add_new<'t>(
-    alloc: Global,
-    held: &mut Vec<&'t Token>,
-    item: &Item<'t>,
-) -> Result<(), AllocError> {
-    for word in item.names(alloc)?.iter() {
-        if !is_among(held.as_slice(), word.text.as_str()) {
+/// Adds those of some words that are not there yet.
+fn add_new<'t>(held: &mut Vec<Token<'t>>, words: &[Token<'t>]) -> Result<(), AllocError> {
+    for word in words.iter() {
+        if !is_among(held.as_slice(), word.text) {
             held.push(*word)?;
         }
     }

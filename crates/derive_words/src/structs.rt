@@ -1,9 +1,9 @@
 //! How a struct is written and read.
 
-use crate::blanks::fill;
+use crate::blanks::fill_variant;
 use crate::decoding::{DECODE_END, DECODE_PARTS, add_decode, add_decode_front};
 use crate::heads::add_head;
-use crate::items::{Field, Item};
+use crate::items::{Field, Item, Variant};
 use crate::text::Text;
 use crate::tokens::Token;
 
@@ -28,31 +28,39 @@ const FROM_PARTS: &str = "    fn from_parts(parts: $parts$) -> $itself$ {
 
 ";
 
+/// How a struct is read in one function.
+const DECODE: &str = "        let $bound$: $parts$ = Decode::decode(decoder)?;
+        Ok($name$$made$)
+";
+
+/// How it is read by borrowing.
+const BORROW_DECODE: &str = "        let $bound$: $parts$ = BorrowDecode::borrow_decode(decoder)?;
+        Ok($name$$made$)
+";
+
 /// Adds the `impl`s by which a struct of these fields is written and read.
-pub fn add_struct_impls(out: &mut Text, item: &Item<'_>, fields: &[Field<'_>]) {
+pub fn add_struct_impls(out: &mut Text, item: &Item<'_>, fields: &Variant<'_>) {
     add_head(out, item, "", "Encode", "Encode");
-    add_most_line(out, fields);
-    fill(out, item, ENCODE);
-    if fields.len() > 8 {
+    add_most_line(out, item.fields.as_slice());
+    fill_variant(out, item, fields, ENCODE);
+    if item.fields.len() > 8 {
         add_head(out, item, "", "FromParts<$parts$>", "");
-        fill(out, item, FROM_PARTS);
+        fill_variant(out, item, fields, FROM_PARTS);
         add_decode(out, item, DECODE_PARTS);
     } else {
-        add_decode_at_once(out, item);
+        add_decode_front(out, item);
+        fill_variant(
+            out,
+            item,
+            fields,
+            if item.is_borrowing() {
+                BORROW_DECODE
+            } else {
+                DECODE
+            },
+        );
+        out.add(DECODE_END);
     }
-}
-
-/// Adds the `impl` by which a struct is read in one function.
-fn add_decode_at_once(out: &mut Text, item: &Item<'_>) {
-    add_decode_front(out, item);
-    fill(out, item, "        let $bound$: $parts$ = ");
-    out.add(if item.is_borrowing() {
-        "BorrowDecode::borrow_decode"
-    } else {
-        "Decode::decode"
-    });
-    fill(out, item, "(decoder)?;\n        Ok($name$$made$)\n");
-    out.add(DECODE_END);
 }
 
 /// Adds the line that says how many bytes a value takes at most where integers are fixed, if it is known.
@@ -68,17 +76,17 @@ fn add_most_line(out: &mut Text, fields: &[Field<'_>]) {
 fn most_of(fields: &[Field<'_>]) -> Option<u32> {
     let mut most = 0u32;
     for field in fields.iter() {
-        most = most.saturating_add(fixed_size(field.of.as_slice())?);
+        most = most.saturating_add(fixed_size(field.of)?);
     }
     if most == 0 { None } else { Some(most) }
 }
 
 /// How many bytes a number takes where integers are fixed.
-fn fixed_size(of: &[&Token]) -> Option<u32> {
+fn fixed_size(of: &[Token<'_>]) -> Option<u32> {
     let [word] = of else {
         return None;
     };
-    match word.text.as_str() {
+    match word.text {
         "u8" | "i8" | "bool" => Some(1),
         "u16" | "i16" => Some(2),
         "u32" | "i32" | "char" => Some(4),

@@ -1,6 +1,6 @@
 //! Text that is written piece by piece.
 
-use crate::tokens::Token;
+use crate::tokens::{Token, is_word};
 use std::alloc::{AllocError, Global};
 
 /// Text that is written piece by piece. Where memory is refused on the way, it is `whole` that says so.
@@ -23,6 +23,11 @@ impl Text {
     /// An empty text, of the memory of this one.
     pub fn beside(&self) -> Text {
         Text::new(self.alloc)
+    }
+
+    /// Where it takes its memory.
+    pub fn alloc(&self) -> Global {
+        self.alloc
     }
 
     pub fn as_str(&self) -> &str {
@@ -65,6 +70,13 @@ impl Text {
         }
     }
 
+    /// Adds a text in quotes, with what can't stand between them written by escapes.
+    pub fn add_quoted(&mut self, text: &str) {
+        if write!(self.text, "{text:?}").is_err() {
+            self.is_whole = false;
+        }
+    }
+
     /// Adds a piece so many times.
     pub fn add_times(&mut self, piece: &str, times: usize) {
         for _ in 0..times {
@@ -73,7 +85,7 @@ impl Text {
     }
 
     /// Adds the tokens of a type as its author writes them.
-    pub fn add_type(&mut self, tokens: &[&Token]) {
+    pub fn add_type(&mut self, tokens: &[Token<'_>]) {
         for at in 0..tokens.len() {
             self.add_type_token(tokens, at);
         }
@@ -81,7 +93,7 @@ impl Text {
 
     /// Adds the token of a type that is at this place. A path that begins where the module of the types stands begins
     /// one module above what is written.
-    fn add_type_token(&mut self, tokens: &[&Token], at: usize) {
+    fn add_type_token(&mut self, tokens: &[Token<'_>], at: usize) {
         let next = text_at(tokens, at);
         let before = text_before(tokens, at);
         if at > 0 && is_apart(before, next) {
@@ -166,15 +178,15 @@ fn place_in_group(at: usize, count: usize, level: u8) -> Option<usize> {
 }
 
 /// The text of the token at this place, and `""` where there is none.
-pub fn text_at<'t>(tokens: &[&'t Token], at: usize) -> &'t str {
+pub fn text_at<'t>(tokens: &[Token<'t>], at: usize) -> &'t str {
     match tokens.get(at) {
-        Some(token) => token.text.as_str(),
+        Some(token) => token.text,
         None => "",
     }
 }
 
 /// The text of the token before this place, and `""` where there is none.
-pub fn text_before<'t>(tokens: &[&'t Token], at: usize) -> &'t str {
+pub fn text_before<'t>(tokens: &[Token<'t>], at: usize) -> &'t str {
     if at > 0 {
         text_at(tokens, at.saturating_sub(1))
     } else {
@@ -195,5 +207,5 @@ fn is_apart(before: &str, next: &str) -> bool {
 
 /// Whether a token is a word or a lifetime.
 fn is_name(token: &str) -> bool {
-    token.starts_with(|c: char| c.is_ascii_alphanumeric() || c == '_' || c == '\'')
+    is_word(token) || token.starts_with('\'')
 }

@@ -13,8 +13,8 @@ pub struct Place {
 }
 
 impl Place {
-    /// The place behind a text that begins here.
-    fn behind(self, text: &str) -> Place {
+    /// The place after a text that begins here.
+    fn after(self, text: &str) -> Place {
         let mut line = self.line;
         let mut column = self.column;
         for c in text.chars() {
@@ -30,26 +30,26 @@ impl Place {
 }
 
 /// A word, a mark, a lifetime, a literal or a note, and where it stands.
-#[derive(Drop)]
-pub struct Token {
-    pub text: String,
+#[derive(Clone, Copy)]
+pub struct Token<'t> {
+    pub text: &'t str,
     pub place: Place,
 }
 
 /// The tokens of a source. Of its comments only the notes to this program are among them.
-pub fn tokens_of(alloc: Global, text: &str) -> Result<Vec<Token>, AllocError> {
+pub fn tokens_of<'t>(alloc: Global, text: &'t str) -> Result<Vec<Token<'t>>, AllocError> {
     let mut tokens = Vec::new(alloc);
-    let mut scanner = Scanner::new(text);
+    let mut scanner = Scanner {
+        rest: text,
+        place: Place { line: 1, column: 1 },
+    };
     for _ in 0..u64::MAX {
-        scanner.skip_space();
-        let place = scanner.place;
         let token = scanner.take();
-        if token.is_empty() {
+        if token.text.is_empty() {
             break;
         }
-        if is_kept(token) {
-            let text = String::from_str(alloc, token)?;
-            tokens.push(Token { text, place })?;
+        if is_kept(token.text) {
+            tokens.push(token)?;
         }
     }
     Ok(tokens)
@@ -63,28 +63,19 @@ struct Scanner<'t> {
 }
 
 impl<'t> Scanner<'t> {
-    fn new(text: &'t str) -> Scanner<'t> {
-        Scanner {
-            rest: text,
-            place: Place { line: 1, column: 1 },
-        }
-    }
-
-    /// Takes the space that comes next.
-    fn skip_space(&mut self) {
-        let _space = self.advance(space_size(self.rest));
-    }
-
-    /// Takes the token that comes next, which is empty at the end.
-    fn take(&mut self) -> &'t str {
-        self.advance(token_size(self.rest))
+    /// Takes the token that comes next, and the space before it. At the end its text is empty.
+    fn take(&mut self) -> Token<'t> {
+        self.advance(space_size(self.rest));
+        let place = self.place;
+        let text = self.advance(token_size(self.rest));
+        Token { text, place }
     }
 
     /// Takes so many bytes.
     fn advance(&mut self, size: usize) -> &'t str {
-        let (front, behind) = cut(self.rest, size);
-        self.place = self.place.behind(front);
-        self.rest = behind;
+        let (front, rest) = cut(self.rest, size);
+        self.place = self.place.after(front);
+        self.rest = rest;
         front
     }
 }
@@ -151,8 +142,16 @@ fn comment_size(text: &str) -> usize {
 /// How many bytes the word at the front of a text has, or else the mark.
 fn word_or_mark_size(text: &str) -> usize {
     match word_size(text) {
-        0 => text.chars().next().map_or(0, char::len_utf8),
+        0 => first_size(text),
         size => size,
+    }
+}
+
+/// How many bytes the first character of a text has.
+fn first_size(text: &str) -> usize {
+    match text.chars().next() {
+        Some(c) => c.len_utf8(),
+        None => 0,
     }
 }
 

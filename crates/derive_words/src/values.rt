@@ -1,38 +1,23 @@
 //! Structs and variants as values and as patterns.
 
-use crate::items::{Field, Fields};
+use crate::items::{Brackets, Field};
 use crate::parts::{add_bound, add_selector};
 use crate::text::Text;
 
-/// Adds what stands behind the path of a struct or a variant that is made of what its fields are bound to. It is also
+/// Adds what stands after the path of a struct or a variant that is made of what its fields are bound to. It is also
 /// the pattern that binds them.
-pub fn add_made(out: &mut Text, fields: &Fields<'_>) {
-    match fields {
-        Fields::Unit => {}
-        Fields::Tuple(fields) => {
-            out.add("(");
-            add_tuple_fields(out, fields.as_slice());
-            out.add(")");
-        }
-        Fields::Named(fields) if fields.is_empty() => out.add(" {}"),
-        Fields::Named(fields) => {
-            out.add(" { ");
-            add_named_fields(out, fields.as_slice());
-            out.add(" }");
-        }
+pub fn add_made(out: &mut Text, brackets: Brackets, fields: &[Field<'_>]) {
+    match brackets {
+        Brackets::Missing => {}
+        Brackets::Round => add_within(out, "(", fields, ")"),
+        Brackets::Curly if fields.is_empty() => out.add(" {}"),
+        Brackets::Curly => add_within(out, " { ", fields, " }"),
     }
 }
 
-/// Adds what the fields of a tuple are bound to.
-fn add_tuple_fields(out: &mut Text, fields: &[Field<'_>]) {
-    for (at, field) in fields.iter().enumerate() {
-        out.add(if at > 0 { ", " } else { "" });
-        add_bound(out, field, at, fields.len());
-    }
-}
-
-/// Adds fields with names, and what they are bound to where it is not that.
-fn add_named_fields(out: &mut Text, fields: &[Field<'_>]) {
+/// Adds what fields are bound to, between these. A name that they can't be bound to stands before what they are.
+fn add_within(out: &mut Text, open: &str, fields: &[Field<'_>], close: &str) {
+    out.add(open);
     for (at, field) in fields.iter().enumerate() {
         out.add(if at > 0 { ", " } else { "" });
         if field.name == Some("encoder") {
@@ -40,4 +25,5 @@ fn add_named_fields(out: &mut Text, fields: &[Field<'_>]) {
         }
         add_bound(out, field, at, fields.len());
     }
+    out.add(close);
 }

@@ -3,8 +3,9 @@
 use crate::blanks::{fill, fill_variant};
 use crate::heads::{add_head, close, open_or_part};
 use crate::items::{Item, Variant, say};
-use crate::parts::{CLAUSE_WIDTH, add_pattern, add_sum_use};
+use crate::parts::{CLAUSE_WIDTH, add_declared, add_pattern, add_shown_row, add_sum_use};
 use crate::text::Text;
+use crate::tokens::Token;
 use crate::wire::add_opening;
 
 /// How many characters a line of a clause has at most.
@@ -25,7 +26,7 @@ const TYPE_NAME: &str = "
 ";
 
 /// What a row of a clause says of a variant.
-#[derive(Clone, Copy, PartialEq)]
+#[derive(Clone, Copy)]
 enum Row {
     /// Its words.
     Words,
@@ -36,33 +37,42 @@ enum Row {
 /// Adds the type of the part of a variant, with those parameters of the enum that its fields have. If it is a parameter
 /// itself, its type is that.
 pub fn add_part(out: &mut Text, item: &Item<'_>, variant: &Variant<'_>) {
-    match lone_param(item, variant) {
-        Some(param) => out.add(param),
-        None => add_part_type(out, item, variant),
+    let param = lone_param(item, variant);
+    if param.is_empty() {
+        add_part_type(out, item, variant);
+    } else {
+        out.add(param);
     }
 }
 
-/// Adds the same, as the path of a function begins with it.
+/// Adds that type as the path of a function begins with it.
 pub fn add_part_path(out: &mut Text, item: &Item<'_>, variant: &Variant<'_>) {
-    match lone_param(item, variant) {
-        Some(param) => out.add(param),
-        None if is_part_generic(item, variant) => {
-            out.add("<");
-            add_part_type(out, item, variant);
-            out.add(">");
-        }
-        None => add_part_name(out, item, variant),
+    let is_bracketed = lone_param(item, variant).is_empty() && is_part_generic(item, variant);
+    if is_bracketed {
+        out.add("<");
+        add_part_type(out, item, variant);
+        out.add(">");
+    } else if lone_param(item, variant).is_empty() {
+        add_part_name(out, item, variant);
+    } else {
+        out.add(lone_param(item, variant));
     }
 }
 
 /// Adds the name of the part of a variant, with its arguments.
 fn add_part_type(out: &mut Text, item: &Item<'_>, variant: &Variant<'_>) {
     add_part_name(out, item, variant);
+    let fields = item.fields_of(variant);
     let mut is_first = true;
+    if say(fields, item.lifetime) {
+        open_or_part(out, is_first);
+        out.add(item.lifetime);
+        is_first = false;
+    }
     for param in item.params.iter() {
-        if holds(variant, param.name.text.as_str()) {
+        if say(fields, param.name) {
             open_or_part(out, is_first);
-            out.add(param.name.text.as_str());
+            out.add(param.name);
             is_first = false;
         }
     }
@@ -71,62 +81,57 @@ fn add_part_type(out: &mut Text, item: &Item<'_>, variant: &Variant<'_>) {
 
 /// Adds the name of the part of a variant.
 fn add_part_name(out: &mut Text, item: &Item<'_>, variant: &Variant<'_>) {
-    out.add(item.name.text.as_str());
-    out.add(variant.name.text.as_str());
+    out.add(item.name.text);
+    out.add(variant.name.text);
     out.add("Part");
 }
 
 /// Whether a type parameter of an enum stands in the fields of a variant.
 fn is_part_generic(item: &Item<'_>, variant: &Variant<'_>) -> bool {
     for param in item.params.iter() {
-        if !param.is_lifetime() && holds(variant, param.name.text.as_str()) {
+        if say(item.fields_of(variant), param.name) {
             return true;
         }
     }
     false
 }
 
-/// Whether a name stands in the fields of a variant.
-fn holds(variant: &Variant<'_>, name: &str) -> bool {
-    say(variant.fields.as_slice(), name)
+/// The parameter that is all that a variant holds, and `""` if it holds no parameter alone.
+fn lone_param<'t>(item: &Item<'t>, variant: &Variant<'_>) -> &'t str {
+    match item.fields_of(variant) {
+        [field] => lone_param_in(item, field.of),
+        _ => "",
+    }
 }
 
-/// The parameter that is all that a variant holds, if it is one.
-fn lone_param<'t>(item: &Item<'t>, variant: &Variant<'t>) -> Option<&'t str> {
-    let [field] = variant.fields.as_slice() else {
-        return None;
-    };
-    let [word] = field.of.as_slice() else {
-        return None;
-    };
-    if item.has_param(word.text.as_str()) {
-        Some(word.text.as_str())
-    } else {
-        None
+/// The parameter that a type is, and `""` if it is none.
+fn lone_param_in<'t>(item: &Item<'t>, of: &[Token<'t>]) -> &'t str {
+    match of {
+        [word] if item.has_param(word.text) => word.text,
+        _ => "",
     }
 }
 
 /// Adds the aliases for the part of each variant, and for the sum of them.
 pub fn add_variant_aliases(out: &mut Text, item: &Item<'_>) {
-    let variants = item.variants();
-    for variant in variants.iter() {
-        if lone_param(item, variant).is_none() {
+    let mut sum = out.beside();
+    for variant in item.variants.iter() {
+        if lone_param(item, variant).is_empty() {
             fill_variant(out, item, variant, "type $part$ = $types$;\n\n");
         }
+        fill_variant(&mut sum, item, variant, "VariantOf<$tag$, $part$, ");
     }
     fill(out, item, "type $parts$ = ");
-    for variant in variants.iter() {
-        fill_variant(out, item, variant, "VariantOf<$tag$, $part$, ");
-    }
+    out.add_text(&sum);
     fill(out, item, "NoMoreVariants<$itself$>");
-    out.add_times(">", variants.len());
+    out.add_times(">", item.variants.len());
     out.add(";\n\n");
 }
 
 /// Adds the `impl` that shows a value as one of its variants, and makes it of them. `declared` is where the toolchain
 /// declares the types of the module.
 pub fn add_shown_by_variants(out: &mut Text, item: &Item<'_>, declared: &str) {
-    let variants = item.variants();
+    let variants = item.variants.as_slice();
     add_head(out, item, "", "Sum<$parts$>", "Wire");
     add_sum_use(out, variants.len());
     out.add("    ghost use Rattle.bincode.specs.EnumWords.{by, no_more, or_else};\n");
@@ -135,12 +140,7 @@ pub fn add_shown_by_variants(out: &mut Text, item: &Item<'_>, declared: &str) {
     add_rows(out, item, Row::Words);
     out.add("\n    ghost parts = { elim [\n");
     for (at, variant) in variants.iter().enumerate() {
-        add_pattern(out, "      | ", variant);
-        out.add(" ↦ ");
-        out.add_times("other (", at);
-        fill_variant(out, item, variant, "this $shown$");
-        out.add_times(")", at);
-        out.add("\n");
+        add_shown_row(out, item, variant, at, "", "\n");
     }
     out.add("    ] };\n\n");
     add_rows(out, item, Row::Made);
@@ -150,12 +150,10 @@ pub fn add_shown_by_variants(out: &mut Text, item: &Item<'_>, declared: &str) {
 /// Adds the imports of the names of the variants, in lines that are not too long.
 fn add_variant_uses(out: &mut Text, item: &Item<'_>, declared: &str) {
     let mut front = out.beside();
-    front.add("    ghost use Rattle.");
-    front.add(declared);
-    fill(&mut front, item, ".$name$.TheVariants.{");
+    add_declared(&mut front, item, declared);
     let mut width = 0usize;
-    for variant in item.variants().iter() {
-        let name = variant.name.text.as_str();
+    for variant in item.variants.iter() {
+        let name = variant.name.text;
         let is_long = width > 0 && width.saturating_add(name.len()) > CLAUSE_WIDTH;
         if is_long {
             out.add("};\n");
@@ -187,7 +185,7 @@ fn add_rows(out: &mut Text, item: &Item<'_>, row: Row) {
 
 /// Adds a clause of rows with this between each two.
 fn add_rows_by(out: &mut Text, item: &Item<'_>, row: Row, between: &str) {
-    let variants = item.variants();
+    let variants = item.variants.as_slice();
     out.add(match row {
         Row::Words => "    ghost variants = { ",
         Row::Made => "    ghost made = { ",
@@ -210,20 +208,20 @@ fn add_rows_by(out: &mut Text, item: &Item<'_>, row: Row, between: &str) {
 
 /// Adds the row of a variant.
 fn add_row(out: &mut Text, item: &Item<'_>, variant: &Variant<'_>, row: Row) {
-    if row == Row::Made {
-        add_made_row(out, variant);
-    } else if lone_param(item, variant).is_some() {
-        fill_variant(out, item, variant, "or_else $tag$ $part$.words");
-    } else {
-        fill_variant(out, item, variant, "or_else $tag$ ⟦<$part$ as Wire>⟧.words");
+    match row {
+        Row::Made => add_made_row(out, item, variant),
+        Row::Words if lone_param(item, variant).is_empty() => {
+            fill_variant(out, item, variant, "or_else $tag$ ⟦<$part$ as Wire>⟧.words");
+        }
+        Row::Words => fill_variant(out, item, variant, "or_else $tag$ $part$.words"),
     }
 }
 
 /// Adds how a variant is made of its part.
-fn add_made_row(out: &mut Text, variant: &Variant<'_>) {
+fn add_made_row(out: &mut Text, item: &Item<'_>, variant: &Variant<'_>) {
     out.add("by (λ p. ");
-    out.add(variant.name.text.as_str());
-    let count = variant.fields.as_slice().len();
+    out.add(variant.name.text);
+    let count = item.fields_of(variant).len();
     for at in 0..count {
         out.add(" p");
         out.add_selector(at, count);
@@ -280,7 +278,7 @@ fn width_of(text: &Text) -> usize {
 /// Adds the lines that find what the widest part claims, from the last part on.
 fn add_widest_claim(out: &mut Text, item: &Item<'_>) {
     let mut is_last = true;
-    for variant in item.variants().iter().rev() {
+    for variant in item.variants.iter().rev() {
         fill_variant(
             out,
             item,
@@ -318,8 +316,8 @@ pub fn add_enum_by_variants(out: &mut Text, item: &Item<'_>, declared: &str) {
     out.add("\n        ");
     fill(out, item, SUM);
     out.add(".made (elim [\n");
-    for variant in item.variants().iter() {
-        add_pattern(out, "          | ", variant);
+    for variant in item.variants.iter() {
+        add_pattern(out, "          | ", item, variant);
         out.add(" ↦ refl\n");
     }
     out.add("        ]) };\n}\n\n");
@@ -327,7 +325,7 @@ pub fn add_enum_by_variants(out: &mut Text, item: &Item<'_>, declared: &str) {
 
 /// Adds the calls that tell a law of an enum: that of each part, and then that of all of them.
 pub fn add_told_by_variants(out: &mut Text, item: &Item<'_>, law: &str) {
-    for variant in item.variants().iter() {
+    for variant in item.variants.iter() {
         fill_variant(out, item, variant, "$part_path$::tell_");
         out.add(law);
         out.add("();\n        ");

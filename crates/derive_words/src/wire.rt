@@ -2,8 +2,7 @@
 
 use crate::blanks::{fill, fill_variant};
 use crate::heads::{add_head, is_by_variants};
-use crate::items::{Item, Kind};
-use crate::notes::Trait;
+use crate::items::Item;
 use crate::text::Text;
 use crate::variants::{add_told_by_variants, add_words_by_variants};
 
@@ -90,7 +89,7 @@ pub fn add_words(out: &mut Text, item: &Item<'_>) {
         return;
     }
     add_head(out, item, "", "Wire", "Wire");
-    match item.notes.claim {
+    match item.marks.claim {
         Some(claim) => add_claimed_words(out, item, claim),
         None => add_words_by_parts(out, item),
     }
@@ -150,27 +149,24 @@ pub fn add_laws(out: &mut Text, item: &Item<'_>) {
 
 /// Adds the laws that the notes of a type ask for.
 fn add_noted(out: &mut Text, item: &Item<'_>) {
-    if item.notes.asks_for(Trait::Writable) {
+    if item.marks.with.writable {
         add_law(out, item, &WRITABLE);
     }
-    if item.notes.asks_for(Trait::Inhabited) {
+    if item.marks.with.inhabited {
         add_law(out, item, &INHABITED);
     }
-    if item.notes.asks_for(Trait::ConstantCharge) {
+    if item.marks.with.constant_charge {
         add_head(out, item, "", "ConstantCharge", "ConstantCharge");
         fill(out, item, COSTS);
     }
-    if item.notes.asks_for(Trait::Described) {
+    if item.marks.with.described {
         add_described(out, item);
     }
 }
 
 /// Whether a type is a struct of two fields or more.
 fn is_row(item: &Item<'_>) -> bool {
-    match &item.kind {
-        Kind::Struct(fields) => fields.as_slice().len() > 1,
-        Kind::Enum(_) => false,
-    }
+    !item.is_enum && item.fields.len() > 1
 }
 
 /// Adds a law that is told by one call, or by one for each variant of an enum.
@@ -208,7 +204,7 @@ fn add_described_variants(out: &mut Text, item: &Item<'_>) {
         item,
         "        let shapes = start_variants::<$itself$>(alloc);\n",
     );
-    let variants = item.variants();
+    let variants = item.variants.as_slice();
     for (at, variant) in variants.iter().enumerate() {
         fill_variant(
             out,
