@@ -8,7 +8,11 @@ ghost use Rattle.bincode_layers.specs.Claims.{Claims};
 use bincode_base::error::DecodeError;
 
 /// Charges `n` bytes if there is a limit.
-pub(super) fn claim(limit: Option<usize>, bytes_read: &mut usize, n: usize) -> Result<(), DecodeError>
+pub(super) fn claim(
+    limit: Option<usize>,
+    bytes_read: &mut usize,
+    n: usize,
+) -> Result<(), DecodeError>
     ensures { Claims limit bytes_read.old n bytes_read.new result }
 {
     let Some(limit) = limit else {
