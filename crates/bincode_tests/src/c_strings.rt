@@ -1,6 +1,6 @@
 //! C strings.
 
-use crate::asserts::none_wrong;
+use crate::asserts::{all_true, none_wrong};
 use bincode::error::DecodeError;
 use bincode::ffi::{CStr, CString, NulError};
 use bincode::{Decode, Encode, Wire, borrow_decode_from_slice, config};
@@ -76,9 +76,14 @@ fn tells_the_first_zero_of_a_vector(rt: HostRuntime) {
         assert!(rt; false);
         return;
     };
-    assert!(rt; fault.nul_position() == 1);
-    assert!(rt; fault.into_vec().as_slice() == [65u8, 0, 66, 0].as_slice());
-    assert!(rt; CStr::from_bytes(&[65, 66, 0]).err() == Some(2));
+    all_true(
+        &rt,
+        &[
+            fault.nul_position() == 1,
+            fault.into_vec().as_slice() == [65u8, 0, 66, 0].as_slice(),
+            CStr::from_bytes(&[65, 66, 0]).err() == Some(2),
+        ],
+    );
 }
 
 #[test]

@@ -1,5 +1,6 @@
 //! Cells, of which no contract says what they hold.
 
+use crate::asserts::all_true;
 use bincode::enc::Encode;
 use bincode::error::EncodeError;
 use bincode::{config, encode_into_slice};
@@ -80,9 +81,14 @@ fn follows_an_unborrowed_cell_that_is_set(rt: HostRuntime) {
     };
     *held = 300;
     drop(held);
-    assert!(rt; has_word(&cell, &THREE_HUNDRED));
-    assert!(rt; held_by(rt.alloc(), &FIVE) == Some(5));
-    assert!(rt; held_by(rt.alloc(), &THREE_HUNDRED) == Some(300));
+    all_true(
+        &rt,
+        &[
+            has_word(&cell, &THREE_HUNDRED),
+            held_by(rt.alloc(), &FIVE) == Some(5),
+            held_by(rt.alloc(), &THREE_HUNDRED) == Some(300),
+        ],
+    );
 }
 
 /// Whether the cell is written as 300 is.

@@ -1,5 +1,6 @@
 //! Encoders and decoders over a writer and a reader of one's own.
 
+use crate::asserts::all_true;
 use bincode::config;
 use bincode::de::read::SliceReader;
 use bincode::de::{
@@ -15,11 +16,16 @@ use test_helpers::checks::either;
 /// A number is written, a run of two, and a number by a reference to the encoder's own, which then has room for one
 /// byte of nine.
 fn writes_in_turn<E: Encoder>(rt: &impl Abort, mut encoder: &mut E) {
-    assert!(rt; 300u32.encode(encoder).is_ok());
-    assert!(rt; encode_run(&[300u16, 7], encoder).is_ok());
-    assert!(rt; 7u8.encode(&mut encoder).is_ok());
-    assert!(rt; encoder.has_room_for(1));
-    assert!(rt; !encoder.has_room_for(2));
+    all_true(
+        &rt,
+        &[
+            300u32.encode(encoder).is_ok(),
+            encode_run(&[300u16, 7], encoder).is_ok(),
+            7u8.encode(&mut encoder).is_ok(),
+            encoder.has_room_for(1),
+            !encoder.has_room_for(2),
+        ],
+    );
 }
 
 #[test]

@@ -1,6 +1,6 @@
 //! Tuples, arrays, choices, ranges, durations and wrappers.
 
-use crate::asserts::all_hold;
+use crate::asserts::{all_hold, all_true};
 use bincode::de::{Decode, collect_into_array};
 use bincode::enc::Encode;
 use bincode::time::Duration;
@@ -197,9 +197,14 @@ fn converts_spans(rt: HostRuntime) {
     let span = Duration::new(1, 2_500_000_000);
     assert!(rt; (span.as_secs(), span.subsec_nanos()) == (3, 500_000_000));
     let converted = StdDuration::from(span);
-    assert!(rt; converted == StdDuration::new(3, 500_000_000));
-    assert!(rt; Duration::from(converted) == span);
-    assert!(rt; Duration::default() == Duration::new(0, 0));
+    all_true(
+        &rt,
+        &[
+            converted == StdDuration::new(3, 500_000_000),
+            Duration::from(converted) == span,
+            Duration::default() == Duration::new(0, 0),
+        ],
+    );
 }
 
 /// The result of collecting three of the items from an index on, and the next item.

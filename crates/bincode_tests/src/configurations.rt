@@ -1,5 +1,6 @@
 //! Building configurations part by part, and how they are printed.
 
+use crate::asserts::all_true;
 use bincode::config::{self, Config, Endianness, IntEncoding};
 use std::alloc::{AllocError, Global};
 use test_helpers::checks::either;
@@ -10,16 +11,26 @@ fn changes_each_part(rt: HostRuntime) {
         .with_big_endian()
         .with_fixed_int_encoding()
         .with_limit::<7>();
-    assert!(rt; changed.endianness() == Endianness::Big);
-    assert!(rt; changed.int_encoding() == IntEncoding::Fixed);
-    assert!(rt; changed.limit() == Some(7));
+    all_true(
+        &rt,
+        &[
+            changed.endianness() == Endianness::Big,
+            changed.int_encoding() == IntEncoding::Fixed,
+            changed.limit() == Some(7),
+        ],
+    );
     let back = changed
         .with_little_endian()
         .with_variable_int_encoding()
         .with_no_limit();
-    assert!(rt; back.endianness() == Endianness::Little);
-    assert!(rt; back.int_encoding() == IntEncoding::Variable);
-    assert!(rt; back.limit() == None);
+    all_true(
+        &rt,
+        &[
+            back.endianness() == Endianness::Little,
+            back.int_encoding() == IntEncoding::Variable,
+            back.limit() == None,
+        ],
+    );
 }
 
 /// How a configuration is printed.

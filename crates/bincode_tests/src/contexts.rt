@@ -1,5 +1,6 @@
 //! Decoding with a context, and from a reader.
 
+use crate::asserts::all_true;
 use bincode::de::read::SliceReader;
 use bincode::de::{Decode, Decoder, DecoderImpl, LendInContext};
 use bincode::error::DecodeError;
@@ -44,9 +45,14 @@ fn reads_in_context<D: Decoder<Context = u8>>(rt: &impl Abort, decoder: &mut D, 
 
 /// The lender has its own context again, and the charge of what was read.
 fn has_read_four_of_five<D: Decoder<Context = u8>>(rt: &impl Abort, decoder: &mut D) {
-    assert!(rt; *decoder.context() == 8);
-    assert!(rt; matches!(u8::decode(decoder), Ok(7)));
-    assert!(rt; matches!(u8::decode(decoder), Err(DecodeError::LimitExceeded)));
+    all_true(
+        &rt,
+        &[
+            *decoder.context() == 8,
+            matches!(u8::decode(decoder), Ok(7)),
+            matches!(u8::decode(decoder), Err(DecodeError::LimitExceeded)),
+        ],
+    );
 }
 
 /// The decoder is lent with the context 3.

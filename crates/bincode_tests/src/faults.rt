@@ -1,5 +1,6 @@
 //! Short texts, and errors as they are printed.
 
+use crate::asserts::all_true;
 use bincode::error::{DecodeError, EncodeError, IntegerType};
 use bincode::short_text::{ShortText, TypeName};
 use std::alloc::{AllocError, Global};
@@ -8,10 +9,15 @@ use test_helpers::checks::either;
 
 #[test]
 fn keeps_short_texts(rt: HostRuntime) {
-    assert!(rt; ShortText::new("").as_str() == "");
-    assert!(rt; ShortText::new("a text of 22 bytes ...").as_str() == "a text of 22 bytes ...");
-    assert!(rt; ShortText::new("a text with 23 bytes ..").as_str() == "a text with 23 bytes .");
-    assert!(rt; TypeName::new("123456789\u{e9}").as_str() == "123456789");
+    all_true(
+        &rt,
+        &[
+            ShortText::new("").as_str() == "",
+            ShortText::new("a text of 22 bytes ...").as_str() == "a text of 22 bytes ...",
+            ShortText::new("a text with 23 bytes ..").as_str() == "a text with 23 bytes .",
+            TypeName::new("123456789\u{e9}").as_str() == "123456789",
+        ],
+    );
 }
 
 #[test]

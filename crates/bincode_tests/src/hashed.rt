@@ -1,5 +1,6 @@
 //! Hashed sets and maps, which have no order that a test may rest on.
 
+use crate::asserts::all_true;
 use bincode::config::{self, Config};
 use bincode::enc::Encode;
 use bincode::error::DecodeError;
@@ -128,9 +129,14 @@ fn keeps_one_entry_and_the_last_value_of_a_key(rt: HostRuntime) {
         assert!(rt; false);
         return;
     };
-    assert!(rt; map.len() == 2);
-    assert!(rt; map.get(&1) == Some(&30));
-    assert!(rt; map.get(&2) == Some(&20));
+    all_true(
+        &rt,
+        &[
+            map.len() == 2,
+            map.get(&1) == Some(&30),
+            map.get(&2) == Some(&20),
+        ],
+    );
 }
 
 /// Each call keeps one key.

@@ -1,5 +1,6 @@
 //! Standard streams: what is read from them and written to them, and how they fail.
 
+use crate::asserts::all_true;
 use bincode::de::read::Reader;
 use bincode::error::{DecodeError, EncodeError};
 use bincode::{
@@ -64,9 +65,14 @@ fn shows_what_is_buffered(rt: HostRuntime) {
     };
     assert!(rt; buffered.peek_read(1).is_none());
     let mut one = [0u8; 1];
-    assert!(rt; Reader::read(&mut buffered, &mut one).is_ok());
-    assert!(rt; buffered.peek_read(4).is_none());
-    assert!(rt; matches!(buffered.peek_read(3), Some([2, 3, 4])));
+    all_true(
+        &rt,
+        &[
+            Reader::read(&mut buffered, &mut one).is_ok(),
+            buffered.peek_read(4).is_none(),
+            matches!(buffered.peek_read(3), Some([2, 3, 4])),
+        ],
+    );
     Reader::consume(&mut buffered, 2);
     assert!(rt; matches!(buffered.peek_read(1), Some([4])));
 }
@@ -175,10 +181,15 @@ fn writes_in_three_pieces(alloc: Global) -> bool {
 #[test]
 fn leaves_what_a_stream_took(rt: HostRuntime) {
     let alloc = rt.alloc();
-    assert!(rt; fails_after(alloc, 0, &[]));
-    assert!(rt; fails_after(alloc, 1, &[1]));
-    assert!(rt; fails_after(alloc, 2, &[1, 251]));
-    assert!(rt; writes_in_three_pieces(alloc));
+    all_true(
+        &rt,
+        &[
+            fails_after(alloc, 0, &[]),
+            fails_after(alloc, 1, &[1]),
+            fails_after(alloc, 2, &[1, 251]),
+            writes_in_three_pieces(alloc),
+        ],
+    );
 }
 
 /// Takes nothing.

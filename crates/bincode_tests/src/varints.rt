@@ -1,5 +1,6 @@
 //! The calls that write and read a number as a variable integer, each type once beside the worked rows.
 
+use crate::asserts::all_true;
 use bincode::config::Endianness::Little;
 use bincode::de::read::{Reader, SliceReader};
 use bincode::enc::write::{SliceWriter, Writer};
@@ -24,29 +25,44 @@ const SIGNED: [u8; 17] = [
 
 /// The calls that no worked row makes write their numbers in turn.
 fn writes_each<W: Writer>(rt: &impl Abort, writer: &mut W) {
-    assert!(rt; varint_encode_u16(writer, Little, 300).is_ok());
-    assert!(rt; varint_encode_u64(writer, Little, 10).is_ok());
-    assert!(rt; varint_encode_usize(writer, Little, 251).is_ok());
-    assert!(rt; varint_encode_i32(writer, Little, 40_000).is_ok());
-    assert!(rt; varint_encode_isize(writer, Little, -2).is_ok());
+    all_true(
+        &rt,
+        &[
+            varint_encode_u16(writer, Little, 300).is_ok(),
+            varint_encode_u64(writer, Little, 10).is_ok(),
+            varint_encode_usize(writer, Little, 251).is_ok(),
+            varint_encode_i32(writer, Little, 40_000).is_ok(),
+            varint_encode_isize(writer, Little, -2).is_ok(),
+        ],
+    );
 }
 
 /// The calls for unsigned numbers read them in turn.
 fn reads_each_unsigned<R: Reader>(rt: &impl Abort, reader: &mut R) {
-    assert!(rt; matches!(varint_decode_u16(reader, Little), Ok(300)));
-    assert!(rt; matches!(varint_decode_u32(reader, Little), Ok(65_536)));
-    assert!(rt; matches!(varint_decode_u64(reader, Little), Ok(10)));
-    assert!(rt; matches!(varint_decode_u128(reader, Little), Ok(7)));
-    assert!(rt; matches!(varint_decode_usize(reader, Little), Ok(251)));
+    all_true(
+        &rt,
+        &[
+            matches!(varint_decode_u16(reader, Little), Ok(300)),
+            matches!(varint_decode_u32(reader, Little), Ok(65_536)),
+            matches!(varint_decode_u64(reader, Little), Ok(10)),
+            matches!(varint_decode_u128(reader, Little), Ok(7)),
+            matches!(varint_decode_usize(reader, Little), Ok(251)),
+        ],
+    );
 }
 
 /// The calls for signed numbers read them in turn.
 fn reads_each_signed<R: Reader>(rt: &impl Abort, reader: &mut R) {
-    assert!(rt; matches!(varint_decode_i16(reader, Little), Ok(-1)));
-    assert!(rt; matches!(varint_decode_i32(reader, Little), Ok(40_000)));
-    assert!(rt; matches!(varint_decode_i64(reader, Little), Ok(3_000_000_000)));
-    assert!(rt; matches!(varint_decode_i128(reader, Little), Ok(-1)));
-    assert!(rt; matches!(varint_decode_isize(reader, Little), Ok(-2)));
+    all_true(
+        &rt,
+        &[
+            matches!(varint_decode_i16(reader, Little), Ok(-1)),
+            matches!(varint_decode_i32(reader, Little), Ok(40_000)),
+            matches!(varint_decode_i64(reader, Little), Ok(3_000_000_000)),
+            matches!(varint_decode_i128(reader, Little), Ok(-1)),
+            matches!(varint_decode_isize(reader, Little), Ok(-2)),
+        ],
+    );
 }
 
 #[test]

@@ -1,5 +1,6 @@
 //! Writing into slices, and counting.
 
+use crate::asserts::all_true;
 use bincode::enc::Encode;
 use bincode::enc::write::{SizeWriter, SliceWriter, Writer};
 use bincode::error::EncodeError;
@@ -9,9 +10,14 @@ use test_helpers::checks::either;
 
 /// 1 is written, three more bytes are not, and then two are.
 fn writes_one_and_two<W: Writer>(rt: &impl Abort, mut writer: W) {
-    assert!(rt; writer.write(&[1]).is_ok());
-    assert!(rt; matches!(writer.write(&[2, 3, 4]), Err(EncodeError::UnexpectedEnd)));
-    assert!(rt; writer.write(&[5, 6]).is_ok());
+    all_true(
+        &rt,
+        &[
+            writer.write(&[1]).is_ok(),
+            matches!(writer.write(&[2, 3, 4]), Err(EncodeError::UnexpectedEnd)),
+            writer.write(&[5, 6]).is_ok(),
+        ],
+    );
 }
 
 #[test]

@@ -1,5 +1,6 @@
 //! Types of one's own that borrow bytes of the input.
 
+use crate::asserts::all_true;
 use bincode::de::BorrowDecode;
 use bincode::error::DecodeError;
 use bincode::{NoVariants, borrow_decode_from_slice, config, encode_into_slice};
@@ -44,9 +45,14 @@ fn lends_to_a_struct(rt: HostRuntime) {
 #[test]
 fn lends_to_an_enum(rt: HostRuntime) {
     let alloc = rt.alloc();
-    assert!(rt; matches!(borrowed(alloc, &[0]), Ok((Event::Start, 1))));
-    assert!(rt; matches!(borrowed(alloc, &[1, 5]), Ok((Event::Stop(5), 2))));
-    assert!(rt; matches!(borrowed(alloc, &[2, 2, 97, 98]), Ok((Event::Note("ab"), 4))));
+    all_true(
+        &rt,
+        &[
+            matches!(borrowed(alloc, &[0]), Ok((Event::Start, 1))),
+            matches!(borrowed(alloc, &[1, 5]), Ok((Event::Stop(5), 2))),
+            matches!(borrowed(alloc, &[2, 2, 97, 98]), Ok((Event::Note("ab"), 4))),
+        ],
+    );
 }
 
 #[test]

@@ -1,6 +1,6 @@
 //! Types of one's own, written and read.
 
-use crate::asserts::{all_equal, all_hold, none_wrong};
+use crate::asserts::{all_equal, all_hold, all_true, none_wrong};
 use bincode::checked::{RoundTrip, encoded_length, round_trip};
 use bincode::de::Decode;
 use bincode::de::read::SliceReader;
@@ -73,9 +73,14 @@ fn keeps_a_report(rt: HostRuntime) {
         assert!(rt; false);
         return;
     };
-    assert!(rt; report.station == 5 && report.second == 300 && report.words.as_str() == "a");
-    assert!(rt; report.temperature == -3 && report.pressure == 10132 && report.rain == 12);
-    assert!(rt; report.wind_speed == 251 && report.wind_direction == 250 && report.sight == 9);
+    all_true(
+        &rt,
+        &[
+            report.station == 5 && report.second == 300 && report.words.as_str() == "a",
+            report.temperature == -3 && report.pressure == 10132 && report.rain == 12,
+            report.wind_speed == 251 && report.wind_direction == 250 && report.sight == 9,
+        ],
+    );
 }
 
 /// The word of a book of one contact, who works at `d` since 300 and was born in 1990, and of one note.
@@ -130,10 +135,15 @@ fn keeps_a_book(rt: HostRuntime) {
         assert!(rt; false);
         return;
     };
-    assert!(rt; is_contact(contact));
-    assert!(rt; matches!(encoded_length(contact, config::standard()), Ok(19)));
-    assert!(rt; matches!(book.notes.get(&5), Some(note) if note.as_str() == "e"));
-    assert!(rt; comes_back(alloc, &book));
+    all_true(
+        &rt,
+        &[
+            is_contact(contact),
+            matches!(encoded_length(contact, config::standard()), Ok(19)),
+            matches!(book.notes.get(&5), Some(note) if note.as_str() == "e"),
+            comes_back(alloc, &book),
+        ],
+    );
 }
 
 /// A value of this word, read of a reader with a byte after it, if the type has the word and the claim.

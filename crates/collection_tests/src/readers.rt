@@ -1,5 +1,6 @@
 //! Reading over a line that is cut.
 
+use crate::asserts::all_true;
 use bincode::config;
 use bincode::de::{Decode, Decoder, DecoderImpl};
 use bincode::error::DecodeError;
@@ -8,9 +9,14 @@ use std::process::Abort;
 
 /// The first number is read, and each after it fails with the error of the line.
 fn fails_after_the_first<D: Decoder<Context = ()>>(rt: &impl Abort, decoder: &mut D) {
-    assert!(rt; matches!(u8::decode(decoder), Ok(7)));
-    assert!(rt; matches!(u16::decode(decoder), Err(DecodeError::Other(_))));
-    assert!(rt; matches!(u8::decode(decoder), Err(DecodeError::Other(_))));
+    all_true(
+        &rt,
+        &[
+            matches!(u8::decode(decoder), Ok(7)),
+            matches!(u16::decode(decoder), Err(DecodeError::Other(_))),
+            matches!(u8::decode(decoder), Err(DecodeError::Other(_))),
+        ],
+    );
 }
 
 #[test]

@@ -1,5 +1,6 @@
 //! Writing over a line that is cut, and into a fixed room.
 
+use crate::asserts::all_true;
 use bincode::checked::encoded_length;
 use bincode::enc::{Encode, Encoder, EncoderImpl};
 use bincode::error::EncodeError;
@@ -10,9 +11,14 @@ use std::process::Abort;
 
 /// The first number is written, and each after it fails with the error of the line.
 fn fails_after_the_first<E: Encoder>(rt: &impl Abort, encoder: &mut E) {
-    assert!(rt; 7u8.encode(encoder).is_ok());
-    assert!(rt; matches!(300u16.encode(encoder), Err(EncodeError::Other(_))));
-    assert!(rt; matches!(9u8.encode(encoder), Err(EncodeError::Other(_))));
+    all_true(
+        &rt,
+        &[
+            7u8.encode(encoder).is_ok(),
+            matches!(300u16.encode(encoder), Err(EncodeError::Other(_))),
+            matches!(9u8.encode(encoder), Err(EncodeError::Other(_))),
+        ],
+    );
 }
 
 #[test]

@@ -1,5 +1,6 @@
 //! Clones of what was decoded.
 
+use crate::asserts::all_true;
 use bincode::ffi::CString;
 use test_helpers::checks::{either, read_word};
 
@@ -13,7 +14,12 @@ fn clones_a_c_string(rt: HostRuntime) {
         assert!(rt; false);
         return;
     };
-    assert!(rt; copy == text);
-    assert!(rt; copy.as_bytes() == b"Hello".as_slice());
-    assert!(rt; text.into_bytes().as_slice() == b"Hello".as_slice());
+    all_true(
+        &rt,
+        &[
+            copy == text,
+            copy.as_bytes() == b"Hello".as_slice(),
+            text.into_bytes().as_slice() == b"Hello".as_slice(),
+        ],
+    );
 }

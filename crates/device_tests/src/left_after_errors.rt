@@ -1,6 +1,7 @@
 //! What a slice that is too short holds of a value, and by how many calls a stream gets one. The rows are those of
 //! bincode 2.0.1.
 
+use crate::asserts::all_true;
 use bincode::enc::Encode;
 use bincode::error::{DecodeError, EncodeError};
 use bincode::{config, encode_into_slice, encode_into_std_write};
@@ -82,9 +83,14 @@ fn leaves_the_items_of_a_heap_that_fit(rt: HostRuntime) {
         return;
     };
     let (two, three, calls) = left_twice_and_calls::<_, 2, 3>(&heap);
-    assert!(rt; two == ([3, 5], true));
-    assert!(rt; three == ([3, 5, 4], true));
-    assert!(rt; calls == 4);
+    all_true(
+        &rt,
+        &[
+            two == ([3, 5], true),
+            three == ([3, 5, 4], true),
+            calls == 4,
+        ],
+    );
 }
 
 /// The octets of an address are one piece.
@@ -93,9 +99,14 @@ fn leaves_no_octet_of_an_address(rt: HostRuntime) {
     let four = Ipv4Addr::new(1, 2, 3, 4);
     let six = Ipv6Addr::new(1, 2, 3, 4, 5, 6, 7, 8);
     let socket = SocketAddrV4::new(four, 300);
-    assert!(rt; left_and_calls::<_, 3>(&four) == ([9; 3], true, 1));
-    assert!(rt; left_and_calls::<_, 15>(&six) == ([9; 15], true, 1));
-    assert!(rt; left_and_calls::<_, 5>(&socket) == ([1, 2, 3, 4, 251], true, 3));
+    all_true(
+        &rt,
+        &[
+            left_and_calls::<_, 3>(&four) == ([9; 3], true, 1),
+            left_and_calls::<_, 15>(&six) == ([9; 15], true, 1),
+            left_and_calls::<_, 5>(&socket) == ([1, 2, 3, 4, 251], true, 3),
+        ],
+    );
 }
 
 /// Five thousand bytes are one piece, after a length prefix in two pieces, and without one.

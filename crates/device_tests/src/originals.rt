@@ -1,6 +1,6 @@
 //! What the tests of bincode 2.0.1 check of its types, if no other test here does.
 
-use crate::asserts::all_hold;
+use crate::asserts::{all_hold, all_true};
 use bincode::config::{self, Config};
 use bincode::de::Decode;
 use bincode::enc::Encode;
@@ -50,9 +50,14 @@ fn lends_option(alloc: Global, value: Option<&[u8]>, word: &[u8]) -> bool {
 #[test]
 fn lends_options_of_bytes(rt: HostRuntime) {
     let seven = [1u8, 2, 3, 4, 5, 6, 7];
-    assert!(rt; lends_option(rt.alloc(), Some(&seven), &[1, 7, 1, 2, 3, 4, 5, 6, 7]));
-    assert!(rt; lends_option(rt.alloc(), Some(&[]), &[1, 0]));
-    assert!(rt; lends_option(rt.alloc(), None, &[0]));
+    all_true(
+        &rt,
+        &[
+            lends_option(rt.alloc(), Some(&seven), &[1, 7, 1, 2, 3, 4, 5, 6, 7]),
+            lends_option(rt.alloc(), Some(&[]), &[1, 0]),
+            lends_option(rt.alloc(), None, &[0]),
+        ],
+    );
 }
 
 /// Whether the value is written as this word, and read from it with bytes after it.

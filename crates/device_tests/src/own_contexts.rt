@@ -1,5 +1,6 @@
 //! Contexts of one's own: each call passes its context on, and uses it once for each value that asks for it.
 
+use crate::asserts::all_true;
 use bincode::de::{BorrowDecode, BorrowDecoder, BorrowedBytes, Decode, Decoder, Sequential};
 use bincode::error::DecodeError;
 use bincode::{
@@ -148,8 +149,13 @@ fn counts_up_to_a_fault(alloc: Global) -> bool {
 #[test]
 fn keeps_its_context(rt: HostRuntime) {
     let alloc = rt.alloc();
-    assert!(rt; keeps_by_slice(alloc) || keeps_by_slice(alloc));
-    assert!(rt; keeps_by_lending(alloc) || keeps_by_lending(alloc));
-    assert!(rt; keeps_by_stream(alloc) || keeps_by_stream(alloc));
-    assert!(rt; counts_up_to_a_fault(alloc) || counts_up_to_a_fault(alloc));
+    all_true(
+        &rt,
+        &[
+            keeps_by_slice(alloc) || keeps_by_slice(alloc),
+            keeps_by_lending(alloc) || keeps_by_lending(alloc),
+            keeps_by_stream(alloc) || keeps_by_stream(alloc),
+            counts_up_to_a_fault(alloc) || counts_up_to_a_fault(alloc),
+        ],
+    );
 }

@@ -1,5 +1,6 @@
 //! Public functions that no other test calls, each called once.
 
+use crate::asserts::all_true;
 use bincode::config::{self, Config, Endianness, IntEncoding};
 use bincode::de::read::SliceReader;
 use bincode::de::{Decoder, DecoderImpl, LendInContext, slots_fit};
@@ -132,11 +133,16 @@ fn keeps_the_number_of_the_system(rt: HostRuntime) {
 
 /// Ten are within ten, and an eleventh is not.
 fn passes_ten<D: Decoder<Context = u8>>(rt: &impl Abort, decoder: &mut D) {
-    assert!(rt; decoder.is_within_limit());
-    assert!(rt; decoder.claim_bytes_read(10).is_ok());
-    assert!(rt; decoder.is_within_limit());
-    assert!(rt; decoder.claim_bytes_read(1).is_err());
-    assert!(rt; !decoder.is_within_limit());
+    all_true(
+        &rt,
+        &[
+            decoder.is_within_limit(),
+            decoder.claim_bytes_read(10).is_ok(),
+            decoder.is_within_limit(),
+            decoder.claim_bytes_read(1).is_err(),
+            !decoder.is_within_limit(),
+        ],
+    );
 }
 
 /// Whether the configuration is the big one of fixed numbers within ten.
@@ -167,9 +173,14 @@ fn lends_configurations(rt: HostRuntime) {
     let config = config::legacy().with_big_endian().with_limit::<10>();
     let reader = SliceReader::new(&[]);
     let mut decoder = DecoderImpl::new(rt.alloc(), reader, config, 7u8);
-    assert!(rt; lends_its_configuration(&decoder));
-    assert!(rt; lends_its_configuration(&&mut decoder));
-    assert!(rt; lends_it_in_context(&mut decoder));
+    all_true(
+        &rt,
+        &[
+            lends_its_configuration(&decoder),
+            lends_its_configuration(&&mut decoder),
+            lends_it_in_context(&mut decoder),
+        ],
+    );
     passes_ten(&rt, &mut decoder);
     let mut encoder = EncoderImpl::new(SizeWriter::default(), config);
     assert!(rt; lends_a_configuration(&encoder));
@@ -179,9 +190,14 @@ fn lends_configurations(rt: HostRuntime) {
 /// An option of a `u8` has two bytes: fewer than 2^62 of them fit.
 #[test]
 fn tells_which_slots_fit(rt: HostRuntime) {
-    assert!(rt; slots_fit::<u8, 0>());
-    assert!(rt; slots_fit::<u8, 1_000>());
-    assert!(rt; slots_fit::<u8, 4_611_686_018_427_387_903>());
-    assert!(rt; !slots_fit::<u8, 4_611_686_018_427_387_904>());
-    assert!(rt; !slots_fit::<u64, 4_611_686_018_427_387_904>());
+    all_true(
+        &rt,
+        &[
+            slots_fit::<u8, 0>(),
+            slots_fit::<u8, 1_000>(),
+            slots_fit::<u8, 4_611_686_018_427_387_903>(),
+            !slots_fit::<u8, 4_611_686_018_427_387_904>(),
+            !slots_fit::<u64, 4_611_686_018_427_387_904>(),
+        ],
+    );
 }

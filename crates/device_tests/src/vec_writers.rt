@@ -1,5 +1,6 @@
 //! Writers into vectors, which begin without room and grow.
 
+use crate::asserts::all_true;
 use bincode::enc::write::{VecWriter, Writer};
 use bincode::error::EncodeError;
 use bincode::{config, encode_into_writer, encode_to_vec};
@@ -101,9 +102,14 @@ fn writes_after_into_the_room(rt: HostRuntime) {
         assert!(rt; false);
         return;
     };
-    assert!(rt; writer.write_payload(&[1, 2, 3]).is_ok());
-    assert!(rt; writer.write_payload(&[4, 5]).is_ok());
-    assert!(rt; writer.collect().as_slice() == [1, 2, 3, 4, 5].as_slice());
+    all_true(
+        &rt,
+        &[
+            writer.write_payload(&[1, 2, 3]).is_ok(),
+            writer.write_payload(&[4, 5]).is_ok(),
+            writer.collect().as_slice() == [1, 2, 3, 4, 5].as_slice(),
+        ],
+    );
 }
 
 /// How often a writer without room grows while as many bytes are written one by one: `write_payload` makes no room, so
@@ -211,7 +217,12 @@ fn encodes_a_million_bytes_of_numbers(rt: HostRuntime) {
         assert!(rt; false);
         return;
     };
-    assert!(rt; word.len() == 5 + 1_000_000);
-    assert!(rt; word.starts_with(&[252, 64, 13, 3, 0, 252, 112, 17, 1, 0]));
-    assert!(rt; word.ends_with(&[252, 112, 17, 1, 0]));
+    all_true(
+        &rt,
+        &[
+            word.len() == 5 + 1_000_000,
+            word.starts_with(&[252, 64, 13, 3, 0, 252, 112, 17, 1, 0]),
+            word.ends_with(&[252, 112, 17, 1, 0]),
+        ],
+    );
 }

@@ -1,5 +1,6 @@
 //! Readers that own a stream or hold a buffer before it: how often they ask it, how they fail, and what a fault leaves.
 
+use crate::asserts::all_true;
 use crate::pieces::{Failing, KINDS, Share, is_all_a, stream_over, word_of};
 use bincode::de::read::Reader;
 use bincode::de::{Decode, IoReader};
@@ -71,12 +72,17 @@ fn asks_a_stream_once_for_a_piece_by_each_reader(rt: HostRuntime) {
         assert!(rt; false);
         return;
     };
-    assert!(rt; owned_asks(alloc, &short, 1_000, Share::All, 3));
-    assert!(rt; owned_asks(alloc, &short, 1_000, Share::Half, 13));
-    assert!(rt; owned_asks(alloc, &long, 1_200_000, Share::All, 3));
-    assert!(rt; owned_asks(alloc, &long, 1_200_000, Share::Half, 25));
-    assert!(rt; buffer_asks_twice(alloc, &short, 1_000));
-    assert!(rt; buffer_asks_twice(alloc, &long, 1_200_000));
+    all_true(
+        &rt,
+        &[
+            owned_asks(alloc, &short, 1_000, Share::All, 3),
+            owned_asks(alloc, &short, 1_000, Share::Half, 13),
+            owned_asks(alloc, &long, 1_200_000, Share::All, 3),
+            owned_asks(alloc, &long, 1_200_000, Share::Half, 25),
+            buffer_asks_twice(alloc, &short, 1_000),
+            buffer_asks_twice(alloc, &long, 1_200_000),
+        ],
+    );
 }
 
 /// A stream that fails by this kind at once.

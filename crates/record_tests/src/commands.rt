@@ -1,6 +1,7 @@
 //! What words ask of the program `records`.
 
 use crate::articles::{tea, words_of};
+use crate::asserts::all_true;
 use record_store::article::Article;
 use record_store::command::{Command, CommandError, command_of};
 use std::alloc::{AllocError, Global};
@@ -53,9 +54,14 @@ fn are_paths(files: &[String], paths: &[&str]) -> bool {
 fn takes_words_in_their_order(rt: HostRuntime) -> Result<(), CommandError> {
     let alloc = rt.alloc();
     let words = ["add", "stock", "tea", "1250", "origin=Assam", "100"];
-    assert!(rt; spells_add(alloc, &words, "stock", &tea(alloc)?)?);
-    assert!(rt; spells_list(alloc, &["list", "a", "b"], &["a", "b"])?);
-    assert!(rt; spells_check(alloc, &["check", "b", "a"], &["b", "a"])?);
+    all_true(
+        &rt,
+        &[
+            spells_add(alloc, &words, "stock", &tea(alloc)?)?,
+            spells_list(alloc, &["list", "a", "b"], &["a", "b"])?,
+            spells_check(alloc, &["check", "b", "a"], &["b", "a"])?,
+        ],
+    );
     Ok(())
 }
 

@@ -1,6 +1,7 @@
 //! Where the program `describe` fails.
 
 use crate::articles::words_of;
+use crate::asserts::all_true;
 use shape_text::program::run;
 use std::{env, fs, process};
 
@@ -21,9 +22,7 @@ fn fails_where_a_file_is_torn(rt: HostRuntime) -> anyhow::Result<()> {
     let torn = run_with(&rt, &["u16", path]);
     fs::remove_file(&rt, path)?;
     let missing = run_with(&rt, &["u16", path]);
-    assert!(rt; whole.is_ok());
-    assert!(rt; torn.is_err());
-    assert!(rt; missing.is_err());
+    all_true(&rt, &[whole.is_ok(), torn.is_err(), missing.is_err()]);
     Ok(())
 }
 

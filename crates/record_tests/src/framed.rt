@@ -1,5 +1,6 @@
 //! Frames: the published checks, worked frames, and bytes that are no frame.
 
+use crate::asserts::all_true;
 use crc32c::checksum;
 use frames::{Frame, OVERHEAD, around, read_frame};
 
@@ -109,8 +110,13 @@ fn tells_each_front(rt: HostRuntime) {
 
 #[test]
 fn tells_what_is_no_frame(rt: HostRuntime) {
-    assert!(rt; matches!(read_frame(&[0; 9], 16), Frame::Damaged(OVERHEAD)));
-    assert!(rt; matches!(read_frame(&[255; 64], 16), Frame::TooLong(u32::MAX)));
-    assert!(rt; matches!(read_frame(&RECORD, 8), Frame::TooLong(9)));
-    assert!(rt; matches!(read_frame(&RECORD, 9), Frame::Whole(_, 17)));
+    all_true(
+        &rt,
+        &[
+            matches!(read_frame(&[0; 9], 16), Frame::Damaged(OVERHEAD)),
+            matches!(read_frame(&[255; 64], 16), Frame::TooLong(u32::MAX)),
+            matches!(read_frame(&RECORD, 8), Frame::TooLong(9)),
+            matches!(read_frame(&RECORD, 9), Frame::Whole(_, 17)),
+        ],
+    );
 }

@@ -4,6 +4,8 @@
 #[cfg(test)]
 mod articles;
 #[cfg(test)]
+mod asserts;
+#[cfg(test)]
 mod commands;
 #[cfg(test)]
 mod described;

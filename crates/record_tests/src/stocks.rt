@@ -1,6 +1,7 @@
 //! Articles that are added to a stock, and what is printed of one.
 
 use crate::articles::{STOCK, salt, tea};
+use crate::asserts::all_true;
 use record_store::adding::{AddError, Place, add};
 use record_store::stock::{print_articles, print_check, print_place, settings};
 use std::alloc::AllocError;
@@ -77,11 +78,16 @@ fn prints_how_files_end(rt: HostRuntime) -> io::Result<()> {
             size: 23,
         },
     )?;
-    assert!(rt; print_check(alloc, &mut out, "f", &STOCK)?);
-    assert!(rt; print_check(alloc, &mut out, "none", &[])?);
-    assert!(rt; !print_check(alloc, &mut out, "torn", &STOCK[..30])?);
-    assert!(rt; !print_check(alloc, &mut out, "claims", &[252, 0, 0, 1, 0])?);
-    assert!(rt; !print_check(alloc, &mut out, "bad", &[0, 40, 2])?);
+    all_true(
+        &rt,
+        &[
+            print_check(alloc, &mut out, "f", &STOCK)?,
+            print_check(alloc, &mut out, "none", &[])?,
+            !print_check(alloc, &mut out, "torn", &STOCK[..30])?,
+            !print_check(alloc, &mut out, "claims", &[252, 0, 0, 1, 0])?,
+            !print_check(alloc, &mut out, "bad", &[0, 40, 2])?,
+        ],
+    );
     let wanted = "f: 23 bytes at byte 8\n\
         f: whole, records: 2, bytes: 31\n\
         none: whole, records: 0, bytes: 0\n\

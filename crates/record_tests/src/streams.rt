@@ -1,6 +1,7 @@
 //! Streams of values that are decoded in a loop, to their end.
 
 use crate::articles::STOCK;
+use crate::asserts::all_true;
 use bincode::error::DecodeError;
 use bincode::{config, decode_next_from_std_read};
 use record_store::article::Article;
@@ -41,12 +42,17 @@ fn is_torn(outcome: Result<(u32, u64), DecodeError>, missing: usize) -> bool {
 #[test]
 fn tells_the_end_of_a_stream_from_a_torn_value(rt: HostRuntime) {
     let alloc = rt.alloc();
-    assert!(rt; matches!(numbers_of(alloc, &mut &NUMBERS[..0]), Ok((0, 0))));
-    assert!(rt; matches!(numbers_of(alloc, &mut &NUMBERS[..1]), Ok((1, 1))));
-    assert!(rt; is_torn(numbers_of(alloc, &mut &NUMBERS[..2]), 2));
-    assert!(rt; is_torn(numbers_of(alloc, &mut &NUMBERS[..3]), 1));
-    assert!(rt; matches!(numbers_of(alloc, &mut &NUMBERS[..4]), Ok((2, 301))));
-    assert!(rt; matches!(numbers_of(alloc, &mut &NUMBERS[..]), Ok((3, 308))));
+    all_true(
+        &rt,
+        &[
+            matches!(numbers_of(alloc, &mut &NUMBERS[..0]), Ok((0, 0))),
+            matches!(numbers_of(alloc, &mut &NUMBERS[..1]), Ok((1, 1))),
+            is_torn(numbers_of(alloc, &mut &NUMBERS[..2]), 2),
+            is_torn(numbers_of(alloc, &mut &NUMBERS[..3]), 1),
+            matches!(numbers_of(alloc, &mut &NUMBERS[..4]), Ok((2, 301))),
+            matches!(numbers_of(alloc, &mut &NUMBERS[..]), Ok((3, 308))),
+        ],
+    );
 }
 
 /// Gives one byte at each call, after an interruption, and fails after the last one if `breaks` is set.

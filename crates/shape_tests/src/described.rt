@@ -1,5 +1,6 @@
 //! The shapes of types: of each scalar, of tuples and enums with each number of parts, and of types of one's own.
 
+use crate::asserts::all_true;
 use crate::shaped::shape_of;
 use bincode::shape::{Described, Shape};
 use bincode::{EnumOf, NoMoreVariants, VariantOf};
@@ -68,36 +69,46 @@ fn is_scalar<T: Described>(alloc: Global, index: usize) -> bool {
 #[test]
 fn scalars_tell_their_shapes(rt: HostRuntime) {
     let alloc = rt.alloc();
-    assert!(rt; is_scalar::<u8>(alloc, 0));
-    assert!(rt; is_scalar::<u16>(alloc, 1));
-    assert!(rt; is_scalar::<u32>(alloc, 2));
-    assert!(rt; is_scalar::<u64>(alloc, 3));
-    assert!(rt; is_scalar::<u128>(alloc, 4));
-    assert!(rt; is_scalar::<usize>(alloc, 5));
-    assert!(rt; is_scalar::<i8>(alloc, 6));
-    assert!(rt; is_scalar::<i16>(alloc, 7));
-    assert!(rt; is_scalar::<i32>(alloc, 8));
-    assert!(rt; is_scalar::<i64>(alloc, 9));
-    assert!(rt; is_scalar::<i128>(alloc, 10));
-    assert!(rt; is_scalar::<isize>(alloc, 11));
-    assert!(rt; is_scalar::<bool>(alloc, 12));
-    assert!(rt; is_scalar::<char>(alloc, 13));
-    assert!(rt; is_scalar::<String>(alloc, 14));
-    assert!(rt; is_scalar::<()>(alloc, 15));
-    assert!(rt; is_scalar::<Box<u16>>(alloc, 1));
+    all_true(
+        &rt,
+        &[
+            is_scalar::<u8>(alloc, 0),
+            is_scalar::<u16>(alloc, 1),
+            is_scalar::<u32>(alloc, 2),
+            is_scalar::<u64>(alloc, 3),
+            is_scalar::<u128>(alloc, 4),
+            is_scalar::<usize>(alloc, 5),
+            is_scalar::<i8>(alloc, 6),
+            is_scalar::<i16>(alloc, 7),
+            is_scalar::<i32>(alloc, 8),
+            is_scalar::<i64>(alloc, 9),
+            is_scalar::<i128>(alloc, 10),
+            is_scalar::<isize>(alloc, 11),
+            is_scalar::<bool>(alloc, 12),
+            is_scalar::<char>(alloc, 13),
+            is_scalar::<String>(alloc, 14),
+            is_scalar::<()>(alloc, 15),
+            is_scalar::<Box<u16>>(alloc, 1),
+        ],
+    );
 }
 
 #[test]
 fn tuples_of_one_to_eight_parts_tell_their_shapes(rt: HostRuntime) {
     let alloc = rt.alloc();
-    assert!(rt; is_tuple::<(u8,)>(alloc, 1));
-    assert!(rt; is_tuple::<(u8, u16)>(alloc, 2));
-    assert!(rt; is_tuple::<(u8, u16, u32)>(alloc, 3));
-    assert!(rt; is_tuple::<(u8, u16, u32, u64)>(alloc, 4));
-    assert!(rt; is_tuple::<(u8, u16, u32, u64, u128)>(alloc, 5));
-    assert!(rt; is_tuple::<(u8, u16, u32, u64, u128, usize)>(alloc, 6));
-    assert!(rt; is_tuple::<(u8, u16, u32, u64, u128, usize, i8)>(alloc, 7));
-    assert!(rt; is_tuple::<(u8, u16, u32, u64, u128, usize, i8, i16)>(alloc, 8));
+    all_true(
+        &rt,
+        &[
+            is_tuple::<(u8,)>(alloc, 1),
+            is_tuple::<(u8, u16)>(alloc, 2),
+            is_tuple::<(u8, u16, u32)>(alloc, 3),
+            is_tuple::<(u8, u16, u32, u64)>(alloc, 4),
+            is_tuple::<(u8, u16, u32, u64, u128)>(alloc, 5),
+            is_tuple::<(u8, u16, u32, u64, u128, usize)>(alloc, 6),
+            is_tuple::<(u8, u16, u32, u64, u128, usize, i8)>(alloc, 7),
+            is_tuple::<(u8, u16, u32, u64, u128, usize, i8, i16)>(alloc, 8),
+        ],
+    );
 }
 
 type Of9 = (u8, u16, u32, u64, u128, usize, i8, i16, i32);
@@ -194,14 +205,19 @@ type Of16 = (
 #[test]
 fn longer_tuples_tell_their_shapes(rt: HostRuntime) {
     let alloc = rt.alloc();
-    assert!(rt; is_tuple::<Of9>(alloc, 9));
-    assert!(rt; is_tuple::<Of10>(alloc, 10));
-    assert!(rt; is_tuple::<Of11>(alloc, 11));
-    assert!(rt; is_tuple::<Of12>(alloc, 12));
-    assert!(rt; is_tuple::<Of13>(alloc, 13));
-    assert!(rt; is_tuple::<Of14>(alloc, 14));
-    assert!(rt; is_tuple::<Of15>(alloc, 15));
-    assert!(rt; is_tuple::<Of16>(alloc, 16));
+    all_true(
+        &rt,
+        &[
+            is_tuple::<Of9>(alloc, 9),
+            is_tuple::<Of10>(alloc, 10),
+            is_tuple::<Of11>(alloc, 11),
+            is_tuple::<Of12>(alloc, 12),
+            is_tuple::<Of13>(alloc, 13),
+            is_tuple::<Of14>(alloc, 14),
+            is_tuple::<Of15>(alloc, 15),
+            is_tuple::<Of16>(alloc, 16),
+        ],
+    );
 }
 
 type End = NoMoreVariants<Foo>;
@@ -215,15 +231,20 @@ type FirstSix<Others> = FirstFour<VariantOf<4, u128, VariantOf<5, usize, Others>
 #[test]
 fn enums_of_one_to_eight_variants_tell_their_shapes(rt: HostRuntime) {
     let alloc = rt.alloc();
-    assert!(rt; is_choice::<EnumOf<VariantOf<0, u8, End>>>(alloc, 1));
-    assert!(rt; is_choice::<EnumOf<FirstTwo<End>>>(alloc, 2));
-    assert!(rt; is_choice::<EnumOf<FirstTwo<VariantOf<2, u32, End>>>>(alloc, 3));
-    assert!(rt; is_choice::<EnumOf<FirstFour<End>>>(alloc, 4));
-    assert!(rt; is_choice::<EnumOf<FirstFour<VariantOf<4, u128, End>>>>(alloc, 5));
-    assert!(rt; is_choice::<EnumOf<FirstSix<End>>>(alloc, 6));
-    assert!(rt; is_choice::<EnumOf<FirstSix<VariantOf<6, i8, End>>>>(alloc, 7));
-    assert!(rt; is_choice::<EnumOf<FirstSix<VariantOf<6, i8, VariantOf<7, i16, End>>>>>(alloc, 8));
-    assert!(rt; is_choice::<Result<u8, u16>>(alloc, 2));
+    all_true(
+        &rt,
+        &[
+            is_choice::<EnumOf<VariantOf<0, u8, End>>>(alloc, 1),
+            is_choice::<EnumOf<FirstTwo<End>>>(alloc, 2),
+            is_choice::<EnumOf<FirstTwo<VariantOf<2, u32, End>>>>(alloc, 3),
+            is_choice::<EnumOf<FirstFour<End>>>(alloc, 4),
+            is_choice::<EnumOf<FirstFour<VariantOf<4, u128, End>>>>(alloc, 5),
+            is_choice::<EnumOf<FirstSix<End>>>(alloc, 6),
+            is_choice::<EnumOf<FirstSix<VariantOf<6, i8, End>>>>(alloc, 7),
+            is_choice::<EnumOf<FirstSix<VariantOf<6, i8, VariantOf<7, i16, End>>>>>(alloc, 8),
+            is_choice::<Result<u8, u16>>(alloc, 2),
+        ],
+    );
 }
 
 /// Whether the shape is a list whose elements are pairs of a text and a number. Each claims 28 bytes: 24 for the text

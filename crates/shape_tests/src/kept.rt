@@ -1,5 +1,6 @@
 //! What each shape reads and writes.
 
+use crate::asserts::all_true;
 use crate::shaped::{read_once, read_under, shape_of, writes};
 use bincode::config::NoLimit;
 use bincode::error::DecodeError;
@@ -78,40 +79,60 @@ fn keeps_some<T: Described>(alloc: Global, value: Option<Value>, word: &[u8]) ->
 #[test]
 fn scalars_are_kept(rt: HostRuntime) {
     let alloc = rt.alloc();
-    assert!(rt; keeps_of::<()>(alloc, &Value::Unit, &[]));
-    assert!(rt; keeps_of::<bool>(alloc, &Value::Bool(true), &[1]));
-    assert!(rt; keeps_of::<bool>(alloc, &Value::Bool(false), &[0]));
-    assert!(rt; keeps_of::<char>(alloc, &Value::Char('é'), &[195, 169]));
-    assert!(rt; keeps_some::<String>(alloc, text_of(alloc, "ab"), &[2, 97, 98]));
+    all_true(
+        &rt,
+        &[
+            keeps_of::<()>(alloc, &Value::Unit, &[]),
+            keeps_of::<bool>(alloc, &Value::Bool(true), &[1]),
+            keeps_of::<bool>(alloc, &Value::Bool(false), &[0]),
+            keeps_of::<char>(alloc, &Value::Char('é'), &[195, 169]),
+            keeps_some::<String>(alloc, text_of(alloc, "ab"), &[2, 97, 98]),
+        ],
+    );
 }
 
 #[test]
 fn numbers_are_kept(rt: HostRuntime) {
     let alloc = rt.alloc();
-    assert!(rt; keeps_of::<u8>(alloc, &Value::Unsigned(200), &[200]));
-    assert!(rt; keeps_of::<u16>(alloc, &Value::Unsigned(300), &[251, 44, 1]));
-    assert!(rt; keeps_of::<u32>(alloc, &Value::Unsigned(70_000), &[252, 112, 17, 1, 0]));
-    assert!(rt; keeps_of::<u64>(alloc, &Value::Unsigned(7), &[7]));
+    all_true(
+        &rt,
+        &[
+            keeps_of::<u8>(alloc, &Value::Unsigned(200), &[200]),
+            keeps_of::<u16>(alloc, &Value::Unsigned(300), &[251, 44, 1]),
+            keeps_of::<u32>(alloc, &Value::Unsigned(70_000), &[252, 112, 17, 1, 0]),
+            keeps_of::<u64>(alloc, &Value::Unsigned(7), &[7]),
+        ],
+    );
     let large = [254, 0, 0, 0, 0, 0, 0, 0, 0, 1, 0, 0, 0, 0, 0, 0, 0];
-    assert!(rt; keeps_of::<u128>(alloc, &Value::Unsigned(1 << 64), &large));
-    assert!(rt; keeps_of::<usize>(alloc, &Value::Unsigned(250), &[250]));
-    assert!(rt; keeps_of::<i8>(alloc, &Value::Signed(-1), &[255]));
-    assert!(rt; keeps_of::<i16>(alloc, &Value::Signed(-2), &[3]));
-    assert!(rt; keeps_of::<i32>(alloc, &Value::Signed(1), &[2]));
-    assert!(rt; keeps_of::<i64>(alloc, &Value::Signed(-3), &[5]));
-    assert!(rt; keeps_of::<i128>(alloc, &Value::Signed(5), &[10]));
-    assert!(rt; keeps_of::<isize>(alloc, &Value::Signed(-1), &[1]));
+    all_true(
+        &rt,
+        &[
+            keeps_of::<u128>(alloc, &Value::Unsigned(1 << 64), &large),
+            keeps_of::<usize>(alloc, &Value::Unsigned(250), &[250]),
+            keeps_of::<i8>(alloc, &Value::Signed(-1), &[255]),
+            keeps_of::<i16>(alloc, &Value::Signed(-2), &[3]),
+            keeps_of::<i32>(alloc, &Value::Signed(1), &[2]),
+            keeps_of::<i64>(alloc, &Value::Signed(-3), &[5]),
+            keeps_of::<i128>(alloc, &Value::Signed(5), &[10]),
+            keeps_of::<isize>(alloc, &Value::Signed(-1), &[1]),
+        ],
+    );
 }
 
 #[test]
 fn wholes_are_kept(rt: HostRuntime) {
     let alloc = rt.alloc();
     let numbers = || list_of(alloc, 5, 256);
-    assert!(rt; keeps_some::<Vec<u16>>(alloc, numbers(), &[2, 5, 251, 0, 1]));
-    assert!(rt; keeps_some::<[u16; 2]>(alloc, numbers(), &[5, 251, 0, 1]));
-    assert!(rt; keeps_some::<(u8, u16)>(alloc, numbers(), &[5, 251, 0, 1]));
-    assert!(rt; keeps_some::<Foo>(alloc, numbers(), &[5, 251, 0, 1]));
-    assert!(rt; keeps_of::<Option<u8>>(alloc, &Value::Optional(None), &[0]));
+    all_true(
+        &rt,
+        &[
+            keeps_some::<Vec<u16>>(alloc, numbers(), &[2, 5, 251, 0, 1]),
+            keeps_some::<[u16; 2]>(alloc, numbers(), &[5, 251, 0, 1]),
+            keeps_some::<(u8, u16)>(alloc, numbers(), &[5, 251, 0, 1]),
+            keeps_some::<Foo>(alloc, numbers(), &[5, 251, 0, 1]),
+            keeps_of::<Option<u8>>(alloc, &Value::Optional(None), &[0]),
+        ],
+    );
     let some = || some_of(alloc, 9);
     assert!(rt; keeps_some::<Option<u8>>(alloc, some(), &[1, 9]));
     assert!(rt; keeps_some::<Box<Option<u8>>>(alloc, some(), &[1, 9]));
@@ -123,9 +144,14 @@ fn wholes_are_kept(rt: HostRuntime) {
 #[test]
 fn what_does_not_fit_is_refused(rt: HostRuntime) {
     let alloc = rt.alloc();
-    assert!(rt; !writes(&Shape::U8, &Value::Unsigned(256), Setting::Standard, &[0]));
-    assert!(rt; !writes(&Shape::U8, &Value::Signed(1), Setting::Standard, &[1]));
-    assert!(rt; !writes(&Shape::I8, &Value::Signed(128), Setting::Standard, &[128]));
+    all_true(
+        &rt,
+        &[
+            !writes(&Shape::U8, &Value::Unsigned(256), Setting::Standard, &[0]),
+            !writes(&Shape::U8, &Value::Signed(1), Setting::Standard, &[1]),
+            !writes(&Shape::I8, &Value::Signed(128), Setting::Standard, &[128]),
+        ],
+    );
     let numbers = || list_of(alloc, 5, 6);
     assert!(rt; !keeps_some::<[u16; 3]>(alloc, numbers(), &[5, 6]));
     assert!(rt; !keeps_some::<(u8, u8, u8)>(alloc, numbers(), &[5, 6]));

@@ -1,5 +1,6 @@
 //! Shapes in a short text: what a text spells, how deep it may be, and the text of a shape.
 
+use crate::asserts::all_true;
 use bincode::shape::Shape;
 use shape_text::spelling::text_of;
 use shape_text::text::shape_of;
@@ -203,19 +204,24 @@ fn tells_depth(alloc: Global, told: Option<Result<usize, String>>, place: usize)
 #[test]
 fn counts_levels(rt: HostRuntime) {
     let alloc = rt.alloc();
-    assert!(rt; is_deep(alloc, (64, "["), "u8", (64, "]"), 64));
-    assert!(rt; is_too_deep(alloc, (65, "["), "u8", (65, "]"), 64));
-    assert!(rt; is_deep(alloc, (64, "("), "u8", (64, ",)"), 64));
-    assert!(rt; is_too_deep(alloc, (65, "("), "u8", (65, ",)"), 64));
-    assert!(rt; is_deep(alloc, (64, "("), "u8", (64, ")"), 0));
-    assert!(rt; is_too_deep(alloc, (65, "("), "u8", (65, ")"), 64));
-    assert!(rt; is_deep(alloc, (0, ""), "u8", (64, "?"), 64));
-    assert!(rt; is_too_deep(alloc, (0, ""), "u8", (65, "?"), 66));
-    assert!(rt; is_deep(alloc, (32, "["), "u8", (32, "?]"), 64));
-    assert!(rt; is_too_deep(alloc, (32, "["), "u8?", (32, "?]"), 97));
-    assert!(rt; is_deep(alloc, (63, "["), "u8|u8", (63, "]"), 64));
-    assert!(rt; is_too_deep(alloc, (64, "["), "u8|u8", (64, "]"), 66));
-    assert!(rt; is_deep(alloc, (64, "["), "()", (64, "]"), 64));
+    all_true(
+        &rt,
+        &[
+            is_deep(alloc, (64, "["), "u8", (64, "]"), 64),
+            is_too_deep(alloc, (65, "["), "u8", (65, "]"), 64),
+            is_deep(alloc, (64, "("), "u8", (64, ",)"), 64),
+            is_too_deep(alloc, (65, "("), "u8", (65, ",)"), 64),
+            is_deep(alloc, (64, "("), "u8", (64, ")"), 0),
+            is_too_deep(alloc, (65, "("), "u8", (65, ")"), 64),
+            is_deep(alloc, (0, ""), "u8", (64, "?"), 64),
+            is_too_deep(alloc, (0, ""), "u8", (65, "?"), 66),
+            is_deep(alloc, (32, "["), "u8", (32, "?]"), 64),
+            is_too_deep(alloc, (32, "["), "u8?", (32, "?]"), 97),
+            is_deep(alloc, (63, "["), "u8|u8", (63, "]"), 64),
+            is_too_deep(alloc, (64, "["), "u8|u8", (64, "]"), 66),
+            is_deep(alloc, (64, "["), "()", (64, "]"), 64),
+        ],
+    );
 }
 
 /// The text of the shape that this text spells.

@@ -1,5 +1,6 @@
 //! How many values a word of a shape makes, and how many of them are allowed.
 
+use crate::asserts::all_true;
 use crate::shaped::shape_of;
 use bincode::config::{self, Config};
 use bincode::error::DecodeError;
@@ -254,12 +255,17 @@ fn faults_come_before_counts(rt: HostRuntime) -> Result<(), AllocError> {
 #[test]
 fn depths_are_told(rt: HostRuntime) {
     let alloc = rt.alloc();
-    assert!(rt; Shape::U8.depth() == 0);
-    assert!(rt; Shape::Tuple(Vec::new(alloc)).depth() == 1);
-    assert!(rt; depth_of::<Vec<u8>>(alloc) == Some(1));
-    assert!(rt; depth_of::<Option<Vec<u8>>>(alloc) == Some(2));
-    assert!(rt; depth_of::<(u8, Option<Vec<u8>>, bool)>(alloc) == Some(3));
-    assert!(rt; depth_of::<Result<[u8; 2], bool>>(alloc) == Some(2));
+    all_true(
+        &rt,
+        &[
+            Shape::U8.depth() == 0,
+            Shape::Tuple(Vec::new(alloc)).depth() == 1,
+            depth_of::<Vec<u8>>(alloc) == Some(1),
+            depth_of::<Option<Vec<u8>>>(alloc) == Some(2),
+            depth_of::<(u8, Option<Vec<u8>>, bool)>(alloc) == Some(3),
+            depth_of::<Result<[u8; 2], bool>>(alloc) == Some(2),
+        ],
+    );
 }
 
 /// How deep a type's shape is.

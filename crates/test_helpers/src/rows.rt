@@ -19,3 +19,13 @@ pub fn first_unequal(rows: &[(&'static str, usize, usize)]) -> Option<&'static s
     }
     None
 }
+
+/// The place of the first answer that is false, from 0 on.
+pub fn first_false(answers: &[bool]) -> Option<usize> {
+    for (place, holds) in answers.iter().enumerate() {
+        if !*holds {
+            return Some(place);
+        }
+    }
+    None
+}
