@@ -115,8 +115,7 @@ fn lends_texts_within_the_limit_and_ends_at_each_place(rt: HostRuntime) {
         assert!(rt; false);
         return;
     };
-    assert!(rt; texts.as_slice() == ["abc", "def", "ghi"].as_slice());
-    assert!(rt; lie_in(&WORD[1..], &texts));
+    assert!(rt; texts.as_slice() == ["abc", "def", "ghi"].as_slice() && lie_in(&WORD[1..], &texts));
 }
 
 /// The word of ten thousand texts of three bytes.
@@ -140,8 +139,10 @@ fn lends_ten_thousand_texts(rt: HostRuntime) {
         assert!(rt; false);
         return;
     };
-    assert!(rt; texts.len() == 10_000);
-    assert!(rt; matches!(word.as_slice(), [251, 16, 39, bytes @ ..] if lie_in(bytes, &texts)));
+    assert!(rt;
+        texts.len() == 10_000
+            && matches!(word.as_slice(), [251, 16, 39, bytes @ ..] if lie_in(bytes, &texts))
+    );
 }
 
 #[test]
@@ -216,8 +217,10 @@ fn lends_in_turn<'a, D: BorrowDecoder<&'a [u8], Context = ()>>(
     rt: &impl Abort,
     mut decoder: &mut D,
 ) {
-    assert!(rt; matches!(<&str>::borrow_decode(&mut decoder), Ok("ab")));
-    assert!(rt; matches!(decoder.with_context(3u8).take_bytes(2), Ok([5, 6])));
+    assert!(rt;
+        matches!(<&str>::borrow_decode(&mut decoder), Ok("ab"))
+            && matches!(decoder.with_context(3u8).take_bytes(2), Ok([5, 6]))
+    );
     let ended = decoder.take_bytes(2);
     assert!(rt; matches!(ended, Err(DecodeError::UnexpectedEnd { additional: 1 })));
 }

@@ -23,8 +23,7 @@ fn reads_what_was_lent(rt: HostRuntime) {
         assert!(rt; false);
         return;
     };
-    assert!(rt; text.as_bytes() == b"Hello world".as_slice());
-    assert!(rt; Some(text.as_c_str()) == lent);
+    assert!(rt; text.as_bytes() == b"Hello world".as_slice() && Some(text.as_c_str()) == lent);
 }
 
 /// Which row of a C string does not hold. Three bytes are charged beside a length, which counts 8.

@@ -34,8 +34,7 @@ fn keeps_each_byte_in_an_unborrowed_cell(rt: HostRuntime) {
             assert!(rt; false);
             return;
         };
-        assert!(rt; cell.try_borrow_mut().is_ok());
-        assert!(rt; cell.into_inner() == byte);
+        assert!(rt; cell.try_borrow_mut().is_ok() && cell.into_inner() == byte);
     }
 }
 
@@ -123,9 +122,7 @@ fn writes_a_cell_that_is_borrowed_for_reading(rt: HostRuntime) {
         assert!(rt; false);
         return;
     };
-    assert!(rt; is_written(&cell));
-    assert!(rt; cell.try_borrow_mut().is_err());
+    assert!(rt; is_written(&cell) && cell.try_borrow_mut().is_err());
     drop(borrowed);
-    assert!(rt; is_written(&cell));
-    assert!(rt; cell.try_borrow_mut().is_ok());
+    assert!(rt; is_written(&cell) && cell.try_borrow_mut().is_ok());
 }

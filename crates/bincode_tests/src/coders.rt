@@ -41,8 +41,9 @@ fn encodes_in_turn(rt: HostRuntime) {
 
 /// Two numbers are read, the second by a reference to the decoder's own.
 fn reads_two_numbers<D: Decoder<Context = ()>>(rt: &impl Abort, mut decoder: &mut D) {
-    assert!(rt; matches!(u32::decode(decoder), Ok(300)));
-    assert!(rt; matches!(u8::decode(&mut decoder), Ok(7)));
+    assert!(rt;
+        matches!(u32::decode(decoder), Ok(300)) && matches!(u8::decode(&mut decoder), Ok(7))
+    );
 }
 
 /// What is read of two bytes, whose room is claimed.
@@ -77,8 +78,10 @@ fn read_runs(rt: &impl Abort, alloc: Global) -> Result<Vec<u8>, DecodeError> {
     let reader = SliceReader::new(&[251, 44, 1, 7, 8, 5, 6, 1, 2, 9]);
     let ten = config::standard().with_limit::<10>();
     let mut decoder = DecoderImpl::new(alloc, reader, ten, ());
-    assert!(rt; matches!(read_over(&mut decoder), Ok(read) if read == [300, 7, 8]));
-    assert!(rt; matches!(read_array(&mut decoder), Ok(read) if read == [5, 6]));
+    assert!(rt;
+        matches!(read_over(&mut decoder), Ok(read) if read == [300, 7, 8])
+            && matches!(read_array(&mut decoder), Ok(read) if read == [5, 6])
+    );
     read_vec(&mut decoder)
 }
 
@@ -94,8 +97,10 @@ fn decodes_runs(rt: HostRuntime) {
 
 /// Six of ten are claimed, and of the four that are left not five, but two where three are given back.
 fn claims_within_ten<D: Decoder<Context = ()>>(rt: &impl Abort, decoder: &mut D) {
-    assert!(rt; decoder.claim_bytes_read(6).is_ok());
-    assert!(rt; matches!(decoder.claim_bytes_read(5), Err(DecodeError::LimitExceeded)));
+    assert!(rt;
+        decoder.claim_bytes_read(6).is_ok()
+            && matches!(decoder.claim_bytes_read(5), Err(DecodeError::LimitExceeded))
+    );
     decoder.unclaim_bytes_read(3);
     assert!(rt; decoder.claim_bytes_read(2).is_ok());
 }
@@ -103,11 +108,13 @@ fn claims_within_ten<D: Decoder<Context = ()>>(rt: &impl Abort, decoder: &mut D)
 /// Nothing more is claimed where it passes what a counter holds, and then the charge stays.
 fn claims_nothing_more<D: Decoder<Context = ()>>(rt: &impl Abort, decoder: &mut D) {
     let refused = decoder.claim_bytes_read(usize::MAX);
-    assert!(rt; matches!(refused, Err(DecodeError::LimitExceeded)));
-    assert!(rt; decoder.claim_bytes_read(0).is_ok());
+    assert!(rt;
+        matches!(refused, Err(DecodeError::LimitExceeded)) && decoder.claim_bytes_read(0).is_ok()
+    );
     let refused = decoder.claim_container_read::<u32>(1 << 62);
-    assert!(rt; matches!(refused, Err(DecodeError::LimitExceeded)));
-    assert!(rt; decoder.claim_bytes_read(0).is_ok());
+    assert!(rt;
+        matches!(refused, Err(DecodeError::LimitExceeded)) && decoder.claim_bytes_read(0).is_ok()
+    );
 }
 
 #[test]

@@ -74,8 +74,7 @@ fn keeps_longer_tuples_of<T: Encode + Decode<()> + Copy>(alloc: Global) -> bool 
 
 #[test]
 fn keeps_tuples(rt: HostRuntime) {
-    assert!(rt; keeps_tuples_of::<u8>(rt.alloc()));
-    assert!(rt; keeps_longer_tuples_of::<u8>(rt.alloc()));
+    assert!(rt; keeps_tuples_of::<u8>(rt.alloc()) && keeps_longer_tuples_of::<u8>(rt.alloc()));
 }
 
 /// Whether a tuple of sixteen keeps its word, and each part is read at its place: tuples of more than twelve parts have
@@ -148,8 +147,7 @@ fn reads_an_inclusive_range(rt: HostRuntime) {
         assert!(rt; false);
         return;
     };
-    assert!(rt; !range.is_empty());
-    assert!(rt; range == (1..=5));
+    assert!(rt; !range.is_empty() && range == (1..=5));
     let mut wanted = 1;
     for number in range {
         assert!(rt; number == wanted && number < 6);
@@ -223,8 +221,10 @@ fn collected_after(items: [Result<u8, u8>; 4], count: usize) -> Collected {
 #[test]
 fn collects_into_arrays(rt: HostRuntime) {
     let all = [Ok(1), Ok(2), Ok(3), Ok(4)];
-    assert!(rt; collected_after(all, 0) == (Some(Ok([1, 2, 3])), Some(Ok(4))));
-    assert!(rt; collected_after(all, 2) == (None, None));
+    assert!(rt;
+        collected_after(all, 0) == (Some(Ok([1, 2, 3])), Some(Ok(4)))
+            && collected_after(all, 2) == (None, None)
+    );
     let stops = [Ok(1), Ok(2), Err(7), Ok(4)];
     assert!(rt; collected_after(stops, 0) == (Some(Err(7)), Some(Ok(4))));
 }

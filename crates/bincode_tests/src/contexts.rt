@@ -21,8 +21,7 @@ fn reads_in_turn(rt: HostRuntime) {
         &mut reader,
         config::standard(),
     );
-    assert!(&rt; matches!(next, Ok(7)));
-    assert!(&rt; reader.bytes_left() == 1);
+    assert!(&rt; matches!(next, Ok(7)) && reader.bytes_left() == 1);
 }
 
 #[test]
@@ -38,8 +37,7 @@ fn decodes_with_a_context(rt: HostRuntime) {
 
 /// A number is read, and the context is this one, which is then another.
 fn reads_in_context<D: Decoder<Context = u8>>(rt: &impl Abort, decoder: &mut D, context: u8) {
-    assert!(rt; matches!(u32::decode(decoder), Ok(300)));
-    assert!(rt; *decoder.context() == context);
+    assert!(rt; matches!(u32::decode(decoder), Ok(300)) && *decoder.context() == context);
     *decoder.context() = 1;
 }
 

@@ -22,8 +22,7 @@ fn keeps_short_texts(rt: HostRuntime) {
 
 #[test]
 fn errors_are_small(rt: HostRuntime) {
-    assert!(rt; size_of::<EncodeError>() <= 24);
-    assert!(rt; size_of::<DecodeError>() <= 24);
+    assert!(rt; size_of::<EncodeError>() <= 24 && size_of::<DecodeError>() <= 24);
 }
 
 /// The integer types, as they are printed.
@@ -81,6 +80,8 @@ fn prints_errors(rt: HostRuntime) {
         assert!(rt; false);
         return;
     };
-    assert!(rt; text.as_str().contains("UnexpectedEnd"));
-    assert!(rt; text.as_str().contains("type_name: \"Option\", found: 2"));
+    assert!(rt;
+        text.as_str().contains("UnexpectedEnd")
+            && text.as_str().contains("type_name: \"Option\", found: 2")
+    );
 }

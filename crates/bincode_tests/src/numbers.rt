@@ -8,8 +8,10 @@ use test_helpers::checks::{goes_on, keeps};
 #[test]
 fn keeps_numbers(rt: HostRuntime) {
     let word = [251, 251, 0, 252, 128, 56, 1, 0, 3];
-    assert!(rt; keeps::<(usize, i32, i64)>(rt.alloc(), &word));
-    assert!(rt; keeps::<(NonZeroUsize, NonZeroI32, NonZeroI64)>(rt.alloc(), &word));
+    assert!(rt;
+        keeps::<(usize, i32, i64)>(rt.alloc(), &word)
+            && keeps::<(NonZeroUsize, NonZeroI32, NonZeroI64)>(rt.alloc(), &word)
+    );
 }
 
 #[test]
@@ -17,8 +19,7 @@ fn writes_the_highest_byte_first(rt: HostRuntime) {
     let mut slice = [9u8; 6];
     let big = config::standard().with_big_endian();
     let written = encode_into_slice(40_000i32, &mut slice, big);
-    assert!(rt; matches!(written, Ok(5)));
-    assert!(rt; slice == [252, 0, 1, 56, 128, 9]);
+    assert!(rt; matches!(written, Ok(5)) && slice == [252, 0, 1, 56, 128, 9]);
 }
 
 #[test]

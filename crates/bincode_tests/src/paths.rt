@@ -40,8 +40,7 @@ fn keeps_a_path_and_refuses_bytes_that_are_no_text(rt: HostRuntime) {
         assert!(rt; false);
         return;
     };
-    assert!(rt; path.as_str() == FOO);
-    assert!(rt; Path::<'_>::claim_size() == 16);
+    assert!(rt; path.as_str() == FOO && Path::<'_>::claim_size() == 16);
 }
 
 #[test]
@@ -61,8 +60,7 @@ fn keeps_the_first_of_equal_paths(rt: HostRuntime) {
         assert!(rt; false);
         return;
     };
-    assert!(rt; set.len() == 1);
-    assert!(rt; matches!(set.first(), Some(path) if path.as_str() == "a"));
+    assert!(rt; set.len() == 1 && matches!(set.first(), Some(path) if path.as_str() == "a"));
 }
 
 /// The first of two equal keys stays, with the value of the second.

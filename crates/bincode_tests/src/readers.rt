@@ -11,8 +11,7 @@ use std::process::Abort;
 
 /// Of 1, 2 and 3 the first two are shown, and taken.
 fn shows_and_takes_two<R: Reader>(rt: &impl Abort, mut reader: R) {
-    assert!(rt; reader.peek_read(4).is_none());
-    assert!(rt; matches!(reader.peek_read(2), Some([1, 2])));
+    assert!(rt; reader.peek_read(4).is_none() && matches!(reader.peek_read(2), Some([1, 2])));
     reader.consume(2);
 }
 
@@ -22,8 +21,7 @@ fn reads_the_last<R: Reader>(rt: &impl Abort, reader: &mut R) {
     let short = reader.read(&mut pair);
     assert!(rt; matches!(short, Err(DecodeError::UnexpectedEnd { additional: 1 })));
     let mut one = [9u8; 1];
-    assert!(rt; reader.read(&mut one).is_ok());
-    assert!(rt; one == [3]);
+    assert!(rt; reader.read(&mut one).is_ok() && one == [3]);
 }
 
 #[test]
@@ -59,8 +57,10 @@ fn reads_a_stream(rt: HostRuntime) {
 
 /// A number is read, and nothing is shown of what follows.
 fn reads_one_and_shows_nothing<R: Reader>(rt: &impl Abort, reader: &mut R) {
-    assert!(rt; matches!(varint_decode_u32(reader, Endianness::Little), Ok(251)));
-    assert!(rt; reader.peek_read(1).is_none());
+    assert!(rt;
+        matches!(varint_decode_u32(reader, Endianness::Little), Ok(251))
+            && reader.peek_read(1).is_none()
+    );
 }
 
 #[test]
@@ -97,8 +97,7 @@ impl Read for Interrupted<'_> {
 
 /// A number of three bytes is read, and one of one byte.
 fn reads_two<D: Decoder<Context = ()>>(rt: &impl Abort, decoder: &mut D) {
-    assert!(rt; matches!(u32::decode(decoder), Ok(300)));
-    assert!(rt; matches!(u8::decode(decoder), Ok(7)));
+    assert!(rt; matches!(u32::decode(decoder), Ok(300)) && matches!(u8::decode(decoder), Ok(7)));
 }
 
 #[test]

@@ -8,16 +8,14 @@ use test_helpers::checks::within_just;
 fn writes_bytes_whole_or_not_at_all(rt: HostRuntime) {
     let mut slice = [9u8; 2];
     let outcome = encode_into_slice([1u8, 2, 3], &mut slice, config::standard());
-    assert!(rt; matches!(outcome, Err(EncodeError::UnexpectedEnd)));
-    assert!(rt; slice == [9, 9]);
+    assert!(rt; matches!(outcome, Err(EncodeError::UnexpectedEnd)) && slice == [9, 9]);
 }
 
 #[test]
 fn writes_signed_bytes_in_turn(rt: HostRuntime) {
     let mut slice = [9u8; 2];
     let outcome = encode_into_slice([1i8, 2, 3], &mut slice, config::standard());
-    assert!(rt; matches!(outcome, Err(EncodeError::UnexpectedEnd)));
-    assert!(rt; slice == [1, 2]);
+    assert!(rt; matches!(outcome, Err(EncodeError::UnexpectedEnd)) && slice == [1, 2]);
 }
 
 #[test]

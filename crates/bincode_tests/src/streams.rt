@@ -27,8 +27,7 @@ impl Read for Slow<'_> {
 /// Of 1, 2 and 3 two are read, and of three more two are missing.
 fn reads_two_and_ends<R: Reader>(rt: &impl Abort, reader: &mut R) {
     let mut two = [0u8; 2];
-    assert!(rt; reader.read(&mut two).is_ok());
-    assert!(rt; two == [1, 2]);
+    assert!(rt; reader.read(&mut two).is_ok() && two == [1, 2]);
     let mut three = [0u8; 3];
     let ended = reader.read(&mut three);
     assert!(rt;
@@ -89,8 +88,7 @@ fn reads_from_a_stream(rt: HostRuntime) {
         config::standard(),
         5,
     );
-    assert!(rt; matches!(other, Ok(7)));
-    assert!(rt; stream == [9].as_slice());
+    assert!(rt; matches!(other, Ok(7)) && stream == [9].as_slice());
 }
 
 #[test]
@@ -98,8 +96,7 @@ fn writes_to_a_stream(rt: HostRuntime) {
     let mut room = [9u8; 4];
     let mut stream = &mut room[..];
     let written = encode_into_std_write((30u32, 50u32), &mut stream, config::standard());
-    assert!(rt; matches!(written, Ok(2)));
-    assert!(rt; room == [30, 50, 9, 9]);
+    assert!(rt; matches!(written, Ok(2)) && room == [30, 50, 9, 9]);
 }
 
 /// What is read of a word of seven bytes and another byte, from a stream that fails after this many calls.

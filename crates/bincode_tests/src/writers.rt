@@ -51,8 +51,9 @@ fn counts_no_further_than_it_can(rt: HostRuntime) {
         bytes_written: usize::MAX,
     };
     let outcome = counter.write(&[1]);
-    assert!(rt; matches!(outcome, Err(EncodeError::UnexpectedEnd)));
-    assert!(rt; counter.bytes_written == usize::MAX);
+    assert!(rt;
+        matches!(outcome, Err(EncodeError::UnexpectedEnd)) && counter.bytes_written == usize::MAX
+    );
 }
 
 /// What a slice of two 9s holds after a value that did not fit.
@@ -78,8 +79,7 @@ fn leaves_a_front_of_a_list(rt: HostRuntime) {
         Vec::from_array(alloc, [1i8, 2, 3]),
         Vec::from_array(alloc, [1i8, 2, 3]),
     );
-    assert!(rt; left_by(numbers) == Some([3, 1]));
-    assert!(rt; left_by(Some([1u8, 2, 3])) == Some([9, 9]));
+    assert!(rt; left_by(numbers) == Some([3, 1]) && left_by(Some([1u8, 2, 3])) == Some([9, 9]));
 }
 
 /// What a slice of thirteen 9s holds after fixed pairs that did not fit.
@@ -114,9 +114,11 @@ fn written_of_record<const N: usize>(option: Option<u32>) -> ([u8; N], Option<us
 #[test]
 fn writes_where_the_most_does_not_fit(rt: HostRuntime) {
     let (bytes, written) = written_of_record::<17>(None);
-    assert!(rt; written == Some(17));
-    assert!(rt; bytes == [5, 0, 0, 0, 0, 0, 0, 0, 6, 0, 0, 0, 0, 0, 0, 0, 0]);
+    assert!(rt;
+        written == Some(17) && bytes == [5, 0, 0, 0, 0, 0, 0, 0, 6, 0, 0, 0, 0, 0, 0, 0, 0]
+    );
     let (bytes, written) = written_of_record::<20>(Some(7));
-    assert!(rt; written.is_none());
-    assert!(rt; bytes == [5, 0, 0, 0, 0, 0, 0, 0, 6, 0, 0, 0, 0, 0, 0, 0, 1, 9, 9, 9]);
+    assert!(rt;
+        written.is_none() && bytes == [5, 0, 0, 0, 0, 0, 0, 0, 6, 0, 0, 0, 0, 0, 0, 0, 1, 9, 9, 9]
+    );
 }

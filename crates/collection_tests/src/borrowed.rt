@@ -37,9 +37,8 @@ fn lends_to_a_struct(rt: HostRuntime) {
         matches!(
             encode_into_slice(note, &mut word, config::standard()),
             Ok(7)
-        )
+        ) && word.as_slice() == &input[..7]
     );
-    assert!(rt; word.as_slice() == &input[..7]);
 }
 
 #[test]
@@ -58,28 +57,30 @@ fn lends_to_an_enum(rt: HostRuntime) {
 #[test]
 fn borrows_types_that_own(rt: HostRuntime) {
     let alloc = rt.alloc();
-    assert!(rt; matches!(borrowed(alloc, &[251, 44, 1]), Ok((Code::Refused, 3))));
-    assert!(rt;
-        matches!(
-            borrowed::<Code>(alloc, &[2]),
-            Err(DecodeError::UnlistedVariant { found: 2, .. })
-        )
+    all_true(
+        &rt,
+        &[
+            matches!(borrowed(alloc, &[251, 44, 1]), Ok((Code::Refused, 3))),
+            matches!(
+                borrowed::<Code>(alloc, &[2]),
+                Err(DecodeError::UnlistedVariant { found: 2, .. })
+            ),
+            matches!(
+                borrowed::<NoVariants<Never>>(alloc, &[]),
+                Err(DecodeError::EmptyEnum { .. })
+            ),
+            matches!(borrowed::<Even>(alloc, &[4]), Ok((_, 1))),
+            matches!(borrowed::<Even>(alloc, &[3]), Err(DecodeError::Other(_))),
+        ],
     );
-    assert!(rt;
-        matches!(
-            borrowed::<NoVariants<Never>>(alloc, &[]),
-            Err(DecodeError::EmptyEnum { .. })
-        )
-    );
-    assert!(rt; matches!(borrowed::<Even>(alloc, &[4]), Ok((_, 1))));
-    assert!(rt; matches!(borrowed::<Even>(alloc, &[3]), Err(DecodeError::Other(_))));
 }
 
 #[test]
 fn reads_the_same_in_both_ways(rt: HostRuntime) {
     let twice = read_twice::<Code, _>(rt.alloc(), &[5, 1], config::standard());
-    assert!(rt; matches!(twice.owned, Ok((Code::Late, 1))));
-    assert!(rt; matches!(twice.borrowed, Ok((Code::Late, 1))));
+    assert!(rt;
+        matches!(twice.owned, Ok((Code::Late, 1))) && matches!(twice.borrowed, Ok((Code::Late, 1)))
+    );
 }
 
 #[test]

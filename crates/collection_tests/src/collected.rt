@@ -1,5 +1,6 @@
 //! Lists of one's own, which are filled item by item, and arenas that some of them are in.
 
+use crate::asserts::all_true;
 use bincode::config::{self, Config};
 use bincode::de::read::SliceReader;
 use bincode::de::{Decode, Decoder, DecoderImpl};
@@ -87,9 +88,14 @@ fn lends_the_arena_of_a_context(rt: HostRuntime) {
         assert!(&rt; false);
         return;
     };
-    assert!(&rt; framed.kind == 7);
-    assert!(&rt; matches!(framed.list.items, [1, 2, 3]));
-    assert!(&rt; is_word_in(rt.alloc(), &framed, &FRAMED, env));
+    all_true(
+        &rt,
+        &[
+            framed.kind == 7,
+            matches!(framed.list.items, [1, 2, 3]),
+            is_word_in(rt.alloc(), &framed, &FRAMED, env),
+        ],
+    );
 }
 
 /// The context's number after a list that the decoder was borrowed for. If an allocation is refused the list is not
@@ -125,6 +131,5 @@ fn counts_over_one_arena(rt: HostRuntime) {
 
 #[test]
 fn claims_for_lists_in_arenas(rt: HostRuntime) {
-    assert!(rt; ArenaList::<u32>::claim_size() == 16);
-    assert!(rt; Framed::claim_size() == 17);
+    assert!(rt; ArenaList::<u32>::claim_size() == 16 && Framed::claim_size() == 17);
 }

@@ -175,8 +175,10 @@ fn writes_queues_in_their_order(rt: HostRuntime) {
     let alloc = rt.alloc();
     assert!(rt; is_written_as(alloc, either(pushed(alloc), pushed(alloc)), &[2, 5, 15]));
     let queue = either(wrapped(alloc), wrapped(alloc));
-    assert!(rt; matches!(&queue, Some(queue) if queue.as_slices().1 == [3].as_slice()));
-    assert!(rt; is_written_as(alloc, queue, &[3, 1, 2, 3]));
+    assert!(rt;
+        matches!(&queue, Some(queue) if queue.as_slices().1 == [3].as_slice())
+            && is_written_as(alloc, queue, &[3, 1, 2, 3])
+    );
 }
 
 /// The order in which the numbers of a heap are written is unspecified.

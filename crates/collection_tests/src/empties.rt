@@ -1,7 +1,7 @@
 //! What is read after a length of 0: nothing, for one byte, within a limit of 8. Where it takes no memory none may be
 //! refused. And a length that passes the limit is refused before memory is asked for.
 
-use crate::asserts::all_hold;
+use crate::asserts::{all_hold, all_true};
 use bincode::config::{self, Config};
 use bincode::de::{BorrowDecode, Decode};
 use bincode::enc::Encode;
@@ -114,19 +114,20 @@ fn listed<C: Config>(
 fn reads_nothing_into_an_arena(rt: HostRuntime) {
     let bump = Bump::new(rt.alloc());
     let eight = config::standard().with_limit::<8>();
-    assert!(&rt;
-        matches!(
-            listed(rt.alloc(), &bump, config::standard()),
-            Ok((ArenaList { items: [] }, 1))
-        )
+    all_true(
+        &rt,
+        &[
+            matches!(
+                listed(rt.alloc(), &bump, config::standard()),
+                Ok((ArenaList { items: [] }, 1))
+            ),
+            matches!(
+                listed(rt.alloc(), &bump, eight),
+                Ok((ArenaList { items: [] }, 1))
+            ),
+            bump.allocated_bytes() == 0,
+        ],
     );
-    assert!(&rt;
-        matches!(
-            listed(rt.alloc(), &bump, eight),
-            Ok((ArenaList { items: [] }, 1))
-        )
-    );
-    assert!(&rt; bump.allocated_bytes() == 0);
 }
 
 /// Whether nothing is read within 8, and lengths pass the limit. Where memory is refused it is read once more.

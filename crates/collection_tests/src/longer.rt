@@ -13,9 +13,10 @@ fn is_pair(outcome: &Result<((u8, u32), usize), DecodeError>) -> bool {
 fn answers_as_to_the_front(rt: HostRuntime) {
     let bytes = [1, 251, 44, 1, 9];
     let cut: ReadLonger<(u8, u32)> = read_longer(rt.alloc(), &bytes, 3, config::standard());
-    assert!(rt; matches!(cut.front, Err(DecodeError::UnexpectedEnd { additional: _ })));
-    assert!(rt; is_pair(&cut.whole));
+    assert!(rt;
+        matches!(cut.front, Err(DecodeError::UnexpectedEnd { additional: _ }))
+            && is_pair(&cut.whole)
+    );
     let read: ReadLonger<(u8, u32)> = read_longer(rt.alloc(), &bytes, 4, config::standard());
-    assert!(rt; is_pair(&read.front));
-    assert!(rt; is_pair(&read.whole));
+    assert!(rt; is_pair(&read.front) && is_pair(&read.whole));
 }

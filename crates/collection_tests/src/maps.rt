@@ -60,8 +60,7 @@ fn keeps_map(alloc: Global, count: u32) -> bool {
 fn keeps_sets_and_maps(rt: HostRuntime) {
     let alloc = rt.alloc();
     for count in [3, 300] {
-        assert!(rt; keeps_set(alloc, count));
-        assert!(rt; keeps_map(alloc, count));
+        assert!(rt; keeps_set(alloc, count) && keeps_map(alloc, count));
     }
 }
 
@@ -69,8 +68,7 @@ fn keeps_sets_and_maps(rt: HostRuntime) {
 /// fewer entries.
 #[test]
 fn keeps_large_sets_and_maps(rt: HostRuntime) {
-    assert!(rt; keeps_set(rt.alloc(), 12_000));
-    assert!(rt; keeps_map(rt.alloc(), 12_000));
+    assert!(rt; keeps_set(rt.alloc(), 12_000) && keeps_map(rt.alloc(), 12_000));
 }
 
 #[test]
@@ -99,6 +97,5 @@ fn keeps_the_last_value_of_a_key(rt: HostRuntime) {
         assert!(rt; false);
         return;
     };
-    assert!(rt; map.keys().eq([1u8, 2].iter()));
-    assert!(rt; map.values().eq([30u8, 20].iter()));
+    assert!(rt; map.keys().eq([1u8, 2].iter()) && map.values().eq([30u8, 20].iter()));
 }

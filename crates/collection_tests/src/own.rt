@@ -201,8 +201,7 @@ fn claims_for_kinds_in_lists(rt: HostRuntime) {
         assert!(rt; false);
         return;
     };
-    assert!(rt; kinds.len() == 1);
-    assert!(rt; matches!(kinds.first(), Some(Kind::Private)));
+    assert!(rt; kinds.len() == 1 && matches!(kinds.first(), Some(Kind::Private)));
 }
 
 /// Whether this code is written as its tag where integers are fixed.

@@ -1,6 +1,6 @@
 //! What is reserved for a list: the room that its length claims, and no more.
 
-use crate::asserts::all_hold;
+use crate::asserts::{all_hold, all_true};
 use bincode::config;
 use bincode::de::Decode;
 use bincode::ffi::CString;
@@ -130,9 +130,14 @@ fn reserves_what_a_list_in_an_arena_holds(rt: HostRuntime) {
     };
     assert!(&rt; list.items.len() == 100);
     let spare = spare_list(&other);
-    assert!(&rt; spare.is_ok());
-    assert_eq!(&rt; bump.allocated_bytes(), other.allocated_bytes());
-    assert_eq!(&rt; bump.chunk_capacity(), other.chunk_capacity());
+    all_true(
+        &rt,
+        &[
+            spare.is_ok(),
+            bump.allocated_bytes() == other.allocated_bytes(),
+            bump.chunk_capacity() == other.chunk_capacity(),
+        ],
+    );
 }
 
 /// The numbers 1 to 3.

@@ -250,6 +250,8 @@ fn tells_of_long_signed_numbers_however_much_is_shown(rt: HostRuntime) {
 #[test]
 fn leaves_a_tag_that_is_shown(rt: HostRuntime) {
     let alloc = rt.alloc();
-    assert!(rt; read_front::<u16, _>(alloc, &[252], config::standard(), 3).1 == 3);
-    assert!(rt; read_front::<u16, _>(alloc, &[252], config::standard(), 0).1 == 2);
+    assert!(rt;
+        read_front::<u16, _>(alloc, &[252], config::standard(), 3).1 == 3
+            && read_front::<u16, _>(alloc, &[252], config::standard(), 0).1 == 2
+    );
 }

@@ -1,5 +1,6 @@
 //! Stores of values: what is appended is listed at its offset, and so is a value that was cut.
 
+use crate::asserts::all_true;
 use bincode::config;
 use bincode::error::DecodeError;
 use record_store::article::Article;
@@ -45,13 +46,18 @@ fn lists_each_value_at_its_offset(rt: HostRuntime) {
         assert!(rt; false);
         return;
     };
-    assert_eq!(rt; (salt.offset, salt.size), (0, 8));
-    assert_eq!(rt; (tea.offset, tea.size), (8, 23));
-    assert_eq!(rt; salt.value.name.as_str(), "salt");
-    assert_eq!(rt; (salt.value.price, salt.value.weight), (40, None));
-    assert_eq!(rt; tea.value.name.as_str(), "tea");
-    assert_eq!(rt; (tea.value.price, tea.value.weight), (1250, Some(100)));
-    assert_eq!(rt; tea.value.notes.len(), 1);
+    all_true(
+        &rt,
+        &[
+            (salt.offset, salt.size) == (0, 8),
+            (tea.offset, tea.size) == (8, 23),
+            salt.value.name.as_str() == "salt",
+            (salt.value.price, salt.value.weight) == (40, None),
+            tea.value.name.as_str() == "tea",
+            (tea.value.price, tea.value.weight) == (1250, Some(100)),
+            tea.value.notes.len() == 1,
+        ],
+    );
 }
 
 #[test]
@@ -135,9 +141,9 @@ fn are_ten(listing: &Listing<Article>) -> bool {
 #[test]
 fn keeps_ten_long_values(rt: HostRuntime) {
     let store = ten_words();
-    assert!(rt; matches!(listed(rt.alloc(), &store), Some(listing) if are_ten(&listing)));
     assert!(rt;
-        matches!(copied(rt.alloc(), &store), Some(copy) if copy.as_slice() == store.as_slice())
+        matches!(listed(rt.alloc(), &store), Some(listing) if are_ten(&listing))
+            && matches!(copied(rt.alloc(), &store), Some(copy) if copy.as_slice() == store.as_slice())
     );
 }
 

@@ -108,10 +108,12 @@ fn holds_more_cases(rt: HostRuntime) {
 fn reads_the_rows_from_streams(rt: HostRuntime) {
     let alloc = rt.alloc();
     for rows in typed_tables() {
-        assert!(rt; all_hold::<Bytewise>(alloc, rows));
-        assert!(rt; all_hold::<Buffered<1>>(alloc, rows));
-        assert!(rt; all_hold::<Buffered<4>>(alloc, rows));
-        assert!(rt; all_hold::<Buffered<64>>(alloc, rows));
+        assert!(rt;
+            all_hold::<Bytewise>(alloc, rows)
+                && all_hold::<Buffered<1>>(alloc, rows)
+                && all_hold::<Buffered<4>>(alloc, rows)
+                && all_hold::<Buffered<64>>(alloc, rows)
+        );
     }
 }
 
@@ -120,8 +122,9 @@ fn reads_the_rows_from_streams(rt: HostRuntime) {
 fn reads_the_rows_from_broken_streams(rt: HostRuntime) {
     let alloc = rt.alloc();
     for rows in typed_tables() {
-        assert!(rt; all_hold::<Broken<Bare>>(alloc, rows));
-        assert!(rt; all_hold::<Broken<Buffer>>(alloc, rows));
+        assert!(rt;
+            all_hold::<Broken<Bare>>(alloc, rows) && all_hold::<Broken<Buffer>>(alloc, rows)
+        );
     }
 }
 

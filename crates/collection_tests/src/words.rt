@@ -58,8 +58,10 @@ fn ends_where_words_are_cut(rt: HostRuntime) {
         assert_eq!(rt; first_that_goes_on(alloc, rows), None);
     }
     let number = [251, 44, 1];
-    assert!(rt; ends_at_each_place::<(), Cell<u32>>(alloc, &number, ()));
-    assert!(rt; ends_at_each_place::<(), RefCell<u32>>(alloc, &number, ()));
+    assert!(rt;
+        ends_at_each_place::<(), Cell<u32>>(alloc, &number, ())
+            && ends_at_each_place::<(), RefCell<u32>>(alloc, &number, ())
+    );
 }
 
 /// The result expected of an input.

@@ -26,8 +26,7 @@ fn answers_the_error_of_a_cut_line(rt: HostRuntime) {
     let mut encoder = EncoderImpl::new(CutWriter::new(2), config::standard());
     fails_after_the_first(&rt, &mut encoder);
     let writer = encoder.writer();
-    assert!(rt; writer.sent() == 2);
-    assert!(rt; writer.failures() == 2);
+    assert!(rt; writer.sent() == 2 && writer.failures() == 2);
 }
 
 /// A pair whose parts are written in one byte and in three.
@@ -36,12 +35,15 @@ const PAIR: (u8, u32) = (1, 300);
 #[test]
 fn writes_into_a_fixed_room(rt: HostRuntime) {
     let mut enough: Fixed<4> = Fixed::new();
-    assert!(rt; encode_into_writer(PAIR, &mut enough, config::standard()).is_ok());
-    assert!(rt; enough.held() == [1, 251, 44, 1].as_slice());
+    assert!(rt;
+        encode_into_writer(PAIR, &mut enough, config::standard()).is_ok()
+            && enough.held() == [1, 251, 44, 1].as_slice()
+    );
     let mut short: Fixed<3> = Fixed::new();
     let outcome = encode_into_writer(PAIR, &mut short, config::standard());
-    assert!(rt; matches!(outcome, Err(EncodeError::UnexpectedEnd)));
-    assert!(rt; short.held() == [1, 251].as_slice());
+    assert!(rt;
+        matches!(outcome, Err(EncodeError::UnexpectedEnd)) && short.held() == [1, 251].as_slice()
+    );
 }
 
 #[test]

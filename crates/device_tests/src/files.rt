@@ -73,6 +73,7 @@ fn keeps_two_numbers_in_a_vector(rt: HostRuntime) {
         return;
     };
     let mut stream = Cursor::new(room);
-    assert!(rt; keeps_two(alloc, &mut stream));
-    assert!(rt; stream.get_ref().as_slice() == [30u8, 50].as_slice());
+    assert!(rt;
+        keeps_two(alloc, &mut stream) && stream.get_ref().as_slice() == [30u8, 50].as_slice()
+    );
 }

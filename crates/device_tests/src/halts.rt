@@ -47,6 +47,5 @@ fn leaves_what_stands_before_a_borrowed_cell(rt: HostRuntime) {
     drop(borrowed);
     let mut slice = [9u8; 4];
     let outcome = encode_into_slice((7u8, &cell), &mut slice, config::standard());
-    assert!(rt; matches!(outcome, Ok(4)));
-    assert!(rt; slice == [7, 251, 44, 1]);
+    assert!(rt; matches!(outcome, Ok(4)) && slice == [7, 251, 44, 1]);
 }

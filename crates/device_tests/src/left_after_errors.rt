@@ -122,9 +122,14 @@ fn leaves_nothing_of_many_bytes(rt: HostRuntime) {
         return;
     };
     let (slice, is_refused, calls) = left_and_calls::<_, 5_002>(&list);
-    assert!(rt; is_refused && calls == 3 && slice[..3] == [251, 136, 19]);
-    assert!(rt; slice[3..].iter().all(|&byte| byte == 9));
+    assert!(rt;
+        is_refused
+            && calls == 3
+            && slice[..3] == [251, 136, 19]
+            && slice[3..].iter().all(|&byte| byte == 9)
+    );
     let (slice, is_refused, calls) = left_and_calls::<_, 4_999>(&bytes);
-    assert!(rt; is_refused && calls == 1 && slice == [9; 4_999]);
-    assert!(rt; calls_of(&bytes.as_slice()) == 3);
+    assert!(rt;
+        is_refused && calls == 1 && slice == [9; 4_999] && calls_of(&bytes.as_slice()) == 3
+    );
 }

@@ -108,6 +108,8 @@ fn room_of<T: Encode>(alloc: Global, value: T) -> Option<usize> {
 #[test]
 fn makes_room_for_what_was_counted(rt: HostRuntime) {
     let alloc = rt.alloc();
-    assert!(rt; room_of(alloc, (250u8, 251u16, 65_536u32, 1u64 << 32)) == Some(1 + 3 + 5 + 9));
-    assert!(rt; room_of(alloc, (u128::MAX, "ab", [300u32, 7].as_slice())) == Some(17 + 3 + 5));
+    assert!(rt;
+        room_of(alloc, (250u8, 251u16, 65_536u32, 1u64 << 32)) == Some(1 + 3 + 5 + 9)
+            && room_of(alloc, (u128::MAX, "ab", [300u32, 7].as_slice())) == Some(17 + 3 + 5)
+    );
 }

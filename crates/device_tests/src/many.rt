@@ -61,6 +61,8 @@ fn reads_many_bytes(rt: HostRuntime) {
     };
     let in_c: Option<CString> = read(alloc, &word);
     let path: Option<PathBuf> = read(alloc, &word);
-    assert!(rt; matches!(&in_c, Some(it) if it.as_bytes().len() == 600_000));
-    assert!(rt; matches!(&path, Some(it) if it.capacity() == 600_000));
+    assert!(rt;
+        matches!(&in_c, Some(it) if it.as_bytes().len() == 600_000)
+            && matches!(&path, Some(it) if it.capacity() == 600_000)
+    );
 }

@@ -29,8 +29,7 @@ fn carries_seconds_to_the_last(rt: HostRuntime) {
         assert!(rt; false);
         return;
     };
-    assert!(rt; span.as_secs() == u64::MAX);
-    assert!(rt; span.subsec_nanos() == 294_967_295);
+    assert!(rt; span.as_secs() == u64::MAX && span.subsec_nanos() == 294_967_295);
 }
 
 /// Whether an option of bytes is written as this word, and borrowed from it.
@@ -96,8 +95,10 @@ fn keeps_numbers_but_zero(rt: HostRuntime) {
     let alloc = rt.alloc();
     assert!(rt; keeps_option(alloc, NonZeroU8::new(123), NonZeroU8::new(0), &[1, 123]));
     let word = [1, 251, 57, 48];
-    assert!(rt; keeps_option(alloc, NonZeroU64::new(12_345), NonZeroU64::new(0), &word));
-    assert!(rt; keeps_option(alloc, NonZeroI8::new(123), NonZeroI8::new(0), &[1, 123]));
+    assert!(rt;
+        keeps_option(alloc, NonZeroU64::new(12_345), NonZeroU64::new(0), &word)
+            && keeps_option(alloc, NonZeroI8::new(123), NonZeroI8::new(0), &[1, 123])
+    );
     let word = [1, 251, 114, 96];
     assert!(rt; keeps_option(alloc, NonZeroI128::new(12_345), NonZeroI128::new(0), &word));
 }
@@ -142,8 +143,9 @@ fn keeps_letters_in_a_row(rt: HostRuntime) {
     assert!(rt; wanted.next().is_none());
     let mut slice = [99u8; 131];
     let written = encode_into_slice(letters, &mut slice, config::standard());
-    assert!(rt; matches!(written, Ok(130)));
-    assert!(rt; slice.starts_with(LETTERS.as_bytes()) && slice[130] == 99);
+    assert!(rt;
+        matches!(written, Ok(130)) && slice.starts_with(LETTERS.as_bytes()) && slice[130] == 99
+    );
 }
 
 /// The numbers from 0 to 255.
@@ -246,8 +248,10 @@ fn keeps_what_takes_memory_in_variable_settings(rt: HostRuntime) {
         entry: &[1, 5, 9],
         text: &[5, 72, 101, 108, 108, 111],
     };
-    assert!(rt; keeps_all(rt.alloc(), &words, config::standard()));
-    assert!(rt; keeps_all(rt.alloc(), &words, config::standard().with_big_endian()));
+    assert!(rt;
+        keeps_all(rt.alloc(), &words, config::standard())
+            && keeps_all(rt.alloc(), &words, config::standard().with_big_endian())
+    );
 }
 
 #[test]

@@ -152,6 +152,7 @@ fn left_in<const N: usize>(alloc: Global) -> ([u8; N], bool) {
 /// A slice without room for more fails by the value, and one without room for what stands before it doesn't.
 #[test]
 fn fails_by_what_comes_first(rt: HostRuntime) {
-    assert!(rt; left_in::<2>(rt.alloc()) == ([1, 2], true));
-    assert!(rt; left_in::<1>(rt.alloc()) == ([1], false));
+    assert!(rt;
+        left_in::<2>(rt.alloc()) == ([1, 2], true) && left_in::<1>(rt.alloc()) == ([1], false)
+    );
 }

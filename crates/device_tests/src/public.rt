@@ -31,24 +31,27 @@ fn unlisted(alloc: Global, tags: &[u32]) -> DecodeError {
 #[test]
 fn tells_which_tags_are_allowed(rt: HostRuntime) {
     let error = unlisted(rt.alloc(), &[1, 5, 300]);
-    assert!(rt; error.allowed() == Some(AllowedEnumVariants::Allowed(&[1, 5, 300])));
     assert!(rt;
-        matches!(
+        error.allowed() == Some(AllowedEnumVariants::Allowed(&[1, 5, 300]))
+            && matches!(
             error,
             DecodeError::UnlistedVariant { type_name, found: 9, .. } if type_name.as_str() == "Code"
         )
     );
     let range = AllowedEnumVariants::Range { min: 2, max: 7 };
     let error = DecodeError::unexpected_variant(rt.alloc(), TypeName::new("Kind"), 8, range);
-    assert!(rt; error.allowed() == Some(range));
-    assert!(rt;
-        matches!(
+    all_true(
+        &rt,
+        &[
+            error.allowed() == Some(range),
+            matches!(
             error,
             DecodeError::UnexpectedVariant { type_name, found: 8, min: 2, max: 7 }
                 if type_name.as_str() == "Kind"
-        )
+        ),
+            DecodeError::LimitExceeded.allowed().is_none(),
+        ],
     );
-    assert!(rt; DecodeError::LimitExceeded.allowed().is_none());
 }
 
 /// The integer types and the signed ones of their widths.
@@ -84,8 +87,11 @@ fn is_signed_error(expected: IntegerType, signed: IntegerType) -> bool {
 #[test]
 fn changes_types_to_signed_ones(rt: HostRuntime) {
     for (kind, signed) in SIGNED {
-        assert!(rt; kind.into_signed() == signed, "{kind:?}");
-        assert!(rt; is_signed_error(kind, signed), "{kind:?}");
+        assert!(rt;
+            kind.into_signed() == signed,
+            "{kind:?}" && is_signed_error(kind, signed),
+            "{kind:?}"
+        );
     }
     let other = DecodeError::InvalidBooleanValue(2).change_integer_type_to_signed();
     assert!(rt; matches!(other, DecodeError::InvalidBooleanValue(2)));
@@ -183,8 +189,7 @@ fn lends_configurations(rt: HostRuntime) {
     );
     passes_ten(&rt, &mut decoder);
     let mut encoder = EncoderImpl::new(SizeWriter::default(), config);
-    assert!(rt; lends_a_configuration(&encoder));
-    assert!(rt; lends_a_configuration(&&mut encoder));
+    assert!(rt; lends_a_configuration(&encoder) && lends_a_configuration(&&mut encoder));
 }
 
 /// An option of a `u8` has two bytes: fewer than 2^62 of them fit.

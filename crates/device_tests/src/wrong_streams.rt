@@ -130,15 +130,13 @@ fn keeps_the_kind_of_a_failure_in_each_reader(rt: HostRuntime) {
             assert!(rt; false);
             return;
         };
-        assert!(rt; reader_tells(alloc, &mut buffered, kind));
-        assert_eq!(rt; buffered.get_ref().calls, 1);
+        assert!(rt; reader_tells(alloc, &mut buffered, kind) && buffered.get_ref().calls == 1);
         let next: Result<Option<u32>, DecodeError> = decode_next_from_std_read(
             alloc,
             &mut other,
             config::standard(),
         );
-        assert!(rt; tells(next, kind));
-        assert_eq!(rt; other.get_ref().calls, 1);
+        assert!(rt; tells(next, kind) && other.get_ref().calls == 1);
     }
 }
 

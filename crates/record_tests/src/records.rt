@@ -1,6 +1,7 @@
 //! What the program `records` does to files, and where it fails.
 
 use crate::articles::{STOCK, words_of};
+use crate::asserts::all_true;
 use record_store::program::run;
 use std::path::PathBuf;
 use std::{env, fs, io, process};
@@ -29,10 +30,15 @@ fn adds_after_what_a_file_holds(rt: HostRuntime) -> anyhow::Result<()> {
     let refused = run_with(&rt, &["add", path, "salt", "40"]);
     let torn = fs::read(&rt, path)?;
     fs::remove_file(&rt, path)?;
-    assert_eq!(rt; one.as_slice(), &STOCK[..8]);
-    assert_eq!(rt; both.as_slice(), &STOCK[..]);
-    assert!(rt; refused.is_err());
-    assert_eq!(rt; torn.as_slice(), &STOCK[..30]);
+    all_true(
+        &rt,
+        &[
+            one.as_slice() == &STOCK[..8],
+            both.as_slice() == &STOCK[..],
+            refused.is_err(),
+            torn.as_slice() == &STOCK[..30],
+        ],
+    );
     Ok(())
 }
 
@@ -58,8 +64,7 @@ fn fails_where_a_file_is_not_whole(rt: HostRuntime) -> anyhow::Result<()> {
     let by_check = fails_by_torn(&rt, "check", whole, torn);
     fs::remove_file(&rt, whole)?;
     fs::remove_file(&rt, torn)?;
-    assert!(rt; by_list);
-    assert!(rt; by_check);
+    assert!(rt; by_list && by_check);
     Ok(())
 }
 

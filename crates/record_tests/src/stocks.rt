@@ -55,8 +55,10 @@ fn adds_to_no_file_that_is_not_whole(rt: HostRuntime) -> Result<(), AllocError> 
 fn prints_articles_and_the_end(rt: HostRuntime) -> io::Result<()> {
     let alloc = rt.alloc();
     let mut out = Vec::new(alloc);
-    assert!(rt; print_articles(alloc, &mut out, "f", &STOCK)?);
-    assert!(rt; !print_articles(alloc, &mut out, "g", &STOCK[..30])?);
+    assert!(rt;
+        print_articles(alloc, &mut out, "f", &STOCK)?
+            && !print_articles(alloc, &mut out, "g", &STOCK[..30])?
+    );
     let wanted = "0: 8 bytes: \"salt\" at 40\n\
         8: 23 bytes: \"tea\" at 1250, weight 100, \"origin\" = \"Assam\"\n\
         f: whole, records: 2, bytes: 31\n\

@@ -134,8 +134,10 @@ fn wholes_are_kept(rt: HostRuntime) {
         ],
     );
     let some = || some_of(alloc, 9);
-    assert!(rt; keeps_some::<Option<u8>>(alloc, some(), &[1, 9]));
-    assert!(rt; keeps_some::<Box<Option<u8>>>(alloc, some(), &[1, 9]));
+    assert!(rt;
+        keeps_some::<Option<u8>>(alloc, some(), &[1, 9])
+            && keeps_some::<Box<Option<u8>>>(alloc, some(), &[1, 9])
+    );
     let choice = choice_of(alloc, 1, 1);
     assert!(rt; keeps_some::<Result<bool, u8>>(alloc, choice, &[1, 1]));
 }
@@ -153,8 +155,10 @@ fn what_does_not_fit_is_refused(rt: HostRuntime) {
         ],
     );
     let numbers = || list_of(alloc, 5, 6);
-    assert!(rt; !keeps_some::<[u16; 3]>(alloc, numbers(), &[5, 6]));
-    assert!(rt; !keeps_some::<(u8, u8, u8)>(alloc, numbers(), &[5, 6]));
+    assert!(rt;
+        !keeps_some::<[u16; 3]>(alloc, numbers(), &[5, 6])
+            && !keeps_some::<(u8, u8, u8)>(alloc, numbers(), &[5, 6])
+    );
     let choice = choice_of(alloc, 2, 1);
     assert!(rt; !keeps_some::<Result<u8, u8>>(alloc, choice, &[2, 1]));
 }

@@ -45,8 +45,9 @@ fn nothings(alloc: Global, claim: usize) -> Result<Shape, AllocError> {
 fn a_claim_of_0_is_one_of_1(rt: HostRuntime) -> Result<(), AllocError> {
     let alloc = rt.alloc();
     let shape = nothings(alloc, 0)?;
-    assert!(rt; passes(alloc, &shape, Limit::<10>, &[3]));
-    assert!(rt; lists(alloc, &shape, Limit::<11>, &[3], 3));
+    assert!(rt;
+        passes(alloc, &shape, Limit::<10>, &[3]) && lists(alloc, &shape, Limit::<11>, &[3], 3)
+    );
     Ok(())
 }
 
@@ -73,7 +74,8 @@ fn a_claim_that_overflows_passes_each_limit(rt: HostRuntime) -> Result<(), Alloc
 fn the_claim_of_a_list_comes_first(rt: HostRuntime) -> Result<(), AllocError> {
     let alloc = rt.alloc();
     let shape = nothings(alloc, 2)?;
-    assert!(rt; passes(alloc, &shape, Limit::<11>, &[2]));
-    assert!(rt; lists(alloc, &shape, Limit::<12>, &[2], 2));
+    assert!(rt;
+        passes(alloc, &shape, Limit::<11>, &[2]) && lists(alloc, &shape, Limit::<12>, &[2], 2)
+    );
     Ok(())
 }

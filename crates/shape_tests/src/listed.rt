@@ -40,8 +40,8 @@ fn lists_words(rt: HostRuntime) {
         last.is_some_and(|last| last.offset == 1
             && last.size == 3
             && last.value == Value::Unsigned(300))
+            && matches!(listing.ending, Ending::Stopped { offset: 4, .. })
     );
-    assert!(rt; matches!(listing.ending, Ending::Stopped { offset: 4, .. }));
 }
 
 #[test]
@@ -55,8 +55,7 @@ fn lists_nothing_of_no_bytes(rt: HostRuntime) {
     let Some(Ok(listing)) = listed(rt.alloc(), "()", &[], 9) else {
         return assert!(rt; false);
     };
-    assert!(rt; listing.values.is_empty());
-    assert!(rt; matches!(listing.ending, Ending::Whole));
+    assert!(rt; listing.values.is_empty() && matches!(listing.ending, Ending::Whole));
 }
 
 /// A list of three `()` has four values.

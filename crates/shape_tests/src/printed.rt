@@ -1,5 +1,6 @@
 //! What files hold by a shape, printed: JSON, lines, options and messages.
 
+use crate::asserts::all_true;
 use bincode::config;
 use shape_text::describing::{DescribeError, describe};
 use shape_text::json::{JsonError, write_json};
@@ -188,24 +189,25 @@ fn shows_values(rt: HostRuntime) {
 fn takes_options(rt: HostRuntime) {
     let alloc = rt.alloc();
     let line = "{\"offset\":0,\"length\":2,\"value\":300}\n";
-    assert!(rt; prints(alloc, &["--fixed", "u16", "file"], &[44, 1], line, ""));
-    assert!(rt;
-        prints(
-            alloc,
-            &["--fixed", "--big-endian", "u16", "file"],
-            &[1, 44],
-            line,
-            ""
-        )
-    );
-    assert!(rt;
-        prints(
-            alloc,
-            &["u16", "--big-endian", "file", "--fixed"],
-            &[1, 44],
-            line,
-            ""
-        )
+    all_true(
+        &rt,
+        &[
+            prints(alloc, &["--fixed", "u16", "file"], &[44, 1], line, ""),
+            prints(
+                alloc,
+                &["--fixed", "--big-endian", "u16", "file"],
+                &[1, 44],
+                line,
+                "",
+            ),
+            prints(
+                alloc,
+                &["u16", "--big-endian", "file", "--fixed"],
+                &[1, 44],
+                line,
+                "",
+            ),
+        ],
     );
     let line = "{\"offset\":0,\"length\":3,\"value\":300}\n";
     assert!(rt;
@@ -233,8 +235,7 @@ fn takes_options(rt: HostRuntime) {
 fn refuses_words(rt: HostRuntime) {
     let alloc = rt.alloc();
     let usage = "which shape, and which file? describe [--fixed] [--big-endian] SHAPE FILE";
-    assert!(rt; prints(alloc, &[], &[], "", usage));
-    assert!(rt; prints(alloc, &["u8"], &[], "", usage));
+    assert!(rt; prints(alloc, &[], &[], "", usage) && prints(alloc, &["u8"], &[], "", usage));
     let unknown = "no option \"--fix\": describe [--fixed] [--big-endian] SHAPE FILE";
     assert!(rt; prints(alloc, &["u8", "file", "--fix"], &[], "", unknown));
     let more = "one word too many, \"more\": describe [--fixed] [--big-endian] SHAPE FILE";
@@ -318,8 +319,9 @@ fn prints_no_more_values_than_allowed(rt: HostRuntime) {
     let bytes = [0, 2, 1, 9, 0];
     assert!(rt; says_of_most(alloc, "[u8?]", &bytes, 4, ""));
     let many = "the [u8?] at byte 1 has 4 values, of which more than 3 would be printed";
-    assert!(rt; says_of_most(alloc, "[u8?]", &bytes, 3, many));
-    assert!(rt; says_of_most(alloc, "[()]", &[200], 1, ""));
+    assert!(rt;
+        says_of_most(alloc, "[u8?]", &bytes, 3, many) && says_of_most(alloc, "[()]", &[200], 1, "")
+    );
 }
 
 /// The length of a word that is written as JSON, of at most `most` values.
@@ -341,8 +343,9 @@ fn written(alloc: Global, most: usize) -> Option<usize> {
 #[test]
 fn writes_no_more_values_than_allowed(rt: HostRuntime) {
     let alloc = rt.alloc();
-    assert_eq!(rt; written(alloc, 4).or_else(|| written(alloc, 4)), Some(4));
-    assert_eq!(rt; written(alloc, 3), None);
+    assert!(rt;
+        (written(alloc, 4).or_else(|| written(alloc, 4)) == Some(4)) && written(alloc, 3) == None
+    );
 }
 
 /// If the output fails, that is the error.
@@ -358,6 +361,7 @@ fn a_failed_output_is_told(rt: HostRuntime) {
     let mut room = [0u8; 20];
     let mut out: &mut [u8] = &mut room;
     let described = describe(alloc, &request, &[7], &mut out);
-    assert!(rt; matches!(described, Err(DescribeError::Write(_))));
-    assert_eq!(rt; &room, b"{\"offset\":0,\"length\"");
+    assert!(rt;
+        matches!(described, Err(DescribeError::Write(_))) && &room == b"{\"offset\":0,\"length\""
+    );
 }

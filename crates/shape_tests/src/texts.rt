@@ -240,8 +240,9 @@ fn shows_shapes(rt: HostRuntime) {
     for text in SHOWN {
         assert!(rt; shows(rt.alloc(), text, text));
     }
-    assert!(rt; shows(rt.alloc(), " ( ( u8 ) ) ? ", "u8?"));
-    assert!(rt; shows(rt.alloc(), "[ u8;03 ]", "[u8; 3]"));
+    assert!(rt;
+        shows(rt.alloc(), " ( ( u8 ) ) ? ", "u8?") && shows(rt.alloc(), "[ u8;03 ]", "[u8; 3]")
+    );
 }
 
 /// A shape that no text spells is shown as a text that is refused.
@@ -252,6 +253,8 @@ fn shows_what_has_no_spelling(rt: HostRuntime) {
         let is_wanted = |shown: String| shown.as_str() == wanted;
         text_of(alloc, &shape).is_ok_and(is_wanted) || text_of(alloc, &shape).is_ok_and(is_wanted)
     };
-    assert!(rt; is_shown(Shape::Tuple(Vec::new(alloc)), "(,)"));
-    assert!(rt; is_shown(Shape::Choice(Vec::new(alloc)), "(|)"));
+    assert!(rt;
+        is_shown(Shape::Tuple(Vec::new(alloc)), "(,)")
+            && is_shown(Shape::Choice(Vec::new(alloc)), "(|)")
+    );
 }

@@ -138,8 +138,10 @@ fn nothings_are_counted(rt: HostRuntime) -> Result<(), AllocError> {
     let shape = list_of(alloc, Shape::Unit)?;
     let input = [252, 248, 255, 255, 3];
     let limit = config::standard().with_limit::<67_108_864>();
-    assert!(rt; measures(alloc, &shape, limit, &input, 67_108_857, 5));
-    assert!(rt; refuses(alloc, &shape, limit, &input, 1_000_000, 67_108_857));
+    assert!(rt;
+        measures(alloc, &shape, limit, &input, 67_108_857, 5)
+            && refuses(alloc, &shape, limit, &input, 1_000_000, 67_108_857)
+    );
     let short = config::standard().with_limit::<67_108_863>();
     let fault = fault_within(alloc, &shape, short, &input, usize::MAX);
     assert!(rt; matches!(fault, Some(DecodeError::LimitExceeded)));
@@ -161,8 +163,10 @@ fn lists_in_lists_are_counted(rt: HostRuntime) -> Result<(), AllocError> {
         input[3 * index + 2] = 16;
     }
     let limit = config::standard().with_limit::<65_536>();
-    assert!(rt; measures(alloc, &shape, limit, &input, 1_229_101, 903));
-    assert!(rt; refuses(alloc, &shape, limit, &input, 1_229_100, 1_229_101));
+    assert!(rt;
+        measures(alloc, &shape, limit, &input, 1_229_101, 903)
+            && refuses(alloc, &shape, limit, &input, 1_229_100, 1_229_101)
+    );
     Ok(())
 }
 
@@ -181,13 +185,17 @@ fn values_are_counted_and_bounded(rt: HostRuntime) {
     let byte = shape_of::<u8>(alloc);
     assert!(rt; is_bounded(alloc, byte.as_ref(), &[7], 1));
     let bytes = shape_of::<Vec<u8>>(alloc);
-    assert!(rt; measures_all(alloc, bytes.as_ref(), &[0], 1));
-    assert!(rt; is_bounded(alloc, bytes.as_ref(), &[3, 7, 8, 9], 4));
+    assert!(rt;
+        measures_all(alloc, bytes.as_ref(), &[0], 1)
+            && is_bounded(alloc, bytes.as_ref(), &[3, 7, 8, 9], 4)
+    );
     let pair = shape_of::<(u8, String)>(alloc);
     assert!(rt; is_bounded(alloc, pair.as_ref(), &[5, 2, 97, 98], 3));
     let option = shape_of::<Option<u8>>(alloc);
-    assert!(rt; measures_all(alloc, option.as_ref(), &[0], 1));
-    assert!(rt; is_bounded(alloc, option.as_ref(), &[1, 9], 2));
+    assert!(rt;
+        measures_all(alloc, option.as_ref(), &[0], 1)
+            && is_bounded(alloc, option.as_ref(), &[1, 9], 2)
+    );
     let outcome = shape_of::<Result<u8, String>>(alloc);
     assert!(rt; is_bounded(alloc, outcome.as_ref(), &[1, 1, 97], 2));
     let lists = shape_of::<Vec<Vec<()>>>(alloc);
@@ -206,8 +214,10 @@ fn counts_that_overflow_are_told(rt: HostRuntime) -> Result<(), AllocError> {
     let inner = array_of(alloc, usize::MAX, Shape::Unit)?;
     let middle = array_of(alloc, usize::MAX, inner)?;
     let many: u128 = u128::MAX - (1 << 64) + 2;
-    assert!(rt; measures(alloc, &middle, config::standard(), &[], many, 0));
-    assert!(rt; refuses(alloc, &middle, config::standard(), &[], usize::MAX, many));
+    assert!(rt;
+        measures(alloc, &middle, config::standard(), &[], many, 0)
+            && refuses(alloc, &middle, config::standard(), &[], usize::MAX, many)
+    );
     let numbers = array_of(alloc, usize::MAX, Shape::U8)?;
     let measured = measure_shaped(alloc, &numbers, &[1], config::standard());
     assert!(rt; matches!(measured, Err(DecodeError::UnexpectedEnd { .. })));
@@ -224,8 +234,10 @@ fn claims_of_nothings_are_kept(rt: HostRuntime) -> Result<(), AllocError> {
     let inner = array_of(alloc, 4, Shape::Unit)?;
     let shape = list_of(alloc, inner)?;
     let enough = config::standard().with_limit::<13>();
-    assert!(rt; measures(alloc, &shape, enough, &[2], 11, 1));
-    assert!(rt; read_within(alloc, &shape, enough, &[2], 11).is_ok());
+    assert!(rt;
+        measures(alloc, &shape, enough, &[2], 11, 1)
+            && read_within(alloc, &shape, enough, &[2], 11).is_ok()
+    );
     let short = config::standard().with_limit::<12>();
     let measured = measure_shaped(alloc, &shape, &[2], short);
     assert!(rt; matches!(measured, Err(DecodeError::LimitExceeded)));
