@@ -1,0 +1,6 @@
+pub mod Appended
+pub mod DamageLaws
+pub mod Pieces
+pub mod Steps
+pub mod Surveys
+pub mod Told
