@@ -1,3 +1,4 @@
+mod Appends
 pub mod Fronts
 pub mod Listings
 pub mod Stepped

@@ -1,5 +1,7 @@
 //! Appending values to a store of frames.
-ghost use Rattle.std.specs.Prelude.{◌≡◌, ◌<◌, ◌≤◌, ◌^◌, ◌++◌, ℕ, List, length, IfOk, IfErr};
+ghost use Rattle.std.specs.Prelude.{◌≡◌, ◌<◌, ◌≤◌, ◌^◌, ◌++◌, ℕ, List, length, IfOk, IfErr, OnOk};
+ghost use Rattle.std.specs.Io.KnownBytes.{Appends};
+ghost use Rattle.bincode_io.specs.Stream.{FrontOut, IsWriteIo};
 ghost use Rattle.frames.specs.Frames.{frame};
 ghost use Rattle.framed_store.specs.Appended.{IsFitting, Added, Leaves, FitsStore, IsOutside, WritesNothing};
 
@@ -64,7 +66,7 @@ pub fn append<T: Encode + Decode<()> + Exact, C: Config, W: Write>(
         Ok(frame) => frame,
         Err(e) => return Err(AppendError::Memory(e)),
     };
-    match IoWriter::new(store).write(&frame) {
+    match write_out(store, &frame) {
         Ok(()) => Ok(frame.len()),
         Err(e) => Err(AppendError::Write(e)),
     }
@@ -109,4 +111,17 @@ fn framed(alloc: Global, word: &[u8]) -> Result<Vec<u8>, AllocError>
     frame.extend_from_slice(word)?;
     frame.extend_from_slice(&around.1)?;
     Ok(frame)
+}
+
+/// Writes the bytes of a frame at once. After an error the stream has taken a prefix of them.
+fn write_out<W: Write>(store: &mut W, frame: &[u8]) -> Result<(), EncodeError>
+    requires { length frame.now < 2 ^ 64 }
+    ensures added { OnOk result (Appends (W.contents store.old) (W.contents store.new) frame.now) }
+    ensures left { IfErr result (λ _. FrontOut W.contents store.old frame.now store.new) }
+    ensures why { IfErr result (λ e. (written : ℕ) × IsWriteIo written e) }
+{
+    match IoWriter::new(store).write(frame) {
+        Ok(()) => Ok(()),
+        Err(e) => Err(e),
+    }
 }
