@@ -88,7 +88,7 @@ module _ {A : Type 0} (F : Format Meaning) (limit : Option ℕ) (decodes_to : Me
         within.0,
         within.1,
         subst (λ z. ReadFrom F limit decodes_to most 0 store (records ++ (record { offset = at; size = size; content = content }) ∷ []) (at + size) z) rest
-        (next-read 0 store records at (drop at store) r size content here),
+            (next-read 0 store records at (drop at store) r size content here),
       )
 
 module _ {A : Type 0} (W : Words A) (s : Setting) (limit : Option ℕ) (most : ℕ) (small : most < 2 ^ 32) (eq : A → A → Bool) (exact : ExactWords W eq) where

@@ -19,7 +19,10 @@ burst-damages most word changed bytes others fits size named i e some small diff
     let all : length changed ≡ 8 + named_length changed = omega (arith, inner, size, named) in
     let there : (named_length changed ≤ most) × (8 + named_length changed ≤ length changed) = (omega (arith, named, fits), omega (arith, all)) in
     let whole : List ℕ = changed ++ [] in
-    let same : whole ≡ changed = append-nil changed in
-    (there, all, λ fit.
-    burst-told most word changed [] (record { ref_ptr = (0, 0); now = framed_word changed }) (length changed) bytes (subst (All (λ b. b < 256)) (sym same) others) size named i e some small differ
-    (subst (λ z. Reads most z (frames.Whole (record { ref_ptr = (0, 0); now = framed_word changed }) (length changed))) (sym same) (there, all, fit, refl)))
+    let same : whole ≡ changed = append-nil changed in (
+      there,
+      all,
+      λ fit.
+          burst-told most word changed [] (record { ref_ptr = (0, 0); now = framed_word changed }) (length changed) bytes (subst (All (λ b. b < 256)) (sym same) others) size named i e some small differ
+          (subst (λ z. Reads most z (frames.Whole (record { ref_ptr = (0, 0); now = framed_word changed }) (length changed))) (sym same) (there, all, fit, refl)),
+    )
