@@ -1,5 +1,5 @@
 -- A word that was decoded again is one that the store takes.
-use Rattle.std.specs.Prelude.{◌≡◌, ◌≤◌, ◌++◌, ℕ, List, [], length, Option, Err, refl}
+use Rattle.std.specs.Prelude.{◌≡◌, ◌≤◌, ℕ, List, [], length, Option, Err, refl}
 use Rattle.std.specs.Io.KnownBytes.{Appends}
 use Rattle.std.proofs.Common.{◌∙◌, ap, sym, subst, inl, inr, append-nil}
 use Rattle.bincode_base.specs.Setting.{Setting}

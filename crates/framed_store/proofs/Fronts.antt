@@ -1,8 +1,8 @@
 -- A frame is told alike, whatever follows it.
-use Rattle.std.specs.Prelude.{◌≡◌, ◌≢◌, ◌+◌, ◌-◌, ◌<◌, ◌≤◌, ◌++◌, ℕ, List, [], ◌∷◌, length, take, drop, Bool, true, false, refl}
+use Rattle.std.specs.Prelude.{◌≡◌, ◌≢◌, ◌+◌, ◌<◌, ◌≤◌, ◌++◌, ℕ, List, [], ◌∷◌, length, take, drop, Bool, true, false, refl}
 use Rattle.std.specs.Int.{w32, from_le_bytes}
-use Rattle.std.proofs.Common.{◌∙◌, ap, sym, subst, arith, inl, inr, append-nil, length-append}
-use Rattle.std.proofs.lemmas.List.{length-drop, length-take-le, take-append-le, drop-append-le, take-append-drop}
+use Rattle.std.proofs.Common.{◌∙◌, ap, sym, subst, arith, inl, inr, length-append}
+use Rattle.std.proofs.lemmas.List.{length-drop, take-append-le, drop-append-le}
 use mathlib.Core.Logic.{dite}
 use native.Mathlib.Decide.{dec_le}
 use Rattle.crc32c.specs.Crc.{crc32c}
@@ -11,9 +11,8 @@ use Rattle.frames.specs.declared.Frame.{Frame}
 use Rattle.frames.specs.declared.Frame.TheVariants as frames
 use Rattle.framed_store.specs.declared.ending.Ending.{Ending}
 use Rattle.framed_store.specs.declared.ending.Ending.TheVariants as endings
-use Rattle.framed_store.specs.declared.surveying.Survey.{Survey}
 use Rattle.framed_store.specs.Steps.{IsWhole, IsDamaged, EndsAt}
-use Rattle.framed_store.specs.Surveys.{frame_size, FramesTo, IsSurvey}
+use Rattle.framed_store.specs.Surveys.{frame_size, FramesTo}
 
 module _ (bytes rest : List ℕ) (four : 4 ≤ length bytes) where
   -- four bytes name the length

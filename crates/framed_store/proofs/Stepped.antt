@@ -1,14 +1,10 @@
 -- Stepping over the frames of a store.
-use Rattle.std.specs.Prelude.{◌≡◌, ◌+◌, ◌-◌, ◌<◌, ◌≤◌, ◌++◌, ℕ, List, [], ◌∷◌, length, take, drop, Bool, true, false, refl}
+use Rattle.std.specs.Prelude.{◌≡◌, ◌+◌, ◌-◌, ◌≤◌, ◌++◌, ℕ, List, [], ◌∷◌, length, take, drop, Bool, true, false, refl}
 use Rattle.std.proofs.Common.{◌∙◌, ap, sym, subst, arith}
 use Rattle.std.proofs.lemmas.List.{length-drop, length-take-le, drop-drop, take_all, take-append-drop}
-use Rattle.frames.specs.Frames.{Reads, named_length}
-use Rattle.frames.specs.declared.Frame.{Frame}
-use Rattle.frames.specs.declared.Frame.TheVariants as frames
-use Rattle.std.specs.Borrow.{Bor}
+use Rattle.frames.specs.Frames.{named_length}
 use Rattle.framed_store.specs.declared.ending.Ending.{Ending}
 use Rattle.framed_store.specs.declared.ending.Ending.TheVariants as endings
-use Rattle.framed_store.specs.declared.surveying.Survey.{Survey}
 use Rattle.framed_store.specs.Steps.{IsWhole, IsDamaged, EndsAt}
 use Rattle.framed_store.specs.Surveys.{frame_size, FramesTo, fitting, unfit, IsSurvey}
 use Rattle.framed_store.proofs.Fronts.{frames-alone}

@@ -1,6 +1,5 @@
 -- What is told of a frame that was changed in one place.
 use Rattle.std.specs.Prelude.{◌≡◌, ◌+◌, ◌*◌, ◌^◌, ◌<◌, ◌≤◌, ◌++◌, ℕ, List, [], length, bit_xor, refl}
-use Rattle.std.specs.Borrow.{Bor}
 use Rattle.std.specs.Int.{w32, to_le_bytes}
 use Rattle.std.specs.List.{All}
 use Rattle.std.proofs.Common.{sym, subst, arith, append-nil, length-append}

@@ -1,4 +1,4 @@
-use Rattle.std.proofs.Common.{rules, ◌≡◌, ◌∙◌, sym, arith, subst}
+use Rattle.std.proofs.Common.{rules}
 use Rattle.framed_store.proofs.Appends.{frame-added, front-added}
 use Rattle.framed_store.proofs.appending.append.Goals as goal
 
