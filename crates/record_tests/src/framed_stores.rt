@@ -179,70 +179,59 @@ fn before_salt(alloc: Global, word: &[u8]) -> Result<Vec<u8>, AllocError> {
     Ok(store)
 }
 
-/// A word that is cut before its frame is made, one with a byte after it, and zeros after the frames.
+/// Whether a word that was cut before its frame was made is told, and salt after it.
+fn tells_cut_word(alloc: Global) -> Result<bool, AllocError> {
+    let listing = listed(alloc, &before_salt(alloc, &STOCK[..2])?)?;
+    let [first, second] = listing.records.as_slice() else {
+        return Ok(false);
+    };
+    let is_cut = matches!(
+        &first.content,
+        Content::Undecodable(DecodeError::UnexpectedEnd { .. })
+    );
+    Ok(
+        is_cut
+            && (first.offset, first.size) == (0, 10)
+            && is_article(second, (10, 16), &salt(alloc)?),
+    )
+}
+
+/// Whether a word with a byte after its value is told, and salt after it.
+fn tells_longer_word(alloc: Global) -> Result<bool, AllocError> {
+    let listing = listed(alloc, &before_salt(alloc, &STOCK[..9])?)?;
+    let [first, second] = listing.records.as_slice() else {
+        return Ok(false);
+    };
+    let is_longer = matches!(&first.content, Content::Longer { taken } if *taken == 8);
+    Ok(
+        is_longer
+            && (first.offset, first.size) == (0, 17)
+            && is_article(second, (17, 16), &salt(alloc)?),
+    )
+}
+
+/// Whether zeros after whole frames are told as damaged, and the last four of them as torn.
+fn tells_zeros(alloc: Global) -> Result<bool, AllocError> {
+    let mut bytes = FRAMED.to_vec(alloc)?;
+    bytes.extend_from_slice(&[0; 20])?;
+    let listing = listed(alloc, &bytes)?;
+    let ending = listing.ending;
+    let [_, _, _, fourth, fifth] = listing.records.as_slice() else {
+        return Ok(false);
+    };
+    Ok(
+        is_damaged(fourth, (63, 8))
+            && is_damaged(fifth, (71, 8))
+            && ending == Ending::Torn { offset: 79 },
+    )
+}
+
 #[test]
 fn tells_frames_that_hold_no_value(rt: HostRuntime) -> Result<(), AllocError> {
     let alloc = rt.alloc();
-    let cut = listed(alloc, &before_salt(alloc, &STOCK[..2])?)?;
-    assert!(rt;
-        matches!(
-            cut.records.as_slice(),
-            [
-                Record {
-                    offset: 0,
-                    size: 10,
-                    content: Content::Undecodable(DecodeError::UnexpectedEnd { .. })
-                },
-                Record {
-                    offset: 10,
-                    size: 16,
-                    content: Content::Value(_)
-                },
-            ]
-        )
-    );
-    let longer = listed(alloc, &before_salt(alloc, &STOCK[..9])?)?;
-    assert!(rt;
-        matches!(
-            longer.records.as_slice(),
-            [
-                Record {
-                    offset: 0,
-                    size: 17,
-                    content: Content::Longer { taken: 8 }
-                },
-                Record {
-                    offset: 17,
-                    size: 16,
-                    content: Content::Value(_)
-                },
-            ]
-        )
-    );
-    let mut zeros = FRAMED.to_vec(alloc)?;
-    zeros.extend_from_slice(&[0; 20])?;
-    let listing = listed(alloc, &zeros)?;
-    assert!(rt;
-        matches!(
-            listing.records.as_slice(),
-            [
-                _,
-                _,
-                _,
-                Record {
-                    offset: 63,
-                    size: 8,
-                    content: Content::Damaged
-                },
-                Record {
-                    offset: 71,
-                    size: 8,
-                    content: Content::Damaged
-                },
-            ]
-        )
-    );
-    assert_eq!(rt; listing.ending, Ending::Torn { offset: 79 });
+    assert!(rt; tells_cut_word(alloc)?);
+    assert!(rt; tells_longer_word(alloc)?);
+    assert!(rt; tells_zeros(alloc)?);
     Ok(())
 }
 
