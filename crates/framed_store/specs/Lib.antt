@@ -1,5 +1,6 @@
 pub mod Appended
 pub mod DamageLaws
+pub mod PieceLaws
 pub mod Pieces
 pub mod Steps
 pub mod Surveys

@@ -42,9 +42,10 @@ pub fn list<T: Decode<()> + Exact, C: Config>(
     // The frames in the store are told in order, and the ending tells why there are no more.
     ensures frames { IfOk result (λ l.
         Lists (T.words.format C.setting) C.bound T.words.decodes_to most store.now l.records.items l.ending) }
-    // Frames that were appended, some of them damaged since, are told first, whatever follows them;
-    ensures first { (pieces : List (Piece T)) (behind : List ℕ) → ArePieces T.words C.setting C.bound most pieces
-        → store.now ≡ bytes_of_all pieces ++ behind → IfOk result (λ l. TellsFirst T.eq pieces l.records.items) }
+    // Frames that were appended (`appended-pieces` of specs/PieceLaws), some of them damaged since (`burst-damages` of
+    // specs/DamageLaws), are told first, whatever follows them;
+    ensures first { (pieces : List (Piece T)) (rest : List ℕ) → ArePieces T.words C.setting C.bound most pieces
+        → store.now ≡ bytes_of_all pieces ++ rest → IfOk result (λ l. TellsFirst T.eq pieces l.records.items) }
     // if nothing does, that is all;
     ensures all { (pieces : List (Piece T)) → ArePieces T.words C.setting C.bound most pieces
         → store.now ≡ bytes_of_all pieces → IfOk result (λ l. TellsAll T.eq pieces l.records.items l.ending) }
