@@ -12,6 +12,8 @@ mod described;
 #[cfg(test)]
 mod framed;
 #[cfg(test)]
+mod framed_stores;
+#[cfg(test)]
 mod records;
 #[cfg(test)]
 mod stocks;

@@ -1,0 +1,5 @@
+mod Appends
+pub mod Fronts
+pub mod Listings
+mod Refused
+pub mod Stepped

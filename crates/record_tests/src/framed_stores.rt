@@ -1,0 +1,282 @@
+//! Stores of articles in frames: whole, cut, damaged, and where a write fails.
+
+use crate::articles::{STOCK, salt, tea};
+use bincode::error::DecodeError;
+use framed_store::appending::{AppendError, append};
+use framed_store::ending::Ending;
+use framed_store::listing::{Listing, Record, list};
+use framed_store::records::Content;
+use framed_store::surveying::{Survey, survey_frames};
+use frames::around;
+use record_store::article::Article;
+use record_store::stock::settings;
+use std::alloc::{AllocError, Global};
+use std::io;
+use std::io::{ErrorKind, Write};
+
+/// The frames of salt, tea and salt, which another program made.
+const FRAMED: [u8; 63] = [
+    8, 0, 0, 0, 4, 115, 97, 108, 116, 40, 0, 0, 172, 169, 102, 189, 23, 0, 0, 0, 3, 116, 101, 97,
+    251, 226, 4, 1, 100, 1, 6, 111, 114, 105, 103, 105, 110, 5, 65, 115, 115, 97, 109, 144, 206,
+    185, 142, 8, 0, 0, 0, 4, 115, 97, 108, 116, 40, 0, 0, 172, 169, 102, 189,
+];
+
+/// Their offsets and sizes.
+const PLACES: [(usize, usize); 3] = [(0, 16), (16, 31), (47, 16)];
+
+/// The greatest length of an encoding in these stores.
+const MOST: u32 = 1000;
+
+/// What these bytes are listed as.
+fn listed(alloc: Global, bytes: &[u8]) -> Result<Listing<Article>, AllocError> {
+    list(alloc, bytes, settings(), MOST)
+}
+
+/// Whether a record is this article, at this place.
+fn is_article(record: &Record<Article>, place: (usize, usize), article: &Article) -> bool {
+    (record.offset, record.size) == place
+        && matches!(&record.content, Content::Value(value) if value == article)
+}
+
+/// Whether a record is a damaged frame at this place.
+fn is_damaged(record: &Record<Article>, place: (usize, usize)) -> bool {
+    (record.offset, record.size) == place && matches!(&record.content, Content::Damaged)
+}
+
+/// Whether these are the first records of the framed ones.
+fn are_first(alloc: Global, records: &[Record<Article>]) -> Result<bool, AllocError> {
+    let articles = [salt(alloc)?, tea(alloc)?, salt(alloc)?];
+    for ((record, article), place) in records.iter().zip(&articles).zip(&PLACES) {
+        if !is_article(record, *place, article) {
+            return Ok(false);
+        }
+    }
+    Ok(records.len() <= 3)
+}
+
+#[test]
+fn appends_and_lists(rt: HostRuntime) -> anyhow::Result<()> {
+    let alloc = rt.alloc();
+    let mut store = Vec::new(alloc);
+    assert_eq!(rt;
+        append(alloc, &mut store, &salt(alloc)?, settings(), MOST)?,
+        16
+    );
+    assert_eq!(rt;
+        append(alloc, &mut store, &tea(alloc)?, settings(), MOST)?,
+        31
+    );
+    assert_eq!(rt;
+        append(alloc, &mut store, &salt(alloc)?, settings(), MOST)?,
+        16
+    );
+    assert_eq!(rt; store.as_slice(), &FRAMED[..]);
+    let refused = append(alloc, &mut store, &salt(alloc)?, settings(), 7);
+    assert!(rt; matches!(refused, Err(AppendError::TooLong { length: 8, most: 7 })));
+    assert_eq!(rt; store.as_slice(), &FRAMED[..]);
+    Ok(())
+}
+
+/// Whether of the first bytes those records are listed and counted that stand whole, and it is told where the others
+/// are cut.
+fn tells_front(alloc: Global, length: usize) -> Result<bool, AllocError> {
+    let Some(front) = FRAMED.get(..length) else {
+        return Ok(false);
+    };
+    let (whole, end) = match length {
+        0..16 => (0, 0),
+        16..47 => (1, 16),
+        47..63 => (2, 47),
+        _ => (3, 63),
+    };
+    let ending = if length == end {
+        Ending::Whole
+    } else {
+        Ending::Torn { offset: end }
+    };
+    let counted = Survey {
+        whole,
+        damaged: 0,
+        length: end,
+        ending,
+    };
+    let listing = listed(alloc, front)?;
+    Ok(
+        listing.records.len() == whole
+            && are_first(alloc, &listing.records)?
+            && listing.ending == ending
+            && survey_frames(front, MOST) == counted,
+    )
+}
+
+#[test]
+fn tells_each_front(rt: HostRuntime) -> Result<(), AllocError> {
+    for length in 0..=FRAMED.len() {
+        assert!(rt; tells_front(rt.alloc(), length)?, "{length}");
+    }
+    Ok(())
+}
+
+/// The length of the second frame after a change of this bit, if it is one of the length.
+fn changed_length(place: usize, bit: u8) -> Option<u32> {
+    let mut field = [23, 0, 0, 0];
+    if place < 16 || place >= 20 {
+        return None;
+    }
+    field[place - 16] = field[place - 16] ^ bit;
+    Some(u32::from_le_bytes(field))
+}
+
+/// Whether a changed bit of the second frame is told there. A length above the 39 bytes that are there is torn.
+fn tells_bit(alloc: Global, place: usize, bit: u8) -> Result<bool, AllocError> {
+    let mut bytes = FRAMED;
+    if place >= bytes.len() {
+        return Ok(false);
+    }
+    bytes[place] = bytes[place] ^ bit;
+    let listing = listed(alloc, &bytes)?;
+    let ending = listing.ending;
+    let [first, others @ ..] = listing.records.as_slice() else {
+        return Ok(false);
+    };
+    if !is_article(first, PLACES[0], &salt(alloc)?) {
+        return Ok(false);
+    }
+    Ok(match (changed_length(place, bit), others) {
+        (None, [second, third]) => {
+            is_damaged(second, PLACES[1])
+                && is_article(third, PLACES[2], &salt(alloc)?)
+                && ending == Ending::Whole
+        }
+        (Some(length), []) if length > MOST => ending == Ending::TooLong { offset: 16, length },
+        (Some(length), []) => length > 39 && ending == Ending::Torn { offset: 16 },
+        (Some(length), [second, ..]) => {
+            length <= 39 && is_damaged(second, (16, 8 + length as usize))
+        }
+        _ => false,
+    })
+}
+
+#[test]
+fn tells_each_changed_bit(rt: HostRuntime) -> Result<(), AllocError> {
+    for place in 16..47 {
+        for bit in [1, 2, 4, 8, 16, 32, 64, 128] {
+            assert!(rt; tells_bit(rt.alloc(), place, bit)?, "{place}, {bit}");
+        }
+    }
+    Ok(())
+}
+
+/// A frame of this word, and that of salt.
+fn before_salt(alloc: Global, word: &[u8]) -> Result<Vec<u8>, AllocError> {
+    let mut store = Vec::new(alloc);
+    if let Some(around) = around(word) {
+        store.extend_from_slice(&around.0)?;
+        store.extend_from_slice(word)?;
+        store.extend_from_slice(&around.1)?;
+    }
+    store.extend_from_slice(&FRAMED[..16])?;
+    Ok(store)
+}
+
+/// Whether a word that was cut before its frame was made is told, and salt after it.
+fn tells_cut_word(alloc: Global) -> Result<bool, AllocError> {
+    let listing = listed(alloc, &before_salt(alloc, &STOCK[..2])?)?;
+    let [first, second] = listing.records.as_slice() else {
+        return Ok(false);
+    };
+    let is_cut = matches!(
+        &first.content,
+        Content::Undecodable(DecodeError::UnexpectedEnd { .. })
+    );
+    Ok(
+        is_cut
+            && (first.offset, first.size) == (0, 10)
+            && is_article(second, (10, 16), &salt(alloc)?),
+    )
+}
+
+/// Whether a word with a byte after its value is told, and salt after it.
+fn tells_longer_word(alloc: Global) -> Result<bool, AllocError> {
+    let listing = listed(alloc, &before_salt(alloc, &STOCK[..9])?)?;
+    let [first, second] = listing.records.as_slice() else {
+        return Ok(false);
+    };
+    let is_longer = matches!(&first.content, Content::Longer { taken } if *taken == 8);
+    Ok(
+        is_longer
+            && (first.offset, first.size) == (0, 17)
+            && is_article(second, (17, 16), &salt(alloc)?),
+    )
+}
+
+/// Whether zeros after whole frames are told as damaged, and the last four of them as torn.
+fn tells_zeros(alloc: Global) -> Result<bool, AllocError> {
+    let mut bytes = FRAMED.to_vec(alloc)?;
+    bytes.extend_from_slice(&[0; 20])?;
+    let listing = listed(alloc, &bytes)?;
+    let ending = listing.ending;
+    let [_, _, _, fourth, fifth] = listing.records.as_slice() else {
+        return Ok(false);
+    };
+    Ok(
+        is_damaged(fourth, (63, 8))
+            && is_damaged(fifth, (71, 8))
+            && ending == Ending::Torn { offset: 79 },
+    )
+}
+
+#[test]
+fn tells_frames_that_hold_no_value(rt: HostRuntime) -> Result<(), AllocError> {
+    let alloc = rt.alloc();
+    assert!(rt; tells_cut_word(alloc)?);
+    assert!(rt; tells_longer_word(alloc)?);
+    assert!(rt; tells_zeros(alloc)?);
+    Ok(())
+}
+
+/// Takes as many bytes as it has room for, and then fails.
+#[derive(Drop)]
+struct Full {
+    held: Vec<u8>,
+    room: usize,
+}
+
+impl Write for Full {
+    fn write(&mut self, bytes: &[u8]) -> io::Result<usize> {
+        let count = bytes.len().min(self.room);
+        if count == 0 {
+            return Err(ErrorKind::StorageFull.into());
+        }
+        self.held.extend_from_slice(&bytes[..count])?;
+        self.room -= count;
+        Ok(count)
+    }
+
+    fn flush(&mut self) -> io::Result<()> {
+        Ok(())
+    }
+}
+
+/// Whether a stream with this room for the second frame holds that much of it, and the failure is told.
+fn leaves_front(alloc: Global, room: usize) -> Result<bool, AllocError> {
+    let mut store = Full {
+        held: FRAMED[..16].to_vec(alloc)?,
+        room,
+    };
+    let outcome = append(alloc, &mut store, &tea(alloc)?, settings(), MOST);
+    let told = if room < 31 {
+        matches!(outcome, Err(AppendError::Write(_)))
+    } else {
+        matches!(outcome, Ok(31))
+    };
+    Ok(told && FRAMED.starts_with(&store.held) && store.held.len() == room.saturating_add(16))
+}
+
+#[test]
+fn leaves_a_front_where_a_write_fails(rt: HostRuntime) -> Result<(), AllocError> {
+    for room in 0..=31 {
+        assert!(rt; leaves_front(rt.alloc(), room)?, "{room}");
+    }
+    Ok(())
+}
