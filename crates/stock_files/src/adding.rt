@@ -4,8 +4,10 @@ ghost use Rattle.framed_store.specs.Surveys.{IsSurvey};
 ghost use Rattle.framed_store.specs.Appended.{Added, Leaves};
 ghost use Rattle.framed_store.specs.declared.surveying.Survey.{Survey};
 
-use crate::limit::LONGEST_WORD;
+use crate::limit::{LONGEST_WORD, Settings};
 use crate::status::{DAMAGED, FAILED};
+use bincode::Wire;
+use bincode::config::Config;
 use framed_store::appending::{AppendError, append};
 use framed_store::ending::Ending;
 use framed_store::surveying::survey_frames;
@@ -37,7 +39,7 @@ pub enum AddError {
     },
     /// Appending failed.
     #[error("{0}")]
-    Append(AppendError),
+    Append(#[from] AppendError),
     /// An allocation was refused.
     #[error(transparent)]
     Memory(#[from(alloc)] AllocError),
@@ -112,11 +114,15 @@ pub fn add_one<W: Write>(
     alloc: Global,
     store: &mut W,
     article: &Article,
-) -> Result<usize, AddError> {
-    match append(alloc, store, article, settings(), LONGEST_WORD) {
-        Ok(size) => Ok(size),
-        Err(e) => Err(AddError::Append(e)),
-    }
+) -> Result<usize, AppendError>
+    // On `Ok(n)` the frame of an encoding of the article, of `n` bytes, follows what the store held.
+    ensures added { IfOk result (λ n. Added ⟦<Article as Wire>⟧.words ⟦<Settings as Config>⟧.setting
+        ⟦<Settings as Config>⟧.bound LONGEST_WORD article.now n (W.contents store.old) (W.contents store.new)) }
+    // After an error the store holds what it held, and at most a prefix of the frame after it.
+    ensures left { IfErr result (Leaves ⟦<Article as Wire>⟧.words ⟦<Settings as Config>⟧.setting
+        ⟦<Settings as Config>⟧.bound LONGEST_WORD article.now W.contents store.old store.new) }
+{
+    append(alloc, store, article, settings(), LONGEST_WORD)
 }
 
 /// Prints the places of articles in a file of this name.

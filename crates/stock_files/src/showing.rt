@@ -2,9 +2,9 @@
 ghost use Rattle.std.specs.Prelude.{◌≡◌, true, IfOk};
 ghost use Rattle.stock_files.specs.WholeStores.{IsWholeStore, AreValues};
 
-use crate::limit::LONGEST_WORD;
+use crate::limit::{LONGEST_WORD, Settings};
 use bincode::Wire;
-use bincode::config::{Config, Configuration, Limit, LittleEndian, Varint};
+use bincode::config::Config;
 use framed_store::ending::Ending;
 use framed_store::listing::{Listing, Record, list};
 use framed_store::records::Content;
@@ -12,9 +12,6 @@ use record_store::article::Article;
 use record_store::stock::settings;
 use std::alloc::Global;
 use std::io::{Result, Write};
-
-/// The configuration of a stock's files.
-type Settings = Configuration<LittleEndian, Varint, Limit<65536>>;
 
 /// Prints each article in the bytes of a file of this name with its offset and the number of bytes of its frame, each
 /// other frame with why it holds none, and how the file ends. Returns whether it is whole. Fails if an allocation is

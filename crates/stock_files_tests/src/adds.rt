@@ -63,25 +63,34 @@ fn adds_after_what_is_held(rt: HostRuntime) -> io::Result<()> {
     Ok(())
 }
 
-/// The number of bytes of the frame of an article with a name of this length, and the largest price and weight; 0 where
-/// it cannot be read back.
-fn size_of_named(alloc: Global, length: usize) -> Result<usize, AllocError> {
+/// The number of bytes of the frame of an article with a name of this length, the largest price and this weight; 0 where
+/// it cannot be read back under the limit, and 1 where its encoding is longer than the longest.
+fn size_of_named(alloc: Global, length: usize, weight: Option<u32>) -> Result<usize, AllocError> {
     let name = "n".repeat(alloc, length)?;
-    let article = named(alloc, name.as_str(), u64::MAX, Some(u32::MAX))?;
+    let article = named(alloc, name.as_str(), u64::MAX, weight)?;
     let mut store = Vec::new(alloc);
     let Addition { places, failure } = add_all(alloc, &[], &mut store, &[article]);
-    Ok(match (places.as_slice(), failure) {
-        ([Place { offset: 0, size }], None) => *size,
-        ([], Some(AddError::Append(AppendError::ReadBack(_)))) => 0,
-        _ => 1,
+    Ok(match failure {
+        None => places.first().map_or(2, |place| place.size),
+        Some(AddError::Append(AppendError::ReadBack(_))) => 0,
+        Some(AddError::Append(AppendError::TooLong { .. })) => 1,
+        Some(_) => 2,
     })
 }
 
 #[test]
 fn adds_the_longest_article(rt: HostRuntime) -> Result<(), AllocError> {
     let alloc = rt.alloc();
-    assert_eq!(rt; size_of_named(alloc, 65507)?, LONGEST_WORD as usize + 8);
-    assert_eq!(rt; size_of_named(alloc, 65508)?, 0);
+    let most = LONGEST_WORD as usize;
+    all_true(
+        &rt,
+        &[
+            size_of_named(alloc, 65507, Some(u32::MAX))? == most + 8,
+            size_of_named(alloc, 65508, Some(u32::MAX))? == 1,
+            size_of_named(alloc, 65511, None)? == most + 7,
+            size_of_named(alloc, 65512, None)? == 0,
+        ],
+    );
     Ok(())
 }
 
@@ -95,14 +104,14 @@ fn tells_those_before_a_failure(rt: HostRuntime) -> Result<(), AllocError> {
     let articles = [salt(alloc)?, tea(alloc)?, salt(alloc)?];
     let Addition { places, failure } = add_all(alloc, &[], &mut store, &articles);
     let status = failure.as_ref().map(AddError::status);
+    let first = [Place {
+        offset: 0,
+        size: 16,
+    }];
     all_true(
         &rt,
         &[
-            places.as_slice()
-                == &[Place {
-                    offset: 0,
-                    size: 16,
-                }],
+            places.as_slice() == first.as_slice(),
             matches!(failure, Some(AddError::Append(AppendError::Write(_)))),
             status == Some(FAILED),
             store.held.as_slice() == &FRAMED[..20],

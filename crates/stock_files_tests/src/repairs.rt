@@ -43,7 +43,7 @@ fn cuts_and_drops(rt: HostRuntime) -> io::Result<()> {
             repairs(alloc, &changed[..60], false, 47, false, left)?,
             repairs(alloc, &changed, true, 63, true, dropped)?,
             kept.as_slice() == &FRAMED[..16],
-            whole_frames(alloc, &FRAMED)?.as_slice() == &FRAMED,
+            whole_frames(alloc, &FRAMED)?.as_slice() == &FRAMED[..],
         ],
     );
     Ok(())
