@@ -1,5 +1,5 @@
 -- Keeping the frames whose checks fit, one by one.
-use Rattle.std.specs.Prelude.{◌≡◌, ◌⊎◌, ◌++◌, ℕ, List, [], ◌∷◌, length, take, drop, Bool, true, false, refl}
+use Rattle.std.specs.Prelude.{◌≡◌, ◌⊎◌, ◌++◌, ℕ, List, [], ◌∷◌, take, drop, Bool, true, false, refl}
 use Rattle.std.proofs.Common.{◌∙◌, ap, sym, subst, inl, inr, append_assoc, append-nil}
 use Rattle.frames.specs.Frames.{Reads}
 use Rattle.frames.specs.declared.Frame.{Frame}

@@ -1,4 +1,4 @@
-use Rattle.std.proofs.Common.{◌≡◌, ◌++◌, sym, subst}
+use Rattle.std.proofs.Common.{sym, subst}
 use Rattle.stock_files.specs.Kept.{KeptTo}
 use Rattle.stock_files.proofs.Keeping.{keep-whole, keep-damaged, begins-with-none}
 use Rattle.stock_files.proofs.repairing.whole_frames.Goals as goal
