@@ -64,14 +64,8 @@ fn shows_what_is_buffered(rt: HostRuntime) {
     };
     assert!(rt; buffered.peek_read(1).is_none());
     let mut one = [0u8; 1];
-    all_true(
-        &rt,
-        &[
-            Reader::read(&mut buffered, &mut one).is_ok(),
-            buffered.peek_read(4).is_none(),
-            matches!(buffered.peek_read(3), Some([2, 3, 4])),
-        ],
-    );
+    assert!(rt; Reader::read(&mut buffered, &mut one).is_ok() && buffered.peek_read(4).is_none());
+    assert!(rt; matches!(buffered.peek_read(3), Some([2, 3, 4])));
     Reader::consume(&mut buffered, 2);
     assert!(rt; matches!(buffered.peek_read(1), Some([4])));
 }

@@ -88,8 +88,7 @@ fn is_signed_error(expected: IntegerType, signed: IntegerType) -> bool {
 fn changes_types_to_signed_ones(rt: HostRuntime) {
     for (kind, signed) in SIGNED {
         assert!(rt;
-            kind.into_signed() == signed,
-            "{kind:?}" && is_signed_error(kind, signed),
+            kind.into_signed() == signed && is_signed_error(kind, signed),
             "{kind:?}"
         );
     }

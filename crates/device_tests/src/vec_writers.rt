@@ -81,9 +81,9 @@ fn grows_by_each_call(rt: HostRuntime) {
     };
     for length in [1usize, 3, 1_000] {
         assert!(rt;
-            collects(alloc, &bytes, length, Call::Whole),
-            "written by {length}" && collects(alloc, &bytes, length, Call::InTwo),
-            "in two calls by {length}"
+            collects(alloc, &bytes, length, Call::Whole)
+                && collects(alloc, &bytes, length, Call::InTwo),
+            "written by {length}"
         );
     }
 }
