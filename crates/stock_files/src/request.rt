@@ -1,0 +1,172 @@
+//! The command line of the program `records`.
+
+use crate::article_words::{ArticleError, article_of};
+use clap::error::ErrorKind;
+use clap::{Arg, ArgAction, ArgMatches, Command, Error};
+use record_store::article::Article;
+use std::alloc::{AllocError, Global};
+
+/// What the program is asked to do.
+#[derive(Drop)]
+pub enum Request {
+    /// Append an article to a file.
+    Add {
+        /// The path of the file.
+        file: String,
+        /// The article.
+        article: Article,
+    },
+    /// Append the articles of the standard input to a file, one a line.
+    AddLines {
+        /// The path of the file.
+        file: String,
+    },
+    /// Print the articles of these files.
+    List(Vec<String>),
+    /// Check for each of these files whether it is whole.
+    Check(Vec<String>),
+    /// Make a file whole again.
+    Repair {
+        /// The path of the file.
+        file: String,
+        /// Whether damaged frames are dropped, too.
+        drops_damaged: bool,
+    },
+}
+
+/// What stands at the end of the help.
+const STATUSES: &str = "Status:
+  0  done, and each file is whole
+  1  a file is damaged or torn
+  2  wrong arguments
+  3  a file, the standard input or the standard output fails, or a line is no article
+
+Each file is dealt with, also after one that fails. The status is the greatest of them.";
+
+/// How `add` is used.
+const ADD_USAGE: &str = "records add FILE NAME PRICE [WEIGHT] [NOTE=TEXT ..]
+       records add FILE -";
+
+/// What `add` says of its words.
+const ADD_WORDS: &str =
+    "The article: its name, its price, then a weight and notes. A lone - takes articles from the \
+    standard input, one a line, their words separated by blanks or tabs";
+
+/// The program's command line.
+fn command<'a>(alloc: Global) -> Result<Command<'a>, AllocError> {
+    Command::new(alloc, "records")
+        .version("2.0.0")
+        .about("Keeps the articles of a stock in files, each in a frame with a check")
+        .after_help(STATUSES)
+        .subcommand_required(true)
+        .subcommand(add_command(alloc)?)?
+        .subcommand(files_command(
+            alloc,
+            "list",
+            "Prints the articles of files, each with its offset",
+        )?)?
+        .subcommand(files_command(alloc, "check", "Says for each file whether it is whole")?)?
+        .subcommand(repair_command(alloc)?)
+}
+
+/// The command `add`.
+fn add_command<'a>(alloc: Global) -> Result<Command<'a>, AllocError> {
+    let file = Arg::new(alloc, "file")
+        .value_name("FILE")
+        .required(true)
+        .help("The file, which is made where there is none");
+    let words = Arg::new(alloc, "words")
+        .value_name("WORD")
+        .required(true)
+        .action(ArgAction::Append)
+        .num_args(1..)
+        .help(ADD_WORDS);
+    Command::new(alloc, "add")
+        .about("Appends articles to a file that is not torn, and prints their places")
+        .override_usage(ADD_USAGE)
+        .arg(file)?
+        .arg(words)
+}
+
+/// A command that looks at files.
+fn files_command<'a>(
+    alloc: Global,
+    name: &'a str,
+    about: &'a str,
+) -> Result<Command<'a>, AllocError> {
+    let files = Arg::new(alloc, "files")
+        .value_name("FILE")
+        .required(true)
+        .action(ArgAction::Append)
+        .num_args(1..)
+        .help("The files");
+    Command::new(alloc, name).about(about).arg(files)
+}
+
+/// The command `repair`.
+fn repair_command<'a>(alloc: Global) -> Result<Command<'a>, AllocError> {
+    let drop_damaged = Arg::new(alloc, "drop-damaged")
+        .long("drop-damaged")
+        .action(ArgAction::SetTrue)
+        .help("Drops the damaged frames, too");
+    let file = Arg::new(alloc, "file")
+        .value_name("FILE")
+        .required(true)
+        .help("The file");
+    Command::new(alloc, "repair")
+        .about("Cuts a file off after its last frame, where it is torn")
+        .arg(drop_damaged)?
+        .arg(file)
+}
+
+/// The request that these words spell, of which the first is the program's name. Where they spell none, or ask for help
+/// or for the version, the error has the text for it.
+pub fn request_of(alloc: Global, words: &[String]) -> Result<Request, Error> {
+    let matches = command(alloc)?.try_get_matches_from(words)?;
+    match matches.subcommand() {
+        Some(("add", found)) => add_request(alloc, found),
+        Some(("list", found)) => Ok(Request::List(files_in(alloc, found)?)),
+        Some(("check", found)) => Ok(Request::Check(files_in(alloc, found)?)),
+        Some((_, found)) => Ok(Request::Repair {
+            file: file_in(alloc, found)?,
+            drops_damaged: found.get_flag("drop-damaged"),
+        }),
+        None => Err(mistake(command(alloc)?, "which command?")?),
+    }
+}
+
+/// The request of `add`.
+fn add_request(alloc: Global, found: &ArgMatches<'_>) -> Result<Request, Error> {
+    let file = file_in(alloc, found)?;
+    let words = found.get_strs("words").unwrap_or(&[]);
+    if matches!(words, ["-"]) {
+        return Ok(Request::AddLines { file });
+    }
+    match article_of(alloc, words) {
+        Ok(article) => Ok(Request::Add { file, article }),
+        Err(ArticleError::Memory(e)) => Err(e.into()),
+        Err(why) => {
+            let text = format!(in alloc; "{why}")?;
+            Err(mistake(add_command(alloc)?, text.as_str())?)
+        }
+    }
+}
+
+/// The error of a mistake in the words of a command, with its usage.
+fn mistake(mut command: Command<'_>, text: &str) -> Result<Error, AllocError> {
+    command.error(ErrorKind::ValueValidation, text)
+}
+
+/// The path of the file.
+fn file_in(alloc: Global, found: &ArgMatches<'_>) -> Result<String, AllocError> {
+    String::from_str(alloc, found.get_str("file").unwrap_or(""))
+}
+
+/// The paths of the files.
+fn files_in(alloc: Global, found: &ArgMatches<'_>) -> Result<Vec<String>, AllocError> {
+    let mut files = Vec::new(alloc);
+    for file in found.get_strs("files").unwrap_or(&[]).iter() {
+        files.push(String::from_str(alloc, file)?)?;
+    }
+    Ok(files)
+}

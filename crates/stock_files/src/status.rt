@@ -1,0 +1,33 @@
+//! The statuses with which the program ends.
+ghost use Rattle.std.specs.Prelude.{◌≡◌, true, All};
+
+/// Done, and whole.
+pub const DONE: u8 = 0;
+
+/// Damaged or torn.
+pub const DAMAGED: u8 = 1;
+
+/// The arguments spell no request.
+pub const USAGE: u8 = 2;
+
+/// A file, the standard input or the standard output failed.
+pub const FAILED: u8 = 3;
+
+/// The status of a store by whether it is whole.
+pub fn status_of(is_whole: bool) -> u8
+    ensures { result ≡ DONE → is_whole ≡ true }
+{
+    if is_whole { DONE } else { DAMAGED }
+}
+
+/// The status of a run over several files, by the status of each: the greatest.
+pub fn run_status(statuses: &[u8]) -> u8
+    // It is 0 only if each is.
+    ensures { result ≡ DONE → All (λ status. status ≡ DONE) statuses.now }
+{
+    let mut greatest = DONE;
+    for status in statuses {
+        greatest = greatest.max(*status);
+    }
+    greatest
+}

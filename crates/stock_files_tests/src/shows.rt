@@ -1,0 +1,105 @@
+//! What is printed of whole stores and of others, and the statuses.
+
+use crate::stores::{FRAMED, Full, ODD, all_true, damaged};
+use std::alloc::Global;
+use std::io;
+use stock_files::showing::{print_check, print_list};
+use stock_files::status::{DAMAGED, DONE, FAILED, run_status, status_of};
+
+/// Whether a store is listed so, and found whole or not.
+fn lists(alloc: Global, bytes: &[u8], whole: bool, text: &str) -> io::Result<bool> {
+    let mut out = Vec::new(alloc);
+    let found = print_list(alloc, &mut out, "f", bytes)?;
+    Ok(found == whole && out.as_slice() == text.as_bytes())
+}
+
+/// Whether a store is checked so, and found whole or not.
+fn checks(alloc: Global, bytes: &[u8], whole: bool, text: &str) -> io::Result<bool> {
+    let mut out = Vec::new(alloc);
+    let found = print_check(alloc, &mut out, "f", bytes)?;
+    Ok(found == whole && out.as_slice() == text.as_bytes())
+}
+
+/// What `list` prints of the whole store.
+const LISTED: &str = "0: 16 bytes: \"salt\" at 40\n\
+    16: 31 bytes: \"tea\" at 1250, weight 100, \"origin\" = \"Assam\"\n\
+    47: 16 bytes: \"salt\" at 40\n\
+    f: whole, records: 3, bytes: 63\n";
+
+#[test]
+fn lists_stores(rt: HostRuntime) -> io::Result<()> {
+    let alloc = rt.alloc();
+    let torn = "0: 16 bytes: \"salt\" at 40\n\
+        f: torn at byte 16, records before it: 1, damaged frames: 0\n";
+    let bit = "0: 16 bytes: \"salt\" at 40\n\
+        16: 31 bytes: damaged\n\
+        47: 16 bytes: \"salt\" at 40\n\
+        f: damaged, records: 2, damaged frames: 1, bytes: 63\n";
+    let odd = "0: 17 bytes: more than an article, which ends after 8 bytes\n\
+        17: 10 bytes: no article (UnexpectedEnd { additional: 3 })\n\
+        f: damaged, records: 0, damaged frames: 2, bytes: 27\n";
+    all_true(
+        &rt,
+        &[
+            lists(alloc, &FRAMED, true, LISTED)?,
+            lists(alloc, &[], true, "f: whole, records: 0, bytes: 0\n")?,
+            lists(alloc, &FRAMED[..46], false, torn)?,
+            lists(alloc, &damaged(), false, bit)?,
+            lists(alloc, &ODD, false, odd)?,
+        ],
+    );
+    Ok(())
+}
+
+#[test]
+fn checks_stores(rt: HostRuntime) -> io::Result<()> {
+    let alloc = rt.alloc();
+    let mut zeros = Vec::new(alloc);
+    zeros.extend_from_slice(&FRAMED)?;
+    zeros.extend_from_slice(&[0; 12])?;
+    let torn = "f: 63: 8 bytes: damaged\n\
+        f: torn at byte 71, records before it: 3, damaged frames: 1\n";
+    let long =
+        "f: no frame at byte 16, of a length of 65527, records before it: 1, damaged frames: 0\n";
+    let mut too_long = FRAMED;
+    too_long[16] = 247;
+    too_long[17] = 255;
+    let bit = "f: 16: 31 bytes: damaged\n\
+        f: damaged, records: 2, damaged frames: 1, bytes: 63\n";
+    all_true(
+        &rt,
+        &[
+            checks(alloc, &FRAMED, true, "f: whole, records: 3, bytes: 63\n")?,
+            checks(alloc, &[], true, "f: whole, records: 0, bytes: 0\n")?,
+            checks(alloc, &zeros, false, torn)?,
+            checks(alloc, &too_long, false, long)?,
+            checks(alloc, &damaged(), false, bit)?,
+        ],
+    );
+    Ok(())
+}
+
+#[test]
+fn ends_with_statuses(rt: HostRuntime) -> io::Result<()> {
+    let alloc = rt.alloc();
+    let mut full = Full {
+        held: Vec::new(alloc),
+        room: 20,
+    };
+    let mut none = Full {
+        held: Vec::new(alloc),
+        room: 0,
+    };
+    all_true(
+        &rt,
+        &[
+            print_list(alloc, &mut full, "f", &FRAMED).is_err(),
+            print_check(alloc, &mut none, "f", &FRAMED).is_err(),
+            (status_of(true), status_of(false)) == (DONE, DAMAGED),
+            run_status(&[]) == DONE,
+            run_status(&[DONE, FAILED, DAMAGED]) == FAILED,
+            run_status(&[DAMAGED, DONE]) == DAMAGED,
+        ],
+    );
+    Ok(())
+}
