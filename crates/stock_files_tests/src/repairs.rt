@@ -24,11 +24,16 @@ fn repairs(
     )
 }
 
+/// The first bytes, of which there are as many, or all.
+fn front(bytes: &[u8], count: usize) -> &[u8] {
+    bytes.get(..count).unwrap_or(bytes)
+}
+
 #[test]
 fn cuts_and_drops(rt: HostRuntime) -> io::Result<()> {
     let alloc = rt.alloc();
     let changed = damaged();
-    let kept = whole_frames(alloc, &changed[..60])?;
+    let kept = whole_frames(alloc, front(&changed, 60))?;
     let whole = "f: nothing to cut off, whole frames: 3, bytes: 63\n";
     let torn = "f: cut off at byte 16, bytes lost: 30, whole frames: 1\n";
     let left = "f: cut off at byte 47, bytes lost: 13, whole frames: 1\n\
@@ -40,7 +45,7 @@ fn cuts_and_drops(rt: HostRuntime) -> io::Result<()> {
         &[
             repairs(alloc, &FRAMED, false, 63, true, whole)?,
             repairs(alloc, &FRAMED[..46], false, 16, true, torn)?,
-            repairs(alloc, &changed[..60], false, 47, false, left)?,
+            repairs(alloc, front(&changed, 60), false, 47, false, left)?,
             repairs(alloc, &changed, true, 63, true, dropped)?,
             kept.as_slice() == &FRAMED[..16],
             whole_frames(alloc, &FRAMED)?.as_slice() == &FRAMED[..],
