@@ -63,8 +63,8 @@ fn adds_after_what_is_held(rt: HostRuntime) -> io::Result<()> {
     Ok(())
 }
 
-/// The number of bytes of the frame of an article with a name of this length, the largest price and this weight; 0 where
-/// it cannot be read back under the limit, and 1 where its encoding is longer than the longest.
+/// The number of bytes of the frame of an article with a name of this length, the largest price and this weight.
+/// It is 0 where the article cannot be read back under the limit, and 1 where its encoding is longer than the longest.
 fn size_of_named(alloc: Global, length: usize, weight: Option<u32>) -> Result<usize, AllocError> {
     let name = "n".repeat(alloc, length)?;
     let article = named(alloc, name.as_str(), u64::MAX, weight)?;
