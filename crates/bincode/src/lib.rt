@@ -53,7 +53,10 @@ pub mod model {
 /// Values whose type is known at run time alone: shapes, generic values, and their encoding and decoding.
 pub mod shape {
     pub use crate::enum_shapes::{describe_variants, put_variant, start_variants};
-    pub use crate::shaped::{decode_shaped, decode_shaped_within, encode_shaped, measure_shaped};
+    pub use crate::shaped::{
+        decode_shaped, decode_shaped_from_reader, decode_shaped_within, encode_shaped,
+        measure_shaped,
+    };
     pub use bincode_shape::described::Described;
     pub use bincode_shape::fits::does_fit;
     pub use bincode_shape::shape::{Shape, Value};

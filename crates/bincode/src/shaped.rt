@@ -1,7 +1,7 @@
-//! Values whose type is known at run time alone: into a writer, and from a slice.
-ghost use Rattle.std.specs.Prelude.{◌≡◌, ℕ, true, false, Some, OnOk, IsErrAnd, IfOk, IfErr};
+//! Values whose type is known at run time alone: into a writer, from a slice, and from a reader.
+ghost use Rattle.std.specs.Prelude.{◌≡◌, ◌≤◌, ℕ, true, false, Some, OnOk, IsErrAnd, IfOk, IfErr};
 ghost use Rattle.bincode_spec.specs.Answer.{answer};
-ghost use Rattle.bincode_spec.specs.Decoding.{Decodes, DecodeFailure};
+ghost use Rattle.bincode_spec.specs.Decoding.{Decodes, DecodeFailure, IsExcused, IsRead};
 ghost use Rattle.bincode_spec.specs.Device.{WriterFails};
 ghost use Rattle.bincode_spec.specs.Encoding.{Ready, Writes, EncodeFailure, Encodes, FitsRoom};
 ghost use Rattle.bincode_spec.specs.Limited.{WordBounded};
@@ -103,6 +103,29 @@ pub fn decode_shaped<C: Config>(
     Ok((value, src.len() - reader.bytes_left()))
 }
 
+/// Decodes a value of a shape from a reader and consumes just its encoding. Fails with the first fault of the bytes,
+/// `LimitExceeded` if the charges pass the limit, `Memory` if an allocation is refused, or an error of the reader's
+/// device; then a prefix of the input may be consumed. A stream is read through `bincode::de::read::IoReader`.
+///
+/// What `decode_shaped` says of memory and of the stack holds of this call, too. The number of values cannot be bounded
+/// before they are made, as `decode_shaped_within` does for a slice: give it shapes whose lists have elements with
+/// bytes, or a small limit.
+pub fn decode_shaped_from_reader<R: Reader, C: Config>(
+    alloc: Global,
+    shape: &Shape,
+    reader: &mut R,
+    config: C,
+) -> Result<Value, DecodeError>
+    // The fields of `IsRead` say what is taken, how each fault and each excess is reported, and what a failure leaves.
+    ensures answer { IsRead R.is_known R.remaining R.end_error
+        (IsExcused R.device (TakesMemory shape.now) (R.failures reader.old) (R.failures reader.new))
+        R.device.is_uncounted (format_of shape.now C.setting) C.bound (IsImage shape.now) result reader.old reader.new }
+    ensures count { R.failures reader.old ≤ R.failures reader.new }
+    ensures loans { R.loans reader.new ≡ R.loans reader.old }
+{
+    decode_shaped_with(alloc, shape, reader, &config)
+}
+
 /// Decodes a value of a shape with a decoder that borrows its reader and its configuration.
 fn decode_shaped_with<R: Reader, C: Config>(
     alloc: Global,
@@ -115,6 +138,9 @@ fn decode_shaped_with<R: Reader, C: Config>(
     ensures err { R.is_known reader.old → IfErr result (λ e. (charge : ℕ) × DecodeFailure R.end_error R.device
         (TakesMemory shape.now) (answer C.bound (format_of shape.now C.setting) (R.remaining reader.old) 0)
         (R.failures reader.old) (R.failures reader.new) (R.remaining reader.old) (R.remaining reader.new) charge e) }
+    ensures count { R.failures reader.old ≤ R.failures reader.new }
+    ensures is_known { R.is_known reader.old → R.is_known reader.new }
+    ensures loans { R.loans reader.new ≡ R.loans reader.old }
 {
     let mut context = ();
     let mut decoder = LentDecoder::new(alloc, reader, config, &mut context);
