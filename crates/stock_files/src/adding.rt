@@ -4,16 +4,14 @@ ghost use Rattle.framed_store.specs.Surveys.{IsSurvey};
 ghost use Rattle.framed_store.specs.Appended.{Added, Leaves};
 ghost use Rattle.framed_store.specs.declared.surveying.Survey.{Survey};
 
-use crate::limit::{LONGEST_WORD, Settings};
+use crate::article::Article;
+use crate::limit::{LONGEST_WORD, Settings, settings};
 use crate::status::{DAMAGED, FAILED};
 use bincode::Wire;
 use bincode::config::Config;
 use framed_store::appending::{AppendError, append};
 use framed_store::ending::Ending;
 use framed_store::surveying::survey_frames;
-use record_store::adding::Place;
-use record_store::article::Article;
-use record_store::stock::{print_place, settings};
 use std::alloc::{AllocError, Global};
 use std::io;
 use std::io::Write;
@@ -53,6 +51,15 @@ impl AddError {
             _ => FAILED,
         }
     }
+}
+
+/// The position of an article in a store.
+#[derive(Debug, Drop, PartialEq)]
+pub struct Place {
+    /// The number of bytes before its frame.
+    pub offset: usize,
+    /// The number of bytes of its frame.
+    pub size: usize,
 }
 
 /// The articles that were added, and what kept the others from it.
@@ -128,7 +135,8 @@ pub fn add_one<W: Write>(
 /// Prints the places of articles in a file of this name.
 pub fn print_places<W: Write>(out: &mut W, file: &str, places: &[Place]) -> io::Result<()> {
     for place in places {
-        print_place(out, file, place)?;
+        let Place { offset, size } = place;
+        writeln!(out, "{file}: {size} bytes at byte {offset}")?;
     }
     Ok(())
 }

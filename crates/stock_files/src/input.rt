@@ -1,7 +1,7 @@
 //! Articles from a text, one a line.
 
+use crate::article::Article;
 use crate::article_words::{ArticleError, article_of};
-use record_store::article::Article;
 use std::alloc::{AllocError, Global};
 use std::io;
 use std::io::Read;

@@ -1,6 +1,7 @@
 //! What the program `records` does with the files that its words name.
 
 use crate::adding::{AddError, add_all, print_places};
+use crate::article::Article;
 use crate::files::{bytes_left, cut, open_to_change, read_store, replace};
 use crate::input::read_articles;
 use crate::repairing::{is_whole_after, print_repair, survey, whole_frames};
@@ -10,7 +11,6 @@ use crate::status::{DONE, FAILED, USAGE, run_status, status_of};
 use anyhow::Result;
 use clap::Error;
 use clap::error::ErrorKind;
-use record_store::article::Article;
 use std::fmt::Display;
 use std::io;
 use std::io::{BufWriter, Write};

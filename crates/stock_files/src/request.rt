@@ -1,9 +1,9 @@
 //! The command line of the program `records`.
 
+use crate::article::Article;
 use crate::article_words::{ArticleError, article_of};
 use clap::error::ErrorKind;
 use clap::{Arg, ArgAction, ArgMatches, Command, Error};
-use record_store::article::Article;
 use std::alloc::{AllocError, Global};
 
 /// What the program is asked to do.

@@ -2,14 +2,13 @@
 ghost use Rattle.std.specs.Prelude.{◌≡◌, true, IfOk};
 ghost use Rattle.stock_files.specs.WholeStores.{IsWholeStore, AreValues};
 
-use crate::limit::{LONGEST_WORD, Settings};
+use crate::article::Article;
+use crate::limit::{LONGEST_WORD, Settings, settings};
 use bincode::Wire;
 use bincode::config::Config;
 use framed_store::ending::Ending;
 use framed_store::listing::{Listing, Record, list};
 use framed_store::records::Content;
-use record_store::article::Article;
-use record_store::stock::settings;
 use std::alloc::Global;
 use std::io::{Result, Write};
 

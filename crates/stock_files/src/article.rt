@@ -1,7 +1,4 @@
 //! An article of a stock.
-ghost use Rattle.record_store.specs.Stores.{NeverEmpty};
-
-use crate::store::Stored;
 use bincode::de::{Decode, Decoder, Sequential};
 use bincode::enc::{Encode, Encoder};
 use bincode::error::{DecodeError, EncodeError};
@@ -72,8 +69,4 @@ impl<Context: Drop> Decode<Context> for Article {
             notes,
         })
     }
-}
-
-impl Stored for Article {
-    fn tell_never_empty() {}
 }

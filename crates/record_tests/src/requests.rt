@@ -1,8 +1,8 @@
 //! What words ask for.
 
 use crate::stores::{all_true, salt, tea};
-use record_store::article::Article;
 use std::alloc::{AllocError, Global};
+use stock_files::article::Article;
 use stock_files::request::{Request, request_of};
 
 /// A line as the words of a program, its name first.

@@ -2,11 +2,10 @@
 
 use crate::stores::{FRAMED, Full, all_true, damaged, named, salt, tea};
 use framed_store::appending::AppendError;
-use record_store::adding::Place;
-use record_store::article::Article;
 use std::alloc::{AllocError, Global};
 use std::io;
-use stock_files::adding::{AddError, Addition, add_all, print_places};
+use stock_files::adding::{AddError, Addition, Place, add_all, print_places};
+use stock_files::article::Article;
 use stock_files::limit::LONGEST_WORD;
 use stock_files::status::{DAMAGED, FAILED};
 

@@ -1,11 +1,17 @@
 //! The stores of the tests, whose bytes another program made, and streams that fail.
 
-use record_store::article::Article;
 use std::alloc::{AllocError, Global};
 use std::collections::BTreeMap;
 use std::io;
 use std::io::{ErrorKind, Read, Write};
 use std::process::Abort;
+use stock_files::article::Article;
+
+/// The words of salt at 40, and of tea at 1250, of a weight of 100 and from Assam.
+pub const STOCK: [u8; 31] = [
+    4, 115, 97, 108, 116, 40, 0, 0, 3, 116, 101, 97, 251, 226, 4, 1, 100, 1, 6, 111, 114, 105, 103,
+    105, 110, 5, 65, 115, 115, 97, 109,
+];
 
 /// The frames of salt at 40, of tea at 1250, of a weight of 100 and from Assam, and of salt again.
 pub const FRAMED: [u8; 63] = [
