@@ -62,7 +62,7 @@ read_as bytes = record { ref_ptr = (0, 0); now = framed_word bytes }
 
 module _ {A : Type 0} (F : Format Meaning) (limit : Option ℕ) (decodes_to : Meaning → A → Type 0) (most : ℕ) where
   -- what is told of a frame is told of one that is there
-  record-there : (bytes : List ℕ) (size : ℕ) (content : Content A) → IsRecord F limit decodes_to most bytes size content → IsThere most bytes × (size ≡ frame_size bytes)
+  pub record-there : (bytes : List ℕ) (size : ℕ) (content : Content A) → IsRecord F limit decodes_to most bytes size content → IsThere most bytes × (size ≡ frame_size bytes)
   record-there bytes size (Value v) h = (h.0.0, h.0.1)
   record-there bytes size Damaged h = (h.0, h.1)
   record-there bytes size (Undecodable why) h = (h.0.0, h.0.1)

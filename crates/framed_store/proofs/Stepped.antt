@@ -28,13 +28,13 @@ pub none-yet : (most : ℕ) (store : List ℕ) → Counted most store 0 0 (drop 
 none-yet most store = record { fits = []; frames = refl; whole_is = refl; damaged_is = refl }
 
 -- one more frame after those that were counted
-frames-whole : (most : ℕ) (bytes : List ℕ) (fits : List Bool) (remaining : List ℕ) → FramesTo most bytes fits remaining → IsWhole most remaining (frame_size remaining) →
+pub frames-whole : (most : ℕ) (bytes : List ℕ) (fits : List Bool) (remaining : List ℕ) → FramesTo most bytes fits remaining → IsWhole most remaining (frame_size remaining) →
     FramesTo most bytes (fits ++ true ∷ []) (drop (frame_size remaining) remaining)
 frames-whole most bytes [] remaining same w = (subst (λ z. IsWhole most z (frame_size z)) same w, ap (λ z. drop (frame_size z) z) same)
 frames-whole most bytes (true ∷ fits) remaining f w = (f.0, frames-whole most (drop (frame_size bytes) bytes) fits remaining f.1 w)
 frames-whole most bytes (false ∷ fits) remaining f w = (f.0, frames-whole most (drop (frame_size bytes) bytes) fits remaining f.1 w)
 
-frames-damaged : (most : ℕ) (bytes : List ℕ) (fits : List Bool) (remaining : List ℕ) → FramesTo most bytes fits remaining → IsDamaged most remaining (frame_size remaining) →
+pub frames-damaged : (most : ℕ) (bytes : List ℕ) (fits : List Bool) (remaining : List ℕ) → FramesTo most bytes fits remaining → IsDamaged most remaining (frame_size remaining) →
     FramesTo most bytes (fits ++ false ∷ []) (drop (frame_size remaining) remaining)
 frames-damaged most bytes [] remaining same w = (subst (λ z. IsDamaged most z (frame_size z)) same w, ap (λ z. drop (frame_size z) z) same)
 frames-damaged most bytes (true ∷ fits) remaining f w = (f.0, frames-damaged most (drop (frame_size bytes) bytes) fits remaining f.1 w)
@@ -67,31 +67,39 @@ frame-within most store at size h same there =
     let left = length-drop at store in
     let all = ap length (slice-rest store at) in (omega (arith, h, same, there, left, all), omega (arith, same))
 
-pub counted-whole : (most : ℕ) (store : List ℕ) (at whole damaged size : ℕ) → IsWhole most (sliced store at) size → Counted most store whole damaged (drop at store) →
-    Counted most store (whole + 1) damaged (drop (at + size) store)
-counted-whole most store at whole damaged size w c =
-    let here = subst (λ z. IsWhole most z size) (slice-rest store at) w in
-    let there = subst (λ n. IsWhole most (drop at store) n) here.1 here in
-    let next = frames-whole most store c.fits (drop at store) c.frames there in
-    let after : drop (frame_size (drop at store)) (drop at store) ≡ drop (at + size) store = ap (λ n. drop n (drop at store)) (sym here.1) ∙ drop-drop size at store in record {
+pub counted-whole-on : (most : ℕ) (store remaining : List ℕ) (whole damaged size : ℕ) → IsWhole most remaining size → Counted most store whole damaged remaining →
+    Counted most store (whole + 1) damaged (drop size remaining)
+counted-whole-on most store remaining whole damaged size w c =
+    let there = subst (λ n. IsWhole most remaining n) w.1 w in
+    let next = frames-whole most store c.fits remaining c.frames there in record {
       fits = c.fits ++ true ∷ [];
-      frames = subst (FramesTo most store (c.fits ++ true ∷ [])) after next;
+      frames = subst (λ n. FramesTo most store (c.fits ++ true ∷ []) (drop n remaining)) (sym w.1) next;
       whole_is = ap (λ n. n + 1) c.whole_is ∙ sym (fitting-more c.fits);
       damaged_is = c.damaged_is ∙ sym (unfit-same c.fits);
     }
 
-pub counted-damaged : (most : ℕ) (store : List ℕ) (at whole damaged size : ℕ) → IsDamaged most (sliced store at) size → Counted most store whole damaged (drop at store) →
-    Counted most store whole (damaged + 1) (drop (at + size) store)
-counted-damaged most store at whole damaged size w c =
-    let here = subst (λ z. IsDamaged most z size) (slice-rest store at) w in
-    let there = subst (λ n. IsDamaged most (drop at store) n) here.1 here in
-    let next = frames-damaged most store c.fits (drop at store) c.frames there in
-    let after : drop (frame_size (drop at store)) (drop at store) ≡ drop (at + size) store = ap (λ n. drop n (drop at store)) (sym here.1) ∙ drop-drop size at store in record {
+pub counted-damaged-on : (most : ℕ) (store remaining : List ℕ) (whole damaged size : ℕ) → IsDamaged most remaining size → Counted most store whole damaged remaining →
+    Counted most store whole (damaged + 1) (drop size remaining)
+counted-damaged-on most store remaining whole damaged size w c =
+    let there = subst (λ n. IsDamaged most remaining n) w.1 w in
+    let next = frames-damaged most store c.fits remaining c.frames there in record {
       fits = c.fits ++ false ∷ [];
-      frames = subst (FramesTo most store (c.fits ++ false ∷ [])) after next;
+      frames = subst (λ n. FramesTo most store (c.fits ++ false ∷ []) (drop n remaining)) (sym w.1) next;
       whole_is = c.whole_is ∙ sym (fitting-same c.fits);
       damaged_is = ap (λ n. n + 1) c.damaged_is ∙ sym (unfit-more c.fits);
     }
+
+pub counted-whole : (most : ℕ) (store : List ℕ) (at whole damaged size : ℕ) → IsWhole most (sliced store at) size → Counted most store whole damaged (drop at store) →
+    Counted most store (whole + 1) damaged (drop (at + size) store)
+counted-whole most store at whole damaged size w c =
+    subst (Counted most store (whole + 1) damaged) (drop-drop size at store)
+        (counted-whole-on most store (drop at store) whole damaged size (subst (λ z. IsWhole most z size) (slice-rest store at) w) c)
+
+pub counted-damaged : (most : ℕ) (store : List ℕ) (at whole damaged size : ℕ) → IsDamaged most (sliced store at) size → Counted most store whole damaged (drop at store) →
+    Counted most store whole (damaged + 1) (drop (at + size) store)
+counted-damaged most store at whole damaged size w c =
+    subst (Counted most store whole (damaged + 1)) (drop-drop size at store)
+        (counted-damaged-on most store (drop at store) whole damaged size (subst (λ z. IsDamaged most z size) (slice-rest store at) w) c)
 
 -- what was counted up to an offset is the survey of a store that ends there
 pub surveyed : (most : ℕ) (store : List ℕ) (at whole damaged : ℕ) (ending : Ending) → at ≤ length store → Counted most store whole damaged (drop at store) → EndsAt most at (drop at store) ending →

@@ -1,7 +1,10 @@
 pub mod Appended
 pub mod DamageLaws
+pub mod Kept
 pub mod PieceLaws
 pub mod Pieces
+pub mod Searches
 pub mod Steps
+pub mod Streams
 pub mod Surveys
 pub mod Told

@@ -1,6 +1,7 @@
 -- The frames of a store, by whether their checks fit.
 use Rattle.std.specs.Prelude.{◌≡◌, ◌+◌, ℕ, List, [], ◌∷◌, length, take, drop, Bool, true, false}
 use Rattle.frames.specs.Frames.{named_length}
+use Rattle.framed_store.specs.declared.ending.Ending.{Ending}
 use Rattle.framed_store.specs.declared.ending.Ending.TheVariants as endings
 use Rattle.framed_store.specs.declared.surveying.Survey.{Survey}
 use Rattle.framed_store.specs.Steps.{IsWhole, IsDamaged, EndsAt}
@@ -39,3 +40,11 @@ pub record IsSurvey (most : ℕ) (store : List ℕ) (survey : Survey) : Type 0 w
 -- cut to the end of its last frame, the store has the same frames, and is whole
 abbrev pub CutsWhole : ℕ → List ℕ → Survey → Type 0
 CutsWhole most store survey = IsSurvey most (take survey.length store) (record survey { ending = endings.Whole })
+
+-- its frames, whatever their checks, have n bytes up to where it ends
+pub record StepsOver (most : ℕ) (store : List ℕ) (n : ℕ) (ending : Ending) : Type 0 where
+  pub fits : List Bool
+  pub remaining : List ℕ
+  pub frames : FramesTo most store fits remaining
+  pub up_to : length store ≡ n + length remaining
+  pub ends : EndsAt most n remaining ending

@@ -6,4 +6,7 @@ pub mod appending;
 pub mod ending;
 pub mod listing;
 pub mod records;
+pub mod repairing;
+pub mod searching;
+pub mod streams;
 pub mod surveying;
