@@ -1,9 +1,10 @@
 mod Appends
+mod Copied
 pub mod Fronts
 mod Keeping
 pub mod Listings
 mod Refused
-mod Searched
 pub mod Stepped
+mod Strode
 pub mod Taken
 mod TakenRecords

@@ -93,13 +93,13 @@ pub counted-whole : (most : ℕ) (store : List ℕ) (at whole damaged size : ℕ
     Counted most store (whole + 1) damaged (drop (at + size) store)
 counted-whole most store at whole damaged size w c =
     subst (Counted most store (whole + 1) damaged) (drop-drop size at store)
-        (counted-whole-on most store (drop at store) whole damaged size (subst (λ z. IsWhole most z size) (slice-rest store at) w) c)
+    (counted-whole-on most store (drop at store) whole damaged size (subst (λ z. IsWhole most z size) (slice-rest store at) w) c)
 
 pub counted-damaged : (most : ℕ) (store : List ℕ) (at whole damaged size : ℕ) → IsDamaged most (sliced store at) size → Counted most store whole damaged (drop at store) →
     Counted most store whole (damaged + 1) (drop (at + size) store)
 counted-damaged most store at whole damaged size w c =
     subst (Counted most store whole (damaged + 1)) (drop-drop size at store)
-        (counted-damaged-on most store (drop at store) whole damaged size (subst (λ z. IsDamaged most z size) (slice-rest store at) w) c)
+    (counted-damaged-on most store (drop at store) whole damaged size (subst (λ z. IsDamaged most z size) (slice-rest store at) w) c)
 
 -- what was counted up to an offset is the survey of a store that ends there
 pub surveyed : (most : ℕ) (store : List ℕ) (at whole damaged : ℕ) (ending : Ending) → at ≤ length store → Counted most store whole damaged (drop at store) → EndsAt most at (drop at store) ending →

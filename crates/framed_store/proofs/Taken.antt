@@ -33,12 +33,12 @@ kept-on (Some xs) None h tells = absurd h
 kept-on (Some xs) (Some ys) h tells = tt
 
 -- they are what was taken, and what is left
-given : (a b : Option (List ℕ)) (bs : List ℕ) → Consumes a b bs → TellsBytes a → known_bytes a ≡ bs ++ known_bytes b
+pub given : (a b : Option (List ℕ)) (bs : List ℕ) → Consumes a b bs → TellsBytes a → known_bytes a ≡ bs ++ known_bytes b
 given None b bs h tells = absurd tells
 given (Some xs) None bs h tells = absurd h
 given (Some xs) (Some ys) bs h tells = h
 
-none-left : (a : Option (List ℕ)) → IsAtEnd a → known_bytes a ≡ []
+pub none-left : (a : Option (List ℕ)) → IsAtEnd a → known_bytes a ≡ []
 none-left None h = refl
 none-left (Some xs) h = h
 

@@ -6,5 +6,6 @@ pub mod Pieces
 pub mod Searches
 pub mod Steps
 pub mod Streams
+pub mod Strides
 pub mod Surveys
 pub mod Told

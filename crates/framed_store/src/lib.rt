@@ -8,5 +8,6 @@ pub mod listing;
 pub mod records;
 pub mod repairing;
 pub mod searching;
+pub mod stepping;
 pub mod streams;
 pub mod surveying;

@@ -1,5 +1,6 @@
 //! Copying the whole frames of a store, without those that were damaged.
 ghost use Rattle.std.specs.Prelude.{OnOk};
+ghost use Rattle.std.specs.Io.KnownBytes.{Appends};
 ghost use Rattle.bincode_io.specs.Stream.{TellsBytes, known_bytes};
 ghost use Rattle.framed_store.specs.Kept.{CopiesFitting};
 
@@ -53,12 +54,18 @@ pub fn copy_whole_frames<R: Read, W: Write>(
             Frame::Torn => return Ok(()),
             Frame::TooLong(_) => return Ok(()),
             Frame::Damaged(_) => {}
-            Frame::Whole(_, _) => {
-                if let Err(e) = out.write_all(buffer) {
-                    return Err(CopyError::Write(e));
-                }
-            }
+            Frame::Whole(_, _) => write_frame(out, buffer)?,
         }
     }
     Err(CopyError::Read(io::Error::from(ErrorKind::FileTooLarge)))
+}
+
+/// Writes the bytes of a frame.
+fn write_frame<W: Write>(out: &mut W, frame: &[u8]) -> Result<(), CopyError>
+    ensures { OnOk result (Appends (W.contents out.old) (W.contents out.new) frame.now) }
+{
+    match out.write_all(frame) {
+        Ok(()) => Ok(()),
+        Err(e) => Err(CopyError::Write(e)),
+    }
 }

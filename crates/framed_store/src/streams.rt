@@ -20,7 +20,7 @@ use std::io::{ErrorKind, Read};
 use thiserror::Error;
 
 /// The number of bytes of a length.
-const FIELD: usize = 4;
+pub(crate) const FIELD: usize = 4;
 
 /// The number of bytes that a buffer is made long enough for before the first of them are read.
 const FIRST_ROOM: usize = 8 * 1024;
@@ -37,8 +37,8 @@ pub enum ReadError {
 }
 
 /// Counts the frames of a store that takes encodings of at most `most` bytes, as `survey_frames` does, and holds one
-/// frame at a time in `buffer`. A length above `most` is the last that is read. Fails with `Read` if the stream fails
-/// or has 2^64 bytes, or with `Memory`.
+/// frame at a time in `buffer`. Reads nothing after a length above `most`. Fails with `Read` if the stream fails or
+/// has 2^64 bytes, or with `Memory`.
 pub fn survey_stream<R: Read>(
     stream: &mut R,
     buffer: &mut Vec<u8>,
@@ -144,11 +144,7 @@ fn size_of_frame(front: &[u8], most: u32) -> Option<usize>
 }
 
 /// Reads until a buffer has `count` bytes or the stream ends. The buffer grows with what comes.
-fn fill<R: Read>(
-    stream: &mut R,
-    buffer: &mut Vec<u8>,
-    count: usize,
-) -> Result<(), ReadError>
+fn fill<R: Read>(stream: &mut R, buffer: &mut Vec<u8>, count: usize) -> Result<(), ReadError>
     requires { vec_len buffer.old ≤ count }
     ensures front { OnOk result (StartsWith buffer.new.items buffer.old.items) }
     ensures bytes { OnOk result (Consumes (R.remaining stream.old) (R.remaining stream.new)
@@ -190,7 +186,10 @@ fn read_piece<R: Read>(
     ensures end { IfOk result (λ n. n ≡ 0 → IsAtEnd (R.remaining stream.new)) }
 {
     make_room(buffer, filled, count)?;
-    read_at(stream, buffer.as_mut_slice(), filled)
+    match read_at(stream, buffer.as_mut_slice(), filled) {
+        Ok(n) => Ok(n),
+        Err(e) => Err(ReadError::Read(e)),
+    }
 }
 
 /// Makes a buffer longer, by zeros, if all of it is filled: at most twice as long, or `FIRST_ROOM`.
@@ -214,7 +213,7 @@ fn make_room(buffer: &mut Vec<u8>, filled: usize, count: usize) -> Result<(), Re
 }
 
 /// One read into bytes from an offset on, retried while a signal interrupts it.
-fn read_at<R: Read>(stream: &mut R, bytes: &mut [u8], at: usize) -> Result<usize, ReadError>
+pub(crate) fn read_at<R: Read>(stream: &mut R, bytes: &mut [u8], at: usize) -> io::Result<usize>
     requires { at < length bytes.old }
     ensures front { take at bytes.new ≡ take at bytes.old }
     ensures fits { IfOk result (λ n. at + n ≤ length bytes.new) }
@@ -223,14 +222,11 @@ fn read_at<R: Read>(stream: &mut R, bytes: &mut [u8], at: usize) -> Result<usize
     ensures err { OnErr result (Keeps (R.remaining stream.old) (R.remaining stream.new)) }
     ensures end { IfOk result (λ n. n ≡ 0 → IsAtEnd (R.remaining stream.new)) }
 {
-    match read_some(stream, &mut bytes[at..]) {
-        Ok(n) => Ok(n),
-        Err(e) => Err(ReadError::Read(e)),
-    }
+    read_some(stream, &mut bytes[at..])
 }
 
 /// One read, retried while a signal interrupts it.
-fn read_some<R: Read>(stream: &mut R, bytes: &mut [u8]) -> io::Result<usize>
+pub(crate) fn read_some<R: Read>(stream: &mut R, bytes: &mut [u8]) -> io::Result<usize>
     ensures bound { ReadsAtMost result bytes.new }
     ensures ok { IfOk result (λ n. Consumes (R.remaining stream.old) (R.remaining stream.new) (take n bytes.new)) }
     ensures end { IfOk result (λ n. n ≡ 0 → 0 < length bytes.old → IsAtEnd (R.remaining stream.new)) }

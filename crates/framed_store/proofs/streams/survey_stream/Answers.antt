@@ -9,7 +9,7 @@ pub returns-in-End-clause-counts : goal.returns-in-End-clause-counts
 returns-in-End-clause-counts g c = λ tells.
     let taken = c.in_ok-take_front.ensures.front (c.frames.invariant.is_known tells) in
     survey-ends c.args.most (known_bytes (g.R.Read.remaining c.args.stream.now)) c.frames.offset c.frames.whole c.frames.damaged (known_bytes (g.R.Read.remaining c.frames.stream)) endings.Whole
-        (c.frames.invariant.so_far tells) (ends-on c.args.most c.take_front.new.buffer.items (known_bytes (g.R.Read.remaining c.frames.stream)) (known_bytes (g.R.Read.remaining c.take_front.new.stream)) taken frames.End (rw c.deref.ensures.value at c.in-End.ensures))
+    (c.frames.invariant.so_far tells) (ends-on c.args.most c.take_front.new.buffer.items (known_bytes (g.R.Read.remaining c.frames.stream)) (known_bytes (g.R.Read.remaining c.take_front.new.stream)) taken frames.End (rw c.deref.ensures.value at c.in-End.ensures))
 
 pub returns-in-End-clause-cut : goal.returns-in-End-clause-cut
 returns-in-End-clause-cut g c = λ tells. survey-cut c.args.most (known_bytes (g.R.Read.remaining c.args.stream.now)) c.frames.offset c.frames.whole c.frames.damaged (known_bytes (g.R.Read.remaining c.frames.stream)) (c.frames.invariant.so_far tells)
@@ -18,7 +18,7 @@ pub returns-in-Torn-clause-counts : goal.returns-in-Torn-clause-counts
 returns-in-Torn-clause-counts g c = λ tells.
     let taken = c.in_ok-take_front.ensures.front (c.frames.invariant.is_known tells) in
     survey-ends c.args.most (known_bytes (g.R.Read.remaining c.args.stream.now)) c.frames.offset c.frames.whole c.frames.damaged (known_bytes (g.R.Read.remaining c.frames.stream)) (endings.Torn c.frames.offset)
-        (c.frames.invariant.so_far tells) (refl, ends-on c.args.most c.take_front.new.buffer.items (known_bytes (g.R.Read.remaining c.frames.stream)) (known_bytes (g.R.Read.remaining c.take_front.new.stream)) taken frames.Torn (rw c.deref.ensures.value at c.in-Torn.ensures))
+    (c.frames.invariant.so_far tells) (refl, ends-on c.args.most c.take_front.new.buffer.items (known_bytes (g.R.Read.remaining c.frames.stream)) (known_bytes (g.R.Read.remaining c.take_front.new.stream)) taken frames.Torn (rw c.deref.ensures.value at c.in-Torn.ensures))
 
 pub returns-in-Torn-clause-cut : goal.returns-in-Torn-clause-cut
 returns-in-Torn-clause-cut g c = λ tells. survey-cut c.args.most (known_bytes (g.R.Read.remaining c.args.stream.now)) c.frames.offset c.frames.whole c.frames.damaged (known_bytes (g.R.Read.remaining c.frames.stream)) (c.frames.invariant.so_far tells)
@@ -27,7 +27,7 @@ pub returns-in-TooLong-clause-counts : goal.returns-in-TooLong-clause-counts
 returns-in-TooLong-clause-counts g c = λ tells.
     let taken = c.in_ok-take_front.ensures.front (c.frames.invariant.is_known tells) in
     survey-ends c.args.most (known_bytes (g.R.Read.remaining c.args.stream.now)) c.frames.offset c.frames.whole c.frames.damaged (known_bytes (g.R.Read.remaining c.frames.stream)) (endings.TooLong c.frames.offset c.in-TooLong.length)
-        (c.frames.invariant.so_far tells) (refl, ends-on c.args.most c.take_front.new.buffer.items (known_bytes (g.R.Read.remaining c.frames.stream)) (known_bytes (g.R.Read.remaining c.take_front.new.stream)) taken (frames.TooLong c.in-TooLong.length) (rw c.deref.ensures.value at c.in-TooLong.ensures))
+    (c.frames.invariant.so_far tells) (refl, ends-on c.args.most c.take_front.new.buffer.items (known_bytes (g.R.Read.remaining c.frames.stream)) (known_bytes (g.R.Read.remaining c.take_front.new.stream)) taken (frames.TooLong c.in-TooLong.length) (rw c.deref.ensures.value at c.in-TooLong.ensures))
 
 pub returns-in-TooLong-clause-cut : goal.returns-in-TooLong-clause-cut
 returns-in-TooLong-clause-cut g c = λ tells. survey-cut c.args.most (known_bytes (g.R.Read.remaining c.args.stream.now)) c.frames.offset c.frames.whole c.frames.damaged (known_bytes (g.R.Read.remaining c.frames.stream)) (c.frames.invariant.so_far tells)
@@ -41,8 +41,8 @@ frames-preserved-in-Damaged g c =
       so_far = λ tells.
           let taken = c.in_ok-take_front.ensures.front (c.frames.invariant.is_known tells) in
           subst (λ n. Surveyed c.args.most (known_bytes (g.R.Read.remaining c.args.stream.now)) n c.frames.whole (c.frames.damaged + 1) (known_bytes (g.R.Read.remaining c.take_front.new.stream))) (sym next)
-              (surveyed-damaged c.args.most (known_bytes (g.R.Read.remaining c.args.stream.now)) c.frames.offset c.frames.whole c.frames.damaged c.in-Damaged.size c.take_front.new.buffer.items
-              (known_bytes (g.R.Read.remaining c.frames.stream)) (known_bytes (g.R.Read.remaining c.take_front.new.stream)) (c.frames.invariant.so_far tells) taken read);
+          (surveyed-damaged c.args.most (known_bytes (g.R.Read.remaining c.args.stream.now)) c.frames.offset c.frames.whole c.frames.damaged c.in-Damaged.size c.take_front.new.buffer.items
+          (known_bytes (g.R.Read.remaining c.frames.stream)) (known_bytes (g.R.Read.remaining c.take_front.new.stream)) (c.frames.invariant.so_far tells) taken read);
     }
 
 pub frames-preserved : goal.frames-preserved
@@ -54,6 +54,6 @@ frames-preserved g c =
       so_far = λ tells.
           let taken = c.in_ok-take_front.ensures.front (c.frames.invariant.is_known tells) in
           subst (λ n. Surveyed c.args.most (known_bytes (g.R.Read.remaining c.args.stream.now)) n (c.frames.whole + 1) c.frames.damaged (known_bytes (g.R.Read.remaining c.take_front.new.stream))) (sym next)
-              (surveyed-whole c.args.most (known_bytes (g.R.Read.remaining c.args.stream.now)) c.frames.offset c.frames.whole c.frames.damaged c.in-Whole.size c.take_front.new.buffer.items
-              (known_bytes (g.R.Read.remaining c.frames.stream)) (known_bytes (g.R.Read.remaining c.take_front.new.stream)) (c.frames.invariant.so_far tells) taken (read.0, read.1, read.2));
+          (surveyed-whole c.args.most (known_bytes (g.R.Read.remaining c.args.stream.now)) c.frames.offset c.frames.whole c.frames.damaged c.in-Whole.size c.take_front.new.buffer.items
+          (known_bytes (g.R.Read.remaining c.frames.stream)) (known_bytes (g.R.Read.remaining c.take_front.new.stream)) (c.frames.invariant.so_far tells) taken (read.0, read.1, read.2));
     }
