@@ -34,9 +34,9 @@ impl From<ReadError> for CopyError {
     }
 }
 
-/// Writes the frames of a store whose checks fit, in order, up to the end of the store, a frame that is cut, or a length
-/// above `most` bytes, and holds one frame at a time in `buffer`. Does not flush. Fails with `Read` or `Write` if a
-/// stream fails, or with `Memory`.
+/// Writes the frames of a store whose checks fit, in order, and holds one frame at a time in `buffer`. Stops at the end
+/// of the store, at a frame that is cut, or at a length above `most` bytes. Does not flush. Fails with `Read` or `Write`
+/// if a stream fails, or with `Memory`.
 pub fn copy_whole_frames<R: Read, W: Write>(
     stream: &mut R,
     out: &mut W,
@@ -44,8 +44,8 @@ pub fn copy_whole_frames<R: Read, W: Write>(
     most: u32,
 ) -> Result<(), CopyError>
     // Where the bytes of both are known, the frames that fit follow what was written before.
-    ensures { TellsBytes (R.remaining stream.old) → OnOk result (CopiesFitting most (known_bytes (R.remaining stream.old))
-        (W.contents out.old) (W.contents out.new)) }
+    ensures { TellsBytes (R.remaining stream.old) → OnOk result (CopiesFitting most
+        (known_bytes (R.remaining stream.old)) (W.contents out.old) (W.contents out.new)) }
 {
     'frames: for _ in 0..u64::MAX {
         take_front(stream, buffer, most)?;

@@ -1,5 +1,6 @@
 //! Reading a store of frames from a stream, with one frame in memory at a time.
-ghost use Rattle.std.specs.Prelude.{◌≡◌, ◌+◌, ◌<◌, ◌≤◌, length, take, drop, vec_len, IfOk, OnOk, OnErr, IfSome, IfNone};
+ghost use Rattle.std.specs.Prelude.{◌≡◌, ◌+◌, ◌<◌, ◌≤◌, length, take, drop, vec_len};
+ghost use Rattle.std.specs.Prelude.{IfOk, OnOk, OnErr, IfSome, IfNone};
 ghost use Rattle.std.specs.Io.{ReadsAtMost, StartsWith, appended_bytes};
 ghost use Rattle.std.specs.Io.KnownBytes.{Consumes, IsAtEnd, Keeps};
 ghost use Rattle.bincode_io.specs.Stream.{TellsBytes, known_bytes};
@@ -22,7 +23,7 @@ use thiserror::Error;
 /// The number of bytes of a length.
 pub(crate) const FIELD: usize = 4;
 
-/// The number of bytes that a buffer is made long enough for before the first of them are read.
+/// The room that a buffer is given before the first bytes of a longer frame are read, in bytes.
 const FIRST_ROOM: usize = 8 * 1024;
 
 /// Why a frame was not read.
