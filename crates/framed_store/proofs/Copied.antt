@@ -1,9 +1,9 @@
 -- Frames that were copied from a stream, one by one.
-use Rattle.std.specs.Prelude.{◌≡◌, ◌++◌, ℕ, List, [], length, take, drop, Option, refl}
+use Rattle.std.specs.Prelude.{◌≡◌, ◌++◌, ℕ, List, [], take, drop, Option}
 use Rattle.std.specs.Io.KnownBytes.{Appends}
 use Rattle.std.proofs.Common.{◌∙◌, ap, sym, subst, take_at}
 use Rattle.std.proofs.KnownBytes.{Appends-nil, Appends-trans}
-use Rattle.framed_store.specs.Kept.{KeptTo, BeginsWithNone, KeepsFitting, CopiesFitting}
+use Rattle.framed_store.specs.Kept.{KeptTo, BeginsWithNone, CopiesFitting}
 use Rattle.framed_store.specs.Steps.{IsWhole, IsDamaged}
 use Rattle.framed_store.specs.Streams.{TakesFront}
 use Rattle.framed_store.proofs.Fronts.{damaged-on}

@@ -1,5 +1,5 @@
 -- What was taken from a stream for a frame.
-use Rattle.std.specs.Prelude.{◌≡◌, ◌+◌, ◌-◌, ◌<◌, ◌≤◌, ◌++◌, ℕ, List, [], length, take, drop, Option, Some, None, refl}
+use Rattle.std.specs.Prelude.{◌≡◌, ◌+◌, ◌<◌, ◌≤◌, ◌++◌, ℕ, List, [], length, take, drop, Option, Some, None, refl}
 use Rattle.std.specs.Io.{StartsWith}
 use Rattle.std.specs.Io.KnownBytes.{Consumes, IsAtEnd, Keeps}
 use Rattle.std.specs.Int.{w32, from_le_bytes}
@@ -10,14 +10,14 @@ use Rattle.std.proofs.lemmas.List.{drop-take, take-take, drop-drop, length-drop}
 use mathlib.Core.Logic.{dite}
 use native.Mathlib.Decide.{dec_le}
 use Rattle.bincode_io.specs.Stream.{TellsBytes, known_bytes}
-use Rattle.frames.specs.Frames.{Reads, IsThere, named_length, framed_word}
+use Rattle.frames.specs.Frames.{Reads, IsThere, named_length}
 use Rattle.frames.specs.declared.Frame.{Frame}
 use Rattle.frames.specs.declared.Frame.TheVariants as frames
 use Rattle.framed_store.specs.declared.ending.Ending.{Ending}
 use Rattle.framed_store.specs.declared.ending.Ending.TheVariants as endings
 use Rattle.framed_store.specs.Steps.{IsWhole, IsDamaged, EndsAt}
 use Rattle.framed_store.specs.Streams.{IsFront, TakesFront}
-use Rattle.framed_store.specs.Surveys.{IsSurvey, CutsWhole}
+use Rattle.framed_store.specs.Surveys.{IsSurvey}
 use Rattle.framed_store.proofs.Fronts.{same-length, same-word, same-check, same-framed, damaged-on}
 use Rattle.framed_store.proofs.Stepped.{Counted, counted-whole-on, counted-damaged-on, surveyed, cut-whole}
 

@@ -1,9 +1,9 @@
 -- What a frame holds that was taken from a stream.
-use Rattle.std.specs.Prelude.{◌≡◌, ◌≤◌, ◌++◌, ℕ, List, length, drop, Option}
+use Rattle.std.specs.Prelude.{◌≡◌, ◌≤◌, ◌++◌, ℕ, List, length, Option}
 use Rattle.std.proofs.Common.{ap, sym, subst, arith, drop_at}
 use Rattle.bincode_spec.specs.Format.{Format}
 use Rattle.bincode_spec.specs.Meaning.{Meaning}
-use Rattle.frames.specs.Frames.{IsThere, named_length, framed_word}
+use Rattle.frames.specs.Frames.{framed_word}
 use Rattle.frames.specs.declared.Frame.TheVariants as frames
 use Rattle.framed_store.specs.declared.records.Content.{Content}
 use Rattle.framed_store.specs.declared.records.Content.TheVariants.{Value, Damaged, Undecodable, Longer}

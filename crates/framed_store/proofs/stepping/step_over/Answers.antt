@@ -1,4 +1,4 @@
-use Rattle.std.proofs.Common.{◌≡◌, ◌+◌, arith, rules, subst, sym}
+use Rattle.std.proofs.Common.{◌≡◌, ◌+◌, rules, subst, sym}
 use Rattle.bincode_io.specs.Stream.{known_bytes}
 use Rattle.framed_store.proofs.Strode.{Strode, one-more}
 use Rattle.framed_store.proofs.stepping.step_over.Goals as goal
