@@ -5,8 +5,8 @@ ghost use Rattle.framed_store.specs.Searches.{BeginsWithWhole, StandsAt};
 use frames::{Frame, read_frame};
 
 /// The first offset at which a whole frame stands, of a word of at most `most` bytes: one whose check fits. For what
-/// follows a length that was damaged. At most offsets a look at four bytes tells that no frame stands there; where they
-/// name a length that is allowed, and as many bytes are there, the check of these is computed.
+/// follows a length that was damaged. Where four bytes name no length that is allowed, or fewer bytes follow them, that
+/// is all that is read of an offset; elsewhere the check of as many bytes is computed.
 pub fn find_frame(bytes: &[u8], most: u32) -> Option<usize>
     // On `Some(n)` a whole frame stands at `n`,
     ensures found { IfSome result (StandsAt most bytes.now) }
