@@ -1,5 +1,5 @@
 -- What is said of stores, and what is added to them.
-use Rattle.std.specs.Prelude.{◌≡◌, ◌↔◌, ◌++◌, ℕ, List, [], ◌∷◌, length, Option, Bool, IsTrue, All}
+use Rattle.std.specs.Prelude.{◌≡◌, ◌↔◌, ◌++◌, ℕ, List, [], ◌∷◌, length, Option, Bool, IsTrue}
 use Rattle.std.specs.Io.KnownBytes.{Appends}
 use Rattle.bincode_base.specs.Setting.{Setting}
 use Rattle.bincode_spec.specs.Format.{Format}
@@ -12,7 +12,6 @@ use Rattle.framed_store.specs.declared.listing.Record.{Record}
 use Rattle.framed_store.specs.declared.records.Content.{Content}
 use Rattle.framed_store.specs.declared.records.Content.TheVariants.{Value, Damaged, Undecodable, Longer}
 use Rattle.framed_store.specs.Appended.{IsFitting}
-use Rattle.framed_store.specs.Surveys.{FramesTo}
 use Rattle.framed_store.specs.Told.{Lists}
 
 -- a frame holds a value
@@ -23,7 +22,8 @@ IsValue (Undecodable _) = ⊥
 IsValue (Longer _) = ⊥
 
 abbrev pub AreValues : {A : Type 0} → List (Record A) → Type 0
-AreValues records = All (λ r. IsValue r.content) records
+AreValues [] = Unit {0}
+AreValues (r ∷ records) = IsValue r.content × AreValues records
 
 -- a store is called whole exactly if its frames hold a value each and end with its last byte
 pub record IsJudged {A : Type 0} (F : Format Meaning) (limit : Option ℕ) (decodes_to : Meaning → A → Type 0) (most : ℕ) (store : List ℕ) (whole : Bool) : Type 0 where
@@ -31,12 +31,6 @@ pub record IsJudged {A : Type 0} (F : Format Meaning) (limit : Option ℕ) (deco
   pub ending : Ending
   pub lists : Lists F limit decodes_to most store records ending
   pub is_whole : IsTrue whole ↔ (AreValues records × (ending ≡ endings.Whole))
-
--- the store is frames up to this length, and nothing else
-pub record EndsWhole (most : ℕ) (store : List ℕ) (size : ℕ) : Type 0 where
-  pub fits : List Bool
-  pub frames : FramesTo most store fits []
-  pub is_length : size ≡ length store
 
 -- the frames of values, one after another, that a store takes
 abbrev pub AreFrames : {A : Type 0} → Words A → Setting → Option ℕ → ℕ → List A → List ℕ → Type 0

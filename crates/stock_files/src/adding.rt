@@ -1,8 +1,9 @@
 //! Appending articles to a store of frames.
-ghost use Rattle.std.specs.Prelude.{◌≡◌, ◌×◌, IfOk, IfErr};
+ghost use Rattle.std.specs.Prelude.{IfOk, IfErr};
 ghost use Rattle.bincode_io.specs.Stream.{TellsBytes, known_bytes};
 ghost use Rattle.framed_store.specs.Appended.{Added, Leaves};
-ghost use Rattle.stock_files.specs.Stores.{AddsAll, AddsFront, EndsWhole};
+ghost use Rattle.framed_store.specs.Surveys.{StepsOver};
+ghost use Rattle.stock_files.specs.Stores.{AddsAll, AddsFront};
 
 use crate::article::Article;
 use crate::input::{LineError, next_article};
@@ -12,7 +13,7 @@ use bincode::Wire;
 use bincode::config::Config;
 use framed_store::appending::{AppendError, append};
 use framed_store::ending::Ending;
-use framed_store::streams::step_over;
+use framed_store::stepping::step_over;
 use std::alloc::{AllocError, Global};
 use std::io;
 use std::io::{BufRead, Read, Write};
@@ -64,7 +65,7 @@ impl AddError {
 pub fn next_offset<R: Read>(store: &mut R) -> Result<usize, AddError>
     // A store that takes one more ends after a frame.
     ensures { TellsBytes (R.remaining store.old) → IfOk result (λ offset.
-        EndsWhole LONGEST_WORD (known_bytes (R.remaining store.old)) offset) }
+        StepsOver LONGEST_WORD (known_bytes (R.remaining store.old)) offset Ending.Whole) }
 {
     match step_over(store, LONGEST_WORD) {
         Ok((offset, Ending::Whole)) => Ok(offset),

@@ -4,7 +4,7 @@ use crate::adding::{AddError, add_lines, add_one, next_offset};
 use crate::article::Article;
 use crate::files::{Replacement, bytes_from, cut, open_to_change, open_to_read};
 use crate::limit::LONGEST_WORD;
-use crate::repairing::{Plan, Repair, is_whole_after, plan, print_kept, print_plan, salvage};
+use crate::repairing::{Plan, Repair, is_whole_after, plan_for, print_kept, print_plan, salvage};
 use crate::request::{Request, request_of};
 use crate::showing::{Sheet, ShowError, print_store};
 use crate::status::{DONE, FAILED, USAGE, run_status, status_of};
@@ -26,6 +26,7 @@ use std::io::{BufReader, BufWriter, Seek, SeekFrom, Write};
 const BLOCK: usize = 1 << 16;
 
 /// What is added to a file.
+#[derive(Drop)]
 enum Source {
     /// This article.
     One(Article),
@@ -65,8 +66,7 @@ fn run_request(rt: &HostRuntime, request: Request) -> u8 {
     }
 }
 
-/// The status of what was done with a file of this name. An error is printed with the name, unless nobody reads the
-/// output any more.
+/// The status of what was done with a file of this name. An error is printed with the name.
 fn told(rt: &HostRuntime, file: &str, outcome: Result<u8>) -> u8 {
     match outcome {
         Ok(status) => status,
@@ -141,8 +141,12 @@ fn show_each(rt: &HostRuntime, files: &[String], lists: bool) -> u8 {
     let mut statuses = Vec::new(rt.alloc());
     for file in files {
         let status = match show(rt, file, lists) {
-            Err(error) if is_closed_output(&error) => return FAILED,
-            outcome => told(rt, file, outcome),
+            Ok(status) => status,
+            Err(error) if error.is_closed_output() => return FAILED,
+            Err(error) => {
+                complain(rt, file, &error);
+                FAILED
+            }
         };
         if statuses.push(status).is_err() {
             return FAILED;
@@ -151,16 +155,8 @@ fn show_each(rt: &HostRuntime, files: &[String], lists: bool) -> u8 {
     run_status(&statuses)
 }
 
-/// Whether nobody reads the output any more.
-fn is_closed_output(error: &anyhow::Error) -> bool {
-    match error.downcast_ref::<ShowError>() {
-        Some(error) => error.is_closed_output(),
-        None => false,
-    }
-}
-
 /// Prints what is asked for of a file.
-fn show(rt: &HostRuntime, path: &str, lists: bool) -> Result<u8> {
+fn show(rt: &HostRuntime, path: &str, lists: bool) -> Result<u8, ShowError> {
     let file = open_to_read(rt, path)?;
     let mut store = BufReader::with_capacity(rt.alloc(), BLOCK, file)?;
     let mut out = BufWriter::with_capacity(rt.alloc(), BLOCK, io::writer(rt))?;
@@ -170,7 +166,7 @@ fn show(rt: &HostRuntime, path: &str, lists: bool) -> Result<u8> {
         Sheet { file: path, lists },
         &mut store,
     )?;
-    out.flush().map_err(ShowError::Output)?;
+    out.flush()?;
     Ok(status_of(is_whole))
 }
 
@@ -180,7 +176,7 @@ fn repair_file(rt: &HostRuntime, path: &str, repair: Repair) -> Result<u8> {
     let found = survey_file(rt.alloc(), &file)?;
     let tail = bytes_from(rt.alloc(), &mut file, found.length)?;
     let bytes = found.length.saturating_add(tail.len());
-    let plan = plan(&found, &tail, repair);
+    let plan = plan_for(&found, &tail, repair);
     match plan {
         Plan::Leave | Plan::Refuse { .. } => (),
         Plan::Cut => cut(&file, found.length)?,
@@ -219,14 +215,19 @@ fn rewrite(rt: &HostRuntime, path: &str, file: &mut File, tail: &[u8]) -> Result
 /// Writes the whole frames of a file and of its tail to a new one, and returns its frames.
 fn fill(alloc: Global, file: &mut File, tail: &[u8], new: &mut File) -> Result<Survey> {
     file.seek(SeekFrom::Start(0))?;
-    let mut store = BufReader::with_capacity(alloc, BLOCK, file)?;
-    let mut buffer = Vec::new(alloc);
-    let mut out = BufWriter::with_capacity(alloc, BLOCK, &*new)?;
-    copy_whole_frames(&mut store, &mut out, &mut buffer, LONGEST_WORD)?;
-    salvage(alloc, tail, &mut out)?;
-    out.flush()?;
+    copy_frames(alloc, file, tail, new)?;
     new.seek(SeekFrom::Start(0))?;
     survey_file(alloc, new)
+}
+
+/// Writes the whole frames of a file, from where it is read, and of its tail to a new one.
+fn copy_frames(alloc: Global, file: &File, tail: &[u8], new: &File) -> Result<()> {
+    let mut buffer = Vec::new(alloc);
+    let mut store = BufReader::with_capacity(alloc, BLOCK, file)?;
+    let mut out = BufWriter::with_capacity(alloc, BLOCK, new)?;
+    copy_whole_frames(&mut store, &mut out, &mut buffer, LONGEST_WORD)?;
+    salvage(alloc, tail, &mut out)?;
+    Ok(out.flush()?)
 }
 
 /// Prints the shape of an article, as `describe` takes it.

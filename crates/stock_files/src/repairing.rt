@@ -36,7 +36,7 @@ pub enum Plan {
 }
 
 /// What is done to a store of these frames, after which these bytes are left.
-pub fn plan(found: &Survey, tail: &[u8], repair: Repair) -> Plan
+pub fn plan_for(found: &Survey, tail: &[u8], repair: Repair) -> Plan
     // It is cut off where no whole frame is lost, or where that is asked for.
     ensures { IsPlan LONGEST_WORD found.now tail.now repair result }
 {

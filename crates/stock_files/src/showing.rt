@@ -1,9 +1,10 @@
 //! What is printed of a store of frames.
-ghost use Rattle.std.specs.Prelude.{◌≡◌, ◌×◌, ◌↔◌, IfOk};
+ghost use Rattle.std.specs.Prelude.{◌≡◌, ◌↔◌, IfOk, IsTrue};
 ghost use Rattle.bincode_io.specs.Stream.{TellsBytes, known_bytes};
 ghost use Rattle.stock_files.specs.Stores.{IsJudged, IsValue};
 
 use crate::article::Article;
+use crate::files::FileError;
 use crate::limit::{LONGEST_WORD, Settings, settings};
 use bincode::Wire;
 use bincode::config::Config;
@@ -27,6 +28,9 @@ pub struct Sheet<'a> {
 /// Why a store is not shown to its end.
 #[derive(Debug, Drop, Error)]
 pub enum ShowError {
+    /// Its file could not be opened.
+    #[error("{0}")]
+    File(#[from] FileError),
     /// The store could not be read, or memory was refused.
     #[error("{0}")]
     Read(#[from] ReadError),

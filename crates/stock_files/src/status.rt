@@ -28,7 +28,9 @@ pub fn run_status(statuses: &[u8]) -> u8
 {
     let mut greatest = DONE;
     for status in statuses {
-        greatest = greatest.max(*status);
+        if *status > greatest {
+            greatest = *status;
+        }
     }
     greatest
 }
