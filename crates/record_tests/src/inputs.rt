@@ -1,39 +1,64 @@
-//! Articles from a text.
+//! Articles from lines.
 
 use crate::stores::{Broken, all_true, salt, tea};
 use std::alloc::{AllocError, Global};
-use stock_files::input::{InputError, articles_in, read_articles};
+use std::io::{BufRead, BufReader};
+use stock_files::article::Article;
+use stock_files::input::{LONGEST_LINE, LineError, next_article};
+
+/// The first two articles of an input, and whether there is a third.
+fn first_two<R: BufRead>(
+    alloc: Global,
+    input: &mut R,
+) -> Result<(Option<Article>, Option<Article>, bool), LineError> {
+    let mut text = String::new(alloc);
+    let mut line = 0;
+    let first = next_article(alloc, input, &mut text, &mut line)?;
+    let second = next_article(alloc, input, &mut text, &mut line)?;
+    let third = next_article(alloc, input, &mut text, &mut line)?;
+    Ok((first, second, third.is_some()))
+}
+
+/// Whether the lines of a text are salt and tea.
+fn gives_both(alloc: Global, text: &str) -> Result<bool, AllocError> {
+    Ok(match first_two(alloc, &mut text.as_bytes()) {
+        Ok((Some(first), Some(second), false)) => first == salt(alloc)? && second == tea(alloc)?,
+        _ => false,
+    })
+}
 
 /// Whether a text is refused with this message.
 fn refuses(alloc: Global, text: &str, message: &str) -> Result<bool, AllocError> {
-    match articles_in(alloc, text) {
+    match first_two(alloc, &mut text.as_bytes()) {
         Ok(_) => Ok(false),
         Err(error) => Ok(format!(in alloc; "{error}")?.as_str() == message),
     }
 }
 
-/// Whether the lines of a text are salt and tea.
-fn gives_both(alloc: Global, text: &str) -> Result<bool, InputError> {
-    let articles = read_articles(alloc, &mut text.as_bytes())?;
-    let [first, second] = articles.as_slice() else {
-        return Ok(false);
-    };
-    Ok(*first == salt(alloc)? && *second == tea(alloc)?)
-}
-
 #[test]
-fn takes_articles_by_lines(rt: HostRuntime) -> Result<(), InputError> {
+fn takes_articles_by_lines(rt: HostRuntime) -> anyhow::Result<()> {
     let alloc = rt.alloc();
-    let broken = read_articles(alloc, &mut Broken { has_failed: false });
-    let bytes = read_articles(alloc, &mut &[115, 255, 10][..]);
+    let broken = first_two(
+        alloc,
+        &mut BufReader::new(alloc, Broken { has_failed: false })?,
+    );
+    let bytes = first_two(alloc, &mut &[115, 255, 10][..]);
+    let long = " ".repeat(alloc, LONGEST_LINE as usize)?;
     all_true(
         &rt,
         &[
             gives_both(alloc, "salt 40\n\ntea\t1250  100 origin=Assam")?,
             gives_both(alloc, "salt 40\r\n \t \r\n tea 1250 origin=Assam 100 \r\n")?,
-            articles_in(alloc, "\n \n")?.is_empty(),
-            matches!(broken, Err(InputError::Read(_))),
-            matches!(bytes, Err(InputError::Read(_))),
+            matches!(
+                first_two(alloc, &mut "\n \n".as_bytes()),
+                Ok((None, None, false))
+            ),
+            matches!(broken, Err(LineError::Read { line: 1, .. })),
+            matches!(bytes, Err(LineError::Read { line: 1, .. })),
+            matches!(
+                first_two(alloc, &mut long.as_bytes()),
+                Err(LineError::Long { line: 1 })
+            ),
             refuses(
                 alloc,
                 "salt 40\n\ntea much\n",

@@ -3,6 +3,7 @@
 use crate::stores::{all_true, salt, tea};
 use std::alloc::{AllocError, Global};
 use stock_files::article::Article;
+use stock_files::repairing::Repair;
 use stock_files::request::{Request, request_of};
 
 /// A line as the words of a program, its name first.
@@ -29,12 +30,14 @@ fn told(alloc: Global, line: &str) -> Result<String, AllocError> {
         Ok(Request::AddLines { file }) => format!(in alloc; "add lines {file}"),
         Ok(Request::List(files)) => format!(in alloc; "list {}", files.len()),
         Ok(Request::Check(files)) => format!(in alloc; "check {}", files.len()),
-        Ok(
-            Request::Repair {
-                file,
+        Ok(Request::Repair { file, repair }) => {
+            let Repair {
                 drops_damaged,
-            },
-        ) => format!(in alloc; "repair {file} {drops_damaged}"),
+                cuts,
+            } = repair;
+            format!(in alloc; "repair {file} {drops_damaged} {cuts}")
+        }
+        Ok(Request::Shape) => String::from_str(alloc, "shape"),
         Err(error) => format!(in alloc; "{} {error}", error.exit_code()),
     }
 }
@@ -62,8 +65,10 @@ fn takes_requests(rt: HostRuntime) -> Result<(), AllocError> {
             asks(alloc, "add f -- -5 3", "add f -5")?,
             asks(alloc, "list f", "list 1")?,
             asks(alloc, "check f g h", "check 3")?,
-            asks(alloc, "repair f", "repair f false")?,
-            asks(alloc, "repair --drop-damaged f", "repair f true")?,
+            asks(alloc, "repair f", "repair f false false")?,
+            asks(alloc, "repair --drop-damaged f", "repair f true false")?,
+            asks(alloc, "repair f --cut", "repair f false true")?,
+            asks(alloc, "shape", "shape")?,
             asks(alloc, "--version", "0 records 2.0.0\n")?,
             answers(alloc, "--help", "0 Keeps the articles of a stock in files")?,
             answers(alloc, "add --help", "0 Appends articles to a file")?,

@@ -89,6 +89,20 @@ impl Write for Full {
     }
 }
 
+/// Takes nothing, like a pipe that nobody reads.
+#[derive(Drop)]
+pub struct Closed;
+
+impl Write for Closed {
+    fn write(&mut self, _bytes: &[u8]) -> io::Result<usize> {
+        Err(ErrorKind::BrokenPipe.into())
+    }
+
+    fn flush(&mut self) -> io::Result<()> {
+        Ok(())
+    }
+}
+
 /// Gives a line without its end, and then fails.
 #[derive(Drop)]
 pub struct Broken {
