@@ -1,5 +1,5 @@
 -- What a frame holds that was taken from a stream.
-use Rattle.std.specs.Prelude.{◌≡◌, ◌≤◌, ◌++◌, ℕ, List, length, Option}
+use Rattle.std.specs.Prelude.{◌≤◌, ◌++◌, ℕ, List, length, Option}
 use Rattle.std.proofs.Common.{ap, sym, subst, arith, drop_at}
 use Rattle.bincode_spec.specs.Format.{Format}
 use Rattle.bincode_spec.specs.Meaning.{Meaning}
@@ -11,7 +11,7 @@ use Rattle.framed_store.specs.declared.records.Next.{Next}
 use Rattle.framed_store.specs.declared.records.Next.TheVariants as next
 use Rattle.framed_store.specs.Steps.{IsWhole}
 use Rattle.framed_store.specs.Streams.{IsFront, TakesFront, LeavesAfter}
-use Rattle.framed_store.specs.Told.{IsContent, IsRecord, IsNext}
+use Rattle.framed_store.specs.Told.{IsContent, IsNext}
 use Rattle.framed_store.proofs.Fronts.{same-word, damaged-on}
 use Rattle.framed_store.proofs.Listings.{record-there}
 use Rattle.framed_store.proofs.Taken.{whole-on, reads-on, torn-ends, taken-whole}

@@ -1,5 +1,5 @@
 -- Bytes and frames that are stepped over.
-use Rattle.std.specs.Prelude.{◌≡◌, ◌≤◌, ℕ, List, [], length, drop, Option}
+use Rattle.std.specs.Prelude.{◌≡◌, ◌≤◌, ℕ, List, length, drop, Option}
 use Rattle.std.specs.Io.KnownBytes.{Consumes}
 use Rattle.frames.specs.Frames.{Reads, IsThere}
 use Rattle.frames.specs.declared.Frame.TheVariants as frames
