@@ -4,19 +4,17 @@ use crate::stores::{Broken, all_true, salt, tea};
 use std::alloc::{AllocError, Global};
 use std::io::{BufRead, BufReader};
 use stock_files::article::Article;
-use stock_files::input::{LONGEST_LINE, LineError, next_article};
+use stock_files::input::{LONGEST_LINE, LineError, Lines, Supply};
 
 /// The first two articles of an input, and whether there is a third.
 fn first_two<R: BufRead>(
     alloc: Global,
     input: &mut R,
 ) -> Result<(Option<Article>, Option<Article>, bool), LineError> {
-    let mut text = String::new(alloc);
-    let mut line = 0;
-    let first = next_article(alloc, input, &mut text, &mut line)?;
-    let second = next_article(alloc, input, &mut text, &mut line)?;
-    let third = next_article(alloc, input, &mut text, &mut line)?;
-    Ok((first, second, third.is_some()))
+    let mut lines = Lines::new(alloc, input);
+    let first = lines.next()?;
+    let second = lines.next()?;
+    Ok((first, second, lines.next()?.is_some()))
 }
 
 /// Whether the lines of a text are salt and tea.

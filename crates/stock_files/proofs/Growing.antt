@@ -6,7 +6,9 @@ use Rattle.std.proofs.KnownBytes.{Appends-nil, Appends-trans}
 use Rattle.bincode_base.specs.Setting.{Setting}
 use Rattle.bincode_types.specs.TypeWords.{Words}
 use Rattle.frames.specs.Frames.{frame}
-use Rattle.framed_store.specs.Appended.{IsFitting, Added, FrontAdded}
+use Rattle.framed_store.specs.Appended.{IsFitting, Added, FrontAdded, Leaves}
+use Rattle.framed_store.specs.declared.appending.AppendError.{AppendError}
+use Rattle.framed_store.specs.declared.appending.AppendError.TheVariants as failures
 use Rattle.stock_files.specs.Stores.{AreFrames, AddsAll, AddsFront}
 
 module _ {A : Type 0} (W : Words A) (s : Setting) (limit : Option ℕ) (most : ℕ) where
@@ -55,3 +57,12 @@ module _ {A : Type 0} (W : Words A) (s : Setting) (limit : Option ℕ) (most : �
         (frames-more so_far.values so_far.bytes v added.word so_far.are_frames added.is_fitting);
     appended = Appends-trans old now new so_far.bytes added.front so_far.appended added.appended;
   }
+
+  -- what is left where one more was not appended
+  pub adds-left : {S : Type 0} (contents : S → Option (List ℕ)) (n : ℕ) (v : A) (old : Option (List ℕ)) (now new : S) (e : AppendError) → AddsAll W s limit most n old (contents now) →
+      Leaves W s limit most v contents now new e → AddsFront W s limit most old (contents new)
+  adds-left contents n v old now new (failures.Encode _) so_far same = adds-front n old (contents new) (subst (λ z. AddsAll W s limit most n old (contents z)) (sym same) so_far)
+  adds-left contents n v old now new (failures.ReadBack _) so_far same = adds-front n old (contents new) (subst (λ z. AddsAll W s limit most n old (contents z)) (sym same) so_far)
+  adds-left contents n v old now new (failures.TooLong _ _) so_far same = adds-front n old (contents new) (subst (λ z. AddsAll W s limit most n old (contents z)) (sym same) so_far)
+  adds-left contents n v old now new (failures.Memory _) so_far same = adds-front n old (contents new) (subst (λ z. AddsAll W s limit most n old (contents z)) (sym same) so_far)
+  adds-left contents n v old now new (failures.Write _) so_far added = adds-cut n v old (contents now) (contents new) so_far added

@@ -19,7 +19,7 @@ module _ {A : Type 0} (F : Format Meaning) (limit : Option ℕ) (decodes_to : Me
   read-more : (at : ℕ) (input : List ℕ) (records : List (Record A)) (end : ℕ) (remaining : List ℕ) (size : ℕ) (content : Content A) → ReadFrom F limit decodes_to most at input records end remaining →
       IsRecord F limit decodes_to most remaining size content →
       ReadFrom F limit decodes_to most at input (records ++ record { offset = end; size = size; content = content } ∷ []) (end + size) (drop size remaining)
-  read-more at input [] end remaining size content read is = (subst (λ z. IsRecord F limit decodes_to most z size content) read.1 is, read.0, ap (λ z. z + size) read.0, ap (drop size) read.1)
+  read-more at input [] end remaining size content read is = (subst (λ z. IsRecord F limit decodes_to most z size content) read.1 is, read.0, (ap (λ z. z + size) read.0, ap (drop size) read.1))
   read-more at input (r ∷ records) end remaining size content read is = (read.0, read.1, read-more (at + r.size) (drop r.size input) records end remaining size content read.2 is)
 
   -- the frames up to this rest were read, of which so many hold no value

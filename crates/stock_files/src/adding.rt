@@ -6,11 +6,14 @@ ghost use Rattle.framed_store.specs.Surveys.{StepsOver};
 ghost use Rattle.stock_files.specs.Stores.{AddsAll, AddsFront};
 
 use crate::article::Article;
-use crate::input::{LineError, next_article};
+use crate::input::{LineError, Lines, Supply};
 use crate::limit::{LONGEST_WORD, Settings, settings};
 use crate::status::{DAMAGED, FAILED};
 use bincode::Wire;
 use bincode::config::Config;
+use bincode::de::Decode;
+use bincode::enc::Encode;
+use bincode::laws::Exact;
 use framed_store::appending::{AppendError, append};
 use framed_store::ending::Ending;
 use framed_store::stepping::step_over;
@@ -105,13 +108,33 @@ pub fn add_lines<R: BufRead, W: Write>(
     ensures left { IfErr result (λ _. AddsFront ⟦<Article as Wire>⟧.words ⟦<Settings as Config>⟧.setting
         ⟦<Settings as Config>⟧.bound LONGEST_WORD (W.contents store.old) (W.contents store.new)) }
 {
-    let mut text = String::new(alloc);
-    let mut line = 0;
+    append_each::<Article, Settings, _, W>(
+        alloc,
+        &mut Lines::new(alloc, input),
+        store,
+        settings(),
+        LONGEST_WORD,
+    )
+}
+
+/// Appends what a supply gives to a store that takes encodings of at most `most` bytes, and returns how many they are.
+fn append_each<T: Encode + Decode<()> + Exact + Drop, C: Config, S: Supply<T>, W: Write>(
+    alloc: Global,
+    supply: &mut S,
+    store: &mut W,
+    config: C,
+    most: u32,
+) -> Result<usize, AddError>
+    ensures added { IfOk result (λ n. AddsAll T.words C.setting C.bound most n (W.contents store.old)
+        (W.contents store.new)) }
+    ensures left { IfErr result (λ _. AddsFront T.words C.setting C.bound most (W.contents store.old)
+        (W.contents store.new)) }
+{
     for added in 0..usize::MAX {
-        let Some(article) = next_article(alloc, input, &mut text, &mut line)? else {
+        let Some(value) = supply.next()? else {
             return Ok(added);
         };
-        add_one(alloc, store, &article)?;
+        append(alloc, store, &value, config, most)?;
     }
     Err(AddError::Line(LineError::TooMany))
 }

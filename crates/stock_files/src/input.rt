@@ -40,39 +40,64 @@ pub enum LineError {
     TooMany,
 }
 
-/// The article of the next line that has words, separated by blanks or tabs; `None` at the end of the input. Lines
-/// without words are passed over. `text` is room for a line, and `line` is the number of the last line that was read.
-pub fn next_article<R: BufRead>(
-    alloc: Global,
-    input: &mut R,
-    text: &mut String,
-    line: &mut usize,
-) -> Result<Option<Article>, LineError> {
-    for _ in 0..u64::MAX {
-        if !read_line(input, text, line)? {
-            return Ok(None);
-        }
-        match article_in(alloc, text) {
-            Ok(None) => (),
-            Ok(article) => return Ok(article),
-            Err(why) => return Err(LineError::NoArticle { line: *line, why }),
-        }
-    }
-    Err(LineError::TooMany)
+/// Values that are given one at a time.
+pub trait Supply<T> {
+    /// The next one; `None` after the last.
+    fn next(&mut self) -> Result<Option<T>, LineError>;
 }
 
-/// Reads a line into `text`, in place of what it held. Returns whether there was one.
-fn read_line<R: BufRead>(
-    input: &mut R,
-    text: &mut String,
-    line: &mut usize,
-) -> Result<bool, LineError> {
-    text.clear();
-    *line = line.saturating_add(1);
-    match input.take(LONGEST_LINE).read_line(text) {
-        Ok(count) if count as u64 == LONGEST_LINE => Err(LineError::Long { line: *line }),
-        Ok(count) => Ok(count > 0),
-        Err(why) => Err(LineError::Read { line: *line, why }),
+/// The articles of an input, one a line: words that are separated by blanks or tabs. Lines without words are passed
+/// over.
+#[derive(Drop)]
+pub struct Lines<'r, R> {
+    alloc: Global,
+    input: &'r mut R,
+    /// The last line that was read.
+    text: String,
+    /// Its number, from 1 on.
+    line: usize,
+}
+
+impl<'r, R: BufRead> Lines<'r, R> {
+    /// The articles of this input.
+    pub fn new(alloc: Global, input: &'r mut R) -> Lines<'r, R> {
+        Lines {
+            alloc,
+            input,
+            text: String::new(alloc),
+            line: 0,
+        }
+    }
+
+    /// Reads a line. Returns whether there was one.
+    fn read_line(&mut self) -> Result<bool, LineError> {
+        self.text.clear();
+        self.line = self.line.saturating_add(1);
+        let line = self.line;
+        match self.input.take(LONGEST_LINE).read_line(&mut self.text) {
+            Ok(count) if count as u64 == LONGEST_LINE => Err(LineError::Long { line }),
+            Ok(count) => Ok(count > 0),
+            Err(why) => Err(LineError::Read { line, why }),
+        }
+    }
+}
+
+impl<R: BufRead> Supply<Article> for Lines<'_, R> {
+    fn next(&mut self) -> Result<Option<Article>, LineError> {
+        for _ in 0..u64::MAX {
+            if !self.read_line()? {
+                return Ok(None);
+            }
+            match article_in(self.alloc, &self.text) {
+                Ok(None) => (),
+                Ok(article) => return Ok(article),
+                Err(why) => {
+                    let line = self.line;
+                    return Err(LineError::NoArticle { line, why });
+                }
+            }
+        }
+        Err(LineError::TooMany)
     }
 }
 

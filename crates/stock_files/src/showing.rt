@@ -8,6 +8,7 @@ use crate::files::FileError;
 use crate::limit::{LONGEST_WORD, Settings, settings};
 use bincode::Wire;
 use bincode::config::Config;
+use bincode::de::Decode;
 use framed_store::ending::Ending;
 use framed_store::records::{Content, Next};
 use framed_store::streams::{ReadError, next_from_stream};
@@ -15,6 +16,12 @@ use std::alloc::Global;
 use std::io;
 use std::io::{ErrorKind, Read, Write};
 use thiserror::Error;
+
+/// A value that is printed as a line.
+trait Printed {
+    /// Prints it, and the end of the line.
+    fn print<W: Write>(&self, out: &mut W) -> io::Result<()>;
+}
 
 /// How a store is shown.
 #[derive(Clone, Copy)]
@@ -84,10 +91,25 @@ pub fn print_store<R: Read, W: Write>(
         (⟦<Article as Wire>⟧.words.format ⟦<Settings as Config>⟧.setting) ⟦<Settings as Config>⟧.bound
         ⟦<Article as Wire>⟧.words.decodes_to LONGEST_WORD (known_bytes (R.remaining store.old))) }
 {
+    show_frames::<Article, Settings, R, W>(alloc, out, sheet, store, settings(), LONGEST_WORD)
+}
+
+/// `print_store` for values of any type, in a store that takes encodings of at most `most` bytes.
+fn show_frames<T: Decode<()> + Printed + Drop, C: Config, R: Read, W: Write>(
+    alloc: Global,
+    out: &mut W,
+    sheet: Sheet<'_>,
+    store: &mut R,
+    config: C,
+    most: u32,
+) -> Result<bool, ShowError>
+    ensures { TellsBytes (R.remaining store.old) → IfOk result (IsJudged (T.words.format C.setting) C.bound
+        T.words.decodes_to most (known_bytes (R.remaining store.old))) }
+{
     let mut buffer = Vec::new(alloc);
     let mut seen = Seen::nothing();
     for _ in 0..u64::MAX {
-        match next_from_stream(alloc, store, &mut buffer, settings(), LONGEST_WORD)? {
+        match next_from_stream::<T, C, R>(alloc, store, &mut buffer, config, most)? {
             Next::Record { size, content } => {
                 print_frame(out, sheet, &seen, size, &content)?;
                 seen.count(size, &content);
@@ -120,7 +142,7 @@ impl Seen {
     }
 
     /// Counts a frame that follows.
-    fn count(&mut self, size: usize, content: &Content<Article>)
+    fn count<T>(&mut self, size: usize, content: &Content<T>)
         ensures { (self.new.others ≡ 0) ↔ ((self.old.others ≡ 0) × IsValue content.now) }
     {
         let offset = self.offset.saturating_add(size);
@@ -163,12 +185,12 @@ impl Run {
 }
 
 /// Prints a frame after those that were seen, unless it is damaged: those before it that are, then what it holds.
-fn print_frame<W: Write>(
+fn print_frame<T: Printed, W: Write>(
     out: &mut W,
     sheet: Sheet<'_>,
     seen: &Seen,
     size: usize,
-    content: &Content<Article>,
+    content: &Content<T>,
 ) -> io::Result<()> {
     if matches!(content, Content::Damaged) {
         return Ok(());
@@ -208,9 +230,9 @@ fn print_place<W: Write>(
 }
 
 /// Prints what a frame holds.
-fn print_content<W: Write>(out: &mut W, content: &Content<Article>) -> io::Result<()> {
+fn print_content<T: Printed, W: Write>(out: &mut W, content: &Content<T>) -> io::Result<()> {
     match content {
-        Content::Value(article) => print_article(out, article),
+        Content::Value(value) => value.print(out),
         Content::Damaged => writeln!(out, "damaged"),
         Content::Undecodable(why) => writeln!(out, "no article ({why})"),
         Content::Longer { taken } => writeln!(
@@ -220,16 +242,17 @@ fn print_content<W: Write>(out: &mut W, content: &Content<Article>) -> io::Resul
     }
 }
 
-/// Prints an article.
-fn print_article<W: Write>(out: &mut W, article: &Article) -> io::Result<()> {
-    write!(out, "{:?} at {}", article.name, article.price)?;
-    if let Some(weight) = article.weight {
-        write!(out, ", weight {weight}")?;
+impl Printed for Article {
+    fn print<W: Write>(&self, out: &mut W) -> io::Result<()> {
+        write!(out, "{:?} at {}", self.name, self.price)?;
+        if let Some(weight) = self.weight {
+            write!(out, ", weight {weight}")?;
+        }
+        for (name, text) in &self.notes {
+            write!(out, ", {name:?} = {text:?}")?;
+        }
+        writeln!(out)
     }
-    for (name, text) in &article.notes {
-        write!(out, ", {name:?} = {text:?}")?;
-    }
-    writeln!(out)
 }
 
 /// Prints the damaged frames at the end of a store, and how it ends. Returns whether it is whole.
