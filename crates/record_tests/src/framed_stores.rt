@@ -1,11 +1,15 @@
 //! Stores of articles in frames: whole, cut, damaged, and where a write fails.
 
-use crate::stores::{FRAMED, Full, STOCK, salt, tea};
+use crate::stores::{FRAMED, Full, STOCK, Trickle, all_true, damaged, salt, tea};
 use bincode::error::DecodeError;
 use framed_store::appending::{AppendError, append};
 use framed_store::ending::Ending;
 use framed_store::listing::{Listing, Record, list};
-use framed_store::records::Content;
+use framed_store::records::{Content, Next};
+use framed_store::repairing::{CopyError, copy_whole_frames};
+use framed_store::searching::find_frame;
+use framed_store::stepping::step_over;
+use framed_store::streams::{ReadError, next_from_stream, survey_stream};
 use framed_store::surveying::{Survey, survey_frames};
 use frames::around;
 use std::alloc::{AllocError, Global};
@@ -96,8 +100,74 @@ fn tells_front(alloc: Global, length: usize) -> Result<bool, AllocError> {
         listing.records.len() == whole
             && are_first(alloc, &listing.records)?
             && listing.ending == ending
-            && survey_frames(front, MOST) == counted,
+            && survey_frames(front, MOST) == counted
+            && tells_stream(alloc, front, counted),
     )
+}
+
+/// Whether the frames of a stream are counted and stepped over so, one byte a call.
+fn tells_stream(alloc: Global, bytes: &[u8], counted: Survey) -> bool {
+    let mut buffer = Vec::new(alloc);
+    let surveyed = survey_stream(&mut Trickle::new(bytes), &mut buffer, MOST);
+    let stepped = step_over(&mut Trickle::new(bytes), MOST);
+    matches!(surveyed, Ok(found) if found == counted)
+        && matches!(stepped, Ok((length, ending))
+            if length == counted.length && ending == counted.ending)
+}
+
+/// The next record of a stream.
+fn next_of(
+    alloc: Global,
+    stream: &mut Trickle<'_>,
+    buffer: &mut Vec<u8>,
+) -> Result<Next<Article>, ReadError> {
+    next_from_stream(alloc, stream, buffer, settings(), MOST)
+}
+
+#[test]
+fn reads_records_of_a_stream(rt: HostRuntime) -> anyhow::Result<()> {
+    let alloc = rt.alloc();
+    let mut buffer = Vec::new(alloc);
+    let mut stream = Trickle::new(&FRAMED[..60]);
+    let first = next_of(alloc, &mut stream, &mut buffer)?;
+    let second = next_of(alloc, &mut stream, &mut buffer)?;
+    let third = next_of(alloc, &mut stream, &mut buffer)?;
+    let fourth = next_of(alloc, &mut stream, &mut buffer)?;
+    let salt = salt(alloc)?;
+    let tea = tea(alloc)?;
+    all_true(
+        &rt,
+        &[
+            matches!(&first, Next::Record { size: 16, content: Content::Value(value) } if *value == salt),
+            matches!(&second, Next::Record { size: 31, content: Content::Value(value) } if *value == tea),
+            matches!(third, Next::Torn),
+            matches!(fourth, Next::End),
+        ],
+    );
+    Ok(())
+}
+
+/// Whether of a damaged store the whole frames are copied, and whether such a frame is found.
+fn keeps_whole(alloc: Global) -> Result<bool, CopyError> {
+    let mut kept = Vec::new(alloc);
+    let mut buffer = Vec::new(alloc);
+    copy_whole_frames(&mut Trickle::new(&damaged()), &mut kept, &mut buffer, MOST)?;
+    let (salt, tea) = FRAMED.split_at(16);
+    Ok(
+        kept.starts_with(salt)
+            && kept.get(16..) == tea.get(31..)
+            && find_frame(&FRAMED, MOST) == Some(0)
+            && find_frame(&FRAMED[1..], MOST) == Some(15)
+            && find_frame(&damaged(), MOST) == Some(0)
+            && find_frame(&damaged()[1..], MOST) == Some(46)
+            && find_frame(&FRAMED[17..46], MOST) == None,
+    )
+}
+
+#[test]
+fn finds_and_copies_whole_frames(rt: HostRuntime) -> Result<(), CopyError> {
+    assert!(rt; keeps_whole(rt.alloc())?);
+    Ok(())
 }
 
 #[test]

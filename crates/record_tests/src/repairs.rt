@@ -95,7 +95,7 @@ fn keeps_whole_frames(rt: HostRuntime) -> anyhow::Result<()> {
         &[
             kept.as_slice() == &FRAMED[47..],
             none.is_empty(),
-            out.as_slice() == b"f: whole frames kept: 1, bytes: 16, bytes dropped: 47\n",
+            out.as_slice() == b"f: whole frames kept: 1, bytes: 16, bytes dropped: 47\n".as_slice(),
         ],
     );
     Ok(())

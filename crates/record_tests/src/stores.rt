@@ -103,6 +103,34 @@ impl Write for Closed {
     }
 }
 
+/// Gives one byte a call, and is interrupted before each.
+#[derive(Drop)]
+pub struct Trickle<'b> {
+    rest: &'b [u8],
+    is_ready: bool,
+}
+
+impl<'b> Trickle<'b> {
+    /// A stream of these bytes.
+    pub fn new(rest: &'b [u8]) -> Trickle<'b> {
+        Trickle {
+            rest,
+            is_ready: false,
+        }
+    }
+}
+
+impl Read for Trickle<'_> {
+    fn read(&mut self, bytes: &mut [u8]) -> io::Result<usize> {
+        self.is_ready = !self.is_ready;
+        if self.is_ready {
+            return Err(ErrorKind::Interrupted.into());
+        }
+        let count = bytes.len().min(1);
+        self.rest.read(&mut bytes[..count])
+    }
+}
+
 /// Gives a line without its end, and then fails.
 #[derive(Drop)]
 pub struct Broken {
