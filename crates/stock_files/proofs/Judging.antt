@@ -1,5 +1,5 @@
 -- Judging a store, frame by frame.
-use Rattle.std.specs.Prelude.{◌≡◌, ◌≢◌, ◌↔◌, ◌+◌, ◌++◌, ℕ, List, [], ◌∷◌, drop, Option, Bool, IsTrue, refl}
+use Rattle.std.specs.Prelude.{◌≡◌, ◌↔◌, ◌+◌, ◌++◌, ℕ, List, [], ◌∷◌, drop, Option, Bool, IsTrue, refl}
 use Rattle.std.proofs.Common.{ap, subst}
 use Rattle.bincode_spec.specs.Format.{Format}
 use Rattle.bincode_spec.specs.Meaning.{Meaning}

@@ -49,18 +49,18 @@ pub trait Supply<T> {
 /// The articles of an input, one a line: words that are separated by blanks or tabs. Lines without words are passed
 /// over.
 #[derive(Drop)]
-pub struct Lines<'r, R> {
+pub struct Lines<R> {
     alloc: Global,
-    input: &'r mut R,
+    input: R,
     /// The last line that was read.
     text: String,
     /// Its number, from 1 on.
     line: usize,
 }
 
-impl<'r, R: BufRead> Lines<'r, R> {
+impl<R: BufRead> Lines<R> {
     /// The articles of this input.
-    pub fn new(alloc: Global, input: &'r mut R) -> Lines<'r, R> {
+    pub fn new(alloc: Global, input: R) -> Lines<R> {
         Lines {
             alloc,
             input,
@@ -68,24 +68,27 @@ impl<'r, R: BufRead> Lines<'r, R> {
             line: 0,
         }
     }
+}
 
-    /// Reads a line. Returns whether there was one.
-    fn read_line(&mut self) -> Result<bool, LineError> {
-        self.text.clear();
-        self.line = self.line.saturating_add(1);
-        let line = self.line;
-        match self.input.take(LONGEST_LINE).read_line(&mut self.text) {
-            Ok(count) if count as u64 == LONGEST_LINE => Err(LineError::Long { line }),
-            Ok(count) => Ok(count > 0),
-            Err(why) => Err(LineError::Read { line, why }),
-        }
+/// Reads a line into `text`, in place of what it held, and counts it. Returns whether there was one.
+fn read_line<R: BufRead>(
+    input: &mut R,
+    text: &mut String,
+    line: &mut usize,
+) -> Result<bool, LineError> {
+    text.clear();
+    *line = line.saturating_add(1);
+    match input.take(LONGEST_LINE).read_line(text) {
+        Ok(count) if count as u64 == LONGEST_LINE => Err(LineError::Long { line: *line }),
+        Ok(count) => Ok(count > 0),
+        Err(why) => Err(LineError::Read { line: *line, why }),
     }
 }
 
-impl<R: BufRead> Supply<Article> for Lines<'_, R> {
+impl<R: BufRead> Supply<Article> for Lines<R> {
     fn next(&mut self) -> Result<Option<Article>, LineError> {
         for _ in 0..u64::MAX {
-            if !self.read_line()? {
+            if !read_line(&mut self.input, &mut self.text, &mut self.line)? {
                 return Ok(None);
             }
             match article_in(self.alloc, &self.text) {
