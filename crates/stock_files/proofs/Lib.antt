@@ -1,3 +1,4 @@
 pub mod Judging
 pub mod Greatest
 pub mod Growing
+pub mod Salvaging

@@ -1,6 +1,8 @@
 -- What is done to a store that is repaired.
-use Rattle.std.specs.Prelude.{◌≡◌, ◌≢◌, ◌⊎◌, ◌<◌, ℕ, List, IsTrue}
+use Rattle.std.specs.Prelude.{◌≡◌, ◌≢◌, ◌⊎◌, ◌<◌, ◌++◌, ℕ, List, [], ◌∷◌, take, drop, Option, IsTrue}
+use Rattle.std.specs.Io.KnownBytes.{Appends}
 use Rattle.framed_store.specs.Searches.{StandsAt}
+use Rattle.framed_store.specs.Steps.{IsWhole, IsDamaged}
 use Rattle.framed_store.specs.declared.ending.Ending.TheVariants as endings
 use Rattle.framed_store.specs.declared.surveying.Survey.{Survey}
 use Rattle.stock_files.specs.declared.repairing.Plan.{Plan}
@@ -19,3 +21,37 @@ IsPlan most found tail repair plans.Leave = (found.ending ≡ endings.Whole) × 
 IsPlan most found tail repair plans.Cut = (found.ending ≢ endings.Whole) × (HasNoFrame most tail ⊎ IsTrue repair.cuts)
 IsPlan most found tail repair plans.Rewrite = IsTrue repair.drops_damaged × ((0 < found.damaged) ⊎ ((k : ℕ) × StandsAt most tail k))
 IsPlan most found tail repair (plans.Refuse after) = (found.ending ≢ endings.Whole) × (IsTrue repair.cuts → ⊥) × StandsAt most tail after
+
+-- the bytes are none, or begin with a whole frame
+abbrev pub GoesOn : ℕ → List ℕ → Type 0
+GoesOn most bytes = (bytes ≡ []) ⊎ StandsAt most bytes 0
+
+-- these are passed over: a damaged frame whose length leads to a whole one or to the end, or bytes at which no whole
+-- frame stands
+abbrev pub IsPassed : ℕ → List ℕ → ℕ → Type 0
+IsPassed most bytes n = (IsDamaged most bytes n × GoesOn most (drop n bytes)) ⊎ ((k : ℕ) → k < n → ¬ StandsAt most bytes k)
+
+-- a frame that is kept, or bytes that are passed over
+pub data Part : Type 0 where
+  Kept : ℕ → Part
+  Passed : ℕ → Part
+
+-- these parts follow one another from the first byte on; after them is the rest
+abbrev pub PartsTo : ℕ → List ℕ → List Part → List ℕ → Type 0
+PartsTo most bytes [] rest = rest ≡ bytes
+PartsTo most bytes (Kept n ∷ parts) rest = IsWhole most bytes n × PartsTo most (drop n bytes) parts rest
+PartsTo most bytes (Passed n ∷ parts) rest = IsPassed most bytes n × PartsTo most (drop n bytes) parts rest
+
+-- the bytes of those that are kept
+abbrev pub kept_of : List Part → List ℕ → List ℕ
+kept_of [] bytes = []
+kept_of (Kept n ∷ parts) bytes = take n bytes ++ kept_of parts (drop n bytes)
+kept_of (Passed n ∷ parts) bytes = kept_of parts (drop n bytes)
+
+-- the frames that are kept of a store were written after what was held, up to where no whole frame follows
+pub record Salvages (most : ℕ) (store : List ℕ) (old new : Option (List ℕ)) : Type 0 where
+  pub parts : List Part
+  pub rest : List ℕ
+  pub parts_to : PartsTo most store parts rest
+  pub none_left : HasNoFrame most rest
+  pub appended : Appends old new (kept_of parts store)

@@ -12,7 +12,6 @@ use anyhow::Result;
 use bincode::shape::Described;
 use clap::Error;
 use clap::error::ErrorKind;
-use framed_store::repairing::copy_whole_frames;
 use framed_store::streams::survey_stream;
 use framed_store::surveying::Survey;
 use shape_grammar::spelling::text_of;
@@ -181,7 +180,7 @@ fn repair_file(rt: &HostRuntime, path: &str, repair: Repair) -> Result<u8> {
         Plan::Leave | Plan::Refuse { .. } => (),
         Plan::Cut => cut(&file, found.length)?,
         Plan::Rewrite => {
-            let kept = rewrite(rt, path, &mut file, &tail)?;
+            let kept = rewrite(rt, path, &mut file)?;
             print_kept(&mut io::writer(rt), path, bytes, &kept)?;
         }
     }
@@ -196,11 +195,11 @@ fn survey_file(alloc: Global, file: &File) -> Result<Survey> {
     Ok(survey_stream(&mut store, &mut buffer, LONGEST_WORD)?)
 }
 
-/// Puts a file of the whole frames in the place of this one, whose bytes after its last frame are the tail. Returns the
-/// frames of the new one. Where that fails the old one stands as it was.
-fn rewrite(rt: &HostRuntime, path: &str, file: &mut File, tail: &[u8]) -> Result<Survey> {
+/// Puts a file of the whole frames in the place of this one, and returns the frames of the new one. Where that fails the
+/// old one stands as it was.
+fn rewrite(rt: &HostRuntime, path: &str, file: &mut File) -> Result<Survey> {
     let mut new = Replacement::new(rt, path, file)?;
-    match fill(rt.alloc(), file, tail, &mut new.file) {
+    match fill(rt.alloc(), file, &mut new.file) {
         Ok(kept) => {
             new.take_place(rt)?;
             Ok(kept)
@@ -212,21 +211,17 @@ fn rewrite(rt: &HostRuntime, path: &str, file: &mut File, tail: &[u8]) -> Result
     }
 }
 
-/// Writes the whole frames of a file and of its tail to a new one, and returns its frames.
-fn fill(alloc: Global, file: &mut File, tail: &[u8], new: &mut File) -> Result<Survey> {
-    file.seek(SeekFrom::Start(0))?;
-    copy_frames(alloc, file, tail, new)?;
+/// Writes the whole frames of a file to a new one, and returns its frames.
+fn fill(alloc: Global, file: &mut File, new: &mut File) -> Result<Survey> {
+    write_whole_frames(alloc, &bytes_from(alloc, file, 0)?, new)?;
     new.seek(SeekFrom::Start(0))?;
     survey_file(alloc, new)
 }
 
-/// Writes the whole frames of a file, from where it is read, and of its tail to a new one.
-fn copy_frames(alloc: Global, file: &File, tail: &[u8], new: &File) -> Result<()> {
-    let mut buffer = Vec::new(alloc);
-    let mut store = BufReader::with_capacity(alloc, BLOCK, file)?;
-    let mut out = BufWriter::with_capacity(alloc, BLOCK, new)?;
-    copy_whole_frames(&mut store, &mut out, &mut buffer, LONGEST_WORD)?;
-    salvage(alloc, tail, &mut out)?;
+/// Writes the whole frames of a store to a file.
+fn write_whole_frames(alloc: Global, store: &[u8], file: &File) -> Result<()> {
+    let mut out = BufWriter::with_capacity(alloc, BLOCK, file)?;
+    salvage(store, &mut out)?;
     Ok(out.flush()?)
 }
 

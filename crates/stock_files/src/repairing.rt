@@ -1,12 +1,13 @@
 //! What is done to a store that is repaired, and what is printed of it.
-ghost use Rattle.stock_files.specs.Repairs.{IsPlan};
+ghost use Rattle.std.specs.Prelude.{◌<◌, ◌≤◌, length, IfNone, IfSome, IsTrue, OnOk};
+ghost use Rattle.framed_store.specs.Searches.{StandsAt};
+ghost use Rattle.stock_files.specs.Repairs.{IsPlan, HasNoFrame, IsPassed, GoesOn, Salvages};
 
 use crate::limit::LONGEST_WORD;
 use framed_store::ending::Ending;
-use framed_store::repairing::{CopyError, copy_whole_frames};
 use framed_store::searching::find_frame;
-use framed_store::surveying::{Survey, survey_frames};
-use std::alloc::Global;
+use framed_store::surveying::Survey;
+use frames::{Frame, read_frame};
 use std::io;
 use std::io::Write;
 
@@ -53,20 +54,51 @@ pub fn plan_for(found: &Survey, tail: &[u8], repair: Repair) -> Plan
     }
 }
 
-/// Writes the whole frames that stand anywhere in bytes whose first frame is not whole.
-pub fn salvage<W: Write>(alloc: Global, tail: &[u8], out: &mut W) -> Result<(), CopyError> {
-    let mut buffer = Vec::new(alloc);
-    let mut rest = tail;
-    for _ in 0..tail.len() {
-        let Some(at) = find_frame(rest, LONGEST_WORD) else {
-            return Ok(());
-        };
-        let (_, from) = rest.split_at(at);
-        let (mut frames, others) = from.split_at(survey_frames(from, LONGEST_WORD).length);
-        copy_whole_frames(&mut frames, out, &mut buffer, LONGEST_WORD)?;
-        rest = others;
+/// Writes the whole frames of a store, wherever they stand, in order. What is passed over is a damaged frame, if its
+/// length leads to a whole one or to the end of the store, else all bytes up to where the next whole one stands.
+pub fn salvage<W: Write>(store: &[u8], out: &mut W) -> io::Result<()>
+    ensures { OnOk result (Salvages LONGEST_WORD store.now (W.contents out.old) (W.contents out.new)) }
+{
+    let mut rest = store;
+    'frames: loop {
+        match read_frame(rest, LONGEST_WORD) {
+            Frame::End => return Ok(()),
+            Frame::Whole(_, size) => {
+                let (frame, others) = rest.split_at(size);
+                out.write_all(frame)?;
+                rest = others;
+            }
+            Frame::Damaged(_) | Frame::Torn | Frame::TooLong(_) => match bytes_to_pass(rest) {
+                Some(size) => rest = &rest[size..],
+                None => return Ok(()),
+            },
+        }
     }
-    Ok(())
+}
+
+/// How many bytes of those are passed over that begin with no whole frame; `None` if no whole frame follows.
+fn bytes_to_pass(bytes: &[u8]) -> Option<usize>
+    requires { ¬ StandsAt LONGEST_WORD bytes.now 0 }
+    ensures some { IfSome result (λ n. (0 < n) × (n ≤ length bytes.now) × IsPassed LONGEST_WORD bytes.now n) }
+    ensures none { IfNone result (HasNoFrame LONGEST_WORD bytes.now) }
+{
+    if let Frame::Damaged(size) = read_frame(bytes, LONGEST_WORD) {
+        let (_, others) = bytes.split_at(size);
+        if goes_on(others) {
+            return Some(size);
+        }
+    }
+    find_frame(bytes, LONGEST_WORD)
+}
+
+/// Whether bytes are none, or begin with a whole frame.
+fn goes_on(bytes: &[u8]) -> bool
+    ensures { IsTrue result → GoesOn LONGEST_WORD bytes.now }
+{
+    matches!(
+        read_frame(bytes, LONGEST_WORD),
+        Frame::End | Frame::Whole(_, _)
+    )
 }
 
 /// Whether a store of these frames is whole once this was done.
