@@ -17,7 +17,11 @@ pub record IsRefusedFor (F : Format Meaning) (limit : Option ℕ) (bytes : List 
   pub tells : (fault : Fault) (steps : List Step) → F.Faults bytes fault steps → StaysWithin limit 0 steps → Tells EndsSlice fault why
   pub keeps : (steps : List Step) → StepsOf F bytes steps → Passes limit 0 steps → why ≡ LimitExceeded
 
--- what an error says of the bytes that are left, where they are known
+-- bytes are left, if they are known, and begin with no word
+abbrev pub AreRefused : Format Meaning → Option ℕ → Option (List ℕ) → DecodeError → Type 0
+AreRefused F limit left why = IfSome left (λ bytes. (bytes ≢ []) × IsRefusedFor F limit bytes why)
+
+-- what an error says of the bytes that are left
 abbrev pub Refuses : Format Meaning → Option ℕ → Option (List ℕ) → NextError → Type 0
-Refuses F limit left (NoWord why) = IfSome left (λ bytes. (bytes ≢ []) × IsRefusedFor F limit bytes why)
+Refuses F limit left (NoWord why) = AreRefused F limit left why
 Refuses F limit left (Read cause) = Unit {0}
