@@ -1,5 +1,5 @@
 -- What is left of a stream whose bytes are known, by what a window shows.
-use Rattle.std.specs.Prelude.{◌≡◌, ◌≢◌, ◌++◌, ◌<◌, ◌↔◌, ℕ, List, [], length, Option, Some, None, Err, IfSome, IsNone, refl}
+use Rattle.std.specs.Prelude.{◌≡◌, ◌≢◌, ◌++◌, ◌<◌, ◌↔◌, ℕ, List, [], length, Option, Some, None, Err, IfSome, true, false}
 use Rattle.std.proofs.Common.{sym, ◌∙◌, ap, subst, arith, append-nil, length-append}
 use Rattle.std.specs.Io.KnownBytes.{Keeps, IsAtEnd, prepend_known}
 use Rattle.bincode_base.specs.declared.error.DecodeError.{DecodeError}
@@ -18,22 +18,10 @@ some-left shown left some none =
     omega (arith, some, whole, both)
 
 -- where a byte is shown, one is left
-pub shown-left : (before now : Option (List ℕ)) (shown : List ℕ) → Keeps before (prepend_known shown now) → 0 < length shown → IfSome before (λ left. left ≢ [])
+pub shown-left : (before now : Option (List ℕ)) (shown : List ℕ) → Keeps before (prepend_known shown now) → 0 < length shown → IfSome before (λ left. true ≡ false ↔ left ≡ [])
 shown-left None now shown kept some = tt
 shown-left (Some xs) None shown kept some = absurd kept
-shown-left (Some xs) (Some left) shown kept some = λ none. some-left shown left some (kept ∙ none)
-
--- where none is, and the stream is at its end, none is left
-pub none-left : (before now : Option (List ℕ)) (shown : List ℕ) → Keeps before (prepend_known shown now) → shown ≡ [] → IsAtEnd now → IfSome before (λ left. left ≡ [])
-none-left None now shown kept none end = tt
-none-left (Some xs) None shown kept none end = absurd kept
-none-left (Some xs) (Some left) shown kept none end = sym kept ∙ ap (λ z. z ++ left) none ∙ end
-
--- what is refused of the bytes that are kept
-pub kept-refused : (F : Format Meaning) (limit : Option ℕ) (before now : Option (List ℕ)) (e : DecodeError) → Keeps before now → AreRefused F limit now e → AreRefused F limit before e
-kept-refused F limit None now e kept r = tt
-kept-refused F limit (Some xs) None e kept r = absurd kept
-kept-refused F limit (Some xs) (Some ys) e kept r = (λ none. r.0 (kept ∙ none), subst (λ z. IsRefusedFor F limit z e) kept r.1)
+shown-left (Some xs) (Some left) shown kept some = (λ no. absurd (cc), λ none. absurd (some-left shown left some (kept ∙ none)))
 
 module _ (F : Format Meaning) (f : Lawful F) (b : Balanced F) (limit : Option ℕ) (shown : List ℕ) (e : DecodeError) (some : 0 < length shown)
     (found : FindsWords {A = Unit {0}} F limit ⊥ shown (Err e)) (told : TellsFaults {A = Unit {0}} F limit ⊥ shown (Err e)) (kept : KeepsLimit {A = Unit {0}} F limit ⊥ shown (Err e)) where
