@@ -101,8 +101,10 @@ fn joins_damaged_frames(rt: HostRuntime) -> Result<(), AllocError> {
     let line = "{\"offset\":0,\"length\":100000,\"damaged\":12500}\n";
     let alone = format!(in alloc; "{line}damaged")?;
     let torn = format!(in alloc; "{line}torn at byte 100000: the input ends within a frame")?;
-    let before = format!(in alloc; "{line}{{\"offset\":100000,\"length\":9,\"value\":7}}\n\
-        {{\"offset\":100009,\"length\":16,\"damaged\":2}}\ndamaged")?;
+    let before = format!(in alloc;
+        "{line}{{\"offset\":100000,\"length\":9,\"value\":7}}\n\
+        {{\"offset\":100009,\"length\":16,\"damaged\":2}}\ndamaged"
+    )?;
     let is_alone = tells(alloc, ("--frames", "u16"), &zeros, alone.as_str())?;
     zeros.push(0)?;
     let is_torn = tells(alloc, ("--frames", "u16"), &zeros, torn.as_str())?;

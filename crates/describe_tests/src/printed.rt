@@ -5,7 +5,8 @@ use std::alloc::{AllocError, Global};
 use test_helpers::streams::Breaking;
 
 /// The lines of 7 and 300.
-const BOTH: &str = "{\"offset\":0,\"length\":1,\"value\":7}\n{\"offset\":1,\"length\":3,\"value\":300}\n";
+const BOTH: &str =
+    "{\"offset\":0,\"length\":1,\"value\":7}\n{\"offset\":1,\"length\":3,\"value\":300}\n";
 
 /// The lines, and then the end.
 fn both_and(alloc: Global, end: &str) -> Result<String, AllocError> {
@@ -17,7 +18,10 @@ fn both_and(alloc: Global, end: &str) -> Result<String, AllocError> {
 fn says_how_it_ends(rt: HostRuntime) -> Result<(), AllocError> {
     let alloc = rt.alloc();
     let whole = both_and(alloc, "whole")?;
-    let torn = both_and(alloc, "torn at byte 4: the input ends within a value of u16")?;
+    let torn = both_and(
+        alloc,
+        "torn at byte 4: the input ends within a value of u16",
+    )?;
     let wrong = both_and(
         alloc,
         "no u16 at byte 4: InvalidIntegerType { expected: U16, found: U32 }",
@@ -30,10 +34,20 @@ fn says_how_it_ends(rt: HostRuntime) -> Result<(), AllocError> {
             tells(alloc, ("", "u16"), &[7, 251, 44, 1], whole.as_str())?,
             tells(alloc, ("", "u16"), &[7, 251, 44, 1, 251, 2], torn.as_str())?,
             tells(alloc, ("", "u16"), &[7, 251, 44, 1, 252, 2], wrong.as_str())?,
-            tells(alloc, ("", "[char?]"), &[1, 2], "no [char?] at byte 0: \
-                UnexpectedVariant { type_name: \"Option\", found: 2, min: 0, max: 1 }")?,
-            tells(alloc, ("", "u8|text|u8"), &[3], "no u8|text|u8 at byte 0: \
-                UnexpectedVariant { type_name: \"Choice\", found: 3, min: 0, max: 2 }")?,
+            tells(
+                alloc,
+                ("", "[char?]"),
+                &[1, 2],
+                "no [char?] at byte 0: \
+                UnexpectedVariant { type_name: \"Option\", found: 2, min: 0, max: 1 }",
+            )?,
+            tells(
+                alloc,
+                ("", "u8|text|u8"),
+                &[3],
+                "no u8|text|u8 at byte 0: \
+                UnexpectedVariant { type_name: \"Choice\", found: 3, min: 0, max: 2 }",
+            )?,
             tells(alloc, ("", "((), [u8; 0])"), &[1], empty)?,
             tells(alloc, ("", "((), [u8; 0])"), &[], "whole")?,
         ],
@@ -90,8 +104,12 @@ fn reads_long_encodings(rt: HostRuntime) -> Result<(), AllocError> {
     bytes.extend_from_slice(&[251, 64, 156])?;
     bytes.extend_from_slice(long.as_bytes())?;
     let line = format!(in alloc; "{{\"offset\":0,\"length\":40003,\"value\":\"{long}\"}}\n")?;
-    let torn = format!(in alloc; "{line}torn at byte 40003: the input ends within a value of text")?;
-    let whole = format!(in alloc; "{line}{{\"offset\":40003,\"length\":2,\"value\":\"b\"}}\nwhole")?;
+    let torn = format!(in alloc;
+        "{line}torn at byte 40003: the input ends within a value of text"
+    )?;
+    let whole = format!(in alloc;
+        "{line}{{\"offset\":40003,\"length\":2,\"value\":\"b\"}}\nwhole"
+    )?;
     let cut = told(alloc, "", "text", &bytes[..40_002])?;
     bytes.push(1)?;
     let is_torn = tells(alloc, ("", "text"), &bytes, torn.as_str())?;
@@ -101,7 +119,15 @@ fn reads_long_encodings(rt: HostRuntime) -> Result<(), AllocError> {
         &[
             is_torn,
             tells(alloc, ("", "text"), &bytes, whole.as_str())?,
-            told(alloc, "", "text", Breaking { bytes: &bytes, calls: 50_000 })? == whole,
+            told(
+                alloc,
+                "",
+                "text",
+                Breaking {
+                    bytes: &bytes,
+                    calls: 50_000,
+                },
+            )? == whole,
             cut.as_str() == "torn at byte 0: the input ends within a value of text",
         ],
     );
@@ -153,8 +179,18 @@ fn reads_each_configuration(rt: HostRuntime) -> Result<(), AllocError> {
             tells(alloc, ("--fixed", "u8|u8"), &[1, 0, 0, 0, 9], choice)?,
             tells(alloc, ("--fixed --limit none", "u16"), &[44, 1], fixed)?,
             tells(alloc, ("--limit none", "u16"), &[251, 44, 1], variable)?,
-            tells(alloc, ("--limit none --big-endian", "u16"), &[251, 1, 44], variable)?,
-            tells(alloc, ("--limit none --big-endian --fixed", "u16"), &[1, 44], fixed)?,
+            tells(
+                alloc,
+                ("--limit none --big-endian", "u16"),
+                &[251, 1, 44],
+                variable,
+            )?,
+            tells(
+                alloc,
+                ("--limit none --big-endian --fixed", "u16"),
+                &[1, 44],
+                fixed,
+            )?,
         ],
     );
     Ok(())
@@ -190,7 +226,9 @@ fn prints_no_more_values_than_allowed(rt: HostRuntime) -> Result<(), AllocError>
     let alloc = rt.alloc();
     let bytes = [0, 2, 1, 9, 0].as_slice();
     let empty = "{\"offset\":0,\"length\":1,\"value\":[]}\n";
-    let printed = format!(in alloc; "{empty}{{\"offset\":1,\"length\":4,\"value\":[9,null]}}\nwhole")?;
+    let printed = format!(in alloc;
+        "{empty}{{\"offset\":1,\"length\":4,\"value\":[9,null]}}\nwhole"
+    )?;
     let counted = format!(in alloc; "{empty}{{\"offset\":1,\"length\":4,\"values\":4}}\nwhole")?;
     let nothings = "{\"offset\":0,\"length\":5,\"value\":{\"count\":67108856}}\nwhole";
     all_true(
@@ -199,7 +237,12 @@ fn prints_no_more_values_than_allowed(rt: HostRuntime) -> Result<(), AllocError>
             tells(alloc, ("", "[u8?]"), bytes, printed.as_str())?,
             tells(alloc, ("--values 4", "[u8?]"), bytes, printed.as_str())?,
             tells(alloc, ("--values 3", "[u8?]"), bytes, counted.as_str())?,
-            tells(alloc, ("--values 1", "[()]"), &[252, 248, 255, 255, 3], nothings)?,
+            tells(
+                alloc,
+                ("--values 1", "[()]"),
+                &[252, 248, 255, 255, 3],
+                nothings,
+            )?,
         ],
     );
     Ok(())

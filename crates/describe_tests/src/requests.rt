@@ -99,34 +99,79 @@ fn takes_files(rt: HostRuntime) -> Result<(), AllocError> {
 }
 
 /// Whether words are answered by a status and a text that begins so.
-fn answers(
-    alloc: Global,
-    (options, shape): (&str, &str),
-    text: &str,
-) -> Result<bool, AllocError> {
-    Ok(told(alloc, options, shape, [].as_slice())?.as_str().starts_with(text))
+fn answers(alloc: Global, (options, shape): (&str, &str), text: &str) -> Result<bool, AllocError> {
+    Ok(
+        told(alloc, options, shape, [].as_slice())?
+            .as_str()
+            .starts_with(text),
+    )
 }
 
 #[test]
 fn refuses_words(rt: HostRuntime) -> Result<(), AllocError> {
     let alloc = rt.alloc();
-    let no_shape = "2 error: \"(u8, u9)\" is no shape: at byte 5: expected `(`, `[` or a name (bool, char, text, u8, u16, \
+    let no_shape =
+        "2 error: \"(u8, u9)\" is no shape: at byte 5: expected `(`, `[` or a name (bool, char, text, u8, u16, \
         u32, u64, u128, usize, i8, i16, i32, i64, i128 or isize), and not `u9`\n";
     all_true(
         &rt,
         &[
             answers(alloc, ("", "(u8, u9)"), no_shape)?,
-            answers(alloc, ("", "--fixed"), "2 error: the following required arguments")?,
-            answers(alloc, ("u8 f", "g"), "2 error: unexpected argument 'g' found")?,
-            answers(alloc, ("--fix", "u8"), "2 error: unexpected argument '--fix' found")?,
-            answers(alloc, ("--config legacy --fixed", "u8"), "2 error: the argument '--config <CONFIG>' cannot be used with")?,
-            answers(alloc, ("--config standard --big-endian", "u8"), "2 error: the argument '--config <CONFIG>' cannot be used with")?,
-            answers(alloc, ("--config big", "u8"), "2 error: invalid value 'big' for '--config <CONFIG>'")?,
-            answers(alloc, ("--limit 3", "u8"), "2 error: invalid value '3' for '--limit <SIZE>'")?,
-            answers(alloc, ("--values -1", "u8"), "2 error: unexpected argument '-1' found")?,
-            answers(alloc, ("--longest 9", "u8"), "2 error: the following required arguments")?,
-            answers(alloc, ("--frames --longest 4294967296", "u8"), "2 error: invalid value '4294967296' for '--longest <N>'")?,
-            answers(alloc, ("", "--help"), "0 Prints what a file in the format of bincode holds")?,
+            answers(
+                alloc,
+                ("", "--fixed"),
+                "2 error: the following required arguments",
+            )?,
+            answers(
+                alloc,
+                ("u8 f", "g"),
+                "2 error: unexpected argument 'g' found",
+            )?,
+            answers(
+                alloc,
+                ("--fix", "u8"),
+                "2 error: unexpected argument '--fix' found",
+            )?,
+            answers(
+                alloc,
+                ("--config legacy --fixed", "u8"),
+                "2 error: the argument '--config <CONFIG>' cannot be used with",
+            )?,
+            answers(
+                alloc,
+                ("--config standard --big-endian", "u8"),
+                "2 error: the argument '--config <CONFIG>' cannot be used with",
+            )?,
+            answers(
+                alloc,
+                ("--config big", "u8"),
+                "2 error: invalid value 'big' for '--config <CONFIG>'",
+            )?,
+            answers(
+                alloc,
+                ("--limit 3", "u8"),
+                "2 error: invalid value '3' for '--limit <SIZE>'",
+            )?,
+            answers(
+                alloc,
+                ("--values -1", "u8"),
+                "2 error: unexpected argument '-1' found",
+            )?,
+            answers(
+                alloc,
+                ("--longest 9", "u8"),
+                "2 error: the following required arguments",
+            )?,
+            answers(
+                alloc,
+                ("--frames --longest 4294967296", "u8"),
+                "2 error: invalid value '4294967296' for '--longest <N>'",
+            )?,
+            answers(
+                alloc,
+                ("", "--help"),
+                "0 Prints what a file in the format of bincode holds",
+            )?,
             answers(alloc, ("", "--version"), "0 describe 2.0.0\n")?,
         ],
     );
