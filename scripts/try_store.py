@@ -107,6 +107,9 @@ def flips(store, held, frames):
         before = sum(1 for at, size in frames if at + size <= place)
         tries.want(status == DAMAGED, f"byte {place}: status {status}, {text.strip()!r}")
         tries.want(is_listed(store, frames, before), f"byte {place}: the {before} records before it are not listed")
+        status, text, error = store.run("repair", "--drop-damaged", str(store.file))
+        kept = b"".join(held[at : at + size] for at, size in frames if not at <= place < at + size)
+        tries.want(status == WHOLE and store.file.read_bytes() == kept, f"byte {place}: repaired with status {status}, {text.strip()!r}, {error.strip()!r}")
     return tries.done()
 
 
@@ -164,7 +167,8 @@ def killed(store, held, frames):
         status, text, _ = store.run("check", str(store.file))
         tries.want(status == WHOLE, f"run {number}: after repair {status}, {text.strip()!r}")
         listed = store.run("list", str(store.file))[1].splitlines()
-        tries.want(sum("name" in line for line in listed) >= len(said), f"run {number}: {len(said)} were said to be there")
+        there = sum("name" in line for line in listed)
+        tries.want(there == 200 if said else there <= 200, f"run {number}: {there} are there, and it said {said}")
     return tries.done()
 
 
@@ -205,8 +209,34 @@ def devices(store, held, frames):
     with open("/dev/full", "wb") as full:
         status, _, error = store.run("list", str(store.file), output=full)
         tries.want(status == DEVICE, f"a full disk for what is printed: status {status}, {error.strip()!r}")
+    store.with_bytes(b"")
+    store.run("add", str(store.file), "-", given=b"".join(b"name%d %d\n" % (i, i) for i in range(50_000)))
     piped = subprocess.run(f"'{store.program}' list '{store.file}' | head -1", shell=True, stdout=subprocess.PIPE, stderr=subprocess.PIPE)
     tries.want(piped.stdout.count(b"\n") == 1 and not piped.stderr, f"a reader that is gone: {piped.stderr!r}")
+    return tries.done()
+
+
+def full_disk(store, held, frames):
+    """A disk without room for all that is added: nothing of it is, and what was there stays."""
+    tries = Tries("a small disk")
+    disk = store.file.parent / "disk"
+    disk.mkdir()
+    if subprocess.run(["mount", "-t", "tmpfs", "-o", "size=128k", "tmpfs", str(disk)], stderr=subprocess.DEVNULL).returncode:
+        print("  no disk could be mounted: not tried", flush=True)
+        return tries.done()
+    try:
+        file = disk / "store"
+        file.write_bytes(held)
+        many = b"".join(b"name%d %d\n" % (i, i) for i in range(20_000))
+        status, _, error = store.run("add", str(file), "-", given=many)
+        tries.want(status == DEVICE and error, f"many: status {status}, {error.strip()!r}")
+        tries.want(file.read_bytes() == held, f"many: {file.stat().st_size} bytes are left of {len(held)}")
+        status, _, error = store.run("add", str(file), "-", given=b"tea 1\ntea much\n")
+        tries.want(status == DEVICE and file.read_bytes() == held, f"a line that is no article: status {status}, {error.strip()!r}")
+        status, _, error = store.run("add", str(file), "tea", "1250")
+        tries.want(status == WHOLE, f"one more: status {status}, {error.strip()!r}")
+    finally:
+        subprocess.run(["umount", str(disk)])
     return tries.done()
 
 
@@ -240,7 +270,7 @@ def main():
         store = Store(program, Path(folder))
         held = made(store, 20)
         frames = frames_of(held)
-        for group in (flips, prefixes, tails, killed, locked, devices, *([huge] if given.huge else [])):
+        for group in (flips, prefixes, tails, killed, locked, devices, full_disk, *([huge] if given.huge else [])):
             if given.only in group.__name__:
                 wrong += group(store, held, frames)
     sys.exit(1 if wrong else 0)

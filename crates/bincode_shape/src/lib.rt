@@ -4,6 +4,7 @@
 
 pub mod bytes;
 pub mod choices;
+mod collections;
 pub mod depth;
 pub mod described;
 pub mod fits;

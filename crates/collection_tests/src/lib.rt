@@ -45,8 +45,6 @@ mod reserved;
 #[cfg(test)]
 mod shown;
 #[cfg(test)]
-mod stores;
-#[cfg(test)]
 mod tables;
 #[cfg(test)]
 mod texts;

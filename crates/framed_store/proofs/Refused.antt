@@ -6,7 +6,7 @@ use Rattle.bincode_base.specs.declared.error.DecodeError.TheVariants.{Memory}
 use Rattle.bincode_spec.specs.Format.{Format}
 use Rattle.bincode_spec.specs.Meaning.{Meaning}
 use Rattle.bincode_spec.specs.Slice.{FindsWords, TellsFaults, KeepsLimit}
-use Rattle.record_store.specs.Stores.{IsRefusedFor}
+use Rattle.framed_store.specs.Told.{IsRefusedFor}
 
 -- an error other than a refusal of memory tells why no encoding begins the word
 pub refused-for : (F : Format Meaning) (limit : Option ℕ) (MayAllocate : Type 0) (word : List ℕ) (e : DecodeError) → ¬ (e ≡ Memory) → FindsWords {A = Unit {0}} F limit MayAllocate word (Err e) →

@@ -9,9 +9,14 @@ use Rattle.bincode_spec.specs.Limits.{FitsLimit}
 use Rattle.bincode_io.specs.Stream.{IsWriteIo}
 use Rattle.bincode_types.specs.TypeWords.{Words}
 use Rattle.frames.specs.Frames.{frame}
-use Rattle.record_store.specs.Stores.{IsEntry}
 use Rattle.framed_store.specs.declared.appending.AppendError.{AppendError}
 use Rattle.framed_store.specs.declared.appending.AppendError.TheVariants as failures
+
+-- a word that is written for the value, and whose steps stay within the limit
+pub record IsEntry {A : Type 0} (W : Words A) (s : Setting) (limit : Option ℕ) (value : A) (word : List ℕ) : Type 0 where
+  pub is_valid : W.valid value
+  pub is_written : AllowedWord (W.means value) (W.format s) word
+  pub is_within : FitsLimit (W.format s) limit word
 
 -- a word of the value within the limit, of at most as many bytes as the store takes
 pub record IsFitting {A : Type 0} (W : Words A) (s : Setting) (limit : Option ℕ) (most : ℕ) (value : A) (word : List ℕ) : Type 0 where

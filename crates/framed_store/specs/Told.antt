@@ -1,11 +1,15 @@
 -- What is told of a store of frames: of each frame what it holds, and how the store ends.
-use Rattle.std.specs.Prelude.{◌≡◌, ◌+◌, ◌<◌, ℕ, List, [], ◌∷◌, length, drop, Option}
+use Rattle.std.specs.Prelude.{◌≡◌, ◌+◌, ◌<◌, ◌++◌, ℕ, List, [], ◌∷◌, length, drop, Option}
+use Rattle.bincode_base.specs.declared.error.DecodeError.{DecodeError}
+use Rattle.bincode_base.specs.declared.error.DecodeError.TheVariants as decoding
+use Rattle.bincode_spec.specs.Answer.{StepsOf}
+use Rattle.bincode_spec.specs.Charge.{Step, StaysWithin, Passes}
+use Rattle.bincode_spec.specs.Fault.{Fault, Tells}
 use Rattle.bincode_spec.specs.Format.{Format}
 use Rattle.bincode_spec.specs.Meaning.{Meaning}
-use Rattle.bincode_spec.specs.Slice.{Decoded}
+use Rattle.bincode_spec.specs.Slice.{Decoded, EndsSlice}
 use Rattle.frames.specs.Frames.{Reads, framed_word}
 use Rattle.frames.specs.declared.Frame.TheVariants as frames
-use Rattle.record_store.specs.Stores.{IsRefusedFor}
 use Rattle.framed_store.specs.declared.ending.Ending.{Ending}
 use Rattle.framed_store.specs.declared.listing.Record.{Record}
 use Rattle.framed_store.specs.declared.records.Content.{Content}
@@ -13,6 +17,12 @@ use Rattle.framed_store.specs.declared.records.Content.TheVariants.{Value, Damag
 use Rattle.framed_store.specs.declared.records.Next.{Next}
 use Rattle.framed_store.specs.declared.records.Next.TheVariants as next
 use Rattle.framed_store.specs.Steps.{IsWhole, IsDamaged, EndsAt}
+
+-- no encoding within the limit begins the bytes, and the error tells why
+pub record IsRefusedFor (F : Format Meaning) (limit : Option ℕ) (bytes : List ℕ) (why : DecodeError) : Type 0 where
+  pub no_word : (word remaining : List ℕ) (meaning : Meaning) (steps : List Step) → bytes ≡ word ++ remaining → F.Word word meaning steps → StaysWithin limit 0 steps → ⊥
+  pub tells : (fault : Fault) (steps : List Step) → F.Faults bytes fault steps → StaysWithin limit 0 steps → Tells EndsSlice fault why
+  pub keeps : (steps : List Step) → StepsOf F bytes steps → Passes limit 0 steps → why ≡ decoding.LimitExceeded
 
 -- what a word holds
 abbrev pub IsContent : {A : Type 0} → Format Meaning → Option ℕ → (Meaning → A → Type 0) → List ℕ → Content A → Type 0

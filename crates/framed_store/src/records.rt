@@ -1,5 +1,6 @@
 //! What stands where a record is to begin: a frame, and what its word holds.
-ghost use Rattle.std.specs.Prelude.{IfOk};
+ghost use Rattle.std.specs.Prelude.{◌≡◌, ◌↔◌, IfOk, IsTrue};
+ghost use Rattle.bincode_base.specs.declared.error.DecodeError.TheVariants.{Memory};
 ghost use Rattle.framed_store.specs.Told.{IsNext, IsContent};
 
 use bincode::config::Config;
@@ -7,7 +8,6 @@ use bincode::de::Decode;
 use bincode::error::DecodeError;
 use bincode::{Wire, decode_from_slice};
 use frames::{Frame, read_frame};
-use record_store::store::is_memory;
 use std::alloc::{AllocError, Global};
 
 /// What a frame that stands whole in length holds.
@@ -91,4 +91,11 @@ fn content_of<T: Decode<()>, C: Config>(
             Ok(Content::Undecodable(why))
         }
     }
+}
+
+/// Whether an allocation was refused.
+fn is_memory(error: &DecodeError) -> bool
+    ensures { IsTrue result ↔ (error.now ≡ Memory) }
+{
+    matches!(error, DecodeError::Memory)
 }

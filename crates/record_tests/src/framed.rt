@@ -1,6 +1,6 @@
 //! Frames: the published checks, worked frames, and bytes that are no frame.
 
-use crate::asserts::all_true;
+use crate::stores::all_true;
 use crc32c::checksum;
 use frames::{Frame, OVERHEAD, around, read_frame};
 

@@ -1,6 +1,6 @@
 //! Stores of articles in frames: whole, cut, damaged, and where a write fails.
 
-use crate::articles::{STOCK, salt, tea};
+use crate::stores::{FRAMED, Full, STOCK, salt, tea};
 use bincode::error::DecodeError;
 use framed_store::appending::{AppendError, append};
 use framed_store::ending::Ending;
@@ -8,18 +8,9 @@ use framed_store::listing::{Listing, Record, list};
 use framed_store::records::Content;
 use framed_store::surveying::{Survey, survey_frames};
 use frames::around;
-use record_store::article::Article;
-use record_store::stock::settings;
 use std::alloc::{AllocError, Global};
-use std::io;
-use std::io::{ErrorKind, Write};
-
-/// The frames of salt, tea and salt, which another program made.
-const FRAMED: [u8; 63] = [
-    8, 0, 0, 0, 4, 115, 97, 108, 116, 40, 0, 0, 172, 169, 102, 189, 23, 0, 0, 0, 3, 116, 101, 97,
-    251, 226, 4, 1, 100, 1, 6, 111, 114, 105, 103, 105, 110, 5, 65, 115, 115, 97, 109, 144, 206,
-    185, 142, 8, 0, 0, 0, 4, 115, 97, 108, 116, 40, 0, 0, 172, 169, 102, 189,
-];
+use stock_files::article::Article;
+use stock_files::limit::settings;
 
 /// Their offsets and sizes.
 const PLACES: [(usize, usize); 3] = [(0, 16), (16, 31), (47, 16)];
@@ -233,29 +224,6 @@ fn tells_frames_that_hold_no_value(rt: HostRuntime) -> Result<(), AllocError> {
     assert!(rt; tells_longer_word(alloc)?);
     assert!(rt; tells_zeros(alloc)?);
     Ok(())
-}
-
-/// Takes as many bytes as it has room for, and then fails.
-#[derive(Drop)]
-struct Full {
-    held: Vec<u8>,
-    room: usize,
-}
-
-impl Write for Full {
-    fn write(&mut self, bytes: &[u8]) -> io::Result<usize> {
-        let count = bytes.len().min(self.room);
-        if count == 0 {
-            return Err(ErrorKind::StorageFull.into());
-        }
-        self.held.extend_from_slice(&bytes[..count])?;
-        self.room -= count;
-        Ok(count)
-    }
-
-    fn flush(&mut self) -> io::Result<()> {
-        Ok(())
-    }
 }
 
 /// Whether a stream with this room for the second frame holds that much of it, and the failure is told.

@@ -1,21 +1,20 @@
-//! The tests of `record_store`, and of the programs `records` and `describe`: words, files and their bytes.
+//! The tests of frames, of stores of frames, and of what the program `records` does: words, the bytes of stores, what is
+//! printed, and streams that fail.
 #![tactic(auto)]
 
 #[cfg(test)]
-mod articles;
-#[cfg(test)]
-mod asserts;
-#[cfg(test)]
-mod commands;
-#[cfg(test)]
-mod described;
+mod adds;
 #[cfg(test)]
 mod framed;
 #[cfg(test)]
 mod framed_stores;
 #[cfg(test)]
-mod records;
+mod inputs;
 #[cfg(test)]
-mod stocks;
+mod repairs;
 #[cfg(test)]
-mod streams;
+mod requests;
+#[cfg(test)]
+mod shows;
+#[cfg(test)]
+mod stores;

@@ -1,17 +1,17 @@
-//! Keeps the articles of a stock in files, each article behind the one before.
+//! Keeps the articles of a stock in files, each in a frame with a check, so that damage is told.
 //!
 //!     records add FILE NAME PRICE [WEIGHT] [NOTE=TEXT ..]    appends an article
-//!     records list FILE ..                                    prints the articles, each with its offset and its length
-//!     records check FILE ..                                   counts them, and says where a file is torn
+//!     records add FILE -                                      appends the articles of the standard input, one a line
+//!     records list FILE ..                                    prints the articles, each with its offset
+//!     records check FILE ..                                   says for each file whether it is whole
+//!     records repair [--drop-damaged] FILE                    cuts off a torn end, and drops damaged frames
 #![tactic(auto)]
 
-use record_store::program::run;
 use std::env;
+use std::process::ExitCode;
+use stock_files::program::run;
 
-fn main(rt: HostRuntime) -> anyhow::Result<()> {
-    let mut words = Vec::new(rt.alloc());
-    for word in env::args(&rt)?.skip(1) {
-        words.push(word)?;
-    }
-    run(&rt, words)
+fn main(rt: HostRuntime) -> anyhow::Result<ExitCode> {
+    let words: Vec<String> = env::args(&rt)?.collect(rt.alloc())?;
+    Ok(ExitCode::from(run(&rt, &words)))
 }

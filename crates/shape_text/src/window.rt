@@ -1,5 +1,5 @@
 //! A window over a stream: the bytes that were read of it and not yet consumed.
-ghost use Rattle.std.specs.Prelude.{◌≡◌, ◌≢◌, ◌+◌, ◌≤◌, ◌<◌, ◌++◌, [], true, false, length, take, drop};
+ghost use Rattle.std.specs.Prelude.{◌≡◌, ◌+◌, ◌≤◌, ◌<◌, ◌++◌, [], true, false, length, take, drop};
 ghost use Rattle.std.specs.Prelude.{IfOk, OnErr, vec_len, vec_capacity};
 ghost use Rattle.std.specs.Io.{ReadsAtMost, StartsWith};
 ghost use Rattle.std.specs.Io.KnownBytes.{Consumes, IsAtEnd, Keeps};
@@ -54,12 +54,13 @@ impl<R: Read> Window<R> {
 
     /// Whether a byte is left. Reads only where none is shown.
     pub fn has_more(&mut self) -> io::Result<bool>
-        // Nothing is consumed.
+        // Nothing is consumed, and what was shown is still shown.
         ensures kept { Keeps (bytes_left R.remaining self.old) (bytes_left R.remaining self.new) }
         ensures grown { StartsWith (shown_bytes self.new) (shown_bytes self.old) }
         // A byte is left exactly where one is shown; else the stream is at its end.
         ensures more { IfOk result (λ more. more ≡ true → 0 < length (shown_bytes self.new)) }
-        ensures end { IfOk result (λ more. more ≡ false → (shown_bytes self.new ≡ []) × IsAtEnd (R.remaining (source_of self.new))) }
+        ensures end { IfOk result (λ more. more ≡ false → (shown_bytes self.new ≡ [])
+            × IsAtEnd (R.remaining (source_of self.new))) }
     {
         if self.start < self.bytes.len() {
             return Ok(true);
@@ -71,11 +72,15 @@ impl<R: Read> Window<R> {
     /// came. A read that a signal interrupts is tried again. Fails where a read fails, or with `OutOfMemory`; then what
     /// came before is shown.
     pub fn read_more(&mut self) -> io::Result<bool>
-        // Nothing is consumed,
+        // Nothing is consumed, and what was shown is still shown.
         ensures kept { Keeps (bytes_left R.remaining self.old) (bytes_left R.remaining self.new) }
         ensures grown { StartsWith (shown_bytes self.new) (shown_bytes self.old) }
-        ensures more { IfOk result (λ more. more ≡ true → length (shown_bytes self.old) < length (shown_bytes self.new)) }
-        ensures end { IfOk result (λ more. more ≡ false → (shown_bytes self.new ≡ shown_bytes self.old) × IsAtEnd (R.remaining (source_of self.new))) }
+        // `true` says that a byte came,
+        ensures more { IfOk result (λ more. more ≡ true
+            → length (shown_bytes self.old) < length (shown_bytes self.new)) }
+        // and `false` that the stream is at its end, and what is shown stays.
+        ensures end { IfOk result (λ more. more ≡ false → (shown_bytes self.new ≡ shown_bytes self.old)
+            × IsAtEnd (R.remaining (source_of self.new))) }
     {
         self.drop_consumed();
         let before = self.bytes.len();
@@ -107,7 +112,8 @@ impl<R: Read> Window<R> {
         ensures start { self.new.start ≡ self.old.start }
         ensures grown { StartsWith self.new.bytes.items self.old.bytes.items }
         ensures more { IfOk result (λ more. more ≡ true → vec_len self.old.bytes < vec_len self.new.bytes) }
-        ensures end { IfOk result (λ more. more ≡ false → (self.new.bytes.items ≡ self.old.bytes.items) × IsAtEnd (R.remaining (source_of self.new))) }
+        ensures end { IfOk result (λ more. more ≡ false → (self.new.bytes.items ≡ self.old.bytes.items)
+            × IsAtEnd (R.remaining (source_of self.new))) }
     {
         let Ok(()) = self.bytes.reserve(CHUNK) else {
             return Err(ErrorKind::OutOfMemory.into());

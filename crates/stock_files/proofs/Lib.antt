@@ -1,1 +1,3 @@
-pub mod Keeping
+pub mod Judging
+pub mod Greatest
+pub mod Growing

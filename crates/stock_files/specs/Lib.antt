@@ -1,2 +1,3 @@
-pub mod Kept
-pub mod WholeStores
+pub mod Repairs
+pub mod Statuses
+pub mod Stores

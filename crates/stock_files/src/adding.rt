@@ -1,45 +1,51 @@
 //! Appending articles to a store of frames.
-ghost use Rattle.std.specs.Prelude.{◌≡◌, length, IfOk, IfErr};
-ghost use Rattle.framed_store.specs.Surveys.{IsSurvey};
+ghost use Rattle.std.specs.Prelude.{IfOk, IfErr};
+ghost use Rattle.bincode_io.specs.Stream.{TellsBytes, known_bytes};
 ghost use Rattle.framed_store.specs.Appended.{Added, Leaves};
-ghost use Rattle.framed_store.specs.declared.surveying.Survey.{Survey};
+ghost use Rattle.framed_store.specs.Surveys.{StepsOver};
+ghost use Rattle.stock_files.specs.Stores.{AddsAll, AddsFront};
 
-use crate::limit::{LONGEST_WORD, Settings};
+use crate::article::Article;
+use crate::input::{LineError, next_article};
+use crate::limit::{LONGEST_WORD, Settings, settings};
 use crate::status::{DAMAGED, FAILED};
 use bincode::Wire;
 use bincode::config::Config;
 use framed_store::appending::{AppendError, append};
 use framed_store::ending::Ending;
-use framed_store::surveying::survey_frames;
-use record_store::adding::Place;
-use record_store::article::Article;
-use record_store::stock::{print_place, settings};
+use framed_store::stepping::step_over;
 use std::alloc::{AllocError, Global};
 use std::io;
-use std::io::Write;
+use std::io::{BufRead, Read, Write};
 use thiserror::Error;
 
 /// Why an article was not added.
 #[derive(Debug, Drop, Error)]
 pub enum AddError {
     /// The store ends within a frame. Nothing was written.
-    #[error("torn at byte {offset}: nothing was added. `records repair` cuts the file off there")]
+    #[error("torn at byte {offset}: nothing was added. `records repair` makes the file whole")]
     Torn {
         /// The number of bytes before that frame.
         offset: usize,
     },
     /// A length in the store is above what it takes, so it is not known where its last frame ends. Nothing was written.
     #[error("no frame at byte {offset}, of a length of {length}: nothing was added. \
-        `records repair` cuts the file off there")]
+        `records repair` makes the file whole")]
     TooLong {
         /// The number of bytes before it.
         offset: usize,
         /// The length.
         length: u32,
     },
+    /// The store could not be read. Nothing was written.
+    #[error("{0}")]
+    Store(io::Error),
     /// Appending failed.
     #[error("{0}")]
     Append(#[from] AppendError),
+    /// A line is no article, or the input failed.
+    #[error("{0}")]
+    Line(#[from] LineError),
     /// An allocation was refused.
     #[error(transparent)]
     Memory(#[from(alloc)] AllocError),
@@ -55,58 +61,18 @@ impl AddError {
     }
 }
 
-/// The articles that were added, and what kept the others from it.
-#[derive(Drop)]
-pub struct Addition {
-    /// The places of the frames that were added, in order.
-    pub places: Vec<Place>,
-    /// Why there are no more of them.
-    pub failure: Option<AddError>,
-}
-
-/// The offset of the next frame of a store that holds these bytes. Looks at its frames alone, and not into them.
-pub fn next_offset(held: &[u8]) -> Result<usize, AddError>
+/// The offset of the next frame of a store. Steps over its frames by their lengths, and does not look into them.
+pub fn next_offset<R: Read>(store: &mut R) -> Result<usize, AddError>
     // A store that takes one more ends after a frame.
-    ensures { IfOk result (λ offset. (offset ≡ length held.now)
-        × (survey : Survey) × IsSurvey LONGEST_WORD held.now survey × (survey.ending ≡ Ending.Whole)) }
+    ensures { TellsBytes (R.remaining store.old) → IfOk result (λ offset.
+        StepsOver LONGEST_WORD (known_bytes (R.remaining store.old)) offset Ending.Whole) }
 {
-    match survey_frames(held, LONGEST_WORD).ending {
-        Ending::Whole => Ok(held.len()),
-        Ending::Torn { offset } => Err(AddError::Torn { offset }),
-        Ending::TooLong { offset, length } => Err(AddError::TooLong { offset, length }),
+    match step_over(store, LONGEST_WORD) {
+        Ok((offset, Ending::Whole)) => Ok(offset),
+        Ok((_, Ending::Torn { offset })) => Err(AddError::Torn { offset }),
+        Ok((_, Ending::TooLong { offset, length })) => Err(AddError::TooLong { offset, length }),
+        Err(e) => Err(AddError::Store(e)),
     }
-}
-
-/// Appends articles to a store that holds these bytes, one after another, up to one that fails.
-pub fn add_all<W: Write>(
-    alloc: Global,
-    held: &[u8],
-    store: &mut W,
-    articles: &[Article],
-) -> Addition {
-    let mut addition = Addition {
-        places: Vec::new(alloc),
-        failure: None,
-    };
-    addition.failure = add_each(alloc, held, store, articles, &mut addition.places).err();
-    addition
-}
-
-/// Appends articles, and notes their places.
-fn add_each<W: Write>(
-    alloc: Global,
-    held: &[u8],
-    store: &mut W,
-    articles: &[Article],
-    places: &mut Vec<Place>,
-) -> Result<(), AddError> {
-    let mut offset = next_offset(held)?;
-    for article in articles {
-        let size = add_one(alloc, store, article)?;
-        places.push(Place { offset, size })?;
-        offset = offset.saturating_add(size);
-    }
-    Ok(())
 }
 
 /// Appends an article to a store that ends after a frame, and returns the number of bytes of its frame.
@@ -125,10 +91,27 @@ pub fn add_one<W: Write>(
     append(alloc, store, article, settings(), LONGEST_WORD)
 }
 
-/// Prints the places of articles in a file of this name.
-pub fn print_places<W: Write>(out: &mut W, file: &str, places: &[Place]) -> io::Result<()> {
-    for place in places {
-        print_place(out, file, place)?;
+/// Appends the articles of an input, one a line, to a store that ends after a frame, and returns how many they are.
+/// Stops at the first line that is no article: those before it were appended.
+pub fn add_lines<R: BufRead, W: Write>(
+    alloc: Global,
+    input: &mut R,
+    store: &mut W,
+) -> Result<usize, AddError>
+    // On `Ok(n)` the frames of `n` articles follow what the store held.
+    ensures added { IfOk result (λ n. AddsAll ⟦<Article as Wire>⟧.words ⟦<Settings as Config>⟧.setting
+        ⟦<Settings as Config>⟧.bound LONGEST_WORD n (W.contents store.old) (W.contents store.new)) }
+    // After an error a prefix of such frames follows it.
+    ensures left { IfErr result (λ _. AddsFront ⟦<Article as Wire>⟧.words ⟦<Settings as Config>⟧.setting
+        ⟦<Settings as Config>⟧.bound LONGEST_WORD (W.contents store.old) (W.contents store.new)) }
+{
+    let mut text = String::new(alloc);
+    let mut line = 0;
+    for added in 0..usize::MAX {
+        let Some(article) = next_article(alloc, input, &mut text, &mut line)? else {
+            return Ok(added);
+        };
+        add_one(alloc, store, &article)?;
     }
-    Ok(())
+    Err(AddError::Line(LineError::TooMany))
 }

@@ -1,6 +1,6 @@
 //! Articles as words: `NAME PRICE [WEIGHT] [NOTE=TEXT ..]`.
 
-use record_store::article::Article;
+use crate::article::Article;
 use std::alloc::{AllocError, Global};
 use std::collections::BTreeMap;
 use thiserror::Error;

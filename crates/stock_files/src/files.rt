@@ -2,7 +2,7 @@
 
 use std::alloc::Global;
 use std::fs::{File, OpenOptions, TryLockError};
-use std::io::{Read, Write};
+use std::io::{Read, Seek, SeekFrom};
 use std::os::unix::fs::MetadataExt;
 use std::{fs, io};
 use thiserror::Error;
@@ -24,16 +24,17 @@ pub enum FileError {
     Access(#[from] io::Error),
 }
 
-/// The bytes of a regular file.
-pub fn read_store(rt: &HostRuntime, path: &str) -> Result<Vec<u8>, FileError> {
-    let mut file = fs::open(rt, path)?;
+/// Opens a regular file to read it.
+pub fn open_to_read(rt: &HostRuntime, path: &str) -> Result<File, FileError> {
+    let file = fs::open(rt, path)?;
     refuse_irregular(&file)?;
-    bytes_left(rt.alloc(), &mut file)
+    Ok(file)
 }
 
 /// Opens a regular file to read it and to append to it, with a lock that keeps others from changing it until it is
-/// closed. It is made where there is none, if `creates` says so.
+/// closed. It is made where there is none, if `creates` says so; then its name is on the disk on return.
 pub fn open_to_change(rt: &HostRuntime, path: &str, creates: bool) -> Result<File, FileError> {
+    let is_new = creates && fs::metadata(rt, path).is_err();
     let file = OpenOptions::new()
         .read(true)
         .append(true)
@@ -46,6 +47,9 @@ pub fn open_to_change(rt: &HostRuntime, path: &str, creates: bool) -> Result<Fil
         Err(TryLockError::Error(e)) => return Err(FileError::Access(e)),
     }
     refuse_replaced(rt, path, &file)?;
+    if is_new {
+        sync_folder(rt, path)?;
+    }
     Ok(file)
 }
 
@@ -69,9 +73,20 @@ fn refuse_replaced(rt: &HostRuntime, path: &str, file: &File) -> Result<(), File
     }
 }
 
-/// The bytes of a file from where it is read to its end.
-pub fn bytes_left(alloc: Global, file: &mut File) -> Result<Vec<u8>, FileError> {
+/// Brings the names in the folder of this file to the disk.
+fn sync_folder(rt: &HostRuntime, path: &str) -> io::Result<()> {
+    let folder = match path.rsplit_once('/') {
+        Some(("", _)) => "/",
+        Some((folder, _)) => folder,
+        None => ".",
+    };
+    fs::open(rt, folder)?.sync_all()
+}
+
+/// The bytes of a file from an offset to its end.
+pub fn bytes_from(alloc: Global, file: &mut File, offset: usize) -> Result<Vec<u8>, FileError> {
     let mut bytes = Vec::new(alloc);
+    file.seek(SeekFrom::Start(offset as u64))?;
     file.read_to_end(&mut bytes)?;
     Ok(bytes)
 }
@@ -82,37 +97,39 @@ pub fn cut(file: &File, length: usize) -> Result<(), FileError> {
     Ok(file.sync_all()?)
 }
 
-/// Puts a file of these bytes in the place of the one at this path, with its permissions. The new one is made beside
-/// it, as `PATH.repaired`, and takes the old one's name once it is on the disk. Where that fails the old one stands as
-/// it was.
-pub fn replace(rt: &HostRuntime, path: &str, old: &File, bytes: &[u8]) -> Result<(), FileError> {
-    let path = fs::canonicalize(rt, path)?;
-    let path = path.as_str();
-    let beside = format!(in rt.alloc(); "{path}.repaired").map_err(io::Error::from)?;
-    let new = OpenOptions::new()
-        .write(true)
-        .create_new(true)
-        .open(rt, beside.as_str())?;
-    match fill_and_rename(rt, new, old, bytes, beside.as_str(), path) {
-        Ok(()) => Ok(()),
-        Err(e) => {
-            let _ = fs::remove_file(rt, beside.as_str());
-            Err(FileError::Access(e))
-        }
-    }
+/// A new file beside another one, in whose place it is put.
+#[derive(Drop)]
+pub struct Replacement {
+    /// The new file, at `PATH.repaired`.
+    pub file: File,
+    beside: String,
+    path: String,
 }
 
-/// Writes the new file, and gives it the name of the old one.
-fn fill_and_rename(
-    rt: &HostRuntime,
-    mut new: File,
-    old: &File,
-    bytes: &[u8],
-    beside: &str,
-    path: &str,
-) -> io::Result<()> {
-    new.set_permissions(old.metadata()?.permissions())?;
-    new.write_all(bytes)?;
-    new.sync_all()?;
-    fs::rename(rt, beside, path)
+impl Replacement {
+    /// Makes an empty one beside a file at this path, with its permissions.
+    pub fn new(rt: &HostRuntime, path: &str, old: &File) -> Result<Replacement, FileError> {
+        let path = fs::canonicalize(rt, path)?;
+        let beside = format!(in rt.alloc(); "{}.repaired", path.as_str()).map_err(io::Error::from)?;
+        let path = String::from_str(rt.alloc(), path.as_str()).map_err(io::Error::from)?;
+        let file = OpenOptions::new()
+            .read(true)
+            .write(true)
+            .create_new(true)
+            .open(rt, beside.as_str())?;
+        file.set_permissions(old.metadata()?.permissions())?;
+        Ok(Replacement { file, beside, path })
+    }
+
+    /// Puts it in the place of the other, once its bytes are on the disk.
+    pub fn take_place(&self, rt: &HostRuntime) -> Result<(), FileError> {
+        self.file.sync_all()?;
+        fs::rename(rt, self.beside.as_str(), self.path.as_str())?;
+        Ok(sync_folder(rt, self.path.as_str())?)
+    }
+
+    /// Removes it.
+    pub fn remove(&self, rt: &HostRuntime) {
+        let _ = fs::remove_file(rt, self.beside.as_str());
+    }
 }

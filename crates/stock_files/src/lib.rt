@@ -3,6 +3,7 @@
 #![tactic(auto)]
 
 pub mod adding;
+pub mod article;
 pub mod article_words;
 pub mod files;
 pub mod input;

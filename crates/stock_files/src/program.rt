@@ -1,27 +1,37 @@
 //! What the program `records` does with the files that its words name.
 
-use crate::adding::{AddError, add_all, print_places};
-use crate::files::{bytes_left, cut, open_to_change, read_store, replace};
-use crate::input::read_articles;
-use crate::repairing::{is_whole_after, print_repair, survey, whole_frames};
+use crate::adding::{AddError, add_lines, add_one, next_offset};
+use crate::article::Article;
+use crate::files::{Replacement, bytes_from, cut, open_to_change, open_to_read};
+use crate::limit::LONGEST_WORD;
+use crate::repairing::{Plan, Repair, is_whole_after, plan_for, print_kept, print_plan, salvage};
 use crate::request::{Request, request_of};
-use crate::showing::{print_check, print_list};
+use crate::showing::{Sheet, ShowError, print_store};
 use crate::status::{DONE, FAILED, USAGE, run_status, status_of};
 use anyhow::Result;
+use bincode::shape::Described;
 use clap::Error;
 use clap::error::ErrorKind;
-use record_store::article::Article;
+use framed_store::repairing::copy_whole_frames;
+use framed_store::streams::survey_stream;
+use framed_store::surveying::Survey;
+use shape_grammar::spelling::text_of;
+use std::alloc::{AllocError, Global};
 use std::fmt::Display;
+use std::fs::File;
 use std::io;
-use std::io::{BufWriter, Write};
+use std::io::{BufReader, BufWriter, Seek, SeekFrom, Write};
 
-/// What is printed of a file.
-#[derive(Clone, Copy, PartialEq)]
-enum Showing {
-    /// Its articles, and how it ends.
-    List,
-    /// How it ends.
-    Check,
+/// The number of bytes that a file is read and written by.
+const BLOCK: usize = 1 << 16;
+
+/// What is added to a file.
+#[derive(Drop)]
+enum Source {
+    /// This article.
+    One(Article),
+    /// The articles of the standard input, one a line.
+    Lines,
 }
 
 /// Does what these words ask for, of which the first is the program's name, and returns the status with which the
@@ -47,14 +57,12 @@ fn usage(rt: &HostRuntime, error: &Error) -> u8 {
 /// Does what a request asks for.
 fn run_request(rt: &HostRuntime, request: Request) -> u8 {
     match request {
-        Request::Add { file, article } => told(rt, &file, add(rt, &file, &[article])),
-        Request::AddLines { file } => told(rt, &file, add_lines(rt, &file)),
-        Request::List(files) => show_each(rt, &files, Showing::List),
-        Request::Check(files) => show_each(rt, &files, Showing::Check),
-        Request::Repair {
-            file,
-            drops_damaged,
-        } => told(rt, &file, repair(rt, &file, drops_damaged)),
+        Request::Add { file, article } => told(rt, &file, add(rt, &file, &Source::One(article))),
+        Request::AddLines { file } => told(rt, &file, add(rt, &file, &Source::Lines)),
+        Request::List(files) => show_each(rt, &files, true),
+        Request::Check(files) => show_each(rt, &files, false),
+        Request::Repair { file, repair } => told(rt, &file, repair_file(rt, &file, repair)),
+        Request::Shape => print_shape(rt),
     }
 }
 
@@ -74,44 +82,72 @@ fn complain<E: Display>(rt: &HostRuntime, file: &str, error: &E) {
     let _ = eprintln!(rt; "records: {file}: {error}");
 }
 
-/// Appends articles to a file, and prints their places once they are on the disk.
-fn add(rt: &HostRuntime, path: &str, articles: &[Article]) -> Result<u8> {
-    let mut file = open_to_change(rt, path, true)?;
-    let held = bytes_left(rt.alloc(), &mut file)?;
-    let addition = add_all(rt.alloc(), &held, &mut file, articles);
-    file.sync_all()?;
-    if let Err(error) = print_places(&mut io::writer(rt), path, &addition.places) {
+/// Appends what is asked for to a file, and says so once it is on the disk. Where it fails, the file is cut back to what
+/// it held.
+fn add(rt: &HostRuntime, path: &str, source: &Source) -> Result<u8> {
+    let file = open_to_change(rt, path, true)?;
+    let offset = match next_offset(&mut BufReader::with_capacity(rt.alloc(), BLOCK, &file)?) {
+        Ok(offset) => offset,
+        Err(error) => return Ok(refused(rt, path, &error)),
+    };
+    match append_all(rt, &file, source) {
+        Ok(count) => {
+            file.sync_all()?;
+            say_added(rt, path, source, count, offset);
+            Ok(DONE)
+        }
+        Err(error) => {
+            cut(&file, offset)?;
+            Ok(refused(rt, path, &error))
+        }
+    }
+}
+
+/// Prints why nothing was added, and returns the status.
+fn refused(rt: &HostRuntime, path: &str, error: &AddError) -> u8 {
+    complain(rt, path, error);
+    error.status()
+}
+
+/// Appends what is asked for: how many bytes an article takes, or how many articles there are.
+fn append_all(rt: &HostRuntime, file: &File, source: &Source) -> Result<usize, AddError> {
+    let mut store = BufWriter::with_capacity(rt.alloc(), BLOCK, file).map_err(AddError::Store)?;
+    let count = match source {
+        Source::One(article) => add_one(rt.alloc(), &mut store, article)?,
+        Source::Lines => add_lines(rt.alloc(), &mut rt.reader(), &mut store)?,
+    };
+    store.flush().map_err(AddError::Store)?;
+    Ok(count)
+}
+
+/// Says what was added. Where that fails, it is there all the same.
+fn say_added(rt: &HostRuntime, path: &str, source: &Source, count: usize, offset: usize) {
+    let mut out = io::writer(rt);
+    let said = match source {
+        Source::One(_) => writeln!(out, "{path}: {count} bytes at byte {offset}"),
+        Source::Lines => writeln!(out, "{path}: {count} records added at byte {offset}"),
+    };
+    if let Err(error) = said {
         complain(
             rt,
             path,
             &format_args!("what was added is there, and can't be said: {error}"),
         );
     }
-    Ok(added(rt, path, &addition.failure))
-}
-
-/// The status of articles that were added, up to the one that failed. Its error is printed.
-fn added(rt: &HostRuntime, path: &str, failure: &Option<AddError>) -> u8 {
-    match failure {
-        None => DONE,
-        Some(error) => {
-            complain(rt, path, error);
-            error.status()
-        }
-    }
-}
-
-/// Appends the articles of the standard input to a file. Nothing is added unless each line is one.
-fn add_lines(rt: &HostRuntime, path: &str) -> Result<u8> {
-    let articles = read_articles(rt.alloc(), &mut rt.reader())?;
-    add(rt, path, &articles)
 }
 
 /// Prints what is asked for of each file.
-fn show_each(rt: &HostRuntime, files: &[String], showing: Showing) -> u8 {
+fn show_each(rt: &HostRuntime, files: &[String], lists: bool) -> u8 {
     let mut statuses = Vec::new(rt.alloc());
     for file in files {
-        let status = told(rt, file, show(rt, file, showing));
+        let status = match show(rt, file, lists) {
+            Ok(status) => status,
+            Err(error) if error.is_closed_output() => return FAILED,
+            Err(error) => {
+                complain(rt, file, &error);
+                FAILED
+            }
+        };
         if statuses.push(status).is_err() {
             return FAILED;
         }
@@ -120,27 +156,94 @@ fn show_each(rt: &HostRuntime, files: &[String], showing: Showing) -> u8 {
 }
 
 /// Prints what is asked for of a file.
-fn show(rt: &HostRuntime, path: &str, showing: Showing) -> Result<u8> {
-    let bytes = read_store(rt, path)?;
-    let mut out = BufWriter::new(rt.alloc(), io::writer(rt))?;
-    let is_whole = match showing {
-        Showing::List => print_list(rt.alloc(), &mut out, path, &bytes)?,
-        Showing::Check => print_check(rt.alloc(), &mut out, path, &bytes)?,
-    };
+fn show(rt: &HostRuntime, path: &str, lists: bool) -> Result<u8, ShowError> {
+    let file = open_to_read(rt, path)?;
+    let mut store = BufReader::with_capacity(rt.alloc(), BLOCK, file)?;
+    let mut out = BufWriter::with_capacity(rt.alloc(), BLOCK, io::writer(rt))?;
+    let is_whole = print_store(
+        rt.alloc(),
+        &mut out,
+        Sheet { file: path, lists },
+        &mut store,
+    )?;
     out.flush()?;
     Ok(status_of(is_whole))
 }
 
-/// Cuts a file off after its last frame, and drops its damaged frames, if that is asked for.
-fn repair(rt: &HostRuntime, path: &str, drops_damaged: bool) -> Result<u8> {
+/// Makes a file whole, as far as that is asked for.
+fn repair_file(rt: &HostRuntime, path: &str, repair: Repair) -> Result<u8> {
     let mut file = open_to_change(rt, path, false)?;
-    let held = bytes_left(rt.alloc(), &mut file)?;
-    let found = survey(&held);
-    if drops_damaged && found.damaged > 0 {
-        replace(rt, path, &file, &whole_frames(rt.alloc(), &held)?)?;
-    } else if found.length < held.len() {
-        cut(&file, found.length)?;
+    let found = survey_file(rt.alloc(), &file)?;
+    let tail = bytes_from(rt.alloc(), &mut file, found.length)?;
+    let bytes = found.length.saturating_add(tail.len());
+    let plan = plan_for(&found, &tail, repair);
+    match plan {
+        Plan::Leave | Plan::Refuse { .. } => (),
+        Plan::Cut => cut(&file, found.length)?,
+        Plan::Rewrite => {
+            let kept = rewrite(rt, path, &mut file, &tail)?;
+            print_kept(&mut io::writer(rt), path, bytes, &kept)?;
+        }
     }
-    print_repair(&mut io::writer(rt), path, held.len(), &found, drops_damaged)?;
-    Ok(status_of(is_whole_after(&found, drops_damaged)))
+    print_plan(&mut io::writer(rt), path, bytes, &found, plan)?;
+    Ok(status_of(is_whole_after(&found, plan)))
+}
+
+/// The frames of a file, from where it is read.
+fn survey_file(alloc: Global, file: &File) -> Result<Survey> {
+    let mut buffer = Vec::new(alloc);
+    let mut store = BufReader::with_capacity(alloc, BLOCK, file)?;
+    Ok(survey_stream(&mut store, &mut buffer, LONGEST_WORD)?)
+}
+
+/// Puts a file of the whole frames in the place of this one, whose bytes after its last frame are the tail. Returns the
+/// frames of the new one. Where that fails the old one stands as it was.
+fn rewrite(rt: &HostRuntime, path: &str, file: &mut File, tail: &[u8]) -> Result<Survey> {
+    let mut new = Replacement::new(rt, path, file)?;
+    match fill(rt.alloc(), file, tail, &mut new.file) {
+        Ok(kept) => {
+            new.take_place(rt)?;
+            Ok(kept)
+        }
+        Err(error) => {
+            new.remove(rt);
+            Err(error)
+        }
+    }
+}
+
+/// Writes the whole frames of a file and of its tail to a new one, and returns its frames.
+fn fill(alloc: Global, file: &mut File, tail: &[u8], new: &mut File) -> Result<Survey> {
+    file.seek(SeekFrom::Start(0))?;
+    copy_frames(alloc, file, tail, new)?;
+    new.seek(SeekFrom::Start(0))?;
+    survey_file(alloc, new)
+}
+
+/// Writes the whole frames of a file, from where it is read, and of its tail to a new one.
+fn copy_frames(alloc: Global, file: &File, tail: &[u8], new: &File) -> Result<()> {
+    let mut buffer = Vec::new(alloc);
+    let mut store = BufReader::with_capacity(alloc, BLOCK, file)?;
+    let mut out = BufWriter::with_capacity(alloc, BLOCK, new)?;
+    copy_whole_frames(&mut store, &mut out, &mut buffer, LONGEST_WORD)?;
+    salvage(alloc, tail, &mut out)?;
+    Ok(out.flush()?)
+}
+
+/// Prints the shape of an article, as `describe` takes it.
+fn print_shape(rt: &HostRuntime) -> u8 {
+    match shape_text(rt.alloc()) {
+        Some(text) => match writeln!(io::writer(rt), "{}", text.as_str()) {
+            Ok(()) => DONE,
+            Err(_) => FAILED,
+        },
+        None => FAILED,
+    }
+}
+
+/// The text of the shape of an article. `None` where memory is refused.
+fn shape_text(alloc: Global) -> Option<String> {
+    let shape = Article::shape(alloc)?;
+    let text: Result<String, AllocError> = text_of(alloc, &shape);
+    text.ok()
 }

@@ -1,9 +1,10 @@
 //! The command line of the program `records`.
 
+use crate::article::Article;
 use crate::article_words::{ArticleError, article_of};
+use crate::repairing::Repair;
 use clap::error::ErrorKind;
 use clap::{Arg, ArgAction, ArgMatches, Command, Error};
-use record_store::article::Article;
 use std::alloc::{AllocError, Global};
 
 /// What the program is asked to do.
@@ -29,9 +30,11 @@ pub enum Request {
     Repair {
         /// The path of the file.
         file: String,
-        /// Whether damaged frames are dropped, too.
-        drops_damaged: bool,
+        /// How it is repaired.
+        repair: Repair,
     },
+    /// Print the shape of an article.
+    Shape,
 }
 
 /// What stands at the end of the help.
@@ -41,7 +44,8 @@ const STATUSES: &str = "Status:
   2  wrong arguments
   3  a file, the standard input or the standard output fails, or a line is no article
 
-Each file is dealt with, also after one that fails. The status is the greatest of them.";
+Each file is dealt with, also after one that fails. The status is the greatest of them. `add` adds all or nothing:
+where it fails, it cuts the file back to what it held.";
 
 /// How `add` is used.
 const ADD_USAGE: &str = "records add FILE NAME PRICE [WEIGHT] [NOTE=TEXT ..]
@@ -66,7 +70,10 @@ fn command<'a>(alloc: Global) -> Result<Command<'a>, AllocError> {
             "Prints the articles of files, each with its offset",
         )?)?
         .subcommand(files_command(alloc, "check", "Says for each file whether it is whole")?)?
-        .subcommand(repair_command(alloc)?)
+        .subcommand(repair_command(alloc)?)?
+        .subcommand(Command::new(alloc, "shape").about(
+            "Prints the shape of an article: `describe --frames \"$(records shape)\" FILE` prints JSON",
+        ))
 }
 
 /// The command `add`.
@@ -108,7 +115,13 @@ fn repair_command<'a>(alloc: Global) -> Result<Command<'a>, AllocError> {
     let drop_damaged = Arg::new(alloc, "drop-damaged")
         .long("drop-damaged")
         .action(ArgAction::SetTrue)
-        .help("Drops the damaged frames, too");
+        .help(
+            "Drops the damaged frames, too, and keeps the whole ones that follow bytes that are no frame",
+        );
+    let cut = Arg::new(alloc, "cut")
+        .long("cut")
+        .action(ArgAction::SetTrue)
+        .help("Cuts the file off even where a whole frame stands in what is lost");
     let file = Arg::new(alloc, "file")
         .value_name("FILE")
         .required(true)
@@ -116,6 +129,7 @@ fn repair_command<'a>(alloc: Global) -> Result<Command<'a>, AllocError> {
     Command::new(alloc, "repair")
         .about("Cuts a file off after its last frame, where it is torn")
         .arg(drop_damaged)?
+        .arg(cut)?
         .arg(file)
 }
 
@@ -127,10 +141,14 @@ pub fn request_of(alloc: Global, words: &[String]) -> Result<Request, Error> {
         Some(("add", found)) => add_request(alloc, found),
         Some(("list", found)) => Ok(Request::List(files_in(alloc, found)?)),
         Some(("check", found)) => Ok(Request::Check(files_in(alloc, found)?)),
-        Some((_, found)) => Ok(Request::Repair {
+        Some(("repair", found)) => Ok(Request::Repair {
             file: file_in(alloc, found)?,
-            drops_damaged: found.get_flag("drop-damaged"),
+            repair: Repair {
+                drops_damaged: found.get_flag("drop-damaged"),
+                cuts: found.get_flag("cut"),
+            },
         }),
+        Some(_) => Ok(Request::Shape),
         None => Err(mistake(command(alloc)?, "which command?")?),
     }
 }

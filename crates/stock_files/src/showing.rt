@@ -1,79 +1,215 @@
 //! What is printed of a store of frames.
-ghost use Rattle.std.specs.Prelude.{◌≡◌, true, IfOk};
-ghost use Rattle.stock_files.specs.WholeStores.{IsWholeStore, AreValues};
+ghost use Rattle.std.specs.Prelude.{◌≡◌, ◌↔◌, IfOk, IsTrue};
+ghost use Rattle.bincode_io.specs.Stream.{TellsBytes, known_bytes};
+ghost use Rattle.stock_files.specs.Stores.{IsJudged, IsValue};
 
-use crate::limit::{LONGEST_WORD, Settings};
+use crate::article::Article;
+use crate::files::FileError;
+use crate::limit::{LONGEST_WORD, Settings, settings};
 use bincode::Wire;
 use bincode::config::Config;
 use framed_store::ending::Ending;
-use framed_store::listing::{Listing, Record, list};
-use framed_store::records::Content;
-use record_store::article::Article;
-use record_store::stock::settings;
+use framed_store::records::{Content, Next};
+use framed_store::streams::{ReadError, next_from_stream};
 use std::alloc::Global;
-use std::io::{Result, Write};
+use std::io;
+use std::io::{ErrorKind, Read, Write};
+use thiserror::Error;
 
-/// Prints each article in the bytes of a file of this name with its offset and the number of bytes of its frame, each
-/// other frame with why it holds none, and how the file ends. Returns whether it is whole. Fails if an allocation is
-/// refused or the output fails.
-pub fn print_list<W: Write>(alloc: Global, out: &mut W, file: &str, bytes: &[u8]) -> Result<bool>
-    ensures { IfOk result (λ whole. whole ≡ true → IsWholeStore
-        (⟦<Article as Wire>⟧.words.format ⟦<Settings as Config>⟧.setting) ⟦<Settings as Config>⟧.bound
-        ⟦<Article as Wire>⟧.words.decodes_to LONGEST_WORD bytes.now) }
-{
-    let listing: Listing<Article> = list(alloc, bytes, settings(), LONGEST_WORD)?;
-    for record in &listing.records {
-        print_record(out, record)?;
+/// How a store is shown.
+#[derive(Clone, Copy)]
+pub struct Sheet<'a> {
+    /// The name of its file.
+    pub file: &'a str,
+    /// Whether its articles are printed, or only the frames that hold none.
+    pub lists: bool,
+}
+
+/// Why a store is not shown to its end.
+#[derive(Debug, Drop, Error)]
+pub enum ShowError {
+    /// Its file could not be opened.
+    #[error("{0}")]
+    File(#[from] FileError),
+    /// The store could not be read, or memory was refused.
+    #[error("{0}")]
+    Read(#[from] ReadError),
+    /// The output failed.
+    #[error("{0}")]
+    Output(#[from] io::Error),
+}
+
+impl ShowError {
+    /// Whether nobody reads the output any more.
+    pub fn is_closed_output(&self) -> bool {
+        matches!(self, ShowError::Output(e) if e.kind() == ErrorKind::BrokenPipe)
     }
-    print_end(out, file, bytes.len(), &listing)?;
-    Ok(is_whole(&listing))
 }
 
-/// Prints each frame that holds no article, and how the file ends. Returns whether it is whole, and fails, like
-/// `print_list`.
-pub fn print_check<W: Write>(alloc: Global, out: &mut W, file: &str, bytes: &[u8]) -> Result<bool>
-    ensures { IfOk result (λ whole. whole ≡ true → IsWholeStore
+/// Damaged frames that follow one another.
+#[derive(Clone, Copy)]
+struct Run {
+    /// The number of bytes of the store before them.
+    offset: usize,
+    /// The number of their bytes.
+    bytes: usize,
+    /// How many they are.
+    frames: usize,
+}
+
+/// The frames of a store up to an offset.
+#[derive(Clone, Copy)]
+struct Seen {
+    /// The number of bytes of the frames.
+    offset: usize,
+    /// How many of them hold an article.
+    articles: usize,
+    /// How many hold none.
+    others: usize,
+    /// The damaged ones at the end.
+    run: Run,
+}
+
+/// Prints what is asked for of a store, one frame in memory at a time, and how it ends. Returns whether it is whole.
+/// Damaged frames that follow one another are one line. Fails where the store cannot be read, where memory is refused
+/// and where the output fails; the lines before are printed.
+pub fn print_store<R: Read, W: Write>(
+    alloc: Global,
+    out: &mut W,
+    sheet: Sheet<'_>,
+    store: &mut R,
+) -> Result<bool, ShowError>
+    // It is whole exactly if each of its bytes belongs to the frame of an article.
+    ensures { TellsBytes (R.remaining store.old) → IfOk result (IsJudged
         (⟦<Article as Wire>⟧.words.format ⟦<Settings as Config>⟧.setting) ⟦<Settings as Config>⟧.bound
-        ⟦<Article as Wire>⟧.words.decodes_to LONGEST_WORD bytes.now) }
+        ⟦<Article as Wire>⟧.words.decodes_to LONGEST_WORD (known_bytes (R.remaining store.old))) }
 {
-    let listing: Listing<Article> = list(alloc, bytes, settings(), LONGEST_WORD)?;
-    for record in &listing.records {
-        print_fault(out, file, record)?;
+    let mut buffer = Vec::new(alloc);
+    let mut seen = Seen::nothing();
+    for _ in 0..u64::MAX {
+        match next_from_stream(alloc, store, &mut buffer, settings(), LONGEST_WORD)? {
+            Next::Record { size, content } => {
+                print_frame(out, sheet, &seen, size, &content)?;
+                seen.count(size, &content);
+            }
+            Next::End => return end(out, sheet, &seen, Ending::Whole),
+            Next::Torn => {
+                let offset = seen.offset;
+                return end(out, sheet, &seen, Ending::Torn { offset });
+            }
+            Next::TooLong(length) => {
+                let offset = seen.offset;
+                return end(out, sheet, &seen, Ending::TooLong { offset, length });
+            }
+        }
     }
-    print_end(out, file, bytes.len(), &listing)?;
-    Ok(is_whole(&listing))
+    Err(ShowError::Output(io::Error::from(ErrorKind::FileTooLarge)))
 }
 
-/// Whether a store ends after a frame, and each of its frames holds an article.
-fn is_whole(listing: &Listing<Article>) -> bool
-    ensures ending { result ≡ true → listing.now.ending ≡ Ending.Whole }
-    ensures articles { result ≡ true → AreValues listing.now.records.items }
-{
-    listing.ending == Ending::Whole && are_articles(&listing.records)
+impl Seen {
+    /// No frame.
+    fn nothing() -> Seen
+        ensures { result.others ≡ 0 }
+    {
+        Seen {
+            offset: 0,
+            articles: 0,
+            others: 0,
+            run: Run::none_at(0),
+        }
+    }
+
+    /// Counts a frame that follows.
+    fn count(&mut self, size: usize, content: &Content<Article>)
+        ensures { (self.new.others ≡ 0) ↔ ((self.old.others ≡ 0) × IsValue content.now) }
+    {
+        let offset = self.offset.saturating_add(size);
+        match content {
+            Content::Value(_) => {
+                self.articles = self.articles.saturating_add(1);
+                self.run = Run::none_at(offset);
+            }
+            Content::Damaged => {
+                self.others = self.others.saturating_add(1);
+                self.run = self.run.longer_by(size);
+            }
+            Content::Undecodable(_) | Content::Longer { .. } => {
+                self.others = self.others.saturating_add(1);
+                self.run = Run::none_at(offset);
+            }
+        }
+        self.offset = offset;
+    }
 }
 
-/// Whether each frame holds an article.
-fn are_articles(records: &[Record<Article>]) -> bool
-    ensures { result ≡ true → AreValues records.now }
-{
-    records
-        .iter()
-        .all(|record| matches!(&record.content, Content::Value(_)))
+impl Run {
+    /// None, at this offset.
+    fn none_at(offset: usize) -> Run {
+        Run {
+            offset,
+            bytes: 0,
+            frames: 0,
+        }
+    }
+
+    /// One more, of `size` bytes.
+    fn longer_by(self, size: usize) -> Run {
+        Run {
+            offset: self.offset,
+            bytes: self.bytes.saturating_add(size),
+            frames: self.frames.saturating_add(1),
+        }
+    }
 }
 
-/// Prints a frame that holds no article, in a file of this name.
-fn print_fault<W: Write>(out: &mut W, file: &str, record: &Record<Article>) -> Result<()> {
-    if matches!(&record.content, Content::Value(_)) {
+/// Prints a frame after those that were seen, unless it is damaged: those before it that are, then what it holds.
+fn print_frame<W: Write>(
+    out: &mut W,
+    sheet: Sheet<'_>,
+    seen: &Seen,
+    size: usize,
+    content: &Content<Article>,
+) -> io::Result<()> {
+    if matches!(content, Content::Damaged) {
         return Ok(());
     }
-    write!(out, "{file}: ")?;
-    print_record(out, record)
+    print_run(out, sheet, seen.run)?;
+    if sheet.lists || !matches!(content, Content::Value(_)) {
+        print_place(out, sheet, seen.offset, size)?;
+        print_content(out, content)?;
+    }
+    Ok(())
 }
 
-/// Prints what a frame holds, with its offset and its number of bytes.
-fn print_record<W: Write>(out: &mut W, record: &Record<Article>) -> Result<()> {
-    write!(out, "{}: {} bytes: ", record.offset, record.size)?;
-    match &record.content {
+/// Prints damaged frames that follow one another, if there are any.
+fn print_run<W: Write>(out: &mut W, sheet: Sheet<'_>, run: Run) -> io::Result<()> {
+    if run.frames == 0 {
+        return Ok(());
+    }
+    print_place(out, sheet, run.offset, run.bytes)?;
+    if run.frames == 1 {
+        return writeln!(out, "damaged");
+    }
+    writeln!(out, "{} damaged frames", run.frames)
+}
+
+/// Prints where something stands: the name of the file, unless its articles are listed, the offset, and the number of
+/// bytes.
+fn print_place<W: Write>(
+    out: &mut W,
+    sheet: Sheet<'_>,
+    offset: usize,
+    size: usize,
+) -> io::Result<()> {
+    if !sheet.lists {
+        write!(out, "{}: ", sheet.file)?;
+    }
+    write!(out, "{offset}: {size} bytes: ")
+}
+
+/// Prints what a frame holds.
+fn print_content<W: Write>(out: &mut W, content: &Content<Article>) -> io::Result<()> {
+    match content {
         Content::Value(article) => print_article(out, article),
         Content::Damaged => writeln!(out, "damaged"),
         Content::Undecodable(why) => writeln!(out, "no article ({why})"),
@@ -85,7 +221,7 @@ fn print_record<W: Write>(out: &mut W, record: &Record<Article>) -> Result<()> {
 }
 
 /// Prints an article.
-fn print_article<W: Write>(out: &mut W, article: &Article) -> Result<()> {
+fn print_article<W: Write>(out: &mut W, article: &Article) -> io::Result<()> {
     write!(out, "{:?} at {}", article.name, article.price)?;
     if let Some(weight) = article.weight {
         write!(out, ", weight {weight}")?;
@@ -96,39 +232,44 @@ fn print_article<W: Write>(out: &mut W, article: &Article) -> Result<()> {
     writeln!(out)
 }
 
-/// The number of frames that hold an article.
-fn count_articles(records: &[Record<Article>]) -> usize {
-    records
-        .iter()
-        .filter(|record| matches!(&record.content, Content::Value(_)))
-        .count()
+/// Prints the damaged frames at the end of a store, and how it ends. Returns whether it is whole.
+fn end<W: Write>(
+    out: &mut W,
+    sheet: Sheet<'_>,
+    seen: &Seen,
+    ending: Ending,
+) -> Result<bool, ShowError>
+    ensures { IfOk result (λ whole. IsTrue whole ↔ ((seen.now.others ≡ 0) × (ending ≡ Ending.Whole))) }
+{
+    print_run(out, sheet, seen.run)?;
+    print_end(out, sheet.file, seen, ending)?;
+    Ok(seen.others == 0 && ending == Ending::Whole)
 }
 
-/// Prints how a file of `bytes` bytes ends.
-fn print_end<W: Write>(
-    out: &mut W,
-    file: &str,
-    bytes: usize,
-    listing: &Listing<Article>,
-) -> Result<()> {
-    let count = count_articles(&listing.records);
-    let others = listing.records.len().saturating_sub(count);
-    match listing.ending {
-        Ending::Whole if others == 0 => writeln!(
+/// Prints how a store ends.
+fn print_end<W: Write>(out: &mut W, file: &str, seen: &Seen, ending: Ending) -> io::Result<()> {
+    let Seen {
+        offset: bytes,
+        articles,
+        others,
+        run: _,
+    } = seen;
+    match ending {
+        Ending::Whole if *others == 0 => writeln!(
             out,
-            "{file}: whole, records: {count}, bytes: {bytes}"
+            "{file}: whole, records: {articles}, bytes: {bytes}"
         ),
         Ending::Whole => writeln!(
             out,
-            "{file}: damaged, records: {count}, damaged frames: {others}, bytes: {bytes}"
+            "{file}: damaged, records: {articles}, damaged frames: {others}, bytes: {bytes}"
         ),
         Ending::Torn { offset } => writeln!(
             out,
-            "{file}: torn at byte {offset}, records before it: {count}, damaged frames: {others}"
+            "{file}: torn at byte {offset}, records before it: {articles}, damaged frames: {others}"
         ),
         Ending::TooLong { offset, length } => writeln!(
             out,
-            "{file}: no frame at byte {offset}, of a length of {length}, records before it: {count}, \
+            "{file}: no frame at byte {offset}, of a length of {length}, records before it: {articles}, \
                 damaged frames: {others}"
         ),
     }

@@ -1,5 +1,6 @@
 //! The statuses with which the program ends.
-ghost use Rattle.std.specs.Prelude.{◌≡◌, true, All};
+ghost use Rattle.std.specs.Prelude.{◌≡◌, ◌↔◌, IsTrue};
+ghost use Rattle.stock_files.specs.Statuses.{IsGreatest};
 
 /// Done, and whole.
 pub const DONE: u8 = 0;
@@ -15,19 +16,21 @@ pub const FAILED: u8 = 3;
 
 /// The status of a store by whether it is whole.
 pub fn status_of(is_whole: bool) -> u8
-    ensures { result ≡ DONE → is_whole ≡ true }
+    ensures whole { (result ≡ DONE) ↔ IsTrue is_whole }
+    ensures damaged { (result ≡ DAMAGED) ↔ (IsTrue is_whole → ⊥) }
 {
     if is_whole { DONE } else { DAMAGED }
 }
 
-/// The status of a run over several files, by the status of each: the greatest.
+/// The status of a run over several files, by the status of each: the greatest, or `DONE` of none.
 pub fn run_status(statuses: &[u8]) -> u8
-    // It is 0 only if each is.
-    ensures { result ≡ DONE → All (λ status. status ≡ DONE) statuses.now }
+    ensures { IsGreatest statuses.now result }
 {
     let mut greatest = DONE;
     for status in statuses {
-        greatest = greatest.max(*status);
+        if *status > greatest {
+            greatest = *status;
+        }
     }
     greatest
 }

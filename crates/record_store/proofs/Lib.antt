@@ -1,5 +1,0 @@
-mod Appends
-mod Both
-mod Counted
-mod Filled
-pub mod Listings

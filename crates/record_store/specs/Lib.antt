@@ -1,3 +1,0 @@
-pub mod Adding
-pub mod Counting
-pub mod Stores

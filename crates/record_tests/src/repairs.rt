@@ -1,0 +1,102 @@
+//! What is done to stores that are repaired.
+
+use crate::stores::{FRAMED, all_true, damaged};
+use framed_store::surveying::survey_frames;
+use std::alloc::Global;
+use stock_files::limit::LONGEST_WORD;
+use stock_files::repairing::{
+    Plan, Repair, is_whole_after, plan_for, print_kept, print_plan, salvage,
+};
+
+/// No more than cutting off what is no frame.
+const PLAIN: Repair = Repair {
+    drops_damaged: false,
+    cuts: false,
+};
+
+/// Dropping damaged frames, too.
+const DROPPING: Repair = Repair {
+    drops_damaged: true,
+    cuts: false,
+};
+
+/// Cutting whole frames off, too.
+const CUTTING: Repair = Repair {
+    drops_damaged: false,
+    cuts: true,
+};
+
+/// Whether this is done to a store, whether it is whole then, and what is printed.
+fn repairs(
+    alloc: Global,
+    bytes: &[u8],
+    repair: Repair,
+    wanted: Plan,
+    whole: bool,
+    text: &str,
+) -> anyhow::Result<bool> {
+    let found = survey_frames(bytes, LONGEST_WORD);
+    let plan = plan_for(&found, bytes.get(found.length..).unwrap_or(&[]), repair);
+    let mut out = Vec::new(alloc);
+    print_plan(&mut out, "f", bytes.len(), &found, plan)?;
+    Ok(plan == wanted && is_whole_after(&found, plan) == whole && out.as_slice() == text.as_bytes())
+}
+
+/// The store with a length of its second frame that is too long, and without the last byte.
+fn cut_in_two() -> [u8; 63] {
+    let mut bytes = FRAMED;
+    bytes[18] = 1;
+    bytes
+}
+
+#[test]
+fn plans_repairs(rt: HostRuntime) -> anyhow::Result<()> {
+    let alloc = rt.alloc();
+    let changed = damaged();
+    let front = changed.get(..60).unwrap_or(&[]);
+    let two = cut_in_two();
+    let leave = "f: nothing to cut off, whole frames: 3, bytes: 63\n";
+    let torn = "f: cut off at byte 16, bytes lost: 30, whole frames: 1\n";
+    let left = "f: cut off at byte 47, bytes lost: 13, whole frames: 1\n\
+        f: damaged frames left: 1. `--drop-damaged` drops them\n";
+    let refused = "f: no whole frame at byte 16, and one at byte 47: nothing was cut off. \
+        `--drop-damaged` keeps the whole frames, `--cut` cuts at byte 16\n";
+    let cut = "f: cut off at byte 16, bytes lost: 47, whole frames: 1\n";
+    let after = Plan::Refuse { after: 31 };
+    all_true(
+        &rt,
+        &[
+            repairs(alloc, &FRAMED, PLAIN, Plan::Leave, true, leave)?,
+            repairs(alloc, &FRAMED, DROPPING, Plan::Leave, true, leave)?,
+            repairs(alloc, &FRAMED[..46], PLAIN, Plan::Cut, true, torn)?,
+            repairs(alloc, &FRAMED[..46], DROPPING, Plan::Cut, true, torn)?,
+            repairs(alloc, front, PLAIN, Plan::Cut, false, left)?,
+            repairs(alloc, front, DROPPING, Plan::Rewrite, true, "")?,
+            repairs(alloc, &two, PLAIN, after, false, refused)?,
+            repairs(alloc, &two, CUTTING, Plan::Cut, true, cut)?,
+            repairs(alloc, &two, DROPPING, Plan::Rewrite, true, "")?,
+        ],
+    );
+    Ok(())
+}
+
+#[test]
+fn keeps_whole_frames(rt: HostRuntime) -> anyhow::Result<()> {
+    let alloc = rt.alloc();
+    let two = cut_in_two();
+    let mut kept = Vec::new(alloc);
+    salvage(alloc, two.get(16..).unwrap_or(&[]), &mut kept)?;
+    let mut none = Vec::new(alloc);
+    salvage(alloc, &FRAMED[1..15], &mut none)?;
+    let mut out = Vec::new(alloc);
+    print_kept(&mut out, "f", 63, &survey_frames(&kept, LONGEST_WORD))?;
+    all_true(
+        &rt,
+        &[
+            kept.as_slice() == &FRAMED[47..],
+            none.is_empty(),
+            out.as_slice() == b"f: whole frames kept: 1, bytes: 16, bytes dropped: 47\n",
+        ],
+    );
+    Ok(())
+}
