@@ -1,5 +1,5 @@
-//! The tests of the program `describe`: its arguments, its output for streams and for stores of frames, its messages and
-//! its statuses. Expected values come from the description of the format and from Python.
+//! The tests of the program `describe`: its arguments, its output for streams and for stores of frames, its messages
+//! and its statuses. Expected values come from the description of the format and from Python.
 #![tactic(auto)]
 
 #[cfg(test)]

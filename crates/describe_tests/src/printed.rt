@@ -110,7 +110,7 @@ fn reads_long_encodings(rt: HostRuntime) -> Result<(), AllocError> {
     let whole = format!(in alloc;
         "{line}{{\"offset\":40003,\"length\":2,\"value\":\"b\"}}\nwhole"
     )?;
-    let cut = told(alloc, "", "text", &bytes[..40_002])?;
+    let cut = told(alloc, "", "text", bytes.get(..40_002).unwrap_or(&[]))?;
     bytes.push(1)?;
     let is_torn = tells(alloc, ("", "text"), &bytes, torn.as_str())?;
     bytes.push(98)?;
@@ -124,7 +124,7 @@ fn reads_long_encodings(rt: HostRuntime) -> Result<(), AllocError> {
                 "",
                 "text",
                 Breaking {
-                    bytes: &bytes,
+                    bytes: bytes.as_slice(),
                     calls: 50_000,
                 },
             )? == whole,

@@ -62,7 +62,8 @@ const SHAPES: [(&str, &str); 33] = [
 ];
 
 /// What a part begins with.
-const PART: &str = "`(`, `[` or a name (bool, char, text, u8, u16, u32, u64, u128, usize, i8, i16, i32, i64, i128 or isize)";
+const PART: &str = "`(`, `[` or a name (bool, char, text, u8, u16, u32, u64, u128, usize, i8, i16, i32, i64, \
+    i128 or isize)";
 
 /// Texts that are no shape: the offset in bytes, what is expected there, and what is met.
 const REFUSED: [(&str, usize, &str, &str); 13] = [

@@ -13,9 +13,9 @@ use std::alloc::Global;
 use std::io::{Read, Write};
 
 /// Prints what a stream holds, as a request says: a line for each encoding or frame, with its offset and its length in
-/// bytes. One encoding is held at a time. Returns whether all is whole. Fails if the rest begins with no encoding within
-/// the limit, if encodings have no bytes, if the stream is torn, or if the stream or the output fails; in a store of
-/// frames, if it is torn, or if a length is not allowed.
+/// bytes. One encoding is held at a time. Returns whether all is whole. Fails where the rest begins with no encoding
+/// within the limit, where encodings have no bytes, where the stream is torn, or if the stream or the output fails; in
+/// a store of frames, where it is torn, or where a length is not allowed.
 pub fn describe<R: Read + Drop, W: Write>(
     alloc: Global,
     request: &Request,

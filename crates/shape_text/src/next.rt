@@ -48,7 +48,8 @@ pub fn next_word<R: Read, C: Config>(
     ensures word { IfOk result (λ next. IfSome next (λ x. Decoded (format_of shape.now C.setting) C.bound
         (shown_bytes window.new) (λ m. IsCounted shape.now m x.values) x.bytes)) }
     // `None` is the answer exactly if no byte is left,
-    ensures end { IfOk result (λ next. IfSome (bytes_left R.remaining window.old) (λ left. IsNone next ↔ (left ≡ []))) }
+    ensures end { IfOk result (λ next. IfSome (bytes_left R.remaining window.old)
+        (λ left. IsNone next ↔ (left ≡ []))) }
     // and `NoWord` only if bytes are left that begin with no encoding within the limit, for the reason that it has.
     ensures refused { IfErr result (λ e. Refuses (format_of shape.now C.setting) C.bound
         (bytes_left R.remaining window.old) e) }

@@ -65,15 +65,18 @@ const AFTER_HELP: &str = "Shapes:
   (T)                          T, in brackets around a part
 
 Output:
-  A line of JSON for each encoding: {\"offset\":0,\"length\":3,\"value\":7}, its place and length in bytes, and its value.
-  A number that 64 bits hold is a number, another one a string. Readers that hold numbers as doubles, as JavaScript
-  does, lose digits above 2^53. Nothing is null, also an optional part that is absent. A part that is there stands as it
-  is; one that could be null itself, () or an option, as {\"some\":PART}. A variant is {\"TAG\":PART}. A list of elements
-  without bytes is {\"count\":N}. An encoding of more values than are printed has \"values\":N in place of its value.
+  A line of JSON for each encoding, with its place and its length in bytes:
+  {\"offset\":0,\"length\":3,\"value\":300}
 
-  With --frames the offset and the length are those of the frame. A frame whose word begins with no encoding has
-  \"undecodable\":WHY in place of the value, one whose word goes on after an encoding \"longer\":BYTES, and damaged frames
-  in a row share one line with \"damaged\":COUNT and the bytes of all.
+  A number that 64 bits hold is a number, another one a string. Readers that hold numbers as
+  doubles, as JavaScript does, lose digits above 2^53. Nothing is null, and so is an optional part
+  that is absent. A part that is there stands as it is; one that could be null itself, as () or an
+  option, as {\"some\":PART}. A variant is {\"TAG\":PART}, a list of elements without bytes
+  {\"count\":N}. An encoding of more values than are printed has \"values\":N in place of \"value\".
+
+  With --frames place and length are those of the frame. In place of \"value\" stands
+  \"undecodable\":WHY, where the word begins with no encoding, or \"longer\":BYTES, where it goes on
+  after one. Damaged frames in a row share a line, with \"damaged\":COUNT and the bytes of all.
 
 Status:
   0  all is whole
@@ -92,6 +95,7 @@ fn command<'a>(alloc: Global) -> Result<Command<'a>, AllocError> {
         .help("The file; the standard input, where it is - or missing");
     let command = Command::new(alloc, "describe")
         .version("2.0.0")
+        .override_usage("describe [OPTIONS] SHAPE [FILE]")
         .about("Prints what a file in the format of bincode holds, by the shape of its values")
         .after_help(AFTER_HELP);
     with_frames(alloc, with_amounts(alloc, with_format(alloc, command)?)?)?
