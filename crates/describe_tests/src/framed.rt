@@ -118,7 +118,8 @@ fn joins_damaged_frames(rt: HostRuntime) -> Result<(), AllocError> {
     Ok(())
 }
 
-/// One byte a call, and each after an interrupted call.
+/// One byte a call, each after an interrupted call, and a failure at the eighteenth call: twice as many bytes are read
+/// each time, so that the first frame is printed after sixteen.
 #[test]
 fn reads_slow_stores(rt: HostRuntime) -> Result<(), AllocError> {
     let alloc = rt.alloc();
@@ -134,7 +135,7 @@ fn reads_slow_stores(rt: HostRuntime) -> Result<(), AllocError> {
             is_next: false,
         },
     )?;
-    let broken = told(alloc, "--frames", "u16", Breaking { bytes, calls: 12 })?;
+    let broken = told(alloc, "--frames", "u16", Breaking { bytes, calls: 17 })?;
     let failed = broken.as_str().strip_prefix(FIRST);
     all_true(
         &rt,

@@ -196,7 +196,8 @@ fn reads_each_configuration(rt: HostRuntime) -> Result<(), AllocError> {
     Ok(())
 }
 
-/// 65 numbers of 16 bytes claim 1,040 bytes. 4,194,305 of them claim more than 64 MiB.
+/// A length claims 8 bytes, so 63 numbers of 16 bytes and their length claim 1,016, and 64 claim 1,032. 4,194,305 of
+/// them claim more than 64 MiB.
 #[test]
 fn keeps_limits(rt: HostRuntime) -> Result<(), AllocError> {
     let alloc = rt.alloc();
@@ -206,8 +207,8 @@ fn keeps_limits(rt: HostRuntime) -> Result<(), AllocError> {
     all_true(
         &rt,
         &[
-            tells(alloc, ("--limit 1KiB", "[u128]"), &[65], past)?,
-            tells(alloc, ("--limit 1KiB", "[u128]"), &[64], torn)?,
+            tells(alloc, ("--limit 1KiB", "[u128]"), &[64], past)?,
+            tells(alloc, ("--limit 1KiB", "[u128]"), &[63], torn)?,
             tells(alloc, ("--limit 64KiB", "[u128]"), &[65], torn)?,
             tells(alloc, ("", "[u128]"), many, past)?,
             tells(alloc, ("--limit 64MiB", "[u128]"), many, past)?,
