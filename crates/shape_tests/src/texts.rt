@@ -62,7 +62,8 @@ const SHAPES: [(&str, &str); 33] = [
 ];
 
 /// What a part begins with.
-const PART: &str = "`(`, `[` or a name (bool, char, text, u8, u16, u32, u64, u128, usize, i8, i16, i32, i64, \
+const PART: &str =
+    "`(`, `[` or a name (bool, char, text, u8, u16, u32, u64, u128, usize, i8, i16, i32, i64, \
     i128 or isize)";
 
 /// Texts that are no shape: the offset in bytes, what is expected there, and what is met.
@@ -71,7 +72,12 @@ const REFUSED: [(&str, usize, &str, &str); 13] = [
     ("(u8", 3, "`,`, `)`, `?` or `|`", "the end"),
     ("(u8, u9)", 5, PART, "`u9`"),
     ("[u8; x]", 5, "a length below 2^64", "`x`"),
-    ("[u8; 18446744073709551616]", 5, "a length below 2^64", "`18446744073709551616`"),
+    (
+        "[u8; 18446744073709551616]",
+        5,
+        "a length below 2^64",
+        "`18446744073709551616`",
+    ),
     ("[u8", 3, "`]`, `;`, `?` or `|`", "the end"),
     ("[u8)", 3, "`]`, `;`, `?` or `|`", "`)`"),
     ("u8 u8", 3, "the end, `?` or `|`", "`u8`"),
@@ -79,7 +85,12 @@ const REFUSED: [(&str, usize, &str, &str); 13] = [
     ("(,)", 1, PART, "`,`"),
     (" é", 1, PART, "`é`"),
     ("[string]", 1, PART, "`string`"),
-    ("abcdefghijklmnopqrstuvwxyz", 0, PART, "`abcdefghijklmnopqrstuv`"),
+    (
+        "abcdefghijklmnopqrstuvwxyz",
+        0,
+        PART,
+        "`abcdefghijklmnopqrstuv`",
+    ),
 ];
 
 /// Texts as shapes are shown.
