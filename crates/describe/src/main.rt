@@ -1,19 +1,16 @@
 //! Prints what a file in the format holds, without the types that wrote it: a line of JSON for each value, with its
 //! offset and its length in bytes.
 //!
-//!     describe [--fixed] [--big-endian] SHAPE FILE
+//!     describe [OPTIONS] SHAPE [FILE]
 //!
-//! The shape is a short text, as `(u8, [u16], text?, u32|text)`. No value may claim more than 64 MiB, or have more than
-//! a million values in it; elements that have no bytes are told by their count, as `{"count":3}`, and not counted.
+//! The shape is a short text, as `(u8, [u16], text?, u32|text)`. `describe --help` has the options and the shapes.
 #![tactic(auto)]
 
 use shape_text::program::run;
 use std::env;
+use std::process::ExitCode;
 
-fn main(rt: HostRuntime) -> anyhow::Result<()> {
-    let mut words = Vec::new(rt.alloc());
-    for word in env::args(&rt)?.skip(1) {
-        words.push(word)?;
-    }
-    run(&rt, words)
+fn main(rt: HostRuntime) -> anyhow::Result<ExitCode> {
+    let words: Vec<String> = env::args(&rt)?.collect(rt.alloc())?;
+    Ok(ExitCode::from(run(&rt, &words)))
 }

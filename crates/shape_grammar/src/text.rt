@@ -5,7 +5,8 @@
 //! | `()` | nothing, in no bytes |
 //! | `bool`, `char`, `text` | a truth value, a character, a text |
 //! | `u8` .. `u128`, `usize`, `i8` .. `i128`, `isize` | a number |
-//! | `[T]` | a list: a length, and then as many T |
+//! | `[T]` | a list or a set: a length, and then as many T; bytes are `[u8]` |
+//! | `[(K, V)]` | a map: a length, and then as many pairs of a K and a V |
 //! | `[T; 4]` | four T |
 //! | `(A, B)` | an A and then a B; one alone is `(A,)` |
 //! | `T?` | an optional T |
@@ -24,7 +25,7 @@ ghost use Rattle.shape_grammar.specs.Names.{shape_named};
 
 use crate::claims::claim_of;
 use crate::nested::{Nested, Parts};
-use crate::scanner::Scanner;
+use crate::scanner::{Met, Scanner};
 use bincode_shape::shape::Shape;
 use std::alloc::{AllocError, AllocFailed, Global};
 use thiserror::Error;
@@ -32,16 +33,22 @@ use thiserror::Error;
 /// How many brackets, question marks and bars may stand around a part.
 const MAX_DEPTH: u32 = 64;
 
+/// What a part begins with, and all names that there are.
+const PART: &str =
+    "`(`, `[` or a name (bool, char, text, u8, u16, u32, u64, u128, usize, i8, i16, i32, i64, i128 or isize)";
+
 /// Why a text is no shape.
 #[derive(Debug, Drop, Error)]
 pub enum ShapeTextError {
     /// Something else is expected at this offset.
-    #[error("at byte {place}: expected {expected}")]
+    #[error("at byte {place}: expected {expected}, and not {met}")]
     Expected {
         /// The offset in bytes.
         place: usize,
         /// What is expected there.
         expected: &'static str,
+        /// What is there.
+        met: Met,
     },
     /// With the bracket, question mark or bar at this offset more than 64 are around a part.
     #[error("at byte {place}: parts within parts, deeper than {MAX_DEPTH} levels")]
@@ -287,10 +294,12 @@ fn length(scanner: &mut Scanner<'_>) -> Result<usize, ShapeTextError>
     ensures { IfOk result (λ len. Length len scanner.old.rest.now scanner.new.rest.now) }
 {
     let place = scanner.place();
+    let met = scanner.met();
     let Ok(length) = scanner.word().parse::<usize>() else {
         return Err(ShapeTextError::Expected {
             place,
             expected: "a length below 2^64",
+            met,
         });
     };
     Ok(length)
@@ -302,11 +311,13 @@ fn scalar(scanner: &mut Scanner<'_>) -> Result<Shape, ShapeTextError>
     ensures spelled { IfOk result (λ shape. Spells Alone scanner.old.rest.now (shape ∷ []) scanner.new.rest.now) }
 {
     let place = scanner.place();
+    let met = scanner.met();
     match named(scanner.word()) {
         Some(shape) => Ok(shape),
         None => Err(ShapeTextError::Expected {
             place,
-            expected: "`(`, `[`, or a name as bool, char, text, u8 or i64",
+            expected: PART,
+            met,
         }),
     }
 }
@@ -339,6 +350,9 @@ fn named(name: &str) -> Option<Shape>
 fn expected<T>(scanner: &Scanner<'_>, expected: &'static str) -> Result<T, ShapeTextError>
     ensures { IfOk result (λ _. ⊥) }
 {
-    let place = scanner.place();
-    Err(ShapeTextError::Expected { place, expected })
+    Err(ShapeTextError::Expected {
+        place: scanner.place(),
+        expected,
+        met: scanner.met(),
+    })
 }

@@ -11,8 +11,6 @@ mod kept;
 #[cfg(test)]
 mod limits;
 #[cfg(test)]
-mod listed;
-#[cfg(test)]
 mod printed;
 #[cfg(test)]
 mod rows;

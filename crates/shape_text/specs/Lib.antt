@@ -1,1 +1,2 @@
-pub mod Reasons
+pub mod Windows
+pub mod Refusals

@@ -54,12 +54,15 @@ struct Source<'b, C: Config> {
 /// |---|---|
 /// | nothing, an optional part that is absent | `null` |
 /// | an optional part that is there | the part itself |
+/// | the same, if the part is nothing or optional | an object of the part, as `{"some":null}` |
 /// | a truth value | `true` or `false` |
 /// | a number that 64 bits hold | a number |
 /// | another number, a character, a text | a string |
 /// | a list, an array, a tuple | an array |
 /// | a list or an array of elements that have no bytes | an object of their count, as `{"count":3}` |
 /// | a variant | an object of its tag and its part, as `{"1":"a"}` |
+///
+/// A reader that holds numbers as doubles, as JavaScript does, loses digits above 2^53.
 ///
 /// The claims of lists are not charged: call `measure_shaped` before, to check the limit. Fails with `Decode` if the
 /// bytes begin with no encoding, `TooManyValues` if more than `most` values would be written (each list, option and
@@ -118,14 +121,27 @@ fn write_value<C: Config, W: Write>(
             element,
         } => write_elements(element, *len, source, out)?,
         Shape::Tuple(parts) => write_parts(parts, source, out)?,
-        Shape::Optional(part) => {
-            if source.words.next::<Option<()>>()?.is_some() {
-                write_value(part, source, out)?;
-            } else {
-                write!(out, "null")?;
-            }
-        }
+        Shape::Optional(part) => write_optional(part, source, out)?,
         Shape::Choice(variants) => write_variant(variants, source, out)?,
+    }
+    Ok(())
+}
+
+/// Writes an optional part: as it is, or in an object where it may be `null` itself.
+#[cycle(json)]
+fn write_optional<C: Config, W: Write>(
+    part: &Shape,
+    source: &mut Source<'_, C>,
+    out: &mut W,
+) -> Result<(), JsonError> {
+    if source.words.next::<Option<()>>()?.is_none() {
+        write!(out, "null")?;
+    } else if matches!(part, Shape::Unit | Shape::Optional(_)) {
+        write!(out, "{{\"some\":")?;
+        write_value(part, source, out)?;
+        write!(out, "}}")?;
+    } else {
+        write_value(part, source, out)?;
     }
     Ok(())
 }

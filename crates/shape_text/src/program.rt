@@ -1,19 +1,90 @@
-//! What the program `describe` does with the file that its words name.
+//! What the program `describe` does with the input that its words name.
 
 use crate::describing::describe;
-use crate::request::request_of;
-use anyhow::{Context, Result};
-use std::io::{BufWriter, Write};
+use crate::failure::DescribeError;
+use crate::request::{Request, request_of};
+use clap::Error;
+use clap::error::ErrorKind;
+use std::fmt::Display;
+use std::io::{BufWriter, Read, Write};
 use std::{fs, io};
 
-/// Prints what the file of these words holds. Fails where they spell no request, where the file cannot be read, and as
-/// `describe` does.
-pub fn run(rt: &HostRuntime, words: Vec<String>) -> Result<()> {
-    let request = request_of(rt.alloc(), words)?;
-    let file = &request.file;
-    let bytes = fs::read(rt, file).context(format_args!("{file}"))?;
+/// The status where all is whole.
+pub const DONE: u8 = 0;
+
+/// The status where the input is damaged or torn, or holds what is no encoding of the shape.
+pub const DAMAGED: u8 = 1;
+
+/// The status where the words spell no request.
+pub const USAGE: u8 = 2;
+
+/// The status where the input or the output fails, or memory is refused.
+pub const FAILED: u8 = 3;
+
+/// Prints what the input of these words holds, of which the first is the program's name, and returns the status with
+/// which the program ends. What goes wrong is printed to the standard error, unless the reader of the output is gone.
+pub fn run(rt: &HostRuntime, words: &[String]) -> u8 {
+    match request_of(rt.alloc(), words) {
+        Ok(request) => run_request(rt, &request),
+        Err(error) => usage(rt, &error),
+    }
+}
+
+/// Prints why words spell no request, or the help or the version for which they ask.
+fn usage(rt: &HostRuntime, error: &Error) -> u8 {
+    if error.print(rt).is_err() || error.kind() == ErrorKind::OutOfMemory {
+        FAILED
+    } else if error.use_stderr() {
+        USAGE
+    } else {
+        DONE
+    }
+}
+
+/// Prints what the input of a request holds.
+fn run_request(rt: &HostRuntime, request: &Request) -> u8 {
+    let Some(path) = &request.file else {
+        let printed = print_stream(rt, request, rt.reader());
+        return status_of(rt, "standard input", &printed);
+    };
+    let printed = match fs::open(rt, path) {
+        Ok(file) => print_stream(rt, request, file),
+        Err(cause) => Err(DescribeError::Read(cause)),
+    };
+    status_of(rt, path, &printed)
+}
+
+/// Prints what a stream holds, and returns whether it is whole.
+fn print_stream<R: Read + Drop>(
+    rt: &HostRuntime,
+    request: &Request,
+    stream: R,
+) -> Result<bool, DescribeError> {
     let mut out = BufWriter::new(rt.alloc(), io::writer(rt))?;
-    let described = describe(rt.alloc(), &request, &bytes, &mut out);
+    let described = describe(rt.alloc(), request, stream, &mut out);
     out.flush()?;
-    described.context(format_args!("{file}"))
+    described
+}
+
+/// The status of what was printed of an input of this name. An error is printed with the name.
+fn status_of(rt: &HostRuntime, name: &str, printed: &Result<bool, DescribeError>) -> u8 {
+    match printed {
+        Ok(true) => DONE,
+        Ok(false) => DAMAGED,
+        Err(DescribeError::Write(cause)) => {
+            if cause.kind() != io::ErrorKind::BrokenPipe {
+                complain(rt, "standard output", cause);
+            }
+            FAILED
+        }
+        Err(error) => {
+            complain(rt, name, error);
+            if error.is_damage() { DAMAGED } else { FAILED }
+        }
+    }
+}
+
+/// Prints what went wrong with a stream of this name. Where that fails, nobody can be told.
+fn complain<E: Display>(rt: &HostRuntime, name: &str, error: &E) {
+    let _ = eprintln!(rt; "describe: {name}: {error}");
 }

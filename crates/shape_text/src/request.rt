@@ -3,75 +3,212 @@
 use crate::text::{ShapeTextError, shape_of};
 use bincode::config::{Endianness, IntEncoding};
 use bincode::shape::Shape;
-use std::alloc::Global;
-use thiserror::Error;
+use clap::error::ErrorKind;
+use clap::{Arg, ArgAction, ArgMatches, Command, Error};
+use std::alloc::{AllocError, Global};
 
-/// Which file is described, and how it was written.
+/// What is described, and how it was written.
 #[derive(Drop)]
 pub struct Request {
-    /// The integer encoding of the file.
+    /// The integer encoding of the input.
     pub encoding: IntEncoding,
-    /// The byte order of the file.
+    /// The byte order of the input.
     pub endian: Endianness,
-    /// The shape of its values.
+    /// How many bytes an encoding may claim.
+    pub limit: SizeLimit,
+    /// The shape of the values.
     pub shape: Shape,
-    /// Its path.
-    pub file: String,
+    /// The path of the file; `None` for the standard input.
+    pub file: Option<String>,
     /// How many values of an encoding are printed at most.
     pub most_values: usize,
+    /// The greatest length of a word in bytes, if the input is a store of frames.
+    pub longest: Option<u32>,
 }
+
+/// How many bytes an encoding may claim.
+#[derive(Clone, Copy, PartialEq)]
+pub enum SizeLimit {
+    KiB1,
+    KiB64,
+    MiB1,
+    MiB16,
+    MiB64,
+    GiB1,
+    Unlimited,
+}
+
+/// The names of the limits.
+const SIZES: [&str; 7] = ["1KiB", "64KiB", "1MiB", "16MiB", "64MiB", "1GiB", "none"];
+
+/// The names of the configurations.
+const CONFIGS: [&str; 2] = ["standard", "legacy"];
 
 /// How many values of an encoding are printed at most by default.
-pub const MOST_VALUES: usize = 1_000_000;
+const MOST_VALUES: u64 = 1_000_000;
 
-/// The usage line.
-const USAGE: &str = "describe [--fixed] [--big-endian] SHAPE FILE";
+/// The greatest length of a word in frames by default.
+const LONGEST: u32 = 1_048_576;
 
-/// Why a command line was refused.
-#[derive(Debug, Drop, Error)]
-pub enum RequestError {
-    /// No option has this name.
-    #[error("no option {word:?}: {USAGE}")]
-    UnknownOption { word: String },
-    /// The word comes after the file.
-    #[error("one word too many, {word:?}: {USAGE}")]
-    OneTooMany { word: String },
-    /// The shape or the file is missing.
-    #[error("which shape, and which file? {USAGE}")]
-    TooFew,
-    /// The text is no shape.
-    #[error("{text}: {why}")]
-    NoShape { text: String, why: ShapeTextError },
+/// What stands at the end of the help.
+const AFTER_HELP: &str = "Shapes:
+  ()                           nothing, in no bytes
+  bool, char, text             a truth value, a character, a text
+  u8 u16 u32 u64 u128 usize    a number
+  i8 i16 i32 i64 i128 isize    a number that may be negative
+  [T]                          a list or a set of T; bytes are [u8]
+  [(K, V)]                     a map from K to V
+  [T; 4]                       an array of four T
+  (A, B)                       a tuple or a struct of an A and a B; of one part (A,)
+  T?                           an optional T
+  A|B                          an enum: its variants in order, one without parts is ()
+  (T)                          T, in brackets around a part
+
+Output:
+  A line of JSON for each encoding, with its place and its length in bytes:
+  {\"offset\":0,\"length\":3,\"value\":300}
+
+  A number that 64 bits hold is a number, another one a string. Readers that hold numbers as
+  doubles, as JavaScript does, lose digits above 2^53. Nothing is null, and so is an optional part
+  that is absent. A part that is there stands as it is; one that could be null itself, as () or an
+  option, as {\"some\":PART}. A variant is {\"TAG\":PART}, a list of elements without bytes
+  {\"count\":N}. An encoding of more values than are printed has \"values\":N in place of \"value\".
+
+  With --frames place and length are those of the frame. In place of \"value\" stands
+  \"undecodable\":WHY, where the word begins with no encoding, or \"longer\":BYTES, where it goes on
+  after one. Damaged frames in a row share a line, with \"damaged\":COUNT and the bytes of all.
+
+Status:
+  0  all is whole
+  1  the input is damaged or torn, or holds what is no encoding of the shape
+  2  wrong arguments
+  3  the file, the standard input or the standard output fails, or memory is refused";
+
+/// The program's command line.
+fn command<'a>(alloc: Global) -> Result<Command<'a>, AllocError> {
+    let shape = Arg::new(alloc, "shape")
+        .value_name("SHAPE")
+        .required(true)
+        .help("The shape of the values, as (u8, [u16], text?, u32|text)");
+    let file = Arg::new(alloc, "file")
+        .value_name("FILE")
+        .help("The file; the standard input, where it is - or missing");
+    let command = Command::new(alloc, "describe")
+        .version("2.0.0")
+        .override_usage("describe [OPTIONS] SHAPE [FILE]")
+        .about("Prints what a file in the format of bincode holds, by the shape of its values")
+        .after_help(AFTER_HELP);
+    with_frames(alloc, with_amounts(alloc, with_format(alloc, command)?)?)?
+        .arg(shape)?
+        .arg(file)
 }
 
-/// Parses a command line: options anywhere, a shape, and a file. Fails if it cannot be parsed, or if an allocation for
-/// the shape is refused.
-pub fn request_of(alloc: Global, words: Vec<String>) -> Result<Request, RequestError> {
-    let mut encoding = IntEncoding::Variable;
-    let mut endian = Endianness::Little;
-    let mut text = None;
-    let mut file = None;
-    for word in words {
-        match word.as_str() {
-            "--fixed" => encoding = IntEncoding::Fixed,
-            "--big-endian" => endian = Endianness::Big,
-            other if other.starts_with("--") => return Err(RequestError::UnknownOption { word }),
-            _ if text.is_none() => text = Some(word),
-            _ if file.is_none() => file = Some(word),
-            _ => return Err(RequestError::OneTooMany { word }),
+/// The options that say how the input was written.
+fn with_format<'a>(alloc: Global, command: Command<'a>) -> Result<Command<'a>, AllocError> {
+    let fixed = Arg::new(alloc, "fixed")
+        .long("fixed")
+        .action(ArgAction::SetTrue)
+        .help("Numbers have a fixed length");
+    let big_endian = Arg::new(alloc, "big-endian")
+        .long("big-endian")
+        .action(ArgAction::SetTrue)
+        .help("Numbers begin with their highest byte");
+    let config = Arg::new(alloc, "config")
+        .long("config")
+        .value_name("CONFIG")
+        .value_parser(CONFIGS.as_slice())
+        .conflicts_with("fixed")?
+        .conflicts_with("big-endian")?
+        .help(
+            "standard: variable lengths, lowest byte first; legacy: fixed lengths, lowest byte first",
+        );
+    command.arg(fixed)?.arg(big_endian)?.arg(config)
+}
+
+/// The options that say how much is taken.
+fn with_amounts<'a>(alloc: Global, command: Command<'a>) -> Result<Command<'a>, AllocError> {
+    let limit = Arg::new(alloc, "limit")
+        .long("limit")
+        .value_name("SIZE")
+        .value_parser(SIZES.as_slice())
+        .default_value("64MiB")
+        .help("How many bytes an encoding may claim");
+    let values = Arg::new(alloc, "values")
+        .long("values")
+        .value_name("N")
+        .value_parser(clap::value_parser!(u64))
+        .default_value("1000000")
+        .help("How many values of one encoding are printed at most");
+    command.arg(limit)?.arg(values)
+}
+
+/// The options for stores of frames.
+fn with_frames<'a>(alloc: Global, command: Command<'a>) -> Result<Command<'a>, AllocError> {
+    let frames = Arg::new(alloc, "frames")
+        .long("frames")
+        .action(ArgAction::SetTrue)
+        .help("The input is a store of frames, each with the encoding of one value");
+    let longest = Arg::new(alloc, "longest")
+        .long("longest")
+        .value_name("N")
+        .value_parser(clap::value_parser!(u32))
+        .requires_arg("frames")?
+        .help("The greatest length of a word in frames, in bytes [default: 1048576]");
+    command.arg(frames)?.arg(longest)
+}
+
+/// The request that these words spell, of which the first is the program's name. Where they spell none, or ask for help
+/// or for the version, the error has the text for it.
+pub fn request_of(alloc: Global, words: &[String]) -> Result<Request, Error> {
+    let matches = command(alloc)?.try_get_matches_from(words)?;
+    let text = matches.get_str("shape").unwrap_or("");
+    match shape_of(alloc, text) {
+        Ok(shape) => Ok(request_in(alloc, &matches, shape)?),
+        Err(ShapeTextError::Memory) => Err(AllocError.into()),
+        Err(why) => {
+            let message = format!(in alloc; "{text:?} is no shape: {why}")?;
+            Err(command(alloc)?.error(ErrorKind::ValueValidation, message.as_str())?)
         }
     }
-    let (Some(text), Some(file)) = (text, file) else {
-        return Err(RequestError::TooFew);
+}
+
+/// The request in what was found.
+fn request_in(alloc: Global, found: &ArgMatches<'_>, shape: Shape) -> Result<Request, AllocError> {
+    let file = match found.get_str("file") {
+        None | Some("-") => None,
+        Some(path) => Some(String::from_str(alloc, path)?),
     };
-    match shape_of(alloc, &text) {
-        Ok(shape) => Ok(Request {
-            encoding,
-            endian,
-            shape,
-            file,
-            most_values: MOST_VALUES,
-        }),
-        Err(why) => Err(RequestError::NoShape { text, why }),
+    let is_fixed = found.get_flag("fixed") || found.get_str("config") == Some("legacy");
+    let most_values = found.get_one::<u64>("values").unwrap_or(MOST_VALUES);
+    let longest = found.get_one::<u32>("longest").unwrap_or(LONGEST);
+    Ok(Request {
+        encoding: if is_fixed {
+            IntEncoding::Fixed
+        } else {
+            IntEncoding::Variable
+        },
+        endian: if found.get_flag("big-endian") {
+            Endianness::Big
+        } else {
+            Endianness::Little
+        },
+        limit: limit_named(found.get_str("limit").unwrap_or("")),
+        shape,
+        file,
+        most_values: usize::try_from(most_values).unwrap_or(usize::MAX),
+        longest: found.get_flag("frames").then_some(longest),
+    })
+}
+
+/// The limit of this name.
+fn limit_named(name: &str) -> SizeLimit {
+    match name {
+        "1KiB" => SizeLimit::KiB1,
+        "64KiB" => SizeLimit::KiB64,
+        "1MiB" => SizeLimit::MiB1,
+        "16MiB" => SizeLimit::MiB16,
+        "1GiB" => SizeLimit::GiB1,
+        "none" => SizeLimit::Unlimited,
+        _ => SizeLimit::MiB64,
     }
 }
