@@ -3,6 +3,7 @@
 use crate::stores::{FRAMED, all_true, damaged};
 use framed_store::surveying::survey_frames;
 use std::alloc::Global;
+use std::io;
 use stock_files::limit::LONGEST_WORD;
 use stock_files::repairing::{
     Plan, Repair, is_whole_after, plan_for, print_kept, print_plan, salvage,
@@ -80,22 +81,39 @@ fn plans_repairs(rt: HostRuntime) -> anyhow::Result<()> {
     Ok(())
 }
 
+/// Whether whole frames are kept after a length that was changed to one that leads into the next frame, and whether a
+/// damaged frame whose length stands is passed over as one.
+fn keeps_after_a_longer_frame(alloc: Global) -> io::Result<bool> {
+    let mut longer = FRAMED;
+    longer[0] = 9;
+    let mut kept = Vec::new(alloc);
+    salvage(&longer, &mut kept)?;
+    let mut others = Vec::new(alloc);
+    salvage(&damaged(), &mut others)?;
+    Ok(
+        kept.as_slice() == &FRAMED[16..]
+            && others.starts_with(&FRAMED[..16])
+            && others.get(16..) == FRAMED.get(47..),
+    )
+}
+
 #[test]
 fn keeps_whole_frames(rt: HostRuntime) -> anyhow::Result<()> {
     let alloc = rt.alloc();
     let two = cut_in_two();
     let mut kept = Vec::new(alloc);
-    salvage(alloc, two.get(16..).unwrap_or(&[]), &mut kept)?;
+    salvage(&two, &mut kept)?;
     let mut none = Vec::new(alloc);
-    salvage(alloc, &FRAMED[1..15], &mut none)?;
+    salvage(&FRAMED[1..15], &mut none)?;
     let mut out = Vec::new(alloc);
     print_kept(&mut out, "f", 63, &survey_frames(&kept, LONGEST_WORD))?;
     all_true(
         &rt,
         &[
-            kept.as_slice() == &FRAMED[47..],
+            kept.starts_with(&FRAMED[..16]) && kept.get(16..) == FRAMED.get(47..),
+            keeps_after_a_longer_frame(alloc)?,
             none.is_empty(),
-            out.as_slice() == b"f: whole frames kept: 1, bytes: 16, bytes dropped: 47\n".as_slice(),
+            out.as_slice() == b"f: whole frames kept: 2, bytes: 32, bytes dropped: 31\n".as_slice(),
         ],
     );
     Ok(())

@@ -1,16 +1,29 @@
 -- Keeping the whole frames of a store, part by part.
-use Rattle.std.specs.Prelude.{◌≡◌, ◌++◌, ◌<◌, ◌≤◌, ℕ, List, [], ◌∷◌, length, take, drop, Option, refl}
+use Rattle.std.specs.Prelude.{◌≡◌, ◌++◌, ◌<◌, ◌≤◌, ℕ, List, [], ◌∷◌, length, take, drop, Option, Some, None, IfSome, refl}
 use Rattle.std.specs.Io.KnownBytes.{Appends}
-use Rattle.std.proofs.Common.{◌∙◌, ap, sym, subst, arith, append_assoc, append-nil}
+use Rattle.std.proofs.Common.{◌∙◌, ap, sym, subst, arith, inr, suc, zero, append_assoc, append-nil}
 use Rattle.std.proofs.KnownBytes.{Appends-nil, Appends-trans}
 use Rattle.std.proofs.lemmas.List.{length-drop}
 use Rattle.framed_store.specs.Searches.{StandsAt}
-use Rattle.framed_store.specs.Steps.{IsWhole, IsDamaged}
+use Rattle.framed_store.specs.Steps.{IsWhole}
 use Rattle.stock_files.specs.Repairs.{HasNoFrame, IsPassed, Part, Kept, Passed, PartsTo, kept_of, Salvages}
 
 -- nothing stands in no bytes
 pub none-in-none : (most : ℕ) → HasNoFrame most []
-none-in-none most k stands = let there = stands.0.1 in let left = length-drop k ([] : List ℕ) in absurd (omega (arith, there, left))
+none-in-none most k stands =
+    let nothing : List ℕ = [] in
+    let there = stands.0.1 in
+    let left = length-drop k nothing in omega (arith, there, left)
+
+-- up to where a frame stands, bytes that begin with none are passed over
+pub passed-to-frame : (most : ℕ) (bytes : List ℕ) (r : Option ℕ) → ¬ StandsAt most bytes 0 → IfSome r (StandsAt most bytes) → IfSome r (λ n. (k : ℕ) → k < n → ¬ StandsAt most bytes k) →
+    IfSome r (λ n. (0 < n) × (n ≤ length bytes) × IsPassed most bytes n)
+passed-to-frame most bytes None none found first = tt
+passed-to-frame most bytes (Some zero) none found first = absurd (none found)
+passed-to-frame most bytes (Some (suc n)) none found first =
+    let there = found.0.1 in
+    let left = length-drop (suc n) bytes in
+    let within : suc n ≤ length bytes = omega (arith, there, left) in (omega arith, within, inr first)
 
 parts-kept : (most : ℕ) (bytes : List ℕ) (parts : List Part) (rest : List ℕ) (n : ℕ) → PartsTo most bytes parts rest → IsWhole most rest n → PartsTo most bytes (parts ++ Kept n ∷ []) (drop n rest)
 parts-kept most bytes [] rest n to is = (subst (λ z. IsWhole most z n) to is, ap (drop n) to)

@@ -69,7 +69,10 @@ pub fn salvage<W: Write>(store: &[u8], out: &mut W) -> io::Result<()>
                 rest = others;
             }
             Frame::Damaged(_) | Frame::Torn | Frame::TooLong(_) => match bytes_to_pass(rest) {
-                Some(size) => rest = &rest[size..],
+                Some(size) => {
+                    let (_, others) = rest.split_at(size);
+                    rest = others;
+                }
                 None => return Ok(()),
             },
         }
