@@ -5,6 +5,8 @@
 #[cfg(test)]
 mod asserts;
 #[cfg(test)]
+mod collections;
+#[cfg(test)]
 mod described;
 #[cfg(test)]
 mod kept;

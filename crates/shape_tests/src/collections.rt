@@ -1,0 +1,84 @@
+//! The shapes of queues, heaps, sets and maps, and values by their shapes from readers and streams.
+
+use crate::asserts::all_true;
+use crate::shaped::shape_of;
+use bincode::config;
+use bincode::de::IoReader;
+use bincode::de::read::{Reader, SliceReader};
+use bincode::error::DecodeError;
+use bincode::shape::{Described, Shape, Value, decode_shaped, decode_shaped_from_reader};
+use std::alloc::Global;
+use std::collections::{BTreeMap, BTreeSet, BinaryHeap, HashMap, HashSet, VecDeque};
+
+/// Whether the shape of a type is that of a list of numbers of two bytes.
+fn is_list<T: Described>(alloc: Global) -> bool {
+    matches!(shape_of::<T>(alloc), Some(Shape::Seq { claim: 2, element }) if *element == Shape::U16)
+}
+
+/// Whether the shape of a type is that of a list of two of them.
+fn is_map<T: Described>(alloc: Global) -> bool {
+    let Some(Shape::Seq { claim: 4, element }) = shape_of::<T>(alloc) else {
+        return false;
+    };
+    matches!(&*element, Shape::Tuple(parts) if matches!(parts.as_slice(), [Shape::U16, Shape::U16]))
+}
+
+/// Whether the entries of a map are read by its shape.
+fn reads_map(alloc: Global) -> bool {
+    let Some(shape) = shape_of::<BTreeMap<u16, u16>>(alloc) else {
+        return false;
+    };
+    let read = decode_shaped(alloc, &shape, &[2, 1, 10, 2, 20, 9], config::standard());
+    let Ok((Value::List(entries), 5)) = &read else {
+        return false;
+    };
+    matches!(entries.as_slice(), [Value::List(first), Value::List(second)]
+        if matches!(first.as_slice(), [Value::Unsigned(1), Value::Unsigned(10)])
+            && matches!(second.as_slice(), [Value::Unsigned(2), Value::Unsigned(20)]))
+}
+
+#[test]
+fn collections_are_lists_of_their_items(rt: HostRuntime) {
+    let alloc = rt.alloc();
+    all_true(
+        &rt,
+        &[
+            is_list::<VecDeque<u16>>(alloc),
+            is_list::<BinaryHeap<u16>>(alloc),
+            is_list::<BTreeSet<u16>>(alloc),
+            is_list::<HashSet<u16>>(alloc),
+            is_map::<BTreeMap<u16, u16>>(alloc),
+            is_map::<HashMap<u16, u16>>(alloc),
+            reads_map(alloc),
+        ],
+    );
+}
+
+/// The next number of two bytes of a reader.
+fn next<R: Reader>(alloc: Global, reader: &mut R) -> Result<Value, DecodeError> {
+    decode_shaped_from_reader(alloc, &Shape::U16, reader, config::standard())
+}
+
+#[test]
+fn reads_values_in_turn(rt: HostRuntime) {
+    let alloc = rt.alloc();
+    let bytes: [u8; 6] = [7, 251, 44, 1, 251, 2];
+    let mut reader = SliceReader::new(&bytes);
+    let first = next(alloc, &mut reader);
+    let second = next(alloc, &mut reader);
+    let left = reader.bytes_left();
+    let third = next(alloc, &mut reader);
+    let mut stream = IoReader::new(&bytes[3..]);
+    let one = next(alloc, &mut stream);
+    let cut = next(alloc, &mut stream);
+    all_true(
+        &rt,
+        &[
+            matches!(first, Ok(Value::Unsigned(7))),
+            matches!(second, Ok(Value::Unsigned(300))) && left == 2,
+            matches!(third, Err(DecodeError::UnexpectedEnd { additional: 1 })),
+            matches!(one, Ok(Value::Unsigned(1))),
+            matches!(cut, Err(DecodeError::Io { additional: 1, .. })),
+        ],
+    );
+}
