@@ -95,36 +95,59 @@ fn write_value<C: Config, W: Write>(
     };
     source.left = left;
     match shape {
-        Shape::Unit => write!(out, "null")?,
-        Shape::Bool => write_plain::<bool, C, W>(source, out)?,
-        Shape::Char => write_char(source, out)?,
-        Shape::Text => write_string(source.words.next_text()?, out)?,
-        Shape::U8 => write_plain::<u8, C, W>(source, out)?,
-        Shape::U16 => write_plain::<u16, C, W>(source, out)?,
-        Shape::U32 => write_plain::<u32, C, W>(source, out)?,
-        Shape::U64 => write_plain::<u64, C, W>(source, out)?,
-        Shape::U128 => write_u128(source, out)?,
-        Shape::Usize => write_plain::<usize, C, W>(source, out)?,
-        Shape::I8 => write_plain::<i8, C, W>(source, out)?,
-        Shape::I16 => write_plain::<i16, C, W>(source, out)?,
-        Shape::I32 => write_plain::<i32, C, W>(source, out)?,
-        Shape::I64 => write_plain::<i64, C, W>(source, out)?,
-        Shape::I128 => write_i128(source, out)?,
-        Shape::Isize => write_plain::<isize, C, W>(source, out)?,
-        Shape::Seq { claim: _, element } => {
-            let len = source.words.next::<usize>()?;
-            write_elements(element, len, source, out)?;
-        }
+        Shape::Unit => write_null(out),
+        Shape::Bool => write_plain::<bool, C, W>(source, out),
+        Shape::Char => write_char(source, out),
+        Shape::Text => write_text(source, out),
+        Shape::U8 => write_plain::<u8, C, W>(source, out),
+        Shape::U16 => write_plain::<u16, C, W>(source, out),
+        Shape::U32 => write_plain::<u32, C, W>(source, out),
+        Shape::U64 => write_plain::<u64, C, W>(source, out),
+        Shape::U128 => write_u128(source, out),
+        Shape::Usize => write_plain::<usize, C, W>(source, out),
+        Shape::I8 => write_plain::<i8, C, W>(source, out),
+        Shape::I16 => write_plain::<i16, C, W>(source, out),
+        Shape::I32 => write_plain::<i32, C, W>(source, out),
+        Shape::I64 => write_plain::<i64, C, W>(source, out),
+        Shape::I128 => write_i128(source, out),
+        Shape::Isize => write_plain::<isize, C, W>(source, out),
+        Shape::Seq { claim: _, element } => write_list(element, source, out),
         Shape::Array {
             len,
             claim: _,
             element,
-        } => write_elements(element, *len, source, out)?,
-        Shape::Tuple(parts) => write_parts(parts, source, out)?,
-        Shape::Optional(part) => write_optional(part, source, out)?,
-        Shape::Choice(variants) => write_variant(variants, source, out)?,
+        } => write_elements(element, *len, source, out),
+        Shape::Tuple(parts) => write_parts(parts, source, out),
+        Shape::Optional(part) => write_optional(part, source, out),
+        Shape::Choice(variants) => write_variant(variants, source, out),
     }
+}
+
+/// Writes nothing, and an optional part that is absent.
+fn write_null<W: Write>(out: &mut W) -> Result<(), JsonError> {
+    write!(out, "null")?;
     Ok(())
+}
+
+/// Writes a text, as a string.
+fn write_text<C: Config, W: Write>(
+    source: &mut Source<'_, C>,
+    out: &mut W,
+) -> Result<(), JsonError> {
+    let text = source.words.next_text()?;
+    write_string(text, out)?;
+    Ok(())
+}
+
+/// Writes a list.
+#[cycle(json)]
+fn write_list<C: Config, W: Write>(
+    element: &Shape,
+    source: &mut Source<'_, C>,
+    out: &mut W,
+) -> Result<(), JsonError> {
+    let len = source.words.next::<usize>()?;
+    write_elements(element, len, source, out)
 }
 
 /// Writes an optional part: as it is, or in an object where it may be `null` itself.
@@ -135,14 +158,14 @@ fn write_optional<C: Config, W: Write>(
     out: &mut W,
 ) -> Result<(), JsonError> {
     if source.words.next::<Option<()>>()?.is_none() {
-        write!(out, "null")?;
-    } else if matches!(part, Shape::Unit | Shape::Optional(_)) {
-        write!(out, "{{\"some\":")?;
-        write_value(part, source, out)?;
-        write!(out, "}}")?;
-    } else {
-        write_value(part, source, out)?;
+        return write_null(out);
     }
+    if !matches!(part, Shape::Unit | Shape::Optional(_)) {
+        return write_value(part, source, out);
+    }
+    write!(out, "{{\"some\":")?;
+    write_value(part, source, out)?;
+    write!(out, "}}")?;
     Ok(())
 }
 

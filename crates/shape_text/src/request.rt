@@ -86,75 +86,118 @@ Status:
 
 /// The program's command line.
 fn command<'a>(alloc: Global) -> Result<Command<'a>, AllocError> {
-    let shape = Arg::new(alloc, "shape")
-        .value_name("SHAPE")
-        .required(true)
-        .help("The shape of the values, as (u8, [u16], text?, u32|text)");
-    let file = Arg::new(alloc, "file")
-        .value_name("FILE")
-        .help("The file; the standard input, where it is - or missing");
     let command = Command::new(alloc, "describe")
         .version("2.0.0")
         .override_usage("describe [OPTIONS] SHAPE [FILE]")
         .about("Prints what a file in the format of bincode holds, by the shape of its values")
         .after_help(AFTER_HELP);
-    with_frames(alloc, with_amounts(alloc, with_format(alloc, command)?)?)?
-        .arg(shape)?
-        .arg(file)
+    let command = with_format(alloc, command)?;
+    let command = with_amounts(alloc, command)?;
+    let command = with_frames(alloc, command)?;
+    with_source(alloc, command)
+}
+
+/// What is read, and by which shape.
+fn with_source<'a>(alloc: Global, command: Command<'a>) -> Result<Command<'a>, AllocError> {
+    command.arg(shape_arg(alloc))?.arg(file_arg(alloc))
+}
+
+/// The argument `SHAPE`.
+fn shape_arg<'a>(alloc: Global) -> Arg<'a> {
+    Arg::new(alloc, "shape")
+        .value_name("SHAPE")
+        .required(true)
+        .help("The shape of the values, as (u8, [u16], text?, u32|text)")
+}
+
+/// The argument `FILE`.
+fn file_arg<'a>(alloc: Global) -> Arg<'a> {
+    Arg::new(alloc, "file")
+        .value_name("FILE")
+        .help("The file; the standard input, where it is - or missing")
 }
 
 /// The options that say how the input was written.
 fn with_format<'a>(alloc: Global, command: Command<'a>) -> Result<Command<'a>, AllocError> {
-    let fixed = Arg::new(alloc, "fixed")
+    let command = command.arg(fixed_arg(alloc))?;
+    let command = command.arg(big_endian_arg(alloc))?;
+    command.arg(config_arg(alloc)?)
+}
+
+/// The option `--fixed`.
+fn fixed_arg<'a>(alloc: Global) -> Arg<'a> {
+    Arg::new(alloc, "fixed")
         .long("fixed")
         .action(ArgAction::SetTrue)
-        .help("Numbers have a fixed length");
-    let big_endian = Arg::new(alloc, "big-endian")
+        .help("Numbers have a fixed length")
+}
+
+/// The option `--big-endian`.
+fn big_endian_arg<'a>(alloc: Global) -> Arg<'a> {
+    Arg::new(alloc, "big-endian")
         .long("big-endian")
         .action(ArgAction::SetTrue)
-        .help("Numbers begin with their highest byte");
+        .help("Numbers begin with their highest byte")
+}
+
+/// The option `--config`.
+fn config_arg<'a>(alloc: Global) -> Result<Arg<'a>, AllocError> {
     let config = Arg::new(alloc, "config")
         .long("config")
         .value_name("CONFIG")
         .value_parser(CONFIGS.as_slice())
-        .conflicts_with("fixed")?
-        .conflicts_with("big-endian")?
         .help(
             "standard: variable lengths, lowest byte first; legacy: fixed lengths, lowest byte first",
         );
-    command.arg(fixed)?.arg(big_endian)?.arg(config)
+    config.conflicts_with("fixed")?.conflicts_with("big-endian")
 }
 
 /// The options that say how much is taken.
 fn with_amounts<'a>(alloc: Global, command: Command<'a>) -> Result<Command<'a>, AllocError> {
-    let limit = Arg::new(alloc, "limit")
+    command.arg(limit_arg(alloc))?.arg(values_arg(alloc))
+}
+
+/// The option `--limit`.
+fn limit_arg<'a>(alloc: Global) -> Arg<'a> {
+    Arg::new(alloc, "limit")
         .long("limit")
         .value_name("SIZE")
         .value_parser(SIZES.as_slice())
         .default_value("64MiB")
-        .help("How many bytes an encoding may claim");
-    let values = Arg::new(alloc, "values")
+        .help("How many bytes an encoding may claim")
+}
+
+/// The option `--values`.
+fn values_arg<'a>(alloc: Global) -> Arg<'a> {
+    Arg::new(alloc, "values")
         .long("values")
         .value_name("N")
         .value_parser(clap::value_parser!(u64))
         .default_value("1000000")
-        .help("How many values of one encoding are printed at most");
-    command.arg(limit)?.arg(values)
+        .help("How many values of one encoding are printed at most")
 }
 
 /// The options for stores of frames.
 fn with_frames<'a>(alloc: Global, command: Command<'a>) -> Result<Command<'a>, AllocError> {
-    let frames = Arg::new(alloc, "frames")
+    command.arg(frames_arg(alloc))?.arg(longest_arg(alloc)?)
+}
+
+/// The option `--frames`.
+fn frames_arg<'a>(alloc: Global) -> Arg<'a> {
+    Arg::new(alloc, "frames")
         .long("frames")
         .action(ArgAction::SetTrue)
-        .help("The input is a store of frames, each with the encoding of one value");
-    let longest = Arg::new(alloc, "longest")
+        .help("The input is a store of frames, each with the encoding of one value")
+}
+
+/// The option `--longest`.
+fn longest_arg<'a>(alloc: Global) -> Result<Arg<'a>, AllocError> {
+    Arg::new(alloc, "longest")
         .long("longest")
         .value_name("N")
         .value_parser(clap::value_parser!(u32))
-        .requires_arg("frames")?
-        .help("The greatest length of a word in frames, in bytes [default: 1048576]");
-    command.arg(frames)?.arg(longest)
+        .help("The greatest length of a word in frames, in bytes [default: 1048576]")
+        .requires_arg("frames")
 }
 
 /// The request that these words spell, of which the first is the program's name. Where they spell none, or ask for help
