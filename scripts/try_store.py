@@ -201,6 +201,10 @@ def devices(store, held, frames):
     ]:
         status, text, error = store.run(*words, seconds=20)
         tries.want(status == wanted, f"{words}: status {status}, {error.strip()[:200]!r}")
+    pipe = str(folder / "pipe")
+    os.mkfifo(pipe)
+    for words in (("check", pipe), ("list", pipe), ("add", pipe, "tea", "1"), ("repair", pipe)):
+        tries.want(store.run(*words, seconds=5)[0] == DEVICE, f"{words[0]} of a pipe that nobody writes to")
     store.with_bytes(held)
     if os.geteuid():
         store.file.chmod(0)

@@ -1,7 +1,7 @@
 //! The files that stores stand in.
 
 use std::alloc::Global;
-use std::fs::{File, OpenOptions, TryLockError};
+use std::fs::{File, Metadata, OpenOptions, TryLockError};
 use std::io::{Read, Seek, SeekFrom};
 use std::os::unix::fs::MetadataExt;
 use std::{fs, io};
@@ -24,23 +24,30 @@ pub enum FileError {
     Access(#[from] io::Error),
 }
 
-/// Opens a regular file to read it.
+/// Opens a regular file to read it. What stands at the path is looked at first, since a pipe would be waited for.
 pub fn open_to_read(rt: &HostRuntime, path: &str) -> Result<File, FileError> {
+    refuse_irregular(&fs::metadata(rt, path)?)?;
     let file = fs::open(rt, path)?;
-    refuse_irregular(&file)?;
+    refuse_irregular(&file.metadata()?)?;
     Ok(file)
 }
 
 /// Opens a regular file to read it and to append to it, with a lock that keeps others from changing it until it is
 /// closed. It is made where there is none, if `creates` says so; then its name is on the disk on return.
 pub fn open_to_change(rt: &HostRuntime, path: &str, creates: bool) -> Result<File, FileError> {
-    let is_new = creates && fs::metadata(rt, path).is_err();
+    let is_new = match fs::metadata(rt, path) {
+        Ok(found) => {
+            refuse_irregular(&found)?;
+            false
+        }
+        Err(_) => creates,
+    };
     let file = OpenOptions::new()
         .read(true)
         .append(true)
         .create(creates)
         .open(rt, path)?;
-    refuse_irregular(&file)?;
+    refuse_irregular(&file.metadata()?)?;
     match file.try_lock() {
         Ok(()) => (),
         Err(TryLockError::WouldBlock) => return Err(FileError::Locked),
@@ -53,9 +60,9 @@ pub fn open_to_change(rt: &HostRuntime, path: &str, creates: bool) -> Result<Fil
     Ok(file)
 }
 
-/// Fails where a file is not a regular one.
-fn refuse_irregular(file: &File) -> Result<(), FileError> {
-    if file.metadata()?.is_file() {
+/// Fails where this is no regular file's.
+fn refuse_irregular(found: &Metadata) -> Result<(), FileError> {
+    if found.is_file() {
         Ok(())
     } else {
         Err(FileError::NotRegular)
