@@ -19,10 +19,12 @@ fn first_two<R: BufRead>(
 
 /// Whether the lines of a text are salt and tea.
 fn gives_both(alloc: Global, text: &str) -> Result<bool, AllocError> {
-    Ok(match first_two(alloc, &mut text.as_bytes()) {
-        Ok((Some(first), Some(second), false)) => first == salt(alloc)? && second == tea(alloc)?,
-        _ => false,
-    })
+    let outcome = first_two(alloc, &mut text.as_bytes());
+    let salt = salt(alloc)?;
+    let tea = tea(alloc)?;
+    Ok(
+        matches!(&outcome, Ok((Some(first), Some(second), false)) if *first == salt && *second == tea),
+    )
 }
 
 /// Whether a text is refused with this message.

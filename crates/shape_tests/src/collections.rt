@@ -10,17 +10,39 @@ use bincode::shape::{Described, Shape, Value, decode_shaped, decode_shaped_from_
 use std::alloc::Global;
 use std::collections::{BTreeMap, BTreeSet, BinaryHeap, HashMap, HashSet, VecDeque};
 
+/// Whether a shape is that of a list of numbers of two bytes.
+fn is_list_of_numbers(shape: &Shape) -> bool {
+    let Shape::Seq { claim, element } = shape else {
+        return false;
+    };
+    *claim == 2 && **element == Shape::U16
+}
+
+/// Whether a shape is that of a list of two of them.
+fn is_list_of_pairs(shape: &Shape) -> bool {
+    let Shape::Seq { claim, element } = shape else {
+        return false;
+    };
+    let Shape::Tuple(parts) = &**element else {
+        return false;
+    };
+    *claim == 4 && parts.len() == 2 && parts[0] == Shape::U16 && parts[1] == Shape::U16
+}
+
 /// Whether the shape of a type is that of a list of numbers of two bytes.
 fn is_list<T: Described>(alloc: Global) -> bool {
-    matches!(shape_of::<T>(alloc), Some(Shape::Seq { claim: 2, element }) if *element == Shape::U16)
+    match shape_of::<T>(alloc) {
+        Some(shape) => is_list_of_numbers(&shape),
+        None => false,
+    }
 }
 
 /// Whether the shape of a type is that of a list of two of them.
 fn is_map<T: Described>(alloc: Global) -> bool {
-    let Some(Shape::Seq { claim: 4, element }) = shape_of::<T>(alloc) else {
-        return false;
-    };
-    matches!(&*element, Shape::Tuple(parts) if matches!(parts.as_slice(), [Shape::U16, Shape::U16]))
+    match shape_of::<T>(alloc) {
+        Some(shape) => is_list_of_pairs(&shape),
+        None => false,
+    }
 }
 
 /// Whether the entries of a map are read by its shape.

@@ -6,7 +6,7 @@ use shape_text::text::shape_of;
 use std::alloc::Global;
 
 /// Shapes, the bytes of a word of each, and its JSON.
-const VALUES: [(&str, &[u8], &str); 66] = [
+const VALUES: [(&str, &[u8], &str); 56] = [
     ("((), bool)", &[1], "[null,true]"),
     ("bool", &[0], "false"),
     ("char", &[195, 169], "\"é\""),
@@ -115,16 +115,6 @@ const VALUES: [(&str, &[u8], &str); 66] = [
     ("[u16; 2]", &[5, 251, 0, 1], "[5,256]"),
     ("(u8,)", &[7], "[7]"),
     ("(u8, text, bool)", &[7, 1, 97, 0], "[7,\"a\",false]"),
-    ("u8?", &[0], "null"),
-    ("u8?", &[1, 9], "9"),
-    ("u8??", &[0], "null"),
-    ("u8??", &[1, 0], "{\"some\":null}"),
-    ("u8??", &[1, 1, 9], "{\"some\":9}"),
-    ("u8???", &[1, 1, 0], "{\"some\":{\"some\":null}}"),
-    ("()?", &[0], "null"),
-    ("()?", &[1], "{\"some\":null}"),
-    ("[()]?", &[1, 2], "{\"count\":2}"),
-    ("(u8?|())?", &[1, 0, 0], "{\"0\":null}"),
     ("u8|[text]", &[1, 2, 1, 97, 0], "{\"1\":[\"a\",\"\"]}"),
     ("u8|u16|char", &[0, 9], "{\"0\":9}"),
     ("u8|u16|char", &[2, 97], "{\"2\":\"a\"}"),
@@ -135,6 +125,20 @@ const VALUES: [(&str, &[u8], &str); 66] = [
     ("[((), u8)]", &[2, 5, 6], "[[null,5],[null,6]]"),
     ("[[()]]", &[2, 1, 0], "[{\"count\":1},{\"count\":0}]"),
     ("[[u8; 2]]", &[2, 1, 2, 3, 4], "[[1,2],[3,4]]"),
+];
+
+/// Optional parts, the bytes of a word of each, and its JSON.
+const OPTIONS: [(&str, &[u8], &str); 10] = [
+    ("u8?", &[0], "null"),
+    ("u8?", &[1, 9], "9"),
+    ("u8??", &[0], "null"),
+    ("u8??", &[1, 0], "{\"some\":null}"),
+    ("u8??", &[1, 1, 9], "{\"some\":9}"),
+    ("u8???", &[1, 1, 0], "{\"some\":{\"some\":null}}"),
+    ("()?", &[0], "null"),
+    ("()?", &[1], "{\"some\":null}"),
+    ("[()]?", &[1, 2], "{\"count\":2}"),
+    ("(u8?|())?", &[1, 0, 0], "{\"0\":null}"),
 ];
 
 /// The JSON of a word at the front of some bytes, and how many bytes were read.
@@ -157,6 +161,14 @@ fn shows(alloc: Global, shape: &str, bytes: &[u8], wanted: &str) -> bool {
 fn shows_values(rt: HostRuntime) {
     let alloc = rt.alloc();
     for (shape, bytes, value) in VALUES {
+        assert!(rt; shows(alloc, shape, bytes, value));
+    }
+}
+
+#[test]
+fn shows_optional_parts(rt: HostRuntime) {
+    let alloc = rt.alloc();
+    for (shape, bytes, value) in OPTIONS {
         assert!(rt; shows(alloc, shape, bytes, value));
     }
 }
