@@ -72,7 +72,8 @@ abbrev pub AllBalanced : Setting → List Variant → Type 0
 AllBalanced s [] = Unit {0}
 AllBalanced s (variant ∷ others) = Balanced (variant.1 s) × AllBalanced s others
 
--- Each word charges `cost` in all and releases what it reserves, and no front of its steps charges and holds more than `peak`.
+-- Each word charges `cost` in all and releases what it reserves, and no front of its steps charges and holds more
+-- than `peak`.
 pub record Costs (peak cost : ℕ) {A : Type 0} (F : Format A) : Type 0 where
   pub charges : (word : List ℕ) (m : A) (s : List Step) → F.Word word m s → charged_bytes s ≡ cost
   pub evens : (word : List ℕ) (m : A) (s : List Step) → F.Word word m s → reserved_bytes s ≡ released_bytes s

@@ -1,5 +1,5 @@
--- What a limit has to hold for an input, told by its parts: those of the word that it begins with, or those up to and with
--- the one that faults.
+-- What a limit has to hold for an input, told by its parts: those of the word that it begins with, or those up to and
+-- with the one that faults.
 use Rattle.std.specs.Prelude.{ℕ, zero, suc, ◌+◌, ◌*◌, max, Bool, true, false, List}
 use Rattle.bincode_base.specs.Setting.{Setting}
 use Rattle.bincode_spec.specs.Charge.{charged_bytes}

@@ -9,8 +9,8 @@ use Rattle.frames.specs.Frames.{Reads, frame, check_of, framed_word, named_lengt
 use Rattle.frames.specs.declared.Frame.TheVariants as frames
 use Rattle.framed_store.specs.Steps.{IsDamaged}
 
--- A change of at most 32 bits in a row, from any bit of a frame on, which leaves the length as it was, makes a frame that
--- is told as damaged: a changed piece of a store.
+-- A change of at most 32 bits in a row, from any bit of a frame on, which leaves the length as it was, makes a frame
+-- that is told as damaged: a changed piece of a store.
 pub burst-damages : (most : ℕ) (word changed : List ℕ) → All (λ b. b < 256) word → All (λ b. b < 256) changed → length word ≤ most → length changed ≡ length (frame word) →
     named_length changed ≡ length word → (i e : ℕ) → 0 < e → e < 2 ^ 32 → bit_xor (number (frame word)) (number changed) ≡ e * 2 ^ i → IsDamaged most changed (length changed)
 burst-damages most word changed bytes others fits size named i e some small differ =

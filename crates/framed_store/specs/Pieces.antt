@@ -25,7 +25,7 @@ abbrev pub bytes_of_all : {A : Type 0} → List (Piece A) → List ℕ
 bytes_of_all [] = []
 bytes_of_all (p ∷ pieces) = bytes_of p ++ bytes_of_all pieces
 
--- the word is one of the value that the store takes; what was changed still names its length, and its check does not fit
+-- the word is one of the value that the store takes; what was changed still names its length, and its check is wrong
 abbrev pub IsPiece : {A : Type 0} → Words A → Setting → Option ℕ → ℕ → Piece A → Type 0
 IsPiece W s limit most (Kept value word) = IsFitting W s limit most value word
 IsPiece W s limit most (Changed bytes) = IsDamaged most bytes (length bytes)

@@ -177,7 +177,7 @@ frame-bytes word bytes =
     All-append (λ b. b < 256) (length_field word) (word ++ to_le_bytes w32 (check_of word)) (field-bytes (length word))
     (All-append (λ b. b < 256) word (to_le_bytes w32 (check_of word)) bytes (field-bytes (check_of word)))
 
--- A change of at most 32 bits in a row, from any bit of a frame on, makes no other frame of it that has the same length.
+-- A change of at most 32 bits in a row, from any bit of a frame on, makes no other frame of the same length.
 pub burst-unframed : (word other : List ℕ) → All (λ b. b < 256) word → All (λ b. b < 256) other → length word ≡ length other → (i e : ℕ) → 0 < e → e < 2 ^ 32 →
     bit_xor (number (frame word)) (number (frame other)) ≡ e * 2 ^ i → ⊥
 burst-unframed word other bytes others one i e some small differ =

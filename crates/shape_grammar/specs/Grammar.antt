@@ -9,8 +9,8 @@ use Rattle.shape_grammar.specs.Claims.{claim, capped}
 use Rattle.shape_grammar.specs.Marks.{Mark, Word, IsEnd}
 use Rattle.shape_grammar.specs.Names.{shape_named}
 
--- what is spelled: a part alone, a part with question marks after it, any part; variants with bars between them, and parts
--- with commas between them
+-- what is spelled: a part alone, a part with question marks after it, any part; variants with bars between them, and
+-- parts with commas between them
 pub data Kind : Type 0 where
   Alone : Kind
   Marked : Kind

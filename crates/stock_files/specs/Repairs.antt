@@ -13,7 +13,7 @@ use Rattle.stock_files.specs.declared.repairing.Repair.{Repair}
 abbrev pub HasNoFrame : ℕ → List ℕ → Type 0
 HasNoFrame most bytes = (k : ℕ) → ¬ StandsAt most bytes k
 
--- A store is left as it is only if it ends after a frame; it is cut off only if no whole frame is lost, or if that was
+-- A store is left as it is only if it ends after a frame; it is cut off only if no whole frame is lost, or if that is
 -- asked for; it is written anew only if that was asked for, and drops a damaged frame or keeps one of the tail; and it is
 -- refused because of a whole frame in the tail, unless a cut was asked for.
 abbrev pub IsPlan : ℕ → Survey → List ℕ → Repair → Plan → Type 0

@@ -81,8 +81,8 @@ fn complain<E: Display>(rt: &HostRuntime, file: &str, error: &E) {
     let _ = eprintln!(rt; "records: {file}: {error}");
 }
 
-/// Appends what is asked for to a file, and says so once it is on the disk. Where it fails, the file is cut back to what
-/// it held.
+/// Appends what is asked for to a file, and says so once it is on the disk. Where it fails, the file is cut back to
+/// what it held.
 fn add(rt: &HostRuntime, path: &str, source: &Source) -> Result<u8> {
     let file = open_to_change(rt, path, true)?;
     let offset = match next_offset(&mut BufReader::with_capacity(rt.alloc(), BLOCK, &file)?) {
@@ -195,8 +195,8 @@ fn survey_file(alloc: Global, file: &File) -> Result<Survey> {
     Ok(survey_stream(&mut store, &mut buffer, LONGEST_WORD)?)
 }
 
-/// Puts a file of the whole frames in the place of this one, and returns the frames of the new one. Where that fails the
-/// old one stands as it was.
+/// Puts a file of the whole frames in the place of this one, and returns the frames of the new one. Where that fails
+/// the old one stands as it was.
 fn rewrite(rt: &HostRuntime, path: &str, file: &mut File) -> Result<Survey> {
     let mut new = Replacement::new(rt, path, file)?;
     match fill(rt.alloc(), file, &mut new.file) {
