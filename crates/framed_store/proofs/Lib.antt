@@ -1,7 +1,5 @@
 mod Appends
-mod Copied
 pub mod Fronts
-mod Keeping
 pub mod Listings
 mod Refused
 pub mod Stepped

@@ -1,6 +1,5 @@
 pub mod Appended
 pub mod DamageLaws
-pub mod Kept
 pub mod PieceLaws
 pub mod Pieces
 pub mod Searches

@@ -6,7 +6,6 @@ pub mod appending;
 pub mod ending;
 pub mod listing;
 pub mod records;
-pub mod repairing;
 pub mod searching;
 pub mod stepping;
 pub mod streams;
