@@ -41,18 +41,29 @@ fn print_within<const LIMIT: usize, R: Read, W: Write>(
     window: &mut Window<R>,
     out: &mut W,
 ) -> Result<bool, DescribeError> {
-    let settings = config::standard().with_limit::<LIMIT>();
-    let fixed = settings.with_fixed_int_encoding();
+    let all = config::standard();
+    let limited = all.with_limit::<LIMIT>();
     match (request.encoding, request.endian) {
         (IntEncoding::Variable, Endianness::Little) => {
-            print_all(alloc, request, window, settings, out)
+            print_all(alloc, request, window, (limited, all), out)
         }
         (IntEncoding::Variable, Endianness::Big) => {
-            print_all(alloc, request, window, settings.with_big_endian(), out)
+            let configs = (limited.with_big_endian(), all.with_big_endian());
+            print_all(alloc, request, window, configs, out)
         }
-        (IntEncoding::Fixed, Endianness::Little) => print_all(alloc, request, window, fixed, out),
+        (IntEncoding::Fixed, Endianness::Little) => {
+            let configs = (
+                limited.with_fixed_int_encoding(),
+                all.with_fixed_int_encoding(),
+            );
+            print_all(alloc, request, window, configs, out)
+        }
         (IntEncoding::Fixed, Endianness::Big) => {
-            print_all(alloc, request, window, fixed.with_big_endian(), out)
+            let configs = (
+                limited.with_fixed_int_encoding().with_big_endian(),
+                all.with_fixed_int_encoding().with_big_endian(),
+            );
+            print_all(alloc, request, window, configs, out)
         }
     }
 }
@@ -64,48 +75,53 @@ fn print_unlimited<R: Read, W: Write>(
     window: &mut Window<R>,
     out: &mut W,
 ) -> Result<bool, DescribeError> {
-    let settings = config::standard();
-    let fixed = settings.with_fixed_int_encoding();
+    let all = config::standard();
+    let fixed = all.with_fixed_int_encoding();
     match (request.encoding, request.endian) {
         (IntEncoding::Variable, Endianness::Little) => {
-            print_all(alloc, request, window, settings, out)
+            print_all(alloc, request, window, (all, all), out)
         }
         (IntEncoding::Variable, Endianness::Big) => {
-            print_all(alloc, request, window, settings.with_big_endian(), out)
+            let all = all.with_big_endian();
+            print_all(alloc, request, window, (all, all), out)
         }
-        (IntEncoding::Fixed, Endianness::Little) => print_all(alloc, request, window, fixed, out),
+        (IntEncoding::Fixed, Endianness::Little) => {
+            print_all(alloc, request, window, (fixed, fixed), out)
+        }
         (IntEncoding::Fixed, Endianness::Big) => {
-            print_all(alloc, request, window, fixed.with_big_endian(), out)
+            let fixed = fixed.with_big_endian();
+            print_all(alloc, request, window, (fixed, fixed), out)
         }
     }
 }
 
-/// Prints all frames or all encodings.
-fn print_all<C: Config, R: Read, W: Write>(
+/// Prints all frames or all encodings. The first configuration has the limit, the second is the same without it.
+fn print_all<C: Config, D: Config, R: Read, W: Write>(
     alloc: Global,
     request: &Request,
     window: &mut Window<R>,
-    config: C,
+    configs: (C, D),
     out: &mut W,
 ) -> Result<bool, DescribeError> {
     match request.longest {
-        Some(longest) => print_frames(alloc, request, longest, window, config, out),
-        None => print_words(alloc, request, window, config, out),
+        Some(longest) => print_frames(alloc, request, longest, window, configs, out),
+        None => print_words(alloc, request, window, configs, out),
     }
 }
 
-/// Prints a line for each encoding, up to the end of the stream.
-fn print_words<C: Config, R: Read, W: Write>(
+/// Prints a line for each encoding, up to the end of the stream. Each is measured within the limit of the first
+/// configuration, and printed by the second.
+fn print_words<C: Config, D: Config, R: Read, W: Write>(
     alloc: Global,
     request: &Request,
     window: &mut Window<R>,
-    config: C,
+    (limited, all): (C, D),
     out: &mut W,
 ) -> Result<bool, DescribeError> {
     let shape = &request.shape;
     let mut offset = 0;
     for _ in 0..u64::MAX {
-        let measure = match next_word(alloc, shape, window, config) {
+        let measure = match next_word(alloc, shape, window, limited) {
             Ok(Some(measure)) => measure,
             Ok(None) => break,
             Err(why) => return Err(stopped(alloc, shape, offset, why)),
@@ -116,14 +132,7 @@ fn print_words<C: Config, R: Read, W: Write>(
         }
         let length = measure.bytes as u64;
         let place = Place { offset, length };
-        print_value(
-            alloc,
-            request,
-            place,
-            (window.bytes(), measure),
-            config,
-            out,
-        )?;
+        print_value(alloc, request, place, (window.bytes(), measure), all, out)?;
         window.skip(measure.bytes);
         offset = offset.saturating_add(length);
     }

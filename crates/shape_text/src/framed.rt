@@ -81,13 +81,14 @@ impl Progress {
 }
 
 /// Prints a line for each frame, up to the end of the input, and returns whether all are whole and have one encoding
-/// each. Fails where the input is torn, where a length is not allowed, or if the input or the output fails.
-pub(crate) fn print_frames<C: Config, R: Read, W: Write>(
+/// each. It is measured within the limit of the first configuration, and printed by the second. Fails where the input
+/// is torn, where a length is not allowed, or if the input or the output fails.
+pub(crate) fn print_frames<C: Config, D: Config, R: Read, W: Write>(
     alloc: Global,
     request: &Request,
     longest: u32,
     window: &mut Window<R>,
-    config: C,
+    (limited, all): (C, D),
     out: &mut W,
 ) -> Result<bool, DescribeError> {
     let mut progress = Progress {
@@ -112,7 +113,7 @@ pub(crate) fn print_frames<C: Config, R: Read, W: Write>(
                     request,
                     &mut progress,
                     (window.bytes(), size),
-                    config,
+                    (limited, all),
                     out,
                 )?;
                 window.skip(size);
@@ -141,12 +142,12 @@ fn ended(end: Found, longest: u32, progress: &Progress) -> Result<bool, Describe
 }
 
 /// Prints the line of the frame of this size that bytes begin with.
-fn print_frame<C: Config, W: Write>(
+fn print_frame<C: Config, D: Config, W: Write>(
     alloc: Global,
     request: &Request,
     progress: &mut Progress,
     (bytes, size): (&[u8], usize),
-    config: C,
+    (limited, all): (C, D),
     out: &mut W,
 ) -> Result<(), DescribeError> {
     let word = bytes.get(4..size.saturating_sub(4)).unwrap_or(&[]);
@@ -155,9 +156,9 @@ fn print_frame<C: Config, W: Write>(
         length: size as u64,
     };
     progress.passes(size);
-    match measure_shaped(alloc, &request.shape, word, config) {
+    match measure_shaped(alloc, &request.shape, word, limited) {
         Ok(measure) if measure.bytes == word.len() => {
-            print_value(alloc, request, place, (word, measure), config, out)
+            print_value(alloc, request, place, (word, measure), all, out)
         }
         Ok(measure) => {
             progress.is_whole = false;

@@ -43,22 +43,30 @@ fn usage(rt: &HostRuntime, error: &Error) -> u8 {
 
 /// Prints what the input of a request holds.
 fn run_request(rt: &HostRuntime, request: &Request) -> u8 {
-    let Some(path) = &request.file else {
-        let printed = print_stream(rt, request, rt.reader());
-        return status_of(rt, "standard input", &printed);
+    let name = match &request.file {
+        Some(path) => path.as_str(),
+        None => "standard input",
     };
-    let printed = match fs::open(rt, path) {
-        Ok(file) => print_stream(rt, request, file),
+    let printed = match input_of(rt, request) {
+        Ok(stream) => print_stream(rt, request, stream),
         Err(cause) => Err(DescribeError::Read(cause)),
     };
-    status_of(rt, path, &printed)
+    status_of(rt, name, &printed)
+}
+
+/// The input that a request names.
+fn input_of(rt: &HostRuntime, request: &Request) -> io::Result<Box<dyn Read + Drop>> {
+    let Some(path) = &request.file else {
+        return Ok(Box::new(rt.alloc(), rt.reader())?);
+    };
+    Ok(Box::new(rt.alloc(), fs::open(rt, path)?)?)
 }
 
 /// Prints what a stream holds, and returns whether it is whole.
-fn print_stream<R: Read + Drop>(
+fn print_stream(
     rt: &HostRuntime,
     request: &Request,
-    stream: R,
+    stream: Box<dyn Read + Drop>,
 ) -> Result<bool, DescribeError> {
     let mut out = BufWriter::new(rt.alloc(), io::writer(rt))?;
     let described = describe(rt.alloc(), request, stream, &mut out);

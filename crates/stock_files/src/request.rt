@@ -78,21 +78,29 @@ fn command<'a>(alloc: Global) -> Result<Command<'a>, AllocError> {
 
 /// The command `add`.
 fn add_command<'a>(alloc: Global) -> Result<Command<'a>, AllocError> {
-    let file = Arg::new(alloc, "file")
+    Command::new(alloc, "add")
+        .about("Appends articles to a file that is not torn, and prints their places")
+        .override_usage(ADD_USAGE)
+        .arg(file_arg(alloc, "The file, which is made where there is none"))?
+        .arg(words_arg(alloc))
+}
+
+/// The argument `FILE`, with its help.
+fn file_arg<'a>(alloc: Global, help: &'a str) -> Arg<'a> {
+    Arg::new(alloc, "file")
         .value_name("FILE")
         .required(true)
-        .help("The file, which is made where there is none");
-    let words = Arg::new(alloc, "words")
+        .help(help)
+}
+
+/// The words of an article.
+fn words_arg<'a>(alloc: Global) -> Arg<'a> {
+    Arg::new(alloc, "words")
         .value_name("WORD")
         .required(true)
         .action(ArgAction::Append)
         .num_args(1..)
-        .help(ADD_WORDS);
-    Command::new(alloc, "add")
-        .about("Appends articles to a file that is not torn, and prints their places")
-        .override_usage(ADD_USAGE)
-        .arg(file)?
-        .arg(words)
+        .help(ADD_WORDS)
 }
 
 /// A command that looks at files.
@@ -101,36 +109,44 @@ fn files_command<'a>(
     name: &'a str,
     about: &'a str,
 ) -> Result<Command<'a>, AllocError> {
-    let files = Arg::new(alloc, "files")
+    Command::new(alloc, name).about(about).arg(files_arg(alloc))
+}
+
+/// The argument `FILE ..`.
+fn files_arg<'a>(alloc: Global) -> Arg<'a> {
+    Arg::new(alloc, "files")
         .value_name("FILE")
         .required(true)
         .action(ArgAction::Append)
         .num_args(1..)
-        .help("The files");
-    Command::new(alloc, name).about(about).arg(files)
+        .help("The files")
 }
 
 /// The command `repair`.
 fn repair_command<'a>(alloc: Global) -> Result<Command<'a>, AllocError> {
-    let drop_damaged = Arg::new(alloc, "drop-damaged")
+    Command::new(alloc, "repair")
+        .about("Cuts a file off after its last frame, where it is torn")
+        .arg(drop_damaged_arg(alloc))?
+        .arg(cut_arg(alloc))?
+        .arg(file_arg(alloc, "The file"))
+}
+
+/// The option `--drop-damaged`.
+fn drop_damaged_arg<'a>(alloc: Global) -> Arg<'a> {
+    Arg::new(alloc, "drop-damaged")
         .long("drop-damaged")
         .action(ArgAction::SetTrue)
         .help(
             "Drops the damaged frames, too, and keeps the whole ones that follow bytes that are no frame",
-        );
-    let cut = Arg::new(alloc, "cut")
+        )
+}
+
+/// The option `--cut`.
+fn cut_arg<'a>(alloc: Global) -> Arg<'a> {
+    Arg::new(alloc, "cut")
         .long("cut")
         .action(ArgAction::SetTrue)
-        .help("Cuts the file off even where a whole frame stands in what is lost");
-    let file = Arg::new(alloc, "file")
-        .value_name("FILE")
-        .required(true)
-        .help("The file");
-    Command::new(alloc, "repair")
-        .about("Cuts a file off after its last frame, where it is torn")
-        .arg(drop_damaged)?
-        .arg(cut)?
-        .arg(file)
+        .help("Cuts the file off even where a whole frame stands in what is lost")
 }
 
 /// The request that these words spell, of which the first is the program's name. Where they spell none, or ask for help
