@@ -1,5 +1,5 @@
 -- What is done to a store that is repaired.
-use Rattle.std.specs.Prelude.{◌≡◌, ◌≢◌, ◌⊎◌, ◌<◌, ◌++◌, ℕ, List, [], ◌∷◌, take, drop, Option, IsTrue}
+use Rattle.std.specs.Prelude.{◌≡◌, ◌≢◌, ◌⊎◌, ◌<◌, ◌++◌, ℕ, List, [], ◌∷◌, length, take, drop, Option, IsTrue}
 use Rattle.std.specs.Io.KnownBytes.{Appends}
 use Rattle.framed_store.specs.Searches.{StandsAt}
 use Rattle.framed_store.specs.Steps.{IsWhole, IsDamaged}
@@ -26,10 +26,21 @@ IsPlan most found tail repair (plans.Refuse after) = (found.ending ≢ endings.W
 abbrev pub GoesOn : ℕ → List ℕ → Type 0
 GoesOn most bytes = (bytes ≡ []) ⊎ StandsAt most bytes 0
 
--- these are passed over: a damaged frame whose length leads to a whole one or to the end, or bytes at which no whole
--- frame stands
+-- the bytes are a whole frame
+abbrev pub IsFrame : ℕ → List ℕ → Type 0
+IsFrame most bytes = IsWhole most bytes (length bytes)
+
+-- their last ones are
+abbrev pub EndsWithFrame : ℕ → List ℕ → Type 0
+EndsWithFrame most bytes = (k : ℕ) × (k < length bytes) × IsFrame most (drop k bytes)
+
+-- a damaged frame is passed over whose length leads to a whole one or to the end, and over no whole one that ends there
+abbrev pub IsPassedFrame : ℕ → List ℕ → ℕ → Type 0
+IsPassedFrame most bytes n = IsDamaged most bytes n × GoesOn most (drop n bytes) × ¬ EndsWithFrame most (take n bytes)
+
+-- these are passed over: such a frame, or bytes at which no whole frame stands
 abbrev pub IsPassed : ℕ → List ℕ → ℕ → Type 0
-IsPassed most bytes n = (IsDamaged most bytes n × GoesOn most (drop n bytes)) ⊎ ((k : ℕ) → k < n → ¬ StandsAt most bytes k)
+IsPassed most bytes n = IsPassedFrame most bytes n ⊎ ((k : ℕ) → k < n → ¬ StandsAt most bytes k)
 
 -- a frame that is kept, or bytes that are passed over
 pub data Part : Type 0 where

@@ -1,7 +1,7 @@
 //! What is done to a store that is repaired, and what is printed of it.
-ghost use Rattle.std.specs.Prelude.{◌<◌, ◌≤◌, length, IfNone, IfSome, IsTrue, OnOk};
+ghost use Rattle.std.specs.Prelude.{◌↔◌, ◌<◌, ◌≤◌, length, IfNone, IfSome, IsTrue, OnOk};
 ghost use Rattle.framed_store.specs.Searches.{StandsAt};
-ghost use Rattle.stock_files.specs.Repairs.{IsPlan, HasNoFrame, IsPassed, GoesOn, Salvages};
+ghost use Rattle.stock_files.specs.Repairs.{IsPlan, HasNoFrame, IsPassed, GoesOn, IsFrame, EndsWithFrame, Salvages};
 
 use crate::limit::LONGEST_WORD;
 use framed_store::ending::Ending;
@@ -55,7 +55,8 @@ pub fn plan_for(found: &Survey, tail: &[u8], repair: Repair) -> Plan
 }
 
 /// Writes the whole frames of a store, wherever they stand, in order. What is passed over is a damaged frame, if its
-/// length leads to a whole one or to the end of the store, else all bytes up to where the next whole one stands.
+/// length leads to a whole one or to the end of the store, and not over a whole one that ends there; else all bytes up
+/// to where the next whole one stands.
 pub fn salvage<W: Write>(store: &[u8], out: &mut W) -> io::Result<()>
     ensures { OnOk result (Salvages LONGEST_WORD store.now (W.contents out.old) (W.contents out.new)) }
 {
@@ -86,8 +87,8 @@ fn bytes_to_pass(bytes: &[u8]) -> Option<usize>
     ensures none { IfNone result (HasNoFrame LONGEST_WORD bytes.now) }
 {
     if let Frame::Damaged(size) = read_frame(bytes, LONGEST_WORD) {
-        let (_, others) = bytes.split_at(size);
-        if goes_on(others) {
+        let (damaged, others) = bytes.split_at(size);
+        if goes_on(others) && !ends_with_frame(damaged) {
             return Some(size);
         }
     }
@@ -102,6 +103,31 @@ fn goes_on(bytes: &[u8]) -> bool
         read_frame(bytes, LONGEST_WORD),
         Frame::End | Frame::Whole(_, _)
     )
+}
+
+/// Whether a whole frame stands at the end of these bytes.
+fn ends_with_frame(bytes: &[u8]) -> bool
+    ensures { IsTrue result ↔ EndsWithFrame LONGEST_WORD bytes.now }
+{
+    for offset in 0..bytes.len() {
+        if is_frame(&bytes[offset..]) {
+            return true;
+        }
+    }
+    false
+}
+
+/// Whether bytes are a whole frame and nothing more.
+fn is_frame(bytes: &[u8]) -> bool
+    ensures { IsTrue result ↔ IsFrame LONGEST_WORD bytes.now }
+{
+    match read_frame(bytes, LONGEST_WORD) {
+        Frame::Whole(_, size) => size == bytes.len(),
+        Frame::End => false,
+        Frame::Torn => false,
+        Frame::TooLong(_) => false,
+        Frame::Damaged(_) => false,
+    }
 }
 
 /// Whether a store of these frames is whole once this was done.
