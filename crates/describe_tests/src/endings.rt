@@ -6,8 +6,9 @@ use shape_text::failure::DescribeError;
 use shape_text::program::run;
 use shape_text::request::request_of;
 use std::alloc::{AllocError, Global};
+use std::io::{ErrorKind, Read, Write};
 use std::path::PathBuf;
-use std::{env, fs, process};
+use std::{env, fs, io, process};
 
 /// The status of the program with these words after its name.
 fn ends(rt: &HostRuntime, options: &str, last: &str) -> Result<u8, AllocError> {
@@ -69,5 +70,67 @@ fn tells_a_failed_output(rt: HostRuntime) -> Result<(), AllocError> {
     let mut room = [0u8; 20];
     let is_told = is_told(rt.alloc(), &mut room)?;
     assert!(rt; is_told && &room == b"{\"offset\":0,\"length\"");
+    Ok(())
+}
+
+/// Gives six bytes, then those that are left of two numbers, and then fails.
+#[derive(Drop)]
+struct Halves<'s> {
+    bytes: &'s [u8],
+}
+
+impl Read for Halves<'_> {
+    fn read(&mut self, bytes: &mut [u8]) -> io::Result<usize> {
+        if self.bytes.is_empty() {
+            return Err(ErrorKind::TimedOut.into());
+        }
+        let most = bytes.len().min(6);
+        self.bytes.read(&mut bytes[..most])
+    }
+}
+
+/// Holds what is written, and how much of it was flushed.
+#[derive(Drop)]
+struct Flushed {
+    held: Vec<u8>,
+    flushed: usize,
+}
+
+impl Write for Flushed {
+    fn write(&mut self, bytes: &[u8]) -> io::Result<usize> {
+        self.held.extend_from_slice(bytes)?;
+        Ok(bytes.len())
+    }
+
+    fn flush(&mut self) -> io::Result<()> {
+        self.flushed = self.held.len();
+        Ok(())
+    }
+}
+
+/// Whether a number of nine bytes, which comes in two parts, is printed and flushed before more is waited for.
+fn is_flushed(
+    alloc: Global,
+    options: &str,
+    bytes: &[u8],
+    wanted: &str,
+) -> Result<bool, AllocError> {
+    let Ok(request) = request_of(alloc, &words_of(alloc, options, "u64")?) else {
+        return Ok(false);
+    };
+    let mut out = Flushed {
+        held: Vec::new(alloc),
+        flushed: 0,
+    };
+    let described = describe(alloc, &request, Halves { bytes }, &mut out);
+    let is_read = matches!(described, Err(DescribeError::Read(_)));
+    Ok(is_read && out.held.as_slice() == wanted.as_bytes() && out.flushed == out.held.len())
+}
+
+#[test]
+fn prints_what_came_before_it_waits(rt: HostRuntime) -> Result<(), AllocError> {
+    let word = [253, 1, 0, 0, 0, 0, 0, 0, 1];
+    let line = "{\"offset\":0,\"length\":9,\"value\":72057594037927937}\n";
+    assert!(rt; is_flushed(rt.alloc(), "", &word, line)?);
     Ok(())
 }

@@ -10,10 +10,12 @@ use crate::window::Window;
 use bincode::config;
 use bincode::config::{Config, Endianness, IntEncoding};
 use std::alloc::Global;
+use std::io;
 use std::io::{Read, Write};
 
 /// Prints what a stream holds, as a request says: a line for each encoding or frame, with its offset and its length in
-/// bytes. One encoding is held at a time. Returns whether all is whole. Fails where the rest begins with no encoding
+/// bytes. One encoding is held at a time. The output is flushed where no byte is left of what was read, before more is
+/// waited for. Returns whether all is whole. Fails where the rest begins with no encoding
 /// within the limit, where encodings have no bytes, where the stream is torn, or if the stream or the output fails; in
 /// a store of frames, where it is torn, or where a length is not allowed.
 pub fn describe<R: Read + Drop, W: Write>(
@@ -109,6 +111,14 @@ fn print_all<C: Config, D: Config, R: Read, W: Write>(
     }
 }
 
+/// Flushes the output where the window shows no byte.
+pub(crate) fn flush_if_empty<R: Read, W: Write>(window: &Window<R>, out: &mut W) -> io::Result<()> {
+    if window.bytes().is_empty() {
+        out.flush()?;
+    }
+    Ok(())
+}
+
 /// Prints a line for each encoding, up to the end of the stream. Each is measured within the limit of the first
 /// configuration, and printed by the second.
 fn print_words<C: Config, D: Config, R: Read, W: Write>(
@@ -121,6 +131,7 @@ fn print_words<C: Config, D: Config, R: Read, W: Write>(
     let shape = &request.shape;
     let mut offset = 0;
     for _ in 0..u64::MAX {
+        flush_if_empty(window, out)?;
         let measure = match next_word(alloc, shape, window, limited) {
             Ok(Some(measure)) => measure,
             Ok(None) => break,

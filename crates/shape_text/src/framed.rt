@@ -1,5 +1,6 @@
 //! What a store of frames holds by a shape: a line of JSON for each frame, and one for all that are damaged in a row.
 
+use crate::describing::flush_if_empty;
 use crate::failure::DescribeError;
 use crate::lines::{Place, print_count, print_end, print_start, print_value};
 use crate::request::Request;
@@ -97,6 +98,7 @@ pub(crate) fn print_frames<C: Config, D: Config, R: Read, W: Write>(
         is_whole: true,
     };
     for _ in 0..u64::MAX {
+        flush_if_empty(window, out)?;
         let found = match next_frame(window, longest) {
             Ok(found) => found,
             Err(cause) => return Err(DescribeError::Read(cause)),

@@ -32,9 +32,9 @@ pub enum NextError {
 
 /// Looks for the encoding of a shape that a stream goes on with, and returns its length in bytes and how many values it
 /// has; `None` if no byte is left. Reads until the window shows the whole encoding, and consumes nothing: its bytes are
-/// the first that the window shows, and `Window::skip` goes on after them. At least twice as many bytes are shown at
-/// each try, so that the time is linear in the length of the encoding. Fails with `NoWord` if the bytes that are left
-/// begin with no encoding within the limit, or with `Read` if the stream fails.
+/// the first that the window shows, and `Window::skip` goes on after them. From 16 KiB on at least twice as many bytes
+/// are shown at each try, so that the time is linear in the length of a long encoding. Fails with `NoWord` if the bytes
+/// that are left begin with no encoding within the limit, or with `Read` if the stream fails.
 pub fn next_word<R: Read, C: Config>(
     alloc: Global,
     shape: &Shape,

@@ -68,9 +68,9 @@ impl<R: Read> Window<R> {
         self.read_more()
     }
 
-    /// Reads until twice as many bytes are shown as now, at least one more, or the stream ends. Returns whether a byte
-    /// came. A read that a signal interrupts is tried again. Fails where a read fails, or with `OutOfMemory`; then what
-    /// came before is shown.
+    /// Reads until at least one more byte is shown than now, and of a window of 16 KiB or more until it is twice as
+    /// long, or the stream ends. Returns whether a byte came. A read that a signal interrupts is tried again. Fails
+    /// where a read fails, or with `OutOfMemory`; then what came before is shown.
     pub fn read_more(&mut self) -> io::Result<bool>
         // Nothing is consumed, and what was shown is still shown.
         ensures kept { Keeps (bytes_left R.remaining self.old) (bytes_left R.remaining self.new) }
@@ -84,7 +84,7 @@ impl<R: Read> Window<R> {
     {
         self.drop_consumed();
         let before = self.bytes.len();
-        let least = before.max(1);
+        let least = if before < CHUNK { 1 } else { before };
         for _ in 0..u64::MAX {
             if self.bytes.len() - before >= least {
                 return Ok(true);
