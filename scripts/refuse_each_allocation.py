@@ -42,7 +42,7 @@ WITHOUT_MEMORY = {
         "varints::reads_each_type",
         "numbers::keeps_numbers",
         "composites::keeps_tuples",
-        "composites::keeps_arrays_ranges_and_wrappers",
+        "composites::keeps_arrays_outcomes_ranges_and_wrappers",
         "composites::names_a_tag_that_no_choice_has",
         "composites::converts_spans",
         "composites::collects_into_arrays",

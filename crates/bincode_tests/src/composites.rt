@@ -1,4 +1,4 @@
-//! Tuples, arrays, choices, ranges, durations and wrappers.
+//! Tuples, arrays, choices, ranges, durations and wrappers, of which the worked rows have some.
 
 use crate::asserts::{all_hold, all_true};
 use bincode::de::{Decode, collect_into_array};
@@ -72,10 +72,11 @@ fn keeps_tuples(rt: HostRuntime) {
 }
 
 #[test]
-fn keeps_arrays_ranges_and_wrappers(rt: HostRuntime) {
+fn keeps_arrays_outcomes_ranges_and_wrappers(rt: HostRuntime) {
     let alloc = rt.alloc();
     let rows = [
         ("[u16; 2]", keeps::<[u16; 2]>(alloc, &[5, 251, 44, 1])),
+        ("Result", keeps::<Result<u8, u8>>(alloc, &[1, 7])),
         ("Range", keeps::<Range<u8>>(alloc, &[1, 9])),
         (
             "RangeInclusive",
