@@ -32,44 +32,29 @@ from pathlib import Path
 
 CRATES = ["bincode_tests", "device_tests", "collection_tests", "shape_tests", "record_tests"]
 
-# The calls of these tests take no memory: what builds configurations, the varint calls over a slice, the claims, the readers and
-# writers of a slice and the one that counts, encoding plain values into a slice, and decoding from a slice, owned what holds
-# nothing on the heap and borrowed bytes and texts. And a length that passes the limit is told before its room is asked for.
+# The calls of these tests take no memory: what builds configurations, the varint calls over a slice, encoders and decoders over a
+# slice, encoding plain values into a slice, and decoding from a slice, owned what holds nothing on the heap and borrowed bytes and
+# texts. And a length that passes the limit is told before its room is asked for.
 WITHOUT_MEMORY = {
     "bincode_tests": [
         "configurations::changes_each_part",
         "varints::writes_each_type",
         "varints::reads_each_type",
-        "coders::claims_and_gives_back",
-        "coders::claims_without_a_limit",
-        "readers::shows_and_takes",
-        "writers::refuses_a_piece_whole",
-        "writers::writes_into_the_front_of_a_slice",
-        "writers::counts_no_further_than_it_can",
         "numbers::keeps_numbers",
-        "numbers::writes_the_highest_byte_first",
-        "numbers::goes_on_after_no_number",
         "composites::keeps_tuples",
-        "composites::keeps_sixteen_bytes",
-        "composites::keeps_arrays_and_reserves_for_them",
-        "composites::keeps_an_array_of_none",
-        "composites::keeps_an_outcome",
-        "composites::keeps_wrappers",
-        "composites::reads_an_inclusive_range",
-        "composites::names_a_tag_that_no_choice_has_and_goes_on_after_no_value",
-        "addresses::keeps_addresses_of_one_kind",
-        "addresses::keeps_addresses_of_either_kind",
-        "addresses::writes_addresses",
-        "addresses::charges_octets_before_it_reads",
-        "runs::writes_bytes_whole_or_not_at_all",
-        "runs::writes_signed_bytes_in_turn",
-        "borrowed::takes_bytes",
+        "composites::keeps_arrays_outcomes_ranges_and_wrappers",
+        "composites::names_a_tag_that_no_choice_has",
+        "composites::converts_spans",
+        "composites::collects_into_arrays",
+        "addresses::keeps_addresses_and_names_a_tag_that_none_has",
+        "contexts::lends_in_context",
+        "readers::leaves_a_lent_stream_after_a_word",
+        "writers::leaves_a_front_where_the_most_does_not_fit",
         "borrowed::borrows_in_turn",
-        "borrowed::lends_bytes_within_the_limit",
-        "borrowed::lends_under_fixed_numbers",
+        "borrowed::keeps_scalars",
         "borrowed::lends_what_may_be_owned",
-        "borrowed::lends_with_a_context",
-        "borrowed::tells_faults_of_texts",
+        "coders::encodes_in_turn",
+        "coders::decodes_in_turn",
     ],
     "collection_tests": [
         "tables::decodes_cases_without_memory",

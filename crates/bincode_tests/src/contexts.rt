@@ -1,39 +1,11 @@
-//! Decoding with a context, and from a reader.
+//! Decoders that are lent in another context.
 
 use crate::asserts::all_true;
+use bincode::config;
 use bincode::de::read::SliceReader;
 use bincode::de::{Decode, Decoder, DecoderImpl, LendInContext};
 use bincode::error::DecodeError;
-use bincode::{config, decode_from_reader, decode_from_slice_with_context};
 use std::process::Abort;
-
-#[test]
-fn reads_in_turn(rt: HostRuntime) {
-    let mut reader = SliceReader::new(&[251, 44, 1, 7, 9]);
-    let first: Result<u32, DecodeError> = decode_from_reader(
-        rt.alloc(),
-        &mut reader,
-        config::standard(),
-    );
-    assert!(&rt; matches!(first, Ok(300)));
-    let next: Result<u8, DecodeError> = decode_from_reader(
-        rt.alloc(),
-        &mut reader,
-        config::standard(),
-    );
-    assert!(&rt; matches!(next, Ok(7)) && reader.bytes_left() == 1);
-}
-
-#[test]
-fn decodes_with_a_context(rt: HostRuntime) {
-    let decoded: Result<((u32, u8), usize), DecodeError> = decode_from_slice_with_context(
-        rt.alloc(),
-        &[251, 44, 1, 7, 9],
-        config::standard(),
-        5u16,
-    );
-    assert!(&rt; matches!(decoded, Ok(((300, 7), 4))));
-}
 
 /// A number is read, and the context is this one, which is then another.
 fn reads_in_context<D: Decoder<Context = u8>>(rt: &impl Abort, decoder: &mut D, context: u8) {

@@ -1,47 +1,29 @@
-//! Numbers: types that no worked row has, of the `NonZero` ones some, and what a failed decode has taken.
+//! Numbers and truth values: types that no worked row writes and reads, of the `NonZero` ones some.
 
 use crate::asserts::all_hold;
-use bincode::{config, encode_into_slice};
-use std::num::{NonZeroI32, NonZeroI64, NonZeroU16, NonZeroUsize};
-use test_helpers::checks::{goes_on, keeps};
+use std::num::{NonZeroI8, NonZeroI32, NonZeroI128, NonZeroU64, NonZeroUsize};
+use test_helpers::checks::keeps;
 
 #[test]
 fn keeps_numbers(rt: HostRuntime) {
-    let word = [251, 251, 0, 252, 128, 56, 1, 0, 3];
-    assert!(rt;
-        keeps::<(usize, i32, i64)>(rt.alloc(), &word)
-            && keeps::<(NonZeroUsize, NonZeroI32, NonZeroI64)>(rt.alloc(), &word)
-    );
-}
-
-#[test]
-fn writes_the_highest_byte_first(rt: HostRuntime) {
-    let mut slice = [9u8; 6];
-    let big = config::standard().with_big_endian();
-    let written = encode_into_slice(40_000i32, &mut slice, big);
-    assert!(rt; matches!(written, Ok(5)) && slice == [252, 0, 1, 56, 128, 9]);
-}
-
-#[test]
-fn goes_on_after_no_number(rt: HostRuntime) {
     let alloc = rt.alloc();
     let rows = [
-        ("u32 with a tag of u64", goes_on::<u32>(alloc, &[253, 77])),
-        ("i16 with a tag of i32", goes_on::<i16>(alloc, &[252, 77])),
-        ("NonZeroU16", goes_on::<NonZeroU16>(alloc, &[0, 77])),
+        ("usize", keeps::<usize>(alloc, &[251, 251, 0])),
+        ("isize", keeps::<isize>(alloc, &[3])),
         (
-            "NonZeroU16 in three bytes",
-            goes_on::<NonZeroU16>(alloc, &[251, 0, 0, 77]),
+            "i64",
+            keeps::<i64>(alloc, &[253, 0, 188, 160, 101, 1, 0, 0, 0]),
         ),
-        ("bool", goes_on::<bool>(alloc, &[2, 77])),
+        ("bool", keeps::<bool>(alloc, &[1])),
+        ("i32", keeps::<i32>(alloc, &[252, 128, 56, 1, 0])),
+        ("NonZeroU64", keeps::<NonZeroU64>(alloc, &[251, 57, 48])),
+        ("NonZeroUsize", keeps::<NonZeroUsize>(alloc, &[251, 251, 0])),
+        ("NonZeroI8", keeps::<NonZeroI8>(alloc, &[123])),
         (
-            "char that begins nothing",
-            goes_on::<char>(alloc, &[128, 77]),
+            "NonZeroI32",
+            keeps::<NonZeroI32>(alloc, &[252, 128, 56, 1, 0]),
         ),
-        (
-            "char out of range",
-            goes_on::<char>(alloc, &[237, 160, 128, 77]),
-        ),
+        ("NonZeroI128", keeps::<NonZeroI128>(alloc, &[251, 114, 96])),
     ];
     all_hold(&rt, &rows);
 }

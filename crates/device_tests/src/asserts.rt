@@ -10,10 +10,5 @@ pub fn all_true(rt: &impl Abort, answers: &[bool]) {
 
 /// Each row holds.
 pub fn all_hold(rt: &impl Abort, rows: &[(&'static str, bool)]) {
-    none_wrong(rt, first_wrong(rows));
-}
-
-/// No row is wrong.
-pub fn none_wrong(rt: &impl Abort, wrong: Option<&'static str>) {
-    assert_eq!(rt; wrong, None);
+    assert_eq!(rt; first_wrong(rows), None);
 }

@@ -3,21 +3,13 @@
 
 use crate::asserts::all_true;
 use bincode::enc::Encode;
-use bincode::error::{DecodeError, EncodeError};
+use bincode::error::EncodeError;
 use bincode::{config, encode_into_slice, encode_into_std_write};
-use std::alloc::Global;
 use std::collections::BinaryHeap;
 use std::io;
 use std::io::Write;
-use std::net::{Ipv4Addr, Ipv6Addr, SocketAddrV4};
-use test_helpers::checks::{decoded, either};
-
-/// What a slice of `N` 9s holds after a value, and whether that was refused for lack of room.
-fn left_by<T: Encode, const N: usize>(value: &T) -> ([u8; N], bool) {
-    let mut slice = [9u8; N];
-    let outcome = encode_into_slice(value, &mut slice, config::standard());
-    (slice, matches!(outcome, Err(EncodeError::UnexpectedEnd)))
-}
+use std::net::{Ipv4Addr, SocketAddrV4};
+use test_helpers::checks::read_word;
 
 /// A stream that takes all that it is given, and counts its calls.
 #[derive(Drop)]
@@ -36,100 +28,48 @@ impl Write for Counting {
     }
 }
 
-/// By how many calls a stream gets a value; 0 if it is refused.
-fn calls_of<T: Encode>(value: &T) -> usize {
+/// What a slice of `N` 9s holds after a value, if that was refused for lack of room, and by how many calls a stream gets
+/// it.
+fn left_and_calls<T: Encode, const N: usize>(value: &T) -> Option<([u8; N], usize)> {
+    let mut slice = [9u8; N];
+    let outcome = encode_into_slice(value, &mut slice, config::standard());
+    let Err(EncodeError::UnexpectedEnd) = outcome else {
+        return None;
+    };
     let mut stream = Counting { calls: 0 };
-    match encode_into_std_write(value, &mut stream, config::standard()) {
-        Ok(_) => stream.calls,
-        Err(_) => 0,
-    }
+    encode_into_std_write(value, &mut stream, config::standard()).ok()?;
+    Some((slice, stream.calls))
 }
 
-/// A heap of 5, 4 and 3, which it holds in this order.
-fn heap_of_three(alloc: Global) -> Option<BinaryHeap<u8>> {
-    let read: Result<(BinaryHeap<u8>, usize), DecodeError> = decoded(
-        alloc,
-        &[3, 5, 4, 3],
-        config::standard(),
-    );
-    match read {
-        Ok((heap, _)) => Some(heap),
-        Err(_) => None,
-    }
-}
-
-/// What `left_by` tells of a value, and by how many calls a stream gets it.
-fn left_and_calls<T: Encode, const N: usize>(value: &T) -> ([u8; N], bool, usize) {
-    let (slice, is_refused) = left_by::<T, N>(value);
-    (slice, is_refused, calls_of(value))
-}
-
-/// What `left_by` tells of a value in two slices, and by how many calls a stream gets it.
-fn left_twice_and_calls<T: Encode, const M: usize, const N: usize>(
-    value: &T,
-) -> (([u8; M], bool), ([u8; N], bool), usize) {
-    (
-        left_by::<T, M>(value),
-        left_by::<T, N>(value),
-        calls_of(value),
-    )
-}
-
-/// The items of a heap of bytes are written in turn, where those of a list are one piece.
+/// The items of a heap of bytes are written in turn, where those of a list are one piece after the length.
 #[test]
 fn leaves_the_items_of_a_heap_that_fit(rt: HostRuntime) {
-    let Some(heap) = heap_of_three(rt.alloc()) else {
+    let word = [3, 5, 4, 3];
+    let Some(heap) = read_word::<BinaryHeap<u8>>(rt.alloc(), &word) else {
         assert!(rt; false);
         return;
     };
-    let (two, three, calls) = left_twice_and_calls::<_, 2, 3>(&heap);
+    let list = [5u8, 4, 3];
     all_true(
         &rt,
         &[
-            two == ([3, 5], true),
-            three == ([3, 5, 4], true),
-            calls == 4,
+            left_and_calls(&heap) == Some(([3, 5], 4)),
+            left_and_calls(&list.as_slice()) == Some(([3, 9], 2)),
         ],
     );
 }
 
-/// The octets of an address are one piece.
+/// The octets of an address are one piece, and so are the bytes of an array.
 #[test]
 fn leaves_no_octet_of_an_address(rt: HostRuntime) {
     let four = Ipv4Addr::new(1, 2, 3, 4);
-    let six = Ipv6Addr::new(1, 2, 3, 4, 5, 6, 7, 8);
     let socket = SocketAddrV4::new(four, 300);
     all_true(
         &rt,
         &[
-            left_and_calls::<_, 3>(&four) == ([9; 3], true, 1),
-            left_and_calls::<_, 15>(&six) == ([9; 15], true, 1),
-            left_and_calls::<_, 5>(&socket) == ([1, 2, 3, 4, 251], true, 3),
+            left_and_calls(&four) == Some(([9; 3], 1)),
+            left_and_calls(&socket) == Some(([1, 2, 3, 4, 251], 3)),
+            left_and_calls(&[7u8; 5_000]) == Some(([9; 4_999], 1)),
         ],
-    );
-}
-
-/// Five thousand bytes are one piece, after a length prefix in two pieces, and without one.
-#[test]
-fn leaves_nothing_of_many_bytes(rt: HostRuntime) {
-    let alloc = rt.alloc();
-    let bytes = [7u8; 5_000];
-    let Some(list) = either(
-        Vec::from_slice(alloc, &bytes),
-        Vec::from_slice(alloc, &bytes),
-    ) else {
-        assert!(rt; false);
-        return;
-    };
-    let (slice, is_refused, calls) = left_and_calls::<_, 5_002>(&list);
-    assert!(rt;
-        is_refused
-            && calls == 3
-            && slice[..3] == [251, 136, 19]
-            && slice[3..].iter().all(|&byte| byte == 9)
-    );
-    let (slice, is_refused, calls) = left_and_calls::<_, 4_999>(&bytes);
-    assert!(rt;
-        is_refused && calls == 1 && slice == [9; 4_999] && calls_of(&bytes.as_slice()) == 3
     );
 }

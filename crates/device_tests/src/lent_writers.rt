@@ -1,14 +1,11 @@
 //! Borrowed writers, and writers that count: the length of a number is announced once, through each reference.
 
-use crate::asserts::all_hold;
-use bincode::config::{self, Config};
 use bincode::enc::Encode;
 use bincode::enc::write::{SizeWriter, VecWriter};
 use bincode::error::EncodeError;
-use bincode::{encode_into_writer, encode_to_vec};
+use bincode::{config, encode_into_writer, encode_to_vec};
 use bincode_io::room_counter::RoomCounter;
 use std::alloc::Global;
-use std::net::{Ipv4Addr, SocketAddrV4};
 use test_helpers::checks::either;
 
 /// What a writer without room holds of the longest number, written through a reference to it.
@@ -32,74 +29,26 @@ fn makes_room_through_a_reference(rt: HostRuntime) {
     assert!(rt; held.as_slice() == word.as_slice());
 }
 
-/// What each counter counts of a value: the one for lengths and the one for room, and each through a reference.
-fn counted<T: Encode, C: Config>(value: &T, config: C) -> [usize; 4] {
+/// What each counter counts of a value, through a reference: the one for lengths and the one for room.
+fn counted<T: Encode>(value: &T) -> Option<(usize, usize)> {
     let mut length = SizeWriter::default();
     let mut room = RoomCounter::default();
-    let mut lent_length = SizeWriter::default();
-    let mut lent_room = RoomCounter::default();
-    let is_whole = encode_into_writer(value, &mut length, config).is_ok()
-        && encode_into_writer(value, &mut room, config).is_ok()
-        && encode_into_writer(value, &mut &mut lent_length, config).is_ok()
-        && encode_into_writer(value, &mut &mut lent_room, config).is_ok();
-    if !is_whole {
-        return [usize::MAX; 4];
-    }
-    [
-        length.bytes_written,
-        room.bytes_written,
-        lent_length.bytes_written,
-        lent_room.bytes_written,
-    ]
-}
-
-/// Whether each counter counts this many bytes for a value.
-fn takes<T: Encode>(value: T, count: usize) -> bool {
-    counted(&value, config::standard()) == [count; 4]
-}
-
-/// The same, and so many where integers are fixed.
-fn takes_both<T: Encode>(value: T, count: usize, fixed: usize) -> bool {
-    counted(&value, config::standard()) == [count; 4]
-        && counted(&value, config::legacy()) == [fixed; 4]
+    encode_into_writer(value, &mut &mut length, config::standard()).ok()?;
+    encode_into_writer(value, &mut &mut room, config::standard()).ok()?;
+    Some((length.bytes_written, room.bytes_written))
 }
 
 #[test]
-fn counts_each_number_once(rt: HostRuntime) {
-    let rows = [
-        ("250", takes_both(250u16, 1, 2)),
-        ("251", takes_both(251u16, 3, 2)),
-        ("65,536", takes(65_536u32, 5)),
-        ("2^32", takes(1u64 << 32, 9)),
-        ("7", takes_both(7u128, 1, 16)),
-        ("2^64", takes_both(1u128 << 64, 17, 16)),
-        ("-126", takes(-126i64, 3)),
-        ("-2^31", takes(i32::MIN, 5)),
-        ("usize", takes(251usize, 3)),
-    ];
-    all_hold(&rt, &rows);
+fn counts_a_number_once(rt: HostRuntime) {
+    assert!(rt; counted(&251u16) == Some((3, 3)) && counted(&(1u128 << 64)) == Some((17, 17)));
 }
 
-#[test]
-fn counts_each_part_once(rt: HostRuntime) {
-    let socket = SocketAddrV4::new(Ipv4Addr::new(1, 2, 3, 4), 300);
-    let outcome: Result<u8, u64> = Err(1 << 32);
-    let rows = [
-        ("enum", takes_both(outcome, 1 + 9, 4 + 8)),
-        ("list", takes_both([300u32, 7].as_slice(), 1 + 3 + 1, 8 + 8)),
-        ("text", takes("文", 1 + 3)),
-        ("character", takes('文', 3)),
-        ("socket", takes(socket, 4 + 3)),
-        ("row", takes((300u32, "ab", Some(70_000u32)), 3 + 3 + 6)),
-    ];
-    all_hold(&rt, &rows);
-}
-
-/// How much room the vector of a value has.
-fn room_of<T: Encode>(alloc: Global, value: T) -> Option<usize> {
+/// How much room the vector of a pair has.
+fn room_of_pair(alloc: Global) -> Option<usize> {
+    let pair = (251u16, "ab");
     let bytes = either(
-        encode_to_vec(alloc, &value, config::standard()),
-        encode_to_vec(alloc, &value, config::standard()),
+        encode_to_vec(alloc, pair, config::standard()),
+        encode_to_vec(alloc, pair, config::standard()),
     )?;
     Some(bytes.capacity())
 }
@@ -107,9 +56,5 @@ fn room_of<T: Encode>(alloc: Global, value: T) -> Option<usize> {
 /// Room is made once, for what was counted.
 #[test]
 fn makes_room_for_what_was_counted(rt: HostRuntime) {
-    let alloc = rt.alloc();
-    assert!(rt;
-        room_of(alloc, (250u8, 251u16, 65_536u32, 1u64 << 32)) == Some(1 + 3 + 5 + 9)
-            && room_of(alloc, (u128::MAX, "ab", [300u32, 7].as_slice())) == Some(17 + 3 + 5)
-    );
+    assert!(rt; room_of_pair(rt.alloc()) == Some(3 + 3));
 }

@@ -1,14 +1,12 @@
 //! Tests of streams that take or give a part, of files, of vectors that grow, of what a fault or a failed write leaves,
-//! of errors and contexts of one's own, of borrowed writers, and of what bincode's own tests check. Expected values
-//! come from the description of the format, and where a file says so from bincode 2.0.1.
+//! of errors and contexts of one's own, of borrowed writers, and of public functions that no other test calls. Expected
+//! values come from the description of the format, and where a file says so from bincode 2.0.1.
 #![tactic(auto)]
 
 #[cfg(test)]
 mod after_faults;
 #[cfg(test)]
 mod asserts;
-#[cfg(test)]
-mod clones;
 #[cfg(test)]
 mod files;
 #[cfg(test)]
@@ -19,8 +17,6 @@ mod left_after_errors;
 mod lent_writers;
 #[cfg(test)]
 mod many;
-#[cfg(test)]
-mod originals;
 #[cfg(test)]
 mod own_contexts;
 #[cfg(test)]

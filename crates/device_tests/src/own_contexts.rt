@@ -63,11 +63,10 @@ impl<'c, B: BorrowedBytes> BorrowDecode<B, &'c Cell<u32>> for Numbered {
     }
 }
 
-/// A value, a list, an array and an option.
-type Several = (Numbered, Vec<Numbered>, [Numbered; 2], Option<Numbered>);
+/// A value and a list of three: the list has a length of 3.
+static WORD: [u8; 5] = [60, 3, 61, 62, 63];
 
-/// Six values one after another: the list has a length of 2, and the option its 1.
-static WORD: [u8; 8] = [60, 2, 61, 62, 63, 64, 1, 65];
+type Several = (Numbered, Vec<Numbered>);
 
 /// Whether these values are those of the word from this one on, each with its number.
 fn are_from(values: &[Numbered], first: u8) -> bool {
@@ -81,68 +80,39 @@ fn are_from(values: &[Numbered], first: u8) -> bool {
     true
 }
 
-/// Whether the values are those of the word, each with its number.
-fn are_in_order(several: &Several) -> bool {
-    let (first, list, pair, last) = several;
-    let is_last = match last {
-        Some(sixth) => are_from(&[*sixth], 5),
-        None => false,
-    };
-    are_from(&[*first], 0)
-        && list.len() == 2
-        && are_from(list.as_slice(), 1)
-        && are_from(pair.as_slice(), 3)
-        && is_last
-}
-
-/// Whether the whole word was read as its six values, and the context counted six.
-fn is_read(read: Result<(Several, usize), DecodeError>, count: &Cell<u32>) -> bool {
+/// Whether the word was read as its four values, each with its number, and the context counted four.
+fn is_read(read: Result<Several, DecodeError>, count: &Cell<u32>) -> bool {
     match read {
-        Ok((several, size)) => size == 8 && are_in_order(&several) && count.get() == 6,
+        Ok((value, list)) => {
+            are_from(&[value], 0)
+                && list.len() == 3
+                && are_from(list.as_slice(), 1)
+                && count.get() == 4
+        }
         Err(_error) => false,
     }
 }
 
-/// Whether the call for slices gives the six values, and leaves a context that counted six.
+/// Whether the call for slices gives the four values, and leaves a context that counted four.
 fn keeps_by_slice(alloc: Global) -> bool {
     let count = Cell::new(0u32);
     let read = decode_from_slice_with_context(alloc, &WORD, config::standard(), &count);
-    is_read(read, &count)
+    is_read(read.map(|(several, _)| several), &count)
 }
 
 /// Whether the borrowing call does so.
 fn keeps_by_lending(alloc: Global) -> bool {
     let count = Cell::new(0u32);
     let read = borrow_decode_from_slice_with_context(alloc, &WORD, config::standard(), &count);
-    is_read(read, &count)
+    is_read(read.map(|(several, _)| several), &count)
 }
 
 /// Whether the call for streams does so.
 fn keeps_by_stream(alloc: Global) -> bool {
     let count = Cell::new(0u32);
     let mut stream = WORD.as_slice();
-    let read: Result<Several, DecodeError> = decode_from_std_read_with_context(
-        alloc,
-        &mut stream,
-        config::standard(),
-        &count,
-    );
-    match read {
-        Ok(several) => are_in_order(&several) && count.get() == 6 && stream.is_empty(),
-        Err(_error) => false,
-    }
-}
-
-/// Whether a word that ends after its second value leaves a context that counted two.
-fn counts_up_to_a_fault(alloc: Global) -> bool {
-    let count = Cell::new(0u32);
-    let read: Result<(Several, usize), DecodeError> = decode_from_slice_with_context(
-        alloc,
-        &WORD[..3],
-        config::standard(),
-        &count,
-    );
-    matches!(read, Err(DecodeError::UnexpectedEnd { additional: 1 })) && count.get() == 2
+    let read = decode_from_std_read_with_context(alloc, &mut stream, config::standard(), &count);
+    is_read(read, &count)
 }
 
 /// Retries once if an allocation is refused.
@@ -155,7 +125,6 @@ fn keeps_its_context(rt: HostRuntime) {
             keeps_by_slice(alloc) || keeps_by_slice(alloc),
             keeps_by_lending(alloc) || keeps_by_lending(alloc),
             keeps_by_stream(alloc) || keeps_by_stream(alloc),
-            counts_up_to_a_fault(alloc) || counts_up_to_a_fault(alloc),
         ],
     );
 }

@@ -2,7 +2,7 @@
 
 ghost use Rattle.bincode.specs.Encoding.{IsOwn};
 
-use bincode::enc::write::{SizeWriter, SliceWriter};
+use bincode::enc::write::SizeWriter;
 use bincode::enc::{Encode, Encoder};
 use bincode::error::EncodeError;
 use bincode::short_text::ShortText;
@@ -102,30 +102,21 @@ impl Encode for Halting {
     }
 }
 
-/// Whether each call fails by this cause, and leaves this front of two bytes.
-fn leaves_two<T: Encode>(alloc: Global, value: &T, cause: Cause, front: [u8; 2]) -> bool {
+/// Whether each call fails by this cause, and leaves 1 and 2.
+fn leaves_two<T: Encode>(alloc: Global, value: &T, cause: Cause) -> bool {
     let mut slice = [9u8; 4];
     let by_slice = encode_into_slice(value, &mut slice, config::standard());
-    let mut room = [9u8; 4];
-    let mut writer = SliceWriter::new(&mut room);
-    let by_writer = encode_into_writer(value, &mut writer, config::standard());
-    let written = writer.bytes_written();
-    drop(writer);
     let mut counter = SizeWriter::default();
     let by_counter = encode_into_writer(value, &mut counter, config::standard());
     let mut target = [9u8; 4];
     let mut stream = &mut target[..];
     let by_stream = encode_into_std_write(value, &mut stream, config::standard());
-    let wanted = [front[0], front[1], 9, 9];
     fails_by(by_slice, cause)
-        && fails_by(by_writer, cause)
         && fails_by(by_counter, cause)
         && fails_by(by_stream, cause)
         && fails_by(encode_to_vec(alloc, value, config::standard()), cause)
-        && slice == wanted
-        && room == wanted
-        && target == wanted
-        && written == 2
+        && slice == [1, 2, 9, 9]
+        && target == [1, 2, 9, 9]
         && counter.bytes_written == 2
 }
 
@@ -133,26 +124,7 @@ fn leaves_two<T: Encode>(alloc: Global, value: &T, cause: Cause, front: [u8; 2])
 fn leaves_what_stands_before_a_value_that_fails(rt: HostRuntime) {
     let alloc = rt.alloc();
     for cause in [Cause::Short, Cause::Long, Cause::Lock] {
-        let halting = Halting { alloc, cause };
-        assert!(rt; leaves_two(alloc, &(1u8, 2u8, halting), cause, [1, 2]));
-        let list = [halting, halting, halting];
-        assert!(rt; leaves_two(alloc, &(1u8, list.as_slice(), 5u8), cause, [1, 3]));
+        let value = (1u8, 2u8, Halting { alloc, cause });
+        assert!(rt; leaves_two(alloc, &value, cause));
     }
-}
-
-/// What a slice of `N` 9s holds after two bytes and a value that fails, and whether the error was that of its cause.
-fn left_in<const N: usize>(alloc: Global) -> ([u8; N], bool) {
-    let cause = Cause::Short;
-    let value = (1u8, 2u8, Halting { alloc, cause });
-    let mut slice = [9u8; N];
-    let outcome = encode_into_slice(&value, &mut slice, config::standard());
-    (slice, fails_by(outcome, cause))
-}
-
-/// A slice without room for more fails by the value, and one without room for what stands before it doesn't.
-#[test]
-fn fails_by_what_comes_first(rt: HostRuntime) {
-    assert!(rt;
-        left_in::<2>(rt.alloc()) == ([1, 2], true) && left_in::<1>(rt.alloc()) == ([1], false)
-    );
 }

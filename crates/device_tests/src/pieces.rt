@@ -1,10 +1,10 @@
 //! Standard streams that take and give a part of what is asked, or are interrupted, with a count of their calls.
 
 use bincode::error::{DecodeError, EncodeError};
-use bincode::{config, decode_from_reader, decode_from_std_read, encode_into_std_write};
+use bincode::{config, decode_from_std_read, encode_into_std_write};
 use std::alloc::Global;
 use std::io;
-use std::io::{BufReader, ErrorKind, Read, Write};
+use std::io::{ErrorKind, Read, Write};
 use test_helpers::checks::either;
 
 /// How much of what is asked a call gives or takes.
@@ -103,14 +103,11 @@ pub fn is_all_a(text: &[u8], count: usize) -> bool {
     text.len() == count && text.iter().all(|&byte| byte == 97)
 }
 
-/// How many calls it takes to read a text of `count` letters from a stream, if it is read and the byte after it left.
-fn reading_calls(
-    alloc: Global,
-    word: &[u8],
-    count: usize,
-    share: Share,
-    interruptions: usize,
-) -> Option<usize> {
+/// Of how many letters the texts are.
+const COUNT: usize = 1_000;
+
+/// How many calls it takes to read a text from a stream, if it is read and the byte after it left.
+fn reading_calls(alloc: Global, word: &[u8], share: Share, interruptions: usize) -> Option<usize> {
     let mut stream = stream_over(word, share, interruptions);
     let outcome: Result<String, DecodeError> = decode_from_std_read(
         alloc,
@@ -118,7 +115,7 @@ fn reading_calls(
         config::standard(),
     );
     let text = outcome.ok()?;
-    if is_all_a(text.as_bytes(), count) && stream.bytes == [9].as_slice() {
+    if is_all_a(text.as_bytes(), COUNT) && stream.bytes == [9].as_slice() {
         Some(stream.calls)
     } else {
         None
@@ -126,17 +123,12 @@ fn reading_calls(
 }
 
 /// How many calls it takes to write the text of a word to a stream, if the stream then holds the word.
-fn writing_calls(
-    alloc: Global,
-    word: &[u8],
-    text: &str,
-    share: Share,
-    interruptions: usize,
-) -> Option<usize> {
+fn writing_calls(alloc: Global, word: &[u8], share: Share, interruptions: usize) -> Option<usize> {
+    let (front, text) = front_of(word, 3, 3 + COUNT)?;
     let mut stream = stream_over(Vec::new(alloc), share, interruptions);
     let outcome = encode_into_std_write(text, &mut stream, config::standard());
     let written = outcome.ok()?;
-    if written == word.len() && stream.bytes.as_slice() == word {
+    if written == front.len() && stream.bytes.as_slice() == front {
         Some(stream.calls)
     } else {
         None
@@ -153,110 +145,27 @@ const CALLS: [(Share, usize, usize); 5] = [
     (Share::One, 5, 6 * (1 + 2 + 1_000)),
 ];
 
-/// The calls that read a text. Retries once if an allocation is refused.
-fn calls_to_read(
-    alloc: Global,
-    word: &[u8],
-    count: usize,
-    share: Share,
-    interruptions: usize,
-) -> Option<usize> {
-    match reading_calls(alloc, word, count, share, interruptions) {
-        Some(calls) => Some(calls),
-        None => reading_calls(alloc, word, count, share, interruptions),
-    }
-}
-
-/// The calls that write it. Retries once if an allocation is refused.
-fn calls_to_write(
-    alloc: Global,
-    word: &[u8],
-    text: &str,
-    share: Share,
-    interruptions: usize,
-) -> Option<usize> {
-    match writing_calls(alloc, word, text, share, interruptions) {
-        Some(calls) => Some(calls),
-        None => writing_calls(alloc, word, text, share, interruptions),
-    }
-}
-
+/// Where memory is refused a text is read or written once more.
 #[test]
 fn asks_a_stream_once_for_a_piece(rt: HostRuntime) {
     let alloc = rt.alloc();
     let Some(word) = either(
-        word_of(alloc, &[251, 232, 3], 1_000),
-        word_of(alloc, &[251, 232, 3], 1_000),
+        word_of(alloc, &[251, 232, 3], COUNT),
+        word_of(alloc, &[251, 232, 3], COUNT),
     ) else {
-        assert!(rt; false);
-        return;
-    };
-    let Some((front, text)) = front_of(&word, 3, 1_003) else {
         assert!(rt; false);
         return;
     };
     for (share, interruptions, calls) in CALLS {
-        let reading = calls_to_read(alloc, &word, 1_000, share, interruptions);
-        assert_eq!(rt; reading, Some(calls));
-        let writing = calls_to_write(alloc, front, text, share, interruptions);
-        assert_eq!(rt; writing, Some(calls));
+        assert!(rt;
+            reading_calls(alloc, &word, share, interruptions) == Some(calls)
+                || reading_calls(alloc, &word, share, interruptions) == Some(calls)
+        );
+        assert!(rt;
+            writing_calls(alloc, &word, share, interruptions) == Some(calls)
+                || writing_calls(alloc, &word, share, interruptions) == Some(calls)
+        );
     }
-}
-
-/// How many calls it takes to read a word of a thousand bytes through a buffer that holds more.
-fn buffered_calls(alloc: Global, word: &[u8]) -> Option<usize> {
-    let stream = stream_over(word, Share::All, 0);
-    let mut buffered = BufReader::with_capacity(alloc, 4_096, stream).ok()?;
-    let outcome: Result<Vec<u8>, DecodeError> = decode_from_reader(
-        alloc,
-        &mut buffered,
-        config::standard(),
-    );
-    let bytes = outcome.ok()?;
-    if is_all_a(bytes.as_slice(), 1_000) {
-        Some(buffered.get_ref().calls)
-    } else {
-        None
-    }
-}
-
-#[test]
-fn fills_a_buffer_once(rt: HostRuntime) {
-    let alloc = rt.alloc();
-    let Some(word) = either(
-        word_of(alloc, &[251, 232, 3], 1_000),
-        word_of(alloc, &[251, 232, 3], 1_000),
-    ) else {
-        assert!(rt; false);
-        return;
-    };
-    let calls = match buffered_calls(alloc, &word) {
-        Some(calls) => Some(calls),
-        None => buffered_calls(alloc, &word),
-    };
-    assert_eq!(rt; calls, Some(1));
-}
-
-/// A text of more than a megabyte has a length of one and of four bytes, and is one piece.
-#[test]
-fn reads_and_writes_a_long_text(rt: HostRuntime) {
-    let alloc = rt.alloc();
-    let length = [252, 128, 79, 18, 0];
-    let Some(word) = either(
-        word_of(alloc, &length, 1_200_000),
-        word_of(alloc, &length, 1_200_000),
-    ) else {
-        assert!(rt; false);
-        return;
-    };
-    let Some((front, text)) = front_of(&word, 5, 1_200_005) else {
-        assert!(rt; false);
-        return;
-    };
-    let reading = calls_to_read(alloc, &word, 1_200_000, Share::Half, 0);
-    assert_eq!(rt; reading, Some(25));
-    let writing = calls_to_write(alloc, front, text, Share::Half, 0);
-    assert_eq!(rt; writing, Some(25));
 }
 
 /// A stream that fails by this kind from a call on, and counts its calls.
@@ -367,61 +276,6 @@ fn keeps_the_kind_of_a_failure(rt: HostRuntime) {
                 && written_of(kind, 0) == Some(0)
                 && written_of(kind, 1) == Some(1)
                 && written_of(kind, 2) == Some(1)
-        );
-    }
-}
-
-/// A stream that is interrupted once, and then fails by this kind.
-#[derive(Drop)]
-struct InterruptedOnce {
-    kind: ErrorKind,
-    calls: usize,
-}
-
-impl Read for InterruptedOnce {
-    fn read(&mut self, _bytes: &mut [u8]) -> io::Result<usize> {
-        self.calls = self.calls.saturating_add(1);
-        if self.calls == 1 {
-            return Err(ErrorKind::Interrupted.into());
-        }
-        Err(self.kind.into())
-    }
-}
-
-impl Write for InterruptedOnce {
-    fn write(&mut self, _bytes: &[u8]) -> io::Result<usize> {
-        self.calls = self.calls.saturating_add(1);
-        if self.calls == 1 {
-            return Err(ErrorKind::Interrupted.into());
-        }
-        Err(self.kind.into())
-    }
-
-    fn flush(&mut self) -> io::Result<()> {
-        Ok(())
-    }
-}
-
-/// The second failure is the one that is returned.
-#[test]
-fn keeps_the_kind_after_an_interruption(rt: HostRuntime) {
-    let alloc = rt.alloc();
-    for kind in KINDS {
-        let mut stream = InterruptedOnce { kind, calls: 0 };
-        let read: Result<u8, DecodeError> = decode_from_std_read(
-            alloc,
-            &mut stream,
-            config::standard(),
-        );
-        assert!(rt;
-            matches!(read, Err(DecodeError::Io { inner, additional: 1 }) if inner.kind() == kind)
-                && stream.calls == 2
-        );
-        let mut stream = InterruptedOnce { kind, calls: 0 };
-        let written = encode_into_std_write(5u8, &mut stream, config::standard());
-        assert!(rt;
-            matches!(written, Err(EncodeError::Io { inner, index: 0 }) if inner.kind() == kind)
-                && stream.calls == 2
         );
     }
 }

@@ -2,7 +2,6 @@
 
 use crate::asserts::all_true;
 use crate::pieces::{Failing, KINDS, Share, is_all_a, stream_over, word_of};
-use bincode::de::read::Reader;
 use bincode::de::{Decode, IoReader};
 use bincode::error::DecodeError;
 use bincode::{config, decode_from_reader, decode_from_std_read, decode_next_from_std_read};
@@ -24,13 +23,13 @@ fn is_text(outcome: Result<String, DecodeError>, count: usize) -> bool {
     }
 }
 
-/// How many calls it takes to read a text with a reader that owns its stream, if the byte after it is left.
-fn owned_calls(alloc: Global, word: &[u8], count: usize, share: Share) -> Option<usize> {
-    let mut stream = stream_over(word, share, 0);
+/// How many calls it takes to read a text with a reader that owns its stream, which gives halves.
+fn owned_calls(alloc: Global, word: &[u8], count: usize) -> Option<usize> {
+    let mut stream = stream_over(word, Share::Half, 0);
     let mut reader = IoReader::new(&mut stream);
     let outcome = decode_from_reader(alloc, &mut reader, config::standard());
     drop(reader);
-    if is_text(outcome, count) && stream.bytes == [9].as_slice() {
+    if is_text(outcome, count) {
         Some(stream.calls)
     } else {
         None
@@ -49,54 +48,34 @@ fn buffered_calls(alloc: Global, word: &[u8], count: usize) -> Option<usize> {
     }
 }
 
-/// Whether a reader that owns its stream reads a text in this many calls. Retries once if an allocation is refused.
-fn owned_asks(alloc: Global, word: &[u8], count: usize, share: Share, calls: usize) -> bool {
-    owned_calls(alloc, word, count, share) == Some(calls)
-        || owned_calls(alloc, word, count, share) == Some(calls)
-}
-
-/// Whether a buffer is filled once, and what it does not hold is read past it.
-fn buffer_asks_twice(alloc: Global, word: &[u8], count: usize) -> bool {
-    buffered_calls(alloc, word, count) == Some(2) || buffered_calls(alloc, word, count) == Some(2)
-}
-
-/// A length has a piece of one byte and one of two or four, and the text is one piece. Of halves these are 1, 2 and 10,
-/// and 1, 3 and 21.
+/// A length has a piece of one byte and one of two, and the text is one piece. Of halves these are 1, 2 and 10. A buffer
+/// is filled once, and what it does not hold is read past it. Where memory is refused it is read once more.
 #[test]
 fn asks_a_stream_once_for_a_piece_by_each_reader(rt: HostRuntime) {
     let alloc = rt.alloc();
-    let (Some(short), Some(long)) = (
-        word(alloc, &[251, 232, 3], 1_000),
-        word(alloc, &[252, 128, 79, 18, 0], 1_200_000),
-    ) else {
+    let Some(text) = word(alloc, &[251, 232, 3], 1_000) else {
         assert!(rt; false);
         return;
     };
     all_true(
         &rt,
         &[
-            owned_asks(alloc, &short, 1_000, Share::All, 3),
-            owned_asks(alloc, &short, 1_000, Share::Half, 13),
-            owned_asks(alloc, &long, 1_200_000, Share::All, 3),
-            owned_asks(alloc, &long, 1_200_000, Share::Half, 25),
-            buffer_asks_twice(alloc, &short, 1_000),
-            buffer_asks_twice(alloc, &long, 1_200_000),
+            owned_calls(alloc, &text, 1_000) == Some(13)
+                || owned_calls(alloc, &text, 1_000) == Some(13),
+            buffered_calls(alloc, &text, 1_000) == Some(2)
+                || buffered_calls(alloc, &text, 1_000) == Some(2),
         ],
     );
 }
 
-/// A stream that fails by this kind at once.
-fn failing(kind: ErrorKind) -> Failing {
-    Failing {
+/// A buffer before a stream that fails by this kind at once.
+fn failing_after(alloc: Global, kind: ErrorKind) -> io::Result<BufReader<Failing>> {
+    let stream = Failing {
         kind,
         good: 0,
         calls: 0,
-    }
-}
-
-/// A buffer before such a stream.
-fn failing_after(alloc: Global, kind: ErrorKind) -> io::Result<BufReader<Failing>> {
-    BufReader::with_capacity(alloc, 8, failing(kind))
+    };
+    BufReader::with_capacity(alloc, 8, stream)
 }
 
 /// Whether the error has this kind, and says that a byte is missing.
@@ -107,22 +86,11 @@ fn tells<T: Drop>(outcome: Result<T, DecodeError>, kind: ErrorKind) -> bool {
     }
 }
 
-/// Whether the reader tells this kind.
-fn reader_tells<R: Reader>(alloc: Global, reader: &mut R, kind: ErrorKind) -> bool {
-    let read: Result<u32, DecodeError> = decode_from_reader(alloc, reader, config::standard());
-    tells(read, kind)
-}
-
-/// Each reader tells the kind of a failure at once, and so does the look for the next value.
+/// A buffer tells the kind of a failure at once, and so does the look for the next value.
 #[test]
-fn keeps_the_kind_of_a_failure_in_each_reader(rt: HostRuntime) {
+fn keeps_the_kind_of_a_failure_before_a_buffer(rt: HostRuntime) {
     let alloc = rt.alloc();
     for kind in KINDS {
-        let mut stream = failing(kind);
-        let mut reader = IoReader::new(&mut stream);
-        assert!(rt; reader_tells(alloc, &mut reader, kind));
-        drop(reader);
-        assert_eq!(rt; stream.calls, 1);
         let (Some(mut buffered), Some(mut other)) = (
             either(failing_after(alloc, kind), failing_after(alloc, kind)),
             either(failing_after(alloc, kind), failing_after(alloc, kind)),
@@ -130,7 +98,12 @@ fn keeps_the_kind_of_a_failure_in_each_reader(rt: HostRuntime) {
             assert!(rt; false);
             return;
         };
-        assert!(rt; reader_tells(alloc, &mut buffered, kind) && buffered.get_ref().calls == 1);
+        let read: Result<u32, DecodeError> = decode_from_reader(
+            alloc,
+            &mut buffered,
+            config::standard(),
+        );
+        assert!(rt; tells(read, kind) && buffered.get_ref().calls == 1);
         let next: Result<Option<u32>, DecodeError> = decode_next_from_std_read(
             alloc,
             &mut other,
@@ -169,15 +142,4 @@ fn left_after<T: Decode<()>>(alloc: Global, input: &[u8]) -> Option<usize> {
 pub fn leaves_three<T: Decode<()>>(alloc: Global, input: &[u8]) -> bool {
     (left_of_stream::<T>(alloc, input) == Some(3) || left_of_stream::<T>(alloc, input) == Some(3))
         && (left_after::<T>(alloc, input) == Some(3) || left_after::<T>(alloc, input) == Some(3))
-}
-
-/// Of a number that a buffer shows whole, nothing is taken.
-#[test]
-fn leaves_a_number_that_a_buffer_shows(rt: HostRuntime) {
-    let alloc = rt.alloc();
-    let shown = [7, 252, 78, 79];
-    assert!(rt;
-        left_after::<(u8, u16)>(alloc, &shown) == Some(3)
-            || left_after::<(u8, u16)>(alloc, &shown) == Some(3)
-    );
 }

@@ -296,18 +296,6 @@ pub fn comes_back<T: Encode + Decode<()>>(alloc: Global, value: &T) -> Option<T>
     }
 }
 
-/// What is read of the front of an input, if it has the length of a word, which is kept.
-pub fn front_if_kept<T: Encode + Decode<()>>(
-    alloc: Global,
-    input: &[u8],
-    word: &[u8],
-) -> Option<T> {
-    if !keeps::<T>(alloc, word) {
-        return None;
-    }
-    read_front(alloc, input, word.len())
-}
-
 /// What is read of a word, if each call keeps another one.
 pub fn read_if_kept<T: Encode + Decode<()>>(alloc: Global, word: &[u8], kept: &[u8]) -> Option<T> {
     if !each_call_keeps::<T>(alloc, kept) {

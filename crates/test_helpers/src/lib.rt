@@ -2,6 +2,5 @@
 #![tactic(auto)]
 
 pub mod checks;
-pub mod laws;
 pub mod rows;
 pub mod streams;
