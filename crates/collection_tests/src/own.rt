@@ -48,7 +48,6 @@ fn keeps_structs(rt: HostRuntime) {
         ("Table", has_word::<Table<u16, bool>>(alloc, &table)),
         ("Report", has_word::<Report>(alloc, &REPORT)),
         ("Book", has_word::<Book>(alloc, &BOOK)),
-        ("Foo", has_word::<Foo>(alloc, &[5, 10])),
     ];
     all_hold(&rt, &rows);
 }
