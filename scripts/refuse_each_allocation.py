@@ -57,21 +57,19 @@ WITHOUT_MEMORY = {
         "coders::decodes_in_turn",
     ],
     "collection_tests": [
-        "tables::decodes_cases_without_memory",
         "limits::reads_back_within_the_peak",
         "borrowed::lends_to_a_struct",
         "borrowed::lends_to_an_enum",
         "borrowed::borrows_a_pair",
         "empties::reads_nothing_and_refuses_lengths_without_memory",
-        "empties::reads_nothing_into_an_arena",
     ],
     "device_tests": [],
     "shape_tests": [],
     "record_tests": [],
 }
 
-# Sets and maps of 12,000 in an order. Those of three and of 300 are kept by `maps::keeps_sets_and_maps` through the same calls, and
-# each allocation of that test is refused.
+# Sets and maps of 12,000 in an order. Those of 300 are kept by `maps::keeps_sets_and_maps` through the same calls, and each allocation
+# of that test is refused.
 SAMPLED = {"collection_tests": ["maps::keeps_large_sets_and_maps"]}
 
 # How many allocations of a sampled test are refused from its first one on, how many up to its last one, and how many between.

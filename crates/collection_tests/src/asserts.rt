@@ -1,7 +1,7 @@
 //! What a test asserts of several answers, or of a table of named rows.
 
 use std::process::Abort;
-use test_helpers::rows::{first_false, first_unequal, first_wrong};
+use test_helpers::rows::{first_false, first_wrong};
 
 /// Each answer is true; else the place of the first that is not is told, from 0 on.
 pub fn all_true(rt: &impl Abort, answers: &[bool]) {
@@ -11,11 +11,6 @@ pub fn all_true(rt: &impl Abort, answers: &[bool]) {
 /// Each row holds.
 pub fn all_hold(rt: &impl Abort, rows: &[(&'static str, bool)]) {
     none_wrong(rt, first_wrong(rows));
-}
-
-/// The two numbers of each row are equal.
-pub fn all_equal(rt: &impl Abort, rows: &[(&'static str, usize, usize)]) {
-    none_wrong(rt, first_unequal(rows));
 }
 
 /// No row is wrong.

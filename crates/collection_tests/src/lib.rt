@@ -21,15 +21,11 @@ mod derived;
 #[cfg(test)]
 mod empties;
 #[cfg(test)]
-mod events;
-#[cfg(test)]
 mod growing;
 #[cfg(test)]
 mod limits;
 #[cfg(test)]
 mod longer;
-#[cfg(test)]
-mod looped;
 #[cfg(test)]
 mod maps;
 #[cfg(test)]
@@ -48,7 +44,5 @@ mod shown;
 mod tables;
 #[cfg(test)]
 mod texts;
-#[cfg(test)]
-mod words;
 #[cfg(test)]
 mod writers;

@@ -2,7 +2,7 @@
 
 use std::alloc::{AllocError, Global};
 use std::collections::{BTreeMap, BTreeSet, HashMap, HashSet};
-use test_helpers::checks::{either, keeps_value, read_as_written, read_word};
+use test_helpers::checks::{either, keeps_value};
 
 /// The numbers from 0, the last put in first.
 fn set_of(alloc: Global, count: u32) -> Result<BTreeSet<u32>, AllocError> {
@@ -59,9 +59,7 @@ fn keeps_map(alloc: Global, count: u32) -> bool {
 #[test]
 fn keeps_sets_and_maps(rt: HostRuntime) {
     let alloc = rt.alloc();
-    for count in [3, 300] {
-        assert!(rt; keeps_set(alloc, count) && keeps_map(alloc, count));
-    }
+    assert!(rt; keeps_set(alloc, 300) && keeps_map(alloc, 300));
 }
 
 /// Of the thousands of blocks that these ask for only some are refused in turn: the test before has the same calls for
@@ -78,24 +76,4 @@ fn keeps_large_hashed_sets_and_maps(rt: HostRuntime) {
     assert!(rt; keeps_value(alloc, set));
     let map = either(hashed_map_of(alloc, 12_000), hashed_map_of(alloc, 12_000));
     assert!(rt; keeps_value(alloc, map));
-}
-
-#[test]
-fn writes_a_set_in_its_order(rt: HostRuntime) {
-    let alloc = rt.alloc();
-    let Some(set) = read_as_written::<BTreeSet<u8>>(alloc, &[3, 5, 5, 1], &[2, 1, 5]) else {
-        assert!(rt; false);
-        return;
-    };
-    assert!(rt; set.iter().eq([1u8, 5].iter()));
-}
-
-#[test]
-fn keeps_the_last_value_of_a_key(rt: HostRuntime) {
-    let word = [3, 1, 10, 2, 20, 1, 30];
-    let Some(map) = read_word::<BTreeMap<u8, u8>>(rt.alloc(), &word) else {
-        assert!(rt; false);
-        return;
-    };
-    assert!(rt; map.keys().eq([1u8, 2].iter()) && map.values().eq([30u8, 20].iter()));
 }

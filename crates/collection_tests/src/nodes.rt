@@ -1,30 +1,17 @@
 //! Trees whose nodes are in a list, written and read.
 
-use bincode::de::Decode;
-use bincode::enc::Encode;
 use bincode::error::DecodeError;
 use std::alloc::Global;
-use test_helpers::checks::{decoded_within, each_call_keeps, either, fault_of};
+use test_helpers::checks::{either, fault_of, read_if_kept};
 use trees::tree::Tree;
 
 /// The word of a root 10 with the children 20 and 30, of which the first has the child 40.
 const TREE: [u8; 12] = [4, 10, 2, 1, 2, 20, 1, 3, 30, 0, 40, 0];
 
-/// What is read of the word within 1000, if each call keeps it, and that of a root without children.
-fn kept_within<T: Encode + Decode<()>>(alloc: Global, word: &[u8]) -> Option<T> {
-    if !each_call_keeps::<T>(alloc, word) || !each_call_keeps::<T>(alloc, &[1, 7, 0]) {
-        return None;
-    }
-    match decoded_within::<T, 1000>(alloc, word) {
-        Ok((value, taken)) if taken == word.len() => Some(value),
-        _ => None,
-    }
-}
-
 #[test]
 fn keeps_trees_and_walks_one(rt: HostRuntime) {
     let alloc = rt.alloc();
-    let Some(tree) = kept_within::<Tree>(alloc, &TREE) else {
+    let Some(tree) = read_if_kept::<Tree>(alloc, &TREE, &TREE) else {
         assert!(rt; false);
         return;
     };

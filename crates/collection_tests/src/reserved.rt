@@ -1,19 +1,15 @@
 //! What is reserved for a list: the room that its length claims, and no more.
 
-use crate::asserts::{all_hold, all_true};
+use crate::asserts::all_hold;
 use bincode::config;
-use bincode::de::Decode;
-use bincode::ffi::CString;
 use bumpalo::Bump;
-use own_types::arena::ArenaList;
 use own_types::arenas::count_numbers;
 use own_types::pack::Pack;
 use std::alloc::{AllocError, Global};
 use std::collections::{BinaryHeap, HashMap, HashSet, VecDeque};
-use std::path::PathBuf;
-use test_helpers::checks::{decoded, decoded_with, either};
+use test_helpers::checks::{either, read_word};
 
-/// The word of the list of the numbers from 1 to 100, of which each takes a byte, and of the text of these bytes.
+/// The word of the list of the numbers from 1 to 100, of which each takes a byte.
 fn hundred() -> [u8; 101] {
     let mut word = [100; 101];
     for place in 1..101usize {
@@ -31,38 +27,14 @@ fn hundred_entries() -> [u8; 201] {
     word
 }
 
-/// What is read of a whole word.
-fn read<T: Decode<()>>(alloc: Global, word: &[u8]) -> Option<T> {
-    match decoded(alloc, word, config::standard()) {
-        Ok((value, taken)) if taken == word.len() => Some(value),
-        _ => None,
-    }
-}
-
 #[test]
 fn reserves_what_lists_hold(rt: HostRuntime) {
     let alloc = rt.alloc();
     let word = hundred();
-    let text: Option<String> = read(alloc, &word);
-    let path: Option<PathBuf> = read(alloc, &word);
-    let bytes: Option<Vec<u8>> = read(alloc, &word);
-    let in_c: Option<Vec<u8>> = read(alloc, &word).map(CString::into_bytes);
-    let list: Option<Vec<u32>> = read(alloc, &word);
-    let queue: Option<VecDeque<u32>> = read(alloc, &word);
-    let heap: Option<BinaryHeap<u32>> = read(alloc, &word);
-    let pack: Option<Pack<u32>> = read(alloc, &word);
+    let queue: Option<VecDeque<u8>> = read_word(alloc, &word);
+    let heap: Option<BinaryHeap<u8>> = read_word(alloc, &word);
+    let pack: Option<Pack<u8>> = read_word(alloc, &word);
     let rows = [
-        ("String", matches!(&text, Some(it) if it.capacity() == 100)),
-        ("PathBuf", matches!(&path, Some(it) if it.capacity() == 100)),
-        (
-            "Vec<u8>",
-            matches!(&bytes, Some(it) if it.capacity() == 100),
-        ),
-        ("CString", matches!(&in_c, Some(it) if it.capacity() == 100)),
-        (
-            "Vec<u32>",
-            matches!(&list, Some(it) if it.capacity() == 100),
-        ),
         (
             "VecDeque",
             matches!(&queue, Some(it) if it.capacity() == 100),
@@ -80,7 +52,7 @@ fn reserves_what_lists_hold(rt: HostRuntime) {
 }
 
 /// A set with room for a hundred.
-fn spare_set(alloc: Global) -> Result<HashSet<u32>, AllocError> {
+fn spare_set(alloc: Global) -> Result<HashSet<u8>, AllocError> {
     HashSet::with_capacity(alloc, 100)
 }
 
@@ -93,8 +65,8 @@ fn spare_map(alloc: Global) -> Result<HashMap<u8, u8>, AllocError> {
 #[test]
 fn reserves_what_hashed_ones_claim(rt: HostRuntime) {
     let alloc = rt.alloc();
-    let set: Option<HashSet<u32>> = read(alloc, &hundred());
-    let map: Option<HashMap<u8, u8>> = read(alloc, &hundred_entries());
+    let set: Option<HashSet<u8>> = read_word(alloc, &hundred());
+    let map: Option<HashMap<u8, u8>> = read_word(alloc, &hundred_entries());
     let (Some(set), Some(spare)) = (set, either(spare_set(alloc), spare_set(alloc))) else {
         assert!(rt; false);
         return;
@@ -105,39 +77,6 @@ fn reserves_what_hashed_ones_claim(rt: HostRuntime) {
         return;
     };
     assert_eq!(rt; (map.len(), map.capacity()), (100, spare.capacity()));
-}
-
-/// Room for a hundred numbers in an arena. Retries once if an allocation is refused.
-fn spare_list(bump: &Bump) -> Result<Vec<u32, &Bump>, AllocError> {
-    match Vec::with_capacity(bump, 100) {
-        Ok(spare) => Ok(spare),
-        Err(_) => Vec::with_capacity(bump, 100),
-    }
-}
-
-/// A list in an arena takes as much of it as its items, and no more.
-#[test]
-fn reserves_what_a_list_in_an_arena_holds(rt: HostRuntime) {
-    let (bump, other) = (Bump::new(rt.alloc()), Bump::new(rt.alloc()));
-    let Ok((list, 101)) = decoded_with::<_, ArenaList<u32>, _>(
-        rt.alloc(),
-        &hundred(),
-        config::standard(),
-        &bump,
-    ) else {
-        assert!(&rt; false);
-        return;
-    };
-    assert!(&rt; list.items.len() == 100);
-    let spare = spare_list(&other);
-    all_true(
-        &rt,
-        &[
-            spare.is_ok(),
-            bump.allocated_bytes() == other.allocated_bytes(),
-            bump.chunk_capacity() == other.chunk_capacity(),
-        ],
-    );
 }
 
 /// The numbers 1 to 3.

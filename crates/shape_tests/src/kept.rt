@@ -1,29 +1,56 @@
 //! What each shape reads and writes.
 
-use crate::asserts::all_true;
-use crate::shaped::{read_once, read_under, shape_of, writes};
-use bincode::config::NoLimit;
+use crate::asserts::all_hold;
+use crate::shaped::shape_of;
+use bincode::config;
+use bincode::enc::write::SliceWriter;
 use bincode::error::DecodeError;
-use bincode::shape::{Described, Shape, Value};
-use conformance::case::Setting;
+use bincode::shape::{Described, Shape, Value, decode_shaped, encode_shaped};
 use own_types::foo::Foo;
 use std::alloc::Global;
 
-/// Whether the value is written as the word, and the word read as the value.
-fn keeps(alloc: Global, shape: &Shape, value: &Value, word: &[u8]) -> bool {
-    let setting = Setting::Standard;
-    let Ok((held, taken)) = read_under(alloc, shape, setting, NoLimit, word) else {
-        return false;
-    };
-    held == *value && taken == word.len() && writes(shape, value, setting, word)
+/// Whether the value is written as the word, into a slice of 64 bytes.
+fn writes(shape: &Shape, value: &Value, word: &[u8]) -> bool {
+    let mut slice = [0u8; 64];
+    let mut writer = SliceWriter::new(&mut slice);
+    let written = encode_shaped(shape, value, &mut writer, config::standard());
+    let count = writer.bytes_written();
+    drop(writer);
+    written.is_ok() && count == word.len() && slice.starts_with(word)
 }
 
-/// Whether a type's own shape keeps the word of a value.
-fn keeps_of<T: Described>(alloc: Global, value: &Value, word: &[u8]) -> bool {
-    match shape_of::<T>(alloc) {
-        Some(shape) => keeps(alloc, &shape, value, word),
-        None => false,
+/// Reads a value of a shape. Retries once if an allocation is refused.
+fn read(alloc: Global, shape: &Shape, word: &[u8]) -> Result<(Value, usize), DecodeError> {
+    match decode_shaped(alloc, shape, word, config::standard()) {
+        Err(DecodeError::Memory) => decode_shaped(alloc, shape, word, config::standard()),
+        outcome => outcome,
     }
+}
+
+/// Whether the value is written as the word, and the word read as the value.
+fn is_kept(alloc: Global, shape: &Shape, value: &Value, word: &[u8]) -> bool {
+    match read(alloc, shape, word) {
+        Ok((held, taken)) => held == *value && taken == word.len() && writes(shape, value, word),
+        Err(_) => false,
+    }
+}
+
+/// Whether there is a value, and the type's own shape keeps it by this word.
+fn keeps<T: Described>(alloc: Global, value: Option<Value>, word: &[u8]) -> bool {
+    let (Some(shape), Some(value)) = (shape_of::<T>(alloc), value) else {
+        return false;
+    };
+    is_kept(alloc, &shape, &value, word)
+}
+
+/// A number.
+fn unsigned(number: u128) -> Option<Value> {
+    Some(Value::Unsigned(number))
+}
+
+/// A signed number.
+fn signed(number: i128) -> Option<Value> {
+    Some(Value::Signed(number))
 }
 
 /// A list of these numbers.
@@ -68,116 +95,67 @@ fn text_of(alloc: Global, text: &str) -> Option<Value> {
     }
 }
 
-/// Whether there is a value, and the shape of the type keeps it.
-fn keeps_some<T: Described>(alloc: Global, value: Option<Value>, word: &[u8]) -> bool {
-    match value {
-        Some(value) => keeps_of::<T>(alloc, &value, word),
-        None => false,
-    }
-}
-
 #[test]
 fn scalars_are_kept(rt: HostRuntime) {
     let alloc = rt.alloc();
-    all_true(
-        &rt,
-        &[
-            keeps_of::<()>(alloc, &Value::Unit, &[]),
-            keeps_of::<bool>(alloc, &Value::Bool(true), &[1]),
-            keeps_of::<bool>(alloc, &Value::Bool(false), &[0]),
-            keeps_of::<char>(alloc, &Value::Char('é'), &[195, 169]),
-            keeps_some::<String>(alloc, text_of(alloc, "ab"), &[2, 97, 98]),
-        ],
-    );
-}
-
-#[test]
-fn numbers_are_kept(rt: HostRuntime) {
-    let alloc = rt.alloc();
-    all_true(
-        &rt,
-        &[
-            keeps_of::<u8>(alloc, &Value::Unsigned(200), &[200]),
-            keeps_of::<u16>(alloc, &Value::Unsigned(300), &[251, 44, 1]),
-            keeps_of::<u32>(alloc, &Value::Unsigned(70_000), &[252, 112, 17, 1, 0]),
-            keeps_of::<u64>(alloc, &Value::Unsigned(7), &[7]),
-        ],
-    );
     let large = [254, 0, 0, 0, 0, 0, 0, 0, 0, 1, 0, 0, 0, 0, 0, 0, 0];
-    all_true(
-        &rt,
-        &[
-            keeps_of::<u128>(alloc, &Value::Unsigned(1 << 64), &large),
-            keeps_of::<usize>(alloc, &Value::Unsigned(250), &[250]),
-            keeps_of::<i8>(alloc, &Value::Signed(-1), &[255]),
-            keeps_of::<i16>(alloc, &Value::Signed(-2), &[3]),
-            keeps_of::<i32>(alloc, &Value::Signed(1), &[2]),
-            keeps_of::<i64>(alloc, &Value::Signed(-3), &[5]),
-            keeps_of::<i128>(alloc, &Value::Signed(5), &[10]),
-            keeps_of::<isize>(alloc, &Value::Signed(-1), &[1]),
-        ],
-    );
+    let rows = [
+        ("()", keeps::<()>(alloc, Some(Value::Unit), &[])),
+        ("bool", keeps::<bool>(alloc, Some(Value::Bool(true)), &[1])),
+        (
+            "char",
+            keeps::<char>(alloc, Some(Value::Char('é')), &[195, 169]),
+        ),
+        (
+            "String",
+            keeps::<String>(alloc, text_of(alloc, "ab"), &[2, 97, 98]),
+        ),
+        ("u8", keeps::<u8>(alloc, unsigned(200), &[200])),
+        ("u16", keeps::<u16>(alloc, unsigned(300), &[251, 44, 1])),
+        (
+            "u32",
+            keeps::<u32>(alloc, unsigned(70_000), &[252, 112, 17, 1, 0]),
+        ),
+        ("u64", keeps::<u64>(alloc, unsigned(7), &[7])),
+        ("u128", keeps::<u128>(alloc, unsigned(1 << 64), &large)),
+        ("usize", keeps::<usize>(alloc, unsigned(250), &[250])),
+        ("i8", keeps::<i8>(alloc, signed(-1), &[255])),
+        ("i16", keeps::<i16>(alloc, signed(-2), &[3])),
+        ("i32", keeps::<i32>(alloc, signed(1), &[2])),
+        ("i64", keeps::<i64>(alloc, signed(-3), &[5])),
+        ("i128", keeps::<i128>(alloc, signed(5), &[10])),
+        ("isize", keeps::<isize>(alloc, signed(-1), &[1])),
+    ];
+    all_hold(&rt, &rows);
 }
 
 #[test]
 fn wholes_are_kept(rt: HostRuntime) {
     let alloc = rt.alloc();
     let numbers = || list_of(alloc, 5, 256);
-    all_true(
-        &rt,
-        &[
-            keeps_some::<Vec<u16>>(alloc, numbers(), &[2, 5, 251, 0, 1]),
-            keeps_some::<[u16; 2]>(alloc, numbers(), &[5, 251, 0, 1]),
-            keeps_some::<(u8, u16)>(alloc, numbers(), &[5, 251, 0, 1]),
-            keeps_some::<Foo>(alloc, numbers(), &[5, 251, 0, 1]),
-            keeps_of::<Option<u8>>(alloc, &Value::Optional(None), &[0]),
-        ],
-    );
-    let some = || some_of(alloc, 9);
-    assert!(rt;
-        keeps_some::<Option<u8>>(alloc, some(), &[1, 9])
-            && keeps_some::<Box<Option<u8>>>(alloc, some(), &[1, 9])
-    );
-    let choice = choice_of(alloc, 1, 1);
-    assert!(rt; keeps_some::<Result<bool, u8>>(alloc, choice, &[1, 1]));
-}
-
-/// Values that do not fit: of another kind, out of range, with an item too few, and of a part that is not there.
-#[test]
-fn what_does_not_fit_is_refused(rt: HostRuntime) {
-    let alloc = rt.alloc();
-    all_true(
-        &rt,
-        &[
-            !writes(&Shape::U8, &Value::Unsigned(256), Setting::Standard, &[0]),
-            !writes(&Shape::U8, &Value::Signed(1), Setting::Standard, &[1]),
-            !writes(&Shape::I8, &Value::Signed(128), Setting::Standard, &[128]),
-        ],
-    );
-    let numbers = || list_of(alloc, 5, 6);
-    assert!(rt;
-        !keeps_some::<[u16; 3]>(alloc, numbers(), &[5, 6])
-            && !keeps_some::<(u8, u8, u8)>(alloc, numbers(), &[5, 6])
-    );
-    let choice = choice_of(alloc, 2, 1);
-    assert!(rt; !keeps_some::<Result<u8, u8>>(alloc, choice, &[2, 1]));
-}
-
-/// A list of tuples, each of which allocates for its shape and for its value.
-type Wholes = Vec<(String, Option<u8>, Result<u8, bool>)>;
-
-/// If an allocation for a shape or a value is refused, that is the error.
-#[test]
-fn refused_memory_is_told(rt: HostRuntime) {
-    let alloc = rt.alloc();
-    let word = [2, 1, 97, 1, 5, 1, 1, 0, 0, 0, 9];
-    let shape = shape_of::<Wholes>(alloc);
-    assert!(rt; shape.is_some());
-    let Some(shape) = shape else {
-        return;
-    };
-    match read_once(alloc, &shape, Setting::Standard, NoLimit, &word) {
-        Ok((_, taken)) => assert_eq!(rt; taken, word.len()),
-        Err(error) => assert!(rt; matches!(error, DecodeError::Memory)),
-    }
+    let rows = [
+        (
+            "Vec",
+            keeps::<Vec<u16>>(alloc, numbers(), &[2, 5, 251, 0, 1]),
+        ),
+        (
+            "array",
+            keeps::<[u16; 2]>(alloc, numbers(), &[5, 251, 0, 1]),
+        ),
+        ("Foo", keeps::<Foo>(alloc, numbers(), &[5, 251, 0, 1])),
+        (
+            "None",
+            keeps::<Option<u8>>(alloc, Some(Value::Optional(None)), &[0]),
+        ),
+        (
+            "Some",
+            keeps::<Option<u8>>(alloc, some_of(alloc, 9), &[1, 9]),
+        ),
+        ("Box", keeps::<Box<u8>>(alloc, unsigned(9), &[9])),
+        (
+            "Result",
+            keeps::<Result<bool, u8>>(alloc, choice_of(alloc, 1, 1), &[1, 1]),
+        ),
+    ];
+    all_hold(&rt, &rows);
 }

@@ -1,5 +1,5 @@
-//! Tests of shapes: each case of the worked rows whose type is described has the same result by the type's shape, and
-//! each shape reads and writes its values. Expected values come from the description of the format.
+//! Tests of shapes: what types tell of theirs, what each shape reads and writes, and shapes in a text. Expected values
+//! come from the description of the format.
 #![tactic(auto)]
 
 #[cfg(test)]
@@ -11,11 +11,7 @@ mod described;
 #[cfg(test)]
 mod kept;
 #[cfg(test)]
-mod limits;
-#[cfg(test)]
 mod printed;
-#[cfg(test)]
-mod rows;
 #[cfg(test)]
 mod shaped;
 #[cfg(test)]

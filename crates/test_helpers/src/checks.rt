@@ -2,7 +2,7 @@
 
 use bincode::config::Config;
 use bincode::de::read::SliceReader;
-use bincode::de::{Decode, Decoder, DecoderImpl};
+use bincode::de::{Decode, DecoderImpl};
 use bincode::enc::Encode;
 use bincode::enc::write::SizeWriter;
 use bincode::error::{DecodeError, EncodeError};
@@ -37,28 +37,6 @@ pub fn keeps<T: Encode + Decode<()>>(alloc: Global, word: &[u8]) -> bool {
 pub fn goes_on<T: Decode<()>>(alloc: Global, input: &[u8]) -> bool {
     let mut decoder = DecoderImpl::new(alloc, SliceReader::new(input), config::standard(), ());
     T::decode(&mut decoder).is_err() && matches!(u8::decode(&mut decoder), Ok(77))
-}
-
-/// The error of decoding within a hundred, and whether just this much of the limit is left.
-fn left_after<T: Decode<()>>(
-    alloc: Global,
-    input: &[u8],
-    left: usize,
-) -> (Option<DecodeError>, bool) {
-    let hundred = config::standard().with_limit::<100>();
-    let mut decoder = DecoderImpl::new(alloc, SliceReader::new(input), hundred, ());
-    let fault = T::decode(&mut decoder).err();
-    let is_left = decoder.claim_bytes_read(left).is_ok() && decoder.claim_bytes_read(1).is_err();
-    (fault, is_left)
-}
-
-/// Whether a fault leaves this much of a limit of a hundred. Retries once if an allocation is refused.
-pub fn leaves<T: Decode<()>>(alloc: Global, input: &[u8], left: usize) -> bool {
-    let (mut fault, mut is_left) = left_after::<T>(alloc, input, left);
-    if matches!(fault, Some(DecodeError::Memory)) {
-        (fault, is_left) = left_after::<T>(alloc, input, left);
-    }
-    fault.is_some() && is_left
 }
 
 /// What is decoded from the front of the input, if its encoding has this length.
@@ -302,21 +280,6 @@ pub fn read_if_kept<T: Encode + Decode<()>>(alloc: Global, word: &[u8], kept: &[
         return None;
     }
     read_word(alloc, word)
-}
-
-/// What is read of a word, if it is then written as the other one.
-pub fn read_as_written<T: Encode + Decode<()>>(
-    alloc: Global,
-    word: &[u8],
-    other: &[u8],
-) -> Option<T> {
-    let value: T = read_word(alloc, word)?;
-    let bytes = written(alloc, &value)?;
-    if bytes.as_slice() == other {
-        Some(value)
-    } else {
-        None
-    }
 }
 
 /// Whether a value is there, and an equal one is read of its word.
