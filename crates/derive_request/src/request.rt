@@ -32,39 +32,57 @@ const STATUSES: &str = "Status:
   1  with --check: a module is stale or missing
   2  wrong arguments, a type that is refused, or a file that can't be read or written
 
-Each file is dealt with, also behind one that is refused. The status is the greatest of them.";
+Each file is dealt with, also after one that is refused. The status is the greatest of them.";
+
+/// What the program says of itself.
+const ABOUT: &str =
+    "Writes the impls by which the structs and enums of Rattle sources are encoded and decoded by `bincode`";
 
 /// The program's command line.
 fn command<'a>(alloc: Global) -> Result<Command<'a>, AllocError> {
+    Command::new(alloc, "derive")
+        .version("1.0.0")
+        .about(ABOUT)
+        .after_help(STATUSES)
+        .arg(check_arg(alloc)?)?
+        .arg(print_arg(alloc))?
+        .arg(crate_arg(alloc))?
+        .arg(files_arg(alloc))
+}
+
+/// The option `--check`.
+fn check_arg<'a>(alloc: Global) -> Result<Arg<'a>, AllocError> {
     let check = Arg::new(alloc, "check")
         .long("check")
         .action(ArgAction::SetTrue)
-        .conflicts_with("print")?
         .help("Writes nothing, and compares each module with what stands there");
-    let print = Arg::new(alloc, "print")
+    check.conflicts_with("print")
+}
+
+/// The option `--print`.
+fn print_arg<'a>(alloc: Global) -> Arg<'a> {
+    Arg::new(alloc, "print")
         .long("print")
         .action(ArgAction::SetTrue)
-        .help("Writes nothing, and prints each module");
-    let crate_name = Arg::new(alloc, "crate")
+        .help("Writes nothing, and prints each module")
+}
+
+/// The option `--crate`.
+fn crate_arg<'a>(alloc: Global) -> Arg<'a> {
+    Arg::new(alloc, "crate")
         .long("crate")
         .value_name("NAME")
-        .help("The crate of the sources, if it is not the folder before their `src`");
-    let files = Arg::new(alloc, "files")
+        .help("The crate of the sources, if it is not the folder before their `src`")
+}
+
+/// The argument `FILE ..`.
+fn files_arg<'a>(alloc: Global) -> Arg<'a> {
+    Arg::new(alloc, "files")
         .value_name("FILE")
         .required(true)
         .action(ArgAction::Append)
         .num_args(1..)
-        .help("The sources: for `src/book.rt` the module `src/book/words.rt` is written");
-    let about =
-        "Writes the impls by which the structs and enums of Rattle sources are encoded and decoded by `bincode`";
-    Command::new(alloc, "derive")
-        .version("1.0.0")
-        .about(about)
-        .after_help(STATUSES)
-        .arg(check)?
-        .arg(print)?
-        .arg(crate_name)?
-        .arg(files)
+        .help("The sources: for `src/book.rt` the module `src/book/words.rt` is written")
 }
 
 /// The request that these words spell, of which the first is the program's name. Where they spell none, or ask for help
