@@ -171,7 +171,7 @@ Status:
   1  with --check: a module is stale or missing
   2  wrong arguments, a type that is refused, or a file that can't be read or written
 
-Each file is dealt with, also behind one that is refused. The status is the greatest of them.
+Each file is dealt with, also after one that is refused. The status is the greatest of them.
 ";
 
 /// Where the module of a file goes, below that of its types, and which crate it is of, by its folder.
