@@ -1,12 +1,12 @@
 -- Keeping the whole frames of a store, part by part.
-use Rattle.std.specs.Prelude.{◌≡◌, ◌++◌, ◌<◌, ◌≤◌, ℕ, List, [], ◌∷◌, length, take, drop, Option, Some, None, IfSome, refl}
+use Rattle.std.specs.Prelude.{◌≡◌, ◌↔◌, ◌++◌, ◌<◌, ◌≤◌, ℕ, List, [], ◌∷◌, length, take, drop, Bool, true, false, Option, Some, None, IfSome, IsTrue, refl}
 use Rattle.std.specs.Io.KnownBytes.{Appends}
-use Rattle.std.proofs.Common.{◌∙◌, ap, sym, subst, arith, inr, suc, zero, append_assoc, append-nil}
+use Rattle.std.proofs.Common.{◌∙◌, ap, sym, subst, arith, inl, inr, suc, zero, append_assoc, append-nil}
 use Rattle.std.proofs.KnownBytes.{Appends-nil, Appends-trans}
 use Rattle.std.proofs.lemmas.List.{length-drop}
 use Rattle.framed_store.specs.Searches.{StandsAt}
-use Rattle.framed_store.specs.Steps.{IsWhole}
-use Rattle.stock_files.specs.Repairs.{HasNoFrame, IsPassed, Part, Kept, Passed, PartsTo, kept_of, Salvages}
+use Rattle.framed_store.specs.Steps.{IsWhole, IsDamaged}
+use Rattle.stock_files.specs.Repairs.{HasNoFrame, GoesOn, EndsWithFrame, IsPassed, Part, Kept, Passed, PartsTo, kept_of, Salvages}
 
 -- nothing stands in no bytes
 pub none-in-none : (most : ℕ) → HasNoFrame most []
@@ -24,6 +24,14 @@ passed-to-frame most bytes (Some (suc n)) none found first =
     let there = found.0.1 in
     let left = length-drop (suc n) bytes in
     let within : suc n ≤ length bytes = omega (arith, there, left) in (omega arith, within, inr first)
+
+-- a damaged frame is passed over whose length leads on, if no whole one ends there
+pub passed-frame : (most : ℕ) (bytes front back : List ℕ) (size : ℕ) (ends : Bool) → IsDamaged most bytes size → front ≡ take size bytes → back ≡ drop size bytes → GoesOn most back →
+    (IsTrue ends ↔ EndsWithFrame most front) → ends ≡ false → (0 < size) × (size ≤ length bytes) × IsPassed most bytes size
+passed-frame most bytes front back size ends d f b g e n =
+    let is = d.1 in
+    let fits = d.0.1 in
+    (omega (arith, is), omega (arith, is, fits), inl (d, subst (GoesOn most) b g, λ h. let t = e.1 (subst (EndsWithFrame most) (sym f) h) in absurd (cc)))
 
 parts-kept : (most : ℕ) (bytes : List ℕ) (parts : List Part) (rest : List ℕ) (n : ℕ) → PartsTo most bytes parts rest → IsWhole most rest n → PartsTo most bytes (parts ++ Kept n ∷ []) (drop n rest)
 parts-kept most bytes [] rest n to is = (subst (λ z. IsWhole most z n) to is, ap (drop n) to)
