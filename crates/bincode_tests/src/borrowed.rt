@@ -51,8 +51,11 @@ fn lends_ten_thousand_texts(rt: HostRuntime) {
         assert!(rt; false);
         return;
     };
-    let read = borrowed::<Vec<&str>>(alloc, word.as_slice());
-    assert!(rt; matches!(read, Ok((texts, 40_003)) if texts.len() == 10_000));
+    let Ok((texts, 40_003)) = borrowed::<Vec<&str>>(alloc, word.as_slice()) else {
+        assert!(rt; false);
+        return;
+    };
+    assert!(rt; texts.len() == 10_000);
 }
 
 /// No contract says that what may be owned is not.
@@ -85,14 +88,29 @@ fn borrows_in_turn(rt: HostRuntime) {
     lends_in_turn(&rt, &mut decoder);
 }
 
-/// Whether a and b are read as an array, and c and d as a vector.
+/// What is read of two texts, whose room is claimed.
+fn read_vec<'a, D: BorrowDecoder<&'a [u8], Context = ()>>(
+    decoder: &mut D,
+) -> Result<Vec<&'a str>, DecodeError> {
+    decoder.claim_container_read::<&str>(2)?;
+    borrow_decode_vec(decoder, 2)
+}
+
+/// The two are read as an array.
+fn read_array<'a, D: BorrowDecoder<&'a [u8], Context = ()>>(
+    decoder: &mut D,
+) -> Result<[&'a str; 2], DecodeError> {
+    decoder.claim_container_read::<&str>(2)?;
+    borrow_decode_array(decoder)
+}
+
+/// Whether a and b are read as an array, and c and d as a vector: 32 bytes of room beside 18 that are charged.
 fn reads_four(alloc: Global, source: &[u8]) -> Result<bool, DecodeError> {
-    let mut decoder = DecoderImpl::new(alloc, SliceReader::new(source), config::standard(), ());
-    decoder.claim_container_read::<&str>(2)?;
-    let array: [&str; 2] = borrow_decode_array(&mut decoder)?;
-    decoder.claim_container_read::<&str>(2)?;
-    let vec: Vec<&str> = borrow_decode_vec(&mut decoder, 2)?;
-    Ok(array == ["a", "b"] && vec.as_slice() == ["c", "d"].as_slice())
+    let fifty = config::standard().with_limit::<50>();
+    let mut decoder = DecoderImpl::new(alloc, SliceReader::new(source), fifty, ());
+    let is_array = matches!(read_array(&mut decoder), Ok(array) if array == ["a", "b"]);
+    let vec = read_vec(&mut decoder)?;
+    Ok(is_array && vec.as_slice() == ["c", "d"].as_slice())
 }
 
 #[test]
