@@ -1,6 +1,6 @@
 //! Tests of the library at scalars and composites, and of its encoders, decoders, readers and writers: what no contract
-//! says, and each `impl` and public call once, unless it runs elsewhere. Expected values come from the description of the
-//! format.
+//! says, and each `impl` and public call once, unless it runs elsewhere. Expected values come from the description of
+//! the format.
 #![tactic(auto)]
 
 #[cfg(test)]

@@ -28,8 +28,8 @@ impl Write for Counting {
     }
 }
 
-/// What a slice of `N` 9s holds after a value, if that was refused for lack of room, and by how many calls a stream gets
-/// it.
+/// What a slice of `N` 9s holds after a value, if that was refused for lack of room, and by how many calls a stream
+/// gets it.
 fn left_and_calls<T: Encode, const N: usize>(value: &T) -> Option<([u8; N], usize)> {
     let mut slice = [9u8; N];
     let outcome = encode_into_slice(value, &mut slice, config::standard());

@@ -48,8 +48,8 @@ fn buffered_calls(alloc: Global, word: &[u8], count: usize) -> Option<usize> {
     }
 }
 
-/// A length has a piece of one byte and one of two, and the text is one piece. Of halves these are 1, 2 and 10. A buffer
-/// is filled once, and what it does not hold is read past it. Where memory is refused it is read once more.
+/// A length has a piece of one byte and one of two, and the text is one piece. Of halves these are 1, 2 and 10. A
+/// buffer is filled once, and what it does not hold is read past it. Where memory is refused it is read once more.
 #[test]
 fn asks_a_stream_once_for_a_piece_by_each_reader(rt: HostRuntime) {
     let alloc = rt.alloc();
