@@ -12,63 +12,36 @@ use std::ops::{Bound, Range, RangeInclusive};
 use std::time::Duration as StdDuration;
 use test_helpers::checks::{keeps, refuses_tag};
 
-/// Tuples whose parts are of one type, by their length. The worked rows have those of two and of five parts.
+/// Tuples whose parts are of one type, by their length: the shortest, the longest, and those at which the parts are
+/// grouped in another way. The worked rows have those of two and of five parts.
 type One<T> = (T,);
 
 type Three<T> = (T, T, T);
 
 type Four<T> = (T, T, T, T);
 
-type Six<T> = (T, T, T, T, T, T);
-
-type Seven<T> = (T, T, T, T, T, T, T);
-
 type Eight<T> = (T, T, T, T, T, T, T, T);
 
 type Nine<T> = (T, T, T, T, T, T, T, T, T);
-
-type Ten<T> = (T, T, T, T, T, T, T, T, T, T);
-
-type Eleven<T> = (T, T, T, T, T, T, T, T, T, T, T);
-
-type Twelve<T> = (T, T, T, T, T, T, T, T, T, T, T, T);
-
-type Thirteen<T> = (T, T, T, T, T, T, T, T, T, T, T, T, T);
-
-type Fourteen<T> = (T, T, T, T, T, T, T, T, T, T, T, T, T, T);
-
-type Fifteen<T> = (T, T, T, T, T, T, T, T, T, T, T, T, T, T, T);
 
 type Sixteen<T> = (T, T, T, T, T, T, T, T, T, T, T, T, T, T, T, T);
 
 /// The numbers from 0.
 const COUNT: [u8; 16] = [0, 1, 2, 3, 4, 5, 6, 7, 8, 9, 10, 11, 12, 13, 14, 15];
 
-/// Whether tuples of up to eleven parts keep their words, of a type whose words are single bytes.
+/// Whether tuples keep their words, of a type whose words are single bytes.
 fn keeps_tuples_of<T: Encode + Decode<()> + Copy>(alloc: Global) -> bool {
     keeps::<One<T>>(alloc, &COUNT[..1])
         && keeps::<Three<T>>(alloc, &COUNT[..3])
         && keeps::<Four<T>>(alloc, &COUNT[..4])
-        && keeps::<Six<T>>(alloc, &COUNT[..6])
-        && keeps::<Seven<T>>(alloc, &COUNT[..7])
         && keeps::<Eight<T>>(alloc, &COUNT[..8])
         && keeps::<Nine<T>>(alloc, &COUNT[..9])
-        && keeps::<Ten<T>>(alloc, &COUNT[..10])
-        && keeps::<Eleven<T>>(alloc, &COUNT[..11])
-}
-
-/// Whether tuples of twelve to sixteen parts keep their words.
-fn keeps_longer_tuples_of<T: Encode + Decode<()> + Copy>(alloc: Global) -> bool {
-    keeps::<Twelve<T>>(alloc, &COUNT[..12])
-        && keeps::<Thirteen<T>>(alloc, &COUNT[..13])
-        && keeps::<Fourteen<T>>(alloc, &COUNT[..14])
-        && keeps::<Fifteen<T>>(alloc, &COUNT[..15])
         && keeps::<Sixteen<T>>(alloc, &COUNT)
 }
 
 #[test]
 fn keeps_tuples(rt: HostRuntime) {
-    assert!(rt; keeps_tuples_of::<u8>(rt.alloc()) && keeps_longer_tuples_of::<u8>(rt.alloc()));
+    assert!(rt; keeps_tuples_of::<u8>(rt.alloc()));
 }
 
 #[test]
