@@ -6,7 +6,8 @@ use crate::request::{Request, request_of};
 use clap::Error;
 use clap::error::ErrorKind;
 use std::fmt::Display;
-use std::io::{BufWriter, Read, Write};
+use std::fs::File;
+use std::io::{BufWriter, Read, StdinLock, Write};
 use std::{fs, io};
 
 /// The status where all is whole.
@@ -41,35 +42,43 @@ fn usage(rt: &HostRuntime, error: &Error) -> u8 {
     }
 }
 
+/// The input: a file, or the standard input.
+#[derive(Drop)]
+enum Source<S> {
+    File(File),
+    Standard(S),
+}
+
+impl<S: Read> Read for Source<S> {
+    fn read(&mut self, bytes: &mut [u8]) -> io::Result<usize> {
+        match self {
+            Source::File(file) => file.read(bytes),
+            Source::Standard(stream) => stream.read(bytes),
+        }
+    }
+}
+
 /// Prints what the input of a request holds.
 fn run_request(rt: &HostRuntime, request: &Request) -> u8 {
-    let name = match &request.file {
-        Some(path) => path.as_str(),
-        None => "standard input",
+    let Some(path) = &request.file else {
+        let printed = print_source(rt, request, Source::Standard(rt.reader()));
+        return status_of(rt, "standard input", &printed);
     };
-    let printed = match input_of(rt, request) {
-        Ok(stream) => print_stream(rt, request, stream),
+    let printed = match fs::open(rt, path) {
+        Ok(file) => print_source(rt, request, Source::File(file)),
         Err(cause) => Err(DescribeError::Read(cause)),
     };
-    status_of(rt, name, &printed)
+    status_of(rt, path, &printed)
 }
 
-/// The input that a request names.
-fn input_of(rt: &HostRuntime, request: &Request) -> io::Result<Box<dyn Read + Drop>> {
-    let Some(path) = &request.file else {
-        return Ok(Box::new(rt.alloc(), rt.reader())?);
-    };
-    Ok(Box::new(rt.alloc(), fs::open(rt, path)?)?)
-}
-
-/// Prints what a stream holds, and returns whether it is whole.
-fn print_stream(
+/// Prints what an input holds, and returns whether it is whole.
+fn print_source(
     rt: &HostRuntime,
     request: &Request,
-    stream: Box<dyn Read + Drop>,
+    source: Source<StdinLock<'_>>,
 ) -> Result<bool, DescribeError> {
     let mut out = BufWriter::new(rt.alloc(), io::writer(rt))?;
-    let described = describe(rt.alloc(), request, stream, &mut out);
+    let described = describe(rt.alloc(), request, source, &mut out);
     out.flush()?;
     described
 }
