@@ -80,7 +80,7 @@ fn all_hold<S: Source>(alloc: Global, rows: &[Row]) -> bool {
     failed == Some(0)
 }
 
-/// A stream of one byte a call, and a buffer of 4 bytes before it, answer what a slice does; so they do to cases that the
+/// A stream of one byte a call, and a buffer of 4 bytes before it, answer what a slice does, also to the cases that the
 /// program leaves out.
 #[test]
 fn reads_the_rows_from_streams(rt: HostRuntime) {

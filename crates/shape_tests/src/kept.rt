@@ -2,7 +2,7 @@
 
 use crate::asserts::all_hold;
 use crate::shaped::shape_of;
-use bincode::config;
+use bincode::config::{self, Config};
 use bincode::enc::write::SliceWriter;
 use bincode::error::DecodeError;
 use bincode::shape::{Described, Shape, Value, decode_shaped, encode_shaped};
@@ -10,27 +10,34 @@ use own_types::foo::Foo;
 use std::alloc::Global;
 
 /// Whether the value is written as the word, into a slice of 64 bytes.
-fn writes(shape: &Shape, value: &Value, word: &[u8]) -> bool {
+fn writes<C: Config>(shape: &Shape, value: &Value, word: &[u8], config: C) -> bool {
     let mut slice = [0u8; 64];
     let mut writer = SliceWriter::new(&mut slice);
-    let written = encode_shaped(shape, value, &mut writer, config::standard());
+    let written = encode_shaped(shape, value, &mut writer, config);
     let count = writer.bytes_written();
     drop(writer);
     written.is_ok() && count == word.len() && slice.starts_with(word)
 }
 
 /// Reads a value of a shape. Retries once if an allocation is refused.
-fn read(alloc: Global, shape: &Shape, word: &[u8]) -> Result<(Value, usize), DecodeError> {
-    match decode_shaped(alloc, shape, word, config::standard()) {
-        Err(DecodeError::Memory) => decode_shaped(alloc, shape, word, config::standard()),
+fn read<C: Config>(
+    alloc: Global,
+    shape: &Shape,
+    word: &[u8],
+    config: C,
+) -> Result<(Value, usize), DecodeError> {
+    match decode_shaped(alloc, shape, word, config) {
+        Err(DecodeError::Memory) => decode_shaped(alloc, shape, word, config),
         outcome => outcome,
     }
 }
 
 /// Whether the value is written as the word, and the word read as the value.
-fn is_kept(alloc: Global, shape: &Shape, value: &Value, word: &[u8]) -> bool {
-    match read(alloc, shape, word) {
-        Ok((held, taken)) => held == *value && taken == word.len() && writes(shape, value, word),
+fn is_kept<C: Config>(alloc: Global, shape: &Shape, value: &Value, word: &[u8], config: C) -> bool {
+    match read(alloc, shape, word, config) {
+        Ok((held, taken)) => {
+            held == *value && taken == word.len() && writes(shape, value, word, config)
+        }
         Err(_) => false,
     }
 }
@@ -40,7 +47,15 @@ fn keeps<T: Described>(alloc: Global, value: Option<Value>, word: &[u8]) -> bool
     let (Some(shape), Some(value)) = (shape_of::<T>(alloc), value) else {
         return false;
     };
-    is_kept(alloc, &shape, &value, word)
+    is_kept(alloc, &shape, &value, word, config::standard())
+}
+
+/// The same where numbers are fixed.
+fn keeps_fixed<T: Described>(alloc: Global, value: Option<Value>, word: &[u8]) -> bool {
+    let (Some(shape), Some(value)) = (shape_of::<T>(alloc), value) else {
+        return false;
+    };
+    is_kept(alloc, &shape, &value, word, config::legacy())
 }
 
 /// A number.
@@ -95,36 +110,54 @@ fn text_of(alloc: Global, text: &str) -> Option<Value> {
     }
 }
 
+/// Each by the width of its type.
 #[test]
 fn scalars_are_kept(rt: HostRuntime) {
     let alloc = rt.alloc();
-    let large = [254, 0, 0, 0, 0, 0, 0, 0, 0, 1, 0, 0, 0, 0, 0, 0, 0];
+    let text = [2, 0, 0, 0, 0, 0, 0, 0, 97, 98];
+    let large = [0, 0, 0, 0, 0, 0, 0, 0, 1, 0, 0, 0, 0, 0, 0, 0];
+    let five = [5, 0, 0, 0, 0, 0, 0, 0, 0, 0, 0, 0, 0, 0, 0, 0];
     let rows = [
-        ("()", keeps::<()>(alloc, Some(Value::Unit), &[])),
-        ("bool", keeps::<bool>(alloc, Some(Value::Bool(true)), &[1])),
+        ("()", keeps_fixed::<()>(alloc, Some(Value::Unit), &[])),
+        (
+            "bool",
+            keeps_fixed::<bool>(alloc, Some(Value::Bool(true)), &[1]),
+        ),
         (
             "char",
-            keeps::<char>(alloc, Some(Value::Char('é')), &[195, 169]),
+            keeps_fixed::<char>(alloc, Some(Value::Char('é')), &[195, 169]),
         ),
         (
             "String",
-            keeps::<String>(alloc, text_of(alloc, "ab"), &[2, 97, 98]),
+            keeps_fixed::<String>(alloc, text_of(alloc, "ab"), &text),
         ),
-        ("u8", keeps::<u8>(alloc, unsigned(200), &[200])),
-        ("u16", keeps::<u16>(alloc, unsigned(300), &[251, 44, 1])),
+        ("u8", keeps_fixed::<u8>(alloc, unsigned(200), &[200])),
+        ("u16", keeps_fixed::<u16>(alloc, unsigned(300), &[44, 1])),
         (
             "u32",
-            keeps::<u32>(alloc, unsigned(70_000), &[252, 112, 17, 1, 0]),
+            keeps_fixed::<u32>(alloc, unsigned(70_000), &[112, 17, 1, 0]),
         ),
-        ("u64", keeps::<u64>(alloc, unsigned(7), &[7])),
-        ("u128", keeps::<u128>(alloc, unsigned(1 << 64), &large)),
-        ("usize", keeps::<usize>(alloc, unsigned(250), &[250])),
-        ("i8", keeps::<i8>(alloc, signed(-1), &[255])),
-        ("i16", keeps::<i16>(alloc, signed(-2), &[3])),
-        ("i32", keeps::<i32>(alloc, signed(1), &[2])),
-        ("i64", keeps::<i64>(alloc, signed(-3), &[5])),
-        ("i128", keeps::<i128>(alloc, signed(5), &[10])),
-        ("isize", keeps::<isize>(alloc, signed(-1), &[1])),
+        (
+            "u64",
+            keeps_fixed::<u64>(alloc, unsigned(7), &[7, 0, 0, 0, 0, 0, 0, 0]),
+        ),
+        (
+            "u128",
+            keeps_fixed::<u128>(alloc, unsigned(1 << 64), &large),
+        ),
+        (
+            "usize",
+            keeps_fixed::<usize>(alloc, unsigned(250), &[250, 0, 0, 0, 0, 0, 0, 0]),
+        ),
+        ("i8", keeps_fixed::<i8>(alloc, signed(-1), &[255])),
+        ("i16", keeps_fixed::<i16>(alloc, signed(-2), &[254, 255])),
+        ("i32", keeps_fixed::<i32>(alloc, signed(1), &[1, 0, 0, 0])),
+        (
+            "i64",
+            keeps_fixed::<i64>(alloc, signed(-3), &[253, 255, 255, 255, 255, 255, 255, 255]),
+        ),
+        ("i128", keeps_fixed::<i128>(alloc, signed(5), &five)),
+        ("isize", keeps_fixed::<isize>(alloc, signed(-1), &[255; 8])),
     ];
     all_hold(&rt, &rows);
 }
