@@ -17,4 +17,3 @@ pub mod run;
 pub mod shaped;
 pub mod sources;
 mod trailing_bytes;
-pub mod words;
