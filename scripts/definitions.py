@@ -8,7 +8,9 @@ these are, and how many lines without comments; with --names also their names, f
 what it needs. --update writes the names into docs/PROVED.md, between the two lines that name this script.
 
 Of what a type says of its words it takes the members that these contracts name. Laws are left out: they are proved of each type, and
-no contract of a call names one. So are the definitions of the standard library.
+no contract of a call names one. So is the program that reads a format (`read` of `Format`), which lemmas alone name, and so are what a
+form of numbers says for laws (`Bounds` and `need` of `Form`) and the definitions of the standard library. It stops where a contract
+comes to name one of these.
 """
 import glob, os, re, sys
 
@@ -16,6 +18,8 @@ ROOT = os.path.dirname(os.path.dirname(os.path.abspath(__file__)))
 # The members of `Words`, the record of what a type says of its words.
 MEMBERS = ['format', 'valid', 'means', 'decodes_to', 'writable', 'own_errors', 'may_allocate', 'claim', 'need', 'lawful', 'balanced', 'has_word',
            'errors_are_own', 'claims', 'needs', 'charges_enough']
+# The members of `Format` and of `Form` that no contract of a call names: laws and lemmas do.
+BY_LAWS = ['read', 'Bounds', 'need']
 LEMMAS = 'bincode_lemmas'  # the crate of laws
 WORD = re.compile(r"[^\W\d][\w']*(?:-[^\W][\w']*)*|◌[^\s{},()]*◌|◌[^\s{},()]+|[^\s\w(){}\[\],.;λ_◌]+")
 
@@ -155,7 +159,10 @@ class Library:
 
 
     def chosen(self, text):
-        """A text without the members of `Words` that no contract names."""
+        """A text without the members of `Words`, `Format` and `Form` that no contract names."""
+        for member in BY_LAWS:
+            text = re.sub(rf'^  (pub )?{member} [=:] [^\n]*\n?', '', text, flags=re.M)
+            text = re.sub(rf';? {member} = [^;{{}}]*(?=;| }})', '', text)
         if not re.search(r'^\s+(pub )?lawful [=:] ', text, re.M):
             return text
         kept, skips = [], False
@@ -289,6 +296,10 @@ def main():
         starts += library.cited(text, scope)
     order = library.needed(dict.fromkeys(starts))
     texts = {key: library.chosen('\n'.join(library.made[key].lines)) for key in order}
+    texts = {key: text.rstrip('\n') for key, text in texts.items()}
+    named = sorted({name for name in BY_LAWS for text in texts.values() if re.search(rf'\w\.{name}\b', text)})
+    if named:
+        sys.exit(f'named by a contract, so it has to be shown: {", ".join(named)}')
     count = sum(text.count('\n') + 1 for text in texts.values())
     files = list(dict.fromkeys(key[:2] for key in order))
     total = f'{len(order)} definitions, {count} lines, in {len(files)} files'
