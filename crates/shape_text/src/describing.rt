@@ -8,7 +8,10 @@ use crate::request::{Request, SizeLimit};
 use crate::spelling::text_of;
 use crate::window::Window;
 use bincode::config;
-use bincode::config::{Config, Endianness, IntEncoding};
+use bincode::config::{
+    Config, Configuration, Endianness, IntEncoding, InternalIntEncodingConfig, InternalLimitConfig,
+    LittleEndian, Varint,
+};
 use std::alloc::Global;
 use std::io;
 use std::io::{Read, Write};
@@ -24,75 +27,86 @@ pub fn describe<R: Read + Drop, W: Write>(
     stream: R,
     out: &mut W,
 ) -> Result<bool, DescribeError> {
-    let mut window = Window::new(alloc, stream);
+    let all = config::standard();
+    let window = &mut Window::new(alloc, stream);
     match request.limit {
-        SizeLimit::KiB1 => print_within::<1_024, R, W>(alloc, request, &mut window, out),
-        SizeLimit::KiB64 => print_within::<65_536, R, W>(alloc, request, &mut window, out),
-        SizeLimit::MiB1 => print_within::<1_048_576, R, W>(alloc, request, &mut window, out),
-        SizeLimit::MiB16 => print_within::<16_777_216, R, W>(alloc, request, &mut window, out),
-        SizeLimit::MiB64 => print_within::<67_108_864, R, W>(alloc, request, &mut window, out),
-        SizeLimit::GiB1 => print_within::<1_073_741_824, R, W>(alloc, request, &mut window, out),
-        SizeLimit::Unlimited => print_unlimited(alloc, request, &mut window, out),
+        SizeLimit::KiB1 => print_within(alloc, request, window, all.with_limit::<1_024>(), out),
+        SizeLimit::KiB64 => print_within(alloc, request, window, all.with_limit::<65_536>(), out),
+        SizeLimit::MiB1 => print_within(alloc, request, window, all.with_limit::<1_048_576>(), out),
+        SizeLimit::MiB16 => print_within(
+            alloc,
+            request,
+            window,
+            all.with_limit::<16_777_216>(),
+            out,
+        ),
+        SizeLimit::MiB64 => print_within(
+            alloc,
+            request,
+            window,
+            all.with_limit::<67_108_864>(),
+            out,
+        ),
+        SizeLimit::GiB1 => print_within(
+            alloc,
+            request,
+            window,
+            all.with_limit::<1_073_741_824>(),
+            out,
+        ),
+        SizeLimit::Unlimited => print_within(alloc, request, window, all, out),
     }
 }
 
-/// Prints all, where an encoding may claim this number of bytes.
-fn print_within<const LIMIT: usize, R: Read, W: Write>(
+/// Prints all in the integer encoding and the byte order of the request, within the limit of this configuration.
+fn print_within<L: InternalLimitConfig, R: Read, W: Write>(
     alloc: Global,
     request: &Request,
     window: &mut Window<R>,
+    config: Configuration<LittleEndian, Varint, L>,
     out: &mut W,
 ) -> Result<bool, DescribeError> {
-    let all = config::standard();
-    let limited = all.with_limit::<LIMIT>();
-    match (request.encoding, request.endian) {
-        (IntEncoding::Variable, Endianness::Little) => {
-            print_all(alloc, request, window, (limited, all), out)
-        }
-        (IntEncoding::Variable, Endianness::Big) => {
-            let configs = (limited.with_big_endian(), all.with_big_endian());
-            print_all(alloc, request, window, configs, out)
-        }
-        (IntEncoding::Fixed, Endianness::Little) => {
-            let configs = (
-                limited.with_fixed_int_encoding(),
-                all.with_fixed_int_encoding(),
-            );
-            print_all(alloc, request, window, configs, out)
-        }
-        (IntEncoding::Fixed, Endianness::Big) => {
-            let configs = (
-                limited.with_fixed_int_encoding().with_big_endian(),
-                all.with_fixed_int_encoding().with_big_endian(),
-            );
-            print_all(alloc, request, window, configs, out)
+    match request.encoding {
+        IntEncoding::Variable => print_ordered(alloc, request, window, config, out),
+        IntEncoding::Fixed => {
+            print_ordered(
+                alloc,
+                request,
+                window,
+                config.with_fixed_int_encoding(),
+                out,
+            )
         }
     }
 }
 
-/// Prints all, where an encoding may claim any number of bytes.
-fn print_unlimited<R: Read, W: Write>(
+/// Prints all in the byte order of the request, and else by this configuration.
+fn print_ordered<I: InternalIntEncodingConfig, L: InternalLimitConfig, R: Read, W: Write>(
     alloc: Global,
     request: &Request,
     window: &mut Window<R>,
+    config: Configuration<LittleEndian, I, L>,
     out: &mut W,
 ) -> Result<bool, DescribeError> {
-    let all = config::standard();
-    let fixed = all.with_fixed_int_encoding();
-    match (request.encoding, request.endian) {
-        (IntEncoding::Variable, Endianness::Little) => {
-            print_all(alloc, request, window, (all, all), out)
+    match request.endian {
+        Endianness::Little => {
+            print_all(
+                alloc,
+                request,
+                window,
+                (config, config.with_no_limit()),
+                out,
+            )
         }
-        (IntEncoding::Variable, Endianness::Big) => {
-            let all = all.with_big_endian();
-            print_all(alloc, request, window, (all, all), out)
-        }
-        (IntEncoding::Fixed, Endianness::Little) => {
-            print_all(alloc, request, window, (fixed, fixed), out)
-        }
-        (IntEncoding::Fixed, Endianness::Big) => {
-            let fixed = fixed.with_big_endian();
-            print_all(alloc, request, window, (fixed, fixed), out)
+        Endianness::Big => {
+            let config = config.with_big_endian();
+            print_all(
+                alloc,
+                request,
+                window,
+                (config, config.with_no_limit()),
+                out,
+            )
         }
     }
 }

@@ -47,6 +47,47 @@ struct Source<'b, C: Config> {
     left: usize,
 }
 
+impl<C: Config> Source<'_, C> {
+    /// Counts one more value. Fails where no more may be written.
+    fn count_value(&mut self) -> Result<(), JsonError> {
+        match self.left.checked_sub(1) {
+            Some(left) => {
+                self.left = left;
+                Ok(())
+            }
+            None => Err(JsonError::TooManyValues),
+        }
+    }
+
+    /// Reads the length of a list.
+    fn next_len(&mut self) -> Result<usize, JsonError> {
+        Ok(self.words.next::<usize>()?)
+    }
+
+    /// Reads whether an optional part is there.
+    fn next_is_some(&mut self) -> Result<bool, JsonError> {
+        Ok(self.words.next::<Option<()>>()?.is_some())
+    }
+
+    /// Reads the tag of one of these variants, and returns it with the variant.
+    fn next_variant<'s>(&mut self, variants: &'s [Shape]) -> Result<(u32, &'s Shape), JsonError> {
+        let tag = self.words.next::<u32>()?;
+        match variants.get(tag as usize) {
+            Some(variant) => Ok((tag, variant)),
+            None => Err(JsonError::Decode(unknown_variant(tag, variants))),
+        }
+    }
+}
+
+/// The key of an object of one part.
+#[derive(Clone, Copy)]
+enum Key {
+    /// Of an optional part that is there.
+    Optional,
+    /// Of the part of a variant with this tag.
+    Variant(u32),
+}
+
 /// Reads the encoding of a shape at the front of some bytes, writes it as JSON while reading, and returns its length in
 /// bytes. No value is kept. A value is written in the form that serde gives:
 ///
@@ -90,10 +131,7 @@ fn write_value<C: Config, W: Write>(
     source: &mut Source<'_, C>,
     out: &mut W,
 ) -> Result<(), JsonError> {
-    let Some(left) = source.left.checked_sub(1) else {
-        return Err(JsonError::TooManyValues);
-    };
-    source.left = left;
+    source.count_value()?;
     match shape {
         Shape::Unit => write_null(out),
         Shape::Bool => write_plain::<bool, C, W>(source, out),
@@ -146,7 +184,7 @@ fn write_list<C: Config, W: Write>(
     source: &mut Source<'_, C>,
     out: &mut W,
 ) -> Result<(), JsonError> {
-    let len = source.words.next::<usize>()?;
+    let len = source.next_len()?;
     write_elements(element, len, source, out)
 }
 
@@ -157,16 +195,13 @@ fn write_optional<C: Config, W: Write>(
     source: &mut Source<'_, C>,
     out: &mut W,
 ) -> Result<(), JsonError> {
-    if source.words.next::<Option<()>>()?.is_none() {
+    if !source.next_is_some()? {
         return write_null(out);
     }
-    if !matches!(part, Shape::Unit | Shape::Optional(_)) {
-        return write_value(part, source, out);
+    if matches!(part, Shape::Unit | Shape::Optional(_)) {
+        return write_object(Key::Optional, part, source, out);
     }
-    write!(out, "{{\"some\":")?;
-    write_value(part, source, out)?;
-    write!(out, "}}")?;
-    Ok(())
+    write_value(part, source, out)
 }
 
 /// Writes `len` elements; only their count, if they have no bytes.
@@ -178,18 +213,13 @@ fn write_elements<C: Config, W: Write>(
     out: &mut W,
 ) -> Result<(), JsonError> {
     if has_no_bytes(element) {
-        write!(out, "{{\"count\":{len}}}")?;
-        return Ok(());
+        return write_count(len, out);
     }
-    write!(out, "[")?;
+    write_mark("[", out)?;
     for index in 0..len {
-        if index > 0 {
-            write!(out, ",")?;
-        }
-        write_value(element, source, out)?;
+        write_item(index == 0, element, source, out)?;
     }
-    write!(out, "]")?;
-    Ok(())
+    write_mark("]", out)
 }
 
 /// Writes the parts of a tuple.
@@ -199,17 +229,27 @@ fn write_parts<C: Config, W: Write>(
     source: &mut Source<'_, C>,
     out: &mut W,
 ) -> Result<(), JsonError> {
-    write!(out, "[")?;
+    write_mark("[", out)?;
     let mut is_first = true;
     for part in parts {
-        if !is_first {
-            write!(out, ",")?;
-        }
-        write_value(part, source, out)?;
+        write_item(is_first, part, source, out)?;
         is_first = false;
     }
-    write!(out, "]")?;
-    Ok(())
+    write_mark("]", out)
+}
+
+/// Writes an item of an array, after a comma if it is not the first one.
+#[cycle(json)]
+fn write_item<C: Config, W: Write>(
+    is_first: bool,
+    item: &Shape,
+    source: &mut Source<'_, C>,
+    out: &mut W,
+) -> Result<(), JsonError> {
+    if !is_first {
+        write_mark(",", out)?;
+    }
+    write_value(item, source, out)
 }
 
 /// Writes a variant, as an object of its tag and its part.
@@ -219,13 +259,41 @@ fn write_variant<C: Config, W: Write>(
     source: &mut Source<'_, C>,
     out: &mut W,
 ) -> Result<(), JsonError> {
-    let tag = source.words.next::<u32>()?;
-    let Some(variant) = variants.get(tag as usize) else {
-        return Err(JsonError::Decode(unknown_variant(tag, variants)));
-    };
-    write!(out, "{{\"{tag}\":")?;
-    write_value(variant, source, out)?;
-    write!(out, "}}")?;
+    let (tag, part) = source.next_variant(variants)?;
+    write_object(Key::Variant(tag), part, source, out)
+}
+
+/// Writes an object of one part.
+#[cycle(json)]
+fn write_object<C: Config, W: Write>(
+    key: Key,
+    part: &Shape,
+    source: &mut Source<'_, C>,
+    out: &mut W,
+) -> Result<(), JsonError> {
+    write_key(key, out)?;
+    write_value(part, source, out)?;
+    write_mark("}", out)
+}
+
+/// Begins an object of one part, up to that part.
+fn write_key<W: Write>(key: Key, out: &mut W) -> Result<(), JsonError> {
+    match key {
+        Key::Optional => write!(out, "{{\"some\":")?,
+        Key::Variant(tag) => write!(out, "{{\"{tag}\":")?,
+    }
+    Ok(())
+}
+
+/// Writes the number of elements that have no bytes.
+fn write_count<W: Write>(count: usize, out: &mut W) -> Result<(), JsonError> {
+    write!(out, "{{\"count\":{count}}}")?;
+    Ok(())
+}
+
+/// Writes a mark of JSON as it is.
+fn write_mark<W: Write>(mark: &str, out: &mut W) -> Result<(), JsonError> {
+    out.write_all(mark.as_bytes())?;
     Ok(())
 }
 

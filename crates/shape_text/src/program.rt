@@ -6,8 +6,7 @@ use crate::request::{Request, request_of};
 use clap::Error;
 use clap::error::ErrorKind;
 use std::fmt::Display;
-use std::fs::File;
-use std::io::{BufWriter, Read, StdinLock, Write};
+use std::io::{BufWriter, Read, Write};
 use std::{fs, io};
 
 /// The status where all is whole.
@@ -42,30 +41,14 @@ fn usage(rt: &HostRuntime, error: &Error) -> u8 {
     }
 }
 
-/// The input: a file, or the standard input.
-#[derive(Drop)]
-enum Source<S> {
-    File(File),
-    Standard(S),
-}
-
-impl<S: Read> Read for Source<S> {
-    fn read(&mut self, bytes: &mut [u8]) -> io::Result<usize> {
-        match self {
-            Source::File(file) => file.read(bytes),
-            Source::Standard(stream) => stream.read(bytes),
-        }
-    }
-}
-
 /// Prints what the input of a request holds.
 fn run_request(rt: &HostRuntime, request: &Request) -> u8 {
     let Some(path) = &request.file else {
-        let printed = print_source(rt, request, Source::Standard(rt.reader()));
+        let printed = print_source(rt, request, &mut rt.reader());
         return status_of(rt, "standard input", &printed);
     };
     let printed = match fs::open(rt, path) {
-        Ok(file) => print_source(rt, request, Source::File(file)),
+        Ok(mut file) => print_source(rt, request, &mut file),
         Err(cause) => Err(DescribeError::Read(cause)),
     };
     status_of(rt, path, &printed)
@@ -75,7 +58,7 @@ fn run_request(rt: &HostRuntime, request: &Request) -> u8 {
 fn print_source(
     rt: &HostRuntime,
     request: &Request,
-    source: Source<StdinLock<'_>>,
+    source: &mut dyn Read,
 ) -> Result<bool, DescribeError> {
     let mut out = BufWriter::new(rt.alloc(), io::writer(rt))?;
     let described = describe(rt.alloc(), request, source, &mut out);

@@ -204,9 +204,14 @@ fn longest_arg<'a>(alloc: Global) -> Result<Arg<'a>, AllocError> {
 /// or for the version, the error has the text for it.
 pub fn request_of(alloc: Global, words: &[String]) -> Result<Request, Error> {
     let matches = command(alloc)?.try_get_matches_from(words)?;
-    let text = matches.get_str("shape").unwrap_or("");
+    let shape = shape_in(alloc, matches.get_str("shape").unwrap_or(""))?;
+    Ok(request_in(alloc, &matches, shape)?)
+}
+
+/// The shape that a text spells, or the error with the usage.
+fn shape_in(alloc: Global, text: &str) -> Result<Shape, Error> {
     match shape_of(alloc, text) {
-        Ok(shape) => Ok(request_in(alloc, &matches, shape)?),
+        Ok(shape) => Ok(shape),
         Err(ShapeTextError::Memory) => Err(AllocError.into()),
         Err(why) => {
             let message = format!(in alloc; "{text:?} is no shape: {why}")?;
@@ -217,30 +222,48 @@ pub fn request_of(alloc: Global, words: &[String]) -> Result<Request, Error> {
 
 /// The request in what was found.
 fn request_in(alloc: Global, found: &ArgMatches<'_>, shape: Shape) -> Result<Request, AllocError> {
-    let file = match found.get_str("file") {
-        None | Some("-") => None,
-        Some(path) => Some(String::from_str(alloc, path)?),
-    };
-    let is_fixed = found.get_flag("fixed") || found.get_str("config") == Some("legacy");
     let most_values = found.get_one::<u64>("values").unwrap_or(MOST_VALUES);
-    let longest = found.get_one::<u32>("longest").unwrap_or(LONGEST);
     Ok(Request {
-        encoding: if is_fixed {
-            IntEncoding::Fixed
-        } else {
-            IntEncoding::Variable
-        },
-        endian: if found.get_flag("big-endian") {
-            Endianness::Big
-        } else {
-            Endianness::Little
-        },
+        encoding: encoding_in(found),
+        endian: endian_in(found),
         limit: limit_named(found.get_str("limit").unwrap_or("")),
         shape,
-        file,
+        file: file_in(alloc, found)?,
         most_values: usize::try_from(most_values).unwrap_or(usize::MAX),
-        longest: found.get_flag("frames").then_some(longest),
+        longest: longest_in(found),
     })
+}
+
+/// The path of the file; `None` for the standard input.
+fn file_in(alloc: Global, found: &ArgMatches<'_>) -> Result<Option<String>, AllocError> {
+    match found.get_str("file") {
+        None | Some("-") => Ok(None),
+        Some(path) => Ok(Some(String::from_str(alloc, path)?)),
+    }
+}
+
+/// The integer encoding of the input.
+fn encoding_in(found: &ArgMatches<'_>) -> IntEncoding {
+    if found.get_flag("fixed") || found.get_str("config") == Some("legacy") {
+        IntEncoding::Fixed
+    } else {
+        IntEncoding::Variable
+    }
+}
+
+/// The byte order of the input.
+fn endian_in(found: &ArgMatches<'_>) -> Endianness {
+    if found.get_flag("big-endian") {
+        Endianness::Big
+    } else {
+        Endianness::Little
+    }
+}
+
+/// The greatest length of a word in bytes, if the input is a store of frames.
+fn longest_in(found: &ArgMatches<'_>) -> Option<u32> {
+    let longest = found.get_one::<u32>("longest").unwrap_or(LONGEST);
+    found.get_flag("frames").then_some(longest)
 }
 
 /// The limit of this name.

@@ -33,22 +33,28 @@ pub enum ArticleError {
 
 /// The article that words spell.
 pub fn article_of(alloc: Global, words: &[&str]) -> Result<Article, ArticleError> {
-    let [name, others @ ..] = words else {
-        return Err(ArticleError::NoName);
-    };
-    let [price, others @ ..] = others else {
-        return Err(ArticleError::NoPrice);
-    };
-    let mut article = Article {
+    match words {
+        [] => Err(ArticleError::NoName),
+        [_] => Err(ArticleError::NoPrice),
+        [name, price, others @ ..] => {
+            let mut article = new_article(alloc, name, price)?;
+            for word in others {
+                add_word(alloc, &mut article, word)?;
+            }
+            Ok(article)
+        }
+    }
+}
+
+/// An article of this name and price, without a weight and notes.
+fn new_article(alloc: Global, name: &str, price: &str) -> Result<Article, ArticleError> {
+    let price = price_of(alloc, price)?;
+    Ok(Article {
         name: String::from_str(alloc, name)?,
-        price: price_of(alloc, price)?,
+        price,
         weight: None,
         notes: BTreeMap::new(alloc),
-    };
-    for word in others {
-        add_word(alloc, &mut article, word)?;
-    }
-    Ok(article)
+    })
 }
 
 /// A price, in cents.

@@ -1,9 +1,11 @@
 //! The files that stores stand in.
 
+use framed_store::streams::ReadError;
 use std::alloc::Global;
 use std::fs::{File, Metadata, OpenOptions, TryLockError};
 use std::io::{Read, Seek, SeekFrom};
 use std::os::unix::fs::MetadataExt;
+use std::path::PathBuf;
 use std::{fs, io};
 use thiserror::Error;
 
@@ -22,6 +24,9 @@ pub enum FileError {
     /// An access failed.
     #[error("{0}")]
     Access(#[from] io::Error),
+    /// Its frames could not be read.
+    #[error("{0}")]
+    Read(#[from] ReadError),
 }
 
 /// Opens a regular file to read it. What stands at the path is looked at first, since a pipe would be waited for.
@@ -35,29 +40,44 @@ pub fn open_to_read(rt: &HostRuntime, path: &str) -> Result<File, FileError> {
 /// Opens a regular file to read it and to append to it, with a lock that keeps others from changing it until it is
 /// closed. It is made where there is none, if `creates` says so; then its name is on the disk on return.
 pub fn open_to_change(rt: &HostRuntime, path: &str, creates: bool) -> Result<File, FileError> {
-    let is_new = match fs::metadata(rt, path) {
-        Ok(found) => {
-            refuse_irregular(&found)?;
-            false
-        }
-        Err(_) => creates,
-    };
+    let is_new = !is_there(rt, path)? && creates;
     let file = OpenOptions::new()
         .read(true)
         .append(true)
         .create(creates)
         .open(rt, path)?;
-    refuse_irregular(&file.metadata()?)?;
-    match file.try_lock() {
-        Ok(()) => (),
-        Err(TryLockError::WouldBlock) => return Err(FileError::Locked),
-        Err(TryLockError::Error(e)) => return Err(FileError::Access(e)),
-    }
-    refuse_replaced(rt, path, &file)?;
+    claim(rt, path, &file)?;
     if is_new {
         sync_folder(rt, path)?;
     }
     Ok(file)
+}
+
+/// Whether a file is at this path. Fails where it is not a regular one.
+fn is_there(rt: &HostRuntime, path: &str) -> Result<bool, FileError> {
+    match fs::metadata(rt, path) {
+        Ok(found) => {
+            refuse_irregular(&found)?;
+            Ok(true)
+        }
+        Err(_) => Ok(false),
+    }
+}
+
+/// Takes the lock of a file that was opened at this path. Fails where it is not a regular one, or no longer there.
+fn claim(rt: &HostRuntime, path: &str, file: &File) -> Result<(), FileError> {
+    refuse_irregular(&file.metadata()?)?;
+    lock(file)?;
+    refuse_replaced(rt, path, file)
+}
+
+/// Takes the lock of a file, which is held until the file is closed.
+fn lock(file: &File) -> Result<(), FileError> {
+    match file.try_lock() {
+        Ok(()) => Ok(()),
+        Err(TryLockError::WouldBlock) => Err(FileError::Locked),
+        Err(TryLockError::Error(e)) => Err(FileError::Access(e)),
+    }
 }
 
 /// Fails where this is no regular file's.
@@ -82,12 +102,16 @@ fn refuse_replaced(rt: &HostRuntime, path: &str, file: &File) -> Result<(), File
 
 /// Brings the names in the folder of this file to the disk.
 fn sync_folder(rt: &HostRuntime, path: &str) -> io::Result<()> {
-    let folder = match path.rsplit_once('/') {
+    fs::open(rt, folder_of(path))?.sync_all()
+}
+
+/// The folder that a path names a file in.
+fn folder_of(path: &str) -> &str {
+    match path.rsplit_once('/') {
         Some(("", _)) => "/",
         Some((folder, _)) => folder,
         None => ".",
-    };
-    fs::open(rt, folder)?.sync_all()
+    }
 }
 
 /// The bytes of a file from an offset to its end.
@@ -104,27 +128,37 @@ pub fn cut(file: &File, length: usize) -> Result<(), FileError> {
     Ok(file.sync_all()?)
 }
 
+/// The path of the new file beside the one at this path.
+fn path_beside(alloc: Global, path: &str) -> io::Result<String> {
+    Ok(format!(in alloc; "{path}.repaired")?)
+}
+
+/// Makes an empty file at this path, with the permissions of another one. Fails where a file is there.
+fn create_like(rt: &HostRuntime, path: &str, other: &File) -> io::Result<File> {
+    let file = OpenOptions::new()
+        .read(true)
+        .write(true)
+        .create_new(true)
+        .open(rt, path)?;
+    file.set_permissions(other.metadata()?.permissions())?;
+    Ok(file)
+}
+
 /// A new file beside another one, in whose place it is put.
 #[derive(Drop)]
 pub struct Replacement {
     /// The new file, at `PATH.repaired`.
     pub file: File,
     beside: String,
-    path: String,
+    path: PathBuf<Global>,
 }
 
 impl Replacement {
     /// Makes an empty one beside a file at this path, with its permissions.
     pub fn new(rt: &HostRuntime, path: &str, old: &File) -> Result<Replacement, FileError> {
         let path = fs::canonicalize(rt, path)?;
-        let beside = format!(in rt.alloc(); "{}.repaired", path.as_str()).map_err(io::Error::from)?;
-        let path = String::from_str(rt.alloc(), path.as_str()).map_err(io::Error::from)?;
-        let file = OpenOptions::new()
-            .read(true)
-            .write(true)
-            .create_new(true)
-            .open(rt, beside.as_str())?;
-        file.set_permissions(old.metadata()?.permissions())?;
+        let beside = path_beside(rt.alloc(), path.as_str())?;
+        let file = create_like(rt, beside.as_str(), old)?;
         Ok(Replacement { file, beside, path })
     }
 

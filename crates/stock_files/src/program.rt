@@ -2,13 +2,12 @@
 
 use crate::adding::{AddError, add_lines, add_one, next_offset};
 use crate::article::Article;
-use crate::files::{Replacement, bytes_from, cut, open_to_change, open_to_read};
+use crate::files::{FileError, Replacement, bytes_from, cut, open_to_change, open_to_read};
 use crate::limit::LONGEST_WORD;
 use crate::repairing::{Plan, Repair, is_whole_after, plan_for, print_kept, print_plan, salvage};
 use crate::request::{Request, request_of};
 use crate::showing::{Sheet, ShowError, print_store};
 use crate::status::{DONE, FAILED, USAGE, run_status, status_of};
-use anyhow::Result;
 use bincode::shape::Described;
 use clap::Error;
 use clap::error::ErrorKind;
@@ -19,16 +18,16 @@ use std::alloc::{AllocError, Global};
 use std::fmt::Display;
 use std::fs::File;
 use std::io;
-use std::io::{BufReader, BufWriter, Seek, SeekFrom, Write};
+use std::io::{BufReader, BufWriter, Read, Seek, SeekFrom, Write};
 
 /// The number of bytes that a file is read and written by.
 const BLOCK: usize = 1 << 16;
 
 /// What is added to a file.
-#[derive(Drop)]
-enum Source {
+#[derive(Clone, Copy)]
+enum Source<'a> {
     /// This article.
-    One(Article),
+    One(&'a Article),
     /// The articles of the standard input, one a line.
     Lines,
 }
@@ -37,7 +36,7 @@ enum Source {
 /// program ends.
 pub fn run(rt: &HostRuntime, words: &[String]) -> u8 {
     match request_of(rt.alloc(), words) {
-        Ok(request) => run_request(rt, request),
+        Ok(request) => run_request(rt, &request),
         Err(error) => usage(rt, &error),
     }
 }
@@ -54,19 +53,19 @@ fn usage(rt: &HostRuntime, error: &Error) -> u8 {
 }
 
 /// Does what a request asks for.
-fn run_request(rt: &HostRuntime, request: Request) -> u8 {
+fn run_request(rt: &HostRuntime, request: &Request) -> u8 {
     match request {
-        Request::Add { file, article } => told(rt, &file, add(rt, &file, &Source::One(article))),
-        Request::AddLines { file } => told(rt, &file, add(rt, &file, &Source::Lines)),
-        Request::List(files) => show_each(rt, &files, true),
-        Request::Check(files) => show_each(rt, &files, false),
-        Request::Repair { file, repair } => told(rt, &file, repair_file(rt, &file, repair)),
+        Request::Add { file, article } => told(rt, file, add(rt, file, Source::One(article))),
+        Request::AddLines { file } => told(rt, file, add(rt, file, Source::Lines)),
+        Request::List(files) => show_each(rt, files, true),
+        Request::Check(files) => show_each(rt, files, false),
+        Request::Repair { file, repair } => told(rt, file, repair_file(rt, file, *repair)),
         Request::Shape => print_shape(rt),
     }
 }
 
 /// The status of what was done with a file of this name. An error is printed with the name.
-fn told(rt: &HostRuntime, file: &str, outcome: Result<u8>) -> u8 {
+fn told(rt: &HostRuntime, file: &str, outcome: Result<u8, FileError>) -> u8 {
     match outcome {
         Ok(status) => status,
         Err(error) => {
@@ -83,20 +82,38 @@ fn complain<E: Display>(rt: &HostRuntime, file: &str, error: &E) {
 
 /// Appends what is asked for to a file, and says so once it is on the disk. Where it fails, the file is cut back to
 /// what it held.
-fn add(rt: &HostRuntime, path: &str, source: &Source) -> Result<u8> {
+fn add(rt: &HostRuntime, path: &str, source: Source<'_>) -> Result<u8, FileError> {
     let file = open_to_change(rt, path, true)?;
-    let offset = match next_offset(&mut BufReader::with_capacity(rt.alloc(), BLOCK, &file)?) {
-        Ok(offset) => offset,
-        Err(error) => return Ok(refused(rt, path, &error)),
-    };
-    match append_all(rt, &file, source) {
+    match end_of(rt.alloc(), &file) {
+        Ok(offset) => add_at(rt, path, &file, offset, source),
+        Err(error) => Ok(refused(rt, path, &error)),
+    }
+}
+
+/// The offset of the next frame of a file.
+fn end_of(alloc: Global, file: &File) -> Result<usize, AddError> {
+    match BufReader::with_capacity(alloc, BLOCK, file) {
+        Ok(mut store) => next_offset(&mut store),
+        Err(error) => Err(AddError::Store(error)),
+    }
+}
+
+/// Appends what is asked for to a file that ends at this offset after a frame.
+fn add_at(
+    rt: &HostRuntime,
+    path: &str,
+    file: &File,
+    offset: usize,
+    source: Source<'_>,
+) -> Result<u8, FileError> {
+    match append_all(rt, file, source) {
         Ok(count) => {
             file.sync_all()?;
             say_added(rt, path, source, count, offset);
             Ok(DONE)
         }
         Err(error) => {
-            cut(&file, offset)?;
+            cut(file, offset)?;
             Ok(refused(rt, path, &error))
         }
     }
@@ -108,19 +125,28 @@ fn refused(rt: &HostRuntime, path: &str, error: &AddError) -> u8 {
     error.status()
 }
 
-/// Appends what is asked for: how many bytes an article takes, or how many articles there are.
-fn append_all(rt: &HostRuntime, file: &File, source: &Source) -> Result<usize, AddError> {
+/// Appends what is asked for to a file: how many bytes an article takes, or how many articles there are.
+fn append_all(rt: &HostRuntime, file: &File, source: Source<'_>) -> Result<usize, AddError> {
     let mut store = BufWriter::with_capacity(rt.alloc(), BLOCK, file).map_err(AddError::Store)?;
-    let count = match source {
-        Source::One(article) => add_one(rt.alloc(), &mut store, article)?,
-        Source::Lines => add_lines(rt.alloc(), &mut rt.reader(), &mut store)?,
-    };
+    let count = append_to(rt, &mut store, source)?;
     store.flush().map_err(AddError::Store)?;
     Ok(count)
 }
 
+/// Appends what is asked for to a store.
+fn append_to<W: Write>(
+    rt: &HostRuntime,
+    store: &mut W,
+    source: Source<'_>,
+) -> Result<usize, AddError> {
+    match source {
+        Source::One(article) => Ok(add_one(rt.alloc(), store, article)?),
+        Source::Lines => add_lines(rt.alloc(), &mut rt.reader(), store),
+    }
+}
+
 /// Says what was added. Where that fails, it is there all the same.
-fn say_added(rt: &HostRuntime, path: &str, source: &Source, count: usize, offset: usize) {
+fn say_added(rt: &HostRuntime, path: &str, source: Source<'_>, count: usize, offset: usize) {
     let mut out = io::writer(rt);
     let said = match source {
         Source::One(_) => writeln!(out, "{path}: {count} bytes at byte {offset}"),
@@ -158,38 +184,56 @@ fn show_each(rt: &HostRuntime, files: &[String], lists: bool) -> u8 {
 fn show(rt: &HostRuntime, path: &str, lists: bool) -> Result<u8, ShowError> {
     let file = open_to_read(rt, path)?;
     let mut store = BufReader::with_capacity(rt.alloc(), BLOCK, file)?;
+    let sheet = Sheet { file: path, lists };
+    Ok(status_of(show_store(rt, sheet, &mut store)?))
+}
+
+/// Prints what is asked for of a store to the standard output, and returns whether it is whole.
+fn show_store<R: Read>(
+    rt: &HostRuntime,
+    sheet: Sheet<'_>,
+    store: &mut R,
+) -> Result<bool, ShowError> {
     let mut out = BufWriter::with_capacity(rt.alloc(), BLOCK, io::writer(rt))?;
-    let is_whole = print_store(
-        rt.alloc(),
-        &mut out,
-        Sheet { file: path, lists },
-        &mut store,
-    )?;
+    let is_whole = print_store(rt.alloc(), &mut out, sheet, store)?;
     out.flush()?;
-    Ok(status_of(is_whole))
+    Ok(is_whole)
 }
 
 /// Makes a file whole, as far as that is asked for.
-fn repair_file(rt: &HostRuntime, path: &str, repair: Repair) -> Result<u8> {
+fn repair_file(rt: &HostRuntime, path: &str, repair: Repair) -> Result<u8, FileError> {
     let mut file = open_to_change(rt, path, false)?;
     let found = survey_file(rt.alloc(), &file)?;
     let tail = bytes_from(rt.alloc(), &mut file, found.length)?;
     let bytes = found.length.saturating_add(tail.len());
     let plan = plan_for(&found, &tail, repair);
-    match plan {
-        Plan::Leave | Plan::Refuse { .. } => (),
-        Plan::Cut => cut(&file, found.length)?,
-        Plan::Rewrite => {
-            let kept = rewrite(rt, path, &mut file)?;
-            print_kept(&mut io::writer(rt), path, bytes, &kept)?;
-        }
-    }
-    print_plan(&mut io::writer(rt), path, bytes, &found, plan)?;
+    carry_out(rt, path, &mut file, plan, &found, bytes)?;
     Ok(status_of(is_whole_after(&found, plan)))
 }
 
+/// Does what is planned for a file of these frames and this number of bytes, and says so.
+fn carry_out(
+    rt: &HostRuntime,
+    path: &str,
+    file: &mut File,
+    plan: Plan,
+    found: &Survey,
+    bytes: usize,
+) -> Result<(), FileError> {
+    let mut out = io::writer(rt);
+    match plan {
+        Plan::Leave | Plan::Refuse { .. } => (),
+        Plan::Cut => cut(file, found.length)?,
+        Plan::Rewrite => {
+            let kept = rewrite(rt, path, file)?;
+            print_kept(&mut out, path, bytes, &kept)?;
+        }
+    }
+    Ok(print_plan(&mut out, path, bytes, found, plan)?)
+}
+
 /// The frames of a file, from where it is read.
-fn survey_file(alloc: Global, file: &File) -> Result<Survey> {
+fn survey_file(alloc: Global, file: &File) -> Result<Survey, FileError> {
     let mut buffer = Vec::new(alloc);
     let mut store = BufReader::with_capacity(alloc, BLOCK, file)?;
     Ok(survey_stream(&mut store, &mut buffer, LONGEST_WORD)?)
@@ -197,7 +241,7 @@ fn survey_file(alloc: Global, file: &File) -> Result<Survey> {
 
 /// Puts a file of the whole frames in the place of this one, and returns the frames of the new one. Where that fails
 /// the old one stands as it was.
-fn rewrite(rt: &HostRuntime, path: &str, file: &mut File) -> Result<Survey> {
+fn rewrite(rt: &HostRuntime, path: &str, file: &mut File) -> Result<Survey, FileError> {
     let mut new = Replacement::new(rt, path, file)?;
     match fill(rt.alloc(), file, &mut new.file) {
         Ok(kept) => {
@@ -212,17 +256,17 @@ fn rewrite(rt: &HostRuntime, path: &str, file: &mut File) -> Result<Survey> {
 }
 
 /// Writes the whole frames of a file to a new one, and returns its frames.
-fn fill(alloc: Global, file: &mut File, new: &mut File) -> Result<Survey> {
+fn fill(alloc: Global, file: &mut File, new: &mut File) -> Result<Survey, FileError> {
     write_whole_frames(alloc, &bytes_from(alloc, file, 0)?, new)?;
     new.seek(SeekFrom::Start(0))?;
     survey_file(alloc, new)
 }
 
 /// Writes the whole frames of a store to a file.
-fn write_whole_frames(alloc: Global, store: &[u8], file: &File) -> Result<()> {
+fn write_whole_frames(alloc: Global, store: &[u8], file: &File) -> io::Result<()> {
     let mut out = BufWriter::with_capacity(alloc, BLOCK, file)?;
     salvage(store, &mut out)?;
-    Ok(out.flush()?)
+    out.flush()
 }
 
 /// Prints the shape of an article, as `describe` takes it.

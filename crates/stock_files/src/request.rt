@@ -58,22 +58,58 @@ const ADD_WORDS: &str =
 
 /// The program's command line.
 fn command<'a>(alloc: Global) -> Result<Command<'a>, AllocError> {
+    let command = with_add(alloc, bare_command(alloc))?;
+    let command = with_looks(alloc, command)?;
+    let command = with_repair(alloc, command)?;
+    command.subcommand(shape_command(alloc))
+}
+
+/// The command line without its commands.
+fn bare_command<'a>(alloc: Global) -> Command<'a> {
     Command::new(alloc, "records")
         .version("2.0.0")
         .about("Keeps the articles of a stock in files, each in a frame with a check")
         .after_help(STATUSES)
         .subcommand_required(true)
-        .subcommand(add_command(alloc)?)?
-        .subcommand(files_command(
-            alloc,
-            "list",
-            "Prints the articles of files, each with its offset",
-        )?)?
-        .subcommand(files_command(alloc, "check", "Says for each file whether it is whole")?)?
-        .subcommand(repair_command(alloc)?)?
-        .subcommand(Command::new(alloc, "shape").about(
-            "Prints the shape of an article: `describe --frames \"$(records shape)\" FILE` prints JSON",
-        ))
+}
+
+/// The command line with `add`.
+fn with_add<'a>(alloc: Global, command: Command<'a>) -> Result<Command<'a>, AllocError> {
+    command.subcommand(add_command(alloc)?)
+}
+
+/// The command line with the commands that look at files.
+fn with_looks<'a>(alloc: Global, command: Command<'a>) -> Result<Command<'a>, AllocError> {
+    let about = "Prints the articles of files, each with its offset";
+    let command = with_look(alloc, command, "list", about)?;
+    with_look(
+        alloc,
+        command,
+        "check",
+        "Says for each file whether it is whole",
+    )
+}
+
+/// The command line with a command that looks at files.
+fn with_look<'a>(
+    alloc: Global,
+    command: Command<'a>,
+    name: &'a str,
+    about: &'a str,
+) -> Result<Command<'a>, AllocError> {
+    command.subcommand(files_command(alloc, name, about)?)
+}
+
+/// The command line with `repair`.
+fn with_repair<'a>(alloc: Global, command: Command<'a>) -> Result<Command<'a>, AllocError> {
+    command.subcommand(repair_command(alloc)?)
+}
+
+/// The command `shape`.
+fn shape_command<'a>(alloc: Global) -> Command<'a> {
+    Command::new(alloc, "shape").about(
+        "Prints the shape of an article: `describe --frames \"$(records shape)\" FILE` prints JSON",
+    )
 }
 
 /// The command `add`.
@@ -154,36 +190,57 @@ fn cut_arg<'a>(alloc: Global) -> Arg<'a> {
 pub fn request_of(alloc: Global, words: &[String]) -> Result<Request, Error> {
     let matches = command(alloc)?.try_get_matches_from(words)?;
     match matches.subcommand() {
-        Some(("add", found)) => add_request(alloc, found),
-        Some(("list", found)) => Ok(Request::List(files_in(alloc, found)?)),
-        Some(("check", found)) => Ok(Request::Check(files_in(alloc, found)?)),
-        Some(("repair", found)) => Ok(Request::Repair {
-            file: file_in(alloc, found)?,
-            repair: Repair {
-                drops_damaged: found.get_flag("drop-damaged"),
-                cuts: found.get_flag("cut"),
-            },
-        }),
-        Some(_) => Ok(Request::Shape),
+        Some((name, found)) => request_named(alloc, name, found),
         None => Err(mistake(command(alloc)?, "which command?")?),
     }
 }
 
+/// The request of the command of this name.
+fn request_named(alloc: Global, name: &str, found: &ArgMatches<'_>) -> Result<Request, Error> {
+    match name {
+        "add" => add_request(alloc, found),
+        "list" => Ok(Request::List(files_in(alloc, found)?)),
+        "check" => Ok(Request::Check(files_in(alloc, found)?)),
+        "repair" => Ok(repair_request(alloc, found)?),
+        _ => Ok(Request::Shape),
+    }
+}
+
+/// The request of `repair`.
+fn repair_request(alloc: Global, found: &ArgMatches<'_>) -> Result<Request, AllocError> {
+    let repair = Repair {
+        drops_damaged: found.get_flag("drop-damaged"),
+        cuts: found.get_flag("cut"),
+    };
+    let file = file_in(alloc, found)?;
+    Ok(Request::Repair { file, repair })
+}
+
 /// The request of `add`.
 fn add_request(alloc: Global, found: &ArgMatches<'_>) -> Result<Request, Error> {
-    let file = file_in(alloc, found)?;
     let words = found.get_strs("words").unwrap_or(&[]);
     if matches!(words, ["-"]) {
+        let file = file_in(alloc, found)?;
         return Ok(Request::AddLines { file });
     }
+    let article = article_in(alloc, words)?;
+    let file = file_in(alloc, found)?;
+    Ok(Request::Add { file, article })
+}
+
+/// The article that words spell.
+fn article_in(alloc: Global, words: &[&str]) -> Result<Article, Error> {
     match article_of(alloc, words) {
-        Ok(article) => Ok(Request::Add { file, article }),
+        Ok(article) => Ok(article),
         Err(ArticleError::Memory(e)) => Err(e.into()),
-        Err(why) => {
-            let text = format!(in alloc; "{why}")?;
-            Err(mistake(add_command(alloc)?, text.as_str())?)
-        }
+        Err(why) => Err(no_article(alloc, &why)?),
     }
+}
+
+/// The error of words that are no article, with the usage of `add`.
+fn no_article(alloc: Global, why: &ArticleError) -> Result<Error, AllocError> {
+    let text = format!(in alloc; "{why}")?;
+    mistake(add_command(alloc)?, text.as_str())
 }
 
 /// The error of a mistake in the words of a command, with its usage.
