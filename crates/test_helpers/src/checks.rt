@@ -2,13 +2,13 @@
 
 use bincode::config::Config;
 use bincode::de::read::SliceReader;
-use bincode::de::{Decode, DecoderImpl};
+use bincode::de::{BorrowDecode, Decode};
 use bincode::enc::Encode;
 use bincode::enc::write::SizeWriter;
 use bincode::error::{DecodeError, EncodeError};
 use bincode::{
-    config, decode_from_reader, decode_from_slice, decode_from_slice_with_context,
-    encode_into_slice, encode_into_writer, encode_to_vec,
+    borrow_decode_from_slice, config, decode_from_reader, decode_from_slice,
+    decode_from_slice_with_context, encode_into_slice, encode_into_writer, encode_to_vec,
 };
 use std::alloc::Global;
 
@@ -33,12 +33,6 @@ pub fn keeps<T: Encode + Decode<()>>(alloc: Global, word: &[u8]) -> bool {
     taken == word.len() && matches!(written, Ok(count) if count == taken) && slice == input
 }
 
-/// Whether decoding a value fails, and then decoding a byte from the same decoder gives 77.
-pub fn goes_on<T: Decode<()>>(alloc: Global, input: &[u8]) -> bool {
-    let mut decoder = DecoderImpl::new(alloc, SliceReader::new(input), config::standard(), ());
-    T::decode(&mut decoder).is_err() && matches!(u8::decode(&mut decoder), Ok(77))
-}
-
 /// What is decoded from the front of the input, if its encoding has this length.
 pub fn read_front<T: Decode<()>>(alloc: Global, input: &[u8], length: usize) -> Option<T> {
     let outcome: Result<(T, usize), DecodeError> = decode_from_slice(
@@ -58,38 +52,6 @@ pub fn within<T: Decode<()>, const N: usize>(
     input: &[u8],
 ) -> Result<(T, usize), DecodeError> {
     decode_from_slice(alloc, input, config::standard().with_limit::<N>())
-}
-
-/// `within`, retried once if an allocation is refused.
-pub fn decoded_within<T: Decode<()>, const N: usize>(
-    alloc: Global,
-    input: &[u8],
-) -> Result<(T, usize), DecodeError> {
-    decoded(alloc, input, config::standard().with_limit::<N>())
-}
-
-/// What comes of decoding within the limit `ENOUGH`, if the input passes the limit `LESS`.
-pub fn within_just<T: Decode<()>, const LESS: usize, const ENOUGH: usize>(
-    alloc: Global,
-    input: &[u8],
-) -> Option<Result<(T, usize), DecodeError>> {
-    if !is_passed(decoded_within::<T, LESS>(alloc, input)) {
-        return None;
-    }
-    Some(decoded_within::<T, ENOUGH>(alloc, input))
-}
-
-/// Whether the input passes the limit `LESS`, and within the limit `ENOUGH` this value is read, of so many bytes.
-pub fn reads_just<T: Decode<()> + PartialEq, const LESS: usize, const ENOUGH: usize>(
-    alloc: Global,
-    input: &[u8],
-    value: T,
-    length: usize,
-) -> bool {
-    match within_just::<T, LESS, ENOUGH>(alloc, input) {
-        Some(Ok((read, taken))) => read == value && taken == length,
-        _ => false,
-    }
 }
 
 /// The fault of the input, if it has one.
@@ -163,20 +125,42 @@ pub fn decoded_with<Context: Copy + Drop, T: Decode<Context>, C: Config>(
     }
 }
 
+/// The result of borrowed decoding. Retries once if an allocation is refused.
+pub fn borrowed<'a, T: BorrowDecode<&'a [u8], ()>>(
+    alloc: Global,
+    source: &'a [u8],
+) -> Result<(T, usize), DecodeError> {
+    match borrow_decode_from_slice(alloc, source, config::standard()) {
+        Err(DecodeError::Memory) => borrow_decode_from_slice(alloc, source, config::standard()),
+        outcome => outcome,
+    }
+}
+
+/// Whether a vector gets this word of the value.
+fn collects<T: Encode>(alloc: Global, value: &T, word: &[u8]) -> bool {
+    match written(alloc, value) {
+        Some(bytes) => bytes.as_slice() == word,
+        None => false,
+    }
+}
+
+/// Whether a slice of 100 bytes gets this word of the value.
+fn fills<T: Encode>(value: &T, word: &[u8]) -> bool {
+    let mut slice = [99u8; 100];
+    let written = encode_into_slice(value, &mut slice, config::standard());
+    matches!(written, Ok(count) if count == word.len()) && slice.starts_with(word)
+}
+
+/// Whether a writer that counts counts so many bytes of the value.
+fn counts<T: Encode>(value: &T, length: usize) -> bool {
+    let mut counter = SizeWriter::default();
+    let written = encode_into_writer(value, &mut counter, config::standard());
+    written.is_ok() && counter.bytes_written == length
+}
+
 /// Whether each encoding call writes the value as this word.
 pub fn each_call_writes<T: Encode>(alloc: Global, value: &T, word: &[u8]) -> bool {
-    let mut slice = [99u8; 100];
-    let filled = encode_into_slice(value, &mut slice, config::standard());
-    let mut counter = SizeWriter::default();
-    let counted = encode_into_writer(value, &mut counter, config::standard());
-    let Some(bytes) = written(alloc, value) else {
-        return false;
-    };
-    matches!(filled, Ok(count) if count == word.len())
-        && slice.starts_with(word)
-        && counted.is_ok()
-        && counter.bytes_written == word.len()
-        && bytes.as_slice() == word
+    fills(value, word) && counts(value, word.len()) && collects(alloc, value, word)
 }
 
 /// What is decoded from a reader over an input of 100 bytes, and how many it takes.
@@ -185,16 +169,42 @@ fn read_in_turn<T: Decode<()>>(
     input: &[u8; 100],
 ) -> Result<(T, usize), DecodeError> {
     let mut reader = SliceReader::new(input);
-    let value = decode_from_reader(alloc, &mut reader, config::standard())?;
-    Ok((value, 100usize.saturating_sub(reader.bytes_left())))
+    match decode_from_reader(alloc, &mut reader, config::standard()) {
+        Ok(value) => Ok((value, 100usize.saturating_sub(reader.bytes_left()))),
+        Err(error) => Err(error),
+    }
 }
 
 /// Whether a value was decoded from this word, and each call writes it so.
-fn is_read_of<T: Encode>(alloc: Global, read: Option<(T, usize)>, word: &[u8]) -> bool {
-    let Some((value, taken)) = read else {
-        return false;
-    };
-    taken == word.len() && each_call_writes(alloc, &value, word)
+fn is_read_of<T: Encode>(
+    alloc: Global,
+    read: Result<(T, usize), DecodeError>,
+    word: &[u8],
+) -> bool {
+    match read {
+        Ok((value, taken)) => taken == word.len() && each_call_writes(alloc, &value, word),
+        Err(_) => false,
+    }
+}
+
+/// Whether the call for slices reads the word.
+fn reads_slice<T: Encode + Decode<()>>(alloc: Global, input: &[u8], word: &[u8]) -> bool {
+    is_read_of::<T>(alloc, decoded(alloc, input, config::standard()), word)
+}
+
+/// Whether the call with a context reads it.
+fn reads_with_context<T: Encode + Decode<()>>(alloc: Global, input: &[u8], word: &[u8]) -> bool {
+    is_read_of::<T>(
+        alloc,
+        decoded_with(alloc, input, config::standard(), ()),
+        word,
+    )
+}
+
+/// Whether the call for readers reads it. Retries once, since an allocation may be refused.
+fn reads_in_turn<T: Encode + Decode<()>>(alloc: Global, input: &[u8; 100], word: &[u8]) -> bool {
+    is_read_of::<T>(alloc, read_in_turn(alloc, input), word)
+        || is_read_of::<T>(alloc, read_in_turn(alloc, input), word)
 }
 
 /// Whether each decoding call reads the word, with 99s after it, as a value that each encoding call writes so.
@@ -204,20 +214,9 @@ pub fn each_call_keeps<T: Encode + Decode<()>>(alloc: Global, word: &[u8]) -> bo
         return false;
     };
     front.copy_from_slice(word);
-    let read: Result<(T, usize), DecodeError> = decoded(alloc, &input, config::standard());
-    let with_context: Result<(T, usize), DecodeError> = decoded_with(
-        alloc,
-        &input,
-        config::standard(),
-        (),
-    );
-    let in_turn: Option<(T, usize)> = either(
-        read_in_turn(alloc, &input),
-        read_in_turn(alloc, &input),
-    );
-    is_read_of(alloc, read.ok(), word)
-        && is_read_of(alloc, with_context.ok(), word)
-        && is_read_of(alloc, in_turn, word)
+    reads_slice::<T>(alloc, &input, word)
+        && reads_with_context::<T>(alloc, &input, word)
+        && reads_in_turn::<T>(alloc, &input, word)
 }
 
 /// Whether the error is `LimitExceeded`.
@@ -252,13 +251,10 @@ pub fn ends_at_each_place<Context: Copy + Drop, T: Decode<Context>>(
 
 /// Whether a value is encoded as this word.
 pub fn is_written_as<T: Encode>(alloc: Global, value: Option<T>, word: &[u8]) -> bool {
-    let Some(value) = value else {
-        return false;
-    };
-    let Some(bytes) = written(alloc, &value) else {
-        return false;
-    };
-    bytes.as_slice() == word
+    match value {
+        Some(value) => collects(alloc, &value, word),
+        None => false,
+    }
 }
 
 /// What is read of the word of a value, with a byte after it, if just the word is consumed.
@@ -282,13 +278,18 @@ pub fn read_if_kept<T: Encode + Decode<()>>(alloc: Global, word: &[u8], kept: &[
     read_word(alloc, word)
 }
 
+/// Whether an equal value is read of the word of this one.
+fn keeps_equal<T: Encode + Decode<()> + PartialEq>(alloc: Global, value: &T) -> bool {
+    match comes_back(alloc, value) {
+        Some(read) => read == *value,
+        None => false,
+    }
+}
+
 /// Whether a value is there, and an equal one is read of its word.
 pub fn keeps_value<T: Encode + Decode<()> + PartialEq>(alloc: Global, value: Option<T>) -> bool {
-    let Some(value) = value else {
-        return false;
-    };
-    let Some(read) = comes_back(alloc, &value) else {
-        return false;
-    };
-    read == value
+    match value {
+        Some(value) => keeps_equal(alloc, &value),
+        None => false,
+    }
 }

@@ -10,16 +10,6 @@ pub fn first_wrong(rows: &[(&'static str, bool)]) -> Option<&'static str> {
     None
 }
 
-/// The name of the first row whose two numbers differ.
-pub fn first_unequal(rows: &[(&'static str, usize, usize)]) -> Option<&'static str> {
-    for (name, found, wanted) in rows {
-        if *found != *wanted {
-            return Some(*name);
-        }
-    }
-    None
-}
-
 /// The place of the first answer that is false, from 0 on.
 pub fn first_false(answers: &[bool]) -> Option<usize> {
     for (place, holds) in answers.iter().enumerate() {
