@@ -1,6 +1,7 @@
 //! Borrowed decoding: what is lent of the source, and a type of each kind.
 
-use crate::asserts::all_hold;
+use crate::asserts::all_true;
+use bincode::config;
 use bincode::de::read::SliceReader;
 use bincode::de::{
     BorrowDecode, BorrowDecoder, ClaimContainer, DecoderImpl, LendInContext, borrow_decode_array,
@@ -9,7 +10,6 @@ use bincode::de::{
 use bincode::enc::Encode;
 use bincode::error::DecodeError;
 use bincode::time::Duration;
-use bincode::{borrow_decode_from_slice, config, encode_into_slice};
 use std::alloc::{AllocError, Global};
 use std::borrow::{CowSlice, CowStr};
 use std::boxed::BoxedSlice;
@@ -22,18 +22,7 @@ use std::ops::{Bound, RangeInclusive};
 use std::process::Abort;
 use std::rc::{Rc, RcSlice};
 use std::sync::Arc;
-use test_helpers::checks::either;
-
-/// The result of borrowed decoding. Retries once if an allocation is refused.
-fn borrowed<'a, T: BorrowDecode<&'a [u8], ()>>(
-    alloc: Global,
-    source: &'a [u8],
-) -> Result<(T, usize), DecodeError> {
-    match borrow_decode_from_slice(alloc, source, config::standard()) {
-        Err(DecodeError::Memory) => borrow_decode_from_slice(alloc, source, config::standard()),
-        outcome => outcome,
-    }
-}
+use test_helpers::checks::{borrowed, either, fills};
 
 /// The word of ten thousand texts of three bytes.
 fn many_texts(alloc: Global) -> Result<Vec<u8>, AllocError> {
@@ -123,57 +112,48 @@ fn borrows_runs(rt: HostRuntime) {
     assert!(rt; read == Some(true));
 }
 
-/// Whether all of the source but its last byte, which is 99, is read as a value, and the value is written so.
+/// Whether all of the source but its last byte is read as a value, and the value is written so.
 fn keeps<'a, T: Encode + BorrowDecode<&'a [u8], ()>>(alloc: Global, source: &'a [u8]) -> bool {
-    let Ok((value, taken)) = borrowed::<T>(alloc, source) else {
+    let Some((_, word)) = source.split_last() else {
         return false;
     };
-    let mut slice = [99u8; 100];
-    let written = encode_into_slice(value, &mut slice, config::standard());
-    let [word @ .., 99] = source else {
-        return false;
-    };
-    taken == word.len()
-        && matches!(written, Ok(count) if count == taken)
-        && slice.starts_with(source)
+    match borrowed::<T>(alloc, source) {
+        Ok((value, taken)) => taken == word.len() && fills(&value, word),
+        Err(_) => false,
+    }
 }
 
 #[test]
 fn keeps_lists(rt: HostRuntime) {
     let alloc = rt.alloc();
     let word = [1, 1, 97, 99];
-    let rows = [
-        ("VecDeque", keeps::<VecDeque<&str>>(alloc, &word)),
-        ("BoxedSlice", keeps::<BoxedSlice<&str>>(alloc, &word)),
-        ("RcSlice", keeps::<RcSlice<&str>>(alloc, &word)),
-        ("BTreeSet", keeps::<BTreeSet<&str>>(alloc, &word)),
-        (
-            "BTreeMap",
+    all_true(
+        &rt,
+        &[
+            keeps::<VecDeque<&str>>(alloc, &word),
+            keeps::<BoxedSlice<&str>>(alloc, &word),
+            keeps::<RcSlice<&str>>(alloc, &word),
+            keeps::<BTreeSet<&str>>(alloc, &word),
             keeps::<BTreeMap<&str, u8>>(alloc, &[1, 1, 97, 5, 99]),
-        ),
-        ("BinaryHeap", keeps::<BinaryHeap<&str>>(alloc, &word)),
-    ];
-    all_hold(&rt, &rows);
+            keeps::<BinaryHeap<&str>>(alloc, &word),
+        ],
+    );
 }
 
 /// Numbers, and what is kept as they are.
 #[test]
 fn keeps_scalars(rt: HostRuntime) {
     let alloc = rt.alloc();
-    let rows = [
-        ("u32", keeps::<u32>(alloc, &[251, 44, 1, 99])),
-        ("NonZeroU16", keeps::<NonZeroU16>(alloc, &[5, 99])),
-        ("Duration", keeps::<Duration>(alloc, &[7, 8, 99])),
-        (
-            "RangeInclusive",
+    all_true(
+        &rt,
+        &[
+            keeps::<u32>(alloc, &[251, 44, 1, 99]),
+            keeps::<NonZeroU16>(alloc, &[5, 99]),
+            keeps::<Duration>(alloc, &[7, 8, 99]),
             keeps::<RangeInclusive<u8>>(alloc, &[2, 8, 99]),
-        ),
-        (
-            "SocketAddr",
             keeps::<SocketAddr>(alloc, &[0, 1, 2, 3, 4, 80, 99]),
-        ),
-    ];
-    all_hold(&rt, &rows);
+        ],
+    );
 }
 
 /// What holds a text that is lent.
@@ -181,17 +161,19 @@ fn keeps_scalars(rt: HostRuntime) {
 fn keeps_holders(rt: HostRuntime) {
     let alloc = rt.alloc();
     let text = [1, 97, 99];
-    let rows = [
-        ("Option", keeps::<Option<&str>>(alloc, &[1, 1, 97, 99])),
-        ("Result", keeps::<Result<&str, u8>>(alloc, &[1, 6, 99])),
-        ("Bound", keeps::<Bound<&str>>(alloc, &[2, 1, 98, 99])),
-        ("Reverse", keeps::<Reverse<&str>>(alloc, &text)),
-        ("Cell", keeps::<Cell<&str>>(alloc, &text)),
-        ("RefCell", keeps::<RefCell<&str>>(alloc, &text)),
-        ("[&str; 1]", keeps::<[&str; 1]>(alloc, &text)),
-        ("Box", keeps::<Box<&str>>(alloc, &text)),
-        ("Rc", keeps::<Rc<&str>>(alloc, &text)),
-        ("Arc", keeps::<Arc<&str>>(alloc, &text)),
-    ];
-    all_hold(&rt, &rows);
+    all_true(
+        &rt,
+        &[
+            keeps::<Option<&str>>(alloc, &[1, 1, 97, 99]),
+            keeps::<Result<&str, u8>>(alloc, &[1, 6, 99]),
+            keeps::<Bound<&str>>(alloc, &[2, 1, 98, 99]),
+            keeps::<Reverse<&str>>(alloc, &text),
+            keeps::<Cell<&str>>(alloc, &text),
+            keeps::<RefCell<&str>>(alloc, &text),
+            keeps::<[&str; 1]>(alloc, &text),
+            keeps::<Box<&str>>(alloc, &text),
+            keeps::<Rc<&str>>(alloc, &text),
+            keeps::<Arc<&str>>(alloc, &text),
+        ],
+    );
 }

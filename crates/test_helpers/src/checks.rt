@@ -145,7 +145,7 @@ fn collects<T: Encode>(alloc: Global, value: &T, word: &[u8]) -> bool {
 }
 
 /// Whether a slice of 100 bytes gets this word of the value.
-fn fills<T: Encode>(value: &T, word: &[u8]) -> bool {
+pub fn fills<T: Encode>(value: &T, word: &[u8]) -> bool {
     let mut slice = [99u8; 100];
     let written = encode_into_slice(value, &mut slice, config::standard());
     matches!(written, Ok(count) if count == word.len()) && slice.starts_with(word)
