@@ -12,25 +12,17 @@ use bincode::{
 };
 use std::alloc::Global;
 
-/// Whether these bytes are decoded as a value, and it is encoded as them. 99s follow them in the input, and the slice
-/// is full of 99s, so that what is read and what is written cannot be longer.
+/// Whether these bytes, with 99s after them, are decoded as a value, and it is encoded as them.
 pub fn keeps<T: Encode + Decode<()>>(alloc: Global, word: &[u8]) -> bool {
     let mut input = [99u8; 100];
     let Some(front) = input.get_mut(..word.len()) else {
         return false;
     };
     front.copy_from_slice(word);
-    let read: Result<(T, usize), DecodeError> = decode_from_slice(
-        alloc,
-        &input,
-        config::standard(),
-    );
-    let Ok((value, taken)) = read else {
-        return false;
-    };
-    let mut slice = [99u8; 100];
-    let written = encode_into_slice(value, &mut slice, config::standard());
-    taken == word.len() && matches!(written, Ok(count) if count == taken) && slice == input
+    match decode_from_slice::<T, _>(alloc, &input, config::standard()) {
+        Ok((value, taken)) => taken == word.len() && fills(&value, word),
+        Err(_) => false,
+    }
 }
 
 /// What is decoded from the front of the input, if its encoding has this length.
@@ -60,8 +52,8 @@ pub fn fault_of<T: Decode<()>>(alloc: Global, input: &[u8]) -> Option<DecodeErro
     outcome.err()
 }
 
-/// Whether the byte is refused as a tag, under this name, with 0 to `greatest` as the valid tags.
-pub fn refuses_tag<T: Decode<()>>(alloc: Global, byte: u8, name: &str, greatest: u32) -> bool {
+/// Whether the fault is that this is no tag, under this name, with 0 to `greatest` as the valid tags.
+fn is_no_tag(fault: Option<DecodeError>, tag: u32, name: &str, greatest: u32) -> bool {
     let Some(
         DecodeError::UnexpectedVariant {
             type_name,
@@ -69,11 +61,21 @@ pub fn refuses_tag<T: Decode<()>>(alloc: Global, byte: u8, name: &str, greatest:
             min: 0,
             max,
         },
-    ) = fault_of::<T>(alloc, &[byte])
+    ) = fault
     else {
         return false;
     };
-    type_name.as_str() == name && found == byte as u32 && max == greatest
+    type_name.as_str() == name && found == tag && max == greatest
+}
+
+/// Whether the byte is refused as a tag, under this name, with 0 to `greatest` as the valid tags.
+pub fn refuses_tag<T: Decode<()>>(alloc: Global, byte: u8, name: &str, greatest: u32) -> bool {
+    is_no_tag(
+        fault_of::<T>(alloc, &[byte]),
+        u32::from(byte),
+        name,
+        greatest,
+    )
 }
 
 /// The result of one of two equal calls, so that one of them may be refused memory.
@@ -257,16 +259,28 @@ pub fn is_written_as<T: Encode>(alloc: Global, value: Option<T>, word: &[u8]) ->
     }
 }
 
-/// What is read of the word of a value, with a byte after it, if just the word is consumed.
-pub fn comes_back<T: Encode + Decode<()>>(alloc: Global, value: &T) -> Option<T> {
+/// The word of a value, with a byte after it. Retries once if an allocation is refused.
+fn written_with_more<T: Encode>(alloc: Global, value: &T) -> Option<Vec<u8>> {
     let mut input = written(alloc, value)?;
-    let length = input.len();
     if input.push(99).is_err() && input.push(99).is_err() {
         return None;
     }
-    match decoded(alloc, input.as_slice(), config::standard()) {
-        Ok((read, taken)) if taken == length => Some(read),
+    Some(input)
+}
+
+/// What is read of all of an input but its last byte. Retries once if an allocation is refused.
+pub fn read_all_but_one<T: Decode<()>>(alloc: Global, input: &[u8]) -> Option<T> {
+    match decoded(alloc, input, config::standard()) {
+        Ok((value, taken)) if taken.saturating_add(1) == input.len() => Some(value),
         _ => None,
+    }
+}
+
+/// What is read of the word of a value, with a byte after it, if just the word is consumed.
+pub fn comes_back<T: Encode + Decode<()>>(alloc: Global, value: &T) -> Option<T> {
+    match written_with_more(alloc, value) {
+        Some(input) => read_all_but_one(alloc, &input),
+        None => None,
     }
 }
 
