@@ -63,14 +63,8 @@ fn tells_frames_apart(rt: HostRuntime) {
 #[test]
 fn tells_torn_frames(rt: HostRuntime) {
     for end in 10..FRAMES.len() {
-        assert!(rt;
-            tells(
-                rt.alloc(),
-                ("--frames", "u16"),
-                &FRAMES[..end],
-                (FIRST, TORN)
-            )
-        );
+        let cut = FRAMES.get(..end).unwrap_or(&[]);
+        assert!(rt; tells(rt.alloc(), ("--frames", "u16"), cut, (FIRST, TORN)));
     }
 }
 

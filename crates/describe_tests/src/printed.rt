@@ -74,10 +74,11 @@ fn shows_long(text: Option<Vec<u8>>, after: &str) -> bool {
         return false;
     };
     let begin = BEFORE.len();
-    let letters = text.get(begin..begin + 40_000).unwrap_or(&[]);
+    let end = begin.saturating_add(40_000);
+    let letters = text.get(begin..end).unwrap_or(&[]);
     text.starts_with(BEFORE.as_bytes())
         && letters.iter().all(|&letter| letter == 97)
-        && text.get(begin + 40_000..) == Some(after.as_bytes())
+        && text.get(end..) == Some(after.as_bytes())
 }
 
 /// The long text, where it is cut, where the one after it is cut, and both, also one byte a call.
