@@ -10,12 +10,16 @@ use bincode::enc::{Encode, Encoder, EncoderImpl, encode_run};
 use bincode::error::DecodeError;
 use std::alloc::Global;
 
-/// Whether a number is written, a run of two, and a number by a reference to the encoder's own, which then has room for
-/// one byte of nine.
-fn writes_in_turn<E: Encoder>(mut encoder: &mut E) -> bool {
+/// Whether a number is written by a reference to the encoder's own.
+fn writes_by_reference<E: Encoder>(mut encoder: &mut E) -> bool {
+    7u8.encode(&mut encoder).is_ok()
+}
+
+/// Whether a number is written, a run of two, and a number by a reference, and there is room for one byte of nine then.
+fn writes_in_turn<E: Encoder>(encoder: &mut E) -> bool {
     300u32.encode(encoder).is_ok()
         && encode_run(&[300u16, 7], encoder).is_ok()
-        && 7u8.encode(&mut encoder).is_ok()
+        && writes_by_reference(encoder)
         && encoder.has_room_for(1)
         && !encoder.has_room_for(2)
 }

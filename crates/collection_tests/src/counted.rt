@@ -5,6 +5,7 @@ use bincode::de::read::SliceReader;
 use bincode::de::{Decoder, DecoderImpl, FillList, decode_collection};
 use bincode::error::DecodeError;
 use std::alloc::Global;
+use test_helpers::checks::either;
 
 /// How often lists were begun, and for how many items the last.
 #[derive(Clone, Copy)]
@@ -46,20 +47,22 @@ impl FillList<Starts> for Told {
     }
 }
 
-/// Whether a list of three items is read, and was begun once, for as many.
-fn begins_once(alloc: Global) -> bool {
+/// A list of three items that was read, and how it was begun.
+fn read_three(alloc: Global) -> Result<(Told, Starts), DecodeError> {
     let starts = Starts { times: 0, len: 0 };
     let reader = SliceReader::new(&[3, 5, 6, 7, 8]);
     let mut decoder = DecoderImpl::new(alloc, reader, config::standard(), starts);
-    let told: Result<Told, DecodeError> = decode_collection(&mut decoder);
-    let starts = *decoder.context();
-    starts.times == 1
-        && starts.len == 3
-        && matches!(told, Ok(told) if told.items.as_slice() == [5, 6, 7].as_slice())
+    let told = decode_collection(&mut decoder)?;
+    Ok((told, *decoder.context()))
 }
 
-/// Retries once, since an allocation may be refused.
 #[test]
 fn begins_a_list_once(rt: HostRuntime) {
-    assert!(rt; begins_once(rt.alloc()) || begins_once(rt.alloc()));
+    let Some((told, starts)) = either(read_three(rt.alloc()), read_three(rt.alloc())) else {
+        assert!(rt; false);
+        return;
+    };
+    assert!(rt;
+        starts.times == 1 && starts.len == 3 && told.items.as_slice() == [5, 6, 7].as_slice()
+    );
 }
