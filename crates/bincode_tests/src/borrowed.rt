@@ -1,6 +1,7 @@
 //! Borrowed decoding: what is lent of the source, and a type of each kind.
 
-use crate::asserts::all_hold;
+use crate::asserts::all_true;
+use bincode::config;
 use bincode::de::read::SliceReader;
 use bincode::de::{
     BorrowDecode, BorrowDecoder, ClaimContainer, DecoderImpl, LendInContext, borrow_decode_array,
@@ -9,7 +10,6 @@ use bincode::de::{
 use bincode::enc::Encode;
 use bincode::error::DecodeError;
 use bincode::time::Duration;
-use bincode::{borrow_decode_from_slice, config, encode_into_slice};
 use std::alloc::{AllocError, Global};
 use std::borrow::{CowSlice, CowStr};
 use std::boxed::BoxedSlice;
@@ -19,21 +19,9 @@ use std::collections::{BTreeMap, BTreeSet, BinaryHeap, VecDeque};
 use std::net::SocketAddr;
 use std::num::NonZeroU16;
 use std::ops::{Bound, RangeInclusive};
-use std::process::Abort;
 use std::rc::{Rc, RcSlice};
 use std::sync::Arc;
-use test_helpers::checks::either;
-
-/// The result of borrowed decoding. Retries once if an allocation is refused.
-fn borrowed<'a, T: BorrowDecode<&'a [u8], ()>>(
-    alloc: Global,
-    source: &'a [u8],
-) -> Result<(T, usize), DecodeError> {
-    match borrow_decode_from_slice(alloc, source, config::standard()) {
-        Err(DecodeError::Memory) => borrow_decode_from_slice(alloc, source, config::standard()),
-        outcome => outcome,
-    }
-}
+use test_helpers::checks::{borrowed, either, fills};
 
 /// The word of ten thousand texts of three bytes.
 fn many_texts(alloc: Global) -> Result<Vec<u8>, AllocError> {
@@ -68,24 +56,34 @@ fn lends_what_may_be_owned(rt: HostRuntime) {
     assert!(rt; matches!(bytes, Ok((CowSlice::Borrowed([70, 111, 111]), 4))));
 }
 
-/// A text is lent by a reference to the decoder's own, and two bytes in another context. Of two more one is missing.
-fn lends_in_turn<'a, D: BorrowDecoder<&'a [u8], Context = ()>>(
-    rt: &impl Abort,
-    mut decoder: &mut D,
-) {
-    assert!(rt;
-        matches!(<&str>::borrow_decode(&mut decoder), Ok("ab"))
-            && matches!(decoder.with_context(3u8).take_bytes(2), Ok([5, 6]))
-    );
-    let ended = decoder.take_bytes(2);
-    assert!(rt; matches!(ended, Err(DecodeError::UnexpectedEnd { additional: 1 })));
+/// Whether a text is lent by a reference to the decoder's own.
+fn lends_text<'a, D: BorrowDecoder<&'a [u8], Context = ()>>(mut decoder: &mut D) -> bool {
+    matches!(<&str>::borrow_decode(&mut decoder), Ok("ab"))
+}
+
+/// Whether two bytes are lent in another context.
+fn lends_in_context<'a, D: BorrowDecoder<&'a [u8], Context = ()>>(decoder: &mut D) -> bool {
+    matches!(decoder.with_context(3u8).take_bytes(2), Ok([5, 6]))
+}
+
+/// Whether of two more bytes one is missing.
+fn misses_one<'a, D: BorrowDecoder<&'a [u8], Context = ()>>(decoder: &mut D) -> bool {
+    matches!(
+        decoder.take_bytes(2),
+        Err(DecodeError::UnexpectedEnd { additional: 1 })
+    )
+}
+
+/// Whether all of it is so, in turn.
+fn lends_in_turn<'a, D: BorrowDecoder<&'a [u8], Context = ()>>(decoder: &mut D) -> bool {
+    lends_text(decoder) && lends_in_context(decoder) && misses_one(decoder)
 }
 
 #[test]
 fn borrows_in_turn(rt: HostRuntime) {
     let reader = SliceReader::new(&[2, 97, 98, 5, 6, 9]);
     let mut decoder = DecoderImpl::new(rt.alloc(), reader, config::standard(), ());
-    lends_in_turn(&rt, &mut decoder);
+    assert!(rt; lends_in_turn(&mut decoder));
 }
 
 /// What is read of two texts, whose room is claimed.
@@ -104,76 +102,89 @@ fn read_array<'a, D: BorrowDecoder<&'a [u8], Context = ()>>(
     borrow_decode_array(decoder)
 }
 
-/// Whether a and b are read as an array, and c and d as a vector: 32 bytes of room beside 18 that are charged.
-fn reads_four(alloc: Global, source: &[u8]) -> Result<bool, DecodeError> {
-    let fifty = config::standard().with_limit::<50>();
-    let mut decoder = DecoderImpl::new(alloc, SliceReader::new(source), fifty, ());
-    let is_array = matches!(read_array(&mut decoder), Ok(array) if array == ["a", "b"]);
-    let vec = read_vec(&mut decoder)?;
-    Ok(is_array && vec.as_slice() == ["c", "d"].as_slice())
+/// Whether a and b are read as an array, and c and d as a vector.
+fn reads_both<'a, D: BorrowDecoder<&'a [u8], Context = ()>>(decoder: &mut D) -> bool {
+    let is_array = matches!(read_array(decoder), Ok(array) if array == ["a", "b"]);
+    match read_vec(decoder) {
+        Ok(vec) => is_array && vec.as_slice() == ["c", "d"].as_slice(),
+        Err(_) => false,
+    }
 }
 
+/// Whether they are read so within 50: 32 bytes of room beside 18 that are charged.
+fn reads_four(alloc: Global, source: &[u8]) -> bool {
+    let fifty = config::standard().with_limit::<50>();
+    reads_both(&mut DecoderImpl::new(alloc, SliceReader::new(source), fifty, ()))
+}
+
+/// Retries once, since an allocation may be refused.
 #[test]
 fn borrows_runs(rt: HostRuntime) {
+    let alloc = rt.alloc();
     let source = [1, 97, 1, 98, 1, 99, 1, 100];
-    let read = either(
-        reads_four(rt.alloc(), &source),
-        reads_four(rt.alloc(), &source),
-    );
-    assert!(rt; read == Some(true));
+    assert!(rt; reads_four(alloc, &source) || reads_four(alloc, &source));
 }
 
-/// Whether all of the source but its last byte, which is 99, is read as a value, and the value is written so.
+/// Whether all of the source but its last byte is read as a value, and the value is written so.
 fn keeps<'a, T: Encode + BorrowDecode<&'a [u8], ()>>(alloc: Global, source: &'a [u8]) -> bool {
-    let Ok((value, taken)) = borrowed::<T>(alloc, source) else {
+    let Some((_, word)) = source.split_last() else {
         return false;
     };
-    let mut slice = [99u8; 100];
-    let written = encode_into_slice(value, &mut slice, config::standard());
-    let [word @ .., 99] = source else {
-        return false;
-    };
-    taken == word.len()
-        && matches!(written, Ok(count) if count == taken)
-        && slice.starts_with(source)
+    match borrowed::<T>(alloc, source) {
+        Ok((value, taken)) => taken == word.len() && fills(&value, word),
+        Err(_) => false,
+    }
 }
 
 #[test]
 fn keeps_lists(rt: HostRuntime) {
     let alloc = rt.alloc();
     let word = [1, 1, 97, 99];
-    let rows = [
-        ("VecDeque", keeps::<VecDeque<&str>>(alloc, &word)),
-        ("BoxedSlice", keeps::<BoxedSlice<&str>>(alloc, &word)),
-        ("RcSlice", keeps::<RcSlice<&str>>(alloc, &word)),
-        ("BTreeSet", keeps::<BTreeSet<&str>>(alloc, &word)),
-        (
-            "BTreeMap",
+    all_true(
+        &rt,
+        &[
+            keeps::<VecDeque<&str>>(alloc, &word),
+            keeps::<BoxedSlice<&str>>(alloc, &word),
+            keeps::<RcSlice<&str>>(alloc, &word),
+            keeps::<BTreeSet<&str>>(alloc, &word),
             keeps::<BTreeMap<&str, u8>>(alloc, &[1, 1, 97, 5, 99]),
-        ),
-        ("BinaryHeap", keeps::<BinaryHeap<&str>>(alloc, &word)),
-    ];
-    all_hold(&rt, &rows);
+            keeps::<BinaryHeap<&str>>(alloc, &word),
+        ],
+    );
 }
 
 /// Numbers, and what is kept as they are.
 #[test]
 fn keeps_scalars(rt: HostRuntime) {
     let alloc = rt.alloc();
-    let rows = [
-        ("u32", keeps::<u32>(alloc, &[251, 44, 1, 99])),
-        ("NonZeroU16", keeps::<NonZeroU16>(alloc, &[5, 99])),
-        ("Duration", keeps::<Duration>(alloc, &[7, 8, 99])),
-        (
-            "RangeInclusive",
+    all_true(
+        &rt,
+        &[
+            keeps::<u32>(alloc, &[251, 44, 1, 99]),
+            keeps::<NonZeroU16>(alloc, &[5, 99]),
+            keeps::<Duration>(alloc, &[7, 8, 99]),
             keeps::<RangeInclusive<u8>>(alloc, &[2, 8, 99]),
-        ),
-        (
-            "SocketAddr",
             keeps::<SocketAddr>(alloc, &[0, 1, 2, 3, 4, 80, 99]),
-        ),
-    ];
-    all_hold(&rt, &rows);
+        ],
+    );
+}
+
+/// Whether pointers keep the word of what they point to.
+fn keeps_pointers<'a, T>(alloc: Global, word: &'a [u8]) -> bool
+where
+    T: Encode + BorrowDecode<&'a [u8], ()>,
+{
+    keeps::<Box<T>>(alloc, word) && keeps::<Rc<T>>(alloc, word) && keeps::<Arc<T>>(alloc, word)
+}
+
+/// Whether wrappers keep the word of what they wrap.
+fn keeps_wrappers<'a, T>(alloc: Global, word: &'a [u8]) -> bool
+where
+    T: Encode + BorrowDecode<&'a [u8], ()> + Copy,
+{
+    keeps::<Reverse<T>>(alloc, word)
+        && keeps::<Cell<T>>(alloc, word)
+        && keeps::<RefCell<T>>(alloc, word)
 }
 
 /// What holds a text that is lent.
@@ -181,17 +192,12 @@ fn keeps_scalars(rt: HostRuntime) {
 fn keeps_holders(rt: HostRuntime) {
     let alloc = rt.alloc();
     let text = [1, 97, 99];
-    let rows = [
-        ("Option", keeps::<Option<&str>>(alloc, &[1, 1, 97, 99])),
-        ("Result", keeps::<Result<&str, u8>>(alloc, &[1, 6, 99])),
-        ("Bound", keeps::<Bound<&str>>(alloc, &[2, 1, 98, 99])),
-        ("Reverse", keeps::<Reverse<&str>>(alloc, &text)),
-        ("Cell", keeps::<Cell<&str>>(alloc, &text)),
-        ("RefCell", keeps::<RefCell<&str>>(alloc, &text)),
-        ("[&str; 1]", keeps::<[&str; 1]>(alloc, &text)),
-        ("Box", keeps::<Box<&str>>(alloc, &text)),
-        ("Rc", keeps::<Rc<&str>>(alloc, &text)),
-        ("Arc", keeps::<Arc<&str>>(alloc, &text)),
-    ];
-    all_hold(&rt, &rows);
+    assert!(rt;
+        keeps_pointers::<&str>(alloc, &text)
+            && keeps_wrappers::<&str>(alloc, &text)
+            && keeps::<[&str; 1]>(alloc, &text)
+            && keeps::<Option<&str>>(alloc, &[1, 1, 97, 99])
+            && keeps::<Result<&str, u8>>(alloc, &[1, 6, 99])
+            && keeps::<Bound<&str>>(alloc, &[2, 1, 98, 99])
+    );
 }

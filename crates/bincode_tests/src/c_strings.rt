@@ -1,10 +1,8 @@
 //! C strings.
 
-use crate::asserts::all_true;
 use bincode::ffi::{CStr, CString, NulError};
-use bincode::{borrow_decode_from_slice, config};
 use std::alloc::Global;
-use test_helpers::checks::{either, is_written_as, read_word};
+use test_helpers::checks::{borrowed, either, is_written_as, read_word};
 
 /// The word of Hello.
 static WORD: [u8; 6] = [5, 72, 101, 108, 108, 111];
@@ -29,11 +27,7 @@ fn keeps_a_c_string(rt: HostRuntime) {
 #[test]
 fn is_owned_by_borrowed_decoding(rt: HostRuntime) {
     let alloc = rt.alloc();
-    let read: Option<(CString, usize)> = either(
-        borrow_decode_from_slice(alloc, &WORD, config::standard()),
-        borrow_decode_from_slice(alloc, &WORD, config::standard()),
-    );
-    let Some((text, 6)) = read else {
+    let Ok((text, 6)) = borrowed::<CString>(alloc, &WORD) else {
         assert!(rt; false);
         return;
     };
@@ -52,11 +46,7 @@ fn tells_the_first_zero_of_a_vector(rt: HostRuntime) {
         assert!(rt; false);
         return;
     };
-    all_true(
-        &rt,
-        &[
-            fault.nul_position() == 1,
-            fault.into_vec().as_slice() == [65u8, 0, 66, 0].as_slice(),
-        ],
+    assert!(rt;
+        fault.nul_position() == 1 && fault.into_vec().as_slice() == [65, 0, 66, 0].as_slice()
     );
 }

@@ -1,6 +1,6 @@
 //! Tuples, arrays, choices, ranges, durations and wrappers, of which the worked rows have some.
 
-use crate::asserts::{all_hold, all_true};
+use crate::asserts::all_true;
 use bincode::de::{Decode, collect_into_array};
 use bincode::enc::Encode;
 use bincode::time::Duration;
@@ -10,7 +10,7 @@ use std::marker::PhantomData;
 use std::num::Wrapping;
 use std::ops::{Bound, Range, RangeInclusive};
 use std::time::Duration as StdDuration;
-use test_helpers::checks::{keeps, refuses_tag};
+use test_helpers::checks::{fills, keeps, read_front, refuses_tag};
 
 /// Tuples whose parts are of one type, by their length: the shortest, the longest, and those at which the parts are
 /// grouped in another way. The worked rows have those of two and of five parts.
@@ -47,47 +47,48 @@ fn keeps_tuples(rt: HostRuntime) {
 #[test]
 fn keeps_arrays_outcomes_ranges_and_wrappers(rt: HostRuntime) {
     let alloc = rt.alloc();
-    let rows = [
-        ("[u16; 2]", keeps::<[u16; 2]>(alloc, &[5, 251, 44, 1])),
-        ("Result", keeps::<Result<u8, u8>>(alloc, &[1, 7])),
-        ("Range", keeps::<Range<u8>>(alloc, &[1, 9])),
-        (
-            "RangeInclusive",
-            keeps::<RangeInclusive<u8>>(alloc, &[2, 8]),
-        ),
-        ("Wrapping", keeps::<Wrapping<u8>>(alloc, &[7])),
-        ("Reverse", keeps::<Reverse<u8>>(alloc, &[8])),
-        ("PhantomData", keeps::<PhantomData<u8>>(alloc, &[])),
-    ];
-    all_hold(&rt, &rows);
+    all_true(
+        &rt,
+        &[
+            keeps::<[u16; 2]>(alloc, &[5, 251, 44, 1]),
+            keeps::<Result<u8, u8>>(alloc, &[1, 7]),
+            keeps::<Range<u8>>(alloc, &[1, 9]),
+            keeps::<Wrapping<u8>>(alloc, &[7]),
+            keeps::<Reverse<u8>>(alloc, &[8]),
+            keeps::<PhantomData<u8>>(alloc, &[]),
+        ],
+    );
+}
+
+#[test]
+fn keeps_the_ends_of_a_range(rt: HostRuntime) {
+    let Some(range) = read_front::<RangeInclusive<u8>>(rt.alloc(), &[2, 8, 99], 2) else {
+        assert!(rt; false);
+        return;
+    };
+    assert!(rt; *range.start() == 2 && *range.end() == 8 && fills(&range, &[2, 8]));
 }
 
 #[test]
 fn names_a_tag_that_no_choice_has(rt: HostRuntime) {
     let alloc = rt.alloc();
-    let rows = [
-        ("Option", refuses_tag::<Option<u8>>(alloc, 2, "Option", 1)),
-        (
-            "Result",
-            refuses_tag::<Result<u8, u8>>(alloc, 2, "Result", 1),
-        ),
-        ("Bound", refuses_tag::<Bound<u8>>(alloc, 3, "Bound", 2)),
-    ];
-    all_hold(&rt, &rows);
+    assert!(rt;
+        refuses_tag::<Option<u8>>(alloc, 2, "Option", 1)
+            && refuses_tag::<Result<u8, u8>>(alloc, 2, "Result", 1)
+            && refuses_tag::<Bound<u8>>(alloc, 3, "Bound", 2)
+    );
 }
 
 #[test]
 fn converts_spans(rt: HostRuntime) {
     let span = Duration::new(1, 2_500_000_000);
-    assert!(rt; (span.as_secs(), span.subsec_nanos()) == (3, 500_000_000));
     let converted = StdDuration::from(span);
-    all_true(
-        &rt,
-        &[
-            converted == StdDuration::new(3, 500_000_000),
-            Duration::from(converted) == span,
-            Duration::default() == Duration::new(0, 0),
-        ],
+    assert!(rt;
+        span.as_secs() == 3
+            && span.subsec_nanos() == 500_000_000
+            && converted == StdDuration::new(3, 500_000_000)
+            && Duration::from(converted) == span
+            && Duration::default() == Duration::new(0, 0)
     );
 }
 

@@ -1,27 +1,23 @@
 //! Hashed sets and maps whose keys are lent.
 
-use bincode::{borrow_decode_from_slice, config};
 use std::collections::{HashMap, HashSet};
-use test_helpers::checks::either;
+use test_helpers::checks::borrowed;
+
+/// One item, ab, and 5 after it.
+static SOURCE: [u8; 5] = [1, 2, 97, 98, 5];
 
 #[test]
-fn lends_keys(rt: HostRuntime) {
-    let alloc = rt.alloc();
-    let source: [u8; 5] = [1, 2, 97, 98, 5];
-    let outcome: Option<(HashMap<&str, u8>, usize)> = either(
-        borrow_decode_from_slice(alloc, &source, config::standard()),
-        borrow_decode_from_slice(alloc, &source, config::standard()),
-    );
-    let Some((map, 5)) = outcome else {
+fn lends_the_keys_of_a_map(rt: HostRuntime) {
+    let Ok((map, 5)) = borrowed::<HashMap<&str, u8>>(rt.alloc(), &SOURCE) else {
         assert!(rt; false);
         return;
     };
     assert!(rt; map.len() == 1 && map.get(&"ab") == Some(&5));
-    let outcome: Option<(HashSet<&str>, usize)> = either(
-        borrow_decode_from_slice(alloc, &source, config::standard()),
-        borrow_decode_from_slice(alloc, &source, config::standard()),
-    );
-    let Some((set, 4)) = outcome else {
+}
+
+#[test]
+fn lends_the_items_of_a_set(rt: HostRuntime) {
+    let Ok((set, 4)) = borrowed::<HashSet<&str>>(rt.alloc(), &SOURCE) else {
         assert!(rt; false);
         return;
     };

@@ -1,9 +1,7 @@
 //! Paths.
 
-use bincode::error::DecodeError;
-use bincode::{borrow_decode_from_slice, config};
 use std::path::{Path, PathBuf};
-use test_helpers::checks::{is_written_as, read_word};
+use test_helpers::checks::{borrowed, is_written_as, read_word};
 
 /// The text of a path.
 const FOO: &str = "C:/Foo";
@@ -23,12 +21,7 @@ fn keeps_a_path(rt: HostRuntime) {
 
 #[test]
 fn lends_a_path(rt: HostRuntime) {
-    let read: Result<(Path<'_>, usize), DecodeError> = borrow_decode_from_slice(
-        rt.alloc(),
-        &WORD,
-        config::standard(),
-    );
-    let Ok((path, 7)) = read else {
+    let Ok((path, 7)) = borrowed::<Path<'_>>(rt.alloc(), &WORD) else {
         assert!(rt; false);
         return;
     };

@@ -1,27 +1,14 @@
 //! Types of one's own that borrow bytes of the input.
 
-use crate::asserts::all_true;
-use bincode::de::BorrowDecode;
 use bincode::error::DecodeError;
-use bincode::{NoVariants, borrow_decode_from_slice, config, encode_into_slice};
+use bincode::{NoVariants, config};
 use own_types::code::Code;
 use own_types::even::Even;
 use own_types::event::Event;
 use own_types::never::Never;
 use own_types::note::Note;
 use proved_callers::borrowed::{borrow_pair, read_twice};
-use std::alloc::Global;
-
-/// What is read from the front of these bytes, and how many bytes that takes. Retries once if an allocation is refused.
-fn borrowed<'a, T: BorrowDecode<&'a [u8], ()>>(
-    alloc: Global,
-    input: &'a [u8],
-) -> Result<(T, usize), DecodeError> {
-    match borrow_decode_from_slice(alloc, input, config::standard()) {
-        Err(DecodeError::Memory) => borrow_decode_from_slice(alloc, input, config::standard()),
-        outcome => outcome,
-    }
-}
+use test_helpers::checks::{borrowed, fills};
 
 #[test]
 fn lends_to_a_struct(rt: HostRuntime) {
@@ -31,13 +18,8 @@ fn lends_to_a_struct(rt: HostRuntime) {
         assert!(rt; false);
         return;
     };
-    assert!(rt; note.title == "ab" && note.data == [5, 6, 7].as_slice());
-    let mut word = [0; 7];
     assert!(rt;
-        matches!(
-            encode_into_slice(note, &mut word, config::standard()),
-            Ok(7)
-        ) && word.as_slice() == &input[..7]
+        note.title == "ab" && note.data == [5, 6, 7].as_slice() && fills(&note, &input[..7])
     );
 }
 
@@ -61,30 +43,24 @@ fn is_no_event(outcome: Result<(Event, usize), DecodeError>) -> bool {
 #[test]
 fn lends_to_an_enum(rt: HostRuntime) {
     let alloc = rt.alloc();
-    all_true(
-        &rt,
-        &[
-            matches!(borrowed(alloc, &[0]), Ok((Event::Start, 1))),
-            matches!(borrowed(alloc, &[1, 5]), Ok((Event::Stop(5), 2))),
-            matches!(borrowed(alloc, &[2, 2, 97, 98]), Ok((Event::Note("ab"), 4))),
-            is_no_event(borrowed(alloc, &[3])),
-        ],
+    assert!(rt;
+        matches!(borrowed(alloc, &[0]), Ok((Event::Start, 1)))
+            && matches!(borrowed(alloc, &[1, 5]), Ok((Event::Stop(5), 2)))
+            && matches!(borrowed(alloc, &[2, 2, 97, 98]), Ok((Event::Note("ab"), 4)))
+            && is_no_event(borrowed(alloc, &[3]))
     );
 }
 
 #[test]
 fn borrows_types_that_own(rt: HostRuntime) {
     let alloc = rt.alloc();
-    all_true(
-        &rt,
-        &[
-            matches!(borrowed(alloc, &[251, 44, 1]), Ok((Code::Refused, 3))),
-            matches!(
+    assert!(rt;
+        matches!(borrowed(alloc, &[251, 44, 1]), Ok((Code::Refused, 3)))
+            && matches!(
                 borrowed::<NoVariants<Never>>(alloc, &[]),
                 Err(DecodeError::EmptyEnum { .. })
-            ),
-            matches!(borrowed::<Even>(alloc, &[4]), Ok((_, 1))),
-        ],
+            )
+            && matches!(borrowed::<Even>(alloc, &[4]), Ok((_, 1)))
     );
 }
 

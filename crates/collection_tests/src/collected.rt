@@ -1,6 +1,5 @@
 //! Lists of one's own in arenas.
 
-use crate::asserts::all_true;
 use bincode::config;
 use bincode::de::Decode;
 use bincode::enc::Encode;
@@ -54,12 +53,9 @@ fn lends_the_arena_of_a_context(rt: HostRuntime) {
         assert!(&rt; false);
         return;
     };
-    all_true(
-        &rt,
-        &[
-            framed.kind == 7,
-            matches!(framed.list.items, [1, 2, 3]),
-            is_word_in(rt.alloc(), &framed, &FRAMED, env),
-        ],
+    assert!(&rt;
+        framed.kind == 7
+            && matches!(framed.list.items, [1, 2, 3])
+            && is_word_in(rt.alloc(), &framed, &FRAMED, env)
     );
 }

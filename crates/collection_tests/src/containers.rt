@@ -1,6 +1,5 @@
 //! Lists, heaps and pointers.
 
-use crate::asserts::all_hold;
 use own_types::pack::Pack;
 use std::alloc::{AllocError, Global};
 use std::borrow::{Cow, CowSlice};
@@ -97,16 +96,12 @@ fn keeps_a_borrowed_slice(rt: HostRuntime) {
 #[test]
 fn keeps_pointers(rt: HostRuntime) {
     let alloc = rt.alloc();
-    let boxed = either(Box::new(alloc, 7u8), Box::new(alloc, 7u8));
-    let shared = either(Rc::new(alloc, 7u8), Rc::new(alloc, 7u8));
-    let synced = either(Arc::new(alloc, 7u8), Arc::new(alloc, 7u8));
-    let rows = [
-        ("Box", keeps_value(alloc, boxed)),
-        ("Rc", keeps_value(alloc, shared)),
-        ("Arc", keeps_value(alloc, synced)),
-        ("Cow", keeps_value(alloc, Some(Cow::Borrowed(&7u8)))),
-    ];
-    all_hold(&rt, &rows);
+    assert!(rt;
+        keeps_value(alloc, either(Box::new(alloc, 7u8), Box::new(alloc, 7u8)))
+            && keeps_value(alloc, either(Rc::new(alloc, 7u8), Rc::new(alloc, 7u8)))
+            && keeps_value(alloc, either(Arc::new(alloc, 7u8), Arc::new(alloc, 7u8)))
+            && keeps_value(alloc, Some(Cow::Borrowed(&7u8)))
+    );
 }
 
 /// The order in which the numbers of a heap are written is unspecified.

@@ -1,6 +1,5 @@
 //! How often a user's list is begun, and for how many items.
 
-use crate::asserts::all_true;
 use bincode::config;
 use bincode::de::read::SliceReader;
 use bincode::de::{Decoder, DecoderImpl, FillList, decode_collection};
@@ -63,12 +62,7 @@ fn begins_a_list_once(rt: HostRuntime) {
         assert!(rt; false);
         return;
     };
-    all_true(
-        &rt,
-        &[
-            starts.times == 1,
-            starts.len == 3,
-            told.items.as_slice() == [5, 6, 7].as_slice(),
-        ],
+    assert!(rt;
+        starts.times == 1 && starts.len == 3 && told.items.as_slice() == [5, 6, 7].as_slice()
     );
 }

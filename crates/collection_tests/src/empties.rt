@@ -1,7 +1,7 @@
 //! What is read after a length of 0: nothing, and no memory is asked for. And a length that passes the limit is refused
 //! before memory is asked for.
 
-use crate::asserts::all_hold;
+use crate::asserts::all_true;
 use bincode::de::Decode;
 use bincode::ffi::CString;
 use own_types::pack::Pack;
@@ -37,20 +37,22 @@ fn reads_none<T: Decode<()>>(alloc: Global) -> bool {
 #[test]
 fn reads_nothing_and_refuses_lengths_without_memory(rt: HostRuntime) {
     let alloc = rt.alloc();
-    let rows = [
-        ("String", reads_none::<String>(alloc)),
-        ("CString", reads_none::<CString>(alloc)),
-        ("BoxedStr", reads_none::<BoxedStr>(alloc)),
-        ("Vec<u8>", reads_none::<Vec<u8>>(alloc)),
-        ("Vec<u16>", reads_none::<Vec<u16>>(alloc)),
-        ("VecDeque", reads_none::<VecDeque<u8>>(alloc)),
-        ("BinaryHeap", reads_none::<BinaryHeap<u8>>(alloc)),
-        ("BoxedSlice", reads_none::<BoxedSlice<u8>>(alloc)),
-        ("BTreeSet", reads_none::<BTreeSet<u8>>(alloc)),
-        ("BTreeMap", reads_none::<BTreeMap<u8, u8>>(alloc)),
-        ("HashSet", reads_none::<HashSet<u8>>(alloc)),
-        ("HashMap", reads_none::<HashMap<u8, u8>>(alloc)),
-        ("Pack", reads_none::<Pack<u8>>(alloc)),
-    ];
-    all_hold(&rt, &rows);
+    all_true(
+        &rt,
+        &[
+            reads_none::<String>(alloc),
+            reads_none::<CString>(alloc),
+            reads_none::<BoxedStr>(alloc),
+            reads_none::<Vec<u8>>(alloc),
+            reads_none::<Vec<u16>>(alloc),
+            reads_none::<VecDeque<u8>>(alloc),
+            reads_none::<BinaryHeap<u8>>(alloc),
+            reads_none::<BoxedSlice<u8>>(alloc),
+            reads_none::<BTreeSet<u8>>(alloc),
+            reads_none::<BTreeMap<u8, u8>>(alloc),
+            reads_none::<HashSet<u8>>(alloc),
+            reads_none::<HashMap<u8, u8>>(alloc),
+            reads_none::<Pack<u8>>(alloc),
+        ],
+    );
 }

@@ -1,6 +1,6 @@
 //! Types of one's own, written and read.
 
-use crate::asserts::{all_hold, none_wrong};
+use crate::asserts::all_true;
 use bincode::checked::{RoundTrip, round_trip};
 use bincode::config;
 use bincode::de::Decode;
@@ -20,7 +20,6 @@ use own_types::track::Track;
 use proved_callers::looped::Looped;
 use std::alloc::Global;
 use test_helpers::checks::{each_call_keeps, ends_at_each_place, fault_of, refuses_tag};
-use test_helpers::rows::first_wrong;
 
 /// Whether this is a word of the type for each call, with bytes after it, and no prefix of it is one.
 fn has_word<T: Encode + Decode<()>>(alloc: Global, word: &[u8]) -> bool {
@@ -42,24 +41,24 @@ fn keeps_structs(rt: HostRuntime) {
     let alloc = rt.alloc();
     let track = [1, 99, 2, 1, 251, 44, 1, 2, 1];
     let table = [1, 97, 1, 2, 1, 1, 2];
-    let rows = [
-        ("Track", has_word::<Track>(alloc, &track)),
-        ("Pair", has_word::<Pair<u8, u16>>(alloc, &[7, 251, 44, 1])),
-        ("Table", has_word::<Table<u16, bool>>(alloc, &table)),
-        ("Report", has_word::<Report>(alloc, &REPORT)),
-        ("Book", has_word::<Book>(alloc, &BOOK)),
-    ];
-    all_hold(&rt, &rows);
+    all_true(
+        &rt,
+        &[
+            has_word::<Track>(alloc, &track),
+            has_word::<Pair<u8, u16>>(alloc, &[7, 251, 44, 1]),
+            has_word::<Table<u16, bool>>(alloc, &table),
+            has_word::<Report>(alloc, &REPORT),
+            has_word::<Book>(alloc, &BOOK),
+        ],
+    );
 }
 
 #[test]
 fn keeps_lists(rt: HostRuntime) {
     let alloc = rt.alloc();
-    let rows = [
-        ("Pack", has_word::<Pack<u8>>(alloc, &[3, 5, 6, 7])),
-        ("Looped", has_word::<Looped<u8>>(alloc, &[3, 5, 6, 7])),
-    ];
-    all_hold(&rt, &rows);
+    assert!(rt;
+        has_word::<Pack<u8>>(alloc, &[3, 5, 6, 7]) && has_word::<Looped<u8>>(alloc, &[3, 5, 6, 7])
+    );
 }
 
 #[test]
@@ -78,21 +77,17 @@ fn reads_back_what_is_written(rt: HostRuntime) {
     assert!(rt; matches!(read, Ok((Foo { a: 5, b: 10 }, 2))));
 }
 
-/// Which row of `Kind` does not hold: its words, and no tag.
-fn wrong_of_kind<T: Encode + Decode<()>>(alloc: Global) -> Option<&'static str> {
-    let work = [1, 2, 97, 98, 251, 44, 1];
-    let rows = [
-        ("Private", has_word::<T>(alloc, &[0])),
-        ("Work", has_word::<T>(alloc, &work)),
-        ("Other", has_word::<T>(alloc, &[2, 1, 1, 99, 5])),
-        ("no tag", refuses_tag::<T>(alloc, 3, "Kind", 2)),
-    ];
-    first_wrong(&rows)
+/// Whether the type is `Kind`: its words, and no tag.
+fn is_kind<T: Encode + Decode<()>>(alloc: Global) -> bool {
+    has_word::<T>(alloc, &[0])
+        && has_word::<T>(alloc, &[1, 2, 97, 98, 251, 44, 1])
+        && has_word::<T>(alloc, &[2, 1, 1, 99, 5])
+        && refuses_tag::<T>(alloc, 3, "Kind", 2)
 }
 
 #[test]
 fn keeps_each_kind(rt: HostRuntime) {
-    none_wrong(&rt, wrong_of_kind::<Kind>(rt.alloc()));
+    assert!(rt; is_kind::<Kind>(rt.alloc()));
 }
 
 /// Whether the error of the tag 2 lists those of `Code`.
@@ -110,22 +105,16 @@ fn lists_tags(fault: Option<DecodeError>) -> bool {
     type_name.as_str() == "Code" && allowed.as_slice() == [1, 5, 300].as_slice()
 }
 
-/// Which row of `Code` does not hold: its words, and the tags of an error.
-fn wrong_of_code<T: Encode + Decode<()>>(alloc: Global) -> Option<&'static str> {
-    let rows = [
-        ("5", has_word::<T>(alloc, &[5])),
-        ("300", has_word::<T>(alloc, &[251, 44, 1])),
-        (
-            "tags that are listed",
-            lists_tags(fault_of::<T>(alloc, &[2])),
-        ),
-    ];
-    first_wrong(&rows)
+/// Whether the type is `Code`: its words, and the tags of an error.
+fn is_code<T: Encode + Decode<()>>(alloc: Global) -> bool {
+    has_word::<T>(alloc, &[5])
+        && has_word::<T>(alloc, &[251, 44, 1])
+        && lists_tags(fault_of::<T>(alloc, &[2]))
 }
 
 #[test]
 fn keeps_each_code(rt: HostRuntime) {
-    none_wrong(&rt, wrong_of_code::<Code>(rt.alloc()));
+    assert!(rt; is_code::<Code>(rt.alloc()));
 }
 
 /// Whether this is the fault of an enum without variants, under this name.
@@ -149,16 +138,12 @@ fn is_other(fault: Option<DecodeError>, text: &str) -> bool {
     told.as_str() == text
 }
 
-/// Which row of even numbers does not hold: 4, and 3, which is refused.
-fn wrong_of_even<T: Encode + Decode<()>>(alloc: Global) -> Option<&'static str> {
-    let rows = [
-        ("4", has_word::<T>(alloc, &[4])),
-        ("3", is_other(fault_of::<T>(alloc, &[3]), "odd")),
-    ];
-    first_wrong(&rows)
+/// Whether the type is that of even numbers: 4 is kept, and 3 refused.
+fn is_even<T: Encode + Decode<()>>(alloc: Global) -> bool {
+    has_word::<T>(alloc, &[4]) && is_other(fault_of::<T>(alloc, &[3]), "odd")
 }
 
 #[test]
 fn keeps_even_numbers_and_refuses_odd_ones(rt: HostRuntime) {
-    none_wrong(&rt, wrong_of_even::<Even>(rt.alloc()));
+    assert!(rt; is_even::<Even>(rt.alloc()));
 }

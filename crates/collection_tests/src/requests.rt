@@ -1,6 +1,5 @@
 //! A server's loop: requests one after another, of which the last is still to come.
 
-use crate::asserts::all_true;
 use bincode::error::DecodeError;
 use request_loop::requests::{Requests, serve};
 use test_helpers::checks::either;
@@ -22,16 +21,13 @@ fn serves_requests_up_to_one_that_is_torn(rt: HostRuntime) {
         assert!(rt; false);
         return;
     };
-    all_true(
-        &rt,
-        &[
-            (first.start, first.size, first.value) == (0, 1, 5),
-            (second.start, second.size, second.value) == (1, 3, 300),
-            all.end == 4,
-            matches!(
+    assert!(rt;
+        (first.start, first.size, first.value) == (0, 1, 5)
+            && (second.start, second.size, second.value) == (1, 3, 300)
+            && all.end == 4
+            && matches!(
                 all.stopped,
                 Some(DecodeError::UnexpectedEnd { additional: 2 })
-            ),
-        ],
+            )
     );
 }

@@ -1,6 +1,5 @@
 //! What is reserved for a list: the room that its length claims, and no more.
 
-use crate::asserts::all_hold;
 use bincode::config;
 use bumpalo::Bump;
 use own_types::arenas::count_numbers;
@@ -31,52 +30,50 @@ fn hundred_entries() -> [u8; 201] {
 fn reserves_what_lists_hold(rt: HostRuntime) {
     let alloc = rt.alloc();
     let word = hundred();
-    let queue: Option<VecDeque<u8>> = read_word(alloc, &word);
-    let heap: Option<BinaryHeap<u8>> = read_word(alloc, &word);
-    let pack: Option<Pack<u8>> = read_word(alloc, &word);
-    let rows = [
-        (
-            "VecDeque",
-            matches!(&queue, Some(it) if it.capacity() == 100),
-        ),
-        (
-            "BinaryHeap",
-            matches!(&heap, Some(it) if it.capacity() == 100),
-        ),
-        (
-            "Pack",
-            matches!(&pack, Some(it) if it.items.capacity() == 100),
-        ),
-    ];
-    all_hold(&rt, &rows);
+    assert!(rt;
+        matches!(read_word::<VecDeque<u8>>(alloc, &word), Some(it) if it.capacity() == 100)
+            && matches!(read_word::<BinaryHeap<u8>>(alloc, &word), Some(it) if it.capacity() == 100)
+            && matches!(
+                read_word::<Pack<u8>>(alloc, &word), Some(it) if it.items.capacity() == 100
+            )
+    );
 }
 
-/// A set with room for a hundred.
-fn spare_set(alloc: Global) -> Result<HashSet<u8>, AllocError> {
-    HashSet::with_capacity(alloc, 100)
+/// Whether a set that was made with room for a hundred has this room.
+fn is_room_of_set(alloc: Global, room: usize) -> bool {
+    let spare: Result<HashSet<u8>, AllocError> = HashSet::with_capacity(alloc, 100);
+    matches!(spare, Ok(set) if set.capacity() == room)
 }
 
-/// A map with room for a hundred.
-fn spare_map(alloc: Global) -> Result<HashMap<u8, u8>, AllocError> {
-    HashMap::with_capacity(alloc, 100)
+/// Whether a map that was made so has this room.
+fn is_room_of_map(alloc: Global, room: usize) -> bool {
+    let spare: Result<HashMap<u8, u8>, AllocError> = HashMap::with_capacity(alloc, 100);
+    matches!(spare, Ok(map) if map.capacity() == room)
 }
 
-/// A hashed set or map has as much room as one that was made with room for as many, which is more than a hundred.
+/// Whether the set of the hundred numbers is read with as much room as such a set.
+fn reserves_set(alloc: Global) -> bool {
+    match read_word::<HashSet<u8>>(alloc, &hundred()) {
+        Some(set) => set.len() == 100 && is_room_of_set(alloc, set.capacity()),
+        None => false,
+    }
+}
+
+/// Whether the map of the hundred entries is read with as much room as such a map.
+fn reserves_map(alloc: Global) -> bool {
+    match read_word::<HashMap<u8, u8>>(alloc, &hundred_entries()) {
+        Some(map) => map.len() == 100 && is_room_of_map(alloc, map.capacity()),
+        None => false,
+    }
+}
+
+/// That is room for more than a hundred. Retries once, since an allocation may be refused.
 #[test]
 fn reserves_what_hashed_ones_claim(rt: HostRuntime) {
     let alloc = rt.alloc();
-    let set: Option<HashSet<u8>> = read_word(alloc, &hundred());
-    let map: Option<HashMap<u8, u8>> = read_word(alloc, &hundred_entries());
-    let (Some(set), Some(spare)) = (set, either(spare_set(alloc), spare_set(alloc))) else {
-        assert!(rt; false);
-        return;
-    };
-    assert_eq!(rt; (set.len(), set.capacity()), (100, spare.capacity()));
-    let (Some(map), Some(spare)) = (map, either(spare_map(alloc), spare_map(alloc))) else {
-        assert!(rt; false);
-        return;
-    };
-    assert_eq!(rt; (map.len(), map.capacity()), (100, spare.capacity()));
+    assert!(rt;
+        (reserves_set(alloc) || reserves_set(alloc)) && (reserves_map(alloc) || reserves_map(alloc))
+    );
 }
 
 /// The numbers 1 to 3.

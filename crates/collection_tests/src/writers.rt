@@ -1,30 +1,23 @@
 //! Writing over a line that is cut, and into a fixed room.
 
-use crate::asserts::all_true;
 use bincode::checked::encoded_length;
 use bincode::enc::{Encode, Encoder, EncoderImpl};
 use bincode::error::EncodeError;
 use bincode::{config, encode_into_writer};
 use proved_callers::cut::CutWriter;
 use proved_callers::fixed::Fixed;
-use std::process::Abort;
 
-/// The first number is written, and each after it fails with the error of the line.
-fn fails_after_the_first<E: Encoder>(rt: &impl Abort, encoder: &mut E) {
-    all_true(
-        &rt,
-        &[
-            7u8.encode(encoder).is_ok(),
-            matches!(300u16.encode(encoder), Err(EncodeError::Other(_))),
-            matches!(9u8.encode(encoder), Err(EncodeError::Other(_))),
-        ],
-    );
+/// Whether the first number is written, and each after it fails with the error of the line.
+fn fails_after_the_first<E: Encoder>(encoder: &mut E) -> bool {
+    7u8.encode(encoder).is_ok()
+        && matches!(300u16.encode(encoder), Err(EncodeError::Other(_)))
+        && matches!(9u8.encode(encoder), Err(EncodeError::Other(_)))
 }
 
 #[test]
 fn answers_the_error_of_a_cut_line(rt: HostRuntime) {
     let mut encoder = EncoderImpl::new(CutWriter::new(2), config::standard());
-    fails_after_the_first(&rt, &mut encoder);
+    assert!(rt; fails_after_the_first(&mut encoder));
     let writer = encoder.writer();
     assert!(rt; writer.sent() == 2 && writer.failures() == 2);
 }

@@ -1,18 +1,25 @@
 //! How the program ends, and what is left of its output where that fails.
 
-use crate::sources::{all_true, words_of};
+use crate::sources::{requested, words_of};
 use shape_text::describing::describe;
 use shape_text::failure::DescribeError;
 use shape_text::program::run;
-use shape_text::request::request_of;
-use std::alloc::{AllocError, Global};
+use std::alloc::Global;
 use std::io::{ErrorKind, Read, Write};
 use std::path::PathBuf;
 use std::{env, fs, io, process};
 
-/// The status of the program with these words after its name.
-fn ends(rt: &HostRuntime, options: &str, last: &str) -> Result<u8, AllocError> {
-    Ok(run(rt, &words_of(rt.alloc(), options, last)?))
+/// Whether the program ends with this status, with these words after its name.
+fn ends(rt: &HostRuntime, options: &str, last: &str, status: u8) -> bool {
+    match words_of(rt.alloc(), options, last) {
+        Ok(words) => run(rt, &words) == status,
+        Err(_) => false,
+    }
+}
+
+/// Whether it ends so after options, with a file of these bytes.
+fn ends_over(rt: &HostRuntime, path: &str, bytes: &[u8], options: &str, status: u8) -> bool {
+    fs::write(rt, path, bytes).is_ok() && ends(rt, options, path, status)
 }
 
 /// A path that no other test has.
@@ -21,56 +28,45 @@ fn path_of(rt: &HostRuntime, name: &str) -> anyhow::Result<PathBuf> {
     Ok(env::temp_dir(rt)?.join(rt.alloc(), name.as_str())?)
 }
 
+/// Whether the program ends with the status 3 where the file is missing, and where it is a folder.
+fn fails_without_file(rt: &HostRuntime, path: &str) -> bool {
+    match env::temp_dir(rt) {
+        Ok(folder) => ends(rt, "u16", path, 3) && ends(rt, "u16", folder.as_str(), 3),
+        Err(_) => false,
+    }
+}
+
 /// A file of 7 and 300, one that is torn, and one that is missing; a folder; and words that spell no request.
 #[test]
 fn ends_with_a_status(rt: HostRuntime) -> anyhow::Result<()> {
     let file = path_of(&rt, "numbers")?;
     let path = file.as_str();
-    fs::write(&rt, path, [7u8, 251, 44, 1].as_slice())?;
-    let whole = ends(&rt, "u16", path)?;
-    let damaged = ends(&rt, "--frames u16", path)?;
-    fs::write(&rt, path, [7u8, 251, 44].as_slice())?;
-    let torn = ends(&rt, "u16", path)?;
-    fs::write(&rt, path, [0u8; 8].as_slice())?;
-    let zeros = ends(&rt, "--frames u16", path)?;
-    fs::remove_file(&rt, path)?;
-    let missing = ends(&rt, "u16", path)?;
-    let folder = ends(&rt, "u16", env::temp_dir(&rt)?.as_str())?;
-    let usage = ends(&rt, "", "u7")?;
-    let help = ends(&rt, "", "--help")?;
-    all_true(
-        &rt,
-        &[
-            whole == 0,
-            damaged == 1,
-            torn == 1,
-            zeros == 1,
-            missing == 3,
-            folder == 3,
-            usage == 2,
-            help == 0,
-        ],
+    let is_ended = ends_over(&rt, path, &[7, 251, 44, 1], "u16", 0)
+        && ends_over(&rt, path, &[7, 251, 44, 1], "--frames u16", 1)
+        && ends_over(&rt, path, &[7, 251, 44], "u16", 1)
+        && ends_over(&rt, path, &[0; 8], "--frames u16", 1);
+    assert!(rt; is_ended && fs::remove_file(&rt, path).is_ok());
+    assert!(rt;
+        fails_without_file(&rt, path) && ends(&rt, "", "u7", 2) && ends(&rt, "", "--help", 0)
     );
     Ok(())
 }
 
-/// What is written of a 7 where the output has this room, and whether that is told as the output's error.
-fn is_told(alloc: Global, room: &mut [u8]) -> Result<bool, AllocError> {
-    let Ok(request) = request_of(alloc, &words_of(alloc, "", "u16")?) else {
-        return Ok(false);
+/// Whether a failure is told as the output's error, where that has this room for the line of a 7.
+fn is_told(alloc: Global, room: &mut [u8]) -> bool {
+    let Some(request) = requested(alloc, "", "u16") else {
+        return false;
     };
     let mut out: &mut [u8] = room;
     let described = describe(alloc, &request, [7].as_slice(), &mut out);
-    Ok(matches!(described, Err(DescribeError::Write(_))))
+    matches!(described, Err(DescribeError::Write(_)))
 }
 
 /// If the output fails, that is the error, and what was written before is there.
 #[test]
-fn tells_a_failed_output(rt: HostRuntime) -> Result<(), AllocError> {
+fn tells_a_failed_output(rt: HostRuntime) {
     let mut room = [0u8; 20];
-    let is_told = is_told(rt.alloc(), &mut room)?;
-    assert!(rt; is_told && &room == b"{\"offset\":0,\"length\"");
-    Ok(())
+    assert!(rt; is_told(rt.alloc(), &mut room) && &room == b"{\"offset\":0,\"length\"");
 }
 
 /// Gives six bytes, then those that are left of two numbers, and then fails.
@@ -108,29 +104,24 @@ impl Write for Flushed {
     }
 }
 
-/// Whether a number of nine bytes, which comes in two parts, is printed and flushed before more is waited for.
-fn is_flushed(
-    alloc: Global,
-    options: &str,
-    bytes: &[u8],
-    wanted: &str,
-) -> Result<bool, AllocError> {
-    let Ok(request) = request_of(alloc, &words_of(alloc, options, "u64")?) else {
-        return Ok(false);
+/// Whether the word of a number, which comes in two parts, is printed so and flushed before more is waited for.
+fn is_flushed(alloc: Global, bytes: &[u8], wanted: &str) -> bool {
+    let Some(request) = requested(alloc, "", "u64") else {
+        return false;
     };
     let mut out = Flushed {
         held: Vec::new(alloc),
         flushed: 0,
     };
     let described = describe(alloc, &request, Halves { bytes }, &mut out);
-    let is_read = matches!(described, Err(DescribeError::Read(_)));
-    Ok(is_read && out.held.as_slice() == wanted.as_bytes() && out.flushed == out.held.len())
+    matches!(described, Err(DescribeError::Read(_)))
+        && out.held.as_slice() == wanted.as_bytes()
+        && out.flushed == out.held.len()
 }
 
 #[test]
-fn prints_what_came_before_it_waits(rt: HostRuntime) -> Result<(), AllocError> {
+fn prints_what_came_before_it_waits(rt: HostRuntime) {
     let word = [253, 1, 0, 0, 0, 0, 0, 0, 1];
     let line = "{\"offset\":0,\"length\":9,\"value\":72057594037927937}\n";
-    assert!(rt; is_flushed(rt.alloc(), "", &word, line)?);
-    Ok(())
+    assert!(rt; is_flushed(rt.alloc(), &word, line));
 }

@@ -1,17 +1,12 @@
 //! Streams, and what the program makes of them.
 
 use shape_text::describing::describe;
-use shape_text::request::request_of;
+use shape_text::failure::DescribeError;
+use shape_text::request::{Request, request_of};
 use std::alloc::{AllocError, Global};
 use std::io;
 use std::io::{ErrorKind, Read};
 use std::process::Abort;
-use test_helpers::rows::first_false;
-
-/// Each answer is true; else the place of the first that is not is told, from 0 on.
-pub fn all_true(rt: &impl Abort, answers: &[bool]) {
-    assert_eq!(rt; first_false(answers), None);
-}
 
 /// Gives one byte a call, each after a call that is interrupted.
 #[derive(Drop)]
@@ -31,50 +26,96 @@ impl Read for Interrupted<'_> {
     }
 }
 
-/// The words of a program: its name, those of the options, and the shape.
-pub fn words_of(alloc: Global, options: &str, shape: &str) -> Result<Vec<String>, AllocError> {
+/// The words of a program: its name, those of the options, and the last.
+pub fn words_of(alloc: Global, options: &str, last: &str) -> Result<Vec<String>, AllocError> {
     let mut words = Vec::new(alloc);
     words.push(String::from_str(alloc, "describe")?)?;
     for word in options.split_whitespace() {
         words.push(String::from_str(alloc, word)?)?;
     }
-    words.push(String::from_str(alloc, shape)?)?;
+    words.push(String::from_str(alloc, last)?)?;
     Ok(words)
 }
 
-/// The output for a stream with these options, and then `whole`, `damaged` or the message at the end.
-pub fn told<R: Read + Drop>(
-    alloc: Global,
-    options: &str,
-    shape: &str,
-    stream: R,
-) -> Result<String, AllocError> {
-    let words = words_of(alloc, options, shape)?;
-    let request = match request_of(alloc, &words) {
-        Ok(request) => request,
-        Err(error) => return format!(in alloc; "{} {error}", error.exit_code()),
-    };
-    let mut out = Vec::new(alloc);
-    let end = match describe(alloc, &request, stream, &mut out) {
-        Ok(true) => String::from_str(alloc, "whole")?,
-        Ok(false) => String::from_str(alloc, "damaged")?,
-        Err(error) => format!(in alloc; "{error}")?,
-    };
-    match String::from_utf8(out) {
-        Ok(mut text) => {
-            text.push_str(end.as_str())?;
-            Ok(text)
-        }
-        Err(_) => String::from_str(alloc, "no text"),
+/// The request of these words, if they are taken.
+pub fn requested(alloc: Global, options: &str, last: &str) -> Option<Request> {
+    match words_of(alloc, options, last) {
+        Ok(words) => request_of(alloc, &words).ok(),
+        Err(_) => None,
     }
 }
 
-/// Whether bytes are told so.
-pub fn tells(
+/// What is said at the end.
+fn ended(alloc: Global, end: Result<bool, DescribeError>) -> Result<String, AllocError> {
+    match end {
+        Ok(true) => String::from_str(alloc, "whole"),
+        Ok(false) => String::from_str(alloc, "damaged"),
+        Err(error) => format!(in alloc; "{error}"),
+    }
+}
+
+/// The output of a request for a stream, and then `whole`, `damaged` or the message at the end.
+fn described<R: Read + Drop>(
+    alloc: Global,
+    request: &Request,
+    stream: R,
+) -> Result<Vec<u8>, AllocError> {
+    let mut out = Vec::new(alloc);
+    let end = ended(alloc, describe(alloc, request, stream, &mut out))?;
+    out.extend_from_slice(end.as_bytes())?;
+    Ok(out)
+}
+
+/// The same by the words of a request.
+pub fn told<R: Read + Drop>(
     alloc: Global,
     (options, shape): (&str, &str),
-    bytes: &[u8],
-    wanted: &str,
-) -> Result<bool, AllocError> {
-    Ok(told(alloc, options, shape, bytes)?.as_str() == wanted)
+    stream: R,
+) -> Option<Vec<u8>> {
+    match requested(alloc, options, shape) {
+        Some(request) => described(alloc, &request, stream).ok(),
+        None => None,
+    }
+}
+
+/// Whether these lines are printed of a stream, and then this end.
+pub fn tells<R: Read + Drop>(
+    alloc: Global,
+    words: (&str, &str),
+    stream: R,
+    (lines, end): (&str, &str),
+) -> bool {
+    match told(alloc, words, stream) {
+        Some(text) => {
+            text.starts_with(lines.as_bytes()) && text.get(lines.len()..) == Some(end.as_bytes())
+        }
+        None => false,
+    }
+}
+
+/// Whether these lines are printed of a stream, and then an error.
+pub fn fails_after<R: Read + Drop>(
+    alloc: Global,
+    words: (&str, &str),
+    stream: R,
+    lines: &str,
+) -> bool {
+    match told(alloc, words, stream) {
+        Some(text) => {
+            text.starts_with(lines.as_bytes()) && is_error(text.get(lines.len()..).unwrap_or(&[]))
+        }
+        None => false,
+    }
+}
+
+/// Whether this is neither a line nor how whole streams end.
+fn is_error(end: &[u8]) -> bool {
+    !end.starts_with(b"{") && end != b"whole".as_slice()
+}
+
+/// The words, the bytes, the lines and the end of each row: the bytes are told so.
+pub fn all_told(rt: &impl Abort, alloc: Global, rows: &[((&str, &str), &[u8], (&str, &str))]) {
+    for (place, &(words, bytes, wanted)) in rows.iter().enumerate() {
+        assert!(rt; tells(alloc, words, bytes, wanted), "row {place}");
+    }
 }

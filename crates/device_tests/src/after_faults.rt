@@ -1,6 +1,6 @@
 //! How many bytes a reader has left after a fault: all that follow the input that is no word.
 
-use crate::asserts::all_hold;
+use crate::asserts::all_true;
 use crate::wrong_streams;
 use bincode::de::read::SliceReader;
 use bincode::de::{BorrowDecode, Decode, DecoderImpl};
@@ -63,51 +63,28 @@ where
 fn leaves_what_follows_a_text(rt: HostRuntime) {
     let alloc = rt.alloc();
     let no_text = [2, 97, 255, 77, 78, 79];
-    let rows = [
-        ("String", leaves_three_both::<String>(alloc, &no_text)),
-        ("&str", leaves_three_lent::<&str>(alloc, &no_text)),
-        (
-            "CString",
-            leaves_three::<CString>(alloc, &[3, 65, 0, 66, 77, 78, 79]),
-        ),
-    ];
-    all_hold(&rt, &rows);
+    assert!(rt;
+        leaves_three_both::<String>(alloc, &no_text)
+            && leaves_three_lent::<&str>(alloc, &no_text)
+            && leaves_three::<CString>(alloc, &[3, 65, 0, 66, 77, 78, 79])
+    );
 }
 
 /// Of a list nothing is read after the part at fault.
 #[test]
 fn leaves_what_follows_a_scalar(rt: HostRuntime) {
     let alloc = rt.alloc();
-    let rows = [
-        ("bool", leaves_three::<bool>(alloc, &[2, 77, 78, 79])),
-        (
-            "char",
+    all_true(
+        &rt,
+        &[
+            leaves_three::<bool>(alloc, &[2, 77, 78, 79]),
             leaves_three_everywhere::<char>(alloc, &[237, 160, 128, 77, 78, 79]),
-        ),
-        (
-            "Option",
             leaves_three::<Option<u8>>(alloc, &[2, 77, 78, 79]),
-        ),
-        (
-            "Result",
             leaves_three::<Result<u8, u8>>(alloc, &[2, 77, 78, 79]),
-        ),
-        (
-            "NonZeroU8",
             leaves_three::<NonZeroU8>(alloc, &[0, 77, 78, 79]),
-        ),
-        (
-            "NonZeroI64",
             leaves_three::<NonZeroI64>(alloc, &[251, 0, 0, 77, 78, 79]),
-        ),
-        (
-            "u16",
             leaves_three_everywhere::<u16>(alloc, &[252, 77, 78, 79]),
-        ),
-        (
-            "the second of a list",
             leaves_three_both::<Vec<bool>>(alloc, &[3, 1, 2, 77, 78, 79]),
-        ),
-    ];
-    all_hold(&rt, &rows);
+        ],
+    );
 }

@@ -1,18 +1,24 @@
 //! Texts of more than half a megabyte.
 
 use crate::pieces::word_of;
-use bincode::config;
-use bincode::de::Decode;
 use bincode::ffi::CString;
 use std::alloc::Global;
 use std::path::PathBuf;
-use test_helpers::checks::{decoded, either};
+use test_helpers::checks::{either, read_all_but_one};
 
-/// What is read of a word with a byte after it.
-fn read<T: Decode<()>>(alloc: Global, input: &[u8]) -> Option<T> {
-    match decoded(alloc, input, config::standard()) {
-        Ok((value, taken)) if taken.saturating_add(1) == input.len() => Some(value),
-        _ => None,
+/// Whether a C string of 600,000 bytes is read.
+fn reads_c_string(alloc: Global, word: &[u8]) -> bool {
+    match read_all_but_one::<CString>(alloc, word) {
+        Some(text) => text.as_bytes().len() == 600_000,
+        None => false,
+    }
+}
+
+/// Whether a path of as many is, with room for no more.
+fn reads_path(alloc: Global, word: &[u8]) -> bool {
+    match read_all_but_one::<PathBuf>(alloc, word) {
+        Some(path) => path.capacity() == 600_000,
+        None => false,
     }
 }
 
@@ -27,10 +33,5 @@ fn reads_many_bytes(rt: HostRuntime) {
         assert!(rt; false);
         return;
     };
-    let in_c: Option<CString> = read(alloc, &word);
-    let path: Option<PathBuf> = read(alloc, &word);
-    assert!(rt;
-        matches!(&in_c, Some(it) if it.as_bytes().len() == 600_000)
-            && matches!(&path, Some(it) if it.capacity() == 600_000)
-    );
+    assert!(rt; reads_c_string(alloc, &word) && reads_path(alloc, &word));
 }

@@ -1,6 +1,5 @@
 //! Contexts of one's own: each call passes its context on, and uses it once for each value that asks for it.
 
-use crate::asserts::all_true;
 use bincode::de::{BorrowDecode, BorrowDecoder, BorrowedBytes, Decode, Decoder, Sequential};
 use bincode::error::DecodeError;
 use bincode::{
@@ -80,51 +79,46 @@ fn are_from(values: &[Numbered], first: u8) -> bool {
     true
 }
 
-/// Whether the word was read as its four values, each with its number, and the context counted four.
-fn is_read(read: Result<Several, DecodeError>, count: &Cell<u32>) -> bool {
-    match read {
-        Ok((value, list)) => {
-            are_from(&[value], 0)
-                && list.len() == 3
-                && are_from(list.as_slice(), 1)
-                && count.get() == 4
-        }
-        Err(_error) => false,
-    }
+/// Whether these are the four values of the word, each with its number, and the context counted four.
+fn are_counted((value, list): &Several, count: &Cell<u32>) -> bool {
+    are_from(&[*value], 0) && list.len() == 3 && are_from(list, 1) && count.get() == 4
 }
 
 /// Whether the call for slices gives the four values, and leaves a context that counted four.
 fn keeps_by_slice(alloc: Global) -> bool {
     let count = Cell::new(0u32);
-    let read = decode_from_slice_with_context(alloc, &WORD, config::standard(), &count);
-    is_read(read.map(|(several, _)| several), &count)
+    match decode_from_slice_with_context(alloc, &WORD, config::standard(), &count) {
+        Ok((several, _)) => are_counted(&several, &count),
+        Err(_) => false,
+    }
 }
 
 /// Whether the borrowing call does so.
 fn keeps_by_lending(alloc: Global) -> bool {
     let count = Cell::new(0u32);
-    let read = borrow_decode_from_slice_with_context(alloc, &WORD, config::standard(), &count);
-    is_read(read.map(|(several, _)| several), &count)
+    match borrow_decode_from_slice_with_context(alloc, &WORD, config::standard(), &count) {
+        Ok((several, _)) => are_counted(&several, &count),
+        Err(_) => false,
+    }
 }
 
 /// Whether the call for streams does so.
 fn keeps_by_stream(alloc: Global) -> bool {
     let count = Cell::new(0u32);
     let mut stream = WORD.as_slice();
-    let read = decode_from_std_read_with_context(alloc, &mut stream, config::standard(), &count);
-    is_read(read, &count)
+    match decode_from_std_read_with_context(alloc, &mut stream, config::standard(), &count) {
+        Ok(several) => are_counted(&several, &count),
+        Err(_) => false,
+    }
 }
 
 /// Retries once if an allocation is refused.
 #[test]
 fn keeps_its_context(rt: HostRuntime) {
     let alloc = rt.alloc();
-    all_true(
-        &rt,
-        &[
-            keeps_by_slice(alloc) || keeps_by_slice(alloc),
-            keeps_by_lending(alloc) || keeps_by_lending(alloc),
-            keeps_by_stream(alloc) || keeps_by_stream(alloc),
-        ],
+    assert!(rt;
+        (keeps_by_slice(alloc) || keeps_by_slice(alloc))
+            && (keeps_by_lending(alloc) || keeps_by_lending(alloc))
+            && (keeps_by_stream(alloc) || keeps_by_stream(alloc))
     );
 }

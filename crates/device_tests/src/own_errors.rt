@@ -102,22 +102,34 @@ impl Encode for Halting {
     }
 }
 
-/// Whether each call fails by this cause, and leaves 1 and 2.
-fn leaves_two<T: Encode>(alloc: Global, value: &T, cause: Cause) -> bool {
+/// Whether the call for slices fails by this cause, and leaves 1 and 2.
+fn leaves_slice<T: Encode>(value: &T, cause: Cause) -> bool {
     let mut slice = [9u8; 4];
-    let by_slice = encode_into_slice(value, &mut slice, config::standard());
+    let outcome = encode_into_slice(value, &mut slice, config::standard());
+    fails_by(outcome, cause) && slice == [1, 2, 9, 9]
+}
+
+/// Whether the call for writers does so.
+fn leaves_counter<T: Encode>(value: &T, cause: Cause) -> bool {
     let mut counter = SizeWriter::default();
-    let by_counter = encode_into_writer(value, &mut counter, config::standard());
+    let outcome = encode_into_writer(value, &mut counter, config::standard());
+    fails_by(outcome, cause) && counter.bytes_written == 2
+}
+
+/// Whether the call for streams does so.
+fn leaves_stream<T: Encode>(value: &T, cause: Cause) -> bool {
     let mut target = [9u8; 4];
     let mut stream = &mut target[..];
-    let by_stream = encode_into_std_write(value, &mut stream, config::standard());
-    fails_by(by_slice, cause)
-        && fails_by(by_counter, cause)
-        && fails_by(by_stream, cause)
+    let outcome = encode_into_std_write(value, &mut stream, config::standard());
+    fails_by(outcome, cause) && target == [1, 2, 9, 9]
+}
+
+/// Whether each call fails so.
+fn leaves_two<T: Encode>(alloc: Global, value: &T, cause: Cause) -> bool {
+    leaves_slice(value, cause)
+        && leaves_counter(value, cause)
+        && leaves_stream(value, cause)
         && fails_by(encode_to_vec(alloc, value, config::standard()), cause)
-        && slice == [1, 2, 9, 9]
-        && target == [1, 2, 9, 9]
-        && counter.bytes_written == 2
 }
 
 #[test]

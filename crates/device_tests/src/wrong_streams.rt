@@ -1,6 +1,5 @@
 //! Readers that own a stream or hold a buffer before it: how often they ask it, how they fail, and what a fault leaves.
 
-use crate::asserts::all_true;
 use crate::pieces::{Failing, KINDS, Share, is_all_a, stream_over, word_of};
 use bincode::de::{Decode, IoReader};
 use bincode::error::DecodeError;
@@ -57,14 +56,11 @@ fn asks_a_stream_once_for_a_piece_by_each_reader(rt: HostRuntime) {
         assert!(rt; false);
         return;
     };
-    all_true(
-        &rt,
-        &[
-            owned_calls(alloc, &text, 1_000) == Some(13)
-                || owned_calls(alloc, &text, 1_000) == Some(13),
-            buffered_calls(alloc, &text, 1_000) == Some(2)
-                || buffered_calls(alloc, &text, 1_000) == Some(2),
-        ],
+    assert!(rt;
+        (owned_calls(alloc, &text, 1_000) == Some(13)
+            || owned_calls(alloc, &text, 1_000) == Some(13))
+            && (buffered_calls(alloc, &text, 1_000) == Some(2)
+                || buffered_calls(alloc, &text, 1_000) == Some(2))
     );
 }
 
@@ -86,30 +82,41 @@ fn tells<T: Drop>(outcome: Result<T, DecodeError>, kind: ErrorKind) -> bool {
     }
 }
 
-/// A buffer tells the kind of a failure at once, and so does the look for the next value.
+/// Whether a buffer tells the kind of a failure at once.
+fn tells_by_reading(alloc: Global, kind: ErrorKind) -> bool {
+    let Ok(mut buffered) = failing_after(alloc, kind) else {
+        return false;
+    };
+    let read: Result<u32, DecodeError> = decode_from_reader(
+        alloc,
+        &mut buffered,
+        config::standard(),
+    );
+    tells(read, kind) && buffered.get_ref().calls == 1
+}
+
+/// Whether the look for the next value does so.
+fn tells_by_looking(alloc: Global, kind: ErrorKind) -> bool {
+    let Ok(mut buffered) = failing_after(alloc, kind) else {
+        return false;
+    };
+    let next: Result<Option<u32>, DecodeError> = decode_next_from_std_read(
+        alloc,
+        &mut buffered,
+        config::standard(),
+    );
+    tells(next, kind) && buffered.get_ref().calls == 1
+}
+
+/// Where memory is refused it is asked once more.
 #[test]
 fn keeps_the_kind_of_a_failure_before_a_buffer(rt: HostRuntime) {
     let alloc = rt.alloc();
     for kind in KINDS {
-        let (Some(mut buffered), Some(mut other)) = (
-            either(failing_after(alloc, kind), failing_after(alloc, kind)),
-            either(failing_after(alloc, kind), failing_after(alloc, kind)),
-        ) else {
-            assert!(rt; false);
-            return;
-        };
-        let read: Result<u32, DecodeError> = decode_from_reader(
-            alloc,
-            &mut buffered,
-            config::standard(),
+        assert!(rt;
+            (tells_by_reading(alloc, kind) || tells_by_reading(alloc, kind))
+                && (tells_by_looking(alloc, kind) || tells_by_looking(alloc, kind))
         );
-        assert!(rt; tells(read, kind) && buffered.get_ref().calls == 1);
-        let next: Result<Option<u32>, DecodeError> = decode_next_from_std_read(
-            alloc,
-            &mut other,
-            config::standard(),
-        );
-        assert!(rt; tells(next, kind) && other.get_ref().calls == 1);
     }
 }
 

@@ -1,8 +1,9 @@
 //! Articles that are added to a store.
 
-use crate::stores::{FRAMED, Full, all_true, damaged, named, salt, tea};
+use crate::stores::{FRAMED, Full, damaged};
 use framed_store::appending::AppendError;
 use std::alloc::{AllocError, Global};
+use std::collections::BTreeMap;
 use stock_files::adding::{AddError, add_lines, add_one, next_offset};
 use stock_files::article::Article;
 use stock_files::limit::LONGEST_WORD;
@@ -17,106 +18,137 @@ fn goes_on_at(bytes: &[u8], offset: usize) -> bool {
     matches!(next_offset(&mut store), Ok(found) if found == offset)
 }
 
-/// Whether nothing is added to a store that holds these bytes, with this message and status.
-fn refuses(alloc: Global, bytes: &[u8], text: &str) -> Result<bool, AllocError> {
+/// Whether nothing is added to a store that holds these bytes, with this message and the status of what is damaged.
+fn refuses(alloc: Global, bytes: &[u8], text: &str) -> bool {
     let mut store = bytes;
     match next_offset(&mut store) {
-        Ok(_) => Ok(false),
-        Err(error) => {
-            let told = format!(in alloc; "{error}")?;
-            Ok(told.as_str() == text && error.status() == DAMAGED)
-        }
+        Ok(_) => false,
+        Err(error) => error.status() == DAMAGED && is_printed(alloc, &error, text),
+    }
+}
+
+/// Whether an error is printed so.
+fn is_printed(alloc: Global, error: &AddError, text: &str) -> bool {
+    match format!(in alloc; "{error}") {
+        Ok(told) => told.as_str() == text,
+        Err(_) => false,
     }
 }
 
 #[test]
-fn finds_where_a_store_goes_on(rt: HostRuntime) -> Result<(), AllocError> {
+fn finds_where_a_store_goes_on(rt: HostRuntime) {
     let alloc = rt.alloc();
     let torn = "torn at byte 16: nothing was added. `records repair` makes the file whole";
     let long = "no frame at byte 0, of a length of 65527: nothing was added. \
         `records repair` makes the file whole";
-    all_true(
-        &rt,
-        &[
-            goes_on_at(&[], 0),
-            goes_on_at(&FRAMED, 63),
-            goes_on_at(&damaged(), 63),
-            refuses(alloc, &FRAMED[..46], torn)?,
-            refuses(alloc, &[247, 255, 0, 0], long)?,
-        ],
+    assert!(rt;
+        goes_on_at(&[], 0)
+            && goes_on_at(&FRAMED, 63)
+            && goes_on_at(&damaged(), 63)
+            && refuses(alloc, &FRAMED[..46], torn)
+            && refuses(alloc, &[247, 255, 0, 0], long)
     );
-    Ok(())
 }
 
-/// Whether lines are appended to a store with this room: the outcome, and what the store holds.
-fn appends(
-    alloc: Global,
-    lines: &str,
-    room: usize,
-    held: &[u8],
-) -> Option<Result<usize, AddError>> {
+/// What comes of lines.
+#[derive(Clone, Copy, PartialEq)]
+enum Outcome {
+    /// So many articles were added.
+    Added(usize),
+    /// The store took no more.
+    Full,
+    /// A line is no article.
+    NoArticle,
+    /// Something else.
+    Other,
+}
+
+/// What came of adding lines, where it failed with the status of what fails.
+fn outcome_of(outcome: Result<usize, AddError>) -> Outcome {
+    match outcome {
+        Ok(count) => Outcome::Added(count),
+        Err(error) if error.status() != FAILED => Outcome::Other,
+        Err(AddError::Append(AppendError::Write(_))) => Outcome::Full,
+        Err(AddError::Line(_)) => Outcome::NoArticle,
+        Err(_) => Outcome::Other,
+    }
+}
+
+/// Whether this comes of adding lines to a store with this room, and the store holds this.
+fn appends(alloc: Global, lines: &str, room: usize, wanted: Outcome, held: &[u8]) -> bool {
     let mut store = Full {
         held: Vec::new(alloc),
         room,
     };
-    let outcome = add_lines(alloc, &mut lines.as_bytes(), &mut store);
-    if store.held.as_slice() != held {
-        return None;
-    }
-    Some(outcome)
+    let outcome = outcome_of(add_lines(alloc, &mut lines.as_bytes(), &mut store));
+    outcome == wanted && store.held.as_slice() == held
 }
 
 #[test]
 fn appends_lines(rt: HostRuntime) {
     let alloc = rt.alloc();
-    let all = appends(alloc, LINES, 63, &FRAMED);
-    let none = appends(alloc, "\n \n", 63, &[]);
-    let full = appends(alloc, LINES, 20, &FRAMED[..20]);
-    let no_article = appends(alloc, "salt 40\ntea much\n", 63, &FRAMED[..16]);
-    all_true(
-        &rt,
-        &[
-            matches!(all, Some(Ok(3))),
-            matches!(none, Some(Ok(0))),
-            matches!(&full, Some(Err(AddError::Append(AppendError::Write(_))))),
-            matches!(&full, Some(Err(error)) if error.status() == FAILED),
-            matches!(&no_article, Some(Err(AddError::Line(_)))),
-            matches!(&no_article, Some(Err(error)) if error.status() == FAILED),
-        ],
+    assert!(rt;
+        appends(alloc, LINES, 63, Outcome::Added(3), &FRAMED)
+            && appends(alloc, "\n \n", 63, Outcome::Added(0), &[])
+            && appends(alloc, LINES, 20, Outcome::Full, &FRAMED[..20])
+            && appends(
+                alloc,
+                "salt 40\ntea much\n",
+                63,
+                Outcome::NoArticle,
+                &FRAMED[..16]
+            )
     );
 }
 
-/// The number of bytes of the frame of an article.
-fn size_of(alloc: Global, article: &Article) -> Result<usize, AppendError> {
+/// The article with a name of this length, the largest price and this weight.
+fn named(alloc: Global, length: usize, weight: Option<u32>) -> Result<Article, AllocError> {
+    Ok(Article {
+        name: "n".repeat(alloc, length)?,
+        price: u64::MAX,
+        weight,
+        notes: BTreeMap::new(alloc),
+    })
+}
+
+/// What comes of adding an article: the number of bytes of its frame.
+fn added(alloc: Global, article: &Article) -> Result<usize, AppendError> {
     add_one(alloc, &mut Vec::new(alloc), article)
 }
 
-/// The number of bytes of the frame of an article with a name of this length, the largest price and this weight.
-/// It is 0 where the article cannot be read back under the limit, and 1 where its encoding is longer than the longest.
-fn size_of_named(alloc: Global, length: usize, weight: Option<u32>) -> Result<usize, AllocError> {
-    let name = "n".repeat(alloc, length)?;
-    match size_of(alloc, &named(alloc, name.as_str(), u64::MAX, weight)?) {
-        Ok(size) => Ok(size),
-        Err(AppendError::ReadBack(_)) => Ok(0),
-        Err(AppendError::TooLong { .. }) => Ok(1),
-        Err(_) => Ok(2),
+/// Whether an article with such a name has a frame of so many bytes.
+fn has_size(alloc: Global, length: usize, weight: Option<u32>, size: usize) -> bool {
+    match named(alloc, length, weight) {
+        Ok(article) => matches!(added(alloc, &article), Ok(found) if found == size),
+        Err(_) => false,
+    }
+}
+
+/// Whether its encoding is longer than the longest.
+fn is_too_long(alloc: Global, length: usize, weight: Option<u32>) -> bool {
+    match named(alloc, length, weight) {
+        Ok(article) => matches!(added(alloc, &article), Err(AppendError::TooLong { .. })),
+        Err(_) => false,
+    }
+}
+
+/// Whether it cannot be read back under the limit.
+fn is_past_limit(alloc: Global, length: usize, weight: Option<u32>) -> bool {
+    match named(alloc, length, weight) {
+        Ok(article) => matches!(added(alloc, &article), Err(AppendError::ReadBack(_))),
+        Err(_) => false,
     }
 }
 
 #[test]
-fn adds_the_longest_article(rt: HostRuntime) -> Result<(), AllocError> {
+fn adds_the_longest_article(rt: HostRuntime) {
     let alloc = rt.alloc();
     let most = LONGEST_WORD as usize;
-    all_true(
-        &rt,
-        &[
-            matches!(size_of(alloc, &salt(alloc)?), Ok(16)),
-            matches!(size_of(alloc, &tea(alloc)?), Ok(31)),
-            size_of_named(alloc, 65507, Some(u32::MAX))? == most + 8,
-            size_of_named(alloc, 65508, Some(u32::MAX))? == 1,
-            size_of_named(alloc, 65511, None)? == most + 7,
-            size_of_named(alloc, 65512, None)? == 0,
-        ],
+    let weight = Some(u32::MAX);
+    assert!(rt;
+        has_size(alloc, 65507, weight, most + 8)
+            && is_too_long(alloc, 65508, weight)
+            && has_size(alloc, 65511, None, most + 7)
+            && is_past_limit(alloc, 65512, None)
     );
-    Ok(())
 }

@@ -1,9 +1,10 @@
 //! What is done to stores that are repaired.
 
-use crate::stores::{FRAMED, all_true, damaged};
-use framed_store::surveying::survey_frames;
+use crate::stores::{FRAMED, damaged};
+use framed_store::ending::Ending;
+use framed_store::surveying::{Survey, survey_frames};
 use std::alloc::Global;
-use std::io;
+use std::process::Abort;
 use stock_files::limit::LONGEST_WORD;
 use stock_files::repairing::{
     Plan, Repair, is_whole_after, plan_for, print_kept, print_plan, salvage,
@@ -27,20 +28,26 @@ const CUTTING: Repair = Repair {
     cuts: true,
 };
 
-/// Whether this is done to a store, whether it is whole then, and what is printed.
-fn repairs(
-    alloc: Global,
-    bytes: &[u8],
-    repair: Repair,
-    wanted: Plan,
-    whole: bool,
-    text: &str,
-) -> anyhow::Result<bool> {
+/// A store, how it is repaired, what is done to it, whether it is whole then, and what is printed.
+type Row<'r> = (&'r [u8], Repair, Plan, bool, &'r str);
+
+/// Whether this is done to a store.
+fn repairs(alloc: Global, (bytes, repair, wanted, whole, text): Row<'_>) -> bool {
     let found = survey_frames(bytes, LONGEST_WORD);
     let plan = plan_for(&found, bytes.get(found.length..).unwrap_or(&[]), repair);
     let mut out = Vec::new(alloc);
-    print_plan(&mut out, "f", bytes.len(), &found, plan)?;
-    Ok(plan == wanted && is_whole_after(&found, plan) == whole && out.as_slice() == text.as_bytes())
+    let printed = print_plan(&mut out, "f", bytes.len(), &found, plan);
+    printed.is_ok()
+        && plan == wanted
+        && is_whole_after(&found, plan) == whole
+        && out.as_slice() == text.as_bytes()
+}
+
+/// Each row is done.
+fn all_repaired(rt: &impl Abort, alloc: Global, rows: &[Row<'_>]) {
+    for (place, &row) in rows.iter().enumerate() {
+        assert!(rt; repairs(alloc, row), "row {place}");
+    }
 }
 
 /// The store with a length of its second frame that is too long, and without the last byte.
@@ -51,10 +58,9 @@ fn cut_in_two() -> [u8; 63] {
 }
 
 #[test]
-fn plans_repairs(rt: HostRuntime) -> anyhow::Result<()> {
-    let alloc = rt.alloc();
+fn plans_repairs(rt: HostRuntime) {
     let changed = damaged();
-    let front = changed.get(..60).unwrap_or(&[]);
+    let front = &changed[..60];
     let two = cut_in_two();
     let leave = "f: nothing to cut off, whole frames: 3, bytes: 63\n";
     let torn = "f: cut off at byte 16, bytes lost: 30, whole frames: 1\n";
@@ -64,59 +70,66 @@ fn plans_repairs(rt: HostRuntime) -> anyhow::Result<()> {
         `--drop-damaged` keeps the whole frames, `--cut` cuts at byte 16\n";
     let cut = "f: cut off at byte 16, bytes lost: 47, whole frames: 1\n";
     let after = Plan::Refuse { after: 31 };
-    all_true(
+    all_repaired(
         &rt,
+        rt.alloc(),
         &[
-            repairs(alloc, &FRAMED, PLAIN, Plan::Leave, true, leave)?,
-            repairs(alloc, &FRAMED, DROPPING, Plan::Leave, true, leave)?,
-            repairs(alloc, &FRAMED[..46], PLAIN, Plan::Cut, true, torn)?,
-            repairs(alloc, &FRAMED[..46], DROPPING, Plan::Cut, true, torn)?,
-            repairs(alloc, front, PLAIN, Plan::Cut, false, left)?,
-            repairs(alloc, front, DROPPING, Plan::Rewrite, true, "")?,
-            repairs(alloc, &two, PLAIN, after, false, refused)?,
-            repairs(alloc, &two, CUTTING, Plan::Cut, true, cut)?,
-            repairs(alloc, &two, DROPPING, Plan::Rewrite, true, "")?,
+            (&FRAMED, PLAIN, Plan::Leave, true, leave),
+            (&FRAMED, DROPPING, Plan::Leave, true, leave),
+            (&FRAMED[..46], PLAIN, Plan::Cut, true, torn),
+            (&FRAMED[..46], DROPPING, Plan::Cut, true, torn),
+            (front, PLAIN, Plan::Cut, false, left),
+            (front, DROPPING, Plan::Rewrite, true, ""),
+            (&two, PLAIN, after, false, refused),
+            (&two, CUTTING, Plan::Cut, true, cut),
+            (&two, DROPPING, Plan::Rewrite, true, ""),
         ],
     );
-    Ok(())
+}
+
+/// Whether these parts are kept of a store, one after the other.
+fn keeps(alloc: Global, store: &[u8], first: &[u8], second: &[u8]) -> bool {
+    let mut kept = Vec::new(alloc);
+    salvage(store, &mut kept).is_ok()
+        && kept.starts_with(first)
+        && kept.get(first.len()..) == Some(second)
 }
 
 /// Whether the frames after the first are kept where its length was changed to this one.
-fn keeps_after_length(alloc: Global, length: u8) -> io::Result<bool> {
+fn keeps_after_length(alloc: Global, length: u8) -> bool {
     let mut longer = FRAMED;
     longer[0] = length;
-    let mut kept = Vec::new(alloc);
-    salvage(&longer, &mut kept)?;
-    Ok(kept.as_slice() == &FRAMED[16..])
+    keeps(alloc, &longer, &[], &FRAMED[16..])
 }
 
-/// Whether a damaged frame whose length stands is passed over as one.
-fn passes_over_damaged(alloc: Global) -> io::Result<bool> {
-    let mut kept = Vec::new(alloc);
-    salvage(&damaged(), &mut kept)?;
-    Ok(kept.starts_with(&FRAMED[..16]) && kept.get(16..) == FRAMED.get(47..))
-}
-
-#[test]
-fn keeps_whole_frames(rt: HostRuntime) -> anyhow::Result<()> {
-    let alloc = rt.alloc();
-    let two = cut_in_two();
-    let mut kept = Vec::new(alloc);
-    salvage(&two, &mut kept)?;
-    let mut none = Vec::new(alloc);
-    salvage(&FRAMED[1..15], &mut none)?;
+/// Whether this is printed of two frames that were kept.
+fn prints_kept(alloc: Global, text: &str) -> bool {
     let mut out = Vec::new(alloc);
-    print_kept(&mut out, "f", 63, &survey_frames(&kept, LONGEST_WORD))?;
-    all_true(
-        &rt,
-        &[
-            kept.starts_with(&FRAMED[..16]) && kept.get(16..) == FRAMED.get(47..),
-            // 9 leads into the next frame, and 39 over it.
-            keeps_after_length(alloc, 9)? && keeps_after_length(alloc, 39)?,
-            passes_over_damaged(alloc)?,
-            none.is_empty(),
-            out.as_slice() == b"f: whole frames kept: 2, bytes: 32, bytes dropped: 31\n".as_slice(),
-        ],
+    let kept = Survey {
+        whole: 2,
+        damaged: 0,
+        length: 32,
+        ending: Ending::Whole,
+    };
+    print_kept(&mut out, "f", 63, &kept).is_ok() && out.as_slice() == text.as_bytes()
+}
+
+/// The length of the second frame is changed, or a bit of its word; that of the first to one that leads into the next
+/// frame, 9, or over it, 39; and nothing is whole.
+#[test]
+fn keeps_whole_frames(rt: HostRuntime) {
+    let alloc = rt.alloc();
+    let first = &FRAMED[..16];
+    let third = &FRAMED[47..];
+    assert!(rt;
+        keeps(alloc, &cut_in_two(), first, third)
+            && keeps(alloc, &damaged(), first, third)
+            && keeps_after_length(alloc, 9)
+            && keeps_after_length(alloc, 39)
+            && keeps(alloc, &FRAMED[1..15], &[], &[])
+            && prints_kept(
+                alloc,
+                "f: whole frames kept: 2, bytes: 32, bytes dropped: 31\n"
+            )
     );
-    Ok(())
 }

@@ -1,16 +1,19 @@
 //! The stores of the tests, whose bytes another program made, and streams that fail.
 
-use std::alloc::{AllocError, Global};
-use std::collections::BTreeMap;
+use bincode::encode_into_slice;
 use std::io;
 use std::io::{ErrorKind, Read, Write};
 use std::process::Abort;
 use stock_files::article::Article;
+use stock_files::limit::settings;
 
-/// The words of salt at 40, and of tea at 1250, of a weight of 100 and from Assam.
-pub const STOCK: [u8; 31] = [
-    4, 115, 97, 108, 116, 40, 0, 0, 3, 116, 101, 97, 251, 226, 4, 1, 100, 1, 6, 111, 114, 105, 103,
-    105, 110, 5, 65, 115, 115, 97, 109,
+/// The word of salt at 40.
+pub const SALT: [u8; 8] = [4, 115, 97, 108, 116, 40, 0, 0];
+
+/// The word of tea at 1250, of a weight of 100 and from Assam.
+pub const TEA: [u8; 23] = [
+    3, 116, 101, 97, 251, 226, 4, 1, 100, 1, 6, 111, 114, 105, 103, 105, 110, 5, 65, 115, 115, 97,
+    109,
 ];
 
 /// The frames of salt at 40, of tea at 1250, of a weight of 100 and from Assam, and of salt again.
@@ -38,32 +41,13 @@ pub fn all_true(rt: &impl Abort, answers: &[bool]) {
     assert_eq!(rt; answers.iter().position(|answer| !*answer), None);
 }
 
-/// Salt at 40.
-pub fn salt(alloc: Global) -> Result<Article, AllocError> {
-    named(alloc, "salt", 40, None)
-}
-
-/// Tea at 1250, of a weight of 100 and from Assam.
-pub fn tea(alloc: Global) -> Result<Article, AllocError> {
-    let mut tea = named(alloc, "tea", 1250, Some(100))?;
-    let origin = String::from_str(alloc, "origin")?;
-    let _before = tea.notes.insert(origin, String::from_str(alloc, "Assam")?)?;
-    Ok(tea)
-}
-
-/// An article without notes.
-pub fn named(
-    alloc: Global,
-    name: &str,
-    price: u64,
-    weight: Option<u32>,
-) -> Result<Article, AllocError> {
-    Ok(Article {
-        name: String::from_str(alloc, name)?,
-        price,
-        weight,
-        notes: BTreeMap::new(alloc),
-    })
+/// Whether this is the word of an article.
+pub fn has_word(article: &Article, word: &[u8]) -> bool {
+    let mut slice = [0u8; 32];
+    match encode_into_slice(article, &mut slice, settings()) {
+        Ok(length) => slice.get(..length) == Some(word),
+        Err(_) => false,
+    }
 }
 
 /// Takes as many bytes as it has room for, and then fails.

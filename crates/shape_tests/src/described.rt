@@ -1,71 +1,98 @@
-//! The shapes of tuples with each number of parts, of enums, and of types of one's own.
+//! The shapes of scalars and of what holds them, of tuples with each number of parts, of enums, and of types of one's
+//! own.
 
-use crate::asserts::none_wrong;
-use crate::shaped::shape_of;
+use crate::asserts::all_true;
+use crate::shaped::has_shape;
 use bincode::shape::{Described, Shape};
 use bincode::{EnumOf, NoMoreVariants, VariantOf};
 use own_types::foo::Foo;
 use own_types::kind::Kind;
 use std::alloc::Global;
-use test_helpers::rows::first_wrong;
 
-/// Whether the type's shape is a tuple of so many bytes.
-fn is_tuple<T: Described>(alloc: Global, count: usize) -> bool {
-    let Some(Shape::Tuple(parts)) = shape_of::<T>(alloc) else {
-        return false;
-    };
-    for part in &parts {
-        if *part != Shape::U8 {
-            return false;
-        }
-    }
-    parts.len() == count
+#[test]
+fn scalars_tell_their_shapes(rt: HostRuntime) {
+    let alloc = rt.alloc();
+    all_true(
+        &rt,
+        &[
+            has_shape::<()>(alloc, "Unit"),
+            has_shape::<bool>(alloc, "Bool"),
+            has_shape::<char>(alloc, "Char"),
+            has_shape::<String>(alloc, "Text"),
+            has_shape::<u8>(alloc, "U8"),
+            has_shape::<u16>(alloc, "U16"),
+            has_shape::<u32>(alloc, "U32"),
+            has_shape::<u64>(alloc, "U64"),
+            has_shape::<u128>(alloc, "U128"),
+            has_shape::<usize>(alloc, "Usize"),
+            has_shape::<i8>(alloc, "I8"),
+            has_shape::<i16>(alloc, "I16"),
+            has_shape::<i32>(alloc, "I32"),
+            has_shape::<i64>(alloc, "I64"),
+            has_shape::<i128>(alloc, "I128"),
+            has_shape::<isize>(alloc, "Isize"),
+        ],
+    );
 }
 
-/// Which tuple of bytes tells another shape.
-fn wrong_of_tuples<A: Described>(alloc: Global) -> Option<&'static str> {
-    let rows = [
-        ("1", is_tuple::<(A,)>(alloc, 1)),
-        ("2", is_tuple::<(A, A)>(alloc, 2)),
-        ("3", is_tuple::<(A, A, A)>(alloc, 3)),
-        ("4", is_tuple::<(A, A, A, A)>(alloc, 4)),
-        ("5", is_tuple::<(A, A, A, A, A)>(alloc, 5)),
-        ("6", is_tuple::<(A, A, A, A, A, A)>(alloc, 6)),
-        ("7", is_tuple::<(A, A, A, A, A, A, A)>(alloc, 7)),
-        ("8", is_tuple::<(A, A, A, A, A, A, A, A)>(alloc, 8)),
-        ("9", is_tuple::<(A, A, A, A, A, A, A, A, A)>(alloc, 9)),
-        ("10", is_tuple::<(A, A, A, A, A, A, A, A, A, A)>(alloc, 10)),
-        (
-            "11",
-            is_tuple::<(A, A, A, A, A, A, A, A, A, A, A)>(alloc, 11),
-        ),
-        (
-            "12",
-            is_tuple::<(A, A, A, A, A, A, A, A, A, A, A, A)>(alloc, 12),
-        ),
-        (
-            "13",
-            is_tuple::<(A, A, A, A, A, A, A, A, A, A, A, A, A)>(alloc, 13),
-        ),
-        (
-            "14",
-            is_tuple::<(A, A, A, A, A, A, A, A, A, A, A, A, A, A)>(alloc, 14),
-        ),
-        (
-            "15",
-            is_tuple::<(A, A, A, A, A, A, A, A, A, A, A, A, A, A, A)>(alloc, 15),
-        ),
-        (
-            "16",
-            is_tuple::<(A, A, A, A, A, A, A, A, A, A, A, A, A, A, A, A)>(alloc, 16),
-        ),
-    ];
-    first_wrong(&rows)
+#[test]
+fn wholes_tell_their_shapes(rt: HostRuntime) {
+    let alloc = rt.alloc();
+    all_true(
+        &rt,
+        &[
+            has_shape::<Vec<u16>>(alloc, "Seq { claim: 2, element: U16 }"),
+            has_shape::<[u16; 2]>(alloc, "Array { len: 2, claim: 2, element: U16 }"),
+            has_shape::<Option<u8>>(alloc, "Optional(U8)"),
+            has_shape::<Box<u8>>(alloc, "U8"),
+            has_shape::<Result<bool, u8>>(alloc, "Choice([Bool, U8])"),
+        ],
+    );
+}
+
+/// Whether a shape is there, and is a tuple of so many bytes.
+fn are_bytes(shape: Option<Shape>, count: usize) -> bool {
+    match shape {
+        Some(Shape::Tuple(parts)) => {
+            parts.len() == count && parts.iter().all(|part| *part == Shape::U8)
+        }
+        _ => false,
+    }
+}
+
+/// Whether the type's shape is a tuple of so many bytes. Retries once, since an allocation may be refused.
+fn is_tuple<T: Described>(alloc: Global, count: usize) -> bool {
+    are_bytes(T::shape(alloc), count) || are_bytes(T::shape(alloc), count)
+}
+
+/// Whether tuples of one byte to eight tell their shapes.
+fn tell_shapes<A: Described>(alloc: Global) -> bool {
+    is_tuple::<(A,)>(alloc, 1)
+        && is_tuple::<(A, A)>(alloc, 2)
+        && is_tuple::<(A, A, A)>(alloc, 3)
+        && is_tuple::<(A, A, A, A)>(alloc, 4)
+        && is_tuple::<(A, A, A, A, A)>(alloc, 5)
+        && is_tuple::<(A, A, A, A, A, A)>(alloc, 6)
+        && is_tuple::<(A, A, A, A, A, A, A)>(alloc, 7)
+        && is_tuple::<(A, A, A, A, A, A, A, A)>(alloc, 8)
+}
+
+/// Whether those of nine to sixteen do so.
+fn tell_long_shapes<A: Described>(alloc: Global) -> bool {
+    is_tuple::<(A, A, A, A, A, A, A, A, A)>(alloc, 9)
+        && is_tuple::<(A, A, A, A, A, A, A, A, A, A)>(alloc, 10)
+        && is_tuple::<(A, A, A, A, A, A, A, A, A, A, A)>(alloc, 11)
+        && is_tuple::<(A, A, A, A, A, A, A, A, A, A, A, A)>(alloc, 12)
+        && is_tuple::<(A, A, A, A, A, A, A, A, A, A, A, A, A)>(alloc, 13)
+        && is_tuple::<(A, A, A, A, A, A, A, A, A, A, A, A, A, A)>(alloc, 14)
+        && is_tuple::<(A, A, A, A, A, A, A, A, A, A, A, A, A, A, A)>(alloc, 15)
+        && is_tuple::<(A, A, A, A, A, A, A, A, A, A, A, A, A, A, A, A)>(alloc, 16)
 }
 
 #[test]
 fn tuples_tell_their_shapes(rt: HostRuntime) {
-    none_wrong(&rt, wrong_of_tuples::<u8>(rt.alloc()));
+    let alloc = rt.alloc();
+    assert!(rt; tell_shapes::<u8>(alloc) && tell_long_shapes::<u8>(alloc));
 }
 
 /// Three variants, which hold a byte, a truth value and a text.
@@ -73,59 +100,20 @@ type Three = EnumOf<
     VariantOf<0, u8, VariantOf<1, bool, VariantOf<2, String, NoMoreVariants<Foo>>>>,
 >;
 
-#[test]
-fn enums_tell_their_shapes(rt: HostRuntime) {
-    let three = shape_of::<Three>(rt.alloc());
-    assert!(rt;
-        match &three {
-            Some(Shape::Choice(parts)) => {
-                matches!(parts.as_slice(), [Shape::U8, Shape::Bool, Shape::Text])
-            }
-            _ => false,
-        }
-    );
-}
-
-/// Whether the shape is a list whose elements are pairs of a text and a number. Each claims 28 bytes: 24 for the text
-/// and 4 for the number.
-fn is_list_of_marks(shape: &Shape) -> bool {
-    let Shape::Seq { claim: 28, element } = shape else {
-        return false;
-    };
-    match &**element {
-        Shape::Tuple(parts) => matches!(parts.as_slice(), [Shape::Text, Shape::U32]),
-        _ => false,
-    }
-}
-
-/// Whether the shape is a pair of a text and a number of 16 bits.
-fn is_work(shape: &Shape) -> bool {
-    match shape {
-        Shape::Tuple(parts) => matches!(parts.as_slice(), [Shape::Text, Shape::U16]),
-        _ => false,
-    }
-}
-
+/// The pairs of a text and a number that `Kind` holds claim 28 bytes each: 24 for the text and 4 for the number.
 #[test]
 fn types_of_ones_own_tell_their_shapes(rt: HostRuntime) {
     let alloc = rt.alloc();
-    let kind = shape_of::<Kind>(alloc);
-    assert!(rt;
-        match &kind {
-            Some(Shape::Choice(parts)) => match parts.as_slice() {
-                [private, work, other] => {
-                    *private == Shape::Unit && is_work(work) && is_list_of_marks(other)
-                }
-                _ => false,
-            },
-            _ => false,
-        }
-    );
-    let foo = shape_of::<Foo>(alloc);
-    assert!(rt;
-        match &foo {
-            Some(Shape::Tuple(parts)) => matches!(parts.as_slice(), [Shape::U32, Shape::U32]),
-            _ => false,
-        }
+    all_true(
+        &rt,
+        &[
+            has_shape::<Three>(alloc, "Choice([U8, Bool, Text])"),
+            has_shape::<Foo>(alloc, "Tuple([U32, U32])"),
+            has_shape::<Kind>(
+                alloc,
+                "Choice([Unit, Tuple([Text, U16]), \
+                Seq { claim: 28, element: Tuple([Text, U32]) }])",
+            ),
+        ],
     );
 }

@@ -1,6 +1,7 @@
 //! Encodings by a shape, as JSON.
 
 use bincode::config;
+use bincode::shape::Shape;
 use shape_text::json::write_json;
 use shape_text::text::shape_of;
 use std::alloc::Global;
@@ -94,50 +95,46 @@ const VALUES: [(&str, &[u8], &str); 39] = [
     ("(u8?|())?", &[1, 0, 0], "{\"0\":null}"),
 ];
 
-/// The JSON of a word at the front of some bytes, and how many bytes were read.
-fn json_of(alloc: Global, shape: &str, bytes: &[u8]) -> Option<(String, usize)> {
-    let shape = shape_of(alloc, shape).ok()?;
+/// Whether these bytes are a word of a shape with this JSON.
+fn writes(alloc: Global, shape: &Shape, bytes: &[u8], wanted: &str) -> bool {
     let mut out = Vec::new(alloc);
-    let length = write_json(alloc, &shape, bytes, config::standard(), 1_000, &mut out).ok()?;
-    Some((String::from_utf8(out).ok()?, length))
+    let length = write_json(alloc, shape, bytes, config::standard(), 1_000, &mut out);
+    matches!(length, Ok(length) if length == bytes.len()) && out.as_slice() == wanted.as_bytes()
 }
 
-/// Whether these bytes are a word with this JSON. Retries once, since an allocation may be refused.
+/// Whether they are one of the shape of this text.
 fn shows(alloc: Global, shape: &str, bytes: &[u8], wanted: &str) -> bool {
-    let is_wanted = |shown: Option<(String, usize)>| {
-        shown.is_some_and(|(text, length)| text.as_str() == wanted && length == bytes.len())
-    };
-    is_wanted(json_of(alloc, shape, bytes)) || is_wanted(json_of(alloc, shape, bytes))
-}
-
-#[test]
-fn shows_values(rt: HostRuntime) {
-    let alloc = rt.alloc();
-    for (shape, bytes, value) in VALUES {
-        assert!(rt; shows(alloc, shape, bytes, value));
+    match shape_of(alloc, shape) {
+        Ok(shape) => writes(alloc, &shape, bytes, wanted),
+        Err(_) => false,
     }
 }
 
-/// The length of a word that is written as JSON, of at most `most` values.
+/// Retries once, since an allocation may be refused.
+#[test]
+fn shows_values(rt: HostRuntime) {
+    let alloc = rt.alloc();
+    for &(shape, bytes, value) in &VALUES {
+        assert!(rt;
+            shows(alloc, shape, bytes, value) || shows(alloc, shape, bytes, value),
+            "{shape}"
+        );
+    }
+}
+
+/// The length of a word that is written as JSON, of at most `most` values: a list, two options and a number are four.
 fn written(alloc: Global, most: usize) -> Option<usize> {
     let shape = shape_of(alloc, "[u8?]").ok()?;
     let mut out = Vec::new(alloc);
-    write_json(
-        alloc,
-        &shape,
-        &[2, 1, 9, 0],
-        config::standard(),
-        most,
-        &mut out,
-    )
-    .ok()
+    let word = [2, 1, 9, 0];
+    write_json(alloc, &shape, &word, config::standard(), most, &mut out).ok()
 }
 
-/// A list, two options and a number are four values.
 #[test]
 fn writes_no_more_values_than_allowed(rt: HostRuntime) {
     let alloc = rt.alloc();
     assert!(rt;
-        (written(alloc, 4).or_else(|| written(alloc, 4)) == Some(4)) && written(alloc, 3) == None
+        (written(alloc, 4) == Some(4) || written(alloc, 4) == Some(4))
+            && written(alloc, 3).is_none()
     );
 }

@@ -1,10 +1,9 @@
 //! Shapes in a short text: what a text spells, how deep it may be, and the text of a shape.
 
-use crate::asserts::all_true;
 use bincode::shape::Shape;
 use shape_text::spelling::text_of;
 use shape_text::text::shape_of;
-use std::alloc::Global;
+use std::alloc::{AllocError, Global};
 
 /// A tuple of each scalar.
 const SCALARS: &str = "((), bool, char, text, u8, u16, u32, u64, u128, \
@@ -63,170 +62,169 @@ const REFUSED: [(&str, usize, &str, &str); 8] = [
     ),
 ];
 
-/// Texts as shapes are shown.
-const SHOWN: [&str; 8] = [
-    SCALARS,
-    "[u8; 4294967297]",
-    "(char,)",
-    "[(u8, [text; 3]?)]",
-    "u64|text|usize",
-    "(u8|u16)|i32?",
-    "i128??",
-    "((u8|u16)?, [char|bool])",
-];
-
-/// The text of the shape that was parsed from a text, or its error message.
-fn told(alloc: Global, text: &str) -> Option<String> {
-    match shape_of(alloc, text) {
-        Ok(shape) => format!(in alloc; "{shape:?}").ok(),
-        Err(e) => format!(in alloc; "{e}").ok(),
-    }
-}
-
-/// Whether this is the error of the text. Retries once, since an allocation may be refused.
-fn tells(alloc: Global, text: &str, wanted: &str) -> bool {
-    let is_wanted = |told: Option<String>| told.is_some_and(|told| told.as_str() == wanted);
-    is_wanted(told(alloc, text)) || is_wanted(told(alloc, text))
-}
-
-/// Whether a text is refused at this offset, where this is expected, and this is met. Retries once, since an allocation
-/// may be refused.
-fn refuses(alloc: Global, text: &str, (place, expected, met): (usize, &str, &str)) -> bool {
-    let message = || format!(in alloc; "at byte {place}: expected {expected}, and not {met}");
-    match message().or_else(|_| message()) {
-        Ok(wanted) => tells(alloc, text, wanted.as_str()),
+/// Whether the shape that is parsed from a text is printed so, or its error message is this.
+fn tells_once(alloc: Global, text: &str, wanted: &str) -> bool {
+    let told = match shape_of(alloc, text) {
+        Ok(shape) => format!(in alloc; "{shape:?}"),
+        Err(error) => format!(in alloc; "{error}"),
+    };
+    match told {
+        Ok(told) => told.as_str() == wanted,
         Err(_) => false,
     }
+}
+
+/// The same. Retries once, since an allocation may be refused.
+fn tells(alloc: Global, text: &str, wanted: &str) -> bool {
+    tells_once(alloc, text, wanted) || tells_once(alloc, text, wanted)
+}
+
+/// Whether a text is refused at this offset, where this is expected, and this is met.
+fn refuses_once(alloc: Global, text: &str, (place, expected, met): (usize, &str, &str)) -> bool {
+    match format!(in alloc; "at byte {place}: expected {expected}, and not {met}") {
+        Ok(wanted) => tells_once(alloc, text, wanted.as_str()),
+        Err(_) => false,
+    }
+}
+
+/// The same. Retries once, since an allocation may be refused.
+fn refuses(alloc: Global, text: &str, why: (usize, &str, &str)) -> bool {
+    refuses_once(alloc, text, why) || refuses_once(alloc, text, why)
 }
 
 #[test]
 fn reads_shapes(rt: HostRuntime) {
-    for (text, shape) in SHAPES {
-        assert!(rt; tells(rt.alloc(), text, shape));
-    }
-    for (text, place, expected, met) in REFUSED {
-        assert!(rt; refuses(rt.alloc(), text, (place, expected, met)));
+    for &(text, shape) in &SHAPES {
+        assert!(rt; tells(rt.alloc(), text, shape), "{text}");
     }
 }
 
-/// A text that begins and ends with `count` of two marks.
+#[test]
+fn refuses_texts(rt: HostRuntime) {
+    for &(text, place, expected, met) in &REFUSED {
+        assert!(rt; refuses(rt.alloc(), text, (place, expected, met)), "{text}");
+    }
+}
+
+/// A mark before a part and one after it, which stand around the part as often, and what comes of that: the depth of the
+/// shape, or from which byte on it is too deep. 64 brackets, question marks and bars may stand around a part.
+const LEVELS: [(usize, &str, &str, &str, Result<usize, usize>); 8] = [
+    (64, "[", "u8", "]", Ok(64)),
+    (65, "[", "u8", "]", Err(64)),
+    (64, "(", "u8", ")", Ok(0)),
+    (65, "(", "u8", ")", Err(64)),
+    (32, "[", "u8", "?]", Ok(64)),
+    (32, "[", "u8?", "?]", Err(97)),
+    (63, "[", "u8|u8", "]", Ok(64)),
+    (64, "[", "u8|u8", "]", Err(66)),
+];
+
+/// A part with as many marks before it and after it.
 fn marked(
     alloc: Global,
-    (first, before): (usize, &str),
-    text: &str,
-    (last, after): (usize, &str),
-) -> Option<String> {
-    let mut marked = String::new(alloc);
-    for _ in 0..first {
-        marked.push_str(before).ok()?;
+    count: usize,
+    (before, part, after): (&str, &str, &str),
+) -> Result<String, AllocError> {
+    let mut text = String::new(alloc);
+    for _ in 0..count {
+        text.push_str(before)?;
     }
-    marked.push_str(text).ok()?;
-    for _ in 0..last {
-        marked.push_str(after).ok()?;
+    text.push_str(part)?;
+    for _ in 0..count {
+        text.push_str(after)?;
     }
-    Some(marked)
+    Ok(text)
 }
 
-/// The depth of the shape of such a text, or its error message.
-fn depth_once(
-    alloc: Global,
-    front: (usize, &str),
-    text: &str,
-    back: (usize, &str),
-) -> Option<Result<usize, String>> {
-    match shape_of(alloc, &marked(alloc, front, text, back)?) {
-        Ok(shape) => Some(Ok(shape.depth())),
-        Err(e) => Some(Err(format!(in alloc; "{e}").ok()?)),
+/// Whether this comes of a text: the depth of its shape, or from which byte on it is too deep.
+fn has_depth(alloc: Global, text: &str, wanted: Result<usize, usize>) -> bool {
+    match wanted {
+        Ok(depth) => matches!(shape_of(alloc, text), Ok(shape) if shape.depth() == depth),
+        Err(place) => is_too_deep(alloc, text, place),
     }
-}
-
-/// Whether it is so deep. Retries once, since an allocation may be refused.
-fn is_deep(
-    alloc: Global,
-    front: (usize, &str),
-    text: &str,
-    back: (usize, &str),
-    depth: usize,
-) -> bool {
-    let is_wanted = |told| matches!(told, Some(Ok(told)) if told == depth);
-    is_wanted(depth_once(alloc, front, text, back))
-        || is_wanted(depth_once(alloc, front, text, back))
-}
-
-/// Whether it is too deep from this byte on.
-fn is_too_deep(
-    alloc: Global,
-    front: (usize, &str),
-    text: &str,
-    back: (usize, &str),
-    place: usize,
-) -> bool {
-    tells_depth(alloc, depth_once(alloc, front, text, back), place)
-        || tells_depth(alloc, depth_once(alloc, front, text, back), place)
 }
 
 /// Whether the error message says that it is too deep from this byte on.
-fn tells_depth(alloc: Global, told: Option<Result<usize, String>>, place: usize) -> bool {
-    let Some(Err(told)) = told else {
-        return false;
-    };
-    let wanted = format!(in alloc; "at byte {place}: parts within parts, deeper than 64 levels");
-    match wanted {
-        Ok(wanted) => told == wanted,
+fn is_too_deep(alloc: Global, text: &str, place: usize) -> bool {
+    match format!(in alloc; "at byte {place}: parts within parts, deeper than 64 levels") {
+        Ok(wanted) => tells_once(alloc, text, wanted.as_str()),
         Err(_) => false,
     }
 }
 
-/// 64 brackets, question marks and bars may stand around a part, and not 65.
+/// Whether this comes of a part with as many marks.
+fn is_deep(
+    alloc: Global,
+    count: usize,
+    marks: (&str, &str, &str),
+    wanted: Result<usize, usize>,
+) -> bool {
+    match marked(alloc, count, marks) {
+        Ok(text) => has_depth(alloc, text.as_str(), wanted),
+        Err(_) => false,
+    }
+}
+
+/// Retries once, since an allocation may be refused.
 #[test]
 fn counts_levels(rt: HostRuntime) {
     let alloc = rt.alloc();
-    all_true(
-        &rt,
-        &[
-            is_deep(alloc, (64, "["), "u8", (64, "]"), 64),
-            is_too_deep(alloc, (65, "["), "u8", (65, "]"), 64),
-            is_deep(alloc, (64, "("), "u8", (64, ")"), 0),
-            is_too_deep(alloc, (65, "("), "u8", (65, ")"), 64),
-            is_deep(alloc, (32, "["), "u8", (32, "?]"), 64),
-            is_too_deep(alloc, (32, "["), "u8?", (32, "?]"), 97),
-            is_deep(alloc, (63, "["), "u8|u8", (63, "]"), 64),
-            is_too_deep(alloc, (64, "["), "u8|u8", (64, "]"), 66),
-        ],
-    );
+    for &(count, before, part, after, wanted) in &LEVELS {
+        let marks = (before, part, after);
+        assert!(rt; is_deep(alloc, count, marks, wanted) || is_deep(alloc, count, marks, wanted));
+    }
 }
 
-/// The text of the shape that this text spells.
-fn shown(alloc: Global, text: &str) -> Option<String> {
-    text_of(alloc, &shape_of(alloc, text).ok()?).ok()
+/// Whether a shape is shown so.
+fn is_shown(alloc: Global, shape: &Shape, wanted: &str) -> bool {
+    match text_of(alloc, shape) {
+        Ok(shown) => shown.as_str() == wanted,
+        Err(_) => false,
+    }
 }
 
-/// Whether the shape of the text is shown so. Retries once, since an allocation may be refused.
+/// Whether the shape of the text is shown so.
 fn shows(alloc: Global, text: &str, wanted: &str) -> bool {
-    let is_wanted = |shown: Option<String>| shown.is_some_and(|shown| shown.as_str() == wanted);
-    is_wanted(shown(alloc, text)) || is_wanted(shown(alloc, text))
+    match shape_of(alloc, text) {
+        Ok(shape) => is_shown(alloc, &shape, wanted),
+        Err(_) => false,
+    }
 }
 
+/// Texts of shapes, and as they are shown.
+const SHOWN: [(&str, &str); 10] = [
+    (SCALARS, SCALARS),
+    ("[u8; 4294967297]", "[u8; 4294967297]"),
+    ("(char,)", "(char,)"),
+    ("[(u8, [text; 3]?)]", "[(u8, [text; 3]?)]"),
+    ("u64|text|usize", "u64|text|usize"),
+    ("(u8|u16)|i32?", "(u8|u16)|i32?"),
+    ("i128??", "i128??"),
+    ("((u8|u16)?, [char|bool])", "((u8|u16)?, [char|bool])"),
+    (" ( ( u8 ) ) ? ", "u8?"),
+    ("[ u8;03 ]", "[u8; 3]"),
+];
+
+/// Retries once, since an allocation may be refused.
 #[test]
 fn shows_shapes(rt: HostRuntime) {
-    for text in SHOWN {
-        assert!(rt; shows(rt.alloc(), text, text));
+    let alloc = rt.alloc();
+    for &(text, wanted) in &SHOWN {
+        assert!(rt;
+            shows(alloc, text, wanted) || shows(alloc, text, wanted),
+            "{text}"
+        );
     }
-    assert!(rt;
-        shows(rt.alloc(), " ( ( u8 ) ) ? ", "u8?") && shows(rt.alloc(), "[ u8;03 ]", "[u8; 3]")
-    );
 }
 
 /// A shape that no text spells is shown as a text that is refused.
 #[test]
 fn shows_what_has_no_spelling(rt: HostRuntime) {
     let alloc = rt.alloc();
-    let is_shown = |shape: Shape, wanted: &str| {
-        let is_wanted = |shown: String| shown.as_str() == wanted;
-        text_of(alloc, &shape).is_ok_and(is_wanted) || text_of(alloc, &shape).is_ok_and(is_wanted)
-    };
+    let tuple = Shape::Tuple(Vec::new(alloc));
+    let choice = Shape::Choice(Vec::new(alloc));
     assert!(rt;
-        is_shown(Shape::Tuple(Vec::new(alloc)), "(,)")
-            && is_shown(Shape::Choice(Vec::new(alloc)), "(|)")
+        (is_shown(alloc, &tuple, "(,)") || is_shown(alloc, &tuple, "(,)"))
+            && (is_shown(alloc, &choice, "(|)") || is_shown(alloc, &choice, "(|)"))
     );
 }

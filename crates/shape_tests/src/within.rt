@@ -1,10 +1,8 @@
 //! How many values a word of a shape makes, how many of them are allowed, and what a list claims of a limit.
 
-use crate::asserts::all_true;
 use bincode::config::{self, Config};
-use bincode::error::DecodeError;
 use bincode::shape::{
-    DecodeWithinError, Measure, Value, decode_shaped, decode_shaped_within, measure_shaped,
+    DecodeWithinError, Measure, Shape, decode_shaped, decode_shaped_within, measure_shaped,
 };
 use shape_text::text::shape_of;
 use std::alloc::Global;
@@ -24,37 +22,42 @@ fn measures(alloc: Global, shape: &str, input: &[u8], values: u128) -> bool {
     measured(alloc, shape, input) == wanted || measured(alloc, shape, input) == wanted
 }
 
-/// What comes of reading no more than so many values.
+/// What comes of reading no more than so many values: how many bytes are taken, or how many values are refused where
+/// how many are allowed.
 fn read_within(
     alloc: Global,
     shape: &str,
     input: &[u8],
     most: usize,
-) -> Option<Result<(Value, usize), DecodeWithinError>> {
+) -> Option<Result<usize, (u128, usize)>> {
     let shape = shape_of(alloc, shape).ok()?;
     match decode_shaped_within(alloc, &shape, input, config::standard(), most) {
-        Err(DecodeWithinError::Decode(DecodeError::Memory)) => None,
-        outcome => Some(outcome),
+        Ok((_, taken)) => Some(Ok(taken)),
+        Err(DecodeWithinError::TooManyValues { values, most }) => Some(Err((values, most))),
+        Err(_) => None,
     }
+}
+
+/// Whether this comes of it. Retries once, since an allocation may be refused.
+fn gives(
+    alloc: Global,
+    shape: &str,
+    input: &[u8],
+    most: usize,
+    wanted: Result<usize, (u128, usize)>,
+) -> bool {
+    read_within(alloc, shape, input, most) == Some(wanted)
+        || read_within(alloc, shape, input, most) == Some(wanted)
 }
 
 /// Whether more than this many values are refused, with their number.
 fn refuses(alloc: Global, shape: &str, input: &[u8], most: usize, values: u128) -> bool {
-    let is_refused = |outcome: Option<Result<(Value, usize), DecodeWithinError>>| {
-        matches!(outcome, Some(Err(DecodeWithinError::TooManyValues { values: v, most: m }))
-            if v == values && m == most)
-    };
-    is_refused(read_within(alloc, shape, input, most))
-        || is_refused(read_within(alloc, shape, input, most))
+    gives(alloc, shape, input, most, Err((values, most)))
 }
 
 /// Whether the whole input is read where so many values are allowed, and refused where one fewer is.
 fn is_bounded(alloc: Global, shape: &str, input: &[u8], values: usize) -> bool {
-    let is_whole = |outcome: Option<Result<(Value, usize), DecodeWithinError>>| {
-        matches!(outcome, Some(Ok((_, taken))) if taken == input.len())
-    };
-    (is_whole(read_within(alloc, shape, input, values))
-        || is_whole(read_within(alloc, shape, input, values)))
+    gives(alloc, shape, input, values, Ok(input.len()))
         && refuses(
             alloc,
             shape,
@@ -64,21 +67,24 @@ fn is_bounded(alloc: Global, shape: &str, input: &[u8], values: usize) -> bool {
         )
 }
 
+/// Shapes, words of them, and of how many values these are.
+const COUNTED: [(&str, &[u8], usize); 6] = [
+    ("[u8]", &[3, 7, 8, 9], 4),
+    ("(u8, text)", &[5, 2, 97, 98], 3),
+    ("u8?", &[1, 9], 2),
+    ("u8|text", &[1, 1, 97], 2),
+    ("[[()]]", &[2, 3, 1], 7),
+    ("[[(); 3]]", &[2], 9),
+];
+
 #[test]
 fn values_are_counted_and_bounded(rt: HostRuntime) {
     let alloc = rt.alloc();
-    all_true(
-        &rt,
-        &[
-            measures(alloc, "[u8]", &[3, 7, 8, 9], 4),
-            is_bounded(alloc, "[u8]", &[3, 7, 8, 9], 4),
-            is_bounded(alloc, "(u8, text)", &[5, 2, 97, 98], 3),
-            is_bounded(alloc, "u8?", &[1, 9], 2),
-            is_bounded(alloc, "u8|text", &[1, 1, 97], 2),
-            is_bounded(alloc, "[[()]]", &[2, 3, 1], 7),
-            is_bounded(alloc, "[[(); 3]]", &[2], 9),
-        ],
-    );
+    for &(shape, input, values) in &COUNTED {
+        assert!(rt;
+            measures(alloc, shape, input, values as u128) && is_bounded(alloc, shape, input, values)
+        );
+    }
 }
 
 /// A length of 67,108,856, the lowest byte first, after the tag 252, of what has no bytes.
@@ -105,44 +111,64 @@ fn counts_that_overflow_are_told(rt: HostRuntime) {
     );
 }
 
-/// The error of the input. Retries once if an allocation is refused.
-fn fault<C: Config>(alloc: Global, shape: &str, input: &[u8], config: C) -> Option<DecodeError> {
-    let shape = shape_of(alloc, shape)
-        .or_else(|_| shape_of(alloc, shape))
-        .ok()?;
-    match decode_shaped(alloc, &shape, input, config) {
-        Err(DecodeError::Memory) => decode_shaped(alloc, &shape, input, config).err(),
-        outcome => outcome.err(),
+/// Whether an input is refused by the error that is printed so.
+fn refuses_shaped<C: Config>(
+    alloc: Global,
+    shape: &Shape,
+    input: &[u8],
+    config: C,
+    wanted: &str,
+) -> bool {
+    let Err(error) = decode_shaped(alloc, shape, input, config) else {
+        return false;
+    };
+    match format!(in alloc; "{error:?}") {
+        Ok(text) => text.as_str() == wanted,
+        Err(_) => false,
     }
 }
 
+/// The same by the text of a shape.
+fn refuses_once<C: Config>(
+    alloc: Global,
+    shape: &str,
+    input: &[u8],
+    config: C,
+    wanted: &str,
+) -> bool {
+    match shape_of(alloc, shape) {
+        Ok(shape) => refuses_shaped(alloc, &shape, input, config, wanted),
+        Err(_) => false,
+    }
+}
+
+/// The same. Retries once, since an allocation may be refused.
+fn is_refused<C: Config>(
+    alloc: Global,
+    shape: &str,
+    input: &[u8],
+    config: C,
+    wanted: &str,
+) -> bool {
+    refuses_once(alloc, shape, input, config, wanted)
+        || refuses_once(alloc, shape, input, config, wanted)
+}
+
+/// An array that claims more than each limit.
+const ARRAY: &str = "[u16; 18446744073709551615]";
+
 /// A list claims 8 for its length and the room of its items before one is read: 4 for two numbers, and for four truth
-/// values. An array may claim more than each limit.
+/// values.
 #[test]
 fn claims_come_first(rt: HostRuntime) {
     let alloc = rt.alloc();
     let less = config::standard().with_limit::<11>();
     let enough = config::standard().with_limit::<12>();
-    let array = "[u16; 18446744073709551615]";
-    all_true(
-        &rt,
-        &[
-            matches!(
-                fault(alloc, "[u16]", &[2], less),
-                Some(DecodeError::LimitExceeded)
-            ),
-            matches!(
-                fault(alloc, "[bool]", &[4, 0, 0, 0, 2], enough),
-                Some(DecodeError::InvalidBooleanValue(2))
-            ),
-            matches!(
-                fault(alloc, array, &[1, 2], enough),
-                Some(DecodeError::LimitExceeded)
-            ),
-            matches!(
-                fault(alloc, array, &[], config::standard()),
-                Some(DecodeError::Memory)
-            ),
-        ],
+    let truths = [4, 0, 0, 0, 2];
+    assert!(rt;
+        is_refused(alloc, "[u16]", &[2], less, "LimitExceeded")
+            && is_refused(alloc, "[bool]", &truths, enough, "InvalidBooleanValue(2)")
+            && is_refused(alloc, ARRAY, &[1, 2], enough, "LimitExceeded")
+            && is_refused(alloc, ARRAY, &[], config::standard(), "Memory")
     );
 }

@@ -2,41 +2,27 @@
 
 use bincode::config::Config;
 use bincode::de::read::SliceReader;
-use bincode::de::{Decode, DecoderImpl};
+use bincode::de::{BorrowDecode, Decode};
 use bincode::enc::Encode;
 use bincode::enc::write::SizeWriter;
 use bincode::error::{DecodeError, EncodeError};
 use bincode::{
-    config, decode_from_reader, decode_from_slice, decode_from_slice_with_context,
-    encode_into_slice, encode_into_writer, encode_to_vec,
+    borrow_decode_from_slice, config, decode_from_reader, decode_from_slice,
+    decode_from_slice_with_context, encode_into_slice, encode_into_writer, encode_to_vec,
 };
 use std::alloc::Global;
 
-/// Whether these bytes are decoded as a value, and it is encoded as them. 99s follow them in the input, and the slice
-/// is full of 99s, so that what is read and what is written cannot be longer.
+/// Whether these bytes, with 99s after them, are decoded as a value, and it is encoded as them.
 pub fn keeps<T: Encode + Decode<()>>(alloc: Global, word: &[u8]) -> bool {
     let mut input = [99u8; 100];
     let Some(front) = input.get_mut(..word.len()) else {
         return false;
     };
     front.copy_from_slice(word);
-    let read: Result<(T, usize), DecodeError> = decode_from_slice(
-        alloc,
-        &input,
-        config::standard(),
-    );
-    let Ok((value, taken)) = read else {
-        return false;
-    };
-    let mut slice = [99u8; 100];
-    let written = encode_into_slice(value, &mut slice, config::standard());
-    taken == word.len() && matches!(written, Ok(count) if count == taken) && slice == input
-}
-
-/// Whether decoding a value fails, and then decoding a byte from the same decoder gives 77.
-pub fn goes_on<T: Decode<()>>(alloc: Global, input: &[u8]) -> bool {
-    let mut decoder = DecoderImpl::new(alloc, SliceReader::new(input), config::standard(), ());
-    T::decode(&mut decoder).is_err() && matches!(u8::decode(&mut decoder), Ok(77))
+    match decode_from_slice::<T, _>(alloc, &input, config::standard()) {
+        Ok((value, taken)) => taken == word.len() && fills(&value, word),
+        Err(_) => false,
+    }
 }
 
 /// What is decoded from the front of the input, if its encoding has this length.
@@ -60,46 +46,14 @@ pub fn within<T: Decode<()>, const N: usize>(
     decode_from_slice(alloc, input, config::standard().with_limit::<N>())
 }
 
-/// `within`, retried once if an allocation is refused.
-pub fn decoded_within<T: Decode<()>, const N: usize>(
-    alloc: Global,
-    input: &[u8],
-) -> Result<(T, usize), DecodeError> {
-    decoded(alloc, input, config::standard().with_limit::<N>())
-}
-
-/// What comes of decoding within the limit `ENOUGH`, if the input passes the limit `LESS`.
-pub fn within_just<T: Decode<()>, const LESS: usize, const ENOUGH: usize>(
-    alloc: Global,
-    input: &[u8],
-) -> Option<Result<(T, usize), DecodeError>> {
-    if !is_passed(decoded_within::<T, LESS>(alloc, input)) {
-        return None;
-    }
-    Some(decoded_within::<T, ENOUGH>(alloc, input))
-}
-
-/// Whether the input passes the limit `LESS`, and within the limit `ENOUGH` this value is read, of so many bytes.
-pub fn reads_just<T: Decode<()> + PartialEq, const LESS: usize, const ENOUGH: usize>(
-    alloc: Global,
-    input: &[u8],
-    value: T,
-    length: usize,
-) -> bool {
-    match within_just::<T, LESS, ENOUGH>(alloc, input) {
-        Some(Ok((read, taken))) => read == value && taken == length,
-        _ => false,
-    }
-}
-
 /// The fault of the input, if it has one.
 pub fn fault_of<T: Decode<()>>(alloc: Global, input: &[u8]) -> Option<DecodeError> {
     let outcome: Result<(T, usize), DecodeError> = decoded(alloc, input, config::standard());
     outcome.err()
 }
 
-/// Whether the byte is refused as a tag, under this name, with 0 to `greatest` as the valid tags.
-pub fn refuses_tag<T: Decode<()>>(alloc: Global, byte: u8, name: &str, greatest: u32) -> bool {
+/// Whether the fault is that this is no tag, under this name, with 0 to `greatest` as the valid tags.
+fn is_no_tag(fault: Option<DecodeError>, tag: u32, name: &str, greatest: u32) -> bool {
     let Some(
         DecodeError::UnexpectedVariant {
             type_name,
@@ -107,11 +61,21 @@ pub fn refuses_tag<T: Decode<()>>(alloc: Global, byte: u8, name: &str, greatest:
             min: 0,
             max,
         },
-    ) = fault_of::<T>(alloc, &[byte])
+    ) = fault
     else {
         return false;
     };
-    type_name.as_str() == name && found == byte as u32 && max == greatest
+    type_name.as_str() == name && found == tag && max == greatest
+}
+
+/// Whether the byte is refused as a tag, under this name, with 0 to `greatest` as the valid tags.
+pub fn refuses_tag<T: Decode<()>>(alloc: Global, byte: u8, name: &str, greatest: u32) -> bool {
+    is_no_tag(
+        fault_of::<T>(alloc, &[byte]),
+        u32::from(byte),
+        name,
+        greatest,
+    )
 }
 
 /// The result of one of two equal calls, so that one of them may be refused memory.
@@ -163,20 +127,42 @@ pub fn decoded_with<Context: Copy + Drop, T: Decode<Context>, C: Config>(
     }
 }
 
+/// The result of borrowed decoding. Retries once if an allocation is refused.
+pub fn borrowed<'a, T: BorrowDecode<&'a [u8], ()>>(
+    alloc: Global,
+    source: &'a [u8],
+) -> Result<(T, usize), DecodeError> {
+    match borrow_decode_from_slice(alloc, source, config::standard()) {
+        Err(DecodeError::Memory) => borrow_decode_from_slice(alloc, source, config::standard()),
+        outcome => outcome,
+    }
+}
+
+/// Whether a vector gets this word of the value.
+fn collects<T: Encode>(alloc: Global, value: &T, word: &[u8]) -> bool {
+    match written(alloc, value) {
+        Some(bytes) => bytes.as_slice() == word,
+        None => false,
+    }
+}
+
+/// Whether a slice of 100 bytes gets this word of the value.
+pub fn fills<T: Encode>(value: &T, word: &[u8]) -> bool {
+    let mut slice = [99u8; 100];
+    let written = encode_into_slice(value, &mut slice, config::standard());
+    matches!(written, Ok(count) if count == word.len()) && slice.starts_with(word)
+}
+
+/// Whether a writer that counts counts so many bytes of the value.
+fn counts<T: Encode>(value: &T, length: usize) -> bool {
+    let mut counter = SizeWriter::default();
+    let written = encode_into_writer(value, &mut counter, config::standard());
+    written.is_ok() && counter.bytes_written == length
+}
+
 /// Whether each encoding call writes the value as this word.
 pub fn each_call_writes<T: Encode>(alloc: Global, value: &T, word: &[u8]) -> bool {
-    let mut slice = [99u8; 100];
-    let filled = encode_into_slice(value, &mut slice, config::standard());
-    let mut counter = SizeWriter::default();
-    let counted = encode_into_writer(value, &mut counter, config::standard());
-    let Some(bytes) = written(alloc, value) else {
-        return false;
-    };
-    matches!(filled, Ok(count) if count == word.len())
-        && slice.starts_with(word)
-        && counted.is_ok()
-        && counter.bytes_written == word.len()
-        && bytes.as_slice() == word
+    fills(value, word) && counts(value, word.len()) && collects(alloc, value, word)
 }
 
 /// What is decoded from a reader over an input of 100 bytes, and how many it takes.
@@ -185,16 +171,42 @@ fn read_in_turn<T: Decode<()>>(
     input: &[u8; 100],
 ) -> Result<(T, usize), DecodeError> {
     let mut reader = SliceReader::new(input);
-    let value = decode_from_reader(alloc, &mut reader, config::standard())?;
-    Ok((value, 100usize.saturating_sub(reader.bytes_left())))
+    match decode_from_reader(alloc, &mut reader, config::standard()) {
+        Ok(value) => Ok((value, 100usize.saturating_sub(reader.bytes_left()))),
+        Err(error) => Err(error),
+    }
 }
 
 /// Whether a value was decoded from this word, and each call writes it so.
-fn is_read_of<T: Encode>(alloc: Global, read: Option<(T, usize)>, word: &[u8]) -> bool {
-    let Some((value, taken)) = read else {
-        return false;
-    };
-    taken == word.len() && each_call_writes(alloc, &value, word)
+fn is_read_of<T: Encode>(
+    alloc: Global,
+    read: Result<(T, usize), DecodeError>,
+    word: &[u8],
+) -> bool {
+    match read {
+        Ok((value, taken)) => taken == word.len() && each_call_writes(alloc, &value, word),
+        Err(_) => false,
+    }
+}
+
+/// Whether the call for slices reads the word.
+fn reads_slice<T: Encode + Decode<()>>(alloc: Global, input: &[u8], word: &[u8]) -> bool {
+    is_read_of::<T>(alloc, decoded(alloc, input, config::standard()), word)
+}
+
+/// Whether the call with a context reads it.
+fn reads_with_context<T: Encode + Decode<()>>(alloc: Global, input: &[u8], word: &[u8]) -> bool {
+    is_read_of::<T>(
+        alloc,
+        decoded_with(alloc, input, config::standard(), ()),
+        word,
+    )
+}
+
+/// Whether the call for readers reads it. Retries once, since an allocation may be refused.
+fn reads_in_turn<T: Encode + Decode<()>>(alloc: Global, input: &[u8; 100], word: &[u8]) -> bool {
+    is_read_of::<T>(alloc, read_in_turn(alloc, input), word)
+        || is_read_of::<T>(alloc, read_in_turn(alloc, input), word)
 }
 
 /// Whether each decoding call reads the word, with 99s after it, as a value that each encoding call writes so.
@@ -204,20 +216,9 @@ pub fn each_call_keeps<T: Encode + Decode<()>>(alloc: Global, word: &[u8]) -> bo
         return false;
     };
     front.copy_from_slice(word);
-    let read: Result<(T, usize), DecodeError> = decoded(alloc, &input, config::standard());
-    let with_context: Result<(T, usize), DecodeError> = decoded_with(
-        alloc,
-        &input,
-        config::standard(),
-        (),
-    );
-    let in_turn: Option<(T, usize)> = either(
-        read_in_turn(alloc, &input),
-        read_in_turn(alloc, &input),
-    );
-    is_read_of(alloc, read.ok(), word)
-        && is_read_of(alloc, with_context.ok(), word)
-        && is_read_of(alloc, in_turn, word)
+    reads_slice::<T>(alloc, &input, word)
+        && reads_with_context::<T>(alloc, &input, word)
+        && reads_in_turn::<T>(alloc, &input, word)
 }
 
 /// Whether the error is `LimitExceeded`.
@@ -252,25 +253,34 @@ pub fn ends_at_each_place<Context: Copy + Drop, T: Decode<Context>>(
 
 /// Whether a value is encoded as this word.
 pub fn is_written_as<T: Encode>(alloc: Global, value: Option<T>, word: &[u8]) -> bool {
-    let Some(value) = value else {
-        return false;
-    };
-    let Some(bytes) = written(alloc, &value) else {
-        return false;
-    };
-    bytes.as_slice() == word
+    match value {
+        Some(value) => collects(alloc, &value, word),
+        None => false,
+    }
+}
+
+/// The word of a value, with a byte after it. Retries once if an allocation is refused.
+fn written_with_more<T: Encode>(alloc: Global, value: &T) -> Option<Vec<u8>> {
+    let mut input = written(alloc, value)?;
+    if input.push(99).is_err() && input.push(99).is_err() {
+        return None;
+    }
+    Some(input)
+}
+
+/// What is read of all of an input but its last byte. Retries once if an allocation is refused.
+pub fn read_all_but_one<T: Decode<()>>(alloc: Global, input: &[u8]) -> Option<T> {
+    match decoded(alloc, input, config::standard()) {
+        Ok((value, taken)) if taken.saturating_add(1) == input.len() => Some(value),
+        _ => None,
+    }
 }
 
 /// What is read of the word of a value, with a byte after it, if just the word is consumed.
 pub fn comes_back<T: Encode + Decode<()>>(alloc: Global, value: &T) -> Option<T> {
-    let mut input = written(alloc, value)?;
-    let length = input.len();
-    if input.push(99).is_err() && input.push(99).is_err() {
-        return None;
-    }
-    match decoded(alloc, input.as_slice(), config::standard()) {
-        Ok((read, taken)) if taken == length => Some(read),
-        _ => None,
+    match written_with_more(alloc, value) {
+        Some(input) => read_all_but_one(alloc, &input),
+        None => None,
     }
 }
 
@@ -282,13 +292,18 @@ pub fn read_if_kept<T: Encode + Decode<()>>(alloc: Global, word: &[u8], kept: &[
     read_word(alloc, word)
 }
 
+/// Whether an equal value is read of the word of this one.
+fn keeps_equal<T: Encode + Decode<()> + PartialEq>(alloc: Global, value: &T) -> bool {
+    match comes_back(alloc, value) {
+        Some(read) => read == *value,
+        None => false,
+    }
+}
+
 /// Whether a value is there, and an equal one is read of its word.
 pub fn keeps_value<T: Encode + Decode<()> + PartialEq>(alloc: Global, value: Option<T>) -> bool {
-    let Some(value) = value else {
-        return false;
-    };
-    let Some(read) = comes_back(alloc, &value) else {
-        return false;
-    };
-    read == value
+    match value {
+        Some(value) => keeps_equal(alloc, &value),
+        None => false,
+    }
 }

@@ -1,24 +1,4 @@
-//! Tables of rows that a test asks one by one.
-
-/// The name of the first row that doesn't hold.
-pub fn first_wrong(rows: &[(&'static str, bool)]) -> Option<&'static str> {
-    for (name, holds) in rows {
-        if !*holds {
-            return Some(*name);
-        }
-    }
-    None
-}
-
-/// The name of the first row whose two numbers differ.
-pub fn first_unequal(rows: &[(&'static str, usize, usize)]) -> Option<&'static str> {
-    for (name, found, wanted) in rows {
-        if *found != *wanted {
-            return Some(*name);
-        }
-    }
-    None
-}
+//! Answers of which a test asserts that each is true.
 
 /// The place of the first answer that is false, from 0 on.
 pub fn first_false(answers: &[bool]) -> Option<usize> {
