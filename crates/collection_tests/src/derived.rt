@@ -1,53 +1,36 @@
 //! Words of the types of `derived_types`, worked out by hand: read, and written again.
 
 use crate::asserts::all_hold;
-use bincode::error::DecodeError;
 use bincode::{borrow_decode_from_slice, config, encode_into_slice};
-use derived_types::enums::{Figure, Side};
-use derived_types::packets::Packet;
-use derived_types::replies::Reply;
-use derived_types::tags::{Mixed, Status};
-use derived_types::turns::Turn;
-use std::alloc::Global;
+use derived_types::enums::Figure;
+use derived_types::lent::Word;
+use derived_types::structs::{Nothing, Point, Wrapper};
+use derived_types::tags::Mixed;
 use test_helpers::checks::keeps;
 
-/// The texts are empty, so that no memory is asked for.
 #[test]
-fn keeps_enums(rt: HostRuntime) {
+fn keeps_structs_and_enums(rt: HostRuntime) {
     let alloc = rt.alloc();
-    let turn = [4, 251, 44, 1, 0, 255];
-    let reply = [2, 251, 148, 1, 0];
     let rows = [
-        ("Side", keeps::<Side>(alloc, &[1])),
+        ("Nothing", keeps::<Nothing>(alloc, &[])),
+        ("Point", keeps::<Point>(alloc, &[1, 251, 88, 2])),
+        ("Wrapper", keeps::<Wrapper<bool>>(alloc, &[1])),
         ("Figure::Empty", keeps::<Figure>(alloc, &[0])),
         ("Figure::Triangle", keeps::<Figure>(alloc, &[3, 3, 4, 5])),
-        ("Status", keeps::<Status>(alloc, &[251, 148, 1])),
         ("Mixed", keeps::<Mixed>(alloc, &[2])),
-        ("Turn", keeps::<Turn>(alloc, &turn)),
-        ("Reply", keeps::<Reply<bool>>(alloc, &reply)),
     ];
     all_hold(&rt, &rows);
 }
 
-/// Whether these bytes are read as a packet of this payload, and it is written as them.
-fn keeps_packet(alloc: Global, word: &[u8], payload: Option<&[u8]>) -> bool {
-    let read: Result<(Packet<'_>, usize), DecodeError> = borrow_decode_from_slice(
-        alloc,
-        word,
-        config::standard(),
-    );
-    let Ok((packet, taken)) = read else {
-        return false;
-    };
-    let mut slice = [99u8; 8];
-    let is_read = taken == word.len() && packet.to == 7 && packet.payload == payload;
-    let written = encode_into_slice(packet, &mut slice, config::standard());
-    is_read && matches!(written, Ok(count) if slice.get(..count) == Some(word))
-}
-
 #[test]
-fn keeps_lent_bytes_that_may_be_missing(rt: HostRuntime) {
-    let alloc = rt.alloc();
-    assert!(rt; keeps_packet(alloc, &[7, 0], None));
-    assert!(rt; keeps_packet(alloc, &[7, 1, 2, 5, 6], Some(&[5, 6])));
+fn keeps_a_text_that_is_lent(rt: HostRuntime) {
+    let input = [2, 97, 98];
+    let read = borrow_decode_from_slice(rt.alloc(), &input, config::standard());
+    let Ok((Word("ab"), 3)) = read else {
+        assert!(rt; false);
+        return;
+    };
+    let mut word = [0; 3];
+    let written = encode_into_slice(Word("ab"), &mut word, config::standard());
+    assert!(rt; matches!(written, Ok(3)) && word == input);
 }
