@@ -31,9 +31,9 @@ const REPORT: [u8; 19] = [
     5, 251, 44, 1, 1, 1, 97, 5, 251, 148, 39, 80, 12, 251, 251, 0, 250, 8, 9,
 ];
 
-/// The word of a book of one contact, who works at `d` since 300 and was born in 1990, and of one note.
-const BOOK: [u8; 24] = [
-    1, 7, 2, 97, 98, 1, 1, 99, 1, 251, 198, 7, 2, 29, 1, 1, 100, 251, 44, 1, 1, 5, 1, 101,
+/// The word of a book of one contact, who works at `d` since 300, and of one note.
+const BOOK: [u8; 18] = [
+    1, 7, 2, 97, 98, 1, 1, 99, 1, 1, 100, 251, 44, 1, 1, 5, 1, 101,
 ];
 
 #[test]

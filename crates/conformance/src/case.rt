@@ -1,9 +1,10 @@
 //! The kinds of cases.
 
-use crate::addresses::Address;
+use crate::addresses::Socket;
 use crate::shaped::Shaped;
-use bincode::config::{Endianness, Limit, NoLimit};
+use bincode::config::Endianness;
 use bincode::error::IntegerType;
+use std::net::{IpAddr, Ipv4Addr};
 use std::ops::Bound;
 
 /// What is run, and the result that it must have.
@@ -14,11 +15,9 @@ pub enum Case {
     RefusePair(Refusal<(u8, u32)>),
     Varint(Number),
     Decode(Input),
-    DecodeWithin(Limited),
     /// A pair that is decoded from a stream of one byte a call.
-    DecodeBytewise(Decoding<(u32, u32), NoLimit>),
+    DecodeBytewise(Decoding<(u32, u32)>),
     Borrow(Borrowed),
-    Address(Address),
     Shaped(Shaped),
 }
 
@@ -40,6 +39,8 @@ pub enum Value {
     List(Encoding<&'static [u32]>),
     /// The map of these entries.
     Map(Encoding<&'static [(u8, u8)]>),
+    Ip(Encoding<IpAddr>),
+    Socket(Encoding<Socket>),
 }
 
 /// A value that is encoded, and decoded again.
@@ -60,51 +61,40 @@ pub enum Number {
     I128(Spelling<i128>),
 }
 
-/// An input that is decoded without a limit.
+/// An input that is decoded.
 #[derive(Drop)]
 pub enum Input {
-    U16(Decoding<u16, NoLimit>),
-    U64(Decoding<u64, NoLimit>),
-    U128(Decoding<u128, NoLimit>),
-    I16(Decoding<i16, NoLimit>),
-    Isize(Decoding<isize, NoLimit>),
+    U16(Decoding<u16>),
+    U64(Decoding<u64>),
+    U128(Decoding<u128>),
+    I16(Decoding<i16>),
+    Isize(Decoding<isize>),
     /// As a `NonZeroU16`; the answer has its number.
-    NonZeroU16(Decoding<u16, NoLimit>),
-    Bool(Decoding<bool, NoLimit>),
-    Char(Decoding<char, NoLimit>),
-    Option(Decoding<Option<u8>, NoLimit>),
-    Bound(Decoding<Bound<u8>, NoLimit>),
+    NonZeroU16(Decoding<u16>),
+    Bool(Decoding<bool>),
+    Char(Decoding<char>),
+    Pair(Decoding<(u64, u64)>),
+    Option(Decoding<Option<u8>>),
+    Bound(Decoding<Bound<u8>>),
     /// As a `Duration`; the answer has its seconds and nanoseconds.
-    Duration(Decoding<(u64, u32), NoLimit>),
-    Text(Decoding<&'static str, NoLimit>),
-    /// As a map; the answer has its entries.
-    Map(Decoding<&'static [(u8, u8)], NoLimit>),
+    Duration(Decoding<(u64, u32)>),
+    Text(Decoding<&'static str>),
     /// As a C string; the answer has its bytes.
-    CString(Decoding<&'static [u8], NoLimit>),
-}
-
-/// An input that is decoded under a limit.
-#[derive(Drop)]
-pub enum Limited {
-    U16To2(Decoding<u16, Limit<2>>),
-    U64To7(Decoding<u64, Limit<7>>),
-    U64To8(Decoding<u64, Limit<8>>),
-    CharTo0(Decoding<char, Limit<0>>),
-    PairTo15(Decoding<(u64, u64), Limit<15>>),
-    PairTo16(Decoding<(u64, u64), Limit<16>>),
-    TextTo100000(Decoding<&'static str, Limit<100_000>>),
+    CString(Decoding<&'static [u8]>),
     /// As a list; the answer has its items.
-    ListTo100000(Decoding<&'static [u32], Limit<100_000>>),
+    List(Decoding<&'static [u32]>),
     /// As a list of lists of bytes; the answer has them.
-    ListsTo31(Decoding<&'static [&'static [u8]], Limit<31>>),
-    ListsTo32(Decoding<&'static [&'static [u8]], Limit<32>>),
+    Lists(Decoding<&'static [&'static [u8]]>),
     /// As a list of `()`; the answer has its length.
-    UnitsTo7(Decoding<usize, Limit<7>>),
-    UnitsTo10(Decoding<usize, Limit<10>>),
-    UnitsTo11(Decoding<usize, Limit<11>>),
+    Units(Decoding<usize>),
     /// As a list; the answer has its items.
-    OptionsTo11(Decoding<&'static [Option<()>], Limit<11>>),
-    OptionsTo12(Decoding<&'static [Option<()>], Limit<12>>),
+    Options(Decoding<&'static [Option<()>]>),
+    /// As a map; the answer has its entries.
+    Map(Decoding<&'static [(u8, u8)]>),
+    Ipv4(Decoding<Ipv4Addr>),
+    Ip(Decoding<IpAddr>),
+    /// As a `SocketAddrV6`; the answer has its parts.
+    Socket(Decoding<Socket>),
 }
 
 /// An input whose texts are borrowed.
@@ -140,11 +130,10 @@ pub struct Spelling<T> {
     pub word: &'static [u8],
 }
 
-/// An input, and its result under a setting and a limit.
+/// An input, and its result under a setting or a limit.
 #[derive(Drop)]
-pub struct Decoding<T, L> {
-    pub setting: Setting,
-    pub limit: L,
+pub struct Decoding<T> {
+    pub under: Under,
     pub input: &'static [u8],
     pub answer: Answer<T>,
 }
@@ -207,4 +196,33 @@ pub enum Setting {
     StandardBig,
     Legacy,
     LegacyBig,
+}
+
+/// What an input is decoded under.
+#[derive(Clone, Copy)]
+pub enum Under {
+    Setting(Setting),
+    /// The standard configuration, with this limit.
+    Limit(Most),
+}
+
+/// The most that a limit allows.
+#[derive(Clone, Copy)]
+pub enum Most {
+    Bytes0,
+    Bytes2,
+    Bytes3,
+    Bytes4,
+    Bytes7,
+    Bytes8,
+    Bytes10,
+    Bytes11,
+    Bytes12,
+    Bytes15,
+    Bytes16,
+    Bytes17,
+    Bytes18,
+    Bytes31,
+    Bytes32,
+    Bytes100000,
 }

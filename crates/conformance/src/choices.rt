@@ -1,9 +1,10 @@
 //! Cases of addresses, of choices, and of what has no bytes.
 
-use crate::addresses::{Address, SOCKET, Socket};
-use crate::case::{Answer, Case, Decoding, Encoding, Fault, Input, Kept, Limited, Setting, Value};
+use crate::addresses::{SOCKET, Socket};
+use crate::case::{
+    Answer, Case, Decoding, Encoding, Fault, Input, Kept, Most, Setting, Under, Value,
+};
 use crate::rows::Row;
-use bincode::config::{Limit, NoLimit};
 use bincode::error::IntegerType;
 use std::net::{IpAddr, Ipv4Addr, Ipv6Addr};
 use std::ops::Bound;
@@ -17,7 +18,7 @@ pub fn choice_table() -> &'static [Row] {
 static CHOICES: [Row; 19] = [
     Row {
         label: "17a",
-        case: Case::Address(Address::WriteSocket(Encoding {
+        case: Case::Encode(Value::Socket(Encoding {
             setting: Setting::Standard,
             value: Socket {
                 ip: Ipv6Addr::LOCALHOST,
@@ -30,9 +31,8 @@ static CHOICES: [Row; 19] = [
     },
     Row {
         label: "17b",
-        case: Case::Address(Address::SocketTo18(Decoding {
-            setting: Setting::Standard,
-            limit: Limit,
+        case: Case::Decode(Input::Socket(Decoding {
+            under: Under::Limit(Most::Bytes18),
             input: &SOCKET,
             answer: Answer::Value(
                 Socket {
@@ -47,18 +47,16 @@ static CHOICES: [Row; 19] = [
     },
     Row {
         label: "17c",
-        case: Case::DecodeWithin(Limited::UnitsTo11(Decoding {
-            setting: Setting::Standard,
-            limit: Limit,
+        case: Case::Decode(Input::Units(Decoding {
+            under: Under::Limit(Most::Bytes11),
             input: &[3],
             answer: Answer::Value(3, 1),
         })),
     },
     Row {
         label: "17d",
-        case: Case::DecodeWithin(Limited::UnitsTo7(Decoding {
-            setting: Setting::Standard,
-            limit: Limit,
+        case: Case::Decode(Input::Units(Decoding {
+            under: Under::Limit(Most::Bytes7),
             input: &[3],
             answer: Answer::Fault(Fault::LimitExceeded),
         })),
@@ -82,8 +80,7 @@ static CHOICES: [Row; 19] = [
     Row {
         label: "19c",
         case: Case::Decode(Input::Option(Decoding {
-            setting: Setting::Legacy,
-            limit: NoLimit,
+            under: Under::Setting(Setting::Legacy),
             input: &[2],
             answer: Answer::Fault(Fault::UnexpectedVariant { found: 2, max: 1 }),
         })),
@@ -91,8 +88,7 @@ static CHOICES: [Row; 19] = [
     Row {
         label: "19d",
         case: Case::Decode(Input::Bool(Decoding {
-            setting: Setting::Legacy,
-            limit: NoLimit,
+            under: Under::Setting(Setting::Legacy),
             input: &[2],
             answer: Answer::Fault(Fault::InvalidBooleanValue(2)),
         })),
@@ -100,8 +96,7 @@ static CHOICES: [Row; 19] = [
     Row {
         label: "19e",
         case: Case::Decode(Input::NonZeroU16(Decoding {
-            setting: Setting::Standard,
-            limit: NoLimit,
+            under: Under::Setting(Setting::Standard),
             input: &[0],
             answer: Answer::Fault(Fault::NonZeroTypeIsZero {
                 non_zero_type: IntegerType::U16,
@@ -111,8 +106,7 @@ static CHOICES: [Row; 19] = [
     Row {
         label: "20a",
         case: Case::DecodeBytewise(Decoding {
-            setting: Setting::Standard,
-            limit: NoLimit,
+            under: Under::Setting(Setting::Standard),
             input: &[5, 10],
             answer: Answer::Value((5, 10), 2),
         }),
@@ -120,8 +114,7 @@ static CHOICES: [Row; 19] = [
     Row {
         label: "20b",
         case: Case::DecodeBytewise(Decoding {
-            setting: Setting::Standard,
-            limit: NoLimit,
+            under: Under::Setting(Setting::Standard),
             input: &[5],
             answer: Answer::Fault(Fault::UnexpectedEnd { additional: 1 }),
         }),
@@ -152,7 +145,7 @@ static CHOICES: [Row; 19] = [
     },
     Row {
         label: "22a",
-        case: Case::Address(Address::WriteIp(Encoding {
+        case: Case::Encode(Value::Ip(Encoding {
             setting: Setting::Standard,
             value: IpAddr::V4(Ipv4Addr::LOCALHOST),
             word: &[0, 127, 0, 0, 1],
@@ -160,7 +153,7 @@ static CHOICES: [Row; 19] = [
     },
     Row {
         label: "22b",
-        case: Case::Address(Address::WriteIp(Encoding {
+        case: Case::Encode(Value::Ip(Encoding {
             setting: Setting::Legacy,
             value: IpAddr::V4(Ipv4Addr::LOCALHOST),
             word: &[0, 0, 0, 0, 127, 0, 0, 1],
@@ -168,9 +161,8 @@ static CHOICES: [Row; 19] = [
     },
     Row {
         label: "22c",
-        case: Case::Address(Address::Ip(Decoding {
-            setting: Setting::Standard,
-            limit: NoLimit,
+        case: Case::Decode(Input::Ip(Decoding {
+            under: Under::Setting(Setting::Standard),
             input: &[2],
             answer: Answer::Fault(Fault::UnexpectedVariant { found: 2, max: 1 }),
         })),
@@ -186,8 +178,7 @@ static CHOICES: [Row; 19] = [
     Row {
         label: "23b",
         case: Case::Decode(Input::Bound(Decoding {
-            setting: Setting::Standard,
-            limit: NoLimit,
+            under: Under::Setting(Setting::Standard),
             input: &[3],
             answer: Answer::Fault(Fault::UnexpectedVariant { found: 3, max: 2 }),
         })),

@@ -1,10 +1,10 @@
 //! Cases of maps, texts, durations and pairs.
 
 use crate::case::{
-    Answer, Borrowed, Case, Decoding, Encoding, Fault, Input, Lending, Refusal, Setting, Value,
+    Answer, Borrowed, Case, Decoding, Encoding, Fault, Input, Lending, Refusal, Setting, Under,
+    Value,
 };
 use crate::rows::Row;
-use bincode::config::NoLimit;
 
 /// Cases of maps, of owned and borrowed texts, of durations and of pairs.
 pub fn collection_table() -> &'static [Row] {
@@ -15,8 +15,7 @@ static COLLECTIONS: [Row; 12] = [
     Row {
         label: "12a",
         case: Case::Decode(Input::Map(Decoding {
-            setting: Setting::Standard,
-            limit: NoLimit,
+            under: Under::Setting(Setting::Standard),
             input: &[3, 1, 10, 2, 20, 1, 30],
             answer: Answer::Value(&[(1, 30), (2, 20)], 7),
         })),
@@ -32,8 +31,7 @@ static COLLECTIONS: [Row; 12] = [
     Row {
         label: "13a",
         case: Case::Decode(Input::Text(Decoding {
-            setting: Setting::Standard,
-            limit: NoLimit,
+            under: Under::Setting(Setting::Standard),
             input: &[2, 195, 40],
             answer: Answer::Fault(Fault::Utf8),
         })),
@@ -41,8 +39,7 @@ static COLLECTIONS: [Row; 12] = [
     Row {
         label: "13b",
         case: Case::Decode(Input::Text(Decoding {
-            setting: Setting::Standard,
-            limit: NoLimit,
+            under: Under::Setting(Setting::Standard),
             input: &[2, 195],
             answer: Answer::Fault(Fault::EndsEarly),
         })),
@@ -50,8 +47,7 @@ static COLLECTIONS: [Row; 12] = [
     Row {
         label: "13c",
         case: Case::Decode(Input::CString(Decoding {
-            setting: Setting::Standard,
-            limit: NoLimit,
+            under: Under::Setting(Setting::Standard),
             input: &[3, 65, 0, 66],
             answer: Answer::Fault(Fault::CStringNulError { position: 1 }),
         })),
@@ -59,8 +55,7 @@ static COLLECTIONS: [Row; 12] = [
     Row {
         label: "14a",
         case: Case::Decode(Input::Duration(Decoding {
-            setting: Setting::Standard,
-            limit: NoLimit,
+            under: Under::Setting(Setting::Standard),
             input: &[252, 255, 255, 255, 255, 252, 44, 203, 154, 59],
             answer: Answer::Value((4_294_967_296, 300), 10),
         })),
@@ -76,8 +71,7 @@ static COLLECTIONS: [Row; 12] = [
     Row {
         label: "14c",
         case: Case::Decode(Input::Duration(Decoding {
-            setting: Setting::Standard,
-            limit: NoLimit,
+            under: Under::Setting(Setting::Standard),
             input: &[
                 253, 255, 255, 255, 255, 255, 255, 255, 255, 252, 0, 202, 154, 59,
             ],

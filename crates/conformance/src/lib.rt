@@ -17,3 +17,4 @@ pub mod run;
 pub mod shaped;
 pub mod sources;
 mod trailing_bytes;
+mod wanted;

@@ -1,8 +1,7 @@
 //! Cases of characters, and of what a limit allows.
 
-use crate::case::{Answer, Case, Decoding, Encoding, Fault, Input, Limited, Setting, Value};
+use crate::case::{Answer, Case, Decoding, Encoding, Fault, Input, Most, Setting, Under, Value};
 use crate::rows::Row;
-use bincode::config::{Limit, NoLimit};
 
 /// Cases of characters, of limits that just suffice, and of some that are one too small.
 pub fn limit_table() -> &'static [Row] {
@@ -12,18 +11,16 @@ pub fn limit_table() -> &'static [Row] {
 static LIMITS: [Row; 15] = [
     Row {
         label: "7a",
-        case: Case::DecodeWithin(Limited::CharTo0(Decoding {
-            setting: Setting::Standard,
-            limit: Limit,
+        case: Case::Decode(Input::Char(Decoding {
+            under: Under::Limit(Most::Bytes0),
             input: &[],
             answer: Answer::Fault(Fault::UnexpectedEnd { additional: 1 }),
         })),
     },
     Row {
         label: "7b",
-        case: Case::DecodeWithin(Limited::CharTo0(Decoding {
-            setting: Setting::Standard,
-            limit: Limit,
+        case: Case::Decode(Input::Char(Decoding {
+            under: Under::Limit(Most::Bytes0),
             input: &[65],
             answer: Answer::Fault(Fault::LimitExceeded),
         })),
@@ -31,8 +28,7 @@ static LIMITS: [Row; 15] = [
     Row {
         label: "7c",
         case: Case::Decode(Input::Char(Decoding {
-            setting: Setting::Standard,
-            limit: NoLimit,
+            under: Under::Setting(Setting::Standard),
             input: &[128],
             answer: Answer::Fault(Fault::InvalidCharEncoding([128, 0, 0, 0])),
         })),
@@ -40,8 +36,7 @@ static LIMITS: [Row; 15] = [
     Row {
         label: "7d",
         case: Case::Decode(Input::Char(Decoding {
-            setting: Setting::Standard,
-            limit: NoLimit,
+            under: Under::Setting(Setting::Standard),
             input: &[237, 160, 128],
             answer: Answer::Fault(Fault::InvalidCharEncoding([237, 160, 128, 0])),
         })),
@@ -49,8 +44,7 @@ static LIMITS: [Row; 15] = [
     Row {
         label: "7e",
         case: Case::Decode(Input::Char(Decoding {
-            setting: Setting::Standard,
-            limit: NoLimit,
+            under: Under::Setting(Setting::Standard),
             input: &[226, 130],
             answer: Answer::Fault(Fault::UnexpectedEnd { additional: 1 }),
         })),
@@ -65,81 +59,72 @@ static LIMITS: [Row; 15] = [
     },
     Row {
         label: "7g",
-        case: Case::DecodeWithin(Limited::U64To7(Decoding {
-            setting: Setting::Standard,
-            limit: Limit,
+        case: Case::Decode(Input::U64(Decoding {
+            under: Under::Limit(Most::Bytes7),
             input: &[],
             answer: Answer::Fault(Fault::LimitExceeded),
         })),
     },
     Row {
         label: "7h",
-        case: Case::DecodeWithin(Limited::U64To8(Decoding {
-            setting: Setting::Standard,
-            limit: Limit,
+        case: Case::Decode(Input::U64(Decoding {
+            under: Under::Limit(Most::Bytes8),
             input: &[],
             answer: Answer::Fault(Fault::UnexpectedEnd { additional: 1 }),
         })),
     },
     Row {
         label: "8a",
-        case: Case::DecodeWithin(Limited::ListTo100000(Decoding {
-            setting: Setting::Standard,
-            limit: Limit,
+        case: Case::Decode(Input::List(Decoding {
+            under: Under::Limit(Most::Bytes100000),
             input: &[253, 255, 255, 255, 255, 255, 255, 255, 255],
             answer: Answer::Fault(Fault::LimitExceeded),
         })),
     },
     Row {
         label: "8b",
-        case: Case::DecodeWithin(Limited::TextTo100000(Decoding {
-            setting: Setting::Standard,
-            limit: Limit,
+        case: Case::Decode(Input::Text(Decoding {
+            under: Under::Limit(Most::Bytes100000),
             input: &[252, 160, 134, 1, 0],
             answer: Answer::Fault(Fault::LimitExceeded),
         })),
     },
     Row {
         label: "9a",
-        case: Case::DecodeWithin(Limited::ListsTo31(Decoding {
-            setting: Setting::Standard,
-            limit: Limit,
+        case: Case::Decode(Input::Lists(Decoding {
+            under: Under::Limit(Most::Bytes31),
             input: &[1, 2, 7, 8],
             answer: Answer::Fault(Fault::LimitExceeded),
         })),
     },
     Row {
         label: "9b",
-        case: Case::DecodeWithin(Limited::ListsTo32(Decoding {
-            setting: Setting::Standard,
-            limit: Limit,
+        case: Case::Decode(Input::Lists(Decoding {
+            under: Under::Limit(Most::Bytes32),
             input: &[1, 2, 7, 8],
             answer: Answer::Value(&[&[7, 8]], 4),
         })),
     },
     Row {
         label: "10a",
-        case: Case::DecodeWithin(Limited::PairTo15(Decoding {
-            setting: Setting::Standard,
-            limit: Limit,
+        case: Case::Decode(Input::Pair(Decoding {
+            under: Under::Limit(Most::Bytes15),
             input: &[5, 6],
             answer: Answer::Fault(Fault::LimitExceeded),
         })),
     },
     Row {
         label: "10b",
-        case: Case::DecodeWithin(Limited::PairTo16(Decoding {
-            setting: Setting::Standard,
-            limit: Limit,
+        case: Case::Decode(Input::Pair(Decoding {
+            under: Under::Limit(Most::Bytes16),
             input: &[5, 6],
             answer: Answer::Value((5, 6), 2),
         })),
     },
     Row {
         label: "11",
-        case: Case::DecodeWithin(Limited::U16To2(Decoding {
-            setting: Setting::Standard,
-            limit: Limit,
+        case: Case::Decode(Input::U16(Decoding {
+            under: Under::Limit(Most::Bytes2),
             input: &[251, 0, 1],
             answer: Answer::Value(256, 3),
         })),

@@ -1,10 +1,10 @@
 //! Cases of numbers.
 
 use crate::case::{
-    Answer, Case, Decoding, Encoding, Fault, Input, Kept, Number, Setting, Spelling, Value,
+    Answer, Case, Decoding, Encoding, Fault, Input, Kept, Number, Setting, Spelling, Under, Value,
 };
 use crate::rows::Row;
-use bincode::config::{Endianness, NoLimit};
+use bincode::config::Endianness;
 use bincode::error::IntegerType;
 
 /// Cases of numbers: their encodings, what is decoded from them, and the errors of a wrong first byte. The first case
@@ -80,8 +80,7 @@ static NUMBERS: [Row; 22] = [
     Row {
         label: "4a",
         case: Case::Decode(Input::U16(Decoding {
-            setting: Setting::Standard,
-            limit: NoLimit,
+            under: Under::Setting(Setting::Standard),
             input: &[251, 0, 10],
             answer: Answer::Value(2560, 3),
         })),
@@ -89,8 +88,7 @@ static NUMBERS: [Row; 22] = [
     Row {
         label: "4b",
         case: Case::Decode(Input::U16(Decoding {
-            setting: Setting::StandardBig,
-            limit: NoLimit,
+            under: Under::Setting(Setting::StandardBig),
             input: &[251, 0, 10],
             answer: Answer::Value(10, 3),
         })),
@@ -156,8 +154,7 @@ static NUMBERS: [Row; 22] = [
     Row {
         label: "6a",
         case: Case::Decode(Input::U16(Decoding {
-            setting: Setting::Standard,
-            limit: NoLimit,
+            under: Under::Setting(Setting::Standard),
             input: &[252],
             answer: Answer::Fault(Fault::InvalidIntegerType {
                 expected: IntegerType::U16,
@@ -168,8 +165,7 @@ static NUMBERS: [Row; 22] = [
     Row {
         label: "6b",
         case: Case::Decode(Input::I16(Decoding {
-            setting: Setting::Standard,
-            limit: NoLimit,
+            under: Under::Setting(Setting::Standard),
             input: &[252],
             answer: Answer::Fault(Fault::InvalidIntegerType {
                 expected: IntegerType::I16,
@@ -180,8 +176,7 @@ static NUMBERS: [Row; 22] = [
     Row {
         label: "6c",
         case: Case::Decode(Input::U64(Decoding {
-            setting: Setting::Standard,
-            limit: NoLimit,
+            under: Under::Setting(Setting::Standard),
             input: &[254, 0, 0, 0, 0, 0, 0, 0, 0],
             answer: Answer::Fault(Fault::InvalidIntegerType {
                 expected: IntegerType::U64,
@@ -192,8 +187,7 @@ static NUMBERS: [Row; 22] = [
     Row {
         label: "6d",
         case: Case::Decode(Input::U64(Decoding {
-            setting: Setting::Standard,
-            limit: NoLimit,
+            under: Under::Setting(Setting::Standard),
             input: &[253, 0, 0, 0],
             answer: Answer::Fault(Fault::UnexpectedEnd { additional: 5 }),
         })),
@@ -201,8 +195,7 @@ static NUMBERS: [Row; 22] = [
     Row {
         label: "6e",
         case: Case::Decode(Input::U128(Decoding {
-            setting: Setting::Standard,
-            limit: NoLimit,
+            under: Under::Setting(Setting::Standard),
             input: &[255, 0, 0, 0, 0, 0, 0, 0, 0, 0, 0, 0, 0, 0, 0, 0, 0],
             answer: Answer::Fault(Fault::InvalidIntegerType {
                 expected: IntegerType::U128,
@@ -213,8 +206,7 @@ static NUMBERS: [Row; 22] = [
     Row {
         label: "6f",
         case: Case::Decode(Input::Isize(Decoding {
-            setting: Setting::Standard,
-            limit: NoLimit,
+            under: Under::Setting(Setting::Standard),
             input: &[254],
             answer: Answer::Fault(Fault::InvalidIntegerType {
                 expected: IntegerType::Isize,

@@ -1,16 +1,15 @@
 //! How each kind of case is run.
 
-use crate::addresses::address_holds;
+use crate::addresses::address_of;
 use crate::borrow::borrows;
 use crate::case::{
-    Answer, Case, Decoding, Encoding, Fault, Input, Kept, Limited, Number, Refusal, Setting,
-    Spelling, Value,
+    Answer, Case, Decoding, Encoding, Fault, Input, Kept, Most, Number, Refusal, Setting, Spelling,
+    Under, Value,
 };
 use crate::shaped::shaped_holds;
 use crate::sources::{Bytewise, Source};
-use bincode::config::{
-    self, Configuration, Endianness, Fixint, InternalLimitConfig, LittleEndian, NoLimit, Varint,
-};
+use crate::wanted::Wanted;
+use bincode::config::{self, Endianness};
 use bincode::de::Decode;
 use bincode::enc::Encode;
 use bincode::enc::write::{SliceWriter, Writer};
@@ -23,96 +22,86 @@ use bincode::varint::{
 };
 use std::alloc::{AllocError, Global};
 use std::collections::BTreeMap;
+use std::net::{IpAddr, Ipv4Addr, SocketAddrV6};
 use std::num::NonZeroU16;
+use std::ops::Bound;
 
 /// Whether the case holds.
 pub fn holds<S: Source>(alloc: Global, case: &Case) -> Result<bool, AllocError> {
     match case {
         Case::Encode(value) => encodes_value(alloc, value),
-        Case::Keep(kept) => keeps_value::<S>(alloc, kept),
-        Case::RefusePair(row) => refuses(alloc, row),
-        Case::Varint(number) => spells_number(alloc, number),
-        Case::Decode(input) => decodes_input::<S>(alloc, input),
-        Case::DecodeWithin(limited) => decodes_within::<S>(alloc, limited),
-        Case::DecodeBytewise(row) => Ok(decodes::<Bytewise, _, _>(alloc, row)),
+        Case::Keep(kept) => Ok(keeps_value::<S>(alloc, kept)),
+        Case::RefusePair(row) => Ok(refuses(row)),
+        Case::Varint(number) => Ok(spells_number(number)),
+        Case::Decode(input) => Ok(decodes_input::<S>(alloc, input)),
+        Case::DecodeBytewise(row) => Ok(decodes::<Bytewise, (u32, u32), _>(alloc, row)),
         Case::Borrow(borrowed) => Ok(borrows(alloc, borrowed)),
-        Case::Address(address) => address_holds::<S>(alloc, address),
         Case::Shaped(shaped) => shaped_holds(alloc, shaped),
     }
 }
 
 fn encodes_value(alloc: Global, value: &Value) -> Result<bool, AllocError> {
-    match value {
-        Value::U8(row) => encodes(alloc, row),
-        Value::U16(row) => encodes(alloc, row),
-        Value::U32(row) => encodes(alloc, row),
-        Value::I8(row) => encodes(alloc, row),
-        Value::Char(row) => encodes(alloc, row),
-        Value::Pair(row) => encodes(alloc, row),
-        Value::Duration(row) => encodes_duration(alloc, row),
-        Value::Option(row) => encodes(alloc, row),
-        Value::Result(row) => encodes(alloc, row),
-        Value::Bound(row) => encodes(alloc, row),
-        Value::List(row) => encodes_list(alloc, row),
-        Value::Map(row) => encodes_map(alloc, row),
-    }
+    Ok(match value {
+        Value::U8(row) => encodes(row),
+        Value::U16(row) => encodes(row),
+        Value::U32(row) => encodes(row),
+        Value::I8(row) => encodes(row),
+        Value::Char(row) => encodes(row),
+        Value::Pair(row) => encodes(row),
+        Value::Duration(row) => encodes_duration(row),
+        Value::Option(row) => encodes(row),
+        Value::Result(row) => encodes(row),
+        Value::Bound(row) => encodes(row),
+        Value::List(row) => encodes_list(alloc, row)?,
+        Value::Map(row) => encodes_map(alloc, row)?,
+        Value::Ip(row) => encodes(row),
+        Value::Socket(row) => encodes_as(row, address_of(row.value)),
+    })
 }
 
-fn keeps_value<S: Source>(alloc: Global, kept: &Kept) -> Result<bool, AllocError> {
+fn keeps_value<S: Source>(alloc: Global, kept: &Kept) -> bool {
     match kept {
         Kept::Unit(row) => keeps::<S, _>(alloc, row),
         Kept::Five(row) => keeps::<S, _>(alloc, row),
     }
 }
 
-fn spells_number(alloc: Global, number: &Number) -> Result<bool, AllocError> {
+fn spells_number(number: &Number) -> bool {
     match number {
-        Number::U32(row) => spells(alloc, row),
-        Number::U128(row) => spells(alloc, row),
-        Number::I16(row) => spells(alloc, row),
-        Number::I16s(one, other) => Ok(spells(alloc, one)? && spells(alloc, other)?),
-        Number::I64(row) => spells(alloc, row),
-        Number::I128(row) => spells(alloc, row),
+        Number::U32(row) => spells(row),
+        Number::U128(row) => spells(row),
+        Number::I16(row) => spells(row),
+        Number::I16s(one, other) => spells(one) && spells(other),
+        Number::I64(row) => spells(row),
+        Number::I128(row) => spells(row),
     }
 }
 
-fn decodes_input<S: Source>(alloc: Global, input: &Input) -> Result<bool, AllocError> {
-    Ok(match input {
-        Input::U16(row) => decodes::<S, _, _>(alloc, row),
-        Input::U64(row) => decodes::<S, _, _>(alloc, row),
-        Input::U128(row) => decodes::<S, _, _>(alloc, row),
-        Input::I16(row) => decodes::<S, _, _>(alloc, row),
-        Input::Isize(row) => decodes::<S, _, _>(alloc, row),
-        Input::NonZeroU16(row) => decodes_nonzero::<S>(alloc, row),
-        Input::Bool(row) => decodes::<S, _, _>(alloc, row),
-        Input::Char(row) => decodes::<S, _, _>(alloc, row),
-        Input::Option(row) => decodes::<S, _, _>(alloc, row),
-        Input::Bound(row) => decodes::<S, _, _>(alloc, row),
-        Input::Duration(row) => decodes_duration::<S>(alloc, row),
-        Input::Text(row) => decodes_text::<S, _>(alloc, row)?,
-        Input::Map(row) => decodes_map::<S>(alloc, row)?,
-        Input::CString(row) => decodes_c_string::<S>(alloc, row)?,
-    })
-}
-
-fn decodes_within<S: Source>(alloc: Global, limited: &Limited) -> Result<bool, AllocError> {
-    Ok(match limited {
-        Limited::U16To2(row) => decodes::<S, _, _>(alloc, row),
-        Limited::U64To7(row) => decodes::<S, _, _>(alloc, row),
-        Limited::U64To8(row) => decodes::<S, _, _>(alloc, row),
-        Limited::CharTo0(row) => decodes::<S, _, _>(alloc, row),
-        Limited::PairTo15(row) => decodes::<S, _, _>(alloc, row),
-        Limited::PairTo16(row) => decodes::<S, _, _>(alloc, row),
-        Limited::TextTo100000(row) => decodes_text::<S, _>(alloc, row)?,
-        Limited::ListTo100000(row) => decodes_list::<S, _>(alloc, row)?,
-        Limited::ListsTo31(row) => decodes_lists::<S, _>(alloc, row)?,
-        Limited::ListsTo32(row) => decodes_lists::<S, _>(alloc, row)?,
-        Limited::UnitsTo7(row) => decodes_units::<S, _>(alloc, row),
-        Limited::UnitsTo10(row) => decodes_units::<S, _>(alloc, row),
-        Limited::UnitsTo11(row) => decodes_units::<S, _>(alloc, row),
-        Limited::OptionsTo11(row) => decodes_options::<S, _>(alloc, row)?,
-        Limited::OptionsTo12(row) => decodes_options::<S, _>(alloc, row)?,
-    })
+fn decodes_input<S: Source>(alloc: Global, input: &Input) -> bool {
+    match input {
+        Input::U16(row) => decodes::<S, u16, _>(alloc, row),
+        Input::U64(row) => decodes::<S, u64, _>(alloc, row),
+        Input::U128(row) => decodes::<S, u128, _>(alloc, row),
+        Input::I16(row) => decodes::<S, i16, _>(alloc, row),
+        Input::Isize(row) => decodes::<S, isize, _>(alloc, row),
+        Input::NonZeroU16(row) => decodes::<S, NonZeroU16, _>(alloc, row),
+        Input::Bool(row) => decodes::<S, bool, _>(alloc, row),
+        Input::Char(row) => decodes::<S, char, _>(alloc, row),
+        Input::Pair(row) => decodes::<S, (u64, u64), _>(alloc, row),
+        Input::Option(row) => decodes::<S, Option<u8>, _>(alloc, row),
+        Input::Bound(row) => decodes::<S, Bound<u8>, _>(alloc, row),
+        Input::Duration(row) => decodes::<S, Duration, _>(alloc, row),
+        Input::Text(row) => decodes::<S, String, _>(alloc, row),
+        Input::CString(row) => decodes::<S, CString, _>(alloc, row),
+        Input::List(row) => decodes::<S, Vec<u32>, _>(alloc, row),
+        Input::Lists(row) => decodes::<S, Vec<Vec<u8>>, _>(alloc, row),
+        Input::Units(row) => decodes::<S, Vec<()>, _>(alloc, row),
+        Input::Options(row) => decodes::<S, Vec<Option<()>>, _>(alloc, row),
+        Input::Map(row) => decodes::<S, BTreeMap<u8, u8>, _>(alloc, row),
+        Input::Ipv4(row) => decodes::<S, Ipv4Addr, _>(alloc, row),
+        Input::Ip(row) => decodes::<S, IpAddr, _>(alloc, row),
+        Input::Socket(row) => decodes::<S, SocketAddrV6, _>(alloc, row),
+    }
 }
 
 /// A number that is a varint by itself.
@@ -174,90 +163,72 @@ impl VarintNumber for i128 {
     }
 }
 
+/// The most bytes of a word or a slice.
+pub(crate) const ROOM: usize = 32;
+
 /// Whether the value is written as the word, into a slice of just its length.
-pub(crate) fn encodes<T: Encode + Copy>(
-    alloc: Global,
-    row: &Encoding<T>,
-) -> Result<bool, AllocError> {
-    let mut slice = vec![in alloc; 0u8; row.word.len()]?;
-    let written = encode_under(row.setting, row.value, &mut slice);
-    Ok(matches!(written, Ok(count) if count == row.word.len()) && slice.as_slice() == row.word)
+fn encodes<T: Encode + Copy>(row: &Encoding<T>) -> bool {
+    encodes_as(row, row.value)
+}
+
+/// Whether this is written as the word of the row, into a slice of just its length.
+fn encodes_as<T, V: Encode>(row: &Encoding<T>, value: V) -> bool {
+    let mut room = [0u8; ROOM];
+    let Some(slice) = room.get_mut(..row.word.len()) else {
+        return false;
+    };
+    let written = encode_under(row.setting, value, slice);
+    matches!(written, Ok(count) if count == row.word.len()) && *slice == *row.word
 }
 
 /// Whether the `Duration` of these seconds and nanoseconds is written as the word.
-fn encodes_duration(alloc: Global, row: &Encoding<(u64, u32)>) -> Result<bool, AllocError> {
+fn encodes_duration(row: &Encoding<(u64, u32)>) -> bool {
     let (secs, nanos) = row.value;
-    if nanos >= 1_000_000_000 {
-        return Ok(false);
-    }
-    let encoding = Encoding {
-        setting: row.setting,
-        value: Duration::new(secs, nanos),
-        word: row.word,
-    };
-    encodes(alloc, &encoding)
+    nanos < 1_000_000_000 && encodes_as(row, Duration::new(secs, nanos))
 }
 
 /// Whether the vector of the items is written as the word.
 fn encodes_list(alloc: Global, row: &Encoding<&'static [u32]>) -> Result<bool, AllocError> {
     let list = row.value.to_vec(alloc)?;
-    let encoding = Encoding {
-        setting: row.setting,
-        value: &list,
-        word: row.word,
-    };
-    encodes(alloc, &encoding)
+    Ok(encodes_as(row, &list))
 }
 
 /// Whether the map of the entries is written as the word.
 fn encodes_map(alloc: Global, row: &Encoding<&'static [(u8, u8)]>) -> Result<bool, AllocError> {
-    let map = map_of(alloc, row.value)?;
-    let encoding = Encoding {
-        setting: row.setting,
-        value: &map,
-        word: row.word,
-    };
-    encodes(alloc, &encoding)
-}
-
-/// The map of these entries.
-fn map_of(alloc: Global, entries: &[(u8, u8)]) -> Result<BTreeMap<u8, u8>, AllocError> {
     let mut map = BTreeMap::new(alloc);
-    for entry in entries {
+    for entry in row.value {
         map.insert(entry.0, entry.1)?;
     }
-    Ok(map)
+    Ok(encodes_as(row, &map))
 }
 
 /// Whether the value is written as the word, and the word is decoded as the value.
-fn keeps<S, T>(alloc: Global, row: &Encoding<T>) -> Result<bool, AllocError>
+fn keeps<S, T>(alloc: Global, row: &Encoding<T>) -> bool
 where
     S: Source,
     T: Encode + Decode<()> + Copy + PartialEq,
 {
     let decoding = Decoding {
-        setting: row.setting,
-        limit: NoLimit,
+        under: Under::Setting(row.setting),
         input: row.word,
         answer: Answer::Value(row.value, row.word.len()),
     };
-    Ok(encodes(alloc, row)? && decodes::<S, _, _>(alloc, &decoding))
+    encodes(row) && decodes::<S, T, T>(alloc, &decoding)
 }
 
 /// Whether the slice is too short for the value, and holds what it should then.
-fn refuses<T: Encode + Copy>(alloc: Global, row: &Refusal<T>) -> Result<bool, AllocError> {
-    let mut slice = row.before.to_vec(alloc)?;
-    let written = encode_under(Setting::Standard, row.value, &mut slice);
-    Ok(matches!(written, Err(EncodeError::UnexpectedEnd)) && slice.as_slice() == row.after)
+fn refuses<T: Encode + Copy>(row: &Refusal<T>) -> bool {
+    let mut room = [0u8; ROOM];
+    let Some(slice) = room.get_mut(..row.before.len()) else {
+        return false;
+    };
+    slice.copy_from_slice(row.before);
+    let written = encode_under(Setting::Standard, row.value, slice);
+    matches!(written, Err(EncodeError::UnexpectedEnd)) && *slice == *row.after
 }
 
 /// Whether the number is written as the word, as a value and as a variable integer by itself.
-fn spells<T: VarintNumber>(alloc: Global, row: &Spelling<T>) -> Result<bool, AllocError> {
-    let mut slice = vec![in alloc; 0u8; row.word.len()]?;
-    let mut writer = SliceWriter::new(&mut slice);
-    let outcome = row.value.varint_encode(&mut writer, row.endian);
-    let alone = outcome.is_ok() && writer.bytes_written() == row.word.len();
-    drop(writer);
+fn spells<T: VarintNumber>(row: &Spelling<T>) -> bool {
     let setting = match row.endian {
         Endianness::Little => Setting::Standard,
         Endianness::Big => Setting::StandardBig,
@@ -267,191 +238,38 @@ fn spells<T: VarintNumber>(alloc: Global, row: &Spelling<T>) -> Result<bool, All
         value: row.value,
         word: row.word,
     };
-    Ok(alone && slice.as_slice() == row.word && encodes(alloc, &encoding)?)
+    is_spelled(row) && encodes(&encoding)
+}
+
+/// Whether the number is written as the word, as a variable integer by itself.
+fn is_spelled<T: VarintNumber>(row: &Spelling<T>) -> bool {
+    let mut room = [0u8; ROOM];
+    let Some(slice) = room.get_mut(..row.word.len()) else {
+        return false;
+    };
+    let mut writer = SliceWriter::new(slice);
+    let outcome = row.value.varint_encode(&mut writer, row.endian);
+    let whole = outcome.is_ok() && writer.bytes_written() == row.word.len();
+    drop(writer);
+    whole && *slice == *row.word
 }
 
 /// Whether decoding the input gives the answer.
-pub(crate) fn decodes<S, T, L>(alloc: Global, row: &Decoding<T, L>) -> bool
+fn decodes<S, T, W>(alloc: Global, row: &Decoding<W>) -> bool
 where
     S: Source,
-    T: Decode<()> + PartialEq,
-    L: InternalLimitConfig + Copy,
+    T: Decode<()>,
+    W: Wanted<T>,
 {
-    answers::<S, _>(
-        decode_under::<S, _, _>(alloc, row.setting, row.limit, row.input),
-        &row.answer,
-    )
-}
-
-/// Whether decoding the input as a number that is not 0 gives the answer.
-fn decodes_nonzero<S: Source>(alloc: Global, row: &Decoding<u16, NoLimit>) -> bool {
-    let outcome: Result<(NonZeroU16, usize), DecodeError> = decode_under::<S, _, _>(
-        alloc,
-        row.setting,
-        row.limit,
-        row.input,
-    );
-    answers::<S, _>(
-        outcome.map(|(value, taken)| (value.get(), taken)),
-        &row.answer,
-    )
-}
-
-/// Whether decoding the input as a `Duration` gives the answer.
-fn decodes_duration<S: Source>(alloc: Global, row: &Decoding<(u64, u32), NoLimit>) -> bool {
-    let outcome: Result<(Duration, usize), DecodeError> = decode_under::<S, _, _>(
-        alloc,
-        row.setting,
-        row.limit,
-        row.input,
-    );
-    answers::<S, _>(
-        outcome.map(|(value, taken)| ((value.as_secs(), value.subsec_nanos()), taken)),
-        &row.answer,
-    )
-}
-
-/// Whether decoding the input as a text gives the answer.
-fn decodes_text<S, L>(alloc: Global, row: &Decoding<&'static str, L>) -> Result<bool, AllocError>
-where
-    S: Source,
-    L: InternalLimitConfig + Copy,
-{
-    let answer = match row.answer {
-        Answer::Value(text, length) => Answer::Value(String::from_str(alloc, text)?, length),
-        Answer::Fault(fault) => Answer::Fault(fault),
+    let outcome: Result<(T, usize), DecodeError> = match row.under {
+        Under::Setting(setting) => decode_under::<S, T>(alloc, setting, row.input),
+        Under::Limit(most) => decode_within::<S, T>(alloc, most, row.input),
     };
-    Ok(answers::<S, _>(
-        decode_under::<S, _, _>(alloc, row.setting, row.limit, row.input),
-        &answer,
-    ))
-}
-
-/// Whether decoding the input as a list gives the answer.
-fn decodes_list<S, L>(alloc: Global, row: &Decoding<&'static [u32], L>) -> Result<bool, AllocError>
-where
-    S: Source,
-    L: InternalLimitConfig + Copy,
-{
-    let answer = match row.answer {
-        Answer::Value(items, length) => Answer::Value(items.to_vec(alloc)?, length),
-        Answer::Fault(fault) => Answer::Fault(fault),
-    };
-    Ok(answers::<S, _>(
-        decode_under::<S, _, _>(alloc, row.setting, row.limit, row.input),
-        &answer,
-    ))
-}
-
-/// Whether decoding the input as a list of lists gives the answer.
-fn decodes_lists<S, L>(
-    alloc: Global,
-    row: &Decoding<&'static [&'static [u8]], L>,
-) -> Result<bool, AllocError>
-where
-    S: Source,
-    L: InternalLimitConfig + Copy,
-{
-    let answer = match row.answer {
-        Answer::Value(lists, length) => Answer::Value(lists_of(alloc, lists)?, length),
-        Answer::Fault(fault) => Answer::Fault(fault),
-    };
-    Ok(answers::<S, _>(
-        decode_under::<S, _, _>(alloc, row.setting, row.limit, row.input),
-        &answer,
-    ))
-}
-
-/// The list of these lists.
-fn lists_of(alloc: Global, lists: &[&'static [u8]]) -> Result<Vec<Vec<u8>>, AllocError> {
-    let mut all = Vec::new(alloc);
-    for list in lists {
-        all.push(list.to_vec(alloc)?)?;
-    }
-    Ok(all)
-}
-
-/// Whether decoding the input as a list of `()` gives one of the answer's length.
-fn decodes_units<S, L>(alloc: Global, row: &Decoding<usize, L>) -> bool
-where
-    S: Source,
-    L: InternalLimitConfig + Copy,
-{
-    let outcome: Result<(Vec<()>, usize), DecodeError> = decode_under::<S, _, _>(
-        alloc,
-        row.setting,
-        row.limit,
-        row.input,
-    );
-    answers::<S, _>(
-        outcome.map(|(units, taken)| (units.len(), taken)),
-        &row.answer,
-    )
-}
-
-/// Whether decoding the input as a list of `Option<()>` gives the answer.
-fn decodes_options<S, L>(
-    alloc: Global,
-    row: &Decoding<&'static [Option<()>], L>,
-) -> Result<bool, AllocError>
-where
-    S: Source,
-    L: InternalLimitConfig + Copy,
-{
-    let answer = match row.answer {
-        Answer::Value(items, length) => Answer::Value(items.to_vec(alloc)?, length),
-        Answer::Fault(fault) => Answer::Fault(fault),
-    };
-    Ok(answers::<S, _>(
-        decode_under::<S, _, _>(alloc, row.setting, row.limit, row.input),
-        &answer,
-    ))
-}
-
-/// Whether decoding the input as a map gives the answer.
-fn decodes_map<S: Source>(
-    alloc: Global,
-    row: &Decoding<&'static [(u8, u8)], NoLimit>,
-) -> Result<bool, AllocError> {
-    let answer = match row.answer {
-        Answer::Value(entries, length) => Answer::Value(map_of(alloc, entries)?, length),
-        Answer::Fault(fault) => Answer::Fault(fault),
-    };
-    Ok(answers::<S, _>(
-        decode_under::<S, _, _>(alloc, row.setting, row.limit, row.input),
-        &answer,
-    ))
-}
-
-/// Whether decoding the input as a C string gives the answer.
-fn decodes_c_string<S: Source>(
-    alloc: Global,
-    row: &Decoding<&'static [u8], NoLimit>,
-) -> Result<bool, AllocError> {
-    let answer = match row.answer {
-        Answer::Value(bytes, length) => Answer::Value(bytes.to_vec(alloc)?, length),
-        Answer::Fault(fault) => Answer::Fault(fault),
-    };
-    let outcome: Result<(CString, usize), DecodeError> = decode_under::<S, _, _>(
-        alloc,
-        row.setting,
-        row.limit,
-        row.input,
-    );
-    Ok(answers::<S, _>(
-        outcome.map(|(text, taken)| (text.into_bytes(), taken)),
-        &answer,
-    ))
-}
-
-/// Whether the outcome is the answer.
-fn answers<S: Source, T: PartialEq + Drop>(
-    outcome: Result<(T, usize), DecodeError>,
-    answer: &Answer<T>,
-) -> bool {
-    match (outcome, answer) {
-        (Ok((value, taken)), Answer::Value(wanted, length)) => value == *wanted && taken == *length,
-        (Err(error), Answer::Fault(fault)) => tells::<S>(&error, *fault),
+    match (&outcome, &row.answer) {
+        (Ok((value, taken)), Answer::Value(wanted, length)) => {
+            wanted.is_met_by(value) && *taken == *length
+        }
+        (Err(error), Answer::Fault(fault)) => tells::<S>(error, *fault),
         _ => false,
     }
 }
@@ -517,24 +335,50 @@ fn encode_under<T: Encode>(
     }
 }
 
-/// Decodes a value from the input under the setting and the limit.
-pub(crate) fn decode_under<S, T, L>(
+/// Decodes a value from the input under the setting.
+fn decode_under<S: Source, T: Decode<()>>(
     alloc: Global,
     setting: Setting,
-    _limit: L,
     input: &[u8],
-) -> Result<(T, usize), DecodeError>
-where
-    S: Source,
-    T: Decode<()>,
-    L: InternalLimitConfig + Copy,
-{
-    let standard = Configuration::<LittleEndian, Varint, L>::default();
-    let legacy = Configuration::<LittleEndian, Fixint, L>::default();
+) -> Result<(T, usize), DecodeError> {
     match setting {
-        Setting::Standard => S::decode(alloc, input, standard),
-        Setting::StandardBig => S::decode(alloc, input, standard.with_big_endian()),
-        Setting::Legacy => S::decode(alloc, input, legacy),
-        Setting::LegacyBig => S::decode(alloc, input, legacy.with_big_endian()),
+        Setting::Standard => S::decode(alloc, input, config::standard()),
+        Setting::StandardBig => S::decode(alloc, input, config::standard().with_big_endian()),
+        Setting::Legacy => S::decode(alloc, input, config::legacy()),
+        Setting::LegacyBig => S::decode(alloc, input, config::legacy().with_big_endian()),
     }
+}
+
+/// Decodes a value from the input in the standard configuration, within the limit.
+fn decode_within<S: Source, T: Decode<()>>(
+    alloc: Global,
+    most: Most,
+    input: &[u8],
+) -> Result<(T, usize), DecodeError> {
+    match most {
+        Most::Bytes0 => decode_within_bytes::<S, T, 0>(alloc, input),
+        Most::Bytes2 => decode_within_bytes::<S, T, 2>(alloc, input),
+        Most::Bytes3 => decode_within_bytes::<S, T, 3>(alloc, input),
+        Most::Bytes4 => decode_within_bytes::<S, T, 4>(alloc, input),
+        Most::Bytes7 => decode_within_bytes::<S, T, 7>(alloc, input),
+        Most::Bytes8 => decode_within_bytes::<S, T, 8>(alloc, input),
+        Most::Bytes10 => decode_within_bytes::<S, T, 10>(alloc, input),
+        Most::Bytes11 => decode_within_bytes::<S, T, 11>(alloc, input),
+        Most::Bytes12 => decode_within_bytes::<S, T, 12>(alloc, input),
+        Most::Bytes15 => decode_within_bytes::<S, T, 15>(alloc, input),
+        Most::Bytes16 => decode_within_bytes::<S, T, 16>(alloc, input),
+        Most::Bytes17 => decode_within_bytes::<S, T, 17>(alloc, input),
+        Most::Bytes18 => decode_within_bytes::<S, T, 18>(alloc, input),
+        Most::Bytes31 => decode_within_bytes::<S, T, 31>(alloc, input),
+        Most::Bytes32 => decode_within_bytes::<S, T, 32>(alloc, input),
+        Most::Bytes100000 => decode_within_bytes::<S, T, 100_000>(alloc, input),
+    }
+}
+
+/// Decodes a value from the input in the standard configuration, within a limit of `N`.
+fn decode_within_bytes<S: Source, T: Decode<()>, const N: usize>(
+    alloc: Global,
+    input: &[u8],
+) -> Result<(T, usize), DecodeError> {
+    S::decode(alloc, input, config::standard().with_limit::<N>())
 }

@@ -1,10 +1,10 @@
 //! Cases of shapes.
 
-use crate::case::{Answer, Case, Decoding, Encoding, Fault, Refusal, Setting};
+use crate::case::{Answer, Case, Encoding, Fault, Refusal, Setting};
 use crate::rows::Row;
-use crate::run::tells;
+use crate::run::{ROOM, tells};
 use crate::sources::Slice;
-use bincode::config::{self, Configuration, InternalLimitConfig, Limit, LittleEndian, Varint};
+use bincode::config;
 use bincode::enc::write::SliceWriter;
 use bincode::error::{DecodeError, EncodeError};
 use bincode::shape::{Shape, Value, decode_shaped, encode_shaped};
@@ -20,10 +20,19 @@ pub enum Shaped {
     Write(Encoding<Image>),
     /// A value that does not fit, and what the slice holds before and after it is refused.
     Refuse(Refusal<Image>),
-    ReadTo12(Decoding<Image, Limit<12>>),
-    ReadTo13(Decoding<Image, Limit<13>>),
+    /// An input that is read within a limit of 12.
+    ReadTo12(Reading),
+    /// An input that is read within a limit of 13.
+    ReadTo13(Reading),
     /// An input that is no word of another shape.
     Fault(Misread),
+}
+
+/// An input, and its result under a limit.
+#[derive(Drop)]
+pub struct Reading {
+    pub input: &'static [u8],
+    pub answer: Answer<Image>,
 }
 
 /// An input, and the fault that a shape reports of it.
@@ -88,55 +97,85 @@ pub(crate) fn shaped_holds(alloc: Global, shaped: &Shaped) -> Result<bool, Alloc
     match shaped {
         Shaped::Write(row) => writes(alloc, row),
         Shaped::Refuse(row) => refuses(alloc, row),
-        Shaped::ReadTo12(row) => reads(alloc, row),
-        Shaped::ReadTo13(row) => reads(alloc, row),
+        Shaped::ReadTo12(row) => reads::<12>(alloc, row),
+        Shaped::ReadTo13(row) => reads::<13>(alloc, row),
         Shaped::Fault(row) => misreads(alloc, row),
     }
 }
 
 /// Whether the value is written as the word, into a slice of just its length.
 fn writes(alloc: Global, row: &Encoding<Image>) -> Result<bool, AllocError> {
-    let mut slice = vec![in alloc; 0u8; row.word.len()]?;
-    let mut writer = SliceWriter::new(&mut slice);
-    let shape = shape_of_images(alloc)?;
-    let value = value_of(alloc, row.value)?;
-    let outcome = encode_shaped(&shape, &value, &mut writer, config::standard());
-    let whole = outcome.is_ok() && writer.bytes_written() == row.word.len();
-    drop(writer);
-    Ok(whole && slice.as_slice() == row.word)
+    let mut room = [0u8; ROOM];
+    let Some(slice) = room.get_mut(..row.word.len()) else {
+        return Ok(false);
+    };
+    let written = write_image(alloc, row.value, slice)?;
+    Ok(matches!(written, Ok(count) if count == row.word.len()) && *slice == *row.word)
 }
 
 /// Whether the value is refused since it does not fit, and the slice then holds what it should.
 fn refuses(alloc: Global, row: &Refusal<Image>) -> Result<bool, AllocError> {
-    let mut slice = row.before.to_vec(alloc)?;
-    let mut writer = SliceWriter::new(&mut slice);
-    let shape = shape_of_images(alloc)?;
-    let value = value_of(alloc, row.value)?;
-    let told = match encode_shaped(&shape, &value, &mut writer, config::standard()) {
+    let mut room = [0u8; ROOM];
+    let Some(slice) = room.get_mut(..row.before.len()) else {
+        return Ok(false);
+    };
+    slice.copy_from_slice(row.before);
+    let told = match write_image(alloc, row.value, slice)? {
         Err(EncodeError::Other(text)) => text.as_str() == "value does not fit the shape",
         _ => false,
     };
-    drop(writer);
-    Ok(told && slice.as_slice() == row.after)
+    Ok(told && *slice == *row.after)
 }
 
-/// Whether decoding the input gives the answer.
-fn reads<L: InternalLimitConfig + Copy>(
+/// Writes the generic value of an image into the slice, by its shape, and returns how many bytes that took.
+fn write_image(
     alloc: Global,
-    row: &Decoding<Image, L>,
-) -> Result<bool, AllocError> {
-    let limited = Configuration::<LittleEndian, Varint, L>::default();
+    image: Image,
+    slice: &mut [u8],
+) -> Result<Result<usize, EncodeError>, AllocError> {
     let shape = shape_of_images(alloc)?;
-    match (
-        decode_shaped(alloc, &shape, row.input, limited),
-        &row.answer,
-    ) {
+    let value = value_of(alloc, image)?;
+    let mut writer = SliceWriter::new(slice);
+    let outcome = encode_shaped(&shape, &value, &mut writer, config::standard());
+    Ok(outcome.map(|_| writer.bytes_written()))
+}
+
+/// Whether decoding the input within a limit of `N` gives the answer.
+fn reads<const N: usize>(alloc: Global, row: &Reading) -> Result<bool, AllocError> {
+    let shape = shape_of_images(alloc)?;
+    let outcome: Result<(Value, usize), DecodeError> = decode_shaped(
+        alloc,
+        &shape,
+        row.input,
+        config::standard().with_limit::<N>(),
+    );
+    Ok(match (&outcome, &row.answer) {
         (Ok((value, taken)), Answer::Value(image, length)) => {
-            Ok(value == value_of(alloc, *image)? && taken == *length)
+            is_value_of(value, *image) && *taken == *length
         }
-        (Err(error), Answer::Fault(fault)) => Ok(tells::<Slice>(&error, *fault)),
-        _ => Ok(false),
-    }
+        (Err(error), Answer::Fault(fault)) => tells::<Slice>(error, *fault),
+        _ => false,
+    })
+}
+
+/// Whether this is the generic value of the image.
+fn is_value_of(value: &Value, image: Image) -> bool {
+    let Value::List(parts) = value else {
+        return false;
+    };
+    let [Value::Unsigned(number), Value::List(numbers)] = parts.as_slice() else {
+        return false;
+    };
+    *number == image.0 && are_numbers(numbers, image.1)
+}
+
+/// Whether these are the generic values of the numbers.
+fn are_numbers(values: &[Value], numbers: &[u128]) -> bool {
+    values.len() == numbers.len()
+        && values.iter().zip(numbers).all(|(
+            value,
+            number,
+        )| matches!(value, Value::Unsigned(held) if *held == *number))
 }
 
 /// Whether decoding the input tells the fault.
@@ -162,18 +201,14 @@ pub(crate) fn shaped_table() -> &'static [Row] {
 static SHAPED: [Row; 7] = [
     Row {
         label: "26a",
-        case: Case::Shaped(Shaped::ReadTo13(Decoding {
-            setting: Setting::Standard,
-            limit: Limit,
+        case: Case::Shaped(Shaped::ReadTo13(Reading {
             input: &[7, 2, 5, 251, 0, 1],
             answer: Answer::Value((7, &[5, 256]), 6),
         })),
     },
     Row {
         label: "26b",
-        case: Case::Shaped(Shaped::ReadTo12(Decoding {
-            setting: Setting::Standard,
-            limit: Limit,
+        case: Case::Shaped(Shaped::ReadTo12(Reading {
             input: &[7, 2, 5, 251, 0, 1],
             answer: Answer::Fault(Fault::LimitExceeded),
         })),

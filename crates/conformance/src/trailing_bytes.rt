@@ -1,8 +1,7 @@
 //! Cases that the tables of the program leave out.
 
-use crate::case::{Answer, Case, Decoding, Input, Setting};
+use crate::case::{Answer, Case, Decoding, Input, Setting, Under};
 use crate::rows::Row;
-use bincode::config::NoLimit;
 use std::ops::Bound;
 
 /// Cases that the program leaves out: signed numbers of one byte, and words of each kind with other bytes after them.
@@ -14,8 +13,7 @@ static MORE: [Row; 15] = [
     Row {
         label: "i16 of 1",
         case: Case::Decode(Input::I16(Decoding {
-            setting: Setting::Standard,
-            limit: NoLimit,
+            under: Under::Setting(Setting::Standard),
             input: &[1],
             answer: Answer::Value(-1, 1),
         })),
@@ -23,8 +21,7 @@ static MORE: [Row; 15] = [
     Row {
         label: "i16 of 3",
         case: Case::Decode(Input::I16(Decoding {
-            setting: Setting::Standard,
-            limit: NoLimit,
+            under: Under::Setting(Setting::Standard),
             input: &[3],
             answer: Answer::Value(-2, 1),
         })),
@@ -32,8 +29,7 @@ static MORE: [Row; 15] = [
     Row {
         label: "u16 and more",
         case: Case::Decode(Input::U16(Decoding {
-            setting: Setting::Standard,
-            limit: NoLimit,
+            under: Under::Setting(Setting::Standard),
             input: &[251, 0, 10, 99, 99],
             answer: Answer::Value(2560, 3),
         })),
@@ -41,8 +37,7 @@ static MORE: [Row; 15] = [
     Row {
         label: "u64 and more",
         case: Case::Decode(Input::U64(Decoding {
-            setting: Setting::Standard,
-            limit: NoLimit,
+            under: Under::Setting(Setting::Standard),
             input: &[253, 0, 0, 0, 0, 0, 0, 0, 10, 99],
             answer: Answer::Value(720_575_940_379_279_360, 9),
         })),
@@ -50,8 +45,7 @@ static MORE: [Row; 15] = [
     Row {
         label: "u128 and more",
         case: Case::Decode(Input::U128(Decoding {
-            setting: Setting::Standard,
-            limit: NoLimit,
+            under: Under::Setting(Setting::Standard),
             input: &[7, 99],
             answer: Answer::Value(7, 1),
         })),
@@ -59,8 +53,7 @@ static MORE: [Row; 15] = [
     Row {
         label: "i16 and more",
         case: Case::Decode(Input::I16(Decoding {
-            setting: Setting::Standard,
-            limit: NoLimit,
+            under: Under::Setting(Setting::Standard),
             input: &[3, 99],
             answer: Answer::Value(-2, 1),
         })),
@@ -68,8 +61,7 @@ static MORE: [Row; 15] = [
     Row {
         label: "isize and more",
         case: Case::Decode(Input::Isize(Decoding {
-            setting: Setting::Standard,
-            limit: NoLimit,
+            under: Under::Setting(Setting::Standard),
             input: &[1, 99],
             answer: Answer::Value(-1, 1),
         })),
@@ -77,8 +69,7 @@ static MORE: [Row; 15] = [
     Row {
         label: "nonzero and more",
         case: Case::Decode(Input::NonZeroU16(Decoding {
-            setting: Setting::Standard,
-            limit: NoLimit,
+            under: Under::Setting(Setting::Standard),
             input: &[5, 99],
             answer: Answer::Value(5, 1),
         })),
@@ -86,8 +77,7 @@ static MORE: [Row; 15] = [
     Row {
         label: "bool and more",
         case: Case::Decode(Input::Bool(Decoding {
-            setting: Setting::Standard,
-            limit: NoLimit,
+            under: Under::Setting(Setting::Standard),
             input: &[1, 99],
             answer: Answer::Value(true, 1),
         })),
@@ -95,8 +85,7 @@ static MORE: [Row; 15] = [
     Row {
         label: "char and more",
         case: Case::Decode(Input::Char(Decoding {
-            setting: Setting::Standard,
-            limit: NoLimit,
+            under: Under::Setting(Setting::Standard),
             input: &[226, 130, 172, 99],
             answer: Answer::Value('€', 3),
         })),
@@ -104,8 +93,7 @@ static MORE: [Row; 15] = [
     Row {
         label: "option and more",
         case: Case::Decode(Input::Option(Decoding {
-            setting: Setting::Standard,
-            limit: NoLimit,
+            under: Under::Setting(Setting::Standard),
             input: &[1, 7, 99],
             answer: Answer::Value(Some(7), 2),
         })),
@@ -113,8 +101,7 @@ static MORE: [Row; 15] = [
     Row {
         label: "bound and more",
         case: Case::Decode(Input::Bound(Decoding {
-            setting: Setting::Standard,
-            limit: NoLimit,
+            under: Under::Setting(Setting::Standard),
             input: &[2, 7, 99],
             answer: Answer::Value(Bound::Excluded(7), 2),
         })),
@@ -122,8 +109,7 @@ static MORE: [Row; 15] = [
     Row {
         label: "span and more",
         case: Case::Decode(Input::Duration(Decoding {
-            setting: Setting::Standard,
-            limit: NoLimit,
+            under: Under::Setting(Setting::Standard),
             input: &[1, 2, 99],
             answer: Answer::Value((1, 2), 2),
         })),
@@ -131,8 +117,7 @@ static MORE: [Row; 15] = [
     Row {
         label: "text and more",
         case: Case::Decode(Input::Text(Decoding {
-            setting: Setting::Standard,
-            limit: NoLimit,
+            under: Under::Setting(Setting::Standard),
             input: &[2, 97, 98, 99],
             answer: Answer::Value("ab", 3),
         })),
@@ -140,8 +125,7 @@ static MORE: [Row; 15] = [
     Row {
         label: "map and more",
         case: Case::Decode(Input::Map(Decoding {
-            setting: Setting::Standard,
-            limit: NoLimit,
+            under: Under::Setting(Setting::Standard),
             input: &[1, 5, 6, 99],
             answer: Answer::Value(&[(5, 6)], 3),
         })),

@@ -1,16 +1,9 @@
-//! Enums without fields, and with fields of each kind.
+//! An enum with variants of each kind.
 
 mod words;
 
-/// A side of the road.
-#[derive(Clone, Copy, Debug, PartialEq)]
-pub enum Side {
-    Left,
-    Right,
-}
-
 /// A figure in the plane.
-#[derive(Clone, Copy, Debug, PartialEq)]
+#[derive(Clone, Copy, PartialEq)]
 pub enum Figure {
     Empty,
     Circle(u32),

@@ -2,7 +2,6 @@
 #![tactic(auto)]
 
 pub mod enums;
-pub mod packets;
-pub mod replies;
+pub mod lent;
+pub mod structs;
 pub mod tags;
-pub mod turns;

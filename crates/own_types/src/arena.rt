@@ -10,7 +10,7 @@ use bumpalo::collections::into_bump_slice;
 use std::alloc::Global;
 
 /// A slice of items in an arena, where they stay until it is reset.
-#[derive(Clone, Copy, Debug)]
+#[derive(Clone, Copy)]
 pub struct ArenaList<'b, T> {
     pub items: &'b [T],
 }

@@ -5,7 +5,7 @@ use std::collections::BTreeMap;
 mod words;
 
 /// An address book: its contacts, and their notes by number.
-#[derive(Debug, Drop, PartialEq)]
+#[derive(Drop, PartialEq)]
 pub struct Book {
     pub contacts: Vec<Contact>,
     pub notes: BTreeMap<u64, String>,

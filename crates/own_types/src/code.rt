@@ -4,7 +4,7 @@ mod words;
 
 // bincode: claims 4, with BorrowDecode
 /// The code of an answer.
-#[derive(Clone, Copy, Debug, PartialEq)]
+#[derive(Clone, Copy, PartialEq)]
 pub enum Code {
     // bincode: tag 1
     Done,

@@ -3,7 +3,7 @@
 mod words;
 
 /// One of two.
-#[derive(Debug, Drop, PartialEq)]
+#[derive(Drop, PartialEq)]
 pub enum Either<L, R> {
     Left(L),
     Right(R),

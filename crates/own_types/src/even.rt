@@ -10,7 +10,7 @@ use bincode::laws::{Canonical, Exact, Plain, canonical_by_parts, exact_by_parts,
 use bincode::{HasParts, Validate, Validated, Wire};
 
 /// An even number.
-#[derive(Clone, Copy, Debug, PartialEq)]
+#[derive(Clone, Copy, PartialEq)]
 pub struct Even {
     number: u8,
     ghost even: { (number % 2 == 0) ≡ true },

@@ -3,7 +3,7 @@
 mod words;
 
 /// What happened: it began, it ended with this code, or this was said.
-#[derive(Debug, Drop, PartialEq)]
+#[derive(Drop, PartialEq)]
 pub enum Event<'a> {
     Start,
     Stop(u32),

@@ -4,7 +4,7 @@ mod words;
 
 // bincode: with Writable, Inhabited, ConstantCharge, Described
 /// Two numbers.
-#[derive(Clone, Copy, Debug, PartialEq)]
+#[derive(Clone, Copy, PartialEq)]
 pub struct Foo {
     pub a: u32,
     pub b: u32,

@@ -18,7 +18,7 @@ pub struct Env<'b> {
 type Parts<'b> = (u8, ArenaList<'b, u32>);
 
 /// A list after its kind.
-#[derive(Clone, Copy, Debug)]
+#[derive(Clone, Copy)]
 pub struct Framed<'b> {
     pub kind: u8,
     pub list: ArenaList<'b, u32>,

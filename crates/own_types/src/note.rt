@@ -3,7 +3,7 @@
 mod words;
 
 /// A note: its title and its attachment.
-#[derive(Debug, Drop, PartialEq)]
+#[derive(Drop, PartialEq)]
 pub struct Note<'a> {
     pub title: &'a str,
     pub data: &'a [u8],

@@ -9,7 +9,7 @@ use bincode::{HasParts, Items, Wire};
 use std::alloc::Global;
 
 /// A list of items.
-#[derive(Debug, Drop, PartialEq)]
+#[derive(Drop, PartialEq)]
 pub struct Pack<T> {
     pub items: Vec<T>,
 }

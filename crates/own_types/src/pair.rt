@@ -3,7 +3,7 @@
 mod words;
 
 /// A key and its value.
-#[derive(Debug, Drop, PartialEq)]
+#[derive(Drop, PartialEq)]
 pub struct Pair<K, V> {
     pub key: K,
     pub value: V,

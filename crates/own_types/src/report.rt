@@ -5,7 +5,7 @@ mod words;
 /// An observation of a weather station: the station, the second, whether someone checked it, remarks; air temperature
 /// in tenths of a degree, pressure in tenths of a hectopascal, humidity in percent; rain in hundredths of a millimetre;
 /// wind speed in centimetres a second and direction in degrees; cloud cover in eighths, and visibility in metres.
-#[derive(Debug, Drop, PartialEq)]
+#[derive(Drop, PartialEq)]
 pub struct Report {
     pub station: u32,
     pub second: u64,

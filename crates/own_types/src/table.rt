@@ -4,7 +4,7 @@ use std::collections::BTreeMap;
 mod words;
 
 /// A table: its name, its entries, and the key of the last lookup.
-#[derive(Debug, Drop, PartialEq)]
+#[derive(Drop, PartialEq)]
 pub struct Table<K: Ord, V> {
     pub name: String,
     pub entries: BTreeMap<K, V>,

@@ -3,7 +3,7 @@
 mod words;
 
 /// A track: its title, the length of each beat, the side that it is on, and whether it was played live.
-#[derive(Debug, Drop, PartialEq)]
+#[derive(Drop, PartialEq)]
 pub struct Track {
     pub title: String,
     pub beats: Vec<u16>,

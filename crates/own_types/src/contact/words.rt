@@ -8,10 +8,10 @@ use bincode::error::{DecodeError, EncodeError};
 use bincode::laws::{Canonical, Exact, Plain, canonical_by_parts, exact_by_fields, plain_by_parts};
 use bincode::{HasParts, Wire};
 
-type ContactParts = (u64, String, Vec<String>, Option<(u16, u8, u8)>, Kind);
+type ContactParts = (u64, String, Vec<String>, Kind);
 
 impl HasParts<ContactParts> for Contact {
-    ghost parts = { λ v. (v.id, v.name, v.emails, v.birthday, v.kind) };
+    ghost parts = { λ v. (v.id, v.name, v.emails, v.kind) };
 }
 
 impl Wire for Contact {
@@ -44,25 +44,11 @@ impl Canonical for Contact {
 
 impl Encode for Contact {
     fn tell_valid(&self) {
-        (
-            &self.id,
-            &self.name,
-            &self.emails,
-            &self.birthday,
-            &self.kind,
-        )
-            .tell_valid();
+        (&self.id, &self.name, &self.emails, &self.kind).tell_valid();
     }
 
     fn encode<E: Encoder>(&self, encoder: &mut E) -> Result<(), EncodeError> {
-        (
-            &self.id,
-            &self.name,
-            &self.emails,
-            &self.birthday,
-            &self.kind,
-        )
-            .encode(encoder)
+        (&self.id, &self.name, &self.emails, &self.kind).encode(encoder)
     }
 }
 
@@ -70,12 +56,11 @@ impl<Context: Drop> Decode<Context> for Contact {
     type Run = Sequential;
 
     fn decode<D: Decoder<Context = Context>>(decoder: &mut D) -> Result<Contact, DecodeError> {
-        let (id, name, emails, birthday, kind): ContactParts = Decode::decode(decoder)?;
+        let (id, name, emails, kind): ContactParts = Decode::decode(decoder)?;
         Ok(Contact {
             id,
             name,
             emails,
-            birthday,
             kind,
         })
     }
