@@ -69,13 +69,9 @@ impl<C: Config> Source<'_, C> {
         Ok(self.words.next::<Option<()>>()?.is_some())
     }
 
-    /// Reads the tag of one of these variants, and returns it with the variant.
-    fn next_variant<'s>(&mut self, variants: &'s [Shape]) -> Result<(u32, &'s Shape), JsonError> {
-        let tag = self.words.next::<u32>()?;
-        match variants.get(tag as usize) {
-            Some(variant) => Ok((tag, variant)),
-            None => Err(JsonError::Decode(unknown_variant(tag, variants))),
-        }
+    /// Reads the tag of a variant.
+    fn next_tag(&mut self) -> Result<u32, JsonError> {
+        Ok(self.words.next::<u32>()?)
     }
 }
 
@@ -259,8 +255,11 @@ fn write_variant<C: Config, W: Write>(
     source: &mut Source<'_, C>,
     out: &mut W,
 ) -> Result<(), JsonError> {
-    let (tag, part) = source.next_variant(variants)?;
-    write_object(Key::Variant(tag), part, source, out)
+    let tag = source.next_tag()?;
+    match variants.get(tag as usize) {
+        Some(variant) => write_object(Key::Variant(tag), variant, source, out),
+        None => Err(JsonError::Decode(unknown_variant(tag, variants))),
+    }
 }
 
 /// Writes an object of one part.
