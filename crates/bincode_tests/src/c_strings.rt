@@ -11,7 +11,7 @@ static WORD: [u8; 6] = [5, 72, 101, 108, 108, 111];
 fn keeps_a_c_string(rt: HostRuntime) {
     let alloc = rt.alloc();
     let lent = CStr::from_bytes(b"Hello").ok();
-    assert!(rt; is_written_as(alloc, lent, &WORD));
+    assert!(rt; is_written_as(alloc, lent, &WORD) && CStr::from_bytes(&[72, 0, 101]) == Err(1));
     let Some(text) = read_word::<CString>(alloc, &WORD) else {
         assert!(rt; false);
         return;

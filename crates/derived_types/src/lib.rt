@@ -3,5 +3,8 @@
 
 pub mod enums;
 pub mod lent;
+pub mod packets;
+pub mod replies;
 pub mod structs;
 pub mod tags;
+pub mod turns;

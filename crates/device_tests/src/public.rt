@@ -37,7 +37,16 @@ fn tells_which_tags_are_allowed(rt: HostRuntime) {
             DecodeError::UnlistedVariant { type_name, found: 9, .. } if type_name.as_str() == "Code"
         )
     );
-    assert!(rt; DecodeError::LimitExceeded.allowed().is_none());
+    let in_range = DecodeError::UnexpectedVariant {
+        type_name: TypeName::new("Code"),
+        found: 9,
+        min: 1,
+        max: 3,
+    };
+    let range = AllowedEnumVariants::Range { min: 1, max: 3 };
+    assert!(rt;
+        in_range.allowed() == Some(range) && DecodeError::LimitExceeded.allowed().is_none()
+    );
 }
 
 #[test]
@@ -135,8 +144,12 @@ fn lends_configurations(rt: HostRuntime) {
     assert!(rt; lends_a_configuration(&encoder) && lends_a_configuration(&&mut encoder));
 }
 
-/// An option of a `u8` has two bytes: fewer than 2^62 of them fit.
+/// An option of a `u8` has two bytes: fewer than 2^62 of them fit, and the size of 2^63 is above every `usize`.
 #[test]
 fn tells_which_slots_fit(rt: HostRuntime) {
-    assert!(rt; slots_fit::<u8, 1_000>() && !slots_fit::<u8, 4_611_686_018_427_387_904>());
+    assert!(rt;
+        slots_fit::<u8, 1_000>()
+            && !slots_fit::<u8, 4_611_686_018_427_387_904>()
+            && !slots_fit::<u8, 9_223_372_036_854_775_808>()
+    );
 }
