@@ -60,7 +60,7 @@ fn cut_in_two() -> [u8; 63] {
 #[test]
 fn plans_repairs(rt: HostRuntime) {
     let changed = damaged();
-    let front = &changed[..60];
+    let front = changed.get(..60).unwrap_or(&[]);
     let two = cut_in_two();
     let leave = "f: nothing to cut off, whole frames: 3, bytes: 63\n";
     let torn = "f: cut off at byte 16, bytes lost: 30, whole frames: 1\n";
