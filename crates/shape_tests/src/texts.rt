@@ -106,8 +106,8 @@ fn refuses_texts(rt: HostRuntime) {
     }
 }
 
-/// A mark before a part and one after it, which stand around the part as often, and what comes of that: the depth of the
-/// shape, or from which byte on it is too deep. 64 brackets, question marks and bars may stand around a part.
+/// A mark before a part and one after it, which stand around the part as often, and what comes of that: the depth of
+/// the shape, or from which byte on it is too deep. 64 brackets, question marks and bars may stand around a part.
 const LEVELS: [(usize, &str, &str, &str, Result<usize, usize>); 8] = [
     (64, "[", "u8", "]", Ok(64)),
     (65, "[", "u8", "]", Err(64)),
