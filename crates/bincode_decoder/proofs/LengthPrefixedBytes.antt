@@ -19,7 +19,7 @@ use Rattle.bincode_spec.specs.Meaning.{Bytes}
 use Rattle.bincode_spec.specs.Words.{text_of}
 use Rattle.bincode_lemmas.specs.FormatLaws.{fixed_bytes-lawful}
 use Rattle.bincode_lemmas.specs.TextLaws.{text_of-passes}
-use Rattle.bincode_varint.proofs.Words.{fixed_bytes-read}
+use Rattle.bincode_io.proofs.Words.{fixed_bytes-read}
 use Rattle.bincode_decoder.proofs.BytesAtOnce.{both-of_err}
 
 pub took : (bytes remaining input : List ℕ) (n : ℕ) → length bytes ≡ n → input ≡ bytes ++ remaining → (without_count (fixed_bytes n)).read input ≡ Took bytes remaining []

@@ -8,7 +8,7 @@ use Rattle.bincode_spec.specs.Device.{DeviceErrors}
 use Rattle.bincode_layers.specs.Pieces.{FillsBuffer}
 use Rattle.bincode_spec.specs.Format.{fixed_bytes}
 use Rattle.bincode_layers.specs.Reads.{ReadsWord}
-use Rattle.bincode_varint.proofs.Words.{fixed_bytes-read, fixed_bytes-misreads}
+use Rattle.bincode_io.proofs.Words.{fixed_bytes-read, fixed_bytes-misreads}
 use Rattle.bincode_decoder.proofs.BytesAtOnce.{both-of_err}
 
 pub filled-octets :

@@ -11,10 +11,10 @@ ghost use Rattle.bincode_layers.specs.Values.{ReadsInteger};
 use crate::decoder::Decoder;
 use bincode_base::config::Config;
 use bincode_base::error::{DecodeError, IntegerType};
+use bincode_io::bytes::{read_byte, read_i8};
+use bincode_io::number::Integer;
 use bincode_io::read::Reader;
 use bincode_types::wire::Wire;
-use bincode_varint::bytes::{read_byte, read_i8};
-use bincode_varint::number::Integer;
 
 /// Charges the width of an integer, and reads it in the integer encoding and byte order of the configuration. Fails
 /// with `LimitExceeded`, or with the errors of `Integer::read`.

@@ -14,8 +14,8 @@ use crate::answers::rebuild_result;
 use crate::encoder::{Encoder, write_from};
 use bincode_base::config::Config;
 use bincode_base::error::EncodeError;
-use bincode_varint::bytes::byte_of_i8;
-use bincode_varint::number::Integer;
+use bincode_io::bytes::byte_of_i8;
+use bincode_io::number::Integer;
 
 /// Writes an integer in the integer encoding and byte order of the configuration. Errors are those of the writer.
 #[inline(always)]

@@ -6,3 +6,4 @@ pub mod Slices
 pub mod Stream
 pub mod StreamLaws
 pub mod Vectors
+pub mod Window

@@ -19,7 +19,7 @@ use bincode_encoder::encoder::Encoder;
 use bincode_encoder::integers::encode_integer;
 use bincode_shape::shape::Value;
 use bincode_types::wire::Wire;
-use bincode_varint::number::Integer;
+use bincode_io::number::Integer;
 
 /// An integer type wider than one byte, with its shape.
 pub(crate) trait ShapedInteger: Integer + Wire {

@@ -8,7 +8,7 @@ ghost use Rattle.bincode_layers.specs.Chars.{Spells};
 
 use bincode_base::error::DecodeError;
 use bincode_io::read::Reader;
-use bincode_varint::bytes::read_array;
+use bincode_io::bytes::read_array;
 
 // All are inlined, as the decoding of integers is: a call would return its result through memory, for the error in it.
 

@@ -11,7 +11,7 @@ use crate::encode_parts::EncodeParts;
 use bincode_base::error::EncodeError;
 use bincode_encoder::encoder::Encoder;
 use bincode_encoder::integers::encode_integer;
-use bincode_varint::number::Integer;
+use bincode_io::number::Integer;
 use std::num::{
     NonZeroI8, NonZeroI16, NonZeroI32, NonZeroI64, NonZeroI128, NonZeroIsize, NonZeroU8,
     NonZeroU16, NonZeroU32, NonZeroU64, NonZeroU128, NonZeroUsize,

@@ -1,4 +1,4 @@
-use Rattle.bincode_varint.proofs.WordAnswers.{lent-word}
+use Rattle.bincode_io.proofs.WordAnswers.{lent-word}
 use Rattle.bincode_decoder.proofs.chars.read_rest_of_char_from.Goals as goal
 
 pub returns : goal.returns

@@ -1,6 +1,6 @@
 use Rattle.std.proofs.Common.{◌≤◌, arith, refl}
 use Rattle.std.proofs.lemmas.Result.{err_from_is_err_and}
-use Rattle.bincode_varint.proofs.WordAnswers.{word-as}
+use Rattle.bincode_io.proofs.WordAnswers.{word-as}
 use Rattle.bincode_lemmas.specs.CharLaws.{char_width-bounds}
 use Rattle.bincode_lemmas.specs.CharDecodingLaws.{fixed_bytes-took_1, fixed_bytes-took_2, fixed_bytes-took_3, rest_of_char-misread, rest_of_char-found, rest_of_char-not_found, rest_of_char-alone}
 use Rattle.bincode_types.proofs.chars.read_rest_of_char.Goals as goal

@@ -1,4 +1,0 @@
-pub mod StdBytes
-pub mod WordAnswers
-pub mod Words
-pub mod Windows

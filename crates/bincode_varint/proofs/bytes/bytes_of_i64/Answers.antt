@@ -1,8 +1,0 @@
-use Rattle.std.proofs.Common.{◌≡◌, ◌∙◌, ap, rules}
-use Rattle.bincode_spec.specs.Number.{digits_of, two_complement}
-use Rattle.bincode_varint.proofs.bytes.bytes_of_i64.Goals as goal
-
-pub returns : goal.returns
-returns c =
-    let e : c.cast_unsigned.result ≡ two_complement 8 c.args.n = search rules in
-    c.bytes_of_u64.ensures ∙ ap (digits_of c.args.endian 8) e

@@ -1,4 +1,0 @@
-use Rattle.bincode_varint.proofs.varint.decode_signed.varint_decode_i128.Goals as goal
-
-pub returns : goal.returns
-returns g c = c.varint_decode_signed.ensures.word

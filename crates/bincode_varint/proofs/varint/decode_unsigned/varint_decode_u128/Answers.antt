@@ -1,4 +1,0 @@
-use Rattle.bincode_varint.proofs.varint.decode_unsigned.varint_decode_u128.Goals as goal
-
-pub returns : goal.returns
-returns g c = c.varint_decode.ensures.word
