@@ -5,7 +5,7 @@ use Rattle.std.specs.Borrow.{GName}
 use Rattle.bincode_base.specs.declared.error.EncodeError.{EncodeError}
 use Rattle.bincode_spec.specs.Allowed.{OneLength}
 use Rattle.bincode_spec.specs.Device.{Rose, TooLong, WithinRoom, WriterFails}
-use Rattle.bincode_layers.specs.Pieces.{TakesRoom}
+use Rattle.bincode_spec.specs.Layers.Pieces.{TakesRoom}
 use Rattle.bincode_spec.specs.Encoding.{Adds, Refuses, Ready, Begins, EncodeFailure, by_writer, by_name, Encodes, FitsRoom}
 use Rattle.bincode_io.specs.RoomLaws.{too_long-after, not-within, within-same}
 

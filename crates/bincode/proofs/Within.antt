@@ -8,7 +8,7 @@ use Rattle.bincode_spec.specs.Charge.{Step}
 use Rattle.bincode_spec.specs.Decoding.{IsRefused}
 use Rattle.bincode_spec.specs.Fault.{Fault, Tells}
 use Rattle.bincode_spec.specs.Format.{Format, Reading, Took}
-use Rattle.bincode_layers.specs.Laws.{Lawful}
+use Rattle.bincode_spec.specs.Layers.Laws.{Lawful}
 use Rattle.bincode_spec.specs.Meaning.{Meaning}
 use Rattle.bincode_spec.specs.Slice.{Decoded, EndsSlice}
 use Rattle.bincode_shape.specs.Counts.{values_in, count_of, capped, IsCounted}

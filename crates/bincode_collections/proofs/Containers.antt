@@ -12,10 +12,10 @@ use Rattle.bincode_spec.specs.Format.{Format}
 use Rattle.bincode_spec.specs.Meaning.{Meaning}
 use Rattle.bincode_spec.specs.Collections.{Makes, IsMadeOf}
 use Rattle.bincode_spec.specs.Words.{len, array, list}
-use Rattle.bincode_layers.specs.Claims.{Claimed}
-use Rattle.bincode_layers.specs.Claims.{OnlyCharged}
+use Rattle.bincode_spec.specs.Layers.Claims.{Claimed}
+use Rattle.bincode_spec.specs.Layers.Claims.{OnlyCharged}
 use Rattle.bincode_spec.specs.Run.{IsListOf}
-use Rattle.bincode_layers.specs.Values.{Reads, RunRead}
+use Rattle.bincode_spec.specs.Layers.Values.{Reads, RunRead}
 use Rattle.bincode_lemmas.specs.IntegerLaws.{unsigned-lawful}
 use Rattle.bincode_lemmas.specs.RunLaws.{array-decodes, array-stops}
 use Rattle.bincode_decoder.proofs.Rooms.{claimed-held, claimed-within}

@@ -5,9 +5,9 @@ use Rattle.bincode_base.specs.declared.error.DecodeError.{DecodeError}
 use Rattle.bincode_base.specs.declared.error.DecodeError.TheVariants.{Memory}
 use Rattle.bincode_spec.specs.Device.{DeviceErrors}
 use Rattle.bincode_spec.specs.Format.{Format}
-use Rattle.bincode_layers.specs.Laws.{Lawful}
+use Rattle.bincode_spec.specs.Layers.Laws.{Lawful}
 use Rattle.bincode_spec.specs.Decoding.{by_memory}
-use Rattle.bincode_layers.specs.Values.{Reads}
+use Rattle.bincode_spec.specs.Layers.Values.{Reads}
 use Rattle.bincode_lemmas.specs.DecodingLaws.{stops-besides, gave-takes}
 use Rattle.bincode_decoder.proofs.ReadAnswers.{read-as, made-of}
 

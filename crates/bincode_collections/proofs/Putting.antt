@@ -12,8 +12,8 @@ use Rattle.bincode_spec.specs.Decoding.{by_memory}
 use Rattle.bincode_spec.specs.Device.{DeviceErrors}
 use Rattle.bincode_spec.specs.Format.{Format}
 use Rattle.bincode_spec.specs.Meaning.{Meaning}
-use Rattle.bincode_layers.specs.Releases.{CanRelease}
-use Rattle.bincode_layers.specs.Values.{RunRead}
+use Rattle.bincode_spec.specs.Layers.Releases.{CanRelease}
+use Rattle.bincode_spec.specs.Layers.Values.{RunRead}
 use Rattle.bincode_decoder.proofs.Rooms.{held-within}
 use Rattle.bincode_collections.proofs.Reading.{RunSoFar, none-so_far, all-so_far}
 

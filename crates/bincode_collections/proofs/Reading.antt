@@ -5,14 +5,14 @@ use Rattle.std.proofs.Common.{◌∙◌, arith}
 use Rattle.bincode_base.specs.declared.error.DecodeError.{DecodeError}
 use Rattle.bincode_spec.specs.Device.{DeviceErrors}
 use Rattle.bincode_spec.specs.Format.{Format, elements}
-use Rattle.bincode_layers.specs.Laws.{Lawful, Balanced}
+use Rattle.bincode_spec.specs.Layers.Laws.{Lawful, Balanced}
 use Rattle.bincode_spec.specs.Meaning.{Meaning, list_meaning}
 use Rattle.bincode_spec.specs.Answer.{answer, Allows, after_release}
 use Rattle.bincode_lemmas.specs.DecodingLaws.{stops-besides}
 use Rattle.bincode_spec.specs.Run.{IsListOf}
-use Rattle.bincode_layers.specs.Releases.{CanRelease, Held}
+use Rattle.bincode_spec.specs.Layers.Releases.{CanRelease, Held}
 use Rattle.bincode_lemmas.specs.RunLaws.{ReadSoFar, none-read, one-more, one_stops, all-read, one-releases, others-release, held-none, held-more, is_list-push}
-use Rattle.bincode_layers.specs.Values.{Reads, RunRead}
+use Rattle.bincode_spec.specs.Layers.Values.{Reads, RunRead}
 use Rattle.bincode_decoder.proofs.Rooms.{held-within, unclaimed-within}
 
 -- of a run of `count` values these were read, and the claims of the others are still reserved

@@ -5,11 +5,11 @@ use Rattle.bincode_base.specs.declared.error.DecodeError.{DecodeError}
 use Rattle.bincode_spec.specs.Device.{DeviceErrors}
 use Rattle.bincode_spec.specs.Fault.{Fault}
 use Rattle.bincode_spec.specs.Format.{Format}
-use Rattle.bincode_layers.specs.Laws.{Lawful}
+use Rattle.bincode_spec.specs.Layers.Laws.{Lawful}
 use Rattle.bincode_spec.specs.Meaning.{Meaning}
 use Rattle.bincode_spec.specs.Validated.{passed_of, with_test, TellsOwn}
 use Rattle.bincode_spec.specs.Decoding.{by_fault}
-use Rattle.bincode_layers.specs.Values.{Reads}
+use Rattle.bincode_spec.specs.Layers.Values.{Reads}
 use Rattle.bincode_lemmas.specs.ValidatedLaws.{with_test-is, failed-is, own-tells}
 use Rattle.bincode_lemmas.specs.DecodingLaws.{from_result-gave, from_result-refused, gave-takes}
 use Rattle.bincode_decoder.proofs.ReadAnswers.{read-as}

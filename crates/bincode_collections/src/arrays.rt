@@ -2,8 +2,8 @@
 ghost use Rattle.std.specs.Prelude.{◌≡◌, ◌*◌, ◌⊎◌, List, Option, Some, length, map, OnOk, IfOk};
 ghost use Rattle.bincode_spec.specs.Format.{elements};
 ghost use Rattle.bincode_base.specs.Slots.{SlotsFit};
-ghost use Rattle.bincode_layers.specs.Releases.{CanRelease, RoomReturned};
-ghost use Rattle.bincode_layers.specs.Values.{RunRead};
+ghost use Rattle.bincode_spec.specs.Layers.Releases.{CanRelease, RoomReturned};
+ghost use Rattle.bincode_spec.specs.Layers.Values.{RunRead};
 
 use crate::runs::{decode_next, decode_run};
 use crate::values::{DecodeRun, ReadValues};

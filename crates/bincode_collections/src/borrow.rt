@@ -3,7 +3,7 @@ ghost use Rattle.std.specs.Prelude.{pos};
 ghost use Rattle.bincode_spec.specs.Integers.{unsigned_byte};
 ghost use Rattle.bincode_spec.specs.Meaning.{IsNumber};
 ghost use Rattle.bincode_spec.specs.Run.{IsListOf};
-ghost use Rattle.bincode_layers.specs.Values.{Reads};
+ghost use Rattle.bincode_spec.specs.Layers.Values.{Reads};
 ghost use Rattle.bincode_spec.specs.Words.{array, list, natural_number};
 
 use bincode_base::error::DecodeError;

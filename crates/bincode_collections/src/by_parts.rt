@@ -1,6 +1,6 @@
 //! Decoding of values that are made from their parts.
 ghost use Rattle.std.specs.Prelude.{◌≡◌};
-ghost use Rattle.bincode_layers.specs.Values.{Reads};
+ghost use Rattle.bincode_spec.specs.Layers.Values.{Reads};
 
 use bincode_base::error::DecodeError;
 use bincode_decoder::decoder::Decoder;

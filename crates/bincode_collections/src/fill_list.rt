@@ -1,9 +1,9 @@
 //! Collections of your own, which are filled item by item.
 ghost use Rattle.std.specs.Prelude.{◌≡◌, ◌*◌, ◌++◌, ◌∷◌, List, [], MatchResult};
 ghost use Rattle.bincode_base.specs.declared.error.DecodeError.TheVariants.{Memory};
-ghost use Rattle.bincode_layers.specs.Releases.{CanRelease};
+ghost use Rattle.bincode_spec.specs.Layers.Releases.{CanRelease};
 ghost use Rattle.bincode_spec.specs.Run.{IsListOf};
-ghost use Rattle.bincode_layers.specs.Values.{Reads, RunRead};
+ghost use Rattle.bincode_spec.specs.Layers.Values.{Reads, RunRead};
 ghost use Rattle.bincode_spec.specs.Words.{array, list};
 
 use crate::runs::decode_next;

@@ -5,7 +5,7 @@ ghost use Rattle.std.specs.Box.{boxed_slice_items};
 ghost use Rattle.std.specs.Rc.{rc_slice_items};
 ghost use Rattle.bincode_spec.specs.Collections.{IsMadeOf, MakesBag};
 ghost use Rattle.bincode_spec.specs.Run.{IsListOf};
-ghost use Rattle.bincode_layers.specs.Values.{Reads};
+ghost use Rattle.bincode_spec.specs.Layers.Values.{Reads};
 ghost use Rattle.bincode_spec.specs.Words.{array, list};
 ghost use Rattle.bincode_decoder.specs.Memory.{RefusedForSome};
 

@@ -3,7 +3,7 @@ ghost use Rattle.std.specs.Prelude.{◌≡◌};
 ghost use Rattle.std.specs.Arc.{arc_value};
 ghost use Rattle.bincode_spec.specs.Cells.{IsAny};
 ghost use Rattle.bincode_spec.specs.Format.{of_cell};
-ghost use Rattle.bincode_layers.specs.Values.{Reads};
+ghost use Rattle.bincode_spec.specs.Layers.Values.{Reads};
 
 use crate::values::ReadValues;
 use bincode_base::error::DecodeError;

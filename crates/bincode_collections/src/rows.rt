@@ -2,7 +2,7 @@
 ghost use Rattle.std.specs.Prelude.{◌⊎◌};
 ghost use Rattle.bincode_spec.specs.Meaning.{IsThen};
 ghost use Rattle.bincode_spec.specs.Words.{first_and};
-ghost use Rattle.bincode_layers.specs.Values.{Reads};
+ghost use Rattle.bincode_spec.specs.Layers.Values.{Reads};
 
 use crate::values::ReadValues;
 use bincode_base::error::DecodeError;

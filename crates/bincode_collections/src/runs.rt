@@ -2,8 +2,8 @@
 ghost use Rattle.std.specs.Prelude.{◌≡◌, ◌*◌, ◌<◌, length, IfOk, IfSome, IfErr, vec_capacity};
 ghost use Rattle.bincode_base.specs.declared.error.DecodeError.TheVariants.{Memory};
 ghost use Rattle.bincode_spec.specs.Answer.{after_release};
-ghost use Rattle.bincode_layers.specs.Releases.{CanRelease};
-ghost use Rattle.bincode_layers.specs.Values.{Reads, RunRead};
+ghost use Rattle.bincode_spec.specs.Layers.Releases.{CanRelease};
+ghost use Rattle.bincode_spec.specs.Layers.Values.{Reads, RunRead};
 
 use crate::values::{DecodeRun, ReadValues};
 use bincode_base::error::DecodeError;

@@ -5,8 +5,8 @@ ghost use Rattle.std.specs.HashSet.{spare as set_spare};
 ghost use Rattle.bincode_base.specs.declared.error.DecodeError.TheVariants.{Memory};
 ghost use Rattle.bincode_spec.specs.Collections.{IsMadeOf, Makes, MakesMap, MakesSet};
 ghost use Rattle.bincode_spec.specs.Hashed.{MakesHashedMap, MakesHashedSet};
-ghost use Rattle.bincode_layers.specs.Releases.{CanRelease};
-ghost use Rattle.bincode_layers.specs.Values.{Reads, RunRead};
+ghost use Rattle.bincode_spec.specs.Layers.Releases.{CanRelease};
+ghost use Rattle.bincode_spec.specs.Layers.Values.{Reads, RunRead};
 ghost use Rattle.bincode_spec.specs.Words.{array, list};
 ghost use Rattle.bincode_decoder.specs.Memory.{RefusedForSome};
 

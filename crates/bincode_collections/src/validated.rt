@@ -1,7 +1,7 @@
 //! Decoding of values that are checked afterwards.
 ghost use Rattle.std.specs.Prelude.{◌≡◌, true};
 ghost use Rattle.bincode_spec.specs.Validated.{with_test};
-ghost use Rattle.bincode_layers.specs.Values.{Reads};
+ghost use Rattle.bincode_spec.specs.Layers.Values.{Reads};
 
 use crate::values::ReadValues;
 use bincode_base::error::DecodeError;

@@ -2,8 +2,8 @@
 ghost use Rattle.std.specs.Prelude.{◌≡◌, ◌*◌, ◌<◌, length};
 ghost use Rattle.std.specs.Option.{MatchOption};
 ghost use Rattle.bincode_spec.specs.Answer.{Allows};
-ghost use Rattle.bincode_layers.specs.Releases.{CanRelease};
-ghost use Rattle.bincode_layers.specs.Values.{Reads, RunRead};
+ghost use Rattle.bincode_spec.specs.Layers.Releases.{CanRelease};
+ghost use Rattle.bincode_spec.specs.Layers.Values.{Reads, RunRead};
 
 use bincode_base::error::DecodeError;
 use bincode_decoder::bytes::decode_bytes;

@@ -10,7 +10,7 @@ use Rattle.bincode_base.specs.declared.error.DecodeError.TheVariants.{NonZeroTyp
 use Rattle.bincode_spec.specs.Device.{DeviceErrors}
 use Rattle.bincode_spec.specs.Fault.{Zero}
 use Rattle.bincode_spec.specs.Format.{Format, from_result, pure, map_format}
-use Rattle.bincode_layers.specs.Laws.{Lawful}
+use Rattle.bincode_spec.specs.Layers.Laws.{Lawful}
 use Rattle.bincode_lemmas.specs.FormatLaws.{map-lawful}
 use Rattle.bincode_spec.specs.Meaning.{Meaning, Number}
 use Rattle.bincode_spec.specs.Words.{not_zero_of, not_zero_by}
@@ -19,7 +19,7 @@ use Rattle.bincode_lemmas.specs.Sequences.{and_then}
 use Rattle.bincode_lemmas.specs.AnswerLaws.{answer-then, answer-pure, answer-fail}
 use Rattle.bincode_spec.specs.Decoding.{DecodeFailure, by_fault, by_limit, by_memory, by_failure, by_device}
 use Rattle.bincode_lemmas.specs.DecodingLaws.{gave-takes}
-use Rattle.bincode_layers.specs.Values.{Reads}
+use Rattle.bincode_spec.specs.Layers.Values.{Reads}
 use Rattle.bincode_decoder.proofs.ReadAnswers.{read-as}
 
 -- an answer with its meaning mapped

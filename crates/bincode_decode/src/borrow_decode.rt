@@ -2,7 +2,7 @@
 ghost use Rattle.std.specs.Prelude.{◌≡◌, ◌⊎◌, false, IfOk};
 ghost use Rattle.bincode_spec.specs.Words.{variant_tags, in_order, allowed_tags, part};
 ghost use Rattle.bincode_spec.specs.Choices.{IsChoice};
-ghost use Rattle.bincode_layers.specs.Values.{Reads};
+ghost use Rattle.bincode_spec.specs.Layers.Values.{Reads};
 
 use bincode_base::error::DecodeError;
 use bincode_collections::values::DecodeRun;

@@ -2,8 +2,8 @@
 ghost use Rattle.std.specs.Prelude.{◌≡◌, ◌*◌, ◌<◌, ◌⊎◌, length, IfOk, vec_capacity};
 ghost use Rattle.bincode_spec.specs.Format.{elements};
 ghost use Rattle.bincode_base.specs.Slots.{SlotsFit};
-ghost use Rattle.bincode_layers.specs.Releases.{CanRelease, RoomReturned};
-ghost use Rattle.bincode_layers.specs.Values.{RunRead};
+ghost use Rattle.bincode_spec.specs.Layers.Releases.{CanRelease, RoomReturned};
+ghost use Rattle.bincode_spec.specs.Layers.Values.{RunRead};
 
 use crate::borrow_decode::BorrowDecode;
 use crate::strategies::ByBorrowDecode;

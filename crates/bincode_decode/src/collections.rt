@@ -1,6 +1,6 @@
 //! Collections of your own, which are filled item by item.
 ghost use Rattle.bincode_spec.specs.Run.{IsListOf};
-ghost use Rattle.bincode_layers.specs.Values.{Reads};
+ghost use Rattle.bincode_spec.specs.Layers.Values.{Reads};
 ghost use Rattle.bincode_spec.specs.Words.{list};
 
 use crate::decode::Decode;

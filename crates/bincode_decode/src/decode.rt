@@ -1,5 +1,5 @@
 //! What can be decoded.
-ghost use Rattle.bincode_layers.specs.Values.{Reads};
+ghost use Rattle.bincode_spec.specs.Layers.Values.{Reads};
 
 use bincode_base::error::DecodeError;
 use bincode_collections::values::DecodeRun;

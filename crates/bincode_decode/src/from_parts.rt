@@ -1,6 +1,6 @@
 //! Types of your own that are made of all their parts at once.
 ghost use Rattle.std.specs.Prelude.{◌≡◌};
-ghost use Rattle.bincode_layers.specs.Values.{Reads};
+ghost use Rattle.bincode_spec.specs.Layers.Values.{Reads};
 
 use crate::decode::Decode;
 use bincode_base::error::DecodeError;

@@ -5,7 +5,7 @@ use Rattle.std.proofs.lemmas.Bool.{le-ltb, le-leb}
 use Rattle.bincode_base.specs.declared.error.DecodeError.{DecodeError}
 use Rattle.bincode_spec.specs.Fault.{End}
 use Rattle.bincode_spec.specs.Device.{DeviceErrors, Rose, Takes}
-use Rattle.bincode_layers.specs.Pieces.{FallsShort}
+use Rattle.bincode_spec.specs.Layers.Pieces.{FallsShort}
 use Rattle.bincode_spec.specs.Format.{pure, fixed_bytes, step, ◌>>=◌, without_count, elements}
 use Rattle.bincode_lemmas.specs.FormatLaws.{map-lawful}
 use Rattle.bincode_lemmas.specs.Balance.{map-balanced}
@@ -16,7 +16,7 @@ use Rattle.bincode_spec.specs.Words.{natural_number}
 use Rattle.bincode_spec.specs.Answer.{Answer, Allows, Gave, Refused, answer, after_release}
 use Rattle.bincode_spec.specs.Decoding.{Decodes, DecodeFailure, by_fault, by_failure, by_device}
 use Rattle.bincode_spec.specs.Run.{IsListOf}
-use Rattle.bincode_layers.specs.Releases.{CanRelease}
+use Rattle.bincode_spec.specs.Layers.Releases.{CanRelease}
 use Rattle.bincode_lemmas.specs.RunLaws.{ReadSoFar, behind, none-read, one-more, all-read}
 
 -- what a byte means

@@ -5,15 +5,15 @@ use Rattle.std.proofs.Common.{arith}
 use Rattle.std.proofs.lemmas.Result.{IfOk-weaker, IfErr-weaker}
 use Rattle.bincode_base.specs.declared.error.DecodeError.{DecodeError}
 use Rattle.bincode_spec.specs.Answer.{Allows}
-use Rattle.bincode_layers.specs.Claims.{Claimed}
+use Rattle.bincode_spec.specs.Layers.Claims.{Claimed}
 use Rattle.bincode_spec.specs.Device.{DeviceErrors}
 use Rattle.bincode_spec.specs.Format.{fixed_bytes, without_count}
 use Rattle.bincode_spec.specs.Integers.{unsigned_byte}
-use Rattle.bincode_layers.specs.Lending.{TakesBytes}
+use Rattle.bincode_spec.specs.Layers.Lending.{TakesBytes}
 use Rattle.bincode_spec.specs.Meaning.{IsNumber}
-use Rattle.bincode_layers.specs.Reads.{ReadsWord}
-use Rattle.bincode_layers.specs.Releases.{CanRelease}
-use Rattle.bincode_layers.specs.Values.{RunRead}
+use Rattle.bincode_spec.specs.Layers.Reads.{ReadsWord}
+use Rattle.bincode_spec.specs.Layers.Releases.{CanRelease}
+use Rattle.bincode_spec.specs.Layers.Values.{RunRead}
 use Rattle.bincode_spec.specs.Words.{natural_number}
 use Rattle.bincode_decoder.proofs.BytesAtOnce.{bytes-decode, bytes-stop, both-of_err}
 use Rattle.bincode_decoder.proofs.LengthPrefixedBytes.{took, misread}

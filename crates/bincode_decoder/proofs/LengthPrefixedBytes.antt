@@ -12,9 +12,9 @@ use Rattle.std.proofs.lemmas.Str.{IsUtf8-from_is_utf8, IsUtf8-string_bytes}
 use Rattle.bincode_base.specs.declared.error.DecodeError.{DecodeError}
 use Rattle.bincode_spec.specs.Fault.{End, Utf8}
 use Rattle.bincode_spec.specs.Device.{DeviceErrors, Rose, Takes}
-use Rattle.bincode_layers.specs.Pieces.{FallsShort, FillsBuffer}
+use Rattle.bincode_spec.specs.Layers.Pieces.{FallsShort, FillsBuffer}
 use Rattle.bincode_spec.specs.Format.{Took, Failed, fixed_bytes, without_count, reading_without_count}
-use Rattle.bincode_layers.specs.Reads.{ReadsWord, ReadFailure, by_fault, by_failure, by_device}
+use Rattle.bincode_spec.specs.Layers.Reads.{ReadsWord, ReadFailure, by_fault, by_failure, by_device}
 use Rattle.bincode_spec.specs.Meaning.{Bytes}
 use Rattle.bincode_spec.specs.Words.{text_of}
 use Rattle.bincode_lemmas.specs.FormatLaws.{fixed_bytes-lawful}

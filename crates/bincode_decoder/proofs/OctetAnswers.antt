@@ -5,9 +5,9 @@ use Rattle.std.proofs.Common.{◌∙◌, ap}
 use Rattle.std.proofs.lemmas.Result.{on_ok_weaker, IfErr-weaker}
 use Rattle.bincode_base.specs.declared.error.DecodeError.{DecodeError}
 use Rattle.bincode_spec.specs.Device.{DeviceErrors}
-use Rattle.bincode_layers.specs.Pieces.{FillsBuffer}
+use Rattle.bincode_spec.specs.Layers.Pieces.{FillsBuffer}
 use Rattle.bincode_spec.specs.Format.{fixed_bytes}
-use Rattle.bincode_layers.specs.Reads.{ReadsWord}
+use Rattle.bincode_spec.specs.Layers.Reads.{ReadsWord}
 use Rattle.bincode_io.proofs.Words.{fixed_bytes-read, fixed_bytes-misreads}
 use Rattle.bincode_decoder.proofs.BytesAtOnce.{both-of_err}
 

@@ -7,9 +7,9 @@ use Rattle.bincode_base.specs.declared.error.DecodeError.{DecodeError}
 use Rattle.bincode_spec.specs.Fault.{Fault, Tells}
 use Rattle.bincode_spec.specs.Device.{DeviceErrors}
 use Rattle.bincode_spec.specs.Format.{Format, ◌>>=◌, from_result}
-use Rattle.bincode_layers.specs.Laws.{Lawful}
+use Rattle.bincode_spec.specs.Layers.Laws.{Lawful}
 use Rattle.bincode_spec.specs.Decoding.{by_fault}
-use Rattle.bincode_layers.specs.Values.{Reads}
+use Rattle.bincode_spec.specs.Layers.Values.{Reads}
 use Rattle.bincode_lemmas.specs.DecodingLaws.{answer-next, stops-first, stops-next, stops-besides, from_result-gave, from_result-refused, gave-takes}
 use Rattle.bincode_decoder.proofs.ReadAnswers.{read-as, read-after, exactly}
 

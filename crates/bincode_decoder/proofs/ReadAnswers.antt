@@ -5,17 +5,17 @@ use Rattle.std.proofs.Common.{◌∙◌, ap, sym, arith}
 use Rattle.std.proofs.lemmas.Result.{IfOk-weaker, IfErr-weaker}
 use Rattle.bincode_base.specs.declared.error.DecodeError.{DecodeError}
 use Rattle.bincode_spec.specs.Device.{DeviceErrors}
-use Rattle.bincode_layers.specs.Pieces.{FillsBuffer}
+use Rattle.bincode_spec.specs.Layers.Pieces.{FillsBuffer}
 use Rattle.bincode_spec.specs.Format.{Format, charge_then, map_format}
-use Rattle.bincode_layers.specs.Reads.{ReadsWord}
+use Rattle.bincode_spec.specs.Layers.Reads.{ReadsWord}
 use Rattle.bincode_spec.specs.Answer.{Answer, answer, Gave, Allows}
-use Rattle.bincode_layers.specs.Claims.{Claimed, OverClaimed, Charges}
+use Rattle.bincode_spec.specs.Layers.Claims.{Claimed, OverClaimed, Charges}
 use Rattle.bincode_spec.specs.Meaning.{Number}
 use Rattle.bincode_base.specs.declared.error.DecodeError.TheVariants.{Memory}
 use Rattle.bincode_spec.specs.Decoding.{Decodes, DecodeFailure, by_memory}
 use Rattle.bincode_lemmas.specs.DecodingLaws.{charge_then-gave, charge_then-misread, map-gave, map-stops}
-use Rattle.bincode_layers.specs.Claims.{OnlyCharged}
-use Rattle.bincode_layers.specs.Values.{Reads, ReadsInteger}
+use Rattle.bincode_spec.specs.Layers.Claims.{OnlyCharged}
+use Rattle.bincode_spec.specs.Layers.Values.{Reads, ReadsInteger}
 use Rattle.bincode_decoder.proofs.Rooms.{claimed-grows, claimed-within, over-grows, whatever_given}
 
 module _ {D A B T U : Type 0} {is_known : D → Type 0} {remaining : D → List ℕ} {charge failures : D → ℕ} {loans : D → List GName} {limit : Option ℕ}

@@ -12,7 +12,7 @@ use Rattle.bincode_spec.specs.Decoding.{DecodeFailure, by_fault, by_limit, by_me
 use Rattle.bincode_spec.specs.Device.{DeviceErrors}
 use Rattle.bincode_spec.specs.Fault.{Fault, Tells, End, InvalidInteger, Zero, UnexpectedVariant, Utf8, InvalidChar, InvalidBool, InvalidDuration, NulAt, Other, LengthMismatch, EmptyEnum, OutsideUsize, Between, OneOf, short, long}
 use Rattle.bincode_spec.specs.Format.{Format, Reading, Took, Failed}
-use Rattle.bincode_layers.specs.Values.{Reads}
+use Rattle.bincode_spec.specs.Layers.Values.{Reads}
 use Rattle.bincode_spec.specs.Words.{len}
 use Rattle.bincode_decoder.specs.Memory.{BeginsWithSome, IsOfReader, RefusedForSome}
 use Rattle.bincode_decoder.proofs.ReadAnswers.{exactly}

@@ -5,11 +5,11 @@ use Rattle.std.specs.Borrow.{GName}
 use Rattle.std.proofs.Common.{arith}
 use Rattle.std.proofs.lemmas.Bool.{false≢true, true≢false, le-ltb, cases_from_iff, leb-true, le-leb}
 use Rattle.bincode_base.specs.declared.error.DecodeError.TheVariants.{LimitExceeded}
-use Rattle.bincode_layers.specs.Claims.{Claims, OnlyCharged}
+use Rattle.bincode_spec.specs.Layers.Claims.{Claims, OnlyCharged}
 use Rattle.std.proofs.Math.Nat.{mul-le-mul_right}
 use Rattle.bincode_spec.specs.Answer.{Allows, after_release}
-use Rattle.bincode_layers.specs.Claims.{Claimed, OverClaimed}
-use Rattle.bincode_layers.specs.Releases.{Held}
+use Rattle.bincode_spec.specs.Layers.Claims.{Claimed, OverClaimed}
+use Rattle.bincode_spec.specs.Layers.Releases.{Held}
 use Rattle.bincode_lemmas.specs.AnswerLaws.{claim-falls}
 
 -- the claims of fewer values are within those of more

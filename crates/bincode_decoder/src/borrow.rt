@@ -3,7 +3,7 @@ ghost use Rattle.std.specs.Prelude.{◌≡◌};
 ghost use Rattle.bincode_spec.specs.Format.{fixed_bytes, without_count, charge_then};
 ghost use Rattle.bincode_spec.specs.Meaning.{IsBytes};
 ghost use Rattle.bincode_spec.specs.Words.{length_prefixed, text};
-ghost use Rattle.bincode_layers.specs.Values.{Reads};
+ghost use Rattle.bincode_spec.specs.Layers.Values.{Reads};
 
 use crate::decoder::{BorrowDecoder, BorrowedBytes};
 use crate::lengths::decode_length;

@@ -4,8 +4,8 @@ ghost use Rattle.bincode_spec.specs.Integers.{unsigned_byte};
 ghost use Rattle.bincode_spec.specs.Meaning.{IsNumber};
 ghost use Rattle.bincode_spec.specs.Words.{natural_number};
 ghost use Rattle.bincode_spec.specs.Answer.{Allows};
-ghost use Rattle.bincode_layers.specs.Releases.{CanRelease};
-ghost use Rattle.bincode_layers.specs.Values.{RunRead};
+ghost use Rattle.bincode_spec.specs.Layers.Releases.{CanRelease};
+ghost use Rattle.bincode_spec.specs.Layers.Values.{RunRead};
 
 use crate::decoder::Decoder;
 use crate::integers::read_from;

@@ -1,10 +1,10 @@
 //! Decoding of characters.
 ghost use Rattle.std.specs.Prelude.{◌≡◌, Some};
 ghost use Rattle.bincode_spec.specs.Format.{charge_then};
-ghost use Rattle.bincode_layers.specs.Reads.{ReadsUncharged};
+ghost use Rattle.bincode_spec.specs.Layers.Reads.{ReadsUncharged};
 ghost use Rattle.bincode_spec.specs.Meaning.{Character, IsCharacter};
 ghost use Rattle.bincode_spec.specs.Words.{char_width, character, rest_of_char};
-ghost use Rattle.bincode_layers.specs.Values.{Reads, ReadsCharged};
+ghost use Rattle.bincode_spec.specs.Layers.Values.{Reads, ReadsCharged};
 
 use crate::decoder::Decoder;
 use crate::integers::read_byte_from;

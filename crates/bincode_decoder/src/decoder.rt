@@ -3,8 +3,8 @@ ghost use Rattle.std.specs.Prelude.{◌≡◌, ◌*◌, ℕ, List};
 ghost use Rattle.std.specs.Borrow.{GName, Lends, sem};
 ghost use Rattle.std.specs.Bool.{MatchBool};
 ghost use Rattle.bincode_spec.specs.Answer.{Allows};
-ghost use Rattle.bincode_layers.specs.Releases.{CanRelease};
-ghost use Rattle.bincode_layers.specs.Claims.{MakesClaim, MakesRelease};
+ghost use Rattle.bincode_spec.specs.Layers.Releases.{CanRelease};
+ghost use Rattle.bincode_spec.specs.Layers.Claims.{MakesClaim, MakesRelease};
 
 mod borrow;
 mod charge;

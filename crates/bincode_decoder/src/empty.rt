@@ -2,7 +2,7 @@
 ghost use Rattle.bincode_spec.specs.Fault.{EmptyEnum};
 ghost use Rattle.bincode_spec.specs.Format.{fail};
 ghost use Rattle.bincode_spec.specs.Meaning.{Meaning};
-ghost use Rattle.bincode_layers.specs.Values.{Reads};
+ghost use Rattle.bincode_spec.specs.Layers.Values.{Reads};
 
 use crate::decoder::Decoder;
 use crate::tags::Named;

@@ -1,12 +1,12 @@
 //! Decoding of integers and bytes.
 ghost use Rattle.std.specs.Prelude.{◌≡◌, pos, ok_or};
 ghost use Rattle.bincode_base.specs.declared.error.DecodeError.TheVariants.{NonZeroTypeIsZero};
-ghost use Rattle.bincode_layers.specs.Pieces.{FillsBuffer};
+ghost use Rattle.bincode_spec.specs.Layers.Pieces.{FillsBuffer};
 ghost use Rattle.bincode_spec.specs.Format.{map_format};
 ghost use Rattle.bincode_spec.specs.Number.{from_two_complement};
-ghost use Rattle.bincode_layers.specs.Reads.{ReadsUncharged};
+ghost use Rattle.bincode_spec.specs.Layers.Reads.{ReadsUncharged};
 ghost use Rattle.bincode_spec.specs.Integers.{byte, unsigned_byte, signed_byte};
-ghost use Rattle.bincode_layers.specs.Values.{ReadsInteger};
+ghost use Rattle.bincode_spec.specs.Layers.Values.{ReadsInteger};
 
 use crate::decoder::Decoder;
 use bincode_base::config::Config;

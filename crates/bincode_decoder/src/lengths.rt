@@ -1,7 +1,7 @@
 //! Decoding of length prefixes.
 ghost use Rattle.std.specs.Prelude.{◌≡◌};
 ghost use Rattle.bincode_spec.specs.Words.{len};
-ghost use Rattle.bincode_layers.specs.Values.{ReadsCharged};
+ghost use Rattle.bincode_spec.specs.Layers.Values.{ReadsCharged};
 
 use crate::decoder::Decoder;
 use crate::integers::decode_integer;

@@ -1,7 +1,7 @@
 //! Decoding of the octets of addresses.
 ghost use Rattle.bincode_spec.specs.Meaning.{IsBytes};
 ghost use Rattle.bincode_spec.specs.Octets.{octets};
-ghost use Rattle.bincode_layers.specs.Values.{Reads};
+ghost use Rattle.bincode_spec.specs.Layers.Values.{Reads};
 
 use crate::decoder::Decoder;
 use crate::integers::read_from;

@@ -3,7 +3,7 @@ ghost use Rattle.std.specs.Prelude.{◌≡◌, ◌⊎◌, ◌++◌, false, OnOk,
 ghost use Rattle.bincode_spec.specs.Fault.{TellsTag};
 ghost use Rattle.bincode_base.specs.declared.error.DecodeError.TheVariants.{Memory};
 ghost use Rattle.bincode_spec.specs.Words.{variant_tags, in_order, last_of, allowed_tags};
-ghost use Rattle.bincode_layers.specs.Values.{Reads};
+ghost use Rattle.bincode_spec.specs.Layers.Values.{Reads};
 
 use crate::decoder::Decoder;
 use crate::integers::{decode_byte, decode_integer};

@@ -5,7 +5,7 @@ ghost use Rattle.std.specs.String.{string_bytes, string_capacity};
 ghost use Rattle.bincode_spec.specs.Format.{fixed_bytes, without_count, charge_then};
 ghost use Rattle.bincode_spec.specs.Meaning.{IsBytes};
 ghost use Rattle.bincode_spec.specs.Words.{length_prefixed, text};
-ghost use Rattle.bincode_layers.specs.Values.{Reads};
+ghost use Rattle.bincode_spec.specs.Layers.Values.{Reads};
 ghost use Rattle.bincode_decoder.specs.Memory.{RefusedForSome};
 
 use crate::decoder::Decoder;

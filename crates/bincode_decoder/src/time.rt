@@ -3,7 +3,7 @@ ghost use Rattle.std.specs.Prelude.{pos};
 ghost use Rattle.bincode_spec.specs.Meaning.{IsNumber, IsThen, IsNothing};
 ghost use Rattle.bincode_spec.specs.Words.{duration};
 ghost use Rattle.bincode_types.specs.Durations.{secs_of, nanos_of};
-ghost use Rattle.bincode_layers.specs.Values.{Reads};
+ghost use Rattle.bincode_spec.specs.Layers.Values.{Reads};
 
 use crate::decoder::Decoder;
 use crate::integers::decode_integer;

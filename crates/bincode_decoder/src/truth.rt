@@ -1,7 +1,7 @@
 //! Decoding of `bool`.
 ghost use Rattle.bincode_spec.specs.Meaning.{IsTruth};
 ghost use Rattle.bincode_spec.specs.Words.{truth};
-ghost use Rattle.bincode_layers.specs.Values.{ReadsCharged};
+ghost use Rattle.bincode_spec.specs.Layers.Values.{ReadsCharged};
 
 use crate::decoder::Decoder;
 use crate::integers::decode_byte;

@@ -12,7 +12,7 @@ use Rattle.bincode_spec.specs.Meaning.{Meaning}
 use Rattle.bincode_spec.specs.Words.{array, list}
 use Rattle.bincode_spec.specs.Allowed.{AllowedWord}
 use Rattle.bincode_spec.specs.Run.{IsListOf}
-use Rattle.bincode_layers.specs.Meanings.{LengthWord}
+use Rattle.bincode_spec.specs.Layers.Meanings.{LengthWord}
 use Rattle.bincode_spec.specs.Collections.{IsMadeOf, MakesBag}
 use Rattle.bincode_lemmas.specs.RunAllowedLaws.{array-join, array-split}
 use Rattle.bincode_lemmas.specs.ListLaws.{list-allows, allowed-list}

@@ -2,7 +2,7 @@
 ghost use Rattle.std.specs.Prelude.{◌≡◌, ℕ, List, ◌∷◌, length, true, refl};
 ghost use Rattle.std.proofs.Common.{ap};
 ghost use Rattle.std.specs.Borrow.{GName, Lends, sem};
-ghost use Rattle.bincode_layers.specs.Pieces.{TakesPiece};
+ghost use Rattle.bincode_spec.specs.Layers.Pieces.{TakesPiece};
 ghost use Rattle.bincode_spec.specs.Device.{WithinRoom};
 
 use crate::answers::rebuild_result;

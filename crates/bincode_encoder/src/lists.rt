@@ -4,7 +4,7 @@ ghost use Rattle.std.specs.BinaryHeap.{heap_items};
 ghost use Rattle.bincode_spec.specs.Words.{list};
 ghost use Rattle.bincode_spec.specs.Run.{IsListOf};
 ghost use Rattle.bincode_spec.specs.Allowed.{AllowedWord};
-ghost use Rattle.bincode_layers.specs.Meanings.{LengthWord};
+ghost use Rattle.bincode_spec.specs.Layers.Meanings.{LengthWord};
 ghost use Rattle.bincode_spec.specs.Collections.{AreValid, IsMadeOf, MakesBag};
 ghost use Rattle.bincode_spec.specs.Encoding.{Encodes};
 

@@ -6,7 +6,7 @@ ghost use Rattle.bincode_spec.specs.Meaning.{Choice, IsNumber};
 ghost use Rattle.bincode_spec.specs.Words.{natural_number, after_tag, tag_then_part};
 ghost use Rattle.bincode_spec.specs.Choices.{IsChoice};
 ghost use Rattle.bincode_spec.specs.Allowed.{AllowedWord, WrittenAlike};
-ghost use Rattle.bincode_layers.specs.Meanings.{SameMeanings};
+ghost use Rattle.bincode_spec.specs.Layers.Meanings.{SameMeanings};
 ghost use Rattle.bincode_spec.specs.Encoding.{Encodes};
 
 use crate::answers::rebuild_result;

@@ -7,12 +7,12 @@ use Rattle.bincode_base.specs.declared.error.IntegerType.TheVariants.{U32}
 use Rattle.bincode_spec.specs.Allowed.{AllowedWord, SomeWord, MayName, WrittenAlike, Shortest, OneLength}
 use Rattle.bincode_spec.specs.Answer.{answer}
 use Rattle.bincode_spec.specs.Choices.{IsChoice}
-use Rattle.bincode_layers.specs.Laws.{AllLawful, AllBalanced}
+use Rattle.bincode_spec.specs.Layers.Laws.{AllLawful, AllBalanced}
 use Rattle.bincode_spec.specs.Fault.{Allowed, UnexpectedVariant}
 use Rattle.bincode_spec.specs.Format.{Format, map_format}
 use Rattle.bincode_spec.specs.Integers.{Four}
 use Rattle.bincode_spec.specs.Meaning.{Meaning, Choice, Number}
-use Rattle.bincode_layers.specs.Needs.{then_needs, picked_needs}
+use Rattle.bincode_spec.specs.Layers.Needs.{then_needs, picked_needs}
 use Rattle.bincode_spec.specs.Words.{tag, Variant, variant_tags, allowed_tags, in_order, part, tag_then_part}
 use Rattle.bincode_lemmas.specs.AllowedLaws.{fewer-none_shorter}
 use Rattle.bincode_lemmas.specs.ChargedLaws.{ChargesEnough, picked-charged, fail-charged, map-charged, chosen-charged}

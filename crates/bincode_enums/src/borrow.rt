@@ -4,7 +4,7 @@ ghost use Rattle.bincode_spec.specs.Format.{map_format};
 ghost use Rattle.bincode_spec.specs.Meaning.{Choice};
 ghost use Rattle.bincode_spec.specs.Words.{after_tag};
 ghost use Rattle.bincode_spec.specs.Choices.{IsChoice};
-ghost use Rattle.bincode_layers.specs.Values.{Reads};
+ghost use Rattle.bincode_spec.specs.Layers.Values.{Reads};
 ghost use Rattle.bincode_enums.specs.EnumWords.{ReadAlike};
 
 use crate::enums::Enum;

@@ -6,7 +6,7 @@ ghost use Rattle.bincode_spec.specs.Meaning.{Choice};
 ghost use Rattle.bincode_spec.specs.Words.{after_tag};
 ghost use Rattle.bincode_spec.specs.Choices.{IsChoice};
 ghost use Rattle.bincode_spec.specs.Allowed.{AllowedWord, WrittenAlike};
-ghost use Rattle.bincode_layers.specs.Meanings.{SameMeanings};
+ghost use Rattle.bincode_spec.specs.Layers.Meanings.{SameMeanings};
 ghost use Rattle.bincode_spec.specs.Encoding.{Encodes};
 
 use crate::enums::Enum;

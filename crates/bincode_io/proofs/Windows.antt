@@ -5,7 +5,7 @@ use Rattle.std.proofs.Common.{sym, ap, ◌∙◌, arith, append_assoc, length-ap
 use Rattle.bincode_base.specs.declared.error.DecodeError.{DecodeError}
 use Rattle.bincode_base.specs.declared.error.DecodeError.TheVariants.{UnexpectedEnd, InvalidIntegerType}
 use Rattle.bincode_base.specs.declared.error.IntegerType.{IntegerType}
-use Rattle.bincode_layers.specs.Pieces.{no_device, Unmoved, TakesShown}
+use Rattle.bincode_spec.specs.Layers.Pieces.{no_device, Unmoved, TakesShown}
 use Rattle.bincode_spec.specs.Device.{DeviceErrors}
 use Rattle.bincode_lemmas.specs.ValidatedLaws.{own-tells}
 use Rattle.bincode_spec.specs.Fault.{Fault, IsEnd, Tells, Between, OneOf, End, InvalidInteger, Zero, UnexpectedVariant, Utf8, InvalidChar, InvalidBool, InvalidDuration, NulAt, Other, LengthMismatch, EmptyEnum, OutsideUsize, short, long}
@@ -14,8 +14,8 @@ use Rattle.bincode_spec.specs.Format.{Format, Took, ◌>>=◌, written_as}
 use Rattle.bincode_spec.specs.Integers.{FirstByte, Itself, Before, TooWide, first_byte, number_after, byte, varint}
 use Rattle.bincode_lemmas.specs.FormatLaws.{pure-lawful, fail-lawful, turn-lawful}
 use Rattle.bincode_lemmas.specs.IntegerLaws.{byte-lawful, digits-lawful}
-use Rattle.bincode_layers.specs.Laws.{Lawful}
-use Rattle.bincode_layers.specs.Reads.{ReadsWord, ReadFailure, by_fault, by_failure, by_device}
+use Rattle.bincode_spec.specs.Layers.Laws.{Lawful}
+use Rattle.bincode_spec.specs.Layers.Reads.{ReadsWord, ReadFailure, by_fault, by_failure, by_device}
 use Rattle.bincode_io.specs.Window.{FrontIs, FrontFails}
 use Rattle.bincode_io.proofs.Words.{fixed_bytes-read, byte-took}
 

@@ -6,7 +6,7 @@ use Rattle.bincode_base.specs.declared.error.DecodeError.{DecodeError}
 use Rattle.bincode_spec.specs.Device.{DeviceErrors}
 use Rattle.bincode_spec.specs.Fault.{Fault}
 use Rattle.bincode_spec.specs.Format.{Format, Took, Failed}
-use Rattle.bincode_layers.specs.Reads.{ReadFailure, ReadsWord}
+use Rattle.bincode_spec.specs.Layers.Reads.{ReadFailure, ReadsWord}
 use Rattle.bincode_io.proofs.Words.{misreads-more}
 
 module _ {R A B T U : Type 0} {is_known : R → Type 0} {remaining : R → List ℕ} {failures : R → ℕ} {loans : R → List GName} {end_error : ℕ → DecodeError → Type 0}

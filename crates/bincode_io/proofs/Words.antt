@@ -22,11 +22,11 @@ use Rattle.bincode_lemmas.specs.IntegerLaws.{byte-lawful, shortest-1, shortest-3
 use Rattle.bincode_base.specs.declared.config.IntEncoding.{IntEncoding}
 use Rattle.bincode_base.specs.declared.config.IntEncoding.TheVariants.{Fixed}
 use Rattle.bincode_spec.specs.Integers.{shortest_word, spelling, number_for, byte, digits, first_of, varint, first_byte, Itself, Before, TooWide, number_after, width_in_bytes}
-use Rattle.bincode_layers.specs.Spelling.{shortest_pieces, spelling_pieces}
+use Rattle.bincode_spec.specs.Layers.Spelling.{shortest_pieces, spelling_pieces}
 use Rattle.bincode_spec.specs.Device.{DeviceErrors, Rose, Takes}
-use Rattle.bincode_layers.specs.Pieces.{FallsShort, StopsAmong, TakesPiece, TakesPieces}
+use Rattle.bincode_spec.specs.Layers.Pieces.{FallsShort, StopsAmong, TakesPiece, TakesPieces}
 use mir.Val.{to_z, of_z, Fits}
-use Rattle.bincode_layers.specs.Reads.{ReadFailure, by_fault, by_device, by_failure}
+use Rattle.bincode_spec.specs.Layers.Reads.{ReadFailure, by_fault, by_device, by_failure}
 
 -- n bytes are there
 pub fixed_bytes-read : (bytes remaining : List ℕ) (n : ℕ) → length bytes ≡ n → (fixed_bytes n).read (bytes ++ remaining) ≡ Took bytes remaining []

@@ -2,7 +2,7 @@
 use Rattle.std.specs.Prelude.{◌≡◌, ◌+◌, ◌-◌, ◌≤◌, ℕ, List, [], ◌∷◌, ◌++◌, length, Option, Some, None, refl}
 use Rattle.std.proofs.Common.{ap, subst, arith, length-append}
 use Rattle.bincode_spec.specs.Device.{TooLong, WithinRoom}
-use Rattle.bincode_layers.specs.Pieces.{TakesRoom}
+use Rattle.bincode_spec.specs.Layers.Pieces.{TakesRoom}
 
 -- if a concatenation is empty, both parts are
 pub first-empty : (x y : List ℕ) → x ++ y ≡ [] → x ≡ []

@@ -14,7 +14,7 @@ use Rattle.bincode_base.specs.declared.error.DecodeError.TheVariants as decoding
 use Rattle.bincode_base.specs.declared.error.EncodeError.{EncodeError}
 use Rattle.bincode_base.specs.declared.error.EncodeError.TheVariants as encoding
 use Rattle.bincode_spec.specs.Device.{DeviceErrors}
-use Rattle.bincode_layers.specs.Pieces.{FillsBuffer}
+use Rattle.bincode_spec.specs.Layers.Pieces.{FillsBuffer}
 use Rattle.bincode_spec.specs.Encoding.{Begins, IsOwn}
 use Rattle.bincode_io.specs.declared.io_read.IoReader.{IoReader}
 use Rattle.bincode_io.specs.declared.io_read.LentIoReader.{LentIoReader}

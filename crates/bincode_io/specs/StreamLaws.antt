@@ -9,7 +9,7 @@ use Rattle.std.specs.declared.io.buffered.BufReader.{BufReader}
 use Rattle.bincode_base.specs.declared.error.EncodeError.{EncodeError}
 use Rattle.bincode_base.specs.declared.error.EncodeError.TheVariants.{Memory}
 use Rattle.bincode_spec.specs.Device.{TooLong, Rose}
-use Rattle.bincode_layers.specs.Pieces.{TakesRoom}
+use Rattle.bincode_spec.specs.Layers.Pieces.{TakesRoom}
 use Rattle.bincode_io.specs.declared.io_write.IoWriter.{IoWriter}
 use Rattle.bincode_io.specs.RoomLaws.{first-empty, second-empty}
 use Rattle.bincode_io.specs.Stream.{TellsBytes, known_bytes, buffered_count, target_of, written_through, IsWriteIo, StreamAdds, StreamRefuses}

@@ -3,7 +3,7 @@ ghost use Rattle.std.specs.Prelude.{◌≡◌};
 ghost use Rattle.bincode_spec.specs.Number.{number_of, digits_of, two_complement, from_two_complement};
 ghost use Rattle.bincode_spec.specs.Format.{fixed_bytes, map_format};
 ghost use Rattle.bincode_spec.specs.Integers.{byte, digits};
-ghost use Rattle.bincode_layers.specs.Reads.{ReadsWord};
+ghost use Rattle.bincode_spec.specs.Layers.Reads.{ReadsWord};
 
 use crate::read::Reader;
 use bincode_base::config::Endianness;

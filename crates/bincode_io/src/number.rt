@@ -5,10 +5,10 @@ ghost use Rattle.std.specs.Prelude.{ℕ, refl};
 ghost use Rattle.bincode_base.specs.declared.error.IntegerType.TheVariants.{U16, U32, U64, U128, Usize, I16, I32, I64};
 ghost use Rattle.bincode_base.specs.declared.error.IntegerType.TheVariants.{I128, Isize};
 ghost use Rattle.bincode_spec.specs.Integers.{Two, Four, Eight, Sixteen};
-ghost use Rattle.bincode_layers.specs.Spelling.{Spelling, unsigned_spelling, signed_spelling};
+ghost use Rattle.bincode_spec.specs.Layers.Spelling.{Spelling, unsigned_spelling, signed_spelling};
 ghost use Rattle.bincode_lemmas.specs.SpellingLaws.{SpellingLaws, unsigned_spelling-laws, signed_spelling-laws};
-ghost use Rattle.bincode_layers.specs.Pieces.{TakesPieces};
-ghost use Rattle.bincode_layers.specs.Reads.{ReadsWord};
+ghost use Rattle.bincode_spec.specs.Layers.Pieces.{TakesPieces};
+ghost use Rattle.bincode_spec.specs.Layers.Reads.{ReadsWord};
 
 use crate::bytes::{
     bytes_of_i16, bytes_of_i32, bytes_of_i64, bytes_of_i128, bytes_of_u16, bytes_of_u32,

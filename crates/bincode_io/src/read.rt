@@ -6,8 +6,8 @@ ghost use Rattle.std.proofs.Common.{le_refl, inl};
 ghost use Rattle.std.specs.Borrow.{GName, sem};
 ghost use Rattle.std.specs.Io.BufRead.{Rests};
 ghost use Rattle.bincode_spec.specs.Device.{DeviceErrors};
-ghost use Rattle.bincode_layers.specs.Pieces.{no_device, IsEndError};
-ghost use Rattle.bincode_layers.specs.Pieces.{FallsShort, FillsBuffer, TakesShown, Unmoved};
+ghost use Rattle.bincode_spec.specs.Layers.Pieces.{no_device, IsEndError};
+ghost use Rattle.bincode_spec.specs.Layers.Pieces.{FallsShort, FillsBuffer, TakesShown, Unmoved};
 ghost use Rattle.bincode_base.specs.declared.error.DecodeError.{DecodeError};
 ghost use Rattle.bincode_base.specs.declared.error.DecodeError.TheVariants.{UnexpectedEnd};
 

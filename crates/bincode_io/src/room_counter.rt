@@ -1,7 +1,7 @@
 //! A counter for the capacity to reserve.
 ghost use Rattle.std.specs.Prelude.{◌≡◌, ◌∷◌, None, OnOk, [], length};
 ghost use Rattle.std.proofs.Common.{◌∙◌, le_refl, refl};
-ghost use Rattle.bincode_layers.specs.Pieces.{TakesPiece};
+ghost use Rattle.bincode_spec.specs.Layers.Pieces.{TakesPiece};
 ghost use Rattle.bincode_io.specs.RoomLaws.{first-empty, second-empty};
 
 use crate::write::Writer;

@@ -7,7 +7,7 @@ ghost use Rattle.std.proofs.lemmas.List.{append-nil};
 ghost use Rattle.bincode_base.specs.declared.error.EncodeError.TheVariants.{Memory};
 ghost use Rattle.bincode_io.specs.RoomLaws.{first-empty, second-empty};
 ghost use Rattle.bincode_io.specs.Growth.{GrowsFor};
-ghost use Rattle.bincode_layers.specs.Pieces.{TakesPiece};
+ghost use Rattle.bincode_spec.specs.Layers.Pieces.{TakesPiece};
 
 use crate::write::Writer;
 use bincode_base::error::EncodeError;

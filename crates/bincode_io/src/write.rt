@@ -4,7 +4,7 @@ ghost use Rattle.std.specs.Prelude.{◌∷◌, ◌++◌, length, true, Option, S
 ghost use Rattle.std.specs.Borrow.{GName};
 ghost use Rattle.std.proofs.Common.{rules, sym, ◌∙◌, ap, arith, le_refl, refl};
 ghost use Rattle.std.proofs.lemmas.Grind.{common_steps};
-ghost use Rattle.bincode_layers.specs.Pieces.{TakesPiece, TakesRoom};
+ghost use Rattle.bincode_spec.specs.Layers.Pieces.{TakesPiece, TakesRoom};
 ghost use Rattle.bincode_spec.specs.Device.{TooLong, WithinRoom, WriterFails};
 ghost use Rattle.bincode_io.specs.RoomLaws.{room-taken, front-within, first-empty, second-empty};
 ghost use Rattle.bincode_spec.specs.Put.{put};

@@ -3,15 +3,15 @@ use Rattle.std.specs.Prelude.{◌≡◌, ◌⊎◌, ℕ, List, [], Option, Resul
 use Rattle.std.specs.Borrow.{GName}
 use Rattle.std.proofs.Common.{sym, ◌∙◌, subst, inl, inr}
 use Rattle.bincode_base.specs.declared.error.DecodeError.{DecodeError}
-use Rattle.bincode_layers.specs.Alike.{TellAlike, DeviceFailed, ReadAlike, both_passed, both_tell}
+use Rattle.bincode_spec.specs.Layers.Alike.{TellAlike, DeviceFailed, ReadAlike, both_passed, both_tell}
 use Rattle.bincode_spec.specs.Answer.{Answer, Gave}
 use Rattle.bincode_spec.specs.Decoding.{DecodeFailure, IsExcused, by_fault, by_limit, by_memory, by_failure, by_device}
 use Rattle.bincode_spec.specs.Device.{DeviceErrors}
 use Rattle.bincode_spec.specs.Fault.{Tells}
 use Rattle.bincode_spec.specs.Format.{Format, Reading, Took}
-use Rattle.bincode_layers.specs.Reads as reads
-use Rattle.bincode_layers.specs.Reads.{ReadFailure, ReadsWord}
-use Rattle.bincode_layers.specs.Values.{Reads}
+use Rattle.bincode_spec.specs.Layers.Reads as reads
+use Rattle.bincode_spec.specs.Layers.Reads.{ReadFailure, ReadsWord}
+use Rattle.bincode_spec.specs.Layers.Values.{Reads}
 
 -- an error of the answer, or one of another cause
 module _ {A : Type 0} (a : Answer A) (MayAllocate : Type 0) where

@@ -5,7 +5,7 @@ use Rattle.std.proofs.lemmas.Bool.{cases_lt, le-leb, lt-leb}
 use Rattle.bincode_spec.specs.Fault.{Fault}
 use Rattle.bincode_spec.specs.Charge.{Step, Charge, Reserve, Release, charged_bytes, reserved_bytes, released_bytes, charge_after, Passes, StaysWithin}
 use Rattle.bincode_spec.specs.Format.{Format, Reading, Took, Failed, after_steps, then_read, pure, fail, step, ◌>>=◌}
-use Rattle.bincode_layers.specs.Laws.{Lawful, BeginsWith, IsBacked, Balanced, Settles, Holds}
+use Rattle.bincode_spec.specs.Layers.Laws.{Lawful, BeginsWith, IsBacked, Balanced, Settles, Holds}
 use Rattle.bincode_lemmas.specs.Balance.{balanced-word, balanced-fault}
 use Rattle.bincode_spec.specs.Answer.{StepsOf, of_word, of_fault, Allows, after_claim, after_release, after_step, on_some, charge_after_steps}
 use Rattle.bincode_spec.specs.Answer.{Answer, Gave, Refused, PassedLimit, gave_at, refused_at, weigh_reading, answer}

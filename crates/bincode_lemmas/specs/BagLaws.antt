@@ -12,7 +12,7 @@ use Rattle.bincode_spec.specs.Allowed.{AllowedWord, OneLength, Shortest}
 use Rattle.bincode_lemmas.specs.Sequences.{Both}
 use Rattle.bincode_spec.specs.Run.{IsListOf}
 use Rattle.bincode_lemmas.specs.Sequences.{AllowsEach}
-use Rattle.bincode_layers.specs.Meanings.{LengthWord}
+use Rattle.bincode_spec.specs.Layers.Meanings.{LengthWord}
 use Rattle.bincode_spec.specs.Collections.{IsMadeOf, MakesBag}
 use Rattle.bincode_lemmas.specs.AllowedLaws.{more-allowed, both-one_length}
 use Rattle.bincode_lemmas.specs.RunAllowedLaws.{each-one_length}

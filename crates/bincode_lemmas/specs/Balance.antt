@@ -5,7 +5,7 @@ use Rattle.bincode_spec.specs.Fault.{Fault}
 use Rattle.bincode_spec.specs.Charge.{Step, Charge, Reserve, Release, charged_bytes, reserved_bytes, released_bytes}
 use Rattle.bincode_spec.specs.Format.{Format, Reading, Took, Failed, after_steps, then_read, pure, fail, fixed_bytes, step, ◌>>=◌, reading_without_count, without_count}
 use Rattle.bincode_spec.specs.Format.{written_as, from_result, map_format, charge_then, elements, sequence}
-use Rattle.bincode_layers.specs.Laws.{Lawful, IsBacked, Settles, Holds, Balanced}
+use Rattle.bincode_spec.specs.Layers.Laws.{Lawful, IsBacked, Settles, Holds, Balanced}
 
 pub full_append : (s t : List Step) → charged_bytes (s ++ t) ≡ charged_bytes s + charged_bytes t
 full_append [] t = omega arith

@@ -4,7 +4,7 @@ use Rattle.std.specs.List.{All}
 use Rattle.bincode_base.specs.declared.error.EncodeError.{EncodeError}
 use Rattle.bincode_spec.specs.Charge.{Step}
 use Rattle.bincode_spec.specs.Format.{Format, AnyWord, of_cell, written_as}
-use Rattle.bincode_layers.specs.Laws.{Lawful, Balanced}
+use Rattle.bincode_spec.specs.Layers.Laws.{Lawful, Balanced}
 use Rattle.bincode_lemmas.specs.FormatLaws.{rewritten-lawful}
 use Rattle.bincode_lemmas.specs.Balance.{rewritten-holds}
 use Rattle.bincode_spec.specs.Meaning.{Meaning}

@@ -5,14 +5,14 @@ use Rattle.bincode_spec.specs.Device.{DeviceErrors}
 use Rattle.bincode_base.specs.declared.error.DecodeError.{DecodeError}
 use Rattle.bincode_base.specs.declared.error.DecodeError.TheVariants.{InvalidCharEncoding}
 use Rattle.bincode_spec.specs.Fault.{Fault, InvalidChar}
-use Rattle.bincode_layers.specs.Reads.{ReadFailure, by_fault, by_failure, by_device}
+use Rattle.bincode_spec.specs.Layers.Reads.{ReadFailure, by_fault, by_failure, by_device}
 use Rattle.bincode_spec.specs.Format.{Took, Failed, pure, fail, fixed_bytes, charge_then, ◌>>=◌}
 use Rattle.bincode_lemmas.specs.FormatLaws.{fixed_bytes-lawful}
 use Rattle.bincode_spec.specs.Integers.{byte}
 use Rattle.bincode_lemmas.specs.IntegerLaws.{byte-lawful}
 use Rattle.bincode_spec.specs.Meaning.{Meaning, Character, IsCharacter}
 use Rattle.bincode_spec.specs.Words.{char_width, char_of, four_bytes, rest_of_char, after_char, character}
-use Rattle.bincode_layers.specs.Chars.{Spells}
+use Rattle.bincode_spec.specs.Layers.Chars.{Spells}
 use Rattle.bincode_lemmas.specs.CharLaws.{char_of-alone}
 use Rattle.bincode_spec.specs.Answer.{Gave, Refused, answer}
 use Rattle.bincode_lemmas.specs.AnswerLaws.{answer-took, answer-failed, answer-fail}

@@ -14,7 +14,7 @@ use lib.Utf8.{encode, scalar, scalar_cases, low_scalar}
 use Rattle.bincode_spec.specs.Fault.{Fault, InvalidChar}
 use Rattle.bincode_spec.specs.Charge.{Step, Charge}
 use Rattle.bincode_spec.specs.Format.{pure, fail, fixed_bytes, step, ◌>>=◌, from_result}
-use Rattle.bincode_layers.specs.Laws.{Lawful, Balanced}
+use Rattle.bincode_spec.specs.Layers.Laws.{Lawful, Balanced}
 use Rattle.bincode_lemmas.specs.FormatLaws.{IsSettling, Settles, fail-lawful, fixed_bytes-lawful, turn-lawful, test-lawful, charge_then-lawful}
 use Rattle.bincode_lemmas.specs.Balance.{fail-holds, fixed_bytes-holds, turn-holds, test-balanced, charge_then-balanced}
 use Rattle.bincode_spec.specs.Integers.{byte, first_of}
@@ -28,7 +28,7 @@ use Rattle.bincode_lemmas.specs.FormLaws.{FormLaws}
 use Rattle.bincode_lemmas.specs.NeedLaws.{character-needs}
 use Rattle.bincode_lemmas.specs.ChargedLaws.{character-charged}
 use Rattle.bincode_spec.specs.Words.{char_width, code_point, four_bytes, char_of, rest_of_char, after_char, character}
-use Rattle.bincode_layers.specs.Chars.{Spells}
+use Rattle.bincode_spec.specs.Layers.Chars.{Spells}
 
 -- the laws
 

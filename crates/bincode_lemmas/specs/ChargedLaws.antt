@@ -17,7 +17,7 @@ use Rattle.bincode_spec.specs.Charge.{Step, Charge, Reserve, Release, charged_by
 use Rattle.bincode_spec.specs.Format.{Format, pure, fail, fixed_bytes, step, ◌>>=◌, without_count, written_as, from_result, map_format, charge_then, elements, sequence}
 use Rattle.bincode_spec.specs.Integers.{digits, byte, first_of, FirstByte, Itself, Before, TooWide, first_byte, number_after, varint, number_by, unsigned_tag, signed_tag}
 use Rattle.bincode_spec.specs.Integers.{unsigned_integer, signed_integer, unsigned_byte, signed_byte, integer_by}
-use Rattle.bincode_layers.specs.Laws.{Lawful, Balanced}
+use Rattle.bincode_spec.specs.Layers.Laws.{Lawful, Balanced}
 use Rattle.bincode_spec.specs.Meaning.{Meaning, Bytes, Then, list_meaning}
 use Rattle.bincode_spec.specs.Octets.{octets}
 use Rattle.bincode_spec.specs.Number.{number_of, from_two_complement}

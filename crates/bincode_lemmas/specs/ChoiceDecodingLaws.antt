@@ -6,7 +6,7 @@ use Rattle.bincode_spec.specs.Device.{DeviceErrors}
 use Rattle.bincode_base.specs.declared.error.DecodeError.{DecodeError}
 use Rattle.bincode_base.specs.Setting.{Setting}
 use Rattle.bincode_spec.specs.Format.{Format, map_format}
-use Rattle.bincode_layers.specs.Laws.{Lawful}
+use Rattle.bincode_spec.specs.Layers.Laws.{Lawful}
 use Rattle.bincode_spec.specs.Meaning.{Meaning, Choice}
 use Rattle.bincode_spec.specs.Words.{Variant, if_picked, after_tag, tag_then_part}
 use Rattle.bincode_spec.specs.Choices.{IsChoice}

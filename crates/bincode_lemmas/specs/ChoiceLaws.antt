@@ -7,7 +7,7 @@ use Rattle.bincode_spec.specs.Fault.{Fault, UnexpectedVariant, Allowed}
 use Rattle.bincode_base.specs.Setting.{Setting}
 use Rattle.bincode_spec.specs.Charge.{Step}
 use Rattle.bincode_spec.specs.Format.{Format, fail, ◌>>=◌, map_format}
-use Rattle.bincode_layers.specs.Laws.{Lawful, Balanced, AllLawful, AllBalanced}
+use Rattle.bincode_spec.specs.Layers.Laws.{Lawful, Balanced, AllLawful, AllBalanced}
 use Rattle.bincode_lemmas.specs.FormatLaws.{fail-lawful, turn-lawful, map-lawful}
 use Rattle.bincode_lemmas.specs.Balance.{fail-holds, turn-holds, map-balanced}
 use Rattle.bincode_spec.specs.Meaning.{Meaning, Number, Choice, IsNumber}

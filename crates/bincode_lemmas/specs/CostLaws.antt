@@ -16,7 +16,7 @@ use Rattle.bincode_base.specs.declared.error.IntegerType.TheVariants as integers
 use Rattle.bincode_spec.specs.Integers.{digits, byte, first_of, FirstByte, Itself, Before, TooWide, first_byte, number_after, varint, number_by, unsigned_tag, signed_tag}
 use Rattle.bincode_spec.specs.Integers.{unsigned_integer, signed_integer, unsigned_byte, signed_byte, integer_by}
 use Rattle.bincode_spec.specs.Limits.{FitsLimit}
-use Rattle.bincode_layers.specs.Laws.{Costs}
+use Rattle.bincode_spec.specs.Layers.Laws.{Costs}
 use Rattle.bincode_spec.specs.Meaning.{Meaning, Nothing, Then, list_meaning}
 use Rattle.bincode_spec.specs.Number.{number_of, from_two_complement}
 use Rattle.bincode_spec.specs.Words.{truth, truth_of, not_zero_by, not_zero_of, duration, duration_of, seconds_and_nanos, nothing, first_and, four_and, array, list}

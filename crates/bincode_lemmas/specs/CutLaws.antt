@@ -4,14 +4,14 @@ use Rattle.std.specs.List.{All}
 use Rattle.std.proofs.Common.{sym, ◌∙◌, ap, subst, inl, inr, arith, append_assoc, append-nil, length-append}
 use Rattle.bincode_base.specs.declared.error.DecodeError.{DecodeError}
 use Rattle.bincode_base.specs.declared.error.DecodeError.TheVariants.{LimitExceeded, Memory}
-use Rattle.bincode_layers.specs.Agree.{SameReading, SameAnswer, both_passed, both_tell, IsCut, WasCut, WasRefused}
+use Rattle.bincode_spec.specs.Layers.Agree.{SameReading, SameAnswer, both_passed, both_tell, IsCut, WasCut, WasRefused}
 use Rattle.bincode_spec.specs.Answer.{Answer, Gave, Refused, PassedLimit, StepsOf, of_word, of_fault, answer}
 use Rattle.bincode_spec.specs.Charge.{Step, StaysWithin, Passes}
 use Rattle.bincode_spec.specs.Decoding.{IsRefused}
 use Rattle.bincode_spec.specs.Fault.{Fault, Tells, IsEnd, End, InvalidInteger, Zero, UnexpectedVariant, Utf8, InvalidChar, InvalidBool, Between, OneOf, short, long}
 use Rattle.bincode_spec.specs.Fault.{InvalidDuration, NulAt, Other, LengthMismatch, EmptyEnum, OutsideUsize}
 use Rattle.bincode_spec.specs.Format.{Format, Reading, Took, Failed}
-use Rattle.bincode_layers.specs.Laws.{Lawful, Balanced, IsAnswered, steps_of}
+use Rattle.bincode_spec.specs.Layers.Laws.{Lawful, Balanced, IsAnswered, steps_of}
 use Rattle.bincode_spec.specs.Meaning.{Meaning}
 use Rattle.bincode_spec.specs.Slice.{Decoded, EndsSlice, IsAnswer}
 use Rattle.bincode_lemmas.specs.AnswerLaws.{gave-word, refused-fault, passed-limit}

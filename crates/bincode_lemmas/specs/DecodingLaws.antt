@@ -6,17 +6,17 @@ use Rattle.bincode_base.specs.declared.error.DecodeError.TheVariants.{LimitExcee
 use Rattle.bincode_spec.specs.Fault.{Fault, InvalidBool}
 use Rattle.bincode_spec.specs.Charge.{Step, Charge}
 use Rattle.bincode_spec.specs.Device.{DeviceErrors, Rose, Takes}
-use Rattle.bincode_layers.specs.Reads as reads
-use Rattle.bincode_layers.specs.Reads.{ReadFailure}
+use Rattle.bincode_spec.specs.Layers.Reads as reads
+use Rattle.bincode_spec.specs.Layers.Reads.{ReadFailure}
 use Rattle.bincode_spec.specs.Format.{Format, Reading, Took, Failed, pure, step, ◌>>=◌, from_result, map_format, charge_then}
-use Rattle.bincode_layers.specs.Laws.{Lawful}
+use Rattle.bincode_spec.specs.Layers.Laws.{Lawful}
 use Rattle.bincode_spec.specs.Integers.{unsigned_byte}
 use Rattle.bincode_spec.specs.Meaning.{Meaning, Truth, Nothing, Then, IsTruth, IsNothing, IsThen}
 use Rattle.bincode_spec.specs.Words.{truth_of, truth_byte, truth, nothing, first_and}
 use Rattle.bincode_lemmas.specs.WordsLaws.{truth_byte-passes, truth-fails}
 use Rattle.bincode_spec.specs.Answer.{Answer, Gave, Refused, PassedLimit, answer, weigh_reading, gave_at, refused_at, charge_after_steps}
 use Rattle.bincode_lemmas.specs.Sequences.{and_then}
-use Rattle.bincode_layers.specs.Claims.{Claimed, OverClaimed}
+use Rattle.bincode_spec.specs.Layers.Claims.{Claimed, OverClaimed}
 use Rattle.bincode_lemmas.specs.AnswerLaws.{answer-then, answer-took, answer-failed, answer-pure, answer-fail, step-answered}
 use Rattle.bincode_spec.specs.Decoding.{Decodes, DecodeFailure, by_fault, by_limit, by_memory, by_failure, by_device}
 

@@ -7,7 +7,7 @@ use Rattle.bincode_base.specs.declared.error.IntegerType.TheVariants as integers
 use Rattle.bincode_base.specs.Setting.{Setting}
 use Rattle.bincode_spec.specs.Fault.{Fault, InvalidDuration}
 use Rattle.bincode_spec.specs.Format.{◌>>=◌, from_result, written_as}
-use Rattle.bincode_layers.specs.Laws.{Lawful, Balanced}
+use Rattle.bincode_spec.specs.Layers.Laws.{Lawful, Balanced}
 use Rattle.bincode_lemmas.specs.FormatLaws.{Settles, turn-lawful, test-lawful, map-lawful, rewritten-lawful}
 use Rattle.bincode_lemmas.specs.Balance.{turn-holds, test-balanced, map-balanced, rewritten-holds}
 use Rattle.bincode_spec.specs.Integers.{unsigned_integer}

@@ -2,7 +2,7 @@
 use Rattle.std.specs.Prelude.{◌≡◌, ◌⊎◌, ℕ, List, [], ◌∷◌, ◌++◌, refl}
 use Rattle.std.proofs.Common.{sym, ◌∙◌, ap, subst, inl, inr, append_assoc, append-nil}
 use Rattle.bincode_base.specs.declared.error.EncodeError.{EncodeError}
-use Rattle.bincode_layers.specs.Pieces.{StopsAmong, concat_pieces}
+use Rattle.bincode_spec.specs.Layers.Pieces.{StopsAmong, concat_pieces}
 use Rattle.bincode_lemmas.specs.Sequences.{Both}
 use Rattle.bincode_spec.specs.Encoding.{Adds, Refuses, Writes, Ready, Begins, IsOwn, EncodeFailure, by_writer, by_name}
 

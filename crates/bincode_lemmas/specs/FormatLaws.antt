@@ -10,7 +10,7 @@ use Rattle.bincode_spec.specs.Fault.{InvalidChar, InvalidBool, InvalidDuration, 
 use Rattle.bincode_spec.specs.Charge.{Step, Charge, Reserve, Release}
 use Rattle.bincode_spec.specs.Format.{Format, Reading, Took, Failed, after_steps, then_read, pure, fail, fixed_bytes, step, ◌>>=◌, InTurn, WrittenInTurn}
 use Rattle.bincode_spec.specs.Format.{FaultsLater, fault_without_count, reading_without_count, without_count, written_as, from_result, map_format, charge_then, elements, sequence}
-use Rattle.bincode_layers.specs.Laws.{Begun, BeginsWith, steps_of, IsAnswered, Mended, Lawful}
+use Rattle.bincode_spec.specs.Layers.Laws.{Begun, BeginsWith, steps_of, IsAnswered, Mended, Lawful}
 
 -- what follows for every format
 

@@ -14,13 +14,13 @@ use Rattle.bincode_spec.specs.Number.{number_of, digits_of, FitsIn, two_compleme
 use Rattle.bincode_spec.specs.Fault.{Fault, IsEnd, InvalidInteger}
 use Rattle.bincode_spec.specs.Charge.{Step}
 use Rattle.bincode_spec.specs.Format.{Format, pure, fail, fixed_bytes, step, ◌>>=◌, written_as, map_format, charge_then}
-use Rattle.bincode_layers.specs.Laws.{Lawful, Balanced}
+use Rattle.bincode_spec.specs.Layers.Laws.{Lawful, Balanced}
 use Rattle.bincode_lemmas.specs.FormatLaws.{pure-lawful, fail-lawful, fixed_bytes-lawful, turn-lawful, map-lawful, rewritten-lawful, charge_then-lawful}
 use Rattle.bincode_lemmas.specs.Balance.{pure-holds, fail-holds, fixed_bytes-holds, turn-holds, rewritten-holds, map-balanced, charge_then-balanced}
-use Rattle.bincode_layers.specs.Pieces.{concat_pieces}
+use Rattle.bincode_spec.specs.Layers.Pieces.{concat_pieces}
 use Rattle.bincode_spec.specs.Integers.{digits, first_of, byte, FirstByte, Itself, Before, TooWide, first_byte, number_after, unsigned_tag, signed_tag}
 use Rattle.bincode_spec.specs.Integers.{shortest_word, varint, number_by, unsigned_integer, integer_by, number_for, signed_integer, unsigned_byte}
-use Rattle.bincode_layers.specs.Spelling.{shortest_pieces}
+use Rattle.bincode_spec.specs.Layers.Spelling.{shortest_pieces}
 use Rattle.bincode_spec.specs.Integers.{signed_byte, spelling, IsWidth, Two, Four, Eight, Sixteen, width_in_bytes}
 use Rattle.bincode_lemmas.specs.DigitLaws.{length-digits_of, digits_of-are_bytes, number_of-digits_of, number_of-below}
 use Rattle.bincode_lemmas.specs.SignedLaws.{unzigzag-zigzag, from_two_complement-two_complement, integer_by-number_for, number_for-integer_by, number_for-fits, integer_by-fits}

@@ -8,7 +8,7 @@ use Rattle.bincode_spec.specs.Answer.{Gave, answer}
 use Rattle.bincode_spec.specs.Charge.{Step, StaysWithin}
 use Rattle.bincode_spec.specs.Decoding.{IsRefused}
 use Rattle.bincode_spec.specs.Format.{Format}
-use Rattle.bincode_layers.specs.Laws.{Lawful, Balanced}
+use Rattle.bincode_spec.specs.Layers.Laws.{Lawful, Balanced}
 use Rattle.bincode_spec.specs.Limits.{NoTighter, FitsLimit}
 use Rattle.bincode_spec.specs.Meaning.{Meaning}
 use Rattle.bincode_spec.specs.Slice.{WordWritten, Decoded, FindsWords}

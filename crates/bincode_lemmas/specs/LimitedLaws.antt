@@ -9,7 +9,7 @@ use Rattle.bincode_spec.specs.Decoding.{IsRefused, AcceptsAll, ReportsFault, Enf
 use Rattle.bincode_spec.specs.Fault.{Fault, Tells, End, InvalidInteger, Zero, UnexpectedVariant, Utf8, InvalidChar, InvalidBool, InvalidDuration, NulAt}
 use Rattle.bincode_spec.specs.Fault.{Other, LengthMismatch, EmptyEnum, OutsideUsize, short, long, Between, OneOf}
 use Rattle.bincode_spec.specs.Format.{Format, Reading, Took, Failed}
-use Rattle.bincode_layers.specs.Laws.{Lawful, Balanced, steps_of}
+use Rattle.bincode_spec.specs.Layers.Laws.{Lawful, Balanced, steps_of}
 use Rattle.bincode_spec.specs.Meaning.{Meaning}
 use Rattle.bincode_spec.specs.Slice.{Decoded, EndsSlice, IsAnswer}
 use Rattle.bincode_lemmas.specs.NeedLaws.{Needs, peak-passes, peak-stays}

@@ -8,7 +8,7 @@ use Rattle.bincode_base.specs.declared.error.IntegerType.TheVariants.{U64}
 use Rattle.bincode_spec.specs.Fault.{Fault}
 use Rattle.bincode_spec.specs.Charge.{Step, Reserve}
 use Rattle.bincode_spec.specs.Format.{Format, pure, step, ◌>>=◌, without_count, elements, sequence}
-use Rattle.bincode_layers.specs.Laws.{Lawful, Balanced}
+use Rattle.bincode_spec.specs.Layers.Laws.{Lawful, Balanced}
 use Rattle.bincode_spec.specs.Integers.{Eight}
 use Rattle.bincode_spec.specs.Meaning.{Meaning, Number, IsNumber, list_meaning}
 use Rattle.bincode_spec.specs.Words.{natural_number, len, array, list}
@@ -17,7 +17,7 @@ use Rattle.bincode_lemmas.specs.Sequences.{Both}
 use Rattle.bincode_spec.specs.Cells.{HasWord}
 use Rattle.bincode_spec.specs.Run.{IsListOf}
 use Rattle.bincode_lemmas.specs.Sequences.{AllowsEach}
-use Rattle.bincode_layers.specs.Meanings.{LengthWord}
+use Rattle.bincode_spec.specs.Layers.Meanings.{LengthWord}
 use Rattle.bincode_spec.specs.Collections.{AreValid}
 use Rattle.bincode_lemmas.specs.FormatLaws.{turn-lawful}
 use Rattle.bincode_lemmas.specs.Balance.{turn-holds}

@@ -14,9 +14,9 @@ use Rattle.bincode_spec.specs.Charge.{Step, Charge, Reserve, Release, charged_by
 use Rattle.bincode_spec.specs.Format.{Format, Reading, Took, Failed, after_steps, then_read, pure, fail, fixed_bytes, step, ◌>>=◌, reading_without_count, without_count, written_as, from_result, map_format, charge_then, elements, sequence}
 use Rattle.bincode_spec.specs.Integers.{digits, byte, first_of, FirstByte, Itself, Before, TooWide, first_byte, number_after, varint, number_by, unsigned_tag, signed_tag}
 use Rattle.bincode_spec.specs.Integers.{unsigned_integer, signed_integer, unsigned_byte, signed_byte, integer_by}
-use Rattle.bincode_layers.specs.Laws.{steps_of, Settles, Holds, Balanced}
+use Rattle.bincode_spec.specs.Layers.Laws.{steps_of, Settles, Holds, Balanced}
 use Rattle.bincode_spec.specs.Meaning.{Meaning, Bytes, Then, list_meaning}
-use Rattle.bincode_layers.specs.Needs.{after_word, then_needs, each_needs, array_needs, list_needs, text_needs, picked_needs, duration_needs}
+use Rattle.bincode_spec.specs.Layers.Needs.{after_word, then_needs, each_needs, array_needs, list_needs, text_needs, picked_needs, duration_needs}
 use Rattle.bincode_spec.specs.Need.{width_needs, char_needs}
 use Rattle.bincode_spec.specs.Octets.{octets}
 use Rattle.bincode_spec.specs.Number.{number_of, from_two_complement}

@@ -7,7 +7,7 @@ use Rattle.bincode_base.specs.declared.error.IntegerType.TheVariants.{U16}
 use Rattle.bincode_spec.specs.Format.{Format, fixed_bytes, pure, fail, step, without_count, written_as, ◌>>=◌}
 use Rattle.bincode_spec.specs.Integers.{unsigned_integer, unsigned_byte, varint, digits, byte}
 use Rattle.bincode_spec.specs.Meaning.{Meaning}
-use Rattle.bincode_layers.specs.Needs.{then_needs, list_needs, text_needs, picked_needs}
+use Rattle.bincode_spec.specs.Layers.Needs.{then_needs, list_needs, text_needs, picked_needs}
 use Rattle.bincode_spec.specs.Words.{natural_number, list}
 
 abbrev standard : Setting

@@ -6,7 +6,7 @@ use Rattle.std.proofs.lemmas.List.{append-nil, length-replicate}
 use Rattle.std.proofs.lemmas.List.Elements.{All-replicate}
 use Rattle.bincode_spec.specs.Charge.{Step}
 use Rattle.bincode_spec.specs.Format.{pure, fixed_bytes, step, ◌>>=◌, charge_then}
-use Rattle.bincode_layers.specs.Laws.{Lawful, Balanced, Costs}
+use Rattle.bincode_spec.specs.Layers.Laws.{Lawful, Balanced, Costs}
 use Rattle.bincode_spec.specs.Meaning.{Meaning, Bytes, IsBytes}
 use Rattle.bincode_spec.specs.Octets.{octets}
 use Rattle.bincode_spec.specs.Allowed.{AllowedWord, SomeWord, OneLength, Shortest}

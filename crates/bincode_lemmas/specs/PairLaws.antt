@@ -4,7 +4,7 @@ use Rattle.std.specs.Prelude.{Bool, true, ◌&&◌, [], ◌∷◌, refl}
 use Rattle.std.proofs.lemmas.Bool.{and_parts}
 use Rattle.bincode_base.specs.Setting.{Setting}
 use Rattle.bincode_spec.specs.Format.{Format}
-use Rattle.bincode_layers.specs.Laws.{Lawful, Balanced}
+use Rattle.bincode_spec.specs.Layers.Laws.{Lawful, Balanced}
 use Rattle.bincode_spec.specs.Meaning.{Meaning, IsNothing, IsThen}
 use Rattle.bincode_spec.specs.Words.{nothing, first_and}
 use Rattle.bincode_spec.specs.Allowed.{AllowedWord, SomeWord, OneLength, Shortest}

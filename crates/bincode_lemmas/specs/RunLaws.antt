@@ -8,19 +8,19 @@ use Rattle.bincode_spec.specs.Fault.{InvalidBool, InvalidDuration, NulAt, Other,
 use Rattle.bincode_spec.specs.Charge.{Reserve, Release}
 use Rattle.bincode_spec.specs.Device.{DeviceErrors, Takes}
 use Rattle.bincode_spec.specs.Format.{Format, Reading, Took, Failed, pure, step, ◌>>=◌, fault_without_count, reading_without_count, without_count, map_format, elements, sequence}
-use Rattle.bincode_layers.specs.Laws.{Lawful, Balanced}
+use Rattle.bincode_spec.specs.Layers.Laws.{Lawful, Balanced}
 use Rattle.bincode_lemmas.specs.FormatLaws.{elements-lawful}
 use Rattle.bincode_lemmas.specs.Balance.{elements-holds}
 use Rattle.bincode_spec.specs.Meaning.{Meaning, Nothing, list_meaning}
 use Rattle.bincode_spec.specs.Words.{array}
 use Rattle.bincode_spec.specs.Answer.{Answer, Gave, Refused, PassedLimit, answer, weigh_reading, gave_at, refused_at, charge_after_steps, after_release}
 use Rattle.bincode_lemmas.specs.Sequences.{and_then}
-use Rattle.bincode_layers.specs.Claims.{Claimed, OverClaimed}
+use Rattle.bincode_spec.specs.Layers.Claims.{Claimed, OverClaimed}
 use Rattle.bincode_lemmas.specs.AnswerLaws.{answer-then, answer-pure, answer-release, step-answered, gave-grows, gave-recharged, gave-is_uncounted}
 use Rattle.bincode_spec.specs.Decoding.{Decodes, DecodeFailure, by_fault, by_limit, by_memory, by_failure, by_device}
 use Rattle.bincode_lemmas.specs.DecodingLaws.{rose-then, takes-then, gave-takes, answer-next, map-gave, map-stops}
 use Rattle.bincode_spec.specs.Run.{IsListOf}
-use Rattle.bincode_layers.specs.Releases.{CanRelease, Held, RoomReturned}
+use Rattle.bincode_spec.specs.Layers.Releases.{CanRelease, Held, RoomReturned}
 
 -- how far a run is read
 

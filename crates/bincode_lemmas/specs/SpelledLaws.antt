@@ -12,7 +12,7 @@ use Rattle.bincode_spec.specs.Number.{two_complement}
 use Rattle.bincode_spec.specs.Fault.{Fault}
 use Rattle.bincode_spec.specs.Charge.{Step}
 use Rattle.bincode_spec.specs.Format.{Format, pure, fail, from_result, ◌>>=◌, map_format}
-use Rattle.bincode_layers.specs.Laws.{Lawful}
+use Rattle.bincode_spec.specs.Layers.Laws.{Lawful}
 use Rattle.bincode_lemmas.specs.FormatLaws.{one-word, map-lawful}
 use Rattle.bincode_spec.specs.Integers.{number_for, unsigned_integer, signed_integer, unsigned_byte, signed_byte, spelling}
 use Rattle.bincode_lemmas.specs.SignedLaws.{two_complement-fits}

@@ -8,9 +8,9 @@ use Rattle.bincode_base.specs.declared.error.IntegerType.{IntegerType}
 use Rattle.bincode_base.specs.Setting.{Setting}
 use Rattle.bincode_spec.specs.Number.{digits_of}
 use Rattle.bincode_spec.specs.Format.{map_format, charge_then}
-use Rattle.bincode_layers.specs.Pieces.{concat_pieces}
+use Rattle.bincode_spec.specs.Layers.Pieces.{concat_pieces}
 use Rattle.bincode_spec.specs.Integers.{number_by, integer_by, number_for, unsigned_tag, signed_tag, unsigned_integer, signed_integer, spelling}
-use Rattle.bincode_layers.specs.Spelling.{spelling_pieces, Spelling, unsigned_spelling, signed_spelling}
+use Rattle.bincode_spec.specs.Layers.Spelling.{spelling_pieces, Spelling, unsigned_spelling, signed_spelling}
 use Rattle.bincode_spec.specs.Integers.{IsWidth}
 use Rattle.bincode_lemmas.specs.IntegerLaws.{shortest-pieces, written-unsigned, written-signed}
 

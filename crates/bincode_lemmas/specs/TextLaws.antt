@@ -15,7 +15,7 @@ use Rattle.bincode_base.specs.Setting.{Setting}
 use Rattle.bincode_spec.specs.Fault.{Fault, Utf8}
 use Rattle.bincode_spec.specs.Charge.{Step}
 use Rattle.bincode_spec.specs.Format.{Format, fixed_bytes, step, ◌>>=◌, without_count, charge_then, from_result}
-use Rattle.bincode_layers.specs.Laws.{Lawful, Balanced}
+use Rattle.bincode_spec.specs.Layers.Laws.{Lawful, Balanced}
 use Rattle.bincode_lemmas.specs.FormatLaws.{Settles, fixed_bytes-lawful, turn-lawful, without_count-lawful, test-lawful, charge_then-lawful}
 use Rattle.bincode_lemmas.specs.Balance.{fixed_bytes-holds, turn-holds, without_count-holds, test-balanced, charge_then-balanced}
 use Rattle.bincode_spec.specs.Integers.{Eight}
@@ -25,7 +25,7 @@ use Rattle.bincode_spec.specs.NoZero.{first_zero, HasNoZero}
 use Rattle.bincode_spec.specs.Words.{len, length_prefixed, text_of, text, without_nul_of, without_nul}
 use Rattle.bincode_spec.specs.Allowed.{AllowedWord, SomeWord, OneLength, Shortest}
 use Rattle.bincode_lemmas.specs.Sequences.{Both}
-use Rattle.bincode_layers.specs.Meanings.{LengthWord}
+use Rattle.bincode_spec.specs.Layers.Meanings.{LengthWord}
 use Rattle.bincode_spec.specs.Cells.{HasWord}
 use Rattle.bincode_lemmas.specs.AllowedLaws.{from_result-written, written-from_result, natural-allows, allowed-natural, both-one_length, same-one_length, alone-one_length, more-allowed}
 use Rattle.bincode_lemmas.specs.SpelledLaws.{unsigned-spelled, word-from_result, parts-no_longer}

@@ -4,7 +4,7 @@ use Rattle.std.proofs.Common.{sym, ◌∙◌, ap, subst, inl, inr}
 use Rattle.std.proofs.lemmas.List.Elements.{All-nil, All-append}
 use Rattle.bincode_spec.specs.Fault.{Fault}
 use Rattle.bincode_spec.specs.Format.{Format, ◌>>=◌, map_format}
-use Rattle.bincode_layers.specs.Laws.{Lawful, Balanced}
+use Rattle.bincode_spec.specs.Layers.Laws.{Lawful, Balanced}
 use Rattle.bincode_lemmas.specs.FormatLaws.{pure-lawful, turn-lawful, map-lawful}
 use Rattle.bincode_lemmas.specs.Balance.{pure-holds, turn-holds, map-balanced}
 use Rattle.bincode_spec.specs.Meaning.{Meaning, Nothing, Then, IsNothing, IsThen, IsFourThen}

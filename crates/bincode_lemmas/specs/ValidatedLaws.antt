@@ -6,7 +6,7 @@ use Rattle.bincode_spec.specs.Fault.{Fault, Tells, IsEnd, End, InvalidInteger, Z
 use Rattle.bincode_spec.specs.Fault.{InvalidBool, InvalidDuration, NulAt, Other, LengthMismatch, EmptyEnum, OutsideUsize}
 use Rattle.bincode_spec.specs.Charge.{Step}
 use Rattle.bincode_spec.specs.Format.{Format}
-use Rattle.bincode_layers.specs.Laws.{Lawful, Balanced}
+use Rattle.bincode_spec.specs.Layers.Laws.{Lawful, Balanced}
 use Rattle.bincode_spec.specs.Meaning.{Meaning}
 use Rattle.bincode_spec.specs.Validated.{passed_of, with_test, TellsOwn}
 use Rattle.bincode_spec.specs.Allowed.{AllowedWord, SomeWord, OneLength, Shortest}

@@ -5,7 +5,7 @@ use Rattle.std.proofs.lemmas.Bool.{ne_eqb, eqb-true}
 use Rattle.bincode_base.specs.declared.error.IntegerType.{IntegerType}
 use Rattle.bincode_spec.specs.Fault.{Fault, Zero, InvalidBool}
 use Rattle.bincode_spec.specs.Format.{Format, sequence}
-use Rattle.bincode_layers.specs.Laws.{Lawful, Balanced}
+use Rattle.bincode_spec.specs.Layers.Laws.{Lawful, Balanced}
 use Rattle.bincode_lemmas.specs.FormatLaws.{Settles, test-lawful, map-lawful, sequence-lawful}
 use Rattle.bincode_lemmas.specs.Balance.{test-balanced, map-balanced, sequence-balanced}
 use Rattle.bincode_lemmas.specs.IntegerLaws.{unsigned_byte-lawful, unsigned_byte-balanced}

@@ -3,7 +3,7 @@ use Rattle.std.specs.Prelude.{ℕ, ◌+◌, ◌≤◌, ◌==◌, List, [], ◌�
 use Rattle.std.proofs.Common.{arith}
 use Rattle.bincode_base.specs.declared.error.IntegerType.TheVariants as integers
 use Rattle.bincode_base.specs.Setting.{Setting}
-use Rattle.bincode_layers.specs.Laws.{AllLawful, AllBalanced, Lawful, Balanced}
+use Rattle.bincode_spec.specs.Layers.Laws.{AllLawful, AllBalanced, Lawful, Balanced}
 use Rattle.bincode_spec.specs.Fault.{Allowed, EmptyEnum, UnexpectedVariant}
 use Rattle.bincode_spec.specs.Format.{Format}
 use Rattle.bincode_spec.specs.Integers.{Two, Four, Eight, Sixteen, unsigned_integer, signed_integer, unsigned_byte, signed_byte}

@@ -7,14 +7,14 @@ use Rattle.bincode_base.specs.Setting.{Setting}
 use Rattle.bincode_base.specs.declared.error.DecodeError.{DecodeError}
 use Rattle.bincode_spec.specs.Answer.{Answer, Gave, answer, weigh_reading, gave_at, charge_after_steps, Allows, after_release}
 use Rattle.bincode_spec.specs.Charge.{Step, Reserve, Release, charged_bytes, reserved_bytes, released_bytes, charge_after}
-use Rattle.bincode_layers.specs.Claims.{MakesRelease}
+use Rattle.bincode_spec.specs.Layers.Claims.{MakesRelease}
 use Rattle.bincode_spec.specs.Device.{DeviceErrors}
 use Rattle.bincode_spec.specs.Format.{Format, Took, after_steps, then_read, reading_without_count, pure, step, ◌>>=◌, without_count, elements}
-use Rattle.bincode_layers.specs.Laws.{Lawful, IsBacked, Balanced}
+use Rattle.bincode_spec.specs.Layers.Laws.{Lawful, IsBacked, Balanced}
 use Rattle.bincode_spec.specs.Meaning.{Meaning, Then, list_meaning}
 use Rattle.bincode_spec.specs.Run.{IsListOf}
-use Rattle.bincode_layers.specs.Releases.{CanRelease, Held}
-use Rattle.bincode_layers.specs.Values.{Reads}
+use Rattle.bincode_spec.specs.Layers.Releases.{CanRelease, Held}
+use Rattle.bincode_spec.specs.Layers.Values.{Reads}
 use Rattle.bincode_spec.specs.Words.{nothing, first_and, tuple, array}
 use Rattle.bincode_lemmas.specs.AnswerLaws.{after-stays, stays-after}
 use Rattle.bincode_lemmas.specs.Balance.{full_append}

@@ -11,7 +11,7 @@ use Rattle.bincode_spec.specs.Device.{DeviceErrors}
 use Rattle.bincode_spec.specs.Fault.{EmptyEnum, UnexpectedVariant, Between, Tells}
 use Rattle.bincode_spec.specs.Integers.{Four}
 use Rattle.bincode_spec.specs.Meaning.{Meaning, Choice}
-use Rattle.bincode_layers.specs.Values.{Reads}
+use Rattle.bincode_spec.specs.Layers.Values.{Reads}
 use Rattle.bincode_spec.specs.Words.{tag, after_tag, tag_then_part}
 use Rattle.bincode_lemmas.specs.AnswerLaws.{answer-fail}
 use Rattle.bincode_lemmas.specs.IntegerLaws.{unsigned-lawful}

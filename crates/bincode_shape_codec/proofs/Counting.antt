@@ -9,7 +9,7 @@ use Rattle.bincode_spec.specs.Device.{DeviceErrors, Takes}
 use Rattle.bincode_spec.specs.Format.{Format}
 use Rattle.bincode_spec.specs.Meaning.{Meaning, Nothing, Then}
 use Rattle.bincode_spec.specs.Run.{IsListOf}
-use Rattle.bincode_layers.specs.Values.{Reads}
+use Rattle.bincode_spec.specs.Layers.Values.{Reads}
 use Rattle.bincode_spec.specs.Integers.{unsigned_byte}
 use Rattle.bincode_spec.specs.Words.{tag, tuple, tag_then_part}
 use Rattle.bincode_lemmas.specs.DecodingLaws.{stops-besides, takes-then, gave-takes}

@@ -14,7 +14,7 @@ use Rattle.bincode_spec.specs.Device.{DeviceErrors}
 use Rattle.bincode_spec.specs.Format.{Format}
 use Rattle.bincode_spec.specs.Meaning.{Meaning, list_meaning}
 use Rattle.bincode_spec.specs.Run.{IsListOf}
-use Rattle.bincode_layers.specs.Values.{Reads}
+use Rattle.bincode_spec.specs.Layers.Values.{Reads}
 use Rattle.bincode_spec.specs.Words.{array, list, tuple}
 use Rattle.bincode_decoder.proofs.ReadAnswers.{read-as, made-of}
 use Rattle.bincode_shape.specs.declared.shape.Shape as shapes

@@ -10,7 +10,7 @@ use Rattle.bincode_spec.specs.Device.{DeviceErrors}
 use Rattle.bincode_spec.specs.Fault.{UnexpectedVariant, Between, Tells}
 use Rattle.bincode_spec.specs.Integers.{unsigned_byte}
 use Rattle.bincode_spec.specs.Meaning.{Meaning, Nothing, Choice}
-use Rattle.bincode_layers.specs.Values.{Reads}
+use Rattle.bincode_spec.specs.Layers.Values.{Reads}
 use Rattle.bincode_spec.specs.Words.{nothing, after_tag, tag_then_part}
 use Rattle.bincode_lemmas.specs.AnswerLaws.{answer-fail}
 use Rattle.bincode_lemmas.specs.DecodingLaws.{map-gave}

@@ -14,7 +14,7 @@ use Rattle.bincode_spec.specs.Decoding.{DecodeFailure, by_fault, by_limit, by_me
 use Rattle.bincode_spec.specs.Device.{DeviceErrors, Takes}
 use Rattle.bincode_spec.specs.Format.{Format, pure, map_format}
 use Rattle.bincode_spec.specs.Meaning.{Meaning, Nothing, Then, list_meaning}
-use Rattle.bincode_layers.specs.Values.{Reads}
+use Rattle.bincode_spec.specs.Layers.Values.{Reads}
 use Rattle.bincode_spec.specs.Words.{nothing, first_and, tuple}
 use Rattle.bincode_lemmas.specs.AnswerLaws.{answer-then, answer-pure}
 use Rattle.bincode_lemmas.specs.DecodingLaws.{answer-next, stops-first, stops-besides, rose-then, takes-then, gave-takes, nothing-decodes}

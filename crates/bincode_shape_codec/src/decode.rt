@@ -1,9 +1,9 @@
 //! Decoding of values of a shape, with any decoder.
 ghost use Rattle.std.specs.Prelude.{◌≡◌, ◌*◌, length, IfOk, vec_capacity};
 ghost use Rattle.bincode_spec.specs.Answer.{after_release};
-ghost use Rattle.bincode_layers.specs.Releases.{CanRelease};
+ghost use Rattle.bincode_spec.specs.Layers.Releases.{CanRelease};
 ghost use Rattle.bincode_spec.specs.Run.{IsListOf};
-ghost use Rattle.bincode_layers.specs.Values.{Reads, RunRead};
+ghost use Rattle.bincode_spec.specs.Layers.Values.{Reads, RunRead};
 ghost use Rattle.bincode_spec.specs.Words.{array, list, tuple, tag_then_part};
 ghost use Rattle.bincode_shape.specs.Shapes.{format_of, byte_tag, optional, at, numbered, one_of, IsImage, TakesMemory};
 ghost use Rattle.bincode_shape_codec.specs.Held.{IsOptional, IsChosen};

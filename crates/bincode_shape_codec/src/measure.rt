@@ -1,9 +1,9 @@
 //! Counts the values in an encoding without making them, with any decoder that lends.
 ghost use Rattle.std.specs.Prelude.{◌≡◌, ◌*◌, ◌<◌, ℕ, List, true, IfOk};
 ghost use Rattle.bincode_spec.specs.Answer.{Allows, after_release};
-ghost use Rattle.bincode_layers.specs.Claims.{MakesRelease};
-ghost use Rattle.bincode_layers.specs.Releases.{CanRelease};
-ghost use Rattle.bincode_layers.specs.Values.{Reads, RunRead};
+ghost use Rattle.bincode_spec.specs.Layers.Claims.{MakesRelease};
+ghost use Rattle.bincode_spec.specs.Layers.Releases.{CanRelease};
+ghost use Rattle.bincode_spec.specs.Layers.Values.{Reads, RunRead};
 ghost use Rattle.bincode_spec.specs.Words.{array, list, text, tuple, tag_then_part};
 ghost use Rattle.bincode_shape.specs.Shapes.{format_of, byte_tag, optional, at, numbered, one_of, TakesMemory};
 ghost use Rattle.bincode_shape.specs.Counts.{count_of, count_each, count_some, count_parts, count_choice, capped};

@@ -5,7 +5,7 @@ ghost use Rattle.bincode_spec.specs.Allowed.{AllowedWord};
 ghost use Rattle.bincode_spec.specs.Encoding.{Encodes};
 ghost use Rattle.bincode_spec.specs.Format.{map_format};
 ghost use Rattle.bincode_spec.specs.Meaning.{Number};
-ghost use Rattle.bincode_layers.specs.Values.{Reads};
+ghost use Rattle.bincode_spec.specs.Layers.Values.{Reads};
 ghost use Rattle.bincode_shape.specs.declared.shape.Shape.{Shape};
 ghost use Rattle.bincode_shape.specs.declared.shape.Shape.TheVariants as shapes;
 ghost use Rattle.bincode_shape.specs.declared.shape.Value as values;
@@ -17,9 +17,9 @@ use bincode_decoder::decoder::Decoder;
 use bincode_decoder::integers::{decode_byte, decode_integer, decode_signed_byte};
 use bincode_encoder::encoder::Encoder;
 use bincode_encoder::integers::encode_integer;
+use bincode_io::number::Integer;
 use bincode_shape::shape::Value;
 use bincode_types::wire::Wire;
-use bincode_io::number::Integer;
 
 /// An integer type wider than one byte, with its shape.
 pub(crate) trait ShapedInteger: Integer + Wire {

@@ -28,3 +28,4 @@ pub mod Decoding
 pub mod Encoding
 pub mod Slice
 pub mod Vec
+pub mod Layers

@@ -4,7 +4,7 @@ use Rattle.std.proofs.Common.{arith}
 use Rattle.bincode_base.specs.Setting.{Setting}
 use Rattle.bincode_base.specs.declared.error.EncodeError.{EncodeError}
 use Rattle.bincode_spec.specs.Format.{Format}
-use Rattle.bincode_layers.specs.Laws.{Lawful, Balanced}
+use Rattle.bincode_spec.specs.Layers.Laws.{Lawful, Balanced}
 use Rattle.bincode_spec.specs.Forms.{Form}
 use Rattle.bincode_spec.specs.Meaning.{Meaning}
 use Rattle.bincode_spec.specs.Allowed.{AllowedWord, SomeWord, MayName}

@@ -1,6 +1,6 @@
 //! What collections without an order are written as.
 ghost use Rattle.std.proofs.Common.{arith};
-ghost use Rattle.bincode_layers.specs.Needs.{list_needs};
+ghost use Rattle.bincode_spec.specs.Layers.Needs.{list_needs};
 ghost use Rattle.bincode_lemmas.specs.NeedLaws.{list-needs};
 ghost use Rattle.bincode_lemmas.specs.ChargedLaws.{list-charged};
 ghost use Rattle.std.specs.List.{All};

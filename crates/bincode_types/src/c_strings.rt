@@ -1,7 +1,7 @@
 //! What C strings are written as.
 ghost use Rattle.std.proofs.Common.{arith};
 ghost use Rattle.std.specs.Prelude.{max};
-ghost use Rattle.bincode_layers.specs.Needs.{text_needs};
+ghost use Rattle.bincode_spec.specs.Layers.Needs.{text_needs};
 ghost use Rattle.bincode_lemmas.specs.NeedLaws.{c_string-needs};
 ghost use Rattle.bincode_lemmas.specs.ChargedLaws.{c_string-charged};
 ghost use Rattle.std.specs.Prelude.{◌<◌, ◌^◌, length};

@@ -1,14 +1,14 @@
 //! Characters as UTF-8 (RFC 3629).
 ghost use Rattle.std.specs.Prelude.{◌≡◌, ◌<◌, ◌≤◌, ◌∷◌, [], Some, None, IfOk, IfErr};
 ghost use Rattle.std.specs.Char.{encode_utf8};
-ghost use Rattle.bincode_layers.specs.Reads.{ReadsWord};
+ghost use Rattle.bincode_spec.specs.Layers.Reads.{ReadsWord};
 ghost use Rattle.bincode_spec.specs.Meaning.{Character};
 ghost use Rattle.bincode_spec.specs.Words.{char_width, rest_of_char};
-ghost use Rattle.bincode_layers.specs.Chars.{Spells};
+ghost use Rattle.bincode_spec.specs.Layers.Chars.{Spells};
 
 use bincode_base::error::DecodeError;
-use bincode_io::read::Reader;
 use bincode_io::bytes::read_array;
+use bincode_io::read::Reader;
 
 // All are inlined, as the decoding of integers is: a call would return its result through memory, for the error in it.
 

@@ -2,7 +2,7 @@
 //! at run time; for a type made of others it calls the functions of those.
 ghost use Rattle.std.specs.Prelude.{◌≤◌, ℕ};
 ghost use Rattle.bincode_base.specs.Setting.{Setting};
-ghost use Rattle.bincode_layers.specs.Laws.{Costs};
+ghost use Rattle.bincode_spec.specs.Layers.Laws.{Costs};
 ghost use Rattle.bincode_types.specs.TypeLaws.{HasSomeWord, AlwaysWritable, PlainWords, ExactWords, CanonicalWords};
 
 use crate::wire::Wire;

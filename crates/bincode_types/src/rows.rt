@@ -2,7 +2,7 @@
 ghost use Rattle.std.specs.Prelude.{◌≡◌, ℕ, ◌⊎◌, ◌+◌, ◌-◌, ◌^◌, min, max, refl};
 ghost use Rattle.std.proofs.Common.{arith};
 ghost use Rattle.bincode_spec.specs.Meaning.{IsThen, IsFourThen};
-ghost use Rattle.bincode_layers.specs.Needs.{then_needs};
+ghost use Rattle.bincode_spec.specs.Layers.Needs.{then_needs};
 ghost use Rattle.bincode_spec.specs.Words.{first_and, four_and};
 ghost use Rattle.bincode_spec.specs.Forms.{units};
 ghost use Rattle.bincode_lemmas.specs.CostLaws.{nothing-costs};

@@ -3,7 +3,7 @@ ghost use Rattle.std.specs.Prelude.{◌≡◌, ℕ, max, true};
 ghost use Rattle.bincode_spec.specs.Meaning.{Meaning};
 ghost use Rattle.bincode_base.specs.Setting.{Setting};
 ghost use Rattle.bincode_spec.specs.Forms.{Form};
-ghost use Rattle.bincode_layers.specs.Laws.{Costs};
+ghost use Rattle.bincode_spec.specs.Layers.Laws.{Costs};
 ghost use Rattle.bincode_lemmas.specs.FormLaws.{FormLaws};
 ghost use Rattle.bincode_types.specs.TypeLaws.{HasSomeWord, AlwaysWritable, PlainWords, ExactWords, CanonicalWords};
 ghost use Rattle.bincode_types.specs.TypeWords.{scalar_words, words_by};

@@ -7,7 +7,7 @@ ghost use Rattle.bincode_spec.specs.Format.{Format, map_format};
 ghost use Rattle.bincode_spec.specs.Integers.{unsigned_byte};
 ghost use Rattle.bincode_spec.specs.Integers.{Four};
 ghost use Rattle.bincode_spec.specs.Fault.{Allowed, UnexpectedVariant};
-ghost use Rattle.bincode_layers.specs.Needs.{then_needs, picked_needs};
+ghost use Rattle.bincode_spec.specs.Layers.Needs.{then_needs, picked_needs};
 ghost use Rattle.bincode_lemmas.specs.NeedLaws.{Needs, picked-needs, fail-needs, map-needs, chosen-needs};
 ghost use Rattle.bincode_lemmas.specs.ChargedLaws.{ChargesEnough, picked-charged, fail-charged, map-charged};
 ghost use Rattle.bincode_lemmas.specs.ChargedLaws.{chosen-charged};
@@ -18,7 +18,7 @@ ghost use Rattle.bincode_spec.specs.Words.{tag, Variant, variant_tags, allowed_t
 ghost use Rattle.bincode_lemmas.specs.FormLaws.{Numerals, byte-numerals, unsigned-numerals};
 ghost use Rattle.bincode_spec.specs.Allowed.{AllowedWord, SomeWord, MayName, Shortest, OneLength};
 ghost use Rattle.bincode_spec.specs.Choices.{IsChoice};
-ghost use Rattle.bincode_layers.specs.Laws.{AllLawful, AllBalanced};
+ghost use Rattle.bincode_spec.specs.Layers.Laws.{AllLawful, AllBalanced};
 ghost use Rattle.bincode_lemmas.specs.ChoiceLaws.{part-here, part-there, same-alike};
 ghost use Rattle.bincode_lemmas.specs.ChoiceLaws.{chosen-lawful, chosen-balanced, choice-has_word};
 ghost use Rattle.bincode_lemmas.specs.TupleLaws.{either};

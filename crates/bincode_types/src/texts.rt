@@ -1,7 +1,7 @@
 //! What texts are written as.
 ghost use Rattle.std.proofs.Common.{arith};
 ghost use Rattle.std.specs.Prelude.{max};
-ghost use Rattle.bincode_layers.specs.Needs.{text_needs};
+ghost use Rattle.bincode_spec.specs.Layers.Needs.{text_needs};
 ghost use Rattle.bincode_lemmas.specs.NeedLaws.{text-needs};
 ghost use Rattle.bincode_lemmas.specs.ChargedLaws.{text-charged};
 ghost use Rattle.std.specs.Prelude.{◌<◌, ◌^◌, length};

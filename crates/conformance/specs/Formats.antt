@@ -10,7 +10,7 @@ use Rattle.bincode_spec.specs.Charge.{Step, Charge, Reserve, Release}
 use Rattle.bincode_spec.specs.Format.{Format, Took, Failed}
 use Rattle.bincode_spec.specs.Meaning.{Meaning, Truth, Number, Character, Bytes, Nothing, Choice, IsNumber, list_meaning}
 use Rattle.bincode_spec.specs.Allowed.{AllowedWord}
-use Rattle.bincode_layers.specs.Laws.{steps_of}
+use Rattle.bincode_spec.specs.Layers.Laws.{steps_of}
 use Rattle.bincode_spec.specs.Room.{Bounded, elements_after}
 use Rattle.bincode_spec.specs.Words.{list, text, without_nul}
 

@@ -12,7 +12,7 @@ use mathlib.Core.Logic.{dite}
 use native.Mathlib.Decide.{dec_le}
 use Rattle.bincode_base.specs.Setting.{Setting}
 use Rattle.bincode_spec.specs.Format.{Format}
-use Rattle.bincode_layers.specs.Laws.{Lawful}
+use Rattle.bincode_spec.specs.Layers.Laws.{Lawful}
 use Rattle.bincode_spec.specs.Meaning.{Meaning}
 use Rattle.bincode_lemmas.specs.FormatLaws.{one-word}
 use Rattle.bincode_types.specs.TypeLaws.{ExactWords}

@@ -10,9 +10,9 @@ use Rattle.bincode_spec.specs.Format.{Format, pure, map_format}
 use Rattle.bincode_spec.specs.Meaning.{Meaning, Number, IsNumber}
 use Rattle.bincode_spec.specs.Answer.{Answer, answer, Gave, Refused, PassedLimit, after_release}
 use Rattle.bincode_lemmas.specs.Sequences.{and_then}
-use Rattle.bincode_layers.specs.Claims.{MakesRelease}
+use Rattle.bincode_spec.specs.Layers.Claims.{MakesRelease}
 use Rattle.bincode_spec.specs.Decoding.{Decodes, DecodeFailure, by_fault, by_limit, by_memory, by_failure, by_device}
-use Rattle.bincode_layers.specs.Values.{Reads}
+use Rattle.bincode_spec.specs.Layers.Values.{Reads}
 use Rattle.bincode_lemmas.specs.AnswerLaws.{answer-then, answer-pure}
 use Rattle.bincode_decoder.proofs.ReadAnswers.{read-as}
 

@@ -5,7 +5,7 @@ use Rattle.bincode_base.specs.Setting.{Setting}
 use Rattle.bincode_base.specs.declared.error.DecodeError.{DecodeError}
 use Rattle.bincode_base.specs.declared.error.DecodeError.TheVariants.{LimitExceeded}
 use Rattle.bincode_base.specs.declared.error.EncodeError.{EncodeError}
-use Rattle.bincode_layers.specs.Alike.{TellAlike, both_passed, both_tell}
+use Rattle.bincode_spec.specs.Layers.Alike.{TellAlike, both_passed, both_tell}
 use Rattle.bincode_spec.specs.Allowed.{AllowedWord}
 use Rattle.bincode_spec.specs.Answer.{Answer, Gave, Refused, PassedLimit, StepsOf, of_word, of_fault, answer}
 use Rattle.bincode_spec.specs.Charge.{Step}
@@ -13,7 +13,7 @@ use Rattle.bincode_spec.specs.Decoding.{IsRefused}
 use Rattle.bincode_spec.specs.Encoding.{Adds, Writes}
 use Rattle.bincode_spec.specs.Fault.{Fault, Tells}
 use Rattle.bincode_spec.specs.Format.{Format, Took}
-use Rattle.bincode_layers.specs.Laws.{Lawful, Balanced}
+use Rattle.bincode_spec.specs.Layers.Laws.{Lawful, Balanced}
 use Rattle.bincode_spec.specs.Meaning.{Meaning}
 use Rattle.bincode_spec.specs.Slice.{Decoded, EndsSlice, FindsWords, IsAnswer}
 use Rattle.bincode_lemmas.specs.AnswerLaws.{gave-word, refused-fault, passed-limit}

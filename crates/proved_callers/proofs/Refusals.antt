@@ -6,7 +6,7 @@ use Rattle.bincode_base.specs.declared.error.DecodeError.TheVariants.{LimitExcee
 use Rattle.bincode_spec.specs.Fault.{Fault, Tells, End, InvalidInteger, Zero, UnexpectedVariant, Utf8, InvalidChar, InvalidBool, InvalidDuration, NulAt}
 use Rattle.bincode_spec.specs.Fault.{Other, LengthMismatch, EmptyEnum, OutsideUsize, short, long, Between, OneOf}
 use Rattle.bincode_spec.specs.Format.{Format}
-use Rattle.bincode_layers.specs.Laws.{Lawful, Balanced}
+use Rattle.bincode_spec.specs.Layers.Laws.{Lawful, Balanced}
 use Rattle.bincode_spec.specs.Meaning.{Meaning}
 use Rattle.bincode_spec.specs.Answer.{Answer, Gave, Refused, PassedLimit, answer}
 use Rattle.bincode_lemmas.specs.AnswerLaws.{gave-word, refused-fault, passed-limit}

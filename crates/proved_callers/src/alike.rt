@@ -1,6 +1,6 @@
 //! Callers that read equal bytes from two readers. Their proofs use the contracts of the calls alone.
 ghost use Rattle.std.specs.Prelude.{◌≡◌};
-ghost use Rattle.bincode_layers.specs.Alike.{DeviceFailed, ReadAlike};
+ghost use Rattle.bincode_spec.specs.Layers.Alike.{DeviceFailed, ReadAlike};
 ghost use Rattle.bincode_spec.specs.Decoding.{IsExcused};
 
 use bincode::config::{Config, Endianness};

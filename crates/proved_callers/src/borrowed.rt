@@ -1,7 +1,7 @@
 //! Callers of borrowed decoding. Their proofs use the contracts of the calls alone.
 ghost use Rattle.std.specs.Prelude.{◌≡◌, IfErr, IfOk, MatchResult};
 ghost use Rattle.bincode_base.specs.declared.error.DecodeError.TheVariants.{Memory};
-ghost use Rattle.bincode_layers.specs.Agree.{SameReading};
+ghost use Rattle.bincode_spec.specs.Layers.Agree.{SameReading};
 ghost use Rattle.bincode_spec.specs.Decoding.{IsRefused};
 
 use bincode::config::Config;

@@ -1,6 +1,6 @@
 //! What is read under a limit, and under a larger one.
 ghost use Rattle.std.specs.Prelude.{◌≡◌, IfOk, MatchResult};
-ghost use Rattle.bincode_layers.specs.Agree.{SameReading};
+ghost use Rattle.bincode_spec.specs.Layers.Agree.{SameReading};
 ghost use Rattle.bincode_spec.specs.Decoding.{IsRefused};
 ghost use Rattle.bincode_spec.specs.Limits.{NoTighter};
 

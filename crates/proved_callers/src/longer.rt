@@ -1,7 +1,7 @@
 //! Callers that decode from more bytes and from fewer. Their proofs use the contracts of the calls alone.
 ghost use Rattle.std.specs.Prelude.{◌≤◌, ◌<◌, ◌⊎◌, ◌++◌, ℕ, List, All, Result, length, IfOk};
 ghost use Rattle.bincode_base.specs.declared.error.DecodeError.{DecodeError};
-ghost use Rattle.bincode_layers.specs.Agree.{SameAnswer, WasCut, WasRefused};
+ghost use Rattle.bincode_spec.specs.Layers.Agree.{SameAnswer, WasCut, WasRefused};
 ghost use Rattle.bincode_spec.specs.Slice.{IsAnswer};
 
 use bincode::config::Config;

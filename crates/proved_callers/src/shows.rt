@@ -2,7 +2,7 @@
 ghost use Rattle.std.specs.Prelude.{◌≡◌, [], length, min, ⊤};
 ghost use Rattle.std.proofs.Common.{inl, arith};
 ghost use Rattle.bincode_base.specs.declared.error.DecodeError.TheVariants.{UnexpectedEnd};
-ghost use Rattle.bincode_layers.specs.Pieces.{no_device};
+ghost use Rattle.bincode_spec.specs.Layers.Pieces.{no_device};
 
 use bincode::de::read::Reader;
 use bincode::error::DecodeError;

@@ -3,8 +3,8 @@ use Rattle.std.specs.Prelude.{◌≡◌, ◌++◌, ℕ, List, Option, Some, None
 use Rattle.std.proofs.Common.{sym, ◌∙◌, ap, subst, inl, inr, arith, append_assoc}
 use Rattle.bincode_base.specs.declared.error.DecodeError.{DecodeError}
 use Rattle.bincode_base.specs.declared.error.DecodeError.TheVariants.{LimitExceeded}
-use Rattle.bincode_layers.specs.Agree.{IsCut}
-use Rattle.bincode_layers.specs.Laws.{Lawful, Balanced, steps_of}
+use Rattle.bincode_spec.specs.Layers.Agree.{IsCut}
+use Rattle.bincode_spec.specs.Layers.Laws.{Lawful, Balanced, steps_of}
 use Rattle.bincode_lemmas.specs.AnswerLaws.{counted_after, gave-word, refused-fault, passed-limit, word-gave, fault-refused, passes-passed}
 use Rattle.bincode_lemmas.specs.CutLaws.{end-told}
 use Rattle.bincode_lemmas.specs.FormatLaws.{end-or-other}

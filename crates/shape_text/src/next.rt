@@ -2,7 +2,7 @@
 ghost use Rattle.std.specs.Prelude.{◌≡◌, ◌↔◌, ◌<◌, [], length, IsTrue, IsNone, IfSome, IfOk, IfErr};
 ghost use Rattle.std.specs.Io.{StartsWith};
 ghost use Rattle.std.specs.Io.KnownBytes.{Keeps};
-ghost use Rattle.bincode_layers.specs.Agree.{IsCut};
+ghost use Rattle.bincode_spec.specs.Layers.Agree.{IsCut};
 ghost use Rattle.bincode_spec.specs.Slice.{Decoded};
 ghost use Rattle.bincode_shape.specs.Counts.{IsCounted};
 ghost use Rattle.bincode_shape.specs.Shapes.{format_of};

@@ -1,6 +1,6 @@
 //! Decoders that lend the bytes of their source.
 ghost use Rattle.std.specs.Prelude.{ℕ, List};
-ghost use Rattle.bincode_layers.specs.Lending.{LendsBytes};
+ghost use Rattle.bincode_spec.specs.Layers.Lending.{LendsBytes};
 
 use super::{Decoder, DecoderImpl, LentDecoder};
 use bincode_base::config::Config;

@@ -2,8 +2,8 @@
 ghost use Rattle.std.specs.Prelude.{◌≡◌};
 ghost use Rattle.std.specs.Bool.{MatchBool};
 ghost use Rattle.bincode_spec.specs.Answer.{Allows, after_release};
-ghost use Rattle.bincode_layers.specs.Releases.{CanRelease};
-ghost use Rattle.bincode_layers.specs.Claims.{Claims};
+ghost use Rattle.bincode_spec.specs.Layers.Releases.{CanRelease};
+ghost use Rattle.bincode_spec.specs.Layers.Claims.{Claims};
 
 use bincode_base::error::DecodeError;
 

@@ -1,7 +1,7 @@
 //! Readers that lend the bytes of their source.
 ghost use Rattle.std.specs.Prelude.{◌≡◌, ◌++◌, length, IfOk, IfErr};
-ghost use Rattle.bincode_layers.specs.Pieces.{FallsShort};
-ghost use Rattle.bincode_layers.specs.Lending.{TakesBytes};
+ghost use Rattle.bincode_spec.specs.Layers.Pieces.{FallsShort};
+ghost use Rattle.bincode_spec.specs.Layers.Lending.{TakesBytes};
 ghost use Rattle.bincode_base.specs.declared.error.DecodeError.TheVariants.{UnexpectedEnd};
 
 use super::{Reader, SliceReader};

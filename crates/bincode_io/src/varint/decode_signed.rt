@@ -3,8 +3,8 @@ ghost use Rattle.std.specs.Prelude.{◌≤◌, IfOk};
 ghost use Rattle.bincode_spec.specs.Number.{unzigzag, FitsIn};
 ghost use Rattle.bincode_spec.specs.Format.{map_format};
 ghost use Rattle.bincode_spec.specs.Integers.{varint, signed_tag};
-ghost use Rattle.bincode_layers.specs.Spelling.{tag_types};
-ghost use Rattle.bincode_layers.specs.Reads.{ReadsWord};
+ghost use Rattle.bincode_spec.specs.Layers.Spelling.{tag_types};
+ghost use Rattle.bincode_spec.specs.Layers.Reads.{ReadsWord};
 ghost use Rattle.bincode_base.specs.declared.error.IntegerType.TheVariants.{I16, I32, I64, I128, Isize};
 
 use super::varint_decode;

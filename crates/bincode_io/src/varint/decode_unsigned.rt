@@ -1,8 +1,8 @@
 //! Decoding of unsigned varints.
 ghost use Rattle.std.specs.Prelude.{◌≡◌, ◌<◌, ◌≤◌, ◌^◌, IfOk, IfErr, IfSome};
 ghost use Rattle.bincode_spec.specs.Integers.{varint, unsigned_tag};
-ghost use Rattle.bincode_layers.specs.Spelling.{tag_types};
-ghost use Rattle.bincode_layers.specs.Reads.{ReadsWord};
+ghost use Rattle.bincode_spec.specs.Layers.Spelling.{tag_types};
+ghost use Rattle.bincode_spec.specs.Layers.Reads.{ReadsWord};
 ghost use Rattle.bincode_io.specs.Window.{FrontIs, FrontFails};
 ghost use Rattle.bincode_base.specs.declared.error.DecodeError.TheVariants.{InvalidIntegerType};
 ghost use Rattle.bincode_base.specs.declared.error.IntegerType.TheVariants.{U16, U32, U64, U128, Usize};

@@ -1,8 +1,8 @@
 //! Encoding of signed varints, by zigzag.
 ghost use Rattle.bincode_spec.specs.Number.{zigzag};
 ghost use Rattle.bincode_spec.specs.Integers.{shortest_word};
-ghost use Rattle.bincode_layers.specs.Spelling.{shortest_pieces};
-ghost use Rattle.bincode_layers.specs.Pieces.{TakesPieces};
+ghost use Rattle.bincode_spec.specs.Layers.Spelling.{shortest_pieces};
+ghost use Rattle.bincode_spec.specs.Layers.Pieces.{TakesPieces};
 
 use super::{varint_encode_u16, varint_encode_u32, varint_encode_u64, varint_encode_u128};
 use crate::write::Writer;

@@ -2,8 +2,8 @@
 ghost use Rattle.std.specs.Prelude.{[], ◌∷◌, ◌≡◌, length};
 ghost use Rattle.bincode_base.specs.declared.config.Endianness.{Endianness};
 ghost use Rattle.bincode_spec.specs.Integers.{shortest_word, first_of};
-ghost use Rattle.bincode_layers.specs.Spelling.{shortest_pieces};
-ghost use Rattle.bincode_layers.specs.Pieces.{TakesPieces};
+ghost use Rattle.bincode_spec.specs.Layers.Spelling.{shortest_pieces};
+ghost use Rattle.bincode_spec.specs.Layers.Pieces.{TakesPieces};
 
 use super::{SINGLE_BYTE_MAX, U16_BYTE, U32_BYTE, U64_BYTE, U128_BYTE};
 use crate::bytes::{bytes_of_u16, bytes_of_u32, bytes_of_u64, bytes_of_u128};

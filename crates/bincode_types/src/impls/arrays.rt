@@ -1,6 +1,6 @@
 //! `Wire` for arrays.
 ghost use Rattle.std.proofs.Common.{arith};
-ghost use Rattle.bincode_layers.specs.Needs.{array_needs};
+ghost use Rattle.bincode_spec.specs.Layers.Needs.{array_needs};
 ghost use Rattle.bincode_lemmas.specs.NeedLaws.{array-needs};
 ghost use Rattle.bincode_lemmas.specs.ChargedLaws.{array-charged};
 ghost use Rattle.std.specs.Prelude.{◌≡◌, ◌*◌, ◌-◌, ◌^◌, ◌⊎◌, min, max, length};

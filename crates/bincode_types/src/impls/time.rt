@@ -1,6 +1,6 @@
 //! `Wire` for `Duration`.
 ghost use Rattle.std.proofs.Common.{arith};
-ghost use Rattle.bincode_layers.specs.Needs.{duration_needs};
+ghost use Rattle.bincode_spec.specs.Layers.Needs.{duration_needs};
 ghost use Rattle.bincode_lemmas.specs.NeedLaws.{duration-needs};
 ghost use Rattle.bincode_lemmas.specs.ChargedLaws.{duration-charged};
 ghost use Rattle.std.specs.Prelude.{◌<◌, ◌^◌, pos};

@@ -4,7 +4,7 @@ use Rattle.std.proofs.lemmas.Result.{err_from_is_err_and}
 use Rattle.bincode_spec.specs.Format.{Format}
 use Rattle.bincode_spec.specs.Meaning.{Meaning}
 use Rattle.bincode_spec.specs.Allowed.{AllowedWord}
-use Rattle.bincode_layers.specs.Meanings.{SameMeanings}
+use Rattle.bincode_spec.specs.Layers.Meanings.{SameMeanings}
 use Rattle.bincode_lemmas.specs.ChoiceLaws.{choice-allows, allowed-choice}
 use Rattle.bincode_encoder.proofs.EncodingAnswers.{encodes-as, first-halts, next-encodes}
 use Rattle.bincode_encoder.proofs.variants.encode_variant.Goals as goal

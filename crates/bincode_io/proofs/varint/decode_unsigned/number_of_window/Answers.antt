@@ -1,6 +1,6 @@
 use Rattle.std.proofs.Common.{ap, ◌-◌, length}
 use Rattle.bincode_spec.specs.Integers.{varint}
-use Rattle.bincode_layers.specs.Spelling.{tag_types}
+use Rattle.bincode_spec.specs.Layers.Spelling.{tag_types}
 use Rattle.bincode_io.proofs.Windows.{front-is, front-fails, left-shorter, read_by, read_by-lawful, varint-reads}
 use Rattle.bincode_io.proofs.varint.decode_unsigned.number_of_window.Goals as goal
 

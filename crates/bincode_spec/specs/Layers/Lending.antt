@@ -3,7 +3,7 @@ use Rattle.std.specs.Prelude.{◌≡◌, ◌≤◌, ◌⊎◌, ℕ, List, ◌++�
 use Rattle.std.specs.Borrow.{GName}
 use Rattle.bincode_base.specs.declared.error.DecodeError.{DecodeError}
 use Rattle.bincode_spec.specs.Device.{DeviceErrors, Rose, Takes}
-use Rattle.bincode_layers.specs.Pieces.{FallsShort}
+use Rattle.bincode_spec.specs.Layers.Pieces.{FallsShort}
 
 -- A reader (`old` before, `new` after) was asked for `count` bytes of its source. They are the next ones; or too few
 -- are left, or the device failed, and then a prefix of what was left is taken, unless the device does not count the

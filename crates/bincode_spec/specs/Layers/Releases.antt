@@ -1,7 +1,7 @@
 -- The room of a run of values that is given back while they are read.
 use Rattle.std.specs.Prelude.{◌≡◌, ℕ, ◌+◌, ◌≤◌, List, Option, Some, None}
 use Rattle.bincode_spec.specs.Charge.{Step, charged_bytes}
-use Rattle.bincode_layers.specs.Laws.{BeginsWith}
+use Rattle.bincode_spec.specs.Layers.Laws.{BeginsWith}
 use Rattle.bincode_spec.specs.Format.{Format}
 
 -- n bytes of the charge can be released; without a limit nothing is counted

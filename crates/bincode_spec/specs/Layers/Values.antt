@@ -6,10 +6,10 @@ use Rattle.bincode_spec.specs.Device.{DeviceErrors}
 use Rattle.bincode_spec.specs.Format.{Format, map_format, elements}
 use Rattle.bincode_spec.specs.Meaning.{Meaning, Number, IsNumber, list_meaning}
 use Rattle.bincode_spec.specs.Answer.{answer, Allows}
-use Rattle.bincode_layers.specs.Claims.{Charges}
+use Rattle.bincode_spec.specs.Layers.Claims.{Charges}
 use Rattle.bincode_spec.specs.Decoding.{Decodes, DecodeFailure}
 use Rattle.bincode_spec.specs.Run.{IsListOf}
-use Rattle.bincode_layers.specs.Releases.{Held}
+use Rattle.bincode_spec.specs.Layers.Releases.{Held}
 
 -- A decoder (`old` before, `new` after) read one value, from a charge of `charged`: it is given for the meaning of a
 -- word, or the error tells why there is none. Failures don't fall, what remains stays known, no earlier charge is
