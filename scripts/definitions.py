@@ -57,8 +57,8 @@ def operators(name):
 class Library:
     def __init__(self):
         self.made, self.parts, self.members = {}, {}, set()
-        for path in sorted(glob.glob(f'{ROOT}/crates/bincode*/specs/*.antt')):
-            crate, module = path.split('/')[-3], os.path.basename(path)[:-5]
+        for path in sorted(glob.glob(f'{ROOT}/crates/bincode*/specs/**/*.antt', recursive=True)):
+            crate, _, module = os.path.relpath(path[:-5], f'{ROOT}/crates').replace('/', '.').split('.', 2)
             if crate != LEMMAS:
                 self.file(crate, module, read(path))
 
@@ -305,7 +305,7 @@ def main():
     total = f'{len(order)} definitions, {count} lines, in {len(files)} files'
     rows = ['| File | Definitions |', '|---|---|']
     for file in files:
-        rows.append(f'| `{file[0]}/specs/{file[1]}` | ' + ', '.join(f'`{key[2]}`' for key in order if key[:2] == file) + ' |')
+        rows.append(f'| `{file[0]}/specs/{file[1].replace(".", "/")}` | ' + ', '.join(f'`{key[2]}`' for key in order if key[:2] == file) + ' |')
     if shows == '--text':
         print('\n\n'.join(texts.values()) + '\n')
     if shows == '--names':
