@@ -103,19 +103,29 @@ pub fn is_all_a(text: &[u8], count: usize) -> bool {
     text.len() == count && text.iter().all(|&byte| byte == 97)
 }
 
-/// Of how many letters the texts are.
-const COUNT: usize = 1_000;
+/// The word of a text, and another byte after it.
+#[derive(Drop)]
+struct Sample<'a> {
+    word: &'a [u8],
+    /// How many letters the text has.
+    count: usize,
+}
 
 /// How many calls it takes to read a text from a stream, if it is read and the byte after it left.
-fn reading_calls(alloc: Global, word: &[u8], share: Share, interruptions: usize) -> Option<usize> {
-    let mut stream = stream_over(word, share, interruptions);
+fn reading_calls(
+    alloc: Global,
+    sample: &Sample<'_>,
+    share: Share,
+    interruptions: usize,
+) -> Option<usize> {
+    let mut stream = stream_over(sample.word, share, interruptions);
     let outcome: Result<String, DecodeError> = decode_from_std_read(
         alloc,
         &mut stream,
         config::standard(),
     );
     let text = outcome.ok()?;
-    if is_all_a(text.as_bytes(), COUNT) && stream.bytes == [9].as_slice() {
+    if is_all_a(text.as_bytes(), sample.count) && stream.bytes == [9].as_slice() {
         Some(stream.calls)
     } else {
         None
@@ -123,8 +133,14 @@ fn reading_calls(alloc: Global, word: &[u8], share: Share, interruptions: usize)
 }
 
 /// How many calls it takes to write the text of a word to a stream, if the stream then holds the word.
-fn writing_calls(alloc: Global, word: &[u8], share: Share, interruptions: usize) -> Option<usize> {
-    let (front, text) = front_of(word, 3, 3 + COUNT)?;
+fn writing_calls(
+    alloc: Global,
+    sample: &Sample<'_>,
+    share: Share,
+    interruptions: usize,
+) -> Option<usize> {
+    let end = sample.word.len().checked_sub(1)?;
+    let (front, text) = front_of(sample.word, end.checked_sub(sample.count)?, end)?;
     let mut stream = stream_over(Vec::new(alloc), share, interruptions);
     let outcome = encode_into_std_write(text, &mut stream, config::standard());
     let written = outcome.ok()?;
@@ -145,27 +161,51 @@ const CALLS: [(Share, usize, usize); 5] = [
     (Share::One, 5, 6 * (1 + 2 + 1_000)),
 ];
 
-/// Where memory is refused a text is read or written once more.
+/// Whether a text is read and written by as many calls. Where memory is refused it is read or written once more.
+fn takes_calls(
+    alloc: Global,
+    sample: &Sample<'_>,
+    share: Share,
+    interruptions: usize,
+    calls: usize,
+) -> bool {
+    (reading_calls(alloc, sample, share, interruptions) == Some(calls)
+        || reading_calls(alloc, sample, share, interruptions) == Some(calls))
+        && (writing_calls(alloc, sample, share, interruptions) == Some(calls)
+            || writing_calls(alloc, sample, share, interruptions) == Some(calls))
+}
+
 #[test]
 fn asks_a_stream_once_for_a_piece(rt: HostRuntime) {
     let alloc = rt.alloc();
+    let count = 1_000;
     let Some(word) = either(
-        word_of(alloc, &[251, 232, 3], COUNT),
-        word_of(alloc, &[251, 232, 3], COUNT),
+        word_of(alloc, &[251, 232, 3], count),
+        word_of(alloc, &[251, 232, 3], count),
     ) else {
         assert!(rt; false);
         return;
     };
+    let sample = Sample { word: &word, count };
     for (share, interruptions, calls) in CALLS {
-        assert!(rt;
-            reading_calls(alloc, &word, share, interruptions) == Some(calls)
-                || reading_calls(alloc, &word, share, interruptions) == Some(calls)
-        );
-        assert!(rt;
-            writing_calls(alloc, &word, share, interruptions) == Some(calls)
-                || writing_calls(alloc, &word, share, interruptions) == Some(calls)
-        );
+        assert!(rt; takes_calls(alloc, &sample, share, interruptions, calls));
     }
+}
+
+/// A text of more than a megabyte is one piece too: three calls, as for a short one.
+#[test]
+fn takes_more_than_a_megabyte_at_once(rt: HostRuntime) {
+    let alloc = rt.alloc();
+    let count = 1_100_000;
+    let Some(word) = either(
+        word_of(alloc, &[252, 224, 200, 16, 0], count),
+        word_of(alloc, &[252, 224, 200, 16, 0], count),
+    ) else {
+        assert!(rt; false);
+        return;
+    };
+    let sample = Sample { word: &word, count };
+    assert!(rt; takes_calls(alloc, &sample, Share::All, 0, 3));
 }
 
 /// A stream that fails by this kind from a call on, and counts its calls.
