@@ -2,16 +2,20 @@
 //! before memory is asked for.
 
 use crate::asserts::all_true;
-use bincode::de::Decode;
+use bincode::de::{BorrowDecode, Decode};
+use bincode::error::DecodeError;
 use bincode::ffi::CString;
+use bincode::{borrow_decode_from_slice, config};
 use own_types::pack::Pack;
 use std::alloc::Global;
+use std::borrow::CowStr;
 use std::boxed::{BoxedSlice, BoxedStr};
 use std::collections::{BTreeMap, BTreeSet, BinaryHeap, HashMap, HashSet, VecDeque};
+use std::path::PathBuf;
 use test_helpers::checks::{is_passed, within};
 
 /// A length of 0, and a byte after it.
-const NONE: [u8; 2] = [0, 9];
+static NONE: [u8; 2] = [0, 9];
 
 /// A length of 2^64 - 1, after which nothing stands.
 const HUGE: [u8; 9] = [253, 255, 255, 255, 255, 255, 255, 255, 255];
@@ -43,6 +47,8 @@ fn reads_nothing_and_refuses_lengths_without_memory(rt: HostRuntime) {
             reads_none::<String>(alloc),
             reads_none::<CString>(alloc),
             reads_none::<BoxedStr>(alloc),
+            reads_none::<CowStr<'static>>(alloc),
+            reads_none::<PathBuf>(alloc),
             reads_none::<Vec<u8>>(alloc),
             reads_none::<Vec<u16>>(alloc),
             reads_none::<VecDeque<u8>>(alloc),
@@ -53,6 +59,39 @@ fn reads_nothing_and_refuses_lengths_without_memory(rt: HostRuntime) {
             reads_none::<HashSet<u8>>(alloc),
             reads_none::<HashMap<u8, u8>>(alloc),
             reads_none::<Pack<u8>>(alloc),
+        ],
+    );
+}
+
+/// Whether nothing is read by borrowed decoding, at the first call.
+fn borrows_none<T: BorrowDecode<&'static [u8], ()>>(alloc: Global) -> bool {
+    let outcome: Result<(T, usize), DecodeError> = borrow_decode_from_slice(
+        alloc,
+        &NONE,
+        config::standard(),
+    );
+    matches!(outcome, Ok((_, 1)))
+}
+
+/// What owns its parts asks for no memory by borrowed decoding either.
+#[test]
+fn borrows_nothing_without_memory(rt: HostRuntime) {
+    let alloc = rt.alloc();
+    all_true(
+        &rt,
+        &[
+            borrows_none::<String>(alloc),
+            borrows_none::<CString>(alloc),
+            borrows_none::<BoxedStr>(alloc),
+            borrows_none::<PathBuf>(alloc),
+            borrows_none::<Vec<u16>>(alloc),
+            borrows_none::<VecDeque<u8>>(alloc),
+            borrows_none::<BinaryHeap<u8>>(alloc),
+            borrows_none::<BoxedSlice<u8>>(alloc),
+            borrows_none::<BTreeSet<u8>>(alloc),
+            borrows_none::<BTreeMap<u8, u8>>(alloc),
+            borrows_none::<HashSet<u8>>(alloc),
+            borrows_none::<HashMap<u8, u8>>(alloc),
         ],
     );
 }

@@ -2,10 +2,11 @@
 
 use crate::asserts::all_true;
 use bincode::checked::{RoundTrip, round_trip};
-use bincode::config;
 use bincode::de::Decode;
+use bincode::de::read::SliceReader;
 use bincode::enc::Encode;
 use bincode::error::DecodeError;
+use bincode::{config, decode_from_reader};
 use own_types::book::Book;
 use own_types::code::Code;
 use own_types::even::Even;
@@ -146,4 +147,35 @@ fn is_even<T: Encode + Decode<()>>(alloc: Global) -> bool {
 #[test]
 fn keeps_even_numbers_and_refuses_odd_ones(rt: HostRuntime) {
     assert!(rt; is_even::<Even>(rt.alloc()));
+}
+
+/// How many bytes a reader has left after a fault.
+fn left_after<T: Decode<()>>(alloc: Global, input: &[u8]) -> Option<usize> {
+    let mut reader = SliceReader::new(input);
+    let outcome: Result<T, DecodeError> = decode_from_reader(
+        alloc,
+        &mut reader,
+        config::standard(),
+    );
+    match outcome {
+        Ok(_) => None,
+        Err(_) => Some(reader.bytes_left()),
+    }
+}
+
+/// Whether two bytes are left after a fault. Retries once if an allocation is refused.
+fn leaves_two<T: Decode<()>>(alloc: Global, input: &[u8]) -> bool {
+    left_after::<T>(alloc, input) == Some(2) || left_after::<T>(alloc, input) == Some(2)
+}
+
+/// Nothing is read after a tag or a number that is refused, and of what has no variants nothing is read at all.
+#[test]
+fn leaves_what_follows_a_fault(rt: HostRuntime) {
+    let alloc = rt.alloc();
+    assert!(rt;
+        leaves_two::<Kind>(alloc, &[3, 77, 78])
+            && leaves_two::<Code>(alloc, &[2, 77, 78])
+            && leaves_two::<Even>(alloc, &[3, 77, 78])
+            && leaves_two::<Never>(alloc, &[77, 78])
+    );
 }

@@ -25,21 +25,31 @@ fn write_by<W: Writer>(writer: &mut W, call: Call, piece: &[u8]) -> Result<(), E
     }
 }
 
-/// How many bytes are collected of 30,000 pieces, written to a writer without room.
-fn collected(alloc: Global, piece: &[u8], call: Call) -> Result<usize, EncodeError> {
+/// How many bytes are collected of as many pieces, written to a writer without room.
+fn collected(alloc: Global, piece: &[u8], count: usize, call: Call) -> Result<usize, EncodeError> {
     let mut writer = VecWriter::with_capacity(alloc, 0)?;
-    for _ in 0..30_000 {
+    for _ in 0..count {
         write_by(&mut writer, call, piece)?;
     }
     Ok(writer.collect().len())
 }
 
+/// Pieces, how many are written, and how many bytes these are.
+const PIECES: [(&[u8], usize, usize); 3] = [
+    (&[7], 30_000, 30_000),
+    (&[1, 2, 3], 30_000, 90_000),
+    (&[5; 1_000], 100, 100_000),
+];
+
 #[test]
 fn grows_by_each_call(rt: HostRuntime) {
     let alloc = rt.alloc();
     for call in [Call::Whole, Call::InTwo] {
-        for (piece, length) in [(&[7u8; 1][..], 30_000), (&[1, 2, 3], 90_000)] {
-            let held = either(collected(alloc, piece, call), collected(alloc, piece, call));
+        for (piece, count, length) in PIECES {
+            let held = either(
+                collected(alloc, piece, count, call),
+                collected(alloc, piece, count, call),
+            );
             assert_eq!(rt; held, Some(length));
         }
     }

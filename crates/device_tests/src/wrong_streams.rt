@@ -120,6 +120,26 @@ fn keeps_the_kind_of_a_failure_before_a_buffer(rt: HostRuntime) {
     }
 }
 
+/// Whether the look for the next value finds 300 in a stream that is interrupted five times before each call.
+fn looks_again(alloc: Global) -> bool {
+    let stream = stream_over([251u8, 44, 1].as_slice(), Share::All, 5);
+    let Ok(mut buffered) = BufReader::with_capacity(alloc, 8, stream) else {
+        return false;
+    };
+    let next: Result<Option<u32>, DecodeError> = decode_next_from_std_read(
+        alloc,
+        &mut buffered,
+        config::standard(),
+    );
+    matches!(next, Ok(Some(300))) && buffered.get_ref().calls == 6
+}
+
+/// Where memory is refused it is asked once more.
+#[test]
+fn looks_again_after_interruptions(rt: HostRuntime) {
+    assert!(rt; looks_again(rt.alloc()) || looks_again(rt.alloc()));
+}
+
 /// How many bytes of a stream are left after a fault.
 fn left_of_stream<T: Decode<()>>(alloc: Global, input: &[u8]) -> Option<usize> {
     let mut stream = input;

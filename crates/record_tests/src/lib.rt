@@ -15,6 +15,8 @@ mod repairs;
 #[cfg(test)]
 mod requests;
 #[cfg(test)]
+mod runs;
+#[cfg(test)]
 mod shows;
 #[cfg(test)]
 mod stores;

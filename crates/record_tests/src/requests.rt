@@ -6,7 +6,7 @@ use std::alloc::{AllocError, Global};
 use stock_files::request::{Request, request_of};
 
 /// A line as the words of a program, its name first.
-fn words_of(alloc: Global, line: &str) -> Result<Vec<String>, AllocError> {
+pub fn words_of(alloc: Global, line: &str) -> Result<Vec<String>, AllocError> {
     let mut words = Vec::new(alloc);
     words.push(String::from_str(alloc, "records")?)?;
     for word in line.split_whitespace() {

@@ -5,6 +5,7 @@ use crate::shaped::has_shape;
 use bincode::config;
 use bincode::de::read::{Reader, SliceReader};
 use bincode::shape::{Shape, Value, decode_shaped_from_reader};
+use shape_text::text::shape_of;
 use std::alloc::Global;
 use std::collections::{BTreeMap, BTreeSet, BinaryHeap, HashMap, HashSet, VecDeque};
 
@@ -47,4 +48,27 @@ fn reads_values_in_turn(rt: HostRuntime) {
             && is_next(alloc, &mut reader, 300)
             && reader.bytes_left() == 2
     );
+}
+
+/// How many bytes a reader has left after a fault of a shape.
+fn left_after(alloc: Global, shape: &str, input: &[u8]) -> Option<usize> {
+    let shape = shape_of(alloc, shape).ok()?;
+    let mut reader = SliceReader::new(input);
+    match decode_shaped_from_reader(alloc, &shape, &mut reader, config::standard()) {
+        Ok(_) => None,
+        Err(_) => Some(reader.bytes_left()),
+    }
+}
+
+/// Nothing is read after a tag that an option or an enum has not. Retries once, since an allocation may be refused.
+#[test]
+fn leaves_what_follows_a_tag(rt: HostRuntime) {
+    let alloc = rt.alloc();
+    for shape in ["u8?", "u8|bool"] {
+        assert!(rt;
+            left_after(alloc, shape, &[2, 77, 78]) == Some(2)
+                || left_after(alloc, shape, &[2, 77, 78]) == Some(2),
+            "{shape}"
+        );
+    }
 }

@@ -100,6 +100,18 @@ type Three = EnumOf<
     VariantOf<0, u8, VariantOf<1, bool, VariantOf<2, String, NoMoreVariants<Foo>>>>,
 >;
 
+/// Eight variants, which hold a byte each.
+type Eight = EnumOf<
+    VariantOf<0, u8, VariantOf<1, u8, VariantOf<2, u8, VariantOf<3, u8, LastFour>>>>,
+>;
+
+/// The last four of them.
+type LastFour = VariantOf<
+    4,
+    u8,
+    VariantOf<5, u8, VariantOf<6, u8, VariantOf<7, u8, NoMoreVariants<Foo>>>>,
+>;
+
 /// The pairs of a text and a number that `Kind` holds claim 28 bytes each: 24 for the text and 4 for the number.
 #[test]
 fn types_of_ones_own_tell_their_shapes(rt: HostRuntime) {
@@ -108,6 +120,7 @@ fn types_of_ones_own_tell_their_shapes(rt: HostRuntime) {
         &rt,
         &[
             has_shape::<Three>(alloc, "Choice([U8, Bool, Text])"),
+            has_shape::<Eight>(alloc, "Choice([U8, U8, U8, U8, U8, U8, U8, U8])"),
             has_shape::<Foo>(alloc, "Tuple([U32, U32])"),
             has_shape::<Kind>(
                 alloc,

@@ -4,7 +4,8 @@ use bincode::config::{self, Config};
 use bincode::enc::write::SliceWriter;
 use bincode::shape::{Shape, Value, decode_shaped, encode_shaped};
 use shape_text::text::shape_of;
-use std::alloc::Global;
+use std::alloc::{AllocError, Global};
+use test_helpers::checks::either;
 
 /// Shapes of scalars, a word of each where numbers are fixed, and its value, as that is printed.
 const SCALARS: [(&str, &[u8], &str); 16] = [
@@ -125,4 +126,33 @@ fn wholes_are_kept(rt: HostRuntime) {
                 || keeps(alloc, shape, word, wanted, config::standard())
         );
     }
+}
+
+/// The word of a list of 10,000 bytes.
+fn long_word(alloc: Global) -> Result<Vec<u8>, AllocError> {
+    let mut word = [251, 16, 39].to_vec(alloc)?;
+    for _ in 0..10_000 {
+        word.push(7)?;
+    }
+    Ok(word)
+}
+
+/// How many elements a list of bytes has that is read by its shape.
+fn listed(alloc: Global, word: &[u8]) -> Option<usize> {
+    let shape = shape_of(alloc, "[u8]").ok()?;
+    match decode_shaped(alloc, &shape, word, config::standard()) {
+        Ok((Value::List(items), _)) => Some(items.len()),
+        _ => None,
+    }
+}
+
+/// Retries once, since an allocation may be refused.
+#[test]
+fn long_lists_are_read(rt: HostRuntime) {
+    let alloc = rt.alloc();
+    let Some(word) = either(long_word(alloc), long_word(alloc)) else {
+        assert!(rt; false);
+        return;
+    };
+    assert!(rt; listed(alloc, &word) == Some(10_000) || listed(alloc, &word) == Some(10_000));
 }

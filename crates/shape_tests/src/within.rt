@@ -172,3 +172,41 @@ fn claims_come_first(rt: HostRuntime) {
             && is_refused(alloc, ARRAY, &[], config::standard(), "Memory")
     );
 }
+
+/// Whether an input of 2 is refused by the error that is printed so, by measuring and by reading.
+fn tells(alloc: Global, shape: &Shape, wanted: &str) -> bool {
+    let Err(error) = measure_shaped(alloc, shape, &[2], config::standard()) else {
+        return false;
+    };
+    match format!(in alloc; "{error:?}") {
+        Ok(text) => {
+            text.as_str() == wanted
+                && refuses_shaped(alloc, shape, &[2], config::standard(), wanted)
+        }
+        Err(_) => false,
+    }
+}
+
+/// The same by the text of a shape.
+fn tells_of(alloc: Global, shape: &str, wanted: &str) -> bool {
+    match shape_of(alloc, shape) {
+        Ok(shape) => tells(alloc, &shape, wanted),
+        Err(_) => false,
+    }
+}
+
+/// A tag that is none is told with the name of what was read, and an enum without variants by its name. Retries once,
+/// since an allocation may be refused.
+#[test]
+fn faults_tell_names(rt: HostRuntime) {
+    let alloc = rt.alloc();
+    let option = "UnexpectedVariant { type_name: \"Option\", found: 2, min: 0, max: 1 }";
+    let choice = "UnexpectedVariant { type_name: \"Choice\", found: 2, min: 0, max: 1 }";
+    let none = Shape::Choice(Vec::new(alloc));
+    let empty = "EmptyEnum { type_name: \"Choice\" }";
+    assert!(rt;
+        (tells_of(alloc, "u8?", option) || tells_of(alloc, "u8?", option))
+            && (tells_of(alloc, "u8|bool", choice) || tells_of(alloc, "u8|bool", choice))
+            && (tells(alloc, &none, empty) || tells(alloc, &none, empty))
+    );
+}

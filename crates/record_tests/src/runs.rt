@@ -1,0 +1,66 @@
+//! What the program does to a file, and the statuses with which it ends.
+
+use crate::requests::words_of;
+use crate::stores::{FRAMED, damaged};
+use std::path::PathBuf;
+use std::{env, fs, process};
+use stock_files::program::run;
+use stock_files::status::{DAMAGED, DONE, FAILED, USAGE};
+
+/// Whether the program ends with this status: with this command, the file and these words.
+fn ends(rt: &HostRuntime, (command, path, others): (&str, &str, &str), status: u8) -> bool {
+    let Ok(line) = format!(in rt.alloc(); "{command} {path} {others}") else {
+        return false;
+    };
+    match words_of(rt.alloc(), line.as_str()) {
+        Ok(words) => run(rt, &words) == status,
+        Err(_) => false,
+    }
+}
+
+/// Whether a file holds these bytes.
+fn holds(rt: &HostRuntime, path: &str, bytes: &[u8]) -> bool {
+    match fs::read(rt, path) {
+        Ok(held) => held.as_slice() == bytes,
+        Err(_) => false,
+    }
+}
+
+/// A path that no other test has.
+fn path_of(rt: &HostRuntime, name: &str) -> anyhow::Result<PathBuf> {
+    let name = format!(in rt.alloc(); "{}-{name}.stock", process::id(rt.process()))?;
+    Ok(env::temp_dir(rt)?.join(rt.alloc(), name.as_str())?)
+}
+
+/// Salt, tea and salt again, each by a run of its own. Words that spell no article leave the file as it is.
+#[test]
+fn adds_to_a_file(rt: HostRuntime) -> anyhow::Result<()> {
+    let file = path_of(&rt, "added")?;
+    let path = file.as_str();
+    let is_added = ends(&rt, ("add", path, "salt 40"), DONE)
+        && ends(&rt, ("add", path, "tea 1250 origin=Assam 100"), DONE)
+        && ends(&rt, ("add", path, "salt 40"), DONE)
+        && ends(&rt, ("add", path, "salt much"), USAGE)
+        && holds(&rt, path, &FRAMED);
+    let is_shown = ends(&rt, ("list", path, ""), DONE) && ends(&rt, ("check", path, ""), DONE);
+    assert!(rt; fs::remove_file(&rt, path).is_ok() && is_added && is_shown);
+    assert!(rt; ends(&rt, ("check", path, ""), FAILED) && ends(&rt, ("sell", path, ""), USAGE));
+    Ok(())
+}
+
+/// Nothing is added to a torn file, and it is told as one until it is repaired.
+#[test]
+fn leaves_a_torn_file(rt: HostRuntime) -> anyhow::Result<()> {
+    let file = path_of(&rt, "torn")?;
+    let path = file.as_str();
+    let torn = &FRAMED[..46];
+    let is_left = fs::write(&rt, path, torn).is_ok()
+        && ends(&rt, ("add", path, "salt 40"), DAMAGED)
+        && ends(&rt, ("check", path, ""), DAMAGED)
+        && holds(&rt, path, torn);
+    let is_repaired = ends(&rt, ("repair", path, ""), DONE) && holds(&rt, path, &FRAMED[..16]);
+    let is_told = fs::write(&rt, path, damaged().as_slice()).is_ok()
+        && ends(&rt, ("list", path, ""), DAMAGED);
+    assert!(rt; fs::remove_file(&rt, path).is_ok() && is_left && is_repaired && is_told);
+    Ok(())
+}
