@@ -1,77 +1,55 @@
-//! Templates: texts with blanks, each between two `$`, which are filled for a type or for one of its variants.
+//! What fills the blanks of templates.
 
-use crate::heads::{add_itself, add_parts, add_path};
-use crate::items::{Item, Variant};
-use crate::parts::{Form, add_tuple, add_value};
+use crate::facts::most_of;
+use crate::filling::Filling;
+use crate::heads::add_head;
+use crate::items::{Field, Variant};
+use crate::names::add_name;
+use crate::parts::{Form, add_field, add_made, add_part, add_part_path, add_tuple};
 use crate::text::Text;
-use crate::values::add_made;
-use crate::variants::{add_part, add_part_path};
 
-/// Adds a template, filled for a type.
-pub fn fill(out: &mut Text, item: &Item<'_>, template: &str) {
-    let mut is_blank = false;
-    for piece in template.split('$') {
-        if is_blank {
-            add_blank(out, item, piece);
-        } else {
-            out.add(piece);
-        }
-        is_blank = !is_blank;
+/// Adds what fills a blank for a type, whose words are these.
+pub fn add_blank(out: &mut Text, filling: &Filling<'_, '_>, word: &str, object: &str) {
+    let item = filling.item;
+    match word {
+        "," => out.add_comma(),
+        "impl" => add_head(out, item, object),
+        "above" => out.add_times(object, filling.variant_at()),
+        "at" => out.add_number(filling.variant_at() as u64),
+        "count" => out.add_number(item.variants.len() as u64),
+        "claim" => out.add_number(u64::from(item.marks.claim.unwrap_or(0))),
+        "most" => out.add_number(u64::from(most_of(item.fields.as_slice()).unwrap_or(0))),
+        "declared" => out.add(filling.declared),
+        "crate" => out.add(halves(filling.declared).0),
+        "module" => out.add(halves(filling.declared).1),
+        "folder" => add_folder(out, halves(filling.declared).1),
+        _ => match filling.variant() {
+            Some(variant) => add_variant_blank(out, filling, variant, word),
+            None => add_name(out, item, word),
+        },
     }
 }
 
-/// Adds a template, filled for a variant.
-pub fn fill_variant(out: &mut Text, item: &Item<'_>, variant: &Variant<'_>, template: &str) {
-    let mut is_blank = false;
-    for piece in template.split('$') {
-        if is_blank {
-            add_variant_blank(out, item, variant, piece);
-        } else {
-            out.add(piece);
-        }
-        is_blank = !is_blank;
+/// The crate of the types that are declared here, and their module.
+fn halves(declared: &str) -> (&str, &str) {
+    declared
+        .split_once(".specs.declared")
+        .unwrap_or((declared, ""))
+}
+
+/// Adds the folder of the answers of a module.
+fn add_folder(out: &mut Text, module: &str) {
+    for name in module.split('.') {
+        out.add(if name.is_empty() { "" } else { "/" });
+        out.add(name);
     }
 }
 
-/// Adds what fills the blank of this name for a type.
-fn add_blank(out: &mut Text, item: &Item<'_>, name: &str) {
-    match name {
-        "name" => out.add(item.name.text),
-        "itself" => add_itself(out, item),
-        "path" => add_path(out, item, ""),
-        "parts" => add_parts(out, item),
-        "parts_path" => add_path(out, item, "Parts"),
-        "lifetime" => out.add(item.lifetime),
-        _ if item.says(name) => out.add(own_name(name)),
-        _ => out.add(name),
-    }
-}
-
-/// What a parameter that functions and `impl`s have of their own is named where a type says its short name.
-fn own_name(short: &str) -> &'static str {
-    match short {
-        "B" => "TheBytes",
-        "Context" => "TheContext",
-        "D" => "TheDecoder",
-        _ => "TheEncoder",
-    }
-}
-
-/// Whether this is what such a parameter is called in what is written for a type, since the type says its short name.
-pub fn is_own_name(item: &Item<'_>, name: &str) -> bool {
-    match name {
-        "TheBytes" => item.says("B"),
-        "TheContext" => item.says("Context"),
-        "TheDecoder" => item.says("D"),
-        "TheEncoder" => item.says("E"),
-        _ => false,
-    }
-}
-
-/// Adds what fills the blank of this name for a variant.
-fn add_variant_blank(out: &mut Text, item: &Item<'_>, variant: &Variant<'_>, name: &str) {
-    let fields = item.fields_of(variant);
-    match name {
+/// Adds what fills a blank for a variant.
+fn add_variant_blank(out: &mut Text, filling: &Filling<'_, '_>, variant: &Variant<'_>, word: &str) {
+    let item = filling.item;
+    let fields = filling.of_variant();
+    match word {
         "variant" => out.add(variant.name.text),
         "tag" => out.add_number(u64::from(variant.tag)),
         "part" => add_part(out, item, variant),
@@ -79,8 +57,24 @@ fn add_variant_blank(out: &mut Text, item: &Item<'_>, variant: &Variant<'_>, nam
         "types" => add_tuple(out, fields, Form::Type),
         "bound" => add_tuple(out, fields, Form::Bound),
         "lent" => add_tuple(out, fields, Form::Lent),
+        "shown" => add_tuple(out, fields, Form::InClause),
+        "value" => add_tuple(out, fields, Form::OfValue),
         "made" => add_made(out, variant.brackets, fields),
-        "shown" => add_value(out, fields, Form::InClause),
-        _ => add_blank(out, item, name),
+        "selector" => out.add_selector(filling.field_at(), fields.len()),
+        _ => match fields.get(filling.field_at()) {
+            Some(field) => add_field_blank(out, filling, field, word),
+            None => add_name(out, item, word),
+        },
+    }
+}
+
+/// Adds what fills a blank for a field.
+fn add_field_blank(out: &mut Text, filling: &Filling<'_, '_>, field: &Field<'_>, word: &str) {
+    let at = filling.field_at();
+    let count = filling.of_variant().len();
+    match word {
+        "field" => add_field(out, field, at, count, Form::Bound),
+        "field_in_clause" => add_field(out, field, at, count, Form::InClause),
+        _ => add_name(out, filling.item, word),
     }
 }

@@ -1,7 +1,7 @@
 //! What is left of some tokens while they are read from the front.
 
 use crate::error::{Fault, MISSING, NO_MARK, Refusal, UNCLOSED};
-use crate::tokens::{Place, Token, is_word};
+use crate::tokens::{Place, Token, is_listed, is_word};
 use std::alloc::{AllocError, Global};
 
 /// Some tokens, and how many of them were taken. Once something is refused, or memory is, no token is left, and
@@ -75,23 +75,23 @@ impl<'t> Cursor<'t> {
     pub fn name(&mut self) -> Token<'t> {
         let token = self.take();
         if !is_word(token.text) {
-            self.refuse(Refusal::new(token.place, MISSING, "a name"));
+            self.refuse(token.place, MISSING, "a name");
         }
         token
     }
 
     /// Takes this mark, which has to come next.
-    pub fn mark(&mut self, mark: &'static str) {
+    pub fn mark(&mut self, mark: &'t str) {
         let place = self.token().place;
         if !self.takes(mark) {
-            self.refuse(Refusal::new(place, NO_MARK, mark));
+            self.refuse(place, NO_MARK, mark);
         }
     }
 
-    /// Refuses something.
-    pub fn refuse(&mut self, refusal: Refusal<'t>) {
+    /// Refuses something: this is said of a word at this place.
+    pub fn refuse(&mut self, place: Place, says: &'static str, word: &'t str) {
         if self.refusal.is_none() {
-            self.refusal = Some(refusal);
+            self.refusal = Some(Refusal::new(place, says, word));
         }
         self.taken = self.tokens.len();
     }
@@ -119,12 +119,12 @@ impl<'t> Cursor<'t> {
     pub fn skip_group(&mut self, opened: Place) {
         let mut depth = 1u64;
         for _ in self.taken..self.tokens.len() {
-            depth = depth_after(depth, self.take().text);
+            depth = depth_after(depth, self.take().text, "( [ {", ") ] }");
             if depth == 0 {
                 return;
             }
         }
-        self.refuse(Refusal::new(opened, UNCLOSED, ""));
+        self.refuse(opened, UNCLOSED, "");
     }
 
     /// Takes a bracket with all that it holds, if one comes next.
@@ -143,7 +143,7 @@ impl<'t> Cursor<'t> {
         let mut depth = 1u64;
         for _ in start..tokens.len() {
             let text = self.text();
-            let after = type_depth_after(depth, text);
+            let after = depth_in_type(depth, text);
             if after == 0 || depth == 1 && (&*ends).contains(&text) {
                 break;
             }
@@ -154,25 +154,23 @@ impl<'t> Cursor<'t> {
     }
 }
 
-/// How many brackets are open after a token.
-fn depth_after(depth: u64, token: &str) -> u64 {
-    match token {
-        "(" | "[" | "{" => depth.saturating_add(1),
-        ")" | "]" | "}" => depth.saturating_sub(1),
-        _ => depth,
+/// How many brackets are open after a token, where these open and close them.
+fn depth_after(depth: u64, token: &str, opening: &str, closing: &str) -> u64 {
+    if is_listed(token, opening) {
+        depth.saturating_add(1)
+    } else if is_listed(token, closing) {
+        depth.saturating_sub(1)
+    } else {
+        depth
     }
 }
 
-/// How many are open after a token of a type, which has brackets `<` and `>` too.
-fn type_depth_after(depth: u64, token: &str) -> u64 {
-    match token {
-        "<" => depth.saturating_add(1),
-        ">" => depth.saturating_sub(1),
-        _ => depth_after(depth, token),
-    }
+/// How many brackets are open after a token of a type.
+pub fn depth_in_type(depth: u64, token: &str) -> u64 {
+    depth_after(depth, token, "( [ { <", ") ] } >")
 }
 
 /// Whether a token opens a bracket.
 pub fn is_opening(token: &str) -> bool {
-    matches!(token, "(" | "[" | "{")
+    is_listed(token, "( [ {")
 }

@@ -1,119 +1,155 @@
 //! What stands before the brace of an `impl`: parameters, bounds, trait and type.
 
-use crate::blanks::fill;
 use crate::items::{Item, Param};
 use crate::laws::is_among;
+use crate::names::{add_name, add_names};
 use crate::text::Text;
-use crate::tokens::Token;
+use crate::tokens::{Token, is_listed};
 
-/// Adds the head of an `impl` of a trait, up to its brace. `before` are parameters of the trait's own, and `bound` is
-/// what the trait asks of each part. All three are templates.
-pub fn add_head(out: &mut Text, item: &Item<'_>, before: &str, of: &str, bound: &str) {
+/// The head of the `impl` of a trait. All but the name are texts with blanks for names.
+#[derive(Clone, Copy)]
+struct Head<'h> {
+    /// What templates call it.
+    name: &'h str,
+    /// Parameters of the trait's own.
+    params: &'h str,
+    /// The trait.
+    of: &'h str,
+    /// What the trait asks of each part.
+    bound: &'h str,
+}
+
+/// The heads that are more than the name of a trait, which is also what it asks of each part.
+const HEADS: [Head<'static>; 10] = [
+    Head {
+        name: "HasParts",
+        params: "",
+        of: "HasParts<$parts$>",
+        bound: "",
+    },
+    Head {
+        name: "FromParts",
+        params: "",
+        of: "FromParts<$parts$>",
+        bound: "",
+    },
+    Head {
+        name: "Named",
+        params: "",
+        of: "Named",
+        bound: "",
+    },
+    Head {
+        name: "Sum",
+        params: "",
+        of: "Sum<$parts$>",
+        bound: "Wire",
+    },
+    Head {
+        name: "Enum",
+        params: "",
+        of: "Enum",
+        bound: "Wire",
+    },
+    Head {
+        name: "Decode",
+        params: "$Context$: Drop",
+        of: "Decode<$Context$>",
+        bound: "Decode<$Context$>",
+    },
+    Head {
+        name: "DecodeVariants",
+        params: "$Context$: Drop",
+        of: "DecodeVariants<$Context$>",
+        bound: "Decode<$Context$>",
+    },
+    Head {
+        name: "BorrowDecode",
+        params: "$Context$: Drop",
+        of: "BorrowDecode<&$lifetime$ [u8], $Context$>",
+        bound: "BorrowDecode<&$lifetime$ [u8], $Context$>",
+    },
+    Head {
+        name: "BorrowDecodeVariants",
+        params: "$Context$: Drop",
+        of: "BorrowDecodeVariants<&$lifetime$ [u8], $Context$>",
+        bound: "",
+    },
+    // For a type without a lifetime.
+    Head {
+        name: "lent BorrowDecode",
+        params: "$B$: BorrowedBytes, $Context$: Drop",
+        of: "BorrowDecode<$B$, $Context$>",
+        bound: "Decode<$Context$>",
+    },
+];
+
+/// The head of this name.
+fn head_of(name: &str) -> Head<'_> {
+    for head in HEADS.iter() {
+        if head.name == name {
+            return *head;
+        }
+    }
+    Head {
+        name,
+        params: "",
+        of: name,
+        bound: name,
+    }
+}
+
+/// Adds the head of the `impl` of a trait, up to its brace.
+pub fn add_head(out: &mut Text, item: &Item<'_>, name: &str) {
+    let head = head_of(name);
     out.add("impl");
-    add_params(out, item, before, bound);
+    if item.is_borrowing() || item.is_generic() || !head.params.is_empty() {
+        add_params(out, item, &head);
+    }
     out.add(" ");
-    fill(out, item, of);
+    add_names(out, item, head.of);
     out.add(" for ");
-    add_itself(out, item);
-    add_wheres(out, item, bound);
-}
-
-/// Adds a type with its arguments.
-pub fn add_itself(out: &mut Text, item: &Item<'_>) {
-    out.add(item.name.text);
-    add_arguments(out, item);
-}
-
-/// Adds the type of the parts of a type with its arguments.
-pub fn add_parts(out: &mut Text, item: &Item<'_>) {
-    out.add(item.name.text);
-    out.add("Parts");
-    add_arguments(out, item);
-}
-
-/// Adds what the path of a function of a type begins with, whose name ends in this.
-pub fn add_path(out: &mut Text, item: &Item<'_>, ending: &str) {
-    let is_generic = item.is_generic();
-    out.add(if is_generic { "<" } else { "" });
-    out.add(item.name.text);
-    out.add(ending);
-    if is_generic {
-        add_arguments(out, item);
-        out.add(">");
-    }
-}
-
-/// Adds the arguments of a type, as `<'a, K>`, or nothing.
-fn add_arguments(out: &mut Text, item: &Item<'_>) {
-    let mut is_first = add_lifetime(out, item);
-    for param in item.params.iter() {
-        open_or_part(out, is_first);
-        out.add(param.name);
-        is_first = false;
-    }
-    close(out, is_first);
-}
-
-/// Adds the lifetime of a type as the first part in angle brackets, and hands out whether there is none.
-fn add_lifetime(out: &mut Text, item: &Item<'_>) -> bool {
-    let is_first = item.lifetime.is_empty();
-    if !is_first {
-        out.add("<");
-        out.add(item.lifetime);
-    }
-    is_first
-}
-
-/// Adds what stands before a part in angle brackets.
-pub fn open_or_part(out: &mut Text, is_first: bool) {
-    out.add(if is_first { "<" } else { ", " });
-}
-
-/// Adds the bracket that closes angle brackets, unless they have no part.
-pub fn close(out: &mut Text, is_empty: bool) {
-    if !is_empty {
-        out.add(">");
-    }
+    add_name(out, item, "itself");
+    add_wheres(out, item, head.bound);
 }
 
 /// Adds the parameters of an `impl`: the lifetime, the trait's own, and those of the type with their bounds.
-fn add_params(out: &mut Text, item: &Item<'_>, before: &str, bound: &str) {
-    let mut is_first = add_lifetime(out, item);
-    if !before.is_empty() {
-        open_or_part(out, is_first);
-        fill(out, item, before);
-        is_first = false;
+fn add_params(out: &mut Text, item: &Item<'_>, head: &Head<'_>) {
+    out.add("<");
+    out.add(item.lifetime);
+    if !head.params.is_empty() {
+        out.add_comma();
+        add_names(out, item, head.params);
     }
     for param in item.params.iter() {
-        open_or_part(out, is_first);
-        add_bounded(out, item, param, bound);
-        is_first = false;
+        out.add_comma();
+        add_bounded(out, item, param, head.bound);
     }
-    close(out, is_first);
+    out.add(">");
 }
 
 /// Adds a parameter with its bounds: those of its type, and what a trait asks of it.
 fn add_bounded(out: &mut Text, item: &Item<'_>, param: &Param<'_>, bound: &str) {
     out.add(param.name);
-    let mut is_first = add_own_bound(out, param.bounds, true);
+    let mut before = ": ";
+    if !param.bounds.is_empty() {
+        out.add(before);
+        out.add_type(param.bounds);
+        before = " + ";
+    }
     for own in item.wheres.iter() {
-        is_first = add_own_bound(out, own.bounds_of(param.name), is_first);
+        let bounds = own.bounds_of(param.name);
+        if !bounds.is_empty() {
+            out.add(before);
+            out.add_type(bounds);
+            before = " + ";
+        }
     }
-    let more = asked_of(item, param, bound);
-    if !is_told(item, param, more) {
-        out.add(if is_first { ": " } else { " + " });
-        fill(out, item, more);
+    let asked = asked_of(item, param, bound);
+    if !is_told(item, param, asked) {
+        out.add(before);
+        add_names(out, item, asked);
     }
-}
-
-/// Adds what a type says of a parameter, if that is anything, and hands out whether another bound would be the first.
-fn add_own_bound(out: &mut Text, own: &[Token<'_>], is_first: bool) -> bool {
-    if own.is_empty() {
-        return is_first;
-    }
-    out.add(if is_first { ": " } else { " + " });
-    out.add_type(own);
-    false
 }
 
 /// Whether an enum is written variant by variant. One of which a note asks what stands for a sum alone is written as
@@ -128,17 +164,14 @@ pub fn is_by_variants(item: &Item<'_>) -> bool {
     item.is_enum && !is_sum && !item.variants.is_empty()
 }
 
-/// What a trait asks of a parameter: its bound where the parameter is a field, and else what it takes to hold it.
+/// What a trait asks of a parameter: its bound where the parameter is a field, or stands in a list or a box that is
+/// one, and else what it takes to hold it.
 fn asked_of<'b>(item: &Item<'_>, param: &Param<'_>, bound: &'b str) -> &'b str {
-    if stands_alone(item, param) {
-        bound
-    } else {
-        asked_beside(bound)
+    for field in item.fields.iter() {
+        if is_direct(item, field.of) && is_among(field.of, param.name) {
+            return bound;
+        }
     }
-}
-
-/// What a trait asks of a parameter that is no field.
-fn asked_beside(bound: &str) -> &'static str {
     if bound.starts_with("Encode") || bound.starts_with("Decode") || bound.starts_with("Borrow") {
         "Drop"
     } else if bound.starts_with("Exact") {
@@ -165,11 +198,17 @@ fn has_bound(item: &Item<'_>, param: &Param<'_>, bound: &str) -> bool {
     is_among(param.bounds, bound)
 }
 
-/// Adds the bounds of a `where`, and the brace: those of the type, and those on the types of fields that hold a
-/// parameter in another type.
+/// Adds the bounds of a `where`, and the brace: those of the type that are on no parameter, and those on the types of
+/// fields that hold a parameter in another type.
 fn add_wheres(out: &mut Text, item: &Item<'_>, bound: &str) {
     let mut lines = out.beside();
-    add_own_wheres(&mut lines, item);
+    for own in item.wheres.iter() {
+        if !item.is_param(own.subject()) {
+            lines.add("    ");
+            lines.add_type(own.tokens);
+            lines.add(",\n");
+        }
+    }
     if !bound.is_empty() {
         add_bounds(&mut lines, item, bound);
     }
@@ -179,17 +218,6 @@ fn add_wheres(out: &mut Text, item: &Item<'_>, bound: &str) {
         out.add("\nwhere\n");
         out.add_text(&lines);
         out.add("{\n");
-    }
-}
-
-/// Adds a line for each bound of the `where` of a type that is on no parameter.
-fn add_own_wheres(lines: &mut Text, item: &Item<'_>) {
-    for own in item.wheres.iter() {
-        if !item.is_param(own.subject()) {
-            lines.add("    ");
-            lines.add_type(own.tokens);
-            lines.add(",\n");
-        }
     }
 }
 
@@ -209,21 +237,11 @@ fn add_bound(lines: &mut Text, item: &Item<'_>, of: &[Token<'_>], bound: &str) {
     line.add("    ");
     line.add_type(of);
     line.add(": ");
-    fill(&mut line, item, bound);
+    add_names(&mut line, item, bound);
     line.add(",\n");
     if !lines.as_str().contains(line.as_str()) {
         lines.add_text(&line);
     }
-}
-
-/// Whether a parameter is a field, or stands in a list or a box that is one: then it has the bound itself.
-fn stands_alone(item: &Item<'_>, param: &Param<'_>) -> bool {
-    for field in item.fields.iter() {
-        if is_direct(item, field.of) && is_among(field.of, param.name) {
-            return true;
-        }
-    }
-    false
 }
 
 /// Whether some type parameter stands in the type of a field.
@@ -239,14 +257,9 @@ fn holds_any(item: &Item<'_>, of: &[Token<'_>]) -> bool {
 /// Whether nothing but parameters, lists and boxes stands in the type of a field.
 fn is_direct(item: &Item<'_>, of: &[Token<'_>]) -> bool {
     for word in of.iter() {
-        if !is_list_or_box(word.text) && !item.has_param(word.text) {
+        if !is_listed(word.text, "Vec Box < >") && !item.has_param(word.text) {
             return false;
         }
     }
     true
-}
-
-/// Whether a token stands in the type of a list or a box, beside that of what it holds.
-fn is_list_or_box(token: &str) -> bool {
-    matches!(token, "Vec" | "Box" | "<" | ">")
 }

@@ -3,7 +3,7 @@
 use crate::laws::{Keeps, is_among};
 use crate::notes::Marks;
 use crate::text::{text_at, text_before};
-use crate::tokens::{Place, Token};
+use crate::tokens::{Place, Token, is_listed};
 
 /// A field: its name, which it has none of in a tuple, and its type.
 #[derive(Clone, Copy)]
@@ -142,7 +142,7 @@ impl<'t> Item<'t> {
 
 /// Whether the names after this, at the front of a path, are those of the library or of the source.
 pub fn is_known(front: &str) -> bool {
-    matches!(front, "self" | "std" | "core" | "alloc" | "bincode")
+    is_listed(front, "self std core alloc bincode")
 }
 
 /// What stands in a source.
@@ -161,7 +161,7 @@ impl Source<'_> {
     /// Whether the path that ends at this place of a type leads into the standard library.
     pub fn is_of_std(&self, of: &[Token<'_>], at: usize) -> bool {
         let first = path_start(of, at);
-        matches!(first, "std" | "core" | "alloc") || self.std_names.as_slice().contains(&first)
+        is_listed(first, "std core alloc") || self.std_names.as_slice().contains(&first)
     }
 
     /// Whether a type is `Drop` or `Copy`, by a derive or an `impl`.

@@ -1,8 +1,9 @@
 //! Which laws a type keeps, by the names that stand in the types of its fields.
 
+use crate::cursor::depth_in_type;
 use crate::items::{Item, Source};
 use crate::text::text_at;
-use crate::tokens::Token;
+use crate::tokens::{Token, is_listed};
 
 /// What is written for a type beside its words.
 #[derive(Clone, Copy)]
@@ -18,37 +19,22 @@ pub struct Keeps {
 /// source's is taken to keep all: where it does not, the prover refuses the `impl`.
 pub fn find_kept(source: &mut Source<'_>) {
     let count = source.items.len();
-    for at in 0..count {
-        let keeps = first_keeps_at(source, at);
-        set_keeps(source, at, keeps);
-    }
-    // What one type lacks, those that hold it lack: as many rounds as there are types are enough.
-    for _ in 0..count {
+    // What one type lacks, those that hold it lack: as many rounds as there are types are enough, after a first one.
+    for round in 0..=count {
         for at in 0..count {
-            let keeps = next_keeps_at(source, at);
-            set_keeps(source, at, keeps);
+            let keeps = keeps_at(source, at, round);
+            if let Some(item) = source.items.get_mut(at) {
+                item.keeps = keeps;
+            }
         }
     }
 }
 
-/// Says what the type at this place keeps.
-fn set_keeps(source: &mut Source<'_>, at: usize, keeps: Keeps) {
-    if let Some(item) = source.items.get_mut(at) {
-        item.keeps = keeps;
-    }
-}
-
-/// What the type at this place keeps by its derives and its notes alone.
-fn first_keeps_at(source: &Source<'_>, at: usize) -> Keeps {
+/// What the type at this place keeps by its derives and its notes alone, and after the first round, if those that it
+/// holds keep what they say.
+fn keeps_at(source: &Source<'_>, at: usize, round: usize) -> Keeps {
     match source.items.get(at) {
-        Some(item) => first_keeps(source, item),
-        None => NOTHING,
-    }
-}
-
-/// What the type at this place keeps, if those that it holds keep what they say.
-fn next_keeps_at(source: &Source<'_>, at: usize) -> Keeps {
-    match source.items.get(at) {
+        Some(item) if round == 0 => first_keeps(source, item),
         Some(item) => next_keeps(source, item),
         None => NOTHING,
     }
@@ -111,11 +97,8 @@ pub const NOTHING: Keeps = Keeps {
 /// What a name of the library keeps. A heap has no `==`, and others are equal by more than what is written of them: a
 /// range by whether it is exhausted, and an address of version 6 by its flow and its scope.
 fn library_keeps(name: &str) -> Keeps {
-    let is_plain = !matches!(name, "Cell" | "RefCell");
-    let is_not_exact = matches!(
-        name,
-        "BinaryHeap" | "RangeInclusive" | "SocketAddr" | "SocketAddrV6"
-    );
+    let is_plain = !is_listed(name, "Cell RefCell");
+    let is_not_exact = is_listed(name, "BinaryHeap RangeInclusive SocketAddr SocketAddrV6");
     Keeps {
         plain: is_plain,
         exact: is_plain && !is_not_exact,
@@ -138,31 +121,26 @@ fn has_inexact_keys(source: &Source<'_>, item: &Item<'_>) -> bool {
 /// Whether a set or a map whose keys are not exact stands in a type.
 fn is_inexactly_keyed(source: &Source<'_>, of: &[Token<'_>]) -> bool {
     for at in 0..of.len() {
-        if is_keyed(text_at(of, at)) && !is_exact_key(source, of, at) {
+        if is_listed(text_at(of, at), KEYED) && !is_exact_key(source, of, at) {
             return true;
         }
     }
     false
 }
 
-/// Whether a name is that of a set or a map.
-fn is_keyed(name: &str) -> bool {
-    matches!(name, "BTreeMap" | "BTreeSet" | "HashMap" | "HashSet")
-}
+/// The sets and maps.
+const KEYED: &str = "BTreeMap BTreeSet HashMap HashSet";
 
 /// Whether all that stands in the key of the set or map at this place is exact.
 fn is_exact_key(source: &Source<'_>, of: &[Token<'_>], at: usize) -> bool {
     let mut depth = 0u64;
     for word in of.iter().skip(at.saturating_add(1)) {
-        let text = word.text;
-        match text {
-            "<" | "(" | "[" => depth = depth.saturating_add(1),
-            ">" | ")" | "]" => depth = depth.saturating_sub(1),
-            "," if depth <= 1 => return true,
-            _ => {}
+        depth = depth_in_type(depth, word.text);
+        if depth == 0 || depth == 1 && word.text == "," {
+            return true;
         }
-        if depth == 0 || !keeps_of(source, text).exact {
-            return depth == 0;
+        if !keeps_of(source, word.text).exact {
+            return false;
         }
     }
     true

@@ -1,5 +1,6 @@
 //! Lines as `rt fmt` lays them out: one that is too long is broken where a list stands in brackets.
 
+use crate::clauses::add_clause;
 use crate::text::Text;
 use crate::tokens::is_of_word;
 use std::alloc::{AllocError, Global};
@@ -69,12 +70,12 @@ impl Lines {
         }
     }
 
-    /// Adds a part of a list, which stands one step further in than this, in a line of its own.
-    fn add_part(&mut self, indent: &str, part: &str, context: Context) {
+    /// Adds a text and what ends it, one step further in than this, in a line of its own.
+    fn add_within(&mut self, indent: &str, text: &str, end: &str, context: Context) {
         let mut line = Text::new(self.alloc);
         line.add("    ");
-        line.add(part);
-        line.add(",");
+        line.add(text);
+        line.add(end);
         self.add(indent, line.as_str(), context);
     }
 }
@@ -84,7 +85,9 @@ pub fn laid_out(alloc: Global, text: &str) -> Result<String, AllocError> {
     let mut laid = Text::new(alloc);
     let mut is_whole = true;
     for line in text.lines() {
-        if !lay_line(&mut laid, alloc, line) {
+        if line.trim_start().starts_with("ghost ") {
+            add_clause(&mut laid, line);
+        } else if !lay_line(&mut laid, alloc, line) {
             is_whole = false;
         }
     }
@@ -155,13 +158,8 @@ fn break_line(lines: &mut Lines, text: &str, context: Context) {
 fn is_never_broken(code: &str) -> bool {
     code.starts_with('|')
         || code.starts_with('⟦')
-        || code.starts_with("ghost ")
         || code.starts_with("//")
         || code.starts_with("ensures ")
-        || code.starts_with("(or_else ")
-        || code.starts_with("(by ")
-        || code.starts_with("(λ ")
-        || code.starts_with("no_more")
 }
 
 /// Where the pattern of a line ends, of a `let` or an arm. 0 if there is none.
@@ -172,28 +170,41 @@ fn pattern_end(text: &str) -> usize {
     text.find(" => ").unwrap_or(0)
 }
 
-/// A bracket in a line: where it opens, and where it closes.
+/// A bracket in a line.
 #[derive(Clone, Copy)]
-struct Group {
+struct Group<'t> {
+    /// Where it opens, and where it closes.
     open: usize,
     close: usize,
+    /// What opens it.
+    mark: char,
+    /// What it holds.
+    held: &'t str,
 }
 
 /// The first bracket of a line behind this place that stands in no other, and is closed in the line.
-fn group_from(text: &str, from: usize) -> Option<Group> {
+fn group_from(text: &str, from: usize) -> Option<Group<'_>> {
     let mut depth = 0u64;
     let mut open = 0;
+    let mut mark = ' ';
     let mut before = ' ';
     for (at, c) in text.char_indices() {
         if at >= from && is_opening(c) {
             if depth == 0 {
                 open = at;
+                mark = c;
             }
             depth = depth.saturating_add(1);
         } else if depth > 0 && is_closing(before, c) {
             depth = depth.saturating_sub(1);
             if depth == 0 {
-                return Some(Group { open, close: at });
+                let held = text.get(open.saturating_add(1)..at).unwrap_or("");
+                return Some(Group {
+                    open,
+                    close: at,
+                    mark,
+                    held,
+                });
             }
         }
         before = c;
@@ -214,30 +225,19 @@ fn is_closing(before: char, c: char) -> bool {
     }
 }
 
-/// What a bracket holds.
-fn held_by(text: &str, group: Group) -> &str {
-    text.get(group.open.saturating_add(1)..group.close)
-        .unwrap_or("")
-}
-
 /// Whether the pattern of a line does not fit into a line.
 fn has_long_pattern(text: &str) -> bool {
     pattern_end(text) > 0 && cut_of(text) > LINE_WIDTH
 }
 
-/// What stands from where a bracket opens.
-fn from_bracket(text: &str, group: Group) -> &str {
-    text.get(group.open..).unwrap_or("")
-}
-
 /// The first bracket that is too wide to stand in one line, however short the line is.
-fn wide_group(text: &str, context: Context) -> Option<Group> {
+fn wide_group(text: &str, context: Context) -> Option<Group<'_>> {
     let mut from = 0;
     for _ in 0..u64::MAX {
         let group = group_from(text, from)?;
         let is_pattern = matches!(context, Context::Pattern) || group.open < pattern_end(text);
-        let inner = innermost(text, group, is_pattern);
-        if is_wide(text, inner, is_pattern) {
+        let inner = innermost(group, is_pattern);
+        if is_wide(inner, is_pattern) {
             return Some(inner);
         }
         from = group.close;
@@ -246,19 +246,20 @@ fn wide_group(text: &str, context: Context) -> Option<Group> {
 }
 
 /// The bracket that is broken in place of another, which holds one struct or one call alone.
-fn innermost(text: &str, group: Group, is_pattern: bool) -> Group {
-    let held = held_by(text, group);
-    match group_from(held, 0) {
-        Some(only) if !is_pattern && is_lone(held, only) => Group {
+fn innermost(group: Group<'_>, is_pattern: bool) -> Group<'_> {
+    match group_from(group.held, 0) {
+        Some(only) if !is_pattern && is_lone(group.held, only) => Group {
             open: group.open.saturating_add(only.open).saturating_add(1),
             close: group.open.saturating_add(only.close).saturating_add(1),
+            mark: only.mark,
+            held: only.held,
         },
         _ => group,
     }
 }
 
 /// Whether a text is one struct or one call, to which this bracket belongs.
-fn is_lone(text: &str, group: Group) -> bool {
+fn is_lone(text: &str, group: Group<'_>) -> bool {
     let name = text.get(..group.open).unwrap_or("").trim_end();
     group.close.saturating_add(1) == text.len() && is_path(name)
 }
@@ -274,49 +275,30 @@ fn is_path(text: &str) -> bool {
 }
 
 /// Whether a bracket is too wide to stand in one line. The tuple of a pattern may be as wide as the line.
-fn is_wide(text: &str, group: Group, is_pattern: bool) -> bool {
-    let held = held_by(text, group);
-    let bracket = from_bracket(text, group);
-    if bracket.starts_with('{') {
-        return held.trim().len() > FIELDS_WIDTH;
+fn is_wide(group: Group<'_>, is_pattern: bool) -> bool {
+    match group.mark {
+        '{' => group.held.trim().len() > FIELDS_WIDTH,
+        _ if is_pattern => false,
+        '(' => group.held.len() > LIST_WIDTH,
+        _ => holds_wide_tuple(group.held),
     }
-    if is_pattern {
-        return false;
-    }
-    if bracket.starts_with('(') {
-        return held.len() > LIST_WIDTH;
-    }
-    holds_wide_tuple(held)
 }
 
 /// Whether a tuple stands in a text that is too wide to stand in one line.
 fn holds_wide_tuple(text: &str) -> bool {
     for (at, c) in text.char_indices() {
-        if c == '(' && tuple_size(text, at) > LIST_WIDTH {
+        if c == '('
+            && let Some(tuple) = group_from(text, at)
+            && tuple.held.len() > LIST_WIDTH
+        {
             return true;
         }
     }
     false
 }
 
-/// How many bytes the tuple holds that opens at this place. 0 if it is not closed.
-fn tuple_size(text: &str, open: usize) -> usize {
-    let mut depth = 0u64;
-    for (at, c) in text.char_indices() {
-        if at >= open && c == '(' {
-            depth = depth.saturating_add(1);
-        } else if at >= open && c == ')' {
-            depth = depth.saturating_sub(1);
-            if depth == 0 {
-                return at.saturating_sub(open).saturating_sub(1);
-            }
-        }
-    }
-    0
-}
-
 /// Adds the lines of a bracket that is too wide. What stands before it is cut off where it leaves it no room.
-fn break_wide(lines: &mut Lines, text: &str, group: Group, context: Context) {
+fn break_wide(lines: &mut Lines, text: &str, group: Group<'_>, context: Context) {
     let cut = cut_of(text);
     if cut < group.open && group.open >= LINE_WIDTH {
         break_at(lines, text, cut);
@@ -326,39 +308,38 @@ fn break_wide(lines: &mut Lines, text: &str, group: Group, context: Context) {
 }
 
 /// Adds the lines of a bracket: what stands before it, its parts, and what stands behind it.
-fn break_group(lines: &mut Lines, text: &str, group: Group, context: Context) {
+fn break_group(lines: &mut Lines, text: &str, group: Group<'_>, context: Context) {
     let within = if group.open < pattern_end(text) {
         Context::Pattern
     } else {
         context
     };
-    let held = held_by(text, group);
-    let is_call = from_bracket(text, group).starts_with('(') && matches!(within, Context::Code);
+    let is_call = group.mark == '(' && matches!(within, Context::Code);
     let indent = indent_of(text);
     let front = text.get(..group.open.saturating_add(1)).unwrap_or(text);
     lines.add("", front, context);
-    if is_call && are_short(held) {
-        add_filled(lines, indent, held, LINE_WIDTH);
+    if is_call && are_short(group.held) {
+        add_filled(lines, indent, group.held, LINE_WIDTH);
     } else {
-        add_each(lines, indent, held, within);
+        add_each(lines, indent, group.held, within);
     }
     add_tail(lines, text, group, context);
 }
 
 /// The parts of a text between the commas that stand in no brackets.
 #[derive(Drop)]
-struct Parts<'t> {
+pub struct Parts<'t> {
     text: &'t str,
     from: usize,
 }
 
 impl<'t> Parts<'t> {
-    fn new(text: &'t str) -> Parts<'t> {
+    pub fn new(text: &'t str) -> Parts<'t> {
         Parts { text, from: 0 }
     }
 
     /// The part that comes next. What stands behind the last comma is none if it is empty.
-    fn take(&mut self) -> Option<&'t str> {
+    pub fn take(&mut self) -> Option<&'t str> {
         let text = self.text;
         let end = part_end(text, self.from);
         let part = text.get(self.from..end).unwrap_or("").trim();
@@ -411,34 +392,20 @@ fn add_each(lines: &mut Lines, indent: &str, text: &str, context: Context) {
         let Some(part) = parts.take() else {
             break;
         };
-        lines.add_part(indent, part, context);
-    }
-}
-
-/// Adds the parts of a text that stands in brackets, each in a line of its own.
-pub fn add_list(out: &mut Text, indent: &str, text: &Text) {
-    let text = text.as_str();
-    let held = text.get(1..text.len().saturating_sub(1)).unwrap_or("");
-    let mut parts = Parts::new(held);
-    for _ in 0..u64::MAX {
-        let Some(part) = parts.take() else {
-            break;
-        };
-        out.add(indent);
-        out.add(part);
-        out.add(",\n");
+        lines.add_within(indent, part, ",", context);
     }
 }
 
 /// Adds the parts of a text in lines that are as long as they may be, of this many bytes.
 fn add_filled(lines: &mut Lines, indent: &str, text: &str, width: usize) {
+    let room = width.saturating_sub(indent.len()).saturating_sub(2);
     let mut filled = Text::new(lines.alloc);
     let mut parts = Parts::new(text);
     for _ in 0..u64::MAX {
         let Some(part) = parts.take() else {
             break;
         };
-        if filled.as_str().len().saturating_add(part.len()) > room_of(indent, width) {
+        if filled.as_str().len().saturating_add(part.len()) > room {
             lines.add(indent, filled.as_str(), Context::Pattern);
             filled.clear();
         }
@@ -454,29 +421,16 @@ fn add_filled(lines: &mut Lines, indent: &str, text: &str, width: usize) {
     lines.is_whole = lines.is_whole && filled.is_whole();
 }
 
-/// How many bytes of this many an indent, a space and a comma leave.
-fn room_of(indent: &str, width: usize) -> usize {
-    width.saturating_sub(indent.len()).saturating_sub(2)
-}
-
 /// Adds what stands behind a bracket. A call of a method stands in a line of its own where the bracket is wide.
-fn add_tail(lines: &mut Lines, text: &str, group: Group, context: Context) {
+fn add_tail(lines: &mut Lines, text: &str, group: Group<'_>, context: Context) {
     let indent = indent_of(text);
     let tail = text.get(group.close..).unwrap_or("");
-    if tail.starts_with(").") && held_by(text, group).len() > LIST_WIDTH {
+    if tail.starts_with(").") && group.held.len() > LIST_WIDTH {
         lines.add(indent, ")", context);
-        add_call(lines, indent, tail.get(1..).unwrap_or(""), context);
+        lines.add_within(indent, tail.get(1..).unwrap_or(""), "", context);
     } else {
         lines.add(indent, tail, context);
     }
-}
-
-/// Adds a call of a method that stands one step further in than this.
-fn add_call(lines: &mut Lines, indent: &str, call: &str, context: Context) {
-    let mut line = Text::new(lines.alloc);
-    line.add("    ");
-    line.add(call);
-    lines.add(indent, line.as_str(), context);
 }
 
 /// The spaces at the front of a line.
@@ -510,11 +464,11 @@ fn break_head(lines: &mut Lines, text: &str) {
 }
 
 /// The bracket with the parameters in the head of a function.
-fn params_of(text: &str) -> Option<Group> {
+fn params_of(text: &str) -> Option<Group<'_>> {
     let mut from = 0;
     for _ in 0..u64::MAX {
         let group = group_from(text, from)?;
-        if from_bracket(text, group).starts_with('(') {
+        if group.mark == '(' {
             return Some(group);
         }
         from = group.close;
@@ -531,14 +485,16 @@ fn break_long(lines: &mut Lines, text: &str, context: Context) {
 }
 
 /// The bracket at which a line that is too long is broken: in its pattern if that is too long, and else the longest.
-fn long_group(text: &str) -> Option<Group> {
+fn long_group(text: &str) -> Option<Group<'_>> {
     let mut longest = None;
+    let mut size = 0usize;
     let mut from = 0;
     for _ in 0..u64::MAX {
         let Some(group) = group_from(text, from) else {
             break;
         };
-        if may_break(text, group) && is_longer(text, group, longest) {
+        if may_break(text, group) && group.held.len() > size {
+            size = group.held.len();
             longest = Some(group);
         }
         from = group.close;
@@ -547,9 +503,9 @@ fn long_group(text: &str) -> Option<Group> {
 }
 
 /// Whether a line that is too long may be broken at a bracket.
-fn may_break(text: &str, group: Group) -> bool {
+fn may_break(text: &str, group: Group<'_>) -> bool {
     let cut = cut_of(text);
-    if held_by(text, group).is_empty() || from_bracket(text, group).starts_with('[') {
+    if group.mark == '[' {
         return false;
     }
     let front = text.get(..group.open).unwrap_or("");
@@ -560,14 +516,6 @@ fn may_break(text: &str, group: Group) -> bool {
         return group.open < cut;
     }
     cut == text.len() || cut <= group.open && group.open < LINE_WIDTH
-}
-
-/// Whether a bracket holds more than another.
-fn is_longer(text: &str, group: Group, other: Option<Group>) -> bool {
-    match other {
-        Some(other) => held_by(text, group).len() > held_by(text, other).len(),
-        None => true,
-    }
 }
 
 /// Where a line may be cut: behind an arrow, or behind an equals sign. Its length if it has neither.
@@ -588,6 +536,6 @@ fn break_at(lines: &mut Lines, text: &str, at: usize) {
     lines.add("", front, Context::Code);
     let back = back.trim_start();
     if !back.is_empty() {
-        add_call(lines, indent_of(text), back, Context::Code);
+        lines.add_within(indent_of(text), back, "", Context::Code);
     }
 }

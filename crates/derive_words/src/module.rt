@@ -1,21 +1,20 @@
 //! The module that is written for the types of a source.
 
-use crate::decoding::add_lent_decode;
-use crate::enums::add_enum_impls;
+use crate::coding::{
+    DECODE, DECODE_BODY, DECODE_VARIANTS, ENCODE_ENUM, ENCODE_STRUCT, FROM_PARTS, LENT_DECODE,
+};
 use crate::error::{Fault, NO_TYPES, Refusal};
-use crate::heads::is_by_variants;
+use crate::filling::fill;
 use crate::items::{Item, Source};
+use crate::lawful::{LAWS, NOTED_LAWS};
 use crate::laws::find_kept;
 use crate::layout::laid_out;
-use crate::parts::{add_alias, add_shown};
 use crate::read::source_of;
 use crate::refusals::{holds_itself, refusal_of};
-use crate::structs::add_struct_impls;
+use crate::shown::{ENUM, ENUM_WORDS, PARTS, SHOWN, SUM, WORDS};
 use crate::text::Text;
 use crate::tokens::{Place, tokens_of};
 use crate::uses::add_uses;
-use crate::variants::add_enum_by_variants;
-use crate::wire::{add_laws, add_words};
 use std::alloc::{AllocError, Global};
 
 /// Where a source stands.
@@ -32,62 +31,80 @@ const GHOST_LINES: &str = "ghost use Rattle.std.specs.Prelude.{◌≡◌};
 ghost use Rattle.bincode.specs.TypeLaws.{CanonicalWords, ExactWords, PlainWords};
 ";
 
+/// What the module says of itself behind the name of the file.
+const SAID: &str =
+    "` are written as. Made from that file by the program `derive`, and not edited: run
+//! `derive` on the file again where its types change.
+";
+
+/// The line of the module's head that says which laws a type does not keep.
+const LEFT_OUT: &str = "\
+//! Left out of $name$: $if not plain$Plain$end$$if not exact$$,$Exact$end$$if not canonical$$,$Canonical$end$.
+";
+
+/// What is written for a type, one after the other.
+const IMPLS: [&str; 15] = [
+    PARTS,
+    SHOWN,
+    SUM,
+    WORDS,
+    ENUM_WORDS,
+    ENUM,
+    LAWS,
+    NOTED_LAWS,
+    ENCODE_STRUCT,
+    ENCODE_ENUM,
+    FROM_PARTS,
+    DECODE_VARIANTS,
+    DECODE,
+    DECODE_BODY,
+    LENT_DECODE,
+];
+
 /// The module for the types of a source. It stands below the module of the types, as `mod words;`.
 pub fn module_of(alloc: Global, origin: &Origin<'_>, text: &str) -> Result<String, Fault> {
     let tokens = tokens_of(alloc, text)?;
     let mut source = source_of(alloc, tokens.as_slice())?;
     find_kept(&mut source);
     refuse_any(alloc, &source)?;
-    let mut impls = Text::new(alloc);
+    Ok(written(alloc, origin, &source)?)
+}
+
+/// The module for what stands in a source, of which nothing is refused.
+fn written(alloc: Global, origin: &Origin<'_>, source: &Source<'_>) -> Result<String, AllocError> {
+    let impls = impls_of(alloc, origin, source)?;
     let mut module = Text::new(alloc);
-    add_module_head(&mut module, origin);
-    for item in source.items.iter() {
-        if !item.marks.is_skipped {
-            add_impls(&mut impls, origin, item);
-            add_left_out(&mut module, item);
-        }
-    }
-    module.add(ghost_lines(&source));
-    module.add("\n");
-    add_impls_used(&mut module, impls.whole()?.as_str())?;
-    Ok(laid_out(alloc, module.whole()?.as_str())?)
-}
-
-/// Fails where a type can't be written, or where none is to be.
-fn refuse_any(alloc: Global, source: &Source<'_>) -> Result<(), Fault> {
-    let mut is_empty = true;
-    for item in source.items.iter() {
-        if !item.marks.is_skipped {
-            is_empty = false;
-            let holds_itself = holds_itself(alloc, source, item)?;
-            if let Some(refusal) = refusal_of(source, item, holds_itself) {
-                return Err(refusal.fault(alloc)?);
-            }
-        }
-    }
-    if is_empty {
-        let place = Place { line: 1, column: 1 };
-        return Err(Refusal::new(place, NO_TYPES, "").fault(alloc)?);
-    }
-    Ok(())
-}
-
-/// Adds some `impl`s, and before them the `use` lines for what they name.
-fn add_impls_used(module: &mut Text, impls: &str) -> Result<(), AllocError> {
-    let tokens = tokens_of(module.alloc(), impls)?;
-    add_uses(module, tokens.as_slice());
+    add_front(&mut module, origin, source);
+    add_uses(&mut module, tokens_of(alloc, impls.as_str())?.as_slice());
     module.add("\n");
     module.add(impls.trim_end());
     module.add("\n");
-    Ok(())
+    laid_out(alloc, module.whole()?.as_str())
 }
 
-/// Adds what the module says of itself.
-fn add_module_head(out: &mut Text, origin: &Origin<'_>) {
+/// The aliases and the `impl`s of the types of a source.
+fn impls_of(alloc: Global, origin: &Origin<'_>, source: &Source<'_>) -> Result<String, AllocError> {
+    let mut impls = Text::new(alloc);
+    for item in source.items.iter() {
+        if !item.marks.is_skipped {
+            add_impls(&mut impls, item, origin.declared);
+        }
+    }
+    impls.whole()
+}
+
+/// Adds what stands before the `use` lines of the module.
+fn add_front(out: &mut Text, origin: &Origin<'_>, source: &Source<'_>) {
     out.add("//! What the types of `");
     out.add(origin.file_name);
-    out.add("` are written as. Made from that file by the program `derive`, and not edited: run\n");
-    out.add("//! `derive` on the file again where its types change.\n");
+    out.add(SAID);
+    for item in source.items.iter() {
+        if !item.marks.is_skipped {
+            add_left_out(out, item);
+        }
+    }
+    out.add(ghost_lines(source));
+    out.add("\n");
 }
 
 /// The imports of what types with a lifetime promise.
@@ -100,44 +117,44 @@ fn ghost_lines(source: &Source<'_>) -> &'static str {
     ""
 }
 
-/// Adds the alias and the `impl`s of a type.
-fn add_impls(out: &mut Text, origin: &Origin<'_>, item: &Item<'_>) {
-    add_alias(out, item);
-    add_shown(out, item, origin.declared);
-    add_words(out, item);
-    if is_by_variants(item) {
-        add_enum_by_variants(out, item, origin.declared);
-    }
-    add_laws(out, item);
-    match item.variants.first() {
-        Some(fields) if !item.is_enum => add_struct_impls(out, item, fields),
-        _ => add_enum_impls(out, item),
-    }
-    if item.keeps.is_lent && !item.is_borrowing() {
-        add_lent_decode(out, item);
+/// Fails where a type can't be written, or where none is to be.
+fn refuse_any(alloc: Global, source: &Source<'_>) -> Result<(), Fault> {
+    match first_refusal(alloc, source)? {
+        Some(refusal) => Err(refusal.fault(alloc)?),
+        None => Ok(()),
     }
 }
 
-/// Adds the line of the module's head that says which laws a type does not keep.
+/// What is refused of a source first, if anything is.
+fn first_refusal<'t>(
+    alloc: Global,
+    source: &Source<'t>,
+) -> Result<Option<Refusal<'t>>, AllocError> {
+    let place = Place { line: 1, column: 1 };
+    let mut refusal = Some(Refusal::new(place, NO_TYPES, ""));
+    for item in source.items.iter() {
+        if !item.marks.is_skipped {
+            let holds_itself = holds_itself(alloc, source, item)?;
+            refusal = refusal_of(source, item, holds_itself);
+            if refusal.is_some() {
+                break;
+            }
+        }
+    }
+    Ok(refusal)
+}
+
+/// Adds the line of the module's head that says which laws a type does not keep, if it does not keep all.
 fn add_left_out(out: &mut Text, item: &Item<'_>) {
     let keeps = item.keeps;
-    if keeps.plain && keeps.exact && keeps.canonical {
-        return;
+    if !keeps.plain || !keeps.exact || !keeps.canonical {
+        fill(out, item, "", LEFT_OUT);
     }
-    out.add("//! Left out of ");
-    out.add(item.name.text);
-    let is_first = add_left_law(out, keeps.plain, "Plain", true);
-    let is_first = add_left_law(out, keeps.exact, "Exact", is_first);
-    add_left_law(out, keeps.canonical, "Canonical", is_first);
-    out.add(".\n");
 }
 
-/// Adds the name of a law, unless it is kept, and hands out whether another would be the first.
-fn add_left_law(out: &mut Text, is_kept: bool, law: &str, is_first: bool) -> bool {
-    if is_kept {
-        return is_first;
+/// Adds the alias and the `impl`s of a type.
+fn add_impls(out: &mut Text, item: &Item<'_>, declared: &str) {
+    for template in IMPLS.iter() {
+        fill(out, item, declared, template);
     }
-    out.add(if is_first { ": " } else { ", " });
-    out.add(law);
-    false
 }

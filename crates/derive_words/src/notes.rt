@@ -1,7 +1,7 @@
 //! What stands above a type: what it derives, and notes to this program, as `// bincode: with Described, Writable`.
 
 use crate::cursor::Cursor;
-use crate::error::{NO_NUMBER, Refusal, UNKNOWN_NOTE};
+use crate::error::{NO_NUMBER, UNKNOWN_NOTE};
 use crate::tokens::{NOTE, Place, Token};
 
 /// Which traits a note names.
@@ -117,7 +117,7 @@ impl Marks {
             Verb::Nothing => false,
         };
         if !is_known {
-            cursor.refuse(Refusal::new(place, UNKNOWN_NOTE, word));
+            cursor.refuse(place, UNKNOWN_NOTE, word);
         }
     }
 }
@@ -146,7 +146,7 @@ pub fn number_of<'t>(cursor: &mut Cursor<'t>, place: Place, word: &'t str) -> u3
     match word.parse::<u32>() {
         Ok(number) => number,
         Err(_) => {
-            cursor.refuse(Refusal::new(place, NO_NUMBER, word));
+            cursor.refuse(place, NO_NUMBER, word);
             0
         }
     }
@@ -159,7 +159,7 @@ pub fn tag_of<'t>(cursor: &mut Cursor<'t>, token: Token<'t>) -> Option<u32> {
     match (words.next(), words.next()) {
         (Some("tag"), Some(word)) => Some(number_of(cursor, token.place, word)),
         _ => {
-            cursor.refuse(Refusal::new(token.place, UNKNOWN_NOTE, token.text));
+            cursor.refuse(token.place, UNKNOWN_NOTE, token.text);
             None
         }
     }

@@ -1,15 +1,8 @@
-//! The parts of a type, and how a value is shown as them.
+//! The parts of a type, and how its fields stand in tuples, values and patterns.
 
-use crate::blanks::{fill, fill_variant};
-use crate::heads::{add_head, is_by_variants};
-use crate::items::{Field, Item, Variant};
-use crate::layout::add_list;
+use crate::items::{Brackets, Field, Item, Variant, say};
 use crate::text::{Text, text_at};
-use crate::uses::is_listed;
-use crate::variants::{add_shown_by_variants, add_variant_aliases};
-
-/// How long a clause is that stands in one line.
-pub const CLAUSE_WIDTH: usize = 100;
+use crate::tokens::is_listed;
 
 /// How a field stands in a tuple.
 #[derive(Clone, Copy)]
@@ -26,86 +19,14 @@ pub enum Form {
     Lent,
 }
 
-/// Adds the alias for the type of the parts.
-pub fn add_alias(out: &mut Text, item: &Item<'_>) {
-    if is_by_variants(item) {
-        add_variant_aliases(out, item);
-    } else {
-        fill(out, item, "type $parts$ = ");
-        if item.is_enum {
-            add_sum(out, item);
-        } else {
-            add_tuple(out, item.fields.as_slice(), Form::Type);
-        }
-        out.add(";\n\n");
-    }
-}
-
-/// Adds the sum of the variants of an enum.
-fn add_sum(out: &mut Text, item: &Item<'_>) {
-    let variants = item.variants.as_slice();
-    if variants.is_empty() {
-        fill(out, item, "NoVariants<$itself$>");
-        return;
-    }
-    out.add("EnumOf<");
-    for variant in variants.iter() {
-        fill_variant(out, item, variant, "VariantOf<$tag$, $types$, ");
-    }
-    fill(out, item, "NoMoreVariants<$itself$>>");
-    out.add_times(">", variants.len());
-}
-
-/// Adds the `impl` that shows a value as its parts. `declared` is where the toolchain declares the types of the module.
-pub fn add_shown(out: &mut Text, item: &Item<'_>, declared: &str) {
-    if is_by_variants(item) {
-        add_shown_by_variants(out, item, declared);
-        return;
-    }
-    add_head(out, item, "", "HasParts<$parts$>", "");
-    if item.is_enum {
-        add_shown_variants(out, item, declared);
-    } else {
-        add_shown_fields(out, item.fields.as_slice());
-    }
-    out.add("}\n\n");
-}
-
-/// Adds how a struct is shown as its parts.
-fn add_shown_fields(out: &mut Text, fields: &[Field<'_>]) {
-    let mut line = out.beside();
-    line.add("    ghost parts = { λ v. ");
-    add_value(&mut line, fields, Form::OfValue);
-    line.add(" };\n");
-    if line.as_str().len() <= CLAUSE_WIDTH {
-        out.add_text(&line);
-    } else {
-        add_long_clause(out, fields);
-    }
-}
-
-/// Adds the clause of parts that are too long to stand in one line.
-fn add_long_clause(out: &mut Text, fields: &[Field<'_>]) {
-    let mut shown = out.beside();
-    add_value(&mut shown, fields, Form::OfValue);
-    out.add("    ghost parts = { λ v. (\n");
-    add_list(out, "      ", &shown);
-    out.add("    ) };\n");
-}
-
-/// Adds the name by which the field at this place is read.
-pub fn add_selector(out: &mut Text, at: usize, field: &Field<'_>) {
-    match field.name {
-        Some(name) => out.add(name),
-        None => out.add_number(at as u64),
-    }
-}
-
 /// Adds some fields as a tuple. One is itself.
 pub fn add_tuple(out: &mut Text, fields: &[Field<'_>], form: Form) {
     let count = fields.len();
     if count == 0 {
-        out.add("()");
+        out.add(match form {
+            Form::InClause | Form::OfValue => "tt",
+            _ => "()",
+        });
     }
     for (at, field) in fields.iter().enumerate() {
         out.open_part(at, count);
@@ -114,115 +35,30 @@ pub fn add_tuple(out: &mut Text, fields: &[Field<'_>], form: Form) {
     }
 }
 
-/// Adds some fields as a value in a clause.
-pub fn add_value(out: &mut Text, fields: &[Field<'_>], form: Form) {
-    if fields.is_empty() {
-        out.add("tt");
-    } else {
-        add_tuple(out, fields, form);
-    }
-}
-
 /// Adds the field at this place of so many.
-fn add_field(out: &mut Text, field: &Field<'_>, at: usize, count: usize, form: Form) {
+pub fn add_field(out: &mut Text, field: &Field<'_>, at: usize, count: usize, form: Form) {
     match form {
         Form::Type => out.add_type(field.of),
         Form::Bound => add_bound(out, field, at, count),
-        Form::InClause => add_bound_in_clause(out, field, at, count),
-        Form::OfValue => {
-            out.add("v.");
-            add_selector(out, at, field);
+        Form::InClause => match field.name {
+            Some(name) if is_listed(name, RESERVED) => add_numbered(out, at),
+            _ => add_bound(out, field, at, count),
+        },
+        Form::OfValue => add_read(out, "v.", field, at),
+        // A reference is handed on as it is.
+        Form::Lent if count == 1 || text_at(field.of, 0) == "&" => {
+            add_read(out, "self.", field, at);
         }
-        Form::Lent => {
-            out.add(if count == 1 || is_reference(field) {
-                "self."
-            } else {
-                "&self."
-            });
-            add_selector(out, at, field);
-        }
+        Form::Lent => add_read(out, "&self.", field, at),
     }
 }
 
-/// Whether the type of a field is a reference. It is handed on as it is.
-fn is_reference(field: &Field<'_>) -> bool {
-    text_at(field.of, 0) == "&"
-}
-
-/// Adds how an enum is shown as its parts.
-fn add_shown_variants(out: &mut Text, item: &Item<'_>, declared: &str) {
-    let variants = item.variants.as_slice();
-    if variants.is_empty() {
-        out.add("    ghost parts = { elim [ ] };\n");
-        return;
-    }
-    add_sum_use(out, variants.len());
-    add_declared(out, item, declared);
-    for (at, variant) in variants.iter().enumerate() {
-        out.add(if at > 0 { ", " } else { "" });
-        out.add(variant.name.text);
-    }
-    out.add("};\n\n    ghost parts = { elim [\n");
-    for (at, variant) in variants.iter().enumerate() {
-        add_shown_row(out, item, variant, at, "record { 0 = ", " }\n");
-    }
-    out.add("    ] };\n");
-}
-
-/// Adds the import of the variants of an enum up to the first of them.
-pub fn add_declared(out: &mut Text, item: &Item<'_>, declared: &str) {
-    out.add("    ghost use Rattle.");
-    out.add(declared);
-    fill(out, item, ".$name$.TheVariants.{");
-}
-
-/// Adds how the variant at this place is shown in a sum, between these.
-pub fn add_shown_row(
-    out: &mut Text,
-    item: &Item<'_>,
-    variant: &Variant<'_>,
-    at: usize,
-    front: &str,
-    back: &str,
-) {
-    add_pattern(out, "      | ", item, variant);
-    out.add(" ↦ ");
-    out.add(front);
-    out.add_times("other (", at);
-    fill_variant(out, item, variant, "this $shown$");
-    out.add_times(")", at);
-    out.add(back);
-}
-
-/// Adds the imports of the words by which an enum of so many variants is shown.
-pub fn add_sum_use(out: &mut Text, count: usize) {
-    out.add(if count > 1 {
-        "    ghost use Rattle.bincode.specs.Sums.{this, other};\n"
-    } else {
-        "    ghost use Rattle.bincode.specs.Sums.{this};\n"
-    });
-}
-
-/// Adds a variant in a clause, as the pattern that binds its fields, behind another text.
-pub fn add_pattern(out: &mut Text, front: &str, item: &Item<'_>, variant: &Variant<'_>) {
-    out.add(front);
-    out.add(variant.name.text);
-    let fields = item.fields_of(variant);
-    for (at, field) in fields.iter().enumerate() {
-        out.add(" ");
-        add_bound_in_clause(out, field, at, fields.len());
-    }
-}
-
-/// Adds the name that the field at this place of so many is bound to in a clause: its own, unless that means something
-/// else there.
-fn add_bound_in_clause(out: &mut Text, field: &Field<'_>, at: usize, count: usize) {
+/// Adds how the field at this place is read of this.
+fn add_read(out: &mut Text, of: &str, field: &Field<'_>, at: usize) {
+    out.add(of);
     match field.name {
-        Some(name) if is_listed(name, RESERVED) => {
-            out.add("part_");
-            out.add_number(at as u64);
-        }
-        _ => add_bound(out, field, at, count),
+        Some(name) => out.add(name),
+        None => out.add_number(at as u64),
     }
 }
 
@@ -234,7 +70,7 @@ const RESERVED: &str =
 
 /// Adds the name that the field at this place of so many is bound to: its own, and in a tuple `first`, `second` and so
 /// on. A lone one is `value`.
-pub fn add_bound(out: &mut Text, field: &Field<'_>, at: usize, count: usize) {
+fn add_bound(out: &mut Text, field: &Field<'_>, at: usize, count: usize) {
     match field.name {
         Some(name) if name != "encoder" => out.add(name),
         _ if count == 1 => out.add("value"),
@@ -242,20 +78,102 @@ pub fn add_bound(out: &mut Text, field: &Field<'_>, at: usize, count: usize) {
     }
 }
 
+/// What the fields of a tuple are bound to, as far as these go.
+const PLACES: &str = "first second third fourth fifth sixth seventh eighth";
+
 /// Adds the name that the field at this place is bound to, which has none of its own.
 fn add_nameless(out: &mut Text, at: usize) {
-    match at {
-        0 => out.add("first"),
-        1 => out.add("second"),
-        2 => out.add("third"),
-        3 => out.add("fourth"),
-        4 => out.add("fifth"),
-        5 => out.add("sixth"),
-        6 => out.add("seventh"),
-        7 => out.add("eighth"),
-        _ => {
-            out.add("part_");
-            out.add_number(at as u64);
+    match PLACES.split(' ').nth(at) {
+        Some(place) => out.add(place),
+        None => add_numbered(out, at),
+    }
+}
+
+/// Adds the name that a field is bound to by its place alone.
+fn add_numbered(out: &mut Text, at: usize) {
+    out.add("part_");
+    out.add_number(at as u64);
+}
+
+/// Adds what stands after the path of a struct or a variant that is made of what its fields are bound to. It is also
+/// the pattern that binds them. A name that fields can't be bound to stands before what they are.
+pub fn add_made(out: &mut Text, brackets: Brackets, fields: &[Field<'_>]) {
+    let (open, close) = match brackets {
+        Brackets::Missing => ("", ""),
+        Brackets::Round => ("(", ")"),
+        Brackets::Curly if fields.is_empty() => (" {", "}"),
+        Brackets::Curly => (" { ", " }"),
+    };
+    out.add(open);
+    for (at, field) in fields.iter().enumerate() {
+        out.add_comma();
+        if field.name == Some("encoder") {
+            out.add("encoder: ");
         }
+        add_bound(out, field, at, fields.len());
+    }
+    out.add(close);
+}
+
+/// Adds the type of the part of a variant, with those parameters of the enum that its fields have. If it is a parameter
+/// itself, its type is that.
+pub fn add_part(out: &mut Text, item: &Item<'_>, variant: &Variant<'_>) {
+    let fields = item.fields_of(variant);
+    if let Some(param) = lone_param(item, fields) {
+        out.add(param);
+        return;
+    }
+    add_part_name(out, item, variant);
+    let mut before = "<";
+    if say(fields, item.lifetime) {
+        out.add(before);
+        out.add(item.lifetime);
+        before = ", ";
+    }
+    for param in item.params.iter() {
+        if say(fields, param.name) {
+            out.add(before);
+            out.add(param.name);
+            before = ", ";
+        }
+    }
+    if before == ", " {
+        out.add(">");
+    }
+}
+
+/// Adds that type as the path of a function begins with it.
+pub fn add_part_path(out: &mut Text, item: &Item<'_>, variant: &Variant<'_>) {
+    let fields = item.fields_of(variant);
+    let mut is_generic = false;
+    for param in item.params.iter() {
+        is_generic = is_generic || say(fields, param.name);
+    }
+    if !is_generic {
+        add_part_name(out, item, variant);
+    } else if lone_param(item, fields).is_some() {
+        add_part(out, item, variant);
+    } else {
+        out.add("<");
+        add_part(out, item, variant);
+        out.add(">");
+    }
+}
+
+/// Adds the name of the part of a variant.
+fn add_part_name(out: &mut Text, item: &Item<'_>, variant: &Variant<'_>) {
+    out.add(item.name.text);
+    out.add(variant.name.text);
+    out.add("Part");
+}
+
+/// The parameter that is all that a variant holds, if one is.
+pub fn lone_param<'t>(item: &Item<'_>, fields: &[Field<'t>]) -> Option<&'t str> {
+    match fields {
+        [field] => match field.of {
+            [word] if item.has_param(word.text) => Some(word.text),
+            _ => None,
+        },
+        _ => None,
     }
 }

@@ -1,12 +1,12 @@
 //! Reads the structs and enums of a source.
 
 use crate::cursor::{Cursor, is_opening};
-use crate::error::{CONST_PARAMETER, Fault, GHOST_FIELD, MISSING, Refusal, UNCLOSED, UNKNOWN_NOTE};
+use crate::error::{CONST_PARAMETER, Fault, GHOST_FIELD, MISSING, UNCLOSED, UNKNOWN_NOTE};
 use crate::items::{Brackets, Field, Item, Param, Predicate, Source, Variant, is_known};
 use crate::laws::NOTHING;
 use crate::notes::{Marks, number_of, tag_of};
 use crate::text::text_at;
-use crate::tokens::{Token, is_word};
+use crate::tokens::{Token, is_listed, is_word};
 use std::alloc::Global;
 
 /// What stands in these tokens.
@@ -55,22 +55,24 @@ fn read_token<'t>(
             let item = read_item(alloc, cursor, marks, token.text == "enum");
             cursor.push(&mut source.items, item);
         }
-        ";" => {}
-        "{" => cursor.skip_group(token.place),
-        text => return read_other(cursor, token, marks, is_opening(text)),
+        _ => return read_other(cursor, token, marks),
     }
     Marks::new()
 }
 
 /// Takes a bracket that a token opens, or adds what it says, if it is a note.
-fn read_other<'t>(cursor: &mut Cursor<'t>, token: Token<'t>, marks: Marks, is_open: bool) -> Marks {
+fn read_other<'t>(cursor: &mut Cursor<'t>, token: Token<'t>, marks: Marks) -> Marks {
     let mut marks = marks;
-    if is_open {
+    if is_opening(token.text) {
         cursor.skip_group(token.place);
     } else {
         marks.add_note(cursor, token);
     }
-    marks
+    if is_listed(token.text, "; {") {
+        Marks::new()
+    } else {
+        marks
+    }
 }
 
 /// Takes what stands after a `#`, and adds what it derives.
@@ -100,18 +102,18 @@ fn read_derives(cursor: &mut Cursor<'_>, marks: &mut Marks) {
         }
         marks.add_derived(text);
     }
-    cursor.refuse(Refusal::new(opened, UNCLOSED, ""));
+    cursor.refuse(opened, UNCLOSED, "");
 }
 
 /// Takes what stands after a `use`, up to its end, and adds the names that it imports from the standard library.
 fn read_use<'t>(cursor: &mut Cursor<'t>, names: &mut Vec<&'t str>) {
-    let is_std = matches!(cursor.text(), "std" | "core" | "alloc");
+    let is_std = is_listed(cursor.text(), "std core alloc");
     for _ in 0..u64::MAX {
         let text = cursor.take().text;
         if text == ";" || text.is_empty() {
             break;
         }
-        if is_std && is_word(text) && !matches!(cursor.text(), "::" | "as") {
+        if is_std && is_word(text) && !is_listed(cursor.text(), ":: as") {
             cursor.push(names, text);
         }
     }
@@ -126,10 +128,11 @@ fn read_impl_head<'t>(cursor: &mut Cursor<'t>, source: &mut Source<'t>) {
     let head = cursor.type_until(&["for", "{"]);
     if cursor.takes("for") {
         let of = cursor.text();
-        match name_in(head) {
-            "Drop" | "Copy" => cursor.push(&mut source.droppable, of),
-            "PartialEq" => cursor.push(&mut source.comparable, of),
-            _ => {}
+        let name = name_in(head);
+        if is_listed(name, "Drop Copy") {
+            cursor.push(&mut source.droppable, of);
+        } else if name == "PartialEq" {
+            cursor.push(&mut source.comparable, of);
         }
     }
 }
@@ -188,13 +191,13 @@ fn read_wheres<'t>(cursor: &mut Cursor<'t>, wheres: &mut Vec<Predicate<'t>>) {
         return;
     }
     for _ in 0..u64::MAX {
-        if matches!(cursor.text(), "{" | ";" | "") {
+        if cursor.text().is_empty() || is_listed(cursor.text(), "{ ;") {
             break;
         }
         let place = cursor.token().place;
         let tokens = cursor.type_until(&[",", "{", ";"]);
         if tokens.is_empty() {
-            cursor.refuse(Refusal::new(place, MISSING, "a bound"));
+            cursor.refuse(place, MISSING, "a bound");
         }
         cursor.takes(",");
         cursor.push(wheres, Predicate { tokens });
@@ -216,14 +219,14 @@ fn read_params<'t>(cursor: &mut Cursor<'t>, item: &mut Item<'t>) {
         }
         read_param(cursor, item);
     }
-    cursor.refuse(Refusal::new(opened, UNCLOSED, ""));
+    cursor.refuse(opened, UNCLOSED, "");
 }
 
 /// Reads a parameter with its bounds, and the comma after it.
 fn read_param<'t>(cursor: &mut Cursor<'t>, item: &mut Item<'t>) {
     let name = cursor.take();
     if name.text == "const" {
-        cursor.refuse(Refusal::new(name.place, CONST_PARAMETER, ""));
+        cursor.refuse(name.place, CONST_PARAMETER, "");
     }
     let bounds = if cursor.takes(":") {
         cursor.type_until(&[",", "="])
@@ -268,7 +271,7 @@ fn read_variant_marks(cursor: &mut Cursor<'_>) -> Option<u32> {
     for _ in 0..u64::MAX {
         if cursor.takes("#") {
             cursor.skip_brackets();
-        } else if is_note(cursor.text()) {
+        } else if cursor.text().starts_with("//") {
             let note = cursor.take();
             tag = tag_of(cursor, note);
         } else {
@@ -289,7 +292,8 @@ fn read_variant<'t>(
     let start = item.fields.len();
     let brackets = read_fields(cursor, &mut item.fields);
     let tag = if cursor.takes("=") {
-        read_number(cursor)
+        let token = cursor.take();
+        number_of(cursor, token.place, token.text)
     } else {
         tag
     };
@@ -302,12 +306,6 @@ fn read_variant<'t>(
     };
     cursor.push(&mut item.variants, variant);
     tag
-}
-
-/// Takes the number that comes next.
-fn read_number(cursor: &mut Cursor<'_>) -> u32 {
-    let token = cursor.take();
-    number_of(cursor, token.place, token.text)
 }
 
 /// Reads the fields of a struct or of a variant.
@@ -346,7 +344,7 @@ fn read_field<'t>(cursor: &mut Cursor<'t>, is_named: bool) -> Field<'t> {
     let place = cursor.token().place;
     let of = cursor.type_until(&[","]);
     if of.is_empty() && !is_named {
-        cursor.refuse(Refusal::new(place, MISSING, "a type"));
+        cursor.refuse(place, MISSING, "a type");
     }
     Field { name, of }
 }
@@ -355,7 +353,7 @@ fn read_field<'t>(cursor: &mut Cursor<'t>, is_named: bool) -> Field<'t> {
 fn read_field_name<'t>(cursor: &mut Cursor<'t>) -> &'t str {
     let name = cursor.name();
     if name.text == "ghost" {
-        cursor.refuse(Refusal::new(name.place, GHOST_FIELD, ""));
+        cursor.refuse(name.place, GHOST_FIELD, "");
     }
     cursor.mark(":");
     name.text
@@ -365,19 +363,14 @@ fn read_field_name<'t>(cursor: &mut Cursor<'t>) -> &'t str {
 fn skip_marks(cursor: &mut Cursor<'_>) {
     for _ in 0..u64::MAX {
         let token = cursor.token();
-        if is_note(token.text) {
-            cursor.refuse(Refusal::new(token.place, UNKNOWN_NOTE, token.text));
+        if token.text.starts_with("//") {
+            cursor.refuse(token.place, UNKNOWN_NOTE, token.text);
         }
         if !cursor.takes("#") && !cursor.takes("pub") {
             break;
         }
         cursor.skip_brackets();
     }
-}
-
-/// Whether a token is a note to this program.
-fn is_note(text: &str) -> bool {
-    text.starts_with("//")
 }
 
 /// The names in the types of some fields that are those of the source or the library. A name of another module, after

@@ -1,16 +1,16 @@
 //! What is refused of a type that was read.
 
-use crate::blanks::is_own_name;
-use crate::by_tag::is_in_order;
 use crate::error::{
     GENERIC_ENUM, HOLDS_ITSELF, NOT_DESCRIBED, NOT_DROPPABLE, Refusal, TAKEN_NAME, TWO_LIFETIMES,
 };
+use crate::facts::is_in_order;
 use crate::heads::is_by_variants;
 use crate::items::{Item, Source, Variant};
 use crate::laws::is_among;
+use crate::names::is_own_name;
 use crate::text::text_at;
-use crate::tokens::{Place, Token};
-use crate::uses::{is_listed, is_used};
+use crate::tokens::{Place, Token, is_listed};
+use crate::uses::is_used;
 use std::alloc::{AllocError, Global};
 
 /// What is refused of a type, if it can't be written. `holds_itself` says that it holds itself.
@@ -77,10 +77,12 @@ fn refused_in<'t>(
     is_borrowing: bool,
 ) -> Option<Refusal<'t>> {
     for (at, token) in of.iter().enumerate() {
-        let instead = match token.text {
-            "&" => instead_of_reference(of, at, is_borrowing),
-            "Duration" | "CString" if source.is_of_std(of, at) => instead_of_std(token.text),
-            word => instead_of(word),
+        let instead = if token.text == "&" {
+            instead_of_reference(of, at, is_borrowing)
+        } else if is_listed(token.text, "Duration CString") && source.is_of_std(of, at) {
+            instead_of_std(token.text)
+        } else {
+            instead_of(token.text)
         };
         if !instead.is_empty() {
             return Some(Refusal::no_words(token.place, token.text, instead));

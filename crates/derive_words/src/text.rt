@@ -1,6 +1,6 @@
 //! Text that is written piece by piece.
 
-use crate::tokens::{Token, is_word};
+use crate::tokens::{Token, is_listed, is_word};
 use std::alloc::{AllocError, Global};
 
 /// Text that is written piece by piece. Where memory is refused on the way, it is `whole` that says so.
@@ -46,6 +46,13 @@ impl Text {
     pub fn add(&mut self, piece: &str) {
         if self.text.push_str(piece).is_err() {
             self.is_whole = false;
+        }
+    }
+
+    /// Adds a comma, unless what was written last opens a list.
+    pub fn add_comma(&mut self) {
+        if !self.as_str().trim_end().ends_with(opens_list) {
+            self.add(", ");
         }
     }
 
@@ -99,11 +106,12 @@ impl Text {
         if at > 0 && is_apart(before, next) {
             self.add(" ");
         }
-        self.add(match next {
-            "super" if before != "::" => "super::super",
-            "self" if before != "::" => "super",
-            _ => next,
-        });
+        if before != "::" && is_listed(next, "super self") {
+            self.add("super");
+            self.add(if next == "super" { "::super" } else { "" });
+        } else {
+            self.add(next);
+        }
     }
 
     /// Adds what stands before the part at this place of a tuple of so many: the comma, and the brackets that open
@@ -196,16 +204,23 @@ pub fn text_before<'t>(tokens: &[Token<'t>], at: usize) -> &'t str {
 
 /// Whether a space stands between two tokens of a type.
 fn is_apart(before: &str, next: &str) -> bool {
-    match (before, next) {
-        (",", ")" | ">") => false,
-        (_, "+" | "=" | "->") => true,
-        ("," | ";" | "+" | "=" | ":" | "->", _) => true,
-        (_, "[" | "(" | "&") => before.starts_with('\''),
-        _ => is_name(before) && is_name(next),
+    if is_listed(next, "+ = ->") || is_listed(before, "; + = : ->") {
+        true
+    } else if before == "," {
+        !is_listed(next, ") >")
+    } else if is_listed(next, "[ ( &") {
+        before.starts_with('\'')
+    } else {
+        is_name(before) && is_name(next)
     }
 }
 
 /// Whether a token is a word or a lifetime.
 fn is_name(token: &str) -> bool {
     is_word(token) || token.starts_with('\'')
+}
+
+/// Whether a list begins behind a character.
+fn opens_list(c: char) -> bool {
+    matches!(c, '<' | '(' | '[' | '{' | ':')
 }

@@ -109,26 +109,31 @@ pub fn is_of_word(c: char) -> bool {
     c.is_ascii_alphanumeric() || c == '_'
 }
 
+/// Whether a token is one of these, between which stand spaces.
+pub fn is_listed(token: &str, list: &str) -> bool {
+    for other in list.split(' ') {
+        if other == token {
+            return true;
+        }
+    }
+    false
+}
+
 /// How many bytes the first token of a text has.
 fn token_size(text: &str) -> usize {
     if text.starts_with("//") {
         text.find('\n').unwrap_or(text.len())
     } else if text.starts_with("/*") {
         comment_size(text)
-    } else if is_double_mark(text) {
+    } else if is_listed(text.get(..2).unwrap_or(""), ":: -> =>") {
         2
     } else if text.starts_with('"') {
         quoted_size(text, '"')
     } else if text.starts_with('\'') {
         tick_size(text)
     } else {
-        word_or_mark_size(text)
+        word_size(text).max(first_size(text))
     }
-}
-
-/// Whether a mark of two characters stands at the front of a text.
-fn is_double_mark(text: &str) -> bool {
-    text.starts_with("::") || text.starts_with("->") || text.starts_with("=>")
 }
 
 /// How many bytes a comment between `/*` and `*/` has.
@@ -136,14 +141,6 @@ fn comment_size(text: &str) -> usize {
     match text.find("*/") {
         Some(end) => end.saturating_add(2),
         None => text.len(),
-    }
-}
-
-/// How many bytes the word at the front of a text has, or else the mark.
-fn word_or_mark_size(text: &str) -> usize {
-    match word_size(text) {
-        0 => first_size(text),
-        size => size,
     }
 }
 
@@ -181,12 +178,6 @@ fn tick_size(text: &str) -> usize {
     let mut chars = text.chars().skip(1);
     match (chars.next(), chars.next()) {
         (Some('\\'), _) | (Some(_), Some('\'')) => quoted_size(text, '\''),
-        _ => lifetime_size(text),
+        _ => word_size(cut(text, 1).1).saturating_add(1),
     }
-}
-
-/// How many bytes a lifetime has.
-fn lifetime_size(text: &str) -> usize {
-    let (_, name) = cut(text, 1);
-    word_size(name).saturating_add(1)
 }

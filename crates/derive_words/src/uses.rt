@@ -2,7 +2,7 @@
 
 use crate::laws::is_among;
 use crate::text::Text;
-use crate::tokens::Token;
+use crate::tokens::{Token, is_listed};
 
 /// The names of the library that are used: a line for each module, as `rt fmt` sorts them.
 const LIBRARY: &str = "\
@@ -19,52 +19,43 @@ bincode::shape: Described Shape describe_variants put_variant start_variants
 bincode::short_text: TypeName
 bincode: EnumOf HasParts NoMoreVariants NoVariants VariantOf Wire";
 
-/// Whether a word is one of these, between which stand spaces.
-pub fn is_listed(word: &str, words: &str) -> bool {
-    for other in words.split(' ') {
-        if other == word {
-            return true;
-        }
-    }
-    false
-}
-
 /// Whether what is written uses this name of the library.
 pub fn is_used(name: &str) -> bool {
     for line in LIBRARY.lines() {
-        let (_, names) = line_of(line);
-        if is_listed(name, names) {
+        if let Some((_, names)) = line.split_once(": ")
+            && is_listed(name, names)
+        {
             return true;
         }
     }
     false
-}
-
-/// The module of a line, and its names.
-fn line_of(line: &str) -> (&str, &str) {
-    line.split_once(": ").unwrap_or(("", ""))
 }
 
 /// Adds the `use` lines for the names that stand in some `impl`s, and for all that the module above has.
 pub fn add_uses(out: &mut Text, impls: &[Token<'_>]) {
     out.add("use super::*;\n");
     for line in LIBRARY.lines() {
-        let (module, names) = line_of(line);
-        add_use(out, module, names, impls);
+        if let Some((module, names)) = line.split_once(": ") {
+            add_use(out, module, names, impls);
+        }
     }
     if is_among(impls, "Global") {
         out.add("use std::alloc::Global;\n");
     }
 }
 
-/// Adds the `use` line for those names of a module that stand among these tokens.
+/// Adds the `use` line for those names of a module that stand among these tokens. Two functions of the library have one
+/// name.
 fn add_use(out: &mut Text, module: &str, names: &str, tokens: &[Token<'_>]) {
     let mut list = out.beside();
     let mut count = 0usize;
     for name in names.split(' ') {
         if is_among(tokens, name) {
             list.add(if count > 0 { ", " } else { "" });
-            list.add(written_name(name));
+            list.add(match name {
+                "encode_in_sum" => "encode_variant as encode_in_sum",
+                _ => name,
+            });
             count = count.saturating_add(1);
         }
     }
@@ -74,13 +65,5 @@ fn add_use(out: &mut Text, module: &str, names: &str, tokens: &[Token<'_>]) {
         out.add(if count > 1 { "::{" } else { "::" });
         out.add_text(&list);
         out.add(if count > 1 { "};\n" } else { ";\n" });
-    }
-}
-
-/// How a name is imported. Two functions of the library have one name.
-fn written_name(name: &str) -> &str {
-    match name {
-        "encode_in_sum" => "encode_variant as encode_in_sum",
-        _ => name,
     }
 }
