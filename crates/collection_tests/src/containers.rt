@@ -108,7 +108,7 @@ fn keeps_pointers(rt: HostRuntime) {
 #[test]
 fn keeps_the_bag_of_a_heap(rt: HostRuntime) {
     let alloc = rt.alloc();
-    let Some(heap) = list_of(alloc, 10_000).map(BinaryHeap::from) else {
+    let Some(heap) = list_of(alloc, 101_000).map(BinaryHeap::from) else {
         assert!(rt; false);
         return;
     };
@@ -116,5 +116,5 @@ fn keeps_the_bag_of_a_heap(rt: HostRuntime) {
         assert!(rt; false);
         return;
     };
-    assert!(rt; Some(read.into_sorted_vec()) == list_of(alloc, 10_000));
+    assert!(rt; Some(read.into_sorted_vec()) == list_of(alloc, 101_000));
 }

@@ -7,6 +7,7 @@ use bincode::de::read::SliceReader;
 use bincode::enc::Encode;
 use bincode::error::DecodeError;
 use bincode::{config, decode_from_reader};
+use derived_types::tags::Mixed;
 use own_types::book::Book;
 use own_types::code::Code;
 use own_types::even::Even;
@@ -175,6 +176,7 @@ fn leaves_what_follows_a_fault(rt: HostRuntime) {
     assert!(rt;
         leaves_two::<Kind>(alloc, &[3, 77, 78])
             && leaves_two::<Code>(alloc, &[2, 77, 78])
+            && leaves_two::<Mixed>(alloc, &[0, 77, 78])
             && leaves_two::<Even>(alloc, &[3, 77, 78])
             && leaves_two::<Never>(alloc, &[77, 78])
     );

@@ -79,7 +79,8 @@ fn reserves_what_hashed_ones_claim(rt: HostRuntime) {
 /// The numbers 1 to 3.
 const THREE: [u8; 4] = [3, 1, 2, 3];
 
-/// An arena is free again after each list that is counted: a thousand of them need no more than the first one did.
+/// An arena is free again after each list that is counted: a thousand of them need no more than the first one did. Nor
+/// does a list of a hundred numbers: it is begun with room for 400 bytes, and the first chunk has 448.
 #[test]
 fn counts_within_one_chunk(rt: HostRuntime) {
     let mut bump = Bump::new(rt.alloc());
@@ -93,4 +94,6 @@ fn counts_within_one_chunk(rt: HostRuntime) {
         let count = count_numbers(rt.alloc(), &mut bump, &THREE, config::standard());
         assert!(&rt; matches!(count, Ok(3)));
     }
+    let long = count_numbers(rt.alloc(), &mut bump, &hundred(), config::standard());
+    assert!(&rt; matches!(long, Ok(100)));
 }

@@ -7,6 +7,7 @@ use std::collections::BTreeMap;
 use stock_files::adding::{AddError, add_lines, add_one, next_offset};
 use stock_files::article::Article;
 use stock_files::limit::LONGEST_WORD;
+use stock_files::showing::{Sheet, print_store};
 use stock_files::status::{DAMAGED, FAILED};
 
 /// The lines of salt, tea and salt again.
@@ -140,6 +141,28 @@ fn is_past_limit(alloc: Global, length: usize, weight: Option<u32>) -> bool {
     }
 }
 
+/// Whether a store is found whole.
+fn is_whole(alloc: Global, bytes: &[u8]) -> bool {
+    let mut store = bytes;
+    let sheet = Sheet {
+        file: "f",
+        lists: false,
+    };
+    matches!(
+        print_store(alloc, &mut Vec::new(alloc), sheet, &mut store),
+        Ok(true)
+    )
+}
+
+/// Whether a store is whole after an article with such a name is added.
+fn is_read_back(alloc: Global, length: usize) -> bool {
+    let mut store = Vec::new(alloc);
+    match named(alloc, length, None) {
+        Ok(article) => add_one(alloc, &mut store, &article).is_ok() && is_whole(alloc, &store),
+        Err(_) => false,
+    }
+}
+
 #[test]
 fn adds_the_longest_article(rt: HostRuntime) {
     let alloc = rt.alloc();
@@ -150,5 +173,6 @@ fn adds_the_longest_article(rt: HostRuntime) {
             && is_too_long(alloc, 65508, weight)
             && has_size(alloc, 65511, None, most + 7)
             && is_past_limit(alloc, 65512, None)
+            && is_read_back(alloc, 65511)
     );
 }

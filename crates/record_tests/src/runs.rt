@@ -44,7 +44,11 @@ fn adds_to_a_file(rt: HostRuntime) -> anyhow::Result<()> {
         && holds(&rt, path, &FRAMED);
     let is_shown = ends(&rt, ("list", path, ""), DONE) && ends(&rt, ("check", path, ""), DONE);
     assert!(rt; fs::remove_file(&rt, path).is_ok() && is_added && is_shown);
-    assert!(rt; ends(&rt, ("check", path, ""), FAILED) && ends(&rt, ("sell", path, ""), USAGE));
+    assert!(rt;
+        ends(&rt, ("check", path, ""), FAILED)
+            && ends(&rt, ("repair", path, ""), FAILED)
+            && ends(&rt, ("sell", path, ""), USAGE)
+    );
     Ok(())
 }
 
