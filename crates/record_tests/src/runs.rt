@@ -4,7 +4,8 @@ use crate::requests::words_of;
 use crate::stores::{FRAMED, damaged};
 use std::path::PathBuf;
 use std::{env, fs, process};
-use stock_files::program::run;
+use stock_files::program::{Source, add, run};
+use stock_files::request::{Request, request_of};
 use stock_files::status::{DAMAGED, DONE, FAILED, USAGE};
 
 /// Whether the program ends with this status: with this command, the file and these words.
@@ -32,13 +33,41 @@ fn path_of(rt: &HostRuntime, name: &str) -> anyhow::Result<PathBuf> {
     Ok(env::temp_dir(rt)?.join(rt.alloc(), name.as_str())?)
 }
 
-/// Salt, tea and salt again, each by a run of its own. Words that spell no article leave the file as it is.
+/// Whether an article of these words is added to the file, and this is printed after the name of the file.
+fn tells(rt: &HostRuntime, path: &str, article: &str, text: &str) -> bool {
+    let alloc = rt.alloc();
+    let Ok(line) = format!(in alloc; "add {path} {article}") else {
+        return false;
+    };
+    let Ok(wanted) = format!(in alloc; "{path}: {text}\n") else {
+        return false;
+    };
+    let Ok(words) = words_of(alloc, line.as_str()) else {
+        return false;
+    };
+    let Ok(Request::Add { file, article }) = request_of(alloc, &words) else {
+        return false;
+    };
+    let mut out = Vec::new(alloc);
+    match add(rt, file.as_str(), Source::One(&article), &mut out) {
+        Ok(status) => status == DONE && out.as_slice() == wanted.as_bytes(),
+        Err(_) => false,
+    }
+}
+
+/// Salt, tea and salt again, each with its place, the last by a run. Words that spell no article leave the file as it
+/// is.
 #[test]
 fn adds_to_a_file(rt: HostRuntime) -> anyhow::Result<()> {
     let file = path_of(&rt, "added")?;
     let path = file.as_str();
-    let is_added = ends(&rt, ("add", path, "salt 40"), DONE)
-        && ends(&rt, ("add", path, "tea 1250 origin=Assam 100"), DONE)
+    let is_added = tells(&rt, path, "salt 40", "16 bytes at byte 0")
+        && tells(
+            &rt,
+            path,
+            "tea 1250 origin=Assam 100",
+            "31 bytes at byte 16",
+        )
         && ends(&rt, ("add", path, "salt 40"), DONE)
         && ends(&rt, ("add", path, "salt much"), USAGE)
         && holds(&rt, path, &FRAMED);

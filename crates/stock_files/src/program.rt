@@ -25,7 +25,7 @@ const BLOCK: usize = 1 << 16;
 
 /// What is added to a file.
 #[derive(Clone, Copy)]
-enum Source<'a> {
+pub enum Source<'a> {
     /// This article.
     One(&'a Article),
     /// The articles of the standard input, one a line.
@@ -54,9 +54,10 @@ fn usage(rt: &HostRuntime, error: &Error) -> u8 {
 
 /// Does what a request asks for.
 fn run_request(rt: &HostRuntime, request: &Request) -> u8 {
+    let out = &mut io::writer(rt);
     match request {
-        Request::Add { file, article } => told(rt, file, add(rt, file, Source::One(article))),
-        Request::AddLines { file } => told(rt, file, add(rt, file, Source::Lines)),
+        Request::Add { file, article } => told(rt, file, add(rt, file, Source::One(article), out)),
+        Request::AddLines { file } => told(rt, file, add(rt, file, Source::Lines, out)),
         Request::List(files) => show_each(rt, files, true),
         Request::Check(files) => show_each(rt, files, false),
         Request::Repair { file, repair } => told(rt, file, repair_file(rt, file, *repair)),
@@ -80,12 +81,18 @@ fn complain<E: Display>(rt: &HostRuntime, file: &str, error: &E) {
     let _ = eprintln!(rt; "records: {file}: {error}");
 }
 
-/// Appends what is asked for to a file, and says so once it is on the disk. Where it fails, the file is cut back to
-/// what it held.
-fn add(rt: &HostRuntime, path: &str, source: Source<'_>) -> Result<u8, FileError> {
+/// Appends what is asked for to a file, and says so to `out` once it is on the disk: how many bytes or articles were
+/// added, and the offset of the first. Returns the status with which the program ends. Where it fails, the file is cut
+/// back to what it held.
+pub fn add<W: Write>(
+    rt: &HostRuntime,
+    path: &str,
+    source: Source<'_>,
+    out: &mut W,
+) -> Result<u8, FileError> {
     let file = open_to_change(rt, path, true)?;
     match end_of(rt.alloc(), &file) {
-        Ok(offset) => add_at(rt, path, &file, offset, source),
+        Ok(offset) => add_at(rt, path, &file, (source, offset), out),
         Err(error) => Ok(refused(rt, path, &error)),
     }
 }
@@ -99,17 +106,23 @@ fn end_of(alloc: Global, file: &File) -> Result<usize, AddError> {
 }
 
 /// Appends what is asked for to a file that ends at this offset after a frame.
-fn add_at(
+fn add_at<W: Write>(
     rt: &HostRuntime,
     path: &str,
     file: &File,
-    offset: usize,
-    source: Source<'_>,
+    (source, offset): (Source<'_>, usize),
+    out: &mut W,
 ) -> Result<u8, FileError> {
     match append_all(rt, file, source) {
         Ok(count) => {
             file.sync_all()?;
-            say_added(rt, path, source, count, offset);
+            if let Err(error) = print_added(out, path, source, count, offset) {
+                complain(
+                    rt,
+                    path,
+                    &format_args!("what was added is there, and can't be said: {error}"),
+                );
+            }
             Ok(DONE)
         }
         Err(error) => {
@@ -145,19 +158,17 @@ fn append_to<W: Write>(
     }
 }
 
-/// Says what was added. Where that fails, it is there all the same.
-fn say_added(rt: &HostRuntime, path: &str, source: Source<'_>, count: usize, offset: usize) {
-    let mut out = io::writer(rt);
-    let said = match source {
+/// Prints how many bytes or articles were added to a file, and the offset of the first.
+fn print_added<W: Write>(
+    out: &mut W,
+    path: &str,
+    source: Source<'_>,
+    count: usize,
+    offset: usize,
+) -> io::Result<()> {
+    match source {
         Source::One(_) => writeln!(out, "{path}: {count} bytes at byte {offset}"),
         Source::Lines => writeln!(out, "{path}: {count} records added at byte {offset}"),
-    };
-    if let Err(error) = said {
-        complain(
-            rt,
-            path,
-            &format_args!("what was added is there, and can't be said: {error}"),
-        );
     }
 }
 
