@@ -15,7 +15,7 @@ use std::path::PathBuf;
 use test_helpers::checks::{is_passed, within};
 
 /// A length of 0, and a byte after it.
-static NONE: [u8; 2] = [0, 9];
+const NONE: [u8; 2] = [0, 9];
 
 /// A length of 2^64 - 1, after which nothing stands.
 const HUGE: [u8; 9] = [253, 255, 255, 255, 255, 255, 255, 255, 255];
@@ -64,10 +64,10 @@ fn reads_nothing_and_refuses_lengths_without_memory(rt: HostRuntime) {
 }
 
 /// Whether nothing is read by borrowed decoding, at the first call.
-fn borrows_none<T: BorrowDecode<&'static [u8], ()>>(alloc: Global) -> bool {
+fn borrows_none<'a, T: BorrowDecode<&'a [u8], ()>>(alloc: Global, source: &'a [u8]) -> bool {
     let outcome: Result<(T, usize), DecodeError> = borrow_decode_from_slice(
         alloc,
-        &NONE,
+        source,
         config::standard(),
     );
     matches!(outcome, Ok((_, 1)))
@@ -77,21 +77,22 @@ fn borrows_none<T: BorrowDecode<&'static [u8], ()>>(alloc: Global) -> bool {
 #[test]
 fn borrows_nothing_without_memory(rt: HostRuntime) {
     let alloc = rt.alloc();
+    let none = NONE;
     all_true(
         &rt,
         &[
-            borrows_none::<String>(alloc),
-            borrows_none::<CString>(alloc),
-            borrows_none::<BoxedStr>(alloc),
-            borrows_none::<PathBuf>(alloc),
-            borrows_none::<Vec<u16>>(alloc),
-            borrows_none::<VecDeque<u8>>(alloc),
-            borrows_none::<BinaryHeap<u8>>(alloc),
-            borrows_none::<BoxedSlice<u8>>(alloc),
-            borrows_none::<BTreeSet<u8>>(alloc),
-            borrows_none::<BTreeMap<u8, u8>>(alloc),
-            borrows_none::<HashSet<u8>>(alloc),
-            borrows_none::<HashMap<u8, u8>>(alloc),
+            borrows_none::<String>(alloc, &none),
+            borrows_none::<CString>(alloc, &none),
+            borrows_none::<BoxedStr>(alloc, &none),
+            borrows_none::<PathBuf>(alloc, &none),
+            borrows_none::<Vec<u16>>(alloc, &none),
+            borrows_none::<VecDeque<u8>>(alloc, &none),
+            borrows_none::<BinaryHeap<u8>>(alloc, &none),
+            borrows_none::<BoxedSlice<u8>>(alloc, &none),
+            borrows_none::<BTreeSet<u8>>(alloc, &none),
+            borrows_none::<BTreeMap<u8, u8>>(alloc, &none),
+            borrows_none::<HashSet<u8>>(alloc, &none),
+            borrows_none::<HashMap<u8, u8>>(alloc, &none),
         ],
     );
 }
