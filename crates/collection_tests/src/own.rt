@@ -10,6 +10,7 @@ use bincode::{config, decode_from_reader};
 use derived_types::tags::Mixed;
 use own_types::book::Book;
 use own_types::code::Code;
+use own_types::either::Either;
 use own_types::even::Even;
 use own_types::foo::Foo;
 use own_types::kind::Kind;
@@ -90,6 +91,18 @@ fn is_kind<T: Encode + Decode<()>>(alloc: Global) -> bool {
 #[test]
 fn keeps_each_kind(rt: HostRuntime) {
     assert!(rt; is_kind::<Kind>(rt.alloc()));
+}
+
+/// Whether the type is `Either` of a byte and a truth value: its words, and no tag.
+fn is_either<T: Encode + Decode<()>>(alloc: Global) -> bool {
+    has_word::<T>(alloc, &[0, 2])
+        && has_word::<T>(alloc, &[1, 1])
+        && refuses_tag::<T>(alloc, 2, "Either", 1)
+}
+
+#[test]
+fn keeps_one_of_two(rt: HostRuntime) {
+    assert!(rt; is_either::<Either<u8, bool>>(rt.alloc()));
 }
 
 /// Whether the error of the tag 2 lists those of `Code`.

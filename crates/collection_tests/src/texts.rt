@@ -51,7 +51,9 @@ fn keeps_shared_texts(rt: HostRuntime) {
 }
 
 #[test]
-fn keeps_a_borrowed_text(rt: HostRuntime) {
+fn keeps_a_text_that_may_be_borrowed(rt: HostRuntime) {
+    let alloc = rt.alloc();
     let borrowed: CowStr<'_> = CowStr::Borrowed(FACE);
-    assert!(rt; keeps_value(rt.alloc(), Some(borrowed)));
+    let owned: Option<CowStr<'_>> = text(alloc, 150_000).map(CowStr::Owned);
+    assert!(rt; keeps_value(alloc, Some(borrowed)) && keeps_value(alloc, owned));
 }

@@ -2,6 +2,7 @@
 
 mod words;
 
+// bincode: with Described
 /// A figure in the plane.
 #[derive(Clone, Copy, PartialEq)]
 pub enum Figure {

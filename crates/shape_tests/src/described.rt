@@ -5,6 +5,7 @@ use crate::asserts::all_true;
 use crate::shaped::has_shape;
 use bincode::shape::{Described, Shape};
 use bincode::{EnumOf, NoMoreVariants, VariantOf};
+use derived_types::enums::Figure;
 use own_types::foo::Foo;
 use own_types::kind::Kind;
 use std::alloc::Global;
@@ -122,6 +123,10 @@ fn types_of_ones_own_tell_their_shapes(rt: HostRuntime) {
             has_shape::<Three>(alloc, "Choice([U8, Bool, Text])"),
             has_shape::<Eight>(alloc, "Choice([U8, U8, U8, U8, U8, U8, U8, U8])"),
             has_shape::<Foo>(alloc, "Tuple([U32, U32])"),
+            has_shape::<Figure>(
+                alloc,
+                "Choice([Unit, U32, Tuple([U32, U32]), Tuple([U32, U32, U32])])",
+            ),
             has_shape::<Kind>(
                 alloc,
                 "Choice([Unit, Tuple([Text, U16]), \

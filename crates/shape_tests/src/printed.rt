@@ -1,8 +1,9 @@
 //! Encodings by a shape, as JSON.
 
 use bincode::config;
+use bincode::error::DecodeError;
 use bincode::shape::Shape;
-use shape_text::json::write_json;
+use shape_text::json::{JsonError, write_json};
 use shape_text::text::shape_of;
 use std::alloc::Global;
 
@@ -137,4 +138,33 @@ fn writes_no_more_values_than_allowed(rt: HostRuntime) {
         (written(alloc, 4) == Some(4) || written(alloc, 4) == Some(4))
             && written(alloc, 3).is_none()
     );
+}
+
+/// Whether 2 is told as no tag of a shape of two variants, under the name of all enums by their shapes.
+fn tells_tag(alloc: Global) -> bool {
+    let Ok(shape) = shape_of(alloc, "u8|bool") else {
+        return false;
+    };
+    let mut out = Vec::new(alloc);
+    let told = write_json(alloc, &shape, &[2], config::standard(), 9, &mut out);
+    let Err(
+        JsonError::Decode(
+            DecodeError::UnexpectedVariant {
+                type_name,
+                found: 2,
+                min: 0,
+                max: 1,
+            },
+        ),
+    ) = told
+    else {
+        return false;
+    };
+    type_name.as_str() == "Choice"
+}
+
+/// Retries once, since an allocation may be refused.
+#[test]
+fn names_an_enum_whose_tag_is_refused(rt: HostRuntime) {
+    assert!(rt; tells_tag(rt.alloc()) || tells_tag(rt.alloc()));
 }

@@ -10,8 +10,10 @@ use bincode::enums::{
 };
 use bincode::error::{DecodeError, EncodeError};
 use bincode::laws::{Canonical, Exact, Plain};
+use bincode::shape::{Described, Shape, describe_variants, put_variant, start_variants};
 use bincode::short_text::TypeName;
 use bincode::{NoMoreVariants, VariantOf, Wire};
+use std::alloc::Global;
 
 type FigureEmptyPart = ();
 
@@ -119,6 +121,17 @@ impl Canonical for Figure {
         FigureRectanglePart::tell_canonical();
         FigureTrianglePart::tell_canonical();
         canonical_by_variants::<Figure>();
+    }
+}
+
+impl Described for Figure {
+    fn shape(alloc: Global) -> Option<Shape> {
+        let shapes = start_variants::<Figure>(alloc);
+        let shapes = put_variant::<Figure, FigureEmptyPart>(alloc, 0, shapes)?;
+        let shapes = put_variant::<Figure, FigureCirclePart>(alloc, 1, shapes)?;
+        let shapes = put_variant::<Figure, FigureRectanglePart>(alloc, 2, shapes)?;
+        let shapes = put_variant::<Figure, FigureTrianglePart>(alloc, 3, shapes)?;
+        Some(describe_variants::<Figure>(4, shapes))
     }
 }
 
