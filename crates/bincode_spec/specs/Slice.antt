@@ -66,8 +66,8 @@ pub record IsAnswer {T : Type 0} (F : Format Meaning) (bound : Option ℕ) (MayA
   -- what is read is a word within the limit, of this length, and the value is given for its meaning
   pub word : IfOk result (λ x. Decoded F bound input (λ m. DecodesTo m x.0) x.1)
   -- each word within the limit is read,
-  pub found : AcceptsAll F bound (IsRefused MayAllocate) input result
+  pub found : FindsWords F bound MayAllocate input result
   -- each fault within the limit is reported,
-  pub fault : ReportsFault (λ missing e. e ≡ UnexpectedEnd missing) F bound (IsRefused MayAllocate) input result
+  pub fault : TellsFaults F bound MayAllocate input result
   -- and charges that pass the limit are refused
-  pub limit : EnforcesLimit F bound (IsRefused MayAllocate) input result
+  pub limit : KeepsLimit F bound MayAllocate input result

@@ -4,9 +4,9 @@ ghost use Rattle.std.specs.Prelude.{max};
 ghost use Rattle.bincode_spec.specs.Layers.Needs.{text_needs};
 ghost use Rattle.bincode_lemmas.specs.NeedLaws.{c_string-needs};
 ghost use Rattle.bincode_lemmas.specs.ChargedLaws.{c_string-charged};
-ghost use Rattle.std.specs.Prelude.{◌≡◌, ◌<◌, ◌^◌, length};
+ghost use Rattle.std.specs.Prelude.{◌<◌, ◌^◌, length};
 ghost use Rattle.std.specs.List.{All};
-ghost use Rattle.bincode_spec.specs.Meaning.{Bytes};
+ghost use Rattle.bincode_spec.specs.Meaning.{IsBytes};
 ghost use Rattle.bincode_spec.specs.NoZero.{HasNoZero};
 ghost use Rattle.bincode_spec.specs.Words.{without_nul};
 ghost use Rattle.bincode_lemmas.specs.TextLaws.{c_string-lawful, c_string-balanced, c_string-has_word};
@@ -26,8 +26,8 @@ impl<const SIZE: usize, const ALLOCATES: bool> Wire for BytesWithoutZero<SIZE, A
     ghost words = { record {
       format = without_nul;
       valid = λ v. HasNoZero v.bytes × All (λ b. b < 256) v.bytes × (length v.bytes < 2 ^ 64);
-      means = λ v m. m ≡ Bytes v.bytes;
-      decodes_to = λ m v. m ≡ Bytes v.bytes;
+      means = λ v. IsBytes v.bytes;
+      decodes_to = λ m v. IsBytes v.bytes m;
       writable = λ s v. Unit {0};
       own_errors = λ e. ⊥;
       may_allocate = Allocates ALLOCATES;

@@ -5,7 +5,7 @@ ghost use Rattle.bincode_lemmas.specs.NeedLaws.{octets-needs};
 ghost use Rattle.bincode_lemmas.specs.ChargedLaws.{octets-charged};
 ghost use Rattle.std.specs.Prelude.{◌≡◌, ◌<◌, length};
 ghost use Rattle.std.specs.List.{All};
-ghost use Rattle.bincode_spec.specs.Meaning.{Bytes};
+ghost use Rattle.bincode_spec.specs.Meaning.{IsBytes};
 ghost use Rattle.bincode_spec.specs.Octets.{octets};
 ghost use Rattle.bincode_lemmas.specs.OctetLaws.{octets-lawful, octets-balanced, octets-has_word};
 
@@ -22,8 +22,8 @@ impl<const N: usize> Wire for Octets<N> {
     ghost words = { record {
       format = λ s. octets N;
       valid = λ v. (length v.octets ≡ N) × All (λ b. b < 256) v.octets;
-      means = λ v m. m ≡ Bytes v.octets;
-      decodes_to = λ m v. m ≡ Bytes v.octets;
+      means = λ v. IsBytes v.octets;
+      decodes_to = λ m v. IsBytes v.octets m;
       writable = λ s v. Unit {0};
       own_errors = λ e. ⊥;
       may_allocate = ⊥;

@@ -4,9 +4,9 @@ ghost use Rattle.std.specs.Prelude.{max};
 ghost use Rattle.bincode_spec.specs.Layers.Needs.{text_needs};
 ghost use Rattle.bincode_lemmas.specs.NeedLaws.{text-needs};
 ghost use Rattle.bincode_lemmas.specs.ChargedLaws.{text-charged};
-ghost use Rattle.std.specs.Prelude.{◌≡◌, ◌<◌, ◌^◌, length};
+ghost use Rattle.std.specs.Prelude.{◌<◌, ◌^◌, length};
 ghost use Rattle.std.specs.Str.{IsUtf8};
-ghost use Rattle.bincode_spec.specs.Meaning.{Bytes};
+ghost use Rattle.bincode_spec.specs.Meaning.{IsBytes};
 ghost use Rattle.bincode_spec.specs.Words.{text};
 ghost use Rattle.bincode_lemmas.specs.TextLaws.{text-lawful, text-balanced, text-has_word};
 ghost use Rattle.bincode_types.specs.Memory.{Allocates};
@@ -25,8 +25,8 @@ impl<const SIZE: usize, const ALLOCATES: bool> Wire for TextBytes<SIZE, ALLOCATE
     ghost words = { record {
       format = text;
       valid = λ v. IsUtf8 v.bytes × (length v.bytes < 2 ^ 64);
-      means = λ v m. m ≡ Bytes v.bytes;
-      decodes_to = λ m v. m ≡ Bytes v.bytes;
+      means = λ v. IsBytes v.bytes;
+      decodes_to = λ m v. IsBytes v.bytes m;
       writable = λ s v. Unit {0};
       own_errors = λ e. ⊥;
       may_allocate = Allocates ALLOCATES;
