@@ -1,0 +1,4 @@
+pub mod Recovered
+pub mod RecoveryLaws
+pub mod Replays
+pub mod Stepping
