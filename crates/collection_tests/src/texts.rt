@@ -54,6 +54,6 @@ fn keeps_shared_texts(rt: HostRuntime) {
 fn keeps_a_text_that_may_be_borrowed(rt: HostRuntime) {
     let alloc = rt.alloc();
     let borrowed: CowStr<'_> = CowStr::Borrowed(FACE);
-    let owned: Option<CowStr<'_>> = text(alloc, 150_000).map(CowStr::Owned);
+    let owned: Option<CowStr<'_>> = text(alloc, 150_000).map(|text| CowStr::Owned(text));
     assert!(rt; keeps_value(alloc, Some(borrowed)) && keeps_value(alloc, owned));
 }
