@@ -9,8 +9,8 @@ what it needs. --update writes the names into docs/PROVED.md, between the two li
 
 Of what a type says of its words it takes the members that these contracts name. Laws are left out: they are proved of each type, and
 no contract of a call names one. So is the program that reads a format (`read` of `Format`), which lemmas alone name, and so are what a
-form of numbers says for laws (`Bounds` and `need` of `Form`) and the definitions of the standard library. It stops where a contract
-comes to name one of these.
+form of numbers says for laws (`Bounds` and `need` of `Form`), the laws of what decoding promises (`keeps` and `joins` of `Promise`) and the
+definitions of the standard library. It stops where a contract comes to name one of these.
 """
 import glob, os, re, sys
 
@@ -18,8 +18,8 @@ ROOT = os.path.dirname(os.path.dirname(os.path.abspath(__file__)))
 # The members of `Words`, the record of what a type says of its words.
 MEMBERS = ['format', 'valid', 'means', 'decodes_to', 'writable', 'own_errors', 'may_allocate', 'claim', 'need', 'lawful', 'balanced', 'has_word',
            'errors_are_own', 'claims', 'needs', 'charges_enough']
-# The members of `Format` and of `Form` that no contract of a call names: laws and lemmas do.
-BY_LAWS = ['read', 'Bounds', 'need']
+# The members of `Format`, `Form` and `Promise` that no contract of a call names: laws and lemmas do.
+BY_LAWS = ['read', 'Bounds', 'need', 'keeps', 'joins']
 LEMMAS = 'bincode_lemmas'  # the crate of laws
 WORD = re.compile(r"[^\W\d][\w']*(?:-[^\W][\w']*)*|◌[^\s{},()]*◌|◌[^\s{},()]+|[^\s\w(){}\[\],.;λ_◌]+")
 

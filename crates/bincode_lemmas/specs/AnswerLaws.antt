@@ -147,14 +147,14 @@ module _ (limit charge : ℕ) where
       stays (ap (λ z. on_some z (λ n. charge_after_steps (Some limit) n steps)) e ∙ p ∙ ap Some (sym (k steps))) (λ h. within_step after x steps k h (w (l h)))
   weigh_step after x steps e k l (passes p w) =
       passes (ap (λ z. on_some z (λ n. charge_after_steps (Some limit) n steps)) e ∙ p)
-      (record { front = x ∷ w.front; back = w.back; steps_are = ap (λ z. x ∷ z) w.steps_are; above = rw (k w.front) w.above })
+      (x ∷ w.0, w.1, ap (λ z. x ∷ z) w.2, rw (k w.0) w.3)
 
   weigh_claim : (n : ℕ) (x : Step) (steps : List Step) → after_step (Some limit) charge x ≡ after_claim (Some limit) charge n →
       ((front : List Step) → charge_after charge (x ∷ front) ≡ charge_after (charge + n) front) → (limit < charge + n) ⊎ (charge + n ≤ limit) →
       Weighing (Some limit) (charge + n) steps → Weighing (Some limit) charge (x ∷ steps)
   weigh_claim n x steps e k (inl h) w =
       passes (ap (λ z. on_some z (λ n. charge_after_steps (Some limit) n steps)) (e ∙ claim-falls limit charge n h))
-      (record { front = x ∷ []; back = steps; steps_are = refl; above = rw (k []) (omega arith) })
+      (x ∷ [], steps, refl, rw (k []) (omega arith))
   weigh_claim n x steps e k (inr h) w = weigh_step (charge + n) x steps (e ∙ claim-stands (Some limit) charge n h) k (λ _. h) w
 
 module _ (held n : ℕ) (steps : List Step) where
@@ -190,7 +190,7 @@ weigh (Some limit) charge held steps h k = weigh_limited limit charge held steps
 
 not_both : (limit : Option ℕ) (charge : ℕ) (steps : List Step) → StaysWithin limit charge steps → Passes limit charge steps → ⊥
 not_both None charge steps h k = k
-not_both (Some limit) charge steps h k = let l : charge_after charge k.front ≤ limit = h k.front k.back k.steps_are in let m = k.above in omega arith
+not_both (Some limit) charge steps h k = let l : charge_after charge k.0 ≤ limit = h k.0 k.1 k.2 in let m = k.3 in omega arith
 
 module _ (limit : Option ℕ) (charge : ℕ) (steps : List Step) where
   weighing_counted : (after : ℕ) → charge_after_steps limit charge steps ≡ Some after → Weighing limit charge steps → after ≡ counted_after limit charge steps

@@ -417,8 +417,8 @@ unfolding without_count
 without_count-lawful F f = record {
   word_read = λ word remaining m s u. rw (f.word_read word remaining m s u) refl;
   read_word = λ input remaining m s e. let p = f.read_word input remaining m s (took_vaguely (F.read input) m remaining s e) in record { word = p.word; input_is = p.input_is; is_word = p.is_word };
-  fault_read = λ input fault s h. rw (f.fault_read input h.inner s h.faults, h.fault_is) refl;
-  read_fault = λ input fault s e. let p = failed_vaguely (F.read input) fault s e in record { inner = p.0; faults = f.read_fault input p.0 s p.1; fault_is = p.2 };
+  fault_read = λ input fault s h. rw (f.fault_read input h.0 s h.1, h.2) refl;
+  read_fault = λ input fault s e. let p = failed_vaguely (F.read input) fault s e in (p.0, f.read_fault input p.0 s p.1, p.2);
   stays = λ input more fault s other e.
       let p = failed_vaguely (F.read input) fault s e in
       let q = f.stays input more p.0 s (λ k. other (subst IsEnd (sym p.2) (end_vague p.0 k))) p.1 in

@@ -108,7 +108,7 @@ module _ (charge between p q : ℕ) (s t : List Step) (e : between + released_by
 
 -- the limit is passed exactly if it is below the peak
 pub peak-passes : (limit peak : ℕ) (steps : List Step) → IsPeak 0 peak steps → limit < peak → Passes (Some limit) 0 steps
-peak-passes limit peak steps p h = let e = p.reached in record { front = p.front; back = p.back; steps_are = p.steps_are; above = omega arith }
+peak-passes limit peak steps p h = let e = p.reached in (p.front, p.back, p.steps_are, omega arith)
 
 pub peak-stays : (limit peak : ℕ) (steps : List Step) → IsPeak 0 peak steps → peak ≤ limit → StaysWithin (Some limit) 0 steps
 peak-stays limit peak steps p h = λ front back e. let k = p.highest front back e in omega arith

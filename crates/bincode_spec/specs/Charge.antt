@@ -30,17 +30,10 @@ released_bytes (_ ∷ steps) = released_bytes steps
 abbrev pub charge_after : ℕ → List Step → ℕ
 charge_after charge steps = charge + charged_bytes steps + reserved_bytes steps - released_bytes steps
 
--- some prefix of the steps brings the charge above the number
-pub record Exceeds (limit charge : ℕ) (steps : List Step) : Type 0 where
-  pub front : List Step
-  pub back : List Step
-  pub steps_are : steps ≡ front ++ back
-  pub above : limit < charge_after charge front
-
--- some prefix of the steps passes the limit; never without one
+-- some prefix of the steps brings the charge above the limit; never without one
 abbrev pub Passes : Option ℕ → ℕ → List Step → Type 0
 Passes None charge steps = ⊥
-Passes (Some limit) charge steps = Exceeds limit charge steps
+Passes (Some limit) charge steps = (front : List Step) × (back : List Step) × (steps ≡ front ++ back) × (limit < charge_after charge front)
 
 -- no prefix of the steps passes the limit
 abbrev pub StaysWithin : Option ℕ → ℕ → List Step → Type 0

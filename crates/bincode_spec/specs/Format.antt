@@ -118,15 +118,9 @@ abbrev pub reading_without_count : {A : Type 0} → Reading A → Reading A
 reading_without_count (Took a remaining steps) = Took a remaining steps
 reading_without_count (Failed why steps) = Failed (fault_without_count why) steps
 
--- a fault of F, without how many bytes the input lacks
-pub record FaultsWithoutCount {A : Type 0} (F : Format A) (input : List ℕ) (fault : Fault) (steps : List Step) : Type 0 where
-  pub inner : Fault
-  pub faults : F.Faults input inner steps
-  pub fault_is : fault ≡ fault_without_count inner
-
 -- the format F, whose faults leave open how many bytes the input lacks
 unfoldable pub without_count : {A : Type 0} → Format A → Format A
-without_count F = record { Word = F.Word; Written = F.Written; Faults = FaultsWithoutCount F; read = λ input. reading_without_count (F.read input) }
+without_count F = record { Word = F.Word; Written = F.Written; Faults = λ input fault steps. (inner : Fault) × F.Faults input inner steps × (fault ≡ fault_without_count inner); read = λ input. reading_without_count (F.read input) }
 
 -- any word may be written: of a cell it is not known what it holds
 pub record AnyWord {A : Type 0} (F : Format A) (bytes : List ℕ) (meaning : A) : Type 0 where

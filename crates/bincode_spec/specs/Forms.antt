@@ -1,5 +1,5 @@
 -- The forms of scalars: numbers, truth values and characters.
-use Rattle.std.specs.Prelude.{ℕ, List, ◌<◌, ◌^◌, ℤ, pos, unsigned_abs, FitsSigned, Bool}
+use Rattle.std.specs.Prelude.{◌≡◌, ℕ, List, ◌<◌, ◌^◌, ℤ, pos, unsigned_abs, FitsSigned, Bool}
 use Rattle.std.specs.Int.{Width, w8}
 use Rattle.std.specs.Char.{IsScalar}
 use Rattle.bincode_base.specs.declared.error.IntegerType.{IntegerType}
@@ -7,7 +7,7 @@ use Rattle.bincode_base.specs.declared.error.IntegerType.TheVariants.{U8, I8}
 use Rattle.bincode_base.specs.Setting.{Setting}
 use Rattle.bincode_spec.specs.Format.{Format, map_format}
 use Rattle.bincode_spec.specs.Integers.{unsigned_integer, signed_integer, unsigned_byte, signed_byte, width_in_bytes}
-use Rattle.bincode_spec.specs.Meaning.{Meaning, Number, IsNumber, IsTruth, IsCharacter, IsNothing}
+use Rattle.bincode_spec.specs.Meaning.{Meaning, Number, IsNumber, IsTruth, IsCharacter, Nothing}
 use Rattle.bincode_spec.specs.Need.{char_needs}
 use Rattle.bincode_spec.specs.Words.{not_zero_by, truth, character, nothing}
 
@@ -18,11 +18,12 @@ pub record Form (A : Type 0) : Type 1 where
   pub means : A → Meaning → Type 0
   pub need : List ℕ → ℕ
 
--- forms of integers, and of `NonZero` ones, by the integer of a value
-module _ {A B : Type 0} (width : ℕ) (integer : A → ℤ) (Bounds : A → Type 0) (F : Setting → Format A) (get : B → A) where
-  abbrev pub numbers : Form B
-  numbers = record { format = λ s. map_format (λ k. Number (integer k)) (F s); Bounds = λ v. Bounds (get v); means = λ v. IsNumber (integer (get v)); need = λ _. width }
+-- the form of integers, by the integer of a value
+abbrev pub numbers : {A B : Type 0} → ℕ → (A → ℤ) → (A → Type 0) → (Setting → Format A) → (B → A) → Form B
+numbers width integer Bounds F get = record { format = λ s. map_format (λ k. Number (integer k)) (F s); Bounds = λ v. Bounds (get v); means = λ v. IsNumber (integer (get v)); need = λ _. width }
 
+-- the form of `NonZero` ones
+module _ {A B : Type 0} (width : ℕ) (integer : A → ℤ) (Bounds : A → Type 0) (F : Setting → Format A) (get : B → A) where
   abbrev pub numbers_not_zero : (A → ℕ) → IntegerType → Form B
   numbers_not_zero size name = record {
     format = λ s. map_format (λ k. Number (integer k)) (not_zero_by size name (F s));
@@ -69,4 +70,4 @@ characters = record { format = λ s. character; Bounds = IsScalar; means = IsCha
 
 -- no parts
 abbrev pub units : Form (Unit {0})
-units = record { format = λ s. nothing; Bounds = λ v. Unit {0}; means = λ v. IsNothing; need = λ _. 0 }
+units = record { format = λ s. nothing; Bounds = λ v. Unit {0}; means = λ v m. m ≡ Nothing; need = λ _. 0 }

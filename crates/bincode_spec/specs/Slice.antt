@@ -6,7 +6,6 @@ use Rattle.bincode_base.specs.declared.error.DecodeError.TheVariants.{Unexpected
 use Rattle.bincode_spec.specs.Charge.{Step, StaysWithin}
 use Rattle.bincode_spec.specs.Format.{Format}
 use Rattle.bincode_spec.specs.Meaning.{Meaning}
-use Rattle.bincode_spec.specs.Allowed.{OneLength}
 use Rattle.bincode_spec.specs.Decoding.{IsRefused, AcceptsAll, ReportsFault, EnforcesLimit}
 use Rattle.bincode_spec.specs.Encoding.{Begins, IsOwn}
 
@@ -28,10 +27,10 @@ pub record FrontWritten (Allowed : List ℕ → Type 0) (old new : List ℕ) (e 
   pub begins : IsOwn e ⊎ Begins Allowed front
 
 -- An error that is not the type's own comes only if a prefix of an allowed word is longer than the slice. So if all
--- words of a value have one length and its type has no errors, it is written exactly if that length fits.
+-- words of a value have one length (`OneLength`) and its type has no errors, it is written exactly if that length fits.
 pub record FitsExactly (Allowed : List ℕ → Type 0) (OwnErrors : EncodeError → Type 0) (room : ℕ) (result : Result ℕ EncodeError) : Type 0 where
   pub short : IfErr result (λ e. OwnErrors e ⊎ ((front : List ℕ) × Begins Allowed front × (room < length front)))
-  pub exact : OneLength Allowed → ((e : EncodeError) → ¬ (OwnErrors e)) → (word : List ℕ) → Allowed word → IsOk result ↔ (length word ≤ room)
+  pub exact : ((x y : List ℕ) → Allowed x → Allowed y → length x ≡ length y) → ((e : EncodeError) → ¬ (OwnErrors e)) → (word : List ℕ) → Allowed word → IsOk result ↔ (length word ≤ room)
 
 -- the error of a slice that ends too early
 abbrev pub EndsSlice : ℕ → DecodeError → Type 0
@@ -66,8 +65,8 @@ pub record IsAnswer {T : Type 0} (F : Format Meaning) (bound : Option ℕ) (MayA
   -- what is read is a word within the limit, of this length, and the value is given for its meaning
   pub word : IfOk result (λ x. Decoded F bound input (λ m. DecodesTo m x.0) x.1)
   -- each word within the limit is read,
-  pub found : FindsWords F bound MayAllocate input result
+  pub found : AcceptsAll F bound (IsRefused MayAllocate) input result
   -- each fault within the limit is reported,
-  pub fault : TellsFaults F bound MayAllocate input result
+  pub fault : ReportsFault (λ missing e. e ≡ UnexpectedEnd missing) F bound (IsRefused MayAllocate) input result
   -- and charges that pass the limit are refused
-  pub limit : KeepsLimit F bound MayAllocate input result
+  pub limit : EnforcesLimit F bound (IsRefused MayAllocate) input result

@@ -24,7 +24,7 @@ from_nothing (Some limit) = omega arith
 -- steps with a prefix that passes a limit pass it too
 more_passes : (limit : Option ℕ) (front back : List Step) → Passes limit 0 front → Passes limit 0 (front ++ back)
 more_passes None front back h = absurd h
-more_passes (Some n) front back h = record { front = h.front; back = h.back ++ back; steps_are = ap (λ z. z ++ back) h.steps_are ∙ append_assoc h.front h.back back; above = h.above }
+more_passes (Some n) front back h = (h.0, h.1 ++ back, ap (λ z. z ++ back) h.2 ∙ append_assoc h.0 h.1 back, h.3)
 
 module _ (F : Format Meaning) (f : Lawful F) (b : Balanced F) (limit : Option ℕ) where
   steps_read : (input : List ℕ) (r : Reading Meaning) → F.read input ≡ r → StepsOf F input (steps_of r)
