@@ -1,0 +1,4 @@
+mod Appends
+mod NumberLaws
+mod Refused
+mod SnapshotLaws
