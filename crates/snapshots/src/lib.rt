@@ -4,4 +4,5 @@
 
 pub mod numbered;
 pub mod resume;
+pub mod saving;
 pub mod snapshot;

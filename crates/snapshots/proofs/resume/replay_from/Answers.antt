@@ -1,5 +1,4 @@
 use Rattle.std.proofs.lemmas.Result.{IfOk-weaker}
-use Rattle.bincode_io.specs.Stream.{known_bytes}
 use Rattle.snapshots.proofs.NumberLaws.{replay-continues}
 use Rattle.snapshots.proofs.resume.replay_from.Goals as goal
 

@@ -1,7 +1,6 @@
 use Rattle.std.proofs.lemmas.Result.{err_from_is_err_and}
-use Rattle.std.proofs.Common.{arith, sym, subst, inl, inr}
-use Rattle.std.specs.Prelude.{length}
-use Rattle.snapshots.specs.Snapshots.{IsStateFault, IsLoaded}
+use Rattle.std.proofs.Common.{subst, inl, inr}
+use Rattle.snapshots.specs.Snapshots.{IsStateFault}
 use Rattle.snapshots.proofs.SnapshotLaws.{loaded-back, not-loaded-back}
 use Rattle.snapshots.proofs.snapshot.load.Goals as goal
 
