@@ -1,4 +1,2 @@
-mod Appends
 mod NumberLaws
-mod Refused
 mod SnapshotLaws

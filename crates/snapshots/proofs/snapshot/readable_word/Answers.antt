@@ -1,6 +1,6 @@
 use Rattle.std.proofs.Common.{arith}
 use Rattle.std.specs.Prelude.{length}
-use Rattle.snapshots.proofs.Appends.{read-fitting}
+use Rattle.framed_store.proofs.Appends.{read-fitting}
 use Rattle.snapshots.proofs.SnapshotLaws.{read-memory}
 use Rattle.snapshots.proofs.snapshot.readable_word.Goals as goal
 

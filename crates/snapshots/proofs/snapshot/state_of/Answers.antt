@@ -1,6 +1,6 @@
 use Rattle.std.proofs.Common.{◌≡◌}
 use Rattle.bincode_base.specs.declared.error.DecodeError.TheVariants.{Memory}
-use Rattle.snapshots.proofs.Refused.{refused-for}
+use Rattle.framed_store.proofs.Refused.{refused-for}
 use Rattle.snapshots.proofs.snapshot.state_of.Goals as goal
 
 pub returns-else-is_memory-clause-fault : goal.returns-else-is_memory-clause-fault
