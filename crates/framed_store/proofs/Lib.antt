@@ -1,7 +1,7 @@
-mod Appends
+pub mod Appends
 pub mod Fronts
 pub mod Listings
-mod Refused
+pub mod Refused
 pub mod Stepped
 mod Strode
 pub mod Taken

@@ -1,6 +1,11 @@
-//! A till that is kept as a log of payments, and the tests of replaying such logs.
+//! A till that is kept as a log of payments, and the tests of replaying such logs, and of snapshots of the till.
 #![tactic(auto)]
 
 #[cfg(test)]
 mod logs;
+#[cfg(test)]
+mod resumed;
+pub mod saved;
+#[cfg(test)]
+mod snapshots_of_tills;
 pub mod till;

@@ -1,7 +1,10 @@
 //! A till, whose log is of payments.
 ghost use Rattle.std.specs.Prelude.{◌≡◌, ◌+◌, ◌<◌, ℕ};
 
+use crate::saved::Saved;
 use replay::machine::Machine;
+use snapshots::saving::{Saving, StateError};
+use std::alloc::{AllocError, Global};
 
 /// A till, which takes payments while it has room.
 #[derive(Clone, Copy, Debug, Drop, PartialEq)]
@@ -39,4 +42,30 @@ impl Machine for Till {
             _ => Err(Full),
         }
     }
+}
+
+impl Saving for Till {
+    ghost use Rattle.replay_tests.specs.Standing.{StandsFor, one-till, equals-stand};
+
+    type Saved = Saved;
+
+    ghost stands_for = { StandsFor };
+
+    fn to_saved(&self, _alloc: Global) -> Result<Saved, AllocError> {
+        Ok(Saved::Second {
+            held: self.held,
+            most: self.most,
+        })
+    }
+
+    fn from_saved(_alloc: Global, saved: Saved) -> Result<Till, StateError> {
+        match saved {
+            Saved::First(held) => Ok(Till { held, most: 1000 }),
+            Saved::Second { held, most } => Ok(Till { held, most }),
+        }
+    }
+
+    ghost one_state = { one-till };
+
+    ghost equals_stand = { equals-stand };
 }

@@ -1,0 +1,144 @@
+//! Replaying numbered payments from a snapshot on: of 7, of 300 and of 7 again, from logs with all of them, with those that
+//! the snapshot lacks, and with some missing. The checks are Python's.
+
+use crate::till::{Full, Till};
+use bincode::config;
+use replay::replay::{Failure, ReplayError, Replayed};
+use snapshots::numbered::{Numbered, NumberedRefusal};
+use snapshots::resume::replay_from;
+use std::alloc::Global;
+
+/// The frames of the payments 0 to 2, of which the last two begin at the bytes 10 and 22.
+const LOG: [u8; 32] = [
+    2, 0, 0, 0, 0, 7, 162, 184, 108, 88, 4, 0, 0, 0, 1, 251, 44, 1, 136, 215, 213, 33, 2, 0, 0, 0,
+    2, 7, 76, 136, 41, 127,
+];
+
+/// The greatest length of an encoding in the log.
+const LONGEST: u32 = 12;
+
+/// A till with the sum of this many payments.
+fn till_after(payments: u64, most: u32) -> Numbered<Till> {
+    let held = match payments {
+        0 => 0,
+        1 => 7,
+        2 => 307,
+        _ => 314,
+    };
+    Numbered {
+        next: payments,
+        machine: Till { held, most },
+    }
+}
+
+/// Replays a log into a till.
+fn replay_into(
+    alloc: Global,
+    till: &mut Numbered<Till>,
+    mut log: &[u8],
+) -> Result<Replayed, ReplayError<NumberedRefusal<Full>>> {
+    let mut buffer = Vec::new(alloc);
+    replay_from(
+        alloc,
+        till,
+        &mut log,
+        &mut buffer,
+        config::standard(),
+        LONGEST,
+    )
+}
+
+/// Whether the log from a byte on comes to all three payments, from a till that has the first of them.
+fn comes_to_all(alloc: Global, payments: u64, from: usize) -> bool {
+    let mut till = till_after(payments, 1000);
+    match LOG.get(from..) {
+        Some(log) => { replay_into(alloc, &mut till, log).is_ok() && till == till_after(3, 1000) }
+        None => false,
+    }
+}
+
+#[test]
+fn passes_over_what_it_has(rt: HostRuntime) {
+    for payments in 0..=3 {
+        assert!(rt; comes_to_all(rt.alloc(), payments, 0), "{payments}");
+    }
+    assert!(rt; comes_to_all(rt.alloc(), 1, 10));
+    assert!(rt; comes_to_all(rt.alloc(), 2, 10));
+    assert!(rt; comes_to_all(rt.alloc(), 2, 22));
+    assert!(rt; comes_to_all(rt.alloc(), 3, 32));
+}
+
+#[test]
+fn tells_a_torn_end(rt: HostRuntime) {
+    let mut till = till_after(1, 1000);
+    let replayed = replay_into(rt.alloc(), &mut till, &LOG[..31]);
+    let end = Replayed {
+        commands: 2,
+        length: 22,
+        is_torn: true,
+    };
+    assert!(rt; matches!(replayed, Ok(found) if found == end));
+    assert!(rt; till == till_after(2, 1000));
+}
+
+#[test]
+fn refuses_where_payments_are_missing(rt: HostRuntime) {
+    let mut till = till_after(1, 1000);
+    let replayed = replay_into(rt.alloc(), &mut till, &LOG[22..]);
+    assert!(rt;
+        matches!(
+            replayed,
+            Err(ReplayError {
+                commands: 0,
+                offset: 0,
+                why: Failure::Refused(NumberedRefusal::Missing {
+                    expected: 1,
+                    found: 2
+                })
+            })
+        )
+    );
+    assert!(rt; till == till_after(1, 1000));
+}
+
+#[test]
+fn tells_what_the_till_refuses(rt: HostRuntime) {
+    let mut till = till_after(1, 100);
+    let replayed = replay_into(rt.alloc(), &mut till, &LOG);
+    assert!(rt;
+        matches!(
+            replayed,
+            Err(ReplayError {
+                commands: 1,
+                offset: 10,
+                why: Failure::Refused(NumberedRefusal::Refused(Full))
+            })
+        )
+    );
+    assert!(rt; till == till_after(1, 100));
+}
+
+#[test]
+fn refuses_the_last_number(rt: HostRuntime) {
+    let mut till = Numbered {
+        next: u64::MAX,
+        machine: Till {
+            held: 7,
+            most: 1000,
+        },
+    };
+    let last = [
+        10, 0, 0, 0, 253, 255, 255, 255, 255, 255, 255, 255, 255, 7, 157, 151, 25, 37,
+    ];
+    let replayed = replay_into(rt.alloc(), &mut till, &last);
+    assert!(rt;
+        matches!(
+            replayed,
+            Err(ReplayError {
+                commands: 0,
+                offset: 0,
+                why: Failure::Refused(NumberedRefusal::NoNumber)
+            })
+        )
+    );
+}

@@ -1,0 +1,2 @@
+mod NumberLaws
+mod SnapshotLaws

@@ -1,0 +1,4 @@
+pub mod Numbers
+pub mod Resumed
+pub mod Saved
+pub mod Snapshots

@@ -1,0 +1,8 @@
+//! Snapshots of machines, from which a log is replayed without the commands that they stand for: commands carry their
+//! numbers in the log. docs/FORMAT.md has the format of a snapshot.
+#![tactic(auto)]
+
+pub mod numbered;
+pub mod resume;
+pub mod saving;
+pub mod snapshot;
