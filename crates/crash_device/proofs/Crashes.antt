@@ -1,7 +1,7 @@
 -- What a crash leaves where one set of files was all that it could leave.
-use Rattle.std.proofs.Common.{◌≡◌, ◌≤◌, ℕ, List, [], ◌++◌, ◌+◌, length, take, inl, inr, ⊎_elim, refl, sym, ◌∙◌, ap, subst, arith}
+use Rattle.std.proofs.Common.{ℕ, List, ◌+◌, length, take, inl, inr, ⊎_elim, sym, ◌∙◌, ap, subst, arith}
 use Rattle.std.proofs.lemmas.List.{append-nil, take_all}
-use Rattle.crash_device.specs.Files.{Files, Follows, IsCut, IsReplaced, AppendsPart, CutsPart, ReplacesOrNot, CompactsPart}
+use Rattle.crash_device.specs.Files.{Files, Follows, IsReplaced, AppendsPart, CutsPart, ReplacesOrNot, CompactsPart}
 use Rattle.crash_device.specs.Moments.{Only}
 
 -- what a step leads to from them

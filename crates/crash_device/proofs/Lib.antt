@@ -1,2 +1,3 @@
 mod Crashes
 mod MomentsKept
+mod PastKept

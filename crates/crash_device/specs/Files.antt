@@ -1,5 +1,5 @@
 -- The files of a device, and what its calls do to them.
-use Rattle.std.specs.Prelude.{◌<◌, ◌≡◌, ◌⊎◌, ℕ, ◌≤◌, List, [], ◌++◌, take, Result, IsErrOf}
+use Rattle.std.specs.Prelude.{◌<◌, ◌≡◌, ◌⊎◌, ℕ, ◌≤◌, List, ◌++◌, take, Result, IsErrOf}
 use Rattle.crash_device.specs.declared.device.DeviceError.{DeviceError}
 use Rattle.crash_device.specs.declared.device.DeviceError.TheVariants.{Failed}
 

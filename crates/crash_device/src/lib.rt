@@ -3,3 +3,4 @@
 
 pub mod device;
 pub mod durable;
+pub mod memory;

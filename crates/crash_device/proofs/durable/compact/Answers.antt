@@ -1,5 +1,5 @@
 use Rattle.std.proofs.Common.{inl, refl}
-use Rattle.crash_device.specs.Files.{CutsPart, CompactsPart, ReplacesOrNot}
+use Rattle.crash_device.specs.Files.{CompactsPart, ReplacesOrNot}
 use Rattle.crash_device.proofs.Crashes.{stepped, replaced-compacts, cut-compacts}
 use Rattle.crash_device.proofs.MomentsKept.{begins, continues}
 use Rattle.crash_device.proofs.durable.compact.Goals as goal
