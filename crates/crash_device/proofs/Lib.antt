@@ -1,3 +1,2 @@
 mod Crashes
-mod MomentsKept
 mod PastKept

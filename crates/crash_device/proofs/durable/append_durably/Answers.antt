@@ -1,6 +1,6 @@
 use Rattle.crash_device.specs.Files.{AppendsPart}
 use Rattle.crash_device.proofs.Crashes.{stepped, appends-none}
-use Rattle.crash_device.proofs.MomentsKept.{begins, goes_on}
+use Rattle.crash_device.specs.MomentLaws.{begins, goes_on}
 use Rattle.crash_device.proofs.durable.append_durably.Goals as goal
 
 pub returns-in_err-append-clause-any_moment : goal.returns-in_err-append-clause-any_moment

@@ -1,7 +1,7 @@
 use Rattle.std.proofs.Common.{inl, refl}
 use Rattle.crash_device.specs.Files.{CompactsPart, ReplacesOrNot}
 use Rattle.crash_device.proofs.Crashes.{stepped, replaced-compacts, cut-compacts}
-use Rattle.crash_device.proofs.MomentsKept.{begins, continues}
+use Rattle.crash_device.specs.MomentLaws.{begins, continues}
 use Rattle.crash_device.proofs.durable.compact.Goals as goal
 
 pub returns-in_err-replace-clause-any_moment : goal.returns-in_err-replace-clause-any_moment

@@ -30,3 +30,15 @@ module _ {D : Type 0} (moment : D → ℕ) (left_since : D → ℕ → Files →
     each = λ c left. ⊎_elim (so_far.each c) (within c) (more.before (moment old) c so_far.later left);
     before = λ t c le left. ⊎_elim (so_far.before t c le) (λ now. inr (within c now)) (more.before t c (omega (arith, le, so_far.later)) left);
   }
+
+  -- with less said of each outcome
+  pub weaker : (old new : D) (P Q : Files → Type 0) → LeavesOnly moment left_since old new P → ((c : Files) → P c → Q c) → LeavesOnly moment left_since old new Q
+  weaker old new P Q leaves within = record {
+    later = leaves.later;
+    each = λ c left. within c (leaves.each c left);
+    before = λ t c le left. ⊎_elim (λ was. inl was) (λ now. inr (within c now)) (leaves.before t c le left);
+  }
+
+  -- no call was made
+  pub stays : (old : D) (files : Files) (P was : Files → Type 0) → Only files was → ((c : Files) → left_since old (moment old) c → was c) → P files → LeavesOnly moment left_since old old P
+  stays old files P was only only_now at_first = started old P (λ c left. subst P (sym (only c (only_now c left))) at_first)
