@@ -3,3 +3,4 @@
 #![tactic(auto)]
 
 pub mod appending;
+pub mod recovering;
