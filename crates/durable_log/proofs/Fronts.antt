@@ -1,17 +1,16 @@
 -- Frames of commands, and what a cut leaves of them.
-use Rattle.std.specs.Prelude.{◌≡◌, ◌⊎◌, ◌+◌, ◌-◌, ◌<◌, ◌≤◌, ◌++◌, ℕ, List, [], ◌∷◌, length, take, drop, Option, refl}
+use Rattle.std.specs.Prelude.{◌≡◌, ◌⊎◌, ◌<◌, ◌++◌, ℕ, List, [], ◌∷◌, length, take, drop, Option, refl}
 use Rattle.std.specs.List.{All}
 use Rattle.std.proofs.Common.{◌∙◌, ap, sym, subst, arith, inl, inr, ⊎_elim, append_assoc, append-nil, length-append, take-append-drop}
-use Rattle.std.proofs.lemmas.List.{length-take, take_all, drop_all, take_at}
+use Rattle.std.proofs.lemmas.List.{length-take, take_all}
 use Rattle.std.proofs.lemmas.List.Elements.{All-append, All-take}
-use Rattle.std.proofs.Math.Seq.{take-append_seam}
 use mathlib.Core.Logic.{dite}
 use native.Mathlib.Decide.{dec_le}
 use Rattle.bincode_base.specs.Setting.{Setting}
 use Rattle.bincode_types.specs.TypeWords.{Words}
 use Rattle.frames.specs.Frames.{frame}
 use Rattle.framed_store.specs.Appended.{IsFitting}
-use Rattle.framed_store.specs.Pieces.{Piece, Kept, bytes_of, bytes_of_all, IsPiece, ArePieces, LacksRoom}
+use Rattle.framed_store.specs.Pieces.{Piece, Kept, bytes_of, bytes_of_all, ArePieces}
 use Rattle.framed_store.specs.PieceLaws.{with_kept}
 use Rattle.crash_device.specs.Files.{Files, AppendsPart}
 use Rattle.durable_log.specs.Standing.{StandsFor, IsBeforeOrAfter}
@@ -68,8 +67,8 @@ module _ {A : Type 0} (W : Words A) (s : Setting) (limit : Option ℕ) (most : �
     pub stands-before-or-after : (n : ℕ) → All (λ b. b < 256) (log ++ take n (frame word)) →
         StandsFor W s limit most pieces (log ++ take n (frame word)) ⊎ StandsFor W s limit most (with_kept pieces value word) (log ++ take n (frame word))
     stands-before-or-after n bytes = dite (dec_le (length (frame word)) n)
-      (λ long. inr (stands-whole (with_kept pieces value word) (log ++ take n (frame word)) added.0 (added.1 ∙ ap (λ z. log ++ z) (sym (take_all n (frame word) long))) bytes))
-      (λ not_long. inl (stands-before n (omega (arith, not_long)) bytes))
+        (λ long. inr (stands-whole (with_kept pieces value word) (log ++ take n (frame word)) added.0 (added.1 ∙ ap (λ z. log ++ z) (sym (take_all n (frame word) long))) bytes))
+        (λ not_long. inl (stands-before n (omega (arith, not_long)) bytes))
 
     -- what a crash leaves while these bytes, the frame, are appended
     pub part-before-or-after : (files : Files) → log ≡ files.log → (bytes : List ℕ) → bytes ≡ frame word → All (λ b. b < 256) log → All (λ b. b < 256) bytes → (c : Files) →

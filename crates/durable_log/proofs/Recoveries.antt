@@ -1,13 +1,10 @@
 -- What is recovered of a log, and what is left of it meanwhile.
-use Rattle.std.specs.Prelude.{◌≡◌, ◌+◌, ◌-◌, ◌<◌, ◌≤◌, ◌++◌, ℕ, List, [], ◌∷◌, length, take, drop, Option, Bool, Result, Ok, Err, IfOk, refl}
-use Rattle.std.specs.List.{All}
+use Rattle.std.specs.Prelude.{◌≡◌, ◌-◌, ◌<◌, ◌≤◌, ◌++◌, ℕ, List, [], ◌∷◌, length, take, drop, Option, Bool, Result, Ok, Err, IfOk, refl}
 use Rattle.std.proofs.Common.{◌∙◌, ap, sym, subst, arith, append_assoc, length-append, take-append-drop}
 use Rattle.std.proofs.lemmas.List.{length-take, take-append-le}
 use Rattle.std.proofs.lemmas.List.Elements.{All-take}
 use Rattle.std.proofs.Math.Seq.{take-append_seam}
 use Rattle.bincode_base.specs.Setting.{Setting}
-use Rattle.bincode_spec.specs.Format.{Format}
-use Rattle.bincode_spec.specs.Meaning.{Meaning}
 use Rattle.bincode_types.specs.TypeWords.{Words}
 use Rattle.framed_store.specs.Pieces.{Piece, bytes_of, bytes_of_all, LacksRoom}
 use Rattle.replay.specs.declared.replay.Replayed.{Replayed}

@@ -1,4 +1,4 @@
-use Rattle.std.proofs.Common.{◌≡◌, ◌++◌, refl, sym, take, ap, subst, ◌∙◌}
+use Rattle.std.proofs.Common.{◌≡◌, refl, sym, take, ap, subst, ◌∙◌}
 use Rattle.crash_device.specs.Files.{Files, CutsPart}
 use Rattle.crash_device.specs.MomentLaws.{begins, continues}
 use Rattle.durable_log.specs.Standing.{StandsFor}
