@@ -1,5 +1,5 @@
 -- What is recovered of a log, and what is left of it meanwhile.
-use Rattle.std.specs.Prelude.{◌≡◌, ◌-◌, ◌<◌, ◌≤◌, ◌++◌, ℕ, List, [], ◌∷◌, length, take, drop, Option, Bool, Result, Ok, Err, IfOk, refl}
+use Rattle.std.specs.Prelude.{◌≡◌, ◌-◌, ◌<◌, ◌≤◌, ◌++◌, ℕ, List, [], ◌∷◌, length, take, drop, Option, Bool, Result, Ok, Err, IfOk, IfErr, refl}
 use Rattle.std.proofs.Common.{◌∙◌, ap, sym, subst, arith, append_assoc, length-append, take-append-drop}
 use Rattle.std.proofs.lemmas.List.{length-take, take-append-le}
 use Rattle.std.proofs.lemmas.List.Elements.{All-take}
@@ -20,8 +20,13 @@ pub both : {X Y : Type 0} (r : Result X Y) (P Q R : X → Type 0) → ((x : X) �
 both (Ok x) P Q R f p q = f x p q
 both (Err e) P Q R f p q = p
 
+-- less of an error
+pub IfErr-weaker : {X Y : Type 0} (r : Result X Y) (P Q : Y → Type 0) → ((e : Y) → P e → Q e) → IfErr r P → IfErr r Q
+IfErr-weaker (Ok x) P Q f p = p
+IfErr-weaker (Err e) P Q f p = f e p
+
 -- a smaller number has no more room
-less-room : {A : Type 0} (m n : ℕ) (pieces : List (Piece A)) → m ≤ n → LacksRoom n pieces → LacksRoom m pieces
+pub less-room : {A : Type 0} (m n : ℕ) (pieces : List (Piece A)) → m ≤ n → LacksRoom n pieces → LacksRoom m pieces
 less-room m n [] le lacks = lacks
 less-room m n (p ∷ pieces) le lacks = omega (arith, le, lacks)
 

@@ -1,9 +1,9 @@
 -- The commands that a log stands for, whatever a crash made of it.
-use Rattle.std.specs.Prelude.{◌≡◌, ◌⊎◌, ◌-◌, ◌<◌, ◌≤◌, ◌++◌, ℕ, List, length, Option}
+use Rattle.std.specs.Prelude.{◌≡◌, ◌⊎◌, ◌-◌, ◌<◌, ◌≤◌, ◌++◌, ℕ, List, [], ◌∷◌, length, Option}
 use Rattle.std.specs.List.{All}
 use Rattle.bincode_base.specs.Setting.{Setting}
 use Rattle.bincode_types.specs.TypeWords.{Words}
-use Rattle.framed_store.specs.Pieces.{Piece, ArePieces, bytes_of_all, LacksRoom}
+use Rattle.framed_store.specs.Pieces.{Piece, Kept, Changed, ArePieces, bytes_of_all, LacksRoom}
 use Rattle.framed_store.specs.PieceLaws.{with_kept}
 use Rattle.crash_device.specs.Files.{Files}
 
@@ -16,6 +16,12 @@ pub record StandsFor {A : Type 0} (W : Words A) (s : Setting) (limit : Option �
   pub stand_whole : length (bytes_of_all pieces) ≤ length log
   pub lacks_room : LacksRoom (length log - length (bytes_of_all pieces)) next
   pub are_bytes : All (λ b. b < 256) log
+
+-- none of them was changed
+abbrev pub AreKept : {A : Type 0} → List (Piece A) → Type 0
+AreKept [] = Unit {0}
+AreKept (Kept _ _ ∷ pieces) = AreKept pieces
+AreKept (Changed _ ∷ pieces) = ⊥
 
 -- the log is that of these commands and of one more
 abbrev pub IsAfter : {A : Type 0} → Words A → Setting → Option ℕ → ℕ → List (Piece A) → A → List ℕ → Type 0

@@ -3,10 +3,11 @@ ghost use Rattle.std.specs.Prelude.{◌≡◌, ◌<◌, List, length, take, IfEr
 ghost use Rattle.framed_store.specs.Pieces.{Piece, bytes_of_all};
 ghost use Rattle.replay.specs.Replays.{IsReplay, IsStop};
 ghost use Rattle.crash_device.specs.Moments.{Holds, LeavesOnly, Only};
-ghost use Rattle.durable_log.specs.Recovering.{IsRecovered, StopsIn};
-ghost use Rattle.durable_log.specs.Standing.{StandsFor};
+ghost use Rattle.durable_log.specs.Recovering.{ComesFromOutside, IsOutside, IsRecovered, StopsIn};
+ghost use Rattle.durable_log.specs.Standing.{AreKept, StandsFor};
 
 use bincode::config::Config;
+use bincode::laws::Exact;
 use crash_device::device::{Device, DeviceError};
 use crash_device::durable::cut_durably;
 use replay::machine::Machine;
@@ -60,6 +61,11 @@ pub fn recover<M: Machine, D: Device, C: Config>(
         → LeavesOnly D.moment D.left_since device.old device.new (λ c. (c.snapshot ≡ (D.seen device.old).snapshot)
         × StandsFor M.Command.words C.setting C.bound most pieces c.log) }
 
+    // A log that stands for commands is refused only if the machine refuses one of them, if memory is refused, or if
+    // reading fails.
+    ensures from_outside { (pieces : List (Piece M.Command))
+        → StandsFor M.Command.words C.setting C.bound most pieces (D.seen device.old).log → AreKept pieces
+        → IfErr result ComesFromOutside }
     // After `Replay` the files are as they were, and what stands at the place is told.
     ensures stopped { IfErr result (StopsIn M.applies M.refuses (M.Command.words.format C.setting) C.bound
         M.Command.words.decodes_to most D.seen D.may_leave device.old device.new
@@ -97,7 +103,11 @@ fn replay_log<M: Machine, C: Config>(
         → StandsFor M.Command.words C.setting C.bound most pieces log.now → IfOk result (λ r.
         IsRecovered M.Command.eq M.applies pieces (M.state machine.old) (M.state machine.new) r
         × (r.length ≡ length (bytes_of_all pieces))) }
+    ensures from_outside { (pieces : List (Piece M.Command))
+        → StandsFor M.Command.words C.setting C.bound most pieces log.now → AreKept pieces
+        → IfErr result (λ e. IsOutside e.why) }
 {
+    M::Command::tell_exact();
     let mut rest = log;
     let mut buffer = Vec::new(alloc);
     replay(alloc, machine, &mut rest, &mut buffer, config, most)
