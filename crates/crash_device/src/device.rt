@@ -111,7 +111,8 @@ pub trait Device {
         ensures cause { HasCause (faults self.old) (faults self.new) result };
 
     /// This moment is one of those since an earlier one.
-    ghost counts_now: { (device : Self) (t : ℕ) (c : Files) → t ≤ moment device → may_leave device c → left_since device t c };
+    ghost counts_now: { (device : Self) (t : ℕ) (c : Files) → t ≤ moment device → may_leave device c
+        → left_since device t c };
 
     /// Since this moment there is no other.
     ghost only_now: { (device : Self) (c : Files) → left_since device (moment device) c → may_leave device c };

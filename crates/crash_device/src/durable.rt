@@ -6,8 +6,8 @@ ghost use Rattle.crash_device.specs.Moments.{Only, Holds, LeavesOnly};
 
 use crate::device::{Device, DeviceError};
 
-/// Appends bytes to the log and syncs it. Fails with `Failed` or `Memory` if a call of the device does; then a prefix of
-/// the bytes may be in the log, and it has to be recovered before the next append.
+/// Appends bytes to the log and syncs it. Fails with `Failed` or `Memory` if a call of the device does; then a prefix
+/// of the bytes may be in the log, and it has to be recovered before the next append.
 pub fn append_durably<D: Device>(device: &mut D, bytes: &[u8]) -> Result<(), DeviceError>
     // What a read returns is on the disk.
     requires { Only (D.seen device.old) (D.may_leave device.old) }

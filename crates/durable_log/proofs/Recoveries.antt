@@ -1,18 +1,19 @@
 -- What is recovered of a log, and what is left of it meanwhile.
 use Rattle.std.specs.Prelude.{◌≡◌, ◌-◌, ◌<◌, ◌≤◌, ◌++◌, ℕ, List, [], ◌∷◌, length, take, drop, Option, Bool, Result, Ok, Err, IfOk, IfErr, refl}
+use Rattle.std.specs.List.{All}
 use Rattle.std.proofs.Common.{◌∙◌, ap, sym, subst, arith, append_assoc, length-append, take-append-drop}
 use Rattle.std.proofs.lemmas.List.{length-take, take-append-le}
 use Rattle.std.proofs.lemmas.List.Elements.{All-take}
 use Rattle.std.proofs.Math.Seq.{take-append_seam}
 use Rattle.bincode_base.specs.Setting.{Setting}
 use Rattle.bincode_types.specs.TypeWords.{Words}
-use Rattle.framed_store.specs.Pieces.{Piece, bytes_of, bytes_of_all, LacksRoom}
+use Rattle.framed_store.specs.Pieces.{Piece, ArePieces, bytes_of, bytes_of_all, LacksRoom}
 use Rattle.replay.specs.declared.replay.Replayed.{Replayed}
 use Rattle.replay.specs.Recovered.{EqualTo, Recovers}
 use Rattle.replay.specs.Replays.{IsReplay}
 use Rattle.crash_device.specs.Files.{Files, CutsPart}
 use Rattle.durable_log.specs.Recovering.{IsRecovered}
-use Rattle.durable_log.specs.Standing.{StandsFor}
+use Rattle.durable_log.specs.Standing.{IsLogOf, StandsFor}
 use Rattle.durable_log.proofs.Fronts.{bytes_of_all-append}
 
 -- two facts of a value that was returned
@@ -53,11 +54,24 @@ same-front n (p ∷ pieces) next (q ∷ kept) lost e fits lacks fits_kept lacks_
 
 module _ {A : Type 0} (W : Words A) (s : Setting) (limit : Option ℕ) (most : ℕ) (pieces : List (Piece A)) (log : List ℕ) (stands : StandsFor W s limit most pieces log) where
   -- the whole frames
-  pub take-whole : take (length (bytes_of_all pieces)) log ≡ bytes_of_all pieces
+  take-whole : take (length (bytes_of_all pieces)) log ≡ bytes_of_all pieces
   take-whole =
       let n = length (bytes_of_all pieces) in
       let fits = stands.stand_whole in
       sym (take-append-le n log stands.lost fits) ∙ (ap (take n) (sym stands.bytes_are) ∙ (ap (take n) (bytes_of_all-append pieces stands.next) ∙ take-append_seam (bytes_of_all pieces) (bytes_of_all stands.next)))
+
+  -- the log of them alone
+  pub log-of-whole : (whole : List ℕ) → take (length (bytes_of_all pieces)) log ≡ whole → IsLogOf W s limit most pieces whole
+  log-of-whole whole is = record {
+    are_pieces = are-front pieces stands.next stands.are_pieces;
+    are_kept = stands.are_kept;
+    bytes_are = sym take-whole ∙ is;
+    are_bytes = subst (All (λ b. b < 256)) is (All-take (λ b. b < 256) (length (bytes_of_all pieces)) log stands.are_bytes);
+  }
+    where
+      are-front : (xs ys : List (Piece A)) → ArePieces W s limit most (xs ++ ys) → ArePieces W s limit most xs
+      are-front [] ys are = tt
+      are-front (x ∷ xs) ys are = (are.0, are-front xs ys are.1)
 
   -- a cut behind them
   pub cut-stands : (kept : ℕ) → length (bytes_of_all pieces) ≤ kept → StandsFor W s limit most pieces (take kept log)
@@ -67,6 +81,7 @@ module _ {A : Type 0} (W : Words A) (s : Setting) (limit : Option ℕ) (most : �
         next = stands.next;
         lost = drop kept log ++ stands.lost;
         are_pieces = stands.are_pieces;
+        are_kept = stands.are_kept;
         bytes_are = stands.bytes_are ∙ (ap (λ z. z ++ stands.lost) (sym (take-append-drop kept log)) ∙ append_assoc (take kept log) (drop kept log) stands.lost);
         stand_whole = omega (arith, taken, fits, enough);
         lacks_room = less-room _ _ stands.next (omega (arith, taken)) stands.lacks_room;

@@ -179,7 +179,7 @@ told-kept eq F limit decodes_to most at (Kept value word ∷ kept) (r ∷ record
     told-kept eq F limit decodes_to most (at + length (bytes_of (Kept value word))) kept records content are told.3 there
 
 module _ {A : Type 0} (W : Words A) (s : Setting) (limit : Option ℕ) (most : ℕ) (small : most < 2 ^ 32) (eq : A → A → Bool) (exact : ExactWords W eq) (pieces : List (Piece A)) (log : List ℕ)
-    (stands : StandsFor W s limit most pieces log) (are : AreKept pieces) where
+    (stands : StandsFor W s limit most pieces log) where
   -- each frame that a replay comes to holds a value
   pub no-other : (commands : List A) (rest : List ℕ) (size : ℕ) (content : Content A) → FramesOf (W.format s) limit W.decodes_to most log commands rest → IsRecord (W.format s) limit W.decodes_to most rest size content →
       (value : A) × (word : List ℕ) × IsToldAs eq (Kept value word) content
@@ -191,7 +191,7 @@ module _ {A : Type 0} (W : Words A) (s : Setting) (limit : Option ℕ) (most : �
       let t = lists-front W s limit most small eq exact c.front bytes c.stop.records endings.Whole lists (pieces ++ stands.next) (c.back ++ stands.lost) stands.are_pieces parts in
       let whole = t.ends in
       let all : length log ≡ length c.front + length c.back = ap length c.log_is ∙ length-append c.front c.back in
-      let kept = kept-within (length log) pieces stands.next t.kept t.lost t.pieces_are stands.stand_whole stands.lacks_room (omega (arith, whole, all)) are in
+      let kept = kept-within (length log) pieces stands.next t.kept t.lost t.pieces_are stands.stand_whole stands.lacks_room (omega (arith, whole, all)) stands.are_kept in
       told-kept eq (W.format s) limit W.decodes_to most 0 t.kept c.stop.records content kept t.for_kept c.stop.tells
 
   -- nor does it come to a length that the log does not take

@@ -3,11 +3,11 @@ ghost use Rattle.std.specs.Prelude.{◌≡◌, ◌<◌, ◌++◌, ℕ, List, IfE
 ghost use Rattle.std.specs.List.{All};
 ghost use Rattle.frames.specs.Frames.{frame};
 ghost use Rattle.framed_store.specs.Appended.{FitsStore, IsFitting};
-ghost use Rattle.framed_store.specs.Pieces.{ArePieces, Piece, bytes_of_all};
+ghost use Rattle.framed_store.specs.Pieces.{Piece};
 ghost use Rattle.crash_device.specs.Files.{AppendsPart};
 ghost use Rattle.crash_device.specs.Moments.{Holds, LeavesOnly, Only};
 ghost use Rattle.durable_log.specs.Appending.{AddsFrame, AddsPart, IsUntouched, IsForced};
-ghost use Rattle.durable_log.specs.Standing.{IsAfter, IsBeforeOrAfter};
+ghost use Rattle.durable_log.specs.Standing.{IsAfter, IsBeforeOrAfter, IsLogOf};
 
 use bincode::config::Config;
 use bincode::de::Decode;
@@ -54,13 +54,12 @@ pub fn append_command<T: Encode + Decode<()> + Exact, D: Device, C: Config>(
         (AddsPart T.words C.setting C.bound most command.now (D.seen device.old)) }
 
     // If the log is that of commands, it is on `Ok` that of these and the new one.
-    ensures after { (pieces : List (Piece T)) → ArePieces T.words C.setting C.bound most pieces
-        → bytes_of_all pieces ≡ (D.seen device.old).log
+    ensures after { (pieces : List (Piece T)) → IsLogOf T.words C.setting C.bound most pieces (D.seen device.old).log
         → OnOk result (IsAfter T.words C.setting C.bound most pieces command.now (D.seen device.new).log) }
     // A crash at any moment of the call leaves a log that stands for the commands before it, or for these and the new
     // one (`recover` tells what that means).
-    ensures before_or_after { (pieces : List (Piece T)) → ArePieces T.words C.setting C.bound most pieces
-        → bytes_of_all pieces ≡ (D.seen device.old).log → All (λ b. b < 256) (D.seen device.old).log
+    ensures before_or_after { (pieces : List (Piece T))
+        → IsLogOf T.words C.setting C.bound most pieces (D.seen device.old).log
         → LeavesOnly D.moment D.left_since device.old device.new
         (IsBeforeOrAfter T.words C.setting C.bound most pieces command.now (D.seen device.old)) }
 

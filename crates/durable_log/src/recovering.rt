@@ -4,7 +4,7 @@ ghost use Rattle.framed_store.specs.Pieces.{Piece, bytes_of_all};
 ghost use Rattle.replay.specs.Replays.{IsReplay, IsStop};
 ghost use Rattle.crash_device.specs.Moments.{Holds, LeavesOnly, Only};
 ghost use Rattle.durable_log.specs.Recovering.{ComesFromOutside, IsOutside, IsRecovered, StopsIn};
-ghost use Rattle.durable_log.specs.Standing.{AreKept, StandsFor};
+ghost use Rattle.durable_log.specs.Standing.{IsLogOf, StandsFor};
 
 use bincode::config::Config;
 use bincode::laws::Exact;
@@ -54,7 +54,7 @@ pub fn recover<M: Machine, D: Device, C: Config>(
         → IfOk result (IsRecovered M.Command.eq M.applies pieces (M.state machine.old) (M.state machine.new)) }
     ensures whole { (pieces : List (Piece M.Command))
         → StandsFor M.Command.words C.setting C.bound most pieces (D.seen device.old).log
-        → OnOk result (bytes_of_all pieces ≡ (D.seen device.new).log) }
+        → OnOk result (IsLogOf M.Command.words C.setting C.bound most pieces (D.seen device.new).log) }
     // A crash at any moment of the call leaves a log that stands for the same commands.
     ensures any_moment { (pieces : List (Piece M.Command))
         → StandsFor M.Command.words C.setting C.bound most pieces (D.seen device.old).log
@@ -64,7 +64,7 @@ pub fn recover<M: Machine, D: Device, C: Config>(
     // A log that stands for commands is refused only if the machine refuses one of them, if memory is refused, or if
     // reading fails.
     ensures from_outside { (pieces : List (Piece M.Command))
-        → StandsFor M.Command.words C.setting C.bound most pieces (D.seen device.old).log → AreKept pieces
+        → StandsFor M.Command.words C.setting C.bound most pieces (D.seen device.old).log
         → IfErr result ComesFromOutside }
     // After `Replay` the files are as they were, and what stands at the place is told.
     ensures stopped { IfErr result (StopsIn M.applies M.refuses (M.Command.words.format C.setting) C.bound
@@ -104,7 +104,7 @@ fn replay_log<M: Machine, C: Config>(
         IsRecovered M.Command.eq M.applies pieces (M.state machine.old) (M.state machine.new) r
         × (r.length ≡ length (bytes_of_all pieces))) }
     ensures from_outside { (pieces : List (Piece M.Command))
-        → StandsFor M.Command.words C.setting C.bound most pieces log.now → AreKept pieces
+        → StandsFor M.Command.words C.setting C.bound most pieces log.now
         → IfErr result (λ e. IsOutside e.why) }
 {
     M::Command::tell_exact();

@@ -16,9 +16,9 @@ returns-clause-recovers g c =
 pub returns-clause-from_outside : goal.returns-clause-from_outside
 returns-clause-from_outside g c =
     let small : c.args.most < 2 ^ 32 = let fits = c.ranges.most.fits in omega (arith, fits) in
-    λ pieces stands are.
+    λ pieces stands.
     IfErr-weaker c.replay.result _ (λ e. IsOutside e.why)
     (λ e stop.
-    stops-outside g.M.Command.Wire.words g.C.Config.setting g.C.Config.bound c.args.most small g.M.Command.PartialEq.eq c.tell_exact.ensures pieces c.args.log.now stands are g.M.Machine.applies g.M.Machine.refuses
+    stops-outside g.M.Command.Wire.words g.C.Config.setting g.C.Config.bound c.args.most small g.M.Command.PartialEq.eq c.tell_exact.ensures pieces c.args.log.now stands g.M.Machine.applies g.M.Machine.refuses
     (g.M.Machine.state c.args.machine.now) (g.M.Machine.state c.replay.new.machine) e stop)
     (c.replay.ensures.stopped tt)
