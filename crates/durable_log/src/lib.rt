@@ -4,3 +4,4 @@
 
 pub mod appending;
 pub mod recovering;
+pub mod runs;
