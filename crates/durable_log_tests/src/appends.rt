@@ -1,9 +1,11 @@
 //! Appending payments: what stands after each, and after a crash in each call and at each byte.
 
 use crate::logs::{LOG, LONGEST, ONE, TWO, crashing, device_with, pay, recovers};
+use bincode::config;
 use crash_device::device::DeviceError;
 use crash_device::memory::Crash;
 use durable_log::appending::CommandError;
+use durable_log::runs::append_commands;
 use framed_store::appending::AppendError;
 use std::alloc::Global;
 use std::test::Fail;
@@ -85,5 +87,66 @@ fn appends_many(rt: HostRuntime) -> Result<(), Fail> {
     assert_eq!(rt; device.log().len(), 2_700);
     let log = device.log().to_vec(alloc)?;
     assert!(rt; recovers(alloc, &mut device, 2_100, 300, &log));
+    Ok(())
+}
+
+/// Whether a run of three payments that crashes there fails, and the sum of this number of them is recovered.
+fn stands_for_first(
+    alloc: Global,
+    crash: Crash,
+    sum: u32,
+    commands: u64,
+    end: usize,
+) -> Result<bool, DeviceError> {
+    let mut device = crashing(alloc, &[], crash)?;
+    let told = append_commands(
+        alloc,
+        &mut device,
+        &[7u16, 300, 7],
+        config::standard(),
+        LONGEST,
+    );
+    let failed = matches!(told, Err(CommandError::Device(DeviceError::Failed)));
+    Ok(
+        failed
+            && recovers(
+                alloc,
+                &mut device,
+                sum,
+                commands,
+                LOG.get(..end).unwrap_or(&[]),
+            ),
+    )
+}
+
+#[test]
+fn appends_a_run(rt: HostRuntime) -> Result<(), Fail> {
+    let alloc = rt.alloc();
+    let mut device = device_with(alloc, &[])?;
+    let told = append_commands(
+        alloc,
+        &mut device,
+        &[7u16, 300, 7],
+        config::standard(),
+        LONGEST,
+    );
+    assert!(rt; told.is_ok());
+    assert_eq!(rt; device.log(), LOG.as_slice());
+    assert!(rt; stands_for_first(alloc, Crash { calls: 0, bytes: 8 }, 0, 0, 0)?);
+    assert!(rt; stands_for_first(alloc, Crash { calls: 1, bytes: 0 }, 7, 1, ONE)?);
+    assert!(rt;
+        stands_for_first(
+            alloc,
+            Crash {
+                calls: 2,
+                bytes: 10
+            },
+            7,
+            1,
+            ONE
+        )?
+    );
+    assert!(rt; stands_for_first(alloc, Crash { calls: 4, bytes: 3 }, 307, 2, TWO)?);
+    assert!(rt; stands_for_first(alloc, Crash { calls: 5, bytes: 0 }, 314, 3, 29)?);
     Ok(())
 }
