@@ -29,8 +29,8 @@ pub fn append_commands<T: Encode + Decode<()> + Exact, D: Device, C: Config>(
     // If the log is that of commands, it is on `Ok` that of these and the new ones.
     ensures after { (pieces : List (Piece T)) → IsLogOf T.words C.setting C.bound most pieces (D.seen device.old).log
         → OnOk result (IsLogAfter T.words C.setting C.bound most pieces commands.now (D.seen device.new).log) }
-    // A crash at any moment of the call leaves a log that stands for these and the first of the new ones, in order, none
-    // left out and none in part.
+    // A crash at any moment of the call leaves a log that stands for these and the first of the new ones, in order,
+    // none left out and none in part.
     ensures any_moment { (pieces : List (Piece T))
         → IsLogOf T.words C.setting C.bound most pieces (D.seen device.old).log
         → LeavesOnly D.moment D.left_since device.old device.new
