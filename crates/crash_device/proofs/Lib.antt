@@ -1,0 +1,2 @@
+mod Crashes
+mod PastKept

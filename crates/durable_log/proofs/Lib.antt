@@ -1,0 +1,4 @@
+mod Fronts
+mod Recoveries
+mod RunSteps
+mod Stops

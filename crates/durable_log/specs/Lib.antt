@@ -1,0 +1,4 @@
+pub mod Appending
+pub mod Recovering
+pub mod Runs
+pub mod Standing
