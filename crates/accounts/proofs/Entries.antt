@@ -83,10 +83,10 @@ module _ {Y : Type 0} where
   is_taken name es h = ap is_some (balance_of-balances_of name es) ∙ h
 
   -- an account may be opened where the map has none of its name
-  pub may_open : (key name : List ℕ) (amount total : ℕ) (es : List (String Y × ℕ)) (accounts : Balances) → key ≡ name → balances_of es ≡ accounts → total ≡ total_of accounts → (length key == 0) ≡ false →
-      is_some (lookup (is_at (λ k. slice_cmp nat_cmp key (string_bytes k))) es) ≡ false → total + amount < 2 ^ 64 → CanOpen accounts name amount
-  may_open key name amount total es accounts is_key are is_total longer missing fits = record {
-    is_named = subst (λ (n : List ℕ). n ≢ []) is_key (named key longer);
-    is_free = none_if (balance_of name accounts) (ap is_some (ap (balance_of name) (sym are) ∙ ap (λ n. balance_of n (balances_of es)) (sym is_key) ∙ balance_of-balances_of key es) ∙ missing);
+  pub may_open : (name : List ℕ) (amount total : ℕ) (es : List (String Y × ℕ)) (accounts : Balances) → balances_of es ≡ accounts → total ≡ total_of accounts → (length name == 0) ≡ false →
+      is_some (lookup (is_at (λ k. slice_cmp nat_cmp name (string_bytes k))) es) ≡ false → total + amount < 2 ^ 64 → CanOpen accounts name amount
+  may_open name amount total es accounts are is_total longer missing fits = record {
+    is_named = named name longer;
+    is_free = none_if (balance_of name accounts) (ap is_some (ap (balance_of name) (sym are) ∙ balance_of-balances_of name es) ∙ missing);
     fits = subst (λ (n : ℕ). n + amount < 2 ^ 64) is_total fits;
   }

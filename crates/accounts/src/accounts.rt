@@ -1,10 +1,10 @@
 //! Accounts by name.
-ghost use Rattle.std.specs.Prelude.{◌≡◌, [], List, map, IfErr, OnErr, OnOk, string_bytes};
+ghost use Rattle.std.specs.Prelude.{◌≡◌, [], List, map, IfErr, OnErr, OnOk};
 ghost use Rattle.std.specs.Cmp.Lexicographic.{slice_cmp};
 ghost use Rattle.std.specs.List.Sorted.{IsStrictlySortedBy};
 ghost use Rattle.std.specs.Map.{keys_of};
 ghost use Rattle.std.specs.Ordering.{nat_cmp};
-ghost use Rattle.accounts.specs.Accounts.{Balances, account_of, balances_of, balance_of, total_of, with_balance};
+ghost use Rattle.accounts.specs.Accounts.{Balances, account_of, balances_of, balance_of, total_of, with_account, with_balance};
 ghost use Rattle.accounts.specs.Changes.{Opens, Pays, RefusesOpening, RefusesPayment};
 
 use crate::refusals::{OpenError, PayError};
@@ -16,6 +16,7 @@ use std::marker::Model;
 /// Accounts, each with a name and a balance in the smallest unit. The sum of all balances fits in 64 bits.
 #[derive(Drop)]
 pub struct Accounts {
+    alloc: Global,
     balances: BTreeMap<String, u64>,
     /// The sum of the balances.
     total: u64,
@@ -38,39 +39,39 @@ impl Accounts {
         ensures { result ≡ [] }
     {
         Accounts {
+            alloc,
             balances: BTreeMap::new(alloc),
             total: 0,
         }
     }
 
-    /// Opens an account with a balance, the only way that money comes in. Fails with `Unnamed` if the name is empty, with
-    /// `Taken` if an account has it, with `TooMuch` if the sum of all balances would be 2^64 or more, or with `Memory`.
-    /// After an error the accounts are as they were.
-    pub fn open(&mut self, name: String, amount: u64) -> Result<(), OpenError>
-        ensures opened { OnOk result (Opens self.old (string_bytes name) amount self.new) }
-        ensures refused { IfErr result (RefusesOpening self.old (string_bytes name) amount) }
+    /// Opens an account with a balance, the only way that money comes in. Fails with `Unnamed` if the name is empty,
+    /// with `Taken` if an account has it, with `TooMuch` if the sum of all balances would be 2^64 or more, or with
+    /// `Memory`. After an error the accounts are as they were.
+    pub fn open(&mut self, name: &str, amount: u64) -> Result<(), OpenError>
+        ensures opened { OnOk result (Opens self.old name.now amount self.new) }
+        ensures refused { IfErr result (RefusesOpening self.old name.now amount) }
         ensures unchanged { OnErr result (self.new ≡ self.old) }
     {
-        let key = name.as_str();
-        if key.is_empty() {
+        if name.is_empty() {
             return Err(OpenError::Unnamed);
         }
-        if self.balances.contains_key(key) {
+        if self.balances.contains_key(name) {
             return Err(OpenError::Taken);
         }
         let Some(total) = self.total.checked_add(amount) else {
             return Err(OpenError::TooMuch);
         };
-        let Ok(_) = self.balances.insert(name, amount) else {
+        let Ok(()) = add_entry(self.alloc, &mut self.balances, name, amount) else {
             return Err(OpenError::Memory(AllocError));
         };
         self.total = total;
         Ok(())
     }
 
-    /// Pays an amount from one account to another. Fails with `NoPayer` or `NoPayee` if there is no account of that name,
-    /// with `SameAccount` if the names are equal, with `Nothing` if the amount is 0, or with `Short` if the payer has less.
-    /// After an error the accounts are as they were. Takes no memory.
+    /// Pays an amount from one account to another. Fails with `NoPayer` or `NoPayee` if there is no account of that
+    /// name, with `SameAccount` if the names are equal, with `Nothing` if the amount is 0, or with `Short` if the payer
+    /// has less. After an error the accounts are as they were. Takes no memory.
     pub fn pay(&mut self, from: &str, to: &str, amount: u64) -> Result<(), PayError>
         ensures paid { OnOk result (Pays self.old from.now to.now amount self.new) }
         ensures refused { IfErr result (RefusesPayment self.old from.now to.now amount) }
@@ -115,6 +116,22 @@ impl Accounts {
     {
         self.balances.iter()
     }
+}
+
+/// Adds an account of a name that no account has. After an error the map is as it was.
+fn add_entry(
+    alloc: Global,
+    balances: &mut BTreeMap<String, u64>,
+    name: &str,
+    amount: u64,
+) -> Result<(), AllocError>
+    ensures added { OnOk result (balances_of balances.new.entries
+        ≡ with_account name.now amount (balances_of balances.old.entries)) }
+    ensures unchanged { OnErr result (balances_of balances.new.entries ≡ balances_of balances.old.entries) }
+{
+    let key = String::from_str(alloc, name)?;
+    balances.insert(key, amount)?;
+    Ok(())
 }
 
 /// Sets the balance of the account of this name, if there is one.
