@@ -1,4 +1,2 @@
 pub mod Commands
-pub mod Entries
 pub mod Openings
-pub mod Repairs

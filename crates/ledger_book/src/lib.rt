@@ -3,13 +3,7 @@
 #![tactic(auto)]
 
 pub mod command;
-pub mod entering;
 pub mod laws;
 pub mod limit;
-pub mod listing;
 pub mod machine;
 pub mod opening;
-pub mod program;
-pub mod repairing;
-pub mod request;
-pub mod status;

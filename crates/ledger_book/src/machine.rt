@@ -1,5 +1,5 @@
 //! The accounts of a book as a machine, whose commands are those of its log.
-ghost use Rattle.std.specs.Prelude.{◌≡◌, ◌×◌, ℕ, List, IfErr, OnErr, OnOk};
+ghost use Rattle.std.specs.Prelude.{◌≡◌, ℕ, List, IfErr, OnErr, OnOk};
 ghost use Rattle.ledger_book.specs.Commands.{Applies, RefusesCommand};
 
 use crate::command::Command;

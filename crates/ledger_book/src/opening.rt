@@ -35,6 +35,13 @@ pub fn open_book<R: Read>(
     ensures stopped { TellsBytes (R.remaining log.old) → IfErr result (StopsIn
         (⟦<Command as Wire>⟧.words.format ⟦<Settings as Config>⟧.setting) ⟦<Settings as Config>⟧.bound
         ⟦<Command as Wire>⟧.words.decodes_to LONGEST_WORD (known_bytes (R.remaining log.old))) }
+    // Of commands that were entered, wherever their log was cut since, those are carried out that stand whole in it.
+    ensures recovers { TellsBytes (R.remaining log.old) → All (λ b. b < 256) (known_bytes (R.remaining log.old))
+        → (pieces : List (Piece Command)) (lost : List ℕ)
+        → ArePieces ⟦<Command as Wire>⟧.words ⟦<Settings as Config>⟧.setting ⟦<Settings as Config>⟧.bound
+        LONGEST_WORD pieces → bytes_of_all pieces ≡ known_bytes (R.remaining log.old) ++ lost
+        → IfOk result (λ r. Recovers ⟦<Command as PartialEq>⟧.eq Applies pieces
+        (length (known_bytes (R.remaining log.old))) [] r.0 r.1) }
 {
     commands_keep_money();
     let mut book = Book {
