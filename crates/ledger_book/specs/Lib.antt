@@ -1,2 +1,4 @@
 pub mod Commands
+pub mod Entries
 pub mod Openings
+pub mod Repairs

@@ -3,7 +3,10 @@
 #![tactic(auto)]
 
 pub mod command;
+pub mod entering;
 pub mod laws;
 pub mod limit;
 pub mod machine;
 pub mod opening;
+pub mod repairing;
+pub mod status;
