@@ -41,11 +41,11 @@ fn has_balances(accounts: &Accounts, balances: &[Option<u64>; 5]) -> bool {
 }
 
 /// The row of a log of this length: the number of its whole commands, and what they come to.
-fn row_of(length: usize) -> Option<(u64, &'static Row)> {
+fn row_of(length: usize) -> Option<(u64, Row)> {
     let mut found = None;
     for (commands, row) in (0..).zip(ROWS.iter()) {
         if row.0 <= length {
-            found = Some((commands, row));
+            found = Some((commands, *row));
         }
     }
     found
@@ -62,10 +62,10 @@ fn opens_front(alloc: Global, length: usize) -> bool {
     };
     let wanted = Replayed {
         commands,
-        length: *end,
-        is_torn: *end < length,
+        length: end,
+        is_torn: end < length,
     };
-    replayed == wanted && accounts.total() == *money && has_balances(&accounts, balances)
+    replayed == wanted && accounts.total() == money && has_balances(&accounts, &balances)
 }
 
 #[test]
@@ -79,9 +79,7 @@ fn opens_each_front(rt: HostRuntime) {
 #[test]
 fn lists_by_name(rt: HostRuntime) -> Result<(), Fail> {
     let mut log = LOG.as_slice();
-    let Ok((accounts, _)) = open_book(rt.alloc(), &mut log) else {
-        return Err(Fail);
-    };
+    let (accounts, _) = open_book(rt.alloc(), &mut log)?;
     let mut text = String::new(rt.alloc());
     for (name, balance) in accounts.iter() {
         text.push_str(name)?;
