@@ -56,15 +56,11 @@ pub fn print_log<R: Read, W: Write>(
             Ok(Found::End) => return Ok(()),
             Ok(Found::Torn) => return Err(ListError::Torn { offset }),
             Err(why) => {
-                return Err(
-                    ListError::Log(
-                        ReplayError {
-                            commands,
-                            offset,
-                            why,
-                        },
-                    ),
-                );
+                return Err(ListError::Log(ReplayError {
+                    commands,
+                    offset,
+                    why,
+                }));
             }
         }
     }
@@ -108,6 +104,9 @@ fn next_command<R: Read>(
 fn print_command<W: Write>(out: &mut W, offset: usize, command: &Command) -> io::Result<()> {
     match command {
         Command::Open { name, amount } => writeln!(out, "{offset}: open {name:?} {amount}"),
-        Command::Pay { from, to, amount } => writeln!(out, "{offset}: pay {from:?} {to:?} {amount}"),
+        Command::Pay { from, to, amount } => writeln!(
+            out,
+            "{offset}: pay {from:?} {to:?} {amount}"
+        ),
     }
 }

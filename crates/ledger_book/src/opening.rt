@@ -48,13 +48,6 @@ pub fn open_book<R: Read>(
         accounts: Accounts::new(alloc),
     };
     let mut buffer = Vec::new(alloc);
-    let replayed = replay(
-        alloc,
-        &mut book,
-        log,
-        &mut buffer,
-        settings(),
-        LONGEST_WORD,
-    )?;
+    let replayed = replay(alloc, &mut book, log, &mut buffer, settings(), LONGEST_WORD)?;
     Ok((book.accounts, replayed))
 }

@@ -247,7 +247,9 @@ fn show_check(rt: &HostRuntime, path: &str) -> Result<(), BookError> {
     let (accounts, replayed) = read_book(rt, path)?;
     refuse_torn(replayed)?;
     let Replayed {
-        commands, length, ..
+        commands,
+        length,
+        ..
     } = replayed;
     let total = accounts.total();
     writeln!(
@@ -269,15 +271,24 @@ pub fn repair(rt: &HostRuntime, path: &str) -> Result<(), BookError> {
     let tail = bytes_from(rt.alloc(), &mut file, length)?;
     let mut out = io::writer(rt);
     match plan_for(is_torn, &tail) {
-        Plan::Leave => writeln!(out, "{path}: nothing to cut off, commands: {commands}, bytes: {length}")?,
+        Plan::Leave => writeln!(
+            out,
+            "{path}: nothing to cut off, commands: {commands}, bytes: {length}"
+        )?,
         Plan::Cut => {
             cut(&file, length)?;
             let lost = tail.len();
-            writeln!(out, "{path}: cut off at byte {length}, bytes lost: {lost}, commands: {commands}")?;
+            writeln!(
+                out,
+                "{path}: cut off at byte {length}, bytes lost: {lost}, commands: {commands}"
+            )?;
         }
         Plan::Refuse { after } => {
             let next = length.saturating_add(after);
-            return Err(BookError::Buried { offset: length, next });
+            return Err(BookError::Buried {
+                offset: length,
+                next,
+            });
         }
     }
     Ok(())

@@ -40,6 +40,12 @@ const STATUSES: &str = "Status:
 Amounts are whole numbers below 2^64, in the smallest unit. A command that is said to be entered is on the disk. Where it
 cannot be entered the book is cut back to what it held.";
 
+/// How `open` is used.
+const OPEN_USAGE: &str = "ledger BOOK open NAME [AMOUNT]";
+
+/// How `pay` is used.
+const PAY_USAGE: &str = "ledger BOOK pay FROM TO AMOUNT";
+
 /// What an amount is.
 const AMOUNT: &str = "an amount is a number below 2^64";
 
@@ -54,7 +60,9 @@ fn command_line<'a>(alloc: Global) -> Result<CommandLine<'a>, AllocError> {
 fn bare_line<'a>(alloc: Global) -> Result<CommandLine<'a>, AllocError> {
     CommandLine::new(alloc, "ledger")
         .version("2.0.0")
-        .about("Keeps accounts in a book, a log of openings and payments, each in a frame with a check")
+        .about(
+            "Keeps accounts in a book, a log of openings and payments, each in a frame with a check",
+        )
         .after_help(STATUSES)
         .subcommand_required(true)
         .arg(word(alloc, "book", "BOOK", "The file of the book"))
@@ -85,6 +93,7 @@ fn word<'a>(alloc: Global, id: &'a str, name: &'a str, help: &'a str) -> Arg<'a>
 fn open_line<'a>(alloc: Global) -> Result<CommandLine<'a>, AllocError> {
     CommandLine::new(alloc, "open")
         .about("Opens an account. The book is made where there is none")
+        .override_usage(OPEN_USAGE)
         .arg(word(alloc, "name", "NAME", "The name of the account"))?
         .arg(opening_amount(alloc))
 }
@@ -100,6 +109,7 @@ fn opening_amount<'a>(alloc: Global) -> Arg<'a> {
 fn pay_line<'a>(alloc: Global) -> Result<CommandLine<'a>, AllocError> {
     CommandLine::new(alloc, "pay")
         .about("Pays from one account to another")
+        .override_usage(PAY_USAGE)
         .arg(word(alloc, "from", "FROM", "The name of the payer"))?
         .arg(word(alloc, "to", "TO", "The name of the payee"))?
         .arg(word(alloc, "amount", "AMOUNT", "How much"))
