@@ -1,3 +1,4 @@
+pub mod Books
 pub mod Commands
 pub mod Entries
 pub mod Openings

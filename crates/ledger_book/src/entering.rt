@@ -1,6 +1,7 @@
 //! Entering commands into a book.
-ghost use Rattle.std.specs.Prelude.{◌≡◌, IfErr, IfOk, OnOk};
+ghost use Rattle.std.specs.Prelude.{◌≡◌, ℕ, List, Some, IfErr, IfOk, IsSomeAnd, OnOk};
 ghost use Rattle.framed_store.specs.Appended.{Added};
+ghost use Rattle.ledger_book.specs.Books.{IsBook};
 ghost use Rattle.ledger_book.specs.Commands.{Applies};
 ghost use Rattle.ledger_book.specs.Entries.{IsNotEntered};
 
@@ -26,8 +27,8 @@ pub enum EnterError {
     Append(AppendError),
 }
 
-/// Carries a command out on the accounts that a log comes to, and then appends it to the log. Returns the number of bytes
-/// of its frame. Fails with `Refused` if the accounts refuse it, or with `Append`.
+/// Carries a command out on the accounts that a log comes to, and then appends it to the log. Returns the number of
+/// bytes of its frame. Fails with `Refused` if the accounts refuse it, or with `Append`.
 pub fn enter<W: Write>(
     alloc: Global,
     accounts: &mut Accounts,
@@ -38,10 +39,17 @@ pub fn enter<W: Write>(
     // On `Ok(n)` the frame of an encoding of the command, of `n` bytes, follows what the log held.
     ensures added { IfOk result (λ n. Added ⟦<Command as Wire>⟧.words ⟦<Settings as Config>⟧.setting
         ⟦<Settings as Config>⟧.bound LONGEST_WORD command.now n (W.contents log.old) (W.contents log.new)) }
-    // A command that is refused leaves the accounts and the log. Else the log holds what it held, and at most a prefix of
-    // the frame after it.
+    // A command that is refused leaves the accounts and the log. Else the log holds what it held, and at most a prefix
+    // of the frame after it.
     ensures not_entered { IfErr result (IsNotEntered ⟦<Command as Wire>⟧.words ⟦<Settings as Config>⟧.setting
-        ⟦<Settings as Config>⟧.bound LONGEST_WORD command.now W.contents accounts.old accounts.new log.old log.new) }
+        ⟦<Settings as Config>⟧.bound LONGEST_WORD command.now W.contents accounts.old accounts.new
+        log.old log.new) }
+    // A book that these accounts were is one that the new accounts are.
+    ensures is_book { (held : List ℕ) → W.contents log.old ≡ Some held
+        → IsBook ⟦<Command as Wire>⟧.words ⟦<Settings as Config>⟧.setting ⟦<Settings as Config>⟧.bound
+        LONGEST_WORD held accounts.old
+        → IfOk result (λ _. IsSomeAnd (W.contents log.new) (λ new. IsBook ⟦<Command as Wire>⟧.words
+        ⟦<Settings as Config>⟧.setting ⟦<Settings as Config>⟧.bound LONGEST_WORD new accounts.new)) }
 {
     if let Err(why) = carry_out(accounts, command) {
         return Err(EnterError::Refused(why));

@@ -37,9 +37,9 @@ pub fn print_balances<W: Write>(out: &mut W, accounts: &Accounts) -> io::Result<
     Ok(())
 }
 
-/// Prints the commands of a log, each with its offset, with one frame in memory at a time. Stops at the first frame that
-/// holds no command. Fails with `Log` there, where the log cannot be read and where memory is refused, with `Torn` where
-/// the log ends within a frame, or with `Output`; the commands before are printed.
+/// Prints the commands of a log, each with its offset, with one frame in memory at a time. Stops at the first frame
+/// that holds no command. Fails with `Log` there, where the log cannot be read and where memory is refused, with `Torn`
+/// where the log ends within a frame, or with `Output`; the commands before are printed.
 pub fn print_log<R: Read, W: Write>(
     alloc: Global,
     out: &mut W,

@@ -1,8 +1,10 @@
 //! Opening a book: its log of commands is replayed to the accounts.
 ghost use Rattle.std.specs.Prelude.{◌≡◌, ◌<◌, ◌++◌, ℕ, [], List, length, IfErr, IfOk};
 ghost use Rattle.std.specs.List.{All};
+ghost use Rattle.accounts.specs.Accounts.{Balances};
 ghost use Rattle.bincode_io.specs.Stream.{TellsBytes, known_bytes};
 ghost use Rattle.framed_store.specs.Pieces.{ArePieces, Piece, bytes_of_all};
+ghost use Rattle.ledger_book.specs.Books.{IsBook};
 ghost use Rattle.ledger_book.specs.Commands.{Applies, RefusesCommand};
 ghost use Rattle.ledger_book.specs.Openings.{HoldsMoney, StopsIn};
 ghost use Rattle.ledger_book.specs.declared.command.Command.{Command};
@@ -42,6 +44,11 @@ pub fn open_book<R: Read>(
         LONGEST_WORD pieces → bytes_of_all pieces ≡ known_bytes (R.remaining log.old) ++ lost
         → IfOk result (λ r. Recovers ⟦<Command as PartialEq>⟧.eq Applies pieces
         (length (known_bytes (R.remaining log.old))) [] r.0 r.1) }
+    // A book has the accounts with which it was left by the last command that was entered.
+    ensures opens { TellsBytes (R.remaining log.old) → All (λ b. b < 256) (known_bytes (R.remaining log.old))
+        → (accounts : Balances) → IsBook ⟦<Command as Wire>⟧.words ⟦<Settings as Config>⟧.setting
+        ⟦<Settings as Config>⟧.bound LONGEST_WORD (known_bytes (R.remaining log.old)) accounts
+        → IfOk result (λ r. r.0 ≡ accounts) }
 {
     commands_keep_money();
     let mut book = Book {

@@ -37,8 +37,8 @@ const STATUSES: &str = "Status:
   3  a file, the standard output or memory fails
   4  the command is refused, or there is no account of the name
 
-Amounts are whole numbers below 2^64, in the smallest unit. A command that is said to be entered is on the disk. Where it
-cannot be entered the book is cut back to what it held.";
+Amounts are whole numbers below 2^64, in the smallest unit. A command that is said to be entered is on the disk. Where
+it cannot be entered the book is cut back to what it held.";
 
 /// How `open` is used.
 const OPEN_USAGE: &str = "ledger BOOK open NAME [AMOUNT]";
