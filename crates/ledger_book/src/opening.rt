@@ -12,7 +12,7 @@ ghost use Rattle.replay.specs.Recovered.{Recovers};
 ghost use Rattle.replay.specs.Replays.{IsReplay};
 
 use crate::command::Command;
-use crate::laws::commands_keep_money;
+use crate::laws::{commands_keep_money, equal_commands_are_one_change};
 use crate::limit::{LONGEST_WORD, Settings, settings};
 use crate::machine::{Book, Refusal};
 use accounts::accounts::Accounts;
@@ -51,6 +51,7 @@ pub fn open_book<R: Read>(
         → IfOk result (λ r. r.0 ≡ accounts) }
 {
     commands_keep_money();
+    equal_commands_are_one_change();
     let mut book = Book {
         accounts: Accounts::new(alloc),
     };

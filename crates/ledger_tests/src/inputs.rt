@@ -26,14 +26,10 @@ pub const UNPAYABLE: [u8; 32] = [
 ];
 
 /// An opening, and a byte after it in its frame.
-pub const LONGER: [u8; 15] = [
-    7, 0, 0, 0, 0, 3, 97, 110, 110, 1, 7, 88, 228, 207, 38,
-];
+pub const LONGER: [u8; 15] = [7, 0, 0, 0, 0, 3, 97, 110, 110, 1, 7, 88, 228, 207, 38];
 
 /// A frame of a command of a third kind.
-pub const NO_COMMAND: [u8; 14] = [
-    6, 0, 0, 0, 2, 3, 97, 110, 110, 1, 36, 114, 100, 40,
-];
+pub const NO_COMMAND: [u8; 14] = [6, 0, 0, 0, 2, 3, 97, 110, 110, 1, 36, 114, 100, 40];
 
 /// An opening whose length was changed to 200, and a whole opening of bob.
 pub const BURIED: [u8; 28] = [

@@ -23,13 +23,77 @@ const ROWS: [Row; 13] = [
     (46, 100, [Some(70), Some(30), None, None, None]),
     (63, 70100, [Some(70), Some(30), Some(70000), None, None]),
     (84, 70100, [Some(65606), Some(30), Some(4464), None, None]),
-    (105, 1099511697876, [Some(65606), Some(30), Some(4464), Some(1099511627776), None]),
-    (130, 1099511697876, [Some(65606), Some(4294967326), Some(4464), Some(1095216660480), None]),
-    (147, 1099511697876, [Some(65606), Some(4294967321), Some(4469), Some(1095216660480), None]),
-    (164, 1099511697876, [Some(65605), Some(4294967321), Some(4469), Some(1095216660481), None]),
-    (178, 1099511698126, [Some(65605), Some(4294967321), Some(4469), Some(1095216660481), Some(250)]),
-    (196, 1099511698126, [Some(65855), Some(4294967321), Some(4469), Some(1095216660481), Some(0)]),
-    (215, 1099511698126, [Some(65855), Some(4294967321), Some(0), Some(1095216660481), Some(4469)]),
+    (
+        105,
+        1099511697876,
+        [Some(65606), Some(30), Some(4464), Some(1099511627776), None],
+    ),
+    (
+        130,
+        1099511697876,
+        [
+            Some(65606),
+            Some(4294967326),
+            Some(4464),
+            Some(1095216660480),
+            None,
+        ],
+    ),
+    (
+        147,
+        1099511697876,
+        [
+            Some(65606),
+            Some(4294967321),
+            Some(4469),
+            Some(1095216660480),
+            None,
+        ],
+    ),
+    (
+        164,
+        1099511697876,
+        [
+            Some(65605),
+            Some(4294967321),
+            Some(4469),
+            Some(1095216660481),
+            None,
+        ],
+    ),
+    (
+        178,
+        1099511698126,
+        [
+            Some(65605),
+            Some(4294967321),
+            Some(4469),
+            Some(1095216660481),
+            Some(250),
+        ],
+    ),
+    (
+        196,
+        1099511698126,
+        [
+            Some(65855),
+            Some(4294967321),
+            Some(4469),
+            Some(1095216660481),
+            Some(0),
+        ],
+    ),
+    (
+        215,
+        1099511698126,
+        [
+            Some(65855),
+            Some(4294967321),
+            Some(0),
+            Some(1095216660481),
+            Some(4469),
+        ],
+    ),
 ];
 
 /// Whether these are the balances of these accounts.
@@ -85,7 +149,10 @@ fn lists_by_name(rt: HostRuntime) -> Result<(), Fail> {
         text.push_str(name)?;
         text.push_str(format!(in rt.alloc(); " {balance} ")?.as_str())?;
     }
-    assert_eq!(rt; text.as_str(), "ann 65855 bob 4294967321 cy 0 dee 4469 é 1095216660481 ");
+    assert_eq!(rt;
+        text.as_str(),
+        "ann 65855 bob 4294967321 cy 0 dee 4469 é 1095216660481 "
+    );
     Ok(())
 }
 
@@ -101,7 +168,12 @@ fn stop_of(alloc: Global, mut log: &[u8]) -> Option<(u64, usize, Failure<Refusal
 fn tells_where_it_stops(rt: HostRuntime) {
     let alloc = rt.alloc();
     let unpayable = stop_of(alloc, &UNPAYABLE);
-    assert!(rt; matches!(unpayable, Some((1, 14, Failure::Refused(Refusal::Pay(PayError::NoPayee))))));
+    assert!(rt;
+        matches!(
+            unpayable,
+            Some((1, 14, Failure::Refused(Refusal::Pay(PayError::NoPayee))))
+        )
+    );
     let longer = stop_of(alloc, &LONGER);
     assert!(rt; matches!(longer, Some((0, 0, Failure::Longer { taken: 6 }))));
     let unknown = stop_of(alloc, &NO_COMMAND);

@@ -137,7 +137,10 @@ fn agrees_with_the_model(rt: HostRuntime) -> Result<(), AllocError> {
         let choice = choose(&mut numbers);
         let is_taken = takes(&mut model, choice);
         let outcome = carry_out(&mut accounts, &command_of(rt.alloc(), choice)?);
-        assert!(rt; outcome.is_ok() == is_taken && agree(&accounts, &model), "{round}");
+        assert!(rt;
+            outcome.is_ok() == is_taken && agree(&accounts, &model),
+            "{round}"
+        );
         taken = taken.saturating_add(u64::from(is_taken));
     }
     assert!(rt; taken > ROUNDS / 4 && taken < ROUNDS, "{taken}");

@@ -29,8 +29,20 @@ fn says<E: Display>(alloc: Global, outcome: &Result<(), E>, text: &str) -> bool 
 fn refuses_openings(rt: HostRuntime) -> Result<(), Fail> {
     let alloc = rt.alloc();
     let mut accounts = full(alloc)?;
-    assert!(rt; says(alloc, &accounts.open("", 1), "the name of an account is not empty"));
-    assert!(rt; says(alloc, &accounts.open("ann", 1), "there is an account of this name"));
+    assert!(rt;
+        says(
+            alloc,
+            &accounts.open("", 1),
+            "the name of an account is not empty"
+        )
+    );
+    assert!(rt;
+        says(
+            alloc,
+            &accounts.open("ann", 1),
+            "there is an account of this name"
+        )
+    );
     let too_much = "the sum of all balances would not fit in 64 bits";
     assert!(rt; says(alloc, &accounts.open("cy", 51), too_much));
     assert!(rt; accounts.open("cy", 50).is_ok() && accounts.open("dee", 0).is_ok());
@@ -51,8 +63,17 @@ fn refuses_payments(rt: HostRuntime) -> Result<(), Fail> {
     let same = "the payer and the payee are one account";
     assert!(rt; says(alloc, &accounts.pay("ann", "ann", 1), same));
     assert!(rt; says(alloc, &accounts.pay("ann", "bob", 0), "the amount is 0"));
-    assert!(rt; says(alloc, &accounts.pay("ann", "bob", 101), "the balance of the payer is 100"));
-    assert_eq!(rt; accounts.pay("ann", "bob", 101), Err(PayError::Short { balance: 100 }));
+    assert!(rt;
+        says(
+            alloc,
+            &accounts.pay("ann", "bob", 101),
+            "the balance of the payer is 100"
+        )
+    );
+    assert_eq!(rt;
+        accounts.pay("ann", "bob", 101),
+        Err(PayError::Short { balance: 100 })
+    );
     assert!(rt; accounts.balance("ann") == Some(100) && accounts.balance("an").is_none());
     Ok(())
 }

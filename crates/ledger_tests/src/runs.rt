@@ -74,8 +74,24 @@ fn tells_the_place(rt: HostRuntime) -> anyhow::Result<()> {
     let third = enter_into(&rt, path, &Command::Open { name, amount: 1 });
     let is_held = holds(&rt, path, &SMALL[..28]);
     assert!(rt; fs::remove_file(&rt, path).is_ok() && is_held);
-    assert!(rt; matches!(first, Ok(Entry { offset: 0, size: 14 })));
-    assert!(rt; matches!(second, Ok(Entry { offset: 14, size: 14 })));
+    assert!(rt;
+        matches!(
+            first,
+            Ok(Entry {
+                offset: 0,
+                size: 14
+            })
+        )
+    );
+    assert!(rt;
+        matches!(
+            second,
+            Ok(Entry {
+                offset: 14,
+                size: 14
+            })
+        )
+    );
     assert!(rt; matches!(third, Err(BookError::Refused(_))));
     Ok(())
 }
@@ -89,12 +105,34 @@ fn takes_long_names(rt: HostRuntime) -> anyhow::Result<()> {
     let longest = "n".repeat(alloc, 65516)?;
     let longer = "m".repeat(alloc, 65517)?;
     let amount = u64::MAX;
-    let entered = enter_into(&rt, path, &Command::Open { name: longest, amount });
+    let entered = enter_into(
+        &rt,
+        path,
+        &Command::Open {
+            name: longest,
+            amount,
+        },
+    );
     let amount = 0;
-    let refused = enter_into(&rt, path, &Command::Open { name: longer, amount });
+    let refused = enter_into(
+        &rt,
+        path,
+        &Command::Open {
+            name: longer,
+            amount,
+        },
+    );
     let is_whole = ends(&rt, path, "check", DONE);
     assert!(rt; fs::remove_file(&rt, path).is_ok() && is_whole);
-    assert!(rt; matches!(entered, Ok(Entry { offset: 0, size: 65537 })));
+    assert!(rt;
+        matches!(
+            entered,
+            Ok(Entry {
+                offset: 0,
+                size: 65537
+            })
+        )
+    );
     assert!(rt; matches!(refused, Err(BookError::Append(_))));
     Ok(())
 }
