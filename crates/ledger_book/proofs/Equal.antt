@@ -1,8 +1,7 @@
 -- Equal commands.
-use Rattle.std.proofs.Common.{◌≡◌, ◌&&◌, ◌==◌, Bool, ℕ, List, true, false, String, Global, string_bytes, string_eq, refl, ap}
+use Rattle.std.proofs.Common.{◌≡◌, ◌&&◌, ◌==◌, Bool, true, false, String, Global, string_bytes, string_eq, refl}
 use Rattle.std.proofs.lemmas.Bool.Decides.{Decides-eqb}
 use Rattle.std.proofs.lemmas.Slice.Eq.{bytes_eq-Decides}
-use Rattle.accounts.specs.Changes as changes
 use Rattle.ledger_book.specs.Commands.{change_of}
 use Rattle.ledger_book.specs.contracts.command.CommandPartialEq.TheImpl.{ghosts}
 use Rattle.ledger_book.specs.declared.command.Command.{Command}

@@ -1,13 +1,13 @@
 -- Runs of commands.
-use Rattle.std.proofs.Common.{◌≡◌, ◌+◌, ◌-◌, ◌<◌, ◌++◌, ℕ, List, [], ◌∷◌, map, length, Option, Bool, true, refl, sym, ap, subst, ◌∙◌, arith, append_assoc, append-nil, length-append}
+use Rattle.std.proofs.Common.{◌≡◌, ◌+◌, ◌-◌, ◌++◌, ℕ, List, [], ◌∷◌, map, length, Option, Bool, true, refl, sym, ap, subst, ◌∙◌, arith, append_assoc, append-nil, length-append}
 use Rattle.std.specs.declared.option.Option.TheVariants.{None, Some}
 use Rattle.std.specs.Option.{IsSomeAnd}
-use Rattle.accounts.specs.Accounts.{Balances, balance_of, with_balance}
+use Rattle.accounts.specs.Accounts.{Balances, with_balance}
 use Rattle.accounts.specs.Changes.{Change, Open, Pay, LeadAll, Leads}
 use Rattle.bincode_base.specs.Setting.{Setting}
 use Rattle.bincode_types.specs.TypeWords.{Words}
 use Rattle.framed_store.specs.Appended.{Added}
-use Rattle.framed_store.specs.PieceLaws.{appended-pieces, with_kept}
+use Rattle.framed_store.specs.PieceLaws.{appended-pieces}
 use Rattle.framed_store.specs.Pieces.{ArePieces, Kept, LacksRoom, Piece, bytes_of, bytes_of_all}
 use Rattle.ledger_book.specs.Books.{IsBook, commands_of, pieces_of}
 use Rattle.ledger_book.specs.Commands.{Applies, change_of}
