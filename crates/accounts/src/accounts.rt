@@ -1,10 +1,11 @@
 //! Accounts by name.
-ghost use Rattle.std.specs.Prelude.{◌≡◌, [], List, map, IfErr, OnErr, OnOk};
+ghost use Rattle.std.specs.Prelude.{◌≡◌, [], map, IfErr, OnErr, OnOk};
 ghost use Rattle.std.specs.Cmp.Lexicographic.{slice_cmp};
 ghost use Rattle.std.specs.List.Sorted.{IsStrictlySortedBy};
 ghost use Rattle.std.specs.Map.{keys_of};
 ghost use Rattle.std.specs.Ordering.{nat_cmp};
-ghost use Rattle.accounts.specs.Accounts.{Balances, account_of, balances_of, balance_of, total_of, with_account, with_balance};
+ghost use Rattle.accounts.specs.Accounts.{account_of, balances_of, balance_of, total_of};
+ghost use Rattle.accounts.specs.Accounts.{with_account, with_balance};
 ghost use Rattle.accounts.specs.Changes.{Opens, Pays, RefusesOpening, RefusesPayment};
 
 use crate::refusals::{OpenError, PayError};
@@ -24,7 +25,7 @@ pub struct Accounts {
 
 impl Model for Accounts {
     ghost use Rattle.std.specs.Prelude.{◌≡◌, ℕ, List};
-    ghost use Rattle.accounts.specs.Accounts.{Balances, balances_of, total_of};
+    ghost use Rattle.accounts.specs.Accounts.{balances_of, total_of};
 
     ghost Value = { List (List ℕ × ℕ) };
 

@@ -1,5 +1,5 @@
-//! The tests of books of accounts: the accounts against a plain model, logs that are cut, damaged or refused, words, and
-//! what the program `ledger` does to a file.
+//! The tests of books of accounts: the accounts against a plain model, logs that are cut, damaged or refused, words,
+//! and what the program `ledger` does to a file.
 #![tactic(auto)]
 
 #[cfg(test)]
