@@ -1,0 +1,29 @@
+use Rattle.std.proofs.Common.{◌≡◌, ◌≢◌, ◌+◌, ◌-◌, ◌≤◌, rules, sym, ap, ◌∙◌, arith}
+use Rattle.std.specs.declared.option.Option.TheVariants.{Some}
+use Rattle.accounts.specs.Accounts.{balance_of, total_of, with_balance}
+use Rattle.accounts.proofs.Money.{room, total_stays}
+use Rattle.accounts.proofs.accounts.Accounts.pay.Goals as goal
+
+pub overflow_add-payee : goal.overflow_add-payee
+overflow_add-payee c =
+    let payer_has : balance_of c.args.from.now c.args.self.now ≡ Some c.in_ok-payer.payer = sym c.balance.ensures ∙ c.in_ok-payer.ensures.ok_part in
+    let payee_has : balance_of c.args.to.now c.args.self.now ≡ Some c.in_ok-payee.payee = sym c.balance-2.ensures ∙ c.in_ok-payee.ensures.ok_part in
+    let are_two : c.args.from.now ≢ c.args.to.now = search rules in
+    let is_enough : c.args.amount ≤ c.in_ok-payer.payer = omega arith in
+    let fits = room c.args.self.now c.args.from.now c.args.to.now c.in_ok-payer.payer c.in_ok-payee.payee c.args.amount payer_has payee_has are_two is_enough in
+    let is_total = c.self.invariant ∙ ap total_of c.self.view_is in
+    omega (arith, fits, is_total)
+
+pub returns-clause-total : goal.returns-clause-total
+returns-clause-total c =
+    let payer_has : balance_of c.args.from.now c.args.self.now ≡ Some c.in_ok-payer.payer = sym c.balance.ensures ∙ c.in_ok-payer.ensures.ok_part in
+    let payee_has : balance_of c.args.to.now c.args.self.now ≡ Some c.in_ok-payee.payee = sym c.balance-2.ensures ∙ c.in_ok-payee.ensures.ok_part in
+    let are_two : c.args.from.now ≢ c.args.to.now = search rules in
+    let is_enough : c.args.amount ≤ c.in_ok-payer.payer = omega arith in
+    let stays = total_stays c.args.self.now c.args.from.now c.args.to.now c.in_ok-payer.payer c.in_ok-payee.payee c.args.amount payer_has payee_has are_two is_enough in
+    let left = c.in_ok-payer.payer - c.args.amount in
+    let is_mid = c.set_balance.ensures ∙ ap (with_balance c.args.from.now left) c.self.view_is in
+    ap total_of (c.set_balance-2.ensures ∙ ap (with_balance c.args.to.now (c.in_ok-payee.payee + c.args.amount)) is_mid) ∙ stays
+
+pub invariant_of-self : goal.invariant_of-self
+invariant_of-self c = c.self.invariant ∙ ap total_of c.self.view_is ∙ sym (returns-clause-total c)

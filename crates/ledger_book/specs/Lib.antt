@@ -1,0 +1,5 @@
+pub mod Books
+pub mod Commands
+pub mod Entries
+pub mod Openings
+pub mod Repairs

@@ -1,0 +1,17 @@
+//! The configuration of books, and how long a command may be.
+
+use bincode::config;
+use bincode::config::{Configuration, Limit, LittleEndian, Varint};
+
+/// The standard configuration, with a limit of 64 KiB for each command.
+pub type Settings = Configuration<LittleEndian, Varint, Limit<65536>>;
+
+/// The configuration of books.
+pub fn settings() -> Settings {
+    config::standard().with_limit::<65536>()
+}
+
+/// The length in bytes of the longest encoding of a command within that limit: an opening, whose tag takes 1, with a
+/// name of 65516 bytes, whose length takes 3, and an amount of 9. A frame that names a longer word is no frame of a
+/// book.
+pub const LONGEST_WORD: u32 = 65529;

@@ -1,0 +1,295 @@
+//! What the program `ledger` does with the book that its words name.
+
+use crate::command::Command;
+use crate::entering::{EnterError, enter};
+use crate::listing::{ListError, print_balances, print_log};
+use crate::machine::Refusal;
+use crate::opening::open_book;
+use crate::repairing::{Plan, plan_for};
+use crate::request::{Action, Request, request_of};
+use crate::status::{DAMAGED, DONE, FAILED, REFUSED, USAGE};
+use accounts::accounts::Accounts;
+use clap::Error as LineError;
+use clap::error::ErrorKind as LineErrorKind;
+use framed_store::appending::AppendError;
+use replay::replay::{Failure, ReplayError, Replayed};
+use std::alloc::Global;
+use std::fmt::Display;
+use std::fs::File;
+use std::io;
+use std::io::{BufReader, BufWriter, ErrorKind, Write};
+use stock_files::files::{FileError, bytes_from, cut, open_to_change, open_to_read};
+use thiserror::Error;
+
+/// The number of bytes that a file is read and written by.
+const BLOCK: usize = 1 << 16;
+
+/// Why something is not done with a book.
+#[derive(Debug, Drop, Error)]
+pub enum BookError {
+    /// Its file is not read or changed.
+    #[error("{0}")]
+    File(#[from] FileError),
+    /// A place in its log has no command, or one that is refused; or the log could not be read.
+    #[error("{0}")]
+    Log(#[from] ReplayError<Refusal>),
+    /// It ends within a frame.
+    #[error("torn at byte {offset}. `repair` cuts the torn end off")]
+    Torn {
+        /// The number of bytes before that frame.
+        offset: usize,
+    },
+    /// It ends within a frame, and a whole frame stands after that place.
+    #[error("no whole frame at byte {offset}, and one at byte {next}: nothing was cut off")]
+    Buried {
+        /// The number of bytes of its commands.
+        offset: usize,
+        /// The number of bytes before the whole frame.
+        next: usize,
+    },
+    /// A command is refused.
+    #[error("{0}")]
+    Refused(Refusal),
+    /// A command was not appended.
+    #[error("{0}")]
+    Append(AppendError),
+    /// There is no account of a name.
+    #[error("there is no account of this name")]
+    NoAccount,
+    /// The output failed.
+    #[error("{0}")]
+    Output(#[from] io::Error),
+}
+
+impl From<ListError> for BookError {
+    fn from(error: ListError) -> BookError {
+        match error {
+            ListError::Log(why) => BookError::Log(why),
+            ListError::Torn { offset } => BookError::Torn { offset },
+            ListError::Output(why) => BookError::Output(why),
+        }
+    }
+}
+
+impl BookError {
+    /// The status of a run that ends so.
+    pub fn status(&self) -> u8 {
+        match self {
+            BookError::Log(error) => status_of(&error.why),
+            BookError::Torn { .. } | BookError::Buried { .. } => DAMAGED,
+            BookError::Refused(_) | BookError::NoAccount => REFUSED,
+            _ => FAILED,
+        }
+    }
+
+    /// Whether nobody reads the output any more.
+    fn is_closed_output(&self) -> bool {
+        matches!(self, BookError::Output(e) if e.kind() == ErrorKind::BrokenPipe)
+    }
+}
+
+/// The status of a run that ends at such a place in a log.
+fn status_of(why: &Failure<Refusal>) -> u8 {
+    match why {
+        Failure::Read(_) | Failure::Memory(_) => FAILED,
+        _ => DAMAGED,
+    }
+}
+
+/// Does what these words ask for, of which the first is the program's name, and returns the status with which the
+/// program ends.
+pub fn run(rt: &HostRuntime, words: &[String]) -> u8 {
+    match request_of(rt.alloc(), words) {
+        Ok(request) => run_request(rt, &request),
+        Err(error) => usage(rt, &error),
+    }
+}
+
+/// Prints why words spell no request, or the help or the version for which they ask.
+fn usage(rt: &HostRuntime, error: &LineError) -> u8 {
+    if error.print(rt).is_err() || error.kind() == LineErrorKind::OutOfMemory {
+        FAILED
+    } else if error.use_stderr() {
+        USAGE
+    } else {
+        DONE
+    }
+}
+
+/// Does what a request asks for. An error is printed with the name of the book.
+fn run_request(rt: &HostRuntime, request: &Request) -> u8 {
+    match act(rt, &request.book, &request.action) {
+        Ok(()) => DONE,
+        Err(error) => {
+            if !error.is_closed_output() {
+                complain(rt, &request.book, &error);
+            }
+            error.status()
+        }
+    }
+}
+
+/// Prints what went wrong with a book. Where that fails, nobody can be told.
+fn complain<E: Display>(rt: &HostRuntime, path: &str, error: &E) {
+    let _ = eprintln!(rt; "ledger: {path}: {error}");
+}
+
+/// Does with a book what is asked for.
+fn act(rt: &HostRuntime, path: &str, action: &Action) -> Result<(), BookError> {
+    match action {
+        Action::Enter(command) => tell_entry(rt, path, enter_into(rt, path, command)?),
+        Action::Balance(Some(name)) => show_balance(rt, path, name),
+        Action::Balance(None) => show_balances(rt, path),
+        Action::Log => show_log(rt, path),
+        Action::Check => show_check(rt, path),
+        Action::Repair => repair(rt, path),
+    }
+}
+
+/// Where a command was entered.
+#[derive(Clone, Copy, Debug, PartialEq)]
+pub struct Entry {
+    /// The offset of its frame.
+    pub offset: usize,
+    /// The number of bytes of its frame.
+    pub size: usize,
+}
+
+/// Carries a command out on the accounts of a book, and then appends it. It is on the disk on return. An opening makes
+/// the book where there is none. Where it fails, the book is cut back to what it held.
+pub fn enter_into(rt: &HostRuntime, path: &str, command: &Command) -> Result<Entry, BookError> {
+    let creates = matches!(command, Command::Open { .. });
+    let file = open_to_change(rt, path, creates)?;
+    let (mut accounts, replayed) = replay_file(rt.alloc(), &file)?;
+    let offset = replayed.length;
+    if replayed.is_torn {
+        return Err(BookError::Torn { offset });
+    }
+    match enter(rt.alloc(), &mut accounts, &mut &file, command) {
+        Ok(size) => {
+            file.sync_all()?;
+            Ok(Entry { offset, size })
+        }
+        Err(EnterError::Refused(why)) => Err(BookError::Refused(why)),
+        Err(EnterError::Append(why)) => {
+            cut(&file, offset)?;
+            Err(BookError::Append(why))
+        }
+    }
+}
+
+/// The accounts that a file comes to, and how it ends.
+fn replay_file(alloc: Global, file: &File) -> Result<(Accounts, Replayed), BookError> {
+    let mut log = BufReader::with_capacity(alloc, BLOCK, file)?;
+    Ok(open_book(alloc, &mut log)?)
+}
+
+/// The accounts that the book at this path comes to, and how it ends.
+fn read_book(rt: &HostRuntime, path: &str) -> Result<(Accounts, Replayed), BookError> {
+    let file = open_to_read(rt, path)?;
+    replay_file(rt.alloc(), &file)
+}
+
+/// Prints where a command was entered. It is there, even where that can't be said.
+fn tell_entry(rt: &HostRuntime, path: &str, entry: Entry) -> Result<(), BookError> {
+    let Entry { offset, size } = entry;
+    if let Err(error) = writeln!(io::writer(rt), "{path}: {size} bytes at byte {offset}") {
+        complain(
+            rt,
+            path,
+            &format_args!("the command is entered, and that can't be said: {error}"),
+        );
+    }
+    Ok(())
+}
+
+/// Fails where a book is torn.
+fn refuse_torn(replayed: Replayed) -> Result<(), BookError> {
+    if replayed.is_torn {
+        let offset = replayed.length;
+        return Err(BookError::Torn { offset });
+    }
+    Ok(())
+}
+
+/// Prints the balance of an account, also of a book that is torn.
+fn show_balance(rt: &HostRuntime, path: &str, name: &str) -> Result<(), BookError> {
+    let (accounts, replayed) = read_book(rt, path)?;
+    let Some(balance) = accounts.balance(name) else {
+        refuse_torn(replayed)?;
+        return Err(BookError::NoAccount);
+    };
+    writeln!(io::writer(rt), "{balance}")?;
+    refuse_torn(replayed)
+}
+
+/// Prints the balance of each account, also of a book that is torn.
+fn show_balances(rt: &HostRuntime, path: &str) -> Result<(), BookError> {
+    let (accounts, replayed) = read_book(rt, path)?;
+    let mut out = BufWriter::with_capacity(rt.alloc(), BLOCK, io::writer(rt))?;
+    print_balances(&mut out, &accounts)?;
+    out.flush()?;
+    refuse_torn(replayed)
+}
+
+/// Prints the commands of a book.
+fn show_log(rt: &HostRuntime, path: &str) -> Result<(), BookError> {
+    let file = open_to_read(rt, path)?;
+    let mut log = BufReader::with_capacity(rt.alloc(), BLOCK, file)?;
+    let mut out = BufWriter::with_capacity(rt.alloc(), BLOCK, io::writer(rt))?;
+    let listed = print_log(rt.alloc(), &mut out, &mut log);
+    out.flush()?;
+    Ok(listed?)
+}
+
+/// Prints whether a book is whole, and what it comes to.
+fn show_check(rt: &HostRuntime, path: &str) -> Result<(), BookError> {
+    let (accounts, replayed) = read_book(rt, path)?;
+    refuse_torn(replayed)?;
+    let Replayed {
+        commands,
+        length,
+        ..
+    } = replayed;
+    let total = accounts.total();
+    writeln!(
+        io::writer(rt),
+        "{path}: whole, commands: {commands}, bytes: {length}, money: {total}"
+    )?;
+    Ok(())
+}
+
+/// Cuts a torn end off a book, and says so. Fails where a whole frame would be lost.
+pub fn repair(rt: &HostRuntime, path: &str) -> Result<(), BookError> {
+    let mut file = open_to_change(rt, path, false)?;
+    let (_, replayed) = replay_file(rt.alloc(), &file)?;
+    let Replayed {
+        commands,
+        length,
+        is_torn,
+    } = replayed;
+    let tail = bytes_from(rt.alloc(), &mut file, length)?;
+    let mut out = io::writer(rt);
+    match plan_for(is_torn, &tail) {
+        Plan::Leave => writeln!(
+            out,
+            "{path}: nothing to cut off, commands: {commands}, bytes: {length}"
+        )?,
+        Plan::Cut => {
+            cut(&file, length)?;
+            let lost = tail.len();
+            writeln!(
+                out,
+                "{path}: cut off at byte {length}, bytes lost: {lost}, commands: {commands}"
+            )?;
+        }
+        Plan::Refuse { after } => {
+            let next = length.saturating_add(after);
+            return Err(BookError::Buried {
+                offset: length,
+                next,
+            });
+        }
+    }
+    Ok(())
+}

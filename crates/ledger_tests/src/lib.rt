@@ -1,0 +1,16 @@
+//! The tests of books of accounts: the accounts against a plain model, logs that are cut, damaged or refused, words,
+//! and what the program `ledger` does to a file.
+#![tactic(auto)]
+
+#[cfg(test)]
+mod inputs;
+#[cfg(test)]
+mod logs;
+#[cfg(test)]
+mod model;
+#[cfg(test)]
+mod refusals;
+#[cfg(test)]
+mod requests;
+#[cfg(test)]
+mod runs;

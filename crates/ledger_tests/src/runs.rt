@@ -1,0 +1,197 @@
+//! What the program does to a file, what it says of a log, and the statuses with which it ends.
+
+use crate::inputs::{BURIED, LOG, LONGER, SMALL, UNPAYABLE};
+use crate::requests::words_of;
+use ledger_book::command::Command;
+use ledger_book::listing::print_log;
+use ledger_book::program::{BookError, Entry, enter_into, run};
+use ledger_book::status::{DAMAGED, DONE, FAILED, REFUSED, USAGE};
+use std::path::PathBuf;
+use std::{env, fs, process};
+
+/// A path that no other test has.
+fn path_of(rt: &HostRuntime, name: &str) -> anyhow::Result<PathBuf> {
+    let name = format!(in rt.alloc(); "{}-{name}.book", process::id(rt.process()))?;
+    Ok(env::temp_dir(rt)?.join(rt.alloc(), name.as_str())?)
+}
+
+/// Whether the program ends with this status, with these words after the path of a book.
+fn ends(rt: &HostRuntime, path: &str, others: &str, status: u8) -> bool {
+    let Ok(line) = format!(in rt.alloc(); "{path} {others}") else {
+        return false;
+    };
+    match words_of(rt.alloc(), line.as_str()) {
+        Ok(words) => run(rt, &words) == status,
+        Err(_) => false,
+    }
+}
+
+/// Whether a file holds these bytes.
+fn holds(rt: &HostRuntime, path: &str, bytes: &[u8]) -> bool {
+    match fs::read(rt, path) {
+        Ok(held) => held.as_slice() == bytes,
+        Err(_) => false,
+    }
+}
+
+/// The book of three commands, made by them. What is refused leaves it as it is.
+#[test]
+fn enters_commands(rt: HostRuntime) -> anyhow::Result<()> {
+    let file = path_of(&rt, "entered")?;
+    let path = file.as_str();
+    let is_entered = ends(&rt, path, "pay ann bob 30", FAILED)
+        && ends(&rt, path, "open ann 100", DONE)
+        && ends(&rt, path, "open ann 1", REFUSED)
+        && ends(&rt, path, "pay ann bob 30", REFUSED)
+        && ends(&rt, path, "open bob", DONE)
+        && ends(&rt, path, "pay ann bob 101", REFUSED)
+        && ends(&rt, path, "pay ann bob 30", DONE)
+        && ends(&rt, path, "pay ann bob much", USAGE)
+        && holds(&rt, path, &SMALL);
+    let is_shown = ends(&rt, path, "balance", DONE)
+        && ends(&rt, path, "balance ann", DONE)
+        && ends(&rt, path, "balance cy", REFUSED)
+        && ends(&rt, path, "log", DONE)
+        && ends(&rt, path, "check", DONE)
+        && ends(&rt, path, "repair", DONE)
+        && holds(&rt, path, &SMALL);
+    assert!(rt; fs::remove_file(&rt, path).is_ok() && is_entered && is_shown);
+    assert!(rt; ends(&rt, path, "check", FAILED) && ends(&rt, path, "repair", FAILED));
+    Ok(())
+}
+
+/// Where a command stands is told.
+#[test]
+fn tells_the_place(rt: HostRuntime) -> anyhow::Result<()> {
+    let alloc = rt.alloc();
+    let file = path_of(&rt, "placed")?;
+    let path = file.as_str();
+    let name = String::from_str(alloc, "ann")?;
+    let first = enter_into(&rt, path, &Command::Open { name, amount: 100 });
+    let name = String::from_str(alloc, "bob")?;
+    let second = enter_into(&rt, path, &Command::Open { name, amount: 0 });
+    let name = String::from_str(alloc, "bob")?;
+    let third = enter_into(&rt, path, &Command::Open { name, amount: 1 });
+    let is_held = holds(&rt, path, &SMALL[..28]);
+    assert!(rt; fs::remove_file(&rt, path).is_ok() && is_held);
+    assert!(rt;
+        matches!(
+            first,
+            Ok(Entry {
+                offset: 0,
+                size: 14
+            })
+        )
+    );
+    assert!(rt;
+        matches!(
+            second,
+            Ok(Entry {
+                offset: 14,
+                size: 14
+            })
+        )
+    );
+    assert!(rt; matches!(third, Err(BookError::Refused(_))));
+    Ok(())
+}
+
+/// A name of 65516 bytes is the longest: the next one is not entered, and leaves the book as it is.
+#[test]
+fn takes_long_names(rt: HostRuntime) -> anyhow::Result<()> {
+    let alloc = rt.alloc();
+    let file = path_of(&rt, "long")?;
+    let path = file.as_str();
+    let longest = "n".repeat(alloc, 65516)?;
+    let longer = "m".repeat(alloc, 65517)?;
+    let amount = u64::MAX;
+    let entered = enter_into(
+        &rt,
+        path,
+        &Command::Open {
+            name: longest,
+            amount,
+        },
+    );
+    let amount = 0;
+    let refused = enter_into(
+        &rt,
+        path,
+        &Command::Open {
+            name: longer,
+            amount,
+        },
+    );
+    let is_whole = ends(&rt, path, "check", DONE);
+    assert!(rt; fs::remove_file(&rt, path).is_ok() && is_whole);
+    assert!(rt;
+        matches!(
+            entered,
+            Ok(Entry {
+                offset: 0,
+                size: 65537
+            })
+        )
+    );
+    assert!(rt; matches!(refused, Err(BookError::Append(_))));
+    Ok(())
+}
+
+/// Nothing is entered into a torn book, and it is told as one until it is repaired.
+#[test]
+fn leaves_a_torn_book(rt: HostRuntime) -> anyhow::Result<()> {
+    let file = path_of(&rt, "torn")?;
+    let path = file.as_str();
+    let torn = &SMALL[..45];
+    let is_left = fs::write(&rt, path, torn).is_ok()
+        && ends(&rt, path, "open cy", DAMAGED)
+        && ends(&rt, path, "balance", DAMAGED)
+        && ends(&rt, path, "balance ann", DAMAGED)
+        && ends(&rt, path, "balance cy", DAMAGED)
+        && ends(&rt, path, "log", DAMAGED)
+        && ends(&rt, path, "check", DAMAGED)
+        && holds(&rt, path, torn);
+    let is_repaired = ends(&rt, path, "repair", DONE)
+        && holds(&rt, path, &SMALL[..28])
+        && ends(&rt, path, "pay ann bob 30", DONE)
+        && holds(&rt, path, &SMALL);
+    assert!(rt; fs::remove_file(&rt, path).is_ok() && is_left && is_repaired);
+    Ok(())
+}
+
+/// Whether a book of these bytes is told as damaged by each command, and left as it is.
+fn is_damaged(rt: &HostRuntime, path: &str, bytes: &[u8]) -> bool {
+    fs::write(rt, path, bytes).is_ok()
+        && ends(rt, path, "open eve", DAMAGED)
+        && ends(rt, path, "balance", DAMAGED)
+        && ends(rt, path, "check", DAMAGED)
+        && ends(rt, path, "repair", DAMAGED)
+        && holds(rt, path, bytes)
+}
+
+/// A whole frame after a changed length is not lost by a repair.
+#[test]
+fn leaves_a_damaged_book(rt: HostRuntime) -> anyhow::Result<()> {
+    let file = path_of(&rt, "damaged")?;
+    let path = file.as_str();
+    let mut damaged = LOG;
+    damaged[70] = 0;
+    let are_told = is_damaged(&rt, path, &damaged)
+        && is_damaged(&rt, path, &LONGER)
+        && is_damaged(&rt, path, &UNPAYABLE)
+        && is_damaged(&rt, path, &BURIED);
+    assert!(rt; fs::remove_file(&rt, path).is_ok() && are_told);
+    Ok(())
+}
+
+/// What is printed of the log of three commands.
+#[test]
+fn prints_commands(rt: HostRuntime) -> anyhow::Result<()> {
+    let alloc = rt.alloc();
+    let mut out = Vec::new(alloc);
+    let mut log = SMALL.as_slice();
+    let printed = print_log(alloc, &mut out, &mut log);
+    let wanted = "0: open \"ann\" 100\n14: open \"bob\" 0\n28: pay \"ann\" \"bob\" 30\n";
+    assert!(rt; printed.is_ok() && out.as_slice() == wanted.as_bytes());
+    Ok(())
+}

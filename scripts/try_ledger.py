@@ -1,0 +1,280 @@
+#!/usr/bin/env python3
+"""Tries the built program `ledger` on books that are killed while they are written, torn, damaged, locked or full.
+
+    scripts/try_ledger.py PROGRAM [--only WORD] [--rounds N] [--seed N]
+
+PROGRAM is the built program (crates/ledger/out/ledger). Every book is made in a temporary folder, and compared with what Python reckons. A
+line is printed for each group of tries, with how many there were and how many were answered wrongly. The status is 1 if any was, and 2
+where the program could not be started.
+
+Statuses that it wants: 0 whole, 1 damaged or torn, 2 wrong use, 3 input or output, 4 refused.
+"""
+import argparse, os, random, signal, subprocess, sys, tempfile, time
+from pathlib import Path
+
+DONE, DAMAGED, USAGE, DEVICE, REFUSED = 0, 1, 2, 3, 4
+NAMES = ["ann", "bob", "cy", "dee", "Émile", "a b"]
+
+
+class Tries:
+    """Counts the tries of a group, and shows the first that are answered wrongly."""
+
+    def __init__(self, name):
+        self.name, self.count, self.wrong = name, 0, 0
+
+    def want(self, holds, what):
+        self.count += 1
+        if not holds:
+            self.wrong += 1
+            if self.wrong <= 5:
+                print(f"  {self.name}: {what}", flush=True)
+
+    def done(self):
+        print(f"{self.name}: {self.count} tries, {self.wrong} answered wrongly", flush=True)
+        return self.wrong
+
+
+class Book:
+    """The program over one file."""
+
+    def __init__(self, program, folder):
+        self.program, self.file = program, folder / "book"
+
+    def run(self, *words, seconds=60, output=subprocess.PIPE, file=None):
+        try:
+            ran = subprocess.run([self.program, str(file or self.file), *map(str, words)], stdout=output, stderr=subprocess.PIPE, timeout=seconds)
+        except subprocess.TimeoutExpired:
+            return None, "", "it does not end"
+        text = ran.stdout.decode(errors="replace") if ran.stdout is not None else ""
+        return ran.returncode, text, ran.stderr.decode(errors="replace")
+
+    def start(self, *words):
+        return subprocess.Popen([self.program, str(self.file), *map(str, words)], stdout=subprocess.PIPE, stderr=subprocess.PIPE)
+
+    def with_bytes(self, held):
+        self.file.write_bytes(held)
+        return self
+
+    def balances(self):
+        """What `balance` prints: a dictionary, and its status."""
+        status, text, _ = self.run("balance")
+        return {line[1 : line.rindex('"')]: int(line[line.rindex('"') + 2 :]) for line in text.splitlines()}, status
+
+
+def carried_out(balances, command):
+    """The balances after a command, or None where it is refused."""
+    after = dict(balances)
+    if command[0] == "open":
+        if not command[1] or command[1] in balances or sum(balances.values()) + command[2] >= 2**64:
+            return None
+        after[command[1]] = command[2]
+        return after
+    _, payer, payee, amount = command
+    if payer not in balances or payee not in balances or payer == payee or amount == 0 or balances[payer] < amount:
+        return None
+    after[payer] -= amount
+    after[payee] += amount
+    return after
+
+
+def any_command(numbers):
+    if numbers.random() < 0.2:
+        return ("open", numbers.choice(NAMES), numbers.choice([0, 5, 250, 251, 70000, 2**32, 2**63]))
+    return ("pay", numbers.choice(NAMES), numbers.choice(NAMES), numbers.choice([0, 1, 2, 30, 1000, 65536, 2**40]))
+
+
+def written(book, count, numbers):
+    """A book of so many commands: its bytes, and after each command its length and its balances."""
+    book.file.unlink(missing_ok=True)
+    balances, stages = {}, [(0, {})]
+    while len(stages) <= count:
+        command = any_command(numbers)
+        after = carried_out(balances, command)
+        if after is None:
+            continue
+        status, _, error = book.run(*command)
+        if status != DONE:
+            sys.exit(f"try_ledger: {command} answered {status}: {error}")
+        balances = after
+        stages.append((book.file.stat().st_size, balances))
+    return book.file.read_bytes(), stages
+
+
+def commands(book, numbers, rounds):
+    """Commands at random: each is done or refused as it should be, and what is refused leaves the book as it is."""
+    tries, balances = Tries("commands at random"), {}
+    book.file.unlink(missing_ok=True)
+    book.run("open", "ann", 100)
+    balances = {"ann": 100}
+    for _ in range(rounds):
+        command, held = any_command(numbers), book.file.read_bytes()
+        after = carried_out(balances, command)
+        status, text, error = book.run(*command)
+        tries.want(status == (REFUSED if after is None else DONE), f"{command}: status {status}, {text!r}, {error!r}")
+        tries.want((book.file.read_bytes() == held) == (after is None), f"{command}: the book is changed, or is not")
+        balances = balances if after is None else after
+        tries.want(book.balances() == (balances, DONE), f"{command}: {book.balances()} in place of {balances}")
+    return tries.done()
+
+
+def killed(book, numbers, rounds):
+    """The program is killed while it pays: what it said is there, and at most the payment that was cut short besides."""
+    tries = Tries("killed while paying")
+    book.file.unlink(missing_ok=True)
+    book.run("open", "ann", 10**9)
+    book.run("open", "bob", 0)
+    begin = time.time()
+    book.run("check")
+    one_run, balances, unsaid, torn = time.time() - begin, {"ann": 10**9, "bob": 0}, 0, 0
+    for number in range(rounds):
+        command = ("pay", "ann", "bob", number + 1)
+        tool = book.start(*command)
+        time.sleep(numbers.random() * one_run * 1.5)
+        tool.send_signal(signal.SIGKILL)
+        said = tool.stdout.read()
+        tool.wait()
+        status, text, _ = book.run("check")
+        tries.want(status in (DONE, DAMAGED), f"round {number}: check answered {status}, {text.strip()!r}")
+        if status == DAMAGED:
+            torn += 1
+            status, _, error = book.run("repair")
+            tries.want(status == DONE, f"round {number}: repair answered {status}, {error.strip()!r}")
+        found, status = book.balances()
+        after = carried_out(balances, command)
+        tries.want(status == DONE and (found == after or (not said and found == balances)), f"round {number}: {found} after {balances}, and it said {said}")
+        unsaid += found == after and not said
+        balances = found
+    print(f"  {balances['bob']} was paid, {unsaid} payments were there that were not said, {torn} books were torn", flush=True)
+    return tries.done()
+
+
+def prefixes(book, numbers, rounds):
+    """Each prefix: whole at the end of a frame, else torn. Nothing is entered into it, and what is repaired has the balances of its frames."""
+    tries = Tries("each prefix")
+    held, stages = written(book, 12, numbers)
+    ends = {length: balances for length, balances in stages}
+    for length in range(len(held) + 1):
+        book.with_bytes(held[:length])
+        wanted = DONE if length in ends else DAMAGED
+        tries.want(book.run("check")[0] == wanted, f"{length} bytes: check")
+        last = max(end for end in ends if end <= length)
+        tries.want(book.balances() == (ends[last], wanted), f"{length} bytes: {book.balances()}")
+        if wanted == DAMAGED:
+            tries.want(book.run("open", "new")[0] == DAMAGED and book.file.read_bytes() == held[:length], f"{length} bytes: a command is entered behind a torn end")
+        status, _, error = book.run("repair")
+        tries.want(status == DONE and book.file.read_bytes() == held[:last], f"{length} bytes: repaired with status {status}, {error.strip()!r}")
+    return tries.done()
+
+
+def flips(book, numbers, rounds):
+    """Each byte is changed in turn: each change is told, nothing is entered, and no whole frame is lost by a repair."""
+    tries = Tries("each byte changed")
+    held, stages = written(book, 8, numbers)
+    for place in range(len(held)):
+        spoilt = bytearray(held)
+        spoilt[place] ^= 1 << (place % 8)
+        book.with_bytes(bytes(spoilt))
+        status, text, _ = book.run("check")
+        tries.want(status == DAMAGED, f"byte {place}: status {status}, {text.strip()!r}")
+        tries.want(book.run("open", "new")[0] == DAMAGED and book.file.read_bytes() == bytes(spoilt), f"byte {place}: a command is entered")
+        status, _, error = book.run("repair")
+        last = max(length for length, _ in stages if length <= place)
+        in_last = last == stages[-2][0]
+        kept = book.file.read_bytes()
+        is_cut = in_last and status == DONE and kept == held[:last]
+        tries.want(is_cut or (status == DAMAGED and kept == bytes(spoilt)), f"byte {place}: repair answered {status}, {error.strip()!r}")
+    return tries.done()
+
+
+def locked(book, numbers, rounds):
+    """Two that pay at once: the second is refused, or both are there."""
+    tries = Tries("two at once")
+    book.file.unlink(missing_ok=True)
+    book.run("open", "ann", 10**9)
+    book.run("open", "bob", 0)
+    paid = 0
+    for number in range(40):
+        tools = [book.start("pay", "ann", "bob", 1) for _ in range(2)]
+        statuses = [tool.communicate()[0] and tool.returncode or tool.returncode for tool in tools]
+        paid += sum(status == DONE for status in statuses)
+        tries.want(all(status in (DONE, DEVICE) for status in statuses), f"round {number}: statuses {statuses}")
+        tries.want(book.balances() == ({"ann": 10**9 - paid, "bob": paid}, DONE), f"round {number}: {book.balances()}, {paid} were said")
+    return tries.done()
+
+
+def devices(book, numbers, rounds):
+    """Files that are none, that nobody writes to, and a full disk for what is printed."""
+    tries = Tries("other files")
+    folder = book.file.parent
+    missing = folder / "missing"
+    for file, words, wanted in [
+        (missing, ("balance",), DEVICE), (missing, ("check",), DEVICE), (missing, ("log",), DEVICE), (missing, ("repair",), DEVICE),
+        (missing, ("pay", "ann", "bob", 1), DEVICE), (folder, ("check",), DEVICE), (folder, ("open", "ann"), DEVICE), ("/dev/full", ("open", "ann"), DEVICE),
+        ("/dev/zero", ("check",), DEVICE), (missing, ("no",), USAGE), (missing, (), USAGE), (missing, ("pay", "ann"), USAGE), (missing, ("open", "ann", "x"), USAGE),
+        (missing, ("open", "ann", "-1"), USAGE), (missing, ("pay", "ann", "bob", 2**64), USAGE), ("--help", (), DONE), ("--version", (), DONE),
+    ]:
+        status, _, error = book.run(*words, file=file, seconds=20)
+        tries.want(status == wanted, f"{file} {words}: status {status}, {error.strip()[:200]!r}")
+    tries.want(not missing.exists(), "a missing book was made")
+    pipe = folder / "pipe"
+    os.mkfifo(pipe)
+    for words in (("check",), ("log",), ("open", "ann"), ("repair",)):
+        tries.want(book.run(*words, file=pipe, seconds=5)[0] == DEVICE, f"{words[0]} of a pipe that nobody writes to")
+    held, stages = written(book, 12, numbers)
+    if os.geteuid():
+        book.file.chmod(0)
+        tries.want(book.run("check")[0] == DEVICE, "a book without permission")
+        book.file.chmod(0o600)
+    with open("/dev/full", "wb") as full:
+        for words in (("balance",), ("log",), ("check",)):
+            tries.want(book.run(*words, output=full)[0] == DEVICE, f"a full disk for what {words[0]} prints")
+        tries.want(book.run("open", "new", 7, output=full)[0] == DONE, "a full disk for what `open` prints")
+    tries.want(book.balances()[0].get("new") == 7, "what was entered is not there")
+    return tries.done()
+
+
+def full_disk(book, numbers, rounds):
+    """A disk without room for a command: it is not entered, and what was there stays."""
+    tries = Tries("a small disk")
+    disk = book.file.parent / "disk"
+    disk.mkdir()
+    if subprocess.run(["mount", "-t", "tmpfs", "-o", "size=64k", "tmpfs", str(disk)], stderr=subprocess.DEVNULL).returncode:
+        print("  no disk could be mounted: not tried", flush=True)
+        return tries.done()
+    try:
+        file = disk / "book"
+        opened = 0
+        while book.run("open", "n" * 9000 + str(opened), 1, file=file)[0] == DONE and opened < 100:
+            opened += 1
+        held = file.read_bytes()
+        tries.want(0 < opened < 100, f"{opened} accounts were opened")
+        status, _, error = book.run("open", "m" * 30000, file=file)
+        tries.want(status == DEVICE and error and file.read_bytes() == held, f"one more: status {status}, {error.strip()[:200]!r}")
+        status, text, _ = book.run("check", file=file)
+        tries.want(status == DONE and f"commands: {opened}," in text, f"after that: status {status}, {text.strip()[-100:]!r}")
+    finally:
+        subprocess.run(["umount", str(disk)])
+    return tries.done()
+
+
+def main():
+    parser = argparse.ArgumentParser(description=__doc__.split("\n")[0])
+    parser.add_argument("program")
+    parser.add_argument("--only", default="")
+    parser.add_argument("--rounds", type=int, default=400)
+    parser.add_argument("--seed", type=int, default=1)
+    given = parser.parse_args()
+    program = os.path.realpath(given.program)
+    if not os.access(program, os.X_OK):
+        print(f"try_ledger: {program} is no program", file=sys.stderr)
+        sys.exit(2)
+    wrong = 0
+    with tempfile.TemporaryDirectory() as folder:
+        book, numbers = Book(program, Path(folder)), random.Random(given.seed)
+        for group in (commands, killed, prefixes, flips, locked, devices, full_disk):
+            if given.only in group.__name__:
+                wrong += group(book, numbers, given.rounds)
+    sys.exit(1 if wrong else 0)
+
+
+main()
