@@ -18,8 +18,8 @@ use std::io::Read;
 
 /// Replays a log of numbered commands into a machine that has the commands of a snapshot: those of the log that it has
 /// already are passed over, and the others are applied, each once and in order. Arguments and errors are those of
-/// `replay`, which tells the place of an error by the commands of the log; a command is refused where others are missing
-/// before it.
+/// `replay`, which tells the place of an error by the commands of the log; a command is refused where others are
+/// missing before it.
 pub fn replay_from<M: Machine, C: Config, R: Read>(
     alloc: Global,
     numbered: &mut Numbered<M>,
@@ -28,10 +28,11 @@ pub fn replay_from<M: Machine, C: Config, R: Read>(
     config: C,
     most: u32,
 ) -> Result<Replayed, ReplayError<NumberedRefusal<M::Refusal>>>
-    // These clauses speak of logs whose bytes are known. All whole frames of the log hold numbered commands. If these are
-    // numbered in a row, the state is that of all commands of the snapshot and of those of the log from its number on.
+    // These clauses speak of logs whose bytes are known. All whole frames of the log hold numbered commands. If these
+    // are numbered in a row, the state is that of the commands before the snapshot, and of the log's from its number on.
     ensures continues { TellsBytes (R.remaining log.old) → IfOk result (Continues M.applies
-        (⟦<(u64, M::Command) as Wire>⟧.words.format C.setting) C.bound ⟦<(u64, M::Command) as Wire>⟧.words.decodes_to most
+        (⟦<(u64, M::Command) as Wire>⟧.words.format C.setting) C.bound
+        ⟦<(u64, M::Command) as Wire>⟧.words.decodes_to most
         (known_bytes (R.remaining log.old)) (numbered.old.next, M.state numbered.old.machine)
         (numbered.new.next, M.state numbered.new.machine)) }
     // After an error the state is that before the place, and what stands there is told.

@@ -35,8 +35,8 @@ pub trait Saving: Machine {
     fn to_saved(&self, alloc: Global) -> Result<Self::Saved, AllocError>
         ensures { IfOk result (λ saved. stands_for saved self.now) };
 
-    /// A machine in the state that something saved stands for, of whatever version. Fails with `NoState` where it stands
-    /// for none, or with `Memory`.
+    /// A machine in the state that something saved stands for, of whatever version. Fails with `NoState` where it
+    /// stands for none, or with `Memory`.
     fn from_saved(alloc: Global, saved: Self::Saved) -> Result<Self, StateError>
         ensures state { IfOk result (λ machine. stands_for saved machine) }
         ensures none { IsErrOf result StateError.NoState → (machine : Self) → stands_for saved machine → ⊥ };
@@ -95,7 +95,8 @@ pub fn restore_machine<M: Saving, C: Config>(
     // What `save_machine` returned is restored, unless memory is refused: the same number, and the same state.
     ensures back { (commands : ℕ) (machine : M) → commands < 2 ^ 64
         → IsSavedAs M.stands_for M.Saved.words C.setting C.bound commands machine bytes.now
-        → MatchResult result (λ numbered. (numbered.next ≡ commands) × (M.state numbered.machine ≡ M.state machine)) IsRestoreMemory }
+        → MatchResult result (λ numbered. (numbered.next ≡ commands)
+        × (M.state numbered.machine ≡ M.state machine)) IsRestoreMemory }
 {
     let (next, saved) = match load(alloc, bytes, config) {
         Ok(loaded) => loaded,

@@ -147,7 +147,8 @@ pub fn load<T: Decode<()> + Exact, C: Config>(
     config: C,
 ) -> Result<(u64, T), LoadError>
     // The bytes are a snapshot of that state, and no byte is left.
-    ensures loaded { IfOk result (λ x. IsLoaded (T.words.format C.setting) C.bound T.words.decodes_to bytes.now x.0 x.1) }
+    ensures loaded { IfOk result (λ x. IsLoaded (T.words.format C.setting) C.bound T.words.decodes_to bytes.now x.0
+        x.1) }
     // Else it is told why they are not.
     ensures fault { IfErr result (IsLoadFault (T.words.format C.setting) C.bound bytes.now) }
     // What `save` returned is loaded again, unless memory is refused: the same number, and an equal state.
