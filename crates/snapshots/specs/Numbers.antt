@@ -1,5 +1,5 @@
 -- Commands with their numbers, and what they do to a state that knows how many commands came before it.
-use Rattle.std.specs.Prelude.{◌≡◌, ◌+◌, ◌<◌, ◌^◌, ◌⊎◌, ℕ, List, [], ◌∷◌, nat_lt, if◌then◌else◌}
+use Rattle.std.specs.Prelude.{◌≡◌, ◌+◌, ◌<◌, ◌^◌, ◌⊎◌, ℕ, List, [], ◌∷◌, map}
 use Rattle.snapshots.specs.declared.numbered.NumberedRefusal.{NumberedRefusal}
 use Rattle.snapshots.specs.declared.numbered.NumberedRefusal.TheVariants as refusals
 
@@ -15,10 +15,14 @@ RefusesNext refuses state command refusals.NoNumber = (command.0 ≡ state.0) ×
 
 -- the commands are numbered in a row, from this number on
 abbrev pub NumberedFrom : {A : Type 0} → ℕ → List (ℕ × A) → Type 0
-NumberedFrom base [] = Unit {0}
-NumberedFrom base (command ∷ commands) = (command.0 ≡ base) × NumberedFrom (base + 1) commands
+NumberedFrom number [] = Unit {0}
+NumberedFrom number (command ∷ commands) = (command.0 ≡ number) × NumberedFrom (number + 1) commands
 
--- the commands of at least this number, without their numbers
-abbrev pub commands_from : {A : Type 0} → ℕ → List (ℕ × A) → List A
-commands_from number [] = []
-commands_from number (command ∷ commands) = if nat_lt command.0 number then commands_from number commands else command.1 ∷ commands_from number commands
+-- they have numbers below this one
+abbrev pub NumberedBelow : {A : Type 0} → ℕ → List (ℕ × A) → Type 0
+NumberedBelow number [] = Unit {0}
+NumberedBelow number (command ∷ commands) = (command.0 < number) × NumberedBelow number commands
+
+-- without their numbers
+abbrev pub without_numbers : {A : Type 0} → List (ℕ × A) → List A
+without_numbers commands = map (λ command. command.1) commands
