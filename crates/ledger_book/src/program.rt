@@ -156,7 +156,8 @@ pub struct Entry {
 }
 
 /// Carries a command out on the accounts of a book, and then appends it. It is on the disk on return. An opening makes
-/// the book where there is none. Where it fails, the book is cut back to what it held.
+/// the book where there is none. Where the append fails, the book is cut back to what it held; where the disk fails
+/// after it, the command may be in the book.
 pub fn enter_into(rt: &HostRuntime, path: &str, command: &Command) -> Result<Entry, BookError> {
     let creates = matches!(command, Command::Open { .. });
     let file = open_to_change(rt, path, creates)?;
