@@ -6,7 +6,7 @@ use bincode::config;
 use bincode::error::DecodeError;
 use snapshots::numbered::Numbered;
 use snapshots::saving::{RestoreError, restore_machine, save_machine};
-use snapshots::snapshot::LoadError;
+use snapshots::snapshot::{HEADER, LoadError, load, save};
 use std::alloc::Global;
 use std::test::Fail;
 
@@ -49,10 +49,17 @@ fn restored(alloc: Global, bytes: &[u8]) -> Result<Numbered<Till>, RestoreError>
     restore_machine(alloc, bytes, config::standard())
 }
 
+/// Whether the till is saved as these bytes.
+fn is_saved_as(alloc: Global, wanted: &[u8]) -> bool {
+    match &save_machine(alloc, &TILL, config::standard()) {
+        Ok(bytes) => bytes.as_slice() == wanted,
+        Err(_) => false,
+    }
+}
+
 #[test]
 fn saves_the_newest_version(rt: HostRuntime) {
-    let saved = save_machine(rt.alloc(), &TILL, config::standard());
-    assert!(rt; matches!(saved, Ok(bytes) if bytes.as_slice() == SECOND.as_slice()));
+    assert!(rt; is_saved_as(rt.alloc(), &SECOND));
 }
 
 #[test]
@@ -107,7 +114,10 @@ fn refuses_each_front(rt: HostRuntime) {
 /// Whether a snapshot of which a byte was changed is told as damaged.
 fn refuses_changed(alloc: Global, at: usize) -> bool {
     let mut changed = SECOND;
-    changed[at] ^= 1;
+    let Some(byte) = changed.get_mut(at) else {
+        return false;
+    };
+    *byte ^= 1;
     matches!(
         restored(alloc, &changed),
         Err(RestoreError::Load(LoadError::Damaged))
@@ -127,4 +137,32 @@ fn saves_nothing_above_the_limit(rt: HostRuntime) {
     assert!(rt; save_machine(rt.alloc(), &TILL, config).is_err());
     let enough = config::standard().with_limit::<12>();
     assert!(rt; save_machine(rt.alloc(), &TILL, enough).is_ok());
+}
+
+/// Whether bytes are loaded as this state after 9 commands.
+fn is_loaded_as(alloc: Global, bytes: &[u8], state: &[u8]) -> bool {
+    let loaded: Result<(u64, Vec<u8>), LoadError> = load(alloc, bytes, config::standard());
+    match &loaded {
+        Ok((commands, other)) => *commands == 9 && other.as_slice() == state,
+        Err(_) => false,
+    }
+}
+
+/// Whether a state comes back from its snapshot, which has a header and a length of five bytes more.
+fn comes_back(alloc: Global, state: &Vec<u8>) -> bool {
+    match save(alloc, 9, state, config::standard()) {
+        Ok(bytes) => {
+            bytes.len() == HEADER + 5 + state.len() && is_loaded_as(alloc, &bytes, state)
+        }
+        Err(_) => false,
+    }
+}
+
+#[test]
+fn loads_more_than_a_megabyte(rt: HostRuntime) -> Result<(), Fail> {
+    let alloc = rt.alloc();
+    let mut state = Vec::new(alloc);
+    state.resize(1_100_000, 7u8)?;
+    assert!(rt; comes_back(alloc, &state));
+    Ok(())
 }
