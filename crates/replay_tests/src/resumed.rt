@@ -1,5 +1,5 @@
-//! Replaying numbered payments from a snapshot on: of 7, of 300 and of 7 again, from logs with all of them, with those that
-//! the snapshot lacks, and with some missing. The checks are Python's.
+//! Replaying numbered payments from a snapshot on: of 7, of 300 and of 7 again, from logs with all of them, with those
+//! that the snapshot lacks, and with some missing. The checks are Python's.
 
 use crate::till::{Full, Till};
 use bincode::config;
