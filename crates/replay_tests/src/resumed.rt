@@ -1,11 +1,15 @@
 //! Replaying numbered payments from a snapshot on: of 7, of 300 and of 7 again, from logs with all of them, with those
 //! that the snapshot lacks, and with some missing. The checks are Python's.
 
+use crate::snapshots_of_tills::SECOND;
 use crate::till::{Full, Till};
 use bincode::config;
 use replay::replay::{Failure, ReplayError, Replayed};
 use snapshots::numbered::{Numbered, NumberedRefusal};
 use snapshots::resume::replay_from;
+use snapshots::resuming::{ResumeError, resume_machine};
+use snapshots::saving::RestoreError;
+use snapshots::snapshot::LoadError;
 use std::alloc::Global;
 
 /// The frames of the payments 0 to 2, of which the last two begin at the bytes 10 and 22.
@@ -139,6 +143,65 @@ fn refuses_the_last_number(rt: HostRuntime) {
                 offset: 0,
                 why: Failure::Refused(NumberedRefusal::NoNumber)
             })
+        )
+    );
+}
+
+/// The till of a snapshot and a log.
+fn resumed(
+    alloc: Global,
+    snapshot: &[u8],
+    mut log: &[u8],
+) -> Result<(Numbered<Till>, Replayed), ResumeError<Full>> {
+    let mut buffer = Vec::new(alloc);
+    resume_machine(
+        alloc,
+        snapshot,
+        &mut log,
+        &mut buffer,
+        config::standard(),
+        LONGEST,
+    )
+}
+
+/// Whether a front of the log comes to three payments if it is whole, and else to the two of the snapshot.
+fn resumes_front(alloc: Global, length: usize) -> bool {
+    let Some(front) = LOG.get(..length) else {
+        return false;
+    };
+    let payments = if length == LOG.len() { 3 } else { 2 };
+    matches!(resumed(alloc, &SECOND, front), Ok((till, _)) if till == till_after(payments, 1000))
+}
+
+#[test]
+fn resumes_from_a_snapshot_and_each_front(rt: HostRuntime) {
+    for length in 0..=LOG.len() {
+        assert!(rt; resumes_front(rt.alloc(), length), "{length}");
+    }
+}
+
+#[test]
+fn tells_whether_snapshot_or_log_is_wrong(rt: HostRuntime) {
+    let alloc = rt.alloc();
+    let short = resumed(alloc, &[], &LOG);
+    assert!(rt;
+        matches!(
+            short,
+            Err(ResumeError::Snapshot(RestoreError::Load(LoadError::Short)))
+        )
+    );
+    let later = resumed(alloc, &SECOND, &[2, 0, 0, 0, 3, 7, 59, 16, 139, 108]);
+    assert!(rt;
+        matches!(
+            later,
+            Err(ResumeError::Log(ReplayError {
+                commands: 0,
+                offset: 0,
+                why: Failure::Refused(NumberedRefusal::Missing {
+                    expected: 2,
+                    found: 3
+                })
+            }))
         )
     );
 }

@@ -11,7 +11,7 @@ use std::alloc::Global;
 use std::test::Fail;
 
 /// The snapshot in the second version.
-const SECOND: [u8; 47] = [
+pub const SECOND: [u8; 47] = [
     190, 61, 15, 186, 132, 0, 122, 200, 188, 215, 96, 199, 233, 213, 17, 166, 240, 16, 24, 225, 60,
     86, 82, 13, 100, 229, 177, 201, 218, 213, 236, 154, 2, 0, 0, 0, 0, 0, 0, 0, 1, 251, 51, 1, 251,
     232, 3,

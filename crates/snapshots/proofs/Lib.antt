@@ -1,2 +1,3 @@
 mod NumberLaws
+mod ResumeLaws
 mod SnapshotLaws

@@ -10,7 +10,7 @@ use Rattle.snapshots.specs.Resumed.{IsWhole, Continues}
 
 module _ {S A : Type 0} (applies : S → A → S → Type 0) where
   -- one run after another
-  runs-join : (first second : List A) (old mid new : S) → Run applies old first mid → Run applies mid second new → Run applies old (first ++ second) new
+  pub runs-join : (first second : List A) (old mid new : S) → Run applies old first mid → Run applies mid second new → Run applies old (first ++ second) new
   runs-join [] second old mid new r s = subst (λ z. Run applies z second new) r s
   runs-join (command ∷ first) second old mid new r s = (r.0, r.1, runs-join first second r.0 mid new r.2 s)
 

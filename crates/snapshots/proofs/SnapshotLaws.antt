@@ -19,7 +19,7 @@ use Rattle.bincode_lemmas.specs.FormatLaws.{one-word}
 use Rattle.bincode_types.specs.TypeLaws.{ExactWords}
 use Rattle.bincode_types.specs.TypeWords.{Words}
 use Rattle.framed_store.specs.Appended.{IsEntry}
-use Rattle.snapshots.specs.Snapshots.{counted, snapshot, IsSnapshot, IsLoaded, DigestFits, HoldsState, IsHeaderFault, IsStateFault, IsLoadFault, IsNoMemory, FitsLimits}
+use Rattle.snapshots.specs.Snapshots.{counted_word, snapshot, IsSnapshot, IsLoaded, DigestFits, HoldsState, IsHeaderFault, IsStateFault, IsLoadFault, IsNoMemory, FitsLimits}
 use Rattle.snapshots.specs.declared.snapshot.LoadError.{LoadError}
 use Rattle.snapshots.specs.declared.snapshot.LoadError.TheVariants as failures
 
@@ -27,31 +27,31 @@ use Rattle.snapshots.specs.declared.snapshot.LoadError.TheVariants as failures
 pub holds-state : (bytes : List ℕ) (commands : ℕ) (word : List ℕ) → 40 ≤ length bytes → take 32 bytes ≡ sha256 (drop 32 bytes) → commands < 2 ^ 64 → to_le_bytes w64 commands ≡ take 8 (drop 32 bytes) →
     word ≡ drop 8 (drop 32 bytes) → HoldsState bytes commands word
 holds-state bytes commands word there fits small count behind =
-    let body : counted commands word ≡ drop 32 bytes = ap (λ z. z ++ word) count ∙ ap (λ z. take 8 (drop 32 bytes) ++ z) behind ∙ take-append-drop 8 (drop 32 bytes) in
+    let body : counted_word commands word ≡ drop 32 bytes = ap (λ z. z ++ word) count ∙ ap (λ z. take 8 (drop 32 bytes) ++ z) behind ∙ take-append-drop 8 (drop 32 bytes) in
     let whole : snapshot commands word ≡ bytes = ap (λ z. sha256 z ++ z) body ∙ ap (λ z. z ++ drop 32 bytes) (sym fits) ∙ take-append-drop 32 bytes in
     ((there, fits), small, sym whole, behind ∙ drop-drop 8 32 bytes)
 
 -- the bytes of a snapshot after its digest, and its digest
-after-digest : (commands : ℕ) (word : List ℕ) → drop 32 (snapshot commands word) ≡ counted commands word
+after-digest : (commands : ℕ) (word : List ℕ) → drop 32 (snapshot commands word) ≡ counted_word commands word
 after-digest commands word =
-    subst (λ n. drop n (snapshot commands word) ≡ counted commands word) (length-sha256 (counted commands word)) (drop-append_seam (sha256 (counted commands word)) (counted commands word))
+    subst (λ n. drop n (snapshot commands word) ≡ counted_word commands word) (length-sha256 (counted_word commands word)) (drop-append_seam (sha256 (counted_word commands word)) (counted_word commands word))
 
-the-digest : (commands : ℕ) (word : List ℕ) → take 32 (snapshot commands word) ≡ sha256 (counted commands word)
+the-digest : (commands : ℕ) (word : List ℕ) → take 32 (snapshot commands word) ≡ sha256 (counted_word commands word)
 the-digest commands word =
-    subst (λ n. take n (snapshot commands word) ≡ sha256 (counted commands word)) (length-sha256 (counted commands word)) (take-append_seam (sha256 (counted commands word)) (counted commands word))
+    subst (λ n. take n (snapshot commands word) ≡ sha256 (counted_word commands word)) (length-sha256 (counted_word commands word)) (take-append_seam (sha256 (counted_word commands word)) (counted_word commands word))
 
 -- a snapshot has a digest that fits
 snapshot-fits : (commands : ℕ) (word : List ℕ) → DigestFits (snapshot commands word)
 snapshot-fits commands word =
-    let digest = length-sha256 (counted commands word) in
-    let all = length-append (sha256 (counted commands word)) (counted commands word) in
+    let digest = length-sha256 (counted_word commands word) in
+    let all = length-append (sha256 (counted_word commands word)) (counted_word commands word) in
     let body = length-append (to_le_bytes w64 commands) word in
     (omega (arith, digest, all, body), the-digest commands word ∙ ap sha256 (sym (after-digest commands word)))
 
 -- a snapshot has one number of commands and one word
 one-snapshot : (m n : ℕ) (word other : List ℕ) → m < 2 ^ 64 → n < 2 ^ 64 → snapshot m word ≡ snapshot n other → (m ≡ n) × (word ≡ other)
 one-snapshot m n word other small below same =
-    let body : counted m word ≡ counted n other = sym (after-digest m word) ∙ ap (drop 32) same ∙ after-digest n other in
+    let body : counted_word m word ≡ counted_word n other = sym (after-digest m word) ∙ ap (drop 32) same ∙ after-digest n other in
     let fields : to_le_bytes w64 m ≡ to_le_bytes w64 n = sym (take-append_seam (to_le_bytes w64 m) word) ∙ ap (take 8) body ∙ take-append_seam (to_le_bytes w64 n) other in (
       sym (from_le_bytes-to_le_bytes_8 m small) ∙ ap (from_le_bytes w64) fields ∙ from_le_bytes-to_le_bytes_8 n below,
       sym (drop-append_seam (to_le_bytes w64 m) word) ∙ ap (drop 8) body ∙ drop-append_seam (to_le_bytes w64 n) other,
@@ -110,7 +110,7 @@ module _ {A : Type 0} (W : Words A) (s : Setting) (limit : Option ℕ) where
   pub not-loaded-back : (commands : ℕ) (state : A) (bytes : List ℕ) → IsSnapshot W s limit commands state bytes → (e : LoadError) → IsLoadFault F limit bytes e → IsNoMemory e
   not-loaded-back commands state bytes saved e (inl h) = absurd (no-header-fault commands saved.word bytes saved.bytes_are e h)
   not-loaded-back commands state bytes saved e (inr h) =
-      let body : drop 32 bytes ≡ counted commands saved.word = ap (drop 32) saved.bytes_are ∙ after-digest commands saved.word in
+      let body : drop 32 bytes ≡ counted_word commands saved.word = ap (drop 32) saved.bytes_are ∙ after-digest commands saved.word in
       let behind : drop 40 bytes ≡ saved.word = sym (drop-drop 8 32 bytes) ∙ ap (drop 8) body ∙ drop-append_seam (to_le_bytes w64 commands) saved.word in
       no-state-fault state saved.word saved.is_entry e (subst (λ z. IsStateFault F limit z e) behind h.1)
 

@@ -1,4 +1,5 @@
 pub mod Numbers
 pub mod Resumed
+pub mod Resuming
 pub mod Saved
 pub mod Snapshots

@@ -19,12 +19,12 @@ use Rattle.snapshots.specs.declared.snapshot.SaveError.{SaveError}
 use Rattle.snapshots.specs.declared.snapshot.SaveError.TheVariants as saving
 
 -- the number of commands in eight bytes, the lowest first, and the word of the state
-abbrev pub counted : ℕ → List ℕ → List ℕ
-counted commands word = to_le_bytes w64 commands ++ word
+abbrev pub counted_word : ℕ → List ℕ → List ℕ
+counted_word commands word = to_le_bytes w64 commands ++ word
 
 -- the SHA-256 digest of these, and they themselves
 abbrev pub snapshot : ℕ → List ℕ → List ℕ
-snapshot commands word = sha256 (counted commands word) ++ counted commands word
+snapshot commands word = sha256 (counted_word commands word) ++ counted_word commands word
 
 -- a snapshot of a state, by a word of it within the limit
 pub record IsSnapshot {A : Type 0} (W : Words A) (s : Setting) (limit : Option ℕ) (commands : ℕ) (state : A) (bytes : List ℕ) : Type 0 where

@@ -4,5 +4,6 @@
 
 pub mod numbered;
 pub mod resume;
+pub mod resuming;
 pub mod saving;
 pub mod snapshot;
