@@ -28,8 +28,8 @@ pub fn replay_from<M: Machine, C: Config, R: Read>(
     config: C,
     most: u32,
 ) -> Result<Replayed, ReplayError<NumberedRefusal<M::Refusal>>>
-    // These clauses speak of logs whose bytes are known. All whole frames of the log hold numbered commands. Where these
-    // are some that the snapshot has, and then others in a row from its number on, the state is that of all commands.
+    // These clauses speak of logs whose bytes are known. All whole frames of the log hold numbered commands. Where they
+    // are some that the snapshot has, and then others in a row from its number on, all commands lead to the state.
     ensures continues { TellsBytes (R.remaining log.old) → IfOk result (Continues M.applies
         (⟦<(u64, M::Command) as Wire>⟧.words.format C.setting) C.bound
         ⟦<(u64, M::Command) as Wire>⟧.words.decodes_to most
