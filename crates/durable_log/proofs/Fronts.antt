@@ -10,7 +10,7 @@ use Rattle.bincode_base.specs.Setting.{Setting}
 use Rattle.bincode_types.specs.TypeWords.{Words}
 use Rattle.frames.specs.Frames.{frame}
 use Rattle.framed_store.specs.Appended.{IsFitting}
-use Rattle.framed_store.specs.Pieces.{Piece, Kept, Changed, bytes_of, bytes_of_all, ArePieces}
+use Rattle.framed_store.specs.Pieces.{Piece, FrameOf, Damage, bytes_of, bytes_of_all, ArePieces}
 use Rattle.framed_store.specs.PieceLaws.{with_kept}
 use Rattle.crash_device.specs.Files.{Files, AppendsPart}
 use Rattle.durable_log.specs.Standing.{AreKept, IsLogOf, StandsFor, IsBeforeOrAfter}
@@ -21,8 +21,8 @@ bytes_of_all-append (x ∷ xs) ys = ap (λ z. bytes_of x ++ z) (bytes_of_all-app
 
 kept-more : {A : Type 0} (pieces : List (Piece A)) (value : A) (word : List ℕ) → AreKept pieces → AreKept (with_kept pieces value word)
 kept-more [] value word are = tt
-kept-more (Kept v w ∷ pieces) value word are = kept-more pieces value word are
-kept-more (Changed bytes ∷ pieces) value word are = absurd are
+kept-more (FrameOf v w ∷ pieces) value word are = kept-more pieces value word are
+kept-more (Damage bytes ∷ pieces) value word are = absurd are
 
 module _ {A : Type 0} (W : Words A) (s : Setting) (limit : Option ℕ) (most : ℕ) where
   are-append : (xs ys : List (Piece A)) → ArePieces W s limit most xs → ArePieces W s limit most ys → ArePieces W s limit most (xs ++ ys)
@@ -33,7 +33,7 @@ module _ {A : Type 0} (W : Words A) (s : Setting) (limit : Option ℕ) (most : �
   pub adds-one : (pieces : List (Piece A)) (value : A) (word log : List ℕ) → IsLogOf W s limit most pieces log → IsFitting W s limit most value word → All (λ b. b < 256) (frame word) →
       IsLogOf W s limit most (with_kept pieces value word) (log ++ frame word)
   adds-one pieces value word log is fits bytes =
-      let one = Kept value word ∷ [] in record {
+      let one = FrameOf value word ∷ [] in record {
         are_pieces = are-append pieces one is.are_pieces (fits, tt);
         are_kept = kept-more pieces value word is.are_kept;
         bytes_are = bytes_of_all-append pieces one ∙ (ap (λ z. z ++ (frame word ++ [])) is.bytes_are ∙ ap (λ z. log ++ z) (append-nil (frame word)));
@@ -64,7 +64,7 @@ module _ {A : Type 0} (W : Words A) (s : Setting) (limit : Option ℕ) (most : �
         let long : length (bytes_of_all pieces) ≡ length log = ap length is.bytes_are in
         let all = length-append log (take n (frame word)) in
         let taken = length-take n (frame word) in record {
-          next = Kept value word ∷ [];
+          next = FrameOf value word ∷ [];
           lost = drop n (frame word);
           are_pieces = added.are_pieces;
           are_kept = is.are_kept;

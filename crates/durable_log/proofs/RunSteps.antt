@@ -3,7 +3,7 @@ use Rattle.std.specs.Prelude.{◌≡◌, ◌+◌, ◌++◌, ℕ, List, [], ◌�
 use Rattle.std.proofs.Common.{◌∙◌, sym, subst, ⊎_elim, append_assoc, append-nil}
 use Rattle.bincode_base.specs.Setting.{Setting}
 use Rattle.bincode_types.specs.TypeWords.{Words}
-use Rattle.framed_store.specs.Pieces.{Piece, Kept, Changed}
+use Rattle.framed_store.specs.Pieces.{Piece, FrameOf, Damage}
 use Rattle.framed_store.specs.PieceLaws.{with_kept}
 use Rattle.crash_device.specs.Files.{Files}
 use Rattle.durable_log.specs.Runs.{AreOf, IsLogAfter, StandsForPart}
@@ -14,8 +14,8 @@ are-push : {A : Type 0} (added : List (Piece A)) (commands : List A) (value : A)
 are-push [] [] value word are = (refl, tt)
 are-push [] (c ∷ commands) value word are = absurd are
 are-push (p ∷ added) [] value word are = absurd are
-are-push (Kept v w ∷ added) (c ∷ commands) value word are = (are.0, are-push added commands value word are.1)
-are-push (Changed bytes ∷ added) (c ∷ commands) value word are = absurd are
+are-push (FrameOf v w ∷ added) (c ∷ commands) value word are = (are.0, are-push added commands value word are.1)
+are-push (Damage bytes ∷ added) (c ∷ commands) value word are = absurd are
 
 module _ {A : Type 0} (W : Words A) (s : Setting) (limit : Option ℕ) (most : ℕ) (pieces : List (Piece A)) where
   -- none yet
@@ -30,7 +30,7 @@ module _ {A : Type 0} (W : Words A) (s : Setting) (limit : Option ℕ) (most : �
     grown word = subst (AreOf (with_kept added value word)) (sym more) (are-push added (take i commands) value word are)
 
     together : (word : List ℕ) → with_kept (pieces ++ added) value word ≡ pieces ++ with_kept added value word
-    together word = append_assoc pieces added (Kept value word ∷ [])
+    together word = append_assoc pieces added (FrameOf value word ∷ [])
 
     -- one more
     pub one-after : (log : List ℕ) → IsAfter W s limit most (pieces ++ added) value log → IsLogAfter W s limit most pieces (take (i + 1) commands) log

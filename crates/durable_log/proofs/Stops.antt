@@ -16,7 +16,7 @@ use Rattle.framed_store.specs.declared.ending.Ending.TheVariants as endings
 use Rattle.framed_store.specs.declared.listing.Record.{Record}
 use Rattle.framed_store.specs.declared.records.Content.{Content}
 use Rattle.framed_store.specs.declared.records.Content.TheVariants as contents
-use Rattle.framed_store.specs.Pieces.{Piece, Kept, Changed, bytes_of, bytes_of_all, IsToldAs, ToldFor, LacksRoom}
+use Rattle.framed_store.specs.Pieces.{Piece, FrameOf, Damage, bytes_of, bytes_of_all, IsToldAs, ToldFor, LacksRoom}
 use Rattle.framed_store.specs.Steps.{IsWhole}
 use Rattle.framed_store.specs.Told.{IsContent, IsRecord, ReadFrom, Lists}
 use Rattle.framed_store.proofs.Fronts.{same-word, damaged-front, whole-front}
@@ -155,9 +155,9 @@ kept-within n pieces next [] lost e fits lacks fits_kept are = tt
 kept-within n [] next (q ∷ kept) lost e fits lacks fits_kept are =
     let none : n - 0 < length (bytes_of q) = subst (LacksRoom (n - 0)) e lacks in
     let all = length-append (bytes_of q) (bytes_of_all kept) in absurd (omega (arith, none, all, fits_kept))
-kept-within n (Changed bytes ∷ pieces) next (q ∷ kept) lost e fits lacks fits_kept are = absurd are
-kept-within {A} n (Kept value word ∷ pieces) next (q ∷ kept) lost e fits lacks fits_kept are =
-    let p : Piece A = Kept value word in
+kept-within n (Damage bytes ∷ pieces) next (q ∷ kept) lost e fits lacks fits_kept are = absurd are
+kept-within {A} n (FrameOf value word ∷ pieces) next (q ∷ kept) lost e fits lacks fits_kept are =
+    let p : Piece A = FrameOf value word in
     let first : p ≡ q = cc in
     let others : pieces ++ next ≡ kept ++ lost = cc in
     let size = length (bytes_of p) in
@@ -169,20 +169,20 @@ kept-within {A} n (Kept value word ∷ pieces) next (q ∷ kept) lost e fits lac
 
 -- what is told of such pieces is a value
 told-kept : {A : Type 0} (eq : A → A → Bool) (F : Format Meaning) (limit : Option ℕ) (decodes_to : Meaning → A → Type 0) (most at : ℕ) (kept : List (Piece A)) (records : List (Record A)) (content : Content A) → AreKept kept →
-    ToldFor eq at kept records → Tells F limit decodes_to most records content → (value : A) × (word : List ℕ) × IsToldAs eq (Kept value word) content
+    ToldFor eq at kept records → Tells F limit decodes_to most records content → (value : A) × (word : List ℕ) × IsToldAs eq (FrameOf value word) content
 told-kept eq F limit decodes_to most at [] [] content are told tells = absurd tells
 told-kept eq F limit decodes_to most at [] (r ∷ records) content are told tells = absurd told
 told-kept eq F limit decodes_to most at (p ∷ kept) [] content are told tells = absurd tells
-told-kept eq F limit decodes_to most at (Changed bytes ∷ kept) (r ∷ records) content are told tells = absurd are
-told-kept eq F limit decodes_to most at (Kept value word ∷ kept) (r ∷ records) content are told (inl here) = (value, word, subst (IsToldAs eq (Kept value word)) here told.0)
-told-kept eq F limit decodes_to most at (Kept value word ∷ kept) (r ∷ records) content are told (inr there) =
-    told-kept eq F limit decodes_to most (at + length (bytes_of (Kept value word))) kept records content are told.3 there
+told-kept eq F limit decodes_to most at (Damage bytes ∷ kept) (r ∷ records) content are told tells = absurd are
+told-kept eq F limit decodes_to most at (FrameOf value word ∷ kept) (r ∷ records) content are told (inl here) = (value, word, subst (IsToldAs eq (FrameOf value word)) here told.0)
+told-kept eq F limit decodes_to most at (FrameOf value word ∷ kept) (r ∷ records) content are told (inr there) =
+    told-kept eq F limit decodes_to most (at + length (bytes_of (FrameOf value word))) kept records content are told.3 there
 
 module _ {A : Type 0} (W : Words A) (s : Setting) (limit : Option ℕ) (most : ℕ) (small : most < 2 ^ 32) (eq : A → A → Bool) (exact : ExactWords W eq) (pieces : List (Piece A)) (log : List ℕ)
     (stands : StandsFor W s limit most pieces log) where
   -- each frame that a replay comes to holds a value
   pub no-other : (commands : List A) (rest : List ℕ) (size : ℕ) (content : Content A) → FramesOf (W.format s) limit W.decodes_to most log commands rest → IsRecord (W.format s) limit W.decodes_to most rest size content →
-      (value : A) × (word : List ℕ) × IsToldAs eq (Kept value word) content
+      (value : A) × (word : List ℕ) × IsToldAs eq (FrameOf value word) content
   no-other commands rest size content f told =
       let c = cut (W.format s) limit W.decodes_to most log commands rest size content f told in
       let lists : Lists (W.format s) limit W.decodes_to most c.front c.stop.records endings.Whole = record { end = c.stop.end; remaining = []; frames = c.stop.read; ends = refl } in

@@ -2,15 +2,15 @@
 use Rattle.std.specs.Prelude.{◌≡◌, ◌++◌, ℕ, List, [], ◌∷◌, take, Option}
 use Rattle.bincode_base.specs.Setting.{Setting}
 use Rattle.bincode_types.specs.TypeWords.{Words}
-use Rattle.framed_store.specs.Pieces.{Piece, Kept, Changed}
+use Rattle.framed_store.specs.Pieces.{Piece, FrameOf, Damage}
 use Rattle.crash_device.specs.Files.{Files}
 use Rattle.durable_log.specs.Standing.{IsLogOf, StandsFor}
 
 -- the frames are those of these commands, in order
 abbrev pub AreOf : {A : Type 0} → List (Piece A) → List A → Type 0
 AreOf [] [] = Unit {0}
-AreOf (Kept value _ ∷ pieces) (command ∷ commands) = (value ≡ command) × AreOf pieces commands
-AreOf (Changed _ ∷ pieces) (_ ∷ commands) = ⊥
+AreOf (FrameOf value _ ∷ pieces) (command ∷ commands) = (value ≡ command) × AreOf pieces commands
+AreOf (Damage _ ∷ pieces) (_ ∷ commands) = ⊥
 AreOf [] (_ ∷ _) = ⊥
 AreOf (_ ∷ _) [] = ⊥
 

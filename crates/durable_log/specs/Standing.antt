@@ -3,15 +3,15 @@ use Rattle.std.specs.Prelude.{◌≡◌, ◌⊎◌, ◌-◌, ◌<◌, ◌≤◌,
 use Rattle.std.specs.List.{All}
 use Rattle.bincode_base.specs.Setting.{Setting}
 use Rattle.bincode_types.specs.TypeWords.{Words}
-use Rattle.framed_store.specs.Pieces.{Piece, Kept, Changed, ArePieces, bytes_of_all, LacksRoom}
+use Rattle.framed_store.specs.Pieces.{Piece, FrameOf, Damage, ArePieces, bytes_of_all, LacksRoom}
 use Rattle.framed_store.specs.PieceLaws.{with_kept}
 use Rattle.crash_device.specs.Files.{Files}
 
 -- none of the frames was changed
 abbrev pub AreKept : {A : Type 0} → List (Piece A) → Type 0
 AreKept [] = Unit {0}
-AreKept (Kept _ _ ∷ pieces) = AreKept pieces
-AreKept (Changed _ ∷ pieces) = ⊥
+AreKept (FrameOf _ _ ∷ pieces) = AreKept pieces
+AreKept (Damage _ ∷ pieces) = ⊥
 
 -- the log is the frames of these commands
 pub record IsLogOf {A : Type 0} (W : Words A) (s : Setting) (limit : Option ℕ) (most : ℕ) (pieces : List (Piece A)) (log : List ℕ) : Type 0 where

@@ -28,7 +28,7 @@ use Rattle.framed_store.specs.declared.listing.Record.{Record}
 use Rattle.framed_store.specs.declared.records.Content.{Content}
 use Rattle.framed_store.specs.declared.records.Content.TheVariants.{Value, Damaged, Undecodable, Longer}
 use Rattle.framed_store.specs.Appended.{IsFitting}
-use Rattle.framed_store.specs.Pieces.{Piece, Kept, Changed, bytes_of, bytes_of_all, IsPiece, ArePieces, IsTorn, IsToldAs, ToldFor, TellsFirst, TellsAll, TellsBeforeTorn, LacksRoom, EndsAfter, TellsFront}
+use Rattle.framed_store.specs.Pieces.{Piece, FrameOf, Damage, bytes_of, bytes_of_all, IsPiece, ArePieces, IsTorn, IsToldAs, ToldFor, TellsFirst, TellsAll, TellsBeforeTorn, LacksRoom, EndsAfter, TellsFront}
 use Rattle.framed_store.specs.Steps.{IsWhole, IsDamaged, EndsAt}
 use Rattle.framed_store.specs.Told.{IsRecord, ReadFrom, Lists}
 use Rattle.framed_store.proofs.Fronts.{damaged-on, no-end, front-is-torn, torn-alone}
@@ -110,7 +110,7 @@ module _ {A : Type 0} (W : Words A) (s : Setting) (limit : Option ℕ) (most : �
 
   -- the frame of a value is told as an equal value
   told-kept : (v : A) (word rest : List ℕ) → IsFitting W s limit most v word → AreBytes word → (size : ℕ) (content : Content A) → Told (frame word ++ rest) size content →
-      IsToldAs eq (Kept v word) content × (size ≡ length (frame word))
+      IsToldAs eq (FrameOf v word) content × (size ≡ length (frame word))
   told-kept v word rest fit bytes size (Value w) h =
       let read = whole-read word rest bytes fit.is_short size h.0 in
       let d = h.1 in
@@ -148,8 +148,8 @@ module _ {A : Type 0} (W : Words A) (s : Setting) (limit : Option ℕ) (most : �
 
   told-piece : (p : Piece A) (rest : List ℕ) → IsPiece W s limit most p → AreBytes (bytes_of p ++ rest) → (size : ℕ) (content : Content A) → Told (bytes_of p ++ rest) size content →
       IsToldAs eq p content × (size ≡ length (bytes_of p))
-  told-piece (Kept v word) rest is all size content h = told-kept v word rest is (word-bytes word (front-bytes (frame word) rest all)) size content h
-  told-piece (Changed bytes) rest is all size content h = told-changed bytes rest is size content h
+  told-piece (FrameOf v word) rest is all size content h = told-kept v word rest is (word-bytes word (front-bytes (frame word) rest all)) size content h
+  told-piece (Damage bytes) rest is all size content h = told-changed bytes rest is size content h
 
   -- a store does not end where a piece stands
   ends-no-frame : (word rest : List ℕ) → AreBytes word → length word ≤ most → (at : ℕ) (ending : Ending) → EndsAt most at (frame word ++ rest) ending → ⊥
@@ -161,8 +161,8 @@ module _ {A : Type 0} (W : Words A) (s : Setting) (limit : Option ℕ) (most : �
   ends-no-frame word rest bytes fits at (endings.TooLong offset n) h = framed-read most word rest bytes fits small (frames.TooLong n) h.1
 
   ends-no-piece : (p : Piece A) (rest : List ℕ) → IsPiece W s limit most p → AreBytes (bytes_of p ++ rest) → (at : ℕ) (ending : Ending) → EndsAt most at (bytes_of p ++ rest) ending → ⊥
-  ends-no-piece (Kept v word) rest is all at ending h = ends-no-frame word rest (word-bytes word (front-bytes (frame word) rest all)) is.is_short at ending h
-  ends-no-piece (Changed bytes) rest is all at ending h = no-end most at (bytes ++ rest) ending (damaged-on most bytes rest (length bytes) is).0 h
+  ends-no-piece (FrameOf v word) rest is all at ending h = ends-no-frame word rest (word-bytes word (front-bytes (frame word) rest all)) is.is_short at ending h
+  ends-no-piece (Damage bytes) rest is all at ending h = no-end most at (bytes ++ rest) ending (damaged-on most bytes rest (length bytes) is).0 h
 
   -- the records are those of the pieces, then those of what follows
   record Behind (at : ℕ) (pieces : List (Piece A)) (behind : List ℕ) (records : List (Record A)) (end : ℕ) (remaining : List ℕ) : Type 0 where
@@ -246,8 +246,8 @@ module _ {A : Type 0} (W : Words A) (s : Setting) (limit : Option ℕ) (most : �
 
   -- the length that a piece names
   named-piece : (p : Piece A) → IsPiece W s limit most p → (named_length (bytes_of p) ≤ most) × (length (bytes_of p) ≡ 8 + named_length (bytes_of p))
-  named-piece (Kept v word) is = named-frame small word is.is_short
-  named-piece (Changed bytes) is = (is.0.0, is.1)
+  named-piece (FrameOf v word) is = named-frame small word is.is_short
+  named-piece (Damage bytes) is = (is.0.0, is.1)
 
   pub torn-front : (front : List ℕ) → IsTorn most front → Reads most front frames.Torn
   torn-front front t = let named = named-frame small t.word t.is_short in front-is-torn most (frame t.word) front t.back named.0 named.1 t.frame_is t.some_written t.some_missing

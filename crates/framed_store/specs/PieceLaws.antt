@@ -5,11 +5,11 @@ use Rattle.bincode_base.specs.Setting.{Setting}
 use Rattle.bincode_types.specs.TypeWords.{Words}
 use Rattle.frames.specs.Frames.{frame}
 use Rattle.framed_store.specs.Appended.{Added, FrontAdded}
-use Rattle.framed_store.specs.Pieces.{Piece, Kept, bytes_of, bytes_of_all, IsPiece, ArePieces}
+use Rattle.framed_store.specs.Pieces.{Piece, FrameOf, bytes_of, bytes_of_all, IsPiece, ArePieces}
 
 -- one more piece
 abbrev pub with_kept : {A : Type 0} → List (Piece A) → A → List ℕ → List (Piece A)
-with_kept pieces value word = pieces ++ Kept value word ∷ []
+with_kept pieces value word = pieces ++ FrameOf value word ∷ []
 
 module _ {A : Type 0} (W : Words A) (s : Setting) (limit : Option ℕ) (most : ℕ) where
   bytes-more : (pieces : List (Piece A)) (p : Piece A) → bytes_of_all (pieces ++ p ∷ []) ≡ bytes_of_all pieces ++ bytes_of p
@@ -25,8 +25,8 @@ module _ {A : Type 0} (W : Words A) (s : Setting) (limit : Option ℕ) (most : �
       Added W s limit most v n (Some old) (Some new) → (word : List ℕ) × ArePieces W s limit most (with_kept pieces v word) × (new ≡ bytes_of_all (with_kept pieces v word))
   appended-pieces v n old new pieces are held added = (
     added.word,
-    are-more pieces (Kept v added.word) are added.is_fitting,
-    added.appended ∙ (ap (λ z. z ++ frame added.word) held ∙ sym (bytes-more pieces (Kept v added.word))),
+    are-more pieces (FrameOf v added.word) are added.is_fitting,
+    added.appended ∙ (ap (λ z. z ++ frame added.word) held ∙ sym (bytes-more pieces (FrameOf v added.word))),
   )
 
   -- After a write that failed it is a front of that one, at least as long as the store was.
@@ -35,7 +35,7 @@ module _ {A : Type 0} (W : Words A) (s : Setting) (limit : Option ℕ) (most : �
   cut-pieces v old new pieces are held added = (
     added.word,
     added.back,
-    are-more pieces (Kept v added.word) are added.is_fitting,
-    bytes-more pieces (Kept v added.word) ∙ (ap (λ z. bytes_of_all pieces ++ z) added.frame_is ∙ (sym (append_assoc (bytes_of_all pieces) added.front added.back) ∙
+    are-more pieces (FrameOf v added.word) are added.is_fitting,
+    bytes-more pieces (FrameOf v added.word) ∙ (ap (λ z. bytes_of_all pieces ++ z) added.frame_is ∙ (sym (append_assoc (bytes_of_all pieces) added.front added.back) ∙
         ap (λ z. z ++ added.back) (ap (λ z. z ++ added.front) (sym held) ∙ sym added.appended))),
   )

@@ -13,12 +13,12 @@ use Rattle.framed_store.specs.Steps.{IsDamaged}
 
 -- the frame of a value that was appended, with the value's word; or the bytes that a frame was changed to
 pub data Piece (A : Type 0) : Type 0 where
-  Kept : A → List ℕ → Piece A
-  Changed : List ℕ → Piece A
+  FrameOf : A → List ℕ → Piece A
+  Damage : List ℕ → Piece A
 
 abbrev pub bytes_of : {A : Type 0} → Piece A → List ℕ
-bytes_of (Kept value word) = frame word
-bytes_of (Changed bytes) = bytes
+bytes_of (FrameOf value word) = frame word
+bytes_of (Damage bytes) = bytes
 
 -- one after another
 abbrev pub bytes_of_all : {A : Type 0} → List (Piece A) → List ℕ
@@ -27,8 +27,8 @@ bytes_of_all (p ∷ pieces) = bytes_of p ++ bytes_of_all pieces
 
 -- the word is one of the value that the store takes; what was changed still names its length, and its check is wrong
 abbrev pub IsPiece : {A : Type 0} → Words A → Setting → Option ℕ → ℕ → Piece A → Type 0
-IsPiece W s limit most (Kept value word) = IsFitting W s limit most value word
-IsPiece W s limit most (Changed bytes) = IsDamaged most bytes (length bytes)
+IsPiece W s limit most (FrameOf value word) = IsFitting W s limit most value word
+IsPiece W s limit most (Damage bytes) = IsDamaged most bytes (length bytes)
 
 abbrev pub ArePieces : {A : Type 0} → Words A → Setting → Option ℕ → ℕ → List (Piece A) → Type 0
 ArePieces W s limit most [] = Unit {0}
@@ -45,11 +45,11 @@ pub record IsTorn (most : ℕ) (front : List ℕ) : Type 0 where
 
 -- the frame of a value is told as an equal value, and a changed one as damaged
 abbrev pub IsToldAs : {A : Type 0} → (A → A → Bool) → Piece A → Content A → Type 0
-IsToldAs eq (Kept value _) (Value other) = eq value other ≡ true
-IsToldAs eq (Kept _ _) Damaged = ⊥
-IsToldAs eq (Kept _ _) (Undecodable _) = ⊥
-IsToldAs eq (Kept _ _) (Longer _) = ⊥
-IsToldAs eq (Changed _) content = content ≡ Damaged
+IsToldAs eq (FrameOf value _) (Value other) = eq value other ≡ true
+IsToldAs eq (FrameOf _ _) Damaged = ⊥
+IsToldAs eq (FrameOf _ _) (Undecodable _) = ⊥
+IsToldAs eq (FrameOf _ _) (Longer _) = ⊥
+IsToldAs eq (Damage _) content = content ≡ Damaged
 
 -- each piece is told from an offset on, at the end of the one before, with the number of its bytes
 abbrev pub ToldFor : {A : Type 0} → (A → A → Bool) → ℕ → List (Piece A) → List (Record A) → Type 0

@@ -8,7 +8,7 @@ use Rattle.bincode_base.specs.Setting.{Setting}
 use Rattle.bincode_types.specs.TypeWords.{Words}
 use Rattle.framed_store.specs.Appended.{Added}
 use Rattle.framed_store.specs.PieceLaws.{appended-pieces}
-use Rattle.framed_store.specs.Pieces.{ArePieces, Kept, LacksRoom, Piece, bytes_of, bytes_of_all}
+use Rattle.framed_store.specs.Pieces.{ArePieces, FrameOf, LacksRoom, Piece, bytes_of, bytes_of_all}
 use Rattle.ledger_book.specs.Books.{IsBook, commands_of, pieces_of}
 use Rattle.ledger_book.specs.Commands.{Applies, change_of}
 use Rattle.ledger_book.specs.declared.command.Command.{Command}
@@ -40,9 +40,9 @@ commands-more : (entries : List (Command × List ℕ)) (e : Command × List ℕ)
 commands-more [] e = refl
 commands-more (x ∷ entries) e = ap (λ z. x.0 ∷ z) (commands-more entries e)
 
-pieces-more : (entries : List (Command × List ℕ)) (e : Command × List ℕ) → pieces_of (entries ++ e ∷ []) ≡ pieces_of entries ++ Kept e.0 e.1 ∷ []
+pieces-more : (entries : List (Command × List ℕ)) (e : Command × List ℕ) → pieces_of (entries ++ e ∷ []) ≡ pieces_of entries ++ FrameOf e.0 e.1 ∷ []
 pieces-more [] e = refl
-pieces-more (x ∷ entries) e = ap (λ z. Kept x.0 x.1 ∷ z) (pieces-more entries e)
+pieces-more (x ∷ entries) e = ap (λ z. FrameOf x.0 x.1 ∷ z) (pieces-more entries e)
 
 bytes-both : (xs ys : List (Piece Command)) → bytes_of_all (xs ++ ys) ≡ bytes_of_all xs ++ bytes_of_all ys
 bytes-both [] ys = refl

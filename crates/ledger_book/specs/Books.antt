@@ -3,14 +3,14 @@ use Rattle.std.specs.Prelude.{◌≡◌, ℕ, List, [], map, Option}
 use Rattle.accounts.specs.Accounts.{Balances}
 use Rattle.bincode_base.specs.Setting.{Setting}
 use Rattle.bincode_types.specs.TypeWords.{Words}
-use Rattle.framed_store.specs.Pieces.{ArePieces, Kept, Piece, bytes_of_all}
+use Rattle.framed_store.specs.Pieces.{ArePieces, FrameOf, Piece, bytes_of_all}
 use Rattle.ledger_book.specs.Commands.{Applies}
 use Rattle.ledger_book.specs.declared.command.Command.{Command}
 use Rattle.replay.specs.Replays.{Run}
 
 -- the frames of commands, each with its word
 abbrev pub pieces_of : List (Command × List ℕ) → List (Piece Command)
-pieces_of entries = map (λ e. Kept e.0 e.1) entries
+pieces_of entries = map (λ e. FrameOf e.0 e.1) entries
 
 -- the commands
 abbrev pub commands_of : List (Command × List ℕ) → List Command

@@ -1,14 +1,14 @@
 -- The state that comes back from commands that were appended, wherever their log was cut.
 use Rattle.std.specs.Prelude.{◌≡◌, ◌-◌, ◌++◌, ℕ, List, [], ◌∷◌, length, Bool, true}
-use Rattle.framed_store.specs.Pieces.{Piece, Kept, Changed, bytes_of_all, LacksRoom}
+use Rattle.framed_store.specs.Pieces.{Piece, FrameOf, Damage, bytes_of_all, LacksRoom}
 use Rattle.replay.specs.Replays.{Run}
 use Rattle.replay.specs.declared.replay.Replayed.{Replayed}
 
 -- the commands equal those of the frames, in order, and no frame was changed
 abbrev pub EqualTo : {A : Type 0} → (A → A → Bool) → List (Piece A) → List A → Type 0
 EqualTo eq [] [] = Unit {0}
-EqualTo eq (Kept value _ ∷ pieces) (command ∷ commands) = (eq value command ≡ true) × EqualTo eq pieces commands
-EqualTo eq (Changed _ ∷ pieces) (_ ∷ commands) = ⊥
+EqualTo eq (FrameOf value _ ∷ pieces) (command ∷ commands) = (eq value command ≡ true) × EqualTo eq pieces commands
+EqualTo eq (Damage _ ∷ pieces) (_ ∷ commands) = ⊥
 EqualTo eq [] (_ ∷ _) = ⊥
 EqualTo eq (_ ∷ _) [] = ⊥
 

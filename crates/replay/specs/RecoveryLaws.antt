@@ -13,7 +13,7 @@ use Rattle.framed_store.specs.declared.ending.Ending.TheVariants as endings
 use Rattle.framed_store.specs.declared.listing.Record.{Record}
 use Rattle.framed_store.specs.declared.records.Content.TheVariants as contents
 use Rattle.frames.specs.Frames.{frame}
-use Rattle.framed_store.specs.Pieces.{Piece, Kept, Changed, bytes_of_all, ArePieces, IsToldAs, ToldFor, EndsAfter}
+use Rattle.framed_store.specs.Pieces.{Piece, FrameOf, Damage, bytes_of_all, ArePieces, IsToldAs, ToldFor, EndsAfter}
 use Rattle.framed_store.specs.Steps.{EndsAt}
 use Rattle.framed_store.specs.Told.{ReadFrom, Lists}
 use Rattle.framed_store.proofs.Listings.{lists-front}
@@ -32,10 +32,10 @@ Hold (_ ∷ _) [] = ⊥
 equal-told : {A : Type 0} (eq : A → A → Bool) (at : ℕ) (pieces : List (Piece A)) (records : List (Record A)) (commands : List A) → ToldFor eq at pieces records → Hold records commands →
     EqualTo eq pieces commands × (length pieces ≡ length commands)
 equal-told eq at [] [] [] told hold = (tt, refl)
-equal-told eq at (Kept value word ∷ pieces) (r ∷ records) (command ∷ commands) told hold =
+equal-told eq at (FrameOf value word ∷ pieces) (r ∷ records) (command ∷ commands) told hold =
     let more = equal-told eq (at + length (frame word)) pieces records commands told.3 hold.1 in
-    let equally_many = more.1 in ((subst (IsToldAs eq (Kept value word)) hold.0 told.0, more.0), omega (arith, equally_many))
-equal-told eq at (Changed bytes ∷ pieces) (r ∷ records) (command ∷ commands) told hold = let other : contents.Value command ≡ contents.Damaged = sym hold.0 ∙ told.0 in cc
+    let equally_many = more.1 in ((subst (IsToldAs eq (FrameOf value word)) hold.0 told.0, more.0), omega (arith, equally_many))
+equal-told eq at (Damage bytes ∷ pieces) (r ∷ records) (command ∷ commands) told hold = let other : contents.Value command ≡ contents.Damaged = sym hold.0 ∙ told.0 in cc
 equal-told eq at [] (r ∷ records) commands told hold = absurd told
 equal-told eq at (p ∷ pieces) [] commands told hold = absurd told
 equal-told eq at [] [] (command ∷ commands) told hold = absurd hold

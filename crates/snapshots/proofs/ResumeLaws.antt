@@ -2,7 +2,7 @@
 use Rattle.std.specs.Prelude.{◌≡◌, ◌+◌, ◌-◌, ◌<◌, ◌++◌, ◌⊎◌, ◌&&◌, ◌==◌, ℕ, List, [], ◌∷◌, length, Bool, true, false, refl}
 use Rattle.std.proofs.Common.{◌∙◌, ap, sym, subst, arith, inl, inr, length-append}
 use Rattle.std.proofs.lemmas.Bool.Decides.{Decides-eqb}
-use Rattle.framed_store.specs.Pieces.{Piece, Kept, Changed, bytes_of_all, LacksRoom}
+use Rattle.framed_store.specs.Pieces.{Piece, FrameOf, Damage, bytes_of_all, LacksRoom}
 use Rattle.replay.specs.Recovered.{EqualTo, Recovers}
 use Rattle.replay.specs.Replays.{Run}
 use Rattle.replay.specs.declared.replay.Replayed.{Replayed}
@@ -20,8 +20,8 @@ same-tail a b xs ys e = cc
 -- frames of commands in a row begin with such frames
 row-front : {A : Type 0} (number : ℕ) (kept lost : List (Piece (ℕ × A))) → HoldFrom number (kept ++ lost) → HoldFrom number kept
 row-front number [] lost h = tt
-row-front number (Kept command word ∷ kept) lost h = (h.0, row-front (number + 1) kept lost h.1)
-row-front number (Changed bytes ∷ kept) lost h = absurd h
+row-front number (FrameOf command word ∷ kept) lost h = (h.0, row-front (number + 1) kept lost h.1)
+row-front number (Damage bytes ∷ kept) lost h = absurd h
 
 module _ {S A : Type 0} (eq : A → A → Bool) (both_eq : ℕ × A → ℕ × A → Bool) (parts : (a b : ℕ × A) → both_eq a b ≡ true → (a.0 ≡ b.0) × (eq a.1 b.1 ≡ true)) (applies : S → A → S → Type 0) where
   -- commands in a row from the state's number on
@@ -33,12 +33,12 @@ module _ {S A : Type 0} (eq : A → A → Bool) (both_eq : ℕ × A → ℕ × A
 
   applied-row : (kept : List (Piece (ℕ × A))) (commands : List (ℕ × A)) (old new : ℕ × S) → HoldFrom old.0 kept → EqualTo both_eq kept commands → Run (AppliesNext applies) old commands new → Applied kept old new
   applied-row [] [] old new h e r = let same : new.0 ≡ old.0 = ap (λ z. z.0) r in record { commands = []; equal = tt; run = ap (λ z. z.1) r; count = omega (arith, same) }
-  applied-row (Kept held word ∷ kept) (command ∷ commands) old new h e (mid, inl below, r) =
+  applied-row (FrameOf held word ∷ kept) (command ∷ commands) old new h e (mid, inl below, r) =
       let number = (parts held command e.0).0 in
       let is_next = h.0 in
       let less = below.0 in
       absurd (omega (arith, number, is_next, less))
-  applied-row (Kept held word ∷ kept) (command ∷ commands) old new h e (mid, inr applied, r) =
+  applied-row (FrameOf held word ∷ kept) (command ∷ commands) old new h e (mid, inr applied, r) =
       let next = applied.1 in
       let then = applied-row kept commands mid new (subst (λ z. HoldFrom z kept) (omega (arith, next)) h.1) e.1 r in
       let count = then.count in record {
@@ -47,9 +47,9 @@ module _ {S A : Type 0} (eq : A → A → Bool) (both_eq : ℕ × A → ℕ × A
         run = (mid.1, applied.2, then.run);
         count = omega (arith, next, count);
       }
-  applied-row (Changed bytes ∷ kept) commands old new h e r = absurd h
+  applied-row (Damage bytes ∷ kept) commands old new h e r = absurd h
   applied-row [] (command ∷ commands) old new h e r = absurd e
-  applied-row (Kept held word ∷ kept) [] old new h e r = absurd e
+  applied-row (FrameOf held word ∷ kept) [] old new h e r = absurd e
 
   -- after commands that are passed over
   record Stands (passed kept : List (Piece (ℕ × A))) (old new : ℕ × S) : Type 0 where
@@ -80,18 +80,18 @@ module _ {S A : Type 0} (eq : A → A → Bool) (both_eq : ℕ × A → ℕ × A
     stand_after = inr (refl, p ∷ passed, refl);
     applied = applied-row [] commands old new tt e r;
   }
-  stands (Kept held word ∷ passed) others (q ∷ kept) lost [] old new are below row e r =
-      absurd (subst (λ z. EqualTo both_eq (z ∷ kept) []) (sym (same-head (Kept held word) q (passed ++ others) (kept ++ lost) are)) e)
-  stands (Kept held word ∷ passed) others (q ∷ kept) lost (command ∷ commands) old new are below row e (mid, step, r) =
-      let same = same-head (Kept held word) q (passed ++ others) (kept ++ lost) are in
-      let tail = same-tail (Kept held word) q (passed ++ others) (kept ++ lost) are in
+  stands (FrameOf held word ∷ passed) others (q ∷ kept) lost [] old new are below row e r =
+      absurd (subst (λ z. EqualTo both_eq (z ∷ kept) []) (sym (same-head (FrameOf held word) q (passed ++ others) (kept ++ lost) are)) e)
+  stands (FrameOf held word ∷ passed) others (q ∷ kept) lost (command ∷ commands) old new are below row e (mid, step, r) =
+      let same = same-head (FrameOf held word) q (passed ++ others) (kept ++ lost) are in
+      let tail = same-tail (FrameOf held word) q (passed ++ others) (kept ++ lost) are in
       let equal = subst (λ z. EqualTo both_eq (z ∷ kept) (command ∷ commands)) (sym same) e in
       let number = (parts held command equal.0).0 in
       let less = below.0 in
       let stays : mid ≡ old = elim step [ inl passed ↦ passed.1 | inr applied ↦ (let is_next = applied.0 in absurd (omega (arith, number, is_next, less))) ] in
-      subst (λ z. Stands (Kept held word ∷ passed) (z ∷ kept) old new) same
-      (one-more (Kept held word) passed kept old new (stands passed others kept lost commands old new tail below.1 row equal.1 (subst (λ z. Run (AppliesNext applies) z commands new) stays r)))
-  stands (Changed bytes ∷ passed) others (q ∷ kept) lost commands old new are below row e r = absurd below
+      subst (λ z. Stands (FrameOf held word ∷ passed) (z ∷ kept) old new) same
+      (one-more (FrameOf held word) passed kept old new (stands passed others kept lost commands old new tail below.1 row equal.1 (subst (λ z. Run (AppliesNext applies) z commands new) stays r)))
+  stands (Damage bytes ∷ passed) others (q ∷ kept) lost commands old new are below row e r = absurd below
 
   -- from what is recovered of the log, and the commands that led to the snapshot
   pub resumed : (first : S) (earlier : List A) (old new : ℕ × S) → Run applies first earlier old.1 → old.0 ≡ length earlier → (passed others : List (Piece (ℕ × A))) (n : ℕ) (replayed : Replayed) →

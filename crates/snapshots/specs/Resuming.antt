@@ -2,7 +2,7 @@
 use Rattle.std.specs.Prelude.{◌≡◌, ◌+◌, ◌-◌, ◌<◌, ◌++◌, ◌⊎◌, ℕ, List, [], ◌∷◌, length, Option, Bool, true}
 use Rattle.bincode_spec.specs.Format.{Format}
 use Rattle.bincode_spec.specs.Meaning.{Meaning}
-use Rattle.framed_store.specs.Pieces.{Piece, Kept, Changed, bytes_of_all, LacksRoom}
+use Rattle.framed_store.specs.Pieces.{Piece, FrameOf, Damage, bytes_of_all, LacksRoom}
 use Rattle.replay.specs.Replays.{Run, IsStop}
 use Rattle.replay.specs.declared.replay.Replayed.{Replayed}
 use Rattle.snapshots.specs.declared.resuming.ResumeError.{ResumeError}
@@ -14,20 +14,20 @@ use Rattle.snapshots.specs.Saved.{IsRestored, IsRestoreFault}
 -- the frames hold commands whose numbers are below this one
 abbrev pub HoldBelow : {A : Type 0} → ℕ → List (Piece (ℕ × A)) → Type 0
 HoldBelow number [] = Unit {0}
-HoldBelow number (Kept command _ ∷ pieces) = (command.0 < number) × HoldBelow number pieces
-HoldBelow number (Changed _ ∷ pieces) = ⊥
+HoldBelow number (FrameOf command _ ∷ pieces) = (command.0 < number) × HoldBelow number pieces
+HoldBelow number (Damage _ ∷ pieces) = ⊥
 
 -- they hold commands that are numbered in a row, from this number on
 abbrev pub HoldFrom : {A : Type 0} → ℕ → List (Piece (ℕ × A)) → Type 0
 HoldFrom number [] = Unit {0}
-HoldFrom number (Kept command _ ∷ pieces) = (command.0 ≡ number) × HoldFrom (number + 1) pieces
-HoldFrom number (Changed _ ∷ pieces) = ⊥
+HoldFrom number (FrameOf command _ ∷ pieces) = (command.0 ≡ number) × HoldFrom (number + 1) pieces
+HoldFrom number (Damage _ ∷ pieces) = ⊥
 
 -- the commands equal those of the frames, in order
 abbrev pub EqualThose : {A : Type 0} → (A → A → Bool) → List (Piece (ℕ × A)) → List A → Type 0
 EqualThose eq [] [] = Unit {0}
-EqualThose eq (Kept held _ ∷ pieces) (command ∷ commands) = (eq held.1 command ≡ true) × EqualThose eq pieces commands
-EqualThose eq (Changed _ ∷ pieces) (_ ∷ commands) = ⊥
+EqualThose eq (FrameOf held _ ∷ pieces) (command ∷ commands) = (eq held.1 command ≡ true) × EqualThose eq pieces commands
+EqualThose eq (Damage _ ∷ pieces) (_ ∷ commands) = ⊥
 EqualThose eq [] (_ ∷ _) = ⊥
 EqualThose eq (_ ∷ _) [] = ⊥
 

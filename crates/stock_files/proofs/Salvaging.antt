@@ -6,7 +6,7 @@ use Rattle.std.proofs.KnownBytes.{Appends-nil, Appends-trans}
 use Rattle.std.proofs.lemmas.List.{length-drop}
 use Rattle.framed_store.specs.Searches.{StandsAt}
 use Rattle.framed_store.specs.Steps.{IsWhole, IsDamaged}
-use Rattle.stock_files.specs.Repairs.{HasNoFrame, GoesOn, EndsWithFrame, IsPassed, Part, Kept, Passed, PartsTo, kept_of, Salvages}
+use Rattle.stock_files.specs.Repairs.{HasNoFrame, GoesOn, EndsWithFrame, IsPassed, Part, Keep, Skip, PartsTo, kept_of, Salvages}
 
 -- nothing stands in no bytes
 pub none-in-none : (most : ℕ) → HasNoFrame most []
@@ -33,26 +33,26 @@ passed-frame most bytes front back size ends d f b g e n =
     let fits = d.0.1 in
     (omega (arith, is), omega (arith, is, fits), inl (d, subst (GoesOn most) b g, λ h. let t = e.1 (subst (EndsWithFrame most) (sym f) h) in absurd (cc)))
 
-parts-kept : (most : ℕ) (bytes : List ℕ) (parts : List Part) (rest : List ℕ) (n : ℕ) → PartsTo most bytes parts rest → IsWhole most rest n → PartsTo most bytes (parts ++ Kept n ∷ []) (drop n rest)
+parts-kept : (most : ℕ) (bytes : List ℕ) (parts : List Part) (rest : List ℕ) (n : ℕ) → PartsTo most bytes parts rest → IsWhole most rest n → PartsTo most bytes (parts ++ Keep n ∷ []) (drop n rest)
 parts-kept most bytes [] rest n to is = (subst (λ z. IsWhole most z n) to is, ap (drop n) to)
-parts-kept most bytes (Kept m ∷ parts) rest n to is = (to.0, parts-kept most (drop m bytes) parts rest n to.1 is)
-parts-kept most bytes (Passed m ∷ parts) rest n to is = (to.0, parts-kept most (drop m bytes) parts rest n to.1 is)
+parts-kept most bytes (Keep m ∷ parts) rest n to is = (to.0, parts-kept most (drop m bytes) parts rest n to.1 is)
+parts-kept most bytes (Skip m ∷ parts) rest n to is = (to.0, parts-kept most (drop m bytes) parts rest n to.1 is)
 
-parts-passed : (most : ℕ) (bytes : List ℕ) (parts : List Part) (rest : List ℕ) (n : ℕ) → PartsTo most bytes parts rest → IsPassed most rest n → PartsTo most bytes (parts ++ Passed n ∷ []) (drop n rest)
+parts-passed : (most : ℕ) (bytes : List ℕ) (parts : List Part) (rest : List ℕ) (n : ℕ) → PartsTo most bytes parts rest → IsPassed most rest n → PartsTo most bytes (parts ++ Skip n ∷ []) (drop n rest)
 parts-passed most bytes [] rest n to is = (subst (λ z. IsPassed most z n) to is, ap (drop n) to)
-parts-passed most bytes (Kept m ∷ parts) rest n to is = (to.0, parts-passed most (drop m bytes) parts rest n to.1 is)
-parts-passed most bytes (Passed m ∷ parts) rest n to is = (to.0, parts-passed most (drop m bytes) parts rest n to.1 is)
+parts-passed most bytes (Keep m ∷ parts) rest n to is = (to.0, parts-passed most (drop m bytes) parts rest n to.1 is)
+parts-passed most bytes (Skip m ∷ parts) rest n to is = (to.0, parts-passed most (drop m bytes) parts rest n to.1 is)
 
-kept-more : (most : ℕ) (bytes : List ℕ) (parts : List Part) (rest : List ℕ) (n : ℕ) → PartsTo most bytes parts rest → kept_of (parts ++ Kept n ∷ []) bytes ≡ kept_of parts bytes ++ take n rest
+kept-more : (most : ℕ) (bytes : List ℕ) (parts : List Part) (rest : List ℕ) (n : ℕ) → PartsTo most bytes parts rest → kept_of (parts ++ Keep n ∷ []) bytes ≡ kept_of parts bytes ++ take n rest
 kept-more most bytes [] rest n to = append-nil (take n bytes) ∙ sym (ap (take n) to)
-kept-more most bytes (Kept m ∷ parts) rest n to =
+kept-more most bytes (Keep m ∷ parts) rest n to =
     ap (λ z. take m bytes ++ z) (kept-more most (drop m bytes) parts rest n to.1) ∙ sym (append_assoc (take m bytes) (kept_of parts (drop m bytes)) (take n rest))
-kept-more most bytes (Passed m ∷ parts) rest n to = kept-more most (drop m bytes) parts rest n to.1
+kept-more most bytes (Skip m ∷ parts) rest n to = kept-more most (drop m bytes) parts rest n to.1
 
-kept-same : (bytes : List ℕ) (parts : List Part) (n : ℕ) → kept_of (parts ++ Passed n ∷ []) bytes ≡ kept_of parts bytes
+kept-same : (bytes : List ℕ) (parts : List Part) (n : ℕ) → kept_of (parts ++ Skip n ∷ []) bytes ≡ kept_of parts bytes
 kept-same bytes [] n = refl
-kept-same bytes (Kept m ∷ parts) n = ap (λ z. take m bytes ++ z) (kept-same (drop m bytes) parts n)
-kept-same bytes (Passed m ∷ parts) n = kept-same (drop m bytes) parts n
+kept-same bytes (Keep m ∷ parts) n = ap (λ z. take m bytes ++ z) (kept-same (drop m bytes) parts n)
+kept-same bytes (Skip m ∷ parts) n = kept-same (drop m bytes) parts n
 
 -- what was kept up to this rest was written
 pub record SalvagedTo (most : ℕ) (store rest : List ℕ) (old new : Option (List ℕ)) : Type 0 where
@@ -66,14 +66,14 @@ salvaged-nothing most store known = record { parts = []; parts_to = refl; append
 pub salvaged-kept : (most : ℕ) (store rest : List ℕ) (n : ℕ) (old now new : Option (List ℕ)) → SalvagedTo most store rest old now → IsWhole most rest n → Appends now new (take n rest) →
     SalvagedTo most store (drop n rest) old new
 salvaged-kept most store rest n old now new so_far is added = record {
-  parts = so_far.parts ++ Kept n ∷ [];
+  parts = so_far.parts ++ Keep n ∷ [];
   parts_to = parts-kept most store so_far.parts rest n so_far.parts_to is;
   appended = subst (Appends old new) (sym (kept-more most store so_far.parts rest n so_far.parts_to)) (Appends-trans old now new (kept_of so_far.parts store) (take n rest) so_far.appended added);
 }
 
 pub salvaged-passed : (most : ℕ) (store rest : List ℕ) (n : ℕ) (old new : Option (List ℕ)) → SalvagedTo most store rest old new → IsPassed most rest n → SalvagedTo most store (drop n rest) old new
 salvaged-passed most store rest n old new so_far is = record {
-  parts = so_far.parts ++ Passed n ∷ [];
+  parts = so_far.parts ++ Skip n ∷ [];
   parts_to = parts-passed most store so_far.parts rest n so_far.parts_to is;
   appended = subst (Appends old new) (sym (kept-same store so_far.parts n)) so_far.appended;
 }

@@ -44,20 +44,20 @@ IsPassed most bytes n = IsPassedFrame most bytes n ⊎ ((k : ℕ) → k < n → 
 
 -- a frame that is kept, or bytes that are passed over
 pub data Part : Type 0 where
-  Kept : ℕ → Part
-  Passed : ℕ → Part
+  Keep : ℕ → Part
+  Skip : ℕ → Part
 
 -- these parts follow one another from the first byte on; after them is the rest
 abbrev pub PartsTo : ℕ → List ℕ → List Part → List ℕ → Type 0
 PartsTo most bytes [] rest = rest ≡ bytes
-PartsTo most bytes (Kept n ∷ parts) rest = IsWhole most bytes n × PartsTo most (drop n bytes) parts rest
-PartsTo most bytes (Passed n ∷ parts) rest = IsPassed most bytes n × PartsTo most (drop n bytes) parts rest
+PartsTo most bytes (Keep n ∷ parts) rest = IsWhole most bytes n × PartsTo most (drop n bytes) parts rest
+PartsTo most bytes (Skip n ∷ parts) rest = IsPassed most bytes n × PartsTo most (drop n bytes) parts rest
 
 -- the bytes of those that are kept
 abbrev pub kept_of : List Part → List ℕ → List ℕ
 kept_of [] bytes = []
-kept_of (Kept n ∷ parts) bytes = take n bytes ++ kept_of parts (drop n bytes)
-kept_of (Passed n ∷ parts) bytes = kept_of parts (drop n bytes)
+kept_of (Keep n ∷ parts) bytes = take n bytes ++ kept_of parts (drop n bytes)
+kept_of (Skip n ∷ parts) bytes = kept_of parts (drop n bytes)
 
 -- the frames that are kept of a store were written after what was held, up to where no whole frame follows
 pub record Salvages (most : ℕ) (store : List ℕ) (old new : Option (List ℕ)) : Type 0 where
