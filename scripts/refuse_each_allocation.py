@@ -3,8 +3,8 @@
 
 usage: refuse_each_allocation.py [--jobs N] [--most N] [--only WORD] [CRATE ..]
 
-CRATE is a crate with tests, and by default each of bincode_tests, device_tests, collection_tests and shape_tests. --only leaves the
-tests whose names have WORD in them, --most leaves the first N allocations of each test, and --jobs says how many run at once (2
+CRATE is a crate with tests, and by default each of CRATES below. Of those in ONLY the tests of one module are run, which say what is
+left where memory is refused; their other tests want memory. --only leaves the tests whose names have WORD in them, --most leaves the first N allocations of each test, and --jobs says how many run at once (2
 by default). It proves nothing.
 
 The tests of a crate are built once, by `rt try --test --fail-alloc`, which makes an executable that counts the allocations (each
@@ -30,7 +30,9 @@ import tempfile
 import time
 from pathlib import Path
 
-CRATES = ["bincode_tests", "device_tests", "collection_tests", "shape_tests", "record_tests"]
+CRATES = ["bincode_tests", "device_tests", "collection_tests", "shape_tests", "record_tests", "replay_tests", "ledger_tests"]
+
+ONLY = {"replay_tests": "refused_memory::", "ledger_tests": "refused_memory::"}
 
 # The calls of these tests take no memory: what builds configurations, the varint calls over a slice, encoders and decoders over a
 # slice, encoding plain values into a slice, and decoding from a slice, owned what holds nothing on the heap and borrowed bytes and
@@ -210,7 +212,7 @@ def sweep(crate, program, given):
     gone = [it for it in [*without, *SAMPLED.get(crate.name, [])] if it not in tests]
     if gone:
         stop(f"{crate.name} has no test {gone[0]}")
-    tests = [it for it in tests if given.only in it]
+    tests = [it for it in tests if given.only in it and ONLY.get(crate.name, "") in it]
     without = [it for it in without if given.only in it]
     failed = 0
     with multiprocessing.Pool(given.jobs, begin, (program, places_in(program))) as pool:

@@ -1,5 +1,5 @@
 #!/usr/bin/env python3
-"""Tries the built program `ledger` on books that are killed while they are written, torn, damaged, locked or full.
+"""Tries the built program `ledger` on books that are killed while they are written or compacted, torn, damaged, locked or full.
 
     scripts/try_ledger.py PROGRAM [--only WORD] [--rounds N] [--seed N]
 
@@ -38,7 +38,7 @@ class Book:
     """The program over one file."""
 
     def __init__(self, program, folder):
-        self.program, self.file = program, folder / "book"
+        self.program, self.file, self.snapshot = program, folder / "book", folder / "book.snapshot"
 
     def run(self, *words, seconds=60, output=subprocess.PIPE, file=None):
         try:
@@ -54,6 +54,10 @@ class Book:
     def with_bytes(self, held):
         self.file.write_bytes(held)
         return self
+
+    def clear(self):
+        self.file.unlink(missing_ok=True)
+        self.snapshot.unlink(missing_ok=True)
 
     def balances(self):
         """What `balance` prints: a dictionary, and its status."""
@@ -85,7 +89,7 @@ def any_command(numbers):
 
 def written(book, count, numbers):
     """A book of so many commands: its bytes, and after each command its length and its balances."""
-    book.file.unlink(missing_ok=True)
+    book.clear()
     balances, stages = {}, [(0, {})]
     while len(stages) <= count:
         command = any_command(numbers)
@@ -103,7 +107,7 @@ def written(book, count, numbers):
 def commands(book, numbers, rounds):
     """Commands at random: each is done or refused as it should be, and what is refused leaves the book as it is."""
     tries, balances = Tries("commands at random"), {}
-    book.file.unlink(missing_ok=True)
+    book.clear()
     book.run("open", "ann", 100)
     balances = {"ann": 100}
     for _ in range(rounds):
@@ -120,7 +124,7 @@ def commands(book, numbers, rounds):
 def killed(book, numbers, rounds):
     """The program is killed while it pays: what it said is there, and at most the payment that was cut short besides."""
     tries = Tries("killed while paying")
-    book.file.unlink(missing_ok=True)
+    book.clear()
     book.run("open", "ann", 10**9)
     book.run("open", "bob", 0)
     begin = time.time()
@@ -145,6 +149,81 @@ def killed(book, numbers, rounds):
         unsaid += found == after and not said
         balances = found
     print(f"  {balances['bob']} was paid, {unsaid} payments were there that were not said, {torn} books were torn", flush=True)
+    return tries.done()
+
+
+def compacted(book, numbers, rounds):
+    """Commands at random with a snapshot now and then: the balances are those of all commands, and the log is empty after each snapshot."""
+    tries, balances, done = Tries("snapshots at random"), {"ann": 100}, 1
+    book.clear()
+    book.run("open", "ann", 100)
+    for _ in range(rounds):
+        command = any_command(numbers)
+        after = carried_out(balances, command)
+        status, text, error = book.run(*command)
+        tries.want(status == (REFUSED if after is None else DONE), f"{command}: status {status}, {text!r}, {error!r}")
+        done += after is not None
+        balances = balances if after is None else after
+        if numbers.random() < 0.15:
+            status, text, error = book.run("compact")
+            tries.want(status == DONE and f"commands: {done}," in text and book.file.stat().st_size == 0, f"compact: status {status}, {text!r}, {error!r}")
+        tries.want(book.balances() == (balances, DONE), f"{command}: {book.balances()} in place of {balances}")
+    status, text, _ = book.run("check")
+    tries.want(status == DONE and f"commands: {done}," in text, f"at last: status {status}, {text!r} after {done} commands")
+    return tries.done()
+
+
+def killed_compacting(book, numbers, rounds):
+    """The program is killed while it makes a snapshot: the book is whole, has the same balances, and goes on."""
+    tries = Tries("killed while compacting")
+    book.clear()
+    book.run("open", "ann", 10**9)
+    book.run("open", "bob", 0)
+    balances = {"ann": 10**9, "bob": 0}
+    begin = time.time()
+    book.run("compact")
+    one_run, left, made = time.time() - begin, 0, 0
+    for number in range(rounds):
+        command = ("pay", "ann", "bob", number + 1)
+        tries.want(book.run(*command)[0] == DONE, f"round {number}: {command}")
+        balances = carried_out(balances, command)
+        old = book.snapshot.read_bytes()
+        tool = book.start("compact")
+        time.sleep(numbers.random() * one_run * 1.5)
+        tool.send_signal(signal.SIGKILL)
+        tool.communicate()
+        is_made, is_empty = book.snapshot.read_bytes() != old, book.file.stat().st_size == 0
+        made += is_made
+        left += is_made and not is_empty
+        tries.want(is_made or not is_empty, f"round {number}: the log was emptied without a snapshot")
+        status, text, error = book.run("check")
+        tries.want(status == DONE and f"commands: {number + 3}," in text, f"round {number}: check answered {status}, {text!r}, {error!r}")
+        tries.want(book.balances() == (balances, DONE), f"round {number}: {book.balances()} in place of {balances}")
+    print(f"  {made} snapshots were made, {left} of them with a log that was not emptied", flush=True)
+    return tries.done()
+
+
+def damaged_snapshots(book, numbers, rounds):
+    """Each byte of a snapshot is changed, and each prefix kept: it is told, nothing is entered, and both files stay. So it is without the snapshot, once a command follows."""
+    tries = Tries("damaged snapshots")
+    written(book, 8, numbers)
+    book.run("compact")
+    book.run("open", "next", 7)
+    held, snapshot = book.file.read_bytes(), book.snapshot.read_bytes()
+    spoilt = [snapshot[:length] for length in range(len(snapshot))]
+    for place in range(len(snapshot)):
+        changed = bytearray(snapshot)
+        changed[place] ^= 1 << (place % 8)
+        spoilt.append(bytes(changed))
+    for number, found in enumerate(spoilt):
+        book.snapshot.write_bytes(found)
+        tries.want(book.run("check")[0] == DAMAGED and book.run("balance")[0] == DAMAGED, f"{number}: it is not told")
+        told = [book.run("open", "new")[0], book.run("compact")[0], book.run("repair")[0]]
+        tries.want(told == [DAMAGED] * 3 and book.file.read_bytes() == held and book.snapshot.read_bytes() == found, f"{number}: {told}, or a file is changed")
+    book.snapshot.unlink()
+    tries.want(book.run("check")[0] == DAMAGED and book.run("open", "new")[0] == DAMAGED and book.file.read_bytes() == held, "without the snapshot")
+    book.snapshot.write_bytes(snapshot)
+    tries.want(book.run("check")[0] == DONE, "with it again")
     return tries.done()
 
 
@@ -189,7 +268,7 @@ def flips(book, numbers, rounds):
 def locked(book, numbers, rounds):
     """Two that pay at once: the second is refused, or both are there."""
     tries = Tries("two at once")
-    book.file.unlink(missing_ok=True)
+    book.clear()
     book.run("open", "ann", 10**9)
     book.run("open", "bob", 0)
     paid = 0
@@ -271,7 +350,7 @@ def main():
     wrong = 0
     with tempfile.TemporaryDirectory() as folder:
         book, numbers = Book(program, Path(folder)), random.Random(given.seed)
-        for group in (commands, killed, prefixes, flips, locked, devices, full_disk):
+        for group in (commands, killed, compacted, killed_compacting, damaged_snapshots, prefixes, flips, locked, devices, full_disk):
             if given.only in group.__name__:
                 wrong += group(book, numbers, given.rounds)
     sys.exit(1 if wrong else 0)

@@ -9,6 +9,11 @@ pub fn settings() -> Configuration<LittleEndian, Varint, Limit<65536>> {
     bincode::config::standard().with_limit::<65536>()
 }
 
+/// The standard configuration, with a limit of 1 GiB for all accounts.
+pub fn snapshot_settings() -> Configuration<LittleEndian, Varint, Limit<1073741824>> {
+    bincode::config::standard().with_limit::<1073741824>()
+}
+
 pub enum Command {
     Open { name: String, amount: u64 },
     Pay { from: String, to: String, amount: u64 },

@@ -4,7 +4,7 @@ use std::error::Error;
 use std::io::{self, BufRead, ErrorKind, Read};
 
 /// The length in bytes of the longest word that a book takes.
-const LONGEST_WORD: usize = 65529;
+const LONGEST_WORD: usize = 65530;
 
 /// The number of bytes of a length, and of a check.
 const FIELD: usize = 4;
@@ -53,8 +53,8 @@ pub enum Frame<'a> {
     None(Ending),
 }
 
-/// Puts the frame of a command in the place of what `frame` holds.
-pub fn put_frame(frame: &mut Vec<u8>, command: &Command) -> Result<(), Box<dyn Error>> {
+/// Puts the frame of a numbered command in the place of what `frame` holds.
+pub fn put_frame(frame: &mut Vec<u8>, command: &(u64, Command)) -> Result<(), Box<dyn Error>> {
     frame.clear();
     frame.extend_from_slice(&[0; FIELD]);
     bincode::encode_into_std_write(command, frame, settings())?;

@@ -1,17 +1,19 @@
-//! What `ledger BOOK check` of the repository does, over the original crate, and books to try both on:
+//! What `ledger BOOK check` of the repository does, over the original crate, with a snapshot if there is one; and books
+//! to try both on:
 //!
 //!     books make FILE ACCOUNTS PAYMENTS
 //!     books FILE check
 mod command;
 mod frames;
+mod sha256;
 
-use command::{Command, settings};
+use command::{Command, settings, snapshot_settings};
 use frames::{Ending, Frame, put_frame, read_frame};
 use std::collections::BTreeMap;
 use std::env;
 use std::error::Error;
 use std::fs::File;
-use std::io::{BufReader, BufWriter, Write};
+use std::io::{BufReader, BufWriter, ErrorKind, Write};
 use std::process::ExitCode;
 
 /// The number of bytes that a file is read and written by.
@@ -77,26 +79,60 @@ impl Accounts {
     }
 }
 
+/// The number of commands and the accounts of a snapshot in its first version, or none where there is no snapshot.
+fn start(path: &str) -> Result<(u64, Accounts), Box<dyn Error>> {
+    let bytes = match std::fs::read(path) {
+        Ok(bytes) => bytes,
+        Err(error) if error.kind() == ErrorKind::NotFound => return Ok((0, Accounts::default())),
+        Err(error) => return Err(error.into()),
+    };
+    let (digest, rest) = bytes.split_at_checked(32).ok_or("too short")?;
+    if sha256::digest(rest) != digest {
+        return Err("damaged".into());
+    }
+    let (count, word) = rest.split_first_chunk().ok_or("too short")?;
+    let ((version, balances), taken): ((u32, BTreeMap<String, u64>), usize) =
+        bincode::decode_from_slice(word, snapshot_settings())?;
+    if version != 0 || taken < word.len() {
+        return Err("no snapshot of a version that is known".into());
+    }
+    let mut total = 0u64;
+    for (name, balance) in &balances {
+        if name.is_empty() {
+            return Err("an account without a name".into());
+        }
+        total = total.checked_add(*balance).ok_or("too much")?;
+    }
+    Ok((u64::from_le_bytes(*count), Accounts { balances, total }))
+}
+
 /// Replays a book, and says what it comes to.
 fn check(path: &str) -> Outcome {
+    let (mut next, mut accounts) = start(&format!("{path}.snapshot"))?;
     let mut log = BufReader::with_capacity(BLOCK, File::open(path)?);
-    let mut accounts = Accounts::default();
     let (mut commands, mut bytes, mut buffer) = (0u64, 0, Vec::new());
     loop {
         match read_frame(&mut log, &mut buffer)? {
             Frame::Whole(word, size) => {
-                let (command, taken) = bincode::decode_from_slice(word, settings())?;
+                let ((number, command), taken): ((u64, Command), usize) =
+                    bincode::decode_from_slice(word, settings())?;
                 if taken < word.len() {
                     return Err(format!("bytes follow the {taken} of its encoding").into());
                 }
-                accounts.apply(command)?;
+                if next < number {
+                    return Err(format!("command {next} is missing before command {number}").into());
+                }
+                if number == next {
+                    accounts.apply(command)?;
+                    next += 1;
+                }
                 commands += 1;
                 bytes += size;
             }
             Frame::Damaged => return Err(format!("damaged at byte {bytes}").into()),
             Frame::None(Ending::Whole) => {
                 let money = accounts.total;
-                println!("{path}: whole, commands: {commands}, bytes: {bytes}, money: {money}");
+                println!("{path}: whole, commands: {next}, in the log: {commands}, bytes: {bytes}, money: {money}");
                 return Ok(0);
             }
             Frame::None(Ending::Cut) => {
@@ -125,15 +161,15 @@ fn make(path: &str, accounts: &str, payments: &str) -> Outcome {
     let name = |number: u64| format!("account{number}");
     for number in 0..accounts {
         let command = Command::Open { name: name(number), amount: 1_000_000_000 };
-        put_frame(&mut frame, &command)?;
+        put_frame(&mut frame, &(number, command))?;
         log.write_all(&frame)?;
     }
-    for _ in 0..payments {
+    for number in accounts..accounts + payments {
         let from = draws.below(accounts);
         let to = (from + 1 + draws.below(accounts - 1)) % accounts;
         let amount = 1 + draws.below(999);
         let command = Command::Pay { from: name(from), to: name(to), amount };
-        put_frame(&mut frame, &command)?;
+        put_frame(&mut frame, &(number, command))?;
         log.write_all(&frame)?;
     }
     log.flush()?;

@@ -4,7 +4,7 @@ use Rattle.std.proofs.lemmas.Map.{none_passes_from_lookup, lookup-none}
 use Rattle.std.proofs.lemmas.Map.Text.{is_eq-slice_cmp}
 use Rattle.std.specs.BTreeMap.{insert_entry, is_at}
 use Rattle.std.specs.Cmp.Lexicographic.{slice_cmp}
-use Rattle.std.specs.List.{AllByRecursion}
+use Rattle.std.specs.List.{AllByRecursion, AllZip}
 use Rattle.std.specs.List.Sorted.{IsStrictlySortedBy}
 use Rattle.std.specs.Map.{keys_of, lookup, set_value}
 use Rattle.std.specs.Ordering.{is_eq, match_ordering, nat_cmp}
@@ -13,7 +13,7 @@ use Rattle.std.specs.declared.cmp.Ordering.TheVariants.{Less, Equal, Greater}
 use Rattle.std.specs.declared.option.Option.TheVariants.{None, Some}
 use Rattle.std.specs.String.{string_cmp}
 use Rattle.std.specs.Str.{bytes_eq}
-use Rattle.accounts.specs.Accounts.{Balances, account_of, balances_of, balance_of, total_of, with_account, with_balance}
+use Rattle.accounts.specs.Accounts.{Balances, AreNamed, account_of, balances_of, balance_of, total_of, with_account, with_balance}
 use Rattle.accounts.specs.Changes.{CanOpen}
 
 -- nothing is set where nothing is found
@@ -90,3 +90,29 @@ module _ {Y : Type 0} where
     is_free = none_if (balance_of name accounts) (ap is_some (ap (balance_of name) (sym are) ∙ balance_of-balances_of name es) ∙ missing);
     fits = subst (λ (n : ℕ). n + amount < 2 ^ 64) is_total fits;
   }
+
+-- an account more, with a name
+pub named-more : (name : List ℕ) (amount : ℕ) → name ≢ [] → (accounts : Balances) → AreNamed accounts → AreNamed (with_account name amount accounts)
+named-more name amount is [] h = (is, tt)
+named-more name amount is (a ∷ rest) h = step (slice_cmp nat_cmp name a.0) (named-more name amount is rest h.1)
+  where
+    step : (o : Ordering) → AreNamed (with_account name amount rest) → AreNamed (match_ordering o ((name, amount) ∷ a ∷ rest) ((a.0, amount) ∷ rest) (a ∷ with_account name amount rest))
+    step Less more = (is, h)
+    step Equal more = h
+    step Greater more = (h.0, more)
+
+-- another balance
+pub named-set : (name : List ℕ) (w : ℕ) (accounts : Balances) → AreNamed accounts → AreNamed (with_balance name w accounts)
+named-set name w [] h = h
+named-set name w (a ∷ rest) h = step (bytes_eq name a.0) (named-set name w rest h.1)
+  where
+    step : (b : Bool) → AreNamed (with_balance name w rest) → AreNamed (cond b ((a.0, w) ∷ rest) (a ∷ with_balance name w rest))
+    step true more = h
+    step false more = (h.0, more)
+
+-- a clone of a map has the same accounts
+pub balances_of-clone : {Y : Type 0} (es fs : List (String Y × ℕ)) → AllZip (λ p q. (string_bytes q.0 ≡ string_bytes p.0) × (q.1 ≡ p.1)) es fs → balances_of fs ≡ balances_of es
+balances_of-clone [] [] h = refl
+balances_of-clone [] (f ∷ fs) h = absurd h
+balances_of-clone (e ∷ es) [] h = absurd h
+balances_of-clone (e ∷ es) (f ∷ fs) h = let rest = balances_of-clone es fs h.1 in let name = h.0.0 in let amount = h.0.1 in cc

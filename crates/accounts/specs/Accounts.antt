@@ -1,5 +1,5 @@
 -- What contracts see of accounts: the names, each with its balance, in the order of the names' bytes.
-use Rattle.std.specs.Prelude.{ℕ, List, map, sum, Option, String, string_bytes}
+use Rattle.std.specs.Prelude.{◌≢◌, ◌^◌, ◌<◌, ℕ, List, [], ◌∷◌, map, sum, Option, String, string_bytes}
 use Rattle.std.specs.BTreeMap.{insert_entry}
 use Rattle.std.specs.Cmp.Lexicographic.{slice_cmp}
 use Rattle.std.specs.Map.{lookup, set_value, values_of}
@@ -33,3 +33,13 @@ with_account name amount accounts = insert_entry (slice_cmp nat_cmp) accounts na
 -- another balance of the account of a name
 abbrev pub with_balance : List ℕ → ℕ → Balances → Balances
 with_balance name balance accounts = set_value (bytes_eq name) accounts balance
+
+-- no name is empty
+abbrev pub AreNamed : Balances → Type 0
+AreNamed [] = Unit {0}
+AreNamed (account ∷ accounts) = (account.0 ≢ []) × AreNamed accounts
+
+-- no name is empty, and the sum of all balances fits in 64 bits
+pub record AreSound (accounts : Balances) : Type 0 where
+  pub are_named : AreNamed accounts
+  pub fits : total_of accounts < 2 ^ 64

@@ -1,11 +1,11 @@
 //! Accounts by name.
-ghost use Rattle.std.specs.Prelude.{◌≡◌, [], map, IfErr, OnErr, OnOk};
+ghost use Rattle.std.specs.Prelude.{◌≡◌, [], map, IfErr, IfOk, IfSome, None, OnErr, OnOk};
 ghost use Rattle.std.specs.Cmp.Lexicographic.{slice_cmp};
 ghost use Rattle.std.specs.List.Sorted.{IsStrictlySortedBy};
 ghost use Rattle.std.specs.Map.{keys_of};
 ghost use Rattle.std.specs.Ordering.{nat_cmp};
 ghost use Rattle.accounts.specs.Accounts.{account_of, balances_of, balance_of, total_of};
-ghost use Rattle.accounts.specs.Accounts.{with_account, with_balance};
+ghost use Rattle.accounts.specs.Accounts.{AreNamed, AreSound, with_account, with_balance};
 ghost use Rattle.accounts.specs.Changes.{Opens, Pays, RefusesOpening, RefusesPayment};
 
 use crate::refusals::{OpenError, PayError};
@@ -25,13 +25,14 @@ pub struct Accounts {
 
 impl Model for Accounts {
     ghost use Rattle.std.specs.Prelude.{◌≡◌, ℕ, List};
-    ghost use Rattle.accounts.specs.Accounts.{balances_of, total_of};
+    ghost use Rattle.accounts.specs.Accounts.{AreNamed, balances_of, total_of};
 
     ghost Value = { List (List ℕ × ℕ) };
 
     ghost view = { λ a. balances_of a.balances.entries };
 
-    ghost invariant = { λ a. a.total ≡ total_of (balances_of a.balances.entries) };
+    ghost invariant = { λ a. (a.total ≡ total_of (balances_of a.balances.entries))
+        × AreNamed (balances_of a.balances.entries) };
 }
 
 impl Accounts {
@@ -44,6 +45,30 @@ impl Accounts {
             balances: BTreeMap::new(alloc),
             total: 0,
         }
+    }
+
+    /// The accounts of these names and balances. `None` if a name is empty, or if the sum of all balances would be 2^64
+    /// or more.
+    pub fn from_balances(alloc: Global, balances: BTreeMap<String, u64>) -> Option<Self>
+        ensures all { IfSome result (λ accounts. accounts ≡ balances_of balances.entries) }
+        ensures none { result ≡ None → AreSound (balances_of balances.entries) → ⊥ }
+    {
+        let total = sum_of(&balances)?;
+        Some(Accounts {
+            alloc,
+            balances,
+            total,
+        })
+    }
+
+    /// The names, each with its balance, in a map of their own. Fails if an allocation is refused.
+    pub fn to_balances(&self, alloc: Global) -> Result<BTreeMap<String, u64>, AllocError>
+        ensures all { IfOk result (λ balances. balances_of balances.entries ≡ self.now) }
+        ensures sound { AreSound self.now }
+    {
+        // Gives the proof that the sum fits.
+        let _total = self.total();
+        self.balances.clone()
     }
 
     /// Opens an account with a balance, the only way that money comes in. Fails with `Unnamed` if the name is empty,
@@ -117,6 +142,22 @@ impl Accounts {
     {
         self.balances.iter()
     }
+}
+
+/// The sum of balances. `None` if a name is empty, or if the sum would be 2^64 or more.
+fn sum_of(balances: &BTreeMap<String, u64>) -> Option<u64>
+    ensures some { IfSome result (λ total. (total ≡ total_of (balances_of balances.now.entries))
+        × AreNamed (balances_of balances.now.entries)) }
+    ensures none { result ≡ None → AreSound (balances_of balances.now.entries) → ⊥ }
+{
+    let mut total = 0u64;
+    for (name, amount) in balances.iter() {
+        if name.is_empty() {
+            return None;
+        }
+        total = total.checked_add(*amount)?;
+    }
+    Some(total)
 }
 
 /// Adds an account of a name that no account has. After an error the map is as it was.

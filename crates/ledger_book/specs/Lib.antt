@@ -3,3 +3,4 @@ pub mod Commands
 pub mod Entries
 pub mod Openings
 pub mod Repairs
+pub mod Saved

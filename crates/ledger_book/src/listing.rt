@@ -7,6 +7,7 @@ use accounts::accounts::Accounts;
 use framed_store::records::{Content, Next};
 use framed_store::streams::{ReadError, next_from_stream};
 use replay::replay::{Failure, ReplayError};
+use snapshots::numbered::NumberedRefusal;
 use std::alloc::Global;
 use std::io;
 use std::io::{ErrorKind, Read, Write};
@@ -17,7 +18,7 @@ use thiserror::Error;
 pub enum ListError {
     /// No command stands at a place.
     #[error("{0}")]
-    Log(ReplayError<Refusal>),
+    Log(ReplayError<NumberedRefusal<Refusal>>),
     /// The log ends within a frame.
     #[error("torn at byte {offset}")]
     Torn {
@@ -37,9 +38,9 @@ pub fn print_balances<W: Write>(out: &mut W, accounts: &Accounts) -> io::Result<
     Ok(())
 }
 
-/// Prints the commands of a log, each with its offset, with one frame in memory at a time. Stops at the first frame
-/// that holds no command. Fails with `Log` there, where the log cannot be read and where memory is refused, with `Torn`
-/// where the log ends within a frame, or with `Output`; the commands before are printed.
+/// Prints the commands of a log, each with its number and its offset, with one frame in memory at a time. Stops at the
+/// first frame that holds no command. Fails with `Log` there, where the log cannot be read and where memory is refused,
+/// with `Torn` where the log ends within a frame, or with `Output`; the commands before are printed.
 pub fn print_log<R: Read, W: Write>(
     alloc: Global,
     out: &mut W,
@@ -49,8 +50,8 @@ pub fn print_log<R: Read, W: Write>(
     let mut offset = 0;
     for commands in 0..u64::MAX {
         match next_command(alloc, log, &mut buffer, offset) {
-            Ok(Found::Command(command, next)) => {
-                print_command(out, offset, &command)?;
+            Ok(Found::Command { number, command, next }) => {
+                print_command(out, number, offset, &command)?;
                 offset = next;
             }
             Ok(Found::End) => return Ok(()),
@@ -70,8 +71,12 @@ pub fn print_log<R: Read, W: Write>(
 /// What a log has next.
 #[derive(Drop)]
 enum Found {
-    /// A command, and the offset after its frame.
-    Command(Command, usize),
+    /// A command, its number, and the offset after its frame.
+    Command {
+        number: u64,
+        command: Command,
+        next: usize,
+    },
     /// Nothing.
     End,
     /// A part of a frame.
@@ -84,13 +89,20 @@ fn next_command<R: Read>(
     log: &mut R,
     buffer: &mut Vec<u8>,
     offset: usize,
-) -> Result<Found, Failure<Refusal>> {
+) -> Result<Found, Failure<NumberedRefusal<Refusal>>> {
     match next_from_stream(alloc, log, buffer, settings(), LONGEST_WORD) {
         Ok(Next::End) => Ok(Found::End),
         Ok(Next::Torn) => Ok(Found::Torn),
         Ok(Next::TooLong(length)) => Err(Failure::TooLong(length)),
         Ok(Next::Record { size, content }) => match content {
-            Content::Value(command) => Ok(Found::Command(command, offset.saturating_add(size))),
+            Content::Value((number, command)) => {
+                let next = offset.saturating_add(size);
+                Ok(Found::Command {
+                    number,
+                    command,
+                    next,
+                })
+            }
             Content::Damaged => Err(Failure::Damaged),
             Content::Undecodable(why) => Err(Failure::Undecodable(why)),
             Content::Longer { taken } => Err(Failure::Longer { taken }),
@@ -100,13 +112,21 @@ fn next_command<R: Read>(
     }
 }
 
-/// Prints a command and its offset.
-fn print_command<W: Write>(out: &mut W, offset: usize, command: &Command) -> io::Result<()> {
+/// Prints a command, its number and its offset.
+fn print_command<W: Write>(
+    out: &mut W,
+    number: u64,
+    offset: usize,
+    command: &Command,
+) -> io::Result<()> {
     match command {
-        Command::Open { name, amount } => writeln!(out, "{offset}: open {name:?} {amount}"),
+        Command::Open { name, amount } => writeln!(
+            out,
+            "{number} at byte {offset}: open {name:?} {amount}"
+        ),
         Command::Pay { from, to, amount } => writeln!(
             out,
-            "{offset}: pay {from:?} {to:?} {amount}"
+            "{number} at byte {offset}: pay {from:?} {to:?} {amount}"
         ),
     }
 }

@@ -3,9 +3,12 @@ ghost use Rattle.std.specs.Prelude.{◌≡◌, ℕ, List, IfErr, OnErr, OnOk};
 ghost use Rattle.ledger_book.specs.Commands.{Applies, RefusesCommand};
 
 use crate::command::Command;
+use crate::saved::Saved;
 use accounts::accounts::Accounts;
 use accounts::refusals::{OpenError, PayError};
 use replay::machine::Machine;
+use snapshots::saving::{Saving, StateError};
+use std::alloc::{AllocError, Global};
 use thiserror::Error;
 
 /// Why a command is refused.
@@ -42,6 +45,30 @@ impl Machine for Book {
     fn apply(&mut self, command: Command) -> Result<(), Refusal> {
         carry_out(&mut self.accounts, &command)
     }
+}
+
+impl Saving for Book {
+    ghost use Rattle.ledger_book.specs.Saved.{StandsFor, one-book, equals-stand};
+
+    type Saved = Saved;
+
+    ghost stands_for = { StandsFor };
+
+    fn to_saved(&self, alloc: Global) -> Result<Saved, AllocError> {
+        Ok(Saved::First(self.accounts.to_balances(alloc)?))
+    }
+
+    fn from_saved(alloc: Global, saved: Saved) -> Result<Book, StateError> {
+        let Saved::First(balances) = saved;
+        match Accounts::from_balances(alloc, balances) {
+            Some(accounts) => Ok(Book { accounts }),
+            None => Err(StateError::NoState),
+        }
+    }
+
+    ghost one_state = { one-book };
+
+    ghost equals_stand = { equals-stand };
 }
 
 /// Carries a command out. Fails with `Open` or `Pay` if the accounts refuse it, and then leaves them as they were.

@@ -1,24 +1,29 @@
 //! What the program `ledger` does with the book that its words name.
 
 use crate::command::Command;
+use crate::compacting::snapshot_of;
 use crate::entering::{EnterError, enter};
 use crate::listing::{ListError, print_balances, print_log};
-use crate::machine::Refusal;
+use crate::machine::{Book, Refusal};
 use crate::opening::open_book;
 use crate::repairing::{Plan, plan_for};
 use crate::request::{Action, Request, request_of};
+use crate::snapshot_file::SnapshotFile;
 use crate::status::{DAMAGED, DONE, FAILED, REFUSED, USAGE};
-use accounts::accounts::Accounts;
 use clap::Error as LineError;
 use clap::error::ErrorKind as LineErrorKind;
 use framed_store::appending::AppendError;
 use replay::replay::{Failure, ReplayError, Replayed};
+use snapshots::numbered::{Numbered, NumberedRefusal};
+use snapshots::resuming::ResumeError;
+use snapshots::saving::RestoreError;
+use snapshots::snapshot::{LoadError, SaveError};
 use std::alloc::Global;
 use std::fmt::Display;
 use std::fs::File;
 use std::io;
 use std::io::{BufReader, BufWriter, ErrorKind, Write};
-use stock_files::files::{FileError, bytes_from, cut, open_to_change, open_to_read};
+use stock_files::files::{FileError, bytes_from, cut, open_to_change, open_to_read, put};
 use thiserror::Error;
 
 /// The number of bytes that a file is read and written by.
@@ -30,9 +35,18 @@ pub enum BookError {
     /// Its file is not read or changed.
     #[error("{0}")]
     File(#[from] FileError),
+    /// The file of its snapshot is not read or written.
+    #[error("the snapshot: {0}")]
+    SnapshotFile(FileError),
+    /// Its snapshot has no accounts, or could not be decoded for want of memory.
+    #[error("the snapshot: {0}")]
+    Snapshot(RestoreError),
+    /// No snapshot is made of its accounts.
+    #[error("the snapshot: {0}")]
+    Save(#[from] SaveError),
     /// A place in its log has no command, or one that is refused; or the log could not be read.
     #[error("{0}")]
-    Log(#[from] ReplayError<Refusal>),
+    Log(#[from] ReplayError<NumberedRefusal<Refusal>>),
     /// It ends within a frame.
     #[error("torn at byte {offset}. `repair` cuts the torn end off")]
     Torn {
@@ -49,7 +63,7 @@ pub enum BookError {
     },
     /// A command is refused.
     #[error("{0}")]
-    Refused(Refusal),
+    Refused(NumberedRefusal<Refusal>),
     /// A command was not appended.
     #[error("{0}")]
     Append(AppendError),
@@ -71,11 +85,21 @@ impl From<ListError> for BookError {
     }
 }
 
+impl From<ResumeError<Refusal>> for BookError {
+    fn from(error: ResumeError<Refusal>) -> BookError {
+        match error {
+            ResumeError::Snapshot(why) => BookError::Snapshot(why),
+            ResumeError::Log(why) => BookError::Log(why),
+        }
+    }
+}
+
 impl BookError {
     /// The status of a run that ends so.
     pub fn status(&self) -> u8 {
         match self {
             BookError::Log(error) => status_of(&error.why),
+            BookError::Snapshot(error) => status_of_snapshot(error),
             BookError::Torn { .. } | BookError::Buried { .. } => DAMAGED,
             BookError::Refused(_) | BookError::NoAccount => REFUSED,
             _ => FAILED,
@@ -89,9 +113,17 @@ impl BookError {
 }
 
 /// The status of a run that ends at such a place in a log.
-fn status_of(why: &Failure<Refusal>) -> u8 {
+fn status_of(why: &Failure<NumberedRefusal<Refusal>>) -> u8 {
     match why {
         Failure::Read(_) | Failure::Memory(_) => FAILED,
+        _ => DAMAGED,
+    }
+}
+
+/// The status of a run that ends at such a snapshot.
+fn status_of_snapshot(error: &RestoreError) -> u8 {
+    match error {
+        RestoreError::Load(LoadError::Memory(_)) | RestoreError::Memory(_) => FAILED,
         _ => DAMAGED,
     }
 }
@@ -100,7 +132,7 @@ fn status_of(why: &Failure<Refusal>) -> u8 {
 /// program ends.
 pub fn run(rt: &HostRuntime, words: &[String]) -> u8 {
     match request_of(rt.alloc(), words) {
-        Ok(request) => run_request(rt, &request),
+        Ok(request) => run_request(rt, request),
         Err(error) => usage(rt, &error),
     }
 }
@@ -117,12 +149,13 @@ fn usage(rt: &HostRuntime, error: &LineError) -> u8 {
 }
 
 /// Does what a request asks for. An error is printed with the name of the book.
-fn run_request(rt: &HostRuntime, request: &Request) -> u8 {
-    match act(rt, &request.book, &request.action) {
+fn run_request(rt: &HostRuntime, request: Request) -> u8 {
+    let Request { book, action } = request;
+    match act(rt, book.as_str(), action) {
         Ok(()) => DONE,
         Err(error) => {
             if !error.is_closed_output() {
-                complain(rt, &request.book, &error);
+                complain(rt, book.as_str(), &error);
             }
             error.status()
         }
@@ -135,13 +168,14 @@ fn complain<E: Display>(rt: &HostRuntime, path: &str, error: &E) {
 }
 
 /// Does with a book what is asked for.
-fn act(rt: &HostRuntime, path: &str, action: &Action) -> Result<(), BookError> {
+fn act(rt: &HostRuntime, path: &str, action: Action) -> Result<(), BookError> {
     match action {
         Action::Enter(command) => tell_entry(rt, path, enter_into(rt, path, command)?),
-        Action::Balance(Some(name)) => show_balance(rt, path, name),
+        Action::Balance(Some(name)) => show_balance(rt, path, name.as_str()),
         Action::Balance(None) => show_balances(rt, path),
         Action::Log => show_log(rt, path),
         Action::Check => show_check(rt, path),
+        Action::Compact => compact(rt, path),
         Action::Repair => repair(rt, path),
     }
 }
@@ -158,15 +192,14 @@ pub struct Entry {
 /// Carries a command out on the accounts of a book, and then appends it. It is on the disk on return. An opening makes
 /// the book where there is none. Where the append fails, the book is cut back to what it held; where the disk fails
 /// after it, the command may be in the book.
-pub fn enter_into(rt: &HostRuntime, path: &str, command: &Command) -> Result<Entry, BookError> {
-    let creates = matches!(command, Command::Open { .. });
+pub fn enter_into(rt: &HostRuntime, path: &str, command: Command) -> Result<Entry, BookError> {
+    let creates = matches!(&command, Command::Open { .. });
     let file = open_to_change(rt, path, creates)?;
-    let (mut accounts, replayed) = replay_file(rt.alloc(), &file)?;
+    let snapshot = snapshot_beside(rt, path)?;
+    let (mut book, replayed) = replay_file(rt.alloc(), &snapshot, &file)?;
+    refuse_torn(replayed)?;
     let offset = replayed.length;
-    if replayed.is_torn {
-        return Err(BookError::Torn { offset });
-    }
-    match enter(rt.alloc(), &mut accounts, &mut &file, command) {
+    match enter(rt.alloc(), &mut book, &mut &file, command) {
         Ok(size) => {
             file.sync_all()?;
             Ok(Entry { offset, size })
@@ -179,16 +212,34 @@ pub fn enter_into(rt: &HostRuntime, path: &str, command: &Command) -> Result<Ent
     }
 }
 
-/// The accounts that a file comes to, and how it ends.
-fn replay_file(alloc: Global, file: &File) -> Result<(Accounts, Replayed), BookError> {
-    let mut log = BufReader::with_capacity(alloc, BLOCK, file)?;
-    Ok(open_book(alloc, &mut log)?)
+/// The snapshot of the book at this path.
+fn snapshot_beside(rt: &HostRuntime, path: &str) -> Result<SnapshotFile, BookError> {
+    match SnapshotFile::read(rt, path) {
+        Ok(snapshot) => Ok(snapshot),
+        Err(error) => Err(BookError::SnapshotFile(error)),
+    }
 }
 
-/// The accounts that the book at this path comes to, and how it ends.
-fn read_book(rt: &HostRuntime, path: &str) -> Result<(Accounts, Replayed), BookError> {
+/// The accounts that a snapshot and a log come to, and how the log ends.
+fn replay_file(
+    alloc: Global,
+    snapshot: &SnapshotFile,
+    file: &File,
+) -> Result<(Numbered<Book>, Replayed), BookError> {
+    let mut log = BufReader::with_capacity(alloc, BLOCK, file)?;
+    Ok(open_book(alloc, snapshot.bytes(), &mut log)?)
+}
+
+/// The accounts that the book at this path comes to, and how its log ends. No lock is taken: it fails where a snapshot
+/// was put in place meanwhile, since the log was emptied then.
+fn read_book(rt: &HostRuntime, path: &str) -> Result<(Numbered<Book>, Replayed), BookError> {
     let file = open_to_read(rt, path)?;
-    replay_file(rt.alloc(), &file)
+    let snapshot = snapshot_beside(rt, path)?;
+    let opened = replay_file(rt.alloc(), &snapshot, &file);
+    match snapshot.refuse_replaced(rt) {
+        Ok(()) => opened,
+        Err(error) => Err(BookError::SnapshotFile(error)),
+    }
 }
 
 /// Prints where a command was entered. It is there, even where that can't be said.
@@ -215,8 +266,8 @@ fn refuse_torn(replayed: Replayed) -> Result<(), BookError> {
 
 /// Prints the balance of an account, also of a book that is torn.
 fn show_balance(rt: &HostRuntime, path: &str, name: &str) -> Result<(), BookError> {
-    let (accounts, replayed) = read_book(rt, path)?;
-    let Some(balance) = accounts.balance(name) else {
+    let (book, replayed) = read_book(rt, path)?;
+    let Some(balance) = book.machine.accounts.balance(name) else {
         refuse_torn(replayed)?;
         return Err(BookError::NoAccount);
     };
@@ -226,14 +277,14 @@ fn show_balance(rt: &HostRuntime, path: &str, name: &str) -> Result<(), BookErro
 
 /// Prints the balance of each account, also of a book that is torn.
 fn show_balances(rt: &HostRuntime, path: &str) -> Result<(), BookError> {
-    let (accounts, replayed) = read_book(rt, path)?;
+    let (book, replayed) = read_book(rt, path)?;
     let mut out = BufWriter::with_capacity(rt.alloc(), BLOCK, io::writer(rt))?;
-    print_balances(&mut out, &accounts)?;
+    print_balances(&mut out, &book.machine.accounts)?;
     out.flush()?;
     refuse_torn(replayed)
 }
 
-/// Prints the commands of a book.
+/// Prints the commands of a book that its log has.
 fn show_log(rt: &HostRuntime, path: &str) -> Result<(), BookError> {
     let file = open_to_read(rt, path)?;
     let mut log = BufReader::with_capacity(rt.alloc(), BLOCK, file)?;
@@ -245,17 +296,39 @@ fn show_log(rt: &HostRuntime, path: &str) -> Result<(), BookError> {
 
 /// Prints whether a book is whole, and what it comes to.
 fn show_check(rt: &HostRuntime, path: &str) -> Result<(), BookError> {
-    let (accounts, replayed) = read_book(rt, path)?;
+    let (book, replayed) = read_book(rt, path)?;
     refuse_torn(replayed)?;
     let Replayed {
         commands,
         length,
         ..
     } = replayed;
-    let total = accounts.total();
+    let all = book.next;
+    let total = book.machine.accounts.total();
     writeln!(
         io::writer(rt),
-        "{path}: whole, commands: {commands}, bytes: {length}, money: {total}"
+        "{path}: whole, commands: {all}, in the log: {commands}, bytes: {length}, money: {total}"
+    )?;
+    Ok(())
+}
+
+/// Puts the accounts of a book into its snapshot, and then empties its log. Both are on the disk on return. Where it is
+/// stopped in between, the log has commands that the snapshot has, and they are passed over from then on.
+pub fn compact(rt: &HostRuntime, path: &str) -> Result<(), BookError> {
+    let file = open_to_change(rt, path, false)?;
+    let old = snapshot_beside(rt, path)?;
+    let (book, replayed) = replay_file(rt.alloc(), &old, &file)?;
+    refuse_torn(replayed)?;
+    let new = snapshot_of(rt.alloc(), &book)?;
+    if let Err(error) = put(rt, old.path.as_str(), &new, &file) {
+        return Err(BookError::SnapshotFile(error));
+    }
+    cut(&file, 0)?;
+    let commands = book.next;
+    let bytes = new.len();
+    writeln!(
+        io::writer(rt),
+        "{path}: commands: {commands}, bytes of the snapshot: {bytes}"
     )?;
     Ok(())
 }
@@ -263,12 +336,14 @@ fn show_check(rt: &HostRuntime, path: &str) -> Result<(), BookError> {
 /// Cuts a torn end off a book, and says so. Fails where a whole frame would be lost.
 pub fn repair(rt: &HostRuntime, path: &str) -> Result<(), BookError> {
     let mut file = open_to_change(rt, path, false)?;
-    let (_, replayed) = replay_file(rt.alloc(), &file)?;
+    let snapshot = snapshot_beside(rt, path)?;
+    let (book, replayed) = replay_file(rt.alloc(), &snapshot, &file)?;
     let Replayed {
-        commands,
         length,
         is_torn,
+        ..
     } = replayed;
+    let commands = book.next;
     let tail = bytes_from(rt.alloc(), &mut file, length)?;
     let mut out = io::writer(rt);
     match plan_for(is_torn, &tail) {

@@ -25,6 +25,8 @@ pub enum Action {
     Log,
     /// Say whether it is whole, and what it comes to.
     Check,
+    /// Put all commands into a snapshot, and empty the log.
+    Compact,
     /// Cut a torn end off.
     Repair,
 }
@@ -38,7 +40,8 @@ const STATUSES: &str = "Status:
   4  the command is refused, or there is no account of the name
 
 Amounts are whole numbers below 2^64, in the smallest unit. A command that is said to be entered is on the disk. Where
-it cannot be entered the book is cut back to what it held.";
+it cannot be entered the book is cut back to what it held. `compact` keeps the accounts in BOOK.snapshot and empties
+BOOK: from then on the two files belong together.";
 
 /// How `open` is used.
 const OPEN_USAGE: &str = "ledger BOOK open NAME [AMOUNT]";
@@ -53,6 +56,7 @@ const AMOUNT: &str = "an amount is a number below 2^64";
 fn command_line<'a>(alloc: Global) -> Result<CommandLine<'a>, AllocError> {
     let line = with_changes(alloc, bare_line(alloc)?)?;
     let line = with_looks(alloc, line)?;
+    let line = line.subcommand(compact_line(alloc))?;
     line.subcommand(repair_line(alloc))
 }
 
@@ -127,12 +131,18 @@ fn balance_line<'a>(alloc: Global) -> Result<CommandLine<'a>, AllocError> {
 
 /// The command `log`.
 fn log_line<'a>(alloc: Global) -> CommandLine<'a> {
-    CommandLine::new(alloc, "log").about("Prints the commands, each with its offset")
+    CommandLine::new(alloc, "log").about("Prints the commands, each with its number and its offset")
 }
 
 /// The command `check`.
 fn check_line<'a>(alloc: Global) -> CommandLine<'a> {
     CommandLine::new(alloc, "check").about("Says whether the book is whole, and what it comes to")
+}
+
+/// The command `compact`.
+fn compact_line<'a>(alloc: Global) -> CommandLine<'a> {
+    CommandLine::new(alloc, "compact")
+        .about("Keeps the accounts in a snapshot beside the book, and empties the book")
 }
 
 /// The command `repair`.
@@ -164,6 +174,7 @@ fn action_of(alloc: Global, name: &str, found: &ArgMatches<'_>) -> Result<Action
         "balance" => Ok(Action::Balance(name_in(alloc, found)?)),
         "log" => Ok(Action::Log),
         "check" => Ok(Action::Check),
+        "compact" => Ok(Action::Compact),
         _ => Ok(Action::Repair),
     }
 }

@@ -1,5 +1,5 @@
-//! The tests of books of accounts: the accounts against a plain model, logs that are cut, damaged or refused, words,
-//! and what the program `ledger` does to a file.
+//! The tests of books of accounts: the accounts against a plain model, logs that are cut, damaged or refused,
+//! snapshots, words, and what the program `ledger` does to a file.
 #![tactic(auto)]
 
 #[cfg(test)]
@@ -11,6 +11,10 @@ mod model;
 #[cfg(test)]
 mod refusals;
 #[cfg(test)]
+mod refused_memory;
+#[cfg(test)]
 mod requests;
 #[cfg(test)]
 mod runs;
+#[cfg(test)]
+mod snapshots_of_books;

@@ -6,6 +6,8 @@ use accounts::refusals::PayError;
 use ledger_book::machine::Refusal;
 use ledger_book::opening::open_book;
 use replay::replay::{Failure, Replayed};
+use snapshots::numbered::NumberedRefusal;
+use snapshots::resuming::ResumeError;
 use std::alloc::Global;
 use std::test::Fail;
 
@@ -18,18 +20,18 @@ type Row = (usize, u64, [Option<u64>; 5]);
 /// After each number of commands from 0 on.
 const ROWS: [Row; 13] = [
     (0, 0, [None, None, None, None, None]),
-    (14, 100, [Some(100), None, None, None, None]),
-    (28, 100, [Some(100), Some(0), None, None, None]),
-    (46, 100, [Some(70), Some(30), None, None, None]),
-    (63, 70100, [Some(70), Some(30), Some(70000), None, None]),
-    (84, 70100, [Some(65606), Some(30), Some(4464), None, None]),
+    (15, 100, [Some(100), None, None, None, None]),
+    (30, 100, [Some(100), Some(0), None, None, None]),
+    (49, 100, [Some(70), Some(30), None, None, None]),
+    (67, 70100, [Some(70), Some(30), Some(70000), None, None]),
+    (89, 70100, [Some(65606), Some(30), Some(4464), None, None]),
     (
-        105,
+        111,
         1099511697876,
         [Some(65606), Some(30), Some(4464), Some(1099511627776), None],
     ),
     (
-        130,
+        137,
         1099511697876,
         [
             Some(65606),
@@ -40,7 +42,7 @@ const ROWS: [Row; 13] = [
         ],
     ),
     (
-        147,
+        155,
         1099511697876,
         [
             Some(65606),
@@ -51,7 +53,7 @@ const ROWS: [Row; 13] = [
         ],
     ),
     (
-        164,
+        173,
         1099511697876,
         [
             Some(65605),
@@ -62,7 +64,7 @@ const ROWS: [Row; 13] = [
         ],
     ),
     (
-        178,
+        188,
         1099511698126,
         [
             Some(65605),
@@ -73,7 +75,7 @@ const ROWS: [Row; 13] = [
         ],
     ),
     (
-        196,
+        207,
         1099511698126,
         [
             Some(65855),
@@ -84,7 +86,7 @@ const ROWS: [Row; 13] = [
         ],
     ),
     (
-        215,
+        227,
         1099511698126,
         [
             Some(65855),
@@ -121,7 +123,7 @@ fn opens_front(alloc: Global, length: usize) -> bool {
         return false;
     };
     let (end, money, balances) = row;
-    let Ok((accounts, replayed)) = open_book(alloc, &mut front) else {
+    let Ok((book, replayed)) = open_book(alloc, None, &mut front) else {
         return false;
     };
     let wanted = Replayed {
@@ -129,7 +131,9 @@ fn opens_front(alloc: Global, length: usize) -> bool {
         length: end,
         is_torn: end < length,
     };
-    replayed == wanted && accounts.total() == money && has_balances(&accounts, &balances)
+    let accounts = &book.machine.accounts;
+    let is_whole = replayed == wanted && book.next == commands;
+    is_whole && accounts.total() == money && has_balances(accounts, &balances)
 }
 
 #[test]
@@ -143,9 +147,9 @@ fn opens_each_front(rt: HostRuntime) {
 #[test]
 fn lists_by_name(rt: HostRuntime) -> Result<(), Fail> {
     let mut log = LOG.as_slice();
-    let (accounts, _) = open_book(rt.alloc(), &mut log)?;
+    let (book, _) = open_book(rt.alloc(), None, &mut log)?;
     let mut text = String::new(rt.alloc());
-    for (name, balance) in accounts.iter() {
+    for (name, balance) in book.machine.accounts.iter() {
         text.push_str(name)?;
         text.push_str(format!(in rt.alloc(); " {balance} ")?.as_str())?;
     }
@@ -157,10 +161,13 @@ fn lists_by_name(rt: HostRuntime) -> Result<(), Fail> {
 }
 
 /// Where a log stops: the number of the command and its offset; and why.
-fn stop_of(alloc: Global, mut log: &[u8]) -> Option<(u64, usize, Failure<Refusal>)> {
-    match open_book(alloc, &mut log) {
-        Ok(_) => None,
-        Err(error) => Some((error.commands, error.offset, error.why)),
+fn stop_of(
+    alloc: Global,
+    mut log: &[u8],
+) -> Option<(u64, usize, Failure<NumberedRefusal<Refusal>>)> {
+    match open_book(alloc, None, &mut log) {
+        Err(ResumeError::Log(error)) => Some((error.commands, error.offset, error.why)),
+        _ => None,
     }
 }
 
@@ -171,11 +178,15 @@ fn tells_where_it_stops(rt: HostRuntime) {
     assert!(rt;
         matches!(
             unpayable,
-            Some((1, 14, Failure::Refused(Refusal::Pay(PayError::NoPayee))))
+            Some((
+                1,
+                15,
+                Failure::Refused(NumberedRefusal::Refused(Refusal::Pay(PayError::NoPayee)))
+            ))
         )
     );
     let longer = stop_of(alloc, &LONGER);
-    assert!(rt; matches!(longer, Some((0, 0, Failure::Longer { taken: 6 }))));
+    assert!(rt; matches!(longer, Some((0, 0, Failure::Longer { taken: 7 }))));
     let unknown = stop_of(alloc, &NO_COMMAND);
     assert!(rt; matches!(unknown, Some((0, 0, Failure::Undecodable(_)))));
     let buried = stop_of(alloc, &BURIED);
@@ -183,7 +194,7 @@ fn tells_where_it_stops(rt: HostRuntime) {
 }
 
 /// `SMALL` with a bit of this byte changed.
-fn changed_at(place: usize) -> [u8; 46] {
+fn changed_at(place: usize) -> [u8; 49] {
     let mut log = SMALL;
     if let Some(byte) = log.get_mut(place) {
         *byte ^= 1;
@@ -196,9 +207,9 @@ fn changed_at(place: usize) -> [u8; 46] {
 fn tells_damaged(rt: HostRuntime) {
     let alloc = rt.alloc();
     let damaged = stop_of(alloc, &changed_at(20));
-    assert!(rt; matches!(damaged, Some((1, 14, Failure::Damaged))));
+    assert!(rt; matches!(damaged, Some((1, 15, Failure::Damaged))));
     let mut huge = SMALL;
-    huge[30] = 255;
+    huge[32] = 255;
     let long = stop_of(alloc, &huge);
-    assert!(rt; matches!(long, Some((2, 28, Failure::TooLong(16711690)))));
+    assert!(rt; matches!(long, Some((2, 30, Failure::TooLong(16711691)))));
 }

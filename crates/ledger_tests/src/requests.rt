@@ -29,6 +29,7 @@ fn told_request(alloc: Global, request: &Request) -> Result<String, AllocError> 
         Action::Balance(None) => format!(in alloc; "{book}: balances"),
         Action::Log => format!(in alloc; "{book}: log"),
         Action::Check => format!(in alloc; "{book}: check"),
+        Action::Compact => format!(in alloc; "{book}: compact"),
         Action::Repair => format!(in alloc; "{book}: repair"),
     }
 }
@@ -42,7 +43,7 @@ fn told(alloc: Global, line: &str) -> Result<String, AllocError> {
 }
 
 /// Lines, and what they ask for.
-const REQUESTS: [(&str, &str); 22] = [
+const REQUESTS: [(&str, &str); 23] = [
     ("b open ann 100", "b: open \"ann\" 100"),
     ("b open ann", "b: open \"ann\" 0"),
     ("b open '' 1", "b: open \"\" 1"),
@@ -63,6 +64,7 @@ const REQUESTS: [(&str, &str); 22] = [
     ("b balance ann bob", "2"),
     ("b log", "b: log"),
     ("b check", "b: check"),
+    ("b compact", "b: compact"),
     ("b repair", "b: repair"),
     ("b sell", "2"),
     ("b", "2"),

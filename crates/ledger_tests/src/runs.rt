@@ -10,13 +10,13 @@ use std::path::PathBuf;
 use std::{env, fs, process};
 
 /// A path that no other test has.
-fn path_of(rt: &HostRuntime, name: &str) -> anyhow::Result<PathBuf> {
+pub fn path_of(rt: &HostRuntime, name: &str) -> anyhow::Result<PathBuf> {
     let name = format!(in rt.alloc(); "{}-{name}.book", process::id(rt.process()))?;
     Ok(env::temp_dir(rt)?.join(rt.alloc(), name.as_str())?)
 }
 
 /// Whether the program ends with this status, with these words after the path of a book.
-fn ends(rt: &HostRuntime, path: &str, others: &str, status: u8) -> bool {
+pub fn ends(rt: &HostRuntime, path: &str, others: &str, status: u8) -> bool {
     let Ok(line) = format!(in rt.alloc(); "{path} {others}") else {
         return false;
     };
@@ -27,7 +27,7 @@ fn ends(rt: &HostRuntime, path: &str, others: &str, status: u8) -> bool {
 }
 
 /// Whether a file holds these bytes.
-fn holds(rt: &HostRuntime, path: &str, bytes: &[u8]) -> bool {
+pub fn holds(rt: &HostRuntime, path: &str, bytes: &[u8]) -> bool {
     match fs::read(rt, path) {
         Ok(held) => held.as_slice() == bytes,
         Err(_) => false,
@@ -67,19 +67,19 @@ fn tells_the_place(rt: HostRuntime) -> anyhow::Result<()> {
     let file = path_of(&rt, "placed")?;
     let path = file.as_str();
     let name = String::from_str(alloc, "ann")?;
-    let first = enter_into(&rt, path, &Command::Open { name, amount: 100 });
+    let first = enter_into(&rt, path, Command::Open { name, amount: 100 });
     let name = String::from_str(alloc, "bob")?;
-    let second = enter_into(&rt, path, &Command::Open { name, amount: 0 });
+    let second = enter_into(&rt, path, Command::Open { name, amount: 0 });
     let name = String::from_str(alloc, "bob")?;
-    let third = enter_into(&rt, path, &Command::Open { name, amount: 1 });
-    let is_held = holds(&rt, path, &SMALL[..28]);
+    let third = enter_into(&rt, path, Command::Open { name, amount: 1 });
+    let is_held = holds(&rt, path, &SMALL[..30]);
     assert!(rt; fs::remove_file(&rt, path).is_ok() && is_held);
     assert!(rt;
         matches!(
             first,
             Ok(Entry {
                 offset: 0,
-                size: 14
+                size: 15
             })
         )
     );
@@ -87,8 +87,8 @@ fn tells_the_place(rt: HostRuntime) -> anyhow::Result<()> {
         matches!(
             second,
             Ok(Entry {
-                offset: 14,
-                size: 14
+                offset: 15,
+                size: 15
             })
         )
     );
@@ -96,19 +96,19 @@ fn tells_the_place(rt: HostRuntime) -> anyhow::Result<()> {
     Ok(())
 }
 
-/// A name of 65516 bytes is the longest: the next one is not entered, and leaves the book as it is.
+/// A name of 65508 bytes is the longest: the next one is not entered, and leaves the book as it is.
 #[test]
 fn takes_long_names(rt: HostRuntime) -> anyhow::Result<()> {
     let alloc = rt.alloc();
     let file = path_of(&rt, "long")?;
     let path = file.as_str();
-    let longest = "n".repeat(alloc, 65516)?;
-    let longer = "m".repeat(alloc, 65517)?;
+    let longest = "n".repeat(alloc, 65508)?;
+    let longer = "m".repeat(alloc, 65509)?;
     let amount = u64::MAX;
     let entered = enter_into(
         &rt,
         path,
-        &Command::Open {
+        Command::Open {
             name: longest,
             amount,
         },
@@ -117,7 +117,7 @@ fn takes_long_names(rt: HostRuntime) -> anyhow::Result<()> {
     let refused = enter_into(
         &rt,
         path,
-        &Command::Open {
+        Command::Open {
             name: longer,
             amount,
         },
@@ -129,7 +129,7 @@ fn takes_long_names(rt: HostRuntime) -> anyhow::Result<()> {
             entered,
             Ok(Entry {
                 offset: 0,
-                size: 65537
+                size: 65530
             })
         )
     );
@@ -142,7 +142,7 @@ fn takes_long_names(rt: HostRuntime) -> anyhow::Result<()> {
 fn leaves_a_torn_book(rt: HostRuntime) -> anyhow::Result<()> {
     let file = path_of(&rt, "torn")?;
     let path = file.as_str();
-    let torn = &SMALL[..45];
+    let torn = &SMALL[..48];
     let is_left = fs::write(&rt, path, torn).is_ok()
         && ends(&rt, path, "open cy", DAMAGED)
         && ends(&rt, path, "balance", DAMAGED)
@@ -152,7 +152,7 @@ fn leaves_a_torn_book(rt: HostRuntime) -> anyhow::Result<()> {
         && ends(&rt, path, "check", DAMAGED)
         && holds(&rt, path, torn);
     let is_repaired = ends(&rt, path, "repair", DONE)
-        && holds(&rt, path, &SMALL[..28])
+        && holds(&rt, path, &SMALL[..30])
         && ends(&rt, path, "pay ann bob 30", DONE)
         && holds(&rt, path, &SMALL);
     assert!(rt; fs::remove_file(&rt, path).is_ok() && is_left && is_repaired);
@@ -175,7 +175,7 @@ fn leaves_a_damaged_book(rt: HostRuntime) -> anyhow::Result<()> {
     let file = path_of(&rt, "damaged")?;
     let path = file.as_str();
     let mut damaged = LOG;
-    damaged[70] = 0;
+    damaged[74] = 0;
     let are_told = is_damaged(&rt, path, &damaged)
         && is_damaged(&rt, path, &LONGER)
         && is_damaged(&rt, path, &UNPAYABLE)
@@ -191,7 +191,8 @@ fn prints_commands(rt: HostRuntime) -> anyhow::Result<()> {
     let mut out = Vec::new(alloc);
     let mut log = SMALL.as_slice();
     let printed = print_log(alloc, &mut out, &mut log);
-    let wanted = "0: open \"ann\" 100\n14: open \"bob\" 0\n28: pay \"ann\" \"bob\" 30\n";
+    let wanted = "0 at byte 0: open \"ann\" 100\n1 at byte 15: open \"bob\" 0\n\
+        2 at byte 30: pay \"ann\" \"bob\" 30\n";
     assert!(rt; printed.is_ok() && out.as_slice() == wanted.as_bytes());
     Ok(())
 }

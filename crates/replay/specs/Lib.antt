@@ -1,4 +1,5 @@
 pub mod Recovered
 pub mod RecoveryLaws
 pub mod Replays
+pub mod RunLaws
 pub mod Stepping

@@ -4,6 +4,8 @@
 #[cfg(test)]
 mod logs;
 #[cfg(test)]
+mod refused_memory;
+#[cfg(test)]
 mod resumed;
 pub mod saved;
 #[cfg(test)]

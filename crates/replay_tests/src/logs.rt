@@ -8,7 +8,7 @@ use std::alloc::Global;
 use std::test::Fail;
 
 /// The frames of payments of 7, of 300 and of 7 again.
-const LOG: [u8; 29] = [
+pub const LOG: [u8; 29] = [
     1, 0, 0, 0, 7, 114, 125, 169, 169, 3, 0, 0, 0, 251, 44, 1, 226, 82, 158, 82, 1, 0, 0, 0, 7,
     114, 125, 169, 169,
 ];

@@ -36,7 +36,7 @@ const LONGER: [u8; 45] = [
 ];
 
 /// The till of these snapshots.
-const TILL: Numbered<Till> = Numbered {
+pub const TILL: Numbered<Till> = Numbered {
     next: 2,
     machine: Till {
         held: 307,

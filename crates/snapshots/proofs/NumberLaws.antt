@@ -4,16 +4,12 @@ use Rattle.std.proofs.Common.{ap, subst, arith, inl, inr, length-append}
 use Rattle.bincode_spec.specs.Format.{Format}
 use Rattle.bincode_spec.specs.Meaning.{Meaning}
 use Rattle.replay.specs.Replays.{Run, IsReplay}
+use Rattle.replay.specs.RunLaws.{runs-join}
 use Rattle.replay.specs.declared.replay.Replayed.{Replayed}
 use Rattle.snapshots.specs.Numbers.{AppliesNext, NumberedBelow, NumberedFrom, without_numbers}
-use Rattle.snapshots.specs.Resumed.{IsWhole, Continues}
+use Rattle.snapshots.specs.Resumed.{Advances, IsWhole, Continues}
 
 module _ {S A : Type 0} (applies : S → A → S → Type 0) where
-  -- one run after another
-  pub runs-join : (first second : List A) (old mid new : S) → Run applies old first mid → Run applies mid second new → Run applies old (first ++ second) new
-  runs-join [] second old mid new r s = subst (λ z. Run applies z second new) r s
-  runs-join (command ∷ first) second old mid new r s = (r.0, r.1, runs-join first second r.0 mid new r.2 s)
-
   -- commands of earlier numbers change nothing
   passed-over : (passed others : List (ℕ × A)) (old new : ℕ × S) → NumberedBelow old.0 passed → Run (AppliesNext applies) old (passed ++ others) new → Run (AppliesNext applies) old others new
   passed-over [] others old new h r = r
@@ -36,7 +32,23 @@ module _ {S A : Type 0} (applies : S → A → S → Type 0) where
       let all = applied-all others old new row (passed-over passed others old new below (subst (λ z. Run (AppliesNext applies) old z new) are r)) in
       let next = all.1 in
       let both = length-append earlier (without_numbers others) in
-      (runs-join earlier (without_numbers others) first old.1 new.1 led all.0, omega (arith, next, both, count))
+      (runs-join applies earlier (without_numbers others) first old.1 new.1 led all.0, omega (arith, next, both, count))
+
+  -- one more command before others
+  step-advances : (command : ℕ × A) (old mid new : ℕ × S) → AppliesNext applies old command mid → Advances applies mid new → Advances applies old new
+  step-advances command old mid new (inl below) then = subst (λ z. Advances applies z new) below.1 then
+  step-advances command old mid new (inr applied) then =
+      let next = applied.1 in
+      let count = then.count in record {
+        commands = command.1 ∷ then.commands;
+        run = (mid.1, applied.2, then.run);
+        count = omega (arith, next, count);
+      }
+
+  -- whatever the commands' numbers, those that are applied lead on
+  pub advances-run : (commands : List (ℕ × A)) (old new : ℕ × S) → Run (AppliesNext applies) old commands new → Advances applies old new
+  advances-run [] old new r = let same : new.0 ≡ old.0 = ap (λ z. z.0) r in record { commands = []; run = ap (λ z. z.1) r; count = omega (arith, same) }
+  advances-run (command ∷ commands) old new r = step-advances command old r.0 new r.1 (advances-run commands r.0 new r.2)
 
   -- what is replayed of numbered commands continues the state
   pub replay-continues : (F : Format Meaning) (limit : Option ℕ) (decodes_to : Meaning → ℕ × A → Type 0) (most : ℕ) (log : List ℕ) (old new : ℕ × S) (replayed : Replayed) →

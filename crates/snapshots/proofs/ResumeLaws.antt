@@ -5,10 +5,10 @@ use Rattle.std.proofs.lemmas.Bool.Decides.{Decides-eqb}
 use Rattle.framed_store.specs.Pieces.{Piece, FrameOf, Damage, bytes_of_all, LacksRoom}
 use Rattle.replay.specs.Recovered.{EqualTo, Recovers}
 use Rattle.replay.specs.Replays.{Run}
+use Rattle.replay.specs.RunLaws.{runs-join}
 use Rattle.replay.specs.declared.replay.Replayed.{Replayed}
 use Rattle.snapshots.specs.Numbers.{AppliesNext}
 use Rattle.snapshots.specs.Resuming.{HoldBelow, HoldFrom, EqualThose, StandAfter, Resumes}
-use Rattle.snapshots.proofs.NumberLaws.{runs-join}
 
 -- the first item of a list that is not empty
 same-head : {A : Type 0} (a b : A) (xs ys : List A) → a ∷ xs ≡ b ∷ ys → a ≡ b

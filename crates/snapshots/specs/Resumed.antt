@@ -1,5 +1,5 @@
 -- The state that a snapshot and the rest of a log come to.
-use Rattle.std.specs.Prelude.{◌≡◌, ◌++◌, ℕ, List, length, Option}
+use Rattle.std.specs.Prelude.{◌≡◌, ◌+◌, ◌++◌, ℕ, List, length, Option}
 use Rattle.bincode_spec.specs.Format.{Format}
 use Rattle.bincode_spec.specs.Meaning.{Meaning}
 use Rattle.replay.specs.Replays.{Run, FramesOf, EndsLog}
@@ -21,3 +21,9 @@ pub record Continues {S A : Type 0} (applies : S → A → S → Type 0) (F : Fo
   pub ends : EndsLog most rest replayed.is_torn
   pub count : replayed.commands ≡ length commands
   pub whole : IsWhole applies commands old new
+
+-- some commands lead from one state to another, whose number is greater by theirs
+pub record Advances {S A : Type 0} (applies : S → A → S → Type 0) (old new : ℕ × S) : Type 0 where
+  pub commands : List A
+  pub run : Run applies old.1 commands new.1
+  pub count : new.0 ≡ old.0 + length commands

@@ -4,9 +4,10 @@ ghost use Rattle.std.specs.List.{All};
 ghost use Rattle.bincode_io.specs.Stream.{TellsBytes, known_bytes};
 ghost use Rattle.framed_store.specs.Pieces.{ArePieces, Piece, bytes_of_all};
 ghost use Rattle.replay.specs.Recovered.{Recovers};
-ghost use Rattle.replay.specs.Replays.{IsStop, RunsFor};
+ghost use Rattle.replay.specs.Replays.{IsStop, Run};
 ghost use Rattle.snapshots.specs.Numbers.{AppliesNext, RefusesNext};
-ghost use Rattle.snapshots.specs.Resumed.{Continues};
+ghost use Rattle.snapshots.specs.Resumed.{Advances, Continues};
+ghost use Rattle.snapshots.specs.Resuming.{HoldBelow, HoldFrom, Resumes};
 
 use crate::numbered::{Numbered, NumberedRefusal};
 use bincode::Wire;
@@ -28,6 +29,12 @@ pub fn replay_from<M: Machine, C: Config, R: Read>(
     config: C,
     most: u32,
 ) -> Result<Replayed, ReplayError<NumberedRefusal<M::Refusal>>>
+    // Whatever the log gives, commands lead from the old state to the new one, and the number grows by theirs.
+    ensures advances { MatchResult result
+        (λ _. Advances M.applies (numbered.old.next, M.state numbered.old.machine)
+        (numbered.new.next, M.state numbered.new.machine))
+        (λ _. Advances M.applies (numbered.old.next, M.state numbered.old.machine)
+        (numbered.new.next, M.state numbered.new.machine)) }
     // These clauses speak of logs whose bytes are known. All whole frames of the log hold numbered commands. Where they
     // are some that the snapshot has, and then others in a row from its number on, all commands lead to the state.
     ensures continues { TellsBytes (R.remaining log.old) → IfOk result (Continues M.applies
@@ -48,6 +55,18 @@ pub fn replay_from<M: Machine, C: Config, R: Read>(
         → IfOk result (Recovers ⟦<(u64, M::Command) as PartialEq>⟧.eq (AppliesNext M.applies) pieces
         (length (known_bytes (R.remaining log.old))) (numbered.old.next, M.state numbered.old.machine)
         (numbered.new.next, M.state numbered.new.machine)) }
+    // Let commands have led to the old state, and others have been appended to the log: some of those, and then some in
+    // a row from the old number on. Wherever the log was cut since, the first ones lead to the new state, and then
+    // those that stand whole in the log after the ones that are passed over, or equal ones.
+    ensures resumes { TellsBytes (R.remaining log.old) → All (λ b. b < 256) (known_bytes (R.remaining log.old))
+        → (first : M.State) (earlier : List M.Command) → Run M.applies first earlier (M.state numbered.old.machine)
+        → numbered.old.next ≡ length earlier
+        → (passed others : List (Piece (ℕ × M.Command))) (lost : List ℕ)
+        → HoldBelow (length earlier) passed → HoldFrom (length earlier) others
+        → ArePieces ⟦<(u64, M::Command) as Wire>⟧.words C.setting C.bound most (passed ++ others)
+        → bytes_of_all (passed ++ others) ≡ known_bytes (R.remaining log.old) ++ lost
+        → IfOk result (λ _. Resumes M.Command.eq M.applies first earlier passed others
+        (length (known_bytes (R.remaining log.old))) (numbered.new.next, M.state numbered.new.machine)) }
 {
     replay(alloc, numbered, log, buffer, config, most)
 }

@@ -3,7 +3,7 @@
 use framed_store::streams::ReadError;
 use std::alloc::Global;
 use std::fs::{File, Metadata, OpenOptions, TryLockError};
-use std::io::{Read, Seek, SeekFrom};
+use std::io::{Read, Seek, SeekFrom, Write};
 use std::os::unix::fs::MetadataExt;
 use std::path::PathBuf;
 use std::{fs, io};
@@ -19,7 +19,7 @@ pub enum FileError {
     #[error("another program has it locked")]
     Locked,
     /// Another program has put a new file in its place.
-    #[error("it was replaced while it was opened")]
+    #[error("it was replaced while it was opened or read")]
     Replaced,
     /// An access failed.
     #[error("{0}")]
@@ -90,7 +90,7 @@ fn refuse_irregular(found: &Metadata) -> Result<(), FileError> {
 }
 
 /// Fails where another file than this stands at the path, as after a rename before the lock was taken.
-fn refuse_replaced(rt: &HostRuntime, path: &str, file: &File) -> Result<(), FileError> {
+pub fn refuse_replaced(rt: &HostRuntime, path: &str, file: &File) -> Result<(), FileError> {
     let ours = file.metadata()?;
     let theirs = fs::metadata(rt, path)?;
     if (ours.dev(), ours.ino()) == (theirs.dev(), theirs.ino()) {
@@ -128,9 +128,9 @@ pub fn cut(file: &File, length: usize) -> Result<(), FileError> {
     Ok(file.sync_all()?)
 }
 
-/// The path of the new file beside the one at this path.
-fn path_beside(alloc: Global, path: &str) -> io::Result<String> {
-    Ok(format!(in alloc; "{path}.repaired")?)
+/// The path of the file beside the one at this path, by a word after it.
+fn path_beside(alloc: Global, path: &str, word: &str) -> io::Result<String> {
+    Ok(format!(in alloc; "{path}.{word}")?)
 }
 
 /// Makes an empty file at this path, with the permissions of another one. Fails where a file is there.
@@ -142,6 +142,32 @@ fn create_like(rt: &HostRuntime, path: &str, other: &File) -> io::Result<File> {
         .open(rt, path)?;
     file.set_permissions(other.metadata()?.permissions())?;
     Ok(file)
+}
+
+/// Puts a file of these bytes at a path, in the place of the one that is there, with the permissions of another file. It
+/// is written beside the path, at `PATH.new`, and renamed: whoever opens the path finds the old bytes or the new ones.
+/// They are on the disk on return.
+pub fn put(rt: &HostRuntime, path: &str, bytes: &[u8], other: &File) -> Result<(), FileError> {
+    let beside = path_beside(rt.alloc(), path, "new")?;
+    // What a run that was killed left there.
+    let _ = fs::remove_file(rt, beside.as_str());
+    let file = create_like(rt, beside.as_str(), other)?;
+    match fill(&file, bytes) {
+        Ok(()) => {
+            fs::rename(rt, beside.as_str(), path)?;
+            Ok(sync_folder(rt, path)?)
+        }
+        Err(error) => {
+            let _ = fs::remove_file(rt, beside.as_str());
+            Err(FileError::Access(error))
+        }
+    }
+}
+
+/// Writes bytes to a file. They are on the disk on return.
+fn fill(mut file: &File, bytes: &[u8]) -> io::Result<()> {
+    file.write_all(bytes)?;
+    file.sync_all()
 }
 
 /// A new file beside another one, in whose place it is put.
@@ -157,7 +183,7 @@ impl Replacement {
     /// Makes an empty one beside a file at this path, with its permissions.
     pub fn new(rt: &HostRuntime, path: &str, old: &File) -> Result<Replacement, FileError> {
         let path = fs::canonicalize(rt, path)?;
-        let beside = path_beside(rt.alloc(), path.as_str())?;
+        let beside = path_beside(rt.alloc(), path.as_str(), "repaired")?;
         let file = create_like(rt, beside.as_str(), old)?;
         Ok(Replacement { file, beside, path })
     }

@@ -1,6 +1,7 @@
-use Rattle.std.proofs.Common.{◌≡◌, ◌≢◌, ◌+◌, ◌-◌, ◌≤◌, rules, sym, ap, ◌∙◌, arith}
+use Rattle.std.proofs.Common.{◌≡◌, ◌≢◌, ◌+◌, ◌-◌, ◌≤◌, rules, sym, ap, subst, ◌∙◌, arith}
 use Rattle.std.specs.declared.option.Option.TheVariants.{Some}
-use Rattle.accounts.specs.Accounts.{balance_of, total_of, with_balance}
+use Rattle.accounts.specs.Accounts.{AreNamed, balances_of, balance_of, total_of, with_balance}
+use Rattle.accounts.proofs.Entries.{named-set}
 use Rattle.accounts.proofs.Money.{room, total_stays}
 use Rattle.accounts.proofs.accounts.Accounts.pay.Goals as goal
 
@@ -11,7 +12,7 @@ overflow_add-payee c =
     let are_two : c.args.from.now ≢ c.args.to.now = search rules in
     let is_enough : c.args.amount ≤ c.in_ok-payer.payer = omega arith in
     let fits = room c.args.self.now c.args.from.now c.args.to.now c.in_ok-payer.payer c.in_ok-payee.payee c.args.amount payer_has payee_has are_two is_enough in
-    let is_total = c.self.invariant ∙ ap total_of c.self.view_is in
+    let is_total = c.self.invariant.0 ∙ ap total_of c.self.view_is in
     omega (arith, fits, is_total)
 
 pub returns-clause-total : goal.returns-clause-total
@@ -26,4 +27,8 @@ returns-clause-total c =
     ap total_of (c.set_balance-2.ensures ∙ ap (with_balance c.args.to.now (c.in_ok-payee.payee + c.args.amount)) is_mid) ∙ stays
 
 pub invariant_of-self : goal.invariant_of-self
-invariant_of-self c = c.self.invariant ∙ ap total_of c.self.view_is ∙ sym (returns-clause-total c)
+invariant_of-self c =
+    let left = c.in_ok-payer.payer - c.args.amount in
+    let mid = named-set c.args.from.now left (balances_of c.self.inside.balances.entries) c.self.invariant.1 in
+    let named = named-set c.args.to.now (c.in_ok-payee.payee + c.args.amount) _ (subst AreNamed (sym c.set_balance.ensures) mid) in
+    (c.self.invariant.0 ∙ ap total_of c.self.view_is ∙ sym (returns-clause-total c), subst AreNamed (sym c.set_balance-2.ensures) named)
