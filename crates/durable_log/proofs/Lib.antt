@@ -1,4 +1,5 @@
 mod Fronts
+mod MachineLaws
 mod Recoveries
 mod RunSteps
 mod Stops

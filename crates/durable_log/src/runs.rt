@@ -1,7 +1,10 @@
 //! Appending many commands to a log, each on the disk before the next.
-ghost use Rattle.std.specs.Prelude.{List, OnOk};
+ghost use Rattle.std.specs.Prelude.{List, IfErr, OnOk};
+ghost use Rattle.std.specs.List.{All};
+ghost use Rattle.framed_store.specs.Appended.{FitsStore};
 ghost use Rattle.framed_store.specs.Pieces.{Piece};
 ghost use Rattle.crash_device.specs.Moments.{LeavesOnly, Only};
+ghost use Rattle.durable_log.specs.Appending.{IsForced};
 ghost use Rattle.durable_log.specs.Runs.{IsLogAfter, StandsForPart};
 ghost use Rattle.durable_log.specs.Standing.{IsLogOf};
 
@@ -35,6 +38,10 @@ pub fn append_commands<T: Encode + Decode<()> + Exact, D: Device, C: Config>(
         → IsLogOf T.words C.setting C.bound most pieces (D.seen device.old).log
         → LeavesOnly D.moment D.left_since device.old device.new
         (StandsForPart T.words C.setting C.bound most pieces commands.now (D.seen device.old)) }
+
+    // It does not fail by itself: of commands that all fit one is refused only if memory is, or if the device fails.
+    ensures fits { All (λ command. FitsStore T.words C.setting C.bound most command) commands.now
+        → IfErr result IsForced }
 {
     for command in commands {
         append_command(alloc, device, command, config, most)?;

@@ -1,5 +1,6 @@
-use Rattle.std.proofs.Common.{◌≡◌, ◌++◌, ◌+◌, [], ◌∷◌, take, ap, ◌∙◌, refl, sym}
+use Rattle.std.proofs.Common.{◌≡◌, ◌++◌, ◌+◌, [], ◌∷◌, take, ap, ◌∙◌, refl, rules, subst, sym}
 use Rattle.std.proofs.lemmas.List.{take_more}
+use Rattle.framed_store.specs.Appended.{FitsStore}
 use Rattle.crash_device.specs.Files.{Files}
 use Rattle.crash_device.specs.MomentLaws.{stays, continues}
 use Rattle.durable_log.specs.Runs.{StandsForPart}
@@ -60,3 +61,12 @@ loop-command-preserved g c =
           (c.append_command.ensures.before_or_after (pieces ++ run.0) run.2)
           (λ f left. one-part words g.C.Config.setting g.C.Config.bound c.args.most pieces c.args.commands.now i value more run.0 run.1 files (g.D.Device.seen mid) f c.loop-command.invariant.snapshot left);
     }
+
+pub returns-in_err-append_command-clause-fits : goal.returns-in_err-append_command-clause-fits
+returns-in_err-append_command-clause-fits g c =
+    λ all_fit.
+    let value = c.command-item.result in
+    let i = c.loop-command.command-index in
+    let fits = subst (FitsStore g.T.Wire.words g.C.Config.setting g.C.Config.bound c.args.most) (sym c.command-item.is) (all_fit i value c.loop-command-test.true) in
+    let forced = c.in_err-append_command.ensures.fits fits in
+    search (rules, forced)
