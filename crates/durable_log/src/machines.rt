@@ -153,6 +153,7 @@ pub fn compact_machine<M: Saving, D: Device, C: Config>(
     ensures failed { IsErrOf result (CompactError.Device DeviceError.Failed)
         → D.faults device.old < D.faults device.new }
 {
+    // Gives the proof that the number is below 2^64.
     let _number = numbered.next;
     let snapshot = match save_machine(alloc, numbered, config) {
         Ok(snapshot) => snapshot,
