@@ -1,9 +1,8 @@
 -- What files that stand for commands come to, and what is left of them when a snapshot takes the place of a log.
-use Rattle.std.specs.Prelude.{◌≡◌, ◌+◌, ◌-◌, ◌<◌, ◌≤◌, ◌^◌, ◌++◌, ◌&&◌, ◌==◌, ℕ, List, [], ◌∷◌, length, take, drop, Option, Bool, true, false, refl}
+use Rattle.std.specs.Prelude.{◌≡◌, ◌+◌, ◌-◌, ◌<◌, ◌≤◌, ◌^◌, ◌++◌, ℕ, List, [], ◌∷◌, length, take, drop, Option, Bool, true, refl}
 use Rattle.std.proofs.Common.{◌∙◌, ap, sym, subst, arith, inl, inr, append_assoc, append-nil, length-append, take-append-drop}
 use Rattle.std.proofs.lemmas.List.{length-take}
 use Rattle.std.proofs.lemmas.List.Elements.{All-nil, All-take}
-use Rattle.std.proofs.lemmas.Bool.Decides.{Decides-eqb}
 use mathlib.Core.Logic.{dite}
 use native.Mathlib.Decide.{dec_le}
 use Rattle.bincode_base.specs.Setting.{Setting}
@@ -12,48 +11,22 @@ use Rattle.framed_store.specs.Pieces.{Piece, FrameOf, Damage, bytes_of, bytes_of
 use Rattle.framed_store.specs.PieceLaws.{with_kept}
 use Rattle.replay.specs.Recovered.{EqualTo}
 use Rattle.replay.specs.Replays.{Run}
+use Rattle.replay.specs.RunLaws.{runs-join}
 use Rattle.replay.specs.declared.replay.Replayed.{Replayed}
 use Rattle.snapshots.specs.Numbers.{AppliesNext}
-use Rattle.snapshots.specs.Resuming.{HoldBelow, HoldFrom}
+use Rattle.snapshots.specs.Resuming.{HoldBelow, HoldFrom, held_by}
+use Rattle.snapshots.specs.RowLaws.{below-more, row-below, below-join, row-more, held-more}
 use Rattle.snapshots.specs.Saved.{IsSavedAs}
 use Rattle.crash_device.specs.Files.{Files, CompactsPart}
-use Rattle.durable_log.specs.Machines.{held_by, AreOrEqual, HasCome, FilesHold, FilesStandFor, FilesBeforeOrAfter}
+use Rattle.durable_log.specs.Machines.{AreOrEqual, HasCome, FilesHold, FilesStandFor, FilesBeforeOrAfter}
 use Rattle.durable_log.specs.Recovering.{IsRecovered}
 use Rattle.durable_log.specs.Standing.{AreKept, IsLogOf, StandsFor, IsAfter, IsBeforeOrAfter}
 use Rattle.durable_log.proofs.Recoveries.{less-room}
-
--- numbers below one are below a greater one
-below-more : {A : Type 0} (m n : ℕ) (pieces : List (Piece (ℕ × A))) → m ≤ n → HoldBelow m pieces → HoldBelow n pieces
-below-more m n [] le h = tt
-below-more m n (FrameOf command word ∷ pieces) le h = let less = h.0 in (omega (arith, le, less), below-more m n pieces le h.1)
-below-more m n (Damage bytes ∷ pieces) le h = absurd h
-
--- numbers in a row are below the one after them
-row-below : {A : Type 0} (m n : ℕ) (pieces : List (Piece (ℕ × A))) → m + length (held_by pieces) ≤ n → HoldFrom m pieces → HoldBelow n pieces
-row-below m n [] le h = tt
-row-below m n (FrameOf command word ∷ pieces) le h = let number = h.0 in (omega (arith, le, number), row-below (m + 1) n pieces (omega (arith, le)) h.1)
-row-below m n (Damage bytes ∷ pieces) le h = absurd h
-
-below-join : {A : Type 0} (n : ℕ) (first second : List (Piece (ℕ × A))) → HoldBelow n first → HoldBelow n second → HoldBelow n (first ++ second)
-below-join n [] second h more = more
-below-join n (FrameOf command word ∷ first) second h more = (h.0, below-join n first second h.1 more)
-below-join n (Damage bytes ∷ first) second h more = absurd h
 
 below-front : {A : Type 0} (n : ℕ) (first second : List (Piece (ℕ × A))) → HoldBelow n (first ++ second) → HoldBelow n first
 below-front n [] second h = tt
 below-front n (FrameOf command word ∷ first) second h = (h.0, below-front n first second h.1)
 below-front n (Damage bytes ∷ first) second h = absurd h
-
--- the next number follows a row
-row-more : {A : Type 0} (m n : ℕ) (pieces : List (Piece (ℕ × A))) (command : A) (word : List ℕ) → HoldFrom m pieces → n ≡ m + length (held_by pieces) → HoldFrom m (with_kept pieces (n, command) word)
-row-more m n [] command word h next = (omega (arith, next), tt)
-row-more m n (FrameOf held w ∷ pieces) command word h next = (h.0, row-more (m + 1) n pieces command word h.1 (omega (arith, next)))
-row-more m n (Damage bytes ∷ pieces) command word h next = absurd h
-
-held-more : {A : Type 0} (m n : ℕ) (pieces : List (Piece (ℕ × A))) (command : A) (word : List ℕ) → HoldFrom m pieces → held_by (with_kept pieces (n, command) word) ≡ held_by pieces ++ command ∷ []
-held-more m n [] command word h = refl
-held-more m n (FrameOf held w ∷ pieces) command word h = ap (λ z. held.1 ∷ z) (held-more (m + 1) n pieces command word h.1)
-held-more m n (Damage bytes ∷ pieces) command word h = absurd h
 
 kept-front : {A : Type 0} (first second : List (Piece A)) → AreKept (first ++ second) → AreKept first
 kept-front [] second are = tt
@@ -163,11 +136,6 @@ module _ {S A : Type 0} (eq : A → A → Bool) (both_eq : ℕ × A → ℕ × A
       led-past passed others commands old new below.1 row e.1 (subst (λ z. Run (AppliesNext applies) z commands new) stays r)
   led-past (Damage bytes ∷ passed) others commands old new below row e r = absurd below
 
--- one run after another
-runs-on : {S A : Type 0} (applies : S → A → S → Type 0) (first second : List A) (old mid new : S) → Run applies old first mid → Run applies mid second new → Run applies old (first ++ second) new
-runs-on applies [] second old mid new r more = subst (λ z. Run applies z second new) r more
-runs-on applies (command ∷ first) second old mid new r more = (r.0, r.1, runs-on applies first second r.0 mid new r.2 more)
-
 are-on : {A : Type 0} (eq : A → A → Bool) (first second led more : List A) → AreOrEqual eq first led → AreOrEqual eq second more → AreOrEqual eq (first ++ second) (led ++ more)
 are-on eq [] second [] more are next = next
 are-on eq [] second (l ∷ led) more are next = absurd are
@@ -184,17 +152,9 @@ come-on eq applies first commands now new command come same (inr applied) =
     let sizes = length-append commands (command.1 ∷ []) in record {
       led = come.led ++ command.1 ∷ [];
       equal = are-on eq commands (command.1 ∷ []) come.led (command.1 ∷ []) come.equal (inl refl, tt);
-      run = runs-on applies come.led (command.1 ∷ []) first now.1 new.1 come.run (new.1, applied.2, refl);
+      run = runs-join applies come.led (command.1 ∷ []) first now.1 new.1 come.run (new.1, applied.2, refl);
       count = omega (arith, next, count, sizes);
     }
-
-both-true : (b c : Bool) → (b && c) ≡ true → (b ≡ true) × (c ≡ true)
-both-true true c h = (refl, h)
-both-true false c h = cc
-
--- equal pairs have equal parts
-pub equal-parts : {A : Type 0} (eq : A → A → Bool) (a b : ℕ × A) → ((a.0 == b.0) && eq a.1 b.1) ≡ true → (a.0 ≡ b.0) × (eq a.1 b.1 ≡ true)
-equal-parts eq a b h = let found = both-true (a.0 == b.0) (eq a.1 b.1) h in ((Decides-eqb a.0 b.0).0 found.0, found.1)
 
 module _ {A M S B : Type 0} (stands_for : A → M → Type 0) (V : Words A) (state : M → S) (eq : B → B → Bool) (applies : S → B → S → Type 0) (s : Setting) (limit : Option ℕ) (first : S) (commands : List B) where
   -- with another log of the same frames
@@ -242,7 +202,7 @@ module _ {A M S B : Type 0} (stands_for : A → M → Type 0) (V : Words A) (sta
         hold_from = row-more (length hold.earlier) number hold.others command word hold.hold_from (omega (arith, next, sizes, parts_are));
         of_log = subst (λ z. OfLog z other.log) (append_assoc hold.passed hold.others (FrameOf (number, command) word ∷ [])) of_log;
         commands_are = ap (λ z. z ++ command ∷ []) hold.commands_are
-            ∙ (append_assoc hold.earlier (held_by hold.others) (command ∷ []) ∙ ap (λ z. hold.earlier ++ z) (sym (held-more (length hold.earlier) number hold.others command word hold.hold_from)));
+            ∙ (append_assoc hold.earlier (held_by hold.others) (command ∷ []) ∙ ap (λ z. hold.earlier ++ z) (sym (held-more number hold.others command word)));
       }
 
   module _ (W : Words (ℕ × B)) (most : ℕ) (files : Files) (hold : FilesHold stands_for V state eq applies s limit (IsLogOf W s limit most) first commands files) (number : ℕ) (command : B) (next : number ≡ length commands) where
@@ -267,7 +227,7 @@ module _ {A M S B : Type 0} (stands_for : A → M → Type 0) (V : Words A) (sta
       let parts_are = length-append hold.earlier (held_by hold.others) in record {
         led = has_come.led ++ led.commands;
         equal = subst (λ z. AreOrEqual eq z (has_come.led ++ led.commands)) (sym hold.commands_are) (are-on eq hold.earlier (held_by hold.others) has_come.led led.commands has_come.equal led.equal);
-        run = runs-on applies has_come.led led.commands first (state hold.saved) new.1 has_come.run (subst (λ z. Run applies z led.commands new.1) is_state led.run);
+        run = runs-join applies has_come.led led.commands first (state hold.saved) new.1 has_come.run (subst (λ z. Run applies z led.commands new.1) is_state led.run);
         count = omega (arith, count, sizes, parts_are, is_number);
       }
 

@@ -4,12 +4,12 @@ use Rattle.bincode_base.specs.Setting.{Setting}
 use Rattle.bincode_spec.specs.Format.{Format}
 use Rattle.bincode_spec.specs.Meaning.{Meaning}
 use Rattle.bincode_types.specs.TypeWords.{Words}
-use Rattle.framed_store.specs.Pieces.{Piece, FrameOf, Damage}
+use Rattle.framed_store.specs.Pieces.{Piece}
 use Rattle.replay.specs.Replays.{Run, IsReplay}
 use Rattle.replay.specs.declared.replay.Replayed.{Replayed}
 use Rattle.snapshots.specs.declared.resuming.ResumeError.TheVariants.{Snapshot, Log}
 use Rattle.snapshots.specs.Numbers.{AppliesNext}
-use Rattle.snapshots.specs.Resuming.{HoldBelow, HoldFrom, IsResumeFault}
+use Rattle.snapshots.specs.Resuming.{HoldBelow, HoldFrom, IsResumeFault, held_by}
 use Rattle.snapshots.specs.Saved.{IsSavedAs, IsRestored, IsRestoreMemory}
 use Rattle.crash_device.specs.Files.{Files}
 use Rattle.crash_device.specs.Moments.{Only}
@@ -19,12 +19,6 @@ use Rattle.durable_log.specs.declared.machines.CompactError.{CompactError}
 use Rattle.durable_log.specs.declared.machines.CompactError.TheVariants as compacting
 use Rattle.durable_log.specs.Recovering.{IsOutside}
 use Rattle.durable_log.specs.Standing.{IsLogOf, StandsFor}
-
--- the commands of these frames, without their numbers
-abbrev pub held_by : {A : Type 0} → List (Piece (ℕ × A)) → List A
-held_by [] = []
-held_by (FrameOf command _ ∷ pieces) = command.1 ∷ held_by pieces
-held_by (Damage _ ∷ pieces) = held_by pieces
 
 -- each of the others is the command at its place, or equals it
 abbrev pub AreOrEqual : {A : Type 0} → (A → A → Bool) → List A → List A → Type 0

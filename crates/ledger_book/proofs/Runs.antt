@@ -7,7 +7,7 @@ use Rattle.accounts.specs.Accounts.{Balances, total_of, with_balance}
 use Rattle.accounts.specs.Changes.{Change, Open, Pay, LeadAll, Leads}
 use Rattle.framed_store.specs.PieceLaws.{appended-pieces}
 use Rattle.framed_store.specs.Pieces.{ArePieces, FrameOf, Damage, LacksRoom, Piece, bytes_of, bytes_of_all}
-use Rattle.ledger_book.specs.Books.{IsBook, IsSnapshotOf, Layout, commands_in, state_of}
+use Rattle.ledger_book.specs.Books.{IsBook, IsSnapshotOf, Layout}
 use Rattle.ledger_book.specs.Commands.{Applies, change_of, money_in}
 use Rattle.ledger_book.specs.Entries.{AddsCommand}
 use Rattle.ledger_book.specs.Openings.{HoldsMoney, IsStart}
@@ -17,7 +17,8 @@ use Rattle.ledger_book.specs.declared.machine.Book.{Book}
 use Rattle.replay.specs.Replays.{Run}
 use Rattle.replay.specs.RunLaws.{runs-join}
 use Rattle.snapshots.specs.Resumed.{Advances}
-use Rattle.snapshots.specs.Resuming.{EqualThose, HoldBelow, HoldFrom, Resumes, StandAfter}
+use Rattle.snapshots.specs.Resuming.{EqualThose, HoldFrom, Resumes, StandAfter, held_by}
+use Rattle.snapshots.specs.RowLaws.{below-join, below-more, held-more, row-below, row-more}
 use Rattle.snapshots.specs.Saved.{IsSavedAs}
 
 -- what commands lead to, their changes lead to
@@ -75,7 +76,7 @@ both-same : (a b : ℕ × Balances) → a.0 ≡ b.0 → a.1 ≡ b.1 → a ≡ b
 both-same a b x y = λ i. (x i, y i)
 
 module _ (eq : Command → Command → Bool) (same : (a b : Command) → eq a b ≡ true → change_of a ≡ change_of b) where
-  same-count : (number : ℕ) (pieces : List (Piece (ℕ × Command))) (commands : List Command) → HoldFrom number pieces → EqualThose eq pieces commands → length commands ≡ length (commands_in pieces)
+  same-count : (number : ℕ) (pieces : List (Piece (ℕ × Command))) (commands : List Command) → HoldFrom number pieces → EqualThose eq pieces commands → length commands ≡ length (held_by pieces)
   same-count number [] [] row equal = refl
   same-count number [] (command ∷ commands) row equal = absurd equal
   same-count number (FrameOf held word ∷ pieces) [] row equal = absurd equal
@@ -83,7 +84,7 @@ module _ (eq : Command → Command → Bool) (same : (a b : Command) → eq a b 
   same-count number (Damage bytes ∷ pieces) commands row equal = absurd row
 
   -- equal commands lead to one state
-  one-run : (number : ℕ) (pieces : List (Piece (ℕ × Command))) (commands : List Command) (old a b : Balances) → HoldFrom number pieces → EqualThose eq pieces commands → Run Applies old (commands_in pieces) a →
+  one-run : (number : ℕ) (pieces : List (Piece (ℕ × Command))) (commands : List Command) (old a b : Balances) → HoldFrom number pieces → EqualThose eq pieces commands → Run Applies old (held_by pieces) a →
       Run Applies old commands b → b ≡ a
   one-run number [] [] old a b row equal r q = q ∙ sym r
   one-run number [] (command ∷ commands) old a b row equal r q = absurd equal
@@ -95,7 +96,7 @@ module _ (eq : Command → Command → Bool) (same : (a b : Command) → eq a b 
 
   -- also after others
   one-after : (earlier : List Command) (number : ℕ) (pieces : List (Piece (ℕ × Command))) (commands : List Command) (old a b : Balances) → HoldFrom number pieces → EqualThose eq pieces commands →
-      Run Applies old (earlier ++ commands_in pieces) a → Run Applies old (earlier ++ commands) b → b ≡ a
+      Run Applies old (earlier ++ held_by pieces) a → Run Applies old (earlier ++ commands) b → b ≡ a
   one-after [] number pieces commands old a b row equal r q = one-run number pieces commands old a b row equal r q
   one-after (command ∷ earlier) number pieces commands old a b row equal r q =
       let mid = one-state old r.0 q.0 (change_of command) r.1 q.1 in
@@ -114,20 +115,9 @@ module _ (eq : Command → Command → Bool) (same : (a b : Command) → eq a b 
         let found = r.count in
         let held = book.count in
         let one = length-append book.earlier r.commands in
-        let two = length-append book.earlier (commands_in book.others) in
+        let two = length-append book.earlier (held_by book.others) in
         let count = same-count (length book.earlier) book.others r.commands book.are_next equal in
         both-same new state (omega (arith, found, held, one, two, count)) accounts
-
--- one more frame of commands in a row
-row-more : (number : ℕ) (pieces : List (Piece (ℕ × Command))) (v : ℕ × Command) (word : List ℕ) → HoldFrom number pieces → v.0 ≡ number + length (commands_in pieces) → HoldFrom number (pieces ++ FrameOf v word ∷ [])
-row-more number [] v word row is = (omega (arith, is), tt)
-row-more number (FrameOf held w ∷ pieces) v word row is = (row.0, row-more (number + 1) pieces v word row.1 (omega (arith, is)))
-row-more number (Damage bytes ∷ pieces) v word row is = absurd row
-
-commands-more : (pieces : List (Piece (ℕ × Command))) (v : ℕ × Command) (word : List ℕ) → commands_in (pieces ++ FrameOf v word ∷ []) ≡ commands_in pieces ++ v.1 ∷ []
-commands-more [] v word = refl
-commands-more (FrameOf held w ∷ pieces) v word = ap (λ z. held.1 ∷ z) (commands-more pieces v word)
-commands-more (Damage bytes ∷ pieces) v word = commands-more pieces v word
 
 module _ (layout : Layout) (snapshot : Option (List ℕ)) (log : List ℕ) (state : ℕ × Balances) (book : IsBook layout snapshot log state) where
   -- a command that is entered into a book makes a book
@@ -140,41 +130,29 @@ module _ (layout : Layout) (snapshot : Option (List ℕ)) (log : List ℕ) (stat
       let more = appended-pieces layout.commands layout.setting layout.limit layout.longest v n log new pieces book.are_fitting book.bytes added in
       let frame = FrameOf v more.0 ∷ [] in
       let assoc = append_assoc book.passed book.others frame in
-      let held = commands-more book.others v more.0 in
+      let held = held-more state.0 book.others command more.0 in
       let count = book.count in
-      let length_held = length-append book.earlier (commands_in book.others) in
-      let all : (book.earlier ++ commands_in book.others) ++ command ∷ [] ≡ book.earlier ++ commands_in (book.others ++ frame) =
-      append_assoc book.earlier (commands_in book.others) (command ∷ []) ∙ ap (λ z. book.earlier ++ z) (sym held) in
+      let length_held = length-append book.earlier (held_by book.others) in
+      let all : (book.earlier ++ held_by book.others) ++ command ∷ [] ≡ book.earlier ++ held_by (book.others ++ frame) =
+      append_assoc book.earlier (held_by book.others) (command ∷ []) ∙ ap (λ z. book.earlier ++ z) (sym held) in
       let lengths = ap length all in
-      let length_all = length-append (book.earlier ++ commands_in book.others) (command ∷ []) in record {
+      let length_all = length-append (book.earlier ++ held_by book.others) (command ∷ []) in record {
         earlier = book.earlier;
         is_snapshot = book.is_snapshot;
         passed = book.passed;
         others = book.others ++ frame;
         are_below = book.are_below;
-        are_next = row-more (length book.earlier) book.others v more.0 book.are_next (omega (arith, count, length_held));
+        are_next = row-more (length book.earlier) state.0 book.others command more.0 book.are_next (omega (arith, count, length_held));
         are_fitting = subst (ArePieces layout.commands layout.setting layout.limit layout.longest) assoc more.1;
         bytes = more.2 ∙ ap bytes_of_all assoc;
-        run = subst (λ (z : List Command). Run Applies [] z next.1) all (runs-join Applies (book.earlier ++ commands_in book.others) (command ∷ []) [] state.1 next.1 book.run (next.1, applies, refl));
+        run = subst (λ (z : List Command). Run Applies [] z next.1) all (runs-join Applies (book.earlier ++ held_by book.others) (command ∷ []) [] state.1 next.1 book.run (next.1, applies, refl));
         count = omega (arith, is, count, lengths, length_all);
       }
-
--- all of them have numbers below that of the next one
-below-all : (number : ℕ) (pieces : List (Piece (ℕ × Command))) → HoldFrom number pieces → HoldBelow (number + length (commands_in pieces)) pieces
-below-all number [] row = tt
-below-all number (FrameOf held word ∷ pieces) row =
-    let is = row.0 in (omega (arith, is), subst (λ z. HoldBelow z pieces) (omega arith) (below-all (number + 1) pieces row.1))
-below-all number (Damage bytes ∷ pieces) row = absurd row
-
-below-both : (number more : ℕ) (passed others : List (Piece (ℕ × Command))) → HoldBelow number passed → HoldBelow (number + more) others → HoldBelow (number + more) (passed ++ others)
-below-both number more [] others below rest = rest
-below-both number more (FrameOf held word ∷ passed) others below rest = let is = below.0 in (omega (arith, is), below-both number more passed others below.1 rest)
-below-both number more (Damage bytes ∷ passed) others below rest = absurd below
 
 module _ (layout : Layout) (snapshot : Option (List ℕ)) (log : List ℕ) (number : ℕ) (saved : Book) (bytes : List ℕ) (book : IsBook layout snapshot log (number, saved.accounts)) (small : number < 2 ^ 64)
     (is : IsSavedAs StandsFor layout.saved layout.saved_setting layout.saved_limit number saved bytes) where
   abbrev all_commands : List Command
-  all_commands = book.earlier ++ commands_in book.others
+  all_commands = book.earlier ++ held_by book.others
 
   is_snapshot_of_all : IsSnapshotOf layout (Some bytes) all_commands
   is_snapshot_of_all = (
@@ -194,14 +172,14 @@ module _ (layout : Layout) (snapshot : Option (List ℕ)) (log : List ℕ) (numb
   pub with-log : IsBook layout (Some bytes) log (number, saved.accounts)
   with-log =
       let pieces = book.passed ++ book.others in
-      let length_all = length-append book.earlier (commands_in book.others) in record {
+      let length_all = length-append book.earlier (held_by book.others) in record {
         earlier = all_commands;
         is_snapshot = is_snapshot_of_all;
         passed = pieces;
         others = [];
         are_below =
-            subst (λ n. HoldBelow n pieces) (sym length_all)
-            (below-both (length book.earlier) (length (commands_in book.others)) book.passed book.others book.are_below (below-all (length book.earlier) book.others book.are_next));
+            below-join (length all_commands) book.passed book.others (below-more (length book.earlier) (length all_commands) book.passed (omega (arith, length_all)) book.are_below)
+            (row-below (length book.earlier) (length all_commands) book.others (omega (arith, length_all)) book.are_next);
         are_next = tt;
         are_fitting = subst (ArePieces layout.commands layout.setting layout.limit layout.longest) (sym (append-nil pieces)) book.are_fitting;
         bytes = book.bytes ∙ ap bytes_of_all (sym (append-nil pieces));

@@ -1,18 +1,18 @@
 -- Books: logs of commands that were entered one after another, and snapshots.
-use Rattle.std.specs.Prelude.{◌≡◌, ◌<◌, ◌^◌, ◌++◌, ℕ, List, [], ◌∷◌, length, Option}
+use Rattle.std.specs.Prelude.{◌≡◌, ◌<◌, ◌^◌, ◌++◌, ℕ, List, [], length, Option}
 use Rattle.std.specs.Borrow.{Bor}
 use Rattle.std.specs.declared.option.Option.TheVariants.{None, Some}
 use Rattle.accounts.specs.Accounts.{Balances}
 use Rattle.bincode_base.specs.Setting.{Setting}
 use Rattle.bincode_types.specs.TypeWords.{Words}
-use Rattle.framed_store.specs.Pieces.{ArePieces, FrameOf, Damage, Piece, bytes_of_all}
+use Rattle.framed_store.specs.Pieces.{ArePieces, Piece, bytes_of_all}
 use Rattle.ledger_book.specs.Commands.{Applies}
 use Rattle.ledger_book.specs.Saved.{StandsFor}
 use Rattle.ledger_book.specs.declared.command.Command.{Command}
 use Rattle.ledger_book.specs.declared.machine.Book.{Book}
 use Rattle.ledger_book.specs.declared.saved.Saved.{Saved}
 use Rattle.replay.specs.Replays.{Run}
-use Rattle.snapshots.specs.Resuming.{HoldBelow, HoldFrom}
+use Rattle.snapshots.specs.Resuming.{HoldBelow, HoldFrom, held_by}
 use Rattle.snapshots.specs.Saved.{IsSavedAs}
 use Rattle.snapshots.specs.declared.numbered.Numbered.{Numbered}
 
@@ -41,12 +41,6 @@ IsSnapshotOf layout None earlier = earlier ≡ []
 IsSnapshotOf layout (Some bytes) earlier =
     (book : Book) × Run Applies [] earlier book.accounts × (length earlier < 2 ^ 64) × IsSavedAs StandsFor layout.saved layout.saved_setting layout.saved_limit (length earlier) book bytes
 
--- the commands of frames
-abbrev pub commands_in : List (Piece (ℕ × Command)) → List Command
-commands_in [] = []
-commands_in (FrameOf command _ ∷ pieces) = command.1 ∷ commands_in pieces
-commands_in (Damage _ ∷ pieces) = commands_in pieces
-
 -- The log is the frames of commands: some that the snapshot has, and others in a row from its number on. All commands,
 -- those of the snapshot and these others, lead from no accounts to the state.
 pub record IsBook (layout : Layout) (snapshot : Option (List ℕ)) (log : List ℕ) (state : ℕ × Balances) : Type 0 where
@@ -58,5 +52,5 @@ pub record IsBook (layout : Layout) (snapshot : Option (List ℕ)) (log : List �
   pub are_next : HoldFrom (length earlier) others
   pub are_fitting : ArePieces layout.commands layout.setting layout.limit layout.longest (passed ++ others)
   pub bytes : log ≡ bytes_of_all (passed ++ others)
-  pub run : Run Applies [] (earlier ++ commands_in others) state.1
-  pub count : state.0 ≡ length (earlier ++ commands_in others)
+  pub run : Run Applies [] (earlier ++ held_by others) state.1
+  pub count : state.0 ≡ length (earlier ++ held_by others)

@@ -4,7 +4,7 @@ use Rattle.std.proofs.Common.{◌∙◌, Global, sym}
 use Rattle.std.proofs.lemmas.Bool.Decides.{Decides-eqb}
 use Rattle.std.proofs.lemmas.Slice.Eq.{bytes_eq-Decides}
 use Rattle.std.specs.Cmp.Lexicographic.{pointwise}
-use Rattle.accounts.specs.Accounts.{AreSound, Balances, balances_of}
+use Rattle.accounts.specs.Accounts.{AreSound, balances_of}
 use Rattle.ledger_book.specs.contracts.saved.SavedPartialEq.TheImpl.{ghosts}
 use Rattle.ledger_book.specs.declared.machine.Book.{Book}
 use Rattle.ledger_book.specs.declared.saved.Saved.{Saved}

@@ -50,7 +50,13 @@ pub fn print_log<R: Read, W: Write>(
     let mut offset = 0;
     for commands in 0..u64::MAX {
         match next_command(alloc, log, &mut buffer, offset) {
-            Ok(Found::Command { number, command, next }) => {
+            Ok(
+                Found::Command {
+                    number,
+                    command,
+                    next,
+                },
+            ) => {
                 print_command(out, number, offset, &command)?;
                 offset = next;
             }

@@ -26,10 +26,7 @@ use std::alloc::Global;
 use std::io::Read;
 
 /// The accounts of a snapshot, or none where there is no snapshot. Fails as `restore_machine` does.
-pub fn start_book(
-    alloc: Global,
-    snapshot: Option<&[u8]>,
-) -> Result<Numbered<Book>, RestoreError>
+pub fn start_book(alloc: Global, snapshot: Option<&[u8]>) -> Result<Numbered<Book>, RestoreError>
     ensures start { IfOk result (λ book.
         IsStart ⟦<Book as Filed>⟧.layout (bytes_in snapshot.entry) (state_of book)) }
     ensures fault { IfErr result (IsStartFault ⟦<Book as Filed>⟧.layout (bytes_in snapshot.entry)) }

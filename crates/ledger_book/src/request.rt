@@ -141,8 +141,9 @@ fn check_line<'a>(alloc: Global) -> CommandLine<'a> {
 
 /// The command `compact`.
 fn compact_line<'a>(alloc: Global) -> CommandLine<'a> {
-    CommandLine::new(alloc, "compact")
-        .about("Keeps the accounts in a snapshot beside the book, and empties the book")
+    CommandLine::new(alloc, "compact").about(
+        "Keeps the accounts in a snapshot beside the book, and empties the book",
+    )
 }
 
 /// The command `repair`.

@@ -1,9 +1,8 @@
 //! The file that the snapshot of a book stands in: `BOOK.snapshot`, beside the book.
 
-use std::fs;
 use std::fs::File;
-use std::io;
 use std::io::ErrorKind;
+use std::{fs, io};
 use stock_files::files::{FileError, bytes_from, open_to_read, refuse_replaced};
 
 /// The snapshot of a book, as it was read.

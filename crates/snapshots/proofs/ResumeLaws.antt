@@ -1,8 +1,7 @@
 -- What the commands of a log come to that were appended after a snapshot was taken, or before.
-use Rattle.std.specs.Prelude.{◌≡◌, ◌+◌, ◌-◌, ◌<◌, ◌++◌, ◌⊎◌, ◌&&◌, ◌==◌, ℕ, List, [], ◌∷◌, length, Bool, true, false, refl}
-use Rattle.std.proofs.Common.{◌∙◌, ap, sym, subst, arith, inl, inr, length-append}
-use Rattle.std.proofs.lemmas.Bool.Decides.{Decides-eqb}
-use Rattle.framed_store.specs.Pieces.{Piece, FrameOf, Damage, bytes_of_all, LacksRoom}
+use Rattle.std.specs.Prelude.{◌≡◌, ◌+◌, ◌++◌, ℕ, List, [], ◌∷◌, length, Bool, true, refl}
+use Rattle.std.proofs.Common.{ap, sym, subst, arith, inl, inr, length-append}
+use Rattle.framed_store.specs.Pieces.{Piece, FrameOf, Damage}
 use Rattle.replay.specs.Recovered.{EqualTo, Recovers}
 use Rattle.replay.specs.Replays.{Run}
 use Rattle.replay.specs.RunLaws.{runs-join}
@@ -112,11 +111,3 @@ module _ {S A : Type 0} (eq : A → A → Bool) (both_eq : ℕ × A → ℕ × A
         run = runs-join applies earlier applied.commands first old.1 new.1 led applied.run;
         count = omega (arith, next, both, is_number);
       }
-
-both-true : (b c : Bool) → (b && c) ≡ true → (b ≡ true) × (c ≡ true)
-both-true true c h = (refl, h)
-both-true false c h = cc
-
--- pairs of a number and a command that are equal have one number, and equal commands
-pub equal-parts : {A : Type 0} (eq : A → A → Bool) (a b : ℕ × A) → ((a.0 == b.0) && eq a.1 b.1) ≡ true → (a.0 ≡ b.0) × (eq a.1 b.1 ≡ true)
-equal-parts eq a b h = let parts = both-true (a.0 == b.0) (eq a.1 b.1) h in ((Decides-eqb a.0 b.0).0 parts.0, parts.1)

@@ -23,6 +23,12 @@ HoldFrom number [] = Unit {0}
 HoldFrom number (FrameOf command _ ∷ pieces) = (command.0 ≡ number) × HoldFrom (number + 1) pieces
 HoldFrom number (Damage _ ∷ pieces) = ⊥
 
+-- the commands of these frames, without their numbers
+abbrev pub held_by : {A : Type 0} → List (Piece (ℕ × A)) → List A
+held_by [] = []
+held_by (FrameOf command _ ∷ pieces) = command.1 ∷ held_by pieces
+held_by (Damage _ ∷ pieces) = held_by pieces
+
 -- the commands equal those of the frames, in order
 abbrev pub EqualThose : {A : Type 0} → (A → A → Bool) → List (Piece (ℕ × A)) → List A → Type 0
 EqualThose eq [] [] = Unit {0}

@@ -1,5 +1,5 @@
 -- Machines in the bytes of snapshots.
-use Rattle.std.specs.Prelude.{◌≡◌, ℕ, List, Option}
+use Rattle.std.specs.Prelude.{ℕ, List, Option}
 use Rattle.bincode_base.specs.Setting.{Setting}
 use Rattle.bincode_spec.specs.Format.{Format}
 use Rattle.bincode_spec.specs.Meaning.{Meaning}

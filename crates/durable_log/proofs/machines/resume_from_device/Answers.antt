@@ -4,7 +4,8 @@ use Rattle.crash_device.specs.Files.{Files}
 use Rattle.crash_device.specs.Moments.{Only}
 use Rattle.crash_device.specs.MomentLaws.{begins, continues}
 use Rattle.durable_log.specs.Recovering.{ComesFromOutside}
-use Rattle.durable_log.proofs.MachineLaws.{equal-parts, has-come, same-files, stands-in, with-log}
+use Rattle.snapshots.specs.RowLaws.{equal-parts}
+use Rattle.durable_log.proofs.MachineLaws.{has-come, same-files, stands-in, with-log}
 use Rattle.durable_log.proofs.machines.resume_from_device.Goals as goal
 
 pub returns-in-Ok-recover-clause-comes_back : goal.returns-in-Ok-recover-clause-comes_back

@@ -4,7 +4,8 @@ use Rattle.std.proofs.lemmas.Result.{IfOk-weaker, MatchResult-weaker}
 use Rattle.bincode_io.specs.Stream.{known_bytes}
 use Rattle.snapshots.specs.Resuming.{HoldBelow, HoldFrom}
 use Rattle.snapshots.proofs.NumberLaws.{advances-run, replay-continues}
-use Rattle.snapshots.proofs.ResumeLaws.{equal-parts, resumed}
+use Rattle.snapshots.specs.RowLaws.{equal-parts}
+use Rattle.snapshots.proofs.ResumeLaws.{resumed}
 use Rattle.snapshots.proofs.resume.replay_from.Goals as goal
 
 pub returns-clause-advances : goal.returns-clause-advances
@@ -24,6 +25,6 @@ returns-clause-resumes g c = λ tells bytes first earlier led is_number passed o
     let new = c.replay.new.machine in
     IfOk-weaker c.replay.result _ _
     (λ replayed h. resumed g.M.Command.PartialEq.eq _ (equal-parts g.M.Command.PartialEq.eq) g.M.Machine.applies first earlier (old.next, g.M.Machine.state old.machine) (new.next, g.M.Machine.state new.machine)
-     led is_number passed others (length (known_bytes (g.R.Read.remaining c.args.log.now))) replayed
-     (subst (λ z. HoldBelow z passed) (sym is_number) below) (subst (λ z. HoldFrom z others) (sym is_number) row) h)
+    led is_number passed others (length (known_bytes (g.R.Read.remaining c.args.log.now))) replayed
+    (subst (λ z. HoldBelow z passed) (sym is_number) below) (subst (λ z. HoldFrom z others) (sym is_number) row) h)
     (c.replay.ensures.recovers tells bytes (passed ++ others) lost are bytes_are)
