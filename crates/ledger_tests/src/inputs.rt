@@ -65,14 +65,10 @@ pub const UNPAYABLE: [u8; 34] = [
 ];
 
 /// An opening, and a byte after it in its frame.
-pub const LONGER: [u8; 16] = [
-    8, 0, 0, 0, 0, 0, 3, 97, 110, 110, 1, 7, 216, 108, 125, 195,
-];
+pub const LONGER: [u8; 16] = [8, 0, 0, 0, 0, 0, 3, 97, 110, 110, 1, 7, 216, 108, 125, 195];
 
 /// A frame of a command of a third kind.
-pub const NO_COMMAND: [u8; 15] = [
-    7, 0, 0, 0, 0, 2, 3, 97, 110, 110, 1, 223, 156, 36, 59,
-];
+pub const NO_COMMAND: [u8; 15] = [7, 0, 0, 0, 0, 2, 3, 97, 110, 110, 1, 223, 156, 36, 59];
 
 /// An opening whose length was changed to 200, and a whole opening of bob.
 pub const BURIED: [u8; 30] = [

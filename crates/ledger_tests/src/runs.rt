@@ -26,6 +26,16 @@ pub fn ends(rt: &HostRuntime, path: &str, others: &str, status: u8) -> bool {
     }
 }
 
+/// Whether the program ends with the status of each of these lines, in turn.
+pub fn all_end(rt: &HostRuntime, path: &str, lines: &[(&str, u8)]) -> bool {
+    for (others, status) in lines {
+        if !ends(rt, path, others, *status) {
+            return false;
+        }
+    }
+    true
+}
+
 /// Whether a file holds these bytes.
 pub fn holds(rt: &HostRuntime, path: &str, bytes: &[u8]) -> bool {
     match fs::read(rt, path) {
@@ -34,27 +44,35 @@ pub fn holds(rt: &HostRuntime, path: &str, bytes: &[u8]) -> bool {
     }
 }
 
+/// Lines that make the book of three commands, and some that are refused.
+const ENTERING: [(&str, u8); 8] = [
+    ("pay ann bob 30", FAILED),
+    ("open ann 100", DONE),
+    ("open ann 1", REFUSED),
+    ("pay ann bob 30", REFUSED),
+    ("open bob", DONE),
+    ("pay ann bob 101", REFUSED),
+    ("pay ann bob 30", DONE),
+    ("pay ann bob much", USAGE),
+];
+
+/// Lines that leave a book as it is.
+const SHOWING: [(&str, u8); 6] = [
+    ("balance", DONE),
+    ("balance ann", DONE),
+    ("balance cy", REFUSED),
+    ("log", DONE),
+    ("check", DONE),
+    ("repair", DONE),
+];
+
 /// The book of three commands, made by them. What is refused leaves it as it is.
 #[test]
 fn enters_commands(rt: HostRuntime) -> anyhow::Result<()> {
     let file = path_of(&rt, "entered")?;
     let path = file.as_str();
-    let is_entered = ends(&rt, path, "pay ann bob 30", FAILED)
-        && ends(&rt, path, "open ann 100", DONE)
-        && ends(&rt, path, "open ann 1", REFUSED)
-        && ends(&rt, path, "pay ann bob 30", REFUSED)
-        && ends(&rt, path, "open bob", DONE)
-        && ends(&rt, path, "pay ann bob 101", REFUSED)
-        && ends(&rt, path, "pay ann bob 30", DONE)
-        && ends(&rt, path, "pay ann bob much", USAGE)
-        && holds(&rt, path, &SMALL);
-    let is_shown = ends(&rt, path, "balance", DONE)
-        && ends(&rt, path, "balance ann", DONE)
-        && ends(&rt, path, "balance cy", REFUSED)
-        && ends(&rt, path, "log", DONE)
-        && ends(&rt, path, "check", DONE)
-        && ends(&rt, path, "repair", DONE)
-        && holds(&rt, path, &SMALL);
+    let is_entered = all_end(&rt, path, &ENTERING) && holds(&rt, path, &SMALL);
+    let is_shown = all_end(&rt, path, &SHOWING) && holds(&rt, path, &SMALL);
     assert!(rt; fs::remove_file(&rt, path).is_ok() && is_entered && is_shown);
     assert!(rt; ends(&rt, path, "check", FAILED) && ends(&rt, path, "repair", FAILED));
     Ok(())
@@ -96,32 +114,22 @@ fn tells_the_place(rt: HostRuntime) -> anyhow::Result<()> {
     Ok(())
 }
 
+/// Opens an account whose name is a letter so often.
+fn open_long(rt: &HostRuntime, path: &str, letter: &str, count: usize) -> Result<Entry, BookError> {
+    let Ok(name) = letter.repeat(rt.alloc(), count) else {
+        return Err(BookError::NoAccount);
+    };
+    let amount = u64::MAX;
+    enter_into(rt, path, Command::Open { name, amount })
+}
+
 /// A name of 65508 bytes is the longest: the next one is not entered, and leaves the book as it is.
 #[test]
 fn takes_long_names(rt: HostRuntime) -> anyhow::Result<()> {
-    let alloc = rt.alloc();
     let file = path_of(&rt, "long")?;
     let path = file.as_str();
-    let longest = "n".repeat(alloc, 65508)?;
-    let longer = "m".repeat(alloc, 65509)?;
-    let amount = u64::MAX;
-    let entered = enter_into(
-        &rt,
-        path,
-        Command::Open {
-            name: longest,
-            amount,
-        },
-    );
-    let amount = 0;
-    let refused = enter_into(
-        &rt,
-        path,
-        Command::Open {
-            name: longer,
-            amount,
-        },
-    );
+    let refused = open_long(&rt, path, "m", 65509);
+    let entered = open_long(&rt, path, "n", 65508);
     let is_whole = ends(&rt, path, "check", DONE);
     assert!(rt; fs::remove_file(&rt, path).is_ok() && is_whole);
     assert!(rt;
@@ -137,6 +145,16 @@ fn takes_long_names(rt: HostRuntime) -> anyhow::Result<()> {
     Ok(())
 }
 
+/// What a torn book is told as.
+const TORN: [(&str, u8); 6] = [
+    ("open cy", DAMAGED),
+    ("balance", DAMAGED),
+    ("balance ann", DAMAGED),
+    ("balance cy", DAMAGED),
+    ("log", DAMAGED),
+    ("check", DAMAGED),
+];
+
 /// Nothing is entered into a torn book, and it is told as one until it is repaired.
 #[test]
 fn leaves_a_torn_book(rt: HostRuntime) -> anyhow::Result<()> {
@@ -144,12 +162,7 @@ fn leaves_a_torn_book(rt: HostRuntime) -> anyhow::Result<()> {
     let path = file.as_str();
     let torn = &SMALL[..48];
     let is_left = fs::write(&rt, path, torn).is_ok()
-        && ends(&rt, path, "open cy", DAMAGED)
-        && ends(&rt, path, "balance", DAMAGED)
-        && ends(&rt, path, "balance ann", DAMAGED)
-        && ends(&rt, path, "balance cy", DAMAGED)
-        && ends(&rt, path, "log", DAMAGED)
-        && ends(&rt, path, "check", DAMAGED)
+        && all_end(&rt, path, &TORN)
         && holds(&rt, path, torn);
     let is_repaired = ends(&rt, path, "repair", DONE)
         && holds(&rt, path, &SMALL[..30])
@@ -159,14 +172,18 @@ fn leaves_a_torn_book(rt: HostRuntime) -> anyhow::Result<()> {
     Ok(())
 }
 
+/// What a damaged book is told as.
+pub const SPOILT: [(&str, u8); 5] = [
+    ("open eve", DAMAGED),
+    ("balance", DAMAGED),
+    ("check", DAMAGED),
+    ("compact", DAMAGED),
+    ("repair", DAMAGED),
+];
+
 /// Whether a book of these bytes is told as damaged by each command, and left as it is.
 fn is_damaged(rt: &HostRuntime, path: &str, bytes: &[u8]) -> bool {
-    fs::write(rt, path, bytes).is_ok()
-        && ends(rt, path, "open eve", DAMAGED)
-        && ends(rt, path, "balance", DAMAGED)
-        && ends(rt, path, "check", DAMAGED)
-        && ends(rt, path, "repair", DAMAGED)
-        && holds(rt, path, bytes)
+    fs::write(rt, path, bytes).is_ok() && all_end(rt, path, &SPOILT) && holds(rt, path, bytes)
 }
 
 /// A whole frame after a changed length is not lost by a repair.

@@ -1,7 +1,7 @@
 //! Books with snapshots: restored, saved, and compacted by the program.
 
 use crate::inputs::{FIFTH, FOURTH, SMALL, SNAPSHOT, TOO_MUCH, UNKNOWN, UNNAMED};
-use crate::runs::{ends, holds, path_of};
+use crate::runs::{SPOILT, all_end, ends, holds, path_of};
 use ledger_book::compacting::snapshot_of;
 use ledger_book::machine::Refusal;
 use ledger_book::opening::{open_book, start_book};
@@ -11,7 +11,7 @@ use snapshots::numbered::NumberedRefusal;
 use snapshots::resuming::ResumeError;
 use snapshots::saving::RestoreError;
 use snapshots::snapshot::LoadError;
-use std::alloc::Global;
+use std::alloc::{AllocError, Global};
 use std::fs;
 use std::path::PathBuf;
 use std::test::Fail;
@@ -43,8 +43,7 @@ fn goes_on(alloc: Global, mut log: &[u8], commands: u64, money: u64) -> bool {
 #[test]
 fn passes_over_what_the_snapshot_has(rt: HostRuntime) -> Result<(), Fail> {
     let alloc = rt.alloc();
-    let mut both = SMALL.to_vec(alloc)?;
-    both.extend_from_slice(&FOURTH)?;
+    let both = both_logs(alloc)?;
     assert!(rt; goes_on(alloc, &[], 3, 100) && goes_on(alloc, &SMALL, 3, 100));
     assert!(rt; goes_on(alloc, &SMALL[..30], 3, 100) && goes_on(alloc, &SMALL[..40], 3, 100));
     assert!(rt; goes_on(alloc, &FOURTH, 4, 70100) && goes_on(alloc, &both, 4, 70100));
@@ -86,7 +85,12 @@ fn tells_what_is_wrong(rt: HostRuntime) {
     let unnamed = stop_of(alloc, &UNNAMED, &[]);
     assert!(rt; matches!(&unnamed, Some(ResumeError::Snapshot(RestoreError::NoState))));
     let too_much = stop_of(alloc, &TOO_MUCH, &[]);
-    assert!(rt; matches!(&too_much, Some(ResumeError::Snapshot(RestoreError::NoState))));
+    assert!(rt;
+        matches!(
+            &too_much,
+            Some(ResumeError::Snapshot(RestoreError::NoState))
+        )
+    );
 }
 
 /// The path of the snapshot of a book.
@@ -95,57 +99,87 @@ fn beside(rt: &HostRuntime, book: &PathBuf) -> anyhow::Result<String> {
     Ok(format!(in rt.alloc(); "{book}.snapshot")?)
 }
 
+/// Whether a book and its snapshot hold these bytes.
+fn hold(rt: &HostRuntime, path: &str, other: &str, log: &[u8], snapshot: &[u8]) -> bool {
+    holds(rt, path, log) && holds(rt, other, snapshot)
+}
+
+/// Removes a book and its snapshot, and says whether both were there.
+fn removes(rt: &HostRuntime, path: &str, other: &str) -> bool {
+    fs::remove_file(rt, path).is_ok() && fs::remove_file(rt, other).is_ok()
+}
+
+/// Lines for a book with a snapshot, after which it has one command more.
+const MORE: [(&str, u8); 7] = [
+    ("open ann", REFUSED),
+    ("pay bob ann 31", REFUSED),
+    ("open cy 70000", DONE),
+    ("check", DONE),
+    ("balance ann", DONE),
+    ("log", DONE),
+    ("repair", DONE),
+];
+
 /// A book is compacted, goes on, and is compacted again.
 #[test]
 fn compacts(rt: HostRuntime) -> anyhow::Result<()> {
     let file = path_of(&rt, "compacted")?;
     let path = file.as_str();
     let other = beside(&rt, &file)?;
+    let other = other.as_str();
     let is_compacted = fs::write(&rt, path, &SMALL).is_ok()
         && ends(&rt, path, "compact", DONE)
-        && holds(&rt, path, &[])
-        && holds(&rt, other.as_str(), &SNAPSHOT);
-    let goes_on = ends(&rt, path, "open ann", REFUSED)
-        && ends(&rt, path, "pay bob ann 31", REFUSED)
-        && ends(&rt, path, "open cy 70000", DONE)
-        && holds(&rt, path, &FOURTH)
-        && ends(&rt, path, "check", DONE)
-        && ends(&rt, path, "balance ann", DONE)
-        && ends(&rt, path, "log", DONE)
-        && ends(&rt, path, "repair", DONE);
+        && hold(&rt, path, other, &[], &SNAPSHOT);
+    let goes_on = all_end(&rt, path, &MORE) && hold(&rt, path, other, &FOURTH, &SNAPSHOT);
     let is_compacted_again = ends(&rt, path, "compact", DONE)
         && holds(&rt, path, &[])
-        && ends(&rt, path, "balance cy", DONE)
         && ends(&rt, path, "pay cy bob 70000", DONE);
-    assert!(rt; fs::remove_file(&rt, path).is_ok() && fs::remove_file(&rt, other.as_str()).is_ok());
+    assert!(rt; removes(&rt, path, other));
     assert!(rt; is_compacted && goes_on && is_compacted_again);
     Ok(())
 }
 
-/// A log that a snapshot has already, as a stop before the cut leaves it, is passed over; nothing is lost of a torn one.
+/// The log of the first three commands and then the fourth.
+fn both_logs(alloc: Global) -> Result<Vec<u8>, AllocError> {
+    let mut both = SMALL.to_vec(alloc)?;
+    both.extend_from_slice(&FOURTH)?;
+    Ok(both)
+}
+
+/// A log that a snapshot has already, as a stop before the cut leaves it, is passed over.
 #[test]
 fn goes_on_after_a_stop(rt: HostRuntime) -> anyhow::Result<()> {
     let file = path_of(&rt, "stopped")?;
     let path = file.as_str();
     let other = beside(&rt, &file)?;
-    let mut both = SMALL.to_vec(rt.alloc())?;
-    both.extend_from_slice(&FOURTH)?;
+    let other = other.as_str();
+    let both = both_logs(rt.alloc())?;
     let goes_on = fs::write(&rt, path, &SMALL).is_ok()
-        && fs::write(&rt, other.as_str(), &SNAPSHOT).is_ok()
-        && ends(&rt, path, "check", DONE)
-        && ends(&rt, path, "open cy 70000", DONE)
-        && holds(&rt, path, both.as_slice());
-    let torn = &both[..60];
-    let is_left = fs::write(&rt, path, torn).is_ok()
+        && fs::write(&rt, other, &SNAPSHOT).is_ok()
+        && all_end(&rt, path, &[("check", DONE), ("open cy 70000", DONE)])
+        && hold(&rt, path, other, both.as_slice(), &SNAPSHOT);
+    assert!(rt; removes(&rt, path, other) && goes_on);
+    Ok(())
+}
+
+/// Of a torn log nothing is lost by a snapshot: it is repaired first.
+#[test]
+fn leaves_a_torn_log(rt: HostRuntime) -> anyhow::Result<()> {
+    let file = path_of(&rt, "cut")?;
+    let path = file.as_str();
+    let other = beside(&rt, &file)?;
+    let other = other.as_str();
+    let mut torn = both_logs(rt.alloc())?;
+    torn.truncate(60);
+    let is_left = fs::write(&rt, path, torn.as_slice()).is_ok()
+        && fs::write(&rt, other, &SNAPSHOT).is_ok()
         && ends(&rt, path, "compact", DAMAGED)
-        && holds(&rt, path, torn)
-        && holds(&rt, other.as_str(), &SNAPSHOT)
-        && ends(&rt, path, "repair", DONE)
+        && hold(&rt, path, other, torn.as_slice(), &SNAPSHOT);
+    let is_repaired = ends(&rt, path, "repair", DONE)
         && holds(&rt, path, &SMALL)
         && ends(&rt, path, "compact", DONE)
-        && holds(&rt, path, &[]);
-    assert!(rt; fs::remove_file(&rt, path).is_ok() && fs::remove_file(&rt, other.as_str()).is_ok());
-    assert!(rt; goes_on && is_left);
+        && hold(&rt, path, other, &[], &SNAPSHOT);
+    assert!(rt; removes(&rt, path, other) && is_left && is_repaired);
     Ok(())
 }
 
@@ -153,13 +187,8 @@ fn goes_on_after_a_stop(rt: HostRuntime) -> anyhow::Result<()> {
 fn is_damaged(rt: &HostRuntime, path: &str, other: &str, snapshot: &[u8], log: &[u8]) -> bool {
     fs::write(rt, path, log).is_ok()
         && fs::write(rt, other, snapshot).is_ok()
-        && ends(rt, path, "open eve", DAMAGED)
-        && ends(rt, path, "balance", DAMAGED)
-        && ends(rt, path, "check", DAMAGED)
-        && ends(rt, path, "compact", DAMAGED)
-        && ends(rt, path, "repair", DAMAGED)
-        && holds(rt, path, log)
-        && holds(rt, other, snapshot)
+        && all_end(rt, path, &SPOILT)
+        && hold(rt, path, other, log, snapshot)
 }
 
 #[test]
@@ -182,20 +211,28 @@ fn leaves_a_damaged_snapshot(rt: HostRuntime) -> anyhow::Result<()> {
     Ok(())
 }
 
-/// Where there is no book nothing is made; and a folder is no snapshot.
+/// Where there is no book nothing is made.
 #[test]
-fn fails_without_a_file(rt: HostRuntime) -> anyhow::Result<()> {
+fn makes_no_book(rt: HostRuntime) -> anyhow::Result<()> {
     let file = path_of(&rt, "absent")?;
+    let other = beside(&rt, &file)?;
+    assert!(rt; ends(&rt, file.as_str(), "compact", FAILED));
+    assert!(rt; fs::metadata(&rt, other.as_str()).is_err());
+    Ok(())
+}
+
+/// A folder is no snapshot.
+#[test]
+fn takes_no_folder(rt: HostRuntime) -> anyhow::Result<()> {
+    let file = path_of(&rt, "folder")?;
     let path = file.as_str();
     let other = beside(&rt, &file)?;
-    let is_refused = ends(&rt, path, "compact", FAILED);
-    assert!(rt; is_refused && fs::metadata(&rt, other.as_str()).is_err());
+    let other = other.as_str();
     let is_left = fs::write(&rt, path, &SMALL).is_ok()
-        && fs::create_dir(&rt, other.as_str()).is_ok()
-        && ends(&rt, path, "check", FAILED)
-        && ends(&rt, path, "compact", FAILED)
+        && fs::create_dir(&rt, other).is_ok()
+        && all_end(&rt, path, &[("check", FAILED), ("compact", FAILED)])
         && holds(&rt, path, &SMALL);
-    assert!(rt; fs::remove_dir(&rt, other.as_str()).is_ok() && fs::remove_file(&rt, path).is_ok());
+    assert!(rt; fs::remove_dir(&rt, other).is_ok() && fs::remove_file(&rt, path).is_ok());
     assert!(rt; is_left);
     Ok(())
 }
