@@ -144,9 +144,9 @@ fn create_like(rt: &HostRuntime, path: &str, other: &File) -> io::Result<File> {
     Ok(file)
 }
 
-/// Puts a file of these bytes at a path, in the place of the one that is there, with the permissions of another file. It
-/// is written beside the path, at `PATH.new`, and renamed: whoever opens the path finds the old bytes or the new ones.
-/// They are on the disk on return.
+/// Puts a file of these bytes at a path, in the place of the one that is there, with the permissions of another file.
+/// It is written beside the path, at `PATH.new`, and renamed: whoever opens the path finds the old bytes or the new
+/// ones. They are on the disk on return.
 pub fn put(rt: &HostRuntime, path: &str, bytes: &[u8], other: &File) -> Result<(), FileError> {
     let beside = path_beside(rt.alloc(), path, "new")?;
     // What a run that was killed left there.
