@@ -8,7 +8,7 @@ use Rattle.ledger_book.specs.Saved.{StandsFor}
 use Rattle.ledger_book.specs.declared.command.Command.{Command}
 use Rattle.ledger_book.specs.declared.machine.Book.{Book}
 use Rattle.ledger_book.specs.declared.machine.Refusal.{Refusal}
-use Rattle.replay.specs.Replays.{IsStop, Run}
+use Rattle.replay.specs.Replays.{IsReplay, IsStop, Run}
 use Rattle.replay.specs.declared.replay.Replayed.{Replayed}
 use Rattle.snapshots.specs.Numbers.{AppliesNext, RefusesNext}
 use Rattle.snapshots.specs.Resumed.{Continues}
@@ -31,6 +31,11 @@ IsStartFault layout (Some bytes) why = IsRestoreFault StandsFor (layout.saved.fo
 -- these commands lead from no accounts to the state, whose number is theirs
 abbrev pub Starts : List Command → ℕ × Balances → Type 0
 Starts earlier state = (state.0 ≡ length earlier) × Run Applies [] earlier state.1
+
+-- the commands of the log's frames lead from the start to the state, and the log ends after them, or within a frame
+abbrev pub IsReplayed : Layout → Option (List ℕ) → List ℕ → ℕ × Balances → Replayed → Type 0
+IsReplayed layout snapshot log state replayed =
+    (start : ℕ × Balances) × IsStart layout snapshot start × IsReplay (AppliesNext Applies) (layout.commands.format layout.setting) layout.limit layout.commands.decodes_to layout.longest log start state replayed
 
 -- the log continues the start
 abbrev pub IsOpened : Layout → Option (List ℕ) → List ℕ → ℕ × Balances → Replayed → Type 0

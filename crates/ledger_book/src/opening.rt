@@ -6,7 +6,8 @@ ghost use Rattle.bincode_io.specs.Stream.{TellsBytes, known_bytes};
 ghost use Rattle.framed_store.specs.Pieces.{ArePieces, Piece, bytes_of_all};
 ghost use Rattle.ledger_book.specs.Books.{IsBook, IsSnapshotOf, bytes_in, state_of};
 ghost use Rattle.ledger_book.specs.Commands.{Applies};
-ghost use Rattle.ledger_book.specs.Openings.{HoldsMoney, IsOpened, IsStart, IsStartFault, Starts, StopsIn};
+ghost use Rattle.ledger_book.specs.Openings.{HoldsMoney, IsOpened, IsReplayed, IsStart, IsStartFault};
+ghost use Rattle.ledger_book.specs.Openings.{Starts, StopsIn};
 ghost use Rattle.ledger_book.specs.declared.command.Command.{Command};
 ghost use Rattle.snapshots.specs.Resuming.{HoldBelow, HoldFrom, Resumes};
 ghost use Rattle.snapshots.specs.Saved.{IsRestoreMemory};
@@ -54,7 +55,12 @@ pub fn open_book<R: Read>(
     snapshot: Option<&[u8]>,
     log: &mut R,
 ) -> Result<(Numbered<Book>, Replayed), ResumeError<Refusal>>
-    // The accounts are those to which the commands of the log lead, in order, from those of the snapshot on.
+    // The accounts are those to which the commands of the log lead, in order, from those of the snapshot on, and it is
+    // told how many there are, in how many bytes, and how the log ends.
+    ensures replayed { TellsBytes (R.remaining log.old)
+        → IfOk result (λ r. IsReplayed ⟦<Book as Filed>⟧.layout (bytes_in snapshot.entry)
+        (known_bytes (R.remaining log.old)) (state_of r.0) r.1) }
+    // Where commands are numbered in a row from the snapshot's on, all of them lead there.
     ensures continues { TellsBytes (R.remaining log.old)
         → IfOk result (λ r. IsOpened ⟦<Book as Filed>⟧.layout (bytes_in snapshot.entry)
         (known_bytes (R.remaining log.old)) (state_of r.0) r.1) }

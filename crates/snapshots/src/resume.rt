@@ -4,7 +4,7 @@ ghost use Rattle.std.specs.List.{All};
 ghost use Rattle.bincode_io.specs.Stream.{TellsBytes, known_bytes};
 ghost use Rattle.framed_store.specs.Pieces.{ArePieces, Piece, bytes_of_all};
 ghost use Rattle.replay.specs.Recovered.{Recovers};
-ghost use Rattle.replay.specs.Replays.{IsStop, Run};
+ghost use Rattle.replay.specs.Replays.{IsReplay, IsStop, Run};
 ghost use Rattle.snapshots.specs.Numbers.{AppliesNext, RefusesNext};
 ghost use Rattle.snapshots.specs.Resumed.{Advances, Continues};
 ghost use Rattle.snapshots.specs.Resuming.{HoldBelow, HoldFrom, Resumes};
@@ -35,8 +35,14 @@ pub fn replay_from<M: Machine, C: Config, R: Read>(
         (numbered.new.next, M.state numbered.new.machine))
         (λ _. Advances M.applies (numbered.old.next, M.state numbered.old.machine)
         (numbered.new.next, M.state numbered.new.machine)) }
-    // These clauses speak of logs whose bytes are known. All whole frames of the log hold numbered commands. Where they
-    // are some that the snapshot has, and then others in a row from its number on, all commands lead to the state.
+    // These clauses speak of logs whose bytes are known. The commands are those of the frames of the log, in order; it
+    // ends after them, or within a frame.
+    ensures replayed { TellsBytes (R.remaining log.old) → IfOk result (IsReplay (AppliesNext M.applies)
+        (⟦<(u64, M::Command) as Wire>⟧.words.format C.setting) C.bound
+        ⟦<(u64, M::Command) as Wire>⟧.words.decodes_to most (known_bytes (R.remaining log.old))
+        (numbered.old.next, M.state numbered.old.machine) (numbered.new.next, M.state numbered.new.machine)) }
+    // All whole frames of the log hold numbered commands. Where they are some that the snapshot has, and then others in
+    // a row from its number on, all commands lead to the state.
     ensures continues { TellsBytes (R.remaining log.old) → IfOk result (Continues M.applies
         (⟦<(u64, M::Command) as Wire>⟧.words.format C.setting) C.bound
         ⟦<(u64, M::Command) as Wire>⟧.words.decodes_to most
