@@ -9,6 +9,8 @@ ghost use Rattle.ledger_book.specs.Commands.{Applies};
 ghost use Rattle.ledger_book.specs.Openings.{HoldsMoney, IsOpened, IsReplayed, IsStart, IsStartFault};
 ghost use Rattle.ledger_book.specs.Openings.{Starts, StopsIn};
 ghost use Rattle.ledger_book.specs.declared.command.Command.{Command};
+ghost use Rattle.replay.specs.Recovered.{Recovers};
+ghost use Rattle.snapshots.specs.Numbers.{AppliesNext};
 ghost use Rattle.snapshots.specs.Resuming.{HoldBelow, HoldFrom, Resumes};
 ghost use Rattle.snapshots.specs.Saved.{IsRestoreMemory};
 
@@ -81,6 +83,16 @@ pub fn open_book<R: Read>(
         → bytes_of_all (passed ++ others) ≡ known_bytes (R.remaining log.old) ++ lost
         → IfOk result (λ r. Resumes ⟦<Command as PartialEq>⟧.eq Applies [] earlier passed others
         (length (known_bytes (R.remaining log.old))) (state_of r.0)) }
+    // The log ends after these: it is told in how many bytes, and how many frames they are.
+    ensures ends { TellsBytes (R.remaining log.old) → All (λ b. b < 256) (known_bytes (R.remaining log.old))
+        → (earlier : List Command) → IsSnapshotOf ⟦<Book as Filed>⟧.layout (bytes_in snapshot.entry) earlier
+        → (pieces : List (Piece (ℕ × Command))) (lost : List ℕ)
+        → ArePieces ⟦<Book as Filed>⟧.layout.commands ⟦<Book as Filed>⟧.layout.setting
+        ⟦<Book as Filed>⟧.layout.limit LONGEST_WORD pieces
+        → bytes_of_all pieces ≡ known_bytes (R.remaining log.old) ++ lost
+        → IfOk result (λ r. (start : ℕ × Balances) × Starts earlier start
+        × Recovers ⟦<(u64, Command) as PartialEq>⟧.eq (AppliesNext Applies) pieces
+        (length (known_bytes (R.remaining log.old))) start (state_of r.0) r.1) }
     // A book has the accounts with which it was left by the last command that was entered.
     ensures opens { TellsBytes (R.remaining log.old) → All (λ b. b < 256) (known_bytes (R.remaining log.old))
         → (state : ℕ × Balances)
