@@ -1,5 +1,6 @@
 -- What the contracts of callers may cite, by the name of this library.
 pub mod EnumShapes
+pub mod Exact
 pub mod Short
 pub use Rattle.bincode_base.specs.AllowedTags
 pub use Rattle.bincode_base.specs.Setting

@@ -1,0 +1,3 @@
+pub mod Refusals
+pub mod Serving
+pub mod ServingSteps

@@ -1,0 +1,348 @@
+//! The loop of a server: requests in frames from one stream, and their answers in frames to another.
+ghost use Rattle.std.specs.Prelude.{◌↔◌, Err, IfErr, IfOk, IsTrue, OnOk};
+ghost use Rattle.std.specs.Io.KnownBytes.{Keeps};
+ghost use Rattle.bincode_io.specs.Stream.{TellsBytes, known_bytes};
+ghost use Rattle.framed_store.specs.declared.records.Content.TheVariants.{Value};
+ghost use Rattle.calls.specs.Serving.{IsServed, IsStopped};
+ghost use Rattle.calls.specs.ServingSteps.{AnswersContent, FailsAt, HoldsFrame, IsLonger, IsMemory, IsWrite, Sends};
+ghost use Rattle.calls.specs.ServingSteps.{SendsIfFit, SendsPart, StopsFrame, TakesFrame};
+
+use crate::refusal::{Fault, Refusal};
+use crate::service::Service;
+use bincode::Wire;
+use bincode::config::Config;
+use bincode::de::Decode;
+use bincode::enc::Encode;
+use bincode::error::{DecodeError, EncodeError, StreamError};
+use bincode::laws::Exact;
+use framed_store::appending::{AppendError, append};
+use framed_store::records::{Content, Next};
+use framed_store::streams::{ReadError, next_from_stream};
+use frames::OVERHEAD;
+use std::alloc::{AllocError, Global};
+use std::fmt::Display;
+use std::io;
+use std::io::{BufReader, ErrorKind, Read, Write};
+use thiserror::Error;
+
+/// The number of bytes of a length.
+const FIELD: usize = 4;
+
+/// What a reply is: the service's answer, or why there is none.
+pub type Reply<A> = Result<A, Refusal>;
+
+/// What was served.
+#[derive(Clone, Copy, Debug, Drop, PartialEq)]
+pub struct Served {
+    /// The number of frames that were answered.
+    pub answers: u64,
+    /// Whether the input ended within a frame after them, which got no answer.
+    pub is_torn: bool,
+}
+
+/// Why the loop of a server ended before its input did. The frames before that place were answered.
+#[derive(Debug, Drop, Error)]
+#[error_bound(E: Display)]
+#[error("request {answers}: {why}")]
+pub struct ServeError<E> {
+    /// The number of frames that were answered, which is the number of the next one, from 0 on.
+    pub answers: u64,
+    /// What went wrong then.
+    pub why: Failure<E>,
+}
+
+/// What ends the loop of a server.
+#[derive(Debug, Drop, Error)]
+#[error_bound(E: Display)]
+pub enum Failure<E> {
+    /// The service cannot go on. The request changed nothing, and got no answer.
+    #[error("{0}")]
+    Service(E),
+    /// The length of a frame is above what the server takes. That was answered, and changed nothing.
+    #[error("its length of {0} is above what the server takes")]
+    TooLong(u32),
+    /// The input failed, or has 2^64 bytes. What it gave of a frame is lost.
+    #[error("{0}")]
+    Read(io::Error),
+    /// An allocation was refused. The request may have been carried out, and got no answer.
+    #[error("{0}")]
+    Memory(AllocError),
+    /// The output failed. The request was carried out, and a prefix of its answer may have been written.
+    #[error("{0}")]
+    Write(EncodeError),
+    /// A refusal is longer than the server's frames may be, or passes its limit. The request may have been carried out,
+    /// and got no answer.
+    #[error("a refusal does not fit: {0}")]
+    Unsent(AppendError),
+}
+
+/// Answers the requests of a stream, frame by frame and in order, up to its end or to a torn frame. It takes and sends
+/// encodings of at most `most` bytes. A frame that holds no request is answered by a refusal, and changes nothing.
+/// `buffer` holds one frame at a time. The output is flushed before the loop waits for more input, that is where the
+/// input's buffer does not hold a whole frame. Fails with `Service` where the service fails, with `TooLong` at a length
+/// above `most`, with `Read` or `Write` if a stream fails, with `Memory`, or with `Unsent` if not even a refusal can be
+/// sent.
+pub fn serve<S: Service, C: Config, R: Read, W: Write>(
+    alloc: Global,
+    service: &mut S,
+    input: &mut BufReader<R>,
+    output: &mut W,
+    buffer: &mut Vec<u8>,
+    config: C,
+    most: u32,
+) -> Result<Served, ServeError<S::Failure>>
+    // These clauses speak of input whose bytes are known. Each of its frames got one reply, in order; it ends after
+    // them, or within a frame.
+    ensures served { TellsBytes (⟦<BufReader<R> as Read>⟧.remaining input.old) → IfOk result (IsServed S.answers
+        S.Request.words ⟦<Result<S::Answer, Refusal> as Wire>⟧.words C.setting C.bound most
+        (known_bytes (⟦<BufReader<R> as Read>⟧.remaining input.old)) (S.state service.old) (S.state service.new)
+        (W.contents output.old) (W.contents output.new)) }
+    // After an error the frames before the place did, and what stands there is told.
+    ensures stopped { TellsBytes (⟦<BufReader<R> as Read>⟧.remaining input.old) → IfErr result (IsStopped S.answers
+        S.fails S.Request.words ⟦<Result<S::Answer, Refusal> as Wire>⟧.words C.setting C.bound most
+        (known_bytes (⟦<BufReader<R> as Read>⟧.remaining input.old)) (S.state service.old) (S.state service.new)
+        (W.contents output.old) (W.contents output.new)) }
+{
+    let mut answers = 0;
+    let mut offset = 0;
+    'frames: loop {
+        match serve_next(alloc, service, input, output, buffer, config, most, offset) {
+            Ok(Step::End) => {
+                return Ok(Served {
+                    answers,
+                    is_torn: false,
+                });
+            }
+            Ok(Step::Torn) => {
+                return Ok(Served {
+                    answers,
+                    is_torn: true,
+                });
+            }
+            Ok(Step::Answered(next)) => {
+                answers += 1;
+                offset = next;
+            }
+            Err(why) => return Err(ServeError { answers, why }),
+        }
+    }
+}
+
+/// One step of the loop.
+#[derive(Clone, Copy, Drop)]
+enum Step {
+    /// No byte was left.
+    End,
+    /// The input ended within a frame.
+    Torn,
+    /// A frame was answered. The number is the offset after it.
+    Answered(usize),
+}
+
+/// Answers the frame at an offset.
+fn serve_next<S: Service, C: Config, R: Read, W: Write>(
+    alloc: Global,
+    service: &mut S,
+    input: &mut BufReader<R>,
+    output: &mut W,
+    buffer: &mut Vec<u8>,
+    config: C,
+    most: u32,
+    offset: usize,
+) -> Result<Step, Failure<S::Failure>>
+    ensures longer { IfOk result (IsLonger offset) }
+    ensures takes { TellsBytes (⟦<BufReader<R> as Read>⟧.remaining input.old) → IfOk result (TakesFrame S.answers
+        S.Request.words ⟦<Result<S::Answer, Refusal> as Wire>⟧.words C.setting C.bound most offset
+        (known_bytes (⟦<BufReader<R> as Read>⟧.remaining input.old)) (S.state service.old) (S.state service.new)
+        (known_bytes (⟦<BufReader<R> as Read>⟧.remaining input.new)) (W.contents output.old) (W.contents output.new)) }
+    ensures stops { TellsBytes (⟦<BufReader<R> as Read>⟧.remaining input.old) → IfErr result (StopsFrame S.answers
+        S.fails S.Request.words ⟦<Result<S::Answer, Refusal> as Wire>⟧.words C.setting C.bound most
+        (known_bytes (⟦<BufReader<R> as Read>⟧.remaining input.old)) (S.state service.old) (S.state service.new)
+        (W.contents output.old) (W.contents output.new)) }
+    ensures is_known { TellsBytes (⟦<BufReader<R> as Read>⟧.remaining input.old)
+        → TellsBytes (⟦<BufReader<R> as Read>⟧.remaining input.new) }
+{
+    match next_from_stream(alloc, input, buffer, config, most) {
+        Ok(Next::End) => Ok(Step::End),
+        Ok(Next::Torn) => Ok(Step::Torn),
+        Ok(Next::TooLong(length)) => {
+            let refusal = Refusal::TooLong { length, most };
+            refuse::<S::Answer, S::Failure, C, W>(alloc, output, refusal, config, most)?;
+            Err(Failure::TooLong(length))
+        }
+        Ok(Next::Record { size, content }) => {
+            let Some(next) = offset.checked_add(size) else {
+                return Err(Failure::Read(io::Error::from(ErrorKind::FileTooLarge)));
+            };
+            answer_frame(alloc, service, output, content, config, most)?;
+            if !holds_frame(input.buffer(), most) {
+                flush(output)?;
+            }
+            Ok(Step::Answered(next))
+        }
+        Err(ReadError::Read(why)) => Err(Failure::Read(why)),
+        Err(ReadError::Memory(why)) => Err(Failure::Memory(why)),
+    }
+}
+
+/// Answers what a frame holds.
+fn answer_frame<S: Service, C: Config, W: Write>(
+    alloc: Global,
+    service: &mut S,
+    output: &mut W,
+    content: Content<S::Request>,
+    config: C,
+    most: u32,
+) -> Result<(), Failure<S::Failure>>
+    ensures answered { OnOk result (AnswersContent S.answers ⟦<Result<S::Answer, Refusal> as Wire>⟧.words C.setting
+        C.bound most (S.state service.old) content (S.state service.new) (W.contents output.old)
+        (W.contents output.new)) }
+    ensures failed { IfErr result (FailsAt S.answers S.fails ⟦<Result<S::Answer, Refusal> as Wire>⟧.words C.setting
+        C.bound most (S.state service.old) content (S.state service.new) (W.contents output.old)
+        (W.contents output.new)) }
+{
+    match content {
+        Content::Value(request) => answer_request(alloc, service, output, request, config, most),
+        Content::Damaged => {
+            refuse::<S::Answer, S::Failure, C, W>(alloc, output, Refusal::Damaged, config, most)
+        }
+        Content::Undecodable(why) => {
+            let refusal = Refusal::Undecodable(Fault::of_error(&why));
+            refuse::<S::Answer, S::Failure, C, W>(alloc, output, refusal, config, most)
+        }
+        Content::Longer { taken } => {
+            let refusal = Refusal::TrailingBytes {
+                taken: taken as u64,
+            };
+            refuse::<S::Answer, S::Failure, C, W>(alloc, output, refusal, config, most)
+        }
+    }
+}
+
+/// Has the service answer a request, and sends the answer.
+fn answer_request<S: Service, C: Config, W: Write>(
+    alloc: Global,
+    service: &mut S,
+    output: &mut W,
+    request: S::Request,
+    config: C,
+    most: u32,
+) -> Result<(), Failure<S::Failure>>
+    ensures answered { OnOk result (AnswersContent S.answers ⟦<Result<S::Answer, Refusal> as Wire>⟧.words C.setting
+        C.bound most (S.state service.old) (Value request) (S.state service.new) (W.contents output.old)
+        (W.contents output.new)) }
+    ensures failed { IfErr result (FailsAt S.answers S.fails ⟦<Result<S::Answer, Refusal> as Wire>⟧.words C.setting
+        C.bound most (S.state service.old) (Value request) (S.state service.new) (W.contents output.old)
+        (W.contents output.new)) }
+{
+    match service.answer(request) {
+        Ok(answer) => {
+            let reply: Reply<S::Answer> = Ok(answer);
+            match send_reply(alloc, output, &reply, config, most)? {
+                Sending::Sent => Ok(()),
+                Sending::Unfit(_) => refuse::<S::Answer, S::Failure, C, W>(
+                    alloc,
+                    output,
+                    Refusal::AnswerTooLong,
+                    config,
+                    most,
+                ),
+            }
+        }
+        Err(why) => Err(Failure::Service(why)),
+    }
+}
+
+/// Sends a refusal.
+fn refuse<A: Encode + Decode<()> + Exact, E, C: Config, W: Write>(
+    alloc: Global,
+    output: &mut W,
+    refusal: Refusal,
+    config: C,
+    most: u32,
+) -> Result<(), Failure<E>>
+    ensures sent { OnOk result (Sends ⟦<Result<A, Refusal> as Wire>⟧.words C.setting C.bound most (Err refusal)
+        (W.contents output.old) (W.contents output.new)) }
+    ensures failed { IfErr result (SendsPart ⟦<Result<A, Refusal> as Wire>⟧.words C.setting C.bound most (Err refusal)
+        (W.contents output.old) (W.contents output.new)) }
+{
+    let reply: Reply<A> = Err(refusal);
+    match send_reply(alloc, output, &reply, config, most)? {
+        Sending::Sent => Ok(()),
+        Sending::Unfit(why) => Err(Failure::Unsent(why)),
+    }
+}
+
+/// Whether a reply was sent.
+#[derive(Drop)]
+enum Sending {
+    /// Its frame was written.
+    Sent,
+    /// Nothing was written: it passes the limit, or is longer than a frame may be.
+    Unfit(AppendError),
+}
+
+/// Sends a reply, if it fits.
+fn send_reply<T: Encode + Decode<()> + Exact, E, C: Config, W: Write>(
+    alloc: Global,
+    output: &mut W,
+    reply: &T,
+    config: C,
+    most: u32,
+) -> Result<Sending, Failure<E>>
+    ensures sent { IfOk result (SendsIfFit T.words C.setting C.bound most reply.now (W.contents output.old)
+        (W.contents output.new)) }
+    ensures failed { IfErr result (SendsPart T.words C.setting C.bound most reply.now (W.contents output.old)
+        (W.contents output.new)) }
+{
+    match append(alloc, output, reply, config, most) {
+        Ok(_) => Ok(Sending::Sent),
+        Err(AppendError::Write(why)) => Err(Failure::Write(why)),
+        Err(why) => {
+            if is_memory(&why) {
+                return Err(Failure::Memory(AllocError));
+            }
+            Ok(Sending::Unfit(why))
+        }
+    }
+}
+
+/// Whether an allocation was refused.
+fn is_memory(error: &AppendError) -> bool
+    ensures { IsTrue result ↔ IsMemory error.now }
+{
+    match error {
+        AppendError::Memory(_) => true,
+        AppendError::Encode(why) => matches!(why, EncodeError::Memory),
+        AppendError::ReadBack(why) => matches!(why, DecodeError::Memory),
+        _ => false,
+    }
+}
+
+/// Hands on what an output has in its buffer.
+fn flush<W: Write, E>(output: &mut W) -> Result<(), Failure<E>>
+    ensures kept { Keeps (W.contents output.old) (W.contents output.new) }
+    ensures failed { IfErr result IsWrite }
+{
+    match output.flush() {
+        Ok(()) => Ok(()),
+        Err(why) => Err(Failure::Write(EncodeError::Io {
+            inner: StreamError::from(why),
+            index: 0,
+        })),
+    }
+}
+
+/// Whether bytes begin with a whole frame, or with a length above `most`, so that nothing more has to be read to answer
+/// it.
+fn holds_frame(bytes: &[u8], most: u32) -> bool
+    ensures { IsTrue result ↔ HoldsFrame most bytes.now }
+{
+    match bytes {
+        [a, b, c, d, rest @ ..] => {
+            let length = u32::from_le_bytes([*a, *b, *c, *d]);
+            length > most || rest.len() >= OVERHEAD - FIELD + length as usize
+        }
+        _ => false,
+    }
+}
