@@ -1,6 +1,7 @@
 pub mod Counted
 pub mod Decoded
 pub mod Empty
+mod Exactly
 pub mod Filled
 pub mod Room
 pub mod Through

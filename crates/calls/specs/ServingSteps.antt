@@ -1,6 +1,6 @@
 -- One step of the loop of a server.
 use Rattle.std.specs.Prelude.{◌≡◌, ◌⊎◌, ◌+◌, ◌<◌, ◌≤◌, ◌++◌, ℕ, List, [], length, drop, Option, Result, Ok, Err}
-use Rattle.std.specs.Io.KnownBytes.{Appends, Keeps}
+use Rattle.std.specs.Io.KnownBytes.{Appends}
 use Rattle.bincode_base.specs.Setting.{Setting}
 use Rattle.bincode_base.specs.declared.error.DecodeError.TheVariants as decoding
 use Rattle.bincode_base.specs.declared.error.EncodeError.TheVariants as encoding
@@ -13,6 +13,7 @@ use Rattle.framed_store.specs.declared.appending.AppendError.{AppendError}
 use Rattle.framed_store.specs.declared.appending.AppendError.TheVariants as appending
 use Rattle.framed_store.specs.declared.records.Content.{Content}
 use Rattle.framed_store.specs.declared.records.Content.TheVariants as contents
+use Rattle.calls.specs.Sending.{Sends}
 use Rattle.calls.specs.Serving.{Replies, EndsBy}
 use Rattle.calls.specs.declared.refusal.Refusal.{Refusal}
 use Rattle.calls.specs.declared.refusal.Refusal.TheVariants as refusals
@@ -51,16 +52,12 @@ IsLonger at steps.Torn = Unit {0}
 IsLonger at (steps.Answered next) = at + 8 ≤ next
 
 module _ {T : Type 0} (V : Words T) (s : Setting) (limit : Option ℕ) (most : ℕ) where
-  -- the frame of the reply was written
-  abbrev pub Sends : T → Option (List ℕ) → Option (List ℕ) → Type 0
-  Sends reply before after = (word : List ℕ) × IsFitting V s limit most reply word × Appends before after (frame word)
-
-  -- or nothing, since it does not fit
+  -- the reply was written, or nothing, since it does not fit
   abbrev pub SendsIfFit : T → Option (List ℕ) → Option (List ℕ) → Sending → Type 0
   SendsIfFit reply before after sendings.Sent = Sends reply before after
   SendsIfFit reply before after (sendings.Unfit _) = (after ≡ before) × (FitsStore V s limit most reply → ⊥)
 
-  -- a prefix of it was written where the output failed
+  -- a prefix of the reply's frame was written where the output failed
   abbrev pub SendsPart : {E : Type 0} → T → Option (List ℕ) → Option (List ℕ) → Failure E → Type 0
   SendsPart reply before after (failures.Service _) = ⊥
   SendsPart reply before after (failures.TooLong _) = ⊥
@@ -89,8 +86,8 @@ module _ {S Q A : Type 0} (answers : S → Q → A → S → Type 0) (V : Words 
 module _ {S Q A : Type 0} (answers : S → Q → A → S → Type 0) (W : Words Q) (V : Words (Result A Refusal)) (s : Setting) (limit : Option ℕ) (most : ℕ) where
   -- the frame that the input begins with got its reply, and what follows the frame is left
   abbrev pub TakesFrame : ℕ → List ℕ → S → S → List ℕ → Option (List ℕ) → Option (List ℕ) → Step → Type 0
-  TakesFrame at input old new left before after steps.End = Reads most input frames.End × (new ≡ old) × Keeps before after
-  TakesFrame at input old new left before after steps.Torn = Reads most input frames.Torn × (new ≡ old) × Keeps before after
+  TakesFrame at input old new left before after steps.End = Reads most input frames.End × (new ≡ old) × (after ≡ before)
+  TakesFrame at input old new left before after steps.Torn = Reads most input frames.Torn × (new ≡ old) × (after ≡ before)
   TakesFrame at input old new left before after (steps.Answered next) =
       (size : ℕ) × (content : Content Q) × IsRecord (W.format s) limit W.decodes_to most input size content × AnswersContent answers V s limit most old content new before after × (next ≡ at + size) × (left ≡ drop size input)
 

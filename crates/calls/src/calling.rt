@@ -1,10 +1,15 @@
-//! The side that asks: requests go out in frames, and their answers come back in order.
-ghost use Rattle.std.specs.Prelude.{◌≡◌, ◌×◌, ℕ, List, IfErr, IfOk, OnOk};
+//! The side that asks: requests go out in frames, and their replies come back in order.
+ghost use Rattle.std.specs.Prelude.{◌<◌, ◌≡◌, ◌++◌, ℕ, List, true, IfErr, IfOk, OnErr, OnOk, MatchResult, length};
+ghost use Rattle.std.specs.Io.KnownBytes.{Keeps};
 ghost use Rattle.std.specs.List.{All};
 ghost use Rattle.bincode_io.specs.Stream.{TellsBytes, known_bytes};
+ghost use Rattle.frames.specs.Frames.{frame};
+ghost use Rattle.framed_store.specs.Appended.{IsFitting};
+ghost use Rattle.framed_store.specs.Pieces.{Piece, ArePieces, bytes_of_all};
+ghost use Rattle.calls.specs.Calling.{AreReplies, IsNoReply, IsOutsideCall, IsReply, IsUnsent, SendsAll};
+ghost use Rattle.calls.specs.Calling.{input_of, most_of, output_of};
+ghost use Rattle.calls.specs.Sending.{Sends};
 
-use crate::refusal::Refusal;
-use crate::serving::Reply;
 use bincode::Wire;
 use bincode::config::Config;
 use bincode::de::Decode;
@@ -19,64 +24,233 @@ use std::io;
 use std::io::{Read, Write};
 use thiserror::Error;
 
-/// Why a call got no answer.
+/// Why a call got no reply.
 #[derive(Debug, Drop, Error)]
 pub enum CallError {
     /// The request was not sent.
     #[error("the request was not sent: {0}")]
     Send(AppendError),
-    /// The output failed as it was flushed.
+    /// The output failed when its buffer was flushed. The request may have been sent.
     #[error("the request was not sent: {0}")]
     Flush(io::Error),
-    /// The input ended before the answer.
-    #[error("there is no answer")]
-    NoAnswer,
-    /// The input ended within the answer.
-    #[error("the answer ends early")]
+    /// The input ended before the reply.
+    #[error("there is no reply")]
+    NoReply,
+    /// The input ended within the reply.
+    #[error("the reply ends early")]
     Torn,
-    /// The length of the answer is above what the caller takes.
-    #[error("the answer's length of {0} is above what is taken")]
+    /// The length of the reply is above what the caller takes.
+    #[error("the reply's length of {0} is above what is taken")]
     TooLong(u32),
-    /// The check of the answer does not fit.
-    #[error("the answer is damaged")]
+    /// The check of the reply does not fit.
+    #[error("the reply is damaged")]
     Damaged,
-    /// The check fits, and the word does not begin with an answer within the limit. The error tells why.
-    #[error("the answer cannot be decoded: {0}")]
+    /// The check fits, and the word does not begin with a reply within the limit. The error tells why.
+    #[error("the reply cannot be decoded: {0}")]
     Undecodable(DecodeError),
-    /// The check fits, and the word goes on after an answer.
-    #[error("bytes follow the {taken} of the answer")]
+    /// The check fits, and the word goes on after a reply.
+    #[error("bytes follow the {taken} of the reply")]
     TrailingBytes {
-        /// The number of bytes of the answer.
+        /// The number of bytes of the reply.
         taken: usize,
     },
-    /// The input failed. What it gave of an answer is lost.
+    /// The input failed. What it gave of a reply is lost.
     #[error("{0}")]
     Read(io::Error),
-    /// An allocation was refused. What the input gave of an answer is lost.
+    /// An allocation was refused. What the input gave of a reply is lost.
     #[error("{0}")]
     Memory(AllocError),
 }
 
-/// Reads the answer that a stream begins with, of at most `most` bytes. `buffer` has its frame then.
-pub fn receive<A: Encode + Decode<()> + Exact, C: Config, R: Read>(
+/// The side that asks, over two streams: one from the server, and one to it. For a server that `serve` runs the replies
+/// are of the type `Reply`.
+#[derive(Drop)]
+pub struct Caller<R, W, C> {
     alloc: Global,
-    input: &mut R,
-    buffer: &mut Vec<u8>,
+    input: R,
+    output: W,
+    buffer: Vec<u8>,
     config: C,
     most: u32,
-) -> Result<Reply<A>, CallError>
-{
-    match next_from_stream(alloc, input, buffer, config, most) {
-        Ok(Next::Record { size: _, content }) => match content {
-            Content::Value(reply) => Ok(reply),
-            Content::Damaged => Err(CallError::Damaged),
-            Content::Undecodable(why) => Err(CallError::Undecodable(why)),
-            Content::Longer { taken } => Err(CallError::TrailingBytes { taken }),
-        },
-        Ok(Next::End) => Err(CallError::NoAnswer),
-        Ok(Next::Torn) => Err(CallError::Torn),
-        Ok(Next::TooLong(length)) => Err(CallError::TooLong(length)),
-        Err(ReadError::Read(why)) => Err(CallError::Read(why)),
-        Err(ReadError::Memory(why)) => Err(CallError::Memory(why)),
+}
+
+impl<R: Read, W: Write, C: Config> Caller<R, W, C> {
+    /// A caller that reads replies from `input` and writes requests to `output`, of at most `most` bytes each.
+    pub fn new(alloc: Global, input: R, output: W, config: C, most: u32) -> Caller<R, W, C>
+        ensures input { input_of result ≡ input }
+        ensures output { output_of result ≡ output }
+        ensures most { most_of result ≡ most }
+    {
+        Caller {
+            alloc,
+            input,
+            output,
+            buffer: Vec::new(alloc),
+            config,
+            most,
+        }
+    }
+
+    /// Sends a request, and reads its reply. Fails with `Send` or `Flush` if the request is not sent, and with the other
+    /// errors if what the input begins with is no reply. Then no further call is of use, unless the error is
+    /// `Send` and its cause comes before anything is written.
+    pub fn call<Q: Encode + Decode<()> + Exact, A: Decode<()> + Exact>(
+        &mut self,
+        request: &Q,
+    ) -> Result<A, CallError>
+        // The frame of the request was written.
+        ensures sent { OnOk result (Sends Q.words C.setting C.bound (most_of self.old) request.now
+            (W.contents (output_of self.old)) (W.contents (output_of self.new))) }
+        // These clauses speak of input whose bytes are known. The reply is that of the first frame, and what follows it
+        // is left.
+        ensures reply { TellsBytes (R.remaining (input_of self.old)) → IfOk result (IsReply A.words C.setting C.bound
+            (most_of self.old) (known_bytes (R.remaining (input_of self.old)))
+            (known_bytes (R.remaining (input_of self.new)))) }
+        ensures most { most_of self.new ≡ most_of self.old }
+    {
+        self.send(request)?;
+        self.flush()?;
+        self.receive()
+    }
+
+    /// Sends requests, all of them before the first reply is read, and reads a reply for each. Where both streams are
+    /// pipes, the replies to all have to fit in what the pipe to the caller holds (65,536 bytes on Linux), or neither
+    /// side goes on. Fails as `call` does; replies that came before the error are lost.
+    pub fn call_many<Q: Encode + Decode<()> + Exact, A: Decode<()> + Exact>(
+        &mut self,
+        requests: &[Q],
+    ) -> Result<Vec<A>, CallError>
+        // The frames of the requests were written, in order.
+        ensures sent { OnOk result (SendsAll Q.words C.setting C.bound (most_of self.old) requests.now
+            (W.contents (output_of self.old)) (W.contents (output_of self.new))) }
+        // There is a reply for each,
+        ensures count { IfOk result (λ replies. length replies.items ≡ length requests.now) }
+        // and where the bytes of the input are known, they are those of its first frames, in order.
+        ensures replies { TellsBytes (R.remaining (input_of self.old)) → IfOk result (λ replies. AreReplies A.words
+            C.setting C.bound (most_of self.old) (known_bytes (R.remaining (input_of self.old)))
+            (known_bytes (R.remaining (input_of self.new))) replies.items) }
+        ensures most { most_of self.new ≡ most_of self.old }
+    {
+        self.send_many(requests)?;
+        self.flush()?;
+        self.receive_many(requests.len())
+    }
+
+    /// Writes the frames of requests, in order. They may stay in a buffer of the output until `flush`. Fails with `Send`
+    /// alone; the requests before it are sent.
+    pub fn send_many<Q: Encode + Decode<()> + Exact>(
+        &mut self,
+        requests: &[Q],
+    ) -> Result<(), CallError>
+        ensures sent { OnOk result (SendsAll Q.words C.setting C.bound (most_of self.old) requests.now
+            (W.contents (output_of self.old)) (W.contents (output_of self.new))) }
+        ensures input { input_of self.new ≡ input_of self.old }
+        ensures most { most_of self.new ≡ most_of self.old }
+    {
+        for request in requests {
+            self.send(request)?;
+        }
+        Ok(())
+    }
+
+    /// Reads as many replies as are asked for. Fails as `receive` does; replies that came before the error are lost.
+    pub fn receive_many<A: Decode<()> + Exact>(&mut self, count: usize) -> Result<Vec<A>, CallError>
+        ensures count { IfOk result (λ replies. length replies.items ≡ count) }
+        // Where the bytes of the input are known, the replies are those of its first frames, in order.
+        ensures replies { TellsBytes (R.remaining (input_of self.old)) → IfOk result (λ replies. AreReplies A.words
+            C.setting C.bound (most_of self.old) (known_bytes (R.remaining (input_of self.old)))
+            (known_bytes (R.remaining (input_of self.new))) replies.items) }
+        ensures is_known { TellsBytes (R.remaining (input_of self.old)) → TellsBytes (R.remaining (input_of self.new)) }
+        ensures output { output_of self.new ≡ output_of self.old }
+        ensures most { most_of self.new ≡ most_of self.old }
+    {
+        let mut replies = Vec::new(self.alloc);
+        for _ in 0..count {
+            let reply = self.receive()?;
+            if let Err(why) = replies.push(reply) {
+                return Err(CallError::Memory(AllocError::from(why)));
+            }
+        }
+        Ok(replies)
+    }
+
+    /// Writes the frame of a request. It may stay in a buffer of the output until `flush`. Fails with `Send` alone.
+    pub fn send<Q: Encode + Decode<()> + Exact>(&mut self, request: &Q) -> Result<(), CallError>
+        ensures sent { OnOk result (Sends Q.words C.setting C.bound (most_of self.old) request.now
+            (W.contents (output_of self.old)) (W.contents (output_of self.new))) }
+        ensures unsent { IfErr result (IsUnsent Q.words C.setting C.bound (most_of self.old) request.now W.contents
+            (output_of self.old) (output_of self.new)) }
+        ensures input { input_of self.new ≡ input_of self.old }
+        ensures most { most_of self.new ≡ most_of self.old }
+    {
+        match append(
+            self.alloc,
+            &mut self.output,
+            request,
+            self.config,
+            self.most,
+        ) {
+            Ok(_) => Ok(()),
+            Err(why) => Err(CallError::Send(why)),
+        }
+    }
+
+    /// Hands on what the output has in its buffer. Fails with `Flush` alone.
+    pub fn flush(&mut self) -> Result<(), CallError>
+        ensures kept { Keeps (W.contents (output_of self.old)) (W.contents (output_of self.new)) }
+        ensures input { input_of self.new ≡ input_of self.old }
+        ensures most { most_of self.new ≡ most_of self.old }
+    {
+        match self.output.flush() {
+            Ok(()) => Ok(()),
+            Err(why) => Err(CallError::Flush(why)),
+        }
+    }
+
+    /// Reads the reply that the input begins with.
+    pub fn receive<A: Decode<()> + Exact>(&mut self) -> Result<A, CallError>
+        // These clauses speak of input whose bytes are known. The reply is that of the first frame, and what follows it
+        // is left;
+        ensures reply { TellsBytes (R.remaining (input_of self.old)) → IfOk result (IsReply A.words C.setting C.bound
+            (most_of self.old) (known_bytes (R.remaining (input_of self.old)))
+            (known_bytes (R.remaining (input_of self.new)))) }
+        // or there is none, for the reason that the error tells.
+        ensures none { TellsBytes (R.remaining (input_of self.old)) → IfErr result (IsNoReply A.words C.setting C.bound
+            (most_of self.old) (known_bytes (R.remaining (input_of self.old)))) }
+        // The frame of a reply that was sent is read as an equal one, whatever follows it.
+        ensures equal { TellsBytes (R.remaining (input_of self.old))
+            → All (λ b. b < 256) (known_bytes (R.remaining (input_of self.old)))
+            → (sent : A) (word rest : List ℕ) → IsFitting A.words C.setting C.bound (most_of self.old) sent word
+            → known_bytes (R.remaining (input_of self.old)) ≡ frame word ++ rest
+            → MatchResult result (λ reply. (A.eq sent reply ≡ true)
+            × (known_bytes (R.remaining (input_of self.new)) ≡ rest)) IsOutsideCall }
+        ensures is_known { TellsBytes (R.remaining (input_of self.old)) → TellsBytes (R.remaining (input_of self.new)) }
+        ensures output { output_of self.new ≡ output_of self.old }
+        ensures most { most_of self.new ≡ most_of self.old }
+    {
+        match next_from_stream(
+            self.alloc,
+            &mut self.input,
+            &mut self.buffer,
+            self.config,
+            self.most,
+        ) {
+            Ok(Next::Record { size: _, content }) => reply_of(content),
+            Ok(Next::End) => Err(CallError::NoReply),
+            Ok(Next::Torn) => Err(CallError::Torn),
+            Ok(Next::TooLong(length)) => Err(CallError::TooLong(length)),
+            Err(ReadError::Read(why)) => Err(CallError::Read(why)),
+            Err(ReadError::Memory(why)) => Err(CallError::Memory(why)),
+        }
+    }
+}
+
+/// The reply that a frame holds.
+fn reply_of<A>(content: Content<A>) -> Result<A, CallError> {
+    match content {
+        Content::Value(reply) => Ok(reply),
+        Content::Damaged => Err(CallError::Damaged),
+        Content::Undecodable(why) => Err(CallError::Undecodable(why)),
+        Content::Longer { taken } => Err(CallError::TrailingBytes { taken }),
     }
 }

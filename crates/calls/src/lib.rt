@@ -3,6 +3,7 @@
 #![tactic(auto)]
 
 pub mod calling;
+pub mod memory;
 pub mod refusal;
 pub mod service;
 pub mod serving;

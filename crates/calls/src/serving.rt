@@ -1,10 +1,11 @@
 //! The loop of a server: requests in frames from one stream, and their answers in frames to another.
-ghost use Rattle.std.specs.Prelude.{◌↔◌, Err, IfErr, IfOk, IsTrue, OnOk};
+ghost use Rattle.std.specs.Prelude.{◌↔◌, ◌+◌, ◌≤◌, Err, IfErr, IfOk, IsTrue, OnOk, vec_len};
 ghost use Rattle.std.specs.Io.KnownBytes.{Keeps};
 ghost use Rattle.bincode_io.specs.Stream.{TellsBytes, known_bytes};
 ghost use Rattle.framed_store.specs.declared.records.Content.TheVariants.{Value};
+ghost use Rattle.calls.specs.Sending.{Sends};
 ghost use Rattle.calls.specs.Serving.{IsServed, IsStopped};
-ghost use Rattle.calls.specs.ServingSteps.{AnswersContent, FailsAt, HoldsFrame, IsLonger, IsMemory, IsWrite, Sends};
+ghost use Rattle.calls.specs.ServingSteps.{AnswersContent, FailsAt, HoldsFrame, IsLonger, IsMemory, IsWrite};
 ghost use Rattle.calls.specs.ServingSteps.{SendsIfFit, SendsPart, StopsFrame, TakesFrame};
 
 use crate::refusal::{Fault, Refusal};
@@ -91,6 +92,8 @@ pub fn serve<S: Service, C: Config, R: Read, W: Write>(
     config: C,
     most: u32,
 ) -> Result<Served, ServeError<S::Failure>>
+    // The buffer holds at most a frame.
+    ensures room { vec_len buffer.new ≤ 8 + most }
     // These clauses speak of input whose bytes are known. Each of its frames got one reply, in order; it ends after
     // them, or within a frame.
     ensures served { TellsBytes (⟦<BufReader<R> as Read>⟧.remaining input.old) → IfOk result (IsServed S.answers
@@ -150,6 +153,7 @@ fn serve_next<S: Service, C: Config, R: Read, W: Write>(
     most: u32,
     offset: usize,
 ) -> Result<Step, Failure<S::Failure>>
+    ensures room { vec_len buffer.new ≤ 8 + most }
     ensures longer { IfOk result (IsLonger offset) }
     ensures takes { TellsBytes (⟦<BufReader<R> as Read>⟧.remaining input.old) → IfOk result (TakesFrame S.answers
         S.Request.words ⟦<Result<S::Answer, Refusal> as Wire>⟧.words C.setting C.bound most offset

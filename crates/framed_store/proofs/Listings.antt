@@ -35,13 +35,13 @@ use Rattle.framed_store.proofs.Fronts.{damaged-on, no-end, front-is-torn, torn-a
 use Rattle.framed_store.specs.Surveys.{frame_size}
 use Rattle.framed_store.proofs.Stepped.{sliced, slice-rest, frame-within}
 
-abbrev AreBytes : List ℕ → Type 0
+abbrev pub AreBytes : List ℕ → Type 0
 AreBytes xs = All (λ b. b < 256) xs
 
 front-bytes : (xs ys : List ℕ) → AreBytes (xs ++ ys) → AreBytes xs
 front-bytes xs ys all = subst AreBytes (take-append_seam xs ys) (All-take (λ b. b < 256) (length xs) (xs ++ ys) all)
 
-back-bytes : (xs ys : List ℕ) → AreBytes (xs ++ ys) → AreBytes ys
+pub back-bytes : (xs ys : List ℕ) → AreBytes (xs ++ ys) → AreBytes ys
 back-bytes xs ys all = subst AreBytes (drop-append_seam xs ys) (All-drop (λ b. b < 256) (length xs) (xs ++ ys) all)
 
 word-bytes : (word : List ℕ) → AreBytes (frame word) → AreBytes word
@@ -146,7 +146,7 @@ module _ {A : Type 0} (W : Words A) (s : Setting) (limit : Option ℕ) (most : �
   told-changed bytes rest d size (Undecodable why) h = let on = damaged-on most bytes rest (length bytes) d in absurd (on.2 h.0.2)
   told-changed bytes rest d size (Longer taken) h = let on = damaged-on most bytes rest (length bytes) d in absurd (on.2 h.0.2)
 
-  told-piece : (p : Piece A) (rest : List ℕ) → IsPiece W s limit most p → AreBytes (bytes_of p ++ rest) → (size : ℕ) (content : Content A) → Told (bytes_of p ++ rest) size content →
+  pub told-piece : (p : Piece A) (rest : List ℕ) → IsPiece W s limit most p → AreBytes (bytes_of p ++ rest) → (size : ℕ) (content : Content A) → Told (bytes_of p ++ rest) size content →
       IsToldAs eq p content × (size ≡ length (bytes_of p))
   told-piece (FrameOf v word) rest is all size content h = told-kept v word rest is (word-bytes word (front-bytes (frame word) rest all)) size content h
   told-piece (Damage bytes) rest is all size content h = told-changed bytes rest is size content h
@@ -160,7 +160,7 @@ module _ {A : Type 0} (W : Words A) (s : Setting) (limit : Option ℕ) (most : �
   ends-no-frame word rest bytes fits at (endings.Torn offset) h = framed-read most word rest bytes fits small frames.Torn h.1
   ends-no-frame word rest bytes fits at (endings.TooLong offset n) h = framed-read most word rest bytes fits small (frames.TooLong n) h.1
 
-  ends-no-piece : (p : Piece A) (rest : List ℕ) → IsPiece W s limit most p → AreBytes (bytes_of p ++ rest) → (at : ℕ) (ending : Ending) → EndsAt most at (bytes_of p ++ rest) ending → ⊥
+  pub ends-no-piece : (p : Piece A) (rest : List ℕ) → IsPiece W s limit most p → AreBytes (bytes_of p ++ rest) → (at : ℕ) (ending : Ending) → EndsAt most at (bytes_of p ++ rest) ending → ⊥
   ends-no-piece (FrameOf v word) rest is all at ending h = ends-no-frame word rest (word-bytes word (front-bytes (frame word) rest all)) is.is_short at ending h
   ends-no-piece (Damage bytes) rest is all at ending h = no-end most at (bytes ++ rest) ending (damaged-on most bytes rest (length bytes) is).0 h
 

@@ -12,11 +12,12 @@ abbrev pub with_kept : {A : Type 0} → List (Piece A) → A → List ℕ → Li
 with_kept pieces value word = pieces ++ FrameOf value word ∷ []
 
 module _ {A : Type 0} (W : Words A) (s : Setting) (limit : Option ℕ) (most : ℕ) where
-  bytes-more : (pieces : List (Piece A)) (p : Piece A) → bytes_of_all (pieces ++ p ∷ []) ≡ bytes_of_all pieces ++ bytes_of p
+  -- its bytes follow theirs
+  pub bytes-more : (pieces : List (Piece A)) (p : Piece A) → bytes_of_all (pieces ++ p ∷ []) ≡ bytes_of_all pieces ++ bytes_of p
   bytes-more [] p = append-nil (bytes_of p)
   bytes-more (q ∷ pieces) p = ap (λ z. bytes_of q ++ z) (bytes-more pieces p) ∙ sym (append_assoc (bytes_of q) (bytes_of_all pieces) (bytes_of p))
 
-  are-more : (pieces : List (Piece A)) (p : Piece A) → ArePieces W s limit most pieces → IsPiece W s limit most p → ArePieces W s limit most (pieces ++ p ∷ [])
+  pub are-more : (pieces : List (Piece A)) (p : Piece A) → ArePieces W s limit most pieces → IsPiece W s limit most p → ArePieces W s limit most (pieces ++ p ∷ [])
   are-more [] p are is = (is, tt)
   are-more (q ∷ pieces) p are is = (are.0, are-more pieces p are.1 is)
 

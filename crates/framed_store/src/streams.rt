@@ -114,6 +114,7 @@ pub(crate) fn take_front<R: Read>(
 ) -> Result<(), ReadError>
     ensures front { TellsBytes (R.remaining stream.old) → OnOk result (TakesFront most buffer.new.items
         (known_bytes (R.remaining stream.old)) (known_bytes (R.remaining stream.new))) }
+    ensures room { vec_len buffer.new ≤ 8 + most }
     ensures is_known { TellsBytes (R.remaining stream.old) → TellsBytes (R.remaining stream.new) }
 {
     buffer.clear();
@@ -150,7 +151,7 @@ fn fill<R: Read>(stream: &mut R, buffer: &mut Vec<u8>, count: usize) -> Result<(
     ensures front { OnOk result (StartsWith buffer.new.items buffer.old.items) }
     ensures bytes { OnOk result (Consumes (R.remaining stream.old) (R.remaining stream.new)
         (appended_bytes buffer.old.items buffer.new.items)) }
-    ensures within { OnOk result (vec_len buffer.new ≤ count) }
+    ensures within { vec_len buffer.new ≤ count }
     ensures end { OnOk result (vec_len buffer.new < count → IsAtEnd (R.remaining stream.new)) }
     ensures is_known { TellsBytes (R.remaining stream.old) → TellsBytes (R.remaining stream.new) }
 {
@@ -269,7 +270,9 @@ pub fn next_from_stream<T: Decode<()>, C: Config, R: Read>(
     config: C,
     most: u32,
 ) -> Result<Next<T>, ReadError>
-    // What stands in the buffer is told.
+    // The buffer holds at most a frame.
+    ensures room { vec_len buffer.new ≤ 8 + most }
+    // What stands in it is told.
     ensures held { IfOk result (IsNext (T.words.format C.setting) C.bound T.words.decodes_to most buffer.new.items) }
     // These clauses speak of streams whose bytes are known. What they begin with is told,
     ensures next { TellsBytes (R.remaining stream.old) → IfOk result (IsNext (T.words.format C.setting) C.bound

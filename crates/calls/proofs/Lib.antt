@@ -1,0 +1,3 @@
+mod Conversed
+mod Served
+mod Stopped
