@@ -1,5 +1,5 @@
 -- What a caller reads is what the service answered.
-use Rattle.std.specs.Prelude.{◌≡◌, ◌+◌, ◌^◌, ◌<◌, ◌≤◌, ◌++◌, ℕ, List, [], ◌∷◌, length, drop, Bool, true, false, Option, Result, refl}
+use Rattle.std.specs.Prelude.{◌≡◌, ◌^◌, ◌<◌, ◌++◌, ℕ, List, [], ◌∷◌, length, drop, Bool, true, false, Option, Result, Ok, Err, IfOk, refl}
 use Rattle.std.proofs.Common.{◌∙◌, ap, sym, subst, arith, append_assoc, append-nil}
 use Rattle.std.proofs.Math.Seq.{drop-append_seam}
 use Rattle.bincode_base.specs.Setting.{Setting}
@@ -8,7 +8,7 @@ use Rattle.bincode_types.specs.TypeWords.{Words}
 use Rattle.frames.specs.Frames.{frame}
 use Rattle.framed_store.proofs.Listings.{AreBytes, back-bytes, record-there, told-piece, ends-no-piece}
 use Rattle.framed_store.specs.Appended.{FitsStore}
-use Rattle.framed_store.specs.Pieces.{Piece, FrameOf, Damage, ArePieces, IsToldAs, bytes_of, bytes_of_all}
+use Rattle.framed_store.specs.Pieces.{Piece, FrameOf, Damage, ArePieces, IsToldAs, bytes_of_all}
 use Rattle.framed_store.specs.Steps.{EndsAt}
 use Rattle.framed_store.specs.Told.{IsRecord}
 use Rattle.framed_store.specs.declared.ending.Ending.{Ending}
@@ -52,30 +52,30 @@ module _ {T : Type 0} (W : Words T) (s : Setting) (limit : Option ℕ) (most : �
         are_bytes = back-bytes (frame word) rest bytes;
       }
 
-module _ {S Q A : Type 0} (answers : S → Q → A → S → Type 0) (W : Words Q) (V : Words (Result A Refusal)) (s : Setting) (limit : Option ℕ) (most : ℕ) (small : most < 2 ^ 32) (eq : Q → Q → Bool)
-    (exact : ExactWords W eq) (same : Result A Refusal → Result A Refusal → Bool) (kept : ExactWords V same) where
-  abbrev Fits : Result A Refusal → Type 0
+module _ {S Q R : Type 0} (answers : S → Q → R → S → Type 0) (refuse : Refusal → R) (W : Words Q) (V : Words R) (s : Setting) (limit : Option ℕ) (most : ℕ) (small : most < 2 ^ 32) (eq : Q → Q → Bool)
+    (exact : ExactWords W eq) (same : R → R → Bool) (kept : ExactWords V same) where
+  abbrev Fits : R → Type 0
   Fits = FitsStore V s limit most
 
   -- one request, and its reply
-  answered-one : (request framed : Q) → framed ≡ request → (content : Content Q) → IsToldAs eq (FrameOf framed []) content → (old mid new : S) (reply value : Result A Refusal) (requests : List Q) (values : List (Result A Refusal)) →
-      Replies answers Fits old content reply mid → same reply value ≡ true → Converses answers Fits eq same mid requests values new → Converses answers Fits eq same old (request ∷ requests) (value ∷ values) new
+  answered-one : (request framed : Q) → framed ≡ request → (content : Content Q) → IsToldAs eq (FrameOf framed []) content → (old mid new : S) (reply value : R) (requests : List Q) (values : List R) →
+      Replies answers refuse Fits old content reply mid → same reply value ≡ true → Converses answers refuse Fits eq same mid requests values new → Converses answers refuse Fits eq same old (request ∷ requests) (value ∷ values) new
   answered-one request framed is (contents.Value read) told old mid new reply value requests values a equal more = (read, reply, mid, subst (λ z. eq z read ≡ true) is told, a, equal, more)
   answered-one request framed is contents.Damaged told old mid new reply value requests values a equal more = absurd told
   answered-one request framed is (contents.Undecodable why) told old mid new reply value requests values a equal more = absurd told
   answered-one request framed is (contents.Longer taken) told old mid new reply value requests values a equal more = absurd told
 
   -- what a caller has still to read: the frames of these replies
-  record Unread (answered : List ℕ) (replies : List (Piece (Result A Refusal))) (behind left : List ℕ) (values : List (Result A Refusal)) : Type 0 where
-    are_replies : ArePieces V s limit most replies
-    are_bytes : AreBytes answered
-    answered_is : answered ≡ bytes_of_all replies ++ behind
-    read : AreReplies V s limit most answered left values
+  pub record Unread (answered : List ℕ) (replies : List (Piece R)) (behind left : List ℕ) (values : List R) : Type 0 where
+    pub are_replies : ArePieces V s limit most replies
+    pub are_bytes : AreBytes answered
+    pub answered_is : answered ≡ bytes_of_all replies ++ behind
+    pub read : AreReplies V s limit most answered left values
 
   -- frames of requests are answered as requests equal to them, and what a caller reads of the replies is equal to these
-  pub conversed : (requests : List Q) (pieces : List (Piece Q)) (input : List ℕ) (old : S) (replies : List (Piece (Result A Refusal))) (new : S) (rest : List ℕ) (is_torn : Bool) (values : List (Result A Refusal)) →
-      AreFramesOf requests pieces → ArePieces W s limit most pieces → AreBytes input → input ≡ bytes_of_all pieces → Serves answers W V s limit most input old replies new rest → EndsInput most rest is_torn →
-      (answered behind left : List ℕ) → Unread answered replies behind left values → length values ≡ length requests → Converses answers Fits eq same old requests values new
+  pub conversed : (requests : List Q) (pieces : List (Piece Q)) (input : List ℕ) (old : S) (replies : List (Piece R)) (new : S) (rest : List ℕ) (is_torn : Bool) (values : List R) →
+      AreFramesOf requests pieces → ArePieces W s limit most pieces → AreBytes input → input ≡ bytes_of_all pieces → Serves answers refuse W V s limit most input old replies new rest → EndsInput most rest is_torn →
+      (answered behind left : List ℕ) → Unread answered replies behind left values → length values ≡ length requests → Converses answers refuse Fits eq same old requests values new
   conversed [] [] input old [] new rest is_torn [] of are all e serves ends answered behind left u count = serves.0
   conversed [] [] input old [] new rest is_torn (value ∷ values) of are all e serves ends answered behind left u count = absurd (omega (arith, count))
   conversed [] [] input old (FrameOf reply word ∷ replies) new rest is_torn values of are all e serves ends answered behind left u count =
@@ -103,3 +103,8 @@ module _ {S Q A : Type 0} (answers : S → Q → A → S → Type 0) (W : Words 
       answered-one request framed of.0 serves.1 b.is_told old serves.2 new reply value requests values serves.4 a.is_told
       (conversed requests pieces (drop serves.0 input) serves.2 replies new rest is_torn values of.1 are.1 (subst AreBytes (sym b.left) b.are_bytes) (b.left ∙ append-nil (bytes_of_all pieces)) serves.5 ends
       u.read.0 behind left unread (omega (arith, count)))
+
+-- what follows of two facts on a value
+pub both : {X E : Type 0} (r : Result X E) (P P' P'' : X → Type 0) → ((x : X) → P x → P' x → P'' x) → IfOk r P → IfOk r P' → IfOk r P''
+both (Ok x) P P' P'' f p q = f x p q
+both (Err e) P P' P'' f p q = tt

@@ -1,3 +1,5 @@
 mod Conversed
+mod Received
+mod Sent
 mod Served
 mod Stopped

@@ -1,13 +1,14 @@
 -- What a caller sends and reads.
-use Rattle.std.specs.Prelude.{◌≡◌, ◌++◌, ℕ, List, [], ◌∷◌, length, drop, Option}
+use Rattle.std.specs.Prelude.{◌≡◌, ℕ, List, [], ◌∷◌, drop, Option, Result, Ok, Err}
 use Rattle.std.specs.Io.KnownBytes.{Appends}
 use Rattle.bincode_base.specs.Setting.{Setting}
 use Rattle.bincode_types.specs.TypeWords.{Words}
-use Rattle.frames.specs.Frames.{Reads, frame}
+use Rattle.frames.specs.Frames.{Reads}
 use Rattle.frames.specs.declared.Frame.TheVariants as frames
-use Rattle.framed_store.specs.Appended.{IsFitting, Leaves}
+use Rattle.framed_store.specs.Appended.{Leaves}
 use Rattle.framed_store.specs.Pieces.{Piece, FrameOf, Damage, ArePieces, bytes_of_all}
 use Rattle.framed_store.specs.Told.{IsRecord}
+use Rattle.framed_store.specs.declared.records.Content.{Content}
 use Rattle.framed_store.specs.declared.records.Content.TheVariants as contents
 use Rattle.calls.specs.Sending.{Sends}
 use Rattle.calls.specs.declared.calling.Caller.{Caller}
@@ -24,6 +25,13 @@ output_of caller = caller.output
 -- the longest word that it takes and sends, in bytes
 abbrev pub most_of : {R W C : Type 0} → Caller R W C → ℕ
 most_of caller = caller.most
+
+-- what is told of what a frame holds
+abbrev pub told_as : {A : Type 0} → Content A → Result A CallError
+told_as (contents.Value value) = Ok value
+told_as contents.Damaged = Err errors.Damaged
+told_as (contents.Undecodable why) = Err (errors.Undecodable why)
+told_as (contents.Longer taken) = Err (errors.TrailingBytes taken)
 
 -- the frames are those of these values, in order
 abbrev pub AreFramesOf : {A : Type 0} → List A → List (Piece A) → Type 0

@@ -1,5 +1,5 @@
 -- One step of the loop of a server.
-use Rattle.std.specs.Prelude.{◌≡◌, ◌⊎◌, ◌+◌, ◌<◌, ◌≤◌, ◌++◌, ℕ, List, [], length, drop, Option, Result, Ok, Err}
+use Rattle.std.specs.Prelude.{◌≡◌, ◌⊎◌, ◌+◌, ◌<◌, ◌≤◌, ◌++◌, ℕ, List, length, drop, Option}
 use Rattle.std.specs.Io.KnownBytes.{Appends}
 use Rattle.bincode_base.specs.Setting.{Setting}
 use Rattle.bincode_base.specs.declared.error.DecodeError.TheVariants as decoding
@@ -16,7 +16,6 @@ use Rattle.framed_store.specs.declared.records.Content.TheVariants as contents
 use Rattle.calls.specs.Sending.{Sends}
 use Rattle.calls.specs.Serving.{Replies, EndsBy}
 use Rattle.calls.specs.declared.refusal.Refusal.{Refusal}
-use Rattle.calls.specs.declared.refusal.Refusal.TheVariants as refusals
 use Rattle.calls.specs.declared.serving.Failure.{Failure}
 use Rattle.calls.specs.declared.serving.Failure.TheVariants as failures
 use Rattle.calls.specs.declared.serving.Sending.{Sending}
@@ -54,7 +53,7 @@ IsLonger at (steps.Answered next) = at + 8 ≤ next
 module _ {T : Type 0} (V : Words T) (s : Setting) (limit : Option ℕ) (most : ℕ) where
   -- the reply was written, or nothing, since it does not fit
   abbrev pub SendsIfFit : T → Option (List ℕ) → Option (List ℕ) → Sending → Type 0
-  SendsIfFit reply before after sendings.Sent = Sends reply before after
+  SendsIfFit reply before after sendings.Sent = Sends V s limit most reply before after
   SendsIfFit reply before after (sendings.Unfit _) = (after ≡ before) × (FitsStore V s limit most reply → ⊥)
 
   -- a prefix of the reply's frame was written where the output failed
@@ -66,10 +65,10 @@ module _ {T : Type 0} (V : Words T) (s : Setting) (limit : Option ℕ) (most : �
   SendsPart reply before after (failures.Write _) = (word front back : List ℕ) × IsFitting V s limit most reply word × (frame word ≡ front ++ back) × Appends before after front
   SendsPart reply before after (failures.Unsent _) = (after ≡ before) × (FitsStore V s limit most reply → ⊥)
 
-module _ {S Q A : Type 0} (answers : S → Q → A → S → Type 0) (V : Words (Result A Refusal)) (s : Setting) (limit : Option ℕ) (most : ℕ) where
+module _ {S Q R : Type 0} (answers : S → Q → R → S → Type 0) (refuse : Refusal → R) (V : Words R) (s : Setting) (limit : Option ℕ) (most : ℕ) where
   -- what a frame holds got its reply
   abbrev pub AnswersContent : S → Content Q → S → Option (List ℕ) → Option (List ℕ) → Type 0
-  AnswersContent old content new before after = (reply : Result A Refusal) × Replies answers (FitsStore V s limit most) old content reply new × Sends V s limit most reply before after
+  AnswersContent old content new before after = (reply : R) × Replies answers refuse (FitsStore V s limit most) old content reply new × Sends V s limit most reply before after
 
   -- or it got none, or a part of it
   abbrev pub FailsAt : {E : Type 0} → (S → Q → E → Type 0) → S → Content Q → S → Option (List ℕ) → Option (List ℕ) → Failure E → Type 0
@@ -77,20 +76,20 @@ module _ {S Q A : Type 0} (answers : S → Q → A → S → Type 0) (V : Words 
   FailsAt fails old content new before after (failures.TooLong _) = ⊥
   FailsAt fails old content new before after (failures.Read _) = ⊥
   FailsAt fails old content new before after (failures.Memory _) =
-      (reply : Result A Refusal) × Replies answers (FitsStore V s limit most) old content reply new × (after ≡ before)
+      (reply : R) × Replies answers refuse (FitsStore V s limit most) old content reply new × (after ≡ before)
   FailsAt fails old content new before after (failures.Write e) =
-      (reply : Result A Refusal) × Replies answers (FitsStore V s limit most) old content reply new × ((word front back : List ℕ) × IsFitting V s limit most reply word × (frame word ≡ front ++ back) × Appends before after front)
+      (reply : R) × Replies answers refuse (FitsStore V s limit most) old content reply new × ((word front back : List ℕ) × IsFitting V s limit most reply word × (frame word ≡ front ++ back) × Appends before after front)
   FailsAt fails old content new before after (failures.Unsent _) =
-      (reply : Result A Refusal) × Replies answers (FitsStore V s limit most) old content reply new × (after ≡ before) × (FitsStore V s limit most reply → ⊥)
+      (reply : R) × Replies answers refuse (FitsStore V s limit most) old content reply new × (after ≡ before) × (FitsStore V s limit most reply → ⊥)
 
-module _ {S Q A : Type 0} (answers : S → Q → A → S → Type 0) (W : Words Q) (V : Words (Result A Refusal)) (s : Setting) (limit : Option ℕ) (most : ℕ) where
+module _ {S Q R : Type 0} (answers : S → Q → R → S → Type 0) (refuse : Refusal → R) (W : Words Q) (V : Words R) (s : Setting) (limit : Option ℕ) (most : ℕ) where
   -- the frame that the input begins with got its reply, and what follows the frame is left
   abbrev pub TakesFrame : ℕ → List ℕ → S → S → List ℕ → Option (List ℕ) → Option (List ℕ) → Step → Type 0
   TakesFrame at input old new left before after steps.End = Reads most input frames.End × (new ≡ old) × (after ≡ before)
   TakesFrame at input old new left before after steps.Torn = Reads most input frames.Torn × (new ≡ old) × (after ≡ before)
   TakesFrame at input old new left before after (steps.Answered next) =
-      (size : ℕ) × (content : Content Q) × IsRecord (W.format s) limit W.decodes_to most input size content × AnswersContent answers V s limit most old content new before after × (next ≡ at + size) × (left ≡ drop size input)
+      (size : ℕ) × (content : Content Q) × IsRecord (W.format s) limit W.decodes_to most input size content × AnswersContent answers refuse V s limit most old content new before after × (next ≡ at + size) × (left ≡ drop size input)
 
   -- it ended the loop
   abbrev pub StopsFrame : {E : Type 0} → (S → Q → E → Type 0) → List ℕ → S → S → Option (List ℕ) → Option (List ℕ) → Failure E → Type 0
-  StopsFrame fails input old new before after why = (front : List ℕ) × Appends before after front × EndsBy answers W V s limit most fails input old new front why
+  StopsFrame fails input old new before after why = (front : List ℕ) × Appends before after front × EndsBy answers refuse W V s limit most fails input old new front why

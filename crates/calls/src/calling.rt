@@ -7,10 +7,9 @@ ghost use Rattle.frames.specs.Frames.{frame};
 ghost use Rattle.framed_store.specs.Appended.{IsFitting};
 ghost use Rattle.framed_store.specs.Pieces.{Piece, ArePieces, bytes_of_all};
 ghost use Rattle.calls.specs.Calling.{AreReplies, IsNoReply, IsOutsideCall, IsReply, IsUnsent, SendsAll};
-ghost use Rattle.calls.specs.Calling.{input_of, most_of, output_of};
+ghost use Rattle.calls.specs.Calling.{input_of, most_of, output_of, told_as};
 ghost use Rattle.calls.specs.Sending.{Sends};
 
-use bincode::Wire;
 use bincode::config::Config;
 use bincode::de::Decode;
 use bincode::enc::Encode;
@@ -62,8 +61,8 @@ pub enum CallError {
     Memory(AllocError),
 }
 
-/// The side that asks, over two streams: one from the server, and one to it. For a server that `serve` runs the replies
-/// are of the type `Reply`.
+/// The side that asks, over two streams: one from the server, and one to it. The replies
+/// of a server that `serve` runs are of its service's `Reply`.
 #[derive(Drop)]
 pub struct Caller<R, W, C> {
     alloc: Global,
@@ -228,6 +227,7 @@ impl<R: Read, W: Write, C: Config> Caller<R, W, C> {
         ensures output { output_of self.new ≡ output_of self.old }
         ensures most { most_of self.new ≡ most_of self.old }
     {
+        A::tell_exact();
         match next_from_stream(
             self.alloc,
             &mut self.input,
@@ -246,7 +246,9 @@ impl<R: Read, W: Write, C: Config> Caller<R, W, C> {
 }
 
 /// The reply that a frame holds.
-fn reply_of<A>(content: Content<A>) -> Result<A, CallError> {
+fn reply_of<A>(content: Content<A>) -> Result<A, CallError>
+    ensures { result ≡ told_as content }
+{
     match content {
         Content::Value(reply) => Ok(reply),
         Content::Damaged => Err(CallError::Damaged),

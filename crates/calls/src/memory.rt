@@ -1,15 +1,14 @@
 //! Calls without streams, for the tests of a service: each request goes through a frame, the loop of the server and the
 //! frame of its reply.
-ghost use Rattle.std.specs.Prelude.{◌≡◌, ℕ, List, [], Some, IfOk, length};
+ghost use Rattle.std.specs.Prelude.{◌≡◌, ◌<◌, ℕ, List, [], Some, IfOk, length};
+ghost use Rattle.std.specs.List.{All};
 ghost use Rattle.framed_store.specs.Appended.{FitsStore};
 ghost use Rattle.calls.specs.Calling.{AreReplies, SendsAll};
 ghost use Rattle.calls.specs.Conversing.{Converses, ServesAll};
 
 use crate::calling::{CallError, Caller};
-use crate::refusal::Refusal;
 use crate::service::Service;
-use crate::serving::{Reply, ServeError, serve};
-use bincode::Wire;
+use crate::serving::{ServeError, serve};
 use bincode::config::Config;
 use bincode::de::Decode;
 use bincode::enc::Encode;
@@ -44,16 +43,20 @@ pub fn call_in_memory<S: Service, C: Config>(
     requests: &[S::Request],
     config: C,
     most: u32,
-) -> Result<Vec<Reply<S::Answer>>, MemoryCallError<S::Failure>>
+) -> Result<Vec<S::Reply>, MemoryCallError<S::Failure>>
 where
     S::Request: Encode + Exact,
     // Each reply equals what the service answers to a request that equals the one of that place, in order.
-    ensures { IfOk result (λ replies. Converses S.answers (FitsStore ⟦<Result<S::Answer, Refusal> as Wire>⟧.words
-        C.setting C.bound most) S.Request.eq ⟦<Result<S::Answer, Refusal> as PartialEq>⟧.eq (S.state service.old)
+    ensures { IfOk result (λ replies. Converses S.replies S.refusal_reply (FitsStore S.Reply.words
+        C.setting C.bound most) S.Request.eq S.Reply.eq (S.state service.old)
         requests.now replies.items (S.state service.new)) }
 {
+    S::Request::tell_exact();
+    S::Reply::tell_exact();
     let sent = frames_of(alloc, requests, config, most)?;
+    tell_bytes(&sent);
     let answered = serve_slice(alloc, service, &sent, config, most)?;
+    tell_bytes(&answered);
     replies_of(alloc, &answered, requests.len(), config, most)
 }
 
@@ -83,8 +86,8 @@ fn serve_slice<S: Service, C: Config>(
     config: C,
     most: u32,
 ) -> Result<Vec<u8>, MemoryCallError<S::Failure>>
-    ensures { IfOk result (λ answered. ServesAll S.answers S.Request.words
-        ⟦<Result<S::Answer, Refusal> as Wire>⟧.words C.setting C.bound most sent.now (S.state service.old)
+    ensures { IfOk result (λ answered. ServesAll S.replies S.refusal_reply S.Request.words
+        S.Reply.words C.setting C.bound most sent.now (S.state service.old)
         (S.state service.new) answered.items) }
 {
     let mut input = match BufReader::new(alloc, sent) {
@@ -124,4 +127,11 @@ fn replies_of<A: Decode<()> + Exact, E, C: Config>(
         Ok(replies) => Ok(replies),
         Err(why) => Err(MemoryCallError::Call(why)),
     }
+}
+
+/// Tells a proof that bytes are numbers below 256.
+fn tell_bytes(bytes: &[u8])
+    ensures { All (λ b. b < 256) bytes.now }
+{
+    let _ = bytes;
 }

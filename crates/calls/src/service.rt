@@ -1,6 +1,8 @@
 //! Services: what answers requests.
 ghost use Rattle.std.specs.Prelude.{◌≡◌, IfErr, IfOk, OnErr};
+ghost use Rattle.calls.specs.declared.refusal.Refusal.{Refusal};
 
+use crate::refusal::Refusal;
 use bincode::de::Decode;
 use bincode::enc::Encode;
 use bincode::laws::Exact;
@@ -10,8 +12,8 @@ pub trait Service {
     /// What is asked for.
     type Request: Decode<()>;
 
-    /// What is answered.
-    type Answer: Encode + Decode<()> + Exact;
+    /// What is replied: an answer or a refusal, as `Result<Answer, Refusal>`.
+    type Reply: Encode + Decode<()> + Exact;
 
     /// Why the service cannot go on: memory that was refused, or a file that failed.
     type Failure;
@@ -22,16 +24,23 @@ pub trait Service {
     /// The state that a service is in.
     ghost state: { Self → State };
 
-    /// In a state a request gets an answer, and leads to another state.
-    ghost answers: { State → Self.Request → Self.Answer → State → Type 0 };
+    /// In a state a request gets a reply, and leads to another state.
+    ghost replies: { State → Self.Request → Self.Reply → State → Type 0 };
 
     /// In a state the service fails at a request, for this reason.
     ghost fails: { State → Self.Request → Self.Failure → Type 0 };
 
-    /// Answers a request. What the caller may not do is an answer too. Fails where the service cannot go on, and then
-    /// leaves the state as it was.
-    fn answer(&mut self, request: Self::Request) -> Result<Self::Answer, Self::Failure>
-        ensures answered { IfOk result (λ answer. answers (state self.old) request answer (state self.new)) }
+    /// The reply to a frame that holds no request.
+    ghost refusal_reply: { Refusal → Self.Reply };
+
+    /// Answers a request. That the service does not do what is asked for is a reply too. Fails where the service cannot
+    /// go on, and then leaves the state as it was.
+    fn answer(&mut self, request: Self::Request) -> Result<Self::Reply, Self::Failure>
+        ensures replied { IfOk result (λ reply. replies (state self.old) request reply (state self.new)) }
         ensures failed { IfErr result (fails (state self.old) request) }
         ensures unchanged { OnErr result (state self.new ≡ state self.old) };
+
+    /// The reply to a frame that holds no request. `Err(refusal)` for a reply that is a `Result`.
+    fn refuse(refusal: Refusal) -> Self::Reply
+        ensures { result ≡ refusal_reply refusal };
 }

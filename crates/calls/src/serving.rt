@@ -1,5 +1,6 @@
 //! The loop of a server: requests in frames from one stream, and their answers in frames to another.
-ghost use Rattle.std.specs.Prelude.{◌↔◌, ◌+◌, ◌≤◌, Err, IfErr, IfOk, IsTrue, OnOk, vec_len};
+ghost use Rattle.std.specs.Prelude.{◌↔◌, ◌+◌, ◌≤◌, IfErr, IfOk, IsTrue, OnOk, vec_len};
+ghost use Rattle.std.specs.Io.Buffered.{reader_remaining};
 ghost use Rattle.std.specs.Io.KnownBytes.{Keeps};
 ghost use Rattle.bincode_io.specs.Stream.{TellsBytes, known_bytes};
 ghost use Rattle.framed_store.specs.declared.records.Content.TheVariants.{Value};
@@ -10,7 +11,6 @@ ghost use Rattle.calls.specs.ServingSteps.{SendsIfFit, SendsPart, StopsFrame, Ta
 
 use crate::refusal::{Fault, Refusal};
 use crate::service::Service;
-use bincode::Wire;
 use bincode::config::Config;
 use bincode::de::Decode;
 use bincode::enc::Encode;
@@ -28,9 +28,6 @@ use thiserror::Error;
 
 /// The number of bytes of a length.
 const FIELD: usize = 4;
-
-/// What a reply is: the service's answer, or why there is none.
-pub type Reply<A> = Result<A, Refusal>;
 
 /// What was served.
 #[derive(Clone, Copy, Debug, Drop, PartialEq)]
@@ -96,14 +93,14 @@ pub fn serve<S: Service, C: Config, R: Read, W: Write>(
     ensures room { vec_len buffer.new ≤ 8 + most }
     // These clauses speak of input whose bytes are known. Each of its frames got one reply, in order; it ends after
     // them, or within a frame.
-    ensures served { TellsBytes (⟦<BufReader<R> as Read>⟧.remaining input.old) → IfOk result (IsServed S.answers
-        S.Request.words ⟦<Result<S::Answer, Refusal> as Wire>⟧.words C.setting C.bound most
-        (known_bytes (⟦<BufReader<R> as Read>⟧.remaining input.old)) (S.state service.old) (S.state service.new)
+    ensures served { TellsBytes (reader_remaining R.remaining input.old) → IfOk result (IsServed S.replies S.refusal_reply
+        S.Request.words S.Reply.words C.setting C.bound most
+        (known_bytes (reader_remaining R.remaining input.old)) (S.state service.old) (S.state service.new)
         (W.contents output.old) (W.contents output.new)) }
     // After an error the frames before the place did, and what stands there is told.
-    ensures stopped { TellsBytes (⟦<BufReader<R> as Read>⟧.remaining input.old) → IfErr result (IsStopped S.answers
-        S.fails S.Request.words ⟦<Result<S::Answer, Refusal> as Wire>⟧.words C.setting C.bound most
-        (known_bytes (⟦<BufReader<R> as Read>⟧.remaining input.old)) (S.state service.old) (S.state service.new)
+    ensures stopped { TellsBytes (reader_remaining R.remaining input.old) → IfErr result (IsStopped S.replies S.refusal_reply
+        S.Request.words S.Reply.words C.setting C.bound most S.fails
+        (known_bytes (reader_remaining R.remaining input.old)) (S.state service.old) (S.state service.new)
         (W.contents output.old) (W.contents output.new)) }
 {
     let mut answers = 0;
@@ -155,23 +152,23 @@ fn serve_next<S: Service, C: Config, R: Read, W: Write>(
 ) -> Result<Step, Failure<S::Failure>>
     ensures room { vec_len buffer.new ≤ 8 + most }
     ensures longer { IfOk result (IsLonger offset) }
-    ensures takes { TellsBytes (⟦<BufReader<R> as Read>⟧.remaining input.old) → IfOk result (TakesFrame S.answers
-        S.Request.words ⟦<Result<S::Answer, Refusal> as Wire>⟧.words C.setting C.bound most offset
-        (known_bytes (⟦<BufReader<R> as Read>⟧.remaining input.old)) (S.state service.old) (S.state service.new)
-        (known_bytes (⟦<BufReader<R> as Read>⟧.remaining input.new)) (W.contents output.old) (W.contents output.new)) }
-    ensures stops { TellsBytes (⟦<BufReader<R> as Read>⟧.remaining input.old) → IfErr result (StopsFrame S.answers
-        S.fails S.Request.words ⟦<Result<S::Answer, Refusal> as Wire>⟧.words C.setting C.bound most
-        (known_bytes (⟦<BufReader<R> as Read>⟧.remaining input.old)) (S.state service.old) (S.state service.new)
+    ensures takes { TellsBytes (reader_remaining R.remaining input.old) → IfOk result (TakesFrame S.replies S.refusal_reply
+        S.Request.words S.Reply.words C.setting C.bound most offset
+        (known_bytes (reader_remaining R.remaining input.old)) (S.state service.old) (S.state service.new)
+        (known_bytes (reader_remaining R.remaining input.new)) (W.contents output.old) (W.contents output.new)) }
+    ensures stops { TellsBytes (reader_remaining R.remaining input.old) → IfErr result (StopsFrame S.replies S.refusal_reply
+        S.Request.words S.Reply.words C.setting C.bound most S.fails
+        (known_bytes (reader_remaining R.remaining input.old)) (S.state service.old) (S.state service.new)
         (W.contents output.old) (W.contents output.new)) }
-    ensures is_known { TellsBytes (⟦<BufReader<R> as Read>⟧.remaining input.old)
-        → TellsBytes (⟦<BufReader<R> as Read>⟧.remaining input.new) }
+    ensures is_known { TellsBytes (reader_remaining R.remaining input.old)
+        → TellsBytes (reader_remaining R.remaining input.new) }
 {
     match next_from_stream(alloc, input, buffer, config, most) {
         Ok(Next::End) => Ok(Step::End),
         Ok(Next::Torn) => Ok(Step::Torn),
         Ok(Next::TooLong(length)) => {
             let refusal = Refusal::TooLong { length, most };
-            refuse::<S::Answer, S::Failure, C, W>(alloc, output, refusal, config, most)?;
+            refuse::<S, C, W>(alloc, output, refusal, config, most)?;
             Err(Failure::TooLong(length))
         }
         Ok(Next::Record { size, content }) => {
@@ -198,27 +195,25 @@ fn answer_frame<S: Service, C: Config, W: Write>(
     config: C,
     most: u32,
 ) -> Result<(), Failure<S::Failure>>
-    ensures answered { OnOk result (AnswersContent S.answers ⟦<Result<S::Answer, Refusal> as Wire>⟧.words C.setting
+    ensures answered { OnOk result (AnswersContent S.replies S.refusal_reply S.Reply.words C.setting
         C.bound most (S.state service.old) content (S.state service.new) (W.contents output.old)
         (W.contents output.new)) }
-    ensures failed { IfErr result (FailsAt S.answers S.fails ⟦<Result<S::Answer, Refusal> as Wire>⟧.words C.setting
-        C.bound most (S.state service.old) content (S.state service.new) (W.contents output.old)
+    ensures failed { IfErr result (FailsAt S.replies S.refusal_reply S.Reply.words C.setting
+        C.bound most S.fails (S.state service.old) content (S.state service.new) (W.contents output.old)
         (W.contents output.new)) }
 {
     match content {
         Content::Value(request) => answer_request(alloc, service, output, request, config, most),
-        Content::Damaged => {
-            refuse::<S::Answer, S::Failure, C, W>(alloc, output, Refusal::Damaged, config, most)
-        }
+        Content::Damaged => { refuse::<S, C, W>(alloc, output, Refusal::Damaged, config, most) }
         Content::Undecodable(why) => {
             let refusal = Refusal::Undecodable(Fault::of_error(&why));
-            refuse::<S::Answer, S::Failure, C, W>(alloc, output, refusal, config, most)
+            refuse::<S, C, W>(alloc, output, refusal, config, most)
         }
         Content::Longer { taken } => {
             let refusal = Refusal::TrailingBytes {
                 taken: taken as u64,
             };
-            refuse::<S::Answer, S::Failure, C, W>(alloc, output, refusal, config, most)
+            refuse::<S, C, W>(alloc, output, refusal, config, most)
         }
     }
 }
@@ -232,48 +227,43 @@ fn answer_request<S: Service, C: Config, W: Write>(
     config: C,
     most: u32,
 ) -> Result<(), Failure<S::Failure>>
-    ensures answered { OnOk result (AnswersContent S.answers ⟦<Result<S::Answer, Refusal> as Wire>⟧.words C.setting
+    ensures answered { OnOk result (AnswersContent S.replies S.refusal_reply S.Reply.words C.setting
         C.bound most (S.state service.old) (Value request) (S.state service.new) (W.contents output.old)
         (W.contents output.new)) }
-    ensures failed { IfErr result (FailsAt S.answers S.fails ⟦<Result<S::Answer, Refusal> as Wire>⟧.words C.setting
-        C.bound most (S.state service.old) (Value request) (S.state service.new) (W.contents output.old)
+    ensures failed { IfErr result (FailsAt S.replies S.refusal_reply S.Reply.words C.setting
+        C.bound most S.fails (S.state service.old) (Value request) (S.state service.new) (W.contents output.old)
         (W.contents output.new)) }
 {
     match service.answer(request) {
-        Ok(answer) => {
-            let reply: Reply<S::Answer> = Ok(answer);
-            match send_reply(alloc, output, &reply, config, most)? {
-                Sending::Sent => Ok(()),
-                Sending::Unfit(_) => refuse::<S::Answer, S::Failure, C, W>(
-                    alloc,
-                    output,
-                    Refusal::AnswerTooLong,
-                    config,
-                    most,
-                ),
+        Ok(reply) => match send_reply(alloc, output, &reply, config, most) {
+            Ok(Sending::Sent) => Ok(()),
+            Ok(Sending::Unfit(_)) => {
+                refuse::<S, C, W>(alloc, output, Refusal::AnswerTooLong, config, most)
             }
-        }
+            Err(why) => Err(why),
+        },
         Err(why) => Err(Failure::Service(why)),
     }
 }
 
 /// Sends a refusal.
-fn refuse<A: Encode + Decode<()> + Exact, E, C: Config, W: Write>(
+fn refuse<S: Service, C: Config, W: Write>(
     alloc: Global,
     output: &mut W,
     refusal: Refusal,
     config: C,
     most: u32,
-) -> Result<(), Failure<E>>
-    ensures sent { OnOk result (Sends ⟦<Result<A, Refusal> as Wire>⟧.words C.setting C.bound most (Err refusal)
+) -> Result<(), Failure<S::Failure>>
+    ensures sent { OnOk result (Sends S.Reply.words C.setting C.bound most (S.refusal_reply refusal)
         (W.contents output.old) (W.contents output.new)) }
-    ensures failed { IfErr result (SendsPart ⟦<Result<A, Refusal> as Wire>⟧.words C.setting C.bound most (Err refusal)
+    ensures failed { IfErr result (SendsPart S.Reply.words C.setting C.bound most (S.refusal_reply refusal)
         (W.contents output.old) (W.contents output.new)) }
 {
-    let reply: Reply<A> = Err(refusal);
-    match send_reply(alloc, output, &reply, config, most)? {
-        Sending::Sent => Ok(()),
-        Sending::Unfit(why) => Err(Failure::Unsent(why)),
+    let reply = S::refuse(refusal);
+    match send_reply(alloc, output, &reply, config, most) {
+        Ok(Sending::Sent) => Ok(()),
+        Ok(Sending::Unfit(why)) => Err(Failure::Unsent(why)),
+        Err(why) => Err(why),
     }
 }
 
