@@ -458,12 +458,16 @@ class Server:
                     return False
         return True
 
-    def answers(self, count, seconds=SECONDS):
-        """Waits for so many bytes of answers. Returns whether they came."""
-        end = time.monotonic() + seconds
-        while len(self.got) < count and self.receive(end - time.monotonic()):
-            pass
-        return len(self.got) >= count
+    def answers(self, count, start=0, seconds=SECONDS):
+        """Waits for so many answers behind a place of what was got. Returns whether they came."""
+        end, at = time.monotonic() + seconds, start
+        while count:
+            size = 8 + int.from_bytes(self.got[at : at + 4], "little") if at + 4 <= len(self.got) else 8
+            if at + size <= len(self.got):
+                at, count = at + size, count - 1
+            elif not self.receive(end - time.monotonic()):
+                return False
+        return True
 
     def close_input(self):
         self.process.stdin.close()
@@ -666,13 +670,14 @@ def in_turn(program, folder, numbers, asked):
             frames += [read for _, read in any_frames(numbers, numbers.randint(2, 9) if "several" in way else 1 - len(frames))]
             following = right(numbers) if "part" in way else b""
             part = numbers.randrange(1, len(following)) if following else 0
-            wanted = b"".join(frame(word) for whole in frames for _, word in served(stock, whole)[0])
+            wanted = [word for whole in frames for _, word in served(stock, whole)[0]]
             # `left` was sent in part before, so that its rest alone is sent now
-            server.send([b"".join(frames)[sent if left else 0 :] + following[:part]] if numbers.random() < 0.7 else [b"".join(frames)[sent if left else 0 :], following[:part]])
-            came = server.answers(count + len(wanted), seconds=5)
+            unsent = b"".join(frames)[sent if left else 0 :]
+            server.send([unsent + following[:part]] if numbers.random() < 0.7 else [unsent, following[:part]])
+            came = server.answers(len(wanted), start=count, seconds=5)
             got = bytes(server.got[count:])
             count += len(got)
-            if not tries.want(came and right_answers(got, words_in(wanted)[0]), f"{way}, {number_}: {first_wrong(got, words_in(wanted)[0])} came before more was sent"):
+            if not tries.want(came and right_answers(got, wanted), f"{way}, {number_}: {first_wrong(got, wanted)} came before more was sent"):
                 break
             left, sent = following, part
         server.send([left[sent:]] if left else [])
@@ -731,7 +736,7 @@ def closed(program, folder, numbers, asked):
         frames = [right(numbers) for _ in range(200)]
         if number_ % 3:
             server.send(frames[: numbers.randint(1, 200)])
-            server.answers(numbers.randint(1, 400), seconds=1)
+            server.answers(numbers.randint(1, 30), seconds=1)
         server.process.stdout.close()
         server.is_ended, os_end = True, time.monotonic() + 10
         if number_ % 3 == 2:  # one request more, and the input stays open
@@ -902,7 +907,7 @@ def killed(program, folder, numbers, asked):
         if number_ < 5:  # how long a start takes
             begin = time.monotonic()
             server.send([frame(word_of(("get", b"tea")))])
-            server.answers(11)
+            server.answers(1)
             started = max(0.002, time.monotonic() - begin)
             server.got.clear()
         timer = threading.Timer(numbers.random() * (started * 2 + 0.02), server.process.kill)
@@ -916,7 +921,7 @@ def killed(program, folder, numbers, asked):
                 while server.receive(5) and server.process.poll() is None and len(sent) > 2000:
                     pass
             else:
-                server.answers(before_bytes + 11, seconds=10)
+                server.answers(1, start=before_bytes, seconds=10)
         timer.join()
         while server.receive(1):
             pass
