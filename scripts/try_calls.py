@@ -10,7 +10,7 @@ printed for each group of tries, with how many there were and how many were answ
 
 Statuses that it wants of `serve`: 0 the input ended after a frame, 1 within one or before a length above the longest, 2 wrong use, 3 a stream or a file failed.
 """
-import argparse, fcntl, functools, multiprocessing, os, random, re, select, signal, subprocess, sys, tempfile, termios, threading, time
+import argparse, fcntl, functools, multiprocessing, os, random, re, select, shutil, signal, subprocess, sys, tempfile, termios, threading, time
 from pathlib import Path
 
 DONE, TORN, USAGE, DEVICE, REFUSED = 0, 1, 2, 3, 4
@@ -883,7 +883,7 @@ def logs(program, folder, numbers, asked):
     tries, log, stock = Tries("logs"), folder / "log", Stock()
     log.unlink(missing_ok=True)
     for number_ in range(asked.rounds // 4):
-        frames = [read for _, read in any_frames(numbers, numbers.randint(0, 15))]
+        frames = [read for _, read in any_frames(numbers, numbers.randint(0, 15))] + [at_the_limit(numbers)] * (number_ % 10 == 1)
         stream = b"".join(frames) + (torn(numbers) if number_ % 5 == 0 else b"")
         wanted, status, _ = served(stock, stream)
         ended, got, said = run(program, "serve", "--log", str(log), given=stream)
@@ -997,11 +997,62 @@ def spoilt_logs(program, folder, numbers, asked):
             status, got, said = run(program, "serve", "--log", str(log), given=frame(word_of(("add", b"tea", 1))))
             tries.want(status in (TORN, DEVICE) and not got and said and log.read_bytes() == bytes(spoilt), f"byte {place} changed: status {status}, {list(got)}, {said.strip()!r}")
         at += len(read)
+    for number_, end in enumerate(ends[1:]):
+        for bit in range(32):
+            spoilt = bytearray(held)
+            spoilt[ends[number_] + bit // 8] ^= 1 << bit % 8
+            length = int.from_bytes(spoilt[ends[number_] : ends[number_] + 4], "little")
+            log.write_bytes(spoilt)
+            status, got, said = run(program, "serve", "--log", str(log), given=frame(word_of(("get", b"tea"))))
+            may_be_torn = number_ == len(frames) - 1 and end - ends[number_] - 8 < length <= LONGEST
+            refused = status in (TORN, DEVICE) and not got and said and log.read_bytes() == bytes(spoilt)
+            gone_on = may_be_torn and status == DONE and log.read_bytes() == held[: ends[number_]]
+            tries.want(refused or gone_on, f"frame {number_}, bit {bit} of its length changed: status {status}, {list(got)}, {said.strip()!r}")
     for name, further in [("trailing bytes", frame(word_of(("add", b"x", 1)) + b"\0")), ("an unknown tag", frame(bytes([3]))), ("an empty word", frame(b"")), ("a long length", b"\xff" * 4), ("no text", frame(bytes([0, 1, 255, 5]))),
                           ("more than there are", frame(word_of(("take", b"salt", 100)))), ("zeros", bytes(64))]:  # fmt: skip
         log.write_bytes(held + further)
         status, got, said = run(program, "serve", "--log", str(log), given=frame(word_of(("get", b"tea"))))
         tries.want(status in (TORN, DEVICE) and not got and said and log.read_bytes() == held + further, f"{name}: status {status}, {list(got)}, {said.strip()!r}")
+    return tries.done()
+
+
+def synced(program, folder, numbers, asked):
+    """Of what a server calls: after a write to the log no answer is written before the log is brought to the disk. And no second server takes a log that one has."""
+    tries, log, calls = Tries("changes on the disk before their answers"), folder / "synced", folder / "calls"
+    for count in (1, 2, 30, 300):
+        log.unlink(missing_ok=True)
+        given = b"".join(frame(word_of(("add", b"tea", at + 1))) for at in range(count))
+        command = ["strace", "-f", "-o", str(calls), "-e", "trace=open,openat,write,writev,pwrite64,fsync,fdatasync", program, "serve", "--log", str(log)]
+        if not shutil.which("strace") or subprocess.run(["strace", "true"], stderr=subprocess.DEVNULL).returncode:
+            print("  no calls can be seen here: not tried", flush=True)
+            break
+        ran = subprocess.run(command, input=given, stdout=subprocess.DEVNULL, stderr=subprocess.PIPE)
+        tries.want(ran.returncode == DONE, f"{count} changes: status {ran.returncode}, {ran.stderr[-300:]!r}")
+        is_open, is_dirty, syncs, answers = False, False, 0, 0
+        for line in calls.read_text(errors="replace").splitlines():
+            called = re.search(r"(\w+)\((\w+)", line)
+            if not called:
+                continue
+            if called[1].startswith("open"):
+                is_open = is_open or (str(log) in line and "SYNC" in line)
+            elif called[1].endswith("sync"):
+                is_dirty, syncs = False, syncs + 1
+            elif called[2] == "1":
+                answers += 1
+                tries.want(not is_dirty or is_open, f"{count} changes: {line[:200]} before the log is brought to the disk")
+            elif called[2] != "2":
+                is_dirty = True
+        tries.want(answers and (syncs or is_open), f"{count} changes: {syncs} syncs, {answers} writes of answers")
+        print(f"  {count} changes: {syncs} syncs, {answers} writes of answers", flush=True) if asked.only else None
+    log.unlink(missing_ok=True)
+    server = Server(program, "--log", log)
+    server.send([frame(word_of(("add", b"tea", 5)))])
+    tries.want(server.answers(1), "the first of two servers does not answer")
+    status, got, said = run(program, "serve", "--log", str(log), given=frame(word_of(("add", b"tea", 1))))
+    tries.want(status == DEVICE and not got and said, f"the second of two servers: status {status}, {list(got)}, {said.strip()!r}")
+    server.send([frame(word_of(("get", b"tea")))])
+    status, said = server.end()
+    tries.want(status == DONE and right_answers(server.got, [b"\0\0\5", b"\0\0\5"]) and changes_in(log) == ([("add", b"tea", 5)], 0), f"the first of two servers: status {status}, {said.strip()!r}")
     return tries.done()
 
 
@@ -1052,7 +1103,7 @@ def main():
     print(f"seed {asked.seed}", flush=True)
     wrong = 0
     with tempfile.TemporaryDirectory() as folder:
-        for group in (at_random, each_end, small_writes, in_turn, not_read, closed, other_uses, hungry, asked_and_shown, logs, killed, spoilt_logs, full_disk):
+        for group in (at_random, each_end, small_writes, in_turn, not_read, closed, other_uses, hungry, asked_and_shown, logs, killed, spoilt_logs, synced, full_disk):
             if asked.only in group.__name__:
                 wrong += group(program, Path(folder), random.Random(f"{asked.seed} {group.__name__}"), asked)
     sys.exit(1 if wrong else 0)
