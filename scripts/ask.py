@@ -26,14 +26,19 @@ def check(read):
 
 def number(value):
     """The shortest spelling of a number."""
-    width = next(width for width in (0, 2, 4, 8) if value < (256**width if width else 251))
-    return bytes([{2: 251, 4: 252, 8: 253}[width]] if width else []) + value.to_bytes(width or 1, "little")
+    if value < 251:
+        return bytes([value])
+    for first, width in (251, 2), (252, 4), (253, 8):
+        if value < 256**width:
+            return bytes([first]) + value.to_bytes(width, "little")
+    raise ValueError(f"{value} has more than 64 bits")
 
 
 def frame(line):
     """The frame of a request, which is given in words."""
-    kind, name, *count = line.split()
-    if len(count) != (kind != "get") or not all(digits.isascii() and digits.isdigit() for digits in count):
+    kind, name = line.split(" ", 1)
+    name, *count = [name] if kind == "get" else name.rsplit(" ", 1)
+    if not name or len(count) != (kind != "get") or not all(digits.isascii() and digits.isdigit() for digits in count):
         raise ValueError(line)
     word = number(["add", "take", "get"].index(kind)) + number(len(name.encode())) + name.encode() + b"".join(number(int(digits)) for digits in count)
     checked = len(word).to_bytes(4, "little") + word
@@ -87,7 +92,7 @@ def main():
     cut = words.index("--") if "--" in words else len(words)
     try:
         frames, server = [frame(line) for line in words[:cut]], words[cut + 1 :]
-    except (ValueError, StopIteration) as why:
+    except ValueError as why:
         return 2, f"no request: {why}"
     if not frames or not server:
         return 2, __doc__
