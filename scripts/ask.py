@@ -11,7 +11,7 @@ import subprocess, sys
 MOST = 65536
 REFUSALS = ["the frame is damaged", "its length of {} is above {}", "it is no request: {}", "bytes follow the {} of a request", "its answer is too long to be sent"]
 FAULTS = ["it passes the limit", "it ends early by {} bytes", "no variant has the tag {}", "a number has a wrong tag byte", "a number is 0", "the byte of a truth value is {}",
-          "a character is not UTF-8", "a text is not UTF-8", "a duration is too long", "a text has a zero at byte {}", "a value is refused"]  # fmt: skip
+          "a character is not UTF-8", "a text is not UTF-8", "a duration is too long", "a text has a zero at byte {}", "a value is refused"]
 
 
 def check(read):

@@ -213,7 +213,7 @@ def requests_in(read):
 NAMES = [text.encode() for text in ("tea", "salt", "a b", "Émile", "茶", "🍵", "\0", "", "n" * 250, "m" * 251, "o" * 300)]
 COUNTS = [0, 1, 2, 3, 5, 9, 250, 251, 65535, 65536, 2**32 - 1, 2**32, 2**63, 2**64 - 1]
 NO_TEXTS = [bytes(read) for read in ([128], [193, 191], [192, 128], [195], [195, 40], [224, 159, 191], [237, 160, 128], [237, 191, 191], [240, 143, 191, 191], [244, 144, 128, 128],
-                                      [245, 128, 128, 128], [255], [226, 130], [240, 159, 141], [65, 254], [191, 191])]  # fmt: skip
+                                      [245, 128, 128, 128], [255], [226, 130], [240, 159, 141], [65, 254], [191, 191])]
 
 
 def any_name(numbers):
@@ -256,7 +256,7 @@ def wrong_check(numbers):
     checked, check = good[:-4], good[-4:]
     return checked + numbers.choice([
         (int.from_bytes(check, "little") ^ numbers.randrange(1, 2**32)).to_bytes(4, "little"), check[::-1], bytes(4), bytes([255] * 4), crc32c(checked[4:]).to_bytes(4, "little"),
-        zlib.crc32(checked).to_bytes(4, "little"), (crc32c(checked) ^ 0xFFFFFFFF).to_bytes(4, "little")])  # fmt: skip
+        zlib.crc32(checked).to_bytes(4, "little"), (crc32c(checked) ^ 0xFFFFFFFF).to_bytes(4, "little")])
 
 
 def flipped(read, numbers, least, most):
@@ -302,7 +302,8 @@ def long_length(numbers):
 
 @functools.lru_cache(maxsize=None)
 def name_of_length(kind, length, widths, is_cut):
-    word = spelled(KINDS.index(kind), widths[0]) + spelled(length, widths[1]) + b"\xc3\xa9" * (length // 2) + b"e" * (length % 2) + (b"" if kind == "get" else spelled(1, widths[2]))
+    name = b"\xc3\xa9" * (length // 2) + b"e" * (length % 2)
+    word = spelled(KINDS.index(kind), widths[0]) + spelled(length, widths[1]) + name + (b"" if kind == "get" else spelled(1, widths[2]))
     word = word[:-1] if is_cut else word
     return frame(word) if len(word) <= LONGEST else right(random.Random(length))
 
@@ -342,7 +343,7 @@ def any_word(numbers):
 
 
 FRAMES = [(right, 40), (longer_spellings, 8), (at_the_brim, 8), (wrong_check, 6), (flipped_bits, 6), (cut_word, 6), (trailing_bytes, 5), (unknown_tag, 4), (wrong_tag_byte, 4),
-          (long_length, 4), (at_the_limit, 0.35), (no_text, 4), (empty_word, 2), (huge, 0.35), (any_word, 4)]  # fmt: skip
+          (long_length, 4), (at_the_limit, 0.35), (no_text, 4), (empty_word, 2), (huge, 0.35), (any_word, 4)]
 FRAMES, WEIGHTS = [kind for kind, _ in FRAMES], [weight for _, weight in FRAMES]
 
 
@@ -649,7 +650,10 @@ def small_writes(program, folder, numbers, asked):
                     break
                 at += step
         status, said = server.end()
-        tries.want(status == DONE and right_answers(server.got, expected), f"by 1 to 7 bytes: status {status}, {first_wrong(server.got, expected)}, {said.strip()!r}")
+        tries.want(
+            status == DONE and right_answers(server.got, expected),
+            f"by 1 to 7 bytes: status {status}, {first_wrong(server.got, expected)}, {said.strip()!r}",
+        )
     for count in (1, 100, 5000, 20000):
         stock, server = Stock(), Server(program)
         stream = b"".join(frame(word_of(("add", numbers.choice(NAMES[:8]), numbers.randrange(300)))) for _ in range(count))
@@ -689,7 +693,7 @@ def in_turn(program, folder, numbers, asked):
         status, said = server.end(closes=False, seconds=5)
         words, rest = words_in(bytes(server.got))
         tries.want(status == TORN and not rest and words[1:] == [bytes([1, 1]) + number(length) + number(LONGEST)] and tells(said, 1),
-                   f"a length of {length}, and the input stays open: status {status}, {words}, {said.strip()!r}")  # fmt: skip
+                   f"a length of {length}, and the input stays open: status {status}, {words}, {said.strip()!r}")
     return tries.done()
 
 
@@ -773,7 +777,7 @@ def other_uses(program, folder, numbers, asked):
         (("ask", "add tea"), USAGE), (("ask", "add tea x"), USAGE), (("ask", "add tea -1"), USAGE), (("ask", "add tea 18446744073709551616"), USAGE), (("ask", "take tea"), USAGE),
         (("ask", "get"), USAGE), (("ask", "get "), USAGE), (("ask", ""), USAGE), (("ask", "put tea 1"), USAGE), (("--help",), DONE), (("--version",), DONE),
         (("serve", "--log", str(folder)), DEVICE), (("serve", "--log", str(folder / "no" / "log")), DEVICE),
-    ]:  # fmt: skip
+    ]:
         status, printed, said = run(program, *words, given=good)
         tries.want(status == wanted and (said or status == DONE), f"{words}: status {status}, {said.strip()[:200]!r}")
     for words in (("serve",), ("show",)):
@@ -794,13 +798,16 @@ def hungry(program, folder, numbers, asked):
     import resource
 
     for name, read in [("lengths of texts", b"".join(long_length(numbers) for _ in range(3000))), ("huge frames", b"".join(huge(numbers) for _ in range(300))),
-                       ("a length of 65,536 alone", LONGEST.to_bytes(4, "little")), ("a length of 2^32 - 1 alone", b"\xff" * 4)]:  # fmt: skip
+                       ("a length of 65,536 alone", LONGEST.to_bytes(4, "little")), ("a length of 2^32 - 1 alone", b"\xff" * 4)]:
         wanted, status, _ = served(Stock(), read)
         process = subprocess.Popen(["sh", "-c", 'ulimit -v 65536; exec "$0" serve', program], stdin=subprocess.PIPE, stdout=subprocess.PIPE, stderr=subprocess.DEVNULL)
         before = resource.getrusage(resource.RUSAGE_CHILDREN).ru_maxrss
         got, _ = process.communicate(read, timeout=60)
         after = resource.getrusage(resource.RUSAGE_CHILDREN).ru_maxrss
-        tries.want(process.returncode == status and right_answers(got, [word for _, word in wanted]), f"{name}: status {process.returncode}, {first_wrong(got, [word for _, word in wanted])}")
+        tries.want(
+            process.returncode == status and right_answers(got, [word for _, word in wanted]),
+            f"{name}: status {process.returncode}, {first_wrong(got, [word for _, word in wanted])}",
+        )
         print(f"  {name}: at most {max(before, after)} KiB of any process so far", flush=True) if asked.only else None
     return tries.done()
 
@@ -816,17 +823,21 @@ def line_of(word):
 def are_lines(printed, words):
     lines = printed.decode(errors="replace").split("\n")
     return lines[-1] == "" and len(lines) - 1 == len(words) and all(
-        line.startswith("refused: ") and len(line) > 9 if wanted == "refused: " else line == wanted for line, wanted in zip(lines, map(line_of, words)))  # fmt: skip
+        line.startswith("refused: ") and len(line) > 9 if wanted == "refused: " else line == wanted for line, wanted in zip(lines, map(line_of, words)))
 
 
 def asked_and_shown(program, folder, numbers, asked):
     """What `ask` sends, what `show` prints of answers of every kind, also torn and damaged, and both around a server."""
     tries = Tries("ask and show")
     for _ in range(asked.rounds // 2):
-        requests = [(kind, name.replace(b" ", b"_").replace(b"\0", b"0") or b"x", *count) for kind, name, *count in (any_request(numbers) for _ in range(numbers.randint(1, 8)))]
+        drawn = [any_request(numbers) for _ in range(numbers.randint(1, 8))]
+        requests = [(kind, name.replace(b"\0", b"0") or b"x", *count) for kind, name, *count in drawn]
         spoken = [b" ".join([kind.encode(), name, *(str(value).encode() for value in count)]) for kind, name, *count in requests]
         status, sent, said = run(program, "ask", *spoken)
-        tries.want(status == DONE and sent == b"".join(frame(word_of(request)) for request in requests), f"ask {spoken}: status {status}, {list(sent)[:60]}, {said.strip()!r}")
+        tries.want(
+            status == DONE and sent == b"".join(frame(word_of(request)) for request in requests),
+            f"ask {spoken}: status {status}, {list(sent)[:60]}, {said.strip()!r}",
+        )
         stock = Stock()
         answers = [word for _, word in served(stock, sent)[0]]
         status, got, said = run(program, "serve", given=sent)
@@ -835,11 +846,14 @@ def asked_and_shown(program, folder, numbers, asked):
         wanted = DONE if all(word[:2] == b"\0\0" for word in answers) else REFUSED
         tries.want(status == wanted and are_lines(printed, answers), f"show: status {status} in place of {wanted}, {printed[:200]!r}, {said.strip()!r}")
     refusals = [[1, 0], [1, 1, 252, 1, 0, 1, 0, 252, 0, 0, 1, 0], [1, 2, 0], [1, 2, 1, 5], [1, 2, 2, 3], [1, 2, 3], [1, 2, 4], [1, 2, 5, 9], [1, 2, 6], [1, 2, 7], [1, 2, 8], [1, 2, 9, 4],
-                [1, 2, 10], [1, 3, 6], [1, 4]]  # fmt: skip
+                [1, 2, 10], [1, 3, 6], [1, 4]]
     answers = [bytes([0, kind]) + number(value) for kind in range(3) for value in COUNTS] + list(map(bytes, refusals))
     for word in answers:
         status, printed, said = run(program, "show", given=frame(word))
-        tries.want(status == (DONE if word[:2] == b"\0\0" else REFUSED) and are_lines(printed, [word]), f"show {list(word)}: status {status}, {printed!r}, {said.strip()!r}")
+        tries.want(
+            status == (DONE if word[:2] == b"\0\0" else REFUSED) and are_lines(printed, [word]),
+            f"show {list(word)}: status {status}, {printed!r}, {said.strip()!r}",
+        )
     status, printed, _ = run(program, "show", given=b"".join(map(frame, answers)))
     tries.want(status == REFUSED and are_lines(printed, answers), f"show of all: status {status}")
     tries.want(run(program, "show")[:2] == (DONE, b""), "show of nothing")
@@ -852,7 +866,10 @@ def asked_and_shown(program, folder, numbers, asked):
     spoilt = [frame(word) for word in bad] + [frame(answers[0])[:-1] + b"\0", (LONGEST + 1).to_bytes(4, "little"), b"\xff" * 4 + b"more"]
     for read in spoilt:
         status, printed, said = run(program, "show", given=frame(answers[3]) + read)
-        tries.want(status == TORN and printed.split(b"\n")[0].decode() == line_of(answers[3]) and said, f"show {list(read)[:40]}: status {status}, {printed!r}, {said.strip()!r}")
+        tries.want(
+            status == TORN and printed.split(b"\n")[0].decode() == line_of(answers[3]) and said,
+            f"show {list(read)[:40]}: status {status}, {printed!r}, {said.strip()!r}",
+        )
     return tries.done()
 
 
@@ -887,7 +904,10 @@ def logs(program, folder, numbers, asked):
         stream = b"".join(frames) + (torn(numbers) if number_ % 5 == 0 else b"")
         wanted, status, _ = served(stock, stream)
         ended, got, said = run(program, "serve", "--log", str(log), given=stream)
-        tries.want(ended == status and right_answers(got, [word for _, word in wanted]), f"{number_}: status {ended} in place of {status}, {first_wrong(got, [word for _, word in wanted])}, {said.strip()!r}")
+        tries.want(
+            ended == status and right_answers(got, [word for _, word in wanted]),
+            f"{number_}: status {ended} in place of {status}, {first_wrong(got, [word for _, word in wanted])}, {said.strip()!r}",
+        )
         found, rest = changes_in(log)
         if not tries.want(found == stock.changes and not rest, f"{number_}: the log has {len(found or [])} changes and {rest} bytes more in place of {len(stock.changes)}"):
             break
@@ -910,7 +930,7 @@ def killed(program, folder, numbers, asked):
             server.answers(1)
             started = max(0.002, time.monotonic() - begin)
             server.got.clear()
-        timer = threading.Timer(numbers.random() * (started * 2 + 0.02), server.process.kill)
+        timer = threading.Timer(numbers.random() * (started * 2 + 0.05), server.process.kill)
         timer.start()
         while not server.is_ended and not server.is_broken:
             requests = [any_change(numbers) for _ in range(200 if is_burst else 1)]
@@ -983,10 +1003,16 @@ def spoilt_logs(program, folder, numbers, asked):
             goes_on += 1
             wanted = [stock.answer(("add", b"tea", 1))]
             found, rest = changes_in(log)
-            tries.want(right_answers(got, wanted) and found == stock.changes and not rest, f"{length} bytes: {first_wrong(got, wanted)}, and the log has {found}, and {rest} bytes more")
+            tries.want(
+                right_answers(got, wanted) and found == stock.changes and not rest,
+                f"{length} bytes: {first_wrong(got, wanted)}, and the log has {found}, and {rest} bytes more",
+            )
         else:
             refuses += 1
-            tries.want(status in (TORN, DEVICE) and not got and said and log.read_bytes() == held[:length], f"{length} bytes: status {status}, or the log is changed, {said.strip()!r}")
+            tries.want(
+                status in (TORN, DEVICE) and not got and said and log.read_bytes() == held[:length],
+                f"{length} bytes: status {status}, or the log is changed, {said.strip()!r}",
+            )
     print(f"  of torn logs {goes_on} were gone on from, {refuses} refused", flush=True)
     at = 0
     for read in frames:
@@ -995,7 +1021,10 @@ def spoilt_logs(program, folder, numbers, asked):
             spoilt[place] ^= 1 << numbers.randrange(8)
             log.write_bytes(spoilt)
             status, got, said = run(program, "serve", "--log", str(log), given=frame(word_of(("add", b"tea", 1))))
-            tries.want(status in (TORN, DEVICE) and not got and said and log.read_bytes() == bytes(spoilt), f"byte {place} changed: status {status}, {list(got)}, {said.strip()!r}")
+            tries.want(
+                status in (TORN, DEVICE) and not got and said and log.read_bytes() == bytes(spoilt),
+                f"byte {place} changed: status {status}, {list(got)}, {said.strip()!r}",
+            )
         at += len(read)
     for number_, end in enumerate(ends[1:]):
         for bit in range(32):
@@ -1008,8 +1037,9 @@ def spoilt_logs(program, folder, numbers, asked):
             refused = status in (TORN, DEVICE) and not got and said and log.read_bytes() == bytes(spoilt)
             gone_on = may_be_torn and status == DONE and log.read_bytes() == held[: ends[number_]]
             tries.want(refused or gone_on, f"frame {number_}, bit {bit} of its length changed: status {status}, {list(got)}, {said.strip()!r}")
-    for name, further in [("trailing bytes", frame(word_of(("add", b"x", 1)) + b"\0")), ("an unknown tag", frame(bytes([3]))), ("an empty word", frame(b"")), ("a long length", b"\xff" * 4), ("no text", frame(bytes([0, 1, 255, 5]))),
-                          ("more than there are", frame(word_of(("take", b"salt", 100)))), ("zeros", bytes(64))]:  # fmt: skip
+    for name, further in [("trailing bytes", frame(word_of(("add", b"x", 1)) + b"\0")), ("an unknown tag", frame(bytes([3]))), ("an empty word", frame(b"")),
+                          ("a long length", b"\xff" * 4), ("no text", frame(bytes([0, 1, 255, 5]))),
+                          ("more than there are", frame(word_of(("take", b"salt", 100)))), ("zeros", bytes(64))]:
         log.write_bytes(held + further)
         status, got, said = run(program, "serve", "--log", str(log), given=frame(word_of(("get", b"tea"))))
         tries.want(status in (TORN, DEVICE) and not got and said and log.read_bytes() == held + further, f"{name}: status {status}, {list(got)}, {said.strip()!r}")
@@ -1052,7 +1082,10 @@ def synced(program, folder, numbers, asked):
     tries.want(status == DEVICE and not got and said, f"the second of two servers: status {status}, {list(got)}, {said.strip()!r}")
     server.send([frame(word_of(("get", b"tea")))])
     status, said = server.end()
-    tries.want(status == DONE and right_answers(server.got, [b"\0\0\5", b"\0\0\5"]) and changes_in(log) == ([("add", b"tea", 5)], 0), f"the first of two servers: status {status}, {said.strip()!r}")
+    tries.want(
+        status == DONE and right_answers(server.got, [b"\0\0\5", b"\0\0\5"]) and changes_in(log) == ([("add", b"tea", 5)], 0),
+        f"the first of two servers: status {status}, {said.strip()!r}",
+    )
     return tries.done()
 
 
@@ -1071,9 +1104,15 @@ def full_disk(program, folder, numbers, asked):
             status, got, said = run(program, "serve", "--log", str(log), given=b"".join(frame(word_of(request)) for request in requests))
             words, rest = words_in(got)
             wanted = [stock.answer(request) for request in requests[: len(words)]]
-            tries.want(status == DEVICE and not rest and words == wanted and tells(said, len(words)), f"status {status}, {first_wrong(got, wanted)}, {said.strip()[:200]!r}")
+            tries.want(
+                status == DEVICE and not rest and words == wanted and tells(said, len(words)),
+                f"status {status}, {first_wrong(got, wanted)}, {said.strip()[:200]!r}",
+            )
             found, rest = changes_in(log)
-            tries.want(found is not None and stock.changes == found[: len(stock.changes)] and len(found) - len(stock.changes) <= 1, f"the log has {len(found or [])} changes, {len(stock.changes)} were answered")
+            tries.want(
+                found is not None and stock.changes == found[: len(stock.changes)] and len(found) - len(stock.changes) <= 1,
+                f"the log has {len(found or [])} changes, {len(stock.changes)} were answered",
+            )
             print(f"  {len(words)} changes were answered, the log has {len(found or [])} and {rest} bytes more", flush=True) if asked.only else None
             log.unlink()
     finally:
@@ -1081,8 +1120,9 @@ def full_disk(program, folder, numbers, asked):
     return tries.done()
 
 
+# words of section 15, their checks, and the words of the answers in turn
 WORKED = [([0, 3, 116, 101, 97, 5], [197, 155, 119, 78], [0, 0, 5]), ([1, 3, 116, 101, 97, 7], [43, 128, 124, 64], [0, 1, 5]), ([2, 3, 116, 101, 97], [40, 68, 80, 5], [0, 0, 5]),
-          ([3], [109, 234, 51, 110], [1, 2, 2, 3])]  # fmt: skip
+          ([3], [109, 234, 51, 110], [1, 2, 2, 3])]
 
 
 def main():
@@ -1099,7 +1139,9 @@ def main():
         print(f"try_calls: {program} is no program", file=sys.stderr)
         sys.exit(2)
     stock = Stock()
-    assert crc32c(b"123456789") == 0xE3069283 and all(frame(bytes(word))[-4:] == bytes(check) and stock.reply(bytes(word)) == bytes(answer) for word, check, answer in WORKED)
+    assert crc32c(b"123456789") == 0xE3069283
+    for word, check, answer in WORKED:
+        assert frame(bytes(word))[-4:] == bytes(check) and stock.reply(bytes(word)) == bytes(answer)
     print(f"seed {asked.seed}", flush=True)
     wrong = 0
     with tempfile.TemporaryDirectory() as folder:
