@@ -1,6 +1,7 @@
 -- What a caller sends and reads.
-use Rattle.std.specs.Prelude.{◌≡◌, ℕ, List, [], ◌∷◌, drop, Option, Result, Ok, Err}
+use Rattle.std.specs.Prelude.{◌≡◌, ◌⊎◌, ℕ, List, [], ◌∷◌, drop, Option, Result, Ok, Err}
 use Rattle.std.specs.Io.KnownBytes.{Appends}
+use Rattle.std.specs.declared.io.Error.{Error}
 use Rattle.bincode_base.specs.Setting.{Setting}
 use Rattle.bincode_types.specs.TypeWords.{Words}
 use Rattle.frames.specs.Frames.{Reads}
@@ -8,6 +9,7 @@ use Rattle.frames.specs.declared.Frame.TheVariants as frames
 use Rattle.framed_store.specs.Appended.{Leaves}
 use Rattle.framed_store.specs.Pieces.{Piece, FrameOf, Damage, ArePieces, bytes_of_all}
 use Rattle.framed_store.specs.Told.{IsRecord}
+use Rattle.framed_store.specs.declared.appending.AppendError.{AppendError}
 use Rattle.framed_store.specs.declared.records.Content.{Content}
 use Rattle.framed_store.specs.declared.records.Content.TheVariants as contents
 use Rattle.calls.specs.Sending.{Sends}
@@ -54,6 +56,14 @@ IsOutsideCall (errors.TrailingBytes _) = ⊥
 IsOutsideCall (errors.Read _) = Unit {0}
 IsOutsideCall (errors.Memory _) = Unit {0}
 
+-- the request was not sent
+abbrev pub IsSend : CallError → Type 0
+IsSend e = (why : AppendError) × (e ≡ errors.Send why)
+
+-- the output failed when it was flushed
+abbrev pub IsFlush : CallError → Type 0
+IsFlush e = (why : Error) × (e ≡ errors.Flush why)
+
 module _ {T : Type 0} (V : Words T) (s : Setting) (limit : Option ℕ) (most : ℕ) where
   -- the frames of values were written, in order
   abbrev pub SendsAll : List T → Option (List ℕ) → Option (List ℕ) → Type 0
@@ -84,7 +94,7 @@ module _ {T : Type 0} (V : Words T) (s : Setting) (limit : Option ℕ) (most : �
   -- the frame of a value was not written: the stream is as it was, or has a prefix of it where it failed
   abbrev pub IsUnsent : {O : Type 0} → T → (O → Option (List ℕ)) → O → O → CallError → Type 0
   IsUnsent value bytes old new (errors.Send why) = Leaves V s limit most value bytes old new why
-  IsUnsent value bytes old new (errors.Flush _) = Sends V s limit most value (bytes old) (bytes new)
+  IsUnsent value bytes old new (errors.Flush _) = ⊥
   IsUnsent value bytes old new errors.NoReply = ⊥
   IsUnsent value bytes old new errors.Torn = ⊥
   IsUnsent value bytes old new (errors.TooLong _) = ⊥
@@ -93,3 +103,11 @@ module _ {T : Type 0} (V : Words T) (s : Setting) (limit : Option ℕ) (most : �
   IsUnsent value bytes old new (errors.TrailingBytes _) = ⊥
   IsUnsent value bytes old new (errors.Read _) = ⊥
   IsUnsent value bytes old new (errors.Memory _) = ⊥
+
+  -- it was not, or it was
+  abbrev pub MaybeSent : {O : Type 0} → T → (O → Option (List ℕ)) → O → O → CallError → Type 0
+  MaybeSent value bytes old new e = IsUnsent value bytes old new e ⊎ Sends V s limit most value (bytes old) (bytes new)
+
+  -- the request was not sent, or the input begins with no reply to it
+  abbrev pub MaybeNoReply : List ℕ → CallError → Type 0
+  MaybeNoReply input e = IsSend e ⊎ (IsFlush e ⊎ IsNoReply input e)

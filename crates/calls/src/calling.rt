@@ -6,7 +6,8 @@ ghost use Rattle.bincode_io.specs.Stream.{TellsBytes, known_bytes};
 ghost use Rattle.frames.specs.Frames.{frame};
 ghost use Rattle.framed_store.specs.Appended.{IsFitting};
 ghost use Rattle.framed_store.specs.Pieces.{Piece, ArePieces, bytes_of_all};
-ghost use Rattle.calls.specs.Calling.{AreReplies, IsNoReply, IsOutsideCall, IsReply, IsUnsent, SendsAll};
+ghost use Rattle.calls.specs.Calling.{AreReplies, IsFlush, IsNoReply, IsOutsideCall, IsReply, IsUnsent, MaybeNoReply};
+ghost use Rattle.calls.specs.Calling.{MaybeSent, SendsAll};
 ghost use Rattle.calls.specs.Calling.{input_of, most_of, output_of, told_as};
 ghost use Rattle.calls.specs.Sending.{Sends};
 
@@ -100,11 +101,17 @@ impl<R: Read, W: Write, C: Config> Caller<R, W, C> {
         // The frame of the request was written.
         ensures sent { OnOk result (Sends Q.words C.setting C.bound (most_of self.old) request.now
             (W.contents (output_of self.old)) (W.contents (output_of self.new))) }
+        // After an error it was too, or not, for the reason that the error tells.
+        ensures unsent { IfErr result (MaybeSent Q.words C.setting C.bound (most_of self.old) request.now W.contents
+            (output_of self.old) (output_of self.new)) }
         // These clauses speak of input whose bytes are known. The reply is that of the first frame, and what follows it
-        // is left.
+        // is left;
         ensures reply { TellsBytes (R.remaining (input_of self.old)) → IfOk result (IsReply A.words C.setting C.bound
             (most_of self.old) (known_bytes (R.remaining (input_of self.old)))
             (known_bytes (R.remaining (input_of self.new)))) }
+        // or there is none, for the reason that the error tells, if the request was sent.
+        ensures none { TellsBytes (R.remaining (input_of self.old)) → IfErr result (MaybeNoReply A.words C.setting
+            C.bound (most_of self.old) (known_bytes (R.remaining (input_of self.old)))) }
         ensures most { most_of self.new ≡ most_of self.old }
     {
         self.send(request)?;
@@ -197,6 +204,7 @@ impl<R: Read, W: Write, C: Config> Caller<R, W, C> {
     /// Hands on what the output has in its buffer. Fails with `Flush` alone.
     pub fn flush(&mut self) -> Result<(), CallError>
         ensures kept { Keeps (W.contents (output_of self.old)) (W.contents (output_of self.new)) }
+        ensures failed { IfErr result IsFlush }
         ensures input { input_of self.new ≡ input_of self.old }
         ensures most { most_of self.new ≡ most_of self.old }
     {
