@@ -24,7 +24,7 @@ fn errors_are_small(rt: HostRuntime) {
 }
 
 /// The integer types, as they are printed.
-static NAMES: [(IntegerType, &str); 13] = [
+const NAMES: [(IntegerType, &str); 13] = [
     (IntegerType::U8, "U8"),
     (IntegerType::U16, "U16"),
     (IntegerType::U32, "U32"),

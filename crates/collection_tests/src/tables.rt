@@ -12,7 +12,7 @@ use std::marker::PhantomData;
 use test_helpers::checks::either;
 
 /// A row that does not hold, since its word is that of 6, and one that does.
-static TWO: [Row; 2] = [
+const TWO: [Row; 2] = [
     Row {
         label: "2",
         case: Case::Encode(Value::U32(Encoding {

@@ -20,7 +20,7 @@ const LONG: [u8; 20] = [
 ];
 
 /// Frames of no bytes, of the first two bytes of 300, and of a 7 with two bytes after it.
-static ODD: [u8; 29] = [
+const ODD: [u8; 29] = [
     0, 0, 0, 0, 199, 75, 103, 72, 2, 0, 0, 0, 251, 44, 24, 216, 49, 12, 3, 0, 0, 0, 7, 9, 9, 95,
     251, 207, 129,
 ];

@@ -6,7 +6,7 @@ use shape_text::request::{SizeLimit, request_of};
 use std::alloc::{AllocError, Global};
 
 /// Options, and the encoding and byte order for which they ask.
-static CONFIGURATIONS: [(&str, IntEncoding, Endianness); 6] = [
+const CONFIGURATIONS: [(&str, IntEncoding, Endianness); 6] = [
     ("", IntEncoding::Variable, Endianness::Little),
     ("--fixed", IntEncoding::Fixed, Endianness::Little),
     ("--big-endian", IntEncoding::Variable, Endianness::Big),
@@ -41,7 +41,7 @@ fn takes_configurations(rt: HostRuntime) {
 const MILLION: usize = 1_000_000;
 
 /// Options, and the amounts for which they ask: the limit of claims, of values, and the longest word of a frame.
-static AMOUNTS: [(&str, SizeLimit, usize, Option<u32>); 11] = [
+const AMOUNTS: [(&str, SizeLimit, usize, Option<u32>); 11] = [
     ("", SizeLimit::MiB64, MILLION, None),
     ("--limit 1KiB", SizeLimit::KiB1, MILLION, None),
     ("--limit 64KiB", SizeLimit::KiB64, MILLION, None),
@@ -117,7 +117,7 @@ fn answers(alloc: Global, options: &str, last: &str, text: &str) -> bool {
 }
 
 /// Options and the last word, and how the answer begins.
-static ANSWERS: [(&str, &str, &str); 13] = [
+const ANSWERS: [(&str, &str, &str); 13] = [
     (
         "",
         "(u8, u9)",

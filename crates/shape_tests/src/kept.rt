@@ -8,7 +8,7 @@ use std::alloc::{AllocError, Global};
 use test_helpers::checks::either;
 
 /// Shapes of scalars, a word of each where numbers are fixed, and its value, as that is printed.
-static SCALARS: [(&str, &[u8], &str); 16] = [
+const SCALARS: [(&str, &[u8], &str); 16] = [
     ("()", &[], "Unit"),
     ("bool", &[1], "Bool(true)"),
     ("char", &[195, 169], "Char('é')"),
@@ -40,7 +40,7 @@ static SCALARS: [(&str, &[u8], &str); 16] = [
 ];
 
 /// Shapes of what holds scalars, a word of each, and its value.
-static WHOLES: [(&str, &[u8], &str); 6] = [
+const WHOLES: [(&str, &[u8], &str); 6] = [
     (
         "[u16]",
         &[2, 5, 251, 0, 1],

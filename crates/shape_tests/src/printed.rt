@@ -8,7 +8,7 @@ use shape_text::text::shape_of;
 use std::alloc::Global;
 
 /// Shapes, the bytes of a word of each, and its JSON.
-static VALUES: [(&str, &[u8], &str); 39] = [
+const VALUES: [(&str, &[u8], &str); 39] = [
     ("((), bool)", &[1], "[null,true]"),
     ("bool", &[0], "false"),
     ("char", b"\"", "\"\\\"\""),

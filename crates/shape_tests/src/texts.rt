@@ -10,7 +10,7 @@ const SCALARS: &str = "((), bool, char, text, u8, u16, u32, u64, u128, \
     usize, i8, i16, i32, i64, i128, isize)";
 
 /// Texts, and the shapes that they spell.
-static SHAPES: [(&str, &str); 10] = [
+const SHAPES: [(&str, &str); 10] = [
     (
         SCALARS,
         "Tuple([Unit, Bool, Char, Text, U8, U16, U32, U64, U128, Usize, I8, I16, I32, I64, I128, Isize])",
@@ -41,7 +41,7 @@ const PART: &str =
     i128 or isize)";
 
 /// Texts that are no shape: the offset in bytes, what is expected there, and what is met.
-static REFUSED: [(&str, usize, &str, &str); 8] = [
+const REFUSED: [(&str, usize, &str, &str); 8] = [
     ("(u8", 3, "`,`, `)`, `?` or `|`", "the end"),
     ("(u8, u9)", 5, PART, "`u9`"),
     (
@@ -108,7 +108,7 @@ fn refuses_texts(rt: HostRuntime) {
 
 /// A mark before a part and one after it, which stand around the part as often, and what comes of that: the depth of
 /// the shape, or from which byte on it is too deep. 64 brackets, question marks and bars may stand around a part.
-static LEVELS: [(usize, &str, &str, &str, Result<usize, usize>); 8] = [
+const LEVELS: [(usize, &str, &str, &str, Result<usize, usize>); 8] = [
     (64, "[", "u8", "]", Ok(64)),
     (65, "[", "u8", "]", Err(64)),
     (64, "(", "u8", ")", Ok(0)),
@@ -192,7 +192,7 @@ fn shows(alloc: Global, text: &str, wanted: &str) -> bool {
 }
 
 /// Texts of shapes, and as they are shown.
-static SHOWN: [(&str, &str); 10] = [
+const SHOWN: [(&str, &str); 10] = [
     (SCALARS, SCALARS),
     ("[u8; 4294967297]", "[u8; 4294967297]"),
     ("(char,)", "(char,)"),

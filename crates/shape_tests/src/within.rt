@@ -68,7 +68,7 @@ fn is_bounded(alloc: Global, shape: &str, input: &[u8], values: usize) -> bool {
 }
 
 /// Shapes, words of them, and of how many values these are.
-static COUNTED: [(&str, &[u8], usize); 6] = [
+const COUNTED: [(&str, &[u8], usize); 6] = [
     ("[u8]", &[3, 7, 8, 9], 4),
     ("(u8, text)", &[5, 2, 97, 98], 3),
     ("u8?", &[1, 9], 2),
