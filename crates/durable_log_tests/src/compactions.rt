@@ -8,10 +8,10 @@ use crash_device::memory::{Call, Memory};
 use durable_log::machines::{CompactError, compact_machine};
 use std::alloc::Global;
 
-/// Whether the outcome is that the device failed in this call, or that it did not.
+/// Whether the outcome is that the device failed in this call; or that it did not, and the log is empty.
 fn is_told(told: &Result<(), CompactError>, device: &Memory, failed: Option<Call>) -> bool {
     match (told, failed) {
-        (Ok(()), None) => device.failures().is_empty(),
+        (Ok(()), None) => device.failures().is_empty() && device.log().is_empty(),
         (Err(CompactError::Device(DeviceError::Failed)), Some(call)) => {
             device.failures() == [call].as_slice()
         }
