@@ -1,7 +1,7 @@
 //! Logs and snapshots of books, byte by byte. Python wrote them.
 
 /// Twelve commands: openings of ann (100), bob, cy (70000), é (2^40) and dee (250), and payments between them.
-pub static LOG: [u8; 227] = [
+pub const LOG: [u8; 227] = [
     7, 0, 0, 0, 0, 0, 3, 97, 110, 110, 100, 98, 187, 159, 180, 7, 0, 0, 0, 1, 0, 3, 98, 111, 98, 0,
     244, 42, 61, 110, 11, 0, 0, 0, 2, 1, 3, 97, 110, 110, 3, 98, 111, 98, 30, 187, 46, 20, 106, 10,
     0, 0, 0, 3, 0, 2, 99, 121, 252, 112, 17, 1, 0, 187, 118, 55, 63, 14, 0, 0, 0, 4, 1, 2, 99, 121,
@@ -15,7 +15,7 @@ pub static LOG: [u8; 227] = [
 ];
 
 /// Openings of ann (100) and bob, and a payment of 30 from ann to bob.
-pub static SMALL: [u8; 49] = [
+pub const SMALL: [u8; 49] = [
     7, 0, 0, 0, 0, 0, 3, 97, 110, 110, 100, 98, 187, 159, 180, 7, 0, 0, 0, 1, 0, 3, 98, 111, 98, 0,
     244, 42, 61, 110, 11, 0, 0, 0, 2, 1, 3, 97, 110, 110, 3, 98, 111, 98, 30, 187, 46, 20, 106,
 ];
@@ -31,35 +31,35 @@ pub const FIFTH: [u8; 22] = [
 ];
 
 /// The snapshot of ann (70) and bob (30) after three commands, in the first version.
-pub static SNAPSHOT: [u8; 52] = [
+pub const SNAPSHOT: [u8; 52] = [
     37, 97, 125, 24, 150, 26, 140, 79, 34, 29, 74, 56, 251, 2, 58, 164, 59, 53, 10, 97, 75, 11,
     198, 77, 108, 184, 201, 118, 248, 15, 154, 164, 3, 0, 0, 0, 0, 0, 0, 0, 0, 2, 3, 97, 110, 110,
     70, 3, 98, 111, 98, 30,
 ];
 
 /// The same of a version that is not known.
-pub static UNKNOWN: [u8; 52] = [
+pub const UNKNOWN: [u8; 52] = [
     243, 58, 135, 242, 112, 50, 50, 72, 168, 27, 22, 179, 175, 195, 206, 87, 203, 186, 45, 252,
     244, 169, 63, 255, 72, 46, 134, 67, 226, 189, 114, 88, 3, 0, 0, 0, 0, 0, 0, 0, 1, 2, 3, 97,
     110, 110, 70, 3, 98, 111, 98, 30,
 ];
 
 /// A snapshot with an account without a name.
-pub static UNNAMED: [u8; 49] = [
+pub const UNNAMED: [u8; 49] = [
     185, 82, 31, 241, 143, 19, 69, 176, 156, 28, 210, 215, 27, 178, 161, 189, 12, 88, 12, 31, 157,
     43, 141, 95, 67, 208, 41, 2, 216, 106, 248, 177, 3, 0, 0, 0, 0, 0, 0, 0, 0, 2, 0, 1, 3, 98,
     111, 98, 2,
 ];
 
 /// A snapshot of two accounts with 2^63 each.
-pub static TOO_MUCH: [u8; 68] = [
+pub const TOO_MUCH: [u8; 68] = [
     6, 81, 50, 87, 49, 154, 82, 120, 42, 131, 115, 208, 22, 147, 125, 94, 91, 3, 202, 66, 187, 106,
     155, 187, 199, 0, 169, 143, 33, 173, 247, 56, 3, 0, 0, 0, 0, 0, 0, 0, 0, 2, 3, 97, 110, 110,
     253, 0, 0, 0, 0, 0, 0, 0, 128, 3, 98, 111, 98, 253, 0, 0, 0, 0, 0, 0, 0, 128,
 ];
 
 /// An opening of ann, and a payment to an account that was never opened.
-pub static UNPAYABLE: [u8; 34] = [
+pub const UNPAYABLE: [u8; 34] = [
     7, 0, 0, 0, 0, 0, 3, 97, 110, 110, 100, 98, 187, 159, 180, 11, 0, 0, 0, 1, 1, 3, 97, 110, 110,
     3, 98, 111, 98, 30, 9, 64, 106, 214,
 ];
@@ -71,7 +71,7 @@ pub const LONGER: [u8; 16] = [8, 0, 0, 0, 0, 0, 3, 97, 110, 110, 1, 7, 216, 108,
 pub const NO_COMMAND: [u8; 15] = [7, 0, 0, 0, 0, 2, 3, 97, 110, 110, 1, 223, 156, 36, 59];
 
 /// An opening whose length was changed to 200, and a whole opening of bob.
-pub static BURIED: [u8; 30] = [
+pub const BURIED: [u8; 30] = [
     200, 0, 0, 0, 0, 0, 3, 97, 110, 110, 100, 98, 187, 159, 180, 7, 0, 0, 0, 1, 0, 3, 98, 111, 98,
     0, 244, 42, 61, 110,
 ];

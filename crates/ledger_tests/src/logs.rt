@@ -8,16 +8,17 @@ use ledger_book::opening::open_book;
 use replay::replay::{Failure, Replayed};
 use snapshots::numbered::NumberedRefusal;
 use snapshots::resuming::ResumeError;
-use std::alloc::{AllocError, Global};
+use std::alloc::Global;
+use std::test::Fail;
 
 /// The names of the accounts, in the order in which they are opened.
-static NAMES: [&str; 5] = ["ann", "bob", "cy", "é", "dee"];
+const NAMES: [&str; 5] = ["ann", "bob", "cy", "é", "dee"];
 
 /// What the log comes to after so many commands: its length, the money, and the balances.
 type Row = (usize, u64, [Option<u64>; 5]);
 
 /// After each number of commands from 0 on.
-static ROWS: [Row; 13] = [
+const ROWS: [Row; 13] = [
     (0, 0, [None, None, None, None, None]),
     (15, 100, [Some(100), None, None, None, None]),
     (30, 100, [Some(100), Some(0), None, None, None]),
@@ -135,115 +136,80 @@ fn opens_front(alloc: Global, length: usize) -> bool {
     is_whole && accounts.total() == money && has_balances(accounts, &balances)
 }
 
-/// The length of a front that comes to something else.
-fn wrong_front(alloc: Global) -> Option<usize> {
-    for length in 0..=LOG.len() {
-        if !opens_front(alloc, length) {
-            return Some(length);
-        }
-    }
-    None
-}
-
 #[test]
 fn opens_each_front(rt: HostRuntime) {
-    assert_eq!(rt; wrong_front(rt.alloc()), None);
-}
-
-/// The names and balances of accounts, each with a space after it.
-fn told(alloc: Global, accounts: &Accounts) -> Result<String, AllocError> {
-    let mut text = String::new(alloc);
-    for (name, balance) in accounts.iter() {
-        text.push_str(name)?;
-        text.push_str(format!(in alloc; " {balance} ")?.as_str())?;
-    }
-    Ok(text)
-}
-
-/// Whether the accounts of the log are told so.
-fn tells(alloc: Global, mut log: &[u8], wanted: &str) -> bool {
-    let Ok((book, _)) = open_book(alloc, None, &mut log) else {
-        return false;
-    };
-    match told(alloc, &book.machine.accounts) {
-        Ok(text) => text.as_str() == wanted,
-        Err(_) => false,
+    for length in 0..=LOG.len() {
+        assert!(rt; opens_front(rt.alloc(), length), "{length}");
     }
 }
 
 /// Names and balances come in the order of the names' bytes.
 #[test]
-fn lists_by_name(rt: HostRuntime) {
-    let wanted = "ann 65855 bob 4294967321 cy 0 dee 4469 é 1095216660481 ";
-    assert!(rt; tells(rt.alloc(), &LOG, wanted));
-}
-
-/// Why a log stops.
-#[derive(Clone, Copy, PartialEq)]
-enum Why {
-    NoPayee,
-    Damaged,
-    Undecodable,
-    Longer(usize),
-    TooLong(u32),
-}
-
-/// Whether a replay failed for this.
-fn is_for(failure: &Failure<NumberedRefusal<Refusal>>, why: Why) -> bool {
-    match failure {
-        Failure::Refused(NumberedRefusal::Refused(Refusal::Pay(PayError::NoPayee))) => {
-            why == Why::NoPayee
-        }
-        Failure::Damaged => why == Why::Damaged,
-        Failure::Undecodable(_) => why == Why::Undecodable,
-        Failure::Longer { taken } => why == Why::Longer(*taken),
-        Failure::TooLong(length) => why == Why::TooLong(*length),
-        _ => false,
+fn lists_by_name(rt: HostRuntime) -> Result<(), Fail> {
+    let mut log = LOG.as_slice();
+    let (book, _) = open_book(rt.alloc(), None, &mut log)?;
+    let mut text = String::new(rt.alloc());
+    for (name, balance) in book.machine.accounts.iter() {
+        text.push_str(name)?;
+        text.push_str(format!(in rt.alloc(); " {balance} ")?.as_str())?;
     }
+    assert_eq!(rt;
+        text.as_str(),
+        "ann 65855 bob 4294967321 cy 0 dee 4469 é 1095216660481 "
+    );
+    Ok(())
 }
 
-/// Whether a log stops at the command of this number, at this offset and for this.
-fn stops(alloc: Global, mut log: &[u8], (commands, offset, why): (u64, usize, Why)) -> bool {
-    match &open_book(alloc, None, &mut log) {
-        Err(ResumeError::Log(error)) => {
-            error.commands == commands && error.offset == offset && is_for(&error.why, why)
-        }
-        _ => false,
+/// Where a log stops: the number of the command and its offset; and why.
+fn stop_of(
+    alloc: Global,
+    mut log: &[u8],
+) -> Option<(u64, usize, Failure<NumberedRefusal<Refusal>>)> {
+    match open_book(alloc, None, &mut log) {
+        Err(ResumeError::Log(error)) => Some((error.commands, error.offset, error.why)),
+        _ => None,
     }
-}
-
-/// Whether a log is opened, though its first length leads past its end.
-fn opens(alloc: Global, mut log: &[u8]) -> bool {
-    open_book(alloc, None, &mut log).is_ok()
 }
 
 #[test]
 fn tells_where_it_stops(rt: HostRuntime) {
     let alloc = rt.alloc();
+    let unpayable = stop_of(alloc, &UNPAYABLE);
     assert!(rt;
-        stops(alloc, &UNPAYABLE, (1, 15, Why::NoPayee))
-            && stops(alloc, &LONGER, (0, 0, Why::Longer(7)))
-            && stops(alloc, &NO_COMMAND, (0, 0, Why::Undecodable))
-            && opens(alloc, &BURIED)
+        matches!(
+            unpayable,
+            Some((
+                1,
+                15,
+                Failure::Refused(NumberedRefusal::Refused(Refusal::Pay(PayError::NoPayee)))
+            ))
+        )
     );
+    let longer = stop_of(alloc, &LONGER);
+    assert!(rt; matches!(longer, Some((0, 0, Failure::Longer { taken: 7 }))));
+    let unknown = stop_of(alloc, &NO_COMMAND);
+    assert!(rt; matches!(unknown, Some((0, 0, Failure::Undecodable(_)))));
+    let buried = stop_of(alloc, &BURIED);
+    assert!(rt; buried.is_none());
 }
 
-/// `SMALL` with these bits of a byte changed.
-fn changed_at(place: usize, bits: u8) -> [u8; 49] {
+/// `SMALL` with a bit of this byte changed.
+fn changed_at(place: usize) -> [u8; 49] {
     let mut log = SMALL;
     if let Some(byte) = log.get_mut(place) {
-        *byte ^= bits;
+        *byte ^= 1;
     }
     log
 }
 
-/// A length that is changed upwards leads past the end, and the longest one is told as too long: that of 11 with a third
-/// byte of 255.
+/// A length that is changed upwards leads past the end, and the longest one is told as too long.
 #[test]
 fn tells_damaged(rt: HostRuntime) {
     let alloc = rt.alloc();
-    assert!(rt;
-        stops(alloc, &changed_at(20, 1), (1, 15, Why::Damaged))
-            && stops(alloc, &changed_at(32, 255), (2, 30, Why::TooLong(16711691)))
-    );
+    let damaged = stop_of(alloc, &changed_at(20));
+    assert!(rt; matches!(damaged, Some((1, 15, Failure::Damaged))));
+    let mut huge = SMALL;
+    huge[32] = 255;
+    let long = stop_of(alloc, &huge);
+    assert!(rt; matches!(long, Some((2, 30, Failure::TooLong(16711691)))));
 }

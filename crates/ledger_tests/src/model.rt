@@ -127,45 +127,22 @@ fn agree(accounts: &Accounts, model: &Model) -> bool {
     accounts.total() == total
 }
 
-/// Whether a choice is carried out on the accounts as on the model, and is taken.
-fn carries_out(
-    alloc: Global,
-    accounts: &mut Accounts,
-    model: &mut Model,
-    choice: Choice,
-) -> Result<Option<bool>, AllocError> {
-    let is_taken = takes(model, choice);
-    let command = command_of(alloc, choice)?;
-    let is_done = carry_out(accounts, &command).is_ok();
-    if is_done == is_taken && agree(accounts, model) {
-        Ok(Some(is_taken))
-    } else {
-        Ok(None)
-    }
-}
-
-/// How many of the commands were taken, if the accounts were those of the model after each.
-fn count_taken(alloc: Global, accounts: &mut Accounts) -> Result<Option<u64>, AllocError> {
-    let mut model = [None; 12];
-    let mut numbers = Numbers { state: 1 };
-    let mut taken = 0u64;
-    for _ in 0..ROUNDS {
-        let choice = choose(&mut numbers);
-        match carries_out(alloc, accounts, &mut model, choice)? {
-            Some(is_taken) => taken = taken.saturating_add(u64::from(is_taken)),
-            None => return Ok(None),
-        }
-    }
-    Ok(Some(taken))
-}
-
 #[test]
 fn agrees_with_the_model(rt: HostRuntime) -> Result<(), AllocError> {
     let mut accounts = Accounts::new(rt.alloc());
-    let taken = count_taken(rt.alloc(), &mut accounts)?;
-    assert!(rt;
-        taken > Some(ROUNDS / 4) && taken < Some(ROUNDS),
-        "{taken:?}"
-    );
+    let mut model = [None; 12];
+    let mut numbers = Numbers { state: 1 };
+    let mut taken = 0u64;
+    for round in 0..ROUNDS {
+        let choice = choose(&mut numbers);
+        let is_taken = takes(&mut model, choice);
+        let outcome = carry_out(&mut accounts, &command_of(rt.alloc(), choice)?);
+        assert!(rt;
+            outcome.is_ok() == is_taken && agree(&accounts, &model),
+            "{round}"
+        );
+        taken = taken.saturating_add(u64::from(is_taken));
+    }
+    assert!(rt; taken > ROUNDS / 4 && taken < ROUNDS, "{taken}");
     Ok(())
 }

@@ -36,43 +36,35 @@ fn is_stop(error: &ReplayError<NumberedRefusal<Refusal>>, ends: &[usize]) -> boo
         }
 }
 
-/// Whether a snapshot was not restored for want of memory.
-fn is_restore_memory(error: &RestoreError) -> bool {
-    matches!(
-        error,
-        RestoreError::Load(LoadError::Memory(_)) | RestoreError::Memory(_)
-    )
-}
-
-/// Whether a book was opened with this many commands, this money and 30 of it bob's, or not for want of memory at one of these ends.
-fn is_opened(
-    alloc: Global,
-    snapshot: Option<&[u8]>,
-    mut log: &[u8],
-    (commands, money): (u64, u64),
-    ends: &[usize],
-) -> bool {
-    match &open_book(alloc, snapshot, &mut log) {
+#[test]
+fn opens_a_log(rt: HostRuntime) {
+    let mut log = SMALL.as_slice();
+    match &open_book(rt.alloc(), None, &mut log) {
         Ok((book, _)) => {
             let accounts = &book.machine.accounts;
-            book.next == commands
-                && accounts.total() == money
-                && accounts.balance("bob") == Some(30)
+            assert!(rt; book.next == 3 && accounts.total() == 100);
+            assert!(rt; accounts.balance("bob") == Some(30));
         }
-        Err(ResumeError::Log(error)) => is_stop(error, ends),
-        Err(ResumeError::Snapshot(error)) => snapshot.is_some() && is_restore_memory(error),
+        Err(ResumeError::Log(error)) => assert!(rt; is_stop(error, &[0, 15, 30, 49])),
+        Err(ResumeError::Snapshot(_)) => assert!(rt; false),
     }
 }
 
 #[test]
-fn opens_a_log(rt: HostRuntime) {
-    assert!(rt; is_opened(rt.alloc(), None, &SMALL, (3, 100), &[0, 15, 30, 49]));
-}
-
-#[test]
 fn opens_a_snapshot(rt: HostRuntime) {
-    let snapshot = Some(SNAPSHOT.as_slice());
-    assert!(rt; is_opened(rt.alloc(), snapshot, &FOURTH, (4, 70100), &[0, 18]));
+    let mut log = FOURTH.as_slice();
+    match &open_book(rt.alloc(), Some(SNAPSHOT.as_slice()), &mut log) {
+        Ok((book, _)) => {
+            assert!(rt; book.next == 4 && book.machine.accounts.total() == 70100);
+        }
+        Err(ResumeError::Log(error)) => assert!(rt; is_stop(error, &[0, 18])),
+        Err(ResumeError::Snapshot(error)) => assert!(rt;
+            matches!(
+                error,
+                RestoreError::Load(LoadError::Memory(_)) | RestoreError::Memory(_)
+            )
+        ),
+    }
 }
 
 /// A book of no commands, and an opening of ann.
@@ -112,19 +104,14 @@ fn is_left(entered: &Result<usize, EnterError>, book: &Numbered<Book>, log: &[u8
     }
 }
 
-/// Whether entering the opening of ann leaves that; no book is no failure of it.
-fn enters_opening(alloc: Global) -> bool {
-    let Some((mut book, command)) = beginning(alloc) else {
-        return true;
-    };
-    let mut log = Vec::new(alloc);
-    let entered = enter(alloc, &mut book, &mut log, command);
-    is_left(&entered, &book, log.as_slice())
-}
-
 #[test]
 fn enters_a_command(rt: HostRuntime) {
-    assert!(rt; enters_opening(rt.alloc()));
+    let alloc = rt.alloc();
+    if let Some((mut book, command)) = beginning(alloc) {
+        let mut log = Vec::new(alloc);
+        let entered = enter(alloc, &mut book, &mut log, command);
+        assert!(rt; is_left(&entered, &book, log.as_slice()));
+    }
 }
 
 /// Whether a snapshot of the three commands was made, or refused for want of memory.
@@ -140,15 +127,11 @@ fn is_made(made: &Result<Vec<u8>, SaveError>) -> bool {
     }
 }
 
-/// Whether it is so for the book of the log; no book is no failure of it.
-fn makes(alloc: Global, mut log: &[u8]) -> bool {
-    match &open_book(alloc, None, &mut log) {
-        Ok((book, _)) => is_made(&snapshot_of(alloc, book)),
-        Err(_) => true,
-    }
-}
-
 #[test]
 fn makes_a_snapshot(rt: HostRuntime) {
-    assert!(rt; makes(rt.alloc(), &SMALL));
+    let alloc = rt.alloc();
+    let mut log = SMALL.as_slice();
+    if let Ok((book, _)) = &open_book(alloc, None, &mut log) {
+        assert!(rt; is_made(&snapshot_of(alloc, book)));
+    }
 }

@@ -43,7 +43,7 @@ fn told(alloc: Global, line: &str) -> Result<String, AllocError> {
 }
 
 /// Lines, and what they ask for.
-static REQUESTS: [(&str, &str); 23] = [
+const REQUESTS: [(&str, &str); 23] = [
     ("b open ann 100", "b: open \"ann\" 100"),
     ("b open ann", "b: open \"ann\" 0"),
     ("b open '' 1", "b: open \"\" 1"),

@@ -6,7 +6,6 @@ use ledger_book::command::Command;
 use ledger_book::listing::print_log;
 use ledger_book::program::{BookError, Entry, enter_into, run};
 use ledger_book::status::{DAMAGED, DONE, FAILED, REFUSED, USAGE};
-use std::alloc::Global;
 use std::path::PathBuf;
 use std::{env, fs, process};
 
@@ -46,7 +45,7 @@ pub fn holds(rt: &HostRuntime, path: &str, bytes: &[u8]) -> bool {
 }
 
 /// Lines that make the book of three commands, and some that are refused.
-static ENTERING: [(&str, u8); 8] = [
+const ENTERING: [(&str, u8); 8] = [
     ("pay ann bob 30", FAILED),
     ("open ann 100", DONE),
     ("open ann 1", REFUSED),
@@ -58,7 +57,7 @@ static ENTERING: [(&str, u8); 8] = [
 ];
 
 /// Lines that leave a book as it is.
-static SHOWING: [(&str, u8); 6] = [
+const SHOWING: [(&str, u8); 6] = [
     ("balance", DONE),
     ("balance ann", DONE),
     ("balance cy", REFUSED),
@@ -67,105 +66,87 @@ static SHOWING: [(&str, u8); 6] = [
     ("repair", DONE),
 ];
 
-/// Whether the book of three commands is made by them, where what is refused leaves it as it is.
-fn is_entered(rt: &HostRuntime, path: &str) -> bool {
-    all_end(rt, path, &ENTERING)
-        && holds(rt, path, &SMALL)
-        && all_end(rt, path, &SHOWING)
-        && holds(rt, path, &SMALL)
-}
-
+/// The book of three commands, made by them. What is refused leaves it as it is.
 #[test]
 fn enters_commands(rt: HostRuntime) -> anyhow::Result<()> {
     let file = path_of(&rt, "entered")?;
-    let is_done = is_entered(&rt, file.as_str());
-    assert!(rt;
-        fs::remove_file(&rt, file.as_str()).is_ok()
-            && is_done
-            && ends(&rt, file.as_str(), "check", FAILED)
-            && ends(&rt, file.as_str(), "repair", FAILED)
-    );
+    let path = file.as_str();
+    let is_entered = all_end(&rt, path, &ENTERING) && holds(&rt, path, &SMALL);
+    let is_shown = all_end(&rt, path, &SHOWING) && holds(&rt, path, &SMALL);
+    assert!(rt; fs::remove_file(&rt, path).is_ok() && is_entered && is_shown);
+    assert!(rt; ends(&rt, path, "check", FAILED) && ends(&rt, path, "repair", FAILED));
     Ok(())
 }
 
-/// Opens an account whose name is this text so often.
-fn open(
-    rt: &HostRuntime,
-    path: &str,
-    (text, count): (&str, usize),
-    amount: u64,
-) -> Result<Entry, BookError> {
-    match text.repeat(rt.alloc(), count) {
-        Ok(name) => enter_into(rt, path, Command::Open { name, amount }),
-        Err(_) => Err(BookError::NoAccount),
-    }
-}
-
-/// Whether the opening of an account is entered there, by as many bytes.
-fn is_placed(
-    rt: &HostRuntime,
-    path: &str,
-    name: (&str, usize),
-    amount: u64,
-    wanted: Entry,
-) -> bool {
-    matches!(open(rt, path, name, amount), Ok(entry) if entry == wanted)
-}
-
-/// Where the first two commands of the book stand.
-const PLACES: [Entry; 2] = [
-    Entry {
-        offset: 0,
-        size: 15,
-    },
-    Entry {
-        offset: 15,
-        size: 15,
-    },
-];
-
-/// Whether it is told where openings of ann and bob are entered, and that another of bob is refused.
-fn tells_places(rt: &HostRuntime, path: &str) -> bool {
-    is_placed(rt, path, ("ann", 1), 100, PLACES[0])
-        && is_placed(rt, path, ("bob", 1), 0, PLACES[1])
-        && matches!(open(rt, path, ("bob", 1), 1), Err(BookError::Refused(_)))
-        && holds(rt, path, &SMALL[..30])
-}
-
+/// Where a command stands is told.
 #[test]
 fn tells_the_place(rt: HostRuntime) -> anyhow::Result<()> {
+    let alloc = rt.alloc();
     let file = path_of(&rt, "placed")?;
-    let is_told = tells_places(&rt, file.as_str());
-    assert!(rt; fs::remove_file(&rt, file.as_str()).is_ok() && is_told);
+    let path = file.as_str();
+    let name = String::from_str(alloc, "ann")?;
+    let first = enter_into(&rt, path, Command::Open { name, amount: 100 });
+    let name = String::from_str(alloc, "bob")?;
+    let second = enter_into(&rt, path, Command::Open { name, amount: 0 });
+    let name = String::from_str(alloc, "bob")?;
+    let third = enter_into(&rt, path, Command::Open { name, amount: 1 });
+    let is_held = holds(&rt, path, &SMALL[..30]);
+    assert!(rt; fs::remove_file(&rt, path).is_ok() && is_held);
+    assert!(rt;
+        matches!(
+            first,
+            Ok(Entry {
+                offset: 0,
+                size: 15
+            })
+        )
+    );
+    assert!(rt;
+        matches!(
+            second,
+            Ok(Entry {
+                offset: 15,
+                size: 15
+            })
+        )
+    );
+    assert!(rt; matches!(third, Err(BookError::Refused(_))));
     Ok(())
 }
 
-/// Where the longest command stands.
-const LONGEST: Entry = Entry {
-    offset: 0,
-    size: 65530,
-};
-
-/// Whether a name of 65509 bytes is not entered, one of 65508 is, and the book is whole.
-fn enters_longest(rt: &HostRuntime, path: &str) -> bool {
-    matches!(
-        open(rt, path, ("m", 65509), u64::MAX),
-        Err(BookError::Append(_))
-    ) && is_placed(rt, path, ("n", 65508), u64::MAX, LONGEST)
-        && ends(rt, path, "check", DONE)
+/// Opens an account whose name is a letter so often.
+fn open_long(rt: &HostRuntime, path: &str, letter: &str, count: usize) -> Result<Entry, BookError> {
+    let Ok(name) = letter.repeat(rt.alloc(), count) else {
+        return Err(BookError::NoAccount);
+    };
+    let amount = u64::MAX;
+    enter_into(rt, path, Command::Open { name, amount })
 }
 
 /// A name of 65508 bytes is the longest: the next one is not entered, and leaves the book as it is.
 #[test]
 fn takes_long_names(rt: HostRuntime) -> anyhow::Result<()> {
     let file = path_of(&rt, "long")?;
-    let is_entered = enters_longest(&rt, file.as_str());
-    assert!(rt; fs::remove_file(&rt, file.as_str()).is_ok() && is_entered);
+    let path = file.as_str();
+    let refused = open_long(&rt, path, "m", 65509);
+    let entered = open_long(&rt, path, "n", 65508);
+    let is_whole = ends(&rt, path, "check", DONE);
+    assert!(rt; fs::remove_file(&rt, path).is_ok() && is_whole);
+    assert!(rt;
+        matches!(
+            entered,
+            Ok(Entry {
+                offset: 0,
+                size: 65530
+            })
+        )
+    );
+    assert!(rt; matches!(refused, Err(BookError::Append(_))));
     Ok(())
 }
 
 /// What a torn book is told as.
-static TORN: [(&str, u8); 6] = [
+const TORN: [(&str, u8); 6] = [
     ("open cy", DAMAGED),
     ("balance", DAMAGED),
     ("balance ann", DAMAGED),
@@ -174,31 +155,25 @@ static TORN: [(&str, u8); 6] = [
     ("check", DAMAGED),
 ];
 
-/// Whether nothing is entered into a torn book, and it is told as one.
-fn leaves_torn(rt: &HostRuntime, path: &str) -> bool {
-    fs::write(rt, path, &SMALL[..48]).is_ok()
-        && all_end(rt, path, &TORN)
-        && holds(rt, path, &SMALL[..48])
-}
-
-/// Whether it is repaired, and takes the lost command again.
-fn is_repaired(rt: &HostRuntime, path: &str) -> bool {
-    ends(rt, path, "repair", DONE)
-        && holds(rt, path, &SMALL[..30])
-        && ends(rt, path, "pay ann bob 30", DONE)
-        && holds(rt, path, &SMALL)
-}
-
+/// Nothing is entered into a torn book, and it is told as one until it is repaired.
 #[test]
 fn leaves_a_torn_book(rt: HostRuntime) -> anyhow::Result<()> {
     let file = path_of(&rt, "torn")?;
-    let is_done = leaves_torn(&rt, file.as_str()) && is_repaired(&rt, file.as_str());
-    assert!(rt; fs::remove_file(&rt, file.as_str()).is_ok() && is_done);
+    let path = file.as_str();
+    let torn = &SMALL[..48];
+    let is_left = fs::write(&rt, path, torn).is_ok()
+        && all_end(&rt, path, &TORN)
+        && holds(&rt, path, torn);
+    let is_repaired = ends(&rt, path, "repair", DONE)
+        && holds(&rt, path, &SMALL[..30])
+        && ends(&rt, path, "pay ann bob 30", DONE)
+        && holds(&rt, path, &SMALL);
+    assert!(rt; fs::remove_file(&rt, path).is_ok() && is_left && is_repaired);
     Ok(())
 }
 
 /// What a damaged book is told as.
-pub static SPOILT: [(&str, u8); 5] = [
+pub const SPOILT: [(&str, u8); 5] = [
     ("open eve", DAMAGED),
     ("balance", DAMAGED),
     ("check", DAMAGED),
@@ -211,41 +186,30 @@ fn is_damaged(rt: &HostRuntime, path: &str, bytes: &[u8]) -> bool {
     fs::write(rt, path, bytes).is_ok() && all_end(rt, path, &SPOILT) && holds(rt, path, bytes)
 }
 
-/// The log with a length of 0.
-fn cut_short() -> [u8; 227] {
-    let mut damaged = LOG;
-    damaged[74] = 0;
-    damaged
-}
-
-/// Whether books are told as damaged: one with a changed length, and others.
-fn tells_damaged(rt: &HostRuntime, path: &str) -> bool {
-    is_damaged(rt, path, &cut_short())
-        && is_damaged(rt, path, &LONGER)
-        && is_damaged(rt, path, &UNPAYABLE)
-        && is_damaged(rt, path, &BURIED)
-}
-
 /// A whole frame after a changed length is not lost by a repair.
 #[test]
 fn leaves_a_damaged_book(rt: HostRuntime) -> anyhow::Result<()> {
     let file = path_of(&rt, "damaged")?;
-    let are_told = tells_damaged(&rt, file.as_str());
-    assert!(rt; fs::remove_file(&rt, file.as_str()).is_ok() && are_told);
+    let path = file.as_str();
+    let mut damaged = LOG;
+    damaged[74] = 0;
+    let are_told = is_damaged(&rt, path, &damaged)
+        && is_damaged(&rt, path, &LONGER)
+        && is_damaged(&rt, path, &UNPAYABLE)
+        && is_damaged(&rt, path, &BURIED);
+    assert!(rt; fs::remove_file(&rt, path).is_ok() && are_told);
     Ok(())
-}
-
-/// Whether this is printed of a log.
-fn prints(alloc: Global, mut log: &[u8], wanted: &str) -> bool {
-    let mut out = Vec::new(alloc);
-    let printed = print_log(alloc, &mut out, &mut log);
-    printed.is_ok() && out.as_slice() == wanted.as_bytes()
 }
 
 /// What is printed of the log of three commands.
 #[test]
-fn prints_commands(rt: HostRuntime) {
+fn prints_commands(rt: HostRuntime) -> anyhow::Result<()> {
+    let alloc = rt.alloc();
+    let mut out = Vec::new(alloc);
+    let mut log = SMALL.as_slice();
+    let printed = print_log(alloc, &mut out, &mut log);
     let wanted = "0 at byte 0: open \"ann\" 100\n1 at byte 15: open \"bob\" 0\n\
         2 at byte 30: pay \"ann\" \"bob\" 30\n";
-    assert!(rt; prints(rt.alloc(), &SMALL, wanted));
+    assert!(rt; printed.is_ok() && out.as_slice() == wanted.as_bytes());
+    Ok(())
 }
