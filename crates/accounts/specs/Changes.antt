@@ -25,6 +25,14 @@ RefusesOpening accounts name amount opening.Taken = IsSome (balance_of name acco
 RefusesOpening accounts name amount opening.TooMuch = 2 ^ 64 ≤ total_of accounts + amount
 RefusesOpening accounts name amount (opening.Memory _) = CanOpen accounts name amount
 
+-- an amount may go from the account of one name, which has the first of these balances, to that of another
+pub record CanPay (accounts : Balances) (from to : List ℕ) (amount payer payee : ℕ) : Type 0 where
+  pub payer_has : balance_of from accounts ≡ Some payer
+  pub payee_has : balance_of to accounts ≡ Some payee
+  pub are_two : from ≢ to
+  pub is_some : 0 < amount
+  pub is_enough : amount ≤ payer
+
 -- an amount goes from the payer's balance to the payee's, and every other account stays
 pub record Pays (old : Balances) (from to : List ℕ) (amount : ℕ) (new : Balances) : Type 0 where
   pub payer : ℕ

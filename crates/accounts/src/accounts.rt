@@ -6,7 +6,7 @@ ghost use Rattle.std.specs.Map.{keys_of};
 ghost use Rattle.std.specs.Ordering.{nat_cmp};
 ghost use Rattle.accounts.specs.Accounts.{account_of, balances_of, balance_of, total_of};
 ghost use Rattle.accounts.specs.Accounts.{AreNamed, AreSound, with_account, with_balance};
-ghost use Rattle.accounts.specs.Changes.{Opens, Pays, RefusesOpening, RefusesPayment};
+ghost use Rattle.accounts.specs.Changes.{CanPay, Opens, Pays, RefusesOpening, RefusesPayment};
 
 use crate::refusals::{OpenError, PayError};
 use std::alloc::{AllocError, Global};
@@ -105,6 +105,17 @@ impl Accounts {
         // No money is made or lost.
         ensures total { total_of self.new ≡ total_of self.old }
     {
+        let (payer, payee) = self.balances_for(from, to, amount)?;
+        set_balance(&mut self.balances, from, payer - amount);
+        set_balance(&mut self.balances, to, payee + amount);
+        Ok(())
+    }
+
+    /// The balances of the payer and of the payee of a payment. Fails where `pay` does.
+    fn balances_for(&self, from: &str, to: &str, amount: u64) -> Result<(u64, u64), PayError>
+        ensures can_pay { IfOk result (λ both. CanPay self.now from.now to.now amount both.0 both.1) }
+        ensures refused { IfErr result (RefusesPayment self.now from.now to.now amount) }
+    {
         let payer = self.balance(from).ok_or(PayError::NoPayer)?;
         let payee = self.balance(to).ok_or(PayError::NoPayee)?;
         if from == to {
@@ -116,9 +127,7 @@ impl Accounts {
         if payer < amount {
             return Err(PayError::Short { balance: payer });
         }
-        set_balance(&mut self.balances, from, payer - amount);
-        set_balance(&mut self.balances, to, payee + amount);
-        Ok(())
+        Ok((payer, payee))
     }
 
     /// The balance of the account of this name, if there is one.

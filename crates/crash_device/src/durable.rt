@@ -1,6 +1,6 @@
 //! Steps after which each crash leaves what they did: an append to the log, a cut of it, and a new snapshot with an
 //! empty log.
-ghost use Rattle.std.specs.Prelude.{◌≡◌, ◌<◌, [], take, ◌++◌, OnOk, IsErrOf};
+ghost use Rattle.std.specs.Prelude.{◌≡◌, ◌<◌, ◌≤◌, [], take, ◌++◌, OnOk, IsErrOf};
 ghost use Rattle.crash_device.specs.Files.{AppendsPart, CutsPart, CompactsPart};
 ghost use Rattle.crash_device.specs.Moments.{Only, Holds, LeavesOnly};
 
@@ -20,6 +20,7 @@ pub fn append_durably<D: Device>(device: &mut D, bytes: &[u8]) -> Result<(), Dev
         (AppendsPart bytes.now (D.seen device.old)) }
     // It does not fail by itself.
     ensures failed { IsErrOf result DeviceError.Failed → D.faults device.old < D.faults device.new }
+    ensures later { D.faults device.old ≤ D.faults device.new }
 {
     device.append(bytes)?;
     device.sync()
@@ -37,6 +38,7 @@ pub fn cut_durably<D: Device>(device: &mut D, length: usize) -> Result<(), Devic
     ensures any_moment { LeavesOnly D.moment D.left_since device.old device.new
         (CutsPart length (D.seen device.old)) }
     ensures failed { IsErrOf result DeviceError.Failed → D.faults device.old < D.faults device.new }
+    ensures later { D.faults device.old ≤ D.faults device.new }
 {
     device.cut(length)?;
     device.sync()
@@ -55,6 +57,7 @@ pub fn compact<D: Device>(device: &mut D, snapshot: &[u8]) -> Result<(), DeviceE
     ensures any_moment { LeavesOnly D.moment D.left_since device.old device.new
         (CompactsPart snapshot.now (D.seen device.old)) }
     ensures failed { IsErrOf result DeviceError.Failed → D.faults device.old < D.faults device.new }
+    ensures later { D.faults device.old ≤ D.faults device.new }
 {
     device.replace(snapshot)?;
     cut_durably(device, 0)

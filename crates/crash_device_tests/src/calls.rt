@@ -1,109 +1,153 @@
 //! Calls of a device that does not crash, and of one that has crashed.
 
+use crate::steps::{Step, device, take};
 use crash_device::device::{Device, DeviceError};
-use crash_device::durable::{append_durably, compact, cut_durably};
 use crash_device::memory::{Call, Crash, Memory};
-use std::alloc::Global;
-use std::test::Fail;
+use std::alloc::{AllocError, Global};
 
-/// A device with a snapshot of one byte and a log of three.
-pub fn device(alloc: Global) -> Result<Memory, DeviceError> {
-    Ok(Memory::new(alloc, [9].to_vec(alloc)?, [1, 2, 3].to_vec(alloc)?))
-}
-
-/// Whether these are the files of a device, as its reads give them.
-pub fn reads(alloc: Global, device: &mut Memory, snapshot: &[u8], log: &[u8]) -> bool {
-    let same_snapshot = match device.read_snapshot(alloc) {
+/// Whether this is the snapshot of a device, as it gives it when it is read.
+fn reads_snapshot(alloc: Global, device: &mut Memory, snapshot: &[u8]) -> bool {
+    match device.read_snapshot(alloc) {
         Ok(bytes) => bytes.as_slice() == snapshot,
         Err(_) => false,
-    };
-    let same_log = match device.read_log(alloc) {
+    }
+}
+
+/// Whether this is its log.
+fn reads_log(alloc: Global, device: &mut Memory, log: &[u8]) -> bool {
+    match device.read_log(alloc) {
         Ok(bytes) => bytes.as_slice() == log,
         Err(_) => false,
+    }
+}
+
+/// Whether these are the files of a device.
+fn holds(alloc: Global, device: &mut Memory, snapshot: &[u8], log: &[u8]) -> bool {
+    device.snapshot() == snapshot
+        && device.log() == log
+        && reads_snapshot(alloc, device, snapshot)
+        && reads_log(alloc, device, log)
+}
+
+/// A step, and the snapshot and the log after it.
+type Row<'a> = (Step<'a>, &'a [u8], &'a [u8]);
+
+/// Whether each step leaves its files, one step after the other, and no call fails.
+fn all_leave(alloc: Global, rows: &[Row<'_>]) -> bool {
+    let Some(mut device) = device(alloc) else {
+        return false;
     };
-    same_snapshot && same_log
+    for &(step, snapshot, log) in rows {
+        if take(&mut device, step).is_err() || !holds(alloc, &mut device, snapshot, log) {
+            return false;
+        }
+    }
+    device.failures().is_empty()
+}
+
+/// Single calls, and then steps of several.
+static ROWS: [Row<'static>; 7] = [
+    (Step::Append(&[4, 5]), &[9], &[1, 2, 3, 4, 5]),
+    (Step::Cut(1), &[9], &[1]),
+    (Step::Replace(&[7, 8]), &[7, 8], &[1]),
+    (Step::Sync, &[7, 8], &[1]),
+    (Step::AppendDurably(&[4, 6]), &[7, 8], &[1, 4, 6]),
+    (Step::CutDurably(2), &[7, 8], &[1, 4]),
+    (Step::Compact(&[6, 6]), &[6, 6], &[]),
+];
+
+#[test]
+fn appends_cuts_and_replaces(rt: HostRuntime) {
+    assert!(rt; all_leave(rt.alloc(), &ROWS));
+}
+
+/// A hundred thousand bytes.
+fn much(alloc: Global) -> Result<Vec<u8>, AllocError> {
+    vec![in alloc; 3u8; 100_000]
 }
 
 #[test]
-fn appends_cuts_and_replaces(rt: HostRuntime) -> Result<(), Fail> {
-    let alloc = rt.alloc();
-    let mut device = device(alloc)?;
-    assert!(rt; reads(alloc, &mut device, &[9], &[1, 2, 3]));
-    device.append(&[4, 5])?;
-    assert!(rt; reads(alloc, &mut device, &[9], &[1, 2, 3, 4, 5]));
-    device.cut(1)?;
-    assert!(rt; reads(alloc, &mut device, &[9], &[1]));
-    device.replace(&[7, 8])?;
-    device.sync()?;
-    assert!(rt; reads(alloc, &mut device, &[7, 8], &[1]));
-    assert_eq!(rt; device.failures(), [].as_slice());
+fn takes_nothing_and_much(rt: HostRuntime) -> Result<(), AllocError> {
+    let much = much(rt.alloc())?;
+    let much = much.as_slice();
+    assert!(rt;
+        all_leave(
+            rt.alloc(),
+            &[
+                (Step::Compact(&[]), &[], &[]),
+                (Step::AppendDurably(&[]), &[], &[]),
+                (Step::CutDurably(5), &[], &[]),
+                (Step::AppendDurably(much), &[], much),
+                (Step::CutDurably(200_000), &[], much),
+                (Step::Compact(much), much, &[]),
+            ],
+        )
+    );
     Ok(())
 }
 
-#[test]
-fn appends_cuts_and_compacts_durably(rt: HostRuntime) -> Result<(), Fail> {
-    let alloc = rt.alloc();
-    let mut device = device(alloc)?;
-    append_durably(&mut device, &[4])?;
-    assert_eq!(rt; device.log(), [1, 2, 3, 4].as_slice());
-    cut_durably(&mut device, 2)?;
-    assert_eq!(rt; device.log(), [1, 2].as_slice());
-    compact(&mut device, &[6, 6])?;
-    assert_eq!(rt; device.snapshot(), [6, 6].as_slice());
-    assert_eq!(rt; device.log(), [].as_slice());
-    Ok(())
+/// Whether each of these steps fails.
+fn all_fail(device: &mut Memory, steps: &[Step<'_>]) -> bool {
+    for &step in steps {
+        if take(device, step) != Err(DeviceError::Failed) {
+            return false;
+        }
+    }
+    true
 }
 
-#[test]
-fn takes_nothing_and_much(rt: HostRuntime) -> Result<(), Fail> {
-    let alloc = rt.alloc();
-    let mut device = Memory::new(alloc, Vec::new(alloc), Vec::new(alloc));
-    append_durably(&mut device, &[])?;
-    cut_durably(&mut device, 5)?;
-    compact(&mut device, &[])?;
-    assert!(rt; reads(alloc, &mut device, &[], &[]));
-    let much = vec![in alloc; 3u8; 100_000]?;
-    append_durably(&mut device, &much)?;
-    assert_eq!(rt; device.log().len(), 100_000);
-    cut_durably(&mut device, 200_000)?;
-    assert_eq!(rt; device.log().len(), 100_000);
-    compact(&mut device, &much)?;
-    assert_eq!(rt; device.snapshot().len(), 100_000);
-    assert_eq!(rt; device.log().len(), 0);
-    Ok(())
+/// Whether both reads of a device fail.
+fn fails_to_read(alloc: Global, device: &mut Memory) -> bool {
+    matches!(device.read_log(alloc), Err(DeviceError::Failed))
+        && matches!(device.read_snapshot(alloc), Err(DeviceError::Failed))
 }
 
-#[test]
-fn fails_after_a_crash_until_it_works_again(rt: HostRuntime) -> Result<(), Fail> {
-    let alloc = rt.alloc();
-    let mut device = device(alloc)?;
+/// The calls that fail after a crash, in order.
+static FAILED: [Call; 6] = [
+    Call::ReadLog,
+    Call::ReadSnapshot,
+    Call::Append,
+    Call::Cut,
+    Call::Sync,
+    Call::Replace,
+];
+
+/// Whether a device that has crashed fails in each call and changes nothing, until it works again.
+fn fails_until_it_works(alloc: Global) -> bool {
+    let Some(mut device) = device(alloc) else {
+        return false;
+    };
     device.set_crash(Some(Crash { calls: 0, bytes: 2 }));
-    assert!(rt; matches!(device.read_log(alloc), Err(DeviceError::Failed)));
-    assert!(rt; matches!(device.read_snapshot(alloc), Err(DeviceError::Failed)));
-    assert_eq!(rt; device.append(&[4]), Err(DeviceError::Failed));
-    assert_eq!(rt; device.cut(0), Err(DeviceError::Failed));
-    assert_eq!(rt; device.sync(), Err(DeviceError::Failed));
-    assert_eq!(rt; device.replace(&[4]), Err(DeviceError::Failed));
-    let failed = [
-        Call::ReadLog,
-        Call::ReadSnapshot,
-        Call::Append,
-        Call::Cut,
-        Call::Sync,
-        Call::Replace,
+    let steps = [
+        Step::Append(&[4]),
+        Step::Cut(0),
+        Step::Sync,
+        Step::Replace(&[4]),
     ];
-    assert_eq!(rt; device.failures(), failed.as_slice());
+    let fails = fails_to_read(alloc, &mut device)
+        && all_fail(&mut device, &steps)
+        && device.failures() == FAILED.as_slice();
     device.set_crash(None);
-    assert!(rt; reads(alloc, &mut device, &[9], &[1, 2, 3]));
-    Ok(())
+    fails && holds(alloc, &mut device, &[9], &[1, 2, 3])
 }
 
 #[test]
-fn tells_errors_in_words(rt: HostRuntime) -> Result<(), Fail> {
-    let alloc = rt.alloc();
-    let memory = format!(in alloc; "{}", DeviceError::Memory)?;
-    assert_eq!(rt; memory.as_str(), "memory was refused");
-    let failed = format!(in alloc; "{}", DeviceError::Failed)?;
-    assert_eq!(rt; failed.as_str(), "the device failed");
-    Ok(())
+fn fails_after_a_crash_until_it_works_again(rt: HostRuntime) {
+    assert!(rt; fails_until_it_works(rt.alloc()));
+}
+
+/// Whether an error says this.
+fn says(alloc: Global, error: DeviceError, text: &str) -> bool {
+    match format!(in alloc; "{error}") {
+        Ok(said) => said.as_str() == text,
+        Err(_) => false,
+    }
+}
+
+#[test]
+fn tells_errors_in_words(rt: HostRuntime) {
+    assert!(rt;
+        says(rt.alloc(), DeviceError::Memory, "memory was refused")
+            && says(rt.alloc(), DeviceError::Failed, "the device failed")
+    );
 }

@@ -6,3 +6,5 @@
 mod calls;
 #[cfg(test)]
 mod crashes;
+#[cfg(test)]
+mod steps;

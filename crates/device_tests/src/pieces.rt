@@ -153,7 +153,7 @@ fn writing_calls(
 
 /// How many calls a text of a thousand letters takes, by what the stream does: its length has a piece of one byte and
 /// one of two, and the text is one piece. Of halves 1,000 are 500, 250, 125, 63, 31, 16, 8, 4, 2 and 1.
-const CALLS: [(Share, usize, usize); 5] = [
+static CALLS: [(Share, usize, usize); 5] = [
     (Share::All, 0, 3),
     (Share::Half, 0, 1 + 2 + 10),
     (Share::One, 0, 1 + 2 + 1_000),
@@ -247,7 +247,7 @@ impl Write for Failing {
 }
 
 /// Kinds that a stream may fail by, none of which is tried again.
-pub const KINDS: [ErrorKind; 6] = [
+pub static KINDS: [ErrorKind; 6] = [
     ErrorKind::BrokenPipe,
     ErrorKind::WouldBlock,
     ErrorKind::ConnectionReset,

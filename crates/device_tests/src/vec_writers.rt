@@ -35,7 +35,7 @@ fn collected(alloc: Global, piece: &[u8], count: usize, call: Call) -> Result<us
 }
 
 /// Pieces, how many are written, and how many bytes these are.
-const PIECES: [(&[u8], usize, usize); 3] = [
+static PIECES: [(&[u8], usize, usize); 3] = [
     (&[7], 30_000, 30_000),
     (&[1, 2, 3], 30_000, 90_000),
     (&[5; 1_000], 100, 100_000),

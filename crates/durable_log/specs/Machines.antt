@@ -11,6 +11,7 @@ use Rattle.snapshots.specs.declared.resuming.ResumeError.TheVariants.{Snapshot, 
 use Rattle.snapshots.specs.Numbers.{AppliesNext}
 use Rattle.snapshots.specs.Resuming.{HoldBelow, HoldFrom, IsResumeFault, held_by}
 use Rattle.snapshots.specs.Saved.{IsSavedAs, IsRestored, IsRestoreMemory}
+use Rattle.snapshots.specs.Snapshots.{IsSaveMemory}
 use Rattle.crash_device.specs.Files.{Files}
 use Rattle.crash_device.specs.Moments.{Only}
 use Rattle.durable_log.specs.declared.machines.ComeBackError.{ComeBackError}
@@ -91,6 +92,11 @@ abbrev pub HasOutsideCause : {E : Type 0} → ComeBackError E → Type 0
 HasOutsideCause (returning.Device _) = Unit {0}
 HasOutsideCause (returning.Files (Snapshot why)) = IsRestoreMemory why
 HasOutsideCause (returning.Files (Log e)) = IsOutside e.why
+
+-- memory was refused for the snapshot, or the device failed
+abbrev pub StopsFromOutside : CompactError → Type 0
+StopsFromOutside (compacting.Save why) = IsSaveMemory why
+StopsFromOutside (compacting.Device _) = Unit {0}
 
 -- without a snapshot the device was not called
 abbrev pub IsUncalled : {D : Type 0} → D → D → CompactError → Type 0

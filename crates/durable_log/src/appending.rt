@@ -1,5 +1,5 @@
 //! Appending commands to a log, each on the disk before it is acknowledged.
-ghost use Rattle.std.specs.Prelude.{◌≡◌, ◌<◌, ◌++◌, ℕ, List, IfErr, IfOk, IsErrOf, OnOk};
+ghost use Rattle.std.specs.Prelude.{◌≡◌, ◌<◌, ◌≤◌, ◌++◌, ℕ, List, IfErr, IfOk, IsErrOf, OnOk};
 ghost use Rattle.std.specs.List.{All};
 ghost use Rattle.frames.specs.Frames.{frame};
 ghost use Rattle.framed_store.specs.Appended.{FitsStore, IsFitting};
@@ -68,6 +68,7 @@ pub fn append_command<T: Encode + Decode<()> + Exact, D: Device, C: Config>(
     ensures fits { FitsStore T.words C.setting C.bound most command.now → IfErr result IsForced }
     ensures failed { IsErrOf result (CommandError.Device DeviceError.Failed)
         → D.faults device.old < D.faults device.new }
+    ensures later { D.faults device.old ≤ D.faults device.new }
 {
     let frame = framed(alloc, command, config, most)?;
     append_frame(device, &frame)
@@ -104,6 +105,7 @@ fn append_frame<D: Device>(device: &mut D, frame: &[u8]) -> Result<(), CommandEr
     ensures forced { IfErr result IsForced }
     ensures failed { IsErrOf result (CommandError.Device DeviceError.Failed)
         → D.faults device.old < D.faults device.new }
+    ensures later { D.faults device.old ≤ D.faults device.new }
 {
     match append_durably(device, frame) {
         Ok(()) => Ok(()),

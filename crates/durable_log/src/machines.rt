@@ -1,7 +1,9 @@
 //! Machines kept on a device: the snapshot is of a state, and the log has the commands after it, under their numbers.
-ghost use Rattle.std.specs.Prelude.{◌≡◌, ◌<◌, ◌++◌, ℕ, List, [], ◌∷◌, length, IfErr, IfOk, IsErrOf, OnErr, OnOk};
+ghost use Rattle.std.specs.Prelude.{◌≡◌, ◌<◌, ◌≤◌, ◌++◌, ℕ, List, [], ◌∷◌, length, IfErr, IfOk, IsErrOf};
+ghost use Rattle.std.specs.Prelude.{OnErr, OnOk};
 ghost use Rattle.framed_store.specs.Appended.{FitsStore};
 ghost use Rattle.snapshots.specs.Numbers.{RefusesNext};
+ghost use Rattle.snapshots.specs.Saved.{FitsSnapshot};
 ghost use Rattle.crash_device.specs.Moments.{LeavesOnly, Only};
 ghost use Rattle.durable_log.specs.Appending.{IsForced, IsUntouched};
 ghost use Rattle.durable_log.specs.Machines.{
@@ -14,6 +16,7 @@ ghost use Rattle.durable_log.specs.Machines.{
   IsRefused,
   IsSnapshotAlone,
   IsUncalled,
+  StopsFromOutside,
 };
 
 use crate::appending::{CommandError, append_command};
@@ -150,6 +153,10 @@ pub fn compact_machine<M: Saving, D: Device, C: Config>(
         M.Command.eq M.applies ⟦<(u64, M::Command) as Wire>⟧.words C.setting C.bound most first commands) }
 
     ensures untouched { IfErr result (IsUncalled device.old device.new) }
+    // It does not fail by itself: a machine of which all that is saved fits the limit is refused only if memory is, or
+    // if the device fails.
+    ensures fits { FitsSnapshot M.stands_for M.Saved.words C.setting C.bound numbered.now.machine
+        → IfErr result StopsFromOutside }
     ensures failed { IsErrOf result (CompactError.Device DeviceError.Failed)
         → D.faults device.old < D.faults device.new }
 {
@@ -224,6 +231,7 @@ where
         → IfErr result IsForced }
     ensures failed { IsErrOf result (CommandError.Device DeviceError.Failed)
         → D.faults device.old < D.faults device.new }
+    ensures later { D.faults device.old ≤ D.faults device.new }
 {
     let next = (numbered.next, command);
     append_command(alloc, device, &next, config, most)?;

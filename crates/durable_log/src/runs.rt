@@ -1,5 +1,5 @@
 //! Appending many commands to a log, each on the disk before the next.
-ghost use Rattle.std.specs.Prelude.{List, IfErr, OnOk};
+ghost use Rattle.std.specs.Prelude.{◌<◌, ◌≤◌, List, IfErr, IsErrOf, OnOk};
 ghost use Rattle.std.specs.List.{All};
 ghost use Rattle.framed_store.specs.Appended.{FitsStore};
 ghost use Rattle.framed_store.specs.Pieces.{Piece};
@@ -13,7 +13,7 @@ use bincode::config::Config;
 use bincode::de::Decode;
 use bincode::enc::Encode;
 use bincode::laws::Exact;
-use crash_device::device::Device;
+use crash_device::device::{Device, DeviceError};
 use std::alloc::Global;
 
 /// Appends commands in order, each on the disk before the next. Fails where `append_command` does, at the first command
@@ -42,6 +42,9 @@ pub fn append_commands<T: Encode + Decode<()> + Exact, D: Device, C: Config>(
     // It does not fail by itself: of commands that all fit one is refused only if memory is, or if the device fails.
     ensures fits { All (λ command. FitsStore T.words C.setting C.bound most command) commands.now
         → IfErr result IsForced }
+    ensures failed { IsErrOf result (CommandError.Device DeviceError.Failed)
+        → D.faults device.old < D.faults device.new }
+    ensures later { D.faults device.old ≤ D.faults device.new }
 {
     for command in commands {
         append_command(alloc, device, command, config, most)?;

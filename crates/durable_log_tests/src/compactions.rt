@@ -1,95 +1,92 @@
 //! Snapshots of tills that take the place of their logs, with a crash in each step and at each byte of the cut.
 
-use crate::tills::{
-    ALL_PAID, PAYMENTS, TWO_PAID, compact_till, resumes_as, till_after, till_device,
-};
+use crate::logs::Place;
+use crate::tills::{ALL_PAID, TWO_PAID, compact_till, paid, resumes_as, till_after, till_device};
 use bincode::config;
 use crash_device::device::DeviceError;
-use crash_device::memory::{Call, Crash};
-use durable_log::machines::{ComeBackError, CompactError, compact_machine};
-use snapshots::resuming::ResumeError;
-use snapshots::saving::RestoreError;
+use crash_device::memory::{Call, Memory};
+use durable_log::machines::{CompactError, compact_machine};
 use std::alloc::Global;
-use std::test::Fail;
 
-#[test]
-fn compacts_to_a_snapshot(rt: HostRuntime) -> Result<(), Fail> {
-    let alloc = rt.alloc();
-    let mut device = till_device(alloc, &TWO_PAID, &PAYMENTS, None)?;
-    assert!(rt; compact_till(alloc, &mut device, &till_after(3)).is_ok());
-    assert_eq!(rt; device.snapshot(), ALL_PAID.as_slice());
-    assert_eq!(rt; device.log(), [].as_slice());
-    assert!(rt; resumes_as(alloc, &mut device, 3, &ALL_PAID, &[]));
-    Ok(())
+/// Whether the outcome is that the device failed in this call; or that it did not, and the log is empty.
+fn is_told(told: &Result<(), CompactError>, device: &Memory, failed: Option<Call>) -> bool {
+    match (told, failed) {
+        (Ok(()), None) => device.failures().is_empty() && device.log().is_empty(),
+        (Err(CompactError::Device(DeviceError::Failed)), Some(call)) => {
+            device.failures() == [call].as_slice()
+        }
+        _ => false,
+    }
 }
 
-/// Whether a compaction fails where the device crashes, and the till after all payments comes back from this snapshot
-/// and so many bytes of the log.
+/// Whether a compaction fails in this call or not where the device crashes there, and the till after all payments comes
+/// back from this snapshot and so many bytes of the log.
 fn stands_after(
     alloc: Global,
-    crash: Crash,
-    call: Call,
+    crash: Place,
+    failed: Option<Call>,
     snapshot: &[u8],
     length: usize,
-) -> Result<bool, DeviceError> {
-    let mut device = till_device(alloc, &TWO_PAID, &PAYMENTS, Some(crash))?;
+) -> bool {
+    let Some(mut device) = till_device(alloc, &TWO_PAID, paid(32), Some(crash)) else {
+        return false;
+    };
     let told = compact_till(alloc, &mut device, &till_after(3));
-    let failed = matches!(told, Err(CompactError::Device(DeviceError::Failed)));
-    let named = device.failures() == [call].as_slice();
-    let log = PAYMENTS.get(..length).unwrap_or(&[]);
-    Ok(failed && named && resumes_as(alloc, &mut device, 3, snapshot, log))
+    is_told(&told, &device, failed) && resumes_as(alloc, &mut device, 3, snapshot, paid(length))
 }
 
-#[test]
-fn stands_at_each_step(rt: HostRuntime) -> Result<(), Fail> {
-    let alloc = rt.alloc();
-    let before = Crash { calls: 0, bytes: 0 };
-    assert!(rt; stands_after(alloc, before, Call::Replace, &TWO_PAID, 32)?);
-    let replaced = Crash { calls: 0, bytes: 1 };
-    assert!(rt; stands_after(alloc, replaced, Call::Replace, &ALL_PAID, 32)?);
-    for bytes in 0..=PAYMENTS.len() {
-        let length = match bytes {
-            0 => 32,
-            1..11 => 22,
-            11..23 => 10,
-            _ => 0,
-        };
-        let cutting = Crash { calls: 1, bytes };
-        assert!(rt;
-            stands_after(alloc, cutting, Call::Cut, &ALL_PAID, length)?,
-            "{bytes}"
-        );
+/// What stands of the log where the cut stops after this many bytes: whole payments.
+fn left_of(bytes: usize) -> usize {
+    match bytes {
+        0 => 32,
+        1..11 => 22,
+        11..23 => 10,
+        _ => 0,
     }
-    let in_sync = Crash { calls: 2, bytes: 0 };
-    assert!(rt; stands_after(alloc, in_sync, Call::Sync, &ALL_PAID, 0)?);
-    Ok(())
 }
 
+/// The number of bytes of a cut after which something else stands.
+fn wrong_byte(alloc: Global) -> Option<usize> {
+    for bytes in 0..=32 {
+        if !stands_after(
+            alloc,
+            (1, bytes),
+            Some(Call::Cut),
+            &ALL_PAID,
+            left_of(bytes),
+        ) {
+            return Some(bytes);
+        }
+    }
+    None
+}
+
+/// A crash before the new snapshot stands, and after that; and none.
 #[test]
-fn calls_no_device_without_a_snapshot(rt: HostRuntime) -> Result<(), Fail> {
+fn stands_at_each_step(rt: HostRuntime) {
     let alloc = rt.alloc();
-    let in_any_call = Some(Crash { calls: 0, bytes: 9 });
-    let mut device = till_device(alloc, &TWO_PAID, &PAYMENTS, in_any_call)?;
+    assert_eq!(rt; wrong_byte(alloc), None);
+    assert!(rt;
+        stands_after(alloc, (0, 0), Some(Call::Replace), &TWO_PAID, 32)
+            && stands_after(alloc, (0, 1), Some(Call::Replace), &ALL_PAID, 32)
+            && stands_after(alloc, (2, 0), Some(Call::Sync), &ALL_PAID, 0)
+            && stands_after(alloc, (3, 0), None, &ALL_PAID, 0)
+    );
+}
+
+/// Whether a state that passes the limit is not saved, and no call is made of a device that would crash in it.
+fn calls_no_device(alloc: Global) -> bool {
+    let Some(mut device) = till_device(alloc, &TWO_PAID, paid(32), Some((0, 9))) else {
+        return false;
+    };
     let narrow = config::standard().with_limit::<11>();
     let told = compact_machine(alloc, &mut device, &till_after(3), narrow);
-    assert!(rt; matches!(told, Err(CompactError::Save(_))));
-    assert_eq!(rt; device.failures(), [].as_slice());
-    assert!(rt; resumes_as(alloc, &mut device, 3, &TWO_PAID, &PAYMENTS));
-    Ok(())
+    matches!(told, Err(CompactError::Save(_)))
+        && device.failures().is_empty()
+        && resumes_as(alloc, &mut device, 3, &TWO_PAID, paid(32))
 }
 
 #[test]
-fn tells_errors_of_machines_in_words(rt: HostRuntime) -> Result<(), Fail> {
-    let alloc = rt.alloc();
-    let compacted = format!(in alloc; "{}", CompactError::Device(DeviceError::Failed))?;
-    assert_eq!(rt; compacted.as_str(), "the device failed");
-    let failed: ComeBackError<DeviceError> = ComeBackError::Device(DeviceError::Failed);
-    let device = format!(in alloc; "{}", failed)?;
-    assert_eq!(rt; device.as_str(), "the device failed");
-    let refused: ComeBackError<DeviceError> = ComeBackError::Files(ResumeError::Snapshot(
-        RestoreError::NoState,
-    ));
-    let files = format!(in alloc; "{}", refused)?;
-    assert_eq!(rt; files.as_str(), "the snapshot: it stands for no state");
-    Ok(())
+fn calls_no_device_without_a_snapshot(rt: HostRuntime) {
+    assert!(rt; calls_no_device(rt.alloc()));
 }

@@ -9,6 +9,8 @@ mod compactions;
 #[cfg(test)]
 mod logs;
 #[cfg(test)]
+mod messages;
+#[cfg(test)]
 mod payments;
 #[cfg(test)]
 mod recoveries;

@@ -6,17 +6,17 @@ use crash_device::memory::{Crash, Memory};
 use durable_log::appending::{CommandError, append_command};
 use durable_log::recovering::{RecoverError, recover};
 use replay::replay::Replayed;
-use replay_tests::till::{Full, Till};
 use std::alloc::Global;
+use tills::till::{Full, Till};
 
 /// The frames of payments of 7, of 300 and of 7 again.
-pub const LOG: [u8; 29] = [
+pub static LOG: [u8; 29] = [
     1, 0, 0, 0, 7, 114, 125, 169, 169, 3, 0, 0, 0, 251, 44, 1, 226, 82, 158, 82, 1, 0, 0, 0, 7,
     114, 125, 169, 169,
 ];
 
 /// The same with a bit of 300 changed.
-pub const DAMAGED: [u8; 29] = [
+pub static DAMAGED: [u8; 29] = [
     1, 0, 0, 0, 7, 114, 125, 169, 169, 3, 0, 0, 0, 251, 45, 1, 226, 82, 158, 82, 1, 0, 0, 0, 7,
     114, 125, 169, 169,
 ];
@@ -29,16 +29,31 @@ pub const TWO: usize = 20;
 /// The greatest length of an encoding in these logs.
 pub const LONGEST: u32 = 3;
 
-/// A device with this log, and a snapshot of one byte.
-pub fn device_with(alloc: Global, log: &[u8]) -> Result<Memory, DeviceError> {
-    Ok(Memory::new(alloc, [9].to_vec(alloc)?, log.to_vec(alloc)?))
+/// A call in which a device crashes, by the number of calls before it, and the number of bytes that stand of it.
+pub type Place = (usize, usize);
+
+/// A device with this log and a snapshot of one byte, which crashes there.
+pub fn device_with(alloc: Global, log: &[u8], crash: Option<Place>) -> Option<Memory> {
+    let snapshot = [9].to_vec(alloc).ok()?;
+    let log = log.to_vec(alloc).ok()?;
+    let mut device = Memory::new(alloc, snapshot, log);
+    device.set_crash(crash.map(|(calls, bytes)| Crash { calls, bytes }));
+    Some(device)
 }
 
-/// The same, which crashes there.
-pub fn crashing(alloc: Global, log: &[u8], crash: Crash) -> Result<Memory, DeviceError> {
-    let mut device = device_with(alloc, log)?;
-    device.set_crash(Some(crash));
-    Ok(device)
+/// The front of the log of this length.
+pub fn front(length: usize) -> &'static [u8] {
+    LOG.get(..length).unwrap_or(&[])
+}
+
+/// The sum of the payments in a front of the log that ends after a payment, and their number.
+fn sum_of(end: usize) -> (u32, u64) {
+    match end {
+        0 => (0, 0),
+        ONE => (7, 1),
+        TWO => (307, 2),
+        _ => (314, 3),
+    }
 }
 
 /// Appends a payment.
@@ -61,7 +76,12 @@ pub fn recover_into(
 }
 
 /// Whether a device that works again recovers this sum of this number of payments, and then has this log.
-pub fn recovers(alloc: Global, device: &mut Memory, sum: u32, commands: u64, log: &[u8]) -> bool {
+pub fn recovers(
+    alloc: Global,
+    device: &mut Memory,
+    (sum, commands): (u32, u64),
+    log: &[u8],
+) -> bool {
     let mut till = Till {
         held: 0,
         most: 10_000,
@@ -72,4 +92,18 @@ pub fn recovers(alloc: Global, device: &mut Memory, sum: u32, commands: u64, log
         && matches!(recovered, Ok(found) if found.commands == commands && found.length == log.len())
         && device.log() == log
         && device.snapshot() == [9].as_slice()
+}
+
+/// Whether it recovers the payments in the front of the log that ends there.
+pub fn recovers_to(alloc: Global, device: &mut Memory, end: usize) -> bool {
+    recovers(alloc, device, sum_of(end), front(end))
+}
+
+/// Whether the outcome is that the device failed, or that it did not.
+pub fn is_told(told: &Result<(), CommandError>, fails: bool) -> bool {
+    match told {
+        Ok(()) => !fails,
+        Err(CommandError::Device(DeviceError::Failed)) => fails,
+        Err(_) => false,
+    }
 }

@@ -1,114 +1,117 @@
 //! Recovering logs: cut at each byte, with a crash in each call and at each byte of the cut, and what is refused.
 
 use crate::logs::{
-    DAMAGED, LOG, LONGEST, ONE, TWO, crashing, device_with, pay, recover_into, recovers,
+    DAMAGED, LONGEST, ONE, Place, TWO, device_with, front, pay, recover_into, recovers_to,
 };
 use crash_device::device::DeviceError;
-use crash_device::memory::{Call, Crash, Memory};
-use durable_log::appending::CommandError;
+use crash_device::memory::{Call, Memory};
 use durable_log::recovering::RecoverError;
-use framed_store::appending::AppendError;
 use replay::replay::{Failure, ReplayError};
-use replay_tests::till::{Full, Till};
 use std::alloc::Global;
-use std::test::Fail;
+use tills::till::{Full, Till};
+
+/// The end of the last payment that stands whole in a front of the log.
+fn whole_end(length: usize) -> usize {
+    match length {
+        0..9 => 0,
+        9..20 => ONE,
+        20..29 => TWO,
+        _ => 29,
+    }
+}
 
 /// Whether what is recovered of a front of the log is the payments that stand whole in it, and the next one follows.
-fn recovers_front(alloc: Global, length: usize) -> Result<bool, DeviceError> {
-    let mut device = device_with(alloc, LOG.get(..length).unwrap_or(&[]))?;
-    let (sum, commands, end) = match length {
-        0..9 => (0, 0, 0),
-        9..20 => (7, 1, ONE),
-        20..29 => (307, 2, TWO),
-        _ => (314, 3, 29),
+fn recovers_front(alloc: Global, length: usize) -> bool {
+    let Some(mut device) = device_with(alloc, front(length), None) else {
+        return false;
     };
-    let front = recovers(
-        alloc,
-        &mut device,
-        sum,
-        commands,
-        LOG.get(..end).unwrap_or(&[]),
-    );
-    let paid = pay(alloc, &mut device, 7, LONGEST).is_ok();
-    Ok(front && paid && device.log().len() == end + ONE)
+    let end = whole_end(length);
+    recovers_to(alloc, &mut device, end)
+        && pay(alloc, &mut device, 7, LONGEST).is_ok()
+        && device.log().len() == end + ONE
+}
+
+/// The length of a front of which something else is recovered.
+fn wrong_front(alloc: Global) -> Option<usize> {
+    for length in 0..=29 {
+        if !recovers_front(alloc, length) {
+            return Some(length);
+        }
+    }
+    None
 }
 
 #[test]
-fn recovers_each_front(rt: HostRuntime) -> Result<(), Fail> {
-    for length in 0..=LOG.len() {
-        assert!(rt; recovers_front(rt.alloc(), length)?, "{length}");
-    }
-    Ok(())
+fn recovers_each_front(rt: HostRuntime) {
+    assert_eq!(rt; wrong_front(rt.alloc()), None);
 }
 
-/// Whether a recovery fails where the device crashes, and a second one gives the payment that stands whole in the log.
-fn recovers_after(alloc: Global, crash: Crash, call: Call) -> Result<bool, DeviceError> {
-    let mut device = crashing(alloc, LOG.get(..15).unwrap_or(&[]), crash)?;
+/// Whether a recovery fails in this call where the device crashes there, and a second one gives the payment that stands
+/// whole in the log.
+fn recovers_after(alloc: Global, crash: Place, call: Call) -> bool {
+    let Some(mut device) = device_with(alloc, front(15), Some(crash)) else {
+        return false;
+    };
     let mut till = Till {
         held: 0,
         most: 1000,
     };
     let told = recover_into(alloc, &mut till, &mut device);
-    let failed = matches!(told, Err(RecoverError::Device(DeviceError::Failed)));
-    let named = device.failures() == [call].as_slice();
-    Ok(failed && named && recovers(alloc, &mut device, 7, 1, LOG.get(..ONE).unwrap_or(&[])))
+    matches!(told, Err(RecoverError::Device(DeviceError::Failed)))
+        && device.failures() == [call].as_slice()
+        && recovers_to(alloc, &mut device, ONE)
 }
 
-#[test]
-fn crashes_in_a_recovery(rt: HostRuntime) -> Result<(), Fail> {
-    let alloc = rt.alloc();
-    assert!(rt; recovers_after(alloc, Crash { calls: 0, bytes: 0 }, Call::ReadLog)?);
+/// The number of bytes of a cut after which something else is recovered.
+fn wrong_byte(alloc: Global) -> Option<usize> {
     for bytes in 0..=7 {
-        assert!(rt;
-            recovers_after(alloc, Crash { calls: 1, bytes }, Call::Cut)?,
-            "{bytes}"
-        );
+        if !recovers_after(alloc, (1, bytes), Call::Cut) {
+            return Some(bytes);
+        }
     }
-    assert!(rt; recovers_after(alloc, Crash { calls: 2, bytes: 0 }, Call::Sync)?);
-    Ok(())
-}
-
-/// Where a log stops in a till of this size, and why: what the till holds, and the number of bytes before the place.
-fn stop_of(alloc: Global, device: &mut Memory, most: u32) -> Option<(u32, usize, Failure<Full>)> {
-    let mut till = Till { held: 0, most };
-    match recover_into(alloc, &mut till, device) {
-        Err(RecoverError::Replay(ReplayError { offset, why, .. })) => Some((
-            till.held, offset, why,
-        )),
-        _ => None,
-    }
+    None
 }
 
 #[test]
-fn cuts_nothing_of_a_damaged_log(rt: HostRuntime) -> Result<(), Fail> {
-    let alloc = rt.alloc();
-    let mut device = device_with(alloc, &DAMAGED)?;
-    let stop = stop_of(alloc, &mut device, 1000);
-    assert!(rt; matches!(stop, Some((7, 9, Failure::Damaged))));
-    assert_eq!(rt; device.log(), DAMAGED.as_slice());
-    Ok(())
-}
-
-#[test]
-fn tells_a_command_that_is_refused(rt: HostRuntime) -> Result<(), Fail> {
-    let alloc = rt.alloc();
-    let mut device = device_with(alloc, &LOG)?;
-    let stop = stop_of(alloc, &mut device, 306);
-    assert!(rt; matches!(stop, Some((7, 9, Failure::Refused(Full)))));
-    assert_eq!(rt; device.log(), LOG.as_slice());
-    Ok(())
-}
-
-#[test]
-fn tells_errors_in_words(rt: HostRuntime) -> Result<(), Fail> {
-    let alloc = rt.alloc();
-    let device = format!(in alloc; "{}", CommandError::Device(DeviceError::Failed))?;
-    assert_eq!(rt; device.as_str(), "the device failed");
-    let long = CommandError::Frame(AppendError::TooLong { length: 3, most: 2 });
-    let frame = format!(in alloc; "{}", long)?;
-    assert_eq!(rt;
-        frame.as_str(),
-        "its encoding has 3 bytes, and the store takes 2"
+fn crashes_in_a_recovery(rt: HostRuntime) {
+    assert_eq!(rt; wrong_byte(rt.alloc()), None);
+    assert!(rt;
+        recovers_after(rt.alloc(), (0, 0), Call::ReadLog)
+            && recovers_after(rt.alloc(), (2, 0), Call::Sync)
     );
-    Ok(())
+}
+
+/// Whether the recovery of a log into a till of this size stops at its second frame, since that is damaged or since the
+/// payment is refused.
+fn stops(alloc: Global, device: &mut Memory, most: u32, is_damaged: bool) -> bool {
+    let mut till = Till { held: 0, most };
+    match &recover_into(alloc, &mut till, device) {
+        Err(RecoverError::Replay(ReplayError { offset: 9, why, .. })) => {
+            till.held == 7
+                && match why {
+                    Failure::Damaged => is_damaged,
+                    Failure::Refused(Full) => !is_damaged,
+                    _ => false,
+                }
+        }
+        _ => false,
+    }
+}
+
+/// Whether it stops so, and nothing of the log is cut.
+fn leaves(alloc: Global, log: &[u8], most: u32, is_damaged: bool) -> bool {
+    match device_with(alloc, log, None) {
+        Some(mut device) => stops(alloc, &mut device, most, is_damaged) && device.log() == log,
+        None => false,
+    }
+}
+
+#[test]
+fn cuts_nothing_of_a_damaged_log(rt: HostRuntime) {
+    assert!(rt; leaves(rt.alloc(), &DAMAGED, 1000, true));
+}
+
+#[test]
+fn tells_a_command_that_is_refused(rt: HostRuntime) {
+    assert!(rt; leaves(rt.alloc(), front(29), 306, false));
 }

@@ -1,9 +1,10 @@
 //! Tills that come back from a snapshot and a log on a device: from a log cut at each byte, after a crash in each call,
 //! and what is refused.
 
-use crate::tills::{PAYMENTS, TWO_PAID, resume_till, resumes_as, till_device};
+use crate::logs::Place;
+use crate::tills::{PAYMENTS, TWO_PAID, paid, resume_till, resumes_as, till_device};
 use crash_device::device::DeviceError;
-use crash_device::memory::{Call, Crash};
+use crash_device::memory::{Call, Memory};
 use durable_log::machines::ComeBackError;
 use replay::replay::{Failure, ReplayError};
 use snapshots::numbered::NumberedRefusal;
@@ -11,7 +12,6 @@ use snapshots::resuming::ResumeError;
 use snapshots::saving::RestoreError;
 use snapshots::snapshot::LoadError;
 use std::alloc::Global;
-use std::test::Fail;
 
 /// The end of the last payment that stands whole in so many bytes of the log.
 fn whole_end(length: usize) -> usize {
@@ -23,81 +23,125 @@ fn whole_end(length: usize) -> usize {
     }
 }
 
-#[test]
-fn resumes_from_each_front(rt: HostRuntime) -> Result<(), Fail> {
-    let alloc = rt.alloc();
+/// Whether a front of the log comes back as three payments if it is whole, and else as the two of the snapshot.
+fn resumes_front(alloc: Global, length: usize) -> bool {
+    let payments = if length == PAYMENTS.len() { 3 } else { 2 };
+    match till_device(alloc, &TWO_PAID, paid(length), None) {
+        Some(mut device) => {
+            resumes_as(
+                alloc,
+                &mut device,
+                payments,
+                &TWO_PAID,
+                paid(whole_end(length)),
+            )
+        }
+        None => false,
+    }
+}
+
+/// The length of a front that comes back as something else.
+fn wrong_front(alloc: Global) -> Option<usize> {
     for length in 0..=PAYMENTS.len() {
-        let front = PAYMENTS.get(..length).unwrap_or(&[]);
-        let whole = PAYMENTS.get(..whole_end(length)).unwrap_or(&[]);
-        let payments = if length == PAYMENTS.len() { 3 } else { 2 };
-        let mut device = till_device(alloc, &TWO_PAID, front, None)?;
-        assert!(rt;
-            resumes_as(alloc, &mut device, payments, &TWO_PAID, whole),
-            "{length}"
-        );
+        if !resumes_front(alloc, length) {
+            return Some(length);
+        }
     }
-    Ok(())
+    None
 }
 
-/// Whether the till does not come back where the device crashes, and does so afterwards.
-fn resumes_after(alloc: Global, crash: Crash, call: Call) -> Result<bool, DeviceError> {
-    let log = PAYMENTS.get(..27).unwrap_or(&[]);
-    let mut device = till_device(alloc, &TWO_PAID, log, Some(crash))?;
+#[test]
+fn resumes_from_each_front(rt: HostRuntime) {
+    assert_eq!(rt; wrong_front(rt.alloc()), None);
+}
+
+/// Whether the till does not come back where the device crashes in this call, and does so afterwards.
+fn resumes_after(alloc: Global, crash: Place, call: Call) -> bool {
+    let Some(mut device) = till_device(alloc, &TWO_PAID, paid(27), Some(crash)) else {
+        return false;
+    };
     let told = resume_till(alloc, &mut device);
-    let failed = matches!(told, Err(ComeBackError::Device(DeviceError::Failed)));
-    let named = device.failures() == [call].as_slice();
-    let whole = PAYMENTS.get(..22).unwrap_or(&[]);
-    Ok(failed && named && resumes_as(alloc, &mut device, 2, &TWO_PAID, whole))
+    matches!(told, Err(ComeBackError::Device(DeviceError::Failed)))
+        && device.failures() == [call].as_slice()
+        && resumes_as(alloc, &mut device, 2, &TWO_PAID, paid(22))
 }
 
-#[test]
-fn crashes_in_a_resumption(rt: HostRuntime) -> Result<(), Fail> {
-    let alloc = rt.alloc();
-    assert!(rt; resumes_after(alloc, Crash { calls: 0, bytes: 0 }, Call::ReadSnapshot)?);
-    assert!(rt; resumes_after(alloc, Crash { calls: 1, bytes: 0 }, Call::ReadLog)?);
+/// The number of bytes of a cut after which something else comes back.
+fn wrong_byte(alloc: Global) -> Option<usize> {
     for bytes in 0..=6 {
-        assert!(rt;
-            resumes_after(alloc, Crash { calls: 2, bytes }, Call::Cut)?,
-            "{bytes}"
-        );
+        if !resumes_after(alloc, (2, bytes), Call::Cut) {
+            return Some(bytes);
+        }
     }
-    assert!(rt; resumes_after(alloc, Crash { calls: 3, bytes: 0 }, Call::Sync)?);
-    Ok(())
+    None
 }
 
 #[test]
-fn refuses_what_is_no_snapshot(rt: HostRuntime) -> Result<(), Fail> {
-    let alloc = rt.alloc();
-    let mut device = till_device(alloc, &[], &PAYMENTS, None)?;
+fn crashes_in_a_resumption(rt: HostRuntime) {
+    assert_eq!(rt; wrong_byte(rt.alloc()), None);
     assert!(rt;
-        matches!(
-            resume_till(alloc, &mut device),
-            Err(ComeBackError::Files(ResumeError::Snapshot(RestoreError::Load(LoadError::Short))))
-        )
+        resumes_after(rt.alloc(), (0, 0), Call::ReadSnapshot)
+            && resumes_after(rt.alloc(), (1, 0), Call::ReadLog)
+            && resumes_after(rt.alloc(), (3, 0), Call::Sync)
     );
-    assert_eq!(rt; device.log(), PAYMENTS.as_slice());
-    Ok(())
+}
+
+/// Whether the snapshot of a device is told as too short.
+fn tells_short(alloc: Global, device: &mut Memory) -> bool {
+    matches!(
+        resume_till(alloc, device),
+        Err(ComeBackError::Files(ResumeError::Snapshot(RestoreError::Load(LoadError::Short))))
+    )
+}
+
+/// Whether its log is told as one that begins with the payment 3 where the payment 2 is missing.
+fn tells_gap(alloc: Global, device: &mut Memory) -> bool {
+    matches!(
+        resume_till(alloc, device),
+        Err(ComeBackError::Files(ResumeError::Log(ReplayError {
+            commands: 0,
+            offset: 0,
+            why: Failure::Refused(NumberedRefusal::Missing {
+                expected: 2,
+                found: 3
+            })
+        })))
+    )
+}
+
+/// Whether what is no snapshot is refused, and the files are left.
+fn refuses_short(alloc: Global) -> bool {
+    match till_device(alloc, &[], paid(32), None) {
+        Some(mut device) => {
+            tells_short(alloc, &mut device)
+                && device.log() == paid(32)
+                && device.snapshot().is_empty()
+        }
+        None => false,
+    }
+}
+
+/// The frame of a payment of 7 with the number 3.
+static LATER: [u8; 10] = [2, 0, 0, 0, 3, 7, 59, 16, 139, 108];
+
+/// Whether a log with a gap is refused, and the files are left.
+fn refuses_gap(alloc: Global) -> bool {
+    match till_device(alloc, &TWO_PAID, &LATER, None) {
+        Some(mut device) => {
+            tells_gap(alloc, &mut device)
+                && device.log() == LATER.as_slice()
+                && device.snapshot() == TWO_PAID.as_slice()
+        }
+        None => false,
+    }
 }
 
 #[test]
-fn refuses_a_log_with_a_gap(rt: HostRuntime) -> Result<(), Fail> {
-    let alloc = rt.alloc();
-    let later = [2, 0, 0, 0, 3, 7, 59, 16, 139, 108];
-    let mut device = till_device(alloc, &TWO_PAID, &later, None)?;
-    assert!(rt;
-        matches!(
-            resume_till(alloc, &mut device),
-            Err(ComeBackError::Files(ResumeError::Log(ReplayError {
-                commands: 0,
-                offset: 0,
-                why: Failure::Refused(NumberedRefusal::Missing {
-                    expected: 2,
-                    found: 3
-                })
-            })))
-        )
-    );
-    assert_eq!(rt; device.log(), later.as_slice());
-    assert_eq!(rt; device.snapshot(), TWO_PAID.as_slice());
-    Ok(())
+fn refuses_what_is_no_snapshot(rt: HostRuntime) {
+    assert!(rt; refuses_short(rt.alloc()));
+}
+
+#[test]
+fn refuses_a_log_with_a_gap(rt: HostRuntime) {
+    assert!(rt; refuses_gap(rt.alloc()));
 }

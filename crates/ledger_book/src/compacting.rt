@@ -1,6 +1,9 @@
 //! Snapshots of books.
-ghost use Rattle.std.specs.Prelude.{ℕ, List, [], Option, Some, IfOk};
+ghost use Rattle.std.specs.Prelude.{ℕ, List, [], Option, Some, IfErr, IfOk};
 ghost use Rattle.ledger_book.specs.Books.{IsBook, state_of};
+ghost use Rattle.ledger_book.specs.Saved.{StandsFor};
+ghost use Rattle.snapshots.specs.Saved.{FitsSnapshot};
+ghost use Rattle.snapshots.specs.Snapshots.{IsSaveMemory};
 
 use crate::layout::Filed;
 use crate::limit::snapshot_settings;
@@ -21,6 +24,9 @@ pub fn snapshot_of(alloc: Global, book: &Numbered<Book>) -> Result<Vec<u8>, Save
     ensures emptied { (old : Option (List ℕ)) (log : List ℕ)
         → IsBook ⟦<Book as Filed>⟧.layout old log (state_of book.now)
         → IfOk result (λ new. IsBook ⟦<Book as Filed>⟧.layout (Some new.items) [] (state_of book.now)) }
+    // Accounts of which all that is saved fits the limit are refused only if memory is.
+    ensures fits { FitsSnapshot StandsFor ⟦<Book as Filed>⟧.layout.saved ⟦<Book as Filed>⟧.layout.saved_setting
+        ⟦<Book as Filed>⟧.layout.saved_limit book.now.machine → IfErr result IsSaveMemory }
 {
     // Gives the proof that the number is below 2^64.
     let _number = book.next;

@@ -10,6 +10,7 @@ use crate::repairing::{Plan, plan_for};
 use crate::request::{Action, Request, request_of};
 use crate::snapshot_file::SnapshotFile;
 use crate::status::{DAMAGED, DONE, FAILED, REFUSED, USAGE};
+use accounts::accounts::Accounts;
 use clap::Error as LineError;
 use clap::error::ErrorKind as LineErrorKind;
 use framed_store::appending::AppendError;
@@ -22,7 +23,7 @@ use std::alloc::Global;
 use std::fmt::Display;
 use std::fs::File;
 use std::io;
-use std::io::{BufReader, BufWriter, ErrorKind, Write};
+use std::io::{BufReader, BufWriter, ErrorKind, Read, Write};
 use stock_files::files::{FileError, bytes_from, cut, open_to_change, open_to_read, put};
 use thiserror::Error;
 
@@ -196,17 +197,27 @@ pub fn enter_into(rt: &HostRuntime, path: &str, command: Command) -> Result<Entr
     let creates = matches!(&command, Command::Open { .. });
     let file = open_to_change(rt, path, creates)?;
     let snapshot = snapshot_beside(rt, path)?;
-    let (mut book, replayed) = replay_file(rt.alloc(), &snapshot, &file)?;
-    refuse_torn(replayed)?;
-    let offset = replayed.length;
-    match enter(rt.alloc(), &mut book, &mut &file, command) {
+    let (mut book, offset) = whole_book(rt.alloc(), &snapshot, &file)?;
+    enter_at(rt.alloc(), &mut book, &file, offset, command)
+}
+
+/// Carries a command out on the accounts of a book, and appends it to the book's file, which ends at this offset.
+fn enter_at(
+    alloc: Global,
+    book: &mut Numbered<Book>,
+    file: &File,
+    offset: usize,
+    command: Command,
+) -> Result<Entry, BookError> {
+    let mut log = file;
+    match enter(alloc, book, &mut log, command) {
         Ok(size) => {
             file.sync_all()?;
             Ok(Entry { offset, size })
         }
         Err(EnterError::Refused(why)) => Err(BookError::Refused(why)),
         Err(EnterError::Append(why)) => {
-            cut(&file, offset)?;
+            cut(file, offset)?;
             Err(BookError::Append(why))
         }
     }
@@ -228,6 +239,17 @@ fn replay_file(
 ) -> Result<(Numbered<Book>, Replayed), BookError> {
     let mut log = BufReader::with_capacity(alloc, BLOCK, file)?;
     Ok(open_book(alloc, snapshot.bytes(), &mut log)?)
+}
+
+/// The accounts that a snapshot and a whole log come to, and the length of the log. Fails where the log is torn.
+fn whole_book(
+    alloc: Global,
+    snapshot: &SnapshotFile,
+    file: &File,
+) -> Result<(Numbered<Book>, usize), BookError> {
+    let (book, replayed) = replay_file(alloc, snapshot, file)?;
+    refuse_torn(replayed)?;
+    Ok((book, replayed.length))
 }
 
 /// The accounts that the book at this path comes to, and how its log ends. No lock is taken: it fails where a snapshot
@@ -278,18 +300,28 @@ fn show_balance(rt: &HostRuntime, path: &str, name: &str) -> Result<(), BookErro
 /// Prints the balance of each account, also of a book that is torn.
 fn show_balances(rt: &HostRuntime, path: &str) -> Result<(), BookError> {
     let (book, replayed) = read_book(rt, path)?;
-    let mut out = BufWriter::with_capacity(rt.alloc(), BLOCK, io::writer(rt))?;
-    print_balances(&mut out, &book.machine.accounts)?;
-    out.flush()?;
+    put_balances(rt, &book.machine.accounts)?;
     refuse_torn(replayed)
+}
+
+/// Prints the balance of each account to the standard output.
+fn put_balances(rt: &HostRuntime, accounts: &Accounts) -> io::Result<()> {
+    let mut out = BufWriter::with_capacity(rt.alloc(), BLOCK, io::writer(rt))?;
+    print_balances(&mut out, accounts)?;
+    out.flush()
 }
 
 /// Prints the commands of a book that its log has.
 fn show_log(rt: &HostRuntime, path: &str) -> Result<(), BookError> {
     let file = open_to_read(rt, path)?;
     let mut log = BufReader::with_capacity(rt.alloc(), BLOCK, file)?;
+    put_log(rt, &mut log)
+}
+
+/// Prints the commands of a log to the standard output.
+fn put_log<R: Read>(rt: &HostRuntime, log: &mut R) -> Result<(), BookError> {
     let mut out = BufWriter::with_capacity(rt.alloc(), BLOCK, io::writer(rt))?;
-    let listed = print_log(rt.alloc(), &mut out, &mut log);
+    let listed = print_log(rt.alloc(), &mut out, log);
     out.flush()?;
     Ok(listed?)
 }
@@ -316,16 +348,8 @@ fn show_check(rt: &HostRuntime, path: &str) -> Result<(), BookError> {
 /// stopped in between, the log has commands that the snapshot has, and they are passed over from then on.
 pub fn compact(rt: &HostRuntime, path: &str) -> Result<(), BookError> {
     let file = open_to_change(rt, path, false)?;
-    let old = snapshot_beside(rt, path)?;
-    let (book, replayed) = replay_file(rt.alloc(), &old, &file)?;
-    refuse_torn(replayed)?;
-    let new = snapshot_of(rt.alloc(), &book)?;
-    if let Err(error) = put(rt, old.path.as_str(), &new, &file) {
-        return Err(BookError::SnapshotFile(error));
-    }
+    let (commands, bytes) = put_snapshot(rt, path, &file)?;
     cut(&file, 0)?;
-    let commands = book.next;
-    let bytes = new.len();
     writeln!(
         io::writer(rt),
         "{path}: commands: {commands}, bytes of the snapshot: {bytes}"
@@ -333,26 +357,60 @@ pub fn compact(rt: &HostRuntime, path: &str) -> Result<(), BookError> {
     Ok(())
 }
 
+/// Puts the accounts of a book into its snapshot: how many commands it had, and the number of bytes of the snapshot.
+fn put_snapshot(rt: &HostRuntime, path: &str, file: &File) -> Result<(u64, usize), BookError> {
+    let old = snapshot_beside(rt, path)?;
+    let (commands, new) = saved_book(rt.alloc(), &old, file)?;
+    match put(rt, old.path.as_str(), &new, file) {
+        Ok(()) => Ok((commands, new.len())),
+        Err(error) => Err(BookError::SnapshotFile(error)),
+    }
+}
+
+/// How many commands a book had, and a snapshot of its accounts. Fails where the book is torn.
+fn saved_book(alloc: Global, old: &SnapshotFile, file: &File) -> Result<(u64, Vec<u8>), BookError> {
+    let (book, _) = whole_book(alloc, old, file)?;
+    let new = snapshot_of(alloc, &book)?;
+    Ok((book.next, new))
+}
+
 /// Cuts a torn end off a book, and says so. Fails where a whole frame would be lost.
 pub fn repair(rt: &HostRuntime, path: &str) -> Result<(), BookError> {
     let mut file = open_to_change(rt, path, false)?;
+    let (commands, replayed) = count(rt, path, &file)?;
+    let tail = bytes_from(rt.alloc(), &mut file, replayed.length)?;
+    cut_torn(rt, path, &file, commands, replayed, &tail)
+}
+
+/// How many commands a book had, and how its log ends.
+fn count(rt: &HostRuntime, path: &str, file: &File) -> Result<(u64, Replayed), BookError> {
     let snapshot = snapshot_beside(rt, path)?;
-    let (book, replayed) = replay_file(rt.alloc(), &snapshot, &file)?;
+    let (book, replayed) = replay_file(rt.alloc(), &snapshot, file)?;
+    Ok((book.next, replayed))
+}
+
+/// Cuts a log off where it is torn, after which these bytes stand, and says so.
+fn cut_torn(
+    rt: &HostRuntime,
+    path: &str,
+    file: &File,
+    commands: u64,
+    replayed: Replayed,
+    tail: &[u8],
+) -> Result<(), BookError> {
     let Replayed {
         length,
         is_torn,
         ..
     } = replayed;
-    let commands = book.next;
-    let tail = bytes_from(rt.alloc(), &mut file, length)?;
     let mut out = io::writer(rt);
-    match plan_for(is_torn, &tail) {
+    match plan_for(is_torn, tail) {
         Plan::Leave => writeln!(
             out,
             "{path}: nothing to cut off, commands: {commands}, bytes: {length}"
         )?,
         Plan::Cut => {
-            cut(&file, length)?;
+            cut(file, length)?;
             let lost = tail.len();
             writeln!(
                 out,

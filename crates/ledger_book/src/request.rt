@@ -56,8 +56,7 @@ const AMOUNT: &str = "an amount is a number below 2^64";
 fn command_line<'a>(alloc: Global) -> Result<CommandLine<'a>, AllocError> {
     let line = with_changes(alloc, bare_line(alloc)?)?;
     let line = with_looks(alloc, line)?;
-    let line = line.subcommand(compact_line(alloc))?;
-    line.subcommand(repair_line(alloc))
+    with_upkeep(alloc, line)
 }
 
 /// The command line without its commands.
@@ -74,15 +73,36 @@ fn bare_line<'a>(alloc: Global) -> Result<CommandLine<'a>, AllocError> {
 
 /// The command line with the commands that change a book.
 fn with_changes<'a>(alloc: Global, line: CommandLine<'a>) -> Result<CommandLine<'a>, AllocError> {
-    let line = line.subcommand(open_line(alloc)?)?;
+    let line = with_open(alloc, line)?;
+    with_pay(alloc, line)
+}
+
+/// The command line with `open`.
+fn with_open<'a>(alloc: Global, line: CommandLine<'a>) -> Result<CommandLine<'a>, AllocError> {
+    line.subcommand(open_line(alloc)?)
+}
+
+/// The command line with `pay`.
+fn with_pay<'a>(alloc: Global, line: CommandLine<'a>) -> Result<CommandLine<'a>, AllocError> {
     line.subcommand(pay_line(alloc)?)
 }
 
 /// The command line with the commands that look at a book.
 fn with_looks<'a>(alloc: Global, line: CommandLine<'a>) -> Result<CommandLine<'a>, AllocError> {
-    let line = line.subcommand(balance_line(alloc)?)?;
+    let line = with_balance(alloc, line)?;
     let line = line.subcommand(log_line(alloc))?;
     line.subcommand(check_line(alloc))
+}
+
+/// The command line with `balance`.
+fn with_balance<'a>(alloc: Global, line: CommandLine<'a>) -> Result<CommandLine<'a>, AllocError> {
+    line.subcommand(balance_line(alloc)?)
+}
+
+/// The command line with the commands that keep a book short and whole.
+fn with_upkeep<'a>(alloc: Global, line: CommandLine<'a>) -> Result<CommandLine<'a>, AllocError> {
+    let line = line.subcommand(compact_line(alloc))?;
+    line.subcommand(repair_line(alloc))
 }
 
 /// A word that has to be given.
@@ -111,22 +131,31 @@ fn opening_amount<'a>(alloc: Global) -> Arg<'a> {
 
 /// The command `pay`.
 fn pay_line<'a>(alloc: Global) -> Result<CommandLine<'a>, AllocError> {
+    let line = from_line(alloc)?;
+    let line = line.arg(word(alloc, "to", "TO", "The name of the payee"))?;
+    line.arg(word(alloc, "amount", "AMOUNT", "How much"))
+}
+
+/// The command `pay` with the first of its words.
+fn from_line<'a>(alloc: Global) -> Result<CommandLine<'a>, AllocError> {
     CommandLine::new(alloc, "pay")
         .about("Pays from one account to another")
         .override_usage(PAY_USAGE)
-        .arg(word(alloc, "from", "FROM", "The name of the payer"))?
-        .arg(word(alloc, "to", "TO", "The name of the payee"))?
-        .arg(word(alloc, "amount", "AMOUNT", "How much"))
+        .arg(word(alloc, "from", "FROM", "The name of the payer"))
 }
 
 /// The command `balance`.
 fn balance_line<'a>(alloc: Global) -> Result<CommandLine<'a>, AllocError> {
-    let name = Arg::new(alloc, "name")
-        .value_name("NAME")
-        .help("The name of the account");
     CommandLine::new(alloc, "balance")
         .about("Prints the balance of an account, or of each by its name")
-        .arg(name)
+        .arg(shown_name(alloc))
+}
+
+/// The account of which the balance is printed.
+fn shown_name<'a>(alloc: Global) -> Arg<'a> {
+    Arg::new(alloc, "name")
+        .value_name("NAME")
+        .help("The name of the account")
 }
 
 /// The command `log`.
@@ -157,12 +186,15 @@ fn repair_line<'a>(alloc: Global) -> CommandLine<'a> {
 /// or for the version, the error has the text for it.
 pub fn request_of(alloc: Global, words: &[String]) -> Result<Request, Error> {
     let matches = command_line(alloc)?.try_get_matches_from(words)?;
+    let action = action_in(alloc, &matches)?;
+    let book = text_of(alloc, &matches, "book")?;
+    Ok(Request { book, action })
+}
+
+/// What the command among these words asks for.
+fn action_in(alloc: Global, matches: &ArgMatches<'_>) -> Result<Action, Error> {
     match matches.subcommand() {
-        Some((name, found)) => {
-            let action = action_of(alloc, name, found)?;
-            let book = text_of(alloc, &matches, "book")?;
-            Ok(Request { book, action })
-        }
+        Some((name, found)) => action_of(alloc, name, found),
         None => Err(mistake(command_line(alloc)?, "which command?")?),
     }
 }

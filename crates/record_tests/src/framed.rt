@@ -5,7 +5,7 @@ use crc32c::checksum;
 use frames::{Frame, OVERHEAD, around, read_frame};
 
 /// The words of the worked frames of docs/FORMAT.md, and the frames.
-const WORKED: [(&[u8], &[u8]); 3] = [
+static WORKED: [(&[u8], &[u8]); 3] = [
     (&[], &[0, 0, 0, 0, 199, 75, 103, 72]),
     (&[7], &[1, 0, 0, 0, 7, 114, 125, 169, 169]),
     (&[251, 44, 1, 2, 97, 98, 2, 5, 6], &RECORD),

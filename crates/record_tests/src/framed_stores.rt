@@ -15,13 +15,13 @@ use frames::around;
 use std::alloc::{AllocError, Global};
 
 /// The frames of 7, of 300 and of 7 again.
-const STORE: [u8; 29] = [
+static STORE: [u8; 29] = [
     1, 0, 0, 0, 7, 114, 125, 169, 169, 3, 0, 0, 0, 251, 44, 1, 226, 82, 158, 82, 1, 0, 0, 0, 7,
     114, 125, 169, 169,
 ];
 
 /// The same with a bit of 300 changed.
-const DAMAGED: [u8; 29] = [
+static DAMAGED: [u8; 29] = [
     1, 0, 0, 0, 7, 114, 125, 169, 169, 3, 0, 0, 0, 251, 45, 1, 226, 82, 158, 82, 1, 0, 0, 0, 7,
     114, 125, 169, 169,
 ];

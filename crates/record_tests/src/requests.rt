@@ -54,7 +54,7 @@ fn told(alloc: Global, line: &str) -> Result<String, AllocError> {
 }
 
 /// Lines, and what they ask for, as a text.
-const REQUESTS: [(&str, &str); 10] = [
+static REQUESTS: [(&str, &str); 10] = [
     ("add f -", "add lines f"),
     ("add f - 3", "add f -"),
     ("add f -- -5 3", "add f -5"),
@@ -87,7 +87,7 @@ fn asks_just(alloc: Global, line: &str, text: &str) -> bool {
 }
 
 /// Words after `add f` that are no article, and why.
-const MISTAKES: [(&str, &str); 5] = [
+static MISTAKES: [(&str, &str); 5] = [
     ("add f salt", "2 error: the price of the article is missing"),
     (
         "add f salt x",
@@ -112,7 +112,7 @@ const ADD_USAGE: &str = "\n\nUsage: records add FILE NAME PRICE [WEIGHT] [NOTE=T
     records add FILE -\n\nFor more information, try '--help'.\n";
 
 /// Lines that are no request, or ask for a help, and how the answers begin.
-const ANSWERS: [(&str, &str); 8] = [
+static ANSWERS: [(&str, &str); 8] = [
     ("", "2 error:"),
     ("sell f", "2 error: unrecognized subcommand 'sell'"),
     ("list", "2 error: the following required arguments"),

@@ -11,20 +11,20 @@ use stock_files::limit::settings;
 pub const SALT: [u8; 8] = [4, 115, 97, 108, 116, 40, 0, 0];
 
 /// The word of tea at 1250, of a weight of 100 and from Assam.
-pub const TEA: [u8; 23] = [
+pub static TEA: [u8; 23] = [
     3, 116, 101, 97, 251, 226, 4, 1, 100, 1, 6, 111, 114, 105, 103, 105, 110, 5, 65, 115, 115, 97,
     109,
 ];
 
 /// The frames of salt at 40, of tea at 1250, of a weight of 100 and from Assam, and of salt again.
-pub const FRAMED: [u8; 63] = [
+pub static FRAMED: [u8; 63] = [
     8, 0, 0, 0, 4, 115, 97, 108, 116, 40, 0, 0, 172, 169, 102, 189, 23, 0, 0, 0, 3, 116, 101, 97,
     251, 226, 4, 1, 100, 1, 6, 111, 114, 105, 103, 105, 110, 5, 65, 115, 115, 97, 109, 144, 206,
     185, 142, 8, 0, 0, 0, 4, 115, 97, 108, 116, 40, 0, 0, 172, 169, 102, 189,
 ];
 
 /// The frame of the word of salt with a zero after it, and that of its first two bytes.
-pub const ODD: [u8; 27] = [
+pub static ODD: [u8; 27] = [
     9, 0, 0, 0, 4, 115, 97, 108, 116, 40, 0, 0, 0, 235, 119, 26, 141, 2, 0, 0, 0, 4, 115, 108, 26,
     228, 160,
 ];

@@ -1,4 +1,4 @@
-//! A till that is kept as a log of payments, and the tests of replaying such logs, and of snapshots of the till.
+//! The tests of replaying logs of payments into a till, and of snapshots of the till.
 #![tactic(auto)]
 
 #[cfg(test)]
@@ -7,7 +7,7 @@ mod logs;
 mod refused_memory;
 #[cfg(test)]
 mod resumed;
-pub mod saved;
 #[cfg(test)]
 mod snapshots_of_tills;
-pub mod till;
+#[cfg(test)]
+mod streams;

@@ -1,11 +1,10 @@
 //! Logs of payments: whole, cut at each byte, damaged, and with a payment that is refused. The checks are Python's.
 
-use crate::till::{Full, Till};
 use bincode::config;
 use framed_store::appending::append;
 use replay::replay::{Failure, ReplayError, Replayed, replay};
-use std::alloc::Global;
-use std::test::Fail;
+use std::alloc::{AllocError, Global};
+use tills::till::{Full, Till};
 
 /// The frames of payments of 7, of 300 and of 7 again.
 pub const LOG: [u8; 29] = [
@@ -58,17 +57,22 @@ fn comes_to(alloc: Global, log: &[u8], sum: u32, end: Replayed) -> bool {
     till.held == sum && matches!(replayed, Ok(found) if found == end)
 }
 
+/// The sum of the payments that stand whole in a front of the log, their number, and the offset after them.
+pub fn stage_of(length: usize) -> (u32, u64, usize) {
+    match length {
+        0..9 => (0, 0, 0),
+        9..20 => (7, 1, 9),
+        20..29 => (307, 2, 20),
+        _ => (314, 3, 29),
+    }
+}
+
 /// Whether the front of the log comes to the sum of the payments that stand whole in it.
 fn replays_front(alloc: Global, length: usize) -> bool {
     let Some(front) = LOG.get(..length) else {
         return false;
     };
-    let (sum, commands, end) = match length {
-        0..9 => (0, 0, 0),
-        9..20 => (7, 1, 9),
-        20..29 => (307, 2, 20),
-        _ => (314, 3, 29),
-    };
+    let (sum, commands, end) = stage_of(length);
     let end = Replayed {
         commands,
         length: end,
@@ -84,48 +88,68 @@ fn replays_each_front(rt: HostRuntime) {
     }
 }
 
-/// Where a log stops: what the till holds there, the number of the command and its offset.
-type Place = (u32, u64, usize);
+/// Why a log stops.
+#[derive(Clone, Copy, PartialEq)]
+enum Why {
+    Full,
+    Damaged,
+    Undecodable,
+    Longer(usize),
+    TooLong(u32),
+}
 
-/// Where a log stops in a till of this size, and why.
-fn stop_of(alloc: Global, log: &[u8], most: u32, longest: u32) -> Option<(Place, Failure<Full>)> {
-    let mut till = Till { held: 0, most };
-    match replay_into(alloc, &mut till, log, longest) {
-        Ok(_) => None,
-        Err(
-            ReplayError {
-                commands,
-                offset,
-                why,
-            },
-        ) => Some(((till.held, commands, offset), why)),
+/// Whether a replay failed for this.
+fn is_for(failure: &Failure<Full>, why: Why) -> bool {
+    match failure {
+        Failure::Refused(Full) => why == Why::Full,
+        Failure::Damaged => why == Why::Damaged,
+        Failure::Undecodable(_) => why == Why::Undecodable,
+        Failure::Longer { taken } => why == Why::Longer(*taken),
+        Failure::TooLong(length) => why == Why::TooLong(*length),
+        _ => false,
     }
 }
 
-#[test]
-fn tells_refused(rt: HostRuntime) {
-    let alloc = rt.alloc();
-    let second = stop_of(alloc, &LOG, 306, LONGEST);
-    assert!(rt; matches!(second, Some(((7, 1, 9), Failure::Refused(Full)))));
-    let third = stop_of(alloc, &LOG, 313, LONGEST);
-    assert!(rt; matches!(third, Some(((307, 2, 20), Failure::Refused(Full)))));
+/// Where a log stops: what the till holds there, the number of the command and its offset.
+type Place = (u32, u64, usize);
+
+/// A log, the size of the till, the longest encoding that the log takes, and where and why it stops.
+type Stop = (&'static [u8], u32, u32, Place, Why);
+
+/// Payments that the till refuses, a damaged frame, and frames that hold no payment.
+static STOPS: [Stop; 6] = [
+    (&LOG, 306, LONGEST, (7, 1, 9), Why::Full),
+    (&LOG, 313, LONGEST, (307, 2, 20), Why::Full),
+    (&DAMAGED, 1000, LONGEST, (7, 1, 9), Why::Damaged),
+    (&SHORT, 1000, LONGEST, (7, 1, 9), Why::Undecodable),
+    (&TWICE, 1000, LONGEST, (0, 0, 0), Why::Longer(1)),
+    (&LOG, 1000, 2, (7, 1, 9), Why::TooLong(3)),
+];
+
+/// Whether a log stops there.
+fn stops(alloc: Global, (log, most, longest, place, why): Stop) -> bool {
+    let mut till = Till { held: 0, most };
+    match &replay_into(alloc, &mut till, log, longest) {
+        Ok(_) => false,
+        Err(error) => {
+            (till.held, error.commands, error.offset) == place && is_for(&error.why, why)
+        }
+    }
+}
+
+/// The place of the first row that does not hold.
+fn wrong_row(alloc: Global, rows: &[Stop]) -> Option<usize> {
+    for (place, &stop) in rows.iter().enumerate() {
+        if !stops(alloc, stop) {
+            return Some(place);
+        }
+    }
+    None
 }
 
 #[test]
-fn tells_damaged(rt: HostRuntime) {
-    let stop = stop_of(rt.alloc(), &DAMAGED, 1000, LONGEST);
-    assert!(rt; matches!(stop, Some(((7, 1, 9), Failure::Damaged))));
-}
-
-#[test]
-fn tells_no_command(rt: HostRuntime) {
-    let alloc = rt.alloc();
-    let short = stop_of(alloc, &SHORT, 1000, LONGEST);
-    assert!(rt; matches!(short, Some(((7, 1, 9), Failure::Undecodable(_)))));
-    let twice = stop_of(alloc, &TWICE, 1000, LONGEST);
-    assert!(rt; matches!(twice, Some(((0, 0, 0), Failure::Longer { taken: 1 }))));
-    let long = stop_of(alloc, &LOG, 1000, 2);
-    assert!(rt; matches!(long, Some(((7, 1, 9), Failure::TooLong(3)))));
+fn tells_where_it_stops(rt: HostRuntime) {
+    assert_eq!(rt; wrong_row(rt.alloc(), &STOPS), None);
 }
 
 /// Whether a torn log goes on, by a payment of 7, where its last whole frame ends.
@@ -145,9 +169,8 @@ fn goes_on(alloc: Global, log: &mut Vec<u8>) -> bool {
 }
 
 #[test]
-fn goes_on_after_a_torn_end(rt: HostRuntime) -> Result<(), Fail> {
-    let alloc = rt.alloc();
-    let mut log = LOG[..25].to_vec(alloc)?;
-    assert!(rt; goes_on(alloc, &mut log));
+fn goes_on_after_a_torn_end(rt: HostRuntime) -> Result<(), AllocError> {
+    let mut log = LOG[..25].to_vec(rt.alloc())?;
+    assert!(rt; goes_on(rt.alloc(), &mut log));
     Ok(())
 }

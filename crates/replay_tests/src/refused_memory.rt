@@ -2,12 +2,12 @@
 
 use crate::logs::LOG;
 use crate::snapshots_of_tills::{SECOND, TILL};
-use crate::till::Till;
 use bincode::config;
 use bincode::error::{DecodeError, EncodeError};
 use replay::replay::{Failure, replay};
 use snapshots::saving::{RestoreError, restore_machine, save_machine};
 use snapshots::snapshot::{LoadError, SaveError};
+use tills::till::Till;
 
 /// The sum of the payments after each number of them, and the offset there.
 const STAGES: [(u32, usize); 4] = [(0, 0), (7, 9), (307, 20), (314, 29)];

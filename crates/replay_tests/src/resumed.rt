@@ -2,7 +2,6 @@
 //! that the snapshot lacks, and with some missing. The checks are Python's.
 
 use crate::snapshots_of_tills::SECOND;
-use crate::till::{Full, Till};
 use bincode::config;
 use replay::replay::{Failure, ReplayError, Replayed};
 use snapshots::numbered::{Numbered, NumberedRefusal};
@@ -11,9 +10,10 @@ use snapshots::resuming::{ResumeError, resume_machine};
 use snapshots::saving::RestoreError;
 use snapshots::snapshot::LoadError;
 use std::alloc::Global;
+use tills::till::{Full, Till};
 
 /// The frames of the payments 0 to 2, of which the last two begin at the bytes 10 and 22.
-const LOG: [u8; 32] = [
+static LOG: [u8; 32] = [
     2, 0, 0, 0, 0, 7, 162, 184, 108, 88, 4, 0, 0, 0, 1, 251, 44, 1, 136, 215, 213, 33, 2, 0, 0, 0,
     2, 7, 76, 136, 41, 127,
 ];
@@ -61,15 +61,26 @@ fn comes_to_all(alloc: Global, payments: u64, from: usize) -> bool {
     }
 }
 
+/// How many payments a till has, and the byte from which on the log is replayed into it.
+static STARTS: [(u64, usize); 8] = [
+    (0, 0),
+    (1, 0),
+    (2, 0),
+    (3, 0),
+    (1, 10),
+    (2, 10),
+    (2, 22),
+    (3, 32),
+];
+
 #[test]
 fn passes_over_what_it_has(rt: HostRuntime) {
-    for payments in 0..=3 {
-        assert!(rt; comes_to_all(rt.alloc(), payments, 0), "{payments}");
+    for (payments, from) in STARTS {
+        assert!(rt;
+            comes_to_all(rt.alloc(), payments, from),
+            "{payments}, {from}"
+        );
     }
-    assert!(rt; comes_to_all(rt.alloc(), 1, 10));
-    assert!(rt; comes_to_all(rt.alloc(), 2, 10));
-    assert!(rt; comes_to_all(rt.alloc(), 2, 22));
-    assert!(rt; comes_to_all(rt.alloc(), 3, 32));
 }
 
 #[test]
@@ -81,70 +92,68 @@ fn tells_a_torn_end(rt: HostRuntime) {
         length: 22,
         is_torn: true,
     };
-    assert!(rt; matches!(replayed, Ok(found) if found == end));
-    assert!(rt; till == till_after(2, 1000));
+    assert!(rt; matches!(replayed, Ok(found) if found == end) && till == till_after(2, 1000));
 }
+
+/// Why numbered payments stop.
+#[derive(Clone, Copy, PartialEq)]
+enum Why {
+    Full,
+    Missing(u64, u64),
+    NoNumber,
+}
+
+/// Whether a replay stopped after this many payments, at this byte and for this.
+fn is_stop(
+    error: &ReplayError<NumberedRefusal<Full>>,
+    (commands, offset, why): (u64, usize, Why),
+) -> bool {
+    let is_why = match &error.why {
+        Failure::Refused(NumberedRefusal::Refused(Full)) => why == Why::Full,
+        Failure::Refused(NumberedRefusal::Missing { expected, found }) => {
+            why == Why::Missing(*expected, *found)
+        }
+        Failure::Refused(NumberedRefusal::NoNumber) => why == Why::NoNumber,
+        _ => false,
+    };
+    is_why && error.commands == commands && error.offset == offset
+}
+
+/// Whether a log stops there, and leaves the till as it was.
+fn stops(alloc: Global, start: Numbered<Till>, log: &[u8], stop: (u64, usize, Why)) -> bool {
+    let mut till = start;
+    match &replay_into(alloc, &mut till, log) {
+        Ok(_) => false,
+        Err(error) => is_stop(error, stop) && till == start,
+    }
+}
+
+/// A payment with the last number.
+const LAST: [u8; 18] = [
+    10, 0, 0, 0, 253, 255, 255, 255, 255, 255, 255, 255, 255, 7, 157, 151, 25, 37,
+];
 
 #[test]
 fn refuses_where_payments_are_missing(rt: HostRuntime) {
-    let mut till = till_after(1, 1000);
-    let replayed = replay_into(rt.alloc(), &mut till, &LOG[22..]);
-    assert!(rt;
-        matches!(
-            replayed,
-            Err(ReplayError {
-                commands: 0,
-                offset: 0,
-                why: Failure::Refused(NumberedRefusal::Missing {
-                    expected: 1,
-                    found: 2
-                })
-            })
-        )
-    );
-    assert!(rt; till == till_after(1, 1000));
+    let missing = (0, 0, Why::Missing(1, 2));
+    assert!(rt; stops(rt.alloc(), till_after(1, 1000), &LOG[22..], missing));
 }
 
 #[test]
 fn tells_what_the_till_refuses(rt: HostRuntime) {
-    let mut till = till_after(1, 100);
-    let replayed = replay_into(rt.alloc(), &mut till, &LOG);
-    assert!(rt;
-        matches!(
-            replayed,
-            Err(ReplayError {
-                commands: 1,
-                offset: 10,
-                why: Failure::Refused(NumberedRefusal::Refused(Full))
-            })
-        )
-    );
-    assert!(rt; till == till_after(1, 100));
+    assert!(rt; stops(rt.alloc(), till_after(1, 100), &LOG, (1, 10, Why::Full)));
 }
 
 #[test]
 fn refuses_the_last_number(rt: HostRuntime) {
-    let mut till = Numbered {
+    let till = Numbered {
         next: u64::MAX,
         machine: Till {
             held: 7,
             most: 1000,
         },
     };
-    let last = [
-        10, 0, 0, 0, 253, 255, 255, 255, 255, 255, 255, 255, 255, 7, 157, 151, 25, 37,
-    ];
-    let replayed = replay_into(rt.alloc(), &mut till, &last);
-    assert!(rt;
-        matches!(
-            replayed,
-            Err(ReplayError {
-                commands: 0,
-                offset: 0,
-                why: Failure::Refused(NumberedRefusal::NoNumber)
-            })
-        )
-    );
+    assert!(rt; stops(rt.alloc(), till, &LAST, (0, 0, Why::NoNumber)));
 }
 
 /// The till of a snapshot and a log.
@@ -180,28 +189,23 @@ fn resumes_from_a_snapshot_and_each_front(rt: HostRuntime) {
     }
 }
 
+/// Whether bytes are told as too short for a snapshot.
+fn is_short(alloc: Global, snapshot: &[u8]) -> bool {
+    matches!(
+        resumed(alloc, snapshot, &LOG),
+        Err(ResumeError::Snapshot(RestoreError::Load(LoadError::Short)))
+    )
+}
+
+/// Whether a log of the payment 3 is told as one that lacks the payment 2.
+fn lacks_second(alloc: Global) -> bool {
+    match &resumed(alloc, &SECOND, &[2, 0, 0, 0, 3, 7, 59, 16, 139, 108]) {
+        Err(ResumeError::Log(error)) => is_stop(error, (0, 0, Why::Missing(2, 3))),
+        _ => false,
+    }
+}
+
 #[test]
 fn tells_whether_snapshot_or_log_is_wrong(rt: HostRuntime) {
-    let alloc = rt.alloc();
-    let short = resumed(alloc, &[], &LOG);
-    assert!(rt;
-        matches!(
-            short,
-            Err(ResumeError::Snapshot(RestoreError::Load(LoadError::Short)))
-        )
-    );
-    let later = resumed(alloc, &SECOND, &[2, 0, 0, 0, 3, 7, 59, 16, 139, 108]);
-    assert!(rt;
-        matches!(
-            later,
-            Err(ResumeError::Log(ReplayError {
-                commands: 0,
-                offset: 0,
-                why: Failure::Refused(NumberedRefusal::Missing {
-                    expected: 2,
-                    found: 3
-                })
-            }))
-        )
-    );
+    assert!(rt; is_short(rt.alloc(), &[]) && lacks_second(rt.alloc()));
 }

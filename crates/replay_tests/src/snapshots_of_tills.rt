@@ -1,36 +1,35 @@
 //! Snapshots of a till of 307 after two payments: saved, restored, of each version, damaged, cut and made longer. The
 //! digests are Python's.
 
-use crate::till::Till;
 use bincode::config;
 use bincode::error::DecodeError;
 use snapshots::numbered::Numbered;
 use snapshots::saving::{RestoreError, restore_machine, save_machine};
 use snapshots::snapshot::{HEADER, LoadError, load, save};
-use std::alloc::Global;
-use std::test::Fail;
+use std::alloc::{AllocError, Global};
+use tills::till::Till;
 
 /// The snapshot in the second version.
-pub const SECOND: [u8; 47] = [
+pub static SECOND: [u8; 47] = [
     190, 61, 15, 186, 132, 0, 122, 200, 188, 215, 96, 199, 233, 213, 17, 166, 240, 16, 24, 225, 60,
     86, 82, 13, 100, 229, 177, 201, 218, 213, 236, 154, 2, 0, 0, 0, 0, 0, 0, 0, 1, 251, 51, 1, 251,
     232, 3,
 ];
 
 /// The snapshot in the first version.
-const FIRST: [u8; 44] = [
+static FIRST: [u8; 44] = [
     11, 60, 55, 60, 158, 171, 195, 222, 17, 176, 80, 17, 160, 25, 189, 150, 152, 99, 213, 78, 171,
     60, 21, 231, 182, 154, 71, 105, 23, 203, 224, 148, 2, 0, 0, 0, 0, 0, 0, 0, 0, 251, 51, 1,
 ];
 
 /// One of a version that is not known, with a digest that fits.
-const THIRD: [u8; 44] = [
+static THIRD: [u8; 44] = [
     222, 60, 231, 93, 29, 210, 22, 208, 178, 173, 211, 62, 25, 3, 134, 235, 133, 72, 16, 252, 150,
     86, 137, 178, 254, 67, 55, 52, 121, 34, 9, 237, 2, 0, 0, 0, 0, 0, 0, 0, 2, 251, 51, 1,
 ];
 
 /// The first version and a byte after it, with a digest that fits.
-const LONGER: [u8; 45] = [
+static LONGER: [u8; 45] = [
     38, 43, 16, 215, 23, 206, 134, 0, 80, 59, 64, 219, 113, 231, 194, 203, 81, 69, 28, 41, 136,
     139, 191, 110, 141, 237, 233, 76, 45, 213, 246, 224, 2, 0, 0, 0, 0, 0, 0, 0, 0, 251, 51, 1, 0,
 ];
@@ -62,28 +61,42 @@ fn saves_the_newest_version(rt: HostRuntime) {
     assert!(rt; is_saved_as(rt.alloc(), &SECOND));
 }
 
+/// Whether a snapshot is one of the till.
+fn is_till(alloc: Global, bytes: &[u8]) -> bool {
+    matches!(restored(alloc, bytes), Ok(till) if till == TILL)
+}
+
 #[test]
 fn restores_each_version(rt: HostRuntime) {
-    let alloc = rt.alloc();
-    assert!(rt; matches!(restored(alloc, &SECOND), Ok(till) if till == TILL));
-    assert!(rt; matches!(restored(alloc, &FIRST), Ok(till) if till == TILL));
+    assert!(rt; is_till(rt.alloc(), &SECOND) && is_till(rt.alloc(), &FIRST));
+}
+
+/// Whether an error names the versions of a till, and says that this one is none.
+fn is_unknown(error: &RestoreError, version: u32) -> bool {
+    match error {
+        RestoreError::Load(
+            LoadError::Undecodable(
+                DecodeError::UnexpectedVariant {
+                    type_name,
+                    found,
+                    ..
+                },
+            ),
+        ) => *found == version && type_name.as_str() == "Saved",
+        _ => false,
+    }
 }
 
 #[test]
 fn names_a_version_that_is_not_known(rt: HostRuntime) {
-    let third = restored(rt.alloc(), &THIRD);
-    assert!(rt;
-        matches!(third, Err(RestoreError::Load(LoadError::Undecodable(
-        DecodeError::UnexpectedVariant { type_name, found: 2, .. }))) if type_name.as_str() == "Saved")
-    );
+    assert!(rt; matches!(&restored(rt.alloc(), &THIRD), Err(error) if is_unknown(error, 2)));
 }
 
 #[test]
 fn refuses_bytes_after_a_state(rt: HostRuntime) {
-    let longer = restored(rt.alloc(), &LONGER);
     assert!(rt;
         matches!(
-            longer,
+            &restored(rt.alloc(), &LONGER),
             Err(RestoreError::Load(LoadError::Longer { taken: 4 }))
         )
     );
@@ -159,10 +172,8 @@ fn comes_back(alloc: Global, state: &Vec<u8>) -> bool {
 }
 
 #[test]
-fn loads_more_than_a_megabyte(rt: HostRuntime) -> Result<(), Fail> {
-    let alloc = rt.alloc();
-    let mut state = Vec::new(alloc);
-    state.resize(1_100_000, 7u8)?;
-    assert!(rt; comes_back(alloc, &state));
+fn loads_more_than_a_megabyte(rt: HostRuntime) -> Result<(), AllocError> {
+    let state = vec![in rt.alloc(); 7u8; 1_100_000]?;
+    assert!(rt; comes_back(rt.alloc(), &state));
     Ok(())
 }

@@ -4,7 +4,7 @@ use Rattle.bincode_base.specs.Setting.{Setting}
 use Rattle.bincode_spec.specs.Format.{Format}
 use Rattle.bincode_spec.specs.Meaning.{Meaning}
 use Rattle.bincode_types.specs.TypeWords.{Words}
-use Rattle.snapshots.specs.Snapshots.{IsSnapshot, IsLoaded, IsLoadFault, IsNoMemory}
+use Rattle.snapshots.specs.Snapshots.{FitsLimits, IsSnapshot, IsLoaded, IsLoadFault, IsNoMemory}
 use Rattle.snapshots.specs.declared.saving.RestoreError.{RestoreError}
 use Rattle.snapshots.specs.declared.saving.RestoreError.TheVariants as failures
 
@@ -13,6 +13,10 @@ pub record IsSavedAs {A M : Type 0} (stands_for : A → M → Type 0) (W : Words
   pub saved : A
   pub stands : stands_for saved machine
   pub is_snapshot : IsSnapshot W s limit commands saved bytes
+
+-- of all that stands for the machine, each word stays within the limit
+abbrev pub FitsSnapshot : {A M : Type 0} → (A → M → Type 0) → Words A → Setting → Option ℕ → M → Type 0
+FitsSnapshot {A} stands_for W s limit machine = (saved : A) → stands_for saved machine → FitsLimits W s limit saved
 
 -- the bytes are read as such a one
 pub record IsRestored {A M : Type 0} (stands_for : A → M → Type 0) (F : Format Meaning) (limit : Option ℕ) (decodes_to : Meaning → A → Type 0) (bytes : List ℕ) (commands : ℕ) (machine : M) : Type 0 where

@@ -1,6 +1,7 @@
 //! Machines whose states are saved in snapshots, in versions, and come back from them.
 ghost use Rattle.std.specs.Prelude.{◌≡◌, ◌<◌, ◌^◌, ℕ, true, IfErr, IfOk, IsErrOf, MatchResult};
-ghost use Rattle.snapshots.specs.Saved.{IsRestored, IsRestoreFault, IsRestoreMemory, IsSavedAs};
+ghost use Rattle.snapshots.specs.Saved.{FitsSnapshot, IsRestored, IsRestoreFault, IsRestoreMemory, IsSavedAs};
+ghost use Rattle.snapshots.specs.Snapshots.{IsSaveMemory};
 
 use crate::numbered::Numbered;
 use crate::snapshot::{LoadError, SaveError, load, save};
@@ -64,14 +65,18 @@ pub enum RestoreError {
     Memory(AllocError),
 }
 
-/// The bytes of a snapshot of a machine. Fails with `Encode`, `ReadBack` or `Memory`.
+/// The bytes of a snapshot of a machine. Fails with `Memory` if an allocation is refused, or as `save` does: with
+/// `ReadBack` where the encoding passes the limit, or with any of its errors for want of memory.
 pub fn save_machine<M: Saving, C: Config>(
     alloc: Global,
     numbered: &Numbered<M>,
     config: C,
 ) -> Result<Vec<u8>, SaveError>
-    ensures { IfOk result (λ v. IsSavedAs M.stands_for M.Saved.words C.setting C.bound numbered.now.next
+    ensures saved { IfOk result (λ v. IsSavedAs M.stands_for M.Saved.words C.setting C.bound numbered.now.next
         numbered.now.machine v.items) }
+    // A machine of which all that is saved fits the limit is refused only if memory is.
+    ensures fits { FitsSnapshot M.stands_for M.Saved.words C.setting C.bound numbered.now.machine
+        → IfErr result IsSaveMemory }
 {
     match numbered.machine.to_saved(alloc) {
         Ok(saved) => save(alloc, numbered.next, &saved, config),

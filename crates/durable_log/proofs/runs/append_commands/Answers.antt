@@ -1,4 +1,4 @@
-use Rattle.std.proofs.Common.{◌≡◌, ◌++◌, ◌+◌, [], ◌∷◌, take, ap, ◌∙◌, refl, rules, subst, sym}
+use Rattle.std.proofs.Common.{◌≡◌, ◌++◌, ◌+◌, [], ◌∷◌, take, ap, ◌∙◌, arith, refl, rules, subst, sym}
 use Rattle.std.proofs.lemmas.List.{take_more}
 use Rattle.framed_store.specs.Appended.{FitsStore}
 use Rattle.crash_device.specs.Files.{Files}
@@ -11,6 +11,7 @@ use Rattle.durable_log.proofs.runs.append_commands.Goals as goal
 pub loop-command-init : goal.loop-command-init
 loop-command-init g c = record {
   durable = c.requires;
+  later = omega arith;
   snapshot = refl;
   has_run = λ pieces is. none-after g.T.Wire.words g.C.Config.setting g.C.Config.bound c.args.most pieces (g.D.Device.seen c.args.device.now).log is;
   moments = λ pieces is.
@@ -49,6 +50,7 @@ loop-command-preserved g c =
     take_more c.args.commands.now i value c.loop-command-test.true ∙ ap (λ x. take i c.args.commands.now ++ x ∷ []) (sym c.command-item.is) in
     record {
       durable = c.in_ok-append_command.ensures.durable;
+      later = omega (arith, c.loop-command.invariant.later, c.append_command.ensures.later);
       snapshot = ap (λ (f : Files). f.snapshot) c.in_ok-append_command.ensures.added.2 ∙ c.loop-command.invariant.snapshot;
       has_run = λ pieces is.
           let run = c.loop-command.invariant.has_run pieces is in

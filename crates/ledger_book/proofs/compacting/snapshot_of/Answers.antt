@@ -8,10 +8,10 @@ pub returns-clause-with_log : goal.returns-clause-with_log
 returns-clause-with_log c = λ old log book.
     let now = c.args.book.now in
     let small : now.next < 2 ^ 64 = search rules in
-    IfOk-weaker c.save_machine.result _ _ (λ v is. with-log _ old log now.next now.machine v.items book small is) c.save_machine.ensures
+    IfOk-weaker c.save_machine.result _ _ (λ v is. with-log _ old log now.next now.machine v.items book small is) c.save_machine.ensures.saved
 
 pub returns-clause-emptied : goal.returns-clause-emptied
 returns-clause-emptied c = λ old log book.
     let now = c.args.book.now in
     let small : now.next < 2 ^ 64 = search rules in
-    IfOk-weaker c.save_machine.result _ _ (λ v is. emptied _ old log now.next now.machine v.items book small is) c.save_machine.ensures
+    IfOk-weaker c.save_machine.result _ _ (λ v is. emptied _ old log now.next now.machine v.items book small is) c.save_machine.ensures.saved

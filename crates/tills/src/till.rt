@@ -45,7 +45,7 @@ impl Machine for Till {
 }
 
 impl Saving for Till {
-    ghost use Rattle.replay_tests.specs.Standing.{StandsFor, one-till, equals-stand};
+    ghost use Rattle.tills.specs.Standing.{StandsFor, one-till, equals-stand};
 
     type Saved = Saved;
 

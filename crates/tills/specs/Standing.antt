@@ -2,10 +2,10 @@
 use Rattle.std.specs.Prelude.{◌≡◌, ◌&&◌, ◌==◌, ℕ, Bool, true, false, refl}
 use Rattle.std.proofs.Common.{◌∙◌, sym}
 use Rattle.std.proofs.lemmas.Bool.Decides.{Decides-eqb}
-use Rattle.replay_tests.specs.contracts.saved.SavedPartialEq.TheImpl.{ghosts}
-use Rattle.replay_tests.specs.declared.saved.Saved.{Saved}
-use Rattle.replay_tests.specs.declared.saved.Saved.TheVariants as versions
-use Rattle.replay_tests.specs.declared.till.Till.{Till}
+use Rattle.tills.specs.contracts.saved.SavedPartialEq.TheImpl.{ghosts}
+use Rattle.tills.specs.declared.saved.Saved.{Saved}
+use Rattle.tills.specs.declared.saved.Saved.TheVariants as versions
+use Rattle.tills.specs.declared.till.Till.{Till}
 
 -- what is seen of a till: what it holds and takes
 abbrev pub state_of : Till → ℕ × ℕ

@@ -26,7 +26,7 @@ type SavedParts = VariantOf<
 impl Sum<SavedParts> for Saved {
     ghost use Rattle.bincode.specs.Sums.{this, other};
     ghost use Rattle.bincode.specs.EnumWords.{by, no_more, or_else};
-    ghost use Rattle.replay_tests.specs.declared.saved.Saved.TheVariants.{First, Second};
+    ghost use Rattle.tills.specs.declared.saved.Saved.TheVariants.{First, Second};
 
     ghost variants = { or_else 0 ⟦<SavedFirstPart as Wire>⟧.words
         (or_else 1 ⟦<SavedSecondPart as Wire>⟧.words
@@ -55,7 +55,7 @@ impl Wire for Saved {
 impl Enum for Saved {
     ghost use Rattle.std.specs.Prelude.{refl};
     ghost use Rattle.bincode.specs.EnumWords.{enum_laws, enum_variants};
-    ghost use Rattle.replay_tests.specs.declared.saved.Saved.TheVariants.{First, Second};
+    ghost use Rattle.tills.specs.declared.saved.Saved.TheVariants.{First, Second};
 
     ghost choices = { enum_variants ⟦<Saved as Sum<SavedParts>>⟧.variants ⟦<Saved as Sum<SavedParts>>⟧.made };
 
