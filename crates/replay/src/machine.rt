@@ -4,7 +4,7 @@ ghost use Rattle.std.specs.Prelude.{◌≡◌, IfErr, OnErr, OnOk};
 use bincode::de::Decode;
 use bincode::laws::Exact;
 
-/// A state that commands change. `Till` in `replay_tests` is one.
+/// A state that commands change. `Till` in `tills` is one.
 pub trait Machine {
     /// What changes the state.
     type Command: Decode<()> + Exact;
