@@ -1,0 +1,68 @@
+//! Answers as lines.
+
+use crate::answer::Answer;
+use crate::limit::{LONGEST_WORD, settings};
+use calls::calling::{CallError, receive};
+use calls::serving::Reply;
+use std::alloc::Global;
+use std::io;
+use std::io::{BufReader, Read, Write};
+use thiserror::Error;
+
+/// Why answers are not shown to their end.
+#[derive(Debug, Drop, Error)]
+pub enum ShowError {
+    /// What stands where an answer is to begin is none.
+    #[error("request {number}: {why}")]
+    Answer {
+        /// The number of its request, from 0 on.
+        number: u64,
+        /// What is wrong.
+        why: CallError,
+    },
+    /// The output failed.
+    #[error("{0}")]
+    Output(#[from] io::Error),
+}
+
+/// Prints an answer as a line. Fails where the output does.
+pub fn print_reply<W: Write>(out: &mut W, reply: &Reply<Answer>) -> io::Result<()> {
+    match reply {
+        Ok(Answer::Count(count)) => writeln!(out, "{count}"),
+        Ok(Answer::Lacks(held)) => writeln!(out, "lacks: {held}"),
+        Ok(Answer::Full(held)) => writeln!(out, "full: {held}"),
+        Err(refusal) => writeln!(out, "refused: {refusal}"),
+    }
+}
+
+/// Prints each answer of a stream as a line, and returns whether all are counts. What is printed is flushed where no
+/// more answers are at hand. Fails with `Answer` at the first place that has none, or with `Output`; the answers before
+/// are printed.
+pub fn show_answers<R: Read, W: Write>(
+    alloc: Global,
+    input: &mut BufReader<R>,
+    out: &mut W,
+) -> Result<bool, ShowError> {
+    let mut buffer = Vec::new(alloc);
+    let mut are_counts = true;
+    for number in 0..u64::MAX {
+        match receive(alloc, input, &mut buffer, settings(), LONGEST_WORD) {
+            Ok(reply) => {
+                show_reply(out, &reply, input.buffer().is_empty())?;
+                are_counts &= matches!(reply, Ok(Answer::Count(_)));
+            }
+            Err(CallError::NoAnswer) => break,
+            Err(why) => return Err(ShowError::Answer { number, why }),
+        }
+    }
+    Ok(are_counts)
+}
+
+/// Prints an answer as a line, and flushes it if no other is at hand.
+fn show_reply<W: Write>(out: &mut W, reply: &Reply<Answer>, is_last: bool) -> io::Result<()> {
+    print_reply(out, reply)?;
+    if is_last {
+        out.flush()?;
+    }
+    Ok(())
+}
