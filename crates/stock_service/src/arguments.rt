@@ -46,10 +46,9 @@ fn command_line<'a>(alloc: Global) -> Result<Command<'a>, AllocError> {
 
 /// The command `serve`.
 fn serve_line<'a>(alloc: Global) -> Result<Command<'a>, AllocError> {
-    let log = Arg::new(alloc, "log")
-        .long("log")
-        .value_name("FILE")
-        .help("The log of the changes, from which the counts come back. It is made where there is none");
+    let log = Arg::new(alloc, "log").long("log").value_name("FILE").help(
+        "The log of the changes, from which the counts come back. It is made where there is none",
+    );
     Command::new(alloc, "serve")
         .about("Answers the requests of the standard input on the standard output")
         .arg(log)
@@ -84,11 +83,7 @@ pub fn action_of(alloc: Global, words: &[String]) -> Result<Action, Error> {
 }
 
 /// What the command of this name asks for.
-fn action_named(
-    alloc: Global,
-    name: &str,
-    found: &ArgMatches<'_>,
-) -> Result<Action, AllocError> {
+fn action_named(alloc: Global, name: &str, found: &ArgMatches<'_>) -> Result<Action, AllocError> {
     match name {
         "serve" => Ok(Action::Serve {
             log: log_in(alloc, found)?,

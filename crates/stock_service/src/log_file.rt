@@ -98,7 +98,14 @@ pub fn replay_log<R: Read>(
 ) -> Result<(Stock, Replayed), ReplayError<Refused>> {
     let mut stock = Stock::new(alloc);
     let mut buffer = Vec::new(alloc);
-    let replayed = replay(alloc, &mut stock, log, &mut buffer, settings(), LONGEST_WORD)?;
+    let replayed = replay(
+        alloc,
+        &mut stock,
+        log,
+        &mut buffer,
+        settings(),
+        LONGEST_WORD,
+    )?;
     Ok((stock, replayed))
 }
 
