@@ -1,5 +1,5 @@
 //! What logs are written to.
-ghost use Rattle.std.specs.Prelude.{◌≡◌, IfOk, is_some};
+ghost use Rattle.std.specs.Prelude.{◌≡◌, IfOk, is_some, refl};
 ghost use Rattle.std.specs.Io.KnownBytes.{Keeps};
 ghost use Rattle.stock_service.specs.Logs.{HasLength};
 
@@ -9,9 +9,6 @@ use std::io::Write;
 
 /// What a log is written to, at its end.
 pub trait Log: Write {
-    /// Of all logs of this type it is known what they hold, or of none.
-    ghost alike: { (a b : Self) → is_some (⟦<Self as Write>⟧.contents a) ≡ is_some (⟦<Self as Write>⟧.contents b) };
-
     /// The number of bytes that it holds. Fails where that cannot be found out.
     fn length(&self) -> io::Result<usize>
         ensures { IfOk result (HasLength (⟦<Self as Write>⟧.contents self.now)) };
@@ -19,12 +16,13 @@ pub trait Log: Write {
     /// Brings what was written to the disk. Fails where that fails: then it may be there or not.
     fn sync(&mut self) -> io::Result<()>
         ensures { Keeps (⟦<Self as Write>⟧.contents self.old) (⟦<Self as Write>⟧.contents self.new) };
+
+    /// Of all logs of this type it is known what they hold, or of none.
+    ghost alike: { (a b : Self) → is_some (⟦<Self as Write>⟧.contents a) ≡ is_some (⟦<Self as Write>⟧.contents b) };
 }
 
 /// A file that is written to at its end.
 impl Log for File {
-    ghost alike = { λ a b. refl };
-
     fn length(&self) -> io::Result<usize> {
         Ok(self.metadata()?.len() as usize)
     }
@@ -32,12 +30,12 @@ impl Log for File {
     fn sync(&mut self) -> io::Result<()> {
         self.sync_all()
     }
+
+    ghost alike = { λ a b. refl };
 }
 
 /// A log in memory alone.
 impl Log for Vec<u8> {
-    ghost alike = { λ a b. refl };
-
     fn length(&self) -> io::Result<usize> {
         Ok(self.len())
     }
@@ -45,4 +43,6 @@ impl Log for Vec<u8> {
     fn sync(&mut self) -> io::Result<()> {
         Ok(())
     }
+
+    ghost alike = { λ a b. refl };
 }

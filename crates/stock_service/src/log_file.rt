@@ -1,13 +1,14 @@
 //! The file of a log: it is locked and replayed, and a torn end is cut off.
 
-use crate::limit::{LONGEST_WORD, settings};
+use crate::limit::LONGEST_WORD;
+use crate::replaying::replay_log;
 use crate::stock::{Refused, Stock};
 use framed_store::searching::find_frame;
-use replay::replay::{Failure, ReplayError, Replayed, replay};
+use replay::replay::{Failure, ReplayError, Replayed};
 use std::alloc::Global;
 use std::fs::File;
 use std::io;
-use std::io::{BufReader, Read};
+use std::io::BufReader;
 use stock_files::files::{FileError, bytes_from, cut, open_to_change};
 use thiserror::Error;
 
@@ -89,24 +90,6 @@ pub fn open_log(rt: &HostRuntime, path: &str) -> Result<Opened, LogFileError> {
 fn replay_file(alloc: Global, file: &File) -> Result<(Stock, Replayed), LogFileError> {
     let mut log = BufReader::with_capacity(alloc, BLOCK, file)?;
     Ok(replay_log(alloc, &mut log)?)
-}
-
-/// The stock to which the requests of a log lead, and how the log ends. Fails as `replay` does.
-pub fn replay_log<R: Read>(
-    alloc: Global,
-    log: &mut R,
-) -> Result<(Stock, Replayed), ReplayError<Refused>> {
-    let mut stock = Stock::new(alloc);
-    let mut buffer = Vec::new(alloc);
-    let replayed = replay(
-        alloc,
-        &mut stock,
-        log,
-        &mut buffer,
-        settings(),
-        LONGEST_WORD,
-    )?;
-    Ok((stock, replayed))
 }
 
 /// Cuts a torn end off a file, unless a whole frame would be lost.

@@ -81,7 +81,9 @@ impl<L: Log> Logged<L> {
             Err(why) => return Err(LogFailure::Length(why)),
         };
         self.end = Some(length);
-        record(self.alloc, &mut self.log, request)?;
+        if let Err(why) = record(self.alloc, &mut self.log, request) {
+            return Err(why);
+        }
         match self.stock.settle(request, answer) {
             Ok(()) => {
                 self.end = None;
@@ -109,15 +111,19 @@ impl<L: Log> Service for Logged<L> {
 
     ghost fails = { FailsLogged };
 
+    #[tactic(auto, using(crate::proofs::Logs::kept_answer, crate::proofs::Logs::logged_answer))]
     fn answer(&mut self, request: Request) -> Result<Answer, LogFailure> {
         if self.end.is_some() {
             return Err(LogFailure::Broken);
         }
         let answer = self.stock.answer_to(&request);
-        if is_change(&request, &answer) {
-            self.enter(&request, answer)?;
+        if !is_change(&request, &answer) {
+            return Ok(answer);
         }
-        Ok(answer)
+        match self.enter(&request, answer) {
+            Ok(()) => Ok(answer),
+            Err(why) => Err(why),
+        }
     }
 }
 

@@ -122,7 +122,7 @@ fn status_of_append(why: &AppendError) -> u8 {
 /// The status where no answer stands.
 fn status_of_answer(why: &CallError) -> u8 {
     match why {
-        CallError::NoAnswer
+        CallError::NoReply
         | CallError::Torn
         | CallError::TooLong(_)
         | CallError::Damaged

@@ -1,4 +1,5 @@
 //! A stock as a service.
+ghost use Rattle.std.specs.Prelude.{ℕ, List};
 ghost use Rattle.stock_service.specs.Answers.{Answers, NeedsMemory};
 ghost use Rattle.stock_service.specs.Counts.{counts_in};
 

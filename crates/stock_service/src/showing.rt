@@ -2,8 +2,10 @@
 
 use crate::answer::Answer;
 use crate::limit::{LONGEST_WORD, settings};
-use calls::calling::{CallError, receive};
+use calls::calling::CallError;
 use calls::serving::Reply;
+use framed_store::records::{Content, Next};
+use framed_store::streams::{ReadError, next_from_stream};
 use std::alloc::Global;
 use std::io;
 use std::io::{BufReader, Read, Write};
@@ -46,16 +48,37 @@ pub fn show_answers<R: Read, W: Write>(
     let mut buffer = Vec::new(alloc);
     let mut are_counts = true;
     for number in 0..u64::MAX {
-        match receive(alloc, input, &mut buffer, settings(), LONGEST_WORD) {
-            Ok(reply) => {
+        match next_reply(alloc, input, &mut buffer) {
+            Ok(Some(reply)) => {
                 show_reply(out, &reply, input.buffer().is_empty())?;
                 are_counts &= matches!(reply, Ok(Answer::Count(_)));
             }
-            Err(CallError::NoAnswer) => break,
+            Ok(None) => break,
             Err(why) => return Err(ShowError::Answer { number, why }),
         }
     }
     Ok(are_counts)
+}
+
+/// The next answer of a stream, or `None` at its end.
+fn next_reply<R: Read>(
+    alloc: Global,
+    input: &mut R,
+    buffer: &mut Vec<u8>,
+) -> Result<Option<Reply<Answer>>, CallError> {
+    match next_from_stream(alloc, input, buffer, settings(), LONGEST_WORD) {
+        Ok(Next::Record { size: _, content }) => match content {
+            Content::Value(reply) => Ok(Some(reply)),
+            Content::Damaged => Err(CallError::Damaged),
+            Content::Undecodable(why) => Err(CallError::Undecodable(why)),
+            Content::Longer { taken } => Err(CallError::TrailingBytes { taken }),
+        },
+        Ok(Next::End) => Ok(None),
+        Ok(Next::Torn) => Err(CallError::Torn),
+        Ok(Next::TooLong(length)) => Err(CallError::TooLong(length)),
+        Err(ReadError::Read(why)) => Err(CallError::Read(why)),
+        Err(ReadError::Memory(why)) => Err(CallError::Memory(why)),
+    }
 }
 
 /// Prints an answer as a line, and flushes it if no other is at hand.

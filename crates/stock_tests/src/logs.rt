@@ -6,9 +6,9 @@ use calls::serving::{Failure, ServeError, Served};
 use replay::replay::Replayed;
 use std::alloc::Global;
 use std::io::ErrorKind;
-use stock_service::log_file::replay_log;
 use stock_service::logged::{LogFailure, Logged};
 use stock_service::program::serve_streams;
+use stock_service::replaying::replay_log;
 use stock_service::stock::Stock;
 
 /// What a server with a log makes of the ten requests.

@@ -1,4 +1,5 @@
 //! In which order a server reads, writes, flushes and syncs.
+ghost use Rattle.std.specs.Prelude.{refl};
 
 use crate::inputs::{LOG, REQUESTS};
 use std::cell::Cell;
@@ -130,8 +131,6 @@ impl Write for Frames<'_> {
 }
 
 impl Log for Frames<'_> {
-    ghost alike = { λ a b. refl };
-
     fn length(&self) -> io::Result<usize> {
         Ok(self.turns.logged.get())
     }
@@ -140,6 +139,8 @@ impl Log for Frames<'_> {
         self.turns.synced.set(self.turns.logged.get());
         Ok(())
     }
+
+    ghost alike = { λ a b. refl };
 }
 
 /// Each change is synced before it is answered, and each answer is flushed before the next request is waited for.

@@ -132,27 +132,27 @@ const NO_ANSWERS: [(&[u8], &str); 5] = [
         &[
             3, 0, 0, 0, 0, 0, 1, 54, 156, 80, 241, 3, 0, 0, 0, 0, 1, 1, 54, 156, 80, 241,
         ],
-        "request 1: the answer is damaged",
+        "request 1: the reply is damaged",
     ),
     (
         &[3, 0, 0, 0, 0, 0, 1, 54, 156, 80, 241, 3, 0, 0, 0, 0],
-        "request 1: the answer ends early",
+        "request 1: the reply ends early",
     ),
     (
         &[
             3, 0, 0, 0, 0, 0, 1, 54, 156, 80, 241, 4, 0, 0, 0, 0, 0, 1, 0, 144, 168, 151, 190,
         ],
-        "request 1: bytes follow the 3 of the answer",
+        "request 1: bytes follow the 3 of the reply",
     ),
     (
         &[3, 0, 0, 0, 0, 0, 1, 54, 156, 80, 241, 1, 0, 1, 0],
-        "request 1: the answer's length of 65537 is above what is taken",
+        "request 1: the reply's length of 65537 is above what is taken",
     ),
     (
         &[
             3, 0, 0, 0, 0, 0, 1, 54, 156, 80, 241, 2, 0, 0, 0, 2, 0, 167, 236, 227, 171,
         ],
-        "request 1: the answer cannot be decoded: ",
+        "request 1: the reply cannot be decoded: ",
     ),
 ];
 

@@ -1,4 +1,5 @@
 //! Streams that take or give little, and break.
+ghost use Rattle.std.specs.Prelude.{refl};
 
 use std::io;
 use std::io::{ErrorKind, Read, Write};
@@ -56,8 +57,6 @@ impl Write for Sink<'_> {
 }
 
 impl Log for Sink<'_> {
-    ghost alike = { λ a b. refl };
-
     fn length(&self) -> io::Result<usize> {
         Ok(self.held.len())
     }
@@ -65,6 +64,8 @@ impl Log for Sink<'_> {
     fn sync(&mut self) -> io::Result<()> {
         self.call()
     }
+
+    ghost alike = { λ a b. refl };
 }
 
 /// A sink that takes all.
