@@ -1,8 +1,8 @@
 //! Requests that are spelled as texts, and sent.
 
-use crate::limit::{LONGEST_WORD, settings};
+use crate::recording::append_request;
 use crate::request::Request;
-use framed_store::appending::{AppendError, append};
+use framed_store::appending::AppendError;
 use std::alloc::{AllocError, Global};
 use std::io;
 use std::io::Write;
@@ -115,7 +115,7 @@ pub fn write_requests<W: Write>(
     requests: &[Request],
 ) -> Result<(), AskError> {
     for (number, request) in requests.iter().enumerate() {
-        if let Err(why) = append(alloc, out, request, settings(), LONGEST_WORD) {
+        if let Err(why) = append_request(alloc, out, request) {
             return Err(AskError::Append { number, why });
         }
     }

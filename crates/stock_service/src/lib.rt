@@ -10,6 +10,7 @@ pub mod log;
 pub mod log_file;
 pub mod logged;
 pub mod program;
+pub mod recording;
 pub mod replaying;
 pub mod request;
 pub mod served_laws;

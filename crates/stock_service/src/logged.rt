@@ -1,19 +1,23 @@
 //! A stock whose changes stand in a log before they are answered.
-ghost use Rattle.std.specs.Prelude.{◌≡◌, ◌↔◌, ℕ, List, None, Option, IfErr, IfOk, IsTrue, OnErr, OnOk};
+ghost use Rattle.std.specs.Prelude.{◌≡◌, ◌↔◌, ℕ, List, None, Option, Err, IfErr, IfOk, IsTrue, OnErr, OnOk};
 ghost use Rattle.stock_service.specs.Answers.{IsAnswer, counts_after};
 ghost use Rattle.stock_service.specs.Counts.{counts_in};
 ghost use Rattle.stock_service.specs.Logs.{AnswersLogged, FailsEntering, FailsLogged, Grows, IsChange, IsLogFailure, Records, known_part};
+ghost use Rattle.stock_service.specs.Replied.{RepliesAs};
 ghost use Rattle.stock_service.specs.declared.limit.TheConstants.{LONGEST_WORD};
 
 use crate::answer::Answer;
-use crate::limit::{LONGEST_WORD, Settings, settings};
+use crate::limit::Settings;
 use crate::log::Log;
+use crate::recording::append_request;
 use crate::request::Request;
+use crate::service::Reply;
 use crate::stock::Stock;
 use bincode::Wire;
 use bincode::config::Config;
+use calls::refusal::Refusal;
 use calls::service::Service;
-use framed_store::appending::{AppendError, append};
+use framed_store::appending::AppendError;
 use std::alloc::{AllocError, Global};
 use std::io;
 use thiserror::Error;
@@ -98,7 +102,7 @@ impl<L: Log> Logged<L> {
 impl<L: Log> Service for Logged<L> {
     type Request = Request;
 
-    type Answer = Answer;
+    type Reply = Reply;
 
     type Failure = LogFailure;
 
@@ -106,24 +110,30 @@ impl<L: Log> Service for Logged<L> {
 
     ghost state = { λ logged. (counts_in logged.stock, known_part logged.end (L.contents logged.log)) };
 
-    ghost answers = { AnswersLogged ⟦<Request as Wire>⟧.words ⟦<Settings as Config>⟧.setting
-        ⟦<Settings as Config>⟧.bound LONGEST_WORD };
+    ghost replies = { RepliesAs (AnswersLogged ⟦<Request as Wire>⟧.words ⟦<Settings as Config>⟧.setting
+        ⟦<Settings as Config>⟧.bound LONGEST_WORD) };
 
     ghost fails = { FailsLogged };
 
+    ghost refusal_reply = { Err };
+
     #[tactic(auto, using(crate::proofs::Logs::kept_answer, crate::proofs::Logs::logged_answer))]
-    fn answer(&mut self, request: Request) -> Result<Answer, LogFailure> {
+    fn answer(&mut self, request: Request) -> Result<Reply, LogFailure> {
         if self.end.is_some() {
             return Err(LogFailure::Broken);
         }
         let answer = self.stock.answer_to(&request);
         if !is_change(&request, &answer) {
-            return Ok(answer);
+            return Ok(Ok(answer));
         }
         match self.enter(&request, answer) {
-            Ok(()) => Ok(answer),
+            Ok(()) => Ok(Ok(answer)),
             Err(why) => Err(why),
         }
+    }
+
+    fn refuse(refusal: Refusal) -> Reply {
+        Err(refusal)
     }
 }
 
@@ -144,7 +154,7 @@ fn record<L: Log>(alloc: Global, log: &mut L, request: &Request) -> Result<(), L
     ensures grows { Grows (L.contents log.old) (L.contents log.new) }
     ensures failed { IfErr result IsLogFailure }
 {
-    if let Err(why) = append(alloc, log, request, settings(), LONGEST_WORD) {
+    if let Err(why) = append_request(alloc, log, request) {
         return Err(LogFailure::Append(why));
     }
     match log.sync() {

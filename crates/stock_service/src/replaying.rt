@@ -40,7 +40,14 @@ pub fn replay_log<R: Read>(
 {
     let mut stock = Stock::new(alloc);
     let mut buffer = Vec::new(alloc);
-    match replay(alloc, &mut stock, log, &mut buffer, settings(), LONGEST_WORD) {
+    match replay(
+        alloc,
+        &mut stock,
+        log,
+        &mut buffer,
+        settings(),
+        LONGEST_WORD,
+    ) {
         Ok(replayed) => Ok((stock, replayed)),
         Err(why) => Err(why),
     }

@@ -1,38 +1,36 @@
 //! What holds of every server with a log.
-ghost use Rattle.std.specs.Prelude.{ℕ, List, Option};
+ghost use Rattle.std.specs.Prelude.{ℕ, List, Option, Err};
 ghost use Rattle.calls.specs.Serving.{IsServed, IsStopped};
 ghost use Rattle.calls.specs.declared.serving.ServeError.{ServeError};
 ghost use Rattle.calls.specs.declared.serving.Served.{Served};
 ghost use Rattle.stock_service.specs.Counts.{Counts};
 ghost use Rattle.stock_service.specs.Logs.{AnswersLogged, FailsLogged};
 ghost use Rattle.stock_service.specs.Recovery.{HasLog};
+ghost use Rattle.stock_service.specs.Replied.{RepliesAs};
 ghost use Rattle.stock_service.specs.declared.limit.TheConstants.{LONGEST_WORD};
 ghost use Rattle.stock_service.specs.declared.logged.LogFailure.{LogFailure};
 
-use crate::answer::Answer;
 use crate::limit::Settings;
 use crate::request::Request;
+use crate::service::Reply;
 use bincode::Wire;
 use bincode::config::Config;
-use calls::refusal::Refusal;
 
 /// Whatever a server with a log is asked, and however its loop ends: a log of the counts is left one of the counts, to
 /// which `replay_log` comes again.
 pub fn servers_keep_logs()
     ensures served { (input : List ℕ) (old new : Counts × Option (List ℕ)) (before after : Option (List ℕ))
         (served : Served)
-        → IsServed (AnswersLogged ⟦<Request as Wire>⟧.words ⟦<Settings as Config>⟧.setting
-        ⟦<Settings as Config>⟧.bound LONGEST_WORD) ⟦<Request as Wire>⟧.words
-        ⟦<Result<Answer, Refusal> as Wire>⟧.words ⟦<Settings as Config>⟧.setting ⟦<Settings as Config>⟧.bound
+        → IsServed (RepliesAs (AnswersLogged ⟦<Request as Wire>⟧.words ⟦<Settings as Config>⟧.setting
+        ⟦<Settings as Config>⟧.bound LONGEST_WORD)) Err ⟦<Request as Wire>⟧.words ⟦<Reply as Wire>⟧.words ⟦<Settings as Config>⟧.setting ⟦<Settings as Config>⟧.bound
         LONGEST_WORD input old new before after served
         → HasLog ⟦<Request as Wire>⟧.words ⟦<Settings as Config>⟧.setting ⟦<Settings as Config>⟧.bound LONGEST_WORD old
         → HasLog ⟦<Request as Wire>⟧.words ⟦<Settings as Config>⟧.setting ⟦<Settings as Config>⟧.bound LONGEST_WORD
         new }
     ensures stopped { (input : List ℕ) (old new : Counts × Option (List ℕ)) (before after : Option (List ℕ))
         (error : ServeError LogFailure)
-        → IsStopped (AnswersLogged ⟦<Request as Wire>⟧.words ⟦<Settings as Config>⟧.setting
-        ⟦<Settings as Config>⟧.bound LONGEST_WORD) ⟦<Request as Wire>⟧.words
-        ⟦<Result<Answer, Refusal> as Wire>⟧.words ⟦<Settings as Config>⟧.setting ⟦<Settings as Config>⟧.bound
+        → IsStopped (RepliesAs (AnswersLogged ⟦<Request as Wire>⟧.words ⟦<Settings as Config>⟧.setting
+        ⟦<Settings as Config>⟧.bound LONGEST_WORD)) Err ⟦<Request as Wire>⟧.words ⟦<Reply as Wire>⟧.words ⟦<Settings as Config>⟧.setting ⟦<Settings as Config>⟧.bound
         LONGEST_WORD FailsLogged input old new before after error
         → HasLog ⟦<Request as Wire>⟧.words ⟦<Settings as Config>⟧.setting ⟦<Settings as Config>⟧.bound LONGEST_WORD old
         → HasLog ⟦<Request as Wire>⟧.words ⟦<Settings as Config>⟧.setting ⟦<Settings as Config>⟧.bound LONGEST_WORD

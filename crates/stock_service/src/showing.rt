@@ -2,8 +2,8 @@
 
 use crate::answer::Answer;
 use crate::limit::{LONGEST_WORD, settings};
+use crate::service::Reply;
 use calls::calling::CallError;
-use calls::serving::Reply;
 use framed_store::records::{Content, Next};
 use framed_store::streams::{ReadError, next_from_stream};
 use std::alloc::Global;
@@ -28,7 +28,7 @@ pub enum ShowError {
 }
 
 /// Prints an answer as a line. Fails where the output does.
-pub fn print_reply<W: Write>(out: &mut W, reply: &Reply<Answer>) -> io::Result<()> {
+pub fn print_reply<W: Write>(out: &mut W, reply: &Reply) -> io::Result<()> {
     match reply {
         Ok(Answer::Count(count)) => writeln!(out, "{count}"),
         Ok(Answer::Lacks(held)) => writeln!(out, "lacks: {held}"),
@@ -65,7 +65,7 @@ fn next_reply<R: Read>(
     alloc: Global,
     input: &mut R,
     buffer: &mut Vec<u8>,
-) -> Result<Option<Reply<Answer>>, CallError> {
+) -> Result<Option<Reply>, CallError> {
     match next_from_stream(alloc, input, buffer, settings(), LONGEST_WORD) {
         Ok(Next::Record { size: _, content }) => match content {
             Content::Value(reply) => Ok(Some(reply)),
@@ -82,7 +82,7 @@ fn next_reply<R: Read>(
 }
 
 /// Prints an answer as a line, and flushes it if no other is at hand.
-fn show_reply<W: Write>(out: &mut W, reply: &Reply<Answer>, is_last: bool) -> io::Result<()> {
+fn show_reply<W: Write>(out: &mut W, reply: &Reply, is_last: bool) -> io::Result<()> {
     print_reply(out, reply)?;
     if is_last {
         out.flush()?;

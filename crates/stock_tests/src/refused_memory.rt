@@ -6,8 +6,8 @@ use calls::serving::{Failure, ServeError, Served};
 use std::alloc::Global;
 use stock_service::logged::{LogFailure, Logged};
 use stock_service::program::serve_streams;
-use stock_service::request::Request;
 use stock_service::replaying::replay_log;
+use stock_service::request::Request;
 use stock_service::stock::Stock;
 
 /// An `Add` of 5 bolts.
