@@ -2,7 +2,8 @@
 ghost use Rattle.std.specs.Prelude.{◌≡◌, ◌↔◌, ℕ, List, None, Option, Err, IfErr, IfOk, IsTrue, OnErr, OnOk};
 ghost use Rattle.stock_service.specs.Answers.{IsAnswer, counts_after};
 ghost use Rattle.stock_service.specs.Counts.{counts_in};
-ghost use Rattle.stock_service.specs.Logs.{AnswersLogged, FailsEntering, FailsLogged, Grows, IsChange, IsLogFailure, Records, known_part};
+ghost use Rattle.stock_service.specs.Logs.{AnswersLogged, FailsEntering, FailsLogged, Grows, IsChange};
+ghost use Rattle.stock_service.specs.Logs.{IsLogFailure, Records, known_part};
 ghost use Rattle.stock_service.specs.Replied.{RepliesAs};
 ghost use Rattle.stock_service.specs.declared.limit.TheConstants.{LONGEST_WORD};
 

@@ -1,13 +1,18 @@
 //! What the program `stock` does with its words and its streams.
+ghost use Rattle.std.specs.Prelude.{ℕ, List, Option, IfOk};
+ghost use Rattle.bincode_io.specs.Stream.{TellsBytes, known_bytes};
+ghost use Rattle.calls.specs.Serving.{IsServed};
+ghost use Rattle.stock_service.specs.declared.limit.TheConstants.{LONGEST_WORD};
 
 use crate::arguments::{Action, action_of};
 use crate::asking::{AskError, SpellingError, requests_in, write_requests};
-use crate::limit::{LONGEST_WORD, settings};
+use crate::limit::{LONGEST_WORD, Settings, settings};
 use crate::log_file::{LogFileError, Opened, open_log};
 use crate::logged::{LogFailure, Logged};
 use crate::showing::{ShowError, show_answers};
 use crate::status::{DAMAGED, DONE, FAILED, REFUSED, USAGE};
 use crate::stock::Stock;
+use bincode::config::Config;
 use bincode::error::{DecodeError, EncodeError, StreamError};
 use calls::calling::CallError;
 use calls::service::Service;
@@ -254,15 +259,24 @@ pub fn serve_streams<S: Service, R: Read + Drop, W: Write + Drop>(
     service: &mut S,
     input: R,
     output: W,
-) -> Result<Served, ServeError<S::Failure>> {
-    let Ok(mut input) = BufReader::with_capacity(alloc, BLOCK, input) else {
-        return Err(failure(0, Failure::Memory(AllocError)));
+) -> Result<Served, ServeError<S::Failure>>
+    // This clause speaks of input whose bytes are known. Each of its frames got one reply, in order; the replies lead
+    // from the state before to the state after, and the input ends after the frames, or within one.
+    ensures served { TellsBytes (R.remaining input) → IfOk result (λ served. (before after : Option (List ℕ))
+        × IsServed S.replies S.refusal_reply S.Request.words S.Reply.words ⟦<Settings as Config>⟧.setting
+        ⟦<Settings as Config>⟧.bound LONGEST_WORD (known_bytes (R.remaining input)) (S.state service.old)
+        (S.state service.new) before after served) }
+{
+    let mut input = match BufReader::with_capacity(alloc, BLOCK, input) {
+        Ok(input) => input,
+        Err(_) => return Err(failure(0, Failure::Memory(AllocError))),
     };
-    let Ok(mut output) = BufWriter::with_capacity(alloc, BLOCK, output) else {
-        return Err(failure(0, Failure::Memory(AllocError)));
+    let mut output = match BufWriter::with_capacity(alloc, BLOCK, output) {
+        Ok(output) => output,
+        Err(_) => return Err(failure(0, Failure::Memory(AllocError))),
     };
     let mut buffer = Vec::new(alloc);
-    let served = serve(
+    match serve(
         alloc,
         service,
         &mut input,
@@ -270,11 +284,16 @@ pub fn serve_streams<S: Service, R: Read + Drop, W: Write + Drop>(
         &mut buffer,
         settings(),
         LONGEST_WORD,
-    );
-    // What is sent to a length above the longest is not flushed yet.
-    match (served, output.flush()) {
-        (Ok(served), Err(error)) => Err(failure(served.answers, unflushed(error))),
-        (served, _) => served,
+    ) {
+        Ok(served) => match output.flush() {
+            Ok(()) => Ok(served),
+            Err(error) => Err(failure(served.answers, unflushed(error))),
+        },
+        Err(error) => {
+            // What is sent to a length above the longest is not flushed yet.
+            let _ = output.flush();
+            Err(error)
+        }
     }
 }
 

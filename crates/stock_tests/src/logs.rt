@@ -52,15 +52,21 @@ const COUNTS: [(u64, u64); 6] = [
 /// Whether the log that was cut comes to the counts after its last whole frame.
 fn comes_back(alloc: Global, end: usize) -> bool {
     let frames = frames_in(end);
-    let mut log = &LOG[..end];
+    let Some(mut log) = LOG.get(..end) else {
+        return false;
+    };
     match replay_log(alloc, &mut log) {
         Ok((stock, replayed)) => {
-            let wanted = Replayed {
-                commands: frames as u64,
-                length: ENDS[frames],
-                is_torn: ENDS[frames] != end,
-            };
-            replayed == wanted && (stock.count("bolts"), stock.count("nuts é")) == COUNTS[frames]
+            let Replayed {
+                commands,
+                length,
+                is_torn,
+            } = replayed;
+            commands == frames as u64
+                && ENDS.get(frames).copied() == Some(length)
+                && is_torn == (length != end)
+                && COUNTS.get(frames).copied()
+                    == Some((stock.count("bolts"), stock.count("nuts é")))
         }
         Err(_) => false,
     }
@@ -113,7 +119,8 @@ fn is_failed_at(
             },
         ) => {
             let frames = frames_in(logged);
-            frames > 0 && LOGGED[frames - 1] == (*answers, answered) && ENDS[frames] == logged
+            ENDS.get(frames).copied() == Some(logged)
+                && LOGGED.get(frames.wrapping_sub(1)).copied() == Some((*answers, answered))
         }
         Err(_) => false,
     }

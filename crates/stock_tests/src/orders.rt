@@ -70,7 +70,7 @@ struct Asker<'s> {
 fn place_after(read: usize) -> (usize, usize) {
     for pair in PLACES.windows(2) {
         if pair[0].0 == read {
-            return (pair[0].1, pair[1].0 - read);
+            return (pair[0].1, pair[1].0.saturating_sub(read));
         }
     }
     (134, 0)

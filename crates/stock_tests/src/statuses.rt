@@ -62,7 +62,7 @@ fn tells_a_broken_input(rt: HostRuntime) -> Result<(), AllocError> {
         let ended = broken(alloc, reads, usize::MAX, &mut held);
         let answers = places_in(&REQUEST_ENDS, reads * 7);
         assert!(rt;
-            held.as_slice() == &ANSWERS[..ENDS[answers]],
+            ANSWERS.starts_with(held.as_slice()) && ENDS.get(answers).copied() == Some(held.len()),
             "after {reads} reads"
         );
         let Err(error) = ended else {
