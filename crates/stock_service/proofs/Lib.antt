@@ -1,0 +1,6 @@
+mod Entries
+mod Equal
+mod Logs
+mod Recovery
+mod Served
+mod Sums

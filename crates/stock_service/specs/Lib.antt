@@ -1,0 +1,5 @@
+pub mod Answers
+pub mod Counts
+pub mod Logs
+pub mod Recovery
+pub mod Replied
