@@ -1,11 +1,10 @@
 -- Equal requests.
-use Rattle.std.proofs.Common.{◌≡◌, ◌&&◌, ◌==◌, ◌+◌, Bool, true, false, String, Global, string_bytes, string_eq, refl, sym, ap, ◌∙◌, subst, arith, ℕ, List}
+use Rattle.std.proofs.Common.{◌≡◌, ◌&&◌, ◌==◌, ◌+◌, Bool, true, false, String, Global, string_bytes, string_eq, refl, sym, ap, ◌∙◌, arith, ℕ, List}
 use Rattle.std.proofs.lemmas.Bool.Decides.{Decides-eqb}
 use Rattle.std.proofs.lemmas.Slice.Eq.{bytes_eq-Decides}
-use Rattle.stock_service.specs.Answers.{Answers, Applies, IsAnswer}
+use Rattle.stock_service.specs.Answers.{Applies}
 use Rattle.stock_service.specs.Counts.{Counts, with_count}
 use Rattle.stock_service.specs.contracts.request.RequestPartialEq.TheImpl.{ghosts}
-use Rattle.stock_service.specs.declared.answer.Answer.TheVariants as answers
 use Rattle.stock_service.specs.declared.request.Request.{Request}
 use Rattle.stock_service.specs.declared.request.Request.TheVariants.{Add, Get, Take}
 

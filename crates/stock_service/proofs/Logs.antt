@@ -1,10 +1,10 @@
 -- What stays of a log that grows.
-use Rattle.std.proofs.Common.{◌≡◌, ◌++◌, ℕ, true, false, IsTrue, List, Option, is_some, length, take, refl, sym, ap, ◌∙◌, subst}
+use Rattle.std.proofs.Common.{◌≡◌, ℕ, true, false, List, Option, is_some, length, take, refl, sym, ap, ◌∙◌}
 use Rattle.std.proofs.Math.Seq.{take-append_seam}
 use Rattle.std.specs.declared.option.Option.TheVariants.{None, Some}
 use Rattle.bincode_base.specs.Setting.{Setting}
 use Rattle.bincode_types.specs.TypeWords.{Words}
-use Rattle.stock_service.specs.Answers.{Answers, IsAnswer, counts_after}
+use Rattle.stock_service.specs.Answers.{IsAnswer, counts_after}
 use Rattle.stock_service.specs.Counts.{Counts}
 use Rattle.stock_service.specs.Logs.{AnswersLogged, Grows, HasLength, IsChange, Records, known_part}
 use Rattle.stock_service.specs.declared.answer.Answer.{Answer}

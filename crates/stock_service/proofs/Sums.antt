@@ -1,9 +1,8 @@
 -- What requests do to the count of one article.
-use Rattle.std.proofs.Common.{◌≡◌, ◌≢◌, ◌+◌, ℕ, Bool, true, false, cond, List, [], ◌∷◌, string_bytes, refl, sym, ap, ◌∙◌, arith}
-use Rattle.std.proofs.lemmas.Bool.{false_from_ne_true}
+use Rattle.std.proofs.Common.{◌≡◌, ◌+◌, ℕ, Bool, true, false, cond, List, [], ◌∷◌, string_bytes, refl, ap, ◌∙◌, arith}
 use Rattle.std.proofs.lemmas.Slice.Eq.{bytes_eq-Decides}
 use Rattle.std.specs.Str.{bytes_eq}
-use Rattle.stock_service.specs.Answers.{Answers, LeadAll, all_brought, all_taken, brought_by, name_in, taken_by}
+use Rattle.stock_service.specs.Answers.{Answers, LeadAll, all_brought, all_taken, brought_by, taken_by}
 use Rattle.stock_service.specs.Counts.{Counts}
 use Rattle.stock_service.specs.declared.answer.Answer.{Answer}
 use Rattle.stock_service.specs.declared.answer.Answer.TheVariants as answers

@@ -1,4 +1,4 @@
-use Rattle.std.proofs.Common.{IsTrue, sym, ap, ◌∙◌}
+use Rattle.std.proofs.Common.{IsTrue, ap, ◌∙◌}
 use Rattle.stock_service.specs.Counts.{Counts, counts_of, with_count}
 use Rattle.stock_service.proofs.Entries.{counts_of-insert_entry}
 use Rattle.stock_service.proofs.stock.put.Goals as goal
