@@ -13,7 +13,11 @@ use Rattle.std.specs.declared.cmp.Ordering.TheVariants.{Less, Equal, Greater}
 use Rattle.std.specs.declared.option.Option.TheVariants.{None, Some}
 use Rattle.std.specs.String.{string_cmp}
 use Rattle.std.specs.Str.{bytes_eq}
+use Rattle.stock_service.specs.Answers.{count_after, counts_after, name_in}
 use Rattle.stock_service.specs.Counts.{Counts, counts_of, with_count}
+use Rattle.stock_service.specs.declared.answer.Answer.{Answer}
+use Rattle.stock_service.specs.declared.answer.Answer.TheVariants as answers
+use Rattle.stock_service.specs.declared.request.Request.{Request}
 
 -- what an article has leaves all counts as they are
 pub with_same : (name : List ℕ) (counts : Counts) (n : ℕ) → n ≡ counts name → with_count name n counts ≡ counts
@@ -108,3 +112,10 @@ left false name n count old new stored lacking unchanged h =
     let no : IsTrue false → ⊥ = λ e. cc in
     let none = lacking no in
     unchanged no ∙ sym (with_same name old n (omega (arith, none, h)))
+
+-- the counts after a request, where its article has another count
+pub changed : (answer : Answer) (request : Request) (name : List ℕ) (held : ℕ) (old new : Counts) → name ≡ name_in request → held ≡ old name → new ≡ with_count name (count_after answer held) old →
+    new ≡ counts_after request answer old
+changed (answers.Count n) request name held old new is is_held e = e ∙ ap (λ k. with_count k n old) is
+changed (answers.Lacks n) request name held old new is is_held e = e ∙ with_same name old held is_held
+changed (answers.Full n) request name held old new is is_held e = e ∙ with_same name old held is_held

@@ -15,17 +15,27 @@ name_in (requests.Add name count) = string_bytes name
 name_in (requests.Take name count) = string_bytes name
 name_in (requests.Get name) = string_bytes name
 
+-- what is answered where there are this many
+abbrev pub IsAnswerBy : ℕ → Request → Answer → Type 0
+IsAnswerBy held (requests.Add name count) (answers.Count n) = (n ≡ held + count) × (n < 2 ^ 64)
+IsAnswerBy held (requests.Add name count) (answers.Full n) = (n ≡ held) × (2 ^ 64 ≤ n + count)
+IsAnswerBy held (requests.Add name count) (answers.Lacks n) = ⊥
+IsAnswerBy held (requests.Take name count) (answers.Count n) = n + count ≡ held
+IsAnswerBy held (requests.Take name count) (answers.Lacks n) = (n ≡ held) × (n < count)
+IsAnswerBy held (requests.Take name count) (answers.Full n) = ⊥
+IsAnswerBy held (requests.Get name) (answers.Count n) = n ≡ held
+IsAnswerBy held (requests.Get name) (answers.Lacks n) = ⊥
+IsAnswerBy held (requests.Get name) (answers.Full n) = ⊥
+
 -- what is answered, by the counts before the request
 abbrev pub IsAnswer : Counts → Request → Answer → Type 0
-IsAnswer counts (requests.Add name count) (answers.Count n) = (n ≡ counts (string_bytes name) + count) × (n < 2 ^ 64)
-IsAnswer counts (requests.Add name count) (answers.Full n) = (n ≡ counts (string_bytes name)) × (2 ^ 64 ≤ n + count)
-IsAnswer counts (requests.Add name count) (answers.Lacks n) = ⊥
-IsAnswer counts (requests.Take name count) (answers.Count n) = n + count ≡ counts (string_bytes name)
-IsAnswer counts (requests.Take name count) (answers.Lacks n) = (n ≡ counts (string_bytes name)) × (n < count)
-IsAnswer counts (requests.Take name count) (answers.Full n) = ⊥
-IsAnswer counts (requests.Get name) (answers.Count n) = n ≡ counts (string_bytes name)
-IsAnswer counts (requests.Get name) (answers.Lacks n) = ⊥
-IsAnswer counts (requests.Get name) (answers.Full n) = ⊥
+IsAnswer counts request answer = IsAnswerBy (counts (name_in request)) request answer
+
+-- the count of the article after it
+abbrev pub count_after : Answer → ℕ → ℕ
+count_after (answers.Count n) held = n
+count_after (answers.Lacks _) held = held
+count_after (answers.Full _) held = held
 
 -- the counts after it: the article has the count that was answered, and all stay where the answer is another
 abbrev pub counts_after : Request → Answer → Counts → Counts

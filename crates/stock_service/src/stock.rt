@@ -1,6 +1,7 @@
 //! Stocks: how many there are of each article.
-ghost use Rattle.std.specs.Prelude.{◌≡◌, ◌≢◌, ℕ, List, IfErr, IfOk, IsTrue, OnErr, OnOk};
-ghost use Rattle.stock_service.specs.Answers.{Answers, Applies, IsAnswer, NeedsMemory, Refuses, counts_after};
+ghost use Rattle.std.specs.Prelude.{◌≡◌, ◌≢◌, ℕ, List, IfErr, IfNone, IfOk, IfSome, IsTrue, OnErr, OnOk};
+ghost use Rattle.stock_service.specs.Answers.{Answers, Applies, IsAnswer, IsAnswerBy, NeedsMemory, Refuses, count_after};
+ghost use Rattle.stock_service.specs.Answers.{counts_after};
 ghost use Rattle.stock_service.specs.Counts.{counts_in, counts_of, nothing, with_count};
 
 use crate::answer::Answer;
@@ -44,32 +45,21 @@ impl Stock {
         ensures failed { IfErr result (λ _. NeedsMemory (counts_in self.old) request.now) }
         ensures unchanged { OnErr result (counts_in self.new ≡ counts_in self.old) }
     {
-        let answer = self.answer_to(request);
-        self.settle(request, answer)?;
-        Ok(answer)
+        match change_entry(&mut self.counts, request) {
+            Some(answer) => Ok(answer),
+            None => {
+                let answer = self.answer_to(request);
+                self.settle(request, answer)?;
+                Ok(answer)
+            }
+        }
     }
 
     /// What would be answered to a request. Nothing is changed.
     pub fn answer_to(&self, request: &Request) -> Answer
         ensures { IsAnswer (counts_in self.now) request.now result }
     {
-        match request {
-            Request::Add { name, count } => {
-                let held = self.count(name);
-                match held.checked_add(*count) {
-                    Some(sum) => Answer::Count(sum),
-                    None => Answer::Full(held),
-                }
-            }
-            Request::Take { name, count } => {
-                let held = self.count(name);
-                match held.checked_sub(*count) {
-                    Some(rest) => Answer::Count(rest),
-                    None => Answer::Lacks(held),
-                }
-            }
-            Request::Get { name } => Answer::Count(self.count(name)),
-        }
+        answer_by(self.count(request.name()), request)
     }
 
     /// Makes the counts those after a request that gets this answer. Fails if an allocation is refused, which changes
@@ -92,6 +82,47 @@ impl Stock {
             }
             Request::Get { name: _ } => Ok(()),
         }
+    }
+}
+
+/// What is answered to a request where there are this many.
+fn answer_by(held: u64, request: &Request) -> Answer
+    ensures { IsAnswerBy held request.now result }
+{
+    match request {
+        Request::Add { name: _, count } => match held.checked_add(*count) {
+            Some(sum) => Answer::Count(sum),
+            None => Answer::Full(held),
+        },
+        Request::Take { name: _, count } => match held.checked_sub(*count) {
+            Some(rest) => Answer::Count(rest),
+            None => Answer::Lacks(held),
+        },
+        Request::Get { name: _ } => Answer::Count(held),
+    }
+}
+
+/// Makes a count the one after a request, and answers the request.
+fn change_count(held: &mut u64, request: &Request) -> Answer
+    ensures answer { IsAnswerBy held.old request.now result }
+    ensures count { held.new ≡ count_after result held.old }
+{
+    let answer = answer_by(*held, request);
+    if let Answer::Count(count) = answer {
+        *held = count;
+    }
+    answer
+}
+
+/// Carries a request out on an article that has an entry, by one look at the map. `None` where it has none.
+fn change_entry(counts: &mut BTreeMap<String, u64>, request: &Request) -> Option<Answer>
+    ensures answered { IfSome result (λ answer. Answers (counts_of counts.old.entries) request.now answer
+        (counts_of counts.new.entries)) }
+    ensures lacking { IfNone result (counts_of counts.new.entries ≡ counts_of counts.old.entries) }
+{
+    match counts.get_mut(request.name()) {
+        Some(held) => Some(change_count(held, request)),
+        None => None,
     }
 }
 
