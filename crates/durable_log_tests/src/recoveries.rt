@@ -28,7 +28,7 @@ fn recovers_front(alloc: Global, length: usize) -> bool {
     let end = whole_end(length);
     recovers_to(alloc, &mut device, end)
         && pay(alloc, &mut device, 7, LONGEST).is_ok()
-        && device.log().len() == end + ONE
+        && device.log().len() == end.saturating_add(ONE)
 }
 
 /// The length of a front of which something else is recovered.
