@@ -1,7 +1,9 @@
 //! Snapshots of tills that take the place of their logs, with a crash in each step and at each byte of the cut.
 
 use crate::logs::Place;
-use crate::tills::{ALL_PAID, TWO_PAID, compact_till, paid, resumes_as, till_after, till_device};
+use crate::tills_on_devices::{
+    ALL_PAID, TWO_PAID, compact_till, paid, resumes_as, till_after, till_device,
+};
 use bincode::config;
 use crash_device::device::DeviceError;
 use crash_device::memory::{Call, Memory};

@@ -17,4 +17,4 @@ mod recoveries;
 #[cfg(test)]
 mod resumptions;
 #[cfg(test)]
-mod tills;
+mod tills_on_devices;

@@ -2,7 +2,7 @@
 //! and what is refused.
 
 use crate::logs::Place;
-use crate::tills::{PAYMENTS, TWO_PAID, paid, resume_till, resumes_as, till_device};
+use crate::tills_on_devices::{PAYMENTS, TWO_PAID, paid, resume_till, resumes_as, till_device};
 use crash_device::device::DeviceError;
 use crash_device::memory::{Call, Memory};
 use durable_log::machines::ComeBackError;
