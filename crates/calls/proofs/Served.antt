@@ -78,7 +78,7 @@ module _ {S Q R : Type 0} (answers : S → Q → R → S → Type 0) (refuse : R
   }
 
   -- or a frame ends the loop
-  pub served-stops : {E : Type 0} (fails : S → Q → E → Type 0) (input : List ℕ) (old : S) (n : ℕ) (mid : S) (rest : List ℕ) (before now : Option (List ℕ)) → ServedSoFar input old n mid rest before now →
+  pub served-stops : {E : Type 0} (fails : S → Q → E → S → Type 0) (input : List ℕ) (old : S) (n : ℕ) (mid : S) (rest : List ℕ) (before now : Option (List ℕ)) → ServedSoFar input old n mid rest before now →
       (new : S) (after : Option (List ℕ)) (why : Failure E) → StopsFrame answers refuse W V s limit most fails rest mid new now after why →
       IsStopped answers refuse W V s limit most fails input old new before after (record { answers = n; why = why })
   served-stops fails input old n mid rest before now so_far new after why stop = record {

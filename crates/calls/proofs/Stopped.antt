@@ -32,7 +32,7 @@ grown-kept (Some x) None after bytes p k = absurd p
 grown-kept (Some x) (Some y) None bytes p k = absurd k
 grown-kept (Some x) (Some y) (Some z) bytes p k = k ∙ p
 
-module _ {S Q R : Type 0} (answers : S → Q → R → S → Type 0) (refuse : Refusal → R) (W : Words Q) (V : Words R) (s : Setting) (limit : Option ℕ) (most : ℕ) {E : Type 0} (fails : S → Q → E → Type 0) where
+module _ {S Q R : Type 0} (answers : S → Q → R → S → Type 0) (refuse : Refusal → R) (W : Words Q) (V : Words R) (s : Setting) (limit : Option ℕ) (most : ℕ) {E : Type 0} (fails : S → Q → E → S → Type 0) where
   abbrev Stops : List ℕ → S → S → Option (List ℕ) → Option (List ℕ) → Failure E → Type 0
   Stops = StopsFrame answers refuse W V s limit most fails
 
@@ -56,11 +56,26 @@ module _ {S Q R : Type 0} (answers : S → Q → R → S → Type 0) (refuse : R
   too-long-unsent input old before after n reads (failures.Unsent _) h =
       ([], grown-none before after h.0, (refuse (refusals.TooLong n most), (nexts.TooLong n, reads, (refl, refl)), h.1, refl))
 
+  -- it was sent, and the output failed as it was flushed, or did not
+  pub too-long-unflushed : (input : List ℕ) (old : S) (before now after : Option (List ℕ)) (n : ℕ) → Reads most input (frames.TooLong n) →
+      Sends V s limit most (refuse (refusals.TooLong n most)) before now → Keeps now after → (why : Failure E) → IsWrite why → Stops input old old before after why
+  too-long-unflushed input old before now after n reads sends k (failures.Service _) h = absurd h
+  too-long-unflushed input old before now after n reads sends k (failures.TooLong _) h = absurd h
+  too-long-unflushed input old before now after n reads sends k (failures.Read _) h = absurd h
+  too-long-unflushed input old before now after n reads sends k (failures.Memory _) h = absurd h
+  too-long-unflushed input old before now after n reads sends k (failures.Write _) h =
+      (frame sends.0, grown-kept before now after (frame sends.0) sends.2 k, (refuse (refusals.TooLong n most), (nexts.TooLong n, reads, (refl, refl)), (sends.0, [], sends.1, sym (append-nil (frame sends.0)))))
+  too-long-unflushed input old before now after n reads sends k (failures.Unsent _) h = absurd h
+
+  pub too-long-flushed : (input : List ℕ) (old : S) (before now after : Option (List ℕ)) (n : ℕ) → Reads most input (frames.TooLong n) →
+      Sends V s limit most (refuse (refusals.TooLong n most)) before now → Keeps now after → Stops input old old before after (failures.TooLong n)
+  too-long-flushed input old before now after n reads sends k = (frame sends.0, grown-kept before now after (frame sends.0) sends.2 k, (reads, refl, (sends.0, sends.1, refl)))
+
   -- what a frame holds got no reply, or a part of it
   pub frame-stops : (input : List ℕ) (old new : S) (before after : Option (List ℕ)) (size : ℕ) (content : Content Q) → IsRecord (W.format s) limit W.decodes_to most input size content → (why : Failure E) →
       FailsAt answers refuse V s limit most fails old content new before after why → Stops input old new before after why
   frame-stops input old new before after size content r (failures.Service why) h =
-      ([], grown-none before after h.2, ((size, h.0.0, subst (IsRecord (W.format s) limit W.decodes_to most input size) h.0.1 r, h.0.2), h.1, refl))
+      ([], grown-none before after h.1, ((size, h.0.0, subst (IsRecord (W.format s) limit W.decodes_to most input size) h.0.1 r, h.0.2), refl))
   frame-stops input old new before after size content r (failures.TooLong _) h = absurd h
   frame-stops input old new before after size content r (failures.Read _) h = absurd h
   frame-stops input old new before after size content r (failures.Memory _) h =
@@ -82,7 +97,7 @@ module _ {S Q R : Type 0} (answers : S → Q → R → S → Type 0) (refuse : R
       (frame word, grown-kept before now after (frame word) a.2.2 k, (a.0, (nexts.Record size content, r, a.1), (word, [], a.2.1, sym (append-nil (frame word)))))
   flush-stops input old new before now after size content r a k (failures.Unsent _) h = absurd h
 
-module _ {S Q R : Type 0} (answers : S → Q → R → S → Type 0) (refuse : Refusal → R) (V : Words R) (s : Setting) (limit : Option ℕ) (most : ℕ) {E : Type 0} (fails : S → Q → E → Type 0) where
+module _ {S Q R : Type 0} (answers : S → Q → R → S → Type 0) (refuse : Refusal → R) (V : Words R) (s : Setting) (limit : Option ℕ) (most : ℕ) {E : Type 0} (fails : S → Q → E → S → Type 0) where
   -- a reply that was not sent, as what a frame holds gets none
   pub unsent-fails : (old : S) (content : Content Q) (reply : R) (new : S) (before after : Option (List ℕ)) → Replies answers refuse (FitsStore V s limit most) old content reply new → (why : Failure E) →
       SendsPart V s limit most reply before after why → FailsAt answers refuse V s limit most fails old content new before after why

@@ -1,5 +1,5 @@
 -- What a caller sends and reads.
-use Rattle.std.specs.Prelude.{◌≡◌, ◌⊎◌, ℕ, List, [], ◌∷◌, drop, Option, Result, Ok, Err}
+use Rattle.std.specs.Prelude.{◌≡◌, ◌⊎◌, ◌<◌, ◌++◌, ℕ, List, [], ◌∷◌, length, drop, Option, Result, Ok, Err}
 use Rattle.std.specs.Io.KnownBytes.{Appends}
 use Rattle.std.specs.declared.io.Error.{Error}
 use Rattle.bincode_base.specs.Setting.{Setting}
@@ -107,6 +107,19 @@ module _ {T : Type 0} (V : Words T) (s : Setting) (limit : Option ℕ) (most : �
   -- it was not, or it was
   abbrev pub MaybeSent : {O : Type 0} → T → (O → Option (List ℕ)) → O → O → CallError → Type 0
   MaybeSent value bytes old new e = IsUnsent value bytes old new e ⊎ Sends V s limit most value (bytes old) (bytes new)
+
+  -- the frames of the first values were written, in order, and that of the next was not
+  abbrev pub StopsSending : {O : Type 0} → List T → (O → Option (List ℕ)) → O → O → CallError → Type 0
+  StopsSending {O} values bytes old new e =
+      (sent : List T) × (value : T) × (others : List T) × (mid : O) × (values ≡ sent ++ value ∷ others) × SendsAll sent (bytes old) (bytes mid) × IsUnsent value bytes mid new e
+
+  -- the input begins with the frames of some replies, fewer than n, and none follows them, for this reason
+  abbrev pub StopsReceiving : ℕ → List ℕ → CallError → Type 0
+  StopsReceiving n input e = (received : List T) × (rest : List ℕ) × (length received < n) × AreReplies input rest received × IsNoReply rest e
+
+  -- they were not all sent, or they were
+  abbrev pub MaybeAllSent : {O : Type 0} → List T → (O → Option (List ℕ)) → O → O → CallError → Type 0
+  MaybeAllSent values bytes old new e = StopsSending values bytes old new e ⊎ SendsAll values (bytes old) (bytes new)
 
   -- the request was not sent, or the input begins with no reply to it
   abbrev pub MaybeNoReply : List ℕ → CallError → Type 0

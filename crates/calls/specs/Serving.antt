@@ -65,8 +65,8 @@ module _ {S Q R : Type 0} (answers : S → Q → R → S → Type 0) (refuse : R
     pub ends : EndsInput most rest served.is_torn
 
   -- what ended the loop, where this is left of the input, the state before it and after it, and what it wrote
-  abbrev pub EndsBy : {E : Type 0} → (S → Q → E → Type 0) → List ℕ → S → S → List ℕ → Failure E → Type 0
-  EndsBy fails input old new front (failures.Service why) = ((size : ℕ) × (request : Q) × IsRecord (W.format s) limit W.decodes_to most input size (contents.Value request) × fails old request why) × (new ≡ old) × (front ≡ [])
+  abbrev pub EndsBy : {E : Type 0} → (S → Q → E → S → Type 0) → List ℕ → S → S → List ℕ → Failure E → Type 0
+  EndsBy fails input old new front (failures.Service why) = ((size : ℕ) × (request : Q) × IsRecord (W.format s) limit W.decodes_to most input size (contents.Value request) × fails old request why new) × (front ≡ [])
   EndsBy fails input old new front (failures.TooLong n) =
       Reads most input (frames.TooLong n) × (new ≡ old) × ((word : List ℕ) × IsFitting V s limit most (refuse (refusals.TooLong n most)) word × (front ≡ frame word))
   EndsBy fails input old new front (failures.Read _) = (new ≡ old) × (front ≡ [])
@@ -75,7 +75,7 @@ module _ {S Q R : Type 0} (answers : S → Q → R → S → Type 0) (refuse : R
   EndsBy fails input old new front (failures.Unsent _) = (reply : R) × Answered input old reply new × (FitsStore V s limit most reply → ⊥) × (front ≡ [])
 
   -- the frames before a place got their replies, and there this ended the loop
-  pub record IsStopped {E : Type 0} (fails : S → Q → E → Type 0) (input : List ℕ) (old new : S) (before after : Option (List ℕ)) (error : ServeError E) : Type 0 where
+  pub record IsStopped {E : Type 0} (fails : S → Q → E → S → Type 0) (input : List ℕ) (old new : S) (before after : Option (List ℕ)) (error : ServeError E) : Type 0 where
     pub replies : List (Piece R)
     pub rest : List ℕ
     pub state : S

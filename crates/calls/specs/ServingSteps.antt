@@ -71,8 +71,8 @@ module _ {S Q R : Type 0} (answers : S → Q → R → S → Type 0) (refuse : R
   AnswersContent old content new before after = (reply : R) × Replies answers refuse (FitsStore V s limit most) old content reply new × Sends V s limit most reply before after
 
   -- or it got none, or a part of it
-  abbrev pub FailsAt : {E : Type 0} → (S → Q → E → Type 0) → S → Content Q → S → Option (List ℕ) → Option (List ℕ) → Failure E → Type 0
-  FailsAt fails old content new before after (failures.Service why) = ((request : Q) × (content ≡ contents.Value request) × fails old request why) × (new ≡ old) × (after ≡ before)
+  abbrev pub FailsAt : {E : Type 0} → (S → Q → E → S → Type 0) → S → Content Q → S → Option (List ℕ) → Option (List ℕ) → Failure E → Type 0
+  FailsAt fails old content new before after (failures.Service why) = ((request : Q) × (content ≡ contents.Value request) × fails old request why new) × (after ≡ before)
   FailsAt fails old content new before after (failures.TooLong _) = ⊥
   FailsAt fails old content new before after (failures.Read _) = ⊥
   FailsAt fails old content new before after (failures.Memory _) =
@@ -91,5 +91,5 @@ module _ {S Q R : Type 0} (answers : S → Q → R → S → Type 0) (refuse : R
       (size : ℕ) × (content : Content Q) × IsRecord (W.format s) limit W.decodes_to most input size content × AnswersContent answers refuse V s limit most old content new before after × (next ≡ at + size) × (left ≡ drop size input)
 
   -- it ended the loop
-  abbrev pub StopsFrame : {E : Type 0} → (S → Q → E → Type 0) → List ℕ → S → S → Option (List ℕ) → Option (List ℕ) → Failure E → Type 0
+  abbrev pub StopsFrame : {E : Type 0} → (S → Q → E → S → Type 0) → List ℕ → S → S → Option (List ℕ) → Option (List ℕ) → Failure E → Type 0
   StopsFrame fails input old new before after why = (front : List ℕ) × Appends before after front × EndsBy answers refuse W V s limit most fails input old new front why

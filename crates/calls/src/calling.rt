@@ -7,7 +7,7 @@ ghost use Rattle.frames.specs.Frames.{frame};
 ghost use Rattle.framed_store.specs.Appended.{IsFitting};
 ghost use Rattle.framed_store.specs.Pieces.{Piece, ArePieces, bytes_of_all};
 ghost use Rattle.calls.specs.Calling.{AreReplies, IsFlush, IsNoReply, IsOutsideCall, IsReply, IsUnsent, MaybeNoReply};
-ghost use Rattle.calls.specs.Calling.{MaybeSent, SendsAll};
+ghost use Rattle.calls.specs.Calling.{MaybeAllSent, MaybeSent, SendsAll, StopsReceiving, StopsSending};
 ghost use Rattle.calls.specs.Calling.{input_of, most_of, output_of, told_as};
 ghost use Rattle.calls.specs.Sending.{Sends};
 
@@ -91,8 +91,8 @@ impl<R: Read, W: Write, C: Config> Caller<R, W, C> {
         }
     }
 
-    /// Sends a request, and reads its reply. Fails with `Send` or `Flush` if the request is not sent, and with the other
-    /// errors if what the input begins with is no reply. Then no further call is of use, unless the error is
+    /// Sends a request, and reads its reply. Fails with `Send` or `Flush` if the request is not sent, and with the
+    /// other errors if what the input begins with is no reply. Then no further call is of use, unless the error is
     /// `Send` and its cause comes before anything is written.
     pub fn call<Q: Encode + Decode<()> + Exact, A: Decode<()> + Exact>(
         &mut self,
@@ -129,6 +129,9 @@ impl<R: Read, W: Write, C: Config> Caller<R, W, C> {
         // The frames of the requests were written, in order.
         ensures sent { OnOk result (SendsAll Q.words C.setting C.bound (most_of self.old) requests.now
             (W.contents (output_of self.old)) (W.contents (output_of self.new))) }
+        // After an error all of them were too, or those before the one that the error speaks of.
+        ensures unsent { IfErr result (MaybeAllSent Q.words C.setting C.bound (most_of self.old) requests.now W.contents
+            (output_of self.old) (output_of self.new)) }
         // There is a reply for each,
         ensures count { IfOk result (λ replies. length replies.items ≡ length requests.now) }
         // and where the bytes of the input are known, they are those of its first frames, in order.
@@ -142,14 +145,17 @@ impl<R: Read, W: Write, C: Config> Caller<R, W, C> {
         self.receive_many(requests.len())
     }
 
-    /// Writes the frames of requests, in order. They may stay in a buffer of the output until `flush`. Fails with `Send`
-    /// alone; the requests before it are sent.
+    /// Writes the frames of requests, in order. They may stay in a buffer of the output until `flush`. Fails with
+    /// `Send` alone; the requests before it are sent.
     pub fn send_many<Q: Encode + Decode<()> + Exact>(
         &mut self,
         requests: &[Q],
     ) -> Result<(), CallError>
         ensures sent { OnOk result (SendsAll Q.words C.setting C.bound (most_of self.old) requests.now
             (W.contents (output_of self.old)) (W.contents (output_of self.new))) }
+        // After an error those before some request are sent, and that one is not, for the reason that the error tells.
+        ensures unsent { IfErr result (StopsSending Q.words C.setting C.bound (most_of self.old) requests.now W.contents
+            (output_of self.old) (output_of self.new)) }
         ensures input { input_of self.new ≡ input_of self.old }
         ensures most { most_of self.new ≡ most_of self.old }
     {
@@ -166,6 +172,9 @@ impl<R: Read, W: Write, C: Config> Caller<R, W, C> {
         ensures replies { TellsBytes (R.remaining (input_of self.old)) → IfOk result (λ replies. AreReplies A.words
             C.setting C.bound (most_of self.old) (known_bytes (R.remaining (input_of self.old)))
             (known_bytes (R.remaining (input_of self.new))) replies.items) }
+        // After an error they are fewer, and then none follows, for the reason that the error tells.
+        ensures none { TellsBytes (R.remaining (input_of self.old)) → IfErr result (StopsReceiving A.words C.setting
+            C.bound (most_of self.old) count (known_bytes (R.remaining (input_of self.old)))) }
         ensures is_known { TellsBytes (R.remaining (input_of self.old)) → TellsBytes (R.remaining (input_of self.new)) }
         ensures output { output_of self.new ≡ output_of self.old }
         ensures most { most_of self.new ≡ most_of self.old }

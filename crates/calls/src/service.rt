@@ -1,5 +1,5 @@
 //! Services: what answers requests.
-ghost use Rattle.std.specs.Prelude.{◌≡◌, IfErr, IfOk, OnErr};
+ghost use Rattle.std.specs.Prelude.{◌≡◌, IfErr, IfOk};
 ghost use Rattle.calls.specs.declared.refusal.Refusal.{Refusal};
 
 use crate::refusal::Refusal;
@@ -27,18 +27,17 @@ pub trait Service {
     /// In a state a request gets a reply, and leads to another state.
     ghost replies: { State → Self.Request → Self.Reply → State → Type 0 };
 
-    /// In a state the service fails at a request, for this reason.
-    ghost fails: { State → Self.Request → Self.Failure → Type 0 };
+    /// In a state the service fails at a request, for this reason, and is then in another state, or the same.
+    ghost fails: { State → Self.Request → Self.Failure → State → Type 0 };
 
     /// The reply to a frame that holds no request.
     ghost refusal_reply: { Refusal → Self.Reply };
 
     /// Answers a request. That the service does not do what is asked for is a reply too. Fails where the service cannot
-    /// go on, and then leaves the state as it was.
+    /// go on.
     fn answer(&mut self, request: Self::Request) -> Result<Self::Reply, Self::Failure>
         ensures replied { IfOk result (λ reply. replies (state self.old) request reply (state self.new)) }
-        ensures failed { IfErr result (fails (state self.old) request) }
-        ensures unchanged { OnErr result (state self.new ≡ state self.old) };
+        ensures failed { IfErr result (λ why. fails (state self.old) request why (state self.new)) };
 
     /// The reply to a frame that holds no request. `Err(refusal)` for a reply that is a `Result`.
     fn refuse(refusal: Refusal) -> Self::Reply

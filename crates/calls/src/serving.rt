@@ -79,7 +79,7 @@ pub enum Failure<E> {
 /// `buffer` holds one frame at a time. The output is flushed before the loop waits for more input, that is where the
 /// input's buffer does not hold a whole frame. Fails with `Service` where the service fails, with `TooLong` at a length
 /// above `most`, with `Read` or `Write` if a stream fails, with `Memory`, or with `Unsent` if not even a refusal can be
-/// sent.
+/// sent. After an error the replies before it may be in a buffer of the output: a caller flushes it, which sends them.
 pub fn serve<S: Service, C: Config, R: Read, W: Write>(
     alloc: Global,
     service: &mut S,
@@ -93,13 +93,13 @@ pub fn serve<S: Service, C: Config, R: Read, W: Write>(
     ensures room { vec_len buffer.new ≤ 8 + most }
     // These clauses speak of input whose bytes are known. Each of its frames got one reply, in order; it ends after
     // them, or within a frame.
-    ensures served { TellsBytes (reader_remaining R.remaining input.old) → IfOk result (IsServed S.replies S.refusal_reply
-        S.Request.words S.Reply.words C.setting C.bound most
+    ensures served { TellsBytes (reader_remaining R.remaining input.old) → IfOk result (IsServed
+        S.replies S.refusal_reply S.Request.words S.Reply.words C.setting C.bound most
         (known_bytes (reader_remaining R.remaining input.old)) (S.state service.old) (S.state service.new)
         (W.contents output.old) (W.contents output.new)) }
     // After an error the frames before the place did, and what stands there is told.
-    ensures stopped { TellsBytes (reader_remaining R.remaining input.old) → IfErr result (IsStopped S.replies S.refusal_reply
-        S.Request.words S.Reply.words C.setting C.bound most S.fails
+    ensures stopped { TellsBytes (reader_remaining R.remaining input.old) → IfErr result (IsStopped
+        S.replies S.refusal_reply S.Request.words S.Reply.words C.setting C.bound most S.fails
         (known_bytes (reader_remaining R.remaining input.old)) (S.state service.old) (S.state service.new)
         (W.contents output.old) (W.contents output.new)) }
 {
@@ -152,12 +152,12 @@ fn serve_next<S: Service, C: Config, R: Read, W: Write>(
 ) -> Result<Step, Failure<S::Failure>>
     ensures room { vec_len buffer.new ≤ 8 + most }
     ensures longer { IfOk result (IsLonger offset) }
-    ensures takes { TellsBytes (reader_remaining R.remaining input.old) → IfOk result (TakesFrame S.replies S.refusal_reply
-        S.Request.words S.Reply.words C.setting C.bound most offset
+    ensures takes { TellsBytes (reader_remaining R.remaining input.old) → IfOk result (TakesFrame
+        S.replies S.refusal_reply S.Request.words S.Reply.words C.setting C.bound most offset
         (known_bytes (reader_remaining R.remaining input.old)) (S.state service.old) (S.state service.new)
         (known_bytes (reader_remaining R.remaining input.new)) (W.contents output.old) (W.contents output.new)) }
-    ensures stops { TellsBytes (reader_remaining R.remaining input.old) → IfErr result (StopsFrame S.replies S.refusal_reply
-        S.Request.words S.Reply.words C.setting C.bound most S.fails
+    ensures stops { TellsBytes (reader_remaining R.remaining input.old) → IfErr result (StopsFrame
+        S.replies S.refusal_reply S.Request.words S.Reply.words C.setting C.bound most S.fails
         (known_bytes (reader_remaining R.remaining input.old)) (S.state service.old) (S.state service.new)
         (W.contents output.old) (W.contents output.new)) }
     ensures is_known { TellsBytes (reader_remaining R.remaining input.old)
@@ -169,6 +169,7 @@ fn serve_next<S: Service, C: Config, R: Read, W: Write>(
         Ok(Next::TooLong(length)) => {
             let refusal = Refusal::TooLong { length, most };
             refuse::<S, C, W>(alloc, output, refusal, config, most)?;
+            flush(output)?;
             Err(Failure::TooLong(length))
         }
         Ok(Next::Record { size, content }) => {

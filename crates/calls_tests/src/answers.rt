@@ -9,18 +9,19 @@ use calls::memory::call_in_memory;
 use calls::refusal::{Fault, Refusal};
 use calls::serving::{Failure, ServeError, Served, serve};
 use std::alloc::{AllocError, Global};
-use std::io::BufReader;
+use std::io;
+use std::io::{BufReader, Write};
 
 /// The longest word.
-const MOST: u32 = 12;
+pub const MOST: u32 = 12;
 
-fn settings() -> Configuration<LittleEndian, Varint, Limit<64>> {
+pub fn settings() -> Configuration<LittleEndian, Varint, Limit<64>> {
     standard().with_limit::<64>()
 }
 
-/// What is asked, and what is answered: two zeros, an empty word, a number that is too wide, a byte more, ten zeros, eleven,
-/// whose answer is longer than a word may be, and a frame with a changed bit.
-const ROWS: [(&[u8], &[u8]); 7] = [
+/// What is asked, and what is answered: two zeros, an empty word, a number that is too wide, a byte more, ten zeros,
+/// eleven, whose answer is longer than a word may be, and a frame with a changed bit.
+pub static ROWS: [(&[u8], &[u8]); 7] = [
     (
         &[1, 0, 0, 0, 2, 110, 105, 88, 156],
         &[4, 0, 0, 0, 0, 2, 0, 0, 234, 98, 90, 226],
@@ -68,7 +69,25 @@ fn joined(alloc: Global, answers: bool) -> Result<Vec<u8>, AllocError> {
     Ok(bytes)
 }
 
-/// What a run of the server gave.
+/// An output that keeps what is written, and how many bytes of it were flushed.
+#[derive(Drop)]
+struct Output {
+    written: Vec<u8>,
+    flushed: usize,
+}
+
+impl Write for Output {
+    fn write(&mut self, bytes: &[u8]) -> io::Result<usize> {
+        self.written.write(bytes)
+    }
+
+    fn flush(&mut self) -> io::Result<()> {
+        self.flushed = self.written.len();
+        Ok(())
+    }
+}
+
+/// What a run of the server gave: the output holds what was flushed.
 #[derive(Drop)]
 struct Outcome {
     result: Result<Served, ServeError<AllocError>>,
@@ -80,7 +99,10 @@ struct Outcome {
 fn run(alloc: Global, input: &[u8], most: u32) -> anyhow::Result<Outcome> {
     let mut service = Zeros { alloc, count: 0 };
     let mut input = BufReader::with_capacity(alloc, 16, input)?;
-    let mut output = Vec::new(alloc);
+    let mut output = Output {
+        written: Vec::new(alloc),
+        flushed: 0,
+    };
     let mut buffer = Vec::new(alloc);
     let result = serve(
         alloc,
@@ -91,9 +113,14 @@ fn run(alloc: Global, input: &[u8], most: u32) -> anyhow::Result<Outcome> {
         settings(),
         most,
     );
+    let Output {
+        mut written,
+        flushed,
+    } = output;
+    written.truncate(flushed);
     Ok(Outcome {
         result,
-        output,
+        output: written,
         count: service.count,
     })
 }

@@ -3,5 +3,7 @@
 
 #[cfg(test)]
 mod answers;
+#[cfg(test)]
+mod refused_memory;
 pub mod reply;
 pub mod zeros;

@@ -29,7 +29,7 @@ impl Service for Zeros {
     ghost replies = { λ old request reply new. (zeros : _) × (reply ≡ Answer zeros)
         × (length zeros.items ≡ request) };
 
-    ghost fails = { λ old request why. Unit {0} };
+    ghost fails = { λ old request why new. new ≡ old };
 
     ghost refusal_reply = { Refused };
 

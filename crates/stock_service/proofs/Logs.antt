@@ -1,14 +1,16 @@
 -- What stays of a log that grows.
-use Rattle.std.proofs.Common.{◌≡◌, ℕ, true, false, List, Option, is_some, length, take, refl, sym, ap, ◌∙◌}
+use Rattle.std.proofs.Common.{◌≡◌, ℕ, Bool, true, false, List, Option, is_some, length, take, refl, sym, ap, ◌∙◌}
 use Rattle.std.proofs.Math.Seq.{take-append_seam}
 use Rattle.std.specs.declared.option.Option.TheVariants.{None, Some}
 use Rattle.bincode_base.specs.Setting.{Setting}
 use Rattle.bincode_types.specs.TypeWords.{Words}
 use Rattle.stock_service.specs.Answers.{IsAnswer, counts_after}
 use Rattle.stock_service.specs.Counts.{Counts}
-use Rattle.stock_service.specs.Logs.{AnswersLogged, Grows, HasLength, IsChange, Records, known_part}
+use Rattle.stock_service.specs.Logs.{AnswersLogged, FailsEntering, FailsLogged, Grows, HasLength, IsChange, Records, breaks, known_part}
 use Rattle.stock_service.specs.declared.answer.Answer.{Answer}
 use Rattle.stock_service.specs.declared.answer.Answer.TheVariants as answers
+use Rattle.stock_service.specs.declared.logged.LogFailure.{LogFailure}
+use Rattle.stock_service.specs.declared.logged.LogFailure.TheVariants as failures
 use Rattle.stock_service.specs.declared.request.Request.{Request}
 use Rattle.stock_service.specs.declared.request.Request.TheVariants as requests
 use Rattle.stock_service.proofs.Entries.{with_same}
@@ -34,18 +36,29 @@ counts_stay counts (requests.Get name) (answers.Full n) is never = refl
 
 module _ (W : Words Request) (s : Setting) (limit : Option ℕ) (most : ℕ) (counts : Counts) (held : Option (List ℕ)) (request : Request) (answer : Answer) (is : IsAnswer counts request answer) where
   -- an answer that changes nothing
-  pub kept_answer : (IsChange request answer → ⊥) → AnswersLogged W s limit most (counts, held) request answer (counts, held)
-  kept_answer never = record {
+  pub kept_answer : (broken : Bool) → broken ≡ false → (IsChange request answer → ⊥) → AnswersLogged W s limit most (counts, held, broken) request answer (counts, held, broken)
+  kept_answer broken whole never = record {
     is_answered = record { is_answer = is; is_after = sym (counts_stay counts request answer is never) };
     is_recorded = λ change. absurd (never change);
     is_kept = λ _. refl;
+    is_whole = (whole, whole);
   }
 
   -- an answer that changes something
-  pub logged_answer : (new : Counts) (after : Option (List ℕ)) → new ≡ counts_after request answer counts → IsChange request answer → Records W s limit most request held after →
-      AnswersLogged W s limit most (counts, held) request answer (new, after)
-  logged_answer new after is_after change records = record {
+  pub logged_answer : (new : Counts) (after : Option (List ℕ)) (broken now : Bool) → broken ≡ false → now ≡ false → new ≡ counts_after request answer counts → IsChange request answer → Records W s limit most request held after →
+      AnswersLogged W s limit most (counts, held, broken) request answer (new, after, now)
+  logged_answer new after broken now whole still is_after change records = record {
     is_answered = record { is_answer = is; is_after = is_after };
     is_recorded = λ _. records;
     is_kept = λ never. absurd (never change);
+    is_whole = (whole, still);
   }
+
+  -- a request that was not entered
+  pub entering_fails : (new : Counts) (after : Option (List ℕ)) (broken now : Bool) (why : LogFailure) → broken ≡ false → IsChange request answer → FailsEntering counts request why → new ≡ counts → after ≡ held → now ≡ breaks why →
+      FailsLogged (counts, held, broken) request why (new, after, now)
+  entering_fails new after broken now (failures.Length why) whole change fails same kept marks = ((answer, is, change), whole, rw (whole, same, kept, marks) refl)
+  entering_fails new after broken now (failures.Append why) whole change fails same kept marks = ((answer, is, change), (whole, rw (same, kept, marks) refl))
+  entering_fails new after broken now (failures.Sync why) whole change fails same kept marks = ((answer, is, change), (whole, rw (same, kept, marks) refl))
+  entering_fails new after broken now (failures.Memory why) whole change fails same kept marks = (fails, (whole, rw (same, kept, marks) refl))
+  entering_fails new after broken now failures.Broken whole change fails same kept marks = absurd fails

@@ -3,3 +3,4 @@ pub mod Counts
 pub mod Logs
 pub mod Recovery
 pub mod Replied
+pub mod Ends

@@ -1,5 +1,5 @@
 -- What a log holds of the requests to a stock.
-use Rattle.std.specs.Prelude.{◌≡◌, ℕ, List, length, take, Option}
+use Rattle.std.specs.Prelude.{◌≡◌, ℕ, Bool, true, false, List, length, take, Option}
 use Rattle.std.specs.Io.KnownBytes.{Appends}
 use Rattle.std.specs.Option.{option_map}
 use Rattle.std.specs.declared.option.Option.TheVariants.{None, Some}
@@ -44,24 +44,34 @@ IsChange (requests.Get name) answer = ⊥
 abbrev pub Records : Words Request → Setting → Option ℕ → ℕ → Request → Option (List ℕ) → Option (List ℕ) → Type 0
 Records W s limit most request before after = (word : List ℕ) × IsFitting W s limit most request word × Appends before after (frame word)
 
+-- the counts, what the log holds of the requests that were answered, and whether it may hold more since a failure
+abbrev pub LogState : Type 0
+LogState = Counts × Option (List ℕ) × Bool
+
 -- A request gets an answer and leads to other counts, as without a log. Where it changes something its frame follows what
 -- the log held; else the log stays.
-pub record AnswersLogged (W : Words Request) (s : Setting) (limit : Option ℕ) (most : ℕ) (old : Counts × Option (List ℕ)) (request : Request) (answer : Answer) (new : Counts × Option (List ℕ)) : Type 0 where
+pub record AnswersLogged (W : Words Request) (s : Setting) (limit : Option ℕ) (most : ℕ) (old : LogState) (request : Request) (answer : Answer) (new : LogState) : Type 0 where
   pub is_answered : Answers old.0 request answer new.0
   pub is_recorded : IsChange request answer → Records W s limit most request old.1 new.1
   pub is_kept : (IsChange request answer → ⊥) → new.1 ≡ old.1
+  pub is_whole : (old.2 ≡ false) × (new.2 ≡ false)
 
 -- a request would change something
 abbrev pub WouldChange : Counts → Request → Type 0
 WouldChange counts request = (answer : Answer) × IsAnswer counts request answer × IsChange request answer
 
--- the log fails at nothing but a change, and memory is refused to nothing but an `Add`
-abbrev pub FailsLogged : Counts × Option (List ℕ) → Request → LogFailure → Type 0
-FailsLogged state request (failures.Length _) = WouldChange state.0 request
-FailsLogged state request (failures.Append _) = WouldChange state.0 request
-FailsLogged state request (failures.Sync _) = WouldChange state.0 request
-FailsLogged state request (failures.Memory _) = NeedsMemory state.0 request
-FailsLogged state request failures.Broken = Unit {0}
+-- the log failed, and had not before: the counts stay, and what it holds of the requests that were answered
+abbrev pub BreaksLog : LogState → LogState → Type 0
+BreaksLog old new = (old.2 ≡ false) × (new ≡ (old.0, old.1, true))
+
+-- The log fails at nothing but a change, and memory is refused to nothing but an `Add`. After a failure that may have
+-- written to the log every request fails.
+abbrev pub FailsLogged : LogState → Request → LogFailure → LogState → Type 0
+FailsLogged old request (failures.Length _) new = WouldChange old.0 request × (old.2 ≡ false) × (new ≡ old)
+FailsLogged old request (failures.Append _) new = WouldChange old.0 request × BreaksLog old new
+FailsLogged old request (failures.Sync _) new = WouldChange old.0 request × BreaksLog old new
+FailsLogged old request (failures.Memory _) new = NeedsMemory old.0 request × BreaksLog old new
+FailsLogged old request failures.Broken new = (old.2 ≡ true) × (new ≡ old)
 
 -- the same of a request that would
 abbrev pub FailsEntering : Counts → Request → LogFailure → Type 0
@@ -70,6 +80,11 @@ FailsEntering counts request (failures.Append _) = Unit {0}
 FailsEntering counts request (failures.Sync _) = Unit {0}
 FailsEntering counts request (failures.Memory _) = NeedsMemory counts request
 FailsEntering counts request failures.Broken = ⊥
+
+-- the log may hold more than the requests that were answered
+abbrev pub breaks : LogFailure → Bool
+breaks (failures.Length _) = false
+breaks _ = true
 
 -- the log failed
 abbrev pub IsLogFailure : LogFailure → Type 0

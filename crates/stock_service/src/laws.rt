@@ -1,7 +1,8 @@
 //! What holds of every list of requests to a stock.
-ghost use Rattle.std.specs.Prelude.{◌≡◌, ◌≢◌, ◌+◌, ℕ, List, Option};
+ghost use Rattle.std.specs.Prelude.{◌≡◌, ◌≢◌, ◌+◌, ℕ, List};
 ghost use Rattle.stock_service.specs.Answers.{Answers, LeadAll, all_brought, all_taken, name_in};
 ghost use Rattle.stock_service.specs.Counts.{Counts};
+ghost use Rattle.stock_service.specs.Logs.{LogState};
 ghost use Rattle.stock_service.specs.Recovery.{HasLog, LeadAllLogged};
 ghost use Rattle.stock_service.specs.declared.answer.Answer.{Answer};
 ghost use Rattle.stock_service.specs.declared.limit.TheConstants.{LONGEST_WORD};
@@ -26,7 +27,7 @@ pub fn others_keep_their_counts()
 
 /// What is answered with a log leaves a log of the counts: one from which they come back.
 pub fn answers_keep_logs()
-    ensures { (exchanges : List (Request × Answer)) (old new : Counts × Option (List ℕ))
+    ensures { (exchanges : List (Request × Answer)) (old new : LogState)
         → LeadAllLogged ⟦<Request as Wire>⟧.words ⟦<Settings as Config>⟧.setting ⟦<Settings as Config>⟧.bound
         LONGEST_WORD old exchanges new
         → HasLog ⟦<Request as Wire>⟧.words ⟦<Settings as Config>⟧.setting ⟦<Settings as Config>⟧.bound LONGEST_WORD old

@@ -1,9 +1,9 @@
 //! A stock whose changes stand in a log before they are answered.
-ghost use Rattle.std.specs.Prelude.{◌≡◌, ◌↔◌, ℕ, List, None, Option, Err, IfErr, IfOk, IsTrue, OnErr, OnOk};
+ghost use Rattle.std.specs.Prelude.{◌≡◌, ◌↔◌, false, is_some, None, Err, IfErr, IfOk, IsTrue, MatchResult, OnErr, OnOk};
 ghost use Rattle.stock_service.specs.Answers.{IsAnswer, counts_after};
 ghost use Rattle.stock_service.specs.Counts.{counts_in};
 ghost use Rattle.stock_service.specs.Logs.{AnswersLogged, FailsEntering, FailsLogged, Grows, IsChange};
-ghost use Rattle.stock_service.specs.Logs.{IsLogFailure, Records, known_part};
+ghost use Rattle.stock_service.specs.Logs.{IsLogFailure, LogState, Records, breaks, known_part};
 ghost use Rattle.stock_service.specs.Replied.{RepliesAs};
 ghost use Rattle.stock_service.specs.declared.limit.TheConstants.{LONGEST_WORD};
 
@@ -57,7 +57,7 @@ pub struct Logged<L: Log> {
 impl<L: Log> Logged<L> {
     /// A stock and its log, to which requests are appended.
     pub fn new(alloc: Global, stock: Stock, log: L) -> Logged<L>
-        ensures { ⟦<Logged<L> as Service>⟧.state result ≡ (counts_in stock, L.contents log) }
+        ensures { ⟦<Logged<L> as Service>⟧.state result ≡ (counts_in stock, L.contents log, false) }
     {
         Logged {
             alloc,
@@ -80,6 +80,8 @@ impl<L: Log> Logged<L> {
         ensures stock_stays { OnErr result (counts_in self.new.stock ≡ counts_in self.old.stock) }
         ensures log_stays { OnErr result (known_part self.new.end (L.contents self.new.log)
             ≡ L.contents self.old.log) }
+        ensures broken { MatchResult result (λ _. is_some self.new.end ≡ false)
+            (λ why. is_some self.new.end ≡ breaks why) }
     {
         let length = match self.log.length() {
             Ok(length) => length,
@@ -99,7 +101,8 @@ impl<L: Log> Logged<L> {
     }
 }
 
-/// The state is the counts, and what the log holds of the requests that were answered.
+/// The state is the counts, what the log holds of the requests that were answered, and whether it may hold more since a
+/// failure.
 impl<L: Log> Service for Logged<L> {
     type Request = Request;
 
@@ -107,9 +110,10 @@ impl<L: Log> Service for Logged<L> {
 
     type Failure = LogFailure;
 
-    ghost State = { (List ℕ → ℕ) × Option (List ℕ) };
+    ghost State = { LogState };
 
-    ghost state = { λ logged. (counts_in logged.stock, known_part logged.end (L.contents logged.log)) };
+    ghost state = { λ logged. (counts_in logged.stock, known_part logged.end (L.contents logged.log),
+        is_some logged.end) };
 
     ghost replies = { RepliesAs (AnswersLogged ⟦<Request as Wire>⟧.words ⟦<Settings as Config>⟧.setting
         ⟦<Settings as Config>⟧.bound LONGEST_WORD) };
@@ -118,7 +122,8 @@ impl<L: Log> Service for Logged<L> {
 
     ghost refusal_reply = { Err };
 
-    #[tactic(auto, using(crate::proofs::Logs::kept_answer, crate::proofs::Logs::logged_answer))]
+    #[tactic(auto, using(crate::proofs::Logs::kept_answer, crate::proofs::Logs::logged_answer,
+        crate::proofs::Logs::entering_fails))]
     fn answer(&mut self, request: Request) -> Result<Reply, LogFailure> {
         if self.end.is_some() {
             return Err(LogFailure::Broken);

@@ -1,7 +1,8 @@
 //! What the program `stock` does with its words and its streams.
-ghost use Rattle.std.specs.Prelude.{ℕ, List, Option, IfOk};
+ghost use Rattle.std.specs.Prelude.{ℕ, List, Option, IfErr, IfOk};
 ghost use Rattle.bincode_io.specs.Stream.{TellsBytes, known_bytes};
 ghost use Rattle.calls.specs.Serving.{IsServed};
+ghost use Rattle.stock_service.specs.Ends.{EndsWith};
 ghost use Rattle.stock_service.specs.declared.limit.TheConstants.{LONGEST_WORD};
 
 use crate::arguments::{Action, action_of};
@@ -252,8 +253,8 @@ fn status_of_served(served: Served) -> Result<u8, RunError> {
     Ok(DONE)
 }
 
-/// Answers the requests of a stream on another, in blocks, up to the end of the input. The output is flushed before more
-/// input is waited for, and in the end. Fails as `serve` does.
+/// Answers the requests of a stream on another, in blocks, up to the end of the input. The output is flushed before
+/// more input is waited for, and in the end. Fails as `serve` does.
 pub fn serve_streams<S: Service, R: Read + Drop, W: Write + Drop>(
     alloc: Global,
     service: &mut S,
@@ -266,6 +267,11 @@ pub fn serve_streams<S: Service, R: Read + Drop, W: Write + Drop>(
         × IsServed S.replies S.refusal_reply S.Request.words S.Reply.words ⟦<Settings as Config>⟧.setting
         ⟦<Settings as Config>⟧.bound LONGEST_WORD (known_bytes (R.remaining input)) (S.state service.old)
         (S.state service.new) before after served) }
+    // After an error the frames before a place got their replies, and what ended the loop there is told; or all of them
+    // did, and the output failed when it was flushed.
+    ensures stopped { TellsBytes (R.remaining input) → IfErr result (EndsWith S.replies S.refusal_reply
+        S.Request.words S.Reply.words ⟦<Settings as Config>⟧.setting ⟦<Settings as Config>⟧.bound LONGEST_WORD S.fails
+        (known_bytes (R.remaining input)) (S.state service.old) (S.state service.new)) }
 {
     let mut input = match BufReader::with_capacity(alloc, BLOCK, input) {
         Ok(input) => input,
@@ -290,7 +296,7 @@ pub fn serve_streams<S: Service, R: Read + Drop, W: Write + Drop>(
             Err(error) => Err(failure(served.answers, unflushed(error))),
         },
         Err(error) => {
-            // What is sent to a length above the longest is not flushed yet.
+            // Replies before the error may not be flushed yet.
             let _ = output.flush();
             Err(error)
         }

@@ -1,5 +1,5 @@
 //! A stock as a service.
-ghost use Rattle.std.specs.Prelude.{ℕ, List, Err};
+ghost use Rattle.std.specs.Prelude.{◌≡◌, ℕ, List, Err};
 ghost use Rattle.stock_service.specs.Answers.{Answers, NeedsMemory};
 ghost use Rattle.stock_service.specs.Counts.{counts_in};
 ghost use Rattle.stock_service.specs.Replied.{RepliesAs};
@@ -27,7 +27,7 @@ impl Service for Stock {
 
     ghost replies = { RepliesAs Answers };
 
-    ghost fails = { λ counts request _. NeedsMemory counts request };
+    ghost fails = { λ old request _ new. NeedsMemory old request × (new ≡ old) };
 
     ghost refusal_reply = { Err };
 

@@ -1,7 +1,7 @@
 //! Stocks: how many there are of each article.
 ghost use Rattle.std.specs.Prelude.{◌≡◌, ◌≢◌, ℕ, List, IfErr, IfNone, IfOk, IfSome, IsTrue, OnErr, OnOk};
-ghost use Rattle.stock_service.specs.Answers.{Answers, Applies, IsAnswer, IsAnswerBy, NeedsMemory, Refuses, count_after};
-ghost use Rattle.stock_service.specs.Answers.{counts_after};
+ghost use Rattle.stock_service.specs.Answers.{Answers, Applies, IsAnswer, IsAnswerBy, NeedsMemory, Refuses};
+ghost use Rattle.stock_service.specs.Answers.{count_after, counts_after};
 ghost use Rattle.stock_service.specs.Counts.{counts_in, counts_of, nothing, with_count};
 
 use crate::answer::Answer;
@@ -40,7 +40,8 @@ impl Stock {
     pub fn carry_out(&mut self, request: &Request) -> Result<Answer, AllocError>
         // The answer is by the count before the request. The article's count is then the one that was answered, and
         // every other stays; `Lacks` and `Full` change nothing.
-        ensures answered { IfOk result (λ answer. Answers (counts_in self.old) request.now answer (counts_in self.new)) }
+        ensures answered { IfOk result (λ answer. Answers (counts_in self.old) request.now answer
+            (counts_in self.new)) }
         // Nothing but an `Add` that would be carried out takes memory.
         ensures failed { IfErr result (λ _. NeedsMemory (counts_in self.old) request.now) }
         ensures unchanged { OnErr result (counts_in self.new ≡ counts_in self.old) }
