@@ -14,7 +14,7 @@ use Rattle.replay.specs.declared.replay.Replayed.{Replayed}
 use Rattle.stock_files.specs.Stores.{AreFrames}
 use Rattle.stock_service.specs.Answers.{Answers, Applies}
 use Rattle.stock_service.specs.Counts.{Counts, nothing}
-use Rattle.stock_service.specs.Logs.{AnswersLogged, IsChange, Records}
+use Rattle.stock_service.specs.Logs.{AnswersLogged, IsChange, LogState, Records}
 use Rattle.stock_service.specs.Recovery.{HasLog, IsLog, LeadAllLogged}
 use Rattle.stock_service.specs.contracts.request.RequestPartialEq.TheImpl.{ghosts}
 use Rattle.stock_service.specs.declared.answer.Answer.{Answer}
@@ -86,7 +86,7 @@ module _ (W : Words Request) (s : Setting) (limit : Option ℕ) (most : ℕ) whe
       one-run r.kept is.0 r.commands nothing counts new (subst (λ (z : List (Piece Request)). Hold z is.0) whole frames.hold) r.equal is.2 (subst (λ (z : Counts). Run Applies z r.commands new) begins r.run)
 
   -- one more frame
-  frames-more : (requests : List Request) (log : List ℕ) (request : Request) (word : List ℕ) → AreFrames W s limit most requests log → IsFitting W s limit most request word →
+  pub frames-more : (requests : List Request) (log : List ℕ) (request : Request) (word : List ℕ) → AreFrames W s limit most requests log → IsFitting W s limit most request word →
       AreFrames W s limit most (requests ++ request ∷ []) (log ++ frame word)
   frames-more [] log request word are fits = (word, [], fits, ap (λ z. z ++ frame word) are ∙ sym (append-nil (frame word)), refl)
   frames-more (first ∷ requests) log request word are fits =
@@ -102,10 +102,10 @@ module _ (W : Words Request) (s : Setting) (limit : Option ℕ) (most : ℕ) whe
   grown log (Some ys) more h = ap Some h
 
   -- a log of the counts
-  abbrev Keeps : Counts × Option (List ℕ) → Type 0
+  abbrev Keeps : LogState → Type 0
   Keeps state = (log : List ℕ) × (state.1 ≡ Some log) × IsLog W s limit most log state.0
 
-  module _ (counts : Counts) (log : List ℕ) (new : Counts × Option (List ℕ)) (is : IsLog W s limit most log counts) where
+  module _ (counts : Counts) (log : List ℕ) (new : LogState) (is : IsLog W s limit most log counts) where
     changes : (request : Request) (n : ℕ) → Answers counts request (answers.Count n) new.0 → Records W s limit most request (Some log) new.1 → Keeps new
     changes request n answered records = (
       log ++ frame records.0,
@@ -127,11 +127,11 @@ module _ (W : Words Request) (s : Setting) (limit : Option ℕ) (most : ℕ) whe
     step (requests.Take name count) (answers.Full n) answered records kept = absurd answered.is_answer
     step (requests.Get name) answer answered records kept = stays (requests.Get name) answer answered (λ never. never) (kept (λ never. never))
 
-  has-log : (state : Counts × Option (List ℕ)) → Keeps state → HasLog W s limit most state
+  has-log : (state : LogState) → Keeps state → HasLog W s limit most state
   has-log state k = subst (λ (held : Option (List ℕ)). IsSomeAnd held (λ log. IsLog W s limit most log state.0)) (sym k.1) k.2
 
   -- an answer keeps it
-  pub keeps-step : (request : Request) (answer : Answer) (old new : Counts × Option (List ℕ)) → AnswersLogged W s limit most old request answer new → HasLog W s limit most old → HasLog W s limit most new
+  pub keeps-step : (request : Request) (answer : Answer) (old new : LogState) → AnswersLogged W s limit most old request answer new → HasLog W s limit most old → HasLog W s limit most new
   keeps-step request answer old new a is = by_held old.1 is a.is_recorded a.is_kept
     where
       by_held : (held : Option (List ℕ)) → IsSomeAnd held (λ log. IsLog W s limit most log old.0) → (IsChange request answer → Records W s limit most request held new.1) → ((IsChange request answer → ⊥) → new.1 ≡ held) → HasLog W s limit most new
@@ -139,6 +139,6 @@ module _ (W : Words Request) (s : Setting) (limit : Option ℕ) (most : ℕ) whe
       by_held (Some log) is records kept = has-log new (step old.0 log new is request answer a.is_answered records kept)
 
   -- so do all
-  pub keeps-log : (exchanges : List (Request × Answer)) (old new : Counts × Option (List ℕ)) → LeadAllLogged W s limit most old exchanges new → HasLog W s limit most old → HasLog W s limit most new
+  pub keeps-log : (exchanges : List (Request × Answer)) (old new : LogState) → LeadAllLogged W s limit most old exchanges new → HasLog W s limit most old → HasLog W s limit most new
   keeps-log [] old new lead is = subst (HasLog W s limit most) (sym lead) is
   keeps-log (exchange ∷ exchanges) old new lead is = keeps-log exchanges lead.0 new lead.2 (keeps-step exchange.0 exchange.1 old lead.0 lead.1 is)

@@ -4,3 +4,4 @@ pub mod Logs
 pub mod Recovery
 pub mod Replied
 pub mod Ends
+pub mod Asking
