@@ -39,12 +39,7 @@ module _ {S Q R : Type 0} (answers : S → Q → R → S → Type 0) (refuse : R
   abbrev Fits : R → Type 0
   Fits = FitsStore V s limit most
 
-  -- the refusal of a length was sent
-  pub too-long-stops : (input : List ℕ) (old : S) (before after : Option (List ℕ)) (n : ℕ) → Reads most input (frames.TooLong n) → Sends V s limit most (refuse (refusals.TooLong n most)) before after →
-      Stops input old old before after (failures.TooLong n)
-  too-long-stops input old before after n reads sends = (frame sends.0, sends.2, (reads, refl, (sends.0, sends.1, refl)))
-
-  -- or not
+  -- the refusal of a length was not sent
   pub too-long-unsent : (input : List ℕ) (old : S) (before after : Option (List ℕ)) (n : ℕ) → Reads most input (frames.TooLong n) → (why : Failure E) →
       SendsPart V s limit most (refuse (refusals.TooLong n most)) before after why → Stops input old old before after why
   too-long-unsent input old before after n reads (failures.Service _) h = absurd h

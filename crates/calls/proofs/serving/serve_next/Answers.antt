@@ -22,7 +22,7 @@ returns-in_err-flush-in-Ok-TooLong-clause-stops g c = λ tells.
     rw (p.1, p.2)
     (too-long-unflushed g.S.Service.replies g.S.Service.refusal_reply g.S.Request.Wire.words g.S.Reply.Wire.words g.C.Config.setting g.C.Config.bound c.args.most g.S.Service.fails
     (known_bytes (reader_remaining g.R.Read.remaining c.args.input.now)) (g.S.Service.state c.args.service.now) (g.W.Write.contents c.args.output.now) (g.W.Write.contents c.refuse.new.output)
-    (g.W.Write.contents c.flush-in-Ok-TooLong.new.output) c.in-Ok-TooLong.length next c.in_ok-refuse-in-Ok-TooLong.ensures.sent c.in_err-flush-in-Ok-TooLong.ensures.kept
+    (g.W.Write.contents c.flush.new.output) c.in-Ok-TooLong.length next c.in_ok-refuse-in-Ok-TooLong.ensures.sent c.in_err-flush-in-Ok-TooLong.ensures.kept
     c.in_err-flush-in-Ok-TooLong.field-0.0 c.in_err-flush-in-Ok-TooLong.ensures.failed)
 
 pub returns-in_ok-flush-in-Ok-TooLong-clause-stops : goal.returns-in_ok-flush-in-Ok-TooLong-clause-stops
@@ -30,7 +30,7 @@ returns-in_ok-flush-in-Ok-TooLong-clause-stops g c = λ tells.
     let next = rw c.in-Ok-TooLong.field-0-is at (c.in-Ok-TooLong.ensures.next tells) in
     too-long-flushed g.S.Service.replies g.S.Service.refusal_reply g.S.Request.Wire.words g.S.Reply.Wire.words g.C.Config.setting g.C.Config.bound c.args.most g.S.Service.fails
     (known_bytes (reader_remaining g.R.Read.remaining c.args.input.now)) (g.S.Service.state c.args.service.now) (g.W.Write.contents c.args.output.now) (g.W.Write.contents c.refuse.new.output)
-    (g.W.Write.contents c.flush-in-Ok-TooLong.new.output) c.in-Ok-TooLong.length next c.in_ok-refuse-in-Ok-TooLong.ensures.sent c.in_ok-flush-in-Ok-TooLong.ensures.kept
+    (g.W.Write.contents c.flush.new.output) c.in-Ok-TooLong.length next c.in_ok-refuse-in-Ok-TooLong.ensures.sent c.in_ok-flush-in-Ok-TooLong.ensures.kept
 
 pub returns-in_err-answer_frame-in-Ok-Record-clause-stops : goal.returns-in_err-answer_frame-in-Ok-Record-clause-stops
 returns-in_err-answer_frame-in-Ok-Record-clause-stops g c = λ tells.

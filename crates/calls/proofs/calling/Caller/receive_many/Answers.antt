@@ -1,6 +1,7 @@
 use Rattle.std.proofs.Common.{◌≡◌, ◌++◌, ◌∷◌, [], ◌∙◌, ap, length, sym, subst, arith, length-append}
+use Rattle.std.proofs.lemmas.Result.{err_from_is_err_and}
 use Rattle.bincode_io.specs.Stream.{known_bytes}
-use Rattle.calls.specs.Calling.{AreReplies, IsReply, input_of, most_of}
+use Rattle.calls.specs.Calling.{AreReplies, IsNoReply, IsReply, input_of, most_of}
 use Rattle.calls.proofs.Received.{replies-more}
 use Rattle.calls.proofs.calling.Caller.receive_many.Goals as goal
 
@@ -22,3 +23,12 @@ loop-preserved g c =
           (replies-more g.A.Wire.words g.C.Config.setting g.C.Config.bound (most_of c.args.self.now) (known_bytes (g.R.Read.remaining (input_of c.args.self.now))) (known_bytes (g.R.Read.remaining (input_of c.loop.self)))
           (known_bytes (g.R.Read.remaining (input_of c.receive.new.self))) c.loop.replies.items c.in_ok-reply.reply (before.replies tells) reply);
     }
+
+pub returns-in_err-reply-clause-none : goal.returns-in_err-reply-clause-none
+returns-in_err-reply-clause-none g c = λ tells.
+    let before = c.loop.invariant in
+    let p = err_from_is_err_and c.from_residual.result c.from_residual.ensures.1 in
+    let counted = before.count in
+    let more = c.loop-test.true in
+    let none = subst (λ m. IsNoReply g.A.Wire.words g.C.Config.setting g.C.Config.bound m (known_bytes (g.R.Read.remaining (input_of c.loop.self))) c.in_err-reply.field-0.0) before.most (c.in_err-reply.ensures.none (before.is_known tells)) in
+    rw (p.1, p.2) (c.loop.replies.items, known_bytes (g.R.Read.remaining (input_of c.loop.self)), omega (arith, counted, more), before.replies tells, none)
