@@ -1,0 +1,6 @@
+pub mod Taking
+pub mod Numbers
+pub mod Parts
+pub mod Choices
+pub mod Sound
+pub mod Stepping

@@ -1,0 +1,19 @@
+//! Whether a new shape reads all that an old one wrote.
+ghost use Rattle.std.specs.Prelude.{◌≡◌, IsTrue};
+ghost use Rattle.bincode_shape.specs.Shapes.{format_of};
+ghost use Rattle.bincode_evolution.specs.Reading.{ReadsAll};
+ghost use Rattle.bincode_evolution.specs.Rules.{is_read};
+
+use crate::compare::compare;
+use bincode_base::config::Config;
+use bincode_shape::shape::Shape;
+
+/// Whether all words of the old shape are words of the new one, with the same meaning. Then a decoder without a limit
+/// reads by the new shape all that it reads by the old one: the same value, from as many bytes. Under a limit it may
+/// need a larger one, since a wider integer is charged by its width, and an element by its claim.
+pub fn reads_all<C: Config>(new: &Shape, old: &Shape, config: C) -> bool
+    ensures by_rules { result ≡ is_read C.setting.encoding old.now new.now }
+    ensures reads { IsTrue result → ReadsAll (format_of new.now C.setting) (format_of old.now C.setting) }
+{
+    compare(new, old, config.int_encoding()).is_read
+}
