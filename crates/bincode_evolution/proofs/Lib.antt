@@ -4,3 +4,4 @@ pub mod Parts
 pub mod Choices
 pub mod Sound
 pub mod Stepping
+pub mod Inhabited

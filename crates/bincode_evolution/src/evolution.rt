@@ -1,10 +1,12 @@
-//! Whether a new shape reads all that an old one wrote.
-ghost use Rattle.std.specs.Prelude.{◌≡◌, IsTrue};
+//! Whether a new shape reads all that an old one wrote, and whether a shape has values at all.
+ghost use Rattle.std.specs.Prelude.{◌≡◌, ◌↔◌, IsTrue};
+ghost use Rattle.bincode_base.specs.Setting.{Setting};
 ghost use Rattle.bincode_shape.specs.Shapes.{format_of};
-ghost use Rattle.bincode_evolution.specs.Reading.{ReadsAll};
-ghost use Rattle.bincode_evolution.specs.Rules.{is_read};
+ghost use Rattle.bincode_evolution.specs.Reading.{HasWord, ReadsAll};
+ghost use Rattle.bincode_evolution.specs.Rules.{has_words, is_read};
 
 use crate::compare::compare;
+use crate::words::does_have_words;
 use bincode_base::config::Config;
 use bincode_shape::shape::Shape;
 
@@ -16,4 +18,13 @@ pub fn reads_all<C: Config>(new: &Shape, old: &Shape, config: C) -> bool
     ensures reads { IsTrue result → ReadsAll (format_of new.now C.setting) (format_of old.now C.setting) }
 {
     compare(new, old, config.int_encoding()).is_read
+}
+
+/// Whether some bytes are a word of the shape: whether there is a value of it at all. Of an enum without variants there
+/// is none, nor is there of what always holds such a part. Visits each part once, and recurses as deep as the shape.
+pub fn has_words(shape: &Shape) -> bool
+    ensures by_rules { result ≡ has_words shape.now }
+    ensures exact { (s : Setting) → (IsTrue result ↔ HasWord (format_of shape.now s)) }
+{
+    does_have_words(shape)
 }

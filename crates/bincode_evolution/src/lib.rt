@@ -6,4 +6,4 @@
 mod compare;
 pub mod evolution;
 mod scalars;
-pub mod words;
+mod words;

@@ -1,18 +1,14 @@
 //! Which shapes have words.
-ghost use Rattle.std.specs.Prelude.{◌≡◌, ◌↔◌, IsTrue, length};
+ghost use Rattle.std.specs.Prelude.{◌≡◌};
 ghost use Rattle.std.specs.List.{list_all};
-ghost use Rattle.bincode_base.specs.Setting.{Setting};
-ghost use Rattle.bincode_shape.specs.Shapes.{format_of};
-ghost use Rattle.bincode_evolution.specs.Reading.{HasWord};
 ghost use Rattle.bincode_evolution.specs.Rules.{has_words};
 ghost use Rattle.bincode_evolution.specs.Lists.{any_has_words};
 
 use bincode_shape::shape::Shape;
 
-/// Whether some bytes are a word of the shape: whether it has a value at all. An enum without variants has none, nor has
-/// what always holds a part without words. Visits each part of the shape once. Recurses as deep as the shape.
+/// Whether some bytes are a word of the shape.
 #[cycle(words)]
-pub fn does_have_words(shape: &Shape) -> bool
+pub(crate) fn does_have_words(shape: &Shape) -> bool
     ensures { result ≡ has_words shape.now }
 {
     match shape {
