@@ -3,5 +3,6 @@ pub mod Numbers
 pub mod Parts
 pub mod Choices
 pub mod Sound
+pub mod Types
 pub mod Stepping
 pub mod Inhabited

@@ -1,5 +1,5 @@
 //! Whether a new shape reads all that an old one wrote, and whether a shape has values at all.
-ghost use Rattle.std.specs.Prelude.{◌≡◌, ◌↔◌, IsTrue};
+ghost use Rattle.std.specs.Prelude.{◌≡◌, ◌↔◌, IfSome, IsTrue};
 ghost use Rattle.bincode_base.specs.Setting.{Setting};
 ghost use Rattle.bincode_shape.specs.Shapes.{format_of};
 ghost use Rattle.bincode_evolution.specs.Reading.{HasWord, ReadsAll};
@@ -8,7 +8,9 @@ ghost use Rattle.bincode_evolution.specs.Rules.{has_words, is_read};
 use crate::compare::compare;
 use crate::words::does_have_words;
 use bincode_base::config::Config;
+use bincode_shape::described::Described;
 use bincode_shape::shape::Shape;
+use std::alloc::Global;
 
 /// Whether all words of the old shape are words of the new one, with the same meaning. Then a decoder without a limit
 /// reads by the new shape all that it reads by the old one: the same value, from as many bytes. Under a limit it may
@@ -27,4 +29,18 @@ pub fn has_words(shape: &Shape) -> bool
     ensures exact { (s : Setting) → (IsTrue result ↔ HasWord (format_of shape.now s)) }
 {
     does_have_words(shape)
+}
+
+/// Whether all words of an old type are words of a new one, with the same meaning, by the shapes of the two. `None` if an
+/// allocation is refused.
+pub fn type_reads_all<New: Described, Old: Described, C: Config>(
+    alloc: Global,
+    config: C,
+) -> Option<bool>
+    ensures { IfSome result (λ answer. IsTrue answer
+        → ReadsAll (New.words.format C.setting) (Old.words.format C.setting)) }
+{
+    let new = New::shape(alloc)?;
+    let old = Old::shape(alloc)?;
+    Some(reads_all(&new, &old, config))
 }
