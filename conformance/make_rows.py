@@ -311,7 +311,7 @@ def of_wholes():
     written(family, "array of bytes", "[u8; 5]", [5, 4, 3, 2, 251], of_bytes(5, 4, 3, 2, 251))
     written(family, "array of none", "[text; 0]", [], b"")
     written(family, "array of units", "[(); 3]", {"count": 3}, b"")
-    written(family, "array of many units", "[(); 1000000]", {"count": 1000000}, b"")
+    written(family, "array of many units", "[(); 100000]", {"count": 100000}, b"")
     written(family, "array of options", "[u8?; 3]", [None, 1, None], of_bytes(0, 1, 1, 0))
     written(family, "array of tuples", "[(u8, bool); 2]", [[1, True], [2, False]], of_bytes(1, 1, 2, 0))
     written(family, "range", "(u16, u16) = Range<u16>", [1, 300], of_bytes(1, 251, 44, 1))
@@ -334,7 +334,7 @@ def of_lists():
     written(family, "all truth values", "[bool]", [True, False], of_bytes(2, 1, 0))
     written(family, "signed bytes", "[i8]", [-128, 127], of_bytes(2, 128, 127))
     written(family, "wide numbers", "[u128]", [2**64], of_bytes(1) + unsigned(2**64, 16))
-    read(family, "more units than an input has bytes", "[((), [(); 2])]", bytes([253] + [255] * 8), {"count": MOST})
+    read(family, "more units than an input has bytes", "[((), [(); 2])]", of_bytes(251, 232, 3), {"count": 1000})
     refused(family, "a fault within", "[bool]", of_bytes(3, 1, 9), name="InvalidBooleanValue", byte=9)
     refused(family, "a fault before the end", "[u8?]", of_bytes(200, 0, 5), name="UnexpectedVariant", found=5, min=0, max=1)
 
