@@ -1,0 +1,46 @@
+//! Whether a new shape reads all that an old one wrote, and whether a shape has values at all.
+ghost use Rattle.std.specs.Prelude.{◌≡◌, ◌↔◌, IfSome, IsTrue};
+ghost use Rattle.bincode_base.specs.Setting.{Setting};
+ghost use Rattle.bincode_shape.specs.Shapes.{format_of};
+ghost use Rattle.bincode_evolution.specs.Reading.{HasWord, ReadsAll};
+ghost use Rattle.bincode_evolution.specs.Rules.{has_words, is_read};
+
+use crate::compare::compare;
+use crate::words::does_have_words;
+use bincode_base::config::Config;
+use bincode_shape::described::Described;
+use bincode_shape::shape::Shape;
+use std::alloc::Global;
+
+/// Whether all words of the old shape are words of the new one, with the same meaning. Then a decoder without a limit
+/// reads by the new shape all that it reads by the old one: the same value, from as many bytes. Under a limit it may
+/// need a larger one, since a wider integer is charged by its width, and an element by its claim.
+pub fn reads_all<C: Config>(new: &Shape, old: &Shape, config: C) -> bool
+    ensures by_rules { result ≡ is_read C.setting.encoding old.now new.now }
+    ensures reads { IsTrue result → ReadsAll (format_of new.now C.setting) (format_of old.now C.setting) }
+{
+    compare(new, old, config.int_encoding()).is_read
+}
+
+/// Whether some bytes are a word of the shape: whether there is a value of it at all. Of an enum without variants there
+/// is none, nor is there of what always holds such a part. Visits each part once, and recurses as deep as the shape.
+pub fn has_words(shape: &Shape) -> bool
+    ensures by_rules { result ≡ has_words shape.now }
+    ensures exact { (s : Setting) → (IsTrue result ↔ HasWord (format_of shape.now s)) }
+{
+    does_have_words(shape)
+}
+
+/// Whether all words of an old type are words of a new one, with the same meaning, by the shapes of the two. `None` if an
+/// allocation is refused.
+pub fn type_reads_all<New: Described, Old: Described, C: Config>(
+    alloc: Global,
+    config: C,
+) -> Option<bool>
+    ensures { IfSome result (λ answer. IsTrue answer
+        → ReadsAll (New.words.format C.setting) (Old.words.format C.setting)) }
+{
+    let new = New::shape(alloc)?;
+    let old = Old::shape(alloc)?;
+    Some(reads_all(&new, &old, config))
+}
