@@ -1,3 +1,4 @@
+mod Ends
 mod Entries
 mod Equal
 mod Logs

@@ -86,7 +86,7 @@ module _ (W : Words Request) (s : Setting) (limit : Option ℕ) (most : ℕ) whe
       one-run r.kept is.0 r.commands nothing counts new (subst (λ (z : List (Piece Request)). Hold z is.0) whole frames.hold) r.equal is.2 (subst (λ (z : Counts). Run Applies z r.commands new) begins r.run)
 
   -- one more frame
-  pub frames-more : (requests : List Request) (log : List ℕ) (request : Request) (word : List ℕ) → AreFrames W s limit most requests log → IsFitting W s limit most request word →
+  frames-more : (requests : List Request) (log : List ℕ) (request : Request) (word : List ℕ) → AreFrames W s limit most requests log → IsFitting W s limit most request word →
       AreFrames W s limit most (requests ++ request ∷ []) (log ++ frame word)
   frames-more [] log request word are fits = (word, [], fits, ap (λ z. z ++ frame word) are ∙ sym (append-nil (frame word)), refl)
   frames-more (first ∷ requests) log request word are fits =

@@ -4,4 +4,3 @@ pub mod Logs
 pub mod Recovery
 pub mod Replied
 pub mod Ends
-pub mod Asking

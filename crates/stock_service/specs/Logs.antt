@@ -7,7 +7,6 @@ use Rattle.bincode_base.specs.Setting.{Setting}
 use Rattle.bincode_types.specs.TypeWords.{Words}
 use Rattle.frames.specs.Frames.{frame}
 use Rattle.framed_store.specs.Appended.{IsFitting}
-use Rattle.stock_files.specs.Stores.{AreFrames}
 use Rattle.stock_service.specs.Answers.{Answers, IsAnswer, NeedsMemory}
 use Rattle.stock_service.specs.Counts.{Counts}
 use Rattle.stock_service.specs.declared.answer.Answer.{Answer}
@@ -44,10 +43,6 @@ IsChange (requests.Get name) answer = ⊥
 -- the frame of a request follows what a log held
 abbrev pub Records : Words Request → Setting → Option ℕ → ℕ → Request → Option (List ℕ) → Option (List ℕ) → Type 0
 Records W s limit most request before after = (word : List ℕ) × IsFitting W s limit most request word × Appends before after (frame word)
-
--- the frames of requests do, in order
-abbrev pub RecordsAll : Words Request → Setting → Option ℕ → ℕ → List Request → Option (List ℕ) → Option (List ℕ) → Type 0
-RecordsAll W s limit most requests before after = (bytes : List ℕ) × AreFrames W s limit most requests bytes × Appends before after bytes
 
 -- the counts, what the log holds of the requests that were answered, and whether it may hold more since a failure
 abbrev pub LogState : Type 0

@@ -1,14 +1,7 @@
 //! Requests that are spelled as texts, and sent.
-ghost use Rattle.std.specs.Prelude.{IfErr, OnOk};
-ghost use Rattle.stock_service.specs.Asking.{StopsAsking};
-ghost use Rattle.stock_service.specs.Logs.{RecordsAll};
-ghost use Rattle.stock_service.specs.declared.limit.TheConstants.{LONGEST_WORD};
 
-use crate::limit::Settings;
 use crate::recording::append_request;
 use crate::request::Request;
-use bincode::Wire;
-use bincode::config::Config;
 use framed_store::appending::AppendError;
 use std::alloc::{AllocError, Global};
 use std::io;
@@ -120,12 +113,7 @@ pub fn write_requests<W: Write>(
     alloc: Global,
     out: &mut W,
     requests: &[Request],
-) -> Result<(), AskError>
-    ensures recorded { OnOk result (RecordsAll ⟦<Request as Wire>⟧.words ⟦<Settings as Config>⟧.setting
-        ⟦<Settings as Config>⟧.bound LONGEST_WORD requests.now (W.contents out.old) (W.contents out.new)) }
-    ensures stopped { IfErr result (StopsAsking ⟦<Request as Wire>⟧.words ⟦<Settings as Config>⟧.setting
-        ⟦<Settings as Config>⟧.bound LONGEST_WORD requests.now (W.contents out.old) (W.contents out.new)) }
-{
+) -> Result<(), AskError> {
     for (number, request) in requests.iter().enumerate() {
         if let Err(why) = append_request(alloc, out, request) {
             return Err(AskError::Append { number, why });

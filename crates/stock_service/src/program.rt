@@ -1,7 +1,8 @@
 //! What the program `stock` does with its words and its streams.
-ghost use Rattle.std.specs.Prelude.{ℕ, List, Option, IfErr, IfOk};
+ghost use Rattle.std.specs.Prelude.{◌≡◌, ℕ, List, Option, IfErr, IfOk};
 ghost use Rattle.bincode_io.specs.Stream.{TellsBytes, known_bytes};
 ghost use Rattle.calls.specs.Serving.{IsServed};
+ghost use Rattle.calls.specs.ServingSteps.{IsWrite};
 ghost use Rattle.stock_service.specs.Ends.{EndsWith};
 ghost use Rattle.stock_service.specs.declared.limit.TheConstants.{LONGEST_WORD};
 
@@ -304,12 +305,17 @@ pub fn serve_streams<S: Service, R: Read + Drop, W: Write + Drop>(
 }
 
 /// The end of a server at a request.
-fn failure<E>(answers: u64, why: Failure<E>) -> ServeError<E> {
+fn failure<E>(answers: u64, why: Failure<E>) -> ServeError<E>
+    ensures answers { result.answers ≡ answers }
+    ensures why { result.why ≡ why }
+{
     ServeError { answers, why }
 }
 
 /// The failure of an output that was flushed.
-fn unflushed<E>(error: io::Error) -> Failure<E> {
+fn unflushed<E>(error: io::Error) -> Failure<E>
+    ensures { IsWrite result }
+{
     Failure::Write(EncodeError::Io {
         inner: StreamError::from(error),
         index: 0,
