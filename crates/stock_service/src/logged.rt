@@ -112,8 +112,11 @@ impl<L: Log> Service for Logged<L> {
 
     ghost State = { LogState };
 
-    ghost state = { λ logged. (counts_in logged.stock, known_part logged.end (L.contents logged.log),
-        is_some logged.end) };
+    ghost state = { λ logged. (
+      counts_in logged.stock,
+      known_part logged.end (L.contents logged.log),
+      is_some logged.end,
+    ) };
 
     ghost replies = { RepliesAs (AnswersLogged ⟦<Request as Wire>⟧.words ⟦<Settings as Config>⟧.setting
         ⟦<Settings as Config>⟧.bound LONGEST_WORD) };
@@ -122,8 +125,7 @@ impl<L: Log> Service for Logged<L> {
 
     ghost refusal_reply = { Err };
 
-    #[tactic(auto, using(crate::proofs::Logs::kept_answer, crate::proofs::Logs::logged_answer,
-        crate::proofs::Logs::entering_fails))]
+    #[tactic(auto, using(crate::proofs::Logs::kept_answer, crate::proofs::Logs::logged_answer, crate::proofs::Logs::entering_fails))]
     fn answer(&mut self, request: Request) -> Result<Reply, LogFailure> {
         if self.end.is_some() {
             return Err(LogFailure::Broken);

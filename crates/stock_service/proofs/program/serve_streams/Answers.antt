@@ -21,7 +21,7 @@ returns-in-Err-with_capacity-clause-stopped g c = λ tells.
 pub returns-in-Ok-serve-clause-stopped : goal.returns-in-Ok-serve-clause-stopped
 returns-in-Ok-serve-clause-stopped g c = λ tells.
     let served : (before after : Option (List ℕ)) × IsServed g.S.Service.replies g.S.Service.refusal_reply g.S.Request.Wire.words g.S.Reply.Wire.words (record { order = Little; encoding = Variable }) (Some 65536) LONGEST_WORD
-        (known_bytes (g.R.Read.remaining c.args.input)) (g.S.Service.state c.args.service.now) (g.S.Service.state c.serve.new.service) before after c.in-Ok-serve.served = search rules in
+    (known_bytes (g.R.Read.remaining c.args.input)) (g.S.Service.state c.args.service.now) (g.S.Service.state c.serve.new.service) before after c.in-Ok-serve.served = search rules in
     let write : IsWrite c.failure-in-Err-flush.result.why = rw c.failure-in-Err-flush.ensures.why c.unflushed.ensures in
     ends_unflushed g.S.Service.replies g.S.Service.refusal_reply g.S.Request.Wire.words g.S.Reply.Wire.words (record { order = Little; encoding = Variable }) (Some 65536) LONGEST_WORD g.S.Service.fails
     (known_bytes (g.R.Read.remaining c.args.input)) (g.S.Service.state c.args.service.now) (g.S.Service.state c.serve.new.service) served.0 served.1 c.in-Ok-serve.served c.failure-in-Err-flush.result served.2
