@@ -1,0 +1,99 @@
+-- What two decoders tell of the formats.
+use Rattle.std.specs.Prelude.{◌≡◌, ℕ, ◌⊎◌, ◌==◌, ◌&&◌, Bool, true, false, not, List, [], ◌∷◌, ◌++◌, length, Option, Some, None, Err, refl}
+use Rattle.std.proofs.Common.{◌∙◌, ap, sym, subst, inl, inr, arith, append-nil, length-append}
+use Rattle.std.proofs.lemmas.Bool.{eq-eqb}
+use Rattle.bincode_base.specs.declared.error.DecodeError.{DecodeError}
+use Rattle.bincode_base.specs.declared.error.DecodeError.TheVariants.{LimitExceeded, Memory}
+use Rattle.bincode_spec.specs.Answer.{Allows, of_word, charge_after_steps}
+use Rattle.bincode_spec.specs.Charge.{Step}
+use Rattle.bincode_spec.specs.Format.{Format, Reading}
+use Rattle.bincode_spec.specs.Layers.Laws.{Lawful, Balanced, BeginsWith, IsBacked, Settles}
+use Rattle.bincode_spec.specs.Meaning.{Meaning}
+use Rattle.bincode_spec.specs.Slice.{Decoded, IsAnswer}
+use Rattle.bincode_lemmas.specs.AnswerLaws.{after-stays, after-passes}
+use Rattle.bincode_shape.specs.declared.shape.Shape.{Shape}
+use Rattle.bincode_shape.specs.declared.shape.Value.{Value}
+use Rattle.bincode_shape.specs.ShapeLaws.{format_of-lawful, format_of-balanced}
+use Rattle.bincode_shape.specs.Shapes.{format_of, meaning, IsImage, TakesMemory}
+use Rattle.bincode_evolution.specs.Reading.{Takes}
+use Rattle.shape_difference.specs.Alike.{alike}
+use Rattle.shape_difference.specs.Differing.{Shows}
+use Rattle.shape_difference.proofs.Meanings.{alike_complete}
+use Rattle.bincode_base.specs.Setting.{Setting}
+
+none_left : (word remaining input : List ℕ) → input ≡ word ++ remaining → length input ≡ length word → remaining ≡ []
+none_left word [] input e h = refl
+none_left word (b ∷ remaining) input e h = let k = ap length e in let l = length-append word (b ∷ remaining) in absurd (omega (arith, h, k, l))
+
+-- what is decoded is taken
+pub decoded_takes : (F : Format Meaning) → Lawful F → (limit : Option ℕ) (input : List ℕ) (DecodesTo : Meaning → Type 0) (n : ℕ) → (d : Decoded F limit input DecodesTo n) → Takes (F.read input) d.meaning d.remaining
+decoded_takes F f limit input DecodesTo n d = (d.steps, ap F.read d.input_is ∙ f.word_read d.word d.remaining d.meaning d.steps d.is_word)
+
+-- and if it has all bytes, none are left
+pub decoded_all : (F : Format Meaning) → Lawful F → (limit : Option ℕ) (input : List ℕ) (DecodesTo : Meaning → Type 0) (n : ℕ) → (d : Decoded F limit input DecodesTo n) → n ≡ length input → Takes (F.read input) d.meaning []
+decoded_all F f limit input DecodesTo n d h =
+    subst (λ z. Takes (F.read input) d.meaning z) (none_left d.word d.remaining input d.input_is (sym h ∙ d.count)) (decoded_takes F f limit input DecodesTo n d)
+
+same_taken : (r : Reading Meaning) (m n : Meaning) (remaining others : List ℕ) → Takes r m remaining → Takes r n others → (m ≡ n) × (remaining ≡ others)
+same_taken r m n remaining others t u = let e = sym t.1 ∙ u.1 in (cc, cc)
+
+-- what is taken whole is decoded whole
+pub whole_decoded : (F : Format Meaning) → Lawful F → (limit : Option ℕ) (input : List ℕ) (DecodesTo : Meaning → Type 0) (n : ℕ) → (d : Decoded F limit input DecodesTo n) → (m : Meaning) →
+    Takes (F.read input) m [] → (n ≡ length input) × (m ≡ d.meaning)
+whole_decoded F f limit input DecodesTo n d m t =
+    let same = same_taken (F.read input) d.meaning m d.remaining [] (decoded_takes F f limit input DecodesTo n d) t in
+    let e : input ≡ d.word = d.input_is ∙ ap (λ z. d.word ++ z) same.1 ∙ append-nil d.word in
+    (d.count ∙ ap length (sym e), sym same.0)
+
+allows_none : (limit : Option ℕ) → Allows limit 0
+allows_none None = tt
+allows_none (Some limit) = omega arith
+
+neither : (MayAllocate : Type 0) (e : DecodeError) → (e ≡ Memory → ⊥) → (e ≡ LimitExceeded → ⊥) → (e ≡ LimitExceeded) ⊎ (MayAllocate × (e ≡ Memory)) → ⊥
+neither MayAllocate e no_memory no_limit (inl h) = no_limit h
+neither MayAllocate e no_memory no_limit (inr h) = no_memory h.1
+
+by_charge : (F : Format Meaning) (limit : Option ℕ) (input : List ℕ) (MayAllocate : Type 0) {T : Type 0} (DecodesTo : Meaning → T → Type 0) (e : DecodeError) →
+    IsAnswer F limit MayAllocate DecodesTo input (Err e) → (e ≡ Memory → ⊥) → (e ≡ LimitExceeded → ⊥) → (m : Meaning) (steps : List Step) (o : Option ℕ) →
+    BeginsWith F input m [] steps → IsBacked 0 steps → charge_after_steps limit 0 steps ≡ o → ⊥
+by_charge F limit input MayAllocate DecodesTo e a no_memory no_limit m steps (Some after) w backed k =
+    no_memory (a.found w.word [] m steps w.input_is w.is_word (after-stays limit 0 0 steps after backed (omega arith) (allows_none limit) k)).1
+by_charge F limit input MayAllocate DecodesTo e a no_memory no_limit m steps None w backed k =
+    neither MayAllocate e no_memory no_limit (a.limit steps (of_word w.word [] m w.is_word w.input_is) (after-passes limit 0 0 steps backed (omega arith) k))
+
+-- an error of another kind than memory and the limit tells that no word begins the input
+pub refused_untaken : (F : Format Meaning) → Lawful F → Balanced F → (limit : Option ℕ) (input : List ℕ) (MayAllocate : Type 0) {T : Type 0} (DecodesTo : Meaning → T → Type 0) (e : DecodeError) →
+    IsAnswer F limit MayAllocate DecodesTo input (Err e) → (e ≡ Memory → ⊥) → (e ≡ LimitExceeded → ⊥) → (m : Meaning) → Takes (F.read input) m [] → ⊥
+refused_untaken F f b limit input MayAllocate DecodesTo e a no_memory no_limit m t =
+    let w = f.read_word input [] m t.0 t.1 in
+    let backed = (subst (λ r. Settles 0 0 r) t.1 (b.settles input)).0 in
+    by_charge F limit input MayAllocate DecodesTo e a no_memory no_limit m t.0 (charge_after_steps limit 0 t.0) w backed refl
+
+-- all bytes are a word of the old shape for a value, and none of the new shape that means the same
+pub shown : (s : Setting) (new old : Shape) (limit : Option ℕ) (word : List ℕ) (value : Value) (taken : ℕ) → Decoded (format_of old s) limit word (λ m. IsImage old m value) taken → taken ≡ length word →
+    (Takes ((format_of new s).read word) (meaning value) [] → ⊥) → Shows (format_of new s) (format_of old s) word
+shown s new old limit word value taken d h unread = record {
+  meaning = meaning value;
+  is_word = subst (λ z. Takes ((format_of old s).read word) z []) d.is_decoded.1 (decoded_all (format_of old s) (format_of-lawful old s) limit word (λ m. IsImage old m value) taken d h);
+  is_unread = unread;
+}
+
+-- the new shape takes fewer bytes, or means something else
+pub other_read : (s : Setting) (shape : Shape) (limit : Option ℕ) (word : List ℕ) (value read : Value) (taken : ℕ) → Decoded (format_of shape s) limit word (λ m. IsImage shape m read) taken →
+    (taken ≡ length word → alike value read ≡ true → ⊥) → Takes ((format_of shape s).read word) (meaning value) [] → ⊥
+other_read s shape limit word value read taken d h t =
+    let p = whole_decoded (format_of shape s) (format_of-lawful shape s) limit word (λ m. IsImage shape m read) taken d (meaning value) t in
+    h p.0 (alike_complete value read (p.1 ∙ d.is_decoded.1))
+
+-- or it reads nothing
+pub refused : (s : Setting) (shape : Shape) (limit : Option ℕ) (word : List ℕ) (value : Value) (e : DecodeError) → IsAnswer (format_of shape s) limit (TakesMemory shape) (IsImage shape) word (Err e) →
+    (e ≡ Memory → ⊥) → (e ≡ LimitExceeded → ⊥) → Takes ((format_of shape s).read word) (meaning value) [] → ⊥
+refused s shape limit word value e a no_memory no_limit t =
+    refused_untaken (format_of shape s) (format_of-lawful shape s) (format_of-balanced shape s) limit word (TakesMemory shape) (IsImage shape) e a no_memory no_limit (meaning value) t
+
+pub told : (taken len : ℕ) (is_alike result : Bool) → result ≡ not ((taken == len) && is_alike) → result ≡ true → taken ≡ len → is_alike ≡ true → ⊥
+told taken len is_alike result e h whole same =
+    let k : (taken == len) ≡ true = eq-eqb taken len whole in
+    let q : not ((taken == len) && is_alike) ≡ false = rw (k, same) refl in
+    let f : false ≡ true = sym q ∙ sym e ∙ h in
+    absurd (cc)

@@ -1,0 +1,16 @@
+use Rattle.std.proofs.Common.{length}
+use Rattle.shape_difference.specs.Alike.{alike}
+use Rattle.shape_difference.proofs.Shown.{other_read, refused, told}
+use Rattle.shape_difference.proofs.difference.is_unread.Goals as goal
+
+pub returns-in-Ok : goal.returns-in-Ok
+returns-in-Ok g c =
+    λ h.
+    other_read g.C.Config.setting c.args.shape.now g.C.Config.bound c.args.word.now c.args.value.now c.in-Ok.read c.in-Ok.taken c.in-Ok.ensures.answer.word
+    (λ e a. told c.in-Ok.taken (length c.args.word.now) (alike c.args.value.now c.in-Ok.read) c.is_other.result c.is_other.ensures h e a)
+
+pub returns-in-Err : goal.returns-in-Err
+returns-in-Err g c =
+    λ h.
+    let q = c.is_fault.ensures h in
+    refused g.C.Config.setting c.args.shape.now g.C.Config.bound c.args.word.now c.args.value.now c.in-Err.error c.in-Err.ensures.answer q.0 q.1

@@ -1,0 +1,3 @@
+pub mod Alike
+pub mod Differing
+pub mod Listed

@@ -1,0 +1,231 @@
+//! Words of shapes, as samples. Nothing is promised of them: what is told of a sample is tested by decoding it.
+ghost use Rattle.std.specs.Prelude.{◌≤◌};
+
+use bincode::config::{Config, Endianness, IntEncoding};
+use bincode::shape::Shape;
+use bincode_evolution::evolution::has_words;
+use std::alloc::AllocError;
+
+/// The numbers that are tried: around the ends of the widths, and of the spellings of variable length.
+const NUMBERS: [u128; 13] = [
+    1,
+    255,
+    0,
+    250,
+    251,
+    256,
+    65_535,
+    65_536,
+    4_294_967_295,
+    4_294_967_296,
+    18_446_744_073_709_551_615,
+    18_446_744_073_709_551_616,
+    340_282_366_920_938_463_463_374_607_431_768_211_455,
+];
+
+/// How many samples of a shape differ.
+pub(crate) const TRIALS: usize = 13;
+
+/// Of longer arrays no sample is made.
+const LONGEST: usize = 4096;
+
+/// Appends the lowest digits of a number, as many as the width in bytes.
+fn put_digits<C: Config>(
+    bytes: &mut Vec<u8>,
+    number: u128,
+    width: usize,
+    config: C,
+) -> Result<(), AllocError>
+    requires { width ≤ 16 }
+{
+    match config.endianness() {
+        Endianness::Little => {
+            for digit in &number.to_le_bytes()[..width] {
+                bytes.push(*digit)?;
+            }
+        }
+        Endianness::Big => {
+            for digit in &number.to_be_bytes()[16 - width..] {
+                bytes.push(*digit)?;
+            }
+        }
+    }
+    Ok(())
+}
+
+/// Appends a number of this width, in its shortest spelling.
+pub(crate) fn put_number<C: Config>(
+    bytes: &mut Vec<u8>,
+    number: u128,
+    width: usize,
+    config: C,
+) -> Result<(), AllocError>
+    requires { width ≤ 16 }
+{
+    match config.int_encoding() {
+        IntEncoding::Fixed => put_digits(bytes, number, width, config),
+        IntEncoding::Variable => put_varint(bytes, number, config),
+    }
+}
+
+/// Appends a number in its shortest spelling of variable length.
+fn put_varint<C: Config>(bytes: &mut Vec<u8>, number: u128, config: C) -> Result<(), AllocError> {
+    if number <= 250 {
+        bytes.push(number as u8)?;
+        return Ok(());
+    }
+    let (tag, width) = if number < 65_536 {
+        (251, 2)
+    } else if number < 4_294_967_296 {
+        (252, 4)
+    } else if number < 18_446_744_073_709_551_616 {
+        (253, 8)
+    } else {
+        (254, 16)
+    };
+    bytes.push(tag)?;
+    put_digits(bytes, number, width, config)
+}
+
+/// Appends a tag. In variable length it can also be spelled in more bytes than are needed.
+pub(crate) fn put_tag<C: Config>(
+    bytes: &mut Vec<u8>,
+    tag: usize,
+    is_long: bool,
+    config: C,
+) -> Result<(), AllocError> {
+    match config.int_encoding() {
+        IntEncoding::Variable if is_long => {
+            bytes.push(252)?;
+            put_digits(bytes, tag as u128, 4, config)
+        }
+        _ => put_number(bytes, tag as u128, 4, config),
+    }
+}
+
+/// Appends the sample number of this trial, cut to the width.
+fn put_sample_number<C: Config>(
+    bytes: &mut Vec<u8>,
+    trial: usize,
+    width: usize,
+    config: C,
+) -> Result<(), AllocError>
+    requires { width ≤ 16 }
+{
+    let number = NUMBERS[trial % NUMBERS.len()];
+    let cut = match width {
+        1 => number % 256,
+        2 => number % 65_536,
+        4 => number % 4_294_967_296,
+        8 => number % 18_446_744_073_709_551_616,
+        _ => number,
+    };
+    if width == 1 {
+        put_digits(bytes, cut, 1, config)
+    } else {
+        put_number(bytes, cut, width, config)
+    }
+}
+
+/// Appends a sample of the shape: of the numbers, the lengths and the variants the one of this trial.
+#[cycle(sample)]
+pub(crate) fn put_sample<C: Config>(
+    bytes: &mut Vec<u8>,
+    shape: &Shape,
+    trial: usize,
+    config: C,
+) -> Result<(), AllocError> {
+    match shape {
+        Shape::Unit => Ok(()),
+        Shape::Bool => {
+            bytes.push((trial % 2) as u8)?;
+            Ok(())
+        }
+        Shape::Char => {
+            bytes.push(b'a')?;
+            Ok(())
+        }
+        Shape::Text => put_text(bytes, trial % 2, config),
+        Shape::U8 | Shape::I8 => put_sample_number(bytes, trial, 1, config),
+        Shape::U16 | Shape::I16 => put_sample_number(bytes, trial, 2, config),
+        Shape::U32 | Shape::I32 => put_sample_number(bytes, trial, 4, config),
+        Shape::U64 | Shape::I64 | Shape::Usize | Shape::Isize => {
+            put_sample_number(bytes, trial, 8, config)
+        }
+        Shape::U128 | Shape::I128 => put_sample_number(bytes, trial, 16, config),
+        Shape::Seq { claim: _, element } => {
+            let len = if has_words(element) { trial % 4 } else { 0 };
+            put_number(bytes, len as u128, 8, config)?;
+            put_repeated(bytes, element, len, config)
+        }
+        Shape::Array {
+            len,
+            claim: _,
+            element,
+        } => put_repeated(bytes, element, *len, config),
+        Shape::Tuple(parts) => put_each(bytes, parts, config),
+        Shape::Optional(part) => {
+            if trial % 2 == 0 && has_words(part) {
+                bytes.push(1)?;
+                put_sample(bytes, part, 0, config)
+            } else {
+                bytes.push(0)?;
+                Ok(())
+            }
+        }
+        Shape::Choice(parts) => put_variant(bytes, parts, trial, config),
+    }
+}
+
+/// Appends a text of so many bytes.
+fn put_text<C: Config>(bytes: &mut Vec<u8>, len: usize, config: C) -> Result<(), AllocError> {
+    put_number(bytes, len as u128, 8, config)?;
+    for _ in 0..len {
+        bytes.push(b'a')?;
+    }
+    Ok(())
+}
+
+/// Appends so many equal samples of the element.
+#[cycle(sample)]
+pub(crate) fn put_repeated<C: Config>(
+    bytes: &mut Vec<u8>,
+    element: &Shape,
+    len: usize,
+    config: C,
+) -> Result<(), AllocError> {
+    for _ in 0..len.min(LONGEST) {
+        put_sample(bytes, element, 0, config)?;
+    }
+    Ok(())
+}
+
+/// Appends a sample of each part.
+#[cycle(sample)]
+pub(crate) fn put_each<C: Config>(
+    bytes: &mut Vec<u8>,
+    parts: &[Shape],
+    config: C,
+) -> Result<(), AllocError> {
+    for part in parts {
+        put_sample(bytes, part, 0, config)?;
+    }
+    Ok(())
+}
+
+/// Appends a variant that has words: the first, and in every other trial by a long tag, or the one of the trial.
+#[cycle(sample)]
+fn put_variant<C: Config>(
+    bytes: &mut Vec<u8>,
+    parts: &[Shape],
+    trial: usize,
+    config: C,
+) -> Result<(), AllocError> {
+    for tag in 0..parts.len() {
+        if has_words(&parts[tag]) && tag >= trial / 2 {
+            put_tag(bytes, tag, trial % 2 == 1, config)?;
+            return put_sample(bytes, &parts[tag], 0, config);
+        }
+    }
+    Ok(())
+}
