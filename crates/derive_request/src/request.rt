@@ -40,30 +40,14 @@ const ABOUT: &str =
 
 /// The program's command line.
 fn command<'a>(alloc: Global) -> Result<Command<'a>, AllocError> {
-    let mut args = Vec::new(alloc);
-    add_args(alloc, &mut args)?;
-    bare_command(alloc).args(args)
-}
-
-/// The command line without its arguments.
-fn bare_command<'a>(alloc: Global) -> Command<'a> {
     Command::new(alloc, "derive")
         .version("1.0.0")
         .about(ABOUT)
         .after_help(STATUSES)
-}
-
-/// Adds the options, and the argument.
-fn add_args<'a>(alloc: Global, args: &mut Vec<Arg<'a>>) -> Result<(), AllocError> {
-    add(args, check_arg(alloc)?)?;
-    add(args, print_arg(alloc))?;
-    add(args, crate_arg(alloc))?;
-    add(args, files_arg(alloc))
-}
-
-/// Adds an argument.
-fn add<'a>(args: &mut Vec<Arg<'a>>, arg: Arg<'a>) -> Result<(), AllocError> {
-    Ok(args.push(arg)?)
+        .arg(check_arg(alloc)?)?
+        .arg(print_arg(alloc))?
+        .arg(crate_arg(alloc))?
+        .arg(files_arg(alloc))
 }
 
 /// The option `--check`.
