@@ -525,6 +525,37 @@ def of_pointers():
         refused(family, f"{of_type}, limit of {7 + claim}", f"type {of_type}", of_bytes(1, 1, 97), {"limit": 7 + claim}, name="LimitExceeded")
 
 
+def of_examples():
+    """The examples of section 12 that the family `worked` does not have, and its nested list under each limit around the two that matter."""
+    family = "examples"
+    written(family, "40_000i32", "i32", 40000, of_bytes(252, 128, 56, 1, 0))
+    written(family, "40_000i32, big", "i32", 40000, of_bytes(252, 0, 1, 56, 128), BIG)
+    read(family, "-2 as i16", "i16", of_bytes(3), -2)
+    read(family, "-1 as NonZeroI16", "type NonZeroI16", of_bytes(1), -1)
+    refused(family, "0 as NonZeroI16", "type NonZeroI16", of_bytes(0), name="NonZeroTypeIsZero", non_zero_type="I16")
+    refused(family, "128 as char", "char", of_bytes(128), {"limit": 0}, name="InvalidCharEncoding", bytes=[128, 0, 0, 0])
+    read(family, "A under 1", "char", of_bytes(65), "A", {"limit": 1})
+    refused(family, "a surrogate under 2", "char", of_bytes(237, 160, 128), {"limit": 2}, name="LimitExceeded")
+    refused(family, "a surrogate under 3", "char", of_bytes(237, 160, 128), {"limit": 3}, name="InvalidCharEncoding", bytes=[237, 160, 128, 0])
+    refused(family, "2 as bool", "bool", of_bytes(2), name="InvalidBooleanValue", byte=2)
+    refused(family, "2 as Option<u8>", "u8? = Option<u8>", of_bytes(2), name="UnexpectedVariant", found=2, min=0, max=1)
+    refused(family, "a cut list of lists under 55", "[[u8]] = Vec<Vec<u8>>", of_bytes(2, 1, 9, 1), {"limit": 55}, name="LimitExceeded")
+    refused(family, "a cut list of lists under 56", "[[u8]] = Vec<Vec<u8>>", of_bytes(2, 1, 9, 1), {"limit": 56}, name="UnexpectedEnd")
+    refused(family, "[u16; 2] under 3", "[u16; 2] = [u16; 2]", of_bytes(5, 6), {"limit": 3}, name="LimitExceeded")
+    read(family, "[u16; 2] under 4", "[u16; 2] = [u16; 2]", of_bytes(5, 6), [5, 6], {"limit": 4})
+    read(family, "1 and 5 in a set", "type BTreeSet<u8>", of_bytes(3, 5, 5, 1), [1, 5])
+    read(family, "one path", "type BTreeSet<PathBuf>", of_bytes(2, 1, 97, 2, 97, 47), ["a"])
+    read(family, "the value of a path", "type BTreeMap<PathBuf, u8>", of_bytes(2, 2, 97, 47, 1, 1, 97, 2), [["a/", 2]])
+    refused(family, "no octets under 4", "[u8; 4] = Ipv4Addr", b"", {"limit": 4}, name="UnexpectedEnd")
+    read(family, "a map with random keys", "type HashMap<u8, u8>", of_bytes(2, 1, 10, 1, 20), [[1, 20]])
+    read(family, "a set with random keys", "type HashSet<u8>", of_bytes(2, 4, 4), [4])
+    written(family, "U+1F600", "text", "\U0001f600", of_bytes(4, 240, 159, 152, 128))
+    for limit in range(28, 32):
+        refused(family, f"the nested list under {limit}", "[[u8]] = Vec<Vec<u8>>", of_bytes(1, 2, 7, 8), {"limit": limit}, name="LimitExceeded")
+    read(family, "the nested list under 32", "[[u8]] = Vec<Vec<u8>>", of_bytes(1, 2, 7, 8), [[7, 8]], {"limit": 32})
+    written(family, "the record of README", "(u32, text, [u16]) = (u32, String, Vec<u16>)", [300, "ab", [5, 6]], of_bytes(251, 44, 1, 2, 97, 98, 2, 5, 6))
+
+
 # What a container claims for an element, as section 8 has it, by shapes with types that have them, and by types alone.
 CLAIMS = {
     "u8 = u8": 1, "u16 = u16": 2, "u32 = u32": 4, "u64 = u64": 8, "u128 = u128": 16, "usize = usize": 8, "i8 = i8": 1, "i16 = i16": 2, "i32 = i32": 4,
@@ -561,7 +592,7 @@ def main():
     with open(PATH, encoding="utf-8") as file:
         worked = [one for one in json.load(file) if one["family"] == "worked"]
     for make in (of_unsigned, of_signed, of_first_bytes, of_spellings, of_ends, of_limits, of_scalars, of_choices, of_wholes, of_lists, of_texts, of_short_slices,
-                 of_unfit, of_not_zero, of_durations, of_c_strings, of_maps, of_addresses, of_pointers, of_claims):
+                 of_unfit, of_not_zero, of_durations, of_c_strings, of_maps, of_addresses, of_pointers, of_claims, of_examples):
         make()
     lines = [json.dumps(one, ensure_ascii=False, separators=(",", ":")) for one in worked + rows]
     with open(PATH, "w", encoding="utf-8") as file:
