@@ -3,8 +3,8 @@
 
     conformance/make_rows.py           rewrites conformance/rows.json
 
-The rows of the family `worked` stand in that file alone, and are kept as they are: they were found by hand and compared with the original
-crate. The others are written here with their answers: words are put together by the rules of sections 3 to 5, and least limits, faults and
+The rows of the family `worked` are those of the tables in crates/conformance; here they stand in that file alone, and are kept as they are. The
+others are written here with their answers: words are put together by the rules of sections 3 to 5, and least limits, faults and
 their fields stand as literals or follow from a sum. Nothing here reads a word: that is what check.py and the library do.
 """
 import json, os
