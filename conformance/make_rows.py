@@ -3,8 +3,8 @@
 
     conformance/make_rows.py           rewrites conformance/rows.json
 
-The rows of the family `worked` stand in that file alone, and are kept as they are: they were found by hand and compared with the original
-crate. The others are written here with their answers: words are put together by the rules of sections 3 to 5, and least limits, faults and
+The rows of the family `worked` are those of the tables in crates/conformance; here they stand in that file alone, and are kept as they are. The
+others are written here with their answers: words are put together by the rules of sections 3 to 5, and least limits, faults and
 their fields stand as literals or follow from a sum. Nothing here reads a word: that is what check.py and the library do.
 """
 import json, os
@@ -525,11 +525,74 @@ def of_pointers():
         refused(family, f"{of_type}, limit of {7 + claim}", f"type {of_type}", of_bytes(1, 1, 97), {"limit": 7 + claim}, name="LimitExceeded")
 
 
+def of_examples():
+    """The examples of section 12 that the family `worked` does not have, and its nested list under each limit around the two that matter."""
+    family = "examples"
+    written(family, "40_000i32", "i32", 40000, of_bytes(252, 128, 56, 1, 0))
+    written(family, "40_000i32, big", "i32", 40000, of_bytes(252, 0, 1, 56, 128), BIG)
+    read(family, "-2 as i16", "i16", of_bytes(3), -2)
+    read(family, "-1 as NonZeroI16", "type NonZeroI16", of_bytes(1), -1)
+    refused(family, "0 as NonZeroI16", "type NonZeroI16", of_bytes(0), name="NonZeroTypeIsZero", non_zero_type="I16")
+    refused(family, "128 as char", "char", of_bytes(128), {"limit": 0}, name="InvalidCharEncoding", bytes=[128, 0, 0, 0])
+    read(family, "A under 1", "char", of_bytes(65), "A", {"limit": 1})
+    refused(family, "a surrogate under 2", "char", of_bytes(237, 160, 128), {"limit": 2}, name="LimitExceeded")
+    refused(family, "a surrogate under 3", "char", of_bytes(237, 160, 128), {"limit": 3}, name="InvalidCharEncoding", bytes=[237, 160, 128, 0])
+    refused(family, "2 as bool", "bool", of_bytes(2), name="InvalidBooleanValue", byte=2)
+    refused(family, "2 as Option<u8>", "u8? = Option<u8>", of_bytes(2), name="UnexpectedVariant", found=2, min=0, max=1)
+    refused(family, "a cut list of lists under 55", "[[u8]] = Vec<Vec<u8>>", of_bytes(2, 1, 9, 1), {"limit": 55}, name="LimitExceeded")
+    refused(family, "a cut list of lists under 56", "[[u8]] = Vec<Vec<u8>>", of_bytes(2, 1, 9, 1), {"limit": 56}, name="UnexpectedEnd")
+    refused(family, "[u16; 2] under 3", "[u16; 2] = [u16; 2]", of_bytes(5, 6), {"limit": 3}, name="LimitExceeded")
+    read(family, "[u16; 2] under 4", "[u16; 2] = [u16; 2]", of_bytes(5, 6), [5, 6], {"limit": 4})
+    read(family, "1 and 5 in a set", "type BTreeSet<u8>", of_bytes(3, 5, 5, 1), [1, 5])
+    read(family, "one path", "type BTreeSet<PathBuf>", of_bytes(2, 1, 97, 2, 97, 47), ["a"])
+    read(family, "the value of a path", "type BTreeMap<PathBuf, u8>", of_bytes(2, 2, 97, 47, 1, 1, 97, 2), [["a/", 2]])
+    refused(family, "no octets under 4", "[u8; 4] = Ipv4Addr", b"", {"limit": 4}, name="UnexpectedEnd")
+    read(family, "a map with random keys", "type HashMap<u8, u8>", of_bytes(2, 1, 10, 1, 20), [[1, 20]])
+    read(family, "a set with random keys", "type HashSet<u8>", of_bytes(2, 4, 4), [4])
+    written(family, "U+1F600", "text", "\U0001f600", of_bytes(4, 240, 159, 152, 128))
+    for limit in range(28, 32):
+        refused(family, f"the nested list under {limit}", "[[u8]] = Vec<Vec<u8>>", of_bytes(1, 2, 7, 8), {"limit": limit}, name="LimitExceeded")
+    read(family, "the nested list under 32", "[[u8]] = Vec<Vec<u8>>", of_bytes(1, 2, 7, 8), [[7, 8]], {"limit": 32})
+    written(family, "the record of README", "(u32, text, [u16]) = (u32, String, Vec<u16>)", [300, "ab", [5, 6]], of_bytes(251, 44, 1, 2, 97, 98, 2, 5, 6))
+
+
+# What a container claims for an element, as section 8 has it, by shapes with types that have them, and by types alone.
+CLAIMS = {
+    "u8 = u8": 1, "u16 = u16": 2, "u32 = u32": 4, "u64 = u64": 8, "u128 = u128": 16, "usize = usize": 8, "i8 = i8": 1, "i16 = i16": 2, "i32 = i32": 4,
+    "i64 = i64": 8, "i128 = i128": 16, "isize = isize": 8, "bool = bool": 1, "char = char": 4, "text = String": 24, "[u8] = Vec<u8>": 24, "[u64] = VecDeque<u64>": 24,
+    "(u8,) = (u8,)": 1, "(u8, u16, u32, u64) = (u8, u16, u32, u64)": 15, "[u64; 3] = [u64; 3]": 24, "[(u8, u64); 5] = [(u8, u64); 5]": 45, "u64? = Option<u64>": 9,
+    "()? = Option<()>": 2, "u64? = Option<Wrapping<u64>>": 9, "text?? = Option<Option<String>>": 26, "u64|u16 = Result<u64, u16>": 12, "u16|u64 = Result<u16, u64>": 12,
+    "()|() = Result<(), ()>": 5, "()|u64|u64 = Bound<u64>": 12, "()|()|() = Bound<()>": 5, "(u64, u64) = Range<u64>": 16, "(u8, u8) = RangeInclusive<u8>": 2,
+    "[u8; 4] = Ipv4Addr": 4, "[u8; 16] = Ipv6Addr": 16, "[u8; 4]|[u8; 16] = IpAddr": 20, "([u8; 4], u16) = SocketAddrV4": 6, "([u8; 16], u16)|u8": 22,
+    "NonZeroU8": 1, "NonZeroU16": 2, "NonZeroU32": 4, "NonZeroU64": 8, "NonZeroU128": 16, "NonZeroUsize": 8, "NonZeroI8": 1, "NonZeroI16": 2, "NonZeroI32": 4,
+    "NonZeroI64": 8, "NonZeroI128": 16, "NonZeroIsize": 8, "Duration": 12, "SocketAddrV6": 18, "SocketAddr": 22, "Reverse<u64>": 8, "Cell<u64>": 8, "RefCell<u64>": 8,
+    "Cow<u16>": 2, "Box<u16>": 8, "Rc<u16>": 8, "Arc<u16>": 8, "&str": 16, "&[u8]": 16, "BoxedStr": 16, "RcStr": 16, "BoxedSlice<u8>": 16, "RcSlice<u8>": 16,
+    "BinaryHeap<u8>": 24, "BTreeSet<u8>": 24, "BTreeMap<u8, u8>": 24, "HashSet<u8>": 24, "HashMap<u8, u8>": 24, "CString": 24, "PathBuf": 24, "CowStr": 24,
+    "CowSlice<u8>": 24, "Option<Box<u64>>": 9, "(Box<u64>, &str)": 24, "[RcStr; 3]": 48,
+}
+# The same of elements without bytes, which are all there.
+CLAIMS_WITHOUT_BYTES = {"() = ()": 1, "() = PhantomData<u64>": 1, "((), ()) = ((), ())": 2, "[(); 5] = [(); 5]": 5, "[u64; 0] = [u64; 0]": 1, "[[(); 2]; 3]": 6}
+
+
+def of_claims():
+    """A list of one element, of which nothing is there: the room for it is reserved before it is looked for."""
+    for element, claim in CLAIMS.items():
+        shape, _, of_type = element.partition(" = ")
+        shaped = f"[{shape}] = Vec<{of_type}>" if of_type else f"[{shape}]" if "|" in shape else f"type Vec<{shape}>"
+        refused("claims", f"{of_type or shape}, {claim}", shaped, of_bytes(1), {"limit": 8 + claim}, name="UnexpectedEnd")
+        refused("claims", f"{of_type or shape}, {claim - 1}", shaped, of_bytes(1), {"limit": 7 + claim}, name="LimitExceeded")
+    for element, claim in CLAIMS_WITHOUT_BYTES.items():
+        shape, _, of_type = element.partition(" = ")
+        shaped = f"[{shape}] = Vec<{of_type}>" if of_type else f"[{shape}]"
+        read("claims", f"{of_type or shape}, {claim}", shaped, of_bytes(1), {"count": 1}, {"limit": 8 + claim})
+        refused("claims", f"{of_type or shape}, {claim - 1}", shaped, of_bytes(1), {"limit": 7 + claim}, name="LimitExceeded")
+
+
 def main():
     with open(PATH, encoding="utf-8") as file:
         worked = [one for one in json.load(file) if one["family"] == "worked"]
     for make in (of_unsigned, of_signed, of_first_bytes, of_spellings, of_ends, of_limits, of_scalars, of_choices, of_wholes, of_lists, of_texts, of_short_slices,
-                 of_unfit, of_not_zero, of_durations, of_c_strings, of_maps, of_addresses, of_pointers):
+                 of_unfit, of_not_zero, of_durations, of_c_strings, of_maps, of_addresses, of_pointers, of_claims, of_examples):
         make()
     lines = [json.dumps(one, ensure_ascii=False, separators=(",", ":")) for one in worked + rows]
     with open(PATH, "w", encoding="utf-8") as file:
