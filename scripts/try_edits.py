@@ -3,7 +3,7 @@
 
 usage: try_edits.py [CRATE ..]
 
-scripts/edits/ has a folder of edits for each crate between the calls and the bytes, and by default all of them are tried. It copies
+scripts/edits/ has a folder of edits for each crate of which the gate leaves some or all out, and by default all of them are tried. It copies
 what git tracks here to a folder of its own, puts the edits where `rt must-fail` looks for them, and runs that: each crate is
 proved once, and then each edit is tried. It changes nothing here, and ends with the status of `rt must-fail`, which is 0 if all
 are refused.
