@@ -8,3 +8,4 @@ pub mod Stepping
 pub mod Inhabited
 pub mod Kinded
 pub mod Widths
+pub mod Exact

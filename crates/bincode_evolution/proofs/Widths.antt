@@ -24,30 +24,30 @@ use Rattle.bincode_evolution.specs.Rules.{keeps, unsigned_width, signed_width, i
 use Rattle.bincode_evolution.proofs.Taking.{taken_in_turn, takes_in_turn, takes_map, taken_map, takes_stepped, taken_stepped, none_failed}
 
 -- one number takes all of an input, and another none
-record Short (new old : Format ℕ) : Type 0 where
-  input : List ℕ
-  number : ℕ
-  taken : Takes (old.read input) number []
-  untaken : (n : ℕ) → Takes (new.read input) n [] → ⊥
+pub record Short (new old : Format ℕ) : Type 0 where
+  pub input : List ℕ
+  pub number : ℕ
+  pub taken : Takes (old.read input) number []
+  pub untaken : (n : ℕ) → Takes (new.read input) n [] → ⊥
 
-zeros : ℕ → List ℕ
+pub zeros : ℕ → List ℕ
 zeros zero = []
 zeros (suc n) = 0 ∷ zeros n
 
-length-zeros : (n : ℕ) → length (zeros n) ≡ n
+pub length-zeros : (n : ℕ) → length (zeros n) ≡ n
 unfolding zeros
 length-zeros zero = refl
 length-zeros (suc n) = ap suc (length-zeros n)
 
 -- so many bytes
-takes_all : (n : ℕ) (input : List ℕ) → length input ≡ n → (bytes : List ℕ) × Takes ((fixed_bytes n).read input) bytes []
+pub takes_all : (n : ℕ) (input : List ℕ) → length input ≡ n → (bytes : List ℕ) × Takes ((fixed_bytes n).read input) bytes []
 unfolding fixed_bytes
 takes_all n input h =
     let e : nat_lt (length input) n ≡ false = le-ltb (length input) n (omega (arith, h)) in
     let d : drop n input ≡ [] = drop_all n input (omega (arith, h)) in
     (take n input, ([], rw e (ap (λ z. Took (take n input) z []) d)))
 
-untaken_all : (n : ℕ) (input bytes : List ℕ) → (length input ≡ n → ⊥) → Takes ((fixed_bytes n).read input) bytes [] → ⊥
+pub untaken_all : (n : ℕ) (input bytes : List ℕ) → (length input ≡ n → ⊥) → Takes ((fixed_bytes n).read input) bytes [] → ⊥
 unfolding fixed_bytes
 untaken_all n input bytes h t =
     elim (cases_lt (length input) n) [
@@ -61,7 +61,7 @@ untaken_all n input bytes h t =
           h (omega (arith, long, l, m))
     ]
 
-digits_short : (order : Endianness) (width other : ℕ) → (width ≡ other → ⊥) → Short (digits order other) (digits order width)
+pub digits_short : (order : Endianness) (width other : ℕ) → (width ≡ other → ⊥) → Short (digits order other) (digits order width)
 unfolding digits written_as
 digits_short order width other h =
     let w = takes_all width (zeros width) (length-zeros width) in
@@ -75,13 +75,13 @@ digits_short order width other h =
     }
 
 -- a first byte
-takes_byte : (b : ℕ) (rest : List ℕ) → Takes (byte.read (b ∷ rest)) b rest
+pub takes_byte : (b : ℕ) (rest : List ℕ) → Takes (byte.read (b ∷ rest)) b rest
 unfolding byte fixed_bytes
 takes_byte b rest =
     let e : nat_lt (length (b ∷ rest)) 1 ≡ false = le-ltb (length (b ∷ rest)) 1 (omega arith) in
     takes_map first_of (fixed_bytes 1) (b ∷ rest) (b ∷ []) rest ([], rw e refl)
 
-taken_byte : (b : ℕ) (rest : List ℕ) (m : ℕ) (remaining : List ℕ) → Takes (byte.read (b ∷ rest)) m remaining → m ≡ b
+pub taken_byte : (b : ℕ) (rest : List ℕ) (m : ℕ) (remaining : List ℕ) → Takes (byte.read (b ∷ rest)) m remaining → m ≡ b
 unfolding byte fixed_bytes
 taken_byte b rest m remaining t =
     let e : nat_lt (length (b ∷ rest)) 1 ≡ false = le-ltb (length (b ∷ rest)) 1 (omega arith) in
@@ -135,7 +135,7 @@ by_tag tags old new order width narrower (Eight e) (Eight f) h = absurd (omega (
 by_tag tags old new order width narrower (Eight e) (Sixteen f) h = absurd (omega (arith, e, f, h))
 by_tag tags old new order width narrower (Sixteen e) (Sixteen f) h = absurd (omega (arith, e, f, h))
 
-number_short : (tags : ℕ → IntegerType) (old new : IntegerType) (order : Endianness) (width other : ℕ) (encoding : IntEncoding) → IsWidth width → IsWidth other → keeps encoding width (Some other) ≡ false →
+pub number_short : (tags : ℕ → IntegerType) (old new : IntegerType) (order : Endianness) (width other : ℕ) (encoding : IntEncoding) → IsWidth width → IsWidth other → keeps encoding width (Some other) ≡ false →
     Short (number_by tags new order other encoding) (number_by tags old order width encoding)
 number_short tags old new order width other Fixed w v h = digits_short order width other (eqb-false width other h)
 number_short tags old new order width other Variable w v h = by_tag tags old new order width other w v (leb-false width other h)

@@ -1,4 +1,5 @@
 -- What kind of value a shape stands for.
+use Rattle.std.specs.Prelude.{Bool, true, false}
 use Rattle.bincode_spec.specs.Meaning.{Meaning, Truth, Number, Character, Bytes, Nothing, Then, Choice}
 use Rattle.bincode_shape.specs.declared.shape.Shape as shapes
 use Rattle.bincode_shape.specs.declared.shape.Shape.{Shape}
@@ -33,3 +34,12 @@ kind_of (shapes.Tuple' v parts) = OfRow
 kind_of (shapes.Optional' p part) = OfChoice
 kind_of (shapes.Choice' v parts) = OfChoice
 kind_of _ = OfNumber
+
+-- a shape that holds no other
+abbrev pub is_scalar : Shape → Bool
+is_scalar (shapes.Seq' claim p element) = false
+is_scalar (shapes.Array' len claim p element) = false
+is_scalar (shapes.Tuple' v parts) = false
+is_scalar (shapes.Optional' p part) = false
+is_scalar (shapes.Choice' v parts) = false
+is_scalar _ = true
