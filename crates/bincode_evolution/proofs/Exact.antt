@@ -1,8 +1,7 @@
 -- Between shapes without parts the rules are exact.
-use Rattle.std.specs.Prelude.{◌≡◌, ℕ, zero, suc, ◌+◌, ◌*◌, ◌^◌, ◌<◌, ◌≤◌, ◌⊎◌, Bool, true, false, ◌&&◌, ◌==◌, if◌then◌else◌, nat_lt, nat_le, ℤ, pos, negsuc, List, [], ◌∷◌, length, reverse, Option, Some, None, refl}
-use Rattle.std.specs.Bool.{beq}
+use Rattle.std.specs.Prelude.{◌≡◌, ℕ, ◌*◌, ◌^◌, ◌⊎◌, Bool, true, false, nat_lt, ℤ, pos, List, [], ◌∷◌, length, Some, refl}
 use Rattle.std.proofs.Common.{◌∙◌, ap, sym, subst, inl, inr, arith}
-use Rattle.std.proofs.lemmas.Bool.{eqb-true, eqb-false, cases_eq, and_cases}
+use Rattle.std.proofs.lemmas.Bool.{cases_eq}
 use Rattle.bincode_base.specs.declared.config.Endianness.{Endianness}
 use Rattle.bincode_base.specs.declared.config.Endianness.TheVariants.{Little, Big}
 use Rattle.bincode_base.specs.declared.config.IntEncoding.{IntEncoding}
@@ -13,7 +12,7 @@ use Rattle.bincode_base.specs.Setting.{Setting}
 use Rattle.bincode_spec.specs.Charge.{Charge}
 use Rattle.bincode_spec.specs.Fault.{InvalidInteger}
 use Rattle.bincode_spec.specs.Format.{Format, pure, fixed_bytes, step, ◌>>=◌, written_as, map_format}
-use Rattle.bincode_spec.specs.Integers.{digits, first_of, byte, Itself, Before, TooWide, first_byte, number_after, varint, number_by, unsigned_integer, integer_by, signed_integer, unsigned_byte, signed_byte, unsigned_tag, signed_tag, IsWidth, Two, Four, Eight, Sixteen}
+use Rattle.bincode_spec.specs.Integers.{digits, first_of, byte, Itself, TooWide, first_byte, number_after, varint, number_by, unsigned_integer, integer_by, signed_integer, unsigned_byte, signed_byte, unsigned_tag, signed_tag, IsWidth, Two, Four, Eight, Sixteen}
 use Rattle.bincode_spec.specs.Meaning.{Meaning, Number}
 use Rattle.bincode_spec.specs.Number.{number_of, unzigzag, from_two_complement}
 use Rattle.bincode_spec.specs.Words.{natural_number, integer_number}
@@ -21,10 +20,10 @@ use Rattle.bincode_shape.specs.declared.shape.Shape as shapes
 use Rattle.bincode_shape.specs.declared.shape.Shape.{Shape}
 use Rattle.bincode_shape.specs.Shapes.{format_of}
 use Rattle.bincode_evolution.specs.Reading.{Takes, Differs}
-use Rattle.bincode_evolution.specs.Kinds.{Kind, OfTruth, OfNumber, OfCharacter, OfText, OfRow, OfChoice, kind_of, is_scalar}
+use Rattle.bincode_evolution.specs.Kinds.{Kind, OfNumber, kind_of, is_scalar}
 use Rattle.bincode_evolution.specs.Rules.{has_words, is_u8, is_i8, unsigned_width, signed_width, keeps, is_read}
 use Rattle.bincode_evolution.proofs.Kinded.{kinds-differ}
-use Rattle.bincode_evolution.proofs.Taking.{TakesBoth, taken_in_turn, takes_in_turn, takes_pure, taken_pure, takes_map, taken_map, takes_stepped, taken_stepped, none_failed}
+use Rattle.bincode_evolution.proofs.Taking.{taken_in_turn, takes_in_turn, takes_pure, taken_pure, takes_map, taken_map, takes_stepped, taken_stepped, none_failed}
 use Rattle.bincode_evolution.proofs.Widths.{Short, number_short, digits_short, untaken_all, takes_all, takes_byte, taken_byte, zeros, length-zeros}
 
 -- the format reads numbers, each of which means an integer
@@ -196,13 +195,13 @@ unsigned_signed : (F G : Format Meaning) (old new : IntegerType) (order : Endian
     Numeric F (number_by unsigned_tag old order width encoding) pos → Numeric G (number_by signed_tag new order other encoding) (integer_by other encoding) → Differs G F
 unsigned_signed F G old new order width other Fixed w v a b =
     elim (cases_eq width other) [
-      inl e ↦
+      | inl e ↦
           let top = full order width w in
           let same : Takes ((digits order other).read top.input) top.number [] = subst (λ z. Takes ((digits order z).read top.input) top.number []) e top.taken in
           by_value F G (digits order width) (digits order other) pos (from_two_complement other) a b top.input top.number top.taken
           (λ k t. same_number (digits order other) top.input top.number k same t)
           (subst (λ z. pos top.number ≡ from_two_complement z top.number → ⊥) e (high_apart width top.number top.is_high))
-    | inr apart ↦ by_rest F G (digits order width) (digits order other) pos (from_two_complement other) a b (digits_short order width other apart)
+      | inr apart ↦ by_rest F G (digits order width) (digits order other) pos (from_two_complement other) a b (digits_short order width other apart)
     ]
 unsigned_signed F G old new order width other Variable w v a b =
     by_value F G (varint unsigned_tag old order width) (varint signed_tag new order other) pos unzigzag a b (1 ∷ []) 1 (one_taken unsigned_tag old order width) (λ k t. one_only signed_tag new order other k t) (λ e. absurd (cc))
@@ -211,13 +210,13 @@ signed_unsigned : (F G : Format Meaning) (old new : IntegerType) (order : Endian
     Numeric F (number_by signed_tag old order width encoding) (integer_by width encoding) → Numeric G (number_by unsigned_tag new order other encoding) pos → Differs G F
 signed_unsigned F G old new order width other Fixed w v a b =
     elim (cases_eq width other) [
-      inl e ↦
+      | inl e ↦
           let top = full order width w in
           let same : Takes ((digits order other).read top.input) top.number [] = subst (λ z. Takes ((digits order z).read top.input) top.number []) e top.taken in
           by_value F G (digits order width) (digits order other) (from_two_complement width) pos a b top.input top.number top.taken
           (λ k t. same_number (digits order other) top.input top.number k same t)
           (λ q. high_apart width top.number top.is_high (sym q))
-    | inr apart ↦ by_rest F G (digits order width) (digits order other) (from_two_complement width) pos a b (digits_short order width other apart)
+      | inr apart ↦ by_rest F G (digits order width) (digits order other) (from_two_complement width) pos a b (digits_short order width other apart)
     ]
 signed_unsigned F G old new order width other Variable w v a b =
     by_value F G (varint signed_tag old order width) (varint unsigned_tag new order other) unzigzag pos a b (1 ∷ []) 1 (one_taken signed_tag old order width) (λ k t. one_only unsigned_tag new order other k t) (λ e. absurd (cc))
@@ -314,10 +313,10 @@ others_exact old new s i j apart h = absurd (apart refl)
 pub scalars-exact : (old new : Shape) (s : Setting) → is_scalar old ≡ true → is_scalar new ≡ true → is_read s.encoding old new ≡ false → Differs (format_of new s) (format_of old s)
 scalars-exact old new s i j h =
     elim (number_or (kind_of old)) [
-      inl e ↦
+      | inl e ↦
           elim (number_or (kind_of new)) [
-            inl f ↦ numbers_exact old new s (number_shape old s e) (number_shape new s f) h
-          | inr apart ↦ kinds-differ old new s (scalar_words old i) (λ q. apart (sym q ∙ e))
+            | inl f ↦ numbers_exact old new s (number_shape old s e) (number_shape new s f) h
+            | inr apart ↦ kinds-differ old new s (scalar_words old i) (λ q. apart (sym q ∙ e))
           ]
-    | inr apart ↦ others_exact old new s i j apart h
+      | inr apart ↦ others_exact old new s i j apart h
     ]
