@@ -20,9 +20,9 @@ use Rattle.bincode_shape.specs.declared.shape.Shape as shapes
 use Rattle.bincode_shape.specs.declared.shape.Shape.{Shape}
 use Rattle.bincode_shape.specs.Shapes.{format_of}
 use Rattle.bincode_evolution.specs.Reading.{Takes, Differs}
-use Rattle.bincode_evolution.specs.Kinds.{Kind, OfNumber, kind_of, is_scalar}
+use Rattle.bincode_evolution.specs.Kinds.{Kind, OfNumber, kind_of, is_scalar, IsClear, of_scalars, of_kinds, of_lengths}
 use Rattle.bincode_evolution.specs.Rules.{has_words, is_u8, is_i8, unsigned_width, signed_width, keeps, is_read}
-use Rattle.bincode_evolution.proofs.Kinded.{kinds-differ}
+use Rattle.bincode_evolution.proofs.Kinded.{kinds-differ, lengths-differ}
 use Rattle.bincode_evolution.proofs.Taking.{taken_in_turn, takes_in_turn, takes_pure, taken_pure, takes_map, taken_map, takes_stepped, taken_stepped, none_failed}
 use Rattle.bincode_evolution.proofs.Widths.{Short, number_short, digits_short, untaken_all, takes_all, takes_byte, taken_byte, zeros, length-zeros}
 
@@ -310,7 +310,7 @@ others_exact (shapes.Choice' v parts) new s i j apart h = absurd (cc)
 others_exact old new s i j apart h = absurd (apart refl)
 
 -- Of two shapes without parts, where the rules say no, an input shows it.
-pub scalars-exact : (old new : Shape) (s : Setting) → is_scalar old ≡ true → is_scalar new ≡ true → is_read s.encoding old new ≡ false → Differs (format_of new s) (format_of old s)
+scalars-exact : (old new : Shape) (s : Setting) → is_scalar old ≡ true → is_scalar new ≡ true → is_read s.encoding old new ≡ false → Differs (format_of new s) (format_of old s)
 scalars-exact old new s i j h =
     elim (number_or (kind_of old)) [
       | inl e ↦
@@ -320,3 +320,9 @@ scalars-exact old new s i j h =
           ]
       | inr apart ↦ others_exact old new s i j apart h
     ]
+
+-- Where the case is clear and the rules say no, an input shows it.
+pub clear-exact : (old new : Shape) (s : Setting) → IsClear new old → is_read s.encoding old new ≡ false → Differs (format_of new s) (format_of old s)
+clear-exact old new s (of_scalars i j) h = scalars-exact old new s i j h
+clear-exact old new s (of_kinds w apart) h = kinds-differ old new s w apart
+clear-exact old new s (of_lengths n k w e f apart) h = lengths-differ old new s n k w e f apart

@@ -1,7 +1,7 @@
 -- The words of a shape mean values of its kind, so that a shape of another kind reads none of them.
-use Rattle.std.specs.Prelude.{◌≡◌, ℕ, ◌-◌, Bool, true, false, ◌==◌, if◌then◌else◌, pos, List, [], ◌∷◌, ◌++◌, Option, Some, None, Ok, Err, refl}
+use Rattle.std.specs.Prelude.{length, zero, suc, ◌≡◌, ℕ, ◌-◌, Bool, true, false, ◌==◌, if◌then◌else◌, pos, List, [], ◌∷◌, ◌++◌, Option, Some, None, Ok, Err, refl}
 use Rattle.std.specs.Str.{is_utf8}
-use Rattle.std.proofs.Common.{◌∙◌, ap, sym}
+use Rattle.std.proofs.Common.{◌∙◌, ap, sym, subst}
 use Rattle.bincode_base.specs.Setting.{Setting}
 use Rattle.bincode_spec.specs.Charge.{Charge, Reserve}
 use Rattle.bincode_spec.specs.Fault.{Fault, Allowed, EmptyEnum, UnexpectedVariant, InvalidChar}
@@ -10,13 +10,14 @@ use Rattle.bincode_spec.specs.Integers.{byte, unsigned_byte}
 use Rattle.bincode_spec.specs.Meaning.{Meaning, Number, Nothing, Then, Choice, list_meaning}
 use Rattle.bincode_spec.specs.Words.{natural_number, nothing, first_and, tuple, truth_of, Variant, variant_tags, allowed_tags, if_picked, part, after_tag, tag_then_part, tag, len, array, length_prefixed, text_of, char_width, char_of, rest_of_char, after_char, four_bytes}
 use Rattle.bincode_shape.specs.declared.shape.Shape as shapes
-use Rattle.bincode_shape.specs.declared.shape.Shape.{Shape, Row_of-Shape, end_of-Shape, more_of-Shape}
+use Rattle.bincode_shape.specs.declared.shape.Shape.{Shape, Row_of-Shape, end_of-Shape, more_of-Shape, items-the_row-Shape}
 use Rattle.bincode_shape.specs.ShapeLaws.{format_of-lawful}
 use Rattle.bincode_shape.specs.Shapes.{format_of, formats_of, share, at, byte_tag, optional, one_of, numbered}
-use Rattle.bincode_evolution.specs.Kinds.{Kind, OfTruth, OfNumber, OfCharacter, OfText, OfRow, OfChoice, kind, kind_of}
+use Rattle.bincode_evolution.specs.Kinds.{Kind, OfTruth, OfNumber, OfCharacter, OfText, OfRow, OfChoice, kind, kind_of, row_length}
 use Rattle.bincode_evolution.specs.Reading.{Takes, Differs}
 use Rattle.bincode_evolution.specs.Rules.{has_words}
 use Rattle.bincode_evolution.proofs.Inhabited.{shape_word}
+use Rattle.bincode_evolution.proofs.Parts.{taken_element, taken_array}
 use Rattle.bincode_evolution.proofs.Taking.{taken_in_turn, taken_pure, taken_map, none_failed}
 
 -- each meaning that is read has this kind
@@ -129,4 +130,67 @@ kinds-differ old new s h apart =
       taken = t;
       untaken = λ u.
           apart (sym ((shape_kinded old s).is_kind (w.word ++ []) w.meaning [] t) ∙ (shape_kinded new s).is_kind (w.word ++ []) w.meaning [] u);
+    }
+
+-- how many parts a meaning has
+parts_in : Meaning → ℕ
+parts_in (Then m others) = suc (parts_in others)
+parts_in m = 0
+
+-- each meaning that is read has so many parts
+record Counted (n : ℕ) (F : Format Meaning) : Type 0 where
+  is_count : (input : List ℕ) (m : Meaning) (remaining : List ℕ) → Takes (F.read input) m remaining → parts_in m ≡ n
+
+elements_counted : (n claim : ℕ) (F : Format Meaning) (input : List ℕ) (ms : List Meaning) (remaining : List ℕ) → Takes ((elements n claim F).read input) ms remaining → parts_in (list_meaning ms) ≡ n
+unfolding parts_in
+elements_counted zero claim F input ms remaining t = ap (λ z. parts_in (list_meaning z)) (taken_pure [] input ms remaining t).0
+elements_counted (suc n) claim F input ms remaining t =
+    let p = taken_element n claim F input ms remaining t in
+    ap (λ z. parts_in (list_meaning z)) p.meaning_is ∙ ap suc (elements_counted n claim F p.middle p.others remaining p.second)
+
+array_counted : (n claim : ℕ) (F : Format Meaning) → Counted n (array n claim F)
+array_counted n claim F = record {
+  is_count = λ input m remaining t. let p = taken_array n claim F input m remaining t in ap parts_in p.1 ∙ elements_counted n claim F input p.0 remaining p.2;
+}
+
+nothing_counted : Counted 0 nothing
+unfolding nothing parts_in
+nothing_counted = record { is_count = λ input m remaining t. ap parts_in (taken_pure Nothing input m remaining t).0 }
+
+first_and_counted : (n : ℕ) (F others : Format Meaning) → Counted n others → Counted (suc n) (first_and F others)
+unfolding first_and parts_in
+first_and_counted n F others h = record {
+  is_count = λ input m remaining t.
+      let p = taken_in_turn F (λ a. map_format (Then a) others) input m remaining t in
+      let q = taken_map (Then p.head) others p.middle m remaining p.second in
+      ap parts_in q.1 ∙ ap suc (h.is_count p.middle q.0 remaining q.2);
+}
+
+tuple_counted : (Fs : List (Format Meaning)) → Counted (length Fs) (tuple Fs)
+tuple_counted [] = nothing_counted
+tuple_counted (F ∷ Fs) = first_and_counted (length Fs) F (tuple Fs) (tuple_counted Fs)
+
+length-at : {m : _} → (parts : Row_of-Shape m) (s : Setting) → length (at s (formats_of parts)) ≡ length (items-the_row-Shape _ parts)
+length-at end_of-Shape s = refl
+length-at (more_of-Shape part others) s = ap suc (length-at others s)
+
+row_counted : (shape : Shape) (s : Setting) (n : ℕ) → row_length shape ≡ Some n → Counted n (format_of shape s)
+row_counted shapes.Unit s n e = let k : 0 ≡ n = cc in subst (λ z. Counted z nothing) k nothing_counted
+row_counted (shapes.Array' len claim p element) s n e = let k : len ≡ n = cc in subst (λ z. Counted z (array len (share claim) (format_of element s))) k (array_counted len (share claim) (format_of element s))
+row_counted (shapes.Tuple' v parts) s n e =
+    let k : length (items-the_row-Shape _ parts) ≡ n = cc in
+    subst (λ z. Counted z (tuple (at s (formats_of parts)))) (length-at parts s ∙ k) (tuple_counted (at s (formats_of parts)))
+row_counted shape s n e = absurd (cc)
+
+-- Of two rows of different lengths the new one reads no word of the old one with the same meaning.
+pub lengths-differ : (old new : Shape) (s : Setting) (n k : ℕ) → has_words old ≡ true → row_length old ≡ Some n → row_length new ≡ Some k → (n ≡ k → ⊥) → Differs (format_of new s) (format_of old s)
+lengths-differ old new s n k h e f apart =
+    let w = shape_word old s h in
+    let t : Takes ((format_of old s).read (w.word ++ [])) w.meaning [] = (w.steps, (format_of-lawful old s).word_read w.word [] w.meaning w.steps w.is_word) in
+    record {
+      input = w.word ++ [];
+      remaining = [];
+      meaning = w.meaning;
+      taken = t;
+      untaken = λ u. apart (sym ((row_counted old s n e).is_count (w.word ++ []) w.meaning [] t) ∙ (row_counted new s k f).is_count (w.word ++ []) w.meaning [] u);
     }

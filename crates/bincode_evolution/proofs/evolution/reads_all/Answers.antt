@@ -1,6 +1,6 @@
 use Rattle.std.proofs.Common.{sym, ◌∙◌, ap}
 use Rattle.bincode_evolution.specs.Rules.{is_read}
-use Rattle.bincode_evolution.proofs.Exact.{scalars-exact}
+use Rattle.bincode_evolution.proofs.Exact.{clear-exact}
 use Rattle.bincode_evolution.proofs.Sound.{shape_reads}
 use Rattle.bincode_evolution.proofs.evolution.reads_all.Goals as goal
 
@@ -12,6 +12,6 @@ returns-clause-reads g c =
 
 pub returns-clause-exact : goal.returns-clause-exact
 returns-clause-exact g c =
-    λ h i j.
-    scalars-exact c.args.old.now c.args.new.now g.C.Config.setting i j
+    λ h clear.
+    clear-exact c.args.old.now c.args.new.now g.C.Config.setting clear
     (sym (c.compare.ensures.is_read ∙ ap (λ e. is_read e c.args.old.now c.args.new.now) c.int_encoding.ensures) ∙ h)
