@@ -170,7 +170,7 @@ one_of_word s (variant ∷ others) h =
     let w = h (allowed_tags (variant_tags (variant ∷ others))) in chosen_word tag s (variant ∷ others) w.0 (spells_tag s w.0) w.1
 
 mutual
-  shape_word : (shape : Shape) (s : Setting) → has_words shape ≡ true → HasWord (format_of shape s)
+  pub shape_word : (shape : Shape) (s : Setting) → has_words shape ≡ true → HasWord (format_of shape s)
   shape_word shapes.Unit s h = spelled nothing Nothing spells_nothing
   shape_word shapes.Bool s h = allowed_word _ _ _ (format_of-lawful shapes.Bool s) (truth-allows true)
   shape_word shapes.Char s h = allowed_word _ _ _ (format_of-lawful shapes.Char s) (character-allows 0 refl)

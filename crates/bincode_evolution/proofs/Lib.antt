@@ -6,3 +6,6 @@ pub mod Sound
 pub mod Types
 pub mod Stepping
 pub mod Inhabited
+pub mod Kinded
+pub mod Widths
+pub mod Exact

@@ -30,15 +30,15 @@ EachSound s (part ∷ parts) [] = ⊥
 EachSound s (part ∷ parts) (F ∷ Fs) = Sound s part (F s) × EachSound s parts Fs
 
 -- elements, one by one
-record OneMore (n share : ℕ) (F : Format Meaning) (input : List ℕ) (ms : List Meaning) (remaining : List ℕ) : Type 0 where
-  m : Meaning
-  others : List Meaning
-  middle : List ℕ
-  meaning_is : ms ≡ m ∷ others
-  first : Takes (F.read input) m middle
-  second : Takes ((elements n share F).read middle) others remaining
+pub record OneMore (n share : ℕ) (F : Format Meaning) (input : List ℕ) (ms : List Meaning) (remaining : List ℕ) : Type 0 where
+  pub m : Meaning
+  pub others : List Meaning
+  pub middle : List ℕ
+  pub meaning_is : ms ≡ m ∷ others
+  pub first : Takes (F.read input) m middle
+  pub second : Takes ((elements n share F).read middle) others remaining
 
-taken_element : (n share : ℕ) (F : Format Meaning) (input : List ℕ) (ms : List Meaning) (remaining : List ℕ) → Takes ((elements (suc n) share F).read input) ms remaining →
+pub taken_element : (n share : ℕ) (F : Format Meaning) (input : List ℕ) (ms : List Meaning) (remaining : List ℕ) → Takes ((elements (suc n) share F).read input) ms remaining →
     OneMore n share F input ms remaining
 taken_element n share F input ms remaining t =
     let p = taken_in_turn (without_count F) (λ a. map_format (λ others. a ∷ others) (elements n share F)) input ms remaining (taken_stepped (Release share) _ input ms remaining t) in
@@ -56,7 +56,7 @@ takes_element n share F input m middle others remaining t u =
       second = takes_map (λ rest. m ∷ rest) (elements n share F) middle others remaining u;
     }))
 
-taken_array : (n share : ℕ) (F : Format Meaning) (input : List ℕ) (m : Meaning) (remaining : List ℕ) → Takes ((array n share F).read input) m remaining →
+pub taken_array : (n share : ℕ) (F : Format Meaning) (input : List ℕ) (m : Meaning) (remaining : List ℕ) → Takes ((array n share F).read input) m remaining →
     (ms : List Meaning) × (m ≡ list_meaning ms) × Takes ((elements n share F).read input) ms remaining
 taken_array n share F input m remaining t =
     let p = taken_map list_meaning (step (Reserve n share) >>= λ _. elements n share F) input m remaining t in

@@ -1,3 +1,4 @@
 pub mod Reading
 pub mod Rules
+pub mod Kinds
 pub mod Lists

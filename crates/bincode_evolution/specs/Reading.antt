@@ -17,3 +17,11 @@ pub record HasWord {A : Type 0} (F : Format A) : Type 0 where
   pub meaning : A
   pub steps : List Step
   pub is_word : F.Word word meaning steps
+
+-- an input that the old format reads, and that the new one does not read with the same meaning and as many bytes
+pub record Differs {A : Type 0} (new old : Format A) : Type 0 where
+  pub input : List ℕ
+  pub remaining : List ℕ
+  pub meaning : A
+  pub taken : Takes (old.read input) meaning remaining
+  pub untaken : Takes (new.read input) meaning remaining → ⊥

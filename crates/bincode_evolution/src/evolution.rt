@@ -1,8 +1,9 @@
 //! Whether a new shape reads all that an old one wrote, and whether a shape has values at all.
-ghost use Rattle.std.specs.Prelude.{◌≡◌, ◌↔◌, IfSome, IsTrue};
+ghost use Rattle.std.specs.Prelude.{◌≡◌, ◌↔◌, false, IfSome, IsTrue};
 ghost use Rattle.bincode_base.specs.Setting.{Setting};
 ghost use Rattle.bincode_shape.specs.Shapes.{format_of};
-ghost use Rattle.bincode_evolution.specs.Reading.{HasWord, ReadsAll};
+ghost use Rattle.bincode_evolution.specs.Kinds.{IsClear};
+ghost use Rattle.bincode_evolution.specs.Reading.{Differs, HasWord, ReadsAll};
 ghost use Rattle.bincode_evolution.specs.Rules.{has_words, is_read};
 
 use crate::compare::compare;
@@ -15,9 +16,19 @@ use std::alloc::Global;
 /// Whether all words of the old shape are words of the new one, with the same meaning. Then a decoder without a limit
 /// reads by the new shape all that it reads by the old one: the same value, from as many bytes. Under a limit it may
 /// need a larger one, since a wider integer is charged by its width, and an element by its claim.
+///
+/// The shapes are compared part by part, and lengths before parts: each pair of places is visited once, so that the time
+/// grows with the size of the shapes, but where arrays stand against tuples in both. `false` says that some part is not
+/// read; of shapes without parts, of different kinds or of rows of different lengths it says that some word is not. A whole may still be read where its parts are not: with fixed
+/// integers and the lowest byte first, a tuple of `u32` and an option reads each word of a tuple of `u8` and an enum of
+/// one variant without bytes. `explain` of `shape_difference` looks for bytes that show a difference.
 pub fn reads_all<C: Config>(new: &Shape, old: &Shape, config: C) -> bool
     ensures by_rules { result ≡ is_read C.setting.encoding old.now new.now }
     ensures reads { IsTrue result → ReadsAll (format_of new.now C.setting) (format_of old.now C.setting) }
+    // Between shapes without parts, of different kinds and of rows of different lengths `false` is exact: an input
+    // shows it.
+    ensures exact { result ≡ false → IsClear new.now old.now
+        → Differs (format_of new.now C.setting) (format_of old.now C.setting) }
 {
     compare(new, old, config.int_encoding()).is_read
 }

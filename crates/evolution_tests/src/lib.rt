@@ -4,6 +4,8 @@
 #[cfg(test)]
 mod answers;
 #[cfg(test)]
+mod explained;
+#[cfg(test)]
 mod read;
 #[cfg(test)]
 mod types;

@@ -1,0 +1,60 @@
+-- What kind of value a shape stands for.
+use Rattle.std.specs.Prelude.{◌≡◌, ℕ, Bool, true, false, Option, Some, None, length}
+use Rattle.bincode_spec.specs.Meaning.{Meaning, Truth, Number, Character, Bytes, Nothing, Then, Choice}
+use Rattle.bincode_shape.specs.declared.shape.Shape as shapes
+use Rattle.bincode_shape.specs.declared.shape.Shape.{Shape, items-the_row-Shape}
+use Rattle.bincode_evolution.specs.Rules.{has_words}
+
+pub data Kind : Type 0 where
+  OfTruth : Kind
+  OfNumber : Kind
+  OfCharacter : Kind
+  OfText : Kind
+  OfRow : Kind
+  OfChoice : Kind
+
+-- the kind of a meaning
+abbrev pub kind : Meaning → Kind
+kind (Truth b) = OfTruth
+kind (Number z) = OfNumber
+kind (Character c) = OfCharacter
+kind (Bytes bytes) = OfText
+kind Nothing = OfRow
+kind (Then m others) = OfRow
+kind (Choice n m) = OfChoice
+
+-- the kind of what the words of a shape mean
+abbrev pub kind_of : Shape → Kind
+kind_of shapes.Unit = OfRow
+kind_of shapes.Bool = OfTruth
+kind_of shapes.Char = OfCharacter
+kind_of shapes.Text = OfText
+kind_of (shapes.Seq' claim p element) = OfRow
+kind_of (shapes.Array' len claim p element) = OfRow
+kind_of (shapes.Tuple' v parts) = OfRow
+kind_of (shapes.Optional' p part) = OfChoice
+kind_of (shapes.Choice' v parts) = OfChoice
+kind_of _ = OfNumber
+
+-- a shape that holds no other
+abbrev pub is_scalar : Shape → Bool
+is_scalar (shapes.Seq' claim p element) = false
+is_scalar (shapes.Array' len claim p element) = false
+is_scalar (shapes.Tuple' v parts) = false
+is_scalar (shapes.Optional' p part) = false
+is_scalar (shapes.Choice' v parts) = false
+is_scalar _ = true
+
+-- how many parts each value of the shape has, where that is always the same
+abbrev pub row_length : Shape → Option ℕ
+row_length shapes.Unit = Some 0
+row_length (shapes.Array' len claim p element) = Some len
+row_length (shapes.Tuple' v parts) = Some (length (items-the_row-Shape _ parts))
+row_length _ = None
+
+-- where a `false` of the rules is exact: for two shapes without parts; and, if the old one has words, for two that
+-- stand for values of different kinds, or for rows of different lengths
+pub data IsClear (new old : Shape) : Type 0 where
+  of_scalars : is_scalar old ≡ true → is_scalar new ≡ true → IsClear new old
+  of_kinds : has_words old ≡ true → (kind_of old ≡ kind_of new → ⊥) → IsClear new old
+  of_lengths : (old_length new_length : ℕ) → has_words old ≡ true → row_length old ≡ Some old_length → row_length new ≡ Some new_length → (old_length ≡ new_length → ⊥) → IsClear new old
