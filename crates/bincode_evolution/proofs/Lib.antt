@@ -8,4 +8,5 @@ pub mod Stepping
 pub mod Inhabited
 pub mod Kinded
 pub mod Widths
+pub mod Wholes
 pub mod Exact

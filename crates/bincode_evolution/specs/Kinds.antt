@@ -52,9 +52,20 @@ row_length (shapes.Array' len claim p element) = Some len
 row_length (shapes.Tuple' v parts) = Some (length (items-the_row-Shape _ parts))
 row_length _ = None
 
--- where a `false` of the rules is exact: for two shapes without parts; and, if the old one has words, for two that
--- stand for values of different kinds, or for rows of different lengths
-pub data IsClear (new old : Shape) : Type 0 where
-  of_scalars : is_scalar old ≡ true → is_scalar new ≡ true → IsClear new old
-  of_kinds : has_words old ≡ true → (kind_of old ≡ kind_of new → ⊥) → IsClear new old
-  of_lengths : (old_length new_length : ℕ) → has_words old ≡ true → row_length old ≡ Some old_length → row_length new ≡ Some new_length → (old_length ≡ new_length → ⊥) → IsClear new old
+-- the element of a list, and the part of an option
+abbrev pub element_of : Shape → Option Shape
+element_of (shapes.Seq' claim p element) = Some element
+element_of _ = None
+
+abbrev pub part_in : Shape → Option Shape
+part_in (shapes.Optional' p part) = Some part
+part_in _ = None
+
+-- where a `false` of the rules is exact: for two shapes without parts; if the old one has words, for two that stand for
+-- values of different kinds, or for rows of different lengths; and for lists and options of what is clear
+pub data IsClear : Shape → Shape → Type 0 where
+  of_scalars : {new old : Shape} → is_scalar old ≡ true → is_scalar new ≡ true → IsClear new old
+  of_kinds : {new old : Shape} → has_words old ≡ true → (kind_of old ≡ kind_of new → ⊥) → IsClear new old
+  of_lengths : {new old : Shape} (old_length new_length : ℕ) → has_words old ≡ true → row_length old ≡ Some old_length → row_length new ≡ Some new_length → (old_length ≡ new_length → ⊥) → IsClear new old
+  of_lists : {new old : Shape} (old_element new_element : Shape) → element_of old ≡ Some old_element → element_of new ≡ Some new_element → IsClear new_element old_element → IsClear new old
+  of_options : {new old : Shape} (old_part new_part : Shape) → part_in old ≡ Some old_part → part_in new ≡ Some new_part → IsClear new_part old_part → IsClear new old
