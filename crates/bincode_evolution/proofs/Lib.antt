@@ -9,4 +9,5 @@ pub mod Inhabited
 pub mod Kinded
 pub mod Widths
 pub mod Wholes
+pub mod Variants
 pub mod Exact

@@ -17,7 +17,7 @@ use Rattle.bincode_evolution.specs.Rules.{is_read}
 use Rattle.bincode_evolution.proofs.Taking.{TakesBoth, taken_in_turn, takes_in_turn, takes_pure, taken_pure, takes_map, taken_map}
 use Rattle.bincode_evolution.proofs.Parts.{taken_element, takes_element, taken_array, takes_array}
 
-same_taken : {A : Type 0} (r : Reading A) (m n : A) (remaining others : List ℕ) → Takes r m remaining → Takes r n others → (n ≡ m) × (others ≡ remaining)
+pub same_taken : {A : Type 0} (r : Reading A) (m n : A) (remaining others : List ℕ) → Takes r m remaining → Takes r n others → (n ≡ m) × (others ≡ remaining)
 same_taken r m n remaining others t u = let e = sym t.1 ∙ u.1 in (cc, cc)
 
 -- one element: its length, and what follows

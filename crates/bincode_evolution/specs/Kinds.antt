@@ -1,5 +1,5 @@
 -- What kind of value a shape stands for.
-use Rattle.std.specs.Prelude.{◌≡◌, ℕ, Bool, true, false, Option, Some, None, length}
+use Rattle.std.specs.Prelude.{◌≡◌, ℕ, zero, suc, Bool, true, false, List, [], ◌∷◌, Option, Some, None, length}
 use Rattle.bincode_spec.specs.Meaning.{Meaning, Truth, Number, Character, Bytes, Nothing, Then, Choice}
 use Rattle.bincode_shape.specs.declared.shape.Shape as shapes
 use Rattle.bincode_shape.specs.declared.shape.Shape.{Shape, items-the_row-Shape}
@@ -60,6 +60,20 @@ element_of _ = None
 abbrev pub part_in : Shape → Option Shape
 part_in (shapes.Optional' p part) = Some part
 part_in _ = None
+
+-- the variant of a tag
+abbrev pub nth : List Shape → ℕ → Option Shape
+nth [] n = None
+nth (shape ∷ others) zero = Some shape
+nth (shape ∷ others) (suc n) = nth others n
+
+abbrev pub variant_at : Shape → ℕ → Option Shape
+variant_at (shapes.Choice' v parts) n = nth (items-the_row-Shape _ parts) n
+variant_at _ n = None
+
+abbrev pub is_choice : Shape → Bool
+is_choice (shapes.Choice' v parts) = true
+is_choice _ = false
 
 -- where a `false` of the rules is exact: for two shapes without parts; if the old one has words, for two that stand for
 -- values of different kinds, or for rows of different lengths; and for lists and options of what is clear
