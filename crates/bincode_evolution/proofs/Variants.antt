@@ -1,11 +1,11 @@
 -- What shows that a variant is not read shows it of the enum.
-use Rattle.std.specs.Prelude.{◌≡◌, ℕ, zero, suc, ◌+◌, Bool, true, false, ◌==◌, List, [], ◌∷◌, ◌++◌, Option, Some, None, refl}
+use Rattle.std.specs.Prelude.{◌≡◌, ℕ, zero, suc, ◌+◌, true, List, [], ◌++◌, Some, None, refl}
 use Rattle.std.proofs.Common.{◌∙◌, ap, sym, subst, arith}
 use Rattle.std.proofs.lemmas.Bool.{ne_eqb}
 use Rattle.bincode_base.specs.declared.error.IntegerType.TheVariants as integers
 use Rattle.bincode_base.specs.Setting.{Setting}
 use Rattle.bincode_spec.specs.Fault.{Allowed, EmptyEnum, UnexpectedVariant}
-use Rattle.bincode_spec.specs.Format.{Format, fail, ◌>>=◌, map_format}
+use Rattle.bincode_spec.specs.Format.{fail, map_format}
 use Rattle.bincode_spec.specs.Integers.{Four}
 use Rattle.bincode_spec.specs.Meaning.{Meaning, Choice}
 use Rattle.bincode_spec.specs.Words.{Variant, variant_tags, allowed_tags, part, after_tag, tag_then_part, tag}

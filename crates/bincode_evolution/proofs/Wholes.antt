@@ -1,12 +1,12 @@
 -- What shows that a part is not read shows it of the whole.
-use Rattle.std.specs.Prelude.{◌≡◌, ℕ, zero, suc, ◌^◌, ◌<◌, Bool, true, false, ◌==◌, List, [], ◌∷◌, ◌++◌, Option, Some, None, refl}
+use Rattle.std.specs.Prelude.{◌≡◌, ℕ, ◌^◌, ◌<◌, List, [], ◌∷◌, ◌++◌, Some, refl}
 use Rattle.std.proofs.Common.{◌∙◌, ap, sym, subst, arith}
 use Rattle.bincode_base.specs.declared.error.IntegerType.TheVariants as integers
 use Rattle.bincode_base.specs.Setting.{Setting}
-use Rattle.bincode_spec.specs.Format.{Format, Reading, Took, pure, ◌>>=◌, map_format}
+use Rattle.bincode_spec.specs.Format.{Format, Reading, map_format}
 use Rattle.bincode_spec.specs.Integers.{unsigned_byte, spelling, Eight}
 use Rattle.bincode_spec.specs.Meaning.{Meaning, Nothing, Then, Choice, list_meaning}
-use Rattle.bincode_spec.specs.Words.{nothing, Variant, variant_tags, allowed_tags, part, after_tag, tag_then_part, len, array, list}
+use Rattle.bincode_spec.specs.Words.{after_tag, tag_then_part, len, array, list}
 use Rattle.bincode_lemmas.specs.IntegerLaws.{unsigned-lawful, written-unsigned, unsigned_byte-lawful, written-unsigned_byte}
 use Rattle.bincode_shape.specs.declared.shape.Shape as shapes
 use Rattle.bincode_shape.specs.declared.shape.Shape.{Shape}
@@ -14,7 +14,7 @@ use Rattle.bincode_shape.specs.Shapes.{format_of, share, byte_tag, optional}
 use Rattle.bincode_evolution.specs.Kinds.{element_of, part_in}
 use Rattle.bincode_evolution.specs.Reading.{Takes, Differs}
 use Rattle.bincode_evolution.specs.Rules.{is_read}
-use Rattle.bincode_evolution.proofs.Taking.{TakesBoth, taken_in_turn, takes_in_turn, takes_pure, taken_pure, takes_map, taken_map}
+use Rattle.bincode_evolution.proofs.Taking.{taken_in_turn, takes_in_turn, takes_pure, taken_pure, takes_map, taken_map}
 use Rattle.bincode_evolution.proofs.Parts.{taken_element, takes_element, taken_array, takes_array}
 
 pub same_taken : {A : Type 0} (r : Reading A) (m n : A) (remaining others : List ℕ) → Takes r m remaining → Takes r n others → (n ≡ m) × (others ≡ remaining)
