@@ -20,10 +20,13 @@ use Rattle.bincode_shape.specs.declared.shape.Shape as shapes
 use Rattle.bincode_shape.specs.declared.shape.Shape.{Shape}
 use Rattle.bincode_shape.specs.Shapes.{format_of}
 use Rattle.bincode_evolution.specs.Reading.{Takes, Differs}
-use Rattle.bincode_evolution.specs.Kinds.{Kind, OfNumber, kind_of, is_scalar, IsClear, of_scalars, of_kinds, of_lengths}
+use Rattle.bincode_evolution.specs.Kinds.{Kind, OfNumber, kind_of, is_scalar, IsClear, of_scalars, of_kinds, of_lengths, of_lists, of_options, of_variants, of_missing, variant_at, is_choice}
 use Rattle.bincode_evolution.specs.Rules.{has_words, is_u8, is_i8, unsigned_width, signed_width, keeps, is_read}
 use Rattle.bincode_evolution.proofs.Kinded.{kinds-differ, lengths-differ}
 use Rattle.bincode_evolution.proofs.Taking.{taken_in_turn, takes_in_turn, takes_pure, taken_pure, takes_map, taken_map, takes_stepped, taken_stepped, none_failed}
+use Rattle.bincode_evolution.proofs.Inhabited.{shape_word}
+use Rattle.bincode_evolution.proofs.Variants.{variant-differs, missing-differs}
+use Rattle.bincode_evolution.proofs.Wholes.{list_whole, option_whole}
 use Rattle.bincode_evolution.proofs.Widths.{Short, number_short, digits_short, untaken_all, takes_all, takes_byte, taken_byte, zeros, length-zeros}
 
 -- the format reads numbers, each of which means an integer
@@ -321,8 +324,16 @@ scalars-exact old new s i j h =
       | inr apart ↦ others_exact old new s i j apart h
     ]
 
+choice_since : (shape : Shape) (n : ℕ) (b : Shape) → variant_at shape n ≡ Some b → is_choice shape ≡ true
+choice_since (shapes.Choice' v parts) n b e = refl
+choice_since shape n b e = absurd (cc)
+
 -- Where the case is clear and the rules say no, an input shows it.
-pub clear-exact : (old new : Shape) (s : Setting) → IsClear new old → is_read s.encoding old new ≡ false → Differs (format_of new s) (format_of old s)
-clear-exact old new s (of_scalars i j) h = scalars-exact old new s i j h
-clear-exact old new s (of_kinds w apart) h = kinds-differ old new s w apart
-clear-exact old new s (of_lengths n k w e f apart) h = lengths-differ old new s n k w e f apart
+pub clear-exact : (s : Setting) (old new : Shape) → IsClear s.encoding new old → is_read s.encoding old new ≡ false → Differs (format_of new s) (format_of old s)
+clear-exact s old new (of_scalars i j) h = scalars-exact old new s i j h
+clear-exact s old new (of_kinds w apart) h = kinds-differ old new s w apart
+clear-exact s old new (of_lengths n k w e f apart) h = lengths-differ old new s n k w e f apart
+clear-exact s old new (of_lists a b e f clear) h = let w = list_whole s old new a b e f in w.differs (clear-exact s a b clear (sym w.rule_is ∙ h))
+clear-exact s old new (of_options a b e f clear) h = let w = option_whole s old new a b e f in w.differs (clear-exact s a b clear (sym w.rule_is ∙ h))
+clear-exact s old new (of_variants n a b e f unread clear) h = variant-differs old new s n a b e f (choice_since new n b f) (clear-exact s a b clear unread)
+clear-exact s old new (of_missing n a e i f w) h = missing-differs old new s n a e f i (shape_word a s w)

@@ -32,7 +32,7 @@ use Rattle.bincode_evolution.specs.Rules.{has_words, all_have_words, some_has_wo
 use Rattle.bincode_evolution.proofs.Sound.{shape_none}
 
 -- some bytes are a word with this meaning
-abbrev Spells : {A : Type 0} → Format A → A → Type 0
+abbrev pub Spells : {A : Type 0} → Format A → A → Type 0
 Spells F m = (word : List ℕ) × (steps : List Step) × F.Word word m steps
 
 spelled : {A : Type 0} (F : Format A) (m : A) → Spells F m → HasWord F
@@ -97,7 +97,7 @@ spells_number order Variable n =
     spells_written _ _ _ (spells_in_turn byte (λ first. number_after order (InvalidInteger integers.U32 (unsigned_tag first)) first (first_byte 4 first)) 252 n (spells_byte 252) (spells_digits order n))
 
 -- so each tag has a word
-spells_tag : (s : Setting) (n : ℕ) → Spells (tag s) n
+pub spells_tag : (s : Setting) (n : ℕ) → Spells (tag s) n
 unfolding unsigned_integer
 spells_tag s n = spells_stepped (Charge 4) (number_by unsigned_tag integers.U32 s.order 4 s.encoding) n (spells_number s.order s.encoding n)
 

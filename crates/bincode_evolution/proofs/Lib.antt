@@ -8,4 +8,6 @@ pub mod Stepping
 pub mod Inhabited
 pub mod Kinded
 pub mod Widths
+pub mod Wholes
+pub mod Variants
 pub mod Exact

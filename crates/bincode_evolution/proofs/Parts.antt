@@ -45,7 +45,7 @@ taken_element n share F input ms remaining t =
     let q = taken_map (λ others. p.head ∷ others) (elements n share F) p.middle ms remaining p.second in
     record { m = p.head; others = q.0; middle = p.middle; meaning_is = q.1; first = taken_without_count F input p.head p.middle p.first; second = q.2 }
 
-takes_element : (n share : ℕ) (F : Format Meaning) (input : List ℕ) (m : Meaning) (middle : List ℕ) (others : List Meaning) (remaining : List ℕ) → Takes (F.read input) m middle →
+pub takes_element : (n share : ℕ) (F : Format Meaning) (input : List ℕ) (m : Meaning) (middle : List ℕ) (others : List Meaning) (remaining : List ℕ) → Takes (F.read input) m middle →
     Takes ((elements n share F).read middle) others remaining → Takes ((elements (suc n) share F).read input) (m ∷ others) remaining
 takes_element n share F input m middle others remaining t u =
     takes_stepped (Release share) _ input (m ∷ others) remaining
@@ -62,7 +62,7 @@ taken_array n share F input m remaining t =
     let p = taken_map list_meaning (step (Reserve n share) >>= λ _. elements n share F) input m remaining t in
     (p.0, p.1, taken_stepped (Reserve n share) (elements n share F) input p.0 remaining p.2)
 
-takes_array : (n share : ℕ) (F : Format Meaning) (input : List ℕ) (ms : List Meaning) (remaining : List ℕ) → Takes ((elements n share F).read input) ms remaining →
+pub takes_array : (n share : ℕ) (F : Format Meaning) (input : List ℕ) (ms : List Meaning) (remaining : List ℕ) → Takes ((elements n share F).read input) ms remaining →
     Takes ((array n share F).read input) (list_meaning ms) remaining
 takes_array n share F input ms remaining t =
     takes_map list_meaning (step (Reserve n share) >>= λ _. elements n share F) input ms remaining (takes_stepped (Reserve n share) (elements n share F) input ms remaining t)

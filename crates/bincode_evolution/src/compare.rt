@@ -1,7 +1,8 @@
 //! The comparison of an old shape with a new one, part by part.
 ghost use Rattle.std.specs.Prelude.{◌≡◌, ◌||◌, ◌==◌, ◌<◌, not, true, length, drop};
 ghost use Rattle.std.specs.List.{list_all};
-ghost use Rattle.bincode_evolution.specs.Rules.{has_words, is_read, is_list, is_optional, is_option_of, has_parts, has_variants, each_read, reads_each, variants_read};
+ghost use Rattle.bincode_evolution.specs.Rules.{has_words, is_read, is_list, is_optional, is_option_of, has_parts};
+ghost use Rattle.bincode_evolution.specs.Rules.{has_variants, each_read, reads_each, variants_read};
 ghost use Rattle.bincode_evolution.specs.Lists.{any_has_words, part_of, listed, is_array_read, is_variant_read};
 
 use crate::scalars::{is_nothing, is_variable, keeps, signed_width, unsigned_width};

@@ -17,17 +17,17 @@ use std::alloc::Global;
 /// reads by the new shape all that it reads by the old one: the same value, from as many bytes. Under a limit it may
 /// need a larger one, since a wider integer is charged by its width, and an element by its claim.
 ///
-/// The shapes are compared part by part, and lengths before parts: each pair of places is visited once, so that the time
-/// grows with the size of the shapes, but where arrays stand against tuples in both. `false` says that some part is not
-/// read; of shapes without parts, of different kinds or of rows of different lengths it says that some word is not. A whole may still be read where its parts are not: with fixed
-/// integers and the lowest byte first, a tuple of `u32` and an option reads each word of a tuple of `u8` and an enum of
-/// one variant without bytes. `explain` of `shape_difference` looks for bytes that show a difference.
+/// The shapes are compared part by part, and lengths before parts: each pair of places is visited once, so that the
+/// time grows with the size of the shapes, but where arrays stand against tuples in both. `false` says that some part
+/// is not read. So some word is not, in the clear cases: scalars, values of different kinds, rows of different lengths,
+/// and lists, options and enums of such. Else a whole may still be read where its parts are not: with fixed integers
+/// and the lowest byte first, a tuple of `u32` and an option reads each word of a tuple of `u8` and an enum of one
+/// variant without bytes. `explain` of `shape_difference` looks for bytes that show a difference.
 pub fn reads_all<C: Config>(new: &Shape, old: &Shape, config: C) -> bool
     ensures by_rules { result ≡ is_read C.setting.encoding old.now new.now }
     ensures reads { IsTrue result → ReadsAll (format_of new.now C.setting) (format_of old.now C.setting) }
-    // Between shapes without parts, of different kinds and of rows of different lengths `false` is exact: an input
-    // shows it.
-    ensures exact { result ≡ false → IsClear new.now old.now
+    // Where the case is clear, `false` is exact, too: an input shows it.
+    ensures exact { result ≡ false → IsClear C.setting.encoding new.now old.now
         → Differs (format_of new.now C.setting) (format_of old.now C.setting) }
 {
     compare(new, old, config.int_encoding()).is_read
@@ -42,8 +42,8 @@ pub fn has_words(shape: &Shape) -> bool
     does_have_words(shape)
 }
 
-/// Whether all words of an old type are words of a new one, with the same meaning, by the shapes of the two. `None` if an
-/// allocation is refused.
+/// Whether all words of an old type are words of a new one, with the same meaning, by the shapes of the two. `None` if
+/// an allocation is refused.
 pub fn type_reads_all<New: Described, Old: Described, C: Config>(
     alloc: Global,
     config: C,

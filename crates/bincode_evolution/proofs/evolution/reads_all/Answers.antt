@@ -13,5 +13,5 @@ returns-clause-reads g c =
 pub returns-clause-exact : goal.returns-clause-exact
 returns-clause-exact g c =
     λ h clear.
-    clear-exact c.args.old.now c.args.new.now g.C.Config.setting clear
+    clear-exact g.C.Config.setting c.args.old.now c.args.new.now clear
     (sym (c.compare.ensures.is_read ∙ ap (λ e. is_read e c.args.old.now c.args.new.now) c.int_encoding.ensures) ∙ h)
