@@ -1,7 +1,9 @@
 //! Whether a new shape reads all that an old one wrote, and whether a shape has values at all.
-ghost use Rattle.std.specs.Prelude.{◌≡◌, ◌↔◌, false, IfSome, IsTrue};
+ghost use Rattle.std.specs.Prelude.{◌≡◌, ◌↔◌, false, IfSome, IsSome, IsTrue};
 ghost use Rattle.bincode_base.specs.Setting.{Setting};
+ghost use Rattle.bincode_shape.specs.Describing.{Describes};
 ghost use Rattle.bincode_shape.specs.Shapes.{format_of};
+ghost use Rattle.bincode_shape.specs.declared.shape.Shape.{Shape};
 ghost use Rattle.bincode_evolution.specs.Kinds.{IsClear};
 ghost use Rattle.bincode_evolution.specs.Reading.{Differs, HasWord, ReadsAll};
 ghost use Rattle.bincode_evolution.specs.Rules.{has_words, is_read};
@@ -48,8 +50,13 @@ pub fn type_reads_all<New: Described, Old: Described, C: Config>(
     alloc: Global,
     config: C,
 ) -> Option<bool>
-    ensures { IfSome result (λ answer. IsTrue answer
+    // The answer is that of the rules for shapes that describe the two.
+    ensures by_rules { IfSome result (λ answer. (new old : Shape) × Describes new New.words × Describes old Old.words
+        × (answer ≡ is_read C.setting.encoding old new)) }
+    ensures reads { IfSome result (λ answer. IsTrue answer
         → ReadsAll (New.words.format C.setting) (Old.words.format C.setting)) }
+    // There is an answer where neither shape takes memory.
+    ensures answers { (New.shape_grows → ⊥) → (Old.shape_grows → ⊥) → IsSome result }
 {
     let new = New::shape(alloc)?;
     let old = Old::shape(alloc)?;
