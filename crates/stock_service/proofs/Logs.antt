@@ -36,8 +36,8 @@ counts_stay counts (requests.Get name) (answers.Full n) is never = refl
 
 module _ (W : Words Request) (s : Setting) (limit : Option ℕ) (most : ℕ) (counts : Counts) (held : Option (List ℕ)) (request : Request) (answer : Answer) (is : IsAnswer counts request answer) where
   -- an answer that changes nothing
-  pub kept_answer : (broken : Bool) → broken ≡ false → (IsChange request answer → ⊥) → AnswersLogged W s limit most (counts, held, broken) request answer (counts, held, broken)
-  kept_answer broken whole never = record {
+  pub kept : (broken : Bool) → broken ≡ false → (IsChange request answer → ⊥) → AnswersLogged W s limit most (counts, held, broken) request answer (counts, held, broken)
+  kept broken whole never = record {
     is_answered = record { is_answer = is; is_after = sym (counts_stay counts request answer is never) };
     is_recorded = λ change. absurd (never change);
     is_kept = λ _. refl;
@@ -45,9 +45,9 @@ module _ (W : Words Request) (s : Setting) (limit : Option ℕ) (most : ℕ) (co
   }
 
   -- an answer that changes something
-  pub logged_answer : (new : Counts) (after : Option (List ℕ)) (broken now : Bool) → broken ≡ false → now ≡ false → new ≡ counts_after request answer counts → IsChange request answer → Records W s limit most request held after →
+  pub logged : (new : Counts) (after : Option (List ℕ)) (broken now : Bool) → broken ≡ false → now ≡ false → new ≡ counts_after request answer counts → IsChange request answer → Records W s limit most request held after →
       AnswersLogged W s limit most (counts, held, broken) request answer (new, after, now)
-  logged_answer new after broken now whole still is_after change records = record {
+  logged new after broken now whole still is_after change records = record {
     is_answered = record { is_answer = is; is_after = is_after };
     is_recorded = λ _. records;
     is_kept = λ never. absurd (never change);
@@ -55,10 +55,10 @@ module _ (W : Words Request) (s : Setting) (limit : Option ℕ) (most : ℕ) (co
   }
 
   -- a request that was not entered
-  pub entering_fails : (new : Counts) (after : Option (List ℕ)) (broken now : Bool) (why : LogFailure) → broken ≡ false → IsChange request answer → FailsEntering counts request why → new ≡ counts → after ≡ held → now ≡ breaks why →
+  pub failed : (new : Counts) (after : Option (List ℕ)) (broken now : Bool) (why : LogFailure) → broken ≡ false → IsChange request answer → FailsEntering counts request why → new ≡ counts → after ≡ held → now ≡ breaks why →
       FailsLogged (counts, held, broken) request why (new, after, now)
-  entering_fails new after broken now (failures.Length why) whole change fails same kept marks = ((answer, is, change), whole, rw (whole, same, kept, marks) refl)
-  entering_fails new after broken now (failures.Append why) whole change fails same kept marks = ((answer, is, change), (whole, rw (same, kept, marks) refl))
-  entering_fails new after broken now (failures.Sync why) whole change fails same kept marks = ((answer, is, change), (whole, rw (same, kept, marks) refl))
-  entering_fails new after broken now (failures.Memory why) whole change fails same kept marks = (fails, (whole, rw (same, kept, marks) refl))
-  entering_fails new after broken now failures.Broken whole change fails same kept marks = absurd fails
+  failed new after broken now (failures.Length why) whole change fails same stays marks = ((answer, is, change), whole, rw (whole, same, stays, marks) refl)
+  failed new after broken now (failures.Append why) whole change fails same stays marks = ((answer, is, change), (whole, rw (same, stays, marks) refl))
+  failed new after broken now (failures.Sync why) whole change fails same stays marks = ((answer, is, change), (whole, rw (same, stays, marks) refl))
+  failed new after broken now (failures.Memory why) whole change fails same stays marks = (fails, (whole, rw (same, stays, marks) refl))
+  failed new after broken now failures.Broken whole change fails same stays marks = absurd fails

@@ -27,7 +27,8 @@ const STATUSES: &str = "Status:
   4  an answer is no count: there are too few or too many, or it is a refusal
 
 Counts are whole numbers below 2^64. Requests and answers are frames:
-`stock ask 'add NAME 2' | stock serve | stock show` prints 2. With a log, each change is on the disk before it is answered.";
+`stock ask 'add NAME 2' | stock serve | stock show` prints 2.
+With a log, each change is on the disk before it is answered.";
 
 /// What a request is.
 const REQUEST: &str = "`add NAME COUNT`, `take NAME COUNT` or `get NAME`, each as one word";

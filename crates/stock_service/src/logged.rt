@@ -125,7 +125,7 @@ impl<L: Log> Service for Logged<L> {
 
     ghost refusal_reply = { Err };
 
-    #[tactic(auto, using(crate::proofs::Logs::kept_answer, crate::proofs::Logs::logged_answer, crate::proofs::Logs::entering_fails))]
+    #[tactic(auto, using(crate::proofs::Logs::kept, crate::proofs::Logs::logged, crate::proofs::Logs::failed))]
     fn answer(&mut self, request: Request) -> Result<Reply, LogFailure> {
         if self.end.is_some() {
             return Err(LogFailure::Broken);

@@ -79,8 +79,8 @@ fn replays_a_log_that_was_cut(rt: HostRuntime) {
     }
 }
 
-/// Whether a log that takes a byte a call, up to some call, leaves answered what it holds whole and synced. A request of
-/// n bytes takes n writes and a sync.
+/// Whether a log that takes a byte a call, up to some call, leaves answered what it holds whole and synced. A request
+/// of n bytes takes n writes and a sync.
 fn is_answered(alloc: Global, calls: usize) -> bool {
     let mut log = Vec::new(alloc);
     let mut held = Vec::new(alloc);

@@ -16,8 +16,8 @@ fn told(alloc: Global, error: RunError) -> Result<(u8, bool, String), AllocError
     Ok((error.status(), error.is_closed_output(), text))
 }
 
-/// The requests of which the first `calls` reads of 7 bytes give a part, or of which the first `calls` writes of 7 bytes
-/// take the answers.
+/// The requests of which the first `calls` reads of 7 bytes give a part, or of which the first `calls` writes of 7
+/// bytes take the answers.
 fn broken(
     alloc: Global,
     reads: usize,
