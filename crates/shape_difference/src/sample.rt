@@ -1,7 +1,6 @@
 //! Words of shapes, as samples. Nothing is promised of them: what is told of a sample is tested by decoding it.
-ghost use Rattle.std.specs.Prelude.{◌≤◌};
-
 use bincode::config::{Config, Endianness, IntEncoding};
+use bincode::encode_into_slice;
 use bincode::shape::Shape;
 use bincode_evolution::evolution::has_words;
 use std::alloc::AllocError;
@@ -29,78 +28,52 @@ pub(crate) const TRIALS: usize = 13;
 /// Of longer arrays no sample is made.
 const LONGEST: usize = 4096;
 
-/// Appends the lowest digits of a number, as many as the width in bytes.
-fn put_digits<C: Config>(
-    bytes: &mut Vec<u8>,
-    number: u128,
-    width: usize,
-    config: C,
-) -> Result<(), AllocError>
-    requires { width ≤ 16 }
-{
-    match config.endianness() {
-        Endianness::Little => {
-            for digit in &number.to_le_bytes()[..width] {
-                bytes.push(*digit)?;
-            }
-        }
-        Endianness::Big => {
-            for digit in &number.to_be_bytes()[16 - width..] {
-                bytes.push(*digit)?;
-            }
-        }
-    }
-    Ok(())
-}
-
-/// Appends a number of this width, in its shortest spelling.
+/// Appends the encoding of a number that is cut to this width in bytes.
 pub(crate) fn put_number<C: Config>(
     bytes: &mut Vec<u8>,
     number: u128,
     width: usize,
     config: C,
-) -> Result<(), AllocError>
-    requires { width ≤ 16 }
-{
-    match config.int_encoding() {
-        IntEncoding::Fixed => put_digits(bytes, number, width, config),
-        IntEncoding::Variable => put_varint(bytes, number, config),
-    }
-}
-
-/// Appends a number in its shortest spelling of variable length.
-fn put_varint<C: Config>(bytes: &mut Vec<u8>, number: u128, config: C) -> Result<(), AllocError> {
-    if number <= 250 {
-        bytes.push(number as u8)?;
-        return Ok(());
-    }
-    let (tag, width) = if number < 65_536 {
-        (251, 2)
-    } else if number < 4_294_967_296 {
-        (252, 4)
-    } else if number < 18_446_744_073_709_551_616 {
-        (253, 8)
-    } else {
-        (254, 16)
+) -> Result<(), AllocError> {
+    let mut word = [0u8; 17];
+    let written = match width {
+        1 => encode_into_slice((number % 256) as u8, &mut word, config),
+        2 => encode_into_slice((number % 65_536) as u16, &mut word, config),
+        4 => encode_into_slice((number % 4_294_967_296) as u32, &mut word, config),
+        8 => encode_into_slice(
+            (number % 18_446_744_073_709_551_616) as u64,
+            &mut word,
+            config,
+        ),
+        _ => encode_into_slice(number, &mut word, config),
     };
-    bytes.push(tag)?;
-    put_digits(bytes, number, width, config)
+    // No number has more than 17 bytes, so each is written.
+    for byte in word.iter().take(written.unwrap_or(0)) {
+        bytes.push(*byte)?;
+    }
+    Ok(())
 }
 
-/// Appends a tag. In variable length it can also be spelled in more bytes than are needed.
+/// Appends a tag, in variable length maybe in more bytes than are needed.
 pub(crate) fn put_tag<C: Config>(
     bytes: &mut Vec<u8>,
     tag: usize,
     is_long: bool,
     config: C,
 ) -> Result<(), AllocError> {
-    match config.int_encoding() {
-        IntEncoding::Variable if is_long => {
-            bytes.push(252)?;
-            put_digits(bytes, tag as u128, 4, config)
-        }
-        _ => put_number(bytes, tag as u128, 4, config),
+    if !is_long || matches!(config.int_encoding(), IntEncoding::Fixed) {
+        return put_number(bytes, tag as u128, 4, config);
     }
+    bytes.push(252)?;
+    let tag = (tag % 4_294_967_296) as u32;
+    let digits = match config.endianness() {
+        Endianness::Little => tag.to_le_bytes(),
+        Endianness::Big => tag.to_be_bytes(),
+    };
+    for digit in &digits {
+        bytes.push(*digit)?;
+    }
+    Ok(())
 }
 
 /// Appends the sample number of this trial, cut to the width.
@@ -109,22 +82,8 @@ fn put_sample_number<C: Config>(
     trial: usize,
     width: usize,
     config: C,
-) -> Result<(), AllocError>
-    requires { width ≤ 16 }
-{
-    let number = NUMBERS[trial % NUMBERS.len()];
-    let cut = match width {
-        1 => number % 256,
-        2 => number % 65_536,
-        4 => number % 4_294_967_296,
-        8 => number % 18_446_744_073_709_551_616,
-        _ => number,
-    };
-    if width == 1 {
-        put_digits(bytes, cut, 1, config)
-    } else {
-        put_number(bytes, cut, width, config)
-    }
+) -> Result<(), AllocError> {
+    put_number(bytes, NUMBERS[trial % NUMBERS.len()], width, config)
 }
 
 /// Appends a sample of the shape: of the numbers, the lengths and the variants the one of this trial.
