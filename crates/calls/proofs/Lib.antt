@@ -1,5 +1,5 @@
 mod Conversed
-mod Received
+pub mod Received
 mod Sent
 mod Served
 mod Stopped

@@ -1,5 +1,5 @@
 -- What is told of a frame that was read.
-use Rattle.std.specs.Prelude.{◌≡◌, ◌^◌, ◌<◌, ◌++◌, ℕ, List, [], ◌∷◌, drop, Bool, true, Option, IfErr, IfOk, MatchResult, refl}
+use Rattle.std.specs.Prelude.{◌≡◌, ◌^◌, ◌<◌, ◌++◌, ℕ, List, [], ◌∷◌, drop, Bool, true, Option, IfErr, IfOk, IfSome, IsSomeAnd, MatchResult, refl}
 use Rattle.std.proofs.Common.{◌∙◌, ap, subst}
 use Rattle.std.proofs.Math.Seq.{drop-append_seam}
 use Rattle.bincode_base.specs.Setting.{Setting}
@@ -15,19 +15,26 @@ use Rattle.framed_store.specs.declared.ending.Ending.TheVariants as endings
 use Rattle.framed_store.specs.declared.records.Content.{Content}
 use Rattle.framed_store.specs.declared.records.Content.TheVariants as contents
 use Rattle.calls.specs.Calling.{AreReplies, IsNoReply, IsOutsideCall, IsReply, told_as}
+use Rattle.calls.specs.declared.calling.CallError.{CallError}
+use Rattle.calls.specs.declared.calling.CallError.TheVariants as errors
+
+-- an error that tells of something else than the end of the input
+abbrev IsOther : CallError → Type 0
+IsOther errors.NoReply = ⊥
+IsOther _ = Unit {0}
 
 module _ {T : Type 0} (V : Words T) (s : Setting) (limit : Option ℕ) (most : ℕ) where
-  pub told-reply : (input left : List ℕ) (size : ℕ) (content : Content T) → IsRecord (V.format s) limit V.decodes_to most input size content → left ≡ drop size input → IfOk (told_as content) (IsReply V s limit most input left)
+  pub told-reply : (input left : List ℕ) (size : ℕ) (content : Content T) → IsRecord (V.format s) limit V.decodes_to most input size content → left ≡ drop size input → IfOk (told_as content) (λ found. IfSome found (IsReply V s limit most input left))
   told-reply input left size (contents.Value value) r e = (size, r, e)
   told-reply input left size contents.Damaged r e = tt
   told-reply input left size (contents.Undecodable why) r e = tt
   told-reply input left size (contents.Longer taken) r e = tt
 
-  pub told-none : (input : List ℕ) (size : ℕ) (content : Content T) → IsRecord (V.format s) limit V.decodes_to most input size content → IfErr (told_as content) (IsNoReply V s limit most input)
+  pub told-none : (input : List ℕ) (size : ℕ) (content : Content T) → IsRecord (V.format s) limit V.decodes_to most input size content → IfErr (told_as content) (λ why. IsNoReply V s limit most input why × (why ≡ errors.NoReply → ⊥))
   told-none input size (contents.Value value) r = tt
-  told-none input size contents.Damaged r = (size, r)
-  told-none input size (contents.Undecodable why) r = (size, r)
-  told-none input size (contents.Longer taken) r = (size, r)
+  told-none input size contents.Damaged r = ((size, r), λ e. subst IsOther e tt)
+  told-none input size (contents.Undecodable why) r = ((size, r), λ e. subst IsOther e tt)
+  told-none input size (contents.Longer taken) r = ((size, r), λ e. subst IsOther e tt)
 
   -- one more reply
   pub replies-more : (input mid left : List ℕ) (values : List T) (value : T) → AreReplies V s limit most input mid values → IsReply V s limit most mid left value →
@@ -37,7 +44,7 @@ module _ {T : Type 0} (V : Words T) (s : Setting) (limit : Option ℕ) (most : �
 
   module _ (small : most < 2 ^ 32) (eq : T → T → Bool) (exact : ExactWords V eq) where
     by_content : (content : Content T) (sent : T) (left rest : List ℕ) → IsToldAs eq (FrameOf sent []) content → left ≡ rest →
-        MatchResult (told_as content) (λ reply. (eq sent reply ≡ true) × (left ≡ rest)) IsOutsideCall
+        MatchResult (told_as content) (λ found. IsSomeAnd found (λ reply. (eq sent reply ≡ true) × (left ≡ rest))) IsOutsideCall
     by_content (contents.Value value) sent left rest told e = (told, e)
     by_content contents.Damaged sent left rest told e = absurd told
     by_content (contents.Undecodable why) sent left rest told e = absurd told
@@ -46,7 +53,7 @@ module _ {T : Type 0} (V : Words T) (s : Setting) (limit : Option ℕ) (most : �
     -- the frame of a value is told as an equal one
     pub told-equal : (input left : List ℕ) (size : ℕ) (content : Content T) → IsRecord (V.format s) limit V.decodes_to most input size content → left ≡ drop size input → AreBytes input →
         (sent : T) (word rest : List ℕ) → IsFitting V s limit most sent word → input ≡ frame word ++ rest →
-        MatchResult (told_as content) (λ reply. (eq sent reply ≡ true) × (left ≡ rest)) IsOutsideCall
+        MatchResult (told_as content) (λ found. IsSomeAnd found (λ reply. (eq sent reply ≡ true) × (left ≡ rest))) IsOutsideCall
     told-equal input left size content r e all sent word rest fit i =
         let told = told-piece V s limit most small eq exact (FrameOf sent word) rest fit (subst AreBytes i all) size content (subst (λ z. IsRecord (V.format s) limit V.decodes_to most z size content) i r) in
         by_content content sent left rest told.0 (e ∙ (ap (drop size) i ∙ (ap (λ k. drop k (frame word ++ rest)) told.1 ∙ drop-append_seam (frame word) rest)))

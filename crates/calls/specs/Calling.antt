@@ -1,5 +1,5 @@
 -- What a caller sends and reads.
-use Rattle.std.specs.Prelude.{◌≡◌, ◌⊎◌, ◌<◌, ◌++◌, ℕ, List, [], ◌∷◌, length, drop, Option, Result, Ok, Err}
+use Rattle.std.specs.Prelude.{◌≡◌, ◌⊎◌, ◌<◌, ◌++◌, ℕ, List, [], ◌∷◌, length, drop, Option, Some, Result, Ok, Err}
 use Rattle.std.specs.Io.KnownBytes.{Appends}
 use Rattle.std.specs.declared.io.Error.{Error}
 use Rattle.bincode_base.specs.Setting.{Setting}
@@ -15,6 +15,7 @@ use Rattle.framed_store.specs.declared.records.Content.TheVariants as contents
 use Rattle.calls.specs.Sending.{Sends}
 use Rattle.calls.specs.declared.calling.Caller.{Caller}
 use Rattle.calls.specs.declared.calling.CallError.{CallError}
+use Rattle.calls.specs.declared.calling.SendError.{SendError}
 use Rattle.calls.specs.declared.calling.CallError.TheVariants as errors
 
 -- the stream that a caller reads from, and the one that it writes to
@@ -29,8 +30,8 @@ abbrev pub most_of : {R W C : Type 0} → Caller R W C → ℕ
 most_of caller = caller.most
 
 -- what is told of what a frame holds
-abbrev pub told_as : {A : Type 0} → Content A → Result A CallError
-told_as (contents.Value value) = Ok value
+abbrev pub told_as : {A : Type 0} → Content A → Result (Option A) CallError
+told_as (contents.Value value) = Ok (Some value)
 told_as contents.Damaged = Err errors.Damaged
 told_as (contents.Undecodable why) = Err (errors.Undecodable why)
 told_as (contents.Longer taken) = Err (errors.TrailingBytes taken)
@@ -112,6 +113,11 @@ module _ {T : Type 0} (V : Words T) (s : Setting) (limit : Option ℕ) (most : �
   abbrev pub StopsSending : {O : Type 0} → List T → (O → Option (List ℕ)) → O → O → CallError → Type 0
   StopsSending {O} values bytes old new e =
       (sent : List T) × (value : T) × (others : List T) × (mid : O) × (values ≡ sent ++ value ∷ others) × SendsAll sent (bytes old) (bytes mid) × IsUnsent value bytes mid new e
+
+  -- the same of the value of a number: those before it were written
+  abbrev pub StopsAt : {O : Type 0} → List T → (O → Option (List ℕ)) → O → O → SendError → Type 0
+  StopsAt {O} values bytes old new e =
+      (sent : List T) × (value : T) × (others : List T) × (mid : O) × (values ≡ sent ++ value ∷ others) × (length sent ≡ e.number) × SendsAll sent (bytes old) (bytes mid) × Leaves V s limit most value bytes mid new e.why
 
   -- the input begins with the frames of some replies, fewer than n, and none follows them, for this reason
   abbrev pub StopsReceiving : ℕ → List ℕ → CallError → Type 0

@@ -1,15 +1,18 @@
 //! The side that asks: requests go out in frames, and their replies come back in order.
-ghost use Rattle.std.specs.Prelude.{◌<◌, ◌≡◌, ◌++◌, ℕ, List, true, IfErr, IfOk, OnErr, OnOk, MatchResult, length};
+ghost use Rattle.std.specs.Prelude.{◌<◌, ◌≡◌, ◌++◌, ℕ, List, true, IfErr, IfNone, IfOk, IfSome, IsSomeAnd, OnErr, OnOk};
+ghost use Rattle.std.specs.Prelude.{MatchResult, length};
 ghost use Rattle.std.specs.Io.KnownBytes.{Keeps};
 ghost use Rattle.std.specs.List.{All};
 ghost use Rattle.bincode_io.specs.Stream.{TellsBytes, known_bytes};
-ghost use Rattle.frames.specs.Frames.{frame};
+ghost use Rattle.frames.specs.Frames.{Reads, frame};
+ghost use Rattle.frames.specs.declared.Frame.TheVariants.{End};
 ghost use Rattle.framed_store.specs.Appended.{IsFitting};
 ghost use Rattle.framed_store.specs.Pieces.{Piece, ArePieces, bytes_of_all};
 ghost use Rattle.calls.specs.Calling.{AreReplies, IsFlush, IsNoReply, IsOutsideCall, IsReply, IsUnsent, MaybeNoReply};
-ghost use Rattle.calls.specs.Calling.{MaybeAllSent, MaybeSent, SendsAll, StopsReceiving, StopsSending};
+ghost use Rattle.calls.specs.Calling.{MaybeAllSent, MaybeSent, SendsAll, StopsAt, StopsReceiving, StopsSending};
 ghost use Rattle.calls.specs.Calling.{input_of, most_of, output_of, told_as};
 ghost use Rattle.calls.specs.Sending.{Sends};
+ghost use Rattle.calls.specs.declared.calling.CallError.TheVariants.{NoReply};
 
 use bincode::config::Config;
 use bincode::de::Decode;
@@ -159,10 +162,16 @@ impl<R: Read, W: Write, C: Config> Caller<R, W, C> {
         ensures input { input_of self.new ≡ input_of self.old }
         ensures most { most_of self.new ≡ most_of self.old }
     {
-        for request in requests {
-            self.send(request)?;
+        match send_requests(
+            self.alloc,
+            &mut self.output,
+            requests,
+            self.config,
+            self.most,
+        ) {
+            Ok(()) => Ok(()),
+            Err(SendError { number: _, why }) => Err(CallError::Send(why)),
         }
-        Ok(())
     }
 
     /// Reads as many replies as are asked for. Fails as `receive` does; replies that came before the error are lost.
@@ -244,30 +253,97 @@ impl<R: Read, W: Write, C: Config> Caller<R, W, C> {
         ensures output { output_of self.new ≡ output_of self.old }
         ensures most { most_of self.new ≡ most_of self.old }
     {
-        A::tell_exact();
-        match next_from_stream(
+        match next_reply(
             self.alloc,
             &mut self.input,
             &mut self.buffer,
             self.config,
             self.most,
         ) {
-            Ok(Next::Record { size: _, content }) => reply_of(content),
-            Ok(Next::End) => Err(CallError::NoReply),
-            Ok(Next::Torn) => Err(CallError::Torn),
-            Ok(Next::TooLong(length)) => Err(CallError::TooLong(length)),
-            Err(ReadError::Read(why)) => Err(CallError::Read(why)),
-            Err(ReadError::Memory(why)) => Err(CallError::Memory(why)),
+            Ok(Some(reply)) => Ok(reply),
+            Ok(None) => Err(CallError::NoReply),
+            Err(why) => Err(why),
         }
     }
 }
 
+/// Which of several requests was not sent.
+#[derive(Debug, Drop, Error)]
+#[error("request {number}: {why}")]
+pub struct SendError {
+    /// Its number, from 0 on. Those before it were sent.
+    pub number: usize,
+    /// Why it was not sent.
+    pub why: AppendError,
+}
+
+/// Writes the frames of requests to a stream, in order, without reading a reply, of encodings of at most `most` bytes
+/// each. Fails at the first request that is not written. Where the output failed, a prefix of its frame may be there.
+pub fn send_requests<Q: Encode + Decode<()> + Exact, C: Config, W: Write>(
+    alloc: Global,
+    output: &mut W,
+    requests: &[Q],
+    config: C,
+    most: u32,
+) -> Result<(), SendError>
+    ensures sent { OnOk result (SendsAll Q.words C.setting C.bound most requests.now (W.contents output.old)
+        (W.contents output.new)) }
+    // After an error those before the one of its number are sent, and that one is not, for the reason that it tells.
+    ensures unsent { IfErr result (StopsAt Q.words C.setting C.bound most requests.now W.contents output.old
+        output.new) }
+{
+    for (number, request) in requests.iter().enumerate() {
+        if let Err(why) = append(alloc, output, request, config, most) {
+            return Err(SendError { number, why });
+        }
+    }
+    Ok(())
+}
+
+/// Reads the reply that a stream begins with, of an encoding of at most `most` bytes, or `None` at its end. `buffer`
+/// holds one frame at a time. Fails as `Caller::receive` does, and never with `NoReply`.
+pub fn next_reply<A: Decode<()> + Exact, R: Read, C: Config>(
+    alloc: Global,
+    input: &mut R,
+    buffer: &mut Vec<u8>,
+    config: C,
+    most: u32,
+) -> Result<Option<A>, CallError>
+    // These clauses speak of input whose bytes are known. The reply is that of the first frame, and what follows it is
+    // left;
+    ensures reply { TellsBytes (R.remaining input.old) → IfOk result (λ found. IfSome found (IsReply A.words C.setting
+        C.bound most (known_bytes (R.remaining input.old)) (known_bytes (R.remaining input.new)))) }
+    // or the input is at its end;
+    ensures end { TellsBytes (R.remaining input.old) → IfOk result (λ found.
+        IfNone found (Reads most (known_bytes (R.remaining input.old)) End)) }
+    // or there is none, for the reason that the error tells.
+    ensures none { TellsBytes (R.remaining input.old) → IfErr result (λ why. (IsNoReply A.words C.setting C.bound most
+        (known_bytes (R.remaining input.old)) why) × (why ≡ NoReply → ⊥)) }
+    // The frame of a reply that was sent is read as an equal one, whatever follows it.
+    ensures equal { TellsBytes (R.remaining input.old) → All (λ b. b < 256) (known_bytes (R.remaining input.old))
+        → (sent : A) (word rest : List ℕ) → IsFitting A.words C.setting C.bound most sent word
+        → known_bytes (R.remaining input.old) ≡ frame word ++ rest
+        → MatchResult result (λ found. IsSomeAnd found (λ reply. (A.eq sent reply ≡ true)
+        × (known_bytes (R.remaining input.new) ≡ rest))) IsOutsideCall }
+    ensures is_known { TellsBytes (R.remaining input.old) → TellsBytes (R.remaining input.new) }
+{
+    A::tell_exact();
+    match next_from_stream(alloc, input, buffer, config, most) {
+        Ok(Next::Record { size: _, content }) => reply_of(content),
+        Ok(Next::End) => Ok(None),
+        Ok(Next::Torn) => Err(CallError::Torn),
+        Ok(Next::TooLong(length)) => Err(CallError::TooLong(length)),
+        Err(ReadError::Read(why)) => Err(CallError::Read(why)),
+        Err(ReadError::Memory(why)) => Err(CallError::Memory(why)),
+    }
+}
+
 /// The reply that a frame holds.
-fn reply_of<A>(content: Content<A>) -> Result<A, CallError>
+fn reply_of<A>(content: Content<A>) -> Result<Option<A>, CallError>
     ensures { result ≡ told_as content }
 {
     match content {
-        Content::Value(reply) => Ok(reply),
+        Content::Value(reply) => Ok(Some(reply)),
         Content::Damaged => Err(CallError::Damaged),
         Content::Undecodable(why) => Err(CallError::Undecodable(why)),
         Content::Longer { taken } => Err(CallError::TrailingBytes { taken }),

@@ -6,14 +6,13 @@ ghost use Rattle.framed_store.specs.Appended.{FitsStore};
 ghost use Rattle.calls.specs.Calling.{AreReplies, SendsAll};
 ghost use Rattle.calls.specs.Conversing.{Converses, ServesAll};
 
-use crate::calling::{CallError, Caller};
+use crate::calling::{CallError, Caller, SendError, send_requests};
 use crate::service::Service;
 use crate::serving::{ServeError, serve};
 use bincode::config::Config;
 use bincode::de::Decode;
 use bincode::enc::Encode;
 use bincode::laws::Exact;
-use framed_store::appending::append;
 use std::alloc::Global;
 use std::fmt::Display;
 use std::io;
@@ -70,12 +69,10 @@ fn frames_of<Q: Encode + Decode<()> + Exact, E, C: Config>(
     ensures { IfOk result (λ sent. SendsAll Q.words C.setting C.bound most requests.now (Some []) (Some sent.items)) }
 {
     let mut sent = Vec::new(alloc);
-    for request in requests {
-        if let Err(why) = append(alloc, &mut sent, request, config, most) {
-            return Err(MemoryCallError::Call(CallError::Send(why)));
-        }
+    match send_requests(alloc, &mut sent, requests, config, most) {
+        Ok(()) => Ok(sent),
+        Err(SendError { number: _, why }) => Err(MemoryCallError::Call(CallError::Send(why))),
     }
-    Ok(sent)
 }
 
 /// The frames of the replies to frames of requests.

@@ -5,5 +5,7 @@
 mod answers;
 #[cfg(test)]
 mod refused_memory;
-pub mod reply;
-pub mod zeros;
+#[cfg(test)]
+mod reply;
+#[cfg(test)]
+mod zeros;

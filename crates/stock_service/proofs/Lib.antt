@@ -4,4 +4,6 @@ mod Equal
 mod Logs
 mod Recovery
 mod Served
+mod Shown
+mod Spelled
 mod Sums

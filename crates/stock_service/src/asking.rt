@@ -1,7 +1,14 @@
 //! Requests that are spelled as texts, and sent.
+ghost use Rattle.std.specs.Prelude.{IfErr, IfOk, OnOk};
+ghost use Rattle.calls.specs.Calling.{SendsAll};
+ghost use Rattle.stock_service.specs.Asking.{IsName, NamesCount, SpellAll, Spells, StopsSpelling, StopsWriting};
+ghost use Rattle.stock_service.specs.declared.limit.TheConstants.{LONGEST_WORD};
 
-use crate::recording::append_request;
+use crate::limit::{LONGEST_WORD, Settings, settings};
 use crate::request::Request;
+use bincode::Wire;
+use bincode::config::Config;
+use calls::calling::{SendError, send_requests};
 use framed_store::appending::AppendError;
 use std::alloc::{AllocError, Global};
 use std::io;
@@ -27,7 +34,9 @@ pub enum SpellingError {
 
 /// The request that a text spells: `add NAME COUNT`, `take NAME COUNT` or `get NAME`, with one space between. A name
 /// may have spaces. Fails with `NoRequest`, `Unnamed`, `NoCount` or `Memory`.
-pub fn request_in(alloc: Global, text: &str) -> Result<Request, SpellingError> {
+pub fn request_in(alloc: Global, text: &str) -> Result<Request, SpellingError>
+    ensures spelled { IfOk result (Spells text.now) }
+{
     match text.split_once(' ') {
         Some(("add", rest)) => {
             let (name, count) = named_count(alloc, rest)?;
@@ -46,7 +55,9 @@ pub fn request_in(alloc: Global, text: &str) -> Result<Request, SpellingError> {
 }
 
 /// The name and the count of a text, which are divided by its last space.
-fn named_count(alloc: Global, text: &str) -> Result<(String, u64), SpellingError> {
+fn named_count(alloc: Global, text: &str) -> Result<(String, u64), SpellingError>
+    ensures { IfOk result (λ found. NamesCount text.now found.0 found.1) }
+{
     let Some((name, count)) = text.rsplit_once(' ') else {
         return Err(SpellingError::NoRequest);
     };
@@ -57,7 +68,9 @@ fn named_count(alloc: Global, text: &str) -> Result<(String, u64), SpellingError
 }
 
 /// A name that is not empty, as one that is owned.
-fn name_in(alloc: Global, name: &str) -> Result<String, SpellingError> {
+fn name_in(alloc: Global, name: &str) -> Result<String, SpellingError>
+    ensures { IfOk result (IsName name.now) }
+{
     if name.is_empty() {
         return Err(SpellingError::Unnamed);
     }
@@ -92,17 +105,21 @@ pub enum AskError {
 }
 
 /// The requests that texts spell. Fails with `Spelling` at the first text that is no request.
-pub fn requests_in(alloc: Global, texts: &[String]) -> Result<Vec<Request>, AskError> {
+pub fn requests_in(alloc: Global, texts: &[String]) -> Result<Vec<Request>, AskError>
+    // Each text spells the request of its place.
+    ensures spelled { IfOk result (λ requests. SpellAll texts.now requests.items) }
+    // The texts before the one that the error speaks of spell requests.
+    ensures stopped { IfErr result (StopsSpelling texts.now) }
+{
     let mut requests = Vec::new(alloc);
     for (number, text) in texts.iter().enumerate() {
-        match request_in(alloc, text) {
-            Ok(request) => {
-                if requests.push(request).is_err() {
-                    let why = SpellingError::Memory(AllocError);
-                    return Err(AskError::Spelling { number, why });
-                }
-            }
+        let request = match request_in(alloc, text) {
+            Ok(request) => request,
             Err(why) => return Err(AskError::Spelling { number, why }),
+        };
+        if let Err(why) = requests.push(request) {
+            let why = SpellingError::Memory(AllocError::from(why));
+            return Err(AskError::Spelling { number, why });
         }
     }
     Ok(requests)
@@ -113,11 +130,15 @@ pub fn write_requests<W: Write>(
     alloc: Global,
     out: &mut W,
     requests: &[Request],
-) -> Result<(), AskError> {
-    for (number, request) in requests.iter().enumerate() {
-        if let Err(why) = append_request(alloc, out, request) {
-            return Err(AskError::Append { number, why });
-        }
+) -> Result<(), AskError>
+    ensures sent { OnOk result (SendsAll ⟦<Request as Wire>⟧.words ⟦<Settings as Config>⟧.setting
+        ⟦<Settings as Config>⟧.bound LONGEST_WORD requests.now (W.contents out.old) (W.contents out.new)) }
+    // After an error those before the one that it speaks of are written, and that one is not, for the reason it tells.
+    ensures unsent { IfErr result (StopsWriting ⟦<Request as Wire>⟧.words ⟦<Settings as Config>⟧.setting
+        ⟦<Settings as Config>⟧.bound LONGEST_WORD requests.now W.contents out.old out.new) }
+{
+    match send_requests(alloc, out, requests, settings(), LONGEST_WORD) {
+        Ok(()) => Ok(()),
+        Err(SendError { number, why }) => Err(AskError::Append { number, why }),
     }
-    Ok(())
 }

@@ -1,8 +1,9 @@
 //! What the program `stock` does with its words and its streams.
-ghost use Rattle.std.specs.Prelude.{◌≡◌, ℕ, List, Option, IfErr, IfOk};
+ghost use Rattle.std.specs.Prelude.{◌≡◌, ℕ, List, Option, IfErr, IfOk, OnOk};
 ghost use Rattle.bincode_io.specs.Stream.{TellsBytes, known_bytes};
 ghost use Rattle.calls.specs.Serving.{IsServed};
 ghost use Rattle.calls.specs.ServingSteps.{IsWrite};
+ghost use Rattle.stock_service.specs.Asking.{AsksAll};
 ghost use Rattle.stock_service.specs.Ends.{EndsWith};
 ghost use Rattle.stock_service.specs.declared.limit.TheConstants.{LONGEST_WORD};
 
@@ -11,9 +12,11 @@ use crate::asking::{AskError, SpellingError, requests_in, write_requests};
 use crate::limit::{LONGEST_WORD, Settings, settings};
 use crate::log_file::{LogFileError, Opened, open_log};
 use crate::logged::{LogFailure, Logged};
+use crate::request::Request;
 use crate::showing::{ShowError, show_answers};
 use crate::status::{DAMAGED, DONE, FAILED, REFUSED, USAGE};
 use crate::stock::Stock;
+use bincode::Wire;
 use bincode::config::Config;
 use bincode::error::{DecodeError, EncodeError, StreamError};
 use calls::calling::CallError;
@@ -324,11 +327,11 @@ fn unflushed<E>(error: io::Error) -> Failure<E>
 
 /// Writes the requests that texts spell to a stream, in a row. Fails as `requests_in` and `write_requests` do, or where
 /// the output does.
-pub fn ask_into<W: Write + Drop>(
-    alloc: Global,
-    output: W,
-    texts: &[String],
-) -> Result<(), AskError> {
+pub fn ask_into<W: Write + Drop>(alloc: Global, output: W, texts: &[String]) -> Result<(), AskError>
+    // The texts spell requests, whose frames were written, in order.
+    ensures sent { OnOk result (AsksAll ⟦<Request as Wire>⟧.words ⟦<Settings as Config>⟧.setting
+        ⟦<Settings as Config>⟧.bound LONGEST_WORD texts.now) }
+{
     let requests = requests_in(alloc, texts)?;
     let mut output = BufWriter::with_capacity(alloc, BLOCK, output)?;
     write_requests(alloc, &mut output, &requests)?;
