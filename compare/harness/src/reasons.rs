@@ -1,0 +1,238 @@
+//! The differences that docs/DIFFERENCES.md names: each is told by what the two answers are, and by the row that it stands for.
+use crate::answer::{
+    Answer, Fault, INVALID_INTEGER_TYPE, IO, LIMIT_EXCEEDED, UNEXPECTED_OF_LIST,
+    UNEXPECTED_VARIANT, UNLISTED_VARIANT,
+};
+use crate::sides::{CONFIGURATIONS, Call, Side};
+use crate::walk::{BETWEEN, Counting, ORIGINAL, PORT, Walk, form_of};
+use original::calls::HEAD;
+
+#[derive(Clone, Copy, Debug, PartialEq, Eq, PartialOrd, Ord)]
+pub enum Reason {
+    Claims,
+    Octets,
+    Names,
+    Left,
+    Missing,
+    TypeName,
+    Listed,
+    Order,
+    Memory,
+}
+
+impl Reason {
+    /// What docs/DIFFERENCES.md says of it.
+    pub fn row(self) -> &'static str {
+        match self {
+            Reason::Claims => "`size_of::<T>()` in claims: `T::claim_size()`",
+            Reason::Octets => {
+                "the octets of an address are not counted against a limit: 4 and 16 bytes are charged before they are read"
+            }
+            Reason::Names => {
+                "a variable decode of `u64` through the peeking path names `U32` .. and that of `u128` names `Usize`: each type's own name"
+            }
+            Reason::Left => {
+                "of a slice with as many bytes left as the longest word has, a tag that is refused is not taken: it is taken"
+            }
+            Reason::Missing => {
+                "an `Io` of a stream has as `additional` the length that was asked for: what of it is missing"
+            }
+            Reason::TypeName => {
+                "`type_name` is the full name, with its path and parameters: the bare name; a `TypeName`, of at most 10 bytes"
+            }
+            Reason::Listed => {
+                "`UnexpectedVariant { found, type_name, allowed }`: two variants, .. and `UnlistedVariant` for a list"
+            }
+            Reason::Memory => {
+                "memory that is wanting aborts: the variants `EncodeError::Memory` and `DecodeError::Memory`"
+            }
+            Reason::Order => {
+                "`HashMap<K, V>` and `HashSet<T>` with `RandomState`: with every hasher; and docs/FORMAT.md, section 6: hashed maps and sets and heaps are written in some order"
+            }
+        }
+    }
+}
+
+/// Both sides' rooms after a call, and how many bytes of each are the answer.
+pub struct Rooms<'r> {
+    pub original: &'r [u8],
+    pub port: &'r [u8],
+    pub counts: (usize, usize),
+}
+
+impl Rooms<'_> {
+    pub fn answers(&self) -> (Answer, Answer) {
+        (
+            answer_of(self.original, self.counts.0),
+            answer_of(self.port, self.counts.1),
+        )
+    }
+
+    /// Whether both are the same.
+    pub fn agree(&self) -> bool {
+        let (one, other) = self.counts;
+        one == other && one <= self.original.len() && self.original[..one] == self.port[..other]
+    }
+}
+
+fn answer_of(room: &[u8], count: usize) -> Answer {
+    room.get(..count).map_or(Answer::Unclear, Answer::of)
+}
+
+/// The last name of a path without its parameters, cut to what a name of a type holds.
+fn bare(name: &str) -> &str {
+    let path = name.split('<').next().unwrap_or("");
+    let last = path.rsplit("::").next().unwrap_or("");
+    &last[..last.len().min(10)]
+}
+
+/// Whether the original's `expected` is that of its peeking path, and the port's the type's own.
+fn is_peeked(original: u64, port: u64) -> bool {
+    // U32 for U64, I32 for I64, Usize for U128, Isize for I128
+    matches!((original, port), (2, 3) | (8, 9) | (5, 4) | (11, 10))
+}
+
+/// Why two errors differ, field by field.
+fn of_faults(one: &Fault, other: &Fault) -> Option<Vec<Reason>> {
+    let mut reasons = vec![];
+    let (same, texts) = (one.numbers == other.numbers, one.text == other.text);
+    match (one.kind, other.kind) {
+        (UNEXPECTED_OF_LIST, UNLISTED_VARIANT) if same => {
+            reasons.push(Reason::Listed);
+            if !texts {
+                reasons.push(Reason::TypeName);
+            }
+        }
+        (INVALID_INTEGER_TYPE, INVALID_INTEGER_TYPE) if !same => {
+            let named = one.numbers[1..] == other.numbers[1..]
+                && is_peeked(one.numbers[0], other.numbers[0]);
+            reasons.push(named.then_some(Reason::Names)?);
+        }
+        (UNEXPECTED_VARIANT, UNEXPECTED_VARIANT) if same && !texts => {
+            reasons.push(Reason::TypeName)
+        }
+        (IO, IO) if !same => {
+            let (asked, missing) = (one.numbers[0], other.numbers[0]);
+            let is_less = one.numbers[1..] == other.numbers[1..] && 0 < missing && missing < asked;
+            reasons.push(is_less.then_some(Reason::Missing)?);
+        }
+        (one_kind, other_kind) if one_kind == other_kind && same && texts => {}
+        _ => return None,
+    }
+    if reasons.contains(&Reason::TypeName) && bare(&one.text) != other.text {
+        return None;
+    }
+    Some(reasons)
+}
+
+/// Whether a limit is passed, as that is counted.
+fn passes(call: &Call<'_>, input: &[u8], counting: Counting) -> bool {
+    let mut walk = Walk::new(call.seen(input), call.setting(), counting, call.limit());
+    walk.walk(&call.kind.shape) == Err(LIMIT_EXCEEDED)
+}
+
+/// Whether an answer under a limit is that without one, where the call is made without one too.
+fn is_unlimited(call: &Call<'_>, side: Side, input: &[u8], answer: &Answer) -> bool {
+    let configuration = CONFIGURATIONS[call.configuration].setting;
+    let unlimited = Call {
+        configuration,
+        ..*call
+    };
+    let is_asked = side == Side::Original || call.kind.row.port.is_some();
+    !is_asked || !call.kind.has(call.call, configuration) || unlimited.ask(side, input) == *answer
+}
+
+/// Of a limit that one side passes: each side passes it as its own claims and charges say, and else answers what it does without one.
+fn of_limit(call: &Call<'_>, input: &[u8], one: &Answer, other: &Answer) -> Option<Vec<Reason>> {
+    let limited = [one, other].map(|answer| answer.kind() == Some(LIMIT_EXCEEDED));
+    let counted = [ORIGINAL, PORT].map(|counting| passes(call, input, counting));
+    let rest_agrees = (limited[0] || is_unlimited(call, Side::Original, input, one))
+        && (limited[1] || is_unlimited(call, Side::Port, input, other));
+    if call.limit().is_none() || limited != counted || !rest_agrees {
+        return None;
+    }
+    let by_octets = passes(call, input, BETWEEN) == limited[1];
+    Some(vec![if by_octets {
+        Reason::Octets
+    } else {
+        Reason::Claims
+    }])
+}
+
+/// Whether both hold the same values in another order.
+fn is_reordered(call: &Call<'_>, one: &[u8], other: &[u8]) -> bool {
+    let form = |bytes| form_of(&call.kind.shape, call.setting(), bytes);
+    call.kind.shape.has_bag() && form(one).is_some() && form(one) == form(other)
+}
+
+/// Of encodings into a room: the same values in another order, if they are whole; else as much of each.
+fn of_rooms(
+    call: &Call<'_>,
+    input: &[u8],
+    rooms: &Rooms<'_>,
+    count: Option<u64>,
+) -> Option<Vec<Reason>> {
+    let held = [rooms.original, rooms.port].map(|room| &room[HEAD..HEAD + call.span(input)]);
+    let is_order = match count {
+        Some(count) => {
+            let [one, other] = held.map(|held| held.get(..count as usize));
+            let rest = held[0][count as usize..] == held[1][count as usize..];
+            rest && is_reordered(call, one?, other?)
+        }
+        None => call.kind.shape.has_bag(),
+    };
+    is_order.then_some(vec![Reason::Order])
+}
+
+/// Why two answers of a call that writes to a room differ, if docs/DIFFERENCES.md says so.
+fn explain_writing(call: &Call<'_>, input: &[u8], rooms: &Rooms<'_>) -> Option<Vec<Reason>> {
+    match rooms.answers() {
+        (Answer::Fine(one, _), Answer::Fine(other, _)) if one == other => {
+            of_rooms(call, input, rooms, Some(one))
+        }
+        (Answer::Failed(one, _), Answer::Failed(other, _)) => {
+            let is_same = one.kind == other.kind && (one == other || call.kind.shape.has_bag());
+            if is_same {
+                of_rooms(call, input, rooms, None)
+            } else {
+                None
+            }
+        }
+        _ => None,
+    }
+}
+
+/// Why two answers of another call differ.
+pub fn explain_answers(
+    call: &Call<'_>,
+    input: &[u8],
+    one: &Answer,
+    other: &Answer,
+) -> Option<Vec<Reason>> {
+    let is_limited = |answer: &Answer| answer.kind() == Some(LIMIT_EXCEEDED);
+    match (one, other) {
+        (Answer::Fine(count, bytes), Answer::Fine(others_count, others)) => (count == others_count
+            && is_reordered(call, bytes, others))
+        .then_some(vec![Reason::Order]),
+        (one, other) if is_limited(one) != is_limited(other) => of_limit(call, input, one, other),
+        (Answer::Failed(one, left), Answer::Failed(other, others_left)) => {
+            let mut reasons = of_faults(one, other)?;
+            if left != others_left {
+                let is_tag =
+                    one.kind == INVALID_INTEGER_TYPE && *left == others_left.map(|left| left + 1);
+                reasons.push(is_tag.then_some(Reason::Left)?);
+            }
+            Some(reasons)
+        }
+        _ => None,
+    }
+}
+
+/// Why two answers differ, if docs/DIFFERENCES.md says so.
+pub fn explain(call: &Call<'_>, input: &[u8], rooms: &Rooms<'_>) -> Option<Vec<Reason>> {
+    if call.writes() {
+        return explain_writing(call, input, rooms);
+    }
+    let (one, other) = rooms.answers();
+    explain_answers(call, input, &one, &other)
+}
