@@ -11,16 +11,16 @@ TOP = os.path.dirname(HERE)
 KIT = os.path.dirname(os.path.dirname(os.path.realpath(shutil.which("rt") or sys.exit("rt is wanted"))))
 
 
-def run(what, command, folder, environment=None):
+def run(what, command, folder, environment=None, may_fail=False):
     print(f"{what} ..", file=sys.stderr, flush=True)
     start = time.monotonic()
-    if subprocess.run(command, cwd=folder, env=environment, stdout=sys.stderr).returncode:
+    if subprocess.run(command, cwd=folder, env=environment, stdout=sys.stderr).returncode and not may_fail:
         sys.exit(f"{what} failed")
     print(f"{what} took {time.monotonic() - start:.0f} s", file=sys.stderr, flush=True)
 
 
-def needed_crates():
-    """The lines of crates.txt that bincode stands on, with its own."""
+def needed_crates(tops=("bincode",)):
+    """The lines of crates.txt that these crates stand on, with their own."""
     uses = {}
     for line in open(f"{TOP}/crates.txt"):
         name, colon, below = line.split("#")[0].partition(":")
@@ -34,23 +34,25 @@ def needed_crates():
                 visit(below)
             needed.append(name)
 
-    visit("bincode")
+    for top in tops:
+        visit(top)
     return {name: uses[name] for name in needed}
 
 
-def tree_of(work, own):
-    """A copy of those crates with their proofs, and beside them crates of our own: by the line of each in crates.txt, the text of its files.
+def tree_of(work, own, has_proofs=True):
+    """A copy of those crates, with what was proved of them, and beside them crates of our own: by the line of each in crates.txt, the text of its files.
     They stand there since a crate of the benchmark is none of the repository's."""
     tree = f"{work}/tree"
-    lines = [f"{name}: {' '.join(below)}\n" for name, below in needed_crates().items()]
-    for name in needed_crates():
+    needed = needed_crates(("bincode", *(name for line in own for name in line.partition(":")[2].split())))
+    lines = [f"{name}: {' '.join(below)}\n" for name, below in needed.items()]
+    for name in needed:
         source, copy = f"{TOP}/crates/{name}", f"{tree}/crates/{name}"
         os.makedirs(copy, exist_ok=True)
         for part in ("src", "specs", "proofs"):
             shutil.rmtree(f"{copy}/{part}", ignore_errors=True)
             if os.path.isdir(f"{source}/{part}"):
                 shutil.copytree(f"{source}/{part}", f"{copy}/{part}")
-        if os.path.isdir(f"{source}/out") and not os.path.isdir(f"{copy}/out"):
+        if has_proofs and os.path.isdir(f"{source}/out") and not os.path.isdir(f"{copy}/out"):
             shutil.copytree(f"{source}/out", f"{copy}/out")
     for line, files in own.items():
         lines.append(f"{line}\n")
