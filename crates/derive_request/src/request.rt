@@ -40,11 +40,12 @@ const ABOUT: &str =
 
 /// The program's command line.
 fn command<'a>(alloc: Global) -> Result<Command<'a>, AllocError> {
+    let check = check_arg(alloc)?;
     Command::new(alloc, "derive")
         .version("1.0.0")
         .about(ABOUT)
         .after_help(STATUSES)
-        .arg(check_arg(alloc)?)?
+        .arg(check)?
         .arg(print_arg(alloc))?
         .arg(crate_arg(alloc))?
         .arg(files_arg(alloc))

@@ -43,20 +43,129 @@ Amounts are whole numbers below 2^64, in the smallest unit. A command that is sa
 it cannot be entered the book is cut back to what it held. `compact` keeps the accounts in BOOK.snapshot and empties
 BOOK: from then on the two files belong together.";
 
-/// How `open` is used.
-const OPEN_USAGE: &str = "ledger BOOK open NAME [AMOUNT]";
-
-/// How `pay` is used.
-const PAY_USAGE: &str = "ledger BOOK pay FROM TO AMOUNT";
-
 /// What an amount is.
 const AMOUNT: &str = "an amount is a number below 2^64";
 
+/// A word of the command line.
+struct Word {
+    id: &'static str,
+    name: &'static str,
+    help: &'static str,
+    is_required: bool,
+}
+
+/// A command of the command line.
+struct Line {
+    name: &'static str,
+    about: &'static str,
+    /// How it is used, if its words do not say it.
+    usage: Option<&'static str>,
+    words: &'static [Word],
+}
+
+/// The file of the book.
+static BOOK: Word = Word {
+    id: "book",
+    name: "BOOK",
+    help: "The file of the book",
+    is_required: true,
+};
+
+/// The command `open`.
+static OPEN: Line = Line {
+    name: "open",
+    about: "Opens an account. The book is made where there is none",
+    usage: Some("ledger BOOK open NAME [AMOUNT]"),
+    words: &[
+        Word {
+            id: "name",
+            name: "NAME",
+            help: "The name of the account",
+            is_required: true,
+        },
+        Word {
+            id: "amount",
+            name: "AMOUNT",
+            help: "Its balance, 0 if it is left out",
+            is_required: false,
+        },
+    ],
+};
+
+/// The command `pay`.
+static PAY: Line = Line {
+    name: "pay",
+    about: "Pays from one account to another",
+    usage: Some("ledger BOOK pay FROM TO AMOUNT"),
+    words: &[
+        Word {
+            id: "from",
+            name: "FROM",
+            help: "The name of the payer",
+            is_required: true,
+        },
+        Word {
+            id: "to",
+            name: "TO",
+            help: "The name of the payee",
+            is_required: true,
+        },
+        Word {
+            id: "amount",
+            name: "AMOUNT",
+            help: "How much",
+            is_required: true,
+        },
+    ],
+};
+
+/// The commands that look at a book, and those that keep it short and whole.
+static OTHERS: [Line; 5] = [
+    Line {
+        name: "balance",
+        about: "Prints the balance of an account, or of each by its name",
+        usage: None,
+        words: &[Word {
+            id: "name",
+            name: "NAME",
+            help: "The name of the account",
+            is_required: false,
+        }],
+    },
+    Line {
+        name: "log",
+        about: "Prints the commands, each with its number and its offset",
+        usage: None,
+        words: &[],
+    },
+    Line {
+        name: "check",
+        about: "Says whether the book is whole, and what it comes to",
+        usage: None,
+        words: &[],
+    },
+    Line {
+        name: "compact",
+        about: "Keeps the accounts in a snapshot beside the book, and empties the book",
+        usage: None,
+        words: &[],
+    },
+    Line {
+        name: "repair",
+        about: "Cuts the book off after its last command, where it is torn and no whole frame would be lost",
+        usage: None,
+        words: &[],
+    },
+];
+
 /// The program's command line.
 fn command_line<'a>(alloc: Global) -> Result<CommandLine<'a>, AllocError> {
-    let line = with_changes(alloc, bare_line(alloc)?)?;
-    let line = with_looks(alloc, line)?;
-    with_upkeep(alloc, line)
+    let mut line = with_line(alloc, bare_line(alloc)?, &OPEN)?;
+    line = with_line(alloc, line, &PAY)?;
+    for other in OTHERS.iter() {
+        line = with_line(alloc, line, other)?;
+    }
+    Ok(line)
 }
 
 /// The command line without its commands.
@@ -68,118 +177,36 @@ fn bare_line<'a>(alloc: Global) -> Result<CommandLine<'a>, AllocError> {
         )
         .after_help(STATUSES)
         .subcommand_required(true)
-        .arg(word(alloc, "book", "BOOK", "The file of the book"))
+        .arg(word_arg(alloc, &BOOK))
 }
 
-/// The command line with the commands that change a book.
-fn with_changes<'a>(alloc: Global, line: CommandLine<'a>) -> Result<CommandLine<'a>, AllocError> {
-    let line = with_open(alloc, line)?;
-    with_pay(alloc, line)
+/// The command line with a command.
+fn with_line<'a>(
+    alloc: Global,
+    line: CommandLine<'a>,
+    added: &Line,
+) -> Result<CommandLine<'a>, AllocError> {
+    line.subcommand(line_of(alloc, added)?)
 }
 
-/// The command line with `open`.
-fn with_open<'a>(alloc: Global, line: CommandLine<'a>) -> Result<CommandLine<'a>, AllocError> {
-    line.subcommand(open_line(alloc)?)
+/// A command.
+fn line_of<'a>(alloc: Global, of: &Line) -> Result<CommandLine<'a>, AllocError> {
+    let mut line = CommandLine::new(alloc, of.name).about(of.about);
+    if let Some(usage) = of.usage {
+        line = line.override_usage(usage);
+    }
+    for word in of.words.iter() {
+        line = line.arg(word_arg(alloc, word))?;
+    }
+    Ok(line)
 }
 
-/// The command line with `pay`.
-fn with_pay<'a>(alloc: Global, line: CommandLine<'a>) -> Result<CommandLine<'a>, AllocError> {
-    line.subcommand(pay_line(alloc)?)
-}
-
-/// The command line with the commands that look at a book.
-fn with_looks<'a>(alloc: Global, line: CommandLine<'a>) -> Result<CommandLine<'a>, AllocError> {
-    let line = with_balance(alloc, line)?;
-    let line = line.subcommand(log_line(alloc))?;
-    line.subcommand(check_line(alloc))
-}
-
-/// The command line with `balance`.
-fn with_balance<'a>(alloc: Global, line: CommandLine<'a>) -> Result<CommandLine<'a>, AllocError> {
-    line.subcommand(balance_line(alloc)?)
-}
-
-/// The command line with the commands that keep a book short and whole.
-fn with_upkeep<'a>(alloc: Global, line: CommandLine<'a>) -> Result<CommandLine<'a>, AllocError> {
-    let line = line.subcommand(compact_line(alloc))?;
-    line.subcommand(repair_line(alloc))
-}
-
-/// A word that has to be given.
-fn word<'a>(alloc: Global, id: &'a str, name: &'a str, help: &'a str) -> Arg<'a> {
-    Arg::new(alloc, id)
-        .value_name(name)
-        .required(true)
-        .help(help)
-}
-
-/// The command `open`.
-fn open_line<'a>(alloc: Global) -> Result<CommandLine<'a>, AllocError> {
-    CommandLine::new(alloc, "open")
-        .about("Opens an account. The book is made where there is none")
-        .override_usage(OPEN_USAGE)
-        .arg(word(alloc, "name", "NAME", "The name of the account"))?
-        .arg(opening_amount(alloc))
-}
-
-/// The amount of an opening.
-fn opening_amount<'a>(alloc: Global) -> Arg<'a> {
-    Arg::new(alloc, "amount")
-        .value_name("AMOUNT")
-        .help("Its balance, 0 if it is left out")
-}
-
-/// The command `pay`.
-fn pay_line<'a>(alloc: Global) -> Result<CommandLine<'a>, AllocError> {
-    let line = from_line(alloc)?;
-    let line = line.arg(word(alloc, "to", "TO", "The name of the payee"))?;
-    line.arg(word(alloc, "amount", "AMOUNT", "How much"))
-}
-
-/// The command `pay` with the first of its words.
-fn from_line<'a>(alloc: Global) -> Result<CommandLine<'a>, AllocError> {
-    CommandLine::new(alloc, "pay")
-        .about("Pays from one account to another")
-        .override_usage(PAY_USAGE)
-        .arg(word(alloc, "from", "FROM", "The name of the payer"))
-}
-
-/// The command `balance`.
-fn balance_line<'a>(alloc: Global) -> Result<CommandLine<'a>, AllocError> {
-    CommandLine::new(alloc, "balance")
-        .about("Prints the balance of an account, or of each by its name")
-        .arg(shown_name(alloc))
-}
-
-/// The account of which the balance is printed.
-fn shown_name<'a>(alloc: Global) -> Arg<'a> {
-    Arg::new(alloc, "name")
-        .value_name("NAME")
-        .help("The name of the account")
-}
-
-/// The command `log`.
-fn log_line<'a>(alloc: Global) -> CommandLine<'a> {
-    CommandLine::new(alloc, "log").about("Prints the commands, each with its number and its offset")
-}
-
-/// The command `check`.
-fn check_line<'a>(alloc: Global) -> CommandLine<'a> {
-    CommandLine::new(alloc, "check").about("Says whether the book is whole, and what it comes to")
-}
-
-/// The command `compact`.
-fn compact_line<'a>(alloc: Global) -> CommandLine<'a> {
-    CommandLine::new(alloc, "compact").about(
-        "Keeps the accounts in a snapshot beside the book, and empties the book",
-    )
-}
-
-/// The command `repair`.
-fn repair_line<'a>(alloc: Global) -> CommandLine<'a> {
-    CommandLine::new(alloc, "repair").about(
-        "Cuts the book off after its last command, where it is torn and no whole frame would be lost",
-    )
+/// A word.
+fn word_arg<'a>(alloc: Global, word: &Word) -> Arg<'a> {
+    Arg::new(alloc, word.id)
+        .value_name(word.name)
+        .required(word.is_required)
+        .help(word.help)
 }
 
 /// The request that these words spell, of which the first is the program's name. Where they spell none, or ask for help
@@ -215,7 +242,7 @@ fn action_of(alloc: Global, name: &str, found: &ArgMatches<'_>) -> Result<Action
 /// The opening that words spell.
 fn opening(alloc: Global, found: &ArgMatches<'_>) -> Result<Action, Error> {
     let Ok(amount) = found.get_str("amount").unwrap_or("0").parse::<u64>() else {
-        return Err(mistake(open_line(alloc)?, AMOUNT)?);
+        return Err(mistake(line_of(alloc, &OPEN)?, AMOUNT)?);
     };
     let name = text_of(alloc, found, "name")?;
     Ok(Action::Enter(Command::Open { name, amount }))
@@ -224,7 +251,7 @@ fn opening(alloc: Global, found: &ArgMatches<'_>) -> Result<Action, Error> {
 /// The payment that words spell.
 fn payment(alloc: Global, found: &ArgMatches<'_>) -> Result<Action, Error> {
     let Ok(amount) = found.get_str("amount").unwrap_or("").parse::<u64>() else {
-        return Err(mistake(pay_line(alloc)?, AMOUNT)?);
+        return Err(mistake(line_of(alloc, &PAY)?, AMOUNT)?);
     };
     let from = text_of(alloc, found, "from")?;
     let to = text_of(alloc, found, "to")?;

@@ -47,25 +47,118 @@ const STATUSES: &str = "Status:
 Each file is dealt with, also after one that fails. The status is the greatest of them. `add` adds all or nothing:
 where it fails, it cuts the file back to what it held.";
 
-/// How `add` is used.
-const ADD_USAGE: &str = "records add FILE NAME PRICE [WEIGHT] [NOTE=TEXT ..]
-       records add FILE -";
+/// How a word or an option is given.
+enum Kind {
+    /// A word of this name.
+    One(&'static str),
+    /// One or more of this name.
+    Many(&'static str),
+    /// An option without a word.
+    Flag,
+}
 
-/// What `add` says of its words.
-const ADD_WORDS: &str =
-    "The article: its name, its price, then a weight and notes. A lone - takes articles from the \
-    standard input, one a line, their words separated by blanks or tabs";
+/// A word or an option of a command.
+struct Word {
+    id: &'static str,
+    kind: Kind,
+    help: &'static str,
+}
+
+/// A command of the command line.
+struct Line {
+    name: &'static str,
+    about: &'static str,
+    /// How it is used, if its words do not say it.
+    usage: Option<&'static str>,
+    words: &'static [Word],
+}
+
+/// The command `add`.
+static ADD: Line = Line {
+    name: "add",
+    about: "Appends articles to a file that is not torn, and prints their places",
+    usage: Some(
+        "records add FILE NAME PRICE [WEIGHT] [NOTE=TEXT ..]
+       records add FILE -",
+    ),
+    words: &[
+        Word {
+            id: "file",
+            kind: Kind::One("FILE"),
+            help: "The file, which is made where there is none",
+        },
+        Word {
+            id: "words",
+            kind: Kind::Many("WORD"),
+            help: "The article: its name, its price, then a weight and notes. A lone - takes articles from the \
+                standard input, one a line, their words separated by blanks or tabs",
+        },
+    ],
+};
+
+/// The other commands.
+static OTHERS: [Line; 4] = [
+    Line {
+        name: "list",
+        about: "Prints the articles of files, each with its offset",
+        usage: None,
+        words: &[Word {
+            id: "files",
+            kind: Kind::Many("FILE"),
+            help: "The files",
+        }],
+    },
+    Line {
+        name: "check",
+        about: "Says for each file whether it is whole",
+        usage: None,
+        words: &[Word {
+            id: "files",
+            kind: Kind::Many("FILE"),
+            help: "The files",
+        }],
+    },
+    Line {
+        name: "repair",
+        about: "Cuts a file off after its last frame, where it is torn",
+        usage: None,
+        words: &[
+            Word {
+                id: "drop-damaged",
+                kind: Kind::Flag,
+                help: "Drops the damaged frames, too, and keeps the whole ones that follow bytes that are no frame",
+            },
+            Word {
+                id: "cut",
+                kind: Kind::Flag,
+                help: "Cuts the file off even where a whole frame stands in what is lost",
+            },
+            Word {
+                id: "file",
+                kind: Kind::One("FILE"),
+                help: "The file",
+            },
+        ],
+    },
+    Line {
+        name: "shape",
+        about: "Prints the shape of an article: `describe --frames \"$(records shape)\" FILE` prints JSON",
+        usage: None,
+        words: &[],
+    },
+];
 
 /// The program's command line.
-fn command<'a>(alloc: Global) -> Result<Command<'a>, AllocError> {
-    let command = with_add(alloc, bare_command(alloc))?;
-    let command = with_looks(alloc, command)?;
-    let command = with_repair(alloc, command)?;
-    command.subcommand(shape_command(alloc))
+fn command_line<'a>(alloc: Global) -> Result<Command<'a>, AllocError> {
+    let mut line = with_command(alloc, bare_line(alloc), &ADD)?;
+    for other in OTHERS.iter() {
+        line = with_command(alloc, line, other)?;
+    }
+    Ok(line)
 }
 
 /// The command line without its commands.
-fn bare_command<'a>(alloc: Global) -> Command<'a> {
+fn bare_line<'a>(alloc: Global) -> Command<'a> {
     Command::new(alloc, "records")
         .version("2.0.0")
         .about("Keeps the articles of a stock in files, each in a frame with a check")
@@ -73,125 +166,48 @@ fn bare_command<'a>(alloc: Global) -> Command<'a> {
         .subcommand_required(true)
 }
 
-/// The command line with `add`.
-fn with_add<'a>(alloc: Global, command: Command<'a>) -> Result<Command<'a>, AllocError> {
-    command.subcommand(add_command(alloc)?)
-}
-
-/// The command line with the commands that look at files.
-fn with_looks<'a>(alloc: Global, command: Command<'a>) -> Result<Command<'a>, AllocError> {
-    let about = "Prints the articles of files, each with its offset";
-    let command = with_look(alloc, command, "list", about)?;
-    with_look(
-        alloc,
-        command,
-        "check",
-        "Says for each file whether it is whole",
-    )
-}
-
-/// The command line with a command that looks at files.
-fn with_look<'a>(
+/// The command line with a command.
+fn with_command<'a>(
     alloc: Global,
-    command: Command<'a>,
-    name: &'a str,
-    about: &'a str,
+    line: Command<'a>,
+    added: &Line,
 ) -> Result<Command<'a>, AllocError> {
-    command.subcommand(files_command(alloc, name, about)?)
+    line.subcommand(command_of(alloc, added)?)
 }
 
-/// The command line with `repair`.
-fn with_repair<'a>(alloc: Global, command: Command<'a>) -> Result<Command<'a>, AllocError> {
-    command.subcommand(repair_command(alloc)?)
+/// A command.
+fn command_of<'a>(alloc: Global, line: &Line) -> Result<Command<'a>, AllocError> {
+    let mut command = Command::new(alloc, line.name).about(line.about);
+    if let Some(usage) = line.usage {
+        command = command.override_usage(usage);
+    }
+    for word in line.words.iter() {
+        command = command.arg(arg_of(alloc, word))?;
+    }
+    Ok(command)
 }
 
-/// The command `shape`.
-fn shape_command<'a>(alloc: Global) -> Command<'a> {
-    Command::new(alloc, "shape").about(
-        "Prints the shape of an article: `describe --frames \"$(records shape)\" FILE` prints JSON",
-    )
-}
-
-/// The command `add`.
-fn add_command<'a>(alloc: Global) -> Result<Command<'a>, AllocError> {
-    Command::new(alloc, "add")
-        .about("Appends articles to a file that is not torn, and prints their places")
-        .override_usage(ADD_USAGE)
-        .arg(file_arg(alloc, "The file, which is made where there is none"))?
-        .arg(words_arg(alloc))
-}
-
-/// The argument `FILE`, with its help.
-fn file_arg<'a>(alloc: Global, help: &'a str) -> Arg<'a> {
-    Arg::new(alloc, "file")
-        .value_name("FILE")
-        .required(true)
-        .help(help)
-}
-
-/// The words of an article.
-fn words_arg<'a>(alloc: Global) -> Arg<'a> {
-    Arg::new(alloc, "words")
-        .value_name("WORD")
-        .required(true)
-        .action(ArgAction::Append)
-        .num_args(1..)
-        .help(ADD_WORDS)
-}
-
-/// A command that looks at files.
-fn files_command<'a>(
-    alloc: Global,
-    name: &'a str,
-    about: &'a str,
-) -> Result<Command<'a>, AllocError> {
-    Command::new(alloc, name).about(about).arg(files_arg(alloc))
-}
-
-/// The argument `FILE ..`.
-fn files_arg<'a>(alloc: Global) -> Arg<'a> {
-    Arg::new(alloc, "files")
-        .value_name("FILE")
-        .required(true)
-        .action(ArgAction::Append)
-        .num_args(1..)
-        .help("The files")
-}
-
-/// The command `repair`.
-fn repair_command<'a>(alloc: Global) -> Result<Command<'a>, AllocError> {
-    Command::new(alloc, "repair")
-        .about("Cuts a file off after its last frame, where it is torn")
-        .arg(drop_damaged_arg(alloc))?
-        .arg(cut_arg(alloc))?
-        .arg(file_arg(alloc, "The file"))
-}
-
-/// The option `--drop-damaged`.
-fn drop_damaged_arg<'a>(alloc: Global) -> Arg<'a> {
-    Arg::new(alloc, "drop-damaged")
-        .long("drop-damaged")
-        .action(ArgAction::SetTrue)
-        .help(
-            "Drops the damaged frames, too, and keeps the whole ones that follow bytes that are no frame",
-        )
-}
-
-/// The option `--cut`.
-fn cut_arg<'a>(alloc: Global) -> Arg<'a> {
-    Arg::new(alloc, "cut")
-        .long("cut")
-        .action(ArgAction::SetTrue)
-        .help("Cuts the file off even where a whole frame stands in what is lost")
+/// A word or an option.
+fn arg_of<'a>(alloc: Global, word: &Word) -> Arg<'a> {
+    let arg = Arg::new(alloc, word.id).help(word.help);
+    match word.kind {
+        Kind::One(name) => arg.value_name(name).required(true),
+        Kind::Many(name) => arg
+            .value_name(name)
+            .required(true)
+            .action(ArgAction::Append)
+            .num_args(1..),
+        Kind::Flag => arg.long(word.id).action(ArgAction::SetTrue),
+    }
 }
 
 /// The request that these words spell, of which the first is the program's name. Where they spell none, or ask for help
 /// or for the version, the error has the text for it.
 pub fn request_of(alloc: Global, words: &[String]) -> Result<Request, Error> {
-    let matches = command(alloc)?.try_get_matches_from(words)?;
+    let matches = command_line(alloc)?.try_get_matches_from(words)?;
     match matches.subcommand() {
         Some((name, found)) => request_named(alloc, name, found),
-        None => Err(mistake(command(alloc)?, "which command?")?),
+        None => Err(mistake(command_line(alloc)?, "which command?")?),
     }
 }
 
@@ -240,7 +256,7 @@ fn article_in(alloc: Global, words: &[&str]) -> Result<Article, Error> {
 /// The error of words that are no article, with the usage of `add`.
 fn no_article(alloc: Global, why: &ArticleError) -> Result<Error, AllocError> {
     let text = format!(in alloc; "{why}")?;
-    mistake(add_command(alloc)?, text.as_str())
+    mistake(command_of(alloc, &ADD)?, text.as_str())
 }
 
 /// The error of a mistake in the words of a command, with its usage.
