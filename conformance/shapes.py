@@ -77,10 +77,11 @@ class Text:
             raise ValueError(f"{word} is missing before {self.words}")
 
     def any(self):
+        is_barred = self.takes("|")
         variants = [self.optional()]
         while self.takes("|"):
             variants.append(self.optional())
-        return Shape("choice", *variants) if len(variants) > 1 else variants[0]
+        return Shape("choice", *variants) if is_barred or len(variants) > 1 else variants[0]
 
     def optional(self):
         part = self.one()

@@ -1,17 +1,17 @@
 #!/usr/bin/env python3
-"""Changes rows of rows.json, one thing in each, and wants check.py to tell each of them.
+"""Changes rows of rows.json, one thing in each, and wants check.py, and a program that runs rows, to tell each of them.
 
-    conformance/try_changed_rows.py [--rows N] [--seed N]
+    conformance/try_changed_rows.py [PROGRAM] [--rows N] [--seed N]
 
-N is 1000 unless it is given. What a row answers is changed, and not what it asks: a value that is read, a count, a field of a fault, a bit of a word or
-of what is left in a slice, the name of an error. Each change that is not told is printed. Status: 0 all are told, 1 some are not.
+PROGRAM is crates/vectors/out/vectors, which `rt run -- data/rows.json` in crates/vectors builds; without it check.py alone is asked. N is 1000
+unless it is given. What a row answers is changed, and not what it asks: a value that is read, a count, a field of a fault, a bit of a word or of what
+is left in a slice, the name of an error. Each change that is not told is printed. Status: 0 all are told, 1 some are not.
 """
-import argparse, copy, json, os, random, sys
+import argparse, copy, json, os, random, subprocess, sys, tempfile
 
 sys.dont_write_bytecode = True
 import check
 
-PATH = os.path.join(os.path.dirname(os.path.abspath(__file__)), "rows.json")
 IN_HEX = ("word", "written", "left")
 ANSWERS = (*IN_HEX, "taken", "fault", "error", "text")
 
@@ -52,19 +52,35 @@ def changed(draw, row):
     return row, f"{'.'.join(map(str, path))}: {json.dumps(before)} became {json.dumps(held[path[-1]])}"
 
 
+def told_by_program(program, rows):
+    """The numbers of the rows that a program tells."""
+    with tempfile.TemporaryDirectory() as folder:
+        path = os.path.join(folder, "rows.json")
+        with open(path, "w", encoding="utf-8") as file:
+            json.dump([{**row, "family": "changed", "label": str(number)} for number, row in enumerate(rows)], file)
+        done = subprocess.run([os.path.abspath(program), path], capture_output=True, text=True)
+    told = {int(line.split(": ")[1]) for line in done.stdout.splitlines() if line.startswith("changed: ") and not line.startswith("changed: rows ")}
+    if done.stdout.splitlines()[-1:] != [f"rows {len(rows)} failed {len(told)}"] or done.returncode != bool(told):
+        sys.exit(f"the program did not run all rows: {done.stdout[-2000:]}{done.stderr[-2000:]}")
+    return told
+
+
 def main():
     parser = argparse.ArgumentParser(description=__doc__, formatter_class=argparse.RawDescriptionHelpFormatter)
+    parser.add_argument("program", nargs="?", metavar="PROGRAM")
     parser.add_argument("--rows", type=int, default=1000)
     parser.add_argument("--seed", type=int, default=random.randrange(2**32))
     options = parser.parse_args()
     draw, passed = random.Random(options.seed), 0
-    with open(PATH, encoding="utf-8") as file:
+    with open(check.PATH, encoding="utf-8") as file:
         rows = json.load(file)
-    for _ in range(options.rows):
-        row, change = changed(draw, draw.choice(rows))
-        if not check.wrong(row):
-            passed += 1
-            print(f"{row['family']}: {row['label']}: {change}: not told")
+    tried = [changed(draw, draw.choice(rows)) for _ in range(options.rows)]
+    told = told_by_program(options.program, [row for row, _ in tried]) if options.program else range(options.rows)
+    for number, (row, change) in enumerate(tried):
+        silent = [name for name, is_told in (("check.py", check.wrong(row)), ("the program", number in told)) if not is_told]
+        passed += bool(silent)
+        for name in silent:
+            print(f"{row['family']}: {row['label']}: {change}: not told by {name}")
     print(f"seed {options.seed}, rows {options.rows} not told {passed}")
     return 1 if passed else 0
 

@@ -1,10 +1,10 @@
 //! A stream that fails at each of its calls in turn.
 
+use crate::sources::{Bytewise, Source};
 use bincode::config::Config;
 use bincode::de::Decode;
 use bincode::decode_from_std_read;
 use bincode::error::DecodeError;
-use conformance::sources::{Bytewise, Source};
 use std::alloc::Global;
 use test_helpers::streams::{Breaking, is_broken};
 

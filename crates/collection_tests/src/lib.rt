@@ -41,6 +41,10 @@ mod reserved;
 #[cfg(test)]
 mod shown;
 #[cfg(test)]
+mod sources;
+#[cfg(test)]
+mod streams;
+#[cfg(test)]
 mod tables;
 #[cfg(test)]
 mod texts;

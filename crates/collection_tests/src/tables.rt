@@ -1,100 +1,78 @@
-//! The output of a table of worked rows, one of which does not hold, and the worked rows from streams.
+//! What is said of worked rows: of those that do not hold, and of those that can't be run.
 
-use crate::broken::Broken;
-use bincode::config::{Config, Endianness};
-use bincode::de::Decode;
-use bincode::error::DecodeError;
-use conformance::case::{Case, Encoding, Number, Setting, Spelling, Value};
-use conformance::rows::{Row, run, typed_tables};
-use conformance::sources::{Buffered, Bytewise, Slice, Source};
+use conformance_rows::rows::{RowsError, run};
+use conformance_rows::setting::Setting;
+use conformance_rows::typed::{TypedAnswer, Types};
 use std::alloc::Global;
-use std::marker::PhantomData;
 use test_helpers::checks::either;
 
-/// A row that does not hold, since its word is that of 6, and one that does.
-const TWO: [Row; 2] = [
-    Row {
-        label: "2",
-        case: Case::Encode(Value::U32(Encoding {
-            setting: Setting::LegacyBig,
-            value: 5,
-            word: &[0, 0, 0, 6],
-        })),
-    },
-    Row {
-        label: "5b",
-        case: Case::Varint(Number::U32(Spelling {
-            endian: Endianness::Little,
-            value: 251,
-            word: &[251, 251, 0],
-        })),
-    },
-];
+/// No types.
+struct Nameless;
 
-/// What is printed of them.
-const TEXT: &str = "2 FAIL\n5b ok\nrows 2 failed 1\n";
+impl Types for Nameless {
+    fn reread(_: Global, _: &str, _: &[u8], _: Setting) -> Option<TypedAnswer> {
+        None
+    }
 
-/// A device takes the whole text, and where it takes less, however much, the loop fails.
+    fn write(_: Global, _: &str, _: &[u8], _: Setting) -> Option<Vec<u8>> {
+        None
+    }
+
+    fn parts(_: &str) -> Option<&'static str> {
+        None
+    }
+}
+
+/// A row that does not hold, since its word is that of 6, one that does, one whose value is another, and two that can't
+/// be run.
+const ROWS: &str = "[
+{\"family\":\"numbers\",\"label\":\"2\",\"shape\":\"u32\",\"order\":\"big\",\"value\":5,\"word\":\"06\"},
+{\"family\":\"numbers\",\"label\":\"5b\",\"shape\":\"u32\",\"value\":251,\"word\":\"fbfb00\"},
+{\"family\":\"texts\",\"label\":\"a\",\"shape\":\"text\",\"input\":\"0161\",\"value\":\"b\",\"taken\":2},
+{\"family\":\"texts\",\"label\":\"b\",\"shape\":\"text\",\"value\":\"a\",\"word\":\"0161\",\"taken\":2},
+{\"family\":\"texts\",\"label\":\"c\",\"type\":\"Text\",\"value\":\"a\",\"word\":\"0161\"}
+]";
+
+/// What is said of them.
+const TOLD: &str = "\
+numbers: 2: written: wanted Slice { left: [6], refused: None }, found Slice { left: [5], refused: None }
+numbers: rows 2 failed 1
+texts: a: from a slice: wanted Value(Text(\"b\"), 2), found Value(Text(\"a\"), 2)
+texts: b: it can't be run: it has a field too many: taken
+texts: c: it can't be run: it has no shape, and its type is not run so
+texts: rows 3 failed 3
+rows 5 failed 4
+";
+
+/// A device takes the whole text, and where it takes less, the run fails.
 #[test]
-fn tells_a_wrong_word(rt: HostRuntime) {
-    let mut bytes = [0u8; 29];
-    for room in 0..=TEXT.len() {
+fn tells_rows_that_fail(rt: HostRuntime) {
+    let mut bytes = [0u8; 600];
+    for room in [0, 1, TOLD.len() - 1, TOLD.len()] {
         let failed = either(
-            run::<Slice, _>(rt.alloc(), &[&TWO], &mut &mut bytes[..room]),
-            run::<Slice, _>(rt.alloc(), &[&TWO], &mut &mut bytes[..room]),
+            run::<Nameless, _>(rt.alloc(), ROWS, &mut &mut bytes[..room]),
+            run::<Nameless, _>(rt.alloc(), ROWS, &mut &mut bytes[..room]),
         );
-        let wanted = if room == TEXT.len() { Some(1) } else { None };
+        let wanted = if room == TOLD.len() { Some(4) } else { None };
         assert!(rt; failed == wanted);
     }
-    assert!(rt; bytes.as_slice() == TEXT.as_bytes());
+    assert!(rt; bytes.starts_with(TOLD.as_bytes()));
 }
 
-/// A source from which is read once more where memory is refused.
-struct Again<S>(PhantomData<S>);
-
-impl<S: Source> Source for Again<S> {
-    fn decode<T: Decode<()>, C: Config>(
-        alloc: Global,
-        input: &[u8],
-        config: C,
-    ) -> Result<(T, usize), DecodeError> {
-        match S::decode(alloc, input, config) {
-            Err(DecodeError::Memory) => S::decode(alloc, input, config),
-            outcome => outcome,
+/// Why a text can't be run. Retries once if an allocation is refused.
+fn refusal(alloc: Global, text: &str) -> Option<RowsError> {
+    match run::<Nameless, _>(alloc, text, &mut Vec::new(alloc)) {
+        Err(RowsError::Json(_)) if text.starts_with('{') => {
+            run::<Nameless, _>(alloc, text, &mut Vec::new(alloc)).err()
         }
-    }
-
-    fn missing(error: &DecodeError) -> Option<usize> {
-        S::missing(error)
+        outcome => outcome.err(),
     }
 }
 
-/// Whether each case of a table holds where what is decoded is read from `S`. Where memory is refused to the cases they
-/// are run once more.
-fn all_hold<S: Source>(alloc: Global, rows: &[Row]) -> bool {
-    let mut bytes = [0u8; 1_000];
-    let failed = match run::<Again<S>, _>(alloc, &[rows], &mut &mut bytes[..]) {
-        Ok(failed) => Some(failed),
-        Err(_) => run::<Again<S>, _>(alloc, &[rows], &mut &mut bytes[..]).ok(),
-    };
-    failed == Some(0)
-}
-
-/// A stream of one byte a call, and a buffer of 4 bytes before it, answer what a slice does, also to the cases that the
-/// program leaves out.
+/// A text that is no list is refused.
 #[test]
-fn reads_the_rows_from_streams(rt: HostRuntime) {
+fn refuses_what_is_no_list(rt: HostRuntime) {
     let alloc = rt.alloc();
-    for rows in typed_tables() {
-        assert!(rt; all_hold::<Bytewise>(alloc, rows) && all_hold::<Buffered<4>>(alloc, rows));
-    }
-}
-
-/// A stream that breaks gives its error at each of its calls, until it has given what the answer depends on.
-#[test]
-fn reads_the_rows_from_broken_streams(rt: HostRuntime) {
-    let alloc = rt.alloc();
-    for rows in typed_tables() {
-        assert!(rt; all_hold::<Broken>(alloc, rows));
-    }
+    assert!(rt; matches!(refusal(alloc, "{}"), Some(RowsError::NoList)));
+    assert!(rt; matches!(refusal(alloc, "["), Some(RowsError::Json(_))));
 }
