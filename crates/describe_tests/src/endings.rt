@@ -10,7 +10,7 @@ use std::path::PathBuf;
 use std::{env, fs, io, process};
 
 /// Whether the program ends with this status, with these words after its name.
-fn ends(rt: &HostRuntime, options: &str, last: &str, status: u8) -> bool {
+pub fn ends(rt: &HostRuntime, options: &str, last: &str, status: u8) -> bool {
     match words_of(rt.alloc(), options, last) {
         Ok(words) => run(rt, &words) == status,
         Err(_) => false,
@@ -23,7 +23,7 @@ fn ends_over(rt: &HostRuntime, path: &str, bytes: &[u8], options: &str, status: 
 }
 
 /// A path that no other test has.
-fn path_of(rt: &HostRuntime, name: &str) -> anyhow::Result<PathBuf> {
+pub fn path_of(rt: &HostRuntime, name: &str) -> anyhow::Result<PathBuf> {
     let name = format!(in rt.alloc(); "{}-{name}", process::id(rt.process()))?;
     Ok(env::temp_dir(rt)?.join(rt.alloc(), name.as_str())?)
 }

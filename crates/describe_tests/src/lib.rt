@@ -9,6 +9,8 @@ mod framed;
 #[cfg(test)]
 mod printed;
 #[cfg(test)]
+mod reads;
+#[cfg(test)]
 mod requests;
 #[cfg(test)]
 mod sources;

@@ -2,7 +2,7 @@
 
 use crate::sources::{requested, words_of};
 use bincode::config::{Endianness, IntEncoding};
-use shape_text::request::{SizeLimit, request_of};
+use shape_text::request::{SizeLimit, asked_of};
 use std::alloc::{AllocError, Global};
 
 /// Options, and the encoding and byte order for which they ask.
@@ -102,7 +102,7 @@ fn takes_files(rt: HostRuntime) {
 
 /// The status and the text by which words are answered that are no request.
 fn answer(alloc: Global, options: &str, last: &str) -> Result<String, AllocError> {
-    match request_of(alloc, &words_of(alloc, options, last)?) {
+    match asked_of(alloc, &words_of(alloc, options, last)?) {
         Ok(_) => Ok(String::new(alloc)),
         Err(error) => format!(in alloc; "{} {error}", error.exit_code()),
     }

@@ -2,7 +2,7 @@
 
 use shape_text::describing::describe;
 use shape_text::failure::DescribeError;
-use shape_text::request::{Request, request_of};
+use shape_text::request::{Asked, Request, asked_of};
 use std::alloc::{AllocError, Global};
 use std::io;
 use std::io::{ErrorKind, Read};
@@ -40,7 +40,10 @@ pub fn words_of(alloc: Global, options: &str, last: &str) -> Result<Vec<String>,
 /// The request of these words, if they are taken.
 pub fn requested(alloc: Global, options: &str, last: &str) -> Option<Request> {
     match words_of(alloc, options, last) {
-        Ok(words) => request_of(alloc, &words).ok(),
+        Ok(words) => match asked_of(alloc, &words) {
+            Ok(Asked::Describe(request)) => Some(request),
+            _ => None,
+        },
         Err(_) => None,
     }
 }

@@ -88,3 +88,30 @@ fn tells_of_fixed_length(rt: HostRuntime) {
         );
     }
 }
+
+/// A new shape and an old one with arrays, and whether bytes are found. Of arrays that are too long no sample is made.
+const ARRAYS: [(&str, &str, bool); 3] = [
+    ("(u16, [u8; 5000])", "(u8, [u8; 5000])", true),
+    ("u8", "[[[u8; 4096]; 4096]; 4096]", false),
+    ("u8", "[[[(); 4096]; 4096]; 4096]", false),
+];
+
+/// Whether bytes are found, if no allocation is refused.
+fn finds(alloc: Global, new: &str, old: &str) -> Option<bool> {
+    let new = shape_of(alloc, new).ok()?;
+    let old = shape_of(alloc, old).ok()?;
+    let found = explain(alloc, &new, &old, config::standard()).ok()?;
+    Some(found.is_some())
+}
+
+/// Retries once, since an allocation may be refused.
+#[test]
+fn samples_no_long_arrays(rt: HostRuntime) {
+    for &(new, old, wanted) in &ARRAYS {
+        let wanted = Some(wanted);
+        assert!(rt;
+            finds(rt.alloc(), new, old) == wanted || finds(rt.alloc(), new, old) == wanted,
+            "{new} of {old}"
+        );
+    }
+}

@@ -1,7 +1,7 @@
 -- What two decoders tell of the formats.
-use Rattle.std.specs.Prelude.{◌≡◌, ℕ, ◌⊎◌, ◌==◌, ◌&&◌, Bool, true, false, not, List, [], ◌∷◌, ◌++◌, length, Option, Some, None, Err, refl}
+use Rattle.std.specs.Prelude.{◌≡◌, ◌≤◌, ℕ, ◌==◌, ◌&&◌, Bool, true, false, not, List, [], ◌∷◌, ◌++◌, length, Option, Some, None, Result, Err, refl}
 use Rattle.std.proofs.Common.{◌∙◌, ap, sym, subst, inl, inr, arith, append-nil, length-append}
-use Rattle.std.proofs.lemmas.Bool.{eq-eqb}
+use Rattle.std.proofs.lemmas.Bool.{cases_lt, eq-eqb}
 use Rattle.bincode_base.specs.declared.error.DecodeError.{DecodeError}
 use Rattle.bincode_base.specs.declared.error.DecodeError.TheVariants.{LimitExceeded, Memory}
 use Rattle.bincode_spec.specs.Answer.{Allows, of_word, charge_after_steps}
@@ -9,12 +9,17 @@ use Rattle.bincode_spec.specs.Charge.{Step}
 use Rattle.bincode_spec.specs.Format.{Format, Reading}
 use Rattle.bincode_spec.specs.Layers.Laws.{Lawful, Balanced, BeginsWith, IsBacked, Settles}
 use Rattle.bincode_spec.specs.Meaning.{Meaning}
-use Rattle.bincode_spec.specs.Slice.{Decoded, IsAnswer}
+use Rattle.bincode_spec.specs.Decoding.{IsRefused}
+use Rattle.bincode_spec.specs.Slice.{Decoded}
 use Rattle.bincode_lemmas.specs.AnswerLaws.{after-stays, after-passes}
 use Rattle.bincode_shape.specs.declared.shape.Shape.{Shape}
 use Rattle.bincode_shape.specs.declared.shape.Value.{Value}
 use Rattle.bincode_shape.specs.ShapeLaws.{format_of-lawful, format_of-balanced}
 use Rattle.bincode_shape.specs.Shapes.{format_of, meaning, IsImage, TakesMemory}
+use Rattle.bincode_shape.specs.Counts.{capped, count_of, values_in}
+use Rattle.bincode_shape_codec.specs.Within.{IsTooMany, IsDecode, FindsFew, RefusesMany, KeepsDecodeLimit}
+use Rattle.bincode_shape_codec.specs.declared.within.DecodeWithinError.{DecodeWithinError}
+use Rattle.bincode_shape_codec.specs.declared.within.DecodeWithinError.TheVariants as errors
 use Rattle.bincode_evolution.specs.Reading.{Takes}
 use Rattle.shape_difference.specs.Alike.{alike}
 use Rattle.shape_difference.specs.Differing.{Shows}
@@ -49,47 +54,71 @@ allows_none : (limit : Option ℕ) → Allows limit 0
 allows_none None = tt
 allows_none (Some limit) = omega arith
 
-neither : (MayAllocate : Type 0) (e : DecodeError) → (e ≡ Memory → ⊥) → (e ≡ LimitExceeded → ⊥) → (e ≡ LimitExceeded) ⊎ (MayAllocate × (e ≡ Memory)) → ⊥
-neither MayAllocate e no_memory no_limit (inl h) = no_limit h
-neither MayAllocate e no_memory no_limit (inr h) = no_memory h.1
+-- what a call that counts values promises where it fails to decode
+record Failing (F : Format Meaning) (limit : Option ℕ) (input : List ℕ) (MayAllocate : Type 0) {T : Type 0} (count : Meaning → ℕ) (most : ℕ) (result : Result T DecodeWithinError) : Type 0 where
+  found : FindsFew F limit MayAllocate count most input result
+  many : RefusesMany F limit count most input result
+  limited : KeepsDecodeLimit F limit input result
 
-by_charge : (F : Format Meaning) (limit : Option ℕ) (input : List ℕ) (MayAllocate : Type 0) {T : Type 0} (DecodesTo : Meaning → T → Type 0) (e : DecodeError) →
-    IsAnswer F limit MayAllocate DecodesTo input (Err e) → (e ≡ Memory → ⊥) → (e ≡ LimitExceeded → ⊥) → (m : Meaning) (steps : List Step) (o : Option ℕ) →
+by_found : (MayAllocate : Type 0) (e : DecodeError) → (e ≡ Memory → ⊥) → IsDecode (IsRefused MayAllocate) (errors.Decode e) → ⊥
+by_found MayAllocate e no_memory h = let k = h.1 in let same : e ≡ h.0 = cc in no_memory (same ∙ h.2.1)
+
+by_limit : (e : DecodeError) → (e ≡ LimitExceeded → ⊥) → IsDecode (λ why. why ≡ LimitExceeded) (errors.Decode e) → ⊥
+by_limit e no_limit h = let k = h.1 in let same : e ≡ h.0 = cc in no_limit (same ∙ h.2)
+
+by_count : (n most : ℕ) (e : DecodeError) → IsTooMany n most (errors.Decode e) → ⊥
+by_count n most e h = absurd (cc)
+
+by_charge : (F : Format Meaning) (limit : Option ℕ) (input : List ℕ) (MayAllocate : Type 0) {T : Type 0} (count : Meaning → ℕ) (most : ℕ) (e : DecodeError) →
+    Failing F limit input MayAllocate {T = T} count most (Err (errors.Decode e)) → (e ≡ Memory → ⊥) → (e ≡ LimitExceeded → ⊥) → (m : Meaning) (steps : List Step) (o : Option ℕ) →
     BeginsWith F input m [] steps → IsBacked 0 steps → charge_after_steps limit 0 steps ≡ o → ⊥
-by_charge F limit input MayAllocate DecodesTo e a no_memory no_limit m steps (Some after) w backed k =
-    no_memory (a.found w.word [] m steps w.input_is w.is_word (after-stays limit 0 0 steps after backed (omega arith) (allows_none limit) k)).1
-by_charge F limit input MayAllocate DecodesTo e a no_memory no_limit m steps None w backed k =
-    neither MayAllocate e no_memory no_limit (a.limit steps (of_word w.word [] m w.is_word w.input_is) (after-passes limit 0 0 steps backed (omega arith) k))
+by_charge F limit input MayAllocate count most e a no_memory no_limit m steps (Some after) w backed k =
+    let within = after-stays limit 0 0 steps after backed (omega arith) (allows_none limit) k in
+    elim (cases_lt most (count m)) [
+      | inl more ↦ by_count (capped (count m)) most e (a.many w.word [] m steps w.input_is w.is_word within more)
+      | inr few ↦ by_found MayAllocate e no_memory (a.found w.word [] m steps w.input_is w.is_word within few)
+    ]
+by_charge F limit input MayAllocate count most e a no_memory no_limit m steps None w backed k =
+    by_limit e no_limit (a.limited steps (of_word w.word [] m w.is_word w.input_is) (after-passes limit 0 0 steps backed (omega arith) k))
 
 -- an error of another kind than memory and the limit tells that no word begins the input
-pub refused_untaken : (F : Format Meaning) → Lawful F → Balanced F → (limit : Option ℕ) (input : List ℕ) (MayAllocate : Type 0) {T : Type 0} (DecodesTo : Meaning → T → Type 0) (e : DecodeError) →
-    IsAnswer F limit MayAllocate DecodesTo input (Err e) → (e ≡ Memory → ⊥) → (e ≡ LimitExceeded → ⊥) → (m : Meaning) → Takes (F.read input) m [] → ⊥
-refused_untaken F f b limit input MayAllocate DecodesTo e a no_memory no_limit m t =
+refused_untaken : (F : Format Meaning) → Lawful F → Balanced F → (limit : Option ℕ) (input : List ℕ) (MayAllocate : Type 0) {T : Type 0} (count : Meaning → ℕ) (most : ℕ) (e : DecodeError) →
+    Failing F limit input MayAllocate {T = T} count most (Err (errors.Decode e)) → (e ≡ Memory → ⊥) → (e ≡ LimitExceeded → ⊥) → (m : Meaning) → Takes (F.read input) m [] → ⊥
+refused_untaken F f b limit input MayAllocate count most e a no_memory no_limit m t =
     let w = f.read_word input [] m t.0 t.1 in
     let backed = (subst (λ r. Settles 0 0 r) t.1 (b.settles input)).0 in
-    by_charge F limit input MayAllocate DecodesTo e a no_memory no_limit m t.0 (charge_after_steps limit 0 t.0) w backed refl
+    by_charge F limit input MayAllocate count most e a no_memory no_limit m t.0 (charge_after_steps limit 0 t.0) w backed refl
+
+-- a value of at most so many values is decoded
+abbrev pub DecodedWithin : Setting → Shape → Option ℕ → List ℕ → Value → ℕ → ℕ → Type 0
+DecodedWithin s shape limit word value most taken = Decoded (format_of shape s) limit word (λ m. IsImage shape m value × (values_in value ≤ most)) taken
 
 -- all bytes are a word of the old shape for a value, and none of the new shape that means the same
-pub shown : (s : Setting) (new old : Shape) (limit : Option ℕ) (word : List ℕ) (value : Value) (taken : ℕ) → Decoded (format_of old s) limit word (λ m. IsImage old m value) taken → taken ≡ length word →
+pub shown : (s : Setting) (new old : Shape) (limit : Option ℕ) (word : List ℕ) (value : Value) (most taken : ℕ) → DecodedWithin s old limit word value most taken → taken ≡ length word →
     (Takes ((format_of new s).read word) (meaning value) [] → ⊥) → Shows (format_of new s) (format_of old s) word
-shown s new old limit word value taken d h unread = record {
+shown s new old limit word value most taken d h unread = record {
   meaning = meaning value;
-  is_word = subst (λ z. Takes ((format_of old s).read word) z []) d.is_decoded.1 (decoded_all (format_of old s) (format_of-lawful old s) limit word (λ m. IsImage old m value) taken d h);
+  is_word =
+      subst (λ z. Takes ((format_of old s).read word) z []) d.is_decoded.0.1
+      (decoded_all (format_of old s) (format_of-lawful old s) limit word (λ m. IsImage old m value × (values_in value ≤ most)) taken d h);
   is_unread = unread;
 }
 
 -- the new shape takes fewer bytes, or means something else
-pub other_read : (s : Setting) (shape : Shape) (limit : Option ℕ) (word : List ℕ) (value read : Value) (taken : ℕ) → Decoded (format_of shape s) limit word (λ m. IsImage shape m read) taken →
+pub other_read : (s : Setting) (shape : Shape) (limit : Option ℕ) (word : List ℕ) (value read : Value) (most taken : ℕ) → DecodedWithin s shape limit word read most taken →
     (taken ≡ length word → alike value read ≡ true → ⊥) → Takes ((format_of shape s).read word) (meaning value) [] → ⊥
-other_read s shape limit word value read taken d h t =
-    let p = whole_decoded (format_of shape s) (format_of-lawful shape s) limit word (λ m. IsImage shape m read) taken d (meaning value) t in
-    h p.0 (alike_complete value read (p.1 ∙ d.is_decoded.1))
+other_read s shape limit word value read most taken d h t =
+    let p = whole_decoded (format_of shape s) (format_of-lawful shape s) limit word (λ m. IsImage shape m read × (values_in read ≤ most)) taken d (meaning value) t in
+    h p.0 (alike_complete value read (p.1 ∙ d.is_decoded.0.1))
 
 -- or it reads nothing
-pub refused : (s : Setting) (shape : Shape) (limit : Option ℕ) (word : List ℕ) (value : Value) (e : DecodeError) → IsAnswer (format_of shape s) limit (TakesMemory shape) (IsImage shape) word (Err e) →
-    (e ≡ Memory → ⊥) → (e ≡ LimitExceeded → ⊥) → Takes ((format_of shape s).read word) (meaning value) [] → ⊥
-refused s shape limit word value e a no_memory no_limit t =
-    refused_untaken (format_of shape s) (format_of-lawful shape s) (format_of-balanced shape s) limit word (TakesMemory shape) (IsImage shape) e a no_memory no_limit (meaning value) t
+pub refused : (s : Setting) (shape : Shape) (limit : Option ℕ) (word : List ℕ) (value : Value) (T : Type 0) (most : ℕ) (failure : DecodeWithinError) (e : DecodeError) → failure ≡ errors.Decode e →
+    FindsFew {A = T} (format_of shape s) limit (TakesMemory shape) (count_of shape) most word (Err failure) → RefusesMany {A = T} (format_of shape s) limit (count_of shape) most word (Err failure) →
+    KeepsDecodeLimit {A = T} (format_of shape s) limit word (Err failure) → (e ≡ Memory → ⊥) → (e ≡ LimitExceeded → ⊥) → Takes ((format_of shape s).read word) (meaning value) [] → ⊥
+refused s shape limit word value T most failure e is found many limited no_memory no_limit t =
+    let failing : Failing (format_of shape s) limit word (TakesMemory shape) {T = T} (count_of shape) most (Err failure) = record { found = found; many = many; limited = limited } in
+    refused_untaken (format_of shape s) (format_of-lawful shape s) (format_of-balanced shape s) limit word (TakesMemory shape) {T = T} (count_of shape) most e
+    (subst (λ w. Failing (format_of shape s) limit word (TakesMemory shape) {T = T} (count_of shape) most (Err w)) is failing) no_memory no_limit (meaning value) t
 
 pub told : (taken len : ℕ) (is_alike result : Bool) → result ≡ not ((taken == len) && is_alike) → result ≡ true → taken ≡ len → is_alike ≡ true → ⊥
 told taken len is_alike result e h whole same =

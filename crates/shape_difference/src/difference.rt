@@ -8,11 +8,14 @@ ghost use Rattle.shape_difference.specs.Differing.{Shows};
 
 use crate::alike::are_alike;
 use crate::draw::{Sketch, draw};
-use crate::sample::TRIALS;
+use crate::sample::{MOST_VALUES, TRIALS, weight_of};
 use bincode::config::Config;
 use bincode::error::DecodeError;
-use bincode::shape::{Shape, Value, decode_shaped};
+use bincode::shape::{DecodeWithinError, Shape, Value, decode_shaped_within};
 use std::alloc::{AllocError, Global};
+
+/// The most parts of one shape times those of the other for which samples are tried.
+const MOST_WORK: usize = 268_435_456;
 
 /// What a new shape does not read as an old one does.
 #[derive(Debug, Drop)]
@@ -25,8 +28,8 @@ pub struct Difference {
 }
 
 /// Bytes that show that the new shape does not read all words of the old one, if some are found: samples are made where
-/// the rules of `reads_all` tell that the two differ, and each is tested by decoding it. `None` says nothing. Fails if
-/// an allocation is refused.
+/// the rules of `reads_all` tell that the two differ, and each is tested by decoding it. `None` says nothing, and is the
+/// answer for very large shapes. Fails if an allocation is refused.
 pub fn explain<C: Config>(
     alloc: Global,
     new: &Shape,
@@ -36,6 +39,9 @@ pub fn explain<C: Config>(
     ensures { IfOk result (λ found. IfSome found (λ difference. Shows (format_of new.now C.setting)
         (format_of old.now C.setting) difference.word.items)) }
 {
+    if weight_of(new).saturating_mul(weight_of(old)) > MOST_WORK {
+        return Ok(None);
+    }
     for trial in 0..TRIALS {
         let mut sketch = Sketch::new(alloc);
         draw(&mut sketch, new, old, trial, config)?;
@@ -47,12 +53,25 @@ pub fn explain<C: Config>(
     Ok(None)
 }
 
+/// Where the rules of `reads_all` tell that the new shape does not read all words of the old one: in which part, in
+/// which part of that, and so on, as the place of a `Difference`. Fails if an allocation is refused.
+pub fn place_of<C: Config>(
+    alloc: Global,
+    new: &Shape,
+    old: &Shape,
+    config: C,
+) -> Result<Vec<usize>, AllocError> {
+    let mut sketch = Sketch::new(alloc);
+    draw(&mut sketch, new, old, 0, config)?;
+    Ok(sketch.place)
+}
+
 /// Whether decoding shows that all of these bytes are a word of the old shape, and not one of the new shape with the
-/// same meaning. `false` says nothing: it may be for want of memory, or because of the limit.
+/// same meaning. `false` says nothing: it may be for want of memory, because of the limit, or because of many values.
 pub fn shows<C: Config>(alloc: Global, new: &Shape, old: &Shape, word: &[u8], config: C) -> bool
     ensures { IsTrue result → Shows (format_of new.now C.setting) (format_of old.now C.setting) word.now }
 {
-    match decode_shaped(alloc, old, word, config) {
+    match decode_shaped_within(alloc, old, word, config, MOST_VALUES) {
         Ok((value, taken)) => taken == word.len() && is_unread(alloc, new, &value, word, config),
         Err(_) => false,
     }
@@ -62,9 +81,10 @@ pub fn shows<C: Config>(alloc: Global, new: &Shape, old: &Shape, word: &[u8], co
 fn is_unread<C: Config>(alloc: Global, shape: &Shape, value: &Value, word: &[u8], config: C) -> bool
     ensures { IsTrue result → Takes ((format_of shape.now C.setting).read word.now) (meaning value.now) [] → ⊥ }
 {
-    match decode_shaped(alloc, shape, word, config) {
+    match decode_shaped_within(alloc, shape, word, config, MOST_VALUES) {
         Ok((read, taken)) => is_other(value, &read, taken == word.len()),
-        Err(error) => is_fault(&error),
+        Err(DecodeWithinError::Decode(error)) => is_fault(&error),
+        Err(_) => false,
     }
 }
 

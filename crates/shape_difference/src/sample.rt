@@ -25,8 +25,11 @@ const NUMBERS: [u128; 13] = [
 /// How many samples of a shape differ.
 pub(crate) const TRIALS: usize = 13;
 
-/// Of longer arrays no sample is made.
-const LONGEST: usize = 4096;
+/// Of arrays no samples are made that are longer, in bytes.
+const LONGEST: usize = 65_536;
+
+/// Nor are samples made of arrays, or values of words, that have more parts of parts.
+pub(crate) const MOST_VALUES: usize = 262_144;
 
 /// Appends the encoding of a number that is cut to this width in bytes.
 pub(crate) fn put_number<C: Config>(
@@ -113,7 +116,12 @@ pub(crate) fn put_sample<C: Config>(
         }
         Shape::U128 | Shape::I128 => put_sample_number(bytes, trial, 16, config),
         Shape::Seq { claim: _, element } => {
-            let len = if has_words(element) { trial % 4 } else { 0 };
+            let wanted = trial % 4;
+            let len = if wanted > 0 && has_words(element) {
+                wanted
+            } else {
+                0
+            };
             put_number(bytes, len as u128, 8, config)?;
             put_repeated(bytes, element, len, config)
         }
@@ -145,7 +153,33 @@ fn put_text<C: Config>(bytes: &mut Vec<u8>, len: usize, config: C) -> Result<(),
     Ok(())
 }
 
-/// Appends so many equal samples of the element.
+/// How many parts of parts a sample of the shape has at most. Samples in samples have lists without elements.
+#[cycle(weights)]
+pub(crate) fn weight_of(shape: &Shape) -> usize {
+    match shape {
+        Shape::Array {
+            len,
+            claim: _,
+            element,
+        } => weight_of(element).saturating_mul(*len).saturating_add(1),
+        Shape::Tuple(parts) => weight_of_all(parts),
+        Shape::Optional(part) => weight_of(part).saturating_add(1),
+        Shape::Choice(parts) => weight_of_all(parts),
+        _ => 1,
+    }
+}
+
+/// The sum over these shapes, and one.
+#[cycle(weights)]
+fn weight_of_all(shapes: &[Shape]) -> usize {
+    let mut sum = 1usize;
+    for shape in shapes {
+        sum = sum.saturating_add(weight_of(shape));
+    }
+    sum
+}
+
+/// Appends so many equal samples of the element, or one if it has no bytes. Fewer are no word, and so show nothing.
 #[cycle(sample)]
 pub(crate) fn put_repeated<C: Config>(
     bytes: &mut Vec<u8>,
@@ -153,8 +187,13 @@ pub(crate) fn put_repeated<C: Config>(
     len: usize,
     config: C,
 ) -> Result<(), AllocError> {
-    for _ in 0..len.min(LONGEST) {
+    let most = MOST_VALUES / weight_of(element).max(1);
+    for _ in 0..len.min(most) {
+        let before = bytes.len();
         put_sample(bytes, element, 0, config)?;
+        if bytes.len() == before || bytes.len() > LONGEST {
+            break;
+        }
     }
     Ok(())
 }

@@ -8,7 +8,7 @@ use Rattle.bincode_shape.specs.declared.shape.Shape.TheVariants as shapes
 use Rattle.shape_grammar.specs.declared.nested.Nested.{Nested}
 use Rattle.shape_grammar.specs.declared.text.ShapeTextError.{ShapeTextError}
 use Rattle.shape_grammar.specs.Claims.{claim, capped}
-use Rattle.shape_grammar.specs.Grammar.{Kind, Spells, Alone, Marked, Any, Variants, Parts, Length, nothing, tuple, tuple_comma, list, array, unmarked, optional, one, choice, variants, variant, part, parts}
+use Rattle.shape_grammar.specs.Grammar.{Kind, Spells, Alone, Marked, Any, Variants, Barred, Parts, Length, nothing, tuple, tuple_comma, list, array, unmarked, optional, one, choice, barred_choice, variants, variant, barred, barred_variant, part, parts}
 use Rattle.shape_grammar.specs.Marks.{Mark}
 
 -- `Spells` of an equal shape, an equal rest, and equal shapes
@@ -17,6 +17,10 @@ as_shape {k} {a} {b} e s = subst (λ z. Spells k a (z ∷ []) b) (sym e) s
 
 pub as_rest : {k : Kind} {a b c : List ℕ} {xs : List Shape} → c ≡ b → Spells k a xs b → Spells k a xs c
 as_rest {k} {a} {b} {c} {xs} e s = subst (λ z. Spells k a xs z) (sym e) s
+
+-- `Spells` of an equal front, of what was read, if anything was
+pub as_front : (a b c : List ℕ) (r : Result Nested ShapeTextError) → b ≡ a → IfOk r (λ read. Spells Any b (read.shape ∷ []) c) → IfOk r (λ read. Spells Any a (read.shape ∷ []) c)
+as_front a b c r e h = subst (λ z. IfOk r (λ read. Spells Any z (read.shape ∷ []) c)) e h
 
 as_shapes : {k : Kind} {a b : List ℕ} {xs ys : List Shape} → ys ≡ xs → Spells k a xs b → Spells k a ys b
 as_shapes {k} {a} {b} e s = subst (λ z. Spells k a z b) (sym e) s
@@ -44,6 +48,18 @@ pub choice-of : (a b c : List ℕ) (v : Vec Shape Global) (r : Result Nested Sha
     Spells Variants a v.items b → IfOk r (λ read. Spells Any a (read.shape ∷ []) c)
 choice-of a b c v (Ok read) e f s = as_shape e (as_rest f (choice a b v s))
 choice-of a b c v (Err why) e f s = tt
+
+pub first-barred : (a b c : List ℕ) (first : Shape) (none single : List Shape) → none ≡ [] → single ≡ none ++ first ∷ [] → Mark 124 a b → Spells Marked b (first ∷ []) c → Spells Barred a single c
+first-barred a b c first none single p q m s = as_shapes (q ∙ ap (λ z. z ++ first ∷ []) p) (barred a b c first m s)
+
+pub more-barred : (a b c d : List ℕ) (others longer : List Shape) (last : Shape) → longer ≡ others ++ last ∷ [] →
+    Spells Barred a others b → Mark 124 b c → Spells Marked c (last ∷ []) d → Spells Barred a longer d
+more-barred a b c d others longer last e s m t = as_shapes e (barred_variant a b c d others last s m t)
+
+pub barred_choice-of : (b c d : List ℕ) (v : Vec Shape Global) (r : Result Nested ShapeTextError) → IfOk r (λ read. read.shape ≡ shapes.Choice v) → d ≡ c →
+    ((a : List ℕ) → Mark 124 a b → Spells Barred a v.items c) → IfOk r (λ read. (a : List ℕ) → Mark 124 a b → Spells Any a (read.shape ∷ []) d)
+barred_choice-of b c d v (Ok read) e f s = λ a m. as_shape e (as_rest f (barred_choice a c v (s a m)))
+barred_choice-of b c d v (Err why) e f s = tt
 
 pub marked-of : (a b c : List ℕ) (inner : Shape) (r : Result Nested ShapeTextError) →
     IfOk r (λ read. (x : List ℕ) → Spells Marked x (inner ∷ []) b → Spells Marked x (read.shape ∷ []) c) → Spells Alone a (inner ∷ []) b →

@@ -9,13 +9,14 @@ use Rattle.shape_grammar.specs.Claims.{claim, capped}
 use Rattle.shape_grammar.specs.Marks.{Mark, Word, IsEnd}
 use Rattle.shape_grammar.specs.Names.{shape_named}
 
--- what is spelled: a part alone, a part with question marks after it, any part; variants with bars between them, and
--- parts with commas between them
+-- what is spelled: a part alone, a part with question marks after it, any part; variants with bars between them, variants
+-- with a bar before each, and parts with commas between them
 pub data Kind : Type 0 where
   Alone : Kind
   Marked : Kind
   Any : Kind
   Variants : Kind
+  Barred : Kind
   Parts : Kind
 
 -- a length in decimal digits, which a plus may precede
@@ -39,8 +40,11 @@ pub data Spells : Kind → List ℕ → List Shape → List ℕ → Type 0 where
   optional : (a b c : List ℕ) (part : Box Shape Global) → Spells Marked a (part.value ∷ []) b → Mark 63 b c → Spells Marked a (shapes.Optional part ∷ []) c
   one : (a b : List ℕ) (shape : Shape) → Spells Marked a (shape ∷ []) b → Spells Any a (shape ∷ []) b
   choice : (a b : List ℕ) (variants : Vec Shape Global) → Spells Variants a variants.items b → Spells Any a (shapes.Choice variants ∷ []) b
+  barred_choice : (a b : List ℕ) (variants : Vec Shape Global) → Spells Barred a variants.items b → Spells Any a (shapes.Choice variants ∷ []) b
   variants : (a b c d : List ℕ) (first second : Shape) → Spells Marked a (first ∷ []) b → Mark 124 b c → Spells Marked c (second ∷ []) d → Spells Variants a (first ∷ second ∷ []) d
   variant : (a b c d : List ℕ) (others : List Shape) (last : Shape) → Spells Variants a others b → Mark 124 b c → Spells Marked c (last ∷ []) d → Spells Variants a (others ++ last ∷ []) d
+  barred : (a b c : List ℕ) (first : Shape) → Mark 124 a b → Spells Marked b (first ∷ []) c → Spells Barred a (first ∷ []) c
+  barred_variant : (a b c d : List ℕ) (others : List Shape) (last : Shape) → Spells Barred a others b → Mark 124 b c → Spells Marked c (last ∷ []) d → Spells Barred a (others ++ last ∷ []) d
   part : (a b : List ℕ) (shape : Shape) → Spells Any a (shape ∷ []) b → Spells Parts a (shape ∷ []) b
   parts : (a b c d : List ℕ) (others : List Shape) (last : Shape) → Spells Parts a others b → Mark 44 b c → Spells Any c (last ∷ []) d → Spells Parts a (others ++ last ∷ []) d
 

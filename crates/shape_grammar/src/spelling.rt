@@ -16,8 +16,8 @@ impl<'s> fmt::Display for Spelled<'s> {
 
 /// The text that spells a shape: `shape_of` reads the same shape of it, where at most 64 brackets, question marks and
 /// bars stand around a part, and each list and array claims what `claim_of` tells of its elements. A tuple without
-/// parts and an enum of fewer than two variants have no spelling; they are shown as `(,)`, `(|)` and `(A|)`, of which
-/// `shape_of` reads none. Fails where memory is refused.
+/// parts and an enum without variants have no spelling; they are shown as `(,)` and `(|)`, of which `shape_of` reads
+/// neither. Fails where memory is refused.
 pub fn text_of(alloc: Global, shape: &Shape) -> Result<String, AllocError> {
     format!(in alloc; "{}", Spelled(shape))
 }
@@ -54,7 +54,7 @@ fn write_shape<W: fmt::Write>(shape: &Shape, out: &mut fmt::Formatter<W>) -> fmt
 #[cycle(spelling)]
 fn write_part<W: fmt::Write>(shape: &Shape, out: &mut fmt::Formatter<W>) -> fmt::Result {
     match shape {
-        Shape::Choice(variants) if variants.len() > 1 => {
+        Shape::Choice(variants) if !variants.is_empty() => {
             out.write_str("(")?;
             write_variants(variants, out)?;
             out.write_str(")")
@@ -78,21 +78,21 @@ fn write_tuple<W: fmt::Write>(parts: &[Shape], out: &mut fmt::Formatter<W>) -> f
     out.write_str(if parts.len() < 2 { ",)" } else { ")" })
 }
 
-/// Writes the variants of an enum with bars between them, and fewer than two in brackets.
+/// Writes the variants of an enum with bars between them, and one alone after a bar.
 #[cycle(spelling)]
 fn write_variants<W: fmt::Write>(variants: &[Shape], out: &mut fmt::Formatter<W>) -> fmt::Result {
-    if variants.len() < 2 {
-        out.write_str("(")?;
+    if variants.is_empty() {
+        return out.write_str("(|)");
     }
-    let mut is_first = true;
+    let mut is_barred = variants.len() == 1;
     for variant in variants {
-        if !is_first {
+        if is_barred {
             out.write_str("|")?;
         }
         write_part(variant, out)?;
-        is_first = false;
+        is_barred = true;
     }
-    out.write_str(if variants.len() < 2 { "|)" } else { "" })
+    Ok(())
 }
 
 /// The name of a shape without parts, and an empty text for one with parts.

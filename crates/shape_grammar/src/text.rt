@@ -11,6 +11,7 @@
 //! | `(A, B)` | an A and then a B; one alone is `(A,)` |
 //! | `T?` | an optional T |
 //! | `A\|B` | an enum: the tag 0 and an A, or the tag 1 and a B |
+//! | `\|A` | an enum of one variant: the tag 0 and an A. A bar may also stand before the first of several |
 //! | `(T)` | T: brackets around a part |
 //!
 //! At most 64 brackets, question marks and bars stand around a part, counted together.
@@ -89,9 +90,28 @@ pub fn shape_of(alloc: Global, text: &str) -> Result<Shape, ShapeTextError>
     Ok(read.shape)
 }
 
-/// One part, or several with `|` between them. At most `depth` levels are read, as by each function below.
+/// One part, or several with `|` between them, or some after a `|` before the first. At most `depth` levels are read,
+/// as by each function below.
 #[cycle(shapes)]
 fn any_shape(alloc: Global, scanner: &mut Scanner<'_>, depth: u32) -> Result<Nested, ShapeTextError>
+    ensures levels { IfOk result (λ read. read.levels ≤ depth) }
+    ensures spelled { IfOk result (λ read. Spells Any scanner.old.rest.now (read.shape ∷ []) scanner.new.rest.now) }
+{
+    let bar = scanner.place();
+    if scanner.takes('|') {
+        barred_shape(alloc, scanner, depth, bar)
+    } else {
+        unbarred_shape(alloc, scanner, depth)
+    }
+}
+
+/// One part, or several with `|` between them.
+#[cycle(shapes)]
+fn unbarred_shape(
+    alloc: Global,
+    scanner: &mut Scanner<'_>,
+    depth: u32,
+) -> Result<Nested, ShapeTextError>
     ensures levels { IfOk result (λ read. read.levels ≤ depth) }
     ensures spelled { IfOk result (λ read. Spells Any scanner.old.rest.now (read.shape ∷ []) scanner.new.rest.now) }
 {
@@ -104,6 +124,29 @@ fn any_shape(alloc: Global, scanner: &mut Scanner<'_>, depth: u32) -> Result<Nes
     let mut variants = Parts::new(alloc);
     variants.push(first)?;
     variants.push(second)?;
+    for _ in 0..u64::MAX {
+        if !scanner.takes('|') {
+            return choice(variants, depth, bar);
+        }
+        variants.push(optional_shape(alloc, scanner, depth)?)?;
+    }
+    expected(scanner, "fewer variants")
+}
+
+/// What follows a `|` at this offset, before the first variant: that one, and any after it.
+#[cycle(shapes)]
+fn barred_shape(
+    alloc: Global,
+    scanner: &mut Scanner<'_>,
+    depth: u32,
+    bar: usize,
+) -> Result<Nested, ShapeTextError>
+    ensures levels { IfOk result (λ read. read.levels ≤ depth) }
+    ensures spelled { IfOk result (λ read. (a : List ℕ) → Mark 124 a scanner.old.rest.now
+        → Spells Any a (read.shape ∷ []) scanner.new.rest.now) }
+{
+    let mut variants = Parts::new(alloc);
+    variants.push(optional_shape(alloc, scanner, depth)?)?;
     for _ in 0..u64::MAX {
         if !scanner.takes('|') {
             return choice(variants, depth, bar);

@@ -10,7 +10,7 @@ const SCALARS: &str = "((), bool, char, text, u8, u16, u32, u64, u128, \
     usize, i8, i16, i32, i64, i128, isize)";
 
 /// Texts, and the shapes that they spell.
-const SHAPES: [(&str, &str); 10] = [
+const SHAPES: [(&str, &str); 13] = [
     (
         SCALARS,
         "Tuple([Unit, Bool, Char, Text, U8, U16, U32, U64, U128, Usize, I8, I16, I32, I64, I128, Isize])",
@@ -33,6 +33,12 @@ const SHAPES: [(&str, &str); 10] = [
         "Seq { claim: 13, element: Choice([Unit, Optional(Isize)]) }",
     ),
     ("usize??", "Optional(Optional(Usize))"),
+    ("|text", "Choice([Text])"),
+    (" | u8 | ()", "Choice([U8, Unit])"),
+    (
+        "[(|(|u8), |()?)]",
+        "Seq { claim: 15, element: Tuple([Choice([Choice([U8])]), Choice([Optional(Unit)])]) }",
+    ),
 ];
 
 /// What a part begins with.
@@ -41,7 +47,7 @@ const PART: &str =
     i128 or isize)";
 
 /// Texts that are no shape: the offset in bytes, what is expected there, and what is met.
-const REFUSED: [(&str, usize, &str, &str); 8] = [
+const REFUSED: [(&str, usize, &str, &str); 10] = [
     ("(u8", 3, "`,`, `)`, `?` or `|`", "the end"),
     ("(u8, u9)", 5, PART, "`u9`"),
     (
@@ -53,6 +59,8 @@ const REFUSED: [(&str, usize, &str, &str); 8] = [
     ("[u8)", 3, "`]`, `;`, `?` or `|`", "`)`"),
     ("u8 u8", 3, "the end, `?` or `|`", "`u8`"),
     ("(,)", 1, PART, "`,`"),
+    ("(|)", 2, PART, "`)`"),
+    ("(u8|)", 4, PART, "`)`"),
     (" é", 1, PART, "`é`"),
     (
         "abcdefghijklmnopqrstuvwxyz",
@@ -108,7 +116,7 @@ fn refuses_texts(rt: HostRuntime) {
 
 /// A mark before a part and one after it, which stand around the part as often, and what comes of that: the depth of
 /// the shape, or from which byte on it is too deep. 64 brackets, question marks and bars may stand around a part.
-const LEVELS: [(usize, &str, &str, &str, Result<usize, usize>); 8] = [
+const LEVELS: [(usize, &str, &str, &str, Result<usize, usize>); 10] = [
     (64, "[", "u8", "]", Ok(64)),
     (65, "[", "u8", "]", Err(64)),
     (64, "(", "u8", ")", Ok(0)),
@@ -117,6 +125,8 @@ const LEVELS: [(usize, &str, &str, &str, Result<usize, usize>); 8] = [
     (32, "[", "u8?", "?]", Err(97)),
     (63, "[", "u8|u8", "]", Ok(64)),
     (64, "[", "u8|u8", "]", Err(66)),
+    (32, "(|", "u8", ")", Ok(32)),
+    (33, "(|", "u8", ")", Err(3)),
 ];
 
 /// A part with as many marks before it and after it.
@@ -192,7 +202,7 @@ fn shows(alloc: Global, text: &str, wanted: &str) -> bool {
 }
 
 /// Texts of shapes, and as they are shown.
-const SHOWN: [(&str, &str); 10] = [
+const SHOWN: [(&str, &str); 12] = [
     (SCALARS, SCALARS),
     ("[u8; 4294967297]", "[u8; 4294967297]"),
     ("(char,)", "(char,)"),
@@ -202,6 +212,8 @@ const SHOWN: [(&str, &str); 10] = [
     ("i128??", "i128??"),
     ("((u8|u16)?, [char|bool])", "((u8|u16)?, [char|bool])"),
     (" ( ( u8 ) ) ? ", "u8?"),
+    ("((|u8), (|(|u8))?)", "(|u8, (|(|u8))?)"),
+    ("|u8|()", "u8|()"),
     ("[ u8;03 ]", "[u8; 3]"),
 ];
 

@@ -1,6 +1,7 @@
 //! Shapes as short texts, such as `(u8, [u16], text?, u32|text)`, and what a stream holds by a shape, as JSON.
 #![tactic(auto)]
 
+mod comparing;
 pub mod describing;
 pub mod failure;
 mod framed;

@@ -1,8 +1,9 @@
 //! What the program `describe` does with the input that its words name.
 
+use crate::comparing::run_comparison;
 use crate::describing::describe;
 use crate::failure::DescribeError;
-use crate::request::{Request, request_of};
+use crate::request::{Asked, Request, asked_of};
 use clap::Error;
 use clap::error::ErrorKind;
 use std::fmt::Display;
@@ -15,17 +16,22 @@ pub const DONE: u8 = 0;
 /// The status where the input is damaged or torn, or holds what is no encoding of the shape.
 pub const DAMAGED: u8 = 1;
 
+/// The status where not each file of an old shape is read by a new one.
+pub const UNREAD: u8 = 1;
+
 /// The status where the words spell no request.
 pub const USAGE: u8 = 2;
 
 /// The status where the input or the output fails, or memory is refused.
 pub const FAILED: u8 = 3;
 
-/// Prints what the input of these words holds, of which the first is the program's name, and returns the status with
-/// which the program ends. What goes wrong is printed to the standard error, unless the reader of the output is gone.
+/// Prints what the input of these words holds, of which the first is the program's name, or how the shapes that they
+/// name compare, and returns the status with which the program ends. What goes wrong is printed to the standard error,
+/// unless the reader of the output is gone.
 pub fn run(rt: &HostRuntime, words: &[String]) -> u8 {
-    match request_of(rt.alloc(), words) {
-        Ok(request) => run_request(rt, &request),
+    match asked_of(rt.alloc(), words) {
+        Ok(Asked::Describe(request)) => run_request(rt, &request),
+        Ok(Asked::Compare(comparison)) => run_comparison(rt, &comparison),
         Err(error) => usage(rt, &error),
     }
 }
@@ -71,17 +77,20 @@ fn status_of(rt: &HostRuntime, name: &str, printed: &Result<bool, DescribeError>
     match printed {
         Ok(true) => DONE,
         Ok(false) => DAMAGED,
-        Err(DescribeError::Write(cause)) => {
-            if cause.kind() != io::ErrorKind::BrokenPipe {
-                complain(rt, "standard output", cause);
-            }
-            FAILED
-        }
+        Err(DescribeError::Write(cause)) => unwritten(rt, cause),
         Err(error) => {
             complain(rt, name, error);
             if error.is_damage() { DAMAGED } else { FAILED }
         }
     }
+}
+
+/// The status where the output failed. That is told, unless its reader is gone.
+pub(crate) fn unwritten(rt: &HostRuntime, cause: &io::Error) -> u8 {
+    if cause.kind() != io::ErrorKind::BrokenPipe {
+        complain(rt, "standard output", cause);
+    }
+    FAILED
 }
 
 /// Prints what went wrong with a stream of this name. Where that fails, nobody can be told.

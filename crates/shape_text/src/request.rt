@@ -5,7 +5,35 @@ use bincode::config::{Endianness, IntEncoding};
 use bincode::shape::Shape;
 use clap::error::ErrorKind;
 use clap::{Arg, ArgAction, ArgMatches, Command, Error};
+use evolution_text::setting::Setting;
 use std::alloc::{AllocError, Global};
+
+/// What the words of the program ask for.
+#[derive(Drop)]
+pub enum Asked {
+    /// What a file holds.
+    Describe(Request),
+    /// Whether one shape reads all that another one wrote.
+    Compare(Comparison),
+}
+
+/// Which shapes are compared, and for which settings.
+#[derive(Drop)]
+pub struct Comparison {
+    /// The shapes.
+    pub shapes: Compared,
+    /// The one setting that is asked for; `None` for all.
+    pub setting: Option<Setting>,
+}
+
+/// Which shapes are compared.
+#[derive(Drop)]
+pub enum Compared {
+    /// A new one and an old one, each as a text, or as the path of a file with the text, after `@`.
+    Two { new: String, old: String },
+    /// Those of the lines of the standard input.
+    Lines,
+}
 
 /// What is described, and how it was written.
 #[derive(Drop)]
@@ -50,6 +78,10 @@ const MOST_VALUES: u64 = 1_000_000;
 /// The greatest length of a word in frames by default.
 const LONGEST: u32 = 1_048_576;
 
+/// How the program is called.
+const USAGE: &str = "describe [OPTIONS] SHAPE [FILE]
+       describe [OPTIONS] --reads NEW OLD";
+
 /// What stands at the end of the help.
 const AFTER_HELP: &str = "Shapes:
   ()                           nothing, in no bytes
@@ -62,6 +94,7 @@ const AFTER_HELP: &str = "Shapes:
   (A, B)                       a tuple or a struct of an A and a B; of one part (A,)
   T?                           an optional T
   A|B                          an enum: its variants in order, one without parts is ()
+  |A                           an enum of one variant
   (T)                          T, in brackets around a part
 
 Output:
@@ -78,9 +111,20 @@ Output:
   \"undecodable\":WHY, where the word begins with no encoding, or \"longer\":BYTES, where it goes on
   after one. Damaged frames in a row share a line, with \"damaged\":COUNT and the bytes of all.
 
+Changes of a type:
+  describe --reads NEW OLD tells whether each file of values of the shape OLD is read by the shape
+  NEW, as the same values. --config, --fixed and --big-endian choose one setting; without them it
+  tells of all four. Where a file is not read, it shows bytes of OLD that NEW does not read as the
+  same, and where the shapes differ: parts and variants are counted from 0. It is told by the rules
+  of docs/FORMAT.md, section 16. No limit is looked at: under one, NEW may need a larger one.
+
+  @FILE in place of a shape is a file that holds its text. describe --reads - tells of the shapes in
+  the lines of the standard input, each NEW before its OLD.
+
 Status:
-  0  all is whole
-  1  the input is damaged or torn, or holds what is no encoding of the shape
+  0  all is whole; with --reads, each file of OLD is read by NEW
+  1  the input is damaged or torn, or holds what is no encoding of the shape; with --reads, not each
+     file of OLD is read
   2  wrong arguments
   3  the file, the standard input or the standard output fails, or memory is refused";
 
@@ -88,12 +132,13 @@ Status:
 fn command<'a>(alloc: Global) -> Result<Command<'a>, AllocError> {
     let command = Command::new(alloc, "describe")
         .version("2.0.0")
-        .override_usage("describe [OPTIONS] SHAPE [FILE]")
+        .override_usage(USAGE)
         .about("Prints what a file in the format of bincode holds, by the shape of its values")
         .after_help(AFTER_HELP);
     let command = with_format(alloc, command)?;
     let command = with_amounts(alloc, command)?;
     let command = with_frames(alloc, command)?;
+    let command = command.arg(reads_arg(alloc)?)?;
     with_source(alloc, command)
 }
 
@@ -107,14 +152,14 @@ fn shape_arg<'a>(alloc: Global) -> Arg<'a> {
     Arg::new(alloc, "shape")
         .value_name("SHAPE")
         .required(true)
-        .help("The shape of the values, as (u8, [u16], text?, u32|text)")
+        .help("The shape of the values, as (u8, [u16], text?, u32|text); with --reads the new one")
 }
 
 /// The argument `FILE`.
 fn file_arg<'a>(alloc: Global) -> Arg<'a> {
-    Arg::new(alloc, "file")
-        .value_name("FILE")
-        .help("The file; the standard input, where it is - or missing")
+    Arg::new(alloc, "file").value_name("FILE").help(
+        "The file; the standard input, where it is - or missing; with --reads the old shape",
+    )
 }
 
 /// The options that say how the input was written.
@@ -200,12 +245,56 @@ fn longest_arg<'a>(alloc: Global) -> Result<Arg<'a>, AllocError> {
         .requires_arg("frames")
 }
 
-/// The request that these words spell, of which the first is the program's name. Where they spell none, or ask for help
-/// or for the version, the error has the text for it.
-pub fn request_of(alloc: Global, words: &[String]) -> Result<Request, Error> {
+/// The option `--reads`.
+fn reads_arg<'a>(alloc: Global) -> Result<Arg<'a>, AllocError> {
+    let reads = Arg::new(alloc, "reads")
+        .long("reads")
+        .action(ArgAction::SetTrue)
+        .help("Tells whether the shape NEW reads all that the shape OLD wrote");
+    let reads = reads.conflicts_with("frames")?.conflicts_with("limit")?;
+    reads.conflicts_with("values")
+}
+
+/// What these words ask for, of which the first is the program's name. Where they ask for nothing, or for help or for
+/// the version, the error has the text for it.
+pub fn asked_of(alloc: Global, words: &[String]) -> Result<Asked, Error> {
     let matches = command(alloc)?.try_get_matches_from(words)?;
-    let shape = shape_in(alloc, matches.get_str("shape").unwrap_or(""))?;
-    Ok(request_in(alloc, &matches, shape)?)
+    let shape = matches.get_str("shape").unwrap_or("");
+    if matches.get_flag("reads") {
+        return Ok(Asked::Compare(comparison_in(alloc, &matches, shape)?));
+    }
+    let shape = shape_in(alloc, shape)?;
+    Ok(Asked::Describe(request_in(alloc, &matches, shape)?))
+}
+
+/// Which shapes are compared, of which the first is given, or `-`.
+fn comparison_in(alloc: Global, found: &ArgMatches<'_>, first: &str) -> Result<Comparison, Error> {
+    let shapes = match found.get_str("file") {
+        Some(old) => Compared::Two {
+            new: String::from_str(alloc, first)?,
+            old: String::from_str(alloc, old)?,
+        },
+        None if first == "-" => Compared::Lines,
+        None => {
+            let kind = ErrorKind::MissingRequiredArgument;
+            return Err(command(alloc)?.error(kind, "--reads wants two shapes, NEW and OLD")?);
+        }
+    };
+    Ok(Comparison {
+        shapes,
+        setting: setting_in(found),
+    })
+}
+
+/// The setting for which options ask, if there are any.
+fn setting_in(found: &ArgMatches<'_>) -> Option<Setting> {
+    let is_chosen = found.get_flag("fixed")
+        || found.get_flag("big-endian")
+        || found.get_str("config").is_some();
+    is_chosen.then_some(Setting {
+        encoding: encoding_in(found),
+        order: endian_in(found),
+    })
 }
 
 /// The shape that a text spells, or the error with the usage.

@@ -10,8 +10,10 @@ use bincode::enums::{
 };
 use bincode::error::{DecodeError, EncodeError};
 use bincode::laws::{Canonical, Exact, Plain};
+use bincode::shape::{Described, Shape, describe_variants, put_variant, start_variants};
 use bincode::short_text::TypeName;
 use bincode::{NoMoreVariants, VariantOf, Wire};
+use std::alloc::Global;
 
 type SavedFirstPart = BTreeMap<String, u64>;
 
@@ -77,6 +79,14 @@ impl Canonical for Saved {
     fn tell_canonical() {
         SavedFirstPart::tell_canonical();
         canonical_by_variants::<Saved>();
+    }
+}
+
+impl Described for Saved {
+    fn shape(alloc: Global) -> Option<Shape> {
+        let shapes = start_variants::<Saved>(alloc);
+        let shapes = put_variant::<Saved, SavedFirstPart>(alloc, 0, shapes)?;
+        Some(describe_variants::<Saved>(1, shapes))
     }
 }
 

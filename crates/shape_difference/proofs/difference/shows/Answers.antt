@@ -9,7 +9,7 @@ returns-in-Ok g c =
     λ h.
     elim c.if-taken-word.branch [
       | then-taken-word w ↦
-          shown g.C.Config.setting c.args.new.now c.args.old.now g.C.Config.bound c.args.word.now c.in-Ok.value c.in-Ok.taken c.in-Ok.ensures.answer.word w.if-taken-word.true
+          shown g.C.Config.setting c.args.new.now c.args.old.now g.C.Config.bound c.args.word.now c.in-Ok.value 262144 c.in-Ok.taken c.in-Ok.ensures.word w.if-taken-word.true
           (w.is_unread.ensures (sym w.result-is ∙ h))
       | else-taken-word w ↦ absurd (w.if-taken-word.false (eqb-true c.in-Ok.taken (length c.args.word.now) (sym w.result-is ∙ h)))
     ]

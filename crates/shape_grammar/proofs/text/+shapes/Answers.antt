@@ -1,15 +1,46 @@
 use Rattle.std.proofs.Common.{ap, refl, arith, ◌∙◌}
 use Rattle.shape_grammar.specs.Grammar.{brackets}
-use Rattle.shape_grammar.proofs.Readings.{as_rest, unit-of, any-of, two-variants, more-variants, choice-of, marked-of, first-part, more-parts, tuple-of, tuple_comma-of, list-of, array-of}
+use Rattle.shape_grammar.proofs.Readings.{as_rest, unit-of, any-of, two-variants, more-variants, choice-of, marked-of, first-barred, more-barred, barred_choice-of, as_front, first-part, more-parts, tuple-of, tuple_comma-of, list-of, array-of}
 use Rattle.shape_grammar.proofs.text.+shapes.Goals as goal
 use Rattle.shape_grammar.proofs.text.+shapes.Goals.{items-then-takes+in_ok-len, items-else-takes}
 
-pub any_shape-returns-then-not-takes-clause-spelled : goal.any_shape-returns-then-not-takes-clause-spelled
-any_shape-returns-then-not-takes-clause-spelled t c =
+pub any_shape-returns-else-takes-clause-spelled : goal.any_shape-returns-else-takes-clause-spelled
+any_shape-returns-else-takes-clause-spelled t c =
+    as_front c.args.scanner.now.rest.now _ c.unbarred_shape.new.scanner.rest.now c.unbarred_shape.result (ap (λ s. s.rest.now) (c.takes.ensures.left c.if-takes.false)) c.unbarred_shape.ensures.spelled
+
+pub barred_shape-loop-init : goal.barred_shape-loop-init
+barred_shape-loop-init t c =
+    let none = c.new-variants.ensures.levels in
+    let pushed = c.in_ok-push.ensures.levels in
+    let first = c.in_ok-optional_shape.ensures.levels in
+    record {
+      same = refl;
+      levels = omega (arith, none, pushed, first);
+      spelled = λ a m. first-barred a _ _ _ _ _ c.new-variants.ensures.shapes c.in_ok-push.ensures.shapes m c.in_ok-optional_shape.ensures.spelled;
+    }
+
+pub barred_shape-returns-then-not-takes-clause-spelled : goal.barred_shape-returns-then-not-takes-clause-spelled
+barred_shape-returns-then-not-takes-clause-spelled t c =
+    barred_choice-of c.args.scanner.now.rest.now c.loop.scanner.rest.now _ c.loop.variants.shapes c.choice.result c.choice.ensures.shape
+    (ap (λ s. s.rest.now) (c.takes.ensures.left c.if-not-takes.true)) c.loop.invariant.spelled
+
+pub barred_shape-loop-preserved : goal.barred_shape-loop-preserved
+barred_shape-loop-preserved t c =
+    let before = c.loop.invariant.levels in
+    let pushed = c.in_ok-push-2.ensures.levels in
+    let last = c.in_ok-optional_shape-2.ensures.levels in
+    record {
+      same = refl;
+      levels = omega (arith, before, pushed, last);
+      spelled = λ a m. more-barred a _ _ _ _ _ _ c.in_ok-push-2.ensures.shapes (c.loop.invariant.spelled a m) (c.takes.ensures.taken c.if-not-takes.false) c.in_ok-optional_shape-2.ensures.spelled;
+    }
+
+pub unbarred_shape-returns-then-not-takes-clause-spelled : goal.unbarred_shape-returns-then-not-takes-clause-spelled
+unbarred_shape-returns-then-not-takes-clause-spelled t c =
     any-of _ c.optional_shape.new.scanner.rest.now _ _ (ap (λ s. s.rest.now) (c.takes.ensures.left c.if-not-takes.true)) c.in_ok-first.ensures.spelled
 
-pub any_shape-loop-init : goal.any_shape-loop-init
-any_shape-loop-init t c =
+pub unbarred_shape-loop-init : goal.unbarred_shape-loop-init
+unbarred_shape-loop-init t c =
     let none = c.new-variants.ensures.levels in
     let first = c.in_ok-push.ensures.levels in
     let second = c.in_ok-push-2.ensures.levels in
@@ -22,13 +53,13 @@ any_shape-loop-init t c =
           c.in_ok-first.ensures.spelled (c.takes.ensures.taken c.if-not-takes.false) c.in_ok-second.ensures.spelled;
     }
 
-pub any_shape-returns-then-not-takes-2-clause-spelled : goal.any_shape-returns-then-not-takes-2-clause-spelled
-any_shape-returns-then-not-takes-2-clause-spelled t c =
+pub unbarred_shape-returns-then-not-takes-2-clause-spelled : goal.unbarred_shape-returns-then-not-takes-2-clause-spelled
+unbarred_shape-returns-then-not-takes-2-clause-spelled t c =
     choice-of _ c.loop.scanner.rest.now _ c.loop.variants.shapes c.choice.result c.choice.ensures.shape
     (ap (λ s. s.rest.now) (c.takes-in-loop.ensures.left c.if-not-takes-2.true)) c.loop.invariant.spelled
 
-pub any_shape-loop-preserved : goal.any_shape-loop-preserved
-any_shape-loop-preserved t c =
+pub unbarred_shape-loop-preserved : goal.unbarred_shape-loop-preserved
+unbarred_shape-loop-preserved t c =
     let before = c.loop.invariant.levels in
     let pushed = c.in_ok-push-3.ensures.levels in
     let last = c.in_ok-optional_shape.ensures.levels in
