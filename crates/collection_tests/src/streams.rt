@@ -69,9 +69,12 @@ fn are_alike<T: Decode<()> + PartialEq, C: Config>(
     inputs: &[&[u8]],
     config: C,
 ) -> bool {
-    inputs
-        .iter()
-        .all(|input| is_alike::<T, C>(alloc, input, config))
+    for input in inputs {
+        if !is_alike::<T, C>(alloc, input, config) {
+            return false;
+        }
+    }
+    true
 }
 
 #[test]
