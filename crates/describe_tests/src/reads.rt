@@ -139,16 +139,20 @@ fn comparison(alloc: Global, options: &str, last: &str) -> Option<Comparison> {
 
 /// Whether this is printed.
 fn prints(alloc: Global, options: &str, last: &str, wanted: &str) -> bool {
-    let Some(
-        Comparison {
-            shapes: Compared::Two { new, old },
-            setting,
-        },
-    ) = comparison(alloc, options, last)
-    else {
+    let Some(comparison) = comparison(alloc, options, last) else {
         return false;
     };
-    let shapes = (new.as_str(), old.as_str());
+    match &comparison.shapes {
+        Compared::Two { new, old } => {
+            let shapes = (new.as_str(), old.as_str());
+            is_printed(alloc, shapes, comparison.setting, wanted)
+        }
+        Compared::Lines => false,
+    }
+}
+
+/// Whether this is printed of two shapes, for one setting or for all.
+fn is_printed(alloc: Global, shapes: (&str, &str), setting: Option<Setting>, wanted: &str) -> bool {
     let printed = match setting {
         Some(setting) => printed(alloc, shapes, &[setting]),
         None => printed(alloc, shapes, &SETTINGS),
