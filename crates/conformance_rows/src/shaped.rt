@@ -71,8 +71,9 @@ fn wanted_answer(alloc: Global, shape: &Shape, wanted: Wanted<'_>) -> Result<Ans
     }
 }
 
-/// Reads an input from a slice, and then from streams, which say `Io` where a slice says `UnexpectedEnd`. Since a stream
-/// is not measured before memory is taken for a list, it is read under a limit, if a slice is answered alike under it.
+/// Reads an input from a slice, and then from streams, which say `Io` where a slice says `UnexpectedEnd`. Since a
+/// stream is not measured before memory is taken for a list, it is read under a limit, if a slice is answered alike
+/// under it.
 fn read_slice_and_streams(
     alloc: Global,
     shape: &Shape,

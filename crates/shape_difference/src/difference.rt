@@ -28,8 +28,8 @@ pub struct Difference {
 }
 
 /// Bytes that show that the new shape does not read all words of the old one, if some are found: samples are made where
-/// the rules of `reads_all` tell that the two differ, and each is tested by decoding it. `None` says nothing, and is the
-/// answer for very large shapes. Fails if an allocation is refused.
+/// the rules of `reads_all` tell that the two differ, and each is tested by decoding it. `None` says nothing, and is
+/// the answer for very large shapes. Fails if an allocation is refused.
 pub fn explain<C: Config>(
     alloc: Global,
     new: &Shape,

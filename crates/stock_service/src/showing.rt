@@ -109,8 +109,8 @@ fn show_each<A: Shown, R: Read, W: Write, C: Config>(
         C.setting C.bound LONGEST_WORD (known_bytes (reader_remaining R.remaining input.old)) (W.contents out.old)
         (W.contents out.new)) }
     ensures stopped { TellsBytes (reader_remaining R.remaining input.old) → IfErr result (StopsShowing A.line A.counts
-        A.words C.setting C.bound LONGEST_WORD (known_bytes (reader_remaining R.remaining input.old)) (W.contents out.old)
-        (W.contents out.new)) }
+        A.words C.setting C.bound LONGEST_WORD (known_bytes (reader_remaining R.remaining input.old))
+        (W.contents out.old) (W.contents out.new)) }
 {
     let mut buffer = Vec::new(alloc);
     let mut are_counts = true;
