@@ -48,6 +48,6 @@ StopsWriting V s limit most requests bytes old new (errors.Spelling _ _) = ⊥
 StopsWriting V s limit most requests bytes old new (errors.Append number why) = StopsAt V s limit most requests bytes old new (record { number = number; why = why })
 StopsWriting V s limit most requests bytes old new (errors.Output _) = ⊥
 
--- texts spell requests, whose frames were written, in order
+-- texts spell requests, whose frames are written in a row to some stream
 abbrev pub AsksAll : {Y : Type 0} → Words Request → Setting → Option ℕ → ℕ → List (String Y) → Type 0
 AsksAll V s limit most texts = (requests : List Request) × SpellAll texts requests × ((before after : Option (List ℕ)) × SendsAll V s limit most requests before after)

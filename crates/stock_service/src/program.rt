@@ -328,7 +328,8 @@ fn unflushed<E>(error: io::Error) -> Failure<E>
 /// Writes the requests that texts spell to a stream, in a row. Fails as `requests_in` and `write_requests` do, or where
 /// the output does.
 pub fn ask_into<W: Write + Drop>(alloc: Global, output: W, texts: &[String]) -> Result<(), AskError>
-    // The texts spell requests, whose frames were written, in order.
+    // The texts spell requests, each of which fits a frame. That these frames are what the output got is said by
+    // `write_requests`, and not here, since the output is owned.
     ensures sent { OnOk result (AsksAll ⟦<Request as Wire>⟧.words ⟦<Settings as Config>⟧.setting
         ⟦<Settings as Config>⟧.bound LONGEST_WORD texts.now) }
 {
