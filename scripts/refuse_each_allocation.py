@@ -30,7 +30,7 @@ import tempfile
 import time
 from pathlib import Path
 
-CRATES = ["bincode_tests", "device_tests", "collection_tests", "shape_tests", "record_tests", "replay_tests", "ledger_tests", "calls_tests", "stock_tests"]
+CRATES = ["bincode_tests", "collection_tests", "shape_tests", "record_tests", "replay_tests", "ledger_tests", "calls_tests", "stock_tests"]
 
 ONLY = {"replay_tests": "refused_memory::", "ledger_tests": "refused_memory::", "stock_tests": "refused_memory::", "calls_tests": "refused_memory::"}
 
@@ -68,7 +68,6 @@ WITHOUT_MEMORY = {
         "borrowed::borrows_a_pair",
         "empties::reads_nothing_and_refuses_lengths_without_memory",
     ],
-    "device_tests": [],
     "shape_tests": [],
     "record_tests": [],
 }

@@ -1,6 +1,6 @@
 use Rattle.std.proofs.Common.{refl, inl}
 use Rattle.bincode.specs.Encoding.{by_name}
-use Rattle.device_tests.proofs.own_errors.HaltingEncode.encode.Goals as goal
+use Rattle.bincode_tests.proofs.own_errors.HaltingEncode.encode.Goals as goal
 
 -- It writes nothing, and its error is its own.
 pub returns : goal.returns

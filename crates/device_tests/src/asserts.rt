@@ -1,9 +1,0 @@
-//! What a test asserts of several answers.
-
-use std::process::Abort;
-use test_helpers::rows::first_false;
-
-/// Each answer is true; else the place of the first that is not is told, from 0 on.
-pub fn all_true(rt: &impl Abort, answers: &[bool]) {
-    assert_eq!(rt; first_false(answers), None);
-}
