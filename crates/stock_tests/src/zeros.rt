@@ -1,6 +1,6 @@
 //! A service that answers with zeros.
 ghost use Rattle.std.specs.Prelude.{◌≡◌, ℕ, length};
-ghost use Rattle.calls_tests.specs.declared.reply.Reply.TheVariants.{Answer, Refused};
+ghost use Rattle.stock_tests.specs.declared.reply.Reply.TheVariants.{Answer, Refused};
 
 use crate::reply::Reply;
 use calls::refusal::Refusal;

@@ -20,7 +20,7 @@ type ReplyParts<T> = VariantOf<0, T, VariantOf<1, ReplyRefusedPart, NoMoreVarian
 impl<T: Wire> Sum<ReplyParts<T>> for Reply<T> {
     ghost use Rattle.bincode.specs.Sums.{this, other};
     ghost use Rattle.bincode.specs.EnumWords.{by, no_more, or_else};
-    ghost use Rattle.calls_tests.specs.declared.reply.Reply.TheVariants.{Answer, Refused};
+    ghost use Rattle.stock_tests.specs.declared.reply.Reply.TheVariants.{Answer, Refused};
 
     ghost variants = { or_else 0 T.words
         (or_else 1 ⟦<ReplyRefusedPart as Wire>⟧.words
@@ -49,7 +49,7 @@ impl<T: Wire> Wire for Reply<T> {
 impl<T: Wire> Enum for Reply<T> {
     ghost use Rattle.std.specs.Prelude.{refl};
     ghost use Rattle.bincode.specs.EnumWords.{enum_laws, enum_variants};
-    ghost use Rattle.calls_tests.specs.declared.reply.Reply.TheVariants.{Answer, Refused};
+    ghost use Rattle.stock_tests.specs.declared.reply.Reply.TheVariants.{Answer, Refused};
 
     ghost choices = { enum_variants ⟦<Reply<T> as Sum<ReplyParts<T>>>⟧.variants
         ⟦<Reply<T> as Sum<ReplyParts<T>>>⟧.made };

@@ -1,5 +1,5 @@
 use Rattle.std.proofs.Common.{refl, arith}
-use Rattle.calls_tests.proofs.zeros.ZerosService.answer.Goals as goal
+use Rattle.stock_tests.proofs.zeros.ZerosService.answer.Goals as goal
 
 pub returns-clause-replied : goal.returns-clause-replied
 returns-clause-replied c =
