@@ -30,9 +30,9 @@ import tempfile
 import time
 from pathlib import Path
 
-CRATES = ["bincode_tests", "collection_tests", "shape_tests", "record_tests", "replay_tests", "ledger_tests", "stock_tests"]
+CRATES = ["bincode_tests", "collection_tests", "shape_tests", "record_tests", "log_tests", "ledger_tests", "stock_tests"]
 
-ONLY = {"replay_tests": "refused_memory::", "ledger_tests": "refused_memory::", "stock_tests": "refused_memory"}
+ONLY = {"log_tests": "refused_memory::", "ledger_tests": "refused_memory::", "stock_tests": "refused_memory"}
 
 # The calls of these tests take no memory: what builds configurations, the varint calls over a slice, encoders and decoders over a
 # slice, encoding plain values into a slice, and decoding from a slice, owned what holds nothing on the heap and borrowed bytes and

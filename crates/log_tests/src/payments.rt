@@ -1,6 +1,6 @@
 //! Payments that are appended under their numbers and applied, from a first snapshot on, and with a crash at each byte.
 
-use crate::logs::{Place, is_told};
+use crate::device_logs::{Place, is_told};
 use crate::tills_on_devices::{
     NONE, PAYMENTS, TWO_PAID, WIDEST, compact_till, paid, resumes_as, till_after, till_device,
 };

@@ -1,6 +1,6 @@
 //! Appending payments: what stands after each, and after a crash in each call and at each byte.
 
-use crate::logs::{
+use crate::device_logs::{
     LONGEST, ONE, Place, TWO, device_with, front, is_told, pay, recovers, recovers_to,
 };
 use bincode::config;

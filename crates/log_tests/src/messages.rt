@@ -10,7 +10,7 @@ use std::alloc::Global;
 use std::fmt::Display;
 
 /// Whether an error says this.
-fn says<E: Display>(alloc: Global, error: &E, text: &str) -> bool {
+pub fn says<E: Display>(alloc: Global, error: &E, text: &str) -> bool {
     match format!(in alloc; "{error}") {
         Ok(said) => said.as_str() == text,
         Err(_) => false,

@@ -1,6 +1,6 @@
 //! Recovering logs: cut at each byte, with a crash in each call and at each byte of the cut, and what is refused.
 
-use crate::logs::{
+use crate::device_logs::{
     DAMAGED, LONGEST, ONE, Place, TWO, device_with, front, pay, recover_into, recovers_to,
 };
 use crash_device::device::DeviceError;

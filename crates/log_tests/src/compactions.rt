@@ -1,6 +1,6 @@
 //! Snapshots of tills that take the place of their logs, with a crash in each step and at each byte of the cut.
 
-use crate::logs::Place;
+use crate::device_logs::Place;
 use crate::tills_on_devices::{
     ALL_PAID, TWO_PAID, compact_till, paid, resumes_as, till_after, till_device,
 };

@@ -1,6 +1,6 @@
 //! Tills on devices in memory, with snapshots and logs of numbered payments.
 
-use crate::logs::Place;
+use crate::device_logs::Place;
 use bincode::config;
 use crash_device::memory::{Crash, Memory};
 use durable_log::machines::{ComeBackError, CompactError, compact_machine, resume_from_device};

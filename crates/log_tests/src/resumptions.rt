@@ -1,7 +1,7 @@
 //! Tills that come back from a snapshot and a log on a device: from a log cut at each byte, after a crash in each call,
 //! and what is refused.
 
-use crate::logs::Place;
+use crate::device_logs::Place;
 use crate::tills_on_devices::{PAYMENTS, TWO_PAID, paid, resume_till, resumes_as, till_device};
 use crash_device::device::DeviceError;
 use crash_device::memory::{Call, Memory};

@@ -1,5 +1,6 @@
 //! Calls of a device that does not crash, and of one that has crashed.
 
+use crate::messages::says;
 use crate::steps::{Step, device, take};
 use crash_device::device::{Device, DeviceError};
 use crash_device::memory::{Call, Crash, Memory};
@@ -136,18 +137,10 @@ fn fails_after_a_crash_until_it_works_again(rt: HostRuntime) {
     assert!(rt; fails_until_it_works(rt.alloc()));
 }
 
-/// Whether an error says this.
-fn says(alloc: Global, error: DeviceError, text: &str) -> bool {
-    match format!(in alloc; "{error}") {
-        Ok(said) => said.as_str() == text,
-        Err(_) => false,
-    }
-}
-
 #[test]
 fn tells_errors_in_words(rt: HostRuntime) {
     assert!(rt;
-        says(rt.alloc(), DeviceError::Memory, "memory was refused")
-            && says(rt.alloc(), DeviceError::Failed, "the device failed")
+        says(rt.alloc(), &DeviceError::Memory, "memory was refused")
+            && says(rt.alloc(), &DeviceError::Failed, "the device failed")
     );
 }
