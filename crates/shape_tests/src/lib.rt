@@ -1,13 +1,22 @@
-//! Tests of shapes: what types tell of theirs, what each shape reads and writes, and shapes in a text. Expected values
-//! come from the description of the format.
+//! Tests of shapes: what types tell of theirs, what each shape reads and writes, shapes in a text, and which shapes read
+//! the words of which others, with the bytes that show it (`changed_shapes`, `changed_types`, `changed_wholes`,
+//! `explained`, `wordless`). Expected values come from the description of the format.
 #![tactic(auto)]
 
 #[cfg(test)]
 mod asserts;
 #[cfg(test)]
+mod changed_shapes;
+#[cfg(test)]
+mod changed_types;
+#[cfg(test)]
+mod changed_wholes;
+#[cfg(test)]
 mod collections;
 #[cfg(test)]
 mod described;
+#[cfg(test)]
+mod explained;
 #[cfg(test)]
 mod kept;
 #[cfg(test)]
@@ -18,3 +27,5 @@ mod shaped;
 mod texts;
 #[cfg(test)]
 mod within;
+#[cfg(test)]
+mod wordless;

@@ -1,4 +1,4 @@
-//! The answers for shapes in a text.
+//! Which shapes in a text read all words of which others.
 
 use bincode::config::{self, Config};
 use bincode::shape::Shape;

@@ -1,4 +1,4 @@
-//! The answers for types, in one line each.
+//! Which types read all words of which others, in one line each.
 
 use bincode::config;
 use bincode_evolution::evolution::type_reads_all;
