@@ -11,5 +11,7 @@ mod row;
 pub mod rows;
 pub mod setting;
 mod shaped;
+mod sockets;
 mod sources;
 pub mod typed;
+pub mod types;

@@ -4,7 +4,7 @@
 
 use anyhow::{Context, ensure};
 use conformance_rows::rows::run;
-use row_types::Named;
+use conformance_rows::types::Named;
 use std::{env, fs, io};
 
 fn main(rt: HostRuntime) -> anyhow::Result<()> {

@@ -1,14 +1,14 @@
 //! Addresses of IPv6 with a port: their flow info and their scope are not written, and are compared by their parts.
 
+use crate::answer::Answer;
+use crate::fault::Fault;
+use crate::setting::{GREATEST_LIMIT, Setting};
+use crate::typed::{TypedAnswer, answer_of, decode_after};
+use crate::{with_config, with_configs};
 use bincode::config::{self, Config, Endianness, IntEncoding};
 use bincode::de::Decode;
 use bincode::error::DecodeError;
 use bincode::{decode_from_slice, encode_to_vec};
-use conformance_rows::answer::Answer;
-use conformance_rows::fault::Fault;
-use conformance_rows::setting::{GREATEST_LIMIT, Setting};
-use conformance_rows::typed::{TypedAnswer, answer_of, decode_after};
-use conformance_rows::{with_config, with_configs};
 use std::alloc::Global;
 use std::net::{Ipv6Addr, SocketAddr, SocketAddrV6};
 

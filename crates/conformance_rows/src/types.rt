@@ -1,10 +1,10 @@
 //! The types that rows name.
 
-use crate::sockets::{reread_any, reread_v6};
+use crate::setting::Setting;
+use crate::sockets::{PARTS, reread_any, reread_v6, write_v6};
+use crate::typed::{TypedAnswer, Types, refuse, reread, reread_in_each, reread_lent};
 use bincode::ffi::CString;
 use bincode::time::Duration;
-use conformance_rows::setting::Setting;
-use conformance_rows::typed::{TypedAnswer, refuse, reread, reread_in_each, reread_lent};
 use std::alloc::Global;
 use std::borrow::{Cow, CowSlice, CowStr};
 use std::boxed::{BoxedSlice, BoxedStr};
@@ -21,13 +21,31 @@ use std::path::PathBuf;
 use std::rc::{Rc, RcSlice, RcStr};
 use std::sync::Arc;
 
+/// The types that are known by a name.
+pub struct Named;
+
+impl Types for Named {
+    fn reread(alloc: Global, name: &str, input: &[u8], setting: Setting) -> Option<TypedAnswer> {
+        reread_as(alloc, name, input, setting)
+    }
+
+    fn write(alloc: Global, name: &str, parts: &[u8], setting: Setting) -> Option<Vec<u8>> {
+        match name {
+            "SocketAddrV6" => write_v6(alloc, parts, setting),
+            _ => None,
+        }
+    }
+
+    fn parts(name: &str) -> Option<&'static str> {
+        match name {
+            "SocketAddrV6" => Some(PARTS),
+            _ => None,
+        }
+    }
+}
+
 /// Reads an input as the type of this name. `None` if there is none.
-pub(crate) fn reread_as(
-    alloc: Global,
-    name: &str,
-    input: &[u8],
-    setting: Setting,
-) -> Option<TypedAnswer> {
+fn reread_as(alloc: Global, name: &str, input: &[u8], setting: Setting) -> Option<TypedAnswer> {
     scalar(alloc, name, input, setting)
 }
 
