@@ -1,9 +1,9 @@
 //! Trees whose nodes are in a list, written and read.
 
 use bincode::error::DecodeError;
+use own_types::tree::Tree;
 use std::alloc::Global;
 use test_helpers::checks::{either, fault_of, read_if_kept};
-use trees::tree::Tree;
 
 /// The word of a root 10 with the children 20 and 30, of which the first has the child 40.
 const TREE: [u8; 12] = [4, 10, 2, 1, 2, 20, 1, 3, 30, 0, 40, 0];

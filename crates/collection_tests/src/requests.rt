@@ -1,7 +1,7 @@
 //! A server's loop: requests one after another, of which the last is still to come.
 
 use bincode::error::DecodeError;
-use request_loop::requests::{Requests, serve};
+use own_types::requests::{Requests, serve};
 use test_helpers::checks::either;
 
 /// 5, 300, and the first byte of a third number.

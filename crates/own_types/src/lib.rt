@@ -17,5 +17,7 @@ pub mod note;
 pub mod pack;
 pub mod pair;
 pub mod report;
+pub mod requests;
 pub mod table;
 pub mod track;
+pub mod tree;

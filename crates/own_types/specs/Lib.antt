@@ -1,0 +1,3 @@
+pub mod Requests
+pub mod Trees
+pub mod TreesRead

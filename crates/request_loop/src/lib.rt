@@ -1,4 +1,0 @@
-//! A server's loop over the bytes that it received.
-#![tactic(auto)]
-
-pub mod requests;

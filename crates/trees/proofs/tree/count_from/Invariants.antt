@@ -1,6 +1,0 @@
-use Rattle.std.proofs.Common.{◌≡◌, ◌+◌, drop}
-use Rattle.trees.specs.Trees.{counts_up}
-use Rattle.trees.proofs.tree.count_from.Given as goal
-
-abbrev pub invariant-loop-place : goal.invariant-loop-place
-invariant-loop-place l = counts_up l.next l.children ≡ counts_up (l.next + l.place) (drop l.place l.children)

@@ -1,5 +1,0 @@
-use Rattle.std.proofs.Common.{◌≡◌, ◌++◌, map}
-use Rattle.trees.proofs.tree.push_reversed.Given as goal
-
-abbrev pub invariant-loop-child : goal.invariant-loop-child
-invariant-loop-child l = l.waiting.items ≡ l.initial.waiting.items ++ map (λ b. b.now) l.yielded

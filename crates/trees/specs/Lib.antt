@@ -1,2 +1,0 @@
-pub mod Trees
-pub mod TreesRead
