@@ -1,5 +1,5 @@
 //! The tests of books of accounts: the accounts against a plain model, logs that are cut, damaged or refused,
-//! snapshots, words, and what the program `ledger` does to a file.
+//! snapshots, also those of older versions, words, and what the program `ledger` does to a file.
 #![tactic(auto)]
 
 #[cfg(test)]
@@ -18,3 +18,5 @@ mod requests;
 mod runs;
 #[cfg(test)]
 mod snapshots_of_books;
+#[cfg(test)]
+mod versions;
