@@ -1,0 +1,13 @@
+use Rattle.std.specs.Prelude.{◌≤◌, refl}
+use Rattle.std.proofs.Common.{arith}
+use Rattle.bincode_spec.specs.Format.{pure, fail, fixed_bytes, ◌>>=◌, written_as, without_count, step}
+use Rattle.bincode_spec.specs.Integers.{digits, byte, varint, unsigned_integer, signed_integer, unsigned_byte, signed_byte}
+use Rattle.proved_callers.proofs.formats.bounded_rows.Goals as goal
+
+pub returns : goal.returns
+unfolding pure fail fixed_bytes ◌>>=◌ written_as without_count step digits byte varint unsigned_integer unsigned_byte signed_integer signed_byte
+returns c = record {
+  elements = refl;
+  bounded = record { bytes = omega arith; room = (omega arith, (omega arith, tt)); counts = (omega arith, (omega arith, tt)); all_counts = omega arith };
+  unbounded = λ h. let room : 24 ≤ 23 = h.room.0 in omega (arith, room);
+}
