@@ -73,8 +73,11 @@ WITHOUT_MEMORY = {
 }
 
 # Sets and maps of 12,000 in an order. Those of 300 are kept by `maps::keeps_sets_and_maps` through the same calls, and each allocation
-# of that test is refused.
-SAMPLED = {"collection_tests": ["maps::keeps_large_sets_and_maps"]}
+# of that test is refused. And the bytes that are looked for in many pairs of shapes, as those of `explained` are in a few.
+SAMPLED = {
+    "collection_tests": ["maps::keeps_large_sets_and_maps"],
+    "shape_tests": ["changed_shapes::explains_each_difference"],
+}
 
 # How many allocations of a sampled test are refused from its first one on, how many up to its last one, and how many between.
 NEAR = 20

@@ -1,8 +1,8 @@
 //! The tests of logs of payments into a till, of snapshots of the till, and of a device in memory that keeps both: logs
-//! that are replayed, cut and damaged (`logs`, `streams`, `resumed`, `snapshots_of_tills`, `refused_memory`); the device
-//! itself (`steps`, `device_calls`, `crashes`), where each call fails in turn, with a crash at each byte of a write; and
-//! logs and tills on it, with a crash at each byte of an append, of a recovery and of a compaction. Frames, checks and
-//! snapshots are Python's, and the files of the device itself are written out by hand.
+//! that are replayed, cut and damaged (`logs`, `streams`, `resumed`, `snapshots_of_tills`, `refused_memory`); the
+//! device itself (`steps`, `device_calls`, `crashes`), where each call fails in turn, with a crash at each byte of a
+//! write; and logs and tills on it, with a crash at each byte of an append, of a recovery and of a compaction. Frames,
+//! checks and snapshots are Python's, and the files of the device itself are written out by hand.
 #![tactic(auto)]
 
 #[cfg(test)]

@@ -1,7 +1,7 @@
 //! The tests of a stock that answers requests: against a plain model, byte by byte on worked streams, over streams that
-//! break or take one byte a call, with a log that is replayed, and of words, messages and statuses. And the tests of the
-//! calls below it, over a service whose replies are of a generic enum (`answers`, `refused_memory_of_calls`, `reply`,
-//! `zeros`).
+//! break or take one byte a call, with a log that is replayed, and of words, messages and statuses. And the tests of
+//! the calls below it, over a service whose replies are of a generic enum (`answers`, `refused_memory_of_calls`,
+//! `reply`, `zeros`).
 #![tactic(auto)]
 
 #[cfg(test)]
