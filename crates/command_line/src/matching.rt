@@ -22,8 +22,8 @@ pub fn found_in<'a>(
     Ok(found_of(alloc, &matches)?)
 }
 
-/// What `clap` matches of these words.
-fn matches_in<'a>(
+/// What `clap` matches of these words, of which the first is the program's name. The errors are those of `found_in`.
+pub fn matches_in<'a>(
     alloc: Global,
     program: &Program,
     words: &'a [String],
