@@ -223,10 +223,15 @@ static DESCRIBE: Program = Program {
     commands: &[],
 };
 
+/// The program's command line. Each function that names the static itself has all of it in its states.
+fn table() -> &'static Program {
+    &DESCRIBE
+}
+
 /// What these words ask for, of which the first is the program's name. Where they ask for nothing, or for help or for
 /// the version, the error has the text for it.
 pub fn asked_of(alloc: Global, words: &[String]) -> Result<Asked, Error> {
-    let found = found_in(alloc, &DESCRIBE, words)?;
+    let found = found_in(alloc, table(), words)?;
     let shape = found.text("shape").unwrap_or("");
     if found.is_set("reads") {
         return Ok(Asked::Compare(comparison_in(alloc, &found, shape)?));
@@ -247,7 +252,7 @@ fn comparison_in(alloc: Global, found: &Found<'_>, first: &str) -> Result<Compar
             let kind = ErrorKind::MissingRequiredArgument;
             return Err(mistake(
                 alloc,
-                &DESCRIBE,
+                table(),
                 kind,
                 "--reads wants two shapes, NEW and OLD",
             )?);
@@ -278,7 +283,7 @@ fn shape_in(alloc: Global, text: &str) -> Result<Shape, Error> {
         Err(why) => {
             let message = format!(in alloc; "{text:?} is no shape: {why}")?;
             let kind = ErrorKind::ValueValidation;
-            Err(mistake(alloc, &DESCRIBE, kind, message.as_str())?)
+            Err(mistake(alloc, table(), kind, message.as_str())?)
         }
     }
 }
