@@ -19,8 +19,8 @@ pub(crate) struct Value<'a> {
 }
 
 impl<'a> Found<'a> {
-    ghost use Rattle.std.specs.Prelude.{◌≡◌, ◌↔◌, IsTrue, Some, codes, option_map};
-    ghost use Rattle.command_line.specs.Found.{command_of, text_of};
+    ghost use Rattle.std.specs.Prelude.{◌≡◌, ◌↔◌, IfOk, IsTrue, Some, codes, map, option_map};
+    ghost use Rattle.command_line.specs.Found.{command_of, text_of, texts_of};
 
     /// The name of the command; empty for a program without commands.
     pub fn command(&self) -> &'a str
@@ -55,7 +55,9 @@ impl<'a> Found<'a> {
     }
 
     /// The values of the word or option of this id. An error is one of memory.
-    pub fn texts(&self, alloc: Global, id: &str) -> Result<Vec<&'a str>, AllocError> {
+    pub fn texts(&self, alloc: Global, id: &str) -> Result<Vec<&'a str>, AllocError>
+        ensures { IfOk result (λ r. map (λ t. t.now) r.items ≡ texts_of self.now id.now) }
+    {
         let mut texts = Vec::new(alloc);
         for value in self.values.iter() {
             if value.id == id {
