@@ -4,7 +4,7 @@ ghost use Rattle.clap.specs.Values.{kind_of};
 
 use crate::commands::{line_command, program_command};
 use crate::found::{Found, Value};
-use crate::table::{Line, Program};
+use crate::table::Program;
 use clap::error::ErrorKind;
 use clap::{ArgMatches, Command, Error};
 use std::alloc::{AllocError, Global};
