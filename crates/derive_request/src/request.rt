@@ -2,7 +2,9 @@
 ghost use Rattle.std.specs.Prelude.{◌≡◌, IfOk, Some, codes};
 ghost use Rattle.clap.specs.Words.{first_value, found_of, one_text};
 
-use clap::{Arg, ArgAction, ArgMatches, Command, Error};
+use clap::{ArgMatches, Error};
+use command_line::matching::matches_in;
+use command_line::table::{Kind, Program, Taken, Word};
 use std::alloc::{AllocError, Global};
 
 /// What is done with the module of a source.
@@ -39,57 +41,53 @@ const ABOUT: &str =
     "Writes the impls by which the structs and enums of Rattle sources are encoded and decoded by `bincode`";
 
 /// The program's command line.
-fn command<'a>(alloc: Global) -> Result<Command<'a>, AllocError> {
-    let check = check_arg(alloc)?;
-    Command::new(alloc, "derive")
-        .version("1.0.0")
-        .about(ABOUT)
-        .after_help(STATUSES)
-        .arg(check)?
-        .arg(print_arg(alloc))?
-        .arg(crate_arg(alloc))?
-        .arg(files_arg(alloc))
-}
-
-/// The option `--check`.
-fn check_arg<'a>(alloc: Global) -> Result<Arg<'a>, AllocError> {
-    let check = Arg::new(alloc, "check")
-        .long("check")
-        .action(ArgAction::SetTrue)
-        .help("Writes nothing, and compares each module with what stands there");
-    check.conflicts_with("print")
-}
-
-/// The option `--print`.
-fn print_arg<'a>(alloc: Global) -> Arg<'a> {
-    Arg::new(alloc, "print")
-        .long("print")
-        .action(ArgAction::SetTrue)
-        .help("Writes nothing, and prints each module")
-}
-
-/// The option `--crate`.
-fn crate_arg<'a>(alloc: Global) -> Arg<'a> {
-    Arg::new(alloc, "crate")
-        .long("crate")
-        .value_name("NAME")
-        .help("The crate of the sources, if it is not the folder before their `src`")
-}
-
-/// The argument `FILE ..`.
-fn files_arg<'a>(alloc: Global) -> Arg<'a> {
-    Arg::new(alloc, "files")
-        .value_name("FILE")
-        .required(true)
-        .action(ArgAction::Append)
-        .num_args(1..)
-        .help("The sources: for `src/book.rt` the module `src/book/words.rt` is written")
-}
+static DERIVE: Program = Program {
+    name: "derive",
+    version: "1.0.0",
+    about: ABOUT,
+    after_help: STATUSES,
+    usage: None,
+    words: &[
+        Word {
+            id: "check",
+            kind: Kind::Flag,
+            help: "Writes nothing, and compares each module with what stands there",
+            conflicts: &["print"],
+            needs: &[],
+        },
+        Word {
+            id: "print",
+            kind: Kind::Flag,
+            help: "Writes nothing, and prints each module",
+            conflicts: &[],
+            needs: &[],
+        },
+        Word {
+            id: "crate",
+            kind: Kind::Value {
+                name: "NAME",
+                taken: Taken::Any,
+                default: &[],
+            },
+            help: "The crate of the sources, if it is not the folder before their `src`",
+            conflicts: &[],
+            needs: &[],
+        },
+        Word {
+            id: "files",
+            kind: Kind::Many("FILE"),
+            help: "The sources: for `src/book.rt` the module `src/book/words.rt` is written",
+            conflicts: &[],
+            needs: &[],
+        },
+    ],
+    commands: &[],
+};
 
 /// The request that these words spell, of which the first is the program's name. Where they spell none, or ask for help
 /// or for the version, the error has the text for it.
 pub fn request_of(alloc: Global, words: &[String]) -> Result<Request, Error> {
-    let matches = command(alloc)?.try_get_matches_from(words)?;
+    let matches = matches_in(alloc, &DERIVE, words)?;
     Ok(request_in(alloc, &matches)?)
 }
 

@@ -3,8 +3,11 @@
 use crate::text::{ShapeTextError, shape_of};
 use bincode::config::{Endianness, IntEncoding};
 use bincode::shape::Shape;
+use clap::Error;
 use clap::error::ErrorKind;
-use clap::{Arg, ArgAction, ArgMatches, Command, Error};
+use command_line::found::Found;
+use command_line::matching::{found_in, mistake};
+use command_line::table::{Kind, Program, Taken, Word};
 use evolution_text::setting::Setting;
 use std::alloc::{AllocError, Global};
 
@@ -66,12 +69,6 @@ pub enum SizeLimit {
     Unlimited,
 }
 
-/// The names of the limits.
-const SIZES: [&str; 7] = ["1KiB", "64KiB", "1MiB", "16MiB", "64MiB", "1GiB", "none"];
-
-/// The names of the configurations.
-const CONFIGS: [&str; 2] = ["standard", "legacy"];
-
 /// How many values of an encoding are printed at most by default.
 const MOST_VALUES: u64 = 1_000_000;
 
@@ -129,147 +126,123 @@ Status:
   3  the file, the standard input or the standard output fails, or memory is refused";
 
 /// The program's command line.
-fn command<'a>(alloc: Global) -> Result<Command<'a>, AllocError> {
-    let command = Command::new(alloc, "describe")
-        .version("2.0.0")
-        .override_usage(USAGE)
-        .about("Prints what a file in the format of bincode holds, by the shape of its values")
-        .after_help(AFTER_HELP);
-    let command = with_format(alloc, command)?;
-    let command = with_amounts(alloc, command)?;
-    let command = with_frames(alloc, command)?;
-    let command = command.arg(reads_arg(alloc)?)?;
-    with_source(alloc, command)
-}
+static DESCRIBE: Program = Program {
+    name: "describe",
+    version: "2.0.0",
+    about: "Prints what a file in the format of bincode holds, by the shape of its values",
+    after_help: AFTER_HELP,
+    usage: Some(USAGE),
+    words: &[
+        Word {
+            id: "fixed",
+            kind: Kind::Flag,
+            help: "Numbers have a fixed length",
+            conflicts: &[],
+            needs: &[],
+        },
+        Word {
+            id: "big-endian",
+            kind: Kind::Flag,
+            help: "Numbers begin with their highest byte",
+            conflicts: &[],
+            needs: &[],
+        },
+        Word {
+            id: "config",
+            kind: Kind::Value {
+                name: "CONFIG",
+                taken: Taken::Choice(&["standard", "legacy"]),
+                default: &[],
+            },
+            help: "standard: variable lengths, lowest byte first; legacy: fixed lengths, lowest byte first",
+            conflicts: &["fixed", "big-endian"],
+            needs: &[],
+        },
+        Word {
+            id: "limit",
+            kind: Kind::Value {
+                name: "SIZE",
+                taken: Taken::Choice(&["1KiB", "64KiB", "1MiB", "16MiB", "64MiB", "1GiB", "none"]),
+                default: &["64MiB"],
+            },
+            help: "How many bytes an encoding may claim",
+            conflicts: &[],
+            needs: &[],
+        },
+        Word {
+            id: "values",
+            kind: Kind::Value {
+                name: "N",
+                taken: Taken::U64,
+                default: &["1000000"],
+            },
+            help: "How many values of one encoding are printed at most",
+            conflicts: &[],
+            needs: &[],
+        },
+        Word {
+            id: "frames",
+            kind: Kind::Flag,
+            help: "The input is a store of frames, each with the encoding of one value",
+            conflicts: &[],
+            needs: &[],
+        },
+        Word {
+            id: "longest",
+            kind: Kind::Value {
+                name: "N",
+                taken: Taken::U32,
+                default: &[],
+            },
+            help: "The greatest length of a word in frames, in bytes [default: 1048576]",
+            conflicts: &[],
+            needs: &["frames"],
+        },
+        Word {
+            id: "reads",
+            kind: Kind::Flag,
+            help: "Tells whether the shape NEW reads all that the shape OLD wrote",
+            conflicts: &["frames", "limit", "values"],
+            needs: &[],
+        },
+        Word {
+            id: "shape",
+            kind: Kind::One("SHAPE"),
+            help: "The shape of the values, as (u8, [u16], text?, u32|text); with --reads the new one",
+            conflicts: &[],
+            needs: &[],
+        },
+        Word {
+            id: "file",
+            kind: Kind::Optional("FILE"),
+            help: "The file; the standard input, where it is - or missing; with --reads the old shape",
+            conflicts: &[],
+            needs: &[],
+        },
+    ],
+    commands: &[],
+};
 
-/// What is read, and by which shape.
-fn with_source<'a>(alloc: Global, command: Command<'a>) -> Result<Command<'a>, AllocError> {
-    command.arg(shape_arg(alloc))?.arg(file_arg(alloc))
-}
-
-/// The argument `SHAPE`.
-fn shape_arg<'a>(alloc: Global) -> Arg<'a> {
-    Arg::new(alloc, "shape")
-        .value_name("SHAPE")
-        .required(true)
-        .help("The shape of the values, as (u8, [u16], text?, u32|text); with --reads the new one")
-}
-
-/// The argument `FILE`.
-fn file_arg<'a>(alloc: Global) -> Arg<'a> {
-    Arg::new(alloc, "file").value_name("FILE").help(
-        "The file; the standard input, where it is - or missing; with --reads the old shape",
-    )
-}
-
-/// The options that say how the input was written.
-fn with_format<'a>(alloc: Global, command: Command<'a>) -> Result<Command<'a>, AllocError> {
-    let command = command.arg(fixed_arg(alloc))?;
-    let command = command.arg(big_endian_arg(alloc))?;
-    command.arg(config_arg(alloc)?)
-}
-
-/// The option `--fixed`.
-fn fixed_arg<'a>(alloc: Global) -> Arg<'a> {
-    Arg::new(alloc, "fixed")
-        .long("fixed")
-        .action(ArgAction::SetTrue)
-        .help("Numbers have a fixed length")
-}
-
-/// The option `--big-endian`.
-fn big_endian_arg<'a>(alloc: Global) -> Arg<'a> {
-    Arg::new(alloc, "big-endian")
-        .long("big-endian")
-        .action(ArgAction::SetTrue)
-        .help("Numbers begin with their highest byte")
-}
-
-/// The option `--config`.
-fn config_arg<'a>(alloc: Global) -> Result<Arg<'a>, AllocError> {
-    let config = Arg::new(alloc, "config")
-        .long("config")
-        .value_name("CONFIG")
-        .value_parser(CONFIGS.as_slice())
-        .help(
-            "standard: variable lengths, lowest byte first; legacy: fixed lengths, lowest byte first",
-        );
-    config.conflicts_with("fixed")?.conflicts_with("big-endian")
-}
-
-/// The options that say how much is taken.
-fn with_amounts<'a>(alloc: Global, command: Command<'a>) -> Result<Command<'a>, AllocError> {
-    command.arg(limit_arg(alloc))?.arg(values_arg(alloc))
-}
-
-/// The option `--limit`.
-fn limit_arg<'a>(alloc: Global) -> Arg<'a> {
-    Arg::new(alloc, "limit")
-        .long("limit")
-        .value_name("SIZE")
-        .value_parser(SIZES.as_slice())
-        .default_value("64MiB")
-        .help("How many bytes an encoding may claim")
-}
-
-/// The option `--values`.
-fn values_arg<'a>(alloc: Global) -> Arg<'a> {
-    Arg::new(alloc, "values")
-        .long("values")
-        .value_name("N")
-        .value_parser(clap::value_parser!(u64))
-        .default_value("1000000")
-        .help("How many values of one encoding are printed at most")
-}
-
-/// The options for stores of frames.
-fn with_frames<'a>(alloc: Global, command: Command<'a>) -> Result<Command<'a>, AllocError> {
-    command.arg(frames_arg(alloc))?.arg(longest_arg(alloc)?)
-}
-
-/// The option `--frames`.
-fn frames_arg<'a>(alloc: Global) -> Arg<'a> {
-    Arg::new(alloc, "frames")
-        .long("frames")
-        .action(ArgAction::SetTrue)
-        .help("The input is a store of frames, each with the encoding of one value")
-}
-
-/// The option `--longest`.
-fn longest_arg<'a>(alloc: Global) -> Result<Arg<'a>, AllocError> {
-    Arg::new(alloc, "longest")
-        .long("longest")
-        .value_name("N")
-        .value_parser(clap::value_parser!(u32))
-        .help("The greatest length of a word in frames, in bytes [default: 1048576]")
-        .requires_arg("frames")
-}
-
-/// The option `--reads`.
-fn reads_arg<'a>(alloc: Global) -> Result<Arg<'a>, AllocError> {
-    let reads = Arg::new(alloc, "reads")
-        .long("reads")
-        .action(ArgAction::SetTrue)
-        .help("Tells whether the shape NEW reads all that the shape OLD wrote");
-    let reads = reads.conflicts_with("frames")?.conflicts_with("limit")?;
-    reads.conflicts_with("values")
+/// The program's command line. Each function that names the static itself has all of it in its states.
+fn table() -> &'static Program {
+    &DESCRIBE
 }
 
 /// What these words ask for, of which the first is the program's name. Where they ask for nothing, or for help or for
 /// the version, the error has the text for it.
 pub fn asked_of(alloc: Global, words: &[String]) -> Result<Asked, Error> {
-    let matches = command(alloc)?.try_get_matches_from(words)?;
-    let shape = matches.get_str("shape").unwrap_or("");
-    if matches.get_flag("reads") {
-        return Ok(Asked::Compare(comparison_in(alloc, &matches, shape)?));
+    let found = found_in(alloc, table(), words)?;
+    let shape = found.text("shape").unwrap_or("");
+    if found.is_set("reads") {
+        return Ok(Asked::Compare(comparison_in(alloc, &found, shape)?));
     }
     let shape = shape_in(alloc, shape)?;
-    Ok(Asked::Describe(request_in(alloc, &matches, shape)?))
+    Ok(Asked::Describe(request_in(alloc, &found, shape)?))
 }
 
 /// Which shapes are compared, of which the first is given, or `-`.
-fn comparison_in(alloc: Global, found: &ArgMatches<'_>, first: &str) -> Result<Comparison, Error> {
-    let shapes = match found.get_str("file") {
+fn comparison_in(alloc: Global, found: &Found<'_>, first: &str) -> Result<Comparison, Error> {
+    let shapes = match found.text("file") {
         Some(old) => Compared::Two {
             new: String::from_str(alloc, first)?,
             old: String::from_str(alloc, old)?,
@@ -277,7 +250,12 @@ fn comparison_in(alloc: Global, found: &ArgMatches<'_>, first: &str) -> Result<C
         None if first == "-" => Compared::Lines,
         None => {
             let kind = ErrorKind::MissingRequiredArgument;
-            return Err(command(alloc)?.error(kind, "--reads wants two shapes, NEW and OLD")?);
+            return Err(mistake(
+                alloc,
+                table(),
+                kind,
+                "--reads wants two shapes, NEW and OLD",
+            )?);
         }
     };
     Ok(Comparison {
@@ -287,10 +265,10 @@ fn comparison_in(alloc: Global, found: &ArgMatches<'_>, first: &str) -> Result<C
 }
 
 /// The setting for which options ask, if there are any.
-fn setting_in(found: &ArgMatches<'_>) -> Option<Setting> {
-    let is_chosen = found.get_flag("fixed")
-        || found.get_flag("big-endian")
-        || found.get_str("config").is_some();
+fn setting_in(found: &Found<'_>) -> Option<Setting> {
+    let is_chosen = found.is_set("fixed")
+        || found.is_set("big-endian")
+        || found.text("config").is_some();
     is_chosen.then_some(Setting {
         encoding: encoding_in(found),
         order: endian_in(found),
@@ -304,18 +282,19 @@ fn shape_in(alloc: Global, text: &str) -> Result<Shape, Error> {
         Err(ShapeTextError::Memory) => Err(AllocError.into()),
         Err(why) => {
             let message = format!(in alloc; "{text:?} is no shape: {why}")?;
-            Err(command(alloc)?.error(ErrorKind::ValueValidation, message.as_str())?)
+            let kind = ErrorKind::ValueValidation;
+            Err(mistake(alloc, table(), kind, message.as_str())?)
         }
     }
 }
 
 /// The request in what was found.
-fn request_in(alloc: Global, found: &ArgMatches<'_>, shape: Shape) -> Result<Request, AllocError> {
-    let most_values = found.get_one::<u64>("values").unwrap_or(MOST_VALUES);
+fn request_in(alloc: Global, found: &Found<'_>, shape: Shape) -> Result<Request, AllocError> {
+    let most_values = found.number("values").unwrap_or(MOST_VALUES);
     Ok(Request {
         encoding: encoding_in(found),
         endian: endian_in(found),
-        limit: limit_named(found.get_str("limit").unwrap_or("")),
+        limit: limit_named(found.text("limit").unwrap_or("")),
         shape,
         file: file_in(alloc, found)?,
         most_values: usize::try_from(most_values).unwrap_or(usize::MAX),
@@ -324,16 +303,16 @@ fn request_in(alloc: Global, found: &ArgMatches<'_>, shape: Shape) -> Result<Req
 }
 
 /// The path of the file; `None` for the standard input.
-fn file_in(alloc: Global, found: &ArgMatches<'_>) -> Result<Option<String>, AllocError> {
-    match found.get_str("file") {
+fn file_in(alloc: Global, found: &Found<'_>) -> Result<Option<String>, AllocError> {
+    match found.text("file") {
         None | Some("-") => Ok(None),
         Some(path) => Ok(Some(String::from_str(alloc, path)?)),
     }
 }
 
 /// The integer encoding of the input.
-fn encoding_in(found: &ArgMatches<'_>) -> IntEncoding {
-    if found.get_flag("fixed") || found.get_str("config") == Some("legacy") {
+fn encoding_in(found: &Found<'_>) -> IntEncoding {
+    if found.is_set("fixed") || found.text("config") == Some("legacy") {
         IntEncoding::Fixed
     } else {
         IntEncoding::Variable
@@ -341,8 +320,8 @@ fn encoding_in(found: &ArgMatches<'_>) -> IntEncoding {
 }
 
 /// The byte order of the input.
-fn endian_in(found: &ArgMatches<'_>) -> Endianness {
-    if found.get_flag("big-endian") {
+fn endian_in(found: &Found<'_>) -> Endianness {
+    if found.is_set("big-endian") {
         Endianness::Big
     } else {
         Endianness::Little
@@ -350,9 +329,10 @@ fn endian_in(found: &ArgMatches<'_>) -> Endianness {
 }
 
 /// The greatest length of a word in bytes, if the input is a store of frames.
-fn longest_in(found: &ArgMatches<'_>) -> Option<u32> {
-    let longest = found.get_one::<u32>("longest").unwrap_or(LONGEST);
-    found.get_flag("frames").then_some(longest)
+fn longest_in(found: &Found<'_>) -> Option<u32> {
+    let longest = found.number("longest").unwrap_or(LONGEST as u64);
+    let longest = u32::try_from(longest).unwrap_or(LONGEST);
+    found.is_set("frames").then_some(longest)
 }
 
 /// The limit of this name.

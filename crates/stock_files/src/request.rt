@@ -3,8 +3,10 @@
 use crate::article::Article;
 use crate::article_words::{ArticleError, article_of};
 use crate::repairing::Repair;
-use clap::error::ErrorKind;
-use clap::{Arg, ArgAction, ArgMatches, Command, Error};
+use clap::Error;
+use command_line::found::Found;
+use command_line::matching::{found_in, wrong_value};
+use command_line::table::{Kind, Line, Program, Word};
 use std::alloc::{AllocError, Global};
 
 /// What the program is asked to do.
@@ -47,173 +49,110 @@ const STATUSES: &str = "Status:
 Each file is dealt with, also after one that fails. The status is the greatest of them. `add` adds all or nothing:
 where it fails, it cuts the file back to what it held.";
 
-/// How a word or an option is given.
-enum Kind {
-    /// A word of this name.
-    One(&'static str),
-    /// One or more of this name.
-    Many(&'static str),
-    /// An option without a word.
-    Flag,
-}
-
-/// A word or an option of a command.
-struct Word {
-    id: &'static str,
-    kind: Kind,
-    help: &'static str,
-}
-
-/// A command of the command line.
-struct Line {
-    name: &'static str,
-    about: &'static str,
-    /// How it is used, if its words do not say it.
-    usage: Option<&'static str>,
-    words: &'static [Word],
-}
-
-/// The command `add`.
-static ADD: Line = Line {
-    name: "add",
-    about: "Appends articles to a file that is not torn, and prints their places",
-    usage: Some(
-        "records add FILE NAME PRICE [WEIGHT] [NOTE=TEXT ..]
+/// The program's command line.
+static RECORDS: Program = Program {
+    name: "records",
+    version: "2.0.0",
+    about: "Keeps the articles of a stock in files, each in a frame with a check",
+    after_help: STATUSES,
+    usage: None,
+    words: &[],
+    commands: &[
+        Line {
+            name: "add",
+            about: "Appends articles to a file that is not torn, and prints their places",
+            usage: Some(
+                "records add FILE NAME PRICE [WEIGHT] [NOTE=TEXT ..]
        records add FILE -",
-    ),
-    words: &[
-        Word {
-            id: "file",
-            kind: Kind::One("FILE"),
-            help: "The file, which is made where there is none",
+            ),
+            words: &[
+                Word {
+                    id: "file",
+                    kind: Kind::One("FILE"),
+                    help: "The file, which is made where there is none",
+                    conflicts: &[],
+                    needs: &[],
+                },
+                Word {
+                    id: "words",
+                    kind: Kind::Many("WORD"),
+                    help: "The article: its name, its price, then a weight and notes. A lone - takes articles from \
+                        the standard input, one a line, their words separated by blanks or tabs",
+                    conflicts: &[],
+                    needs: &[],
+                },
+            ],
         },
-        Word {
-            id: "words",
-            kind: Kind::Many("WORD"),
-            help: "The article: its name, its price, then a weight and notes. A lone - takes articles from the \
-                standard input, one a line, their words separated by blanks or tabs",
+        Line {
+            name: "list",
+            about: "Prints the articles of files, each with its offset",
+            usage: None,
+            words: &[Word {
+                id: "files",
+                kind: Kind::Many("FILE"),
+                help: "The files",
+                conflicts: &[],
+                needs: &[],
+            }],
+        },
+        Line {
+            name: "check",
+            about: "Says for each file whether it is whole",
+            usage: None,
+            words: &[Word {
+                id: "files",
+                kind: Kind::Many("FILE"),
+                help: "The files",
+                conflicts: &[],
+                needs: &[],
+            }],
+        },
+        Line {
+            name: "repair",
+            about: "Cuts a file off after its last frame, where it is torn",
+            usage: None,
+            words: &[
+                Word {
+                    id: "drop-damaged",
+                    kind: Kind::Flag,
+                    help: "Drops the damaged frames, too, and keeps the whole ones that follow bytes that are no frame",
+                    conflicts: &[],
+                    needs: &[],
+                },
+                Word {
+                    id: "cut",
+                    kind: Kind::Flag,
+                    help: "Cuts the file off even where a whole frame stands in what is lost",
+                    conflicts: &[],
+                    needs: &[],
+                },
+                Word {
+                    id: "file",
+                    kind: Kind::One("FILE"),
+                    help: "The file",
+                    conflicts: &[],
+                    needs: &[],
+                },
+            ],
+        },
+        Line {
+            name: "shape",
+            about: "Prints the shape of an article: `describe --frames \"$(records shape)\" FILE` prints JSON",
+            usage: None,
+            words: &[],
         },
     ],
 };
 
-/// The other commands.
-static OTHERS: [Line; 4] = [
-    Line {
-        name: "list",
-        about: "Prints the articles of files, each with its offset",
-        usage: None,
-        words: &[Word {
-            id: "files",
-            kind: Kind::Many("FILE"),
-            help: "The files",
-        }],
-    },
-    Line {
-        name: "check",
-        about: "Says for each file whether it is whole",
-        usage: None,
-        words: &[Word {
-            id: "files",
-            kind: Kind::Many("FILE"),
-            help: "The files",
-        }],
-    },
-    Line {
-        name: "repair",
-        about: "Cuts a file off after its last frame, where it is torn",
-        usage: None,
-        words: &[
-            Word {
-                id: "drop-damaged",
-                kind: Kind::Flag,
-                help: "Drops the damaged frames, too, and keeps the whole ones that follow bytes that are no frame",
-            },
-            Word {
-                id: "cut",
-                kind: Kind::Flag,
-                help: "Cuts the file off even where a whole frame stands in what is lost",
-            },
-            Word {
-                id: "file",
-                kind: Kind::One("FILE"),
-                help: "The file",
-            },
-        ],
-    },
-    Line {
-        name: "shape",
-        about: "Prints the shape of an article: `describe --frames \"$(records shape)\" FILE` prints JSON",
-        usage: None,
-        words: &[],
-    },
-];
-
-/// The program's command line.
-fn command_line<'a>(alloc: Global) -> Result<Command<'a>, AllocError> {
-    let mut line = with_command(alloc, bare_line(alloc), &ADD)?;
-    for other in OTHERS.iter() {
-        line = with_command(alloc, line, other)?;
-    }
-    Ok(line)
-}
-
-/// The command line without its commands.
-fn bare_line<'a>(alloc: Global) -> Command<'a> {
-    Command::new(alloc, "records")
-        .version("2.0.0")
-        .about("Keeps the articles of a stock in files, each in a frame with a check")
-        .after_help(STATUSES)
-        .subcommand_required(true)
-}
-
-/// The command line with a command.
-fn with_command<'a>(
-    alloc: Global,
-    line: Command<'a>,
-    added: &Line,
-) -> Result<Command<'a>, AllocError> {
-    line.subcommand(command_of(alloc, added)?)
-}
-
-/// A command.
-fn command_of<'a>(alloc: Global, line: &Line) -> Result<Command<'a>, AllocError> {
-    let mut command = Command::new(alloc, line.name).about(line.about);
-    if let Some(usage) = line.usage {
-        command = command.override_usage(usage);
-    }
-    for word in line.words.iter() {
-        command = command.arg(arg_of(alloc, word))?;
-    }
-    Ok(command)
-}
-
-/// A word or an option.
-fn arg_of<'a>(alloc: Global, word: &Word) -> Arg<'a> {
-    let arg = Arg::new(alloc, word.id).help(word.help);
-    match word.kind {
-        Kind::One(name) => arg.value_name(name).required(true),
-        Kind::Many(name) => arg
-            .value_name(name)
-            .required(true)
-            .action(ArgAction::Append)
-            .num_args(1..),
-        Kind::Flag => arg.long(word.id).action(ArgAction::SetTrue),
-    }
-}
-
 /// The request that these words spell, of which the first is the program's name. Where they spell none, or ask for help
 /// or for the version, the error has the text for it.
 pub fn request_of(alloc: Global, words: &[String]) -> Result<Request, Error> {
-    let matches = command_line(alloc)?.try_get_matches_from(words)?;
-    match matches.subcommand() {
-        Some((name, found)) => request_named(alloc, name, found),
-        None => Err(mistake(command_line(alloc)?, "which command?")?),
-    }
+    request_in(alloc, &found_in(alloc, &RECORDS, words)?)
 }
 
-/// The request of the command of this name.
-fn request_named(alloc: Global, name: &str, found: &ArgMatches<'_>) -> Result<Request, Error> {
-    match name {
+/// The request of the command that was found.
+fn request_in(alloc: Global, found: &Found<'_>) -> Result<Request, Error> {
+    match found.command() {
         "add" => add_request(alloc, found),
         "list" => Ok(Request::List(files_in(alloc, found)?)),
         "check" => Ok(Request::Check(files_in(alloc, found)?)),
@@ -223,23 +162,23 @@ fn request_named(alloc: Global, name: &str, found: &ArgMatches<'_>) -> Result<Re
 }
 
 /// The request of `repair`.
-fn repair_request(alloc: Global, found: &ArgMatches<'_>) -> Result<Request, AllocError> {
+fn repair_request(alloc: Global, found: &Found<'_>) -> Result<Request, AllocError> {
     let repair = Repair {
-        drops_damaged: found.get_flag("drop-damaged"),
-        cuts: found.get_flag("cut"),
+        drops_damaged: found.is_set("drop-damaged"),
+        cuts: found.is_set("cut"),
     };
     let file = file_in(alloc, found)?;
     Ok(Request::Repair { file, repair })
 }
 
 /// The request of `add`.
-fn add_request(alloc: Global, found: &ArgMatches<'_>) -> Result<Request, Error> {
-    let words = found.get_strs("words").unwrap_or(&[]);
-    if matches!(words, ["-"]) {
+fn add_request(alloc: Global, found: &Found<'_>) -> Result<Request, Error> {
+    let words = found.texts(alloc, "words")?;
+    if matches!(words.as_slice(), ["-"]) {
         let file = file_in(alloc, found)?;
         return Ok(Request::AddLines { file });
     }
-    let article = article_in(alloc, words)?;
+    let article = article_in(alloc, words.as_slice())?;
     let file = file_in(alloc, found)?;
     Ok(Request::Add { file, article })
 }
@@ -256,23 +195,18 @@ fn article_in(alloc: Global, words: &[&str]) -> Result<Article, Error> {
 /// The error of words that are no article, with the usage of `add`.
 fn no_article(alloc: Global, why: &ArticleError) -> Result<Error, AllocError> {
     let text = format!(in alloc; "{why}")?;
-    mistake(command_of(alloc, &ADD)?, text.as_str())
-}
-
-/// The error of a mistake in the words of a command, with its usage.
-fn mistake(mut command: Command<'_>, text: &str) -> Result<Error, AllocError> {
-    command.error(ErrorKind::ValueValidation, text)
+    wrong_value(alloc, &RECORDS, "add", text.as_str())
 }
 
 /// The path of the file.
-fn file_in(alloc: Global, found: &ArgMatches<'_>) -> Result<String, AllocError> {
-    String::from_str(alloc, found.get_str("file").unwrap_or(""))
+fn file_in(alloc: Global, found: &Found<'_>) -> Result<String, AllocError> {
+    String::from_str(alloc, found.text("file").unwrap_or(""))
 }
 
 /// The paths of the files.
-fn files_in(alloc: Global, found: &ArgMatches<'_>) -> Result<Vec<String>, AllocError> {
+fn files_in(alloc: Global, found: &Found<'_>) -> Result<Vec<String>, AllocError> {
     let mut files = Vec::new(alloc);
-    for file in found.get_strs("files").unwrap_or(&[]).iter() {
+    for file in found.texts(alloc, "files")?.iter() {
         files.push(String::from_str(alloc, file)?)?;
     }
     Ok(files)
