@@ -6,6 +6,7 @@ pub mod Filled
 pub mod Room
 pub mod Through
 mod StreamHalted
+mod Shown
 pub mod Within
 mod EnumFormats
 mod Short

@@ -1,10 +1,11 @@
 //! The next value of a stream, or its end.
-ghost use Rattle.std.specs.Prelude.{◌≡◌, ◌≢◌, ◌⊎◌, ◌↔◌, [], IsTrue, IsNone, IfSome, IfOk, IfErr, MatchResult};
+ghost use Rattle.std.specs.Prelude.{◌≡◌, ◌≢◌, ◌⊎◌, ◌↔◌, [], IsTrue, IsNone, IfSome, IfNone, IfOk, IfErr, MatchResult};
 ghost use Rattle.std.specs.Io.KnownBytes.{Keeps};
-ghost use Rattle.bincode_spec.specs.Decoding.{IsExcused, WordRead, AcceptsAll, ReportsFault, EnforcesLimit};
+ghost use Rattle.bincode_spec.specs.Decoding.{IsExcused, IsRead, WordRead, AcceptsAll, ReportsFault, EnforcesLimit};
 ghost use Rattle.bincode_spec.specs.Device.{Takes};
 ghost use Rattle.bincode_io.specs.Stream.{TellsBytes, known_bytes, EndsShort, IsIo, stream_errors};
 
+use crate::slice::decode_from_slice;
 use crate::streams::decode_from_std_read;
 use bincode_base::config::Config;
 use bincode_base::error::{DecodeError, StreamError};
@@ -29,6 +30,47 @@ fn has_ended<R: BufRead>(stream: &mut R) -> Result<bool, StreamError>
         }
     }
     Err(StreamError::from(io::Error::from(ErrorKind::Interrupted)))
+}
+
+/// Decodes a value from what the buffer of a stream shows, and consumes just its encoding. `None`, with nothing
+/// consumed, if the buffer shows no whole encoding within the limit, memory is refused or the stream fails.
+fn decode_shown<D: Decode<()>, C: Config, R: BufRead>(
+    alloc: Global,
+    src: &mut R,
+    config: C,
+) -> Option<D>
+    ensures word { TellsBytes (R.remaining src.old) → IfSome result (λ v. WordRead (D.words.format C.setting) C.bound
+        (known_bytes (R.remaining src.old)) (known_bytes (R.remaining src.new)) (λ m. D.words.decodes_to m v)) }
+    ensures kept { IfNone result (Keeps (R.remaining src.old) (R.remaining src.new)) }
+    ensures is_known { TellsBytes (R.remaining src.old) → TellsBytes (R.remaining src.new) }
+{
+    let Ok(shown) = src.fill_buf() else {
+        return None;
+    };
+    let Ok((value, taken)) = decode_from_slice(alloc, shown, config) else {
+        return None;
+    };
+    src.consume(taken);
+    Some(value)
+}
+
+/// `decode_from_std_read` for a buffered stream: it decodes from what the buffer shows, as from a slice, and piece by
+/// piece only where an encoding goes on after it. So of a long one what the buffer shows is decoded twice. Errors, and
+/// what is consumed, are those of `decode_from_std_read`.
+pub fn decode_from_buf_read<D: Decode<()>, C: Config, R: BufRead>(
+    alloc: Global,
+    src: &mut R,
+    config: C,
+) -> Result<D, DecodeError>
+    // The fields of `IsRead` say what is taken, how each fault and each excess is reported, and what a failure leaves.
+    ensures { IsRead (λ stream. TellsBytes (R.remaining stream)) (λ stream. known_bytes (R.remaining stream)) EndsShort
+        (IsExcused stream_errors D.words.may_allocate 0 0) IsIo (D.words.format C.setting) C.bound D.words.decodes_to
+        result src.old src.new }
+{
+    match decode_shown(alloc, src, config) {
+        Some(value) => Ok(value),
+        None => decode_from_std_read(alloc, src, config),
+    }
 }
 
 /// Decodes the next value of a buffered stream and consumes just its encoding; `None` if the stream has ended before
@@ -79,7 +121,7 @@ pub fn decode_next_from_std_read<D: Decode<()>, C: Config, R: BufRead>(
 {
     match has_ended(src) {
         Ok(true) => Ok(None),
-        Ok(false) => match decode_from_std_read(alloc, src, config) {
+        Ok(false) => match decode_from_buf_read(alloc, src, config) {
             Ok(value) => Ok(Some(value)),
             Err(e) => Err(e),
         },

@@ -20,7 +20,7 @@ use std::io::{Read, Write};
 /// Decodes a value from a stream and consumes just its encoding. Fails with the first fault of the bytes,
 /// `LimitExceeded` if the charges pass the limit, `Memory` if an allocation is refused, or `Io` if the stream fails or
 /// ends; the bytes consumed until then are lost. Each tag and number is a read of its own: wrap a file in a
-/// `BufReader`.
+/// `BufReader`, and read it by `decode_from_buf_read`, which is faster.
 pub fn decode_from_std_read<D: Decode<()>, C: Config, R: Read>(
     alloc: Global,
     src: &mut R,

@@ -14,6 +14,8 @@ mod asserts;
 #[cfg(test)]
 mod borrowed;
 #[cfg(test)]
+mod buffers;
+#[cfg(test)]
 mod c_strings;
 #[cfg(test)]
 mod cells;
