@@ -91,6 +91,30 @@ fn stream<T: Decode<()> + Encode, C: Config>(PARAMETERS, config: C) -> usize {
 }
 """
 
+# encode_into_writer to a BlockWriter that is kept, before the room; the original's is a buffer as above
+BLOCK = """
+fn block<T: Decode<()> + Encode, C: Config>(PARAMETERS, config: C) -> usize {
+    let Ok((values, _)) = decode_from_slice::<Vec<T>, _>(alloc, input, config) else {
+        return 0;
+    };
+    let mut at = 0usize;
+    for _turn in 0..turns {
+        let mut target = room(out, 0);
+        let mut stream = BlockWriter::new(&mut target);
+        for value in &values {
+            if encode_into_writer(value, &mut stream, config).is_err() {
+                return 0;
+            }
+        }
+        at = stream.bytes_written();
+        if stream.flush().is_err() {
+            return 0;
+        }
+    }
+    at
+}
+"""
+
 # Of the loops that read: all values are read once, TURN reads them again from where the first begins, and the last ones are written.
 READING = """
 fn NAME<T: Decode<()> + Encode, C: Config>(PARAMETERS, config: C) -> usize {
@@ -158,13 +182,18 @@ STD_READ = reading(
 # decode_from_reader, from the same
 READER = STD_READ.replace("fn std_read", "fn reader").replace("decode_from_std_read", "decode_from_reader")
 
+# decode_from_buf_read, from the same; the original's is decode_from_std_read
+BUF_READ = STD_READ.replace("fn std_read", "fn buf_read").replace("decode_from_std_read", "decode_from_buf_read")
+
 LOOPS = {
     "write": WRITE,
     "vector": VECTOR,
     "read": READ,
     "borrow": BORROW,
     "stream": STREAM,
+    "block": BLOCK,
     "std_read": STD_READ,
+    "buf_read": BUF_READ,
     "reader": READER,
 }
 
@@ -173,7 +202,7 @@ LIBRARIES = {
     "bench_write": ("write",),
     "bench_vector": ("vector",),
     "bench_read": ("read",),
-    "bench_others": ("borrow", "stream", "std_read", "reader"),
+    "bench_others": ("borrow", "stream", "block", "std_read", "buf_read", "reader"),
 }
 
 HELPERS = """
@@ -237,6 +266,10 @@ LENT = {
 STREAMED = {
     "records": "Vec<(u32, u16, u64)>",
 }
+# many calls in a row, one for each small value, also over streams
+SINGLE = {
+    "record": "(u32, u16, u64)",
+}
 # these have no numbers, or are written as another row's type is, where numbers are fixed
 SAME_WHEN_FIXED = ("i64", "characters", "array_u8", "bytes", "text")
 # in these all values are of one kind
@@ -264,13 +297,14 @@ def rows():
         ("plain", PLAIN, ("write", "read")),
         ("held", HELD, ("write", "read", "vector")),
         ("lent", LENT, ("borrow",)),
-        ("streamed", STREAMED, ("stream", "std_read", "reader")),
+        ("streamed", STREAMED, ("stream", "block", "std_read", "buf_read", "reader")),
+        ("single", SINGLE, ("write", "read", "stream", "block", "std_read", "buf_read", "reader")),
     )
     for group, types, ways in groups:
         for way in ways:
             for configuration in CONFIGURATIONS:
                 # a limit is kept by what reads alone
-                if configuration == "vl" and way in ("write", "vector", "stream"):
+                if configuration == "vl" and way in ("write", "vector", "stream", "block"):
                     continue
                 for shape, of in types.items():
                     if configuration == "f" and shape in SAME_WHEN_FIXED:
@@ -283,7 +317,7 @@ def rows():
 
 def cases_of(row):
     """The kinds of values of a row, or how many items they have."""
-    if row.group != "plain":
+    if row.group not in ("plain", "single"):
         return COUNTS
     return KINDS[-1:] if row.shape in ONE_KIND or row.configuration == "f" else KINDS
 
@@ -300,14 +334,20 @@ def rattle(built):
             for library, ways in LIBRARIES.items() if any(row.way in ways for row in built)}
 
 
+def crates_of(text):
+    """The repository's crates that a library of the port takes."""
+    return [name for name in ("bincode", "bincode_blocks") if f"use {name}::" in text]
+
+
 def rattle_of(built):
+    blocks = "use bincode_blocks::BlockWriter;\n" if any(row.way == "block" for row in built) else ""
     text = f"""//! The port's side of some of the rows of bench/rows.py.
 #![tactic(auto)]
 
 use bincode::config::Config;
 use bincode::{{BorrowDecode, Decode, Encode, borrow_decode_from_slice, config, decode_from_reader, decode_from_slice}};
-use bincode::{{decode_from_std_read, encode_into_slice, encode_into_std_write, encode_to_vec}};
-use std::alloc::Global;
+use bincode::{{decode_from_buf_read, decode_from_std_read, encode_into_slice, encode_into_std_write, encode_into_writer, encode_to_vec}};
+{blocks}use std::alloc::Global;
 use std::collections::{{BTreeMap, HashMap}};
 use std::io;
 use std::io::{{BufReader, BufWriter, Write}};

@@ -5,7 +5,7 @@ use bincode::error::{DecodeError, EncodeError};
 pub use bincode::{BorrowDecode, Decode, Encode};
 pub use bincode::{encode_into_slice, encode_into_std_write};
 use std::io;
-use std::io::{BufReader, BufWriter, Read};
+use std::io::{BufReader, BufWriter, Read, Write};
 
 #[derive(Clone, Copy)]
 pub struct Global;
@@ -44,6 +44,52 @@ pub fn decode_from_std_read<D: Decode<()>, C: Config, R: Read>(
     config: C,
 ) -> Result<D, DecodeError> {
     bincode::decode_from_std_read(stream, config)
+}
+
+/// The original has no call of its own for a stream with a buffer.
+#[inline(always)]
+pub fn decode_from_buf_read<D: Decode<()>, C: Config, R: Read>(
+    _alloc: Global,
+    stream: &mut R,
+    config: C,
+) -> Result<D, DecodeError> {
+    bincode::decode_from_std_read(stream, config)
+}
+
+/// A buffer before a stream, which counts what it takes: the original's way to what a `BlockWriter` is for.
+pub struct BlockWriter<W: Write> {
+    stream: BufWriter<W>,
+    written: usize,
+}
+
+impl<W: Write> BlockWriter<W> {
+    #[inline(always)]
+    pub fn new(stream: W) -> BlockWriter<W> {
+        BlockWriter {
+            stream: BufWriter::new(stream),
+            written: 0,
+        }
+    }
+
+    #[inline(always)]
+    pub fn bytes_written(&self) -> usize {
+        self.written
+    }
+
+    #[inline(always)]
+    pub fn flush(&mut self) -> io::Result<()> {
+        self.stream.flush()
+    }
+}
+
+#[inline(always)]
+pub fn encode_into_writer<E: Encode, W: Write, C: Config>(
+    value: E,
+    writer: &mut BlockWriter<W>,
+    config: C,
+) -> Result<(), EncodeError> {
+    writer.written += encode_into_std_write(value, &mut writer.stream, config)?;
+    Ok(())
 }
 
 #[inline(always)]

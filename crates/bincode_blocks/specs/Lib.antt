@@ -1,0 +1,2 @@
+pub mod BlockLaws
+pub mod Blocks
