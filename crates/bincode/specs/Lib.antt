@@ -2,6 +2,7 @@
 pub mod EnumShapes
 pub mod Exact
 pub mod Short
+pub mod Window
 pub use Rattle.bincode_base.specs.AllowedTags
 pub use Rattle.bincode_base.specs.Setting
 pub use Rattle.bincode_base.specs.ShortText

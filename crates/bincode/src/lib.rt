@@ -20,6 +20,7 @@ mod short_slice;
 mod slice;
 mod streams;
 mod vec;
+mod window;
 mod writer;
 
 /// Enums of your own, variant by variant: their laws, and how they are encoded and decoded.

@@ -5,8 +5,9 @@ ghost use Rattle.bincode_spec.specs.Decoding.{IsExcused, IsRead, WordRead, Accep
 ghost use Rattle.bincode_spec.specs.Device.{Takes};
 ghost use Rattle.bincode_io.specs.Stream.{TellsBytes, known_bytes, EndsShort, IsIo, stream_errors};
 
+use crate::reader::decode_from_reader_with;
 use crate::slice::decode_from_slice;
-use crate::streams::decode_from_std_read;
+use crate::window::WindowReader;
 use bincode_base::config::Config;
 use bincode_base::error::{DecodeError, StreamError};
 use bincode_decode::decode::Decode;
@@ -54,9 +55,23 @@ fn decode_shown<D: Decode<()>, C: Config, R: BufRead>(
     Some(value)
 }
 
-/// `decode_from_std_read` for a buffered stream: it decodes from what the buffer shows, as from a slice, and piece by
-/// piece only where an encoding goes on after it. So of a long one what the buffer shows is decoded twice. Errors, and
-/// what is consumed, are those of `decode_from_std_read`.
+/// Decodes a value from a stream through a window. Errors, and what is consumed, are those of `decode_from_std_read`.
+fn decode_through_window<D: Decode<()>, C: Config, R: BufRead>(
+    alloc: Global,
+    src: &mut R,
+    config: C,
+) -> Result<D, DecodeError>
+    ensures { IsRead (λ stream. TellsBytes (R.remaining stream)) (λ stream. known_bytes (R.remaining stream)) EndsShort
+        (IsExcused stream_errors D.words.may_allocate 0 0) IsIo (D.words.format C.setting) C.bound D.words.decodes_to
+        result src.old src.new }
+{
+    let mut reader = WindowReader::new(src);
+    decode_from_reader_with(alloc, &mut reader, &config, &mut ())
+}
+
+/// `decode_from_std_read` for a buffered stream: it decodes from what the buffer shows, as from a slice, and through a
+/// window of 512 bytes where an encoding goes on after it. So of a long one what the buffer shows is decoded twice.
+/// Errors, and what is consumed, are those of `decode_from_std_read`.
 pub fn decode_from_buf_read<D: Decode<()>, C: Config, R: BufRead>(
     alloc: Global,
     src: &mut R,
@@ -69,7 +84,7 @@ pub fn decode_from_buf_read<D: Decode<()>, C: Config, R: BufRead>(
 {
     match decode_shown(alloc, src, config) {
         Some(value) => Ok(value),
-        None => decode_from_std_read(alloc, src, config),
+        None => decode_through_window(alloc, src, config),
     }
 }
 

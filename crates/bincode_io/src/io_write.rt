@@ -147,7 +147,7 @@ impl<W: Write> Writer for IoWriter<'_, W> {
 
     ghost loans = { λ w. w.stream.ghost_name ∷ [] };
 
-    #[inline(always)]
+    #[inline]
     fn write(&mut self, bytes: &[u8]) -> Result<(), EncodeError> {
         if bytes.is_empty() {
             return Ok(());
@@ -172,7 +172,7 @@ impl<W: Write> Writer for IoWriter<'_, W> {
     }
 
     /// Written out because the provided method is not inlined.
-    #[inline(always)]
+    #[inline]
     fn write_payload(&mut self, bytes: &[u8]) -> Result<(), EncodeError> {
         self.write(bytes)
     }
