@@ -7,6 +7,7 @@ pub mod Room
 pub mod Through
 mod StreamHalted
 mod Shown
+mod Windowed
 pub mod Within
 mod EnumFormats
 mod Short

@@ -55,20 +55,6 @@ fn decode_shown<D: Decode<()>, C: Config, R: BufRead>(
     Some(value)
 }
 
-/// Decodes a value from a stream through a window. Errors, and what is consumed, are those of `decode_from_std_read`.
-fn decode_through_window<D: Decode<()>, C: Config, R: BufRead>(
-    alloc: Global,
-    src: &mut R,
-    config: C,
-) -> Result<D, DecodeError>
-    ensures { IsRead (λ stream. TellsBytes (R.remaining stream)) (λ stream. known_bytes (R.remaining stream)) EndsShort
-        (IsExcused stream_errors D.words.may_allocate 0 0) IsIo (D.words.format C.setting) C.bound D.words.decodes_to
-        result src.old src.new }
-{
-    let mut reader = WindowReader::new(src);
-    decode_from_reader_with(alloc, &mut reader, &config, &mut ())
-}
-
 /// `decode_from_std_read` for a buffered stream: it decodes from what the buffer shows, as from a slice, and through a
 /// window of 512 bytes where an encoding goes on after it. So of a long one what the buffer shows is decoded twice.
 /// Errors, and what is consumed, are those of `decode_from_std_read`.
@@ -84,8 +70,26 @@ pub fn decode_from_buf_read<D: Decode<()>, C: Config, R: BufRead>(
 {
     match decode_shown(alloc, src, config) {
         Some(value) => Ok(value),
-        None => decode_through_window(alloc, src, config),
+        None => decode_from_buf_read_with_context(alloc, src, config, ()),
     }
+}
+
+/// `decode_from_buf_read` for a type whose decoder asks for a context, which does not change what the bytes mean. It
+/// decodes through a window alone, since a second try would find the context changed.
+pub fn decode_from_buf_read_with_context<Context: Drop, D: Decode<Context>, C: Config, R: BufRead>(
+    alloc: Global,
+    src: &mut R,
+    config: C,
+    context: Context,
+) -> Result<D, DecodeError>
+    // The fields of `IsRead` say what is taken, how each fault and each excess is reported, and what a failure leaves.
+    ensures { IsRead (λ stream. TellsBytes (R.remaining stream)) (λ stream. known_bytes (R.remaining stream)) EndsShort
+        (IsExcused stream_errors D.words.may_allocate 0 0) IsIo (D.words.format C.setting) C.bound D.words.decodes_to
+        result src.old src.new }
+{
+    let mut context = context;
+    let mut reader = WindowReader::new(src);
+    decode_from_reader_with(alloc, &mut reader, &config, &mut context)
 }
 
 /// Decodes the next value of a buffered stream and consumes just its encoding; `None` if the stream has ended before

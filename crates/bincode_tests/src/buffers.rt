@@ -4,7 +4,7 @@ use bincode::error::DecodeError;
 use bincode::{config, decode_from_buf_read};
 use std::alloc::{AllocError, Global};
 use std::io;
-use std::io::{BufRead, BufReader, Read};
+use std::io::{BufRead, BufReader, ErrorKind, Read};
 
 /// What is read of the word and a 9 after it through a buffer of this capacity, and how many bytes are left of both.
 fn read_through(alloc: Global, capacity: usize) -> Option<(u8, u32, usize)> {
@@ -34,6 +34,128 @@ fn reads_what_a_buffer_shows(rt: HostRuntime) -> Result<(), AllocError> {
     Ok(())
 }
 
+/// The encoding of a list of 400 times 300, of 1,203 bytes, and a 9.
+fn long_list(alloc: Global) -> Result<Vec<u8>, AllocError> {
+    let mut bytes = vec![in alloc; 251, 144, 1]?;
+    for _ in 0..400 {
+        bytes.extend_from_slice(&[251, 44, 1])?;
+    }
+    bytes.push(9)?;
+    Ok(bytes)
+}
+
+/// Whether a list that is longer than a window is read through a buffer of this capacity, and the 9 is left.
+fn reads_long(alloc: Global, capacity: usize) -> Option<bool> {
+    let bytes = long_list(alloc).ok()?;
+    let mut stream = BufReader::with_capacity(alloc, capacity, bytes.as_slice()).ok()?;
+    let read: Result<Vec<u16>, DecodeError> = decode_from_buf_read(
+        alloc,
+        &mut stream,
+        config::standard(),
+    );
+    let list = read.ok()?;
+    let mut after = [0u8; 1];
+    stream.read_exact(&mut after).ok()?;
+    Some(after == [9] && list.len() == 400 && list.iter().all(|item| *item == 300))
+}
+
+/// So it is whether a window ends within a number, at its end, or with the buffer.
+#[test]
+fn reads_a_value_longer_than_a_window(rt: HostRuntime) {
+    let alloc = rt.alloc();
+    for capacity in [0, 1, 2, 3, 511, 512, 513, 600, 1203, 1204, 4096] {
+        assert!(rt; reads_long(alloc, capacity) == Some(true), "{capacity}");
+    }
+}
+
+/// Whether a text of 2,000 bytes, more than a window holds, is read as one piece, and the 9 after it is left.
+fn reads_long_text(alloc: Global, capacity: usize) -> Option<bool> {
+    let mut bytes = vec![in alloc; 251, 208, 7].ok()?;
+    for _ in 0..2000 {
+        bytes.push(b'x').ok()?;
+    }
+    bytes.push(9).ok()?;
+    let mut stream = BufReader::with_capacity(alloc, capacity, bytes.as_slice()).ok()?;
+    let read: Result<String, DecodeError> = decode_from_buf_read(
+        alloc,
+        &mut stream,
+        config::standard(),
+    );
+    let text = read.ok()?;
+    let mut after = [0u8; 1];
+    stream.read_exact(&mut after).ok()?;
+    Some(after == [9] && text.len() == 2000 && text.bytes().all(|byte| byte == b'x'))
+}
+
+#[test]
+fn reads_a_piece_longer_than_a_window(rt: HostRuntime) {
+    let alloc = rt.alloc();
+    for capacity in [1, 500, 1024, 2003, 4096] {
+        assert!(rt; reads_long_text(alloc, capacity) == Some(true), "{capacity}");
+    }
+}
+
+/// A stream that shows its bytes two by two, and fails once more are asked for than it has, as one that would wait.
+#[derive(Drop)]
+struct ByTwos<'s> {
+    bytes: &'s [u8],
+}
+
+impl Read for ByTwos<'_> {
+    fn read(&mut self, bytes: &mut [u8]) -> io::Result<usize> {
+        if self.bytes.is_empty() {
+            return Err(io::Error::from(ErrorKind::WouldBlock));
+        }
+        self.bytes.read(bytes)
+    }
+}
+
+impl BufRead for ByTwos<'_> {
+    fn fill_buf(&mut self) -> io::Result<&[u8]> {
+        if self.bytes.is_empty() {
+            return Err(io::Error::from(ErrorKind::WouldBlock));
+        }
+        Ok(&self.bytes[..self.bytes.len().min(2)])
+    }
+
+    fn consume(&mut self, amount: usize) {
+        let at = amount.min(self.bytes.len());
+        self.bytes = &self.bytes[at..];
+    }
+}
+
+/// A value is read without asking for a byte behind its last one, for which a stream may wait. An error of the stream
+/// is told, with the bytes that are missing.
+#[test]
+fn asks_for_no_byte_behind_a_value(rt: HostRuntime) {
+    let alloc = rt.alloc();
+    let bytes = [251, 44, 1, 251, 45, 1, 7];
+    let mut stream = ByTwos { bytes: &bytes };
+    let read: Result<(u16, u16, u8), DecodeError> = decode_from_buf_read(
+        alloc,
+        &mut stream,
+        config::standard(),
+    );
+    assert!(rt; matches!(read, Ok((300, 301, 7))));
+    let mut stream = ByTwos {
+        bytes: &bytes[..5],
+    };
+    let read: Result<(u16, u16, u8), DecodeError> = decode_from_buf_read(
+        alloc,
+        &mut stream,
+        config::standard(),
+    );
+    let Err(DecodeError::Io {
+        inner,
+        additional: 1,
+    }) = read
+    else {
+        assert!(rt; false);
+        return;
+    };
+    assert!(rt; inner.kind() == ErrorKind::WouldBlock);
+}
+
 /// A stream that shows all of its bytes, and counts the reads.
 #[derive(Drop)]
 struct Shown<'s> {
@@ -59,7 +181,7 @@ impl BufRead for Shown<'_> {
     }
 }
 
-/// A value that is shown whole is read without a read of the stream, and one that is not with a read for each piece.
+/// A value that is shown whole is read without a read of the stream, and one that is not with one where the buffer ends.
 #[test]
 fn reads_a_shown_value_at_once(rt: HostRuntime) {
     let alloc = rt.alloc();

@@ -3,11 +3,13 @@
 use bincode::de::{BorrowDecode, BorrowDecoder, BorrowedBytes, Decode, Decoder, Sequential};
 use bincode::error::DecodeError;
 use bincode::{
-    HasParts, Wire, borrow_decode_from_slice_with_context, config, decode_from_slice_with_context,
+    HasParts, Wire, borrow_decode_from_slice_with_context, config,
+    decode_from_buf_read_with_context, decode_from_slice_with_context,
     decode_from_std_read_with_context,
 };
 use std::alloc::Global;
 use std::cell::Cell;
+use std::io::BufReader;
 
 /// A byte, and how many were read by its context before it.
 #[derive(Clone, Copy, PartialEq)]
@@ -112,6 +114,18 @@ fn keeps_by_stream(alloc: Global) -> bool {
     }
 }
 
+/// Whether the call for streams with a buffer does so, where the buffer shows two bytes at a time.
+fn keeps_by_buffer(alloc: Global) -> bool {
+    let count = Cell::new(0u32);
+    let Ok(mut stream) = BufReader::with_capacity(alloc, 2, WORD.as_slice()) else {
+        return false;
+    };
+    match decode_from_buf_read_with_context(alloc, &mut stream, config::standard(), &count) {
+        Ok(several) => are_counted(&several, &count),
+        Err(_) => false,
+    }
+}
+
 /// Retries once if an allocation is refused.
 #[test]
 fn keeps_its_context(rt: HostRuntime) {
@@ -120,5 +134,6 @@ fn keeps_its_context(rt: HostRuntime) {
         (keeps_by_slice(alloc) || keeps_by_slice(alloc))
             && (keeps_by_lending(alloc) || keeps_by_lending(alloc))
             && (keeps_by_stream(alloc) || keeps_by_stream(alloc))
+            && (keeps_by_buffer(alloc) || keeps_by_buffer(alloc))
     );
 }
