@@ -91,20 +91,31 @@ fn reads_long_text(alloc: Global, capacity: usize) -> Option<bool> {
 fn reads_a_piece_longer_than_a_window(rt: HostRuntime) {
     let alloc = rt.alloc();
     for capacity in [1, 500, 1024, 2003, 4096] {
-        assert!(rt; reads_long_text(alloc, capacity) == Some(true), "{capacity}");
+        assert!(rt;
+            reads_long_text(alloc, capacity) == Some(true),
+            "{capacity}"
+        );
     }
 }
 
-/// A stream that shows its bytes two by two, and fails once more are asked for than it has, as one that would wait.
+/// A stream that shows its bytes two by two, and counts how often it is asked for one more than it has: there another
+/// stream would wait, and this one fails.
 #[derive(Drop)]
 struct ByTwos<'s> {
     bytes: &'s [u8],
+    waits: usize,
+}
+
+/// What such a stream answers where it has no byte.
+fn would_block(waits: &mut usize) -> io::Error {
+    *waits = waits.saturating_add(1);
+    io::Error::from(ErrorKind::WouldBlock)
 }
 
 impl Read for ByTwos<'_> {
     fn read(&mut self, bytes: &mut [u8]) -> io::Result<usize> {
         if self.bytes.is_empty() {
-            return Err(io::Error::from(ErrorKind::WouldBlock));
+            return Err(would_block(&mut self.waits));
         }
         self.bytes.read(bytes)
     }
@@ -113,7 +124,7 @@ impl Read for ByTwos<'_> {
 impl BufRead for ByTwos<'_> {
     fn fill_buf(&mut self) -> io::Result<&[u8]> {
         if self.bytes.is_empty() {
-            return Err(io::Error::from(ErrorKind::WouldBlock));
+            return Err(would_block(&mut self.waits));
         }
         Ok(&self.bytes[..self.bytes.len().min(2)])
     }
@@ -124,36 +135,34 @@ impl BufRead for ByTwos<'_> {
     }
 }
 
+/// What is read of three numbers from a stream by twos with so many of their bytes, and how often it had to wait.
+fn read_by_twos(alloc: Global, count: usize) -> (Result<(u16, u16, u8), DecodeError>, usize) {
+    let bytes = [251, 44, 1, 251, 45, 1, 7];
+    let mut stream = ByTwos {
+        bytes: &bytes[..count.min(7)],
+        waits: 0,
+    };
+    let read = decode_from_buf_read(alloc, &mut stream, config::standard());
+    (read, stream.waits)
+}
+
 /// A value is read without asking for a byte behind its last one, for which a stream may wait. An error of the stream
-/// is told, with the bytes that are missing.
+/// is told, with the number of bytes that are missing.
 #[test]
 fn asks_for_no_byte_behind_a_value(rt: HostRuntime) {
-    let alloc = rt.alloc();
-    let bytes = [251, 44, 1, 251, 45, 1, 7];
-    let mut stream = ByTwos { bytes: &bytes };
-    let read: Result<(u16, u16, u8), DecodeError> = decode_from_buf_read(
-        alloc,
-        &mut stream,
-        config::standard(),
-    );
-    assert!(rt; matches!(read, Ok((300, 301, 7))));
-    let mut stream = ByTwos {
-        bytes: &bytes[..5],
+    let (whole, waits) = read_by_twos(rt.alloc(), 7);
+    assert!(rt; matches!(whole, Ok((300, 301, 7))) && waits == 0);
+    let (cut, waits) = read_by_twos(rt.alloc(), 5);
+    let is_told = match cut {
+        Err(
+            DecodeError::Io {
+                inner,
+                additional: 1,
+            },
+        ) => inner.kind() == ErrorKind::WouldBlock,
+        _ => false,
     };
-    let read: Result<(u16, u16, u8), DecodeError> = decode_from_buf_read(
-        alloc,
-        &mut stream,
-        config::standard(),
-    );
-    let Err(DecodeError::Io {
-        inner,
-        additional: 1,
-    }) = read
-    else {
-        assert!(rt; false);
-        return;
-    };
-    assert!(rt; inner.kind() == ErrorKind::WouldBlock);
+    assert!(rt; is_told && waits > 0);
 }
 
 /// A stream that shows all of its bytes, and counts the reads.
