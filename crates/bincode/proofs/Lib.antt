@@ -8,6 +8,7 @@ pub mod Through
 mod StreamHalted
 mod Shown
 mod Windowed
+mod Relayed
 pub mod Within
 mod EnumFormats
 mod Short

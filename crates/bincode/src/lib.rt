@@ -80,7 +80,9 @@ pub use bincode_types::validated::{Validate, Validated};
 pub use bincode_types::wire::Wire;
 pub use borrow::{borrow_decode_from_slice, borrow_decode_from_slice_with_context};
 pub use exact::{DecodeExactError, decode_exact_from_slice};
-pub use next::{decode_from_buf_read, decode_from_buf_read_with_context, decode_next_from_std_read};
+pub use next::{
+    decode_from_buf_read, decode_from_buf_read_with_context, decode_next_from_std_read,
+};
 pub use reader::decode_from_reader;
 pub use slice::{decode_from_slice, decode_from_slice_with_context, encode_into_slice};
 pub use streams::{decode_from_std_read, decode_from_std_read_with_context, encode_into_std_write};

@@ -1,11 +1,11 @@
 //! A reader of a stream with a buffer, for values that are longer than what the buffer shows.
-ghost use Rattle.std.specs.Prelude.{◌≡◌, ◌≤◌, ◌×◌, ℕ, List, [], ◌∷◌, length, take, OnOk, IfErr, IfSome};
+ghost use Rattle.std.specs.Prelude.{◌≡◌, ◌≤◌, ◌++◌, [], ◌∷◌, length, drop, OnOk, IfErr};
 ghost use Rattle.std.proofs.Common.{zero-le, inr};
-ghost use Rattle.std.specs.Io.{StartsWith};
-ghost use Rattle.std.specs.Io.KnownBytes.{Consumes, Keeps};
-ghost use Rattle.bincode_io.specs.Stream.{TellsBytes, known_bytes, EndsShort, FillsFrom, IsIo, stream_errors};
+ghost use Rattle.std.specs.Io.KnownBytes.{Keeps};
+ghost use Rattle.bincode_spec.specs.Layers.Pieces.{FillsBuffer};
+ghost use Rattle.bincode_io.specs.Stream.{TellsBytes, known_bytes, EndsShort, IsIo, stream_errors};
 ghost use Rattle.bincode.specs.declared.window.TheConstants.{WINDOW_LEN};
-ghost use Rattle.bincode.specs.Window.{drop_known};
+ghost use Rattle.bincode.specs.Window.{ShowsNext};
 
 use bincode_base::error::DecodeError;
 use bincode_io::io_read::LentIoReader;
@@ -28,14 +28,14 @@ pub(crate) struct WindowReader<'a, R: BufRead> {
     ghost within: { taken ≤ len },
     ghost fits: { len ≤ WINDOW_LEN },
     ghost whole: { length window ≡ WINDOW_LEN },
-    ghost shows: { IfSome (R.remaining stream.now) (λ xs. StartsWith xs (take len window)) },
-    ghost consumable: { IfSome (R.remaining stream.now) (λ _. IfSome (R.consumable_len stream.now) (λ n. len ≤ n)) },
 }
 
 impl<R: BufRead> Drop for WindowReader<'_, R> {
     fn drop(self)
-        ensures { Keeps (drop_known self.entry.taken (R.remaining self.entry.stream.now))
-            (R.remaining self.exit.0.now) }
+        ensures { ShowsNext (R.remaining self.entry.stream.now) (R.consumable_len self.entry.stream.now)
+            self.entry.len self.entry.window → TellsBytes (R.remaining self.exit.0.now)
+            × (known_bytes (R.remaining self.exit.0.now)
+            ≡ drop self.entry.taken (known_bytes (R.remaining self.entry.stream.now))) }
     {
         let WindowReader {
             stream,
@@ -51,10 +51,10 @@ impl<R: BufRead> Drop for WindowReader<'_, R> {
 /// stream, and if the stream fails. Consumes nothing.
 fn fill_window<R: BufRead>(stream: &mut R, window: &mut [u8; WINDOW_LEN]) -> usize
     ensures fits { result ≤ WINDOW_LEN }
+    ensures whole { length window.new ≡ length window.old }
     ensures kept { Keeps (R.remaining stream.old) (R.remaining stream.new) }
-    ensures shows { IfSome (R.remaining stream.new) (λ xs. StartsWith xs (take result window.new)) }
-    ensures consumable { IfSome (R.remaining stream.new) (λ _. IfSome (R.consumable_len stream.new)
-        (λ n. result ≤ n)) }
+    ensures shows { TellsBytes (R.remaining stream.old) → ShowsNext (R.remaining stream.new)
+        (R.consumable_len stream.new) result window.new }
 {
     let Ok(shown) = stream.fill_buf() else {
         return 0;
@@ -67,8 +67,9 @@ fn fill_window<R: BufRead>(stream: &mut R, window: &mut [u8; WINDOW_LEN]) -> usi
 impl<'a, R: BufRead> WindowReader<'a, R> {
     /// A reader over this stream, whose window is empty.
     pub(crate) fn new(stream: &'a mut R) -> WindowReader<'a, R>
+        ensures loans { ⟦<WindowReader<'a, R> as Reader>⟧.loans result ≡ stream.entry.ghost_name ∷ [] }
         ensures stream { result.stream.now ≡ stream.old }
-        ensures taken { result.taken ≡ 0 }
+        ensures empty { (result.taken ≡ 0) × (result.len ≡ 0) }
     {
         WindowReader {
             stream,
@@ -80,8 +81,10 @@ impl<'a, R: BufRead> WindowReader<'a, R> {
 
     /// Consumes what was read, and empties the window.
     fn give_back(&mut self)
-        ensures left { Keeps (drop_known self.old.taken (R.remaining self.old.stream.now))
-            (R.remaining self.new.stream.now) }
+        ensures left { ShowsNext (R.remaining self.old.stream.now) (R.consumable_len self.old.stream.now)
+            self.old.len self.old.window → TellsBytes (R.remaining self.new.stream.now)
+            × (known_bytes (R.remaining self.new.stream.now)
+            ≡ drop self.old.taken (known_bytes (R.remaining self.old.stream.now))) }
         ensures empty { (self.new.taken ≡ 0) × (self.new.len ≡ 0) }
         ensures loans { self.new.stream.ghost_name ≡ self.old.stream.ghost_name }
     {
@@ -95,11 +98,13 @@ impl<'a, R: BufRead> WindowReader<'a, R> {
     #[cold]
     #[inline(never)]
     fn read_past(&mut self, bytes: &mut [u8]) -> Result<(), DecodeError>
-        ensures ok { OnOk result (Consumes (drop_known self.old.taken (R.remaining self.old.stream.now))
-            (drop_known self.new.taken (R.remaining self.new.stream.now)) bytes.new) }
+        ensures ok { ShowsNext (R.remaining self.old.stream.now) (R.consumable_len self.old.stream.now)
+            self.old.len self.old.window → OnOk result (drop self.old.taken (known_bytes (R.remaining
+            self.old.stream.now)) ≡ bytes.new ++ drop self.new.taken (known_bytes (R.remaining self.new.stream.now))) }
         ensures err { IfErr result IsIo }
-        ensures is_known { TellsBytes (drop_known self.old.taken (R.remaining self.old.stream.now))
-            → TellsBytes (drop_known self.new.taken (R.remaining self.new.stream.now)) }
+        ensures is_known { ShowsNext (R.remaining self.old.stream.now) (R.consumable_len self.old.stream.now)
+            self.old.len self.old.window → ShowsNext (R.remaining self.new.stream.now)
+            (R.consumable_len self.new.stream.now) self.new.len self.new.window }
         ensures loans { self.new.stream.ghost_name ≡ self.old.stream.ghost_name }
     {
         self.give_back();
@@ -117,9 +122,9 @@ impl<'a, R: BufRead> WindowReader<'a, R> {
 impl<R: BufRead> Reader for WindowReader<'_, R> {
     const PEEKS_FIRST: bool = false;
 
-    ghost is_known = { λ r. TellsBytes (drop_known r.taken (R.remaining r.stream.now)) };
+    ghost is_known = { λ r. ShowsNext (R.remaining r.stream.now) (R.consumable_len r.stream.now) r.len r.window };
 
-    ghost remaining = { λ r. known_bytes (drop_known r.taken (R.remaining r.stream.now)) };
+    ghost remaining = { λ r. drop r.taken (known_bytes (R.remaining r.stream.now)) };
 
     ghost buffered_len = { λ _. 0 };
 
@@ -133,8 +138,9 @@ impl<R: BufRead> Reader for WindowReader<'_, R> {
 
     #[inline]
     fn read(&mut self, bytes: &mut [u8]) -> Result<(), DecodeError>
-        ensures fills { FillsFrom (λ r. drop_known r.taken (R.remaining r.stream.now))
-            (λ r. r.stream.ghost_name ∷ []) bytes.old bytes.new result self.old self.new }
+        ensures fills { FillsBuffer (λ r. ShowsNext (R.remaining r.stream.now) (R.consumable_len r.stream.now) r.len
+            r.window) (λ r. drop r.taken (known_bytes (R.remaining r.stream.now))) (λ _. 0)
+            (λ r. r.stream.ghost_name ∷ []) EndsShort stream_errors bytes.old bytes.new result self.old self.new }
         ensures io { IfErr result IsIo }
     {
         if self.len < bytes.len() || self.len - bytes.len() < self.taken {

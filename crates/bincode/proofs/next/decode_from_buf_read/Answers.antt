@@ -13,7 +13,7 @@ returns-in-Some g c = record {
 
 pub returns-in-None : goal.returns-in-None
 returns-in-None g c =
-    let read = c.decode_from_std_read.ensures in
+    let read = c.decode_from_buf_read_with_context.ensures in
     let now = kept-known _ _ c.in-None.ensures.kept in
     record {
       word = λ tells. rw (now tells).1 (read.word (now tells).0);
