@@ -135,10 +135,11 @@ CALLS = {
     "by_stream": 2,
     "by_buffer": 3,
     "by_reader": 4,
-    "to_vector": 5,
-    "to_slice": 6,
-    "to_stream": 7,
-    "to_count": 8,
+    "by_window": 5,
+    "to_vector": 6,
+    "to_slice": 7,
+    "to_stream": 8,
+    "to_count": 9,
 }
 
 # which calls are made under a configuration: a call is compiled for each type and each configuration that has it
@@ -160,7 +161,7 @@ class Configuration(NamedTuple):
 
     def calls_of(self, group):
         """Those that a type of a group has; a type that is read borrowed alone is read so in each."""
-        missing = {"both": (), "owned": ("by_borrow",), "lent": ("by_slice", "by_stream", "by_buffer", "by_reader")}[group]
+        missing = {"both": (), "owned": ("by_borrow",), "lent": ("by_slice", "by_stream", "by_buffer", "by_reader", "by_window")}[group]
         calls = tuple(call for call in self.calls if call not in missing)
         return ("by_borrow", *calls) if group == "lent" and "by_borrow" not in calls else calls
 

@@ -12,7 +12,8 @@ use bincode::enc::write::SizeWriter;
 use bincode::error::{DecodeError, EncodeError, IntegerType, StreamError};
 USED
 use bincode::{BorrowDecode, Decode, Encode, borrow_decode_from_slice, config, decode_from_reader};
-use bincode::{decode_from_slice, decode_from_std_read, encode_into_slice, encode_into_std_write};
+use bincode::{decode_from_buf_read, decode_from_slice, decode_from_std_read};
+use bincode::{encode_into_slice, encode_into_std_write};
 use bincode::{encode_into_writer, encode_to_vec};
 use std::alloc::Global;
 use std::io;
@@ -338,6 +339,26 @@ fn by_reader<T: Decode<()> + Encode, C: Config>(
     }
 }
 
+/// The call that reads what a buffer shows, and windows of it; the original's is that for streams.
+fn by_window<T: Decode<()> + Encode, C: Config>(
+    alloc: Global,
+    input: &[u8],
+    out: &mut [u8],
+    numbers: (usize, usize),
+    config: C,
+) -> usize {
+    let stream = pieces_of(input, numbers.0, usize::MAX);
+    let Ok(mut buffered) = BufReader::with_capacity(alloc, numbers.1, stream) else {
+        return put_decode_error(out, &DecodeError::Memory);
+    };
+    let outcome = decode_from_buf_read::<T, _, _>(alloc, &mut buffered, config);
+    let left = buffered.buffer().len().wrapping_add(buffered.get_ref().bytes.len());
+    match outcome {
+        Ok(value) => put_value(out, &value, input.len().wrapping_sub(left), config),
+        Err(error) => put_decode_error(out, &error),
+    }
+}
+
 /// Encodes into a vector.
 fn to_vector<T: Encode, C: Config>(alloc: Global, out: &mut [u8], value: &T, config: C) -> usize {
     match encode_to_vec(alloc, value, config) {
@@ -406,6 +427,7 @@ MADE = {
     "by_stream": "by_stream::<T, C>(alloc, input, out, numbers, config)",
     "by_buffer": "by_buffer::<T, C>(alloc, input, out, numbers, config)",
     "by_reader": "by_reader::<T, C>(alloc, input, out, config)",
+    "by_window": "by_window::<T, C>(alloc, input, out, numbers, config)",
     "to_vector": "to_vector(alloc, out, &value, config)",
     "to_slice": "to_slice(out, &value, numbers.0, config)",
     "to_stream": "to_stream(out, &value, numbers, config)",

@@ -19,6 +19,7 @@ MADE = {
     "by_stream": "by_stream::<T, C>(input, out, numbers, config)",
     "by_buffer": "by_buffer::<T, C>(input, out, numbers, config)",
     "by_reader": "by_reader::<T, C>(input, out, config)",
+    "by_window": "by_window::<T, C>(input, out, numbers, config)",
     "to_vector": "to_vector(out, &value, config)",
     "to_slice": "to_slice(out, &value, numbers.0, config)",
     "to_stream": "to_stream(out, &value, numbers, config)",

@@ -28,8 +28,10 @@ const ITEMS: usize = 10_000;
 /// How long the turns of a call take at least, in nanoseconds.
 const CALL: f64 = 20_000_000.0;
 
-/// How many calls of each side are timed.
-const CALLS: usize = 5;
+/// How many calls of each side are timed: of a million items and more, which take up to seconds, one.
+fn calls(trial: &Trial) -> usize {
+    if trial.case.items < 1_000_000 { 5 } else { 1 }
+}
 
 /// Whether a row is one of those that grow: lists of numbers, texts, maps and records.
 fn grows(row: &Row) -> bool {
@@ -38,8 +40,9 @@ fn grows(row: &Row) -> bool {
 
 /// The time of a call, for an item.
 fn time(trial: &mut Trial, side: usize, turns: usize) -> f64 {
-    let begun = (0..CALLS).map(|_| trial.call(side, 0).0).fold(f64::MAX, f64::min);
-    let whole = (0..CALLS).map(|_| trial.call(side, turns).0).fold(f64::MAX, f64::min);
+    let calls = calls(trial);
+    let begun = (0..calls).map(|_| trial.call(side, 0).0).fold(f64::MAX, f64::min);
+    let whole = (0..calls).map(|_| trial.call(side, turns).0).fold(f64::MAX, f64::min);
     (whole - begun).max(0.0) / turns as f64 / (trial.values * trial.case.items) as f64
 }
 

@@ -196,13 +196,15 @@ impl Job<'_> {
         random: &mut Random,
         input: &[u8],
     ) {
-        for call in BY_SLICE..=BY_READER {
+        for call in BY_SLICE..=BY_WINDOW {
             if !kind.has(call, configuration) {
                 continue;
             }
             let pieces = 1 + random.below(9);
             let second = match call {
                 BY_BUFFER => random.below(24),
+                BY_WINDOW if random.once_in(2) => random.below(24),
+                BY_WINDOW => random.below(1200),
                 _ if random.once_in(3) => random.below(input.len() + 1),
                 _ => usize::MAX,
             };

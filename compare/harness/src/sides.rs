@@ -60,17 +60,19 @@ pub const BY_BORROW: usize = 1;
 pub const BY_STREAM: usize = 2;
 pub const BY_BUFFER: usize = 3;
 pub const BY_READER: usize = 4;
-pub const TO_VECTOR: usize = 5;
-pub const TO_SLICE: usize = 6;
-pub const TO_STREAM: usize = 7;
-pub const TO_COUNT: usize = 8;
+pub const BY_WINDOW: usize = 5;
+pub const TO_VECTOR: usize = 6;
+pub const TO_SLICE: usize = 7;
+pub const TO_STREAM: usize = 8;
+pub const TO_COUNT: usize = 9;
 
-pub const CALLS: [&str; 9] = [
+pub const CALLS: [&str; 10] = [
     "decode_from_slice",
     "borrow_decode_from_slice",
     "decode_from_std_read",
     "decode_from_reader of a BufReader",
     "decode_from_reader of a SliceReader",
+    "decode_from_buf_read",
     "encode_to_vec",
     "encode_into_slice",
     "encode_into_std_write",
@@ -104,7 +106,7 @@ impl Kind {
         let is_made = CONFIGURATIONS[configuration].calls.contains(&call);
         match (self.row.group, call) {
             (Group::Lent, BY_BORROW) => true,
-            (Group::Lent, BY_SLICE | BY_STREAM | BY_BUFFER | BY_READER)
+            (Group::Lent, BY_SLICE | BY_STREAM | BY_BUFFER | BY_READER | BY_WINDOW)
             | (Group::Owned, BY_BORROW) => false,
             _ => is_made,
         }

@@ -239,6 +239,23 @@ pub fn by_buffer<T: Decode<()> + Encode, C: Config>(
     }
 }
 
+/// The same by the call for streams.
+pub fn by_window<T: Decode<()> + Encode, C: Config>(
+    input: &[u8],
+    out: &mut [u8],
+    numbers: Numbers,
+    config: C,
+) -> usize {
+    let stream = Pieces::new(input, numbers.0, usize::MAX);
+    let mut buffered = BufReader::with_capacity(numbers.1, stream);
+    let outcome = bincode::decode_from_std_read::<T, _, _>(&mut buffered, config);
+    let left = buffered.buffer().len() + buffered.get_ref().bytes.len();
+    match outcome {
+        Ok(value) => put_value(out, &value, input.len() - left, config),
+        Err(error) => put_decode_error(out, &error),
+    }
+}
+
 /// How many bytes a reader has left.
 fn bytes_left(input: &[u8], reader: &mut SliceReader<'_>) -> usize {
     let at = reader.peek_read(0).expect("no bytes are there").as_ptr();
