@@ -28,9 +28,9 @@ const ITEMS: usize = 10_000;
 /// How long the turns of a call take at least, in nanoseconds.
 const CALL: f64 = 20_000_000.0;
 
-/// How many calls of each side are timed: of a million items and more, which take up to seconds, one.
+/// How many calls of each side are timed: of a million items and more, which take up to seconds, two.
 fn calls(trial: &Trial) -> usize {
-    if trial.case.items < 1_000_000 { 5 } else { 1 }
+    if trial.case.items < 1_000_000 { 5 } else { 2 }
 }
 
 /// Whether a row is one of those that grow: lists of numbers, texts, maps and records.

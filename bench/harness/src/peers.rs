@@ -66,11 +66,14 @@ fn taken<T: PartialEq>(
     })
 }
 
+/// How many turns of a row a call makes: so what it takes before its first turn counts little.
+const TURNS_A_CALL: usize = 10;
+
 /// The time of a row of one side, for an item.
 fn row_time(trial: &mut Trial, side: usize) -> f64 {
     let begun = (0..TURNS).map(|_| trial.call(side, 0).0).fold(f64::MAX, f64::min);
-    let whole = (0..TURNS).map(|_| trial.call(side, 1).0).fold(f64::MAX, f64::min);
-    (whole - begun) / (trial.values * trial.case.items) as f64
+    let whole = (0..TURNS).map(|_| trial.call(side, TURNS_A_CALL).0).fold(f64::MAX, f64::min);
+    (whole - begun) / (TURNS_A_CALL * trial.values * trial.case.items) as f64
 }
 
 /// The row of this call and type, with this case.
