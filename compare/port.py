@@ -264,6 +264,31 @@ impl Write for Sink<'_> {
 }
 """
 
+# decode_from_reader, from a buffer before a stream
+BY_BUFFER = """
+fn by_buffer<T: Decode<()> + Encode, C: Config>(
+    alloc: Global,
+    input: &[u8],
+    out: &mut [u8],
+    numbers: (usize, usize),
+    config: C,
+) -> usize {
+    let stream = pieces_of(input, numbers.0, usize::MAX);
+    let Ok(mut buffered) = BufReader::with_capacity(alloc, numbers.1, stream) else {
+        return put_decode_error(out, &DecodeError::Memory);
+    };
+    let outcome = decode_from_reader::<T, _, _>(alloc, &mut buffered, config);
+    let left = buffered.buffer().len().wrapping_add(buffered.get_ref().bytes.len());
+    match outcome {
+        Ok(value) => put_value(out, &value, input.len().wrapping_sub(left), config),
+        Err(error) => put_decode_error(out, &error),
+    }
+}
+"""
+
+# decode_from_buf_read, from the same; the original's is decode_from_std_read
+BY_WINDOW = BY_BUFFER.replace("by_buffer", "by_window").replace("decode_from_reader", "decode_from_buf_read")
+
 # The calls. Each is generic over the type and the configuration: it is proved once, and compiled for each type.
 CALLS = """
 fn put_outcome<T: Encode, C: Config>(
@@ -304,25 +329,7 @@ fn by_stream<T: Decode<()> + Encode, C: Config>(
     }
 }
 
-fn by_buffer<T: Decode<()> + Encode, C: Config>(
-    alloc: Global,
-    input: &[u8],
-    out: &mut [u8],
-    numbers: (usize, usize),
-    config: C,
-) -> usize {
-    let stream = pieces_of(input, numbers.0, usize::MAX);
-    let Ok(mut buffered) = BufReader::with_capacity(alloc, numbers.1, stream) else {
-        return put_decode_error(out, &DecodeError::Memory);
-    };
-    let outcome = decode_from_reader::<T, _, _>(alloc, &mut buffered, config);
-    let left = buffered.buffer().len().wrapping_add(buffered.get_ref().bytes.len());
-    match outcome {
-        Ok(value) => put_value(out, &value, input.len().wrapping_sub(left), config),
-        Err(error) => put_decode_error(out, &error),
-    }
-}
-
+""" + BY_BUFFER + BY_WINDOW + """
 fn by_reader<T: Decode<()> + Encode, C: Config>(
     alloc: Global,
     input: &[u8],
@@ -336,26 +343,6 @@ fn by_reader<T: Decode<()> + Encode, C: Config>(
             let at = put_decode_error(out, &error);
             put_number(out, at, reader.bytes_left())
         }
-    }
-}
-
-/// The call that reads what a buffer shows, and windows of it; the original's is that for streams.
-fn by_window<T: Decode<()> + Encode, C: Config>(
-    alloc: Global,
-    input: &[u8],
-    out: &mut [u8],
-    numbers: (usize, usize),
-    config: C,
-) -> usize {
-    let stream = pieces_of(input, numbers.0, usize::MAX);
-    let Ok(mut buffered) = BufReader::with_capacity(alloc, numbers.1, stream) else {
-        return put_decode_error(out, &DecodeError::Memory);
-    };
-    let outcome = decode_from_buf_read::<T, _, _>(alloc, &mut buffered, config);
-    let left = buffered.buffer().len().wrapping_add(buffered.get_ref().bytes.len());
-    match outcome {
-        Ok(value) => put_value(out, &value, input.len().wrapping_sub(left), config),
-        Err(error) => put_decode_error(out, &error),
     }
 }
 

@@ -223,6 +223,21 @@ pub fn by_stream<T: Decode<()> + Encode, C: Config>(
     }
 }
 
+/// Puts what was read through a buffer.
+fn put_buffered<T: Encode, C: Config>(
+    input: &[u8],
+    out: &mut [u8],
+    outcome: Result<T, DecodeError>,
+    buffered: &BufReader<Pieces<'_>>,
+    config: C,
+) -> usize {
+    let left = buffered.buffer().len() + buffered.get_ref().bytes.len();
+    match outcome {
+        Ok(value) => put_value(out, &value, input.len() - left, config),
+        Err(error) => put_decode_error(out, &error),
+    }
+}
+
 pub fn by_buffer<T: Decode<()> + Encode, C: Config>(
     input: &[u8],
     out: &mut [u8],
@@ -232,11 +247,7 @@ pub fn by_buffer<T: Decode<()> + Encode, C: Config>(
     let stream = Pieces::new(input, numbers.0, usize::MAX);
     let mut buffered = BufReader::with_capacity(numbers.1, stream);
     let outcome = bincode::decode_from_reader::<T, _, _>(&mut buffered, config);
-    let left = buffered.buffer().len() + buffered.get_ref().bytes.len();
-    match outcome {
-        Ok(value) => put_value(out, &value, input.len() - left, config),
-        Err(error) => put_decode_error(out, &error),
-    }
+    put_buffered(input, out, outcome, &buffered, config)
 }
 
 /// The same by the call for streams.
@@ -249,11 +260,7 @@ pub fn by_window<T: Decode<()> + Encode, C: Config>(
     let stream = Pieces::new(input, numbers.0, usize::MAX);
     let mut buffered = BufReader::with_capacity(numbers.1, stream);
     let outcome = bincode::decode_from_std_read::<T, _, _>(&mut buffered, config);
-    let left = buffered.buffer().len() + buffered.get_ref().bytes.len();
-    match outcome {
-        Ok(value) => put_value(out, &value, input.len() - left, config),
-        Err(error) => put_decode_error(out, &error),
-    }
+    put_buffered(input, out, outcome, &buffered, config)
 }
 
 /// How many bytes a reader has left.
