@@ -530,7 +530,7 @@ fn ask_at(alloc: Global, calls: &[u8], at: usize, room: &mut [u8], lines: &mut V
     let end = middle.wrapping_add(expected);
     let input = calls.get(begin..middle).unwrap_or(&[]);
     let wanted = calls.get(middle..end).unwrap_or(&[]);
-    let writes = way / 16 == 6 || way / 16 == 7;
+    let writes = way / 16 == TO_SLICE || way / 16 == TO_STREAM;
     if writes {
         room[..HEAD].fill(0);
         room[HEAD..HEAD + 2 * length + 24].fill(165);
@@ -576,4 +576,4 @@ fn ask_any(kind: usize, alloc: Global, input: &[u8], out: &mut [u8], way: usize,
 {arms}        _ => 0,
     }}
 }}
-""" + PROGRAM
+""" + PROGRAM.replace("TO_SLICE", str(kinds.CALLS["to_slice"])).replace("TO_STREAM", str(kinds.CALLS["to_stream"]))

@@ -5,6 +5,8 @@ mod Exactly
 pub mod Filled
 pub mod Room
 pub mod Through
+mod Kept
+mod Known
 mod StreamHalted
 mod Shown
 mod Windowed

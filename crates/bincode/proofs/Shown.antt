@@ -17,6 +17,7 @@ use Rattle.bincode_spec.specs.Slice.{Decoded}
 use Rattle.bincode_lemmas.specs.AnswerLaws.{counted_after, word-gave}
 use Rattle.bincode_io.specs.Stream.{TellsBytes, known_bytes}
 use Rattle.bincode.proofs.Decoded.{decoded-fault, decoded-limit}
+use Rattle.bincode.proofs.Known.{within-most}
 
 module _ (F : Format Meaning) (f : Lawful F) (b : Balanced F) (limit : Option ℕ) (input remaining : List ℕ) (DecodesTo : Meaning → Type 0) (r : WordRead F limit input remaining DecodesTo) where
   -- the answer to an input is the word that begins it
@@ -49,10 +50,6 @@ shown-word F limit shown input remaining DecodesTo n front d r =
 shown-within : (F : Format Meaning) (limit : Option ℕ) (shown : List ℕ) (DecodesTo : Meaning → Type 0) (n : ℕ) → Decoded F limit shown DecodesTo n → n ≤ length shown
 shown-within F limit shown DecodesTo n d = let l = ap length d.input_is ∙ length-append d.word d.remaining in let c = d.count in omega arith
 
-within-most : (most : Option ℕ) (n shown : ℕ) → n ≤ shown → IfSome most (λ k. shown ≤ k) → IfSome most (λ k. n ≤ k)
-within-most None n shown w fits = tt
-within-most (Some k) n shown w fits = omega arith
-
 -- what is read of the bytes that a stream shows is read of the stream, which then loses them
 pub shown-read : (F : Format Meaning) (limit : Option ℕ) (before rested after : Option (List ℕ)) (most : Option ℕ) (shown : List ℕ) (DecodesTo : Meaning → Type 0) (n : ℕ) →
     IfSome before (λ xs. StartsWith xs shown) → Keeps before rested → IfSome before (λ _. IfSome most (λ k. length shown ≤ k)) → DropsConsumable rested after most n → Decoded F limit shown DecodesTo n →
@@ -62,9 +59,3 @@ shown-read F limit (Some xs) None after most shown DecodesTo n front kept fits d
 shown-read F limit (Some xs) (Some ys) after most shown DecodesTo n front kept fits drops d tells =
     let few = within-most most n (length shown) (shown-within F limit shown DecodesTo n d) fits in
     shown-word F limit shown xs (known_bytes after) DecodesTo n front d (ap known_bytes (drops few) ∙ ap (λ l. drop n l) kept)
-
--- known bytes that were kept are known, and the same
-pub kept-known : (before now : Option (List ℕ)) → Keeps before now → TellsBytes before → TellsBytes now × (known_bytes before ≡ known_bytes now)
-kept-known None now kept tells = absurd tells
-kept-known (Some xs) None kept tells = absurd kept
-kept-known (Some xs) (Some ys) kept tells = (tt, sym kept)

@@ -10,6 +10,7 @@ use Rattle.std.specs.Io.{StartsWith}
 use Rattle.std.specs.Io.KnownBytes.{Keeps}
 use Rattle.std.specs.Io.BufRead.{DropsConsumable}
 use Rattle.bincode_io.specs.Stream.{TellsBytes, known_bytes}
+use Rattle.bincode.proofs.Known.{within-most}
 use Rattle.bincode.specs.Window.{ShowsNext}
 
 -- a part of the front of a list
@@ -41,10 +42,6 @@ front-copied copied rest shown len same few =
     let count : length copied ≡ len = ap length same ∙ length-take-le len shown few in
     ap (λ n. take n (copied ++ rest)) (sym count) ∙ take-append_seam copied rest ∙ same
 
-within-most : (most : Option ℕ) (n len : ℕ) → n ≤ len → IfSome most (λ k. len ≤ k) → IfSome most (λ k. n ≤ k)
-within-most None n len w fits = tt
-within-most (Some k) n len w fits = omega arith
-
 -- what is consumed of a window is gone from the stream
 pub window-consumed : (before after : Option (List ℕ)) (most : Option ℕ) (window : List ℕ) (len taken : ℕ) → taken ≤ len → DropsConsumable before after most taken → ShowsNext before most len window →
     TellsBytes after × (known_bytes after ≡ drop taken (known_bytes before))
@@ -70,9 +67,3 @@ window-empty (Some xs) None most window taken len s t l tells = absurd tells
 window-empty None (Some ys) most window taken len s t l tells = absurd (none-some _ s)
 window-empty (Some xs) (Some ys) None window taken len s t l tells = rw t (rw l ((refl, tt), ap known_bytes s))
 window-empty (Some xs) (Some ys) (Some k) window taken len s t l tells = rw t (rw l ((refl, omega arith), ap known_bytes s))
-
--- kept bytes stay known
-pub kept-bytes : (before after : Option (List ℕ)) → Keeps before after → TellsBytes before → TellsBytes after × (known_bytes after ≡ known_bytes before)
-kept-bytes None after kept tells = absurd tells
-kept-bytes (Some xs) None kept tells = absurd kept
-kept-bytes (Some xs) (Some ys) kept tells = (tt, kept)

@@ -2,6 +2,7 @@
 pub mod EnumShapes
 pub mod Exact
 pub mod Short
+pub mod Streamed
 pub mod Window
 pub use Rattle.bincode_base.specs.AllowedTags
 pub use Rattle.bincode_base.specs.Setting

@@ -13,6 +13,7 @@ pub mod de;
 pub mod enc;
 mod enum_shapes;
 mod exact;
+mod keeping_writer;
 mod next;
 mod reader;
 mod shaped;

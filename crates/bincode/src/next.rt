@@ -1,13 +1,14 @@
 //! The next value of a stream, or its end.
-ghost use Rattle.std.specs.Prelude.{◌≡◌, ◌≢◌, ◌⊎◌, ◌↔◌, [], IsTrue, IsNone, IfSome, IfNone, IfOk, IfErr, MatchResult};
+ghost use Rattle.std.specs.Prelude.{◌≡◌, ◌≢◌, ◌⊎◌, ◌↔◌, [], IsTrue, IsNone, IfSome, IfOk, OnErr, IfErr, MatchResult};
 ghost use Rattle.std.specs.Io.KnownBytes.{Keeps};
-ghost use Rattle.bincode_spec.specs.Decoding.{IsExcused, IsRead, WordRead, AcceptsAll, ReportsFault, EnforcesLimit};
+ghost use Rattle.bincode_spec.specs.Decoding.{IsExcused, WordRead, AcceptsAll, ReportsFault, EnforcesLimit};
 ghost use Rattle.bincode_spec.specs.Device.{Takes};
 ghost use Rattle.bincode_io.specs.Stream.{TellsBytes, known_bytes, EndsShort, IsIo, stream_errors};
+ghost use Rattle.bincode.specs.Streamed.{IsStreamRead};
 
 use crate::reader::decode_from_reader_with;
 use crate::slice::decode_from_slice;
-use crate::window::WindowReader;
+use crate::window::{WindowReader, failure_of};
 use bincode_base::config::Config;
 use bincode_base::error::{DecodeError, StreamError};
 use bincode_decode::decode::Decode;
@@ -33,26 +34,44 @@ fn has_ended<R: BufRead>(stream: &mut R) -> Result<bool, StreamError>
     Err(StreamError::from(io::Error::from(ErrorKind::Interrupted)))
 }
 
-/// Decodes a value from what the buffer of a stream shows, and consumes just its encoding. `None`, with nothing
-/// consumed, if the buffer shows no whole encoding within the limit, memory is refused or the stream fails.
+/// Decodes a value from what the buffer of a stream shows, and consumes just its encoding. Fails, with nothing
+/// consumed, if the buffer shows no whole encoding within the limit, memory is refused or the stream fails; the error is
+/// the stream's, if that is why.
 fn decode_shown<D: Decode<()>, C: Config, R: BufRead>(
     alloc: Global,
     src: &mut R,
     config: C,
-) -> Option<D>
-    ensures word { TellsBytes (R.remaining src.old) → IfSome result (λ v. WordRead (D.words.format C.setting) C.bound
+) -> Result<D, Option<StreamError>>
+    ensures word { TellsBytes (R.remaining src.old) → IfOk result (λ v. WordRead (D.words.format C.setting) C.bound
         (known_bytes (R.remaining src.old)) (known_bytes (R.remaining src.new)) (λ m. D.words.decodes_to m v)) }
-    ensures kept { IfNone result (Keeps (R.remaining src.old) (R.remaining src.new)) }
+    ensures kept { OnErr result (Keeps (R.remaining src.old) (R.remaining src.new)) }
     ensures is_known { TellsBytes (R.remaining src.old) → TellsBytes (R.remaining src.new) }
 {
-    let Ok(shown) = src.fill_buf() else {
-        return None;
+    let shown = match src.fill_buf() {
+        Ok(shown) => shown,
+        Err(cause) => return Err(failure_of(cause)),
     };
     let Ok((value, taken)) = decode_from_slice(alloc, shown, config) else {
-        return None;
+        return Err(None);
     };
     src.consume(taken);
-    Some(value)
+    Ok(value)
+}
+
+/// Decodes a value through a window, of a stream that may have failed when its buffer was looked at.
+fn decode_windowed<Context: Drop, D: Decode<Context>, C: Config, R: BufRead>(
+    alloc: Global,
+    src: &mut R,
+    failure: Option<StreamError>,
+    config: C,
+    context: Context,
+) -> Result<D, DecodeError>
+    ensures { IsStreamRead R.remaining D.words.may_allocate (D.words.format C.setting) C.bound D.words.decodes_to
+        result src.old src.new }
+{
+    let mut context = context;
+    let mut reader = WindowReader::new(src, failure);
+    decode_from_reader_with(alloc, &mut reader, &config, &mut context)
 }
 
 /// `decode_from_std_read` for a buffered stream: it decodes from what the buffer shows, as from a slice, and through a
@@ -64,13 +83,12 @@ pub fn decode_from_buf_read<D: Decode<()>, C: Config, R: BufRead>(
     config: C,
 ) -> Result<D, DecodeError>
     // The fields of `IsRead` say what is taken, how each fault and each excess is reported, and what a failure leaves.
-    ensures { IsRead (λ stream. TellsBytes (R.remaining stream)) (λ stream. known_bytes (R.remaining stream)) EndsShort
-        (IsExcused stream_errors D.words.may_allocate 0 0) IsIo (D.words.format C.setting) C.bound D.words.decodes_to
+    ensures { IsStreamRead R.remaining D.words.may_allocate (D.words.format C.setting) C.bound D.words.decodes_to
         result src.old src.new }
 {
     match decode_shown(alloc, src, config) {
-        Some(value) => Ok(value),
-        None => decode_from_buf_read_with_context(alloc, src, config, ()),
+        Ok(value) => Ok(value),
+        Err(failure) => decode_windowed(alloc, src, failure, config, ()),
     }
 }
 
@@ -83,13 +101,10 @@ pub fn decode_from_buf_read_with_context<Context: Drop, D: Decode<Context>, C: C
     context: Context,
 ) -> Result<D, DecodeError>
     // The fields of `IsRead` say what is taken, how each fault and each excess is reported, and what a failure leaves.
-    ensures { IsRead (λ stream. TellsBytes (R.remaining stream)) (λ stream. known_bytes (R.remaining stream)) EndsShort
-        (IsExcused stream_errors D.words.may_allocate 0 0) IsIo (D.words.format C.setting) C.bound D.words.decodes_to
+    ensures { IsStreamRead R.remaining D.words.may_allocate (D.words.format C.setting) C.bound D.words.decodes_to
         result src.old src.new }
 {
-    let mut context = context;
-    let mut reader = WindowReader::new(src);
-    decode_from_reader_with(alloc, &mut reader, &config, &mut context)
+    decode_windowed(alloc, src, None, config, context)
 }
 
 /// Decodes the next value of a buffered stream and consumes just its encoding; `None` if the stream has ended before

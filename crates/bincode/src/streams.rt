@@ -1,13 +1,12 @@
 //! Decoding from the streams of `std::io`, and encoding into them.
 ghost use Rattle.std.specs.Prelude.{IfOk, IfErr};
 ghost use Rattle.bincode_spec.specs.Allowed.{AllowedWord};
-ghost use Rattle.bincode_spec.specs.Decoding.{IsExcused, IsRead};
 ghost use Rattle.bincode_spec.specs.Encoding.{Ready};
-ghost use Rattle.bincode_io.specs.Stream.{TellsBytes, known_bytes, EndsShort, IsIo, stream_errors};
 ghost use Rattle.bincode_io.specs.Stream.{StreamWritten, StreamHalts};
+ghost use Rattle.bincode.specs.Streamed.{IsStreamRead};
 
 use crate::reader::decode_from_reader_with;
-use crate::writer::encode_into_writer;
+use crate::writer::encode_keeping;
 use bincode_base::config::Config;
 use bincode_base::error::{DecodeError, EncodeError};
 use bincode_decode::decode::Decode;
@@ -27,8 +26,7 @@ pub fn decode_from_std_read<D: Decode<()>, C: Config, R: Read>(
     config: C,
 ) -> Result<D, DecodeError>
     // The fields of `IsRead` say what is taken, how each fault and each excess is reported, and what a failure leaves.
-    ensures { IsRead (λ stream. TellsBytes (R.remaining stream)) (λ stream. known_bytes (R.remaining stream)) EndsShort
-        (IsExcused stream_errors D.words.may_allocate 0 0) IsIo (D.words.format C.setting) C.bound D.words.decodes_to
+    ensures { IsStreamRead R.remaining D.words.may_allocate (D.words.format C.setting) C.bound D.words.decodes_to
         result src.old src.new }
 {
     decode_from_std_read_with_context(alloc, src, config, ())
@@ -42,8 +40,7 @@ pub fn decode_from_std_read_with_context<Context: Drop, D: Decode<Context>, C: C
     context: Context,
 ) -> Result<D, DecodeError>
     // The fields of `IsRead` say what is taken, how each fault and each excess is reported, and what a failure leaves.
-    ensures { IsRead (λ stream. TellsBytes (R.remaining stream)) (λ stream. known_bytes (R.remaining stream)) EndsShort
-        (IsExcused stream_errors D.words.may_allocate 0 0) IsIo (D.words.format C.setting) C.bound D.words.decodes_to
+    ensures { IsStreamRead R.remaining D.words.may_allocate (D.words.format C.setting) C.bound D.words.decodes_to
         result src.old src.new }
 {
     let mut context = context;
@@ -67,6 +64,6 @@ pub fn encode_into_std_write<E: Encode, C: Config, W: Write>(
         (AllowedWord (E.words.means val) (E.words.format C.setting))) E.words.own_errors dst.old dst.new) }
 {
     let mut writer = IoWriter::new(dst);
-    encode_into_writer(val, &mut writer, config)?;
+    encode_keeping(&val, &mut writer, &config)?;
     Ok(writer.bytes_written())
 }

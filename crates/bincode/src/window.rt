@@ -1,5 +1,5 @@
 //! A reader of a stream with a buffer, for values that are longer than what the buffer shows.
-ghost use Rattle.std.specs.Prelude.{◌≡◌, ◌≤◌, ◌++◌, [], ◌∷◌, length, drop, OnOk, IfErr};
+ghost use Rattle.std.specs.Prelude.{◌≡◌, ◌≤◌, ◌++◌, [], ◌∷◌, length, drop, OnOk, IfOk, IfErr};
 ghost use Rattle.std.proofs.Common.{zero-le, inr};
 ghost use Rattle.std.specs.Io.KnownBytes.{Keeps};
 ghost use Rattle.bincode_spec.specs.Layers.Pieces.{FillsBuffer};
@@ -7,10 +7,11 @@ ghost use Rattle.bincode_io.specs.Stream.{TellsBytes, known_bytes, EndsShort, Is
 ghost use Rattle.bincode.specs.declared.window.TheConstants.{WINDOW_LEN};
 ghost use Rattle.bincode.specs.Window.{ShowsNext};
 
-use bincode_base::error::DecodeError;
+use bincode_base::error::{DecodeError, StreamError};
 use bincode_io::io_read::LentIoReader;
 use bincode_io::read::Reader;
-use std::io::BufRead;
+use std::io;
+use std::io::{BufRead, ErrorKind};
 
 /// How many bytes a window holds.
 const WINDOW_LEN: usize = 512;
@@ -24,6 +25,8 @@ pub(crate) struct WindowReader<'a, R: BufRead> {
     taken: usize,
     /// How many bytes of the window are what the buffer shows.
     len: usize,
+    /// How the stream failed when its buffer was looked at before, which is not told yet.
+    failure: Option<StreamError>,
     window: [u8; WINDOW_LEN],
     ghost within: { taken ≤ len },
     ghost fits: { len ≤ WINDOW_LEN },
@@ -41,32 +44,52 @@ impl<R: BufRead> Drop for WindowReader<'_, R> {
             stream,
             taken,
             len: _,
+            failure: _,
             window: _,
         } = self;
         stream.consume(taken);
     }
 }
 
+/// How a look at the buffer of a stream failed, unless a signal interrupted it: the next read then retries it.
+#[cold]
+pub(crate) fn failure_of(cause: io::Error) -> Option<StreamError> {
+    if cause.kind() == ErrorKind::Interrupted {
+        return None;
+    }
+    Some(StreamError::from(cause))
+}
+
 /// Copies the front of what the buffer of a stream shows into a window, and returns its length: 0 at the end of the
-/// stream, and if the stream fails. Consumes nothing.
-fn fill_window<R: BufRead>(stream: &mut R, window: &mut [u8; WINDOW_LEN]) -> usize
-    ensures fits { result ≤ WINDOW_LEN }
+/// stream, and where a signal interrupts it. Fails if the stream fails. Consumes nothing.
+fn fill_window<R: BufRead>(
+    stream: &mut R,
+    window: &mut [u8; WINDOW_LEN],
+) -> Result<usize, StreamError>
+    ensures fits { IfOk result (λ n. n ≤ WINDOW_LEN) }
     ensures whole { length window.new ≡ length window.old }
     ensures kept { Keeps (R.remaining stream.old) (R.remaining stream.new) }
-    ensures shows { TellsBytes (R.remaining stream.old) → ShowsNext (R.remaining stream.new)
-        (R.consumable_len stream.new) result window.new }
+    ensures shows { TellsBytes (R.remaining stream.old) → IfOk result (λ n. ShowsNext (R.remaining stream.new)
+        (R.consumable_len stream.new) n window.new) }
 {
-    let Ok(shown) = stream.fill_buf() else {
-        return 0;
+    let shown = match stream.fill_buf() {
+        Ok(shown) => shown,
+        Err(cause) => {
+            return match failure_of(cause) {
+                Some(failure) => Err(failure),
+                None => Ok(0),
+            };
+        }
     };
     let len = shown.len().min(WINDOW_LEN);
     window[..len].copy_from_slice(&shown[..len]);
-    len
+    Ok(len)
 }
 
 impl<'a, R: BufRead> WindowReader<'a, R> {
-    /// A reader over this stream, whose window is empty.
-    pub(crate) fn new(stream: &'a mut R) -> WindowReader<'a, R>
+    /// A reader over this stream, whose window is empty. If a look at the stream's buffer failed before, the first read
+    /// fails so, and does not ask the stream once more.
+    pub(crate) fn new(stream: &'a mut R, failure: Option<StreamError>) -> WindowReader<'a, R>
         ensures loans { ⟦<WindowReader<'a, R> as Reader>⟧.loans result ≡ stream.entry.ghost_name ∷ [] }
         ensures stream { result.stream.now ≡ stream.old }
         ensures empty { (result.taken ≡ 0) × (result.len ≡ 0) }
@@ -75,6 +98,7 @@ impl<'a, R: BufRead> WindowReader<'a, R> {
             stream,
             taken: 0,
             len: 0,
+            failure,
             window: [0; WINDOW_LEN],
         }
     }
@@ -108,14 +132,20 @@ impl<'a, R: BufRead> WindowReader<'a, R> {
         ensures loans { self.new.stream.ghost_name ≡ self.old.stream.ghost_name }
     {
         self.give_back();
-        self.len = fill_window(self.stream, &mut self.window);
-        if bytes.len() <= self.len {
-            bytes.copy_from_slice(&self.window[..bytes.len()]);
-            self.taken = bytes.len();
-            return Ok(());
+        let additional = bytes.len();
+        if let Some(inner) = self.failure.take() {
+            return Err(DecodeError::Io { inner, additional });
         }
-        self.len = 0;
-        LentIoReader::new(self.stream).read(bytes)
+        match fill_window(self.stream, &mut self.window) {
+            Ok(len) if additional <= len => {
+                bytes.copy_from_slice(&self.window[..additional]);
+                self.len = len;
+                self.taken = additional;
+                Ok(())
+            }
+            Ok(_) => LentIoReader::new(self.stream).read(bytes),
+            Err(inner) => Err(DecodeError::Io { inner, additional }),
+        }
     }
 }
 

@@ -146,23 +146,31 @@ fn read_by_twos(alloc: Global, count: usize) -> (Result<(u16, u16, u8), DecodeEr
     (read, stream.waits)
 }
 
-/// A value is read without asking for a byte behind its last one, for which a stream may wait. An error of the stream
-/// is told, with the number of bytes that are missing.
+/// How many bytes are missing by an error of a stream that would wait.
+fn missing_of(read: &Result<(u16, u16, u8), DecodeError>) -> Option<usize> {
+    match read {
+        Err(DecodeError::Io { inner, additional }) => {
+            (inner.kind() == ErrorKind::WouldBlock).then_some(*additional)
+        }
+        _ => None,
+    }
+}
+
+/// A value is read without asking for a byte behind its last one, for which a stream may wait.
 #[test]
 fn asks_for_no_byte_behind_a_value(rt: HostRuntime) {
     let (whole, waits) = read_by_twos(rt.alloc(), 7);
     assert!(rt; matches!(whole, Ok((300, 301, 7))) && waits == 0);
-    let (cut, waits) = read_by_twos(rt.alloc(), 5);
-    let is_told = match cut {
-        Err(
-            DecodeError::Io {
-                inner,
-                additional: 1,
-            },
-        ) => inner.kind() == ErrorKind::WouldBlock,
-        _ => false,
-    };
-    assert!(rt; is_told && waits > 0);
+}
+
+/// Wherever its bytes end, a stream that would wait is asked once, and its error is told at once with the number of bytes
+/// that are missing.
+#[test]
+fn asks_once_where_a_stream_would_wait(rt: HostRuntime) {
+    for (count, missing) in [1, 2, 1, 1, 2, 1, 1].into_iter().enumerate() {
+        let (cut, waits) = read_by_twos(rt.alloc(), count);
+        assert!(rt; missing_of(&cut) == Some(missing) && waits == 1, "{count}");
+    }
 }
 
 /// A stream that shows all of its bytes, and counts the reads.

@@ -1,20 +1,21 @@
-use Rattle.bincode.proofs.Shown.{read-fault, read-limit, kept-known}
+use Rattle.bincode.proofs.Known.{kept-known}
+use Rattle.bincode.proofs.Shown.{read-fault, read-limit}
 use Rattle.bincode.proofs.next.decode_from_buf_read.Goals as goal
 
-pub returns-in-Some : goal.returns-in-Some
-returns-in-Some g c = record {
-  word = c.in-Some.ensures.word;
+pub returns-in-Ok : goal.returns-in-Ok
+returns-in-Ok g c = record {
+  word = c.in-Ok.ensures.word;
   found = λ tells word more m s i w within. tt;
-  fault = λ tells. read-fault _ (g.D.Wire.words.lawful _) (g.D.Wire.words.balanced _) _ _ _ _ (c.in-Some.ensures.word tells);
-  limit = λ tells. read-limit _ (g.D.Wire.words.lawful _) (g.D.Wire.words.balanced _) _ _ _ _ (c.in-Some.ensures.word tells);
+  fault = λ tells. read-fault _ (g.D.Wire.words.lawful _) (g.D.Wire.words.balanced _) _ _ _ _ (c.in-Ok.ensures.word tells);
+  limit = λ tells. read-limit _ (g.D.Wire.words.lawful _) (g.D.Wire.words.balanced _) _ _ _ _ (c.in-Ok.ensures.word tells);
   left = λ tells. tt;
-  tells = c.in-Some.ensures.is_known;
+  tells = c.in-Ok.ensures.is_known;
 }
 
-pub returns-in-None : goal.returns-in-None
-returns-in-None g c =
-    let read = c.decode_from_buf_read_with_context.ensures in
-    let now = kept-known _ _ c.in-None.ensures.kept in
+pub returns-in-Err : goal.returns-in-Err
+returns-in-Err g c =
+    let read = c.decode_windowed.ensures in
+    let now = kept-known _ _ c.in-Err.ensures.kept in
     record {
       word = λ tells. rw (now tells).1 (read.word (now tells).0);
       found = λ tells. rw (now tells).1 (read.found (now tells).0);

@@ -1,4 +1,4 @@
-use Rattle.bincode.proofs.Shown.{kept-known}
+use Rattle.bincode.proofs.Known.{kept-known}
 use Rattle.bincode.proofs.next.decode_next_from_std_read.Goals as goal
 
 pub returns-in-Ok-clause-limit : goal.returns-in-Ok-clause-limit

@@ -1,7 +1,7 @@
 use Rattle.std.proofs.Common.{rules, ◌≡◌, sym, ap}
 use Rattle.bincode.proofs.Relayed.{relayed}
 use Rattle.bincode.proofs.Windowed.{window-empty}
-use Rattle.bincode.proofs.next.decode_from_buf_read_with_context.Goals as goal
+use Rattle.bincode.proofs.next.decode_windowed.Goals as goal
 
 pub returns : goal.returns
 returns g c =
