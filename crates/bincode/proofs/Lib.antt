@@ -5,7 +5,6 @@ mod Exactly
 pub mod Filled
 pub mod Room
 pub mod Through
-mod Kept
 mod Known
 mod StreamHalted
 mod Shown

@@ -1,12 +1,16 @@
--- What a stopped encoding leaves of a stream.
-use Rattle.std.specs.Prelude.{◌≡◌, ◌+◌, ◌-◌, ◌^◌, ◌<◌, ◌++◌, ℕ, List, Option, length}
-use Rattle.std.proofs.Common.{inl, inr, arith, ap, sym, ◌∙◌, subst, append_assoc, length-append}
+-- What encoding to a stream through a block writes, and what a stopped one leaves.
+use Rattle.std.specs.Prelude.{◌≡◌, ◌⊎◌, ◌+◌, ◌-◌, ◌^◌, ◌<◌, ◌++◌, ◌∷◌, ℕ, List, [], Option, Some, None, MatchOption, length}
+use Rattle.std.proofs.Common.{inl, inr, arith, ap, refl, sym, ◌∙◌, subst, append_assoc, length-append}
+use Rattle.std.proofs.lemmas.List.{append-nil}
+use Rattle.std.proofs.lemmas.Option.{none-some}
 use Rattle.std.specs.Io.KnownBytes.{Appends}
 use Rattle.std.proofs.KnownBytes.{Appends-trans}
 use Rattle.bincode_base.specs.declared.error.EncodeError.{EncodeError}
-use Rattle.bincode_spec.specs.Encoding.{EncodeFailure, Begins, by_writer, by_name}
-use Rattle.bincode_io.specs.declared.io_write.IoWriter.{IoWriter}
-use Rattle.bincode_io.specs.Stream.{target_of, written_through, StreamAdds, StreamRefuses, StreamHalts}
+use Rattle.bincode_base.specs.declared.error.StreamError.{StreamError}
+use Rattle.bincode_spec.specs.Encoding.{EncodeFailure, Begins, Ready, Writes, IsOwn, by_writer, by_name}
+use Rattle.bincode_io.specs.Stream.{IsWriteIo, FrontOut, StreamHalts}
+use Rattle.bincode_blocks.specs.declared.block_writer.BlockWriter.{BlockWriter}
+use Rattle.bincode_blocks.specs.Blocks.{stream_behind, held_by, count_of, failure_of, BlockAdds, BlockRefuses}
 
 -- a prefix of what begins a word begins it
 begins-front : (Allowed : List ℕ → Type 0) (front back : List ℕ) → Begins Allowed (front ++ back) → Begins Allowed front
@@ -15,24 +19,66 @@ begins-front Allowed front back b = λ some a. let h = b some a in (back ++ h.0,
 too-long : (front piece : List ℕ) (start count : ℕ) → start ≡ 0 → count ≡ start + length front → 2 ^ 64 - 1 - count < length piece → 2 ^ 64 - 1 < length (front ++ piece)
 too-long front piece start count z k h = let l = length-append front piece in omega arith
 
-module _ {W : Type 0} (contents : W → Option (List ℕ)) (Allowed : List ℕ → Type 0) (OwnErrors : EncodeError → Type 0) (a b : IoWriter W) (start : written_through a ≡ 0) (e : EncodeError) where
-  refused : (front piece : List ℕ) (middle : IoWriter W) → StreamAdds contents a front middle → StreamRefuses contents middle piece e b → Begins Allowed (front ++ piece) →
-      StreamHalts contents Allowed OwnErrors (target_of a) (target_of b) e
-  refused front piece middle added (inl h) begins = record {
-    front = front;
-    appended = subst (λ z. Appends (contents (target_of a)) (contents (target_of z)) front) (sym h.2) added.appended;
-    begins = inr (begins-front Allowed front piece begins);
-    why = inr (inr (h.0, (front ++ piece, begins, too-long front piece _ _ start added.count_rises h.1)));
-  }
-  refused front piece middle added (inr h) begins =
-      let out = h.2 in
+-- what was written, where nothing was held at first
+written-all : (none front out held : List ℕ) → none ≡ [] → none ++ front ≡ out ++ held → front ≡ out ++ held
+written-all none front out held e joined = ap (λ l. l ++ front) (sym e) ∙ joined
+
+-- what went out in two steps begins what was written
+out-twice : (front out held : List ℕ) (piece more lost : List ℕ) → front ≡ out ++ held → held ++ piece ≡ more ++ lost → front ++ piece ≡ (out ++ more) ++ lost
+out-twice front out held piece more lost f h = ap (λ l. l ++ piece) f ∙ append_assoc out held piece ∙ ap (λ l. out ++ l) h ∙ sym (append_assoc out more lost)
+
+-- a front of nothing is nothing
+no-front : (held front back : List ℕ) → held ≡ [] → held ≡ front ++ back → front ≡ []
+no-front held [] back e f = refl
+no-front held (x ∷ front) back e f = absurd (cc)
+
+module _ {W : Type 0} (contents : W → Option (List ℕ)) (a m b : BlockWriter W) (empty : held_by a ≡ []) where
+  -- a front of it is
+  pub stream-cut : (Writable : Type 0) (Allowed : List ℕ → Type 0) (OwnErrors : EncodeError → Type 0) (e : EncodeError) → Writes (BlockAdds contents) Allowed a m → FrontOut contents (stream_behind m) (held_by m) (stream_behind b) →
+      (written : ℕ) × IsWriteIo written e → StreamHalts contents (Ready Writable Allowed) OwnErrors (stream_behind a) (stream_behind b) e
+  stream-cut Writable Allowed OwnErrors e w out io =
+      let all = written-all _ w.word w.added.out _ empty w.added.joined ∙ ap (λ l. w.added.out ++ l) out.piece_is ∙ sym (append_assoc w.added.out out.front out.back) in
       record {
-        front = front ++ out.front;
-        appended = Appends-trans _ _ _ front out.front added.appended out.appended;
-        begins = inr (begins-front Allowed (front ++ out.front) out.back (subst (Begins Allowed) (ap (λ z. front ++ z) out.piece_is ∙ sym (append_assoc front out.front out.back)) begins));
-        why = inr (inl (_, h.0));
+        front = w.added.out ++ out.front;
+        appended = Appends-trans _ _ _ w.added.out out.front w.added.appended out.appended;
+        begins = inr (λ some ready. (out.back, record { is_writable = ready.is_writable; is_allowed = subst Allowed all w.is_allowed }));
+        why = inr (inl io);
       }
 
-  pub stream-halts : EncodeFailure (StreamAdds contents) (StreamRefuses contents) Allowed OwnErrors a b e → StreamHalts contents Allowed OwnErrors (target_of a) (target_of b) e
-  stream-halts (by_writer front piece middle added refuses begins) = refused front piece middle added refuses begins
-  stream-halts (by_name front added names begins) = record { front = front; appended = added.appended; begins = begins; why = inl names }
+  module _ (Allowed : List ℕ → Type 0) (OwnErrors : EncodeError → Type 0) (start : count_of a ≡ 0) (whole : failure_of a ≡ None) (e told : EncodeError) where
+    -- writing stopped, and then what was held went out, unless the stream had failed
+    pub stream-halts : (failure : Option StreamError) → failure_of m ≡ failure →
+        MatchOption failure ((told ≡ e) × FrontOut contents (stream_behind m) (held_by m) (stream_behind b)) (λ _. (stream_behind b ≡ stream_behind m) × ((written : ℕ) × IsWriteIo written told)) →
+        EncodeFailure (BlockAdds contents) (BlockRefuses contents) Allowed OwnErrors a m e → StreamHalts contents Allowed OwnErrors (stream_behind a) (stream_behind b) told
+    stream-halts (Some inner) is ended (by_writer front piece middle added (last, out, why) begins) =
+        let all = out-twice front added.out _ piece out.out out.lost (written-all _ front added.out _ empty added.joined) out.joined in
+        record {
+          front = added.out ++ out.out;
+          appended = subst (λ s. Appends (contents (stream_behind a)) (contents s) (added.out ++ out.out)) (sym ended.0) (Appends-trans _ _ _ added.out out.out added.appended out.appended);
+          begins = inr (begins-front Allowed (added.out ++ out.out) out.lost (subst (Begins Allowed) all begins));
+          why = inr (inl ended.1);
+        }
+    stream-halts (Some inner) is ended (by_name front added names begins) = absurd (none-some _ (sym (added.same_failure ∙ whole) ∙ is))
+    stream-halts None is ended (by_writer front piece middle added (last, out, inl failed) begins) = absurd (cc)
+    stream-halts None is ended (by_writer front piece middle added (last, out, inr long) begins) =
+        let all = out-twice front added.out _ piece out.out out.lost (written-all _ front added.out _ empty added.joined) out.joined in
+        let none = no-front _ ended.1.front ended.1.back out.empty ended.1.piece_is in
+        let gone = added.out ++ out.out in
+        record {
+          front = gone ++ ended.1.front;
+          appended = Appends-trans _ _ _ gone ended.1.front (Appends-trans _ _ _ added.out out.out added.appended out.appended) ended.1.appended;
+          begins = inr (subst (Begins Allowed) (sym (append-nil gone) ∙ ap (λ l. gone ++ l) (sym none)) (begins-front Allowed gone out.lost (subst (Begins Allowed) all begins)));
+          why = inr (inr (ended.0 ∙ last, (front ++ piece, begins, too-long front piece _ _ start added.count_rises long)));
+        }
+    stream-halts None is ended (by_name front added names begins) =
+        let all = written-all _ front added.out _ empty added.joined ∙ ap (λ l. added.out ++ l) ended.1.piece_is ∙ sym (append_assoc added.out ended.1.front ended.1.back) in
+        record {
+          front = added.out ++ ended.1.front;
+          appended = Appends-trans _ _ _ added.out ended.1.front added.appended ended.1.appended;
+          begins = subst (λ r. IsOwn r ⊎ Begins Allowed (added.out ++ ended.1.front)) (sym ended.0) (begin-so front (added.out ++ ended.1.front) ended.1.back all begins);
+          why = inl (subst OwnErrors (sym ended.0) names);
+        }
+      where
+        begin-so : (front out back : List ℕ) → front ≡ out ++ back → IsOwn e ⊎ Begins Allowed front → IsOwn e ⊎ Begins Allowed out
+        begin-so front out back all (inl own) = inl own
+        begin-so front out back all (inr begins) = inr (begins-front Allowed out back (subst (Begins Allowed) all begins))

@@ -64,6 +64,7 @@ pub use Rattle.bincode_lemmas.specs.LimitedLaws
 pub use Rattle.bincode_lemmas.specs.NeedLaws
 pub use Rattle.bincode_lemmas.specs.RunLaws
 pub use Rattle.bincode_lemmas.specs.Sequences
+pub use Rattle.bincode_blocks.specs.Blocks
 pub use Rattle.bincode_io.specs.RoomLaws
 pub use Rattle.bincode_io.specs.Slices
 pub use Rattle.bincode_io.specs.Stream

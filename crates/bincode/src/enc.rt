@@ -1,5 +1,6 @@
 //! Encoders and writers, and what the `Encode` of a type of your own calls.
 
+pub use bincode_blocks::BlockWriter;
 pub use bincode_encode::encode::Encode;
 pub use bincode_encode::encode_parts::EncodeParts;
 pub use bincode_encode::runs::encode_run;

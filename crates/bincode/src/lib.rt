@@ -13,7 +13,6 @@ pub mod de;
 pub mod enc;
 mod enum_shapes;
 mod exact;
-mod keeping_writer;
 mod next;
 mod reader;
 mod shaped;

@@ -1,18 +1,19 @@
 //! Decoding from the streams of `std::io`, and encoding into them.
-ghost use Rattle.std.specs.Prelude.{IfOk, IfErr};
+ghost use Rattle.std.specs.Prelude.{◌≡◌, ℕ, IfOk, IfErr, MatchOption};
 ghost use Rattle.bincode_spec.specs.Allowed.{AllowedWord};
 ghost use Rattle.bincode_spec.specs.Encoding.{Ready};
-ghost use Rattle.bincode_io.specs.Stream.{StreamWritten, StreamHalts};
+ghost use Rattle.bincode_io.specs.Stream.{StreamWritten, StreamHalts, FrontOut, IsWriteIo};
+ghost use Rattle.bincode_blocks.specs.Blocks.{stream_behind, held_by, failure_of, loans_of};
 ghost use Rattle.bincode.specs.Streamed.{IsStreamRead};
 
 use crate::reader::decode_from_reader_with;
-use crate::writer::encode_keeping;
+use crate::writer::encode_into_writer;
 use bincode_base::config::Config;
 use bincode_base::error::{DecodeError, EncodeError};
+use bincode_blocks::BlockWriter;
 use bincode_decode::decode::Decode;
 use bincode_encode::encode::Encode;
 use bincode_io::io_read::LentIoReader;
-use bincode_io::io_write::IoWriter;
 use std::alloc::Global;
 use std::io::{Read, Write};
 
@@ -50,7 +51,9 @@ pub fn decode_from_std_read_with_context<Context: Drop, D: Decode<Context>, C: C
 
 /// Encodes a value to a stream and returns the number of bytes written. Fails with `Io` if the stream fails,
 /// `UnexpectedEnd` if 64 bits cannot count the bytes, or an error of the type; then a prefix of the encoding may have
-/// been written. Each tag and number is a write of its own: wrap a file in a `BufWriter`, and flush it.
+/// been written. The bytes go to the stream in blocks of up to 512, a longer text or list of bytes by itself, so a short
+/// value is one write; the index of an `Io` is the number of bytes in the blocks before the one that failed. The stream
+/// is not flushed. Many values are written faster through one `BlockWriter`.
 pub fn encode_into_std_write<E: Encode, C: Config, W: Write>(
     val: E,
     dst: &mut W,
@@ -63,7 +66,29 @@ pub fn encode_into_std_write<E: Encode, C: Config, W: Write>(
     ensures left { IfErr result (StreamHalts W.contents (Ready (E.words.writable C.setting val)
         (AllowedWord (E.words.means val) (E.words.format C.setting))) E.words.own_errors dst.old dst.new) }
 {
-    let mut writer = IoWriter::new(dst);
-    encode_keeping(&val, &mut writer, &config)?;
+    let mut writer = BlockWriter::new(dst);
+    if let Err(error) = encode_into_writer(val, &mut writer, config) {
+        return Err(end_after(&mut writer, error));
+    }
+    writer.hand_on()?;
     Ok(writer.bytes_written())
+}
+
+/// Ends writing after an error: what is held goes to the stream. Returns the stream's error if that failed before, and
+/// else this one.
+#[cold]
+#[inline(never)]
+fn end_after<W: Write>(writer: &mut BlockWriter<'_, W>, error: EncodeError) -> EncodeError
+    ensures ended { MatchOption (failure_of writer.old) ((result ≡ error) × FrontOut W.contents
+        (stream_behind writer.old) (held_by writer.old) (stream_behind writer.new)) (λ _. (stream_behind writer.new
+        ≡ stream_behind writer.old) × ((written : ℕ) × IsWriteIo written result)) }
+    ensures loans { loans_of writer.new ≡ loans_of writer.old }
+{
+    match writer.failure() {
+        Some(failure) => failure,
+        None => {
+            let _ = writer.hand_on();
+            error
+        }
+    }
 }
