@@ -2,9 +2,10 @@
 //! bincode 2.0.1.
 
 use crate::asserts::all_true;
+use crate::pieces::write_in_pieces;
 use bincode::enc::Encode;
 use bincode::error::EncodeError;
-use bincode::{config, encode_into_slice, encode_into_std_write};
+use bincode::{config, encode_into_slice};
 use std::collections::BinaryHeap;
 use std::io;
 use std::io::Write;
@@ -37,7 +38,7 @@ fn left_and_calls<T: Encode, const N: usize>(value: &T) -> Option<([u8; N], usiz
         return None;
     };
     let mut stream = Counting { calls: 0 };
-    encode_into_std_write(value, &mut stream, config::standard()).ok()?;
+    write_in_pieces(value, &mut stream).ok()?;
     Some((slice, stream.calls))
 }
 

@@ -1,7 +1,8 @@
 //! Standard streams that take and give a part of what is asked, or are interrupted, with a count of their calls.
 
+use bincode::enc::{Encode, IoWriter};
 use bincode::error::{DecodeError, EncodeError};
-use bincode::{config, decode_from_std_read, encode_into_std_write};
+use bincode::{config, decode_from_std_read, encode_into_std_write, encode_into_writer};
 use std::alloc::Global;
 use std::io;
 use std::io::{ErrorKind, Read, Write};
@@ -132,17 +133,35 @@ fn reading_calls(
     }
 }
 
-/// How many calls it takes to write the text of a word to a stream, if the stream then holds the word.
+/// Writes a value to a stream piece by piece, and returns the number of bytes.
+pub fn write_in_pieces<T: Encode, W: Write>(
+    value: T,
+    stream: &mut W,
+) -> Result<usize, EncodeError> {
+    let mut writer = IoWriter::new(stream);
+    match encode_into_writer(value, &mut writer, config::standard()) {
+        Ok(()) => Ok(writer.bytes_written()),
+        Err(e) => Err(e),
+    }
+}
+
+/// How many calls it takes to write the text of a word to a stream, in pieces or in blocks, if the stream then holds the
+/// word.
 fn writing_calls(
     alloc: Global,
     sample: &Sample<'_>,
     share: Share,
     interruptions: usize,
+    in_blocks: bool,
 ) -> Option<usize> {
     let end = sample.word.len().checked_sub(1)?;
     let (front, text) = front_of(sample.word, end.checked_sub(sample.count)?, end)?;
     let mut stream = stream_over(Vec::new(alloc), share, interruptions);
-    let outcome = encode_into_std_write(text, &mut stream, config::standard());
+    let outcome = if in_blocks {
+        encode_into_std_write(text, &mut stream, config::standard())
+    } else {
+        write_in_pieces(text, &mut stream)
+    };
     let written = outcome.ok()?;
     if written == front.len() && stream.bytes.as_slice() == front {
         Some(stream.calls)
@@ -152,27 +171,32 @@ fn writing_calls(
 }
 
 /// How many calls a text of a thousand letters takes, by what the stream does: its length has a piece of one byte and
-/// one of two, and the text is one piece. Of halves 1,000 are 500, 250, 125, 63, 31, 16, 8, 4, 2 and 1.
-static CALLS: [(Share, usize, usize); 5] = [
-    (Share::All, 0, 3),
-    (Share::Half, 0, 1 + 2 + 10),
-    (Share::One, 0, 1 + 2 + 1_000),
-    (Share::All, 5, 6 * 3),
-    (Share::One, 5, 6 * (1 + 2 + 1_000)),
+/// one of two, and the text is one piece. Of halves 1,000 are 500, 250, 125, 63, 31, 16, 8, 4, 2 and 1. In blocks the
+/// length is one of three bytes, and the text is too long for a block.
+static CALLS: [(Share, usize, usize, usize); 5] = [
+    (Share::All, 0, 3, 2),
+    (Share::Half, 0, 1 + 2 + 10, 2 + 10),
+    (Share::One, 0, 1 + 2 + 1_000, 3 + 1_000),
+    (Share::All, 5, 6 * 3, 6 * 2),
+    (Share::One, 5, 6 * (1 + 2 + 1_000), 6 * (3 + 1_000)),
 ];
 
-/// Whether a text is read and written by as many calls. Where memory is refused it is read or written once more.
+/// Whether a text is read and written in pieces by as many calls, and by as many in blocks. Where memory is refused it
+/// is read or written once more.
 fn takes_calls(
     alloc: Global,
     sample: &Sample<'_>,
     share: Share,
     interruptions: usize,
-    calls: usize,
+    calls: (usize, usize),
 ) -> bool {
-    (reading_calls(alloc, sample, share, interruptions) == Some(calls)
-        || reading_calls(alloc, sample, share, interruptions) == Some(calls))
-        && (writing_calls(alloc, sample, share, interruptions) == Some(calls)
-            || writing_calls(alloc, sample, share, interruptions) == Some(calls))
+    let (pieces, blocks) = calls;
+    (reading_calls(alloc, sample, share, interruptions) == Some(pieces)
+        || reading_calls(alloc, sample, share, interruptions) == Some(pieces))
+        && (writing_calls(alloc, sample, share, interruptions, false) == Some(pieces)
+            || writing_calls(alloc, sample, share, interruptions, false) == Some(pieces))
+        && (writing_calls(alloc, sample, share, interruptions, true) == Some(blocks)
+            || writing_calls(alloc, sample, share, interruptions, true) == Some(blocks))
 }
 
 #[test]
@@ -187,8 +211,8 @@ fn asks_a_stream_once_for_a_piece(rt: HostRuntime) {
         return;
     };
     let sample = Sample { word: &word, count };
-    for (share, interruptions, calls) in CALLS {
-        assert!(rt; takes_calls(alloc, &sample, share, interruptions, calls));
+    for (share, interruptions, pieces, blocks) in CALLS {
+        assert!(rt; takes_calls(alloc, &sample, share, interruptions, (pieces, blocks)));
     }
 }
 
@@ -205,7 +229,7 @@ fn takes_more_than_a_megabyte_at_once(rt: HostRuntime) {
         return;
     };
     let sample = Sample { word: &word, count };
-    assert!(rt; takes_calls(alloc, &sample, Share::All, 0, 3));
+    assert!(rt; takes_calls(alloc, &sample, Share::All, 0, (3, 2)));
 }
 
 /// A stream that fails by this kind from a call on, and counts its calls.
@@ -282,15 +306,19 @@ fn missing_of(alloc: Global, kind: ErrorKind, good: usize) -> Option<usize> {
     }
 }
 
-/// A number of three bytes is written up to the call that fails: how much was written by whole pieces then, if it
-/// answers that kind at once.
-fn written_of(kind: ErrorKind, good: usize) -> Option<usize> {
+/// A number of three bytes is written up to the call that fails: how much was written by whole pieces or blocks then, if
+/// it answers that kind at once.
+fn written_of(kind: ErrorKind, good: usize, in_blocks: bool) -> Option<usize> {
     let mut stream = Failing {
         kind,
         good,
         calls: 0,
     };
-    let outcome = encode_into_std_write(300u32, &mut stream, config::standard());
+    let outcome = if in_blocks {
+        encode_into_std_write(300u32, &mut stream, config::standard())
+    } else {
+        write_in_pieces(300u32, &mut stream)
+    };
     let Err(EncodeError::Io { inner, index }) = outcome else {
         return None;
     };
@@ -313,9 +341,12 @@ fn keeps_the_kind_of_a_failure(rt: HostRuntime) {
             missing_of(alloc, kind, 0) == Some(1)
                 && missing_of(alloc, kind, 1) == Some(2)
                 && missing_of(alloc, kind, 2) == Some(1)
-                && written_of(kind, 0) == Some(0)
-                && written_of(kind, 1) == Some(1)
-                && written_of(kind, 2) == Some(1)
+                && written_of(kind, 0, false) == Some(0)
+                && written_of(kind, 1, false) == Some(1)
+                && written_of(kind, 2, false) == Some(1)
+                && (0..2)
+                    .into_iter()
+                    .all(|good| written_of(kind, good, true) == Some(0))
         );
     }
 }
@@ -337,11 +368,27 @@ fn tells_the_end_of_a_stream(rt: HostRuntime) {
     );
     let mut room = [9u8; 3];
     let mut stream = &mut room[..];
-    let written = encode_into_std_write((1u8, 300u32), &mut stream, config::standard());
+    let written = write_in_pieces((1u8, 300u32), &mut stream);
     assert!(rt;
         matches!(
             written,
             Err(EncodeError::Io { inner, index: 2 }) if inner.kind() == ErrorKind::WriteZero
         ) && room == [1, 251, 44]
     );
+}
+
+/// Two hundred numbers of three bytes are written to a stream that is full after 520: no number lies in two blocks, so
+/// the first one has 510 bytes, and of the second one the stream takes ten.
+#[test]
+fn tells_the_blocks_before_the_one_that_failed(rt: HostRuntime) {
+    let mut room = [9u8; 520];
+    let mut stream = &mut room[..];
+    let written = encode_into_std_write([300u16; 200], &mut stream, config::standard());
+    assert!(rt;
+        matches!(
+            written,
+            Err(EncodeError::Io { inner, index: 510 }) if inner.kind() == ErrorKind::WriteZero
+        )
+    );
+    assert!(rt; room.chunks(3).all(|bytes| [251, 44, 1].starts_with(bytes)));
 }
