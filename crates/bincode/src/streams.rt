@@ -51,9 +51,9 @@ pub fn decode_from_std_read_with_context<Context: Drop, D: Decode<Context>, C: C
 
 /// Encodes a value to a stream and returns the number of bytes written. Fails with `Io` if the stream fails,
 /// `UnexpectedEnd` if 64 bits cannot count the bytes, or an error of the type; then a prefix of the encoding may have
-/// been written. The bytes go to the stream in blocks of up to 512, a longer text or list of bytes by itself, so a short
-/// value is one write; the index of an `Io` is the number of bytes in the blocks before the one that failed. The stream
-/// is not flushed. Many values are written faster through one `BlockWriter`.
+/// been written. The bytes go to the stream in blocks of up to 512, a longer text or list of bytes by itself, so a
+/// short value is one write; the index of an `Io` is the number of bytes in the blocks before the one that failed. The
+/// stream is not flushed. Many values are written faster through one `BlockWriter`.
 pub fn encode_into_std_write<E: Encode, C: Config, W: Write>(
     val: E,
     dst: &mut W,

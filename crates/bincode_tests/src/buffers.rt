@@ -163,8 +163,8 @@ fn asks_for_no_byte_behind_a_value(rt: HostRuntime) {
     assert!(rt; matches!(whole, Ok((300, 301, 7))) && waits == 0);
 }
 
-/// Wherever its bytes end, a stream that would wait is asked once, and its error is told at once with the number of bytes
-/// that are missing.
+/// Wherever its bytes end, a stream that would wait is asked once, and its error is told at once with the number of
+/// bytes that are missing.
 #[test]
 fn asks_once_where_a_stream_would_wait(rt: HostRuntime) {
     for (count, missing) in [1, 2, 1, 1, 2, 1, 1].into_iter().enumerate() {
@@ -198,7 +198,8 @@ impl BufRead for Shown<'_> {
     }
 }
 
-/// A value that is shown whole is read without a read of the stream, and one that is not with one where the buffer ends.
+/// A value that is shown whole is read without a read of the stream, and one that is not with one where the buffer
+/// ends.
 #[test]
 fn reads_a_shown_value_at_once(rt: HostRuntime) {
     let alloc = rt.alloc();

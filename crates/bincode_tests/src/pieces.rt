@@ -145,8 +145,8 @@ pub fn write_in_pieces<T: Encode, W: Write>(
     }
 }
 
-/// How many calls it takes to write the text of a word to a stream, in pieces or in blocks, if the stream then holds the
-/// word.
+/// How many calls it takes to write the text of a word to a stream, in pieces or in blocks, if the stream then holds
+/// the word.
 fn writing_calls(
     alloc: Global,
     sample: &Sample<'_>,
@@ -306,8 +306,8 @@ fn missing_of(alloc: Global, kind: ErrorKind, good: usize) -> Option<usize> {
     }
 }
 
-/// A number of three bytes is written up to the call that fails: how much was written by whole pieces or blocks then, if
-/// it answers that kind at once.
+/// A number of three bytes is written up to the call that fails: how much was written by whole pieces or blocks then,
+/// if it answers that kind at once.
 fn written_of(kind: ErrorKind, good: usize, in_blocks: bool) -> Option<usize> {
     let mut stream = Failing {
         kind,
