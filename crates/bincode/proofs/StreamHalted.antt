@@ -1,4 +1,4 @@
--- What encoding to a stream through a block writes, and what a stopped one leaves.
+-- What an encoding that stops leaves of a stream that it is written to through a block.
 use Rattle.std.specs.Prelude.{◌≡◌, ◌⊎◌, ◌+◌, ◌-◌, ◌^◌, ◌<◌, ◌++◌, ◌∷◌, ℕ, List, [], Option, Some, None, MatchOption, length}
 use Rattle.std.proofs.Common.{inl, inr, arith, ap, refl, sym, ◌∙◌, subst, append_assoc, length-append}
 use Rattle.std.proofs.lemmas.List.{append-nil}
