@@ -564,11 +564,11 @@ CLAIMS = {
     "()? = Option<()>": 2, "u64? = Option<Wrapping<u64>>": 9, "text?? = Option<Option<String>>": 26, "u64|u16 = Result<u64, u16>": 12, "u16|u64 = Result<u16, u64>": 12,
     "()|() = Result<(), ()>": 5, "()|u64|u64 = Bound<u64>": 12, "()|()|() = Bound<()>": 5, "(u64, u64) = Range<u64>": 16, "(u8, u8) = RangeInclusive<u8>": 2,
     "[u8; 4] = Ipv4Addr": 4, "[u8; 16] = Ipv6Addr": 16, "[u8; 4]|[u8; 16] = IpAddr": 20, "([u8; 4], u16) = SocketAddrV4": 6, "([u8; 16], u16)|u8": 22,
-    "NonZeroU8": 1, "NonZeroU16": 2, "NonZeroU32": 4, "NonZeroU64": 8, "NonZeroU128": 16, "NonZeroUsize": 8, "NonZeroI8": 1, "NonZeroI16": 2, "NonZeroI32": 4,
-    "NonZeroI64": 8, "NonZeroI128": 16, "NonZeroIsize": 8, "Duration": 12, "SocketAddrV6": 18, "SocketAddr": 22, "Reverse<u64>": 8, "Cell<u64>": 8, "RefCell<u64>": 8,
-    "Cow<u16>": 2, "Box<u16>": 8, "Rc<u16>": 8, "Arc<u16>": 8, "&str": 16, "&[u8]": 16, "BoxedStr": 16, "RcStr": 16, "BoxedSlice<u8>": 16, "RcSlice<u8>": 16,
-    "BinaryHeap<u8>": 24, "BTreeSet<u8>": 24, "BTreeMap<u8, u8>": 24, "HashSet<u8>": 24, "HashMap<u8, u8>": 24, "CString": 24, "PathBuf": 24, "CowStr": 24,
-    "CowSlice<u8>": 24, "Option<Box<u64>>": 9, "(Box<u64>, &str)": 24, "[RcStr; 3]": 48,
+    "u8 = NonZeroU8": 1, "u16 = NonZeroU16": 2, "u32 = NonZeroU32": 4, "u64 = NonZeroU64": 8, "u128 = NonZeroU128": 16, "usize = NonZeroUsize": 8, "i8 = NonZeroI8": 1, "i16 = NonZeroI16": 2, "i32 = NonZeroI32": 4,
+    "i64 = NonZeroI64": 8, "i128 = NonZeroI128": 16, "isize = NonZeroIsize": 8, "Duration": 12, "([u8; 16], u16) = SocketAddrV6": 18, "([u8; 4], u16)|([u8; 16], u16) = SocketAddr": 22, "u64 = Reverse<u64>": 8, "u64 = Cell<u64>": 8, "u64 = RefCell<u64>": 8,
+    "u16 = Cow<u16>": 2, "Box<u16>": 8, "Rc<u16>": 8, "Arc<u16>": 8, "&str": 16, "&[u8]": 16, "BoxedStr": 16, "RcStr": 16, "BoxedSlice<u8>": 16, "RcSlice<u8>": 16,
+    "[u8] = BinaryHeap<u8>": 24, "[u8] = BTreeSet<u8>": 24, "[(u8, u8)] = BTreeMap<u8, u8>": 24, "[u8] = HashSet<u8>": 24, "[(u8, u8)] = HashMap<u8, u8>": 24, "CString": 24, "PathBuf": 24, "CowStr": 24,
+    "[u8] = CowSlice<u8>": 24, "u64? = Option<Box<u64>>": 9, "(Box<u64>, &str)": 24, "[RcStr; 3]": 48,
 }
 # The same of elements without bytes, which are all there.
 CLAIMS_WITHOUT_BYTES = {"() = ()": 1, "() = PhantomData<u64>": 1, "((), ()) = ((), ())": 2, "[(); 5] = [(); 5]": 5, "[u64; 0] = [u64; 0]": 1, "[[(); 2]; 3]": 6}

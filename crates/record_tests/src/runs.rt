@@ -97,3 +97,19 @@ fn leaves_a_torn_file(rt: HostRuntime) -> anyhow::Result<()> {
     assert!(rt; fs::remove_file(&rt, path).is_ok() && is_left && is_repaired && is_told);
     Ok(())
 }
+
+/// What a killed repair left beside a file is no hindrance to the next one, which leaves nothing there.
+#[test]
+fn repairs_after_a_killed_repair(rt: HostRuntime) -> anyhow::Result<()> {
+    let file = path_of(&rt, "killed")?;
+    let path = file.as_str();
+    let beside = format!(in rt.alloc(); "{path}.repaired")?;
+    let beside = beside.as_str();
+    let is_repaired = fs::write(&rt, path, damaged().as_slice()).is_ok()
+        && fs::write(&rt, beside, &FRAMED[..9]).is_ok()
+        && ends(&rt, ("repair", path, "--drop-damaged"), DONE)
+        && ends(&rt, ("check", path, ""), DONE);
+    let is_left = fs::metadata(&rt, beside).is_ok();
+    assert!(rt; fs::remove_file(&rt, path).is_ok() && is_repaired && !is_left);
+    Ok(())
+}

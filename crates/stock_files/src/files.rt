@@ -133,30 +133,37 @@ fn path_beside(alloc: Global, path: &str, word: &str) -> io::Result<String> {
     Ok(format!(in alloc; "{path}.{word}")?)
 }
 
-/// Makes an empty file at this path, with the permissions of another one. Fails where a file is there.
+/// Makes an empty file at this path, with the permissions of another one, in the place of what a run that was killed
+/// left there. Where it fails, nothing is left there.
 fn create_like(rt: &HostRuntime, path: &str, other: &File) -> io::Result<File> {
+    let _ = fs::remove_file(rt, path);
     let file = OpenOptions::new()
         .read(true)
         .write(true)
         .create_new(true)
         .open(rt, path)?;
-    file.set_permissions(other.metadata()?.permissions())?;
-    Ok(file)
+    match allow_like(&file, other) {
+        Ok(()) => Ok(file),
+        Err(error) => {
+            let _ = fs::remove_file(rt, path);
+            Err(error)
+        }
+    }
+}
+
+/// Gives a file the permissions of another one.
+fn allow_like(file: &File, other: &File) -> io::Result<()> {
+    file.set_permissions(other.metadata()?.permissions())
 }
 
 /// Puts a file of these bytes at a path, in the place of the one that is there, with the permissions of another file.
 /// It is written beside the path, at `PATH.new`, and renamed: whoever opens the path finds the old bytes or the new
-/// ones. They are on the disk on return.
+/// ones. They are on the disk on return. Where it fails, no file is left at `PATH.new`.
 pub fn put(rt: &HostRuntime, path: &str, bytes: &[u8], other: &File) -> Result<(), FileError> {
     let beside = path_beside(rt.alloc(), path, "new")?;
-    // What a run that was killed left there.
-    let _ = fs::remove_file(rt, beside.as_str());
     let file = create_like(rt, beside.as_str(), other)?;
-    match fill(&file, bytes) {
-        Ok(()) => {
-            fs::rename(rt, beside.as_str(), path)?;
-            Ok(sync_folder(rt, path)?)
-        }
+    match fill_and_move(rt, &file, bytes, beside.as_str(), path) {
+        Ok(()) => Ok(()),
         Err(error) => {
             let _ = fs::remove_file(rt, beside.as_str());
             Err(FileError::Access(error))
@@ -164,10 +171,24 @@ pub fn put(rt: &HostRuntime, path: &str, bytes: &[u8], other: &File) -> Result<(
     }
 }
 
-/// Writes bytes to a file. They are on the disk on return.
-fn fill(mut file: &File, bytes: &[u8]) -> io::Result<()> {
+/// Writes bytes to the file at one path, and moves it to another.
+fn fill_and_move(
+    rt: &HostRuntime,
+    mut file: &File,
+    bytes: &[u8],
+    from: &str,
+    to: &str,
+) -> io::Result<()> {
     file.write_all(bytes)?;
-    file.sync_all()
+    move_synced(rt, file, from, to)
+}
+
+/// Moves the file at one path to another, in the place of the one that is there, once its bytes are on the disk. Its
+/// name is there on return, too.
+fn move_synced(rt: &HostRuntime, file: &File, from: &str, to: &str) -> io::Result<()> {
+    file.sync_all()?;
+    fs::rename(rt, from, to)?;
+    sync_folder(rt, to)
 }
 
 /// A new file beside another one, in whose place it is put.
@@ -180,7 +201,8 @@ pub struct Replacement {
 }
 
 impl Replacement {
-    /// Makes an empty one beside a file at this path, with its permissions.
+    /// Makes an empty one beside a file at this path, with its permissions, in the place of what a run that was killed
+    /// left there.
     pub fn new(rt: &HostRuntime, path: &str, old: &File) -> Result<Replacement, FileError> {
         let path = fs::canonicalize(rt, path)?;
         let beside = path_beside(rt.alloc(), path.as_str(), "repaired")?;
@@ -188,14 +210,12 @@ impl Replacement {
         Ok(Replacement { file, beside, path })
     }
 
-    /// Puts it in the place of the other, once its bytes are on the disk.
+    /// Puts it in the place of the other, once its bytes are on the disk. Where it fails, it may be removed.
     pub fn take_place(&self, rt: &HostRuntime) -> Result<(), FileError> {
-        self.file.sync_all()?;
-        fs::rename(rt, self.beside.as_str(), self.path.as_str())?;
-        Ok(sync_folder(rt, self.path.as_str())?)
+        Ok(move_synced(rt, &self.file, self.beside.as_str(), self.path.as_str())?)
     }
 
-    /// Removes it.
+    /// Removes it, unless it has taken the other's place.
     pub fn remove(&self, rt: &HostRuntime) {
         let _ = fs::remove_file(rt, self.beside.as_str());
     }

@@ -251,19 +251,28 @@ fn survey_file(alloc: Global, file: &File) -> Result<Survey, FileError> {
 }
 
 /// Puts a file of the whole frames in the place of this one, and returns the frames of the new one. Where that fails
-/// the old one stands as it was.
+/// no other file is left beside the one at the path, which is the old one, or the new one if its name alone could not
+/// be brought to the disk.
 fn rewrite(rt: &HostRuntime, path: &str, file: &mut File) -> Result<Survey, FileError> {
     let mut new = Replacement::new(rt, path, file)?;
-    match fill(rt.alloc(), file, &mut new.file) {
-        Ok(kept) => {
-            new.take_place(rt)?;
-            Ok(kept)
-        }
+    match fill_and_replace(rt, file, &mut new) {
+        Ok(kept) => Ok(kept),
         Err(error) => {
             new.remove(rt);
             Err(error)
         }
     }
+}
+
+/// Writes the whole frames of a file to a new one, puts it in its place, and returns its frames.
+fn fill_and_replace(
+    rt: &HostRuntime,
+    file: &mut File,
+    new: &mut Replacement,
+) -> Result<Survey, FileError> {
+    let kept = fill(rt.alloc(), file, &mut new.file)?;
+    new.take_place(rt)?;
+    Ok(kept)
 }
 
 /// Writes the whole frames of a file to a new one, and returns its frames.
