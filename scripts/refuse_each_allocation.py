@@ -30,12 +30,12 @@ import tempfile
 import time
 from pathlib import Path
 
-CRATES = ["bincode_tests", "collection_tests", "shape_tests", "record_tests", "log_tests", "ledger_tests", "stock_tests"]
+CRATES = ["bincode_tests", "block_tests", "collection_tests", "shape_tests", "record_tests", "log_tests", "ledger_tests", "stock_tests"]
 
 ONLY = {"log_tests": "refused_memory::", "ledger_tests": "refused_memory::", "stock_tests": "refused_memory"}
 
 # The calls of these tests take no memory: what builds configurations, the varint calls over a slice, encoders and decoders over a
-# slice, encoding plain values into a slice, and decoding from a slice, owned what holds nothing on the heap and borrowed bytes and
+# slice, encoding plain values into a slice or a writer of blocks, and decoding from a slice, owned what holds nothing on the heap and borrowed bytes and
 # texts. And a length that passes the limit is told before its room is asked for.
 WITHOUT_MEMORY = {
     "bincode_tests": [
@@ -67,6 +67,12 @@ WITHOUT_MEMORY = {
         "borrowed::lends_to_an_enum",
         "borrowed::borrows_a_pair",
         "empties::reads_nothing_and_refuses_lengths_without_memory",
+    ],
+    "block_tests": [
+        "blocks::gathers_values_in_a_block",
+        "blocks::tells_that_the_stream_is_full",
+        "blocks::writes_long_pieces_by_themselves",
+        "blocks::writes_records_of_all_widths",
     ],
     "shape_tests": [],
     "record_tests": [],

@@ -1,45 +1,61 @@
 //! Values that go to a stream in blocks of 512 bytes.
 
 use bincode::error::EncodeError;
-use bincode::{config, encode_into_writer, encode_to_vec};
+use bincode::{config, encode_into_slice, encode_into_writer};
 use bincode_blocks::BlockWriter;
-use std::alloc::{AllocError, Global};
 use std::io;
 use std::io::{ErrorKind, Write};
 
-/// A stream that takes so many bytes, and counts its calls.
+/// The greatest number of bytes that a stream takes.
+const MOST: usize = 1024;
+
+/// A stream that takes so many bytes, and counts its calls. It takes no memory, nor does what these tests call.
 #[derive(Drop)]
 struct Sink {
-    bytes: Vec<u8>,
+    held: [u8; MOST],
+    length: usize,
     room: usize,
     writes: usize,
     flushes: usize,
 }
 
+impl Sink {
+    /// One that has taken nothing yet.
+    fn new(room: usize) -> Sink {
+        Sink {
+            held: [0; MOST],
+            length: 0,
+            room: room.min(MOST),
+            writes: 0,
+            flushes: 0,
+        }
+    }
+
+    /// The bytes that it took.
+    fn bytes(&self) -> &[u8] {
+        self.held.get(..self.length).unwrap_or(&[])
+    }
+}
+
 impl Write for Sink {
     fn write(&mut self, bytes: &[u8]) -> io::Result<usize> {
         self.writes = self.writes.saturating_add(1);
-        let left = self.room.saturating_sub(self.bytes.len());
-        let (front, _) = bytes.split_at(bytes.len().min(left));
-        match self.bytes.extend_from_slice(front) {
-            Ok(()) => Ok(front.len()),
-            Err(_) => Err(ErrorKind::OutOfMemory.into()),
+        let count = bytes.len().min(self.room.saturating_sub(self.length));
+        let end = self.length.saturating_add(count);
+        let (front, _) = bytes.split_at(count);
+        match self.held.get_mut(self.length..end) {
+            Some(place) => {
+                place.copy_from_slice(front);
+                self.length = end;
+                Ok(count)
+            }
+            None => Err(ErrorKind::Other.into()),
         }
     }
 
     fn flush(&mut self) -> io::Result<()> {
         self.flushes = self.flushes.saturating_add(1);
         Ok(())
-    }
-}
-
-/// One that has taken nothing yet.
-fn empty_sink(alloc: Global, room: usize) -> Sink {
-    Sink {
-        bytes: Vec::new(alloc),
-        room,
-        writes: 0,
-        flushes: 0,
     }
 }
 
@@ -98,11 +114,11 @@ fn gather(stream: &mut Sink, count: usize, is_flushed: bool) -> Gathered {
 /// Of six hundred bytes the stream has 512 until they are flushed.
 #[test]
 fn gathers_values_in_a_block(rt: HostRuntime) {
-    let mut stream = empty_sink(rt.alloc(), usize::MAX);
+    let mut stream = Sink::new(MOST);
     assert_eq!(rt; gather(&mut stream, 600, false), Gathered::All);
-    assert!(rt; stream.bytes.as_slice() == [7; 512].as_slice() && stream.writes == 1);
+    assert!(rt; stream.bytes() == [7; 512].as_slice() && stream.writes == 1);
     assert_eq!(rt; gather(&mut stream, 88, true), Gathered::Flushed);
-    assert!(rt; stream.bytes.as_slice() == [7; 600].as_slice());
+    assert!(rt; stream.bytes() == [7; 600].as_slice());
     assert!(rt; stream.writes == 2 && stream.flushes == 1);
 }
 
@@ -110,33 +126,33 @@ fn gathers_values_in_a_block(rt: HostRuntime) {
 /// which there is no room.
 #[test]
 fn tells_that_the_stream_is_full(rt: HostRuntime) {
-    let mut stream = empty_sink(rt.alloc(), 520);
+    let mut stream = Sink::new(520);
     assert_eq!(rt; gather(&mut stream, 1000, true), Gathered::Lost(512));
-    assert!(rt; stream.bytes.as_slice() == [7; 520].as_slice());
-    let mut stream = empty_sink(rt.alloc(), 520);
+    assert!(rt; stream.bytes() == [7; 520].as_slice());
+    let mut stream = Sink::new(520);
     assert_eq!(rt; gather(&mut stream, 1025, false), Gathered::Refused(512));
-    assert!(rt; stream.bytes.as_slice() == [7; 520].as_slice() && stream.flushes == 0);
+    assert!(rt; stream.bytes() == [7; 520].as_slice() && stream.flushes == 0);
 }
 
-/// Writes a seven and a text of so many bytes: by how many writes the stream then got how many bytes.
-fn writes_of_text(alloc: Global, count: usize) -> Option<(usize, usize)> {
-    let text = "t".repeat(alloc, count).ok()?;
-    let mut stream = empty_sink(alloc, usize::MAX);
+/// Writes a seven and a list of so many bytes: by how many writes the stream then got how many bytes.
+fn writes_of_bytes(count: usize) -> Option<(usize, usize)> {
+    let bytes = [116u8; 600];
+    let (list, _) = bytes.split_at(count.min(600));
+    let mut stream = Sink::new(MOST);
     let mut writer = BlockWriter::new(&mut stream);
-    encode_into_writer((7u8, &text), &mut writer, config::standard()).ok()?;
+    encode_into_writer((7u8, list), &mut writer, config::standard()).ok()?;
     writer.flush().ok()?;
     let written = writer.bytes_written();
     drop(writer);
-    (written == stream.bytes.len()).then_some((stream.writes, written))
+    (written == stream.bytes().len()).then_some((stream.writes, written))
 }
 
-/// A text that the block holds goes with what was held before or alone, and a longer one straight to the stream.
+/// Bytes that the block holds go with what was held before or alone, and more of them straight to the stream.
 #[test]
 fn writes_long_pieces_by_themselves(rt: HostRuntime) {
-    let alloc = rt.alloc();
-    assert_eq!(rt; writes_of_text(alloc, 500), Some((1, 504)));
-    assert_eq!(rt; writes_of_text(alloc, 512), Some((2, 516)));
-    assert_eq!(rt; writes_of_text(alloc, 600), Some((2, 604)));
+    assert_eq!(rt; writes_of_bytes(500), Some((1, 504)));
+    assert_eq!(rt; writes_of_bytes(512), Some((2, 516)));
+    assert_eq!(rt; writes_of_bytes(600), Some((2, 604)));
 }
 
 /// Ten records of numbers of all widths.
@@ -154,9 +170,11 @@ const RECORDS: [(u32, u16, u64); 10] = [
 ];
 
 /// Writes the records so many times, and tells whether the stream got their encodings, by so many writes.
-fn writes_records(alloc: Global, times: usize, writes: usize) -> Option<bool> {
-    let once = encode_to_vec(alloc, &RECORDS, config::standard()).ok()?;
-    let mut stream = empty_sink(alloc, usize::MAX);
+fn writes_records(times: usize, writes: usize) -> Option<bool> {
+    let mut room = [0u8; 128];
+    let length = encode_into_slice(&RECORDS, &mut room, config::standard()).ok()?;
+    let once = room.get(..length)?;
+    let mut stream = Sink::new(MOST);
     let mut writer = BlockWriter::new(&mut stream);
     for _ in 0..times {
         for record in &RECORDS {
@@ -166,17 +184,15 @@ fn writes_records(alloc: Global, times: usize, writes: usize) -> Option<bool> {
     writer.flush().ok()?;
     drop(writer);
     let mut is_same = stream.writes == writes;
-    for words in stream.bytes.chunks(once.len().max(1)) {
-        is_same = is_same && words == once.as_slice();
+    for words in stream.bytes().chunks(length.max(1)) {
+        is_same = is_same && words == once;
     }
-    Some(is_same && stream.bytes.len() == once.len().saturating_mul(times))
+    Some(is_same && stream.bytes().len() == length.saturating_mul(times))
 }
 
 /// The ten take 88 bytes, so that the sixth time goes beyond a block.
 #[test]
-fn writes_records_of_all_widths(rt: HostRuntime) -> Result<(), AllocError> {
-    let alloc = rt.alloc();
-    assert_eq!(rt; writes_records(alloc, 1, 1), Some(true));
-    assert_eq!(rt; writes_records(alloc, 6, 2), Some(true));
-    Ok(())
+fn writes_records_of_all_widths(rt: HostRuntime) {
+    assert_eq!(rt; writes_records(1, 1), Some(true));
+    assert_eq!(rt; writes_records(6, 2), Some(true));
 }
