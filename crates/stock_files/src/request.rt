@@ -47,7 +47,8 @@ const STATUSES: &str = "Status:
   3  a file, the standard input or the standard output fails, or a line is no article
 
 Each file is dealt with, also after one that fails. The status is the greatest of them. `add` adds all or nothing:
-where it fails, it cuts the file back to what it held.";
+where it fails, it cuts the file back to what it held. `repair --drop-damaged` writes a new file at FILE.repaired, in
+place of any that is there, and renames it.";
 
 /// The program's command line.
 static RECORDS: Program = Program {
