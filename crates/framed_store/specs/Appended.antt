@@ -51,6 +51,11 @@ IsOutside (failures.TooLong _ _) = ⊥
 IsOutside (failures.Memory _) = Unit {0}
 IsOutside (failures.Write e) = (written : ℕ) × IsWriteIo written e
 
+-- the stream failed
+abbrev pub IsStreamFailure : AppendError → Type 0
+IsStreamFailure (failures.Write e) = (written : ℕ) × IsWriteIo written e
+IsStreamFailure _ = ⊥
+
 -- an error that comes before anything is written
 abbrev pub WritesNothing : AppendError → Type 0
 WritesNothing (failures.Encode _) = Unit {0}
