@@ -85,6 +85,30 @@ fn appends_and_lists(rt: HostRuntime) {
     );
 }
 
+/// Whether a list of so many sevens is appended as a frame of these bytes, the sevens and this check.
+fn frames_sevens(alloc: Global, count: usize, front: [u8; 5], check: [u8; 4]) -> bool {
+    let Ok(sevens) = vec![in alloc; 7u8; count] else {
+        return false;
+    };
+    let mut store = Vec::new(alloc);
+    let appended = append(alloc, &mut store, &sevens, config::standard(), MOST);
+    appended.is_ok()
+        && store.len() == count.saturating_add(9)
+        && store.starts_with(front.as_slice())
+        && store.get(5..count.saturating_add(5)) == Some(sevens.as_slice())
+        && store.ends_with(check.as_slice())
+}
+
+/// The longest encoding that is framed without memory, and one of a byte more. The checks are Python's.
+#[test]
+fn frames_short_and_long_values(rt: HostRuntime) {
+    let alloc = rt.alloc();
+    assert!(rt;
+        frames_sevens(alloc, 119, [120, 0, 0, 0, 119], [225, 99, 237, 167])
+            && frames_sevens(alloc, 120, [121, 0, 0, 0, 120], [34, 196, 59, 52])
+    );
+}
+
 /// Whether the first of the numbers are listed, so many, and then this end.
 fn lists(alloc: Global, bytes: &[u8], count: usize, ending: Ending) -> bool {
     match listed(alloc, bytes) {
