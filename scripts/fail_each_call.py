@@ -8,10 +8,10 @@ left it. It wants `strace`, which fails the Nth call of a kind and lets all othe
 a temporary folder.
 
 A run has to end by itself, with status 3 or that of a run without a failure, and to say why on the standard error where it is 3. It
-leaves no other files than such a run. Then its files are looked at by the same program, without a failure. After status 0 they are what a run without a failure leaves, and what was
-printed is the same, unless it is a message that failed. After status 3 they are what they were before or that, or a torn end that
-`repair` cuts off; and the same command once more does what it does without a failure. Of a server, each change that was answered
-is there.
+leaves no other files than such a run. Then its files are looked at by the same program, without a failure. Unless the status was 3
+they are what a run without a failure leaves, and what was printed is the same, if it is not a message about a change. After status
+3 they are what they were before or that, or have a torn end that `repair` cuts off; and the same command once more does what it
+does without a failure. Of a server, each change that was answered is there.
 
 A line is printed for each command, with how many calls failed in turn and how many runs were answered wrongly. The status is 1 if
 any was, and 2 where nothing could be tried.
@@ -101,14 +101,14 @@ def why_wrong(case, program, folder, before, clean, failing):
     """Why a run in which this call fails is answered wrongly, or None."""
     put_files(folder, before.files)
     status, printed, said = run([program, *case.words], folder, case.given, failing)
-    if status is None or status not in (*{DONE, DEVICE}, clean.status):
+    if status not in (DEVICE, clean.status):
         return f"status {status}, {said.decode(errors='replace').strip()[:200]!r}"
     # (the message itself may be what could not be written)
     if status == DEVICE and not said and failing[0] != "write":
         return "status 3 without a word"
     if case.answers:
         return case.answers(program, folder, printed, status)
-    if status != DEVICE and clean.is_same_file(before) and printed != clean.printed:
+    if status != DEVICE and clean.files == before.files and printed != clean.printed:
         return f"status {status}, but {printed[:100]!r} is printed"
     seen = case.look(program, folder)
     allowed = [clean.seen] if status != DEVICE else [clean.seen, *before.seen]
@@ -132,9 +132,6 @@ class Outcome:
 
     def __init__(self, files, seen, status=DONE, printed=b""):
         self.files, self.seen, self.status, self.printed = files, seen, status, printed
-
-    def is_same_file(self, other):
-        return self.files == other.files
 
 
 def try_case(case, program, folder):
@@ -162,14 +159,9 @@ def try_case(case, program, folder):
     return len(calls), wrong
 
 
-def changed(name, change):
-    """Makes a file of another by a change of its bytes."""
-
-    def make(folder):
-        held = (folder / name).read_bytes()
-        (folder / name).write_bytes(change(held))
-
-    return make
+def change(folder, name, changed):
+    """Changes the bytes of a file."""
+    (folder / name).write_bytes(changed((folder / name).read_bytes()))
 
 
 def no_files(program, folder):
@@ -186,11 +178,11 @@ def records_cases():
 
     def torn(program, folder):
         articles(program, folder)
-        changed("store", lambda held: held[:-4])(folder)
+        change(folder, "store", lambda held: held[:-4])
 
     def damaged(program, folder):
         articles(program, folder)
-        changed("store", lambda held: held[:20] + bytes([held[20] ^ 1]) + held[21:])(folder)
+        change(folder, "store", lambda held: held[:20] + bytes([held[20] ^ 1]) + held[21:])
 
     def look(program, folder):
         return [run([program, word, "store"], folder)[:2] for word in ("list", "check")]
@@ -220,7 +212,7 @@ def ledger_cases():
 
     def torn(program, folder):
         book(program, folder)
-        changed("book", lambda held: held[:-3])(folder)
+        change(folder, "book", lambda held: held[:-3])
 
     def look(program, folder):
         return [run([program, "book", word], folder)[:2] for word in ("balance", "check")]
