@@ -12,6 +12,8 @@ growth of a block counts as one) and refuses the one with a number that stands i
 So it is known how many allocations a test asks for: the greatest number that is met, where meeting it is made to stop the test.
 Then the test runs once for each of them, with that one refused.
 
+An executable whose tests ask for no block has no code that could: then they run as they are.
+
 The tests of SAMPLED ask for thousands of blocks, at seconds for a run: of their allocations the first ones are refused, the last
 ones and some between. The tests of WITHOUT_MEMORY run with every allocation refused, and fail here if they ask for one.
 
@@ -142,7 +144,17 @@ def build(crate, folder):
     for it in kept:
         if len(places_in(it)) == 2:
             return it
+    for it in kept:
+        # (what asks for no block has no code that counts them)
+        if not places_in(it) and tests_of(it):
+            return it
     stop(f"the executable of {crate.name} was not found")
+
+
+def tests_of(program):
+    """The names of the tests of an executable."""
+    listed = subprocess.run([program, "--list"], stdout=subprocess.PIPE, stderr=subprocess.DEVNULL, check=False, text=True).stdout
+    return [it.removesuffix(": test") for it in listed.splitlines() if it.endswith(": test")]
 
 
 class Runner:
@@ -214,8 +226,7 @@ def refused(test, count, crate, most):
 
 def sweep(crate, program, given):
     """Runs each test of the crate without each of its allocations, and answers how many runs failed."""
-    listed = subprocess.run([program, "--list"], stdout=subprocess.PIPE, check=True, text=True).stdout
-    tests = [it.removesuffix(": test") for it in listed.splitlines() if it.endswith(": test")]
+    tests = tests_of(program)
     without = WITHOUT_MEMORY.get(crate.name, [])
     gone = [it for it in [*without, *SAMPLED.get(crate.name, [])] if it not in tests]
     if gone:
