@@ -4,8 +4,9 @@
 usage: refuse_each_allocation.py [--jobs N] [--most N] [--only WORD] [CRATE ..]
 
 CRATE is a crate with tests, and by default each of CRATES below. Of those in ONLY the tests of one module are run, which say what is
-left where memory is refused; their other tests want memory. --only leaves the tests whose names have WORD in them, --most leaves the first N allocations of each test, and --jobs says how many run at once (2
-by default). It proves nothing.
+left where memory is refused; their other tests want memory, as do those of WANT_MEMORY, which are left out. --only leaves the tests
+whose names have WORD in them, --most leaves the first N allocations of each test, and --jobs says how many run at once (2 by
+default). It proves nothing.
 
 The tests of a crate are built once, by `rt try --test --fail-alloc`, which makes an executable that counts the allocations (each
 growth of a block counts as one) and refuses the one with a number that stands in its code. Here that number is changed in a copy.
@@ -33,6 +34,9 @@ import time
 from pathlib import Path
 
 CRATES = ["bincode_tests", "block_tests", "collection_tests", "shape_tests", "record_tests", "log_tests", "ledger_tests", "stock_tests"]
+
+# The tests of these modules want memory: where it is refused they fail, and not for a wrong answer.
+WANT_MEMORY = {"bincode_tests": "buffers::"}
 
 ONLY = {"log_tests": "refused_memory::", "ledger_tests": "refused_memory::", "stock_tests": "refused_memory"}
 
@@ -231,7 +235,8 @@ def sweep(crate, program, given):
     gone = [it for it in [*without, *SAMPLED.get(crate.name, [])] if it not in tests]
     if gone:
         stop(f"{crate.name} has no test {gone[0]}")
-    tests = [it for it in tests if given.only in it and ONLY.get(crate.name, "") in it]
+    wants = WANT_MEMORY.get(crate.name)
+    tests = [it for it in tests if given.only in it and ONLY.get(crate.name, "") in it and not (wants and it.startswith(wants))]
     without = [it for it in without if given.only in it]
     failed = 0
     with multiprocessing.Pool(given.jobs, begin, (program, places_in(program))) as pool:
