@@ -33,7 +33,7 @@ import tempfile
 import time
 from pathlib import Path
 
-CRATES = ["bincode_tests", "block_tests", "collection_tests", "shape_tests", "record_tests", "log_tests", "ledger_tests", "stock_tests"]
+CRATES = ["bincode_tests", "block_tests", "collection_tests", "shape_tests", "log_tests", "ledger_tests", "stock_tests"]
 
 # The tests of these modules want memory: where it is refused they fail, and not for a wrong answer.
 WANT_MEMORY = {"bincode_tests": "buffers::"}
@@ -81,7 +81,6 @@ WITHOUT_MEMORY = {
         "blocks::writes_records_of_all_widths",
     ],
     "shape_tests": [],
-    "record_tests": [],
 }
 
 # Sets and maps of 12,000 in an order. Those of 300 are kept by `maps::keeps_sets_and_maps` through the same calls, and each allocation
