@@ -43,8 +43,8 @@ const STATUSES: &str = "Status:
 
 Amounts are whole numbers below 2^64, in the smallest unit. A command that is said to be entered is on the disk. Where
 it cannot be entered the book is cut back to what it held. `compact` keeps the accounts in BOOK.snapshot and empties
-BOOK: from then on the two files belong together. The snapshot is written at BOOK.snapshot.new, in place of any file that
-is there, and renamed.";
+BOOK: from then on the two files belong together. The snapshot is written at BOOK.snapshot.new, in place of any file
+that is there, and renamed.";
 
 /// What an amount is.
 const AMOUNT: &str = "an amount is a number below 2^64";
