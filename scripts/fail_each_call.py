@@ -252,7 +252,6 @@ def stock_cases():
         changes = min(len(answered), 3)
         if status == DONE and len(answered) != 4:
             return f"status 0, and {len(answered)} answers"
-        run([program, "serve", "--log", "log", "--repair"], folder)
         seen = tuple(counts(program, folder))
         if seen not in stages[changes : changes + 2]:
             return f"{changes} changes were answered, and then there are {seen!r}"

@@ -35,14 +35,14 @@ from pathlib import Path
 
 CRATES = ["bincode_tests", "block_tests", "collection_tests", "shape_tests", "log_tests", "ledger_tests", "stock_tests"]
 
-# The tests of these modules want memory: where it is refused they fail, and not for a wrong answer.
+# The tests of these modules want memory: where it is refused they fail, whatever was answered.
 WANT_MEMORY = {"bincode_tests": "buffers::"}
 
 ONLY = {"log_tests": "refused_memory::", "ledger_tests": "refused_memory::", "stock_tests": "refused_memory"}
 
 # The calls of these tests take no memory: what builds configurations, the varint calls over a slice, encoders and decoders over a
-# slice, encoding plain values into a slice or a writer of blocks, and decoding from a slice, owned what holds nothing on the heap and borrowed bytes and
-# texts. And a length that passes the limit is told before its room is asked for.
+# slice, encoding plain values into a slice or a writer of blocks, and decoding from a slice, owned what holds nothing on the heap
+# and borrowed bytes and texts. And a length that passes the limit is told before its room is asked for.
 WITHOUT_MEMORY = {
     "bincode_tests": [
         "configurations::changes_each_part",
