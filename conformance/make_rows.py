@@ -495,7 +495,7 @@ def of_addresses():
         written(family, f"SocketAddr of V4, {setting}", "type SocketAddr", {"0": [v4, 80]}, tag(0, how) + bytes(v4) + unsigned(80, 2, how), how)
     row(family, "flow info and scope are not written", "type SocketAddrV6", STANDARD, value=[v6, 80, 7, 9], written=(bytes(v6) + of_bytes(80)).hex())
     read(family, "flow info and scope are 0", "type SocketAddrV6", bytes(v6) + of_bytes(80), [v6, 80, 0, 0])
-    read(family, "SocketAddr of V6", "type SocketAddr", of_bytes(1) + bytes(v6) + of_bytes(80), {"1": [v6, 80, 0, 0]})
+    read(family, "SocketAddr of V6", "type SocketAddr", of_bytes(1) + bytes(v6) + of_bytes(80), {"1": [v6, 80]})
     limits = [("[u8; 4] = Ipv4Addr", bytes(v4), v4, 4), ("[u8; 16] = Ipv6Addr", bytes(v6), v6, 16), (ip, of_bytes(0) + bytes(v4), {"0": v4}, 8),
               (ip, of_bytes(1) + bytes(v6), {"1": v6}, 20), (socket, bytes(v4) + of_bytes(80), [v4, 80], 6), ("type SocketAddr", of_bytes(0) + bytes(v4) + of_bytes(80), {"0": [v4, 80]}, 10)]
     for shape, word, value, least in limits:

@@ -40,7 +40,7 @@ def named(name, inner):
 
 
 ALIASES = {"String": "text", "str": "text", "CowStr": "text", "Ipv4Addr": "[u8; 4]", "Ipv6Addr": "[u8; 16]", "IpAddr": "Ipv4Addr|Ipv6Addr",
-           "SocketAddrV4": "(Ipv4Addr, u16)", "SocketAddr": "SocketAddrV4|SocketAddrV6"}
+           "SocketAddrV4": "(Ipv4Addr, u16)", "SocketAddr": "SocketAddrV4|(Ipv6Addr, u16)"}
 CLAIMS_OF_LISTS = {"Vec": 24, "VecDeque": 24, "BinaryHeap": 24, "CowSlice": 24, "BoxedSlice": 16, "RcSlice": 16}
 OTHERS = {
     "PhantomData": lambda _: Shape("unit"),

@@ -4,9 +4,8 @@
 usage: refuse_each_allocation.py [--jobs N] [--most N] [--only WORD] [CRATE ..]
 
 CRATE is a crate with tests, and by default each of CRATES below. Of those in ONLY the tests of one module are run, which say what is
-left where memory is refused; their other tests want memory, as do those of WANT_MEMORY, which are left out. --only leaves the tests
-whose names have WORD in them, --most leaves the first N allocations of each test, and --jobs says how many run at once (2 by
-default). It proves nothing.
+left where memory is refused; their other tests want memory. --only leaves the tests whose names have WORD in them, --most leaves the
+first N allocations of each test, and --jobs says how many run at once (2 by default). It proves nothing.
 
 The tests of a crate are built once, by `rt try --test --fail-alloc`, which makes an executable that counts the allocations (each
 growth of a block counts as one) and refuses the one with a number that stands in its code. Here that number is changed in a copy.
@@ -34,9 +33,6 @@ import time
 from pathlib import Path
 
 CRATES = ["bincode_tests", "block_tests", "collection_tests", "shape_tests", "log_tests", "ledger_tests", "stock_tests"]
-
-# The tests of these modules want memory: where it is refused they fail, whatever was answered.
-WANT_MEMORY = {"bincode_tests": "buffers::"}
 
 ONLY = {"log_tests": "refused_memory::", "ledger_tests": "refused_memory::", "stock_tests": "refused_memory"}
 
@@ -83,10 +79,10 @@ WITHOUT_MEMORY = {
     "shape_tests": [],
 }
 
-# Sets and maps of 12,000 in an order. Those of 300 are kept by `maps::keeps_sets_and_maps` through the same calls, and each allocation
-# of that test is refused. And the bytes that are looked for in many pairs of shapes, as those of `explained` are in a few.
+# Sets and maps of 12,000. Those of 300 are kept by `maps::keeps_sets_and_maps` through the same calls, and each allocation of that
+# test is refused. And the bytes that are looked for in many pairs of shapes, as those of `explained` are in a few.
 SAMPLED = {
-    "collection_tests": ["maps::keeps_large_sets_and_maps"],
+    "collection_tests": ["maps::keeps_large_sets_and_maps", "maps::keeps_large_hashed_sets_and_maps"],
     "shape_tests": ["changed_shapes::explains_each_difference"],
 }
 
@@ -234,8 +230,7 @@ def sweep(crate, program, given):
     gone = [it for it in [*without, *SAMPLED.get(crate.name, [])] if it not in tests]
     if gone:
         stop(f"{crate.name} has no test {gone[0]}")
-    wants = WANT_MEMORY.get(crate.name)
-    tests = [it for it in tests if given.only in it and ONLY.get(crate.name, "") in it and not (wants and it.startswith(wants))]
+    tests = [it for it in tests if given.only in it and ONLY.get(crate.name, "") in it]
     without = [it for it in without if given.only in it]
     failed = 0
     with multiprocessing.Pool(given.jobs, begin, (program, places_in(program))) as pool:

@@ -1,5 +1,6 @@
 -- The rules by the lists of the parts: one more part, and shapes without like parts.
 use Rattle.std.specs.Prelude.{◌≡◌, ℕ, suc, ◌+◌, ◌<◌, ◌≤◌, Bool, true, false, not, ◌&&◌, ◌||◌, List, [], ◌∷◌, length, get_or, drop, Box, refl}
+use Rattle.std.specs.List.{list_all}
 use Rattle.std.specs.declared.alloc.Global.{Global}
 use Rattle.std.specs.declared.vec.Vec.{Vec}
 use Rattle.std.proofs.Common.{sym, ◌∙◌, ap, inl, inr, arith}
@@ -9,7 +10,7 @@ use Rattle.bincode_base.specs.declared.config.IntEncoding.{IntEncoding}
 use Rattle.bincode_shape.specs.declared.shape.Shape as shapes
 use Rattle.bincode_shape.specs.declared.shape.Shape.{Shape, items_hidden-the_row-Shape-0}
 use Rattle.bincode_evolution.specs.Rules.{has_words, is_read, Part, has_parts, each_read, reads_each, variants_read}
-use Rattle.bincode_evolution.specs.Lists.{any_has_words, part_of, listed, is_variant_read}
+use Rattle.bincode_evolution.specs.Lists.{any_has_words, part_of, listed, is_array_read, is_variant_read}
 
 or_assoc : (a b c : Bool) → (a || (b || c)) ≡ ((a || b) || c)
 or_assoc true b c = refl
@@ -70,3 +71,12 @@ each-differ encoding (part ∷ parts) (new ∷ news) h = and_right (is_read enco
 
 pub tuple_lacks : (encoding : IntEncoding) (parts : List Shape) (v : Vec Shape Global) → (length v.items ≡ length parts → ⊥) → has_parts (listed encoding parts) (shapes.Tuple v) ≡ false
 tuple_lacks encoding parts v h = rw (items_hidden-the_row-Shape-0 v) (each-differ encoding parts v.items h)
+
+-- a tuple of as many parts as an array has elements reads it part by part, and another one not at all
+pub tuple_reads_array : (encoding : IntEncoding) (len : ℕ) (element : Shape) (v : Vec Shape Global) → (len ≡ 0 → ⊥) → length v.items ≡ len →
+    is_array_read encoding len element (shapes.Tuple v) ≡ (list_all (is_read encoding element) v.items || not (has_words element))
+tuple_reads_array encoding len element v some h = let e = ne_eqb len 0 some in let f = eq-eqb (length v.items) len h in rw (e, items_hidden-the_row-Shape-0 v, f) refl
+
+pub tuple_lacks_array : (encoding : IntEncoding) (len : ℕ) (element : Shape) (v : Vec Shape Global) → (len ≡ 0 → ⊥) → (length v.items ≡ len → ⊥) →
+    is_array_read encoding len element (shapes.Tuple v) ≡ not (has_words element)
+tuple_lacks_array encoding len element v some h = let e = ne_eqb len 0 some in let f = ne_eqb (length v.items) len h in rw (e, items_hidden-the_row-Shape-0 v, f) refl

@@ -56,14 +56,21 @@ fn keeps_map(alloc: Global, count: u32) -> bool {
     }
 }
 
+/// Whether a hashed set and a hashed map of so many entries are kept.
+fn keeps_hashed(alloc: Global, count: u32) -> bool {
+    let set = either(hashed_set_of(alloc, count), hashed_set_of(alloc, count));
+    let map = either(hashed_map_of(alloc, count), hashed_map_of(alloc, count));
+    keeps_value(alloc, set) && keeps_value(alloc, map)
+}
+
 #[test]
 fn keeps_sets_and_maps(rt: HostRuntime) {
     let alloc = rt.alloc();
-    assert!(rt; keeps_set(alloc, 300) && keeps_map(alloc, 300));
+    assert!(rt; keeps_set(alloc, 300) && keeps_map(alloc, 300) && keeps_hashed(alloc, 300));
 }
 
-/// Of the thousands of blocks that these ask for only some are refused in turn: the test before has the same calls for
-/// fewer entries.
+/// Of the hundreds and thousands of blocks that these ask for only some are refused in turn: the test before has the
+/// same calls for fewer entries.
 #[test]
 fn keeps_large_sets_and_maps(rt: HostRuntime) {
     assert!(rt; keeps_set(rt.alloc(), 12_000) && keeps_map(rt.alloc(), 12_000));
@@ -71,9 +78,5 @@ fn keeps_large_sets_and_maps(rt: HostRuntime) {
 
 #[test]
 fn keeps_large_hashed_sets_and_maps(rt: HostRuntime) {
-    let alloc = rt.alloc();
-    let set = either(hashed_set_of(alloc, 12_000), hashed_set_of(alloc, 12_000));
-    assert!(rt; keeps_value(alloc, set));
-    let map = either(hashed_map_of(alloc, 12_000), hashed_map_of(alloc, 12_000));
-    assert!(rt; keeps_value(alloc, map));
+    assert!(rt; keeps_hashed(rt.alloc(), 12_000));
 }

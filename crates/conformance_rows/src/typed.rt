@@ -41,18 +41,26 @@ pub fn reread<T: Encode + Decode<()>>(
     input: &[u8],
     setting: Setting,
 ) -> Option<TypedAnswer> {
+    let outcome = read_standard::<T>(alloc, input, setting)?;
+    let answer = answer_of(alloc, outcome, config::standard());
+    Some(TypedAnswer { shape, answer })
+}
+
+/// The value that an input gives in the standard configuration, with or without a limit, and how many bytes it took.
+/// `None` for another configuration.
+pub(crate) fn read_standard<T: Decode<()>>(
+    alloc: Global,
+    input: &[u8],
+    setting: Setting,
+) -> Option<Result<(T, usize), DecodeError>> {
     if !is_standard(setting) {
         return None;
     }
-    let answer = match setting.limit {
-        None => reread_under::<T, _>(alloc, input, config::standard()),
-        Some(limit) => {
-            let config = config::standard().with_limit::<GREATEST_LIMIT>();
-            let outcome = decode_after::<T, _>(alloc, input, &config, GREATEST_LIMIT - limit);
-            answer_of(alloc, outcome, config::standard())
-        }
+    let Some(limit) = setting.limit else {
+        return Some(decode_from_slice(alloc, input, config::standard()));
     };
-    Some(TypedAnswer { shape, answer })
+    let config = config::standard().with_limit::<GREATEST_LIMIT>();
+    Some(decode_after(alloc, input, &config, GREATEST_LIMIT - limit))
 }
 
 /// Reads an input as a type, in each configuration without a limit, or in the standard one with a limit.
@@ -77,20 +85,9 @@ pub fn refuse<T: Decode<()>>(
     input: &[u8],
     setting: Setting,
 ) -> Option<TypedAnswer> {
-    let Some(limit) = setting.limit else {
-        return None;
-    };
-    if !is_standard(setting) {
-        return None;
-    }
-    let config = config::standard().with_limit::<GREATEST_LIMIT>();
-    match decode_after::<T, _>(alloc, input, &config, GREATEST_LIMIT - limit) {
-        Ok(_) => None,
-        Err(error) => {
-            let answer = Answer::Fault(Fault::of_error(&error));
-            Some(TypedAnswer { shape, answer })
-        }
-    }
+    let error = read_standard::<T>(alloc, input, setting)?.err()?;
+    let answer = Answer::Fault(Fault::of_error(&error));
+    Some(TypedAnswer { shape, answer })
 }
 
 /// Reads an input as a type that borrows from it, in the standard configuration, with or without a limit. `None` for
@@ -114,7 +111,7 @@ pub fn reread_lent<'a, T: Encode + BorrowDecode<&'a [u8], ()>>(
 }
 
 /// Whether a setting is the standard one, but for its limit.
-fn is_standard(setting: Setting) -> bool {
+pub(crate) fn is_standard(setting: Setting) -> bool {
     setting.order == Endianness::Little && setting.integers == IntEncoding::Variable
 }
 

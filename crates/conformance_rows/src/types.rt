@@ -1,8 +1,8 @@
 //! The types that rows name.
 
 use crate::setting::Setting;
-use crate::sockets::{PARTS, reread_any, reread_v6, write_v6};
-use crate::typed::{TypedAnswer, Types, refuse, reread, reread_in_each, reread_lent};
+use crate::sockets::{PARTS, reread_v6, write_v6};
+use crate::typed::{TypedAnswer, Types, is_standard, refuse, reread, reread_in_each, reread_lent};
 use bincode::ffi::CString;
 use bincode::time::Duration;
 use std::alloc::Global;
@@ -11,7 +11,7 @@ use std::boxed::{BoxedSlice, BoxedStr};
 use std::cell::Cell;
 use std::cmp::Reverse;
 use std::collections::{BTreeMap, BTreeSet, HashMap, HashSet};
-use std::net::{IpAddr, Ipv4Addr};
+use std::net::{IpAddr, Ipv4Addr, SocketAddr};
 use std::num::{
     NonZeroI8, NonZeroI16, NonZeroI32, NonZeroI64, NonZeroI128, NonZeroIsize, NonZeroU8,
     NonZeroU16, NonZeroU32, NonZeroU64, NonZeroU128, NonZeroUsize, Wrapping,
@@ -26,12 +26,12 @@ pub struct Named;
 
 impl Types for Named {
     fn reread(alloc: Global, name: &str, input: &[u8], setting: Setting) -> Option<TypedAnswer> {
-        reread_as(alloc, name, input, setting)
+        scalar(alloc, name, input, setting)
     }
 
     fn write(alloc: Global, name: &str, parts: &[u8], setting: Setting) -> Option<Vec<u8>> {
         match name {
-            "SocketAddrV6" => write_v6(alloc, parts, setting),
+            "SocketAddrV6" if is_standard(setting) => write_v6(alloc, parts),
             _ => None,
         }
     }
@@ -44,12 +44,7 @@ impl Types for Named {
     }
 }
 
-/// Reads an input as the type of this name. `None` if there is none.
-fn reread_as(alloc: Global, name: &str, input: &[u8], setting: Setting) -> Option<TypedAnswer> {
-    scalar(alloc, name, input, setting)
-}
-
-/// As a scalar, or a whole of scalars.
+/// Reads an input as the type of this name, or returns `None` if there is none. As a scalar, or by the functions below.
 fn scalar(alloc: Global, name: &str, input: &[u8], setting: Setting) -> Option<TypedAnswer> {
     match name {
         "u8" => reread::<u8>(alloc, "u8", input, setting),
@@ -67,14 +62,6 @@ fn scalar(alloc: Global, name: &str, input: &[u8], setting: Setting) -> Option<T
         "bool" => reread::<bool>(alloc, "bool", input, setting),
         "char" => reread::<char>(alloc, "char", input, setting),
         "()" => reread::<()>(alloc, "()", input, setting),
-        "(u8, u32)" => reread::<(u8, u32)>(alloc, "(u8, u32)", input, setting),
-        "(u64, u64)" => reread::<(u64, u64)>(alloc, "(u64, u64)", input, setting),
-        "(u8, u32, i128, char, [u8; 4])" => reread::<(u8, u32, i128, char, [u8; 4])>(
-            alloc,
-            "(u8, u32, i128, char, [u8; 4])",
-            input,
-            setting,
-        ),
         _ => not_zero(alloc, name, input, setting),
     }
 }
@@ -106,8 +93,13 @@ fn time_or_address(
     setting: Setting,
 ) -> Option<TypedAnswer> {
     match name {
-        "SocketAddrV6" => Some(reread_v6(alloc, input, setting)),
-        "SocketAddr" => Some(reread_any(alloc, input, setting)),
+        "SocketAddrV6" => reread_v6(alloc, input, setting),
+        "SocketAddr" => reread_in_each::<SocketAddr>(
+            alloc,
+            "([u8; 4], u16)|([u8; 16], u16)",
+            input,
+            setting,
+        ),
         "Duration" => reread_in_each::<Duration>(alloc, "(u64, u32)", input, setting),
         "Ipv4Addr" => reread::<Ipv4Addr>(alloc, "[u8; 4]", input, setting),
         "IpAddr" => reread::<IpAddr>(alloc, "[u8; 4]|[u8; 16]", input, setting),

@@ -48,7 +48,8 @@ impl SnapshotFile {
             Some((file, _)) => refuse_replaced(rt, self.path.as_str(), file),
             None => match fs::metadata(rt, self.path.as_str()) {
                 Ok(_) => Err(FileError::Replaced),
-                Err(_) => Ok(()),
+                Err(error) if error.kind() == ErrorKind::NotFound => Ok(()),
+                Err(error) => Err(FileError::Access(error)),
             },
         }
     }

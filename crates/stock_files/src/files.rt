@@ -158,7 +158,7 @@ fn allow_like(file: &File, other: &File) -> io::Result<()> {
 
 /// Puts a file of these bytes at a path, in the place of the one that is there, with the permissions of another file.
 /// It is written beside the path, at `PATH.new`, and renamed: whoever opens the path finds the old bytes or the new
-/// ones. They are on the disk on return. Where it fails, no file is left at `PATH.new`.
+/// ones. They are on the disk on return. Whatever file stood at `PATH.new` is gone, and where it fails, none is left.
 pub fn put(rt: &HostRuntime, path: &str, bytes: &[u8], other: &File) -> Result<(), FileError> {
     let beside = path_beside(rt.alloc(), path, "new")?;
     let file = create_like(rt, beside.as_str(), other)?;
@@ -202,7 +202,7 @@ pub struct Replacement {
 
 impl Replacement {
     /// Makes an empty one beside a file at this path, with its permissions, in the place of what a run that was killed
-    /// left there.
+    /// left there: whatever file stands at `PATH.repaired` is removed.
     pub fn new(rt: &HostRuntime, path: &str, old: &File) -> Result<Replacement, FileError> {
         let path = fs::canonicalize(rt, path)?;
         let beside = path_beside(rt.alloc(), path.as_str(), "repaired")?;

@@ -1,9 +1,10 @@
 use Rattle.std.proofs.Common.{◌≡◌, ◌&&◌, ◌||◌, ◌∙◌, sym, length, refl}
 use Rattle.std.proofs.lemmas.Bool.{eqb-false}
+use Rattle.bincode_shape.specs.declared.shape.Shape.{items_hidden-the_row-Shape-0}
 use Rattle.bincode_evolution.specs.Lists.{all-vec, some-vec, parts-vec}
 use Rattle.bincode_evolution.proofs.compare.+compare.Goals as goal
 use Rattle.bincode_evolution.proofs.compare.+compare.Goals.{compare_variants-then-has_words, compare_variants-else-has_words, compare_variants-then-is_read, compare_variants-else-is_read}
-use Rattle.bincode_evolution.proofs.Stepping.{variants-more, lacking, nothing_lacks, array_lacks, array_has, tuple_lacks}
+use Rattle.bincode_evolution.proofs.Stepping.{variants-more, lacking, nothing_lacks, array_lacks, array_has, tuple_lacks, tuple_reads_array, tuple_lacks_array}
 
 pub compare_variants-loop-index-preserved : goal.compare_variants-loop-index-preserved
 compare_variants-loop-index-preserved t c =
@@ -59,3 +60,23 @@ compare_tuple-returns-else-len-parts-2-clause-is_read t c =
     let differ : length c.in-Tuple.newer.items ≡ length c.args.parts.now → ⊥ = let k = c.in-Tuple.newer.ok in λ e. c.if-len-parts-2.false (c.len.ensures ∙ k.0 ∙ e) in
     lacking _ _ _ _ (rw c.in-Tuple.is (tuple_lacks c.args.encoding c.args.parts.now c.in-Tuple.newer differ))
     c.unread-else-len-parts-2.ensures.is_read c.do_all_have_words-else-len-parts-2.ensures
+
+pub compare_tuple-returns-then-len-parts-2-clause-is_read : goal.compare_tuple-returns-then-len-parts-2-clause-is_read
+compare_tuple-returns-then-len-parts-2-clause-is_read t c =
+    rw (c.in-Tuple.is, items_hidden-the_row-Shape-0 c.in-Tuple.newer) (rw c.deref-then-len-parts-2.ensures.value at c.compare_parts.ensures.is_read)
+
+pub compare_choice-returns-in-Choice-clause-is_read : goal.compare_choice-returns-in-Choice-clause-is_read
+compare_choice-returns-in-Choice-clause-is_read t c =
+    rw (c.in-Choice.is, items_hidden-the_row-Shape-0 c.in-Choice.newer) (rw c.deref.ensures.value at c.compare_variants.ensures.is_read)
+
+pub compare_array-returns-then-len-clause-is_read : goal.compare_array-returns-then-len-clause-is_read
+compare_array-returns-then-len-clause-is_read t c =
+    let same : length c.in-Tuple.parts.items ≡ c.args.len = let k = c.in-Tuple.parts.ok in sym k.0 ∙ (sym c.len.ensures ∙ c.if-len.true) in
+    rw (c.in-Tuple.is, tuple_reads_array c.args.encoding c.args.len c.args.element.now c.in-Tuple.parts c.if-len-eq0.false same)
+    (rw c.deref-then-len.ensures.value at c.compare_element.ensures.is_read)
+
+pub compare_array-returns-else-len-clause-is_read : goal.compare_array-returns-else-len-clause-is_read
+compare_array-returns-else-len-clause-is_read t c =
+    let differ : length c.in-Tuple.parts.items ≡ c.args.len → ⊥ = let k = c.in-Tuple.parts.ok in λ e. c.if-len.false (c.len.ensures ∙ k.0 ∙ e) in
+    rw (c.in-Tuple.is, tuple_lacks_array c.args.encoding c.args.len c.args.element.now c.in-Tuple.parts c.if-len-eq0.false differ)
+    (c.unread-else-len.ensures.is_read ∙ rw c.does_have_words-else-len.ensures refl)
