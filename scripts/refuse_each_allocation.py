@@ -12,8 +12,6 @@ growth of a block counts as one) and refuses the one with a number that stands i
 So it is known how many allocations a test asks for: the greatest number that is met, where meeting it is made to stop the test.
 Then the test runs once for each of them, with that one refused.
 
-An executable whose tests ask for no block has no code that could: then they run as they are.
-
 The tests of SAMPLED ask for thousands of blocks, at seconds for a run: of their allocations the first ones are refused, the last
 ones and some between. The tests of WITHOUT_MEMORY run with every allocation refused, and fail here if they ask for one.
 
@@ -32,7 +30,7 @@ import tempfile
 import time
 from pathlib import Path
 
-CRATES = ["bincode_tests", "block_tests", "collection_tests", "shape_tests", "log_tests", "ledger_tests", "stock_tests"]
+CRATES = ["bincode_tests", "collection_tests", "shape_tests", "log_tests", "ledger_tests", "stock_tests"]
 
 ONLY = {"log_tests": "refused_memory::", "ledger_tests": "refused_memory::", "stock_tests": "refused_memory"}
 
@@ -62,6 +60,10 @@ WITHOUT_MEMORY = {
         "borrowed::lends_what_may_be_owned",
         "coders::encodes_in_turn",
         "coders::decodes_in_turn",
+        "blocks::gathers_values_in_a_block",
+        "blocks::tells_that_the_stream_is_full",
+        "blocks::writes_long_pieces_by_themselves",
+        "blocks::writes_records_of_all_widths",
     ],
     "collection_tests": [
         "limits::reads_back_within_the_peak",
@@ -69,12 +71,6 @@ WITHOUT_MEMORY = {
         "borrowed::lends_to_an_enum",
         "borrowed::borrows_a_pair",
         "empties::reads_nothing_and_refuses_lengths_without_memory",
-    ],
-    "block_tests": [
-        "blocks::gathers_values_in_a_block",
-        "blocks::tells_that_the_stream_is_full",
-        "blocks::writes_long_pieces_by_themselves",
-        "blocks::writes_records_of_all_widths",
     ],
     "shape_tests": [],
 }
@@ -142,10 +138,6 @@ def build(crate, folder):
         stop(f"the tests of {crate.name} do not pass:\n{log.read_text(errors='replace')[-2000:]}")
     for it in kept:
         if len(places_in(it)) == 2:
-            return it
-    for it in kept:
-        # (what asks for no block has no code that counts them)
-        if not places_in(it) and tests_of(it):
             return it
     stop(f"the executable of {crate.name} was not found")
 

@@ -1,8 +1,9 @@
-//! Values that go to a stream in blocks of 512 bytes.
+//! Values that go to a stream in blocks of 512 bytes: by how many writes it gets them, what a full stream gets of them,
+//! and what the writer tells then. Expected bytes and counts come from docs/FORMAT.md and from the length of a block.
 
+use bincode::enc::BlockWriter;
 use bincode::error::EncodeError;
 use bincode::{config, encode_into_slice, encode_into_writer};
-use bincode_blocks::BlockWriter;
 use std::io;
 use std::io::{ErrorKind, Write};
 
