@@ -103,5 +103,5 @@ pub fn is_memory(call: &Call<'_>, input: &[u8], original: &Answer, port: &Answer
     if *original == Answer::Died {
         return port.kind() == Some(MEMORY) || first.is_some() && port.kind() == first;
     }
-    port.kind() == Some(MEMORY) && walk.widest >= u128::from(MOST / 4)
+    port.kind() == Some(MEMORY) && walk.widest + walk.most_hashed >= u128::from(MOST / 4)
 }

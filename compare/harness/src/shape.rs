@@ -37,6 +37,8 @@ pub enum Holding {
     Row,
     /// In any order, in room that is reserved at once.
     Bag,
+    /// By a hash, in any order, in room that is reserved at once.
+    Hashed,
     /// By their own order, in no room that is reserved.
     Tree,
 }
@@ -72,9 +74,16 @@ impl Shape {
             Shape::Parts(parts) => parts.iter().any(Shape::has_bag),
             Shape::Choice(parts) => parts.iter().any(|(_, part)| part.has_bag()),
             Shape::Array(_, _, item) | Shape::Optional(item) => item.has_bag(),
-            Shape::List(holding, _, item) => *holding == Holding::Bag || item.has_bag(),
+            Shape::List(holding, _, item) => holding.is_bag() || item.has_bag(),
             _ => false,
         }
+    }
+}
+
+impl Holding {
+    /// Whether the items are written in any order.
+    pub fn is_bag(self) -> bool {
+        matches!(self, Holding::Bag | Holding::Hashed)
     }
 }
 
@@ -174,9 +183,9 @@ shaped!(@[T: Shaped] Vec<T>, 24, list_of::<T>(Holding::Row));
 shaped!(@[T: Shaped] VecDeque<T>, 24, list_of::<T>(Holding::Row));
 shaped!(@[T: Shaped] BinaryHeap<T>, 24, list_of::<T>(Holding::Bag));
 shaped!(@[T: Shaped] BTreeSet<T>, 24, list_of::<T>(Holding::Tree));
-shaped!(@[T: Shaped] HashSet<T>, 24, list_of::<T>(Holding::Bag));
+shaped!(@[T: Shaped] HashSet<T>, 24, list_of::<T>(Holding::Hashed));
 shaped!(@[K: Shaped, V: Shaped] BTreeMap<K, V>, 24, map_of::<K, V>(Holding::Tree));
-shaped!(@[K: Shaped, V: Shaped] HashMap<K, V>, 24, map_of::<K, V>(Holding::Bag));
+shaped!(@[K: Shaped, V: Shaped] HashMap<K, V>, 24, map_of::<K, V>(Holding::Hashed));
 shaped!(@[T: Shaped] Box<[T]>, 16, list_of::<T>(Holding::Row));
 shaped!(@[T: Shaped] Rc<[T]>, 16, list_of::<T>(Holding::Row));
 shaped!(String, 24, Shape::Text(Letters::Utf8));

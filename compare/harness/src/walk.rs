@@ -33,6 +33,10 @@ pub const BETWEEN: Counting = Counting {
     octets: true,
 };
 
+/// How many bytes a hashed container of the port's standard library takes for an entry beside its key and its value: 8 for its hash and its place, and
+/// its part of a group, of which there are a power of two, each with 64 bytes for up to 12 entries.
+const HASHED: u128 = 8 + 64 / 6;
+
 pub struct Walk<'a> {
     input: &'a [u8],
     pub at: usize,
@@ -40,8 +44,10 @@ pub struct Walk<'a> {
     counting: Counting,
     limit: Option<u64>,
     sum: u128,
-    /// The most bytes that a container reserves.
+    /// The most bytes that a container reserves for its items.
     pub widest: u128,
+    /// The most bytes that a hashed container of the port reserves beside them.
+    pub most_hashed: u128,
     /// The most items that a container of items without bytes has.
     pub most_empty: u128,
     /// The values that were read, in one form: numbers in 16 bytes, the items of a bag in order.
@@ -76,6 +82,7 @@ impl<'a> Walk<'a> {
             limit,
             sum: 0,
             widest: 0,
+            most_hashed: 0,
             most_empty: 0,
             form: vec![],
         }
@@ -242,9 +249,12 @@ impl<'a> Walk<'a> {
                     let size = claims.stated.max(claims.in_memory).max(1);
                     self.widest = self.widest.max(count.saturating_mul(size.into()));
                 }
+                if *holding == Holding::Hashed {
+                    self.most_hashed = self.most_hashed.max(count.saturating_mul(HASHED));
+                }
                 self.put(count);
                 let claim = self.claim(*claims);
-                self.items(count, claim, item, *holding == Holding::Bag)?;
+                self.items(count, claim, item, holding.is_bag())?;
             }
             Shape::Text(letters) => self.text(*letters)?,
             Shape::Octets(count) => {
