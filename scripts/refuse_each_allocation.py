@@ -144,7 +144,7 @@ def build(crate, folder):
 
 def tests_of(program):
     """The names of the tests of an executable."""
-    listed = subprocess.run([program, "--list"], stdout=subprocess.PIPE, stderr=subprocess.DEVNULL, check=False, text=True).stdout
+    listed = subprocess.run([program, "--list"], stdout=subprocess.PIPE, check=True, text=True).stdout
     return [it.removesuffix(": test") for it in listed.splitlines() if it.endswith(": test")]
 
 

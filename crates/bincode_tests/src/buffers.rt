@@ -43,8 +43,8 @@ fn long_list(alloc: Global) -> Result<Vec<u8>, AllocError> {
     Ok(bytes)
 }
 
-/// Whether a list that is longer than a window is read through a buffer of this capacity, and the 9 is left. `None` where
-/// it is not read, as where memory is refused.
+/// Whether a list that is longer than a window is read through a buffer of this capacity, and the 9 is left. `None`
+/// where it is not read, as where memory is refused.
 fn reads_long(alloc: Global, capacity: usize) -> Option<bool> {
     let bytes = long_list(alloc).ok()?;
     let mut stream = BufReader::with_capacity(alloc, capacity, bytes.as_slice()).ok()?;
