@@ -2,7 +2,7 @@
 ghost use Rattle.std.specs.Prelude.{◌≡◌, ◌<◌, ◌≤◌, ◌++◌, ℕ, List, [], ◌∷◌, length, IfErr, IfOk, IsErrOf};
 ghost use Rattle.std.specs.Prelude.{OnErr, OnOk};
 ghost use Rattle.framed_store.specs.Appended.{FitsStore};
-ghost use Rattle.snapshots.specs.Numbers.{RefusesNext};
+ghost use Rattle.snapshots.specs.Numbers.{AppliesNext, RefusesNext};
 ghost use Rattle.snapshots.specs.Saved.{FitsSnapshot};
 ghost use Rattle.crash_device.specs.Moments.{LeavesOnly, Only};
 ghost use Rattle.durable_log.specs.Appending.{IsForced, IsUntouched};
@@ -182,6 +182,9 @@ pub fn apply_next<M: Machine>(
     ensures leads_on { (first : M.State) (commands : List M.Command) → command.0 ≡ numbered.old.next
         → HasCome M.Command.eq M.applies first commands (numbered.old.next, M.state numbered.old.machine)
         → OnOk result (HasCome M.Command.eq M.applies first (commands ++ command.1 ∷ [])
+        (numbered.new.next, M.state numbered.new.machine)) }
+    // An earlier command is passed over, and no later one is taken.
+    ensures applies { OnOk result (AppliesNext M.applies (numbered.old.next, M.state numbered.old.machine) command
         (numbered.new.next, M.state numbered.new.machine)) }
     ensures refused { IfErr result (RefusesNext M.refuses (numbered.old.next, M.state numbered.old.machine) command) }
     ensures same_number { OnErr result (numbered.new.next ≡ numbered.old.next) }

@@ -5,6 +5,7 @@
 //!     ledger BOOK balance [NAME]        prints the balance of an account, or of each by its name
 //!     ledger BOOK log                   prints the commands, each with its offset
 //!     ledger BOOK check                 says whether the book is whole, and what it comes to
+//!     ledger BOOK compact               keeps the accounts in BOOK.snapshot, and empties the book
 //!     ledger BOOK repair                cuts a torn end off
 #![tactic(auto)]
 

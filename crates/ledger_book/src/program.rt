@@ -11,6 +11,7 @@ use crate::request::{Action, Request, request_of};
 use crate::snapshot_file::SnapshotFile;
 use crate::status::{DAMAGED, DONE, FAILED, REFUSED, USAGE};
 use accounts::accounts::Accounts;
+use accounts::refusals::OpenError;
 use clap::Error as LineError;
 use clap::error::ErrorKind as LineErrorKind;
 use framed_store::appending::AppendError;
@@ -24,7 +25,9 @@ use std::fmt::Display;
 use std::fs::File;
 use std::io;
 use std::io::{BufReader, BufWriter, ErrorKind, Read, Write};
-use stock_files::files::{FileError, bytes_from, cut, open_to_change, open_to_read, put};
+use stock_files::files::{
+    FileError, bytes_from, cut, hold_standard_streams, open_to_change, open_to_read, put,
+};
 use thiserror::Error;
 
 /// The number of bytes that a file is read and written by.
@@ -68,10 +71,21 @@ pub enum BookError {
     /// A command was not appended.
     #[error("{0}")]
     Append(AppendError),
+    /// A command was not appended, and the book could not be cut back to what it held.
+    #[error("{why}, and a part of the command may be at the end of the book: {error}")]
+    NotCut {
+        /// Why it was not appended.
+        why: AppendError,
+        /// Why the book was not cut back.
+        error: FileError,
+    },
+    /// A command was appended, and may not be on the disk.
+    #[error("the command is in the book, and may not be on the disk: {0}")]
+    NotSynced(io::Error),
     /// There is no account of a name.
     #[error("there is no account of this name")]
     NoAccount,
-    /// The output failed.
+    /// The output failed, or memory for its buffer was refused.
     #[error("{0}")]
     Output(#[from] io::Error),
 }
@@ -102,6 +116,7 @@ impl BookError {
             BookError::Log(error) => status_of(&error.why),
             BookError::Snapshot(error) => status_of_snapshot(error),
             BookError::Torn { .. } | BookError::Buried { .. } => DAMAGED,
+            BookError::Refused(why) if is_memory(why) => FAILED,
             BookError::Refused(_) | BookError::NoAccount => REFUSED,
             _ => FAILED,
         }
@@ -117,8 +132,17 @@ impl BookError {
 fn status_of(why: &Failure<NumberedRefusal<Refusal>>) -> u8 {
     match why {
         Failure::Read(_) | Failure::Memory(_) => FAILED,
+        Failure::Refused(refusal) if is_memory(refusal) => FAILED,
         _ => DAMAGED,
     }
+}
+
+/// Whether an opening was refused for want of memory.
+fn is_memory(refusal: &NumberedRefusal<Refusal>) -> bool {
+    matches!(
+        refusal,
+        NumberedRefusal::Refused(Refusal::Open(OpenError::Memory(_)))
+    )
 }
 
 /// The status of a run that ends at such a snapshot.
@@ -132,6 +156,7 @@ fn status_of_snapshot(error: &RestoreError) -> u8 {
 /// Does what these words ask for, of which the first is the program's name, and returns the status with which the
 /// program ends.
 pub fn run(rt: &HostRuntime, words: &[String]) -> u8 {
+    let _held = hold_standard_streams(rt);
     match request_of(rt.alloc(), words) {
         Ok(request) => run_request(rt, request),
         Err(error) => usage(rt, &error),
@@ -211,15 +236,15 @@ fn enter_at(
 ) -> Result<Entry, BookError> {
     let mut log = file;
     match enter(alloc, book, &mut log, command) {
-        Ok(size) => {
-            file.sync_all()?;
-            Ok(Entry { offset, size })
-        }
+        Ok(size) => match file.sync_all() {
+            Ok(()) => Ok(Entry { offset, size }),
+            Err(error) => Err(BookError::NotSynced(error)),
+        },
         Err(EnterError::Refused(why)) => Err(BookError::Refused(why)),
-        Err(EnterError::Append(why)) => {
-            cut(file, offset)?;
-            Err(BookError::Append(why))
-        }
+        Err(EnterError::Append(why)) => match cut(file, offset) {
+            Ok(()) => Err(BookError::Append(why)),
+            Err(error) => Err(BookError::NotCut { why, error }),
+        },
     }
 }
 
@@ -311,11 +336,17 @@ fn put_balances(rt: &HostRuntime, accounts: &Accounts) -> io::Result<()> {
     out.flush()
 }
 
-/// Prints the commands of a book that its log has.
+/// Prints the commands of a book that its log has. It fails where a snapshot was put in place meanwhile, as `read_book`
+/// does.
 fn show_log(rt: &HostRuntime, path: &str) -> Result<(), BookError> {
     let file = open_to_read(rt, path)?;
+    let snapshot = snapshot_beside(rt, path)?;
     let mut log = BufReader::with_capacity(rt.alloc(), BLOCK, file)?;
-    put_log(rt, &mut log)
+    let listed = put_log(rt, &mut log);
+    match snapshot.refuse_replaced(rt) {
+        Ok(()) => listed,
+        Err(error) => Err(BookError::SnapshotFile(error)),
+    }
 }
 
 /// Prints the commands of a log to the standard output.

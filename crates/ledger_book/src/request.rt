@@ -27,7 +27,7 @@ pub enum Action {
     Log,
     /// Say whether it is whole, and what it comes to.
     Check,
-    /// Put all commands into a snapshot, and empty the log.
+    /// Put the accounts into a snapshot, and empty the log.
     Compact,
     /// Cut a torn end off.
     Repair,
@@ -42,7 +42,8 @@ const STATUSES: &str = "Status:
   4  the command is refused, or there is no account of the name
 
 Amounts are whole numbers below 2^64, in the smallest unit. A command that is said to be entered is on the disk. Where
-it cannot be entered the book is cut back to what it held. `compact` keeps the accounts in BOOK.snapshot and empties
+it cannot be appended the book is cut back to what it held; where the disk fails after that, the command stays in the
+book, and the message says so. `compact` keeps the accounts in BOOK.snapshot and empties
 BOOK: from then on the two files belong together. The snapshot is written at BOOK.snapshot.new, in place of any file
 that is there, and renamed.";
 

@@ -1,13 +1,20 @@
 //! What the program does to a file, what it says of a log, and the statuses with which it ends.
 
-use crate::inputs::{BURIED, LOG, LONGER, SMALL, UNPAYABLE};
+use crate::inputs::{BURIED, FOURTH, LOG, LONGER, SMALL, UNPAYABLE};
 use crate::requests::words_of;
+use accounts::refusals::OpenError;
 use ledger_book::command::Command;
-use ledger_book::listing::print_log;
+use ledger_book::listing::{ListError, print_log};
+use ledger_book::machine::Refusal;
 use ledger_book::program::{BookError, Entry, enter_into, run};
+use ledger_book::snapshot_file::SnapshotFile;
 use ledger_book::status::{DAMAGED, DONE, FAILED, REFUSED, USAGE};
+use replay::replay::{Failure, ReplayError};
+use snapshots::numbered::NumberedRefusal;
+use std::alloc::{AllocError, Global};
 use std::path::PathBuf;
 use std::{env, fs, process};
+use stock_files::files::FileError;
 
 /// A path that no other test has.
 pub fn path_of(rt: &HostRuntime, name: &str) -> anyhow::Result<PathBuf> {
@@ -201,15 +208,88 @@ fn leaves_a_damaged_book(rt: HostRuntime) -> anyhow::Result<()> {
     Ok(())
 }
 
-/// What is printed of the log of three commands.
-#[test]
-fn prints_commands(rt: HostRuntime) -> anyhow::Result<()> {
-    let alloc = rt.alloc();
+/// The opening of an account whose name has a quote, the end of a line and a backslash.
+const QUOTED: [u8; 16] = [8, 0, 0, 0, 0, 0, 4, 97, 34, 10, 92, 5, 49, 63, 222, 58];
+
+/// How the printing of a log ends, if this is what is printed.
+fn printed(alloc: Global, bytes: &[u8], text: &str) -> Option<Result<(), ListError>> {
     let mut out = Vec::new(alloc);
-    let mut log = SMALL.as_slice();
-    let printed = print_log(alloc, &mut out, &mut log);
-    let wanted = "0 at byte 0: open \"ann\" 100\n1 at byte 15: open \"bob\" 0\n\
+    let mut log = bytes;
+    let ended = print_log(alloc, &mut out, &mut log);
+    (out.as_slice() == text.as_bytes()).then_some(ended)
+}
+
+/// Whether printing stops at a damaged frame after this command.
+fn stops_at(printed: &Option<Result<(), ListError>>, command: u64, at: usize) -> bool {
+    match printed {
+        Some(Err(ListError::Log(error))) => {
+            error.commands == command
+                && error.offset == at
+                && matches!(error.why, Failure::Damaged)
+        }
+        _ => false,
+    }
+}
+
+/// What is printed of logs: of three commands, of one after a snapshot, of a name that is quoted, and of logs that are
+/// damaged and torn.
+#[test]
+fn prints_commands(rt: HostRuntime) {
+    let alloc = rt.alloc();
+    let all = "0 at byte 0: open \"ann\" 100\n1 at byte 15: open \"bob\" 0\n\
         2 at byte 30: pay \"ann\" \"bob\" 30\n";
-    assert!(rt; printed.is_ok() && out.as_slice() == wanted.as_bytes());
+    let later = "3 at byte 0: open \"cy\" 70000\n";
+    let quoted = "0 at byte 0: open \"a\\\"\\n\\\\\" 5\n";
+    let mut damaged = SMALL;
+    damaged[20] ^= 1;
+    assert!(rt;
+        matches!(printed(alloc, &SMALL, all), Some(Ok(())))
+            && matches!(printed(alloc, &FOURTH, later), Some(Ok(())))
+            && matches!(printed(alloc, &QUOTED, quoted), Some(Ok(())))
+            && stops_at(&printed(alloc, &damaged, &all[..28]), 1, 15)
+            && matches!(
+                printed(alloc, &SMALL[..40], &all[..55]),
+                Some(Err(ListError::Torn { offset: 30 }))
+            )
+    );
+}
+
+/// Memory that is refused for an opening.
+fn no_memory() -> NumberedRefusal<Refusal> {
+    NumberedRefusal::Refused(Refusal::Open(OpenError::Memory(AllocError)))
+}
+
+/// Refused memory is no damage of a log that is replayed, and no refusal of a command that is entered.
+#[test]
+fn tells_refused_memory(rt: HostRuntime) {
+    let replayed = BookError::Log(ReplayError {
+        commands: 0,
+        offset: 0,
+        why: Failure::Refused(no_memory()),
+    });
+    let entered = BookError::Refused(no_memory());
+    assert!(rt; replayed.status() == FAILED && entered.status() == FAILED);
+}
+
+/// Whether another snapshot was put in the place of the one that was read.
+fn is_replaced(rt: &HostRuntime, snapshot: &SnapshotFile) -> bool {
+    matches!(snapshot.refuse_replaced(rt), Err(FileError::Replaced))
+}
+
+/// A snapshot that is put in place after the book was found without one, or with another one, is told.
+#[test]
+fn tells_a_new_snapshot(rt: HostRuntime) -> anyhow::Result<()> {
+    let file = path_of(&rt, "replaced")?;
+    let path = file.as_str();
+    fs::write(&rt, path, &SMALL)?;
+    let missing = SnapshotFile::read(&rt, path)?;
+    let is_made = ends(&rt, path, "compact", DONE);
+    let first = SnapshotFile::read(&rt, path)?;
+    let is_told = is_replaced(&rt, &missing) && first.refuse_replaced(&rt).is_ok();
+    let is_made_again = ends(&rt, path, "compact", DONE);
+    let is_told_again = is_replaced(&rt, &first);
+    let are_removed =
+        fs::remove_file(&rt, path).is_ok() && fs::remove_file(&rt, first.path.as_str()).is_ok();
+    assert!(rt; is_made && is_told && is_made_again && is_told_again && are_removed);
     Ok(())
 }

@@ -7,7 +7,7 @@ use std::alloc::Global;
 use std::process::Abort;
 use stock_files::limit::LONGEST_WORD;
 use stock_files::repairing::{
-    Plan, Repair, is_whole_after, plan_for, print_kept, print_plan, salvage,
+    Plan, Repair, is_whole_after, plan_for, print_kept, print_plan, salvage, start_of_end,
 };
 
 /// No more than cutting off what is no frame.
@@ -28,13 +28,20 @@ const CUTTING: Repair = Repair {
     cuts: true,
 };
 
+/// Both.
+const BOTH: Repair = Repair {
+    drops_damaged: true,
+    cuts: true,
+};
+
 /// A store, how it is repaired, what is done to it, whether it is whole then, and what is printed.
 type Row<'r> = (&'r [u8], Repair, Plan, bool, &'r str);
 
 /// Whether this is done to a store.
 fn repairs(alloc: Global, (bytes, repair, wanted, whole, text): Row<'_>) -> bool {
     let found = survey_frames(bytes, LONGEST_WORD);
-    let plan = plan_for(&found, bytes.get(found.length..).unwrap_or(&[]), repair);
+    let end = bytes.get(start_of_end(found.length)..).unwrap_or(&[]);
+    let plan = plan_for(&found, end, repair);
     let mut out = Vec::new(alloc);
     let printed = print_plan(&mut out, "f", bytes.len(), &found, plan);
     printed.is_ok()
@@ -57,6 +64,15 @@ fn cut_in_two() -> [u8; 63] {
     bytes
 }
 
+/// Salt twice, with a bit of the first length changed: it leads one byte into the second frame, which is whole.
+fn led_astray() -> [u8; 32] {
+    let mut bytes = [0; 32];
+    bytes[..16].copy_from_slice(&FRAMED[..16]);
+    bytes[16..].copy_from_slice(&FRAMED[..16]);
+    bytes[0] = 9;
+    bytes
+}
+
 #[test]
 fn plans_repairs(rt: HostRuntime) {
     let changed = damaged();
@@ -69,7 +85,14 @@ fn plans_repairs(rt: HostRuntime) {
     let refused = "f: no whole frame at byte 16, and one at byte 47: nothing was cut off. \
         `--drop-damaged` keeps the whole frames, `--cut` cuts at byte 16\n";
     let cut = "f: cut off at byte 16, bytes lost: 47, whole frames: 1\n";
-    let after = Plan::Refuse { after: 31 };
+    let after = Plan::Refuse { after: 47 };
+    let astray = led_astray();
+    let inside = Plan::Refuse { after: 16 };
+    let spared = "f: no whole frame at byte 17, and one at byte 16: nothing was cut off. \
+        `--drop-damaged` keeps the whole frames, `--cut` cuts at byte 17\n\
+        f: damaged frames left: 1. `--drop-damaged` drops them\n";
+    let lost = "f: cut off at byte 17, bytes lost: 15, whole frames: 0\n\
+        f: damaged frames left: 1. `--drop-damaged` drops them\n";
     all_repaired(
         &rt,
         rt.alloc(),
@@ -83,6 +106,10 @@ fn plans_repairs(rt: HostRuntime) {
             (&two, PLAIN, after, false, refused),
             (&two, CUTTING, Plan::Cut, true, cut),
             (&two, DROPPING, Plan::Rewrite, true, ""),
+            (&two, BOTH, Plan::Rewrite, true, ""),
+            (&astray, PLAIN, inside, false, spared),
+            (&astray, CUTTING, Plan::Cut, false, lost),
+            (&astray, DROPPING, Plan::Rewrite, true, ""),
         ],
     );
 }
@@ -114,6 +141,19 @@ fn prints_kept(alloc: Global, text: &str) -> bool {
     print_kept(&mut out, "f", 63, &kept).is_ok() && out.as_slice() == text.as_bytes()
 }
 
+/// A damaged frame, in whose word the frame of the word 7 stands.
+static HOLDS_FRAME: [u8; 19] = [
+    11, 0, 0, 0, 0, 1, 0, 0, 0, 7, 114, 125, 169, 169, 0, 0, 0, 0, 0,
+];
+
+/// Whether what looks like a frame in a damaged one is not kept, and the frame after it is.
+fn keeps_no_text(alloc: Global) -> bool {
+    let mut store = [0; 35];
+    store[..19].copy_from_slice(&HOLDS_FRAME);
+    store[19..].copy_from_slice(&FRAMED[..16]);
+    keeps(alloc, &store, &[], &FRAMED[..16])
+}
+
 /// The length of the second frame is changed, or a bit of its word; that of the first to one that leads into the next
 /// frame, 9, or over it, 39; and nothing is whole.
 #[test]
@@ -126,6 +166,8 @@ fn keeps_whole_frames(rt: HostRuntime) {
             && keeps(alloc, &damaged(), first, third)
             && keeps_after_length(alloc, 9)
             && keeps_after_length(alloc, 39)
+            && keeps(alloc, &led_astray(), &[], first)
+            && keeps_no_text(alloc)
             && keeps(alloc, &FRAMED[1..15], &[], &[])
             && prints_kept(
                 alloc,

@@ -4,7 +4,8 @@
 //!     records add FILE -                                      appends the articles of the standard input, one a line
 //!     records list FILE ..                                    prints the articles, each with its offset
 //!     records check FILE ..                                   says for each file whether it is whole
-//!     records repair [--drop-damaged] FILE                    cuts off a torn end, and drops damaged frames
+//!     records repair [--drop-damaged] [--cut] FILE            cuts off a torn end, and drops damaged frames
+//!     records shape                                           prints the shape of an article, for `describe`
 #![tactic(auto)]
 
 use std::env;

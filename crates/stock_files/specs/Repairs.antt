@@ -1,8 +1,9 @@
 -- What is done to a store that is repaired.
-use Rattle.std.specs.Prelude.{◌≡◌, ◌≢◌, ◌⊎◌, ◌<◌, ◌++◌, ℕ, List, [], ◌∷◌, length, take, drop, Option, IsTrue}
+use Rattle.std.specs.Prelude.{◌≡◌, ◌≢◌, ◌⊎◌, ◌<◌, ◌-◌, ◌++◌, ℕ, List, [], ◌∷◌, length, take, drop, Option, IsTrue}
 use Rattle.std.specs.Io.KnownBytes.{Appends}
 use Rattle.framed_store.specs.Searches.{StandsAt}
 use Rattle.framed_store.specs.Steps.{IsWhole, IsDamaged}
+use Rattle.framed_store.specs.Surveys.{frame_size}
 use Rattle.framed_store.specs.declared.ending.Ending.TheVariants as endings
 use Rattle.framed_store.specs.declared.surveying.Survey.{Survey}
 use Rattle.stock_files.specs.declared.repairing.Plan.{Plan}
@@ -13,14 +14,32 @@ use Rattle.stock_files.specs.declared.repairing.Repair.{Repair}
 abbrev pub HasNoFrame : ℕ → List ℕ → Type 0
 HasNoFrame most bytes = (k : ℕ) → ¬ StandsAt most bytes k
 
--- A store is left as it is only if it ends after a frame; it is cut off only if no whole frame is lost, or if that is
--- asked for; it is written anew only if that was asked for, and drops a damaged frame or keeps one of the tail; and it is
--- refused because of a whole frame in the tail, unless a cut was asked for.
-abbrev pub IsPlan : ℕ → Survey → List ℕ → Repair → Plan → Type 0
-IsPlan most found tail repair plans.Leave = (found.ending ≡ endings.Whole) × (IsTrue repair.drops_damaged → (found.damaged ≡ 0) × HasNoFrame most tail)
-IsPlan most found tail repair plans.Cut = (found.ending ≢ endings.Whole) × (HasNoFrame most tail ⊎ IsTrue repair.cuts)
-IsPlan most found tail repair plans.Rewrite = IsTrue repair.drops_damaged × ((0 < found.damaged) ⊎ ((k : ℕ) × StandsAt most tail k))
-IsPlan most found tail repair (plans.Refuse after) = (found.ending ≢ endings.Whole) × (IsTrue repair.cuts → ⊥) × StandsAt most tail after
+-- the bytes begin with a whole frame of more than so many bytes
+abbrev pub BeginsWithLonger : ℕ → List ℕ → ℕ → Type 0
+BeginsWithLonger most bytes count = IsWhole most bytes (frame_size bytes) × (count < frame_size bytes)
+
+-- a whole frame begins at byte k, and ends after the first `kept` bytes
+abbrev pub EndsAfter : ℕ → List ℕ → ℕ → ℕ → Type 0
+EndsAfter most bytes kept k = BeginsWithLonger most (drop k bytes) (kept - k)
+
+-- none does
+abbrev pub NoneEndsAfter : ℕ → List ℕ → ℕ → Type 0
+NoneEndsAfter most bytes kept = (k : ℕ) → ¬ EndsAfter most bytes kept k
+
+-- no damaged frame is to be dropped, and no whole frame after the last one to be kept
+abbrev pub HasNothingToDrop : ℕ → Survey → List ℕ → ℕ → Repair → Type 0
+HasNothingToDrop most found end kept repair = IsTrue repair.drops_damaged → (found.damaged ≡ 0) × NoneEndsAfter most end kept
+
+-- A store whose last bytes are `end`, of which a cut keeps the first `kept`, is left as it is only if it ends after a
+-- frame; it is cut off only if no whole frame ends after the cut, or if that is asked for; it is written anew only if
+-- that was asked for, and drops a damaged frame or keeps a whole one; and it is refused because of the first whole frame
+-- that ends after the cut, unless a cut was asked for.
+abbrev pub IsPlan : ℕ → Survey → List ℕ → ℕ → Repair → Plan → Type 0
+IsPlan most found end kept repair plans.Leave = (found.ending ≡ endings.Whole) × HasNothingToDrop most found end kept repair
+IsPlan most found end kept repair plans.Cut = (found.ending ≢ endings.Whole) × HasNothingToDrop most found end kept repair × (NoneEndsAfter most end kept ⊎ IsTrue repair.cuts)
+IsPlan most found end kept repair plans.Rewrite = IsTrue repair.drops_damaged × ((0 < found.damaged) ⊎ ((k : ℕ) × EndsAfter most end kept k))
+IsPlan most found end kept repair (plans.Refuse after) = (found.ending ≢ endings.Whole) × (IsTrue repair.cuts → ⊥) × (IsTrue repair.drops_damaged → ⊥)
+    × EndsAfter most end kept after × ((k : ℕ) → k < after → ¬ EndsAfter most end kept k)
 
 -- the bytes are none, or begin with a whole frame
 abbrev pub GoesOn : ℕ → List ℕ → Type 0

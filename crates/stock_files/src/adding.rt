@@ -26,14 +26,14 @@ use thiserror::Error;
 #[derive(Debug, Drop, Error)]
 pub enum AddError {
     /// The store ends within a frame. Nothing was written.
-    #[error("torn at byte {offset}: nothing was added. `records repair` makes the file whole")]
+    #[error("torn at byte {offset}: nothing was added. `records repair` mends it, or says why not")]
     Torn {
         /// The number of bytes before that frame.
         offset: usize,
     },
     /// A length in the store is above what it takes, so it is not known where its last frame ends. Nothing was written.
     #[error("no frame at byte {offset}, of a length of {length}: nothing was added. \
-        `records repair` makes the file whole")]
+        `records repair` mends it, or says why not")]
     TooLong {
         /// The number of bytes before it.
         offset: usize,

@@ -29,6 +29,18 @@ pub enum FileError {
     Read(#[from] ReadError),
 }
 
+/// Files that stand where the standard input, output or error is closed. A file that is opened takes the lowest number
+/// that is free, so one that is opened later would get theirs, and what is printed would be written into it. Keep them
+/// until the program ends. None is held where there is no `/dev/null`.
+pub fn hold_standard_streams(rt: &HostRuntime) -> [Option<File>; 3] {
+    [open_nothing(rt), open_nothing(rt), open_nothing(rt)]
+}
+
+/// A file without bytes, which takes none.
+fn open_nothing(rt: &HostRuntime) -> Option<File> {
+    fs::open(rt, "/dev/null").ok()
+}
+
 /// Opens a regular file to read it. What stands at the path is looked at first, since a pipe would be waited for.
 pub fn open_to_read(rt: &HostRuntime, path: &str) -> Result<File, FileError> {
     refuse_irregular(&fs::metadata(rt, path)?)?;
@@ -38,29 +50,27 @@ pub fn open_to_read(rt: &HostRuntime, path: &str) -> Result<File, FileError> {
 }
 
 /// Opens a regular file to read it and to append to it, with a lock that keeps others from changing it until it is
-/// closed. It is made where there is none, if `creates` says so; then its name is on the disk on return.
+/// closed. It is made where there is none, if `creates` says so; then its name is on the disk on return, also where an
+/// earlier run that was stopped had made it.
 pub fn open_to_change(rt: &HostRuntime, path: &str, creates: bool) -> Result<File, FileError> {
-    let is_new = !is_there(rt, path)? && creates;
+    refuse_other(rt, path)?;
     let file = OpenOptions::new()
         .read(true)
         .append(true)
         .create(creates)
         .open(rt, path)?;
     claim(rt, path, &file)?;
-    if is_new {
-        sync_folder(rt, path)?;
+    if creates && file.metadata()?.len() == 0 {
+        sync_folder(rt, fs::canonicalize(rt, path)?.as_str())?;
     }
     Ok(file)
 }
 
-/// Whether a file is at this path. Fails where it is not a regular one.
-fn is_there(rt: &HostRuntime, path: &str) -> Result<bool, FileError> {
+/// Fails where what is at this path is no regular file.
+fn refuse_other(rt: &HostRuntime, path: &str) -> Result<(), FileError> {
     match fs::metadata(rt, path) {
-        Ok(found) => {
-            refuse_irregular(&found)?;
-            Ok(true)
-        }
-        Err(_) => Ok(false),
+        Ok(found) => refuse_irregular(&found),
+        Err(_) => Ok(()),
     }
 }
 

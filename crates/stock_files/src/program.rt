@@ -2,9 +2,13 @@
 
 use crate::adding::{AddError, add_lines, add_one, next_offset};
 use crate::article::Article;
-use crate::files::{FileError, Replacement, bytes_from, cut, open_to_change, open_to_read};
+use crate::files::{
+    FileError, Replacement, bytes_from, cut, hold_standard_streams, open_to_change, open_to_read,
+};
 use crate::limit::LONGEST_WORD;
-use crate::repairing::{Plan, Repair, is_whole_after, plan_for, print_kept, print_plan, salvage};
+use crate::repairing::{
+    Plan, Repair, is_whole_after, plan_for, print_kept, print_plan, salvage, start_of_end,
+};
 use crate::request::{Request, request_of};
 use crate::showing::{Sheet, ShowError, print_store};
 use crate::status::{DONE, FAILED, USAGE, run_status, status_of};
@@ -35,6 +39,7 @@ pub enum Source<'a> {
 /// Does what these words ask for, of which the first is the program's name, and returns the status with which the
 /// program ends.
 pub fn run(rt: &HostRuntime, words: &[String]) -> u8 {
+    let _held = hold_standard_streams(rt);
     match request_of(rt.alloc(), words) {
         Ok(request) => run_request(rt, &request),
         Err(error) => usage(rt, &error),
@@ -115,7 +120,6 @@ fn add_at<W: Write>(
 ) -> Result<u8, FileError> {
     match append_all(rt, file, source) {
         Ok(count) => {
-            file.sync_all()?;
             if let Err(error) = print_added(out, path, source, count, offset) {
                 complain(
                     rt,
@@ -126,8 +130,10 @@ fn add_at<W: Write>(
             Ok(DONE)
         }
         Err(error) => {
-            cut(file, offset)?;
-            Ok(refused(rt, path, &error))
+            let undone = cut(file, offset);
+            let status = refused(rt, path, &error);
+            undone?;
+            Ok(status)
         }
     }
 }
@@ -138,11 +144,13 @@ fn refused(rt: &HostRuntime, path: &str, error: &AddError) -> u8 {
     error.status()
 }
 
-/// Appends what is asked for to a file: how many bytes an article takes, or how many articles there are.
+/// Appends what is asked for to a file, and brings it to the disk: how many bytes an article takes, or how many articles
+/// there are.
 fn append_all(rt: &HostRuntime, file: &File, source: Source<'_>) -> Result<usize, AddError> {
     let mut store = BufWriter::with_capacity(rt.alloc(), BLOCK, file).map_err(AddError::Store)?;
     let count = append_to(rt, &mut store, source)?;
     store.flush().map_err(AddError::Store)?;
+    file.sync_all().map_err(AddError::Store)?;
     Ok(count)
 }
 
@@ -215,9 +223,10 @@ fn show_store<R: Read>(
 fn repair_file(rt: &HostRuntime, path: &str, repair: Repair) -> Result<u8, FileError> {
     let mut file = open_to_change(rt, path, false)?;
     let found = survey_file(rt.alloc(), &file)?;
-    let tail = bytes_from(rt.alloc(), &mut file, found.length)?;
-    let bytes = found.length.saturating_add(tail.len());
-    let plan = plan_for(&found, &tail, repair);
+    let start = start_of_end(found.length);
+    let end = bytes_from(rt.alloc(), &mut file, start)?;
+    let bytes = start.saturating_add(end.len());
+    let plan = plan_for(&found, &end, repair);
     carry_out(rt, path, &mut file, plan, &found, bytes)?;
     Ok(status_of(is_whole_after(&found, plan)))
 }

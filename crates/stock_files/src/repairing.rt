@@ -1,13 +1,14 @@
 //! What is done to a store that is repaired, and what is printed of it.
-ghost use Rattle.std.specs.Prelude.{◌↔◌, ◌<◌, ◌≤◌, length, IfNone, IfSome, IsTrue, OnOk};
+ghost use Rattle.std.specs.Prelude.{ℕ, ◌≡◌, ◌↔◌, ◌<◌, ◌≤◌, ◌-◌, length, min, IfNone, IfSome, IsTrue, OnOk};
 ghost use Rattle.framed_store.specs.Searches.{StandsAt};
-ghost use Rattle.stock_files.specs.Repairs.{IsPlan, HasNoFrame, IsPassed, GoesOn, IsFrame, EndsWithFrame, Salvages};
+ghost use Rattle.stock_files.specs.Repairs.{IsPlan, BeginsWithLonger, EndsAfter, HasNoFrame, IsPassed, GoesOn, IsFrame};
+ghost use Rattle.stock_files.specs.Repairs.{EndsWithFrame, Salvages};
 
 use crate::limit::LONGEST_WORD;
 use framed_store::ending::Ending;
 use framed_store::searching::find_frame;
 use framed_store::surveying::Survey;
-use frames::{Frame, read_frame};
+use frames::{Frame, OVERHEAD, read_frame};
 use std::io;
 use std::io::Write;
 
@@ -29,19 +30,31 @@ pub enum Plan {
     Cut,
     /// Its whole frames are written to a new file, which takes its place.
     Rewrite,
-    /// Nothing: a whole frame stands in what a cut would lose, after this number of bytes of it.
+    /// Nothing: a cut would lose a whole frame, or its end.
     Refuse {
-        /// The number of bytes from the last frame on to the whole one.
+        /// The number of bytes before that frame, from the first byte on that is looked at.
         after: usize,
     },
 }
 
-/// What is done to a store of these frames, after which these bytes are left.
-pub fn plan_for(found: &Survey, tail: &[u8], repair: Repair) -> Plan
-    // It is cut off where no whole frame is lost, or where that is asked for.
-    ensures { IsPlan LONGEST_WORD found.now tail.now repair result }
+/// How many bytes before a cut a whole frame may begin that ends after it.
+const REACH: usize = LONGEST_WORD as usize + OVERHEAD - 1;
+
+/// The first byte that is looked at of a store before it is cut off after `length` bytes: a whole frame that ends later
+/// begins there or after it.
+pub fn start_of_end(length: usize) -> usize
+    ensures { result ≡ length - min length REACH }
 {
-    let next = find_frame(tail, LONGEST_WORD);
+    length - length.min(REACH)
+}
+
+/// What is done to a store of these frames, which has these bytes from `start_of_end` of their length on. A damaged
+/// length may lead into the middle of a whole frame, so those before the cut are looked at, too.
+pub fn plan_for(found: &Survey, end: &[u8], repair: Repair) -> Plan
+    // It is cut off where no whole frame ends after the cut, or where that is asked for.
+    ensures { IsPlan LONGEST_WORD found.now end.now (min found.now.length REACH) repair result }
+{
+    let next = frame_past(end, found.length.min(REACH));
     if repair.drops_damaged && (found.damaged > 0 || next.is_some()) {
         return Plan::Rewrite;
     }
@@ -51,6 +64,33 @@ pub fn plan_for(found: &Survey, tail: &[u8], repair: Repair) -> Plan
     match next {
         Some(after) if !repair.cuts => Plan::Refuse { after },
         _ => Plan::Cut,
+    }
+}
+
+/// Where the first whole frame begins that ends after the first `kept` of these bytes.
+fn frame_past(bytes: &[u8], kept: usize) -> Option<usize>
+    ensures found { IfSome result (EndsAfter LONGEST_WORD bytes.now kept) }
+    ensures first { IfSome result (λ n. (k : ℕ) → k < n → ¬ EndsAfter LONGEST_WORD bytes.now kept k) }
+    ensures none { IfNone result ((k : ℕ) → ¬ EndsAfter LONGEST_WORD bytes.now kept k) }
+{
+    for offset in 0..bytes.len() {
+        if begins_with_longer(&bytes[offset..], kept.saturating_sub(offset)) {
+            return Some(offset);
+        }
+    }
+    None
+}
+
+/// Whether bytes begin with a whole frame of more than `count` bytes.
+fn begins_with_longer(bytes: &[u8], count: usize) -> bool
+    ensures { IsTrue result ↔ BeginsWithLonger LONGEST_WORD bytes.now count }
+{
+    match read_frame(bytes, LONGEST_WORD) {
+        Frame::Whole(_, size) => size > count,
+        Frame::End => false,
+        Frame::Torn => false,
+        Frame::TooLong(_) => false,
+        Frame::Damaged(_) => false,
     }
 }
 
@@ -163,7 +203,7 @@ pub fn print_plan<W: Write>(
         }
         Plan::Rewrite => return Ok(()),
         Plan::Refuse { after } => {
-            let next = length.saturating_add(after);
+            let next = start_of_end(length).saturating_add(after);
             writeln!(
                 out,
                 "{file}: no whole frame at byte {length}, and one at byte {next}: nothing was cut off. \

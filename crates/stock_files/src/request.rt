@@ -47,8 +47,10 @@ const STATUSES: &str = "Status:
   3  a file, the standard input or the standard output fails, or a line is no article
 
 Each file is dealt with, also after one that fails. The status is the greatest of them. `add` adds all or nothing:
-where it fails, it cuts the file back to what it held. `repair --drop-damaged` writes a new file at FILE.repaired, in
-place of any that is there, and renames it.";
+where it fails, it cuts the file back to what it held. `repair` looks at frames, and not at the articles in them: its
+status is 0 where each frame is whole. Without an option it cuts nothing off in which a whole frame ends.
+`repair --drop-damaged` writes a new file at FILE.repaired, in place of any that is there, and renames it; then `--cut`
+has nothing to do.";
 
 /// The program's command line.
 static RECORDS: Program = Program {
