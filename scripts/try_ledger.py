@@ -9,8 +9,10 @@ where the program could not be started.
 
 Statuses that it wants: 0 whole, 1 damaged or torn, 2 wrong use, 3 input or output, 4 refused.
 """
-import argparse, os, random, signal, subprocess, sys, tempfile, time
+import argparse, os, random, resource, signal, subprocess, sys, tempfile, time
 from pathlib import Path
+
+from calls_in_order import are_in_order, can_be_seen, changes_of
 
 DONE, DAMAGED, USAGE, DEVICE, REFUSED = 0, 1, 2, 3, 4
 NAMES = ["ann", "bob", "cy", "dee", "Émile", "a b"]
@@ -40,9 +42,9 @@ class Book:
     def __init__(self, program, folder):
         self.program, self.file, self.snapshot = program, folder / "book", folder / "book.snapshot"
 
-    def run(self, *words, seconds=60, output=subprocess.PIPE, file=None):
+    def run(self, *words, seconds=60, output=subprocess.PIPE, file=None, before=None):
         try:
-            ran = subprocess.run([self.program, str(file or self.file), *map(str, words)], stdout=output, stderr=subprocess.PIPE, timeout=seconds)
+            ran = subprocess.run([self.program, str(file or self.file), *map(str, words)], stdout=output, stderr=subprocess.PIPE, timeout=seconds, preexec_fn=before)
         except subprocess.TimeoutExpired:
             return None, "", "it does not end"
         text = ran.stdout.decode(errors="replace") if ran.stdout is not None else ""
@@ -336,6 +338,108 @@ def full_disk(book, numbers, rounds):
     return tries.done()
 
 
+# An opening of ann (100), one of bob and a payment of 30 from ann to bob, and the bytes after each.
+SMALL = bytes.fromhex("0700000000000361 6e6e6462bb9fb4 070000000100 03626f6200 f42a3d6e 0b0000000201 03616e6e 03626f62 1e bb2e146a".replace(" ", ""))
+
+# Runs one after another, with what each prints after the book's path, what it complains of, and its status. By hand.
+SESSION = [
+    (("open", "ann", 100), ": 15 bytes at byte 0", "", DONE),
+    (("open", "bob"), ": 15 bytes at byte 15", "", DONE),
+    (("pay", "ann", "bob", 30), ": 19 bytes at byte 30", "", DONE),
+    (("balance", "ann"), "70", "", DONE),
+    (("balance", "bob"), "30", "", DONE),
+    (("balance", "cy"), "", "there is no account of this name", REFUSED),
+    (("check",), ": whole, commands: 3, in the log: 3, bytes: 49, money: 100", "", DONE),
+    (("compact",), ": commands: 3, bytes of the snapshot: 52", "", DONE),
+    (("open", "cy", 70000), ": 18 bytes at byte 0", "", DONE),
+    (("log",), '3 at byte 0: open "cy" 70000', "", DONE),
+    (("check",), ": whole, commands: 4, in the log: 1, bytes: 18, money: 70100", "", DONE),
+    (("repair",), ": nothing to cut off, commands: 4, bytes: 18", "", DONE),
+    (17, "", "", DONE),
+    (("check",), "", "torn at byte 0. `repair` cuts the torn end off", DAMAGED),
+    (("repair",), ": cut off at byte 0, bytes lost: 17, commands: 3", "", DONE),
+]
+
+
+def session(book, numbers, rounds):
+    """What each command prints, complains of and ends with."""
+    tries = Tries("a session")
+    book.clear()
+    for words, printed, complaint, status in SESSION:
+        if isinstance(words, int):
+            os.truncate(book.file, words)
+            continue
+        wanted = f"{book.file}{printed}\n" if printed.startswith(": ") else f"{printed}\n" if printed else ""
+        told = f"ledger: {book.file}: {complaint}\n" if complaint else ""
+        got = book.run(*words)
+        tries.want(got == (status, wanted, told), f"{words}: {got}")
+    book.clear()
+    book.with_bytes(SMALL[:-1] + b"\xff" + SMALL[:15])
+    status, _, error = book.run("log")
+    tries.want(status == DAMAGED and "command 2, at byte 30" in error, f"a damaged log: status {status}, {error!r}")
+    return tries.done()
+
+
+def orders(book, numbers, rounds):
+    """What is said to be done is on the disk before it is said: the bytes, and the names in the folder."""
+    tries = Tries("changes on the disk before they are told")
+    if not can_be_seen():
+        print("  no calls can be seen here: not tried", flush=True)
+        return tries.done()
+    folder, new = book.file.parent, Path(f"{book.snapshot}.new")
+    entered = [("write", book.file), ("sync", book.file), ("print", "")]
+    named = [("sync", folder), ("print", "")]
+    compact = [("write", new), ("sync", new), ("move", book.snapshot), ("sync", folder), ("cut", book.file), ("sync", book.file), ("print", "")]
+    for held, words, steps in (
+        (None, ("open", "ann", 100), [entered, named]),
+        (b"", ("open", "ann", 100), [entered, named]),
+        (SMALL[:30], ("pay", "ann", "bob", 30), [entered]),
+        (SMALL, ("compact",), [compact]),
+        (SMALL[:40], ("repair",), [[("cut", book.file), ("sync", book.file), ("print", "")]]),
+    ):
+        book.clear()
+        if held is not None:
+            book.with_bytes(held)
+        changes = changes_of([book.program, book.file, *words])
+        for wanted in steps:
+            tries.want(are_in_order(changes, wanted), f"{words}: {changes}, and not {wanted}")
+    return tries.done()
+
+
+def no_output(book, numbers, rounds):
+    """Without a standard output, or without any of the three streams, nothing that is printed goes into the book."""
+    tries = Tries("no standard output")
+    for closed in ((1,), (0, 1, 2), (0, 1), (2,)):
+        for words, held, left in (
+            (("repair",), SMALL, SMALL),
+            (("repair",), SMALL[:40], SMALL[:30]),
+            (("compact",), SMALL, b""),
+            (("pay", "ann", "bob", 30), SMALL[:30], SMALL),
+            (("check",), SMALL, SMALL),
+        ):
+            book.clear()
+            book.with_bytes(held)
+            book.run(*words, before=lambda: [os.close(stream) for stream in closed])
+            tries.want(book.file.read_bytes() == left, f"{words} without {closed}: {book.file.read_bytes()[:80]!r}")
+            tries.want(book.run("check")[0] == DONE, f"{words} without {closed}: it is not whole")
+    return tries.done()
+
+
+def too_large(book, numbers, rounds):
+    """A file that may not grow as far as a command needs: it is not entered, and what was there stays."""
+    tries = Tries("a file that may not grow")
+
+    def small_files():
+        signal.signal(signal.SIGXFSZ, signal.SIG_IGN)
+        resource.setrlimit(resource.RLIMIT_FSIZE, (40, 40))
+
+    book.clear()
+    book.with_bytes(SMALL[:30])
+    status, _, error = book.run("pay", "ann", "bob", 30, before=small_files)
+    tries.want(status == DEVICE and error and book.file.read_bytes() == SMALL[:30], f"status {status}, {error!r}")
+    return tries.done()
+
+
 def main():
     parser = argparse.ArgumentParser(description=__doc__.split("\n")[0])
     parser.add_argument("program")
@@ -350,7 +454,7 @@ def main():
     wrong = 0
     with tempfile.TemporaryDirectory() as folder:
         book, numbers = Book(program, Path(folder)), random.Random(given.seed)
-        for group in (commands, killed, compacted, killed_compacting, damaged_snapshots, prefixes, flips, locked, devices, full_disk):
+        for group in (commands, killed, compacted, killed_compacting, damaged_snapshots, prefixes, flips, locked, devices, full_disk, session, orders, no_output, too_large):
             if given.only in group.__name__:
                 wrong += group(book, numbers, given.rounds)
     sys.exit(1 if wrong else 0)

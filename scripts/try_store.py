@@ -12,6 +12,8 @@ Statuses that it wants: 0 whole, 1 damaged or torn, 2 wrong use, 3 input or outp
 import argparse, os, resource, signal, subprocess, sys, tempfile, time
 from pathlib import Path
 
+from calls_in_order import are_in_order, can_be_seen, changes_of
+
 WHOLE, DAMAGED, USAGE, DEVICE = 0, 1, 2, 3
 
 
@@ -54,9 +56,9 @@ class Store:
     def __init__(self, program, folder):
         self.program, self.file = program, folder / "store"
 
-    def run(self, *words, given=b"", seconds=60, output=subprocess.PIPE):
+    def run(self, *words, given=b"", seconds=60, output=subprocess.PIPE, before=None):
         try:
-            ran = subprocess.run([self.program, *words], input=given, stdout=output, stderr=subprocess.PIPE, timeout=seconds)
+            ran = subprocess.run([self.program, *words], input=given, stdout=output, stderr=subprocess.PIPE, timeout=seconds, preexec_fn=before)
         except subprocess.TimeoutExpired:
             return None, "", "it does not end"
         text = ran.stdout.decode(errors="replace") if ran.stdout is not None else ""
@@ -97,16 +99,23 @@ def is_listed(store, frames, count):
 
 
 def flips(store, held, frames):
-    """Each byte is changed in turn: each change is told, and the records before it are listed."""
+    """Each byte is changed in turn, and each bit of a length: each change is told, the records before it are listed, and no repair
+    loses another one."""
     tries = Tries("each byte changed")
-    for place in range(len(held)):
+    lengths = [at + byte for at, _ in frames for byte in range(4)]
+    for place, bit in [(place, place % 8) for place in range(len(held))] + [(place, bit) for place in lengths for bit in range(8) if bit != place % 8]:
         spoilt = bytearray(held)
-        spoilt[place] ^= 1 << (place % 8)
+        spoilt[place] ^= 1 << bit
         store.with_bytes(bytes(spoilt))
         status, text, _ = store.run("check", str(store.file))
         before = sum(1 for at, size in frames if at + size <= place)
         tries.want(status == DAMAGED, f"byte {place}: status {status}, {text.strip()!r}")
         tries.want(is_listed(store, frames, before), f"byte {place}: the {before} records before it are not listed")
+        store.run("repair", str(store.file))
+        left = store.file.read_bytes()
+        others = [(at, size) for at, size in frames if not at <= place < at + size]
+        tries.want(all(left[at : at + size] == held[at : at + size] for at, size in others), f"byte {place}: a plain repair lost a whole frame")
+        store.with_bytes(bytes(spoilt))
         status, text, error = store.run("repair", "--drop-damaged", str(store.file))
         kept = b"".join(held[at : at + size] for at, size in frames if not at <= place < at + size)
         tries.want(status == WHOLE and store.file.read_bytes() == kept, f"byte {place}: repaired with status {status}, {text.strip()!r}, {error.strip()!r}")
@@ -244,6 +253,82 @@ def full_disk(store, held, frames):
     return tries.done()
 
 
+def orders(store, held, frames):
+    """What is said to be done is on the disk before it is said: the bytes, and the names in the folder."""
+    tries = Tries("changes on the disk before they are told")
+    if not can_be_seen():
+        print("  no calls can be seen here: not tried", flush=True)
+        return tries.done()
+    folder, new, at = store.file.parent, Path(f"{store.file}.repaired"), frames[1][0]
+    added = [("write", store.file), ("sync", store.file), ("print", "")]
+    named = [("sync", folder), ("print", "")]
+    rewritten = [("write", new), ("sync", new), ("move", store.file), ("sync", folder), ("print", "")]
+    spoilt = held[: at + 5] + bytes([held[at + 5] ^ 1]) + held[at + 6 :]
+    for bytes_held, words, steps in (
+        (None, ("add", store.file, "tea", "5"), [added, named]),
+        (b"", ("add", store.file, "tea", "5"), [added, named]),
+        (held, ("add", store.file, "tea", "5"), [added]),
+        (held[:-1], ("repair", store.file), [[("cut", store.file), ("sync", store.file), ("print", "")]]),
+        (spoilt, ("repair", "--drop-damaged", store.file), [rewritten]),
+    ):
+        store.file.unlink(missing_ok=True)
+        if bytes_held is not None:
+            store.with_bytes(bytes_held)
+        changes = changes_of([store.program, *words])
+        for wanted in steps:
+            tries.want(are_in_order(changes, wanted), f"{words}: {changes}, and not {wanted}")
+    return tries.done()
+
+
+def no_output(store, held, frames):
+    """Without a standard output, or without any of the three streams, nothing that is printed goes into the store."""
+    tries = Tries("no standard output")
+    last = frames[-1][0]
+    for closed in ((1,), (0, 1, 2), (0, 1), (2,)):
+        for words, bytes_held, left in (
+            (("repair", str(store.file)), held, held),
+            (("repair", str(store.file)), held[:-1], held[:last]),
+            (("check", str(store.file)), held, held),
+            (("add", str(store.file), "tea", "5"), held, None),
+        ):
+            store.with_bytes(bytes_held)
+            store.run(*words, before=lambda: [os.close(stream) for stream in closed])
+            got = store.file.read_bytes()
+            tries.want(got == left if left is not None else got.startswith(held) and len(got) == len(held) + 15, f"{words} without {closed}: {got[-80:]!r}")
+            tries.want(store.run("check", str(store.file))[0] == WHOLE, f"{words} without {closed}: it is not whole")
+    return tries.done()
+
+
+def modes(store, held, frames):
+    """A repair keeps the permissions of a file, and goes through a link to it."""
+    tries = Tries("permissions and links")
+    link = store.file.parent / "link"
+    for path in (store.file, link):
+        store.with_bytes(held[:5] + bytes([held[5] ^ 1]) + held[6:])
+        os.chmod(store.file, 0o600)
+        link.unlink(missing_ok=True)
+        link.symlink_to(store.file)
+        status, _, error = store.run("repair", "--drop-damaged", str(path))
+        tries.want(status == WHOLE and store.file.read_bytes() == held[frames[1][0] :], f"{path.name}: status {status}, {error!r}")
+        tries.want(link.is_symlink() and store.file.stat().st_mode & 0o777 == 0o600, f"{path.name}: its link or its permissions are gone")
+    link.unlink()
+    return tries.done()
+
+
+def several(store, held, frames):
+    """Each file is dealt with, also after one that is missing."""
+    tries = Tries("several files")
+    store.with_bytes(held)
+    status, text, error = store.run("check", str(store.file) + "-missing", str(store.file))
+    tries.want(status == DEVICE and f"{store.file}: whole" in text and "-missing" in error, f"status {status}, {text!r}, {error!r}")
+    status, text, _ = store.run("shape")
+    tries.want((status, text) == (WHOLE, "(text, u64, u32?, [(text, text)])\n"), f"the shape: {status}, {text!r}")
+    store.file.unlink()
+    status, text, _ = store.run("add", str(store.file), "-", given=b"tea 5\nsalt 40\n")
+    tries.want((status, text) == (WHOLE, f"{store.file}: 2 records added at byte 0\n"), f"lines: {status}, {text!r}")
+    return tries.done()
+
+
 def huge(store, held, frames):
     """A gigabyte of zeros, and one of 0xff."""
     tries = Tries("a gigabyte")
@@ -274,7 +359,7 @@ def main():
         store = Store(program, Path(folder))
         held = made(store, 20)
         frames = frames_of(held)
-        for group in (flips, prefixes, tails, killed, locked, devices, full_disk, *([huge] if given.huge else [])):
+        for group in (flips, prefixes, tails, killed, locked, devices, full_disk, orders, no_output, modes, several, *([huge] if given.huge else [])):
             if given.only in group.__name__:
                 wrong += group(store, held, frames)
     sys.exit(1 if wrong else 0)
