@@ -223,9 +223,7 @@ fn printed(alloc: Global, bytes: &[u8], text: &str) -> Option<Result<(), ListErr
 fn stops_at(printed: &Option<Result<(), ListError>>, command: u64, at: usize) -> bool {
     match printed {
         Some(Err(ListError::Log(error))) => {
-            error.commands == command
-                && error.offset == at
-                && matches!(error.why, Failure::Damaged)
+            error.commands == command && error.offset == at && matches!(error.why, Failure::Damaged)
         }
         _ => false,
     }
@@ -288,8 +286,8 @@ fn tells_a_new_snapshot(rt: HostRuntime) -> anyhow::Result<()> {
     let is_told = is_replaced(&rt, &missing) && first.refuse_replaced(&rt).is_ok();
     let is_made_again = ends(&rt, path, "compact", DONE);
     let is_told_again = is_replaced(&rt, &first);
-    let are_removed =
-        fs::remove_file(&rt, path).is_ok() && fs::remove_file(&rt, first.path.as_str()).is_ok();
+    let are_removed = fs::remove_file(&rt, path).is_ok()
+        && fs::remove_file(&rt, first.path.as_str()).is_ok();
     assert!(rt; is_made && is_told && is_made_again && is_told_again && are_removed);
     Ok(())
 }

@@ -65,19 +65,36 @@ fn is_unread(error: Option<LineError>) -> bool {
     matches!(error, Some(LineError::Read { line: 1, .. }))
 }
 
-/// A stream that fails in a line, a line that is no text, and one that is too long.
+/// Whether an article stands in the first line of a text that is not blank.
+fn has_article(alloc: Global, text: &str) -> bool {
+    matches!(Lines::new(alloc, text.as_bytes()).next(), Ok(Some(_)))
+}
+
+/// Whether the first line of a text is too long.
+fn is_too_long(alloc: Global, text: &str) -> bool {
+    matches!(
+        error_of(alloc, text.as_bytes()),
+        Some(LineError::Long { line: 1 })
+    )
+}
+
+/// A stream that fails in a line, a line that is no text, the longest one that is taken, and two that are too long: one
+/// by a byte, and one by a part of a character.
 #[test]
 fn tells_lines_that_cannot_be_read(rt: HostRuntime) -> anyhow::Result<()> {
     let alloc = rt.alloc();
-    let long = " ".repeat(alloc, LONGEST_LINE as usize)?;
+    let most = LONGEST_LINE as usize;
+    let mut longest = " ".repeat(alloc, most - 8)?;
+    longest.push_str("salt 40\n")?;
+    let long = " ".repeat(alloc, most + 1)?;
+    let letters = "é".repeat(alloc, most / 2 + 1)?;
     let broken = BufReader::new(alloc, Broken { has_failed: false })?;
     assert!(rt;
         is_unread(error_of(alloc, broken))
             && is_unread(error_of(alloc, [115, 255, 10].as_slice()))
-            && matches!(
-                error_of(alloc, long.as_bytes()),
-                Some(LineError::Long { line: 1 })
-            )
+            && has_article(alloc, &longest)
+            && is_too_long(alloc, &long)
+            && is_too_long(alloc, &letters)
     );
     Ok(())
 }

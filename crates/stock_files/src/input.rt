@@ -7,7 +7,7 @@ use std::io;
 use std::io::{BufRead, Read};
 use thiserror::Error;
 
-/// The greatest number of bytes of a line.
+/// The greatest number of bytes of a line, with its end.
 pub const LONGEST_LINE: u64 = 1 << 20;
 
 /// Why an input gives no more articles.
@@ -78,8 +78,10 @@ fn read_line<R: BufRead>(
 ) -> Result<bool, LineError> {
     text.clear();
     *line = line.saturating_add(1);
-    match input.take(LONGEST_LINE).read_line(text) {
-        Ok(count) if count as u64 == LONGEST_LINE => Err(LineError::Long { line: *line }),
+    let mut limited = input.take(LONGEST_LINE + 1);
+    match limited.read_line(text) {
+        // Also where the last byte that is taken ends within a character.
+        _ if limited.limit() == 0 => Err(LineError::Long { line: *line }),
         Ok(count) => Ok(count > 0),
         Err(why) => Err(LineError::Read { line: *line, why }),
     }

@@ -144,8 +144,8 @@ fn refused(rt: &HostRuntime, path: &str, error: &AddError) -> u8 {
     error.status()
 }
 
-/// Appends what is asked for to a file, and brings it to the disk: how many bytes an article takes, or how many articles
-/// there are.
+/// Appends what is asked for to a file, and brings it to the disk: how many bytes an article takes, or how many there
+/// are.
 fn append_all(rt: &HostRuntime, file: &File, source: Source<'_>) -> Result<usize, AddError> {
     let mut store = BufWriter::with_capacity(rt.alloc(), BLOCK, file).map_err(AddError::Store)?;
     let count = append_to(rt, &mut store, source)?;
