@@ -25,6 +25,9 @@ const ODD: [u8; 29] = [
     251, 207, 129,
 ];
 
+/// The frame of a list of 64 items, of which none is there.
+const CLAIMING: [u8; 9] = [1, 0, 0, 0, 64, 37, 4, 24, 60];
+
 /// The line of 7.
 const FIRST: &str = "{\"offset\":0,\"length\":9,\"value\":7}\n";
 
@@ -42,6 +45,10 @@ fn tells_frames_apart(rt: HostRuntime) {
         "{\"offset\":0,\"length\":9,\"value\":7}\n{\"offset\":9,\"length\":11,\"damaged\":1}\n",
         "damaged",
     );
+    let past = (
+        "{\"offset\":0,\"length\":9,\"undecodable\":\"LimitExceeded\"}\n",
+        "damaged",
+    );
     let above = "at byte 9: a frame of a word of 1114115 bytes, of which 1048576 are allowed";
     let above_two = "at byte 9: a frame of a word of 3 bytes, of which 2 are allowed";
     all_told(
@@ -55,6 +62,7 @@ fn tells_frames_apart(rt: HostRuntime) {
             (("--frames --longest 2097152", "u16"), &LONG, (FIRST, TORN)),
             (("--frames --longest 2", "u16"), &FRAMES, (FIRST, above_two)),
             (("--frames --longest 3", "u16"), &FRAMES, (BOTH, "whole")),
+            (("--frames --limit 1KiB", "[u128]"), &CLAIMING, past),
         ],
     );
 }

@@ -170,6 +170,32 @@ fn reads_each_configuration(rt: HostRuntime) {
     );
 }
 
+/// The tag of sixteen bytes, and the greatest of them.
+const GREATEST: [u8; 17] = [
+    254, 255, 255, 255, 255, 255, 255, 255, 255, 255, 255, 255, 255, 255, 255, 255, 255,
+];
+
+/// Numbers of 128 bits are texts where they do not fit 64.
+#[test]
+fn prints_the_widest_numbers(rt: HostRuntime) {
+    let unsigned = (
+        "{\"offset\":0,\"length\":17,\"value\":\"340282366920938463463374607431768211455\"}\n",
+        "whole",
+    );
+    let signed = (
+        "{\"offset\":0,\"length\":17,\"value\":\"-170141183460469231731687303715884105728\"}\n",
+        "whole",
+    );
+    all_told(
+        &rt,
+        rt.alloc(),
+        &[
+            (("", "u128"), &GREATEST, unsigned),
+            (("", "i128"), &GREATEST, signed),
+        ],
+    );
+}
+
 /// A length claims 8 bytes, so 63 numbers of 16 bytes and their length claim 1,016, and 64 claim 1,032. 4,194,305 of
 /// them claim more than 64 MiB.
 #[test]
@@ -193,6 +219,21 @@ fn keeps_limits(rt: HostRuntime) {
             (("--limit 16MiB", "[u128]"), many, past),
             (("--limit 1GiB", "[u128]"), many, torn),
             (("--limit none", "[u128]"), many, torn),
+            (("--limit 64KiB", "[u128]"), &[251, 0, 16], past),
+            (("--limit 64KiB", "[u128]"), &[251, 255, 15], torn),
+            (("--limit 1MiB", "[u128]"), &[252, 0, 0, 1, 0], past),
+            (("--limit 1MiB", "[u128]"), &[251, 255, 255], torn),
+            (("--limit 16MiB", "[u128]"), &[252, 0, 0, 16, 0], past),
+            (("--limit 16MiB", "[u128]"), &[252, 255, 255, 15, 0], torn),
+            (("--limit 64MiB", "[u128]"), &[252, 255, 255, 63, 0], torn),
+            (("--limit 1GiB", "[u128]"), &[252, 0, 0, 0, 4], past),
+            (("--limit 1GiB", "[u128]"), &[252, 255, 255, 255, 3], torn),
+            (
+                ("--fixed --limit 1KiB", "[u128]"),
+                &[64, 0, 0, 0, 0, 0, 0, 0],
+                past,
+            ),
+            (("--big-endian --limit 1KiB", "[u128]"), &[64], past),
         ],
     );
 }

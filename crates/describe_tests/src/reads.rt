@@ -13,7 +13,7 @@ use std::fs;
 
 /// The options and the new shape, the old one, and what is printed with the end after it. The texts of shapes have no
 /// blanks here.
-const COMPARED: [(&str, &str, &str); 13] = [
+const COMPARED: [(&str, &str, &str); 14] = [
     (
         "--reads (u8,u32)",
         "(u8,u16)",
@@ -30,6 +30,11 @@ const COMPARED: [(&str, &str, &str); 13] = [
         "variable  little endian  yes\nvariable  big endian     yes\n\
         fixed     little endian  yes\nfixed     big endian     yes\n\
         every file of OLD is read by NEW\nread",
+    ),
+    (
+        "--fixed --reads u16|text|()",
+        "u16|text",
+        "fixed     little endian  yes\nevery file of OLD is read by NEW\nread",
     ),
     (
         "--fixed --big-endian --reads |i64",
