@@ -889,6 +889,11 @@ def said_by(program, log, stock):
     return status == DONE and right_answers(got, wanted), f"status {status}, {first_wrong(got, wanted)}, {said.strip()!r}"
 
 
+def tells_cut(said, offset, lost):
+    """Whether a message says where a torn end was cut off, and how many bytes were lost."""
+    return re.search(rf"a torn end was cut off at byte {offset}, bytes lost: {lost}(?!\d)", said) is not None
+
+
 def changes_in(log):
     """The requests of a log that change something, and the number of bytes behind its whole frames."""
     requests, rest = requests_in(log.read_bytes() if log.exists() else b"")
@@ -965,7 +970,9 @@ def killed(program, folder, numbers, asked):
         if not tries.want(holds, f"round {number_}: the log has {len(found or [])} changes, {len(must)} were answered, {len(sent) - acked} not, after {len(before)}"):
             break
         if rest:  # as section 13 has it: whole again when it is cut where its last frame ends
+            size = log.stat().st_size
             holds, what = said_by(program, log, stock)
+            tries.want(not holds or tells_cut(what, size - rest, rest), f"round {number_}: {rest} bytes of {size} were cut off, and it said {what}")
             print(f"  a torn log: {'is gone on from' if holds else what}", flush=True)
             if not holds:
                 with open(log, "r+b") as file:
@@ -1004,8 +1011,8 @@ def spoilt_logs(program, folder, numbers, asked):
             wanted = [stock.answer(("add", b"tea", 1))]
             found, rest = changes_in(log)
             tries.want(
-                right_answers(got, wanted) and found == stock.changes and not rest,
-                f"{length} bytes: {first_wrong(got, wanted)}, and the log has {found}, and {rest} bytes more",
+                right_answers(got, wanted) and found == stock.changes and not rest and tells_cut(said, ends[whole], length - ends[whole]),
+                f"{length} bytes: {first_wrong(got, wanted)}, and the log has {found}, and {rest} bytes more, {said.strip()!r}",
             )
         else:
             refuses += 1
@@ -1035,7 +1042,8 @@ def spoilt_logs(program, folder, numbers, asked):
             status, got, said = run(program, "serve", "--log", str(log), given=frame(word_of(("get", b"tea"))))
             may_be_torn = number_ == len(frames) - 1 and end - ends[number_] - 8 < length <= LONGEST
             refused = status in (TORN, DEVICE) and not got and said and log.read_bytes() == bytes(spoilt)
-            gone_on = may_be_torn and status == DONE and log.read_bytes() == held[: ends[number_]]
+            is_cut = log.read_bytes() == held[: ends[number_]] and tells_cut(said, ends[number_], len(held) - ends[number_])
+            gone_on = may_be_torn and status == DONE and is_cut
             tries.want(refused or gone_on, f"frame {number_}, bit {bit} of its length changed: status {status}, {list(got)}, {said.strip()!r}")
     for name, further in [("trailing bytes", frame(word_of(("add", b"x", 1)) + b"\0")), ("an unknown tag", frame(bytes([3]))), ("an empty word", frame(b"")),
                           ("a long length", b"\xff" * 4), ("no text", frame(bytes([0, 1, 255, 5]))),

@@ -9,7 +9,6 @@ use Rattle.frames.specs.declared.Frame.TheVariants as frames
 use Rattle.framed_store.specs.Appended.{Leaves}
 use Rattle.framed_store.specs.Pieces.{Piece, FrameOf, Damage, ArePieces, bytes_of_all}
 use Rattle.framed_store.specs.Told.{IsRecord}
-use Rattle.framed_store.specs.declared.appending.AppendError.{AppendError}
 use Rattle.framed_store.specs.declared.records.Content.{Content}
 use Rattle.framed_store.specs.declared.records.Content.TheVariants as contents
 use Rattle.calls.specs.Sending.{Sends}
@@ -57,9 +56,9 @@ IsOutsideCall (errors.TrailingBytes _) = ⊥
 IsOutsideCall (errors.Read _) = Unit {0}
 IsOutsideCall (errors.Memory _) = Unit {0}
 
--- the request was not sent
+-- a request was not sent
 abbrev pub IsSend : CallError → Type 0
-IsSend e = (why : AppendError) × (e ≡ errors.Send why)
+IsSend e = (stopped : SendError) × (e ≡ errors.Send stopped)
 
 -- the output failed when it was flushed
 abbrev pub IsFlush : CallError → Type 0
@@ -94,7 +93,7 @@ module _ {T : Type 0} (V : Words T) (s : Setting) (limit : Option ℕ) (most : �
 
   -- the frame of a value was not written: the stream is as it was, or has a prefix of it where it failed
   abbrev pub IsUnsent : {O : Type 0} → T → (O → Option (List ℕ)) → O → O → CallError → Type 0
-  IsUnsent value bytes old new (errors.Send why) = Leaves V s limit most value bytes old new why
+  IsUnsent value bytes old new (errors.Send stopped) = (stopped.number ≡ 0) × Leaves V s limit most value bytes old new stopped.why
   IsUnsent value bytes old new (errors.Flush _) = ⊥
   IsUnsent value bytes old new errors.NoReply = ⊥
   IsUnsent value bytes old new errors.Torn = ⊥
@@ -109,15 +108,23 @@ module _ {T : Type 0} (V : Words T) (s : Setting) (limit : Option ℕ) (most : �
   abbrev pub MaybeSent : {O : Type 0} → T → (O → Option (List ℕ)) → O → O → CallError → Type 0
   MaybeSent value bytes old new e = IsUnsent value bytes old new e ⊎ Sends V s limit most value (bytes old) (bytes new)
 
-  -- the frames of the first values were written, in order, and that of the next was not
-  abbrev pub StopsSending : {O : Type 0} → List T → (O → Option (List ℕ)) → O → O → CallError → Type 0
-  StopsSending {O} values bytes old new e =
-      (sent : List T) × (value : T) × (others : List T) × (mid : O) × (values ≡ sent ++ value ∷ others) × SendsAll sent (bytes old) (bytes mid) × IsUnsent value bytes mid new e
-
-  -- the same of the value of a number: those before it were written
+  -- the frames of the values before a number were written, in order, and that of this number was not
   abbrev pub StopsAt : {O : Type 0} → List T → (O → Option (List ℕ)) → O → O → SendError → Type 0
   StopsAt {O} values bytes old new e =
       (sent : List T) × (value : T) × (others : List T) × (mid : O) × (values ≡ sent ++ value ∷ others) × (length sent ≡ e.number) × SendsAll sent (bytes old) (bytes mid) × Leaves V s limit most value bytes mid new e.why
+
+  -- the same, as the error of a caller
+  abbrev pub StopsSending : {O : Type 0} → List T → (O → Option (List ℕ)) → O → O → CallError → Type 0
+  StopsSending values bytes old new (errors.Send stopped) = StopsAt values bytes old new stopped
+  StopsSending values bytes old new (errors.Flush _) = ⊥
+  StopsSending values bytes old new errors.NoReply = ⊥
+  StopsSending values bytes old new errors.Torn = ⊥
+  StopsSending values bytes old new (errors.TooLong _) = ⊥
+  StopsSending values bytes old new errors.Damaged = ⊥
+  StopsSending values bytes old new (errors.Undecodable _) = ⊥
+  StopsSending values bytes old new (errors.TrailingBytes _) = ⊥
+  StopsSending values bytes old new (errors.Read _) = ⊥
+  StopsSending values bytes old new (errors.Memory _) = ⊥
 
   -- the input begins with the frames of some replies, fewer than n, and none follows them, for this reason
   abbrev pub StopsReceiving : ℕ → List ℕ → CallError → Type 0

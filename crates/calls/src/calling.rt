@@ -27,14 +27,26 @@ use std::io;
 use std::io::{Read, Write};
 use thiserror::Error;
 
+/// Which of the requests that were to be sent was not.
+#[derive(Debug, Drop, Error)]
+#[error("request {number} was not sent: {why}")]
+pub struct SendError {
+    /// Its number, from 0 on. Those before it were written, so that as many replies are still to come.
+    pub number: usize,
+    /// Why it was not sent.
+    pub why: AppendError,
+}
+
 /// Why a call got no reply.
 #[derive(Debug, Drop, Error)]
 pub enum CallError {
-    /// The request was not sent.
-    #[error("the request was not sent: {0}")]
-    Send(AppendError),
-    /// The output failed when its buffer was flushed. The request may have been sent.
-    #[error("the request was not sent: {0}")]
+    /// A request was not sent, nor was any after it. The replies to those before it, as many as its number, are still
+    /// to come: `flush` and then `receive_many` of that number reads them, if the output did not fail. Before that a
+    /// call would take one of them for its own reply.
+    #[error("{0}")]
+    Send(SendError),
+    /// The output failed when its buffer was flushed. Each request may have been sent, and carried out.
+    #[error("the output failed, and the request may have been sent: {0}")]
     Flush(io::Error),
     /// The input ended before the reply.
     #[error("there is no reply")]
@@ -94,8 +106,9 @@ impl<R: Read, W: Write, C: Config> Caller<R, W, C> {
         }
     }
 
-    /// Sends a request, and reads its reply. Fails with `Send` or `Flush` if the request is not sent, and with the
-    /// other errors if what the input begins with is no reply. Then no further call is of use, unless the error is
+    /// Sends a request, and reads its reply. Fails with `Send` of the number 0 if the request is not sent, with `Flush`
+    /// if it is not known whether it was, and with the other errors if what the input begins with is no reply: then the
+    /// request was sent, and may have been carried out. After an error no further call is of use, unless the error is
     /// `Send` and its cause comes before anything is written.
     pub fn call<Q: Encode + Decode<()> + Exact, A: Decode<()> + Exact>(
         &mut self,
@@ -124,7 +137,9 @@ impl<R: Read, W: Write, C: Config> Caller<R, W, C> {
 
     /// Sends requests, all of them before the first reply is read, and reads a reply for each. Where both streams are
     /// pipes, the replies to all have to fit in what the pipe to the caller holds (65,536 bytes on Linux), or neither
-    /// side goes on. Fails as `call` does; replies that came before the error are lost.
+    /// side goes on. Fails as `call` does; replies that came before the error are lost. After `Send` none was read, and
+    /// as many are still to come as the number that it tells: no further call is of use before `flush` and then
+    /// `receive_many` of that number.
     pub fn call_many<Q: Encode + Decode<()> + Exact, A: Decode<()> + Exact>(
         &mut self,
         requests: &[Q],
@@ -132,7 +147,7 @@ impl<R: Read, W: Write, C: Config> Caller<R, W, C> {
         // The frames of the requests were written, in order.
         ensures sent { OnOk result (SendsAll Q.words C.setting C.bound (most_of self.old) requests.now
             (W.contents (output_of self.old)) (W.contents (output_of self.new))) }
-        // After an error all of them were too, or those before the one that the error speaks of.
+        // After an error all of them were too, or as many as the number that the error tells, and the next one was not.
         ensures unsent { IfErr result (MaybeAllSent Q.words C.setting C.bound (most_of self.old) requests.now W.contents
             (output_of self.old) (output_of self.new)) }
         // There is a reply for each,
@@ -149,14 +164,14 @@ impl<R: Read, W: Write, C: Config> Caller<R, W, C> {
     }
 
     /// Writes the frames of requests, in order. They may stay in a buffer of the output until `flush`. Fails with
-    /// `Send` alone; the requests before it are sent.
+    /// `Send` alone; the requests before its number are written, and as many replies are to come.
     pub fn send_many<Q: Encode + Decode<()> + Exact>(
         &mut self,
         requests: &[Q],
     ) -> Result<(), CallError>
         ensures sent { OnOk result (SendsAll Q.words C.setting C.bound (most_of self.old) requests.now
             (W.contents (output_of self.old)) (W.contents (output_of self.new))) }
-        // After an error those before some request are sent, and that one is not, for the reason that the error tells.
+        // After an error those before the number that it tells are sent, and that one is not, for the reason it tells.
         ensures unsent { IfErr result (StopsSending Q.words C.setting C.bound (most_of self.old) requests.now W.contents
             (output_of self.old) (output_of self.new)) }
         ensures input { input_of self.new ≡ input_of self.old }
@@ -170,7 +185,7 @@ impl<R: Read, W: Write, C: Config> Caller<R, W, C> {
             self.most,
         ) {
             Ok(()) => Ok(()),
-            Err(SendError { number: _, why }) => Err(CallError::Send(why)),
+            Err(stopped) => Err(CallError::Send(stopped)),
         }
     }
 
@@ -198,7 +213,8 @@ impl<R: Read, W: Write, C: Config> Caller<R, W, C> {
         Ok(replies)
     }
 
-    /// Writes the frame of a request. It may stay in a buffer of the output until `flush`. Fails with `Send` alone.
+    /// Writes the frame of a request. It may stay in a buffer of the output until `flush`. Fails with `Send` of the
+    /// number 0 alone.
     pub fn send<Q: Encode + Decode<()> + Exact>(&mut self, request: &Q) -> Result<(), CallError>
         ensures sent { OnOk result (Sends Q.words C.setting C.bound (most_of self.old) request.now
             (W.contents (output_of self.old)) (W.contents (output_of self.new))) }
@@ -215,7 +231,7 @@ impl<R: Read, W: Write, C: Config> Caller<R, W, C> {
             self.most,
         ) {
             Ok(_) => Ok(()),
-            Err(why) => Err(CallError::Send(why)),
+            Err(why) => Err(CallError::Send(SendError { number: 0, why })),
         }
     }
 
@@ -265,16 +281,6 @@ impl<R: Read, W: Write, C: Config> Caller<R, W, C> {
             Err(why) => Err(why),
         }
     }
-}
-
-/// Which of several requests was not sent.
-#[derive(Debug, Drop, Error)]
-#[error("request {number}: {why}")]
-pub struct SendError {
-    /// Its number, from 0 on. Those before it were sent.
-    pub number: usize,
-    /// Why it was not sent.
-    pub why: AppendError,
 }
 
 /// Writes the frames of requests to a stream, in order, without reading a reply, of encodings of at most `most` bytes

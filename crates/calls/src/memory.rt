@@ -6,7 +6,7 @@ ghost use Rattle.framed_store.specs.Appended.{FitsStore};
 ghost use Rattle.calls.specs.Calling.{AreReplies, SendsAll};
 ghost use Rattle.calls.specs.Conversing.{Converses, ServesAll};
 
-use crate::calling::{CallError, Caller, SendError, send_requests};
+use crate::calling::{CallError, Caller, send_requests};
 use crate::service::Service;
 use crate::serving::{ServeError, serve};
 use bincode::config::Config;
@@ -71,7 +71,7 @@ fn frames_of<Q: Encode + Decode<()> + Exact, E, C: Config>(
     let mut sent = Vec::new(alloc);
     match send_requests(alloc, &mut sent, requests, config, most) {
         Ok(()) => Ok(sent),
-        Err(SendError { number: _, why }) => Err(MemoryCallError::Call(CallError::Send(why))),
+        Err(stopped) => Err(MemoryCallError::Call(CallError::Send(stopped))),
     }
 }
 

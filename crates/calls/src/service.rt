@@ -30,16 +30,17 @@ pub trait Service {
     /// In a state the service fails at a request, for this reason, and is then in another state, or the same.
     ghost fails: { State → Self.Request → Self.Failure → State → Type 0 };
 
-    /// The reply to a frame that holds no request.
+    /// The reply to a frame that holds no request, or one whose answer is too long.
     ghost refusal_reply: { Refusal → Self.Reply };
 
     /// Answers a request. That the service does not do what is asked for is a reply too. Fails where the service cannot
-    /// go on.
+    /// go on; then the request may have changed something.
     fn answer(&mut self, request: Self::Request) -> Result<Self::Reply, Self::Failure>
         ensures replied { IfOk result (λ reply. replies (state self.old) request reply (state self.new)) }
         ensures failed { IfErr result (λ why. fails (state self.old) request why (state self.new)) };
 
-    /// The reply to a frame that holds no request. `Err(refusal)` for a reply that is a `Result`.
+    /// The reply to a frame that holds no request, or one whose answer is too long. `Err(refusal)` for a reply that is
+    /// a `Result`.
     fn refuse(refusal: Refusal) -> Self::Reply
         ensures { result ≡ refusal_reply refusal };
 }

@@ -53,7 +53,8 @@ pub struct ServeError<E> {
 #[derive(Debug, Drop, Error)]
 #[error_bound(E: Display)]
 pub enum Failure<E> {
-    /// The service cannot go on. The request changed nothing, and got no answer.
+    /// The service cannot go on. The request got no answer. Whether it changed anything the service tells: where it has
+    /// a log, the change may stand there, and be carried out after a restart.
     #[error("{0}")]
     Service(E),
     /// The length of a frame is above what the server takes. That was answered, and changed nothing.
@@ -75,7 +76,8 @@ pub enum Failure<E> {
 }
 
 /// Answers the requests of a stream, frame by frame and in order, up to its end or to a torn frame. It takes and sends
-/// encodings of at most `most` bytes. A frame that holds no request is answered by a refusal, and changes nothing.
+/// encodings of at most `most` bytes. A frame that holds no request is answered by a refusal, and changes nothing. A
+/// request whose answer is too long is carried out, and answered by `Refusal::AnswerTooLong`.
 /// `buffer` holds one frame at a time. The output is flushed before the loop waits for more input, that is where the
 /// input's buffer does not hold a whole frame. Fails with `Service` where the service fails, with `TooLong` at a length
 /// above `most`, with `Read` or `Write` if a stream fails, with `Memory`, or with `Unsent` if not even a refusal can be
@@ -330,7 +332,7 @@ fn flush<W: Write, E>(output: &mut W) -> Result<(), Failure<E>>
 
 /// Whether bytes begin with a whole frame, or with a length above `most`, so that nothing more has to be read to answer
 /// it.
-fn holds_frame(bytes: &[u8], most: u32) -> bool
+pub fn holds_frame(bytes: &[u8], most: u32) -> bool
     ensures { IsTrue result ↔ HoldsFrame most bytes.now }
 {
     match bytes {

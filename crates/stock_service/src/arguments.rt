@@ -23,7 +23,7 @@ pub enum Action {
 /// What stands at the end of the help.
 const STATUSES: &str = "Status:
   0  done
-  1  the input ends within a frame or has a length above the longest, or an answer or the log is damaged
+  1  the input ends within a frame or has a length above 65,536, or an answer or the log is damaged
   2  wrong arguments
   3  a stream, a file or memory fails
   4  an answer is no count: there are too few or too many, or it is a refusal

@@ -91,7 +91,8 @@ pub enum AskError {
         /// What is wrong with it.
         why: SpellingError,
     },
-    /// A request was not written, or not as a whole. Those before it were.
+    /// A request was not written, or not as a whole. Those before it were, of which up to 64 KiB may still stand in a
+    /// buffer of the output.
     #[error("request {number}: {why}")]
     Append {
         /// Its number, from 0 on.
@@ -125,7 +126,8 @@ pub fn requests_in(alloc: Global, texts: &[String]) -> Result<Vec<Request>, AskE
     Ok(requests)
 }
 
-/// Writes the frames of requests, in order. Fails with `Append` at the first that is not written; those before it are.
+/// Writes the frames of requests, in order. They may stay in a buffer of the output. Fails with `Append` at the first
+/// that is not written; those before it are.
 pub fn write_requests<W: Write>(
     alloc: Global,
     out: &mut W,

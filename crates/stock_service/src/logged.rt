@@ -23,7 +23,8 @@ use std::alloc::{AllocError, Global};
 use std::io;
 use thiserror::Error;
 
-/// Why a request is not answered. The stock is as it was.
+/// Why a request is not answered. The stock is as it was, but the log may hold the request: then its change is there
+/// after a restart, and who asks once more changes the count twice.
 #[derive(Debug, Drop, Error)]
 pub enum LogFailure {
     /// The length of the log could not be found out. It is as it was.
@@ -32,19 +33,20 @@ pub enum LogFailure {
     /// The request was not appended to the log, which may hold a prefix of its frame.
     #[error("the log: {0}")]
     Append(AppendError),
-    /// The log was not brought to the disk. The frame of the request may be there or not.
-    #[error("the log: {0}")]
+    /// The log was not brought to the disk. The frame of the request may be there or not: if it is, the change is there
+    /// after a restart.
+    #[error("the log may hold the request, and change the count after a restart: {0}")]
     Sync(io::Error),
-    /// An allocation was refused. The log holds the frame of the request.
-    #[error("{0}")]
+    /// An allocation was refused. The log holds the frame of the request, and the change is there after a restart.
+    #[error("the log holds the request, and changes the count after a restart: {0}")]
     Memory(AllocError),
     /// A request before this one was not answered, so that it is not known what the log holds.
     #[error("the log failed before")]
     Broken,
 }
 
-/// A stock with a log of the requests that change it. After a failure it answers no more requests: what the log holds
-/// is found out by reading it.
+/// A stock with a log of the requests that change it. After a failure other than `Length` it answers no more requests:
+/// what the log holds is found out by reading it.
 #[derive(Drop)]
 pub struct Logged<L: Log> {
     alloc: Global,

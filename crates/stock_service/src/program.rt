@@ -211,7 +211,7 @@ fn complain<E: Display>(rt: &HostRuntime, error: &E) {
 fn act(rt: &HostRuntime, action: Action) -> Result<u8, RunError> {
     match action {
         Action::Serve { log: None } => serve_without_log(rt),
-        Action::Serve { log: Some(path) } => serve_with_log(rt, path),
+        Action::Serve { log: Some(path) } => serve_with_log(rt, path, rt.stdin(), io::writer(rt)),
         Action::Ask(texts) => {
             ask_into(rt.alloc(), io::writer(rt), &texts)?;
             Ok(DONE)
@@ -232,8 +232,13 @@ fn serve_without_log(rt: &HostRuntime) -> Result<u8, RunError> {
     }
 }
 
-/// Serves the stock of a log.
-fn serve_with_log(rt: &HostRuntime, path: String) -> Result<u8, RunError> {
+/// Serves the stock of a log over two streams, and returns the status. That a torn end was cut off is printed.
+pub fn serve_with_log<R: Read + Drop, W: Write + Drop>(
+    rt: &HostRuntime,
+    path: String,
+    input: R,
+    output: W,
+) -> Result<u8, RunError> {
     let Opened { stock, file, cut } = match open_log(rt, path.as_str()) {
         Ok(opened) => opened,
         Err(why) => return Err(RunError::Log { path, why }),
@@ -242,7 +247,7 @@ fn serve_with_log(rt: &HostRuntime, path: String) -> Result<u8, RunError> {
         complain(rt, &format_args!("{path}: {cut}"));
     }
     let mut logged = Logged::new(rt.alloc(), stock, file);
-    match serve_streams(rt.alloc(), &mut logged, rt.stdin(), io::writer(rt)) {
+    match serve_streams(rt.alloc(), &mut logged, input, output) {
         Ok(served) => status_of_served(served),
         Err(error) => Err(RunError::ServeLogged(error)),
     }

@@ -14,6 +14,7 @@ use bincode::config::Config;
 use bincode::de::Decode;
 use bincode::laws::Exact;
 use calls::calling::{CallError, next_reply};
+use calls::serving::holds_frame;
 use std::alloc::Global;
 use std::io;
 use std::io::{BufReader, ErrorKind, Read, Write};
@@ -78,9 +79,9 @@ impl Shown for Reply {
     }
 }
 
-/// Prints each answer of a stream as a line, and returns whether all are counts. What is printed is flushed where no
-/// more answers are at hand. Fails with `Answer` at the first place that has none, or with `Output`; the answers before
-/// are printed.
+/// Prints each answer of a stream as a line, and returns whether all are counts. What is printed is flushed before more
+/// is waited for, that is where no whole answer is at hand. Fails with `Answer` at the first place that has none, or
+/// with `Output`; the answers before are printed.
 pub fn show_answers<R: Read, W: Write>(
     alloc: Global,
     input: &mut BufReader<R>,
@@ -117,7 +118,8 @@ fn show_each<A: Shown, R: Read, W: Write, C: Config>(
     for number in 0..u64::MAX {
         match next_reply::<A, BufReader<R>, C>(alloc, input, &mut buffer, config, LONGEST_WORD) {
             Ok(Some(reply)) => {
-                if let Err(why) = show_reply(out, &reply, input.buffer().is_empty()) {
+                let is_last = !holds_frame(input.buffer(), LONGEST_WORD);
+                if let Err(why) = show_reply(out, &reply, is_last) {
                     return Err(ShowError::Output(why));
                 }
                 are_counts &= reply.is_count();

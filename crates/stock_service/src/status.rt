@@ -3,7 +3,7 @@
 /// Done: all requests were answered, or sent, or all answers are counts.
 pub const DONE: u8 = 0;
 
-/// The input ends within a frame, or has a length above the longest; an answer or the log is damaged.
+/// The input ends within a frame, or has a length above 65,536; an answer or the log is damaged.
 pub const DAMAGED: u8 = 1;
 
 /// The arguments spell no requests.

@@ -2,15 +2,17 @@
 //! Python.
 
 use crate::reply::Reply;
+use crate::streams::whole;
 use crate::zeros::Zeros;
 use bincode::config::{Configuration, Limit, LittleEndian, Varint, standard};
-use calls::calling::{CallError, Caller};
+use calls::calling::{CallError, Caller, SendError};
 use calls::memory::call_in_memory;
 use calls::refusal::{Fault, Refusal};
 use calls::serving::{Failure, ServeError, Served, serve};
 use std::alloc::{AllocError, Global};
+use std::cell::Cell;
 use std::io;
-use std::io::{BufReader, Write};
+use std::io::{BufReader, Read, Write};
 
 /// The longest word.
 pub const MOST: u32 = 12;
@@ -222,4 +224,156 @@ fn calls_in_memory(rt: HostRuntime) -> anyhow::Result<()> {
     let are_equal = matches!(&replies, Ok(replies) if replies.as_slice() == wanted.as_slice());
     assert!(rt; are_equal && service.count == 23);
     Ok(())
+}
+
+/// A word of three bytes, whose answer has 1,000 zeros.
+#[test]
+fn answers_with_long_words(rt: HostRuntime) -> anyhow::Result<()> {
+    let alloc = rt.alloc();
+    let mut service = Zeros { alloc, count: 0 };
+    let request = [3, 0, 0, 0, 251, 232, 3, 52, 127, 251, 249];
+    let mut input = BufReader::with_capacity(alloc, 16, request.as_slice())?;
+    let mut output = Vec::new(alloc);
+    let mut buffer = Vec::new(alloc);
+    let ended = serve(
+        alloc,
+        &mut service,
+        &mut input,
+        &mut output,
+        &mut buffer,
+        standard().with_limit::<65536>(),
+        65536,
+    );
+    let mut wanted = Vec::from_slice(alloc, &[236, 3, 0, 0, 0, 251, 232, 3])?;
+    wanted.extend_from_slice(&vec![in alloc; 0u8; 1000]?)?;
+    wanted.extend_from_slice(&[217, 179, 254, 168])?;
+    assert!(rt; ended.is_ok() && output == wanted && service.count == 1000);
+    Ok(())
+}
+
+/// A thousand calls in a row, in memory and over streams, each of which is answered with a zero.
+#[test]
+fn calls_a_thousand_times(rt: HostRuntime) -> anyhow::Result<()> {
+    let alloc = rt.alloc();
+    let mut service = Zeros { alloc, count: 0 };
+    let requests = vec![in alloc; 1u32; 1000]?;
+    let replies = call_in_memory(alloc, &mut service, &requests, settings(), MOST);
+    assert!(rt; matches!(&replies, Ok(replies) if are_zeros(replies)) && service.count == 1000);
+    let answers = [3, 0, 0, 0, 0, 1, 0, 66, 135, 153, 16].repeat(alloc, 1000)?;
+    let mut sent = Vec::new(alloc);
+    let mut caller = Caller::new(
+        alloc,
+        answers.as_slice(),
+        whole(&mut sent),
+        settings(),
+        MOST,
+    );
+    let replies: Result<Vec<Reply<Vec<u8>>>, CallError> = caller.call_many(&requests);
+    drop(caller);
+    assert!(rt; matches!(&replies, Ok(replies) if are_zeros(replies)));
+    assert!(rt; sent == [1, 0, 0, 0, 1, 154, 154, 8, 143].repeat(alloc, 1000)?);
+    Ok(())
+}
+
+/// Whether replies are a thousand times one zero.
+fn are_zeros(replies: &[Reply<Vec<u8>>]) -> bool {
+    replies.len() == 1000
+        && replies.iter().all(
+            |reply| matches!(reply, Reply::Answer(zeros) if zeros.as_slice() == [0].as_slice()),
+        )
+}
+
+/// After the request that is not sent, the replies to those before it are still to come.
+#[test]
+fn tells_how_many_were_sent(rt: HostRuntime) -> anyhow::Result<()> {
+    let alloc = rt.alloc();
+    let mut sent = Vec::new(alloc);
+    let mut caller = Caller::new(alloc, ROWS[0].1, whole(&mut sent), settings(), 4);
+    let called: Result<Vec<Reply<Vec<u8>>>, CallError> = caller.call_many(&[2u32, 70000, 3]);
+    let Err(CallError::Send(SendError { number, why })) = called else {
+        assert!(rt; false);
+        return Ok(());
+    };
+    let rest: Result<Vec<Reply<Vec<u8>>>, CallError> = caller.receive_many(number);
+    drop(caller);
+    let text = format!(in alloc; "{}", CallError::Send(SendError { number, why }))?;
+    assert!(rt; text.starts_with("request 1 was not sent: "), "{text}");
+    let wanted = [Reply::Answer(vec![in alloc; 0u8; 2]?)];
+    assert!(rt; matches!(&rest, Ok(replies) if replies.as_slice() == wanted.as_slice()));
+    assert!(rt; sent.as_slice() == ROWS[0].0);
+    Ok(())
+}
+
+/// What went over the streams of a caller.
+#[derive(Drop)]
+struct Counts {
+    /// The number of bytes that were written.
+    written: Cell<usize>,
+    /// The number of those that were flushed.
+    flushed: Cell<usize>,
+    /// The number of those that were flushed at the first read.
+    first: Cell<Option<usize>>,
+}
+
+/// One side of a caller's streams, which counts.
+#[derive(Drop)]
+struct Counted<'s> {
+    counts: &'s Counts,
+    bytes: &'s [u8],
+}
+
+impl Read for Counted<'_> {
+    fn read(&mut self, bytes: &mut [u8]) -> io::Result<usize> {
+        if self.counts.first.get().is_none() {
+            self.counts.first.set(Some(self.counts.flushed.get()));
+        }
+        self.bytes.read(bytes)
+    }
+}
+
+impl Write for Counted<'_> {
+    fn write(&mut self, bytes: &[u8]) -> io::Result<usize> {
+        let written = self.counts.written.get();
+        self.counts.written.set(written.saturating_add(bytes.len()));
+        Ok(bytes.len())
+    }
+
+    fn flush(&mut self) -> io::Result<()> {
+        self.counts.flushed.set(self.counts.written.get());
+        Ok(())
+    }
+}
+
+/// How many bytes of requests a caller flushes before it reads, where it asks for these numbers of zeros at once, or
+/// for the first alone.
+fn flushed_before(alloc: Global, requests: &[u32], at_once: bool) -> Option<usize> {
+    let counts = Counts {
+        written: Cell::new(0),
+        flushed: Cell::new(0),
+        first: Cell::new(None),
+    };
+    let (input, output) = (
+        Counted {
+            counts: &counts,
+            bytes: ROWS[0].1,
+        },
+        Counted {
+            counts: &counts,
+            bytes: &[],
+        },
+    );
+    let mut caller = Caller::new(alloc, input, output, settings(), MOST);
+    if at_once {
+        let _replies: Result<Vec<Reply<Vec<u8>>>, CallError> = caller.call_many(requests);
+    } else {
+        let _reply: Result<Reply<Vec<u8>>, CallError> = caller.call(requests.first()?);
+    }
+    counts.first.get()
+}
+
+/// Requests are flushed before a reply is waited for: a frame of 9 bytes each.
+#[test]
+fn flushes_before_it_reads(rt: HostRuntime) {
+    assert!(rt; flushed_before(rt.alloc(), &[2], false) == Some(9));
+    assert!(rt; flushed_before(rt.alloc(), &[2, 10], true) == Some(18));
 }

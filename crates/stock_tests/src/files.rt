@@ -1,12 +1,13 @@
 //! The files of logs: made, cut, damaged and locked.
 
-use crate::inputs::LOG;
+use crate::inputs::{ANSWERS, LOG, REQUESTS};
+use crate::streams::whole;
 use std::path::PathBuf;
 use std::{env, fs, process};
 use stock_files::files::FileError;
 use stock_service::log_file::{Cut, LogFileError, Opened, open_log};
-use stock_service::program::RunError;
-use stock_service::status::{DAMAGED, FAILED};
+use stock_service::program::{RunError, serve_with_log};
+use stock_service::status::{DAMAGED, DONE, FAILED};
 
 /// A path that no other test has.
 fn path_of(rt: &HostRuntime, name: &str) -> anyhow::Result<PathBuf> {
@@ -133,6 +134,56 @@ fn refuses_damaged_logs(rt: HostRuntime) -> anyhow::Result<()> {
             None => assert!(rt; false, "{wanted}"),
         }
     }
+    Ok(())
+}
+
+/// A log of one frame whose length is too great, and of a whole one of 313 bytes.
+fn long_tail(rt: &HostRuntime) -> anyhow::Result<Vec<u8>> {
+    let mut log = Vec::from_slice(rt.alloc(), &[200, 1])?;
+    log.extend_from_slice(&LOG[2..16])?;
+    log.extend_from_slice(&[49, 1, 0, 0, 0, 251, 44, 1])?;
+    log.extend_from_slice("n".repeat(rt.alloc(), 300)?.as_bytes())?;
+    log.extend_from_slice(&[5, 207, 40, 107, 165])?;
+    Ok(log)
+}
+
+/// Logs that hold no request: a length that is too great, an empty word, and a tag that no request has; and a torn end
+/// with a whole frame in it.
+#[test]
+fn refuses_logs_without_requests(rt: HostRuntime) -> anyhow::Result<()> {
+    let buried = "FILE: no whole frame at byte 0, and one at byte 16: nothing was cut off";
+    let long = long_tail(&rt)?;
+    let logs: [(&[u8], &str); 4] = [
+        (&[255, 255, 255, 255], "FILE: "),
+        (&[0, 0, 0, 0, 199, 75, 103, 72], "FILE: "),
+        (&[1, 0, 0, 0, 3, 109, 234, 51, 110], "FILE: "),
+        (&long, buried),
+    ];
+    for (log, wanted) in &logs {
+        let Some((text, status)) = told(&rt, "wrong", log)? else {
+            assert!(rt; false, "{wanted}");
+            return Ok(());
+        };
+        assert!(rt;
+            text.starts_with(wanted) && status == DAMAGED,
+            "{status}: {text}"
+        );
+    }
+    Ok(())
+}
+
+/// A server with a log goes on from the counts of the log.
+#[test]
+fn serves_from_a_log(rt: HostRuntime) -> anyhow::Result<()> {
+    let file = path_of(&rt, "served")?;
+    let path = file.as_str();
+    fs::write(&rt, path, &LOG)?;
+    let mut held = Vec::new(rt.alloc());
+    let name = String::from_str(rt.alloc(), path)?;
+    let ended = serve_with_log(&rt, name, &REQUESTS[167..], whole(&mut held));
+    let is_left = holds(&rt, path, &LOG);
+    fs::remove_file(&rt, path)?;
+    assert!(rt; matches!(ended, Ok(DONE)) && is_left && held.as_slice() == &ANSWERS[115..]);
     Ok(())
 }
 

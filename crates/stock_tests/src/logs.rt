@@ -79,9 +79,9 @@ fn replays_a_log_that_was_cut(rt: HostRuntime) {
     }
 }
 
-/// Whether a log that takes a byte a call, up to some call, leaves answered what it holds whole and synced. A request
-/// of n bytes takes n writes and a sync.
-fn is_answered(alloc: Global, calls: usize) -> bool {
+/// Whether a log that takes a byte a call, and fails from some call on, or at that call alone, leaves answered what it
+/// holds whole and synced. A request of n bytes takes n writes and a sync.
+fn is_answered(alloc: Global, calls: usize, fails_once: bool) -> bool {
     let mut log = Vec::new(alloc);
     let mut held = Vec::new(alloc);
     let sink = Sink {
@@ -89,6 +89,7 @@ fn is_answered(alloc: Global, calls: usize) -> bool {
         most: 1,
         calls,
         kind: ErrorKind::StorageFull,
+        fails_once,
     };
     let ended = served(alloc, sink, whole(&mut held));
     let is_left = LOG.starts_with(log.as_slice()) && ANSWERS.starts_with(held.as_slice());
@@ -126,10 +127,15 @@ fn is_failed_at(
     }
 }
 
-/// A log that breaks at each call.
+/// A log that breaks at each call, for good or for once: nothing is written to it then.
 #[test]
 fn leaves_what_was_answered(rt: HostRuntime) {
     for calls in 0..=LOG.len() + 5 {
-        assert!(rt; is_answered(rt.alloc(), calls), "after {calls} calls");
+        for fails_once in [false, true] {
+            assert!(rt;
+                is_answered(rt.alloc(), calls, fails_once),
+                "after {calls} calls"
+            );
+        }
     }
 }

@@ -4,7 +4,7 @@ use crate::answers::{MOST, ROWS, settings};
 use crate::reply::Reply;
 use crate::zeros::Zeros;
 use bincode::error::{DecodeError, EncodeError};
-use calls::calling::{CallError, Caller};
+use calls::calling::{CallError, Caller, SendError};
 use calls::serving::{Failure, ServeError, Served, serve};
 use framed_store::appending::AppendError;
 use std::alloc::AllocError;
@@ -59,7 +59,7 @@ fn is_reply(reply: &Result<Reply<Vec<u8>>, CallError>) -> bool {
     match reply {
         Ok(Reply::Answer(zeros)) => zeros.len() == 10,
         Ok(Reply::Refused(_)) => false,
-        Err(CallError::Send(why)) => is_unsent(why),
+        Err(CallError::Send(SendError { number: 0, why })) => is_unsent(why),
         Err(why) => matches!(
             why,
             CallError::Memory(_) | CallError::Undecodable(DecodeError::Memory)

@@ -27,7 +27,7 @@ fn told(alloc: Global, line: &str) -> Result<String, AllocError> {
 }
 
 /// Lines, and what they ask for.
-const LINES: [(&str, &str); 16] = [
+const LINES: [(&str, &str); 17] = [
     ("serve", "serve"),
     ("serve --log FILE", "serve with FILE"),
     ("serve --log=FILE", "serve with FILE"),
@@ -36,6 +36,11 @@ const LINES: [(&str, &str); 16] = [
     ("serve FILE", "2"),
     ("ask get_nuts", "ask [\"get nuts\"]"),
     ("ask add_a_1 get_a", "ask [\"add a 1\", \"get a\"]"),
+    (
+        "ask get_a get_b get_c get_d get_e get_f get_g get_h get_i get_j get_k get_l get_m",
+        "ask [\"get a\", \"get b\", \"get c\", \"get d\", \"get e\", \"get f\", \"get g\", \"get h\", \"get i\", \
+        \"get j\", \"get k\", \"get l\", \"get m\"]",
+    ),
     ("ask -- -", "ask [\"-\"]"),
     ("ask", "2"),
     ("show", "show"),

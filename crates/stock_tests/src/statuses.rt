@@ -4,9 +4,10 @@ use crate::inputs::{ANSWERS, REQUESTS, WRONG};
 use crate::spellings::words_of;
 use crate::streams::{Sink, Source, whole};
 use crate::worked::{served, texts_of};
-use calls::serving::{ServeError, Served};
+use calls::serving::{Failure, ServeError, Served};
 use std::alloc::{AllocError, Global};
 use std::io::ErrorKind;
+use stock_service::logged::LogFailure;
 use stock_service::program::{RunError, ask_into, run, show_from};
 use stock_service::status::{DAMAGED, DONE, FAILED, USAGE};
 
@@ -34,6 +35,7 @@ fn broken(
         most: 7,
         calls: writes,
         kind: ErrorKind::BrokenPipe,
+        fails_once: false,
     };
     served(alloc, input, output)
 }
@@ -123,6 +125,28 @@ fn tells_a_wrong_input(rt: HostRuntime) -> Result<(), AllocError> {
     let (status, is_quiet, text) = told(alloc, RunError::Torn { number: 3 })?;
     assert!(rt; status == DAMAGED && !is_quiet);
     assert_eq!(rt; text.as_str(), "request 3: the input ends within it");
+    Ok(())
+}
+
+/// The end of a server with a log at request 4.
+fn ended_by(why: LogFailure) -> RunError {
+    RunError::ServeLogged(ServeError {
+        answers: 4,
+        why: Failure::Service(why),
+    })
+}
+
+/// What is said where a log has, or may have, a change that was not answered.
+#[test]
+fn tells_what_a_log_may_hold(rt: HostRuntime) -> Result<(), AllocError> {
+    let alloc = rt.alloc();
+    let (status, _, text) = told(alloc, ended_by(LogFailure::Memory(AllocError)))?;
+    let wanted = "request 4: the log holds the request, and changes the count after a restart: ";
+    assert!(rt; status == FAILED && text.starts_with(wanted), "{text}");
+    let full = LogFailure::Sync(ErrorKind::StorageFull.into());
+    let (status, _, text) = told(alloc, ended_by(full))?;
+    let wanted = "request 4: the log may hold the request, and change the count after a restart: ";
+    assert!(rt; status == FAILED && text.starts_with(wanted), "{text}");
     Ok(())
 }
 
@@ -229,6 +253,7 @@ fn asks_long_requests(rt: HostRuntime) -> Result<(), AllocError> {
             most: 7,
             calls: 2,
             kind: ErrorKind::BrokenPipe,
+            fails_once: false,
         };
         let Err(error) = ask_into(alloc, output, &texts) else {
             assert!(rt; false);

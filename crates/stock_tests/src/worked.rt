@@ -132,6 +132,30 @@ fn shows_answers(rt: HostRuntime) {
     assert!(rt; shows(alloc, &[], "", true));
 }
 
+/// The frame of a `Get` of `a`.
+const GET: [u8; 11] = [3, 0, 0, 0, 2, 1, 97, 46, 197, 91, 204];
+
+/// The frame of the answer 0.
+const ZERO: [u8; 11] = [3, 0, 0, 0, 0, 0, 0, 53, 31, 59, 3];
+
+/// A thousand requests are asked, answered and shown.
+#[test]
+fn goes_on_for_long(rt: HostRuntime) -> anyhow::Result<()> {
+    let alloc = rt.alloc();
+    let requests = GET.repeat(alloc, 1000)?;
+    let answers = ZERO.repeat(alloc, 1000)?;
+    let texts = texts_of(alloc, "get a\n".repeat(alloc, 1000)?.as_str())?;
+    let mut held = Vec::new(alloc);
+    let asked = ask_into(alloc, whole(&mut held), &texts);
+    assert!(rt; asked.is_ok() && held == requests);
+    let mut held = Vec::new(alloc);
+    let ended = served(alloc, all(&requests), whole(&mut held));
+    assert!(rt; ended.is_ok() && held == answers);
+    let lines = "0\n".repeat(alloc, 1000)?;
+    assert!(rt; shows(alloc, &answers, lines.as_str(), true));
+    Ok(())
+}
+
 /// One byte a call gives and takes the same.
 #[test]
 fn takes_single_bytes(rt: HostRuntime) {
@@ -147,6 +171,7 @@ fn takes_single_bytes(rt: HostRuntime) {
         most: 1,
         calls: usize::MAX,
         kind: ErrorKind::Other,
+        fails_once: false,
     };
     let ended = served(alloc, input, output);
     assert!(rt; ended.is_ok() && held.as_slice() == ANSWERS.as_slice());
