@@ -1,12 +1,12 @@
 //! What is done with the module of a source, and what is said of it.
-ghost use Rattle.std.specs.Prelude.{◌≡◌, ◌≢◌, IfOk, None, false, true};
+ghost use Rattle.std.specs.Prelude.{◌≡◌, ◌≢◌, IfOk, IsOk, None, false, true};
 
 use crate::compare::{State, state_of};
 use crate::paths::{declared_path, file_name};
 use crate::request::{Action, Request};
 use derive_words::answers::answers_of;
 use derive_words::error::Fault;
-use derive_words::module::{Origin, module_of};
+use derive_words::module::{Origin, is_made, module_of};
 use std::alloc::{AllocError, Global};
 use std::io;
 use thiserror::Error;
@@ -26,6 +26,12 @@ pub enum ProgramError {
         line: usize,
         column: usize,
         why: String,
+    },
+    /// Another file stands where a module goes, which the program did not make.
+    #[error("{path}: `derive` did not make this file, and writes none over it: move it away, or print the \
+        module by `--print`")]
+    ByHand {
+        path: String,
     },
     /// A file can't be read or written.
     #[error("{path}: {why}")]
@@ -129,6 +135,25 @@ pub fn outcome_of(
         }),
         Action::Check => checked(alloc, file, path, state),
         Action::Write => written(alloc, path, state),
+    }
+}
+
+/// Fails where something is to be done about a file at this path that the program did not make. One that is the same
+/// code as the module stays as it is.
+pub fn refuse_by_hand(
+    alloc: Global,
+    path: &str,
+    found: Option<&str>,
+    outcome: &Outcome,
+) -> Result<(), ProgramError>
+    ensures passes { found.entry ≡ None → IsOk result }
+{
+    match found {
+        Some(text) if !is_made(text) && (outcome.is_written || outcome.status > 0) => {
+            let path = String::from_str(alloc, path)?;
+            Err(ProgramError::ByHand { path })
+        }
+        _ => Ok(()),
     }
 }
 

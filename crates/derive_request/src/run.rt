@@ -2,7 +2,7 @@
 ghost use Rattle.std.specs.Prelude.{◌≡◌, max, IfOk};
 
 use crate::paths::module_path;
-use crate::program::{Outcome, ProgramError, outcome_of, written_for};
+use crate::program::{Outcome, ProgramError, outcome_of, refuse_by_hand, written_for};
 use crate::request::{Request, request_of};
 use clap::Error;
 use std::alloc::{AllocError, Global};
@@ -98,6 +98,7 @@ fn run_file<S: Shelf>(
     let found = found.as_ref().map(String::as_str);
     let module = made.module.as_str();
     let mut outcome = outcome_of(alloc, request.action, file, path, module, found)?;
+    refuse_by_hand(alloc, path, found, &outcome)?;
     if outcome.is_written {
         named(alloc, path, shelf.write(path, module))?;
         outcome.printed.push_str(made.answers.as_str())?;

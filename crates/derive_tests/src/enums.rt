@@ -294,6 +294,21 @@ enum Kind {
                 since.tell_valid();
             }
 =====
+// A note says the tag, also where a number stands too.
+#[derive(Clone, Copy)]
+enum Code {
+    // bincode: tag 1
+    Done = 200,
+    Late,
+    Refused = 9,
+}
+-----
+type CodeParts = VariantOf<
+    1,
+    CodeDonePart,
+    VariantOf<2, CodeLatePart, VariantOf<9, CodeRefusedPart, NoMoreVariants<Code>>>,
+>;
+=====
 // The shape of an enum.
 // bincode: with Described
 #[derive(Drop)]

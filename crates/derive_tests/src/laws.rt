@@ -82,6 +82,12 @@ struct Inner(BinaryHeap<u8>);
 -----
 //! Left out of Inner: Exact, Canonical.
 =====
+// bincode: without Plain
+#[derive(Drop, PartialEq)]
+struct A(u8);
+-----
+//! Left out of A: Plain, Exact, Canonical.
+=====
 // Another type of this name, in another module.
 #[derive(Drop)]
 struct Inner(Cell<u8>);

@@ -182,6 +182,22 @@ pub(crate) struct A {
 -----
 type AParts = (u8, u16);
 =====
+// How far a `pub` reaches stands in brackets behind it, and so do the types of fields.
+#[derive(Drop)]
+pub struct Digest(pub [u8; 32]);
+-----
+type DigestParts = [u8; 32];
+=====
+#[derive(Drop)]
+struct A(pub [u8; 4], pub u32);
+-----
+type AParts = ([u8; 4], u32);
+=====
+#[derive(Drop)]
+struct A(pub (super::Kind, u8), pub(crate) (u8, u16), pub(in crate::below) u32, pub(super) u8, pub(self) [u8; 2]);
+-----
+type AParts = ((super::super::Kind, u8), (u8, u16), u32, u8, [u8; 2]);
+=====
 // A type that one that borrows holds is decoded by borrowing too.
 #[derive(Drop)]
 struct Inner(u8);

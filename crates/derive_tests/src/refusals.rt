@@ -59,23 +59,110 @@ struct A;
 refused 1:1: no note \"Sorted\" here: a type has skip, claims NUMBER, with TRAIT and without TRAIT, a variant tag \
     NUMBER
 =====
+// bincode: with Writable, Exact
+struct A;
+-----
+refused 1:1: no note adds Exact: `with` takes Described, Writable, Inhabited, ConstantCharge and BorrowDecode
+=====
+// bincode: with Plain
+struct A;
+-----
+refused 1:1: no note adds Plain: `with` takes Described, Writable, Inhabited, ConstantCharge and BorrowDecode
+=====
+// bincode: with Canonical
+struct A;
+-----
+refused 1:1: no note adds Canonical: `with` takes Described, Writable, Inhabited, ConstantCharge and BorrowDecode
+=====
+// bincode: without Exact, Writable
+struct A;
+-----
+refused 1:1: no note leaves Writable out: `without` takes Plain, Exact and Canonical
+=====
+// bincode: without BorrowDecode
+struct A;
+-----
+refused 1:1: no note leaves BorrowDecode out: `without` takes Plain, Exact and Canonical
+=====
 // bincode: claims many
 struct A;
 -----
-refused 1:1: \"many\" is no number below 2^32: write one
+refused 1:1: \"many\" is no number below 2^32: write one, in digits alone
 =====
 enum A {
     B = -1,
 }
 -----
-refused 2:9: \"-\" is no number below 2^32: write one
+refused 2:9: \"-\" is no number below 2^32: write one, in digits alone
+=====
+enum A {
+    B = 0xc8,
+}
+-----
+refused 2:9: \"0xc8\" is no number below 2^32: write one, in digits alone
+=====
+enum A {
+    B = 1_000,
+}
+-----
+refused 2:9: \"1_000\" is no number below 2^32: write one, in digits alone
 =====
 enum A {
     // bincode: tag 4294967296
     B,
 }
 -----
-refused 2:5: \"4294967296\" is no number below 2^32: write one
+refused 2:5: \"4294967296\" is no number below 2^32: write one, in digits alone
+=====
+enum Code {
+    Done, // bincode: tag 1
+    Late, // bincode: tag 5
+    Refused, // bincode: tag 300
+}
+-----
+refused 2:11: a note stands in a line of its own, above the type or the variant that it is about: move \"// bincode: \
+    tag 1\" there
+=====
+enum Code { // bincode: tag 7
+    Done,
+}
+-----
+refused 1:13: a note stands in a line of its own, above the type or the variant that it is about: move \"// bincode: \
+    tag 7\" there
+=====
+struct A; // bincode: skip
+struct B;
+-----
+refused 1:11: a note stands in a line of its own, above the type or the variant that it is about: move \"// bincode: \
+    skip\" there
+=====
+const TEXT: &str = \"of two
+lines\"; // bincode: skip
+struct B;
+-----
+refused 2:9: a note stands in a line of its own, above the type or the variant that it is about: move \"// bincode: \
+    skip\" there
+=====
+enum Code {
+    Done,
+    // bincode: tag 5
+}
+-----
+refused 3:5: a note stands in a line of its own, above the type or the variant that it is about: move \"// bincode: \
+    tag 5\" there
+=====
+struct A;
+// bincode: skip
+-----
+refused 2:1: a note stands in a line of its own, above the type or the variant that it is about: move \"// bincode: \
+    skip\" there
+=====
+struct A {
+    #(a)
+    a: u8,
+}
+-----
+refused 2:6: `[` is missing here: write it
 =====
 struct A<K> where , K: Ord {
 }
@@ -176,6 +263,20 @@ struct A(fn(u8) -> u8);
 -----
 refused 2:10: the library has no words for `fn`: hold a value of a type with a name
 =====
+#[derive(Drop)]
+struct A(u8);
+#[derive(Drop)]
+struct C(f32);
+-----
+refused 4:10: the library has no words for `f32`: hold its bits, as a `u32`
+=====
+#[derive(Drop)]
+struct Instant(u64);
+#[derive(Drop)]
+struct A(Instant, std::time::Instant);
+-----
+refused 4:30: the library has no words for `Instant`: hold a `Duration` or a number
+=====
 struct A(u8);
 -----
 refused 1:8: A is neither `Drop` nor `Copy`: derive `Drop`
@@ -236,6 +337,78 @@ refused 3:15: the library has no words for `CString`: hold a `bincode::ffi::CStr
 struct A(Vec<Shape>);
 -----
 refused 2:14: the name `Shape` is used by what is written for your types: take another
+=====
+#[derive(Drop)]
+struct Machine {
+    parts: MachineParts,
+}
+#[derive(Drop)]
+struct MachineParts(u8);
+-----
+refused 3:12: the name `MachineParts` is used by what is written for your types: take another
+=====
+#[derive(Drop)]
+struct MachineParts(u8);
+#[derive(Drop)]
+struct Machine(u8);
+-----
+refused 2:8: the name `MachineParts` is used by what is written for your types: take another
+=====
+#[derive(Drop)]
+enum Order {
+    Paid(u8),
+}
+#[derive(Drop)]
+struct A(OrderPaidPart);
+-----
+refused 6:10: the name `OrderPaidPart` is used by what is written for your types: take another
+=====
+#[derive(Drop)]
+enum Order {
+    None,
+    LinePaid(u8),
+}
+#[derive(Drop)]
+enum OrderLine {
+    Paid(u8),
+}
+-----
+refused 4:5: the name of LinePaid behind that of its enum is that of another enum and its variant: take another
+=====
+#[derive(Drop)]
+enum OrderLine {
+    Paid(u8),
+}
+#[derive(Drop)]
+enum Order {
+    LinePaid(u8),
+}
+-----
+refused 7:5: the name of LinePaid behind that of its enum is that of another enum and its variant: take another
+=====
+#[derive(Drop)]
+struct Result(u8);
+-----
+refused 2:8: the name `Result` is used by what is written for your types: take another
+=====
+#[derive(Drop)]
+enum Option {
+    Nothing,
+}
+-----
+refused 2:6: the name `Option` is used by what is written for your types: take another
+=====
+// bincode: skip
+struct Global;
+#[derive(Drop)]
+struct A(Vec<Global>);
+-----
+refused 4:14: the name `Global` is used by what is written for your types: take another
+=====
+#[derive(Drop)]
+struct A<Result>(Result);
+-----
+refused 2:10: the name `Result` is used by what is written for your types: take another
 ";
 
 /// Sources that are written.
@@ -253,6 +426,41 @@ struct A(Duration);
 fn f() -> bool {
     1 < 2
 }
+#[derive(Drop)]
+struct A(u8);
+=====
+#[derive(Drop)]
+struct Instant(u64);
+#[derive(Drop)]
+struct Weak(u8);
+// bincode: skip
+struct LinkedList<T>(T);
+#[derive(Drop)]
+struct Span(Instant, self::Instant, Vec<Weak>, LinkedList<u8>);
+=====
+#[derive(Drop)]
+struct A(Result<u8, Option<u8>>, PartsPart, AParts2);
+=====
+#[derive(Drop)]
+enum Order<T> {
+    LinePaid(T),
+    Rest(u8),
+}
+#[derive(Drop)]
+enum OrderLine {
+    Paid(u8),
+}
+// bincode: claims 9
+#[derive(Drop)]
+enum OrderSum {
+    Whole(u8),
+}
+#[derive(Drop)]
+struct A(OrderSumWholePart);
+=====
+const HELP: &str = r#\"struct { \"a\" }\"#;
+const FOLDER: &str = r\"\\\";
+const BYTES: &[u8] = br##\"{\"#\"##;
 #[derive(Drop)]
 struct A(u8);
 =====

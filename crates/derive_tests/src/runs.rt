@@ -12,6 +12,8 @@ use std::test::Fail;
 struct File {
     path: String,
     text: String,
+    /// It may not be read.
+    is_barred: bool,
 }
 
 /// Files in memory, below the folder `/app`.
@@ -33,8 +35,9 @@ impl Memory {
         }
     }
 
-    /// Does what a verb says: it puts a file, whose text begins in the next line, takes one away, locks the shelf,
-    /// lists the files, or runs the program with these words. The answer is what is listed or said.
+    /// Does what a verb says: it puts a file, whose text begins in the next line, takes one away, bars one from being
+    /// read, locks the shelf, lists the files, or runs the program with these words. The answer is what is listed or
+    /// said.
     pub fn answer(&mut self, verb: &str, rest: &str) -> Result<String, AllocError> {
         match verb {
             "put" => {
@@ -42,6 +45,7 @@ impl Memory {
                 self.put(path, text)?;
             }
             "remove" => self.remove(rest),
+            "bar" => self.bar(rest),
             "lock" => self.is_locked = true,
             "list" => return self.paths(),
             _ => return self.run(rest),
@@ -64,6 +68,7 @@ impl Memory {
         let file = File {
             path: String::from_str(self.alloc, path)?,
             text: String::from_str(self.alloc, text)?,
+            is_barred: false,
         };
         self.remove(path);
         self.files.push(file)?;
@@ -73,6 +78,15 @@ impl Memory {
     /// Takes a file away, if it is there.
     fn remove(&mut self, path: &str) {
         self.files.retain(|file| file.path.as_str() != path);
+    }
+
+    /// Bars a file from being read.
+    fn bar(&mut self, path: &str) {
+        for file in self.files.iter_mut() {
+            if file.path.as_str() == path {
+                file.is_barred = true;
+            }
+        }
     }
 
     /// The files, in a line for each.
@@ -90,6 +104,9 @@ impl Shelf for Memory {
     fn text(&self, path: &str) -> io::Result<String> {
         for file in self.files.iter() {
             if file.path.as_str() == path {
+                if file.is_barred {
+                    return Err(io::Error::from_raw_os_error(13));
+                }
                 return Ok(file.text.clone()?);
             }
         }
@@ -275,9 +292,266 @@ Usage: derive <FILE>...
 For more information, try '--help'.
 ";
 
+/// A module that is printed, and not written.
+const PRINTED: &str = "\
+put src/a.rt
+#[derive(Clone, Copy)]
+struct A;
+-----
+=====
+run --print src/a.rt
+-----
+0
+//! What the types of `a.rt` are written as. Made from that file by the program `derive`, and not edited: run
+//! `derive` on the file again where its types change.
+//! Left out of A: Exact.
+
+use super::*;
+use bincode::de::{Decode, Decoder, Sequential};
+use bincode::enc::{Encode, Encoder};
+use bincode::error::{DecodeError, EncodeError};
+use bincode::laws::{Canonical, Plain, canonical_by_parts, plain_by_parts};
+use bincode::{HasParts, Wire};
+
+type AParts = ();
+
+impl HasParts<AParts> for A {
+    ghost parts = { λ v. tt };
+}
+
+impl Wire for A {
+    ghost use Rattle.bincode.specs.TypeWords.{words_by};
+
+    ghost words = { words_by ⟦<AParts as Wire>⟧.words ⟦<A as HasParts<AParts>>⟧.parts };
+
+    fn claim_size() -> usize {
+        AParts::claim_size()
+    }
+}
+
+impl Plain for A {
+    fn tell_plain() {
+        plain_by_parts::<AParts, A>();
+    }
+}
+
+impl Canonical for A {
+    fn tell_canonical() {
+        canonical_by_parts::<AParts, A>();
+    }
+}
+
+impl Encode for A {
+    fn tell_valid(&self) {
+        ().tell_valid();
+    }
+
+    fn encode<E: Encoder>(&self, encoder: &mut E) -> Result<(), EncodeError> {
+        ().encode(encoder)
+    }
+}
+
+impl<Context: Drop> Decode<Context> for A {
+    type Run = Sequential;
+
+    fn decode<D: Decoder<Context = Context>>(decoder: &mut D) -> Result<A, DecodeError> {
+        let (): AParts = Decode::decode(decoder)?;
+        Ok(A)
+    }
+}
+--
+=====
+list
+-----
+src/a.rt
+";
+
+/// Files that stand where modules go, of which one may not be read, and others were not made by the program: one of
+/// another code, and one of the same.
+const FOUND: &str = "\
+put src/a.rt
+#[derive(Clone, Copy)]
+struct A(u8);
+-----
+=====
+run src/a.rt
+-----
+0
+src/a/words.rt: written
+--
+=====
+bar src/a/words.rt
+-----
+=====
+run src/a.rt
+-----
+2
+--
+derive: src/a/words.rt: Permission denied (os error 13)
+=====
+run --check src/a.rt
+-----
+2
+--
+derive: src/a/words.rt: Permission denied (os error 13)
+=====
+put src/b.rt
+#[derive(Clone, Copy)]
+struct A;
+-----
+=====
+put src/b/words.rt
+impl Wire for A {}
+-----
+=====
+run src/b.rt
+-----
+2
+--
+derive: src/b/words.rt: `derive` did not make this file, and writes none over it: move it away, or print the module \
+    by `--print`
+=====
+run --check src/b.rt
+-----
+2
+--
+derive: src/b/words.rt: `derive` did not make this file, and writes none over it: move it away, or print the module \
+    by `--print`
+=====
+run --print src/b.rt
+-----
+0
+//! What the types of `b.rt` are written as. Made from that file by the program `derive`, and not edited: run
+//! `derive` on the file again where its types change.
+//! Left out of A: Exact.
+
+use super::*;
+use bincode::de::{Decode, Decoder, Sequential};
+use bincode::enc::{Encode, Encoder};
+use bincode::error::{DecodeError, EncodeError};
+use bincode::laws::{Canonical, Plain, canonical_by_parts, plain_by_parts};
+use bincode::{HasParts, Wire};
+
+type AParts = ();
+
+impl HasParts<AParts> for A {
+    ghost parts = { λ v. tt };
+}
+
+impl Wire for A {
+    ghost use Rattle.bincode.specs.TypeWords.{words_by};
+
+    ghost words = { words_by ⟦<AParts as Wire>⟧.words ⟦<A as HasParts<AParts>>⟧.parts };
+
+    fn claim_size() -> usize {
+        AParts::claim_size()
+    }
+}
+
+impl Plain for A {
+    fn tell_plain() {
+        plain_by_parts::<AParts, A>();
+    }
+}
+
+impl Canonical for A {
+    fn tell_canonical() {
+        canonical_by_parts::<AParts, A>();
+    }
+}
+
+impl Encode for A {
+    fn tell_valid(&self) {
+        ().tell_valid();
+    }
+
+    fn encode<E: Encoder>(&self, encoder: &mut E) -> Result<(), EncodeError> {
+        ().encode(encoder)
+    }
+}
+
+impl<Context: Drop> Decode<Context> for A {
+    type Run = Sequential;
+
+    fn decode<D: Decoder<Context = Context>>(decoder: &mut D) -> Result<A, DecodeError> {
+        let (): AParts = Decode::decode(decoder)?;
+        Ok(A)
+    }
+}
+--
+=====
+put src/b/words.rt
+use super::*;
+use bincode::de::{Decode, Decoder, Sequential};
+use bincode::enc::{Encode, Encoder};
+use bincode::error::{DecodeError, EncodeError};
+use bincode::laws::{Canonical, Plain, canonical_by_parts, plain_by_parts};
+use bincode::{HasParts, Wire};
+
+type AParts = ();
+
+impl HasParts<AParts> for A {
+    ghost parts = { λ v. tt };
+}
+
+impl Wire for A {
+    ghost use Rattle.bincode.specs.TypeWords.{words_by};
+
+    ghost words = { words_by ⟦<AParts as Wire>⟧.words ⟦<A as HasParts<AParts>>⟧.parts };
+
+    fn claim_size() -> usize {
+        AParts::claim_size()
+    }
+}
+
+impl Plain for A {
+    fn tell_plain() {
+        plain_by_parts::<AParts, A>();
+    }
+}
+
+impl Canonical for A {
+    fn tell_canonical() {
+        canonical_by_parts::<AParts, A>();
+    }
+}
+
+impl Encode for A {
+    fn tell_valid(&self) {
+        ().tell_valid();
+    }
+
+    fn encode<E: Encoder>(&self, encoder: &mut E) -> Result<(), EncodeError> {
+        ().encode(encoder)
+    }
+}
+
+impl<Context: Drop> Decode<Context> for A {
+    type Run = Sequential;
+
+    fn decode<D: Decoder<Context = Context>>(decoder: &mut D) -> Result<A, DecodeError> {
+        let (): AParts = Decode::decode(decoder)?;
+        Ok(A)
+    }
+}
+-----
+=====
+run --check src/b.rt
+-----
+0
+src/b/words.rt: up to date
+--
+=====
+run src/b.rt
+-----
+0
+src/b/words.rt: up to date
+--
+";
+
 #[test]
 fn deals_with_each_file_and_tells_which_modules_are_stale(rt: HostRuntime) -> Result<(), Fail> {
-    for table in [LISTS, MODULES, FAILURES, LOCKED] {
+    for table in [LISTS, MODULES, FAILURES, LOCKED, PRINTED, FOUND] {
         let wrong = wrong_in(rt.alloc(), table)?;
         assert_eq!(rt; wrong.as_str(), "");
     }

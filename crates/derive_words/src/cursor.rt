@@ -1,6 +1,7 @@
 //! What is left of some tokens while they are read from the front.
 
 use crate::error::{Fault, MISSING, NO_MARK, Refusal, UNCLOSED};
+use crate::text::text_at;
 use crate::tokens::{Place, Token, is_listed, is_word};
 use std::alloc::{AllocError, Global};
 
@@ -48,6 +49,11 @@ impl<'t> Cursor<'t> {
     /// The text of the token that comes next, and `""` at the end.
     pub fn text(&self) -> &'t str {
         self.token().text
+    }
+
+    /// The text of the token that stands so many behind the one that comes next, and `""` where there is none.
+    pub fn text_ahead(&self, count: usize) -> &'t str {
+        text_at(self.tokens, self.taken.saturating_add(count))
     }
 
     /// Takes the token that comes next.

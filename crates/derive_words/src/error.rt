@@ -34,8 +34,22 @@ pub const UNKNOWN_NOTE: &str =
     "no note $quoted$ here: a type has skip, claims NUMBER, with TRAIT and \
     without TRAIT, a variant tag NUMBER";
 
+/// A note stands behind code in its line, before a `}`, or at the end of the source.
+pub const MISPLACED_NOTE: &str =
+    "a note stands in a line of its own, above the type or the variant that it is about: \
+    move $quoted$ there";
+
+/// A note asks for a law that is written where it is kept, and needs no note.
+pub const NEVER_ADDED: &str =
+    "no note adds $word$: `with` takes Described, Writable, Inhabited, ConstantCharge and \
+    BorrowDecode";
+
+/// A note leaves out what is written only where a note asks for it.
+pub const NEVER_LEFT_OUT: &str =
+    "no note leaves $word$ out: `without` takes Plain, Exact and Canonical";
+
 /// The word after `claims` or `tag`, or after the `=` of a variant, is no number that may stand there.
-pub const NO_NUMBER: &str = "$quoted$ is no number below 2^32: write one";
+pub const NO_NUMBER: &str = "$quoted$ is no number below 2^32: write one, in digits alone";
 
 /// A field is a fact, by which each value of the type has passed a test.
 pub const GHOST_FIELD: &str =
@@ -77,6 +91,11 @@ pub const SAME_TAG: &str = "$word$ has the tag $tag$ of another variant: give it
 /// The name of a type or a parameter is one that is written with another meaning.
 pub const TAKEN_NAME: &str =
     "the name `$word$` is used by what is written for your types: take another";
+
+/// The part of a variant would be named as that of a variant of another enum.
+pub const SAME_PART: &str =
+    "the name of $word$ behind that of its enum is that of another enum and its variant: \
+    take another";
 
 /// No type stands in the file that is to be written.
 pub const NO_TYPES: &str =

@@ -158,6 +158,23 @@ pub struct Source<'t> {
 }
 
 impl Source<'_> {
+    /// Whether it has a type of this name.
+    pub fn has_type(&self, name: &str) -> bool {
+        for item in self.items.iter() {
+            if item.name.text == name {
+                return true;
+            }
+        }
+        false
+    }
+
+    /// Whether the path that ends at this place of a type leads to one of its own.
+    pub fn is_own(&self, of: &[Token<'_>], at: usize) -> bool {
+        let name = text_at(of, at);
+        let first = path_start(of, at);
+        (first == name || first == "self") && self.has_type(name)
+    }
+
     /// Whether the path that ends at this place of a type leads into the standard library.
     pub fn is_of_std(&self, of: &[Token<'_>], at: usize) -> bool {
         let first = path_start(of, at);

@@ -31,9 +31,11 @@ const GHOST_LINES: &str = "ghost use Rattle.std.specs.Prelude.{◌≡◌};
 ghost use Rattle.bincode.specs.TypeLaws.{CanonicalWords, ExactWords, PlainWords};
 ";
 
-/// What the module says of itself behind the name of the file.
-const SAID: &str =
-    "` are written as. Made from that file by the program `derive`, and not edited: run
+/// What each module says of itself, by which it is known from one that was written by hand.
+const MADE: &str = "Made from that file by the program `derive`";
+
+/// What the module says of itself behind that.
+const NOT_EDITED: &str = ", and not edited: run
 //! `derive` on the file again where its types change.
 ";
 
@@ -70,6 +72,11 @@ pub fn module_of(alloc: Global, origin: &Origin<'_>, text: &str) -> Result<Strin
     Ok(written(alloc, origin, &source)?)
 }
 
+/// Whether a module says that the program `derive` made it.
+pub fn is_made(module: &str) -> bool {
+    module.contains(MADE)
+}
+
 /// The module for what stands in a source, of which nothing is refused.
 fn written(alloc: Global, origin: &Origin<'_>, source: &Source<'_>) -> Result<String, AllocError> {
     let impls = impls_of(alloc, origin, source)?;
@@ -97,7 +104,9 @@ fn impls_of(alloc: Global, origin: &Origin<'_>, source: &Source<'_>) -> Result<S
 fn add_front(out: &mut Text, origin: &Origin<'_>, source: &Source<'_>) {
     out.add("//! What the types of `");
     out.add(origin.file_name);
-    out.add(SAID);
+    out.add("` are written as. ");
+    out.add(MADE);
+    out.add(NOT_EDITED);
     for item in source.items.iter() {
         if !item.marks.is_skipped {
             add_left_out(out, item);

@@ -1,8 +1,8 @@
 //! What stands above a type: what it derives, and notes to this program, as `// bincode: with Described, Writable`.
 
 use crate::cursor::Cursor;
-use crate::error::{NO_NUMBER, UNKNOWN_NOTE};
-use crate::tokens::{NOTE, Place, Token};
+use crate::error::{NEVER_ADDED, NEVER_LEFT_OUT, NO_NUMBER, UNKNOWN_NOTE};
+use crate::tokens::{NOTE, Place, Token, is_listed};
 
 /// Which traits a note names.
 #[derive(Clone, Copy)]
@@ -47,6 +47,10 @@ impl Traits {
         true
     }
 }
+
+/// The laws that are written where a type keeps them, which a note can only leave out. The other traits are written
+/// where a note asks for them.
+const KEPT_LAWS: &str = "Plain Exact Canonical";
 
 /// What stands above a type.
 #[derive(Clone, Copy)]
@@ -119,6 +123,19 @@ impl Marks {
         if !is_known {
             cursor.refuse(place, UNKNOWN_NOTE, word);
         }
+        refuse_vain(cursor, place, verb, word);
+    }
+}
+
+/// Refuses a word behind a verb that has no effect on it.
+fn refuse_vain<'t>(cursor: &mut Cursor<'t>, place: Place, verb: Verb, word: &'t str) {
+    let is_law = is_listed(word, KEPT_LAWS);
+    match verb {
+        Verb::With if is_law => cursor.refuse(place, NEVER_ADDED, word),
+        Verb::Without if !is_law && word != "skip" => {
+            cursor.refuse(place, NEVER_LEFT_OUT, word);
+        }
+        _ => {}
     }
 }
 

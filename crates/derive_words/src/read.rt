@@ -1,20 +1,39 @@
 //! Reads the structs and enums of a source.
 
 use crate::cursor::{Cursor, is_opening};
-use crate::error::{CONST_PARAMETER, Fault, GHOST_FIELD, MISSING, UNCLOSED, UNKNOWN_NOTE};
+use crate::error::{
+    CONST_PARAMETER, Fault, GHOST_FIELD, MISPLACED_NOTE, MISSING, UNCLOSED, UNKNOWN_NOTE,
+};
 use crate::items::{Brackets, Field, Item, Param, Predicate, Source, Variant, is_known};
 use crate::laws::NOTHING;
 use crate::notes::{Marks, number_of, tag_of};
 use crate::text::text_at;
-use crate::tokens::{Token, is_listed, is_word};
+use crate::tokens::{Token, is_listed, is_note, is_word};
 use std::alloc::Global;
 
 /// What stands in these tokens.
 pub fn source_of<'t>(alloc: Global, tokens: &'t [Token<'t>]) -> Result<Source<'t>, Fault> {
     let mut cursor = Cursor::new(tokens);
+    refuse_misplaced(&mut cursor, tokens);
     let source = read_source(alloc, &mut cursor);
     cursor.finish(alloc)?;
     Ok(source)
+}
+
+/// Refuses the first note that is not above something that it may be about. One behind code in its line would be taken
+/// for a note to what stands below it, and one before a `}` or at the end of the source for none.
+fn refuse_misplaced<'t>(cursor: &mut Cursor<'t>, tokens: &'t [Token<'t>]) {
+    let mut code_ends = 0usize;
+    for (at, token) in tokens.iter().enumerate() {
+        if is_note(token.text) {
+            let below = text_at(tokens, at.saturating_add(1));
+            if token.place.line == code_ends || below.is_empty() || below == "}" {
+                cursor.refuse(token.place, MISPLACED_NOTE, token.text);
+            }
+        } else {
+            code_ends = token.place.after(token.text).line;
+        }
+    }
 }
 
 /// Reads all that stands in a source.
@@ -179,7 +198,7 @@ fn read_body<'t>(cursor: &mut Cursor<'t>, item: &mut Item<'t>) {
         read_variants(cursor, item);
     } else {
         let name = item.name;
-        read_variant(cursor, item, name, 0);
+        read_variant(cursor, item, name, None, 0);
         // The `where` of a struct without named fields stands after them.
         read_wheres(cursor, &mut item.wheres);
     }
@@ -253,12 +272,12 @@ fn read_variants<'t>(cursor: &mut Cursor<'t>, item: &mut Item<'t>) {
     let mut next = 0u32;
     cursor.mark("{");
     for _ in 0..u64::MAX {
-        let tag = read_variant_marks(cursor).unwrap_or(next);
+        let noted = read_variant_marks(cursor);
         if cursor.ends("}") {
             break;
         }
         let name = cursor.name();
-        next = read_variant(cursor, item, name, tag).saturating_add(1);
+        next = read_variant(cursor, item, name, noted, next).saturating_add(1);
         if cursor.text() != "}" {
             cursor.mark(",");
         }
@@ -270,8 +289,8 @@ fn read_variant_marks(cursor: &mut Cursor<'_>) -> Option<u32> {
     let mut tag = None;
     for _ in 0..u64::MAX {
         if cursor.takes("#") {
-            cursor.skip_brackets();
-        } else if cursor.text().starts_with("//") {
+            skip_attribute(cursor);
+        } else if is_note(cursor.text()) {
             let note = cursor.take();
             tag = tag_of(cursor, note);
         } else {
@@ -281,22 +300,19 @@ fn read_variant_marks(cursor: &mut Cursor<'_>) -> Option<u32> {
     tag
 }
 
-/// Reads the fields of a variant or of a struct, from what opens them on, and the tag after them, which is handed out.
-/// Where none stands there, it has this one.
+/// Reads the fields of a variant or of a struct, from what opens them on, and the tag after them. Its own tag, which is
+/// handed out, is the one that a note gives it, or else the one after its fields, or else the next.
 fn read_variant<'t>(
     cursor: &mut Cursor<'t>,
     item: &mut Item<'t>,
     name: Token<'t>,
-    tag: u32,
+    noted: Option<u32>,
+    next: u32,
 ) -> u32 {
     let start = item.fields.len();
     let brackets = read_fields(cursor, &mut item.fields);
-    let tag = if cursor.takes("=") {
-        let token = cursor.take();
-        number_of(cursor, token.place, token.text)
-    } else {
-        tag
-    };
+    let written = read_discriminant(cursor);
+    let tag = noted.or(written).unwrap_or(next);
     let variant = Variant {
         name,
         tag,
@@ -306,6 +322,15 @@ fn read_variant<'t>(
     };
     cursor.push(&mut item.variants, variant);
     tag
+}
+
+/// Reads the number after a variant's `=`, if one comes next.
+fn read_discriminant(cursor: &mut Cursor<'_>) -> Option<u32> {
+    if !cursor.takes("=") {
+        return None;
+    }
+    let token = cursor.take();
+    Some(number_of(cursor, token.place, token.text))
 }
 
 /// Reads the fields of a struct or of a variant.
@@ -363,12 +388,32 @@ fn read_field_name<'t>(cursor: &mut Cursor<'t>) -> &'t str {
 fn skip_marks(cursor: &mut Cursor<'_>) {
     for _ in 0..u64::MAX {
         let token = cursor.token();
-        if token.text.starts_with("//") {
+        if is_note(token.text) {
             cursor.refuse(token.place, UNKNOWN_NOTE, token.text);
         }
-        if !cursor.takes("#") && !cursor.takes("pub") {
+        if cursor.takes("#") {
+            skip_attribute(cursor);
+        } else if cursor.takes("pub") {
+            skip_reach(cursor);
+        } else {
             break;
         }
+    }
+}
+
+/// Takes what stands after the `#` of an attribute.
+fn skip_attribute(cursor: &mut Cursor<'_>) {
+    let opened = cursor.token().place;
+    cursor.mark("[");
+    cursor.skip_group(opened);
+}
+
+/// Takes the brackets after a `pub` that say how far it reaches, as `(crate)`. Any others are those of a type, as in
+/// `pub (crate::Kind, u8)`.
+fn skip_reach(cursor: &mut Cursor<'_>) {
+    let first = cursor.text_ahead(1);
+    let is_module = is_listed(first, "crate super self") && cursor.text_ahead(2) == ")";
+    if cursor.text() == "(" && (first == "in" || is_module) {
         cursor.skip_brackets();
     }
 }

@@ -1,13 +1,15 @@
 //! What is refused of a type that was read.
 
 use crate::error::{
-    GENERIC_ENUM, HOLDS_ITSELF, NOT_DESCRIBED, NOT_DROPPABLE, Refusal, TAKEN_NAME, TWO_LIFETIMES,
+    GENERIC_ENUM, HOLDS_ITSELF, NOT_DESCRIBED, NOT_DROPPABLE, Refusal, SAME_PART, TAKEN_NAME,
+    TWO_LIFETIMES,
 };
 use crate::facts::is_in_order;
 use crate::heads::is_by_variants;
 use crate::items::{Item, Source, Variant};
 use crate::laws::is_among;
 use crate::names::is_own_name;
+use crate::parts::lone_param;
 use crate::text::text_at;
 use crate::tokens::{Place, Token, is_listed};
 use crate::uses::is_used;
@@ -19,7 +21,8 @@ pub fn refusal_of<'t>(
     item: &Item<'t>,
     holds_itself: bool,
 ) -> Option<Refusal<'t>> {
-    refused_name(item)
+    refused_name(source, item)
+        .or(refused_part(source, item))
         .or(refused_type(source, item))
         .or(refused_params(item))
         .or(refused_tag(item.variants.as_slice()))
@@ -32,17 +35,17 @@ fn said_of<'t>(item: &Item<'t>, says: &'static str) -> Option<Refusal<'t>> {
 }
 
 /// The first name of a type, its parameters or its fields that is written with another meaning.
-fn refused_name<'t>(item: &Item<'t>) -> Option<Refusal<'t>> {
-    if is_taken(item, item.name.text) {
+fn refused_name<'t>(source: &Source<'t>, item: &Item<'t>) -> Option<Refusal<'t>> {
+    if is_taken(source, item, item.name.text) {
         return taken(item.name.place, item.name.text);
     }
     for param in item.params.iter() {
-        if is_taken(item, param.name) {
+        if is_taken(source, item, param.name) {
             return taken(param.place, param.name);
         }
     }
     for word in item.names.iter() {
-        if is_taken(item, word.text) {
+        if is_taken(source, item, word.text) {
             return taken(word.place, word.text);
         }
     }
@@ -55,8 +58,88 @@ fn taken(place: Place, name: &str) -> Option<Refusal<'_>> {
 }
 
 /// Whether a name is written with another meaning for this type.
-fn is_taken(item: &Item<'_>, name: &str) -> bool {
-    name == "Words" || is_own_name(item, name) || is_used(name)
+fn is_taken(source: &Source<'_>, item: &Item<'_>, name: &str) -> bool {
+    name == "Words"
+        || is_own_name(item, name)
+        || is_used(name)
+        || is_listed(name, PRELUDE) && (source.has_type(name) || item.has_param(name))
+        || is_alias(source, name)
+}
+
+/// The names of the standard library that are written, which a type of the source would hide.
+const PRELUDE: &str = "Drop Global Option Result";
+
+/// Whether a name is written for the parts of a type of the source, or for those of a variant.
+fn is_alias(source: &Source<'_>, name: &str) -> bool {
+    if let Some(of) = name.strip_suffix("Parts") {
+        return is_written(source, of);
+    }
+    match name.strip_suffix("Part") {
+        Some(of) => is_part(source, of),
+        None => false,
+    }
+}
+
+/// Whether a type of this name is written.
+fn is_written(source: &Source<'_>, name: &str) -> bool {
+    for item in source.items.iter() {
+        if !item.marks.is_skipped && item.name.text == name {
+            return true;
+        }
+    }
+    false
+}
+
+/// Whether a name is written for the part of a variant of an enum, where this stands before `Part`.
+fn is_part(source: &Source<'_>, name: &str) -> bool {
+    for item in source.items.iter() {
+        if let Some(variant) = name.strip_prefix(item.name.text)
+            && has_part(item, variant)
+        {
+            return true;
+        }
+    }
+    false
+}
+
+/// Whether a name is written for the part of this variant of a type.
+fn has_part(item: &Item<'_>, name: &str) -> bool {
+    for variant in item.variants.iter() {
+        if variant.name.text == name && has_own_part(item, variant) {
+            return true;
+        }
+    }
+    false
+}
+
+/// Whether a name is written for the part of a variant.
+fn has_own_part(item: &Item<'_>, variant: &Variant<'_>) -> bool {
+    is_by_variants(item) && lone_param(item, item.fields_of(variant)).is_none()
+}
+
+/// Refuses a variant whose part would be named as that of another enum.
+fn refused_part<'t>(source: &Source<'t>, item: &Item<'t>) -> Option<Refusal<'t>> {
+    for variant in item.variants.iter() {
+        let name = variant.name;
+        if has_own_part(item, variant) && is_part_of_longer(source, item.name.text, name.text) {
+            return Some(Refusal::new(name.place, SAME_PART, name.text));
+        }
+    }
+    None
+}
+
+/// Whether the part of this variant is named as one of another enum, whose name begins with that of its own.
+fn is_part_of_longer(source: &Source<'_>, name: &str, variant: &str) -> bool {
+    for other in source.items.iter() {
+        if let Some(rest) = other.name.text.strip_prefix(name)
+            && !rest.is_empty()
+            && let Some(end) = variant.strip_prefix(rest)
+            && has_part(other, end)
+        {
+            return true;
+        }
+    }
+    false
 }
 
 /// What the library has no words for in the types of the fields.
@@ -79,6 +162,8 @@ fn refused_in<'t>(
     for (at, token) in of.iter().enumerate() {
         let instead = if token.text == "&" {
             instead_of_reference(of, at, is_borrowing)
+        } else if source.is_own(of, at) {
+            ""
         } else if is_listed(token.text, "Duration CString") && source.is_of_std(of, at) {
             instead_of_std(token.text)
         } else {

@@ -14,7 +14,7 @@ pub struct Place {
 
 impl Place {
     /// The place after a text that begins here.
-    fn after(self, text: &str) -> Place {
+    pub fn after(self, text: &str) -> Place {
         let mut line = self.line;
         let mut column = self.column;
         for c in text.chars() {
@@ -96,7 +96,12 @@ fn space_size(text: &str) -> usize {
 /// Whether a token is code, or a note to this program.
 fn is_kept(token: &str) -> bool {
     let is_comment = token.starts_with("//") || token.starts_with("/*");
-    !is_comment || token.starts_with(NOTE)
+    !is_comment || is_note(token)
+}
+
+/// Whether a token is a note to this program.
+pub fn is_note(token: &str) -> bool {
+    token.starts_with(NOTE)
 }
 
 /// Whether a token is a name, a keyword or a number.
@@ -132,7 +137,7 @@ fn token_size(text: &str) -> usize {
     } else if text.starts_with('\'') {
         tick_size(text)
     } else {
-        word_size(text).max(first_size(text))
+        raw_size(text).max(word_size(text)).max(first_size(text))
     }
 }
 
@@ -167,6 +172,41 @@ fn quoted_size(text: &str, quote: char) -> usize {
         } else if c == '\\' {
             is_escaped = true;
         } else if c == quote {
+            return at.saturating_add(1);
+        }
+    }
+    text.len()
+}
+
+/// How many bytes a raw literal has, as `r"x"` or `br#"x"#`. 0 where none stands at the front of a text.
+fn raw_size(text: &str) -> usize {
+    let literal = text.strip_prefix("b").unwrap_or(text);
+    let Some(hashed) = literal.strip_prefix("r") else {
+        return 0;
+    };
+    let quoted = hashed.trim_start_matches('#');
+    if !quoted.starts_with('"') {
+        return 0;
+    }
+    let hashes = hashed.len().saturating_sub(quoted.len());
+    let front = text.len().saturating_sub(quoted.len());
+    front.saturating_add(raw_quoted_size(quoted, hashes))
+}
+
+/// How many bytes a raw literal has from its first quote on, which ends at a quote with so many hashes behind it.
+fn raw_quoted_size(text: &str, hashes: usize) -> usize {
+    let mut is_behind_quote = false;
+    let mut count = 0usize;
+    for (at, c) in text.char_indices().skip(1) {
+        if c == '"' {
+            is_behind_quote = true;
+            count = 0;
+        } else if c == '#' {
+            count = count.saturating_add(1);
+        } else {
+            is_behind_quote = false;
+        }
+        if is_behind_quote && count == hashes {
             return at.saturating_add(1);
         }
     }
