@@ -1097,6 +1097,20 @@ def synced(program, folder, numbers, asked):
     return tries.done()
 
 
+def no_output(program, folder, numbers, asked):
+    """A server without a standard output, or without that and a standard error: no answer goes into the log."""
+    tries, log = Tries("no standard output"), folder / "unheard"
+    frames = [frame(word_of(("add", b"tea", at + 1))) for at in range(3)]
+    for closed in ((1,), (1, 2)):
+        log.unlink(missing_ok=True)
+        subprocess.run(
+            [program, "serve", "--log", str(log)], input=b"".join(frames), stderr=subprocess.DEVNULL, preexec_fn=lambda: [os.close(stream) for stream in closed]
+        )
+        held = log.read_bytes()
+        tries.want(held in [b"".join(frames[:count]) for count in range(4)], f"without {closed}: {held!r}")
+    return tries.done()
+
+
 def full_disk(program, folder, numbers, asked):
     """A disk without room for a change: it is not answered as done, and the log comes to what was answered."""
     tries = Tries("a small disk")
@@ -1153,7 +1167,7 @@ def main():
     print(f"seed {asked.seed}", flush=True)
     wrong = 0
     with tempfile.TemporaryDirectory() as folder:
-        for group in (at_random, each_end, small_writes, in_turn, not_read, closed, other_uses, hungry, asked_and_shown, logs, killed, spoilt_logs, synced, full_disk):
+        for group in (at_random, each_end, small_writes, in_turn, not_read, closed, other_uses, hungry, asked_and_shown, logs, killed, spoilt_logs, synced, full_disk, no_output):
             if asked.only in group.__name__:
                 wrong += group(program, Path(folder), random.Random(f"{asked.seed} {group.__name__}"), asked)
     sys.exit(1 if wrong else 0)

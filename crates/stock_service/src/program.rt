@@ -29,6 +29,7 @@ use std::alloc::{AllocError, Global};
 use std::fmt::Display;
 use std::io;
 use std::io::{BufReader, BufWriter, ErrorKind, Read, Write};
+use stock_files::files::hold_standard_streams;
 use thiserror::Error;
 
 /// The number of bytes that a stream is read and written by.
@@ -172,6 +173,7 @@ fn is_closed(error: &EncodeError) -> bool {
 /// Does what these words ask for, of which the first is the program's name, and returns the status with which the
 /// program ends.
 pub fn run(rt: &HostRuntime, words: &[String]) -> u8 {
+    let _held = hold_standard_streams(rt);
     match action_of(rt.alloc(), words) {
         Ok(action) => run_action(rt, action),
         Err(error) => usage(rt, &error),
