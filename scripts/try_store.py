@@ -12,6 +12,7 @@ Statuses that it wants: 0 whole, 1 damaged or torn, 2 wrong use, 3 input or outp
 import argparse, os, resource, signal, subprocess, sys, tempfile, time
 from pathlib import Path
 
+sys.dont_write_bytecode = True
 from calls_in_order import are_in_order, can_be_seen, changes_of
 
 WHOLE, DAMAGED, USAGE, DEVICE = 0, 1, 2, 3
