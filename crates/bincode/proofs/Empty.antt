@@ -6,7 +6,7 @@ use Rattle.bincode_io.specs.declared.room_counter.RoomCounter.{RoomCounter}
 use Rattle.bincode_io.specs.declared.room_writer.RoomWriter.{RoomWriter}
 use Rattle.bincode_io.specs.Rooms.{refused_by, RoomAdds, RoomRefuses}
 use Rattle.bincode_spec.specs.Allowed.{OneLength}
-use Rattle.bincode_spec.specs.Encoding.{Ready, Writes, Begins, EncodeFailure, by_writer, by_name}
+use Rattle.bincode_spec.specs.Encoding.{IsReady, Writes, Begins, EncodeFailure, by_writer, by_name}
 use Rattle.bincode.proofs.Counted.{Counted}
 
 module _ (A : List ℕ → Type 0) (one : OneLength A) (empty : A []) where
@@ -32,7 +32,7 @@ of-none (x ∷ xs) e = absurd (cc)
 
 -- and nothing is counted
 pub counted-empty : (R : Type 0) (A : List ℕ → Type 0) (before after : RoomCounter) → before.bytes_written ≡ 0 → Writes Counted A before after →
-    OneLength (Ready R A) → Ready R A [] → after.bytes_written ≡ 0
+    OneLength (IsReady R A) → IsReady R A [] → after.bytes_written ≡ 0
 counted-empty R A before after start w one empty =
     let same : length w.word ≡ 0 = one w.word [] (record { is_writable = empty.is_writable; is_allowed = w.is_allowed }) empty in
     ap (λ c. c.bytes_written) (w.added (of-none w.word same)) ∙ start

@@ -11,7 +11,7 @@ use Rattle.bincode_spec.specs.Meaning.{Meaning}
 use Rattle.bincode_spec.specs.Words.{Variant, tag_then_part, tag}
 use Rattle.bincode_shape.specs.declared.shape.Shape as shapes
 use Rattle.bincode_shape.specs.declared.shape.Shape.{Shape}
-use Rattle.bincode_shape.specs.Shapes.{format_of, one_of, numbered}
+use Rattle.bincode_shape.specs.Shapes.{format_of, one_of, numbered_variants}
 use Rattle.bincode_shape.specs.Rows.{formats, formats_of-vec}
 use Rattle.bincode_shape.specs.Same.{SameWords}
 use Rattle.bincode_shape.specs.SameChoices.{SameVariants, chosen-same}
@@ -48,7 +48,7 @@ next-first number before after variants part F d next e f =
     )
 
 -- there are no more variants than shapes
-all-same : (s : Setting) (n : ℕ) (parts : List Shape) (ws : List Variant) → length ws ≡ length parts → SameFirst s n (formats parts) ws → SameVariants s (numbered n (formats parts)) ws
+all-same : (s : Setting) (n : ℕ) (parts : List Shape) (ws : List Variant) → length ws ≡ length parts → SameFirst s n (formats parts) ws → SameVariants s (numbered_variants n (formats parts)) ws
 all-same s n [] [] e h = tt
 all-same s n [] (w ∷ ws) e h = absurd (omega (arith, e))
 all-same s n (p ∷ ps) [] e h = absurd h
@@ -61,7 +61,7 @@ pub all-first : (number : ℕ) (v : Vec Shape Global) (variants : List Variant) 
 all-first number v variants G d all some s read written = rw (formats_of-vec v) (same-then
     (whole v.items variants (omega (arith, some, d.0)) (all-same s 0 v.items variants (all ∙ sym d.0) (d.1 s)))
     (record { read = sym read; written = (written.1, written.0) })) where
-      whole : (parts : List Shape) (variants : List Variant) → 0 < length parts → SameVariants s (numbered 0 (formats parts)) variants →
-          SameWords (one_of (numbered 0 (formats parts)) s) (tag_then_part tag variants s)
+      whole : (parts : List Shape) (variants : List Variant) → 0 < length parts → SameVariants s (numbered_variants 0 (formats parts)) variants →
+          SameWords (one_of (numbered_variants 0 (formats parts)) s) (tag_then_part tag variants s)
       whole [] variants some h = absurd (omega (arith, some))
       whole (p ∷ ps) variants some h = chosen-same tag s _ _ h

@@ -7,7 +7,7 @@ use Rattle.bincode_io.specs.declared.write.SliceWriter.{SliceWriter}
 use Rattle.bincode_base.specs.declared.error.EncodeError.{EncodeError}
 use Rattle.bincode_base.specs.declared.error.EncodeError.TheVariants.{UnexpectedEnd}
 use Rattle.bincode_spec.specs.Allowed.{OneLength}
-use Rattle.bincode_spec.specs.Encoding.{Ready, Writes, Begins, EncodeFailure, by_writer, by_name}
+use Rattle.bincode_spec.specs.Encoding.{IsReady, Writes, Begins, EncodeFailure, by_writer, by_name}
 use Rattle.bincode_spec.specs.Slice.{ReplacesFront, WordWritten, FrontWritten, FitsExactly}
 
 -- what a slice writer adds, and why it refuses a piece
@@ -64,7 +64,7 @@ module _ (A : List ℕ → Type 0) (before after : SliceWriter) (count : written
   word-written old new n size start end = record { word = w.word; is_allowed = w.is_allowed; count = size ∙ word_counted; fills = end ∙ filled old w.word before after start count w.added }
 
   -- and each word of its length is within the room
-  pub word-fits : (Writable : Type 0) (N : EncodeError → Type 0) (room n : ℕ) → written_by after ≤ room → FitsExactly (Ready Writable A) N room (Ok n)
+  pub word-fits : (Writable : Type 0) (N : EncodeError → Type 0) (room n : ℕ) → written_by after ≤ room → FitsExactly (IsReady Writable A) N room (Ok n)
   word-fits Writable N room n le = record {
     short = tt;
     exact = λ one none word a.

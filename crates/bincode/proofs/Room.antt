@@ -4,13 +4,13 @@ use Rattle.std.proofs.Common.{inl, inr, arith}
 use Rattle.std.specs.Borrow.{GName}
 use Rattle.bincode_base.specs.declared.error.EncodeError.{EncodeError}
 use Rattle.bincode_spec.specs.Allowed.{OneLength}
-use Rattle.bincode_spec.specs.Device.{Rose, TooLong, WithinRoom, WriterFails}
+use Rattle.bincode_spec.specs.Device.{CountRises, TooLong, WithinRoom, WriterFails}
 use Rattle.bincode_spec.specs.Layers.Pieces.{TakesRoom}
-use Rattle.bincode_spec.specs.Encoding.{Adds, Refuses, Ready, Begins, EncodeFailure, by_writer, by_name, Encodes, FitsRoom}
+use Rattle.bincode_spec.specs.Encoding.{Adds, Refuses, IsReady, Begins, EncodeFailure, by_writer, by_name, Encodes, FitsRoom}
 use Rattle.bincode_io.specs.RoomLaws.{too_long-after, not-within, within-same}
 
 -- the failures of a part of the call are failures of the call
-rose-after : (before middle after : ℕ) → before ≤ middle → Rose middle after → Rose before after
+rose-after : (before middle after : ℕ) → before ≤ middle → CountRises middle after → CountRises before after
 rose-after before middle after h (inl r) = inl (omega arith)
 rose-after before middle after h (inr r) = inr r
 
@@ -25,19 +25,19 @@ module _ {W : Type 0} (adds : Adds W) (refuses : Refuses W) (room : W → Option
     (refuses_why : (a b : W) (piece : List ℕ) (e : EncodeError) → refuses a piece e b → TooLong (room a) piece ⊎ WriterFails device (failures a) (failures b) e)
     (R : Type 0) (A : List ℕ → Type 0) (N : EncodeError → Type 0) (before after : W) where
   abbrev Why : EncodeError → Type 0
-  Why e = N e ⊎ (WriterFails device (failures before) (failures after) e ⊎ ((front : List ℕ) × Begins (Ready R A) front × TooLong (room before) front))
+  Why e = N e ⊎ (WriterFails device (failures before) (failures after) e ⊎ ((front : List ℕ) × Begins (IsReady R A) front × TooLong (room before) front))
 
-  refused-why : (front piece : List ℕ) (middle : W) (e : EncodeError) → adds before front middle → Begins (Ready R A) (front ++ piece) →
+  refused-why : (front piece : List ℕ) (middle : W) (e : EncodeError) → adds before front middle → Begins (IsReady R A) (front ++ piece) →
       TooLong (room middle) piece ⊎ WriterFails device (failures middle) (failures after) e → Why e
   refused-why front piece middle e h b (inl long) = inr (inr (front ++ piece, b, too_long-after (room before) (room middle) front piece (adds_room before middle front h) long))
   refused-why front piece middle e h b (inr fails) = inr (inl (fails-after device (failures before) (failures middle) (failures after) e (adds_count before middle front h) fails))
 
-  halted-why : (e : EncodeError) → EncodeFailure adds refuses (Ready R A) N before after e → Why e
+  halted-why : (e : EncodeError) → EncodeFailure adds refuses (IsReady R A) N before after e → Why e
   halted-why e (by_writer front piece middle h r b) = refused-why front piece middle e h b (refuses_why middle after piece e r)
   halted-why e (by_name front h n b) = inl n
 
   -- within the room only memory and the device are left
-  within-fails : (e : EncodeError) → OneLength (Ready R A) → ((d : EncodeError) → ¬ (N d)) → (word : List ℕ) → Ready R A word → WithinRoom (room before) word → Why e →
+  within-fails : (e : EncodeError) → OneLength (IsReady R A) → ((d : EncodeError) → ¬ (N d)) → (word : List ℕ) → IsReady R A word → WithinRoom (room before) word → Why e →
       WriterFails device (failures before) (failures after) e
   within-fails e one none word a fits (inl n) = absurd (none e n)
   within-fails e one none word a fits (inr (inl fails)) = fails
@@ -45,7 +45,7 @@ module _ {W : Type 0} (adds : Adds W) (refuses : Refuses W) (room : W → Option
       let m = t.1 word a in absurd (not-within (room before) t.0 m.0 word (one word (t.0 ++ m.0) a m.1) t.2 fits)
 
   pub fits-room : (loans : W → List GName) (result : Result (Unit {0}) EncodeError) → Encodes adds refuses (λ w. w) loans R A N result before after →
-      FitsRoom (Ready R A) N (WriterFails device (failures before) (failures after)) (room before) result
+      FitsRoom (IsReady R A) N (WriterFails device (failures before) (failures after)) (room before) result
   fits-room loans (Ok v) h =
       let w = h.ok in record {
         short = tt;

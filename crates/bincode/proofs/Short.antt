@@ -5,7 +5,7 @@ use Rattle.std.proofs.Math.Nat.{lt_of_not-le}
 use Rattle.bincode_base.specs.declared.error.EncodeError.{EncodeError}
 use Rattle.bincode_base.specs.declared.error.EncodeError.TheVariants.{UnexpectedEnd}
 use Rattle.bincode_spec.specs.Allowed.{OneLength}
-use Rattle.bincode_spec.specs.Encoding.{Ready}
+use Rattle.bincode_spec.specs.Encoding.{IsReady}
 use Rattle.bincode_spec.specs.Slice.{FitsExactly}
 use Rattle.bincode.specs.Short.{TooShort}
 
@@ -15,7 +15,7 @@ only_end N none e (inr n) = absurd (none e n)
 
 -- each word is longer than the slice
 pub too-short : (R : Type 0) (A : List ℕ → Type 0) (N : EncodeError → Type 0) (room : ℕ) → OneLength A → ((e : EncodeError) → N e → ⊥) → R →
-    (result : Result ℕ EncodeError) → FitsExactly (Ready R A) N room result → IfErr result (λ e. (e ≡ UnexpectedEnd) ⊎ N e) → IfErr result (TooShort A room)
+    (result : Result ℕ EncodeError) → FitsExactly (IsReady R A) N room result → IfErr result (λ e. (e ≡ UnexpectedEnd) ⊎ N e) → IfErr result (TooShort A room)
 too-short R A N room one none r (Ok n) fits fault = tt
 too-short R A N room one none r (Err e) fits fault =
     let fitting = fits.exact (λ v w a b. one v w a.is_allowed b.is_allowed) none in

@@ -7,7 +7,7 @@ use Rattle.std.specs.Io.KnownBytes.{Appends}
 use Rattle.std.proofs.KnownBytes.{Appends-trans}
 use Rattle.bincode_base.specs.declared.error.EncodeError.{EncodeError}
 use Rattle.bincode_base.specs.declared.error.StreamError.{StreamError}
-use Rattle.bincode_spec.specs.Encoding.{EncodeFailure, Begins, Ready, Writes, IsOwn, by_writer, by_name}
+use Rattle.bincode_spec.specs.Encoding.{EncodeFailure, Begins, IsReady, Writes, IsOwn, by_writer, by_name}
 use Rattle.bincode_io.specs.Stream.{IsWriteIo, FrontOut, StreamHalts}
 use Rattle.bincode_blocks.specs.declared.block_writer.BlockWriter.{BlockWriter}
 use Rattle.bincode_blocks.specs.Blocks.{stream_behind, held_by, count_of, failure_of, BlockAdds, BlockRefuses}
@@ -35,7 +35,7 @@ no-front held (x ∷ front) back e f = absurd (cc)
 module _ {W : Type 0} (contents : W → Option (List ℕ)) (a m b : BlockWriter W) (empty : held_by a ≡ []) where
   -- a front of it is
   pub stream-cut : (Writable : Type 0) (Allowed : List ℕ → Type 0) (OwnErrors : EncodeError → Type 0) (e : EncodeError) → Writes (BlockAdds contents) Allowed a m → FrontOut contents (stream_behind m) (held_by m) (stream_behind b) →
-      (written : ℕ) × IsWriteIo written e → StreamHalts contents (Ready Writable Allowed) OwnErrors (stream_behind a) (stream_behind b) e
+      (written : ℕ) × IsWriteIo written e → StreamHalts contents (IsReady Writable Allowed) OwnErrors (stream_behind a) (stream_behind b) e
   stream-cut Writable Allowed OwnErrors e w out io =
       let all = written-all _ w.word w.added.out _ empty w.added.joined ∙ ap (λ l. w.added.out ++ l) out.piece_is ∙ sym (append_assoc w.added.out out.front out.back) in
       record {

@@ -3,7 +3,7 @@ use Rattle.std.specs.Prelude.{◌≡◌, ℕ, List, ◌∷◌, drop, Result, Ok,
 use Rattle.std.specs.Borrow.{GName, MutBor}
 use Rattle.std.proofs.Common.{ap}
 use Rattle.bincode_base.specs.declared.error.EncodeError.{EncodeError}
-use Rattle.bincode_spec.specs.Encoding.{Adds, Refuses, Ready, EncodeFailure, by_writer, by_name, Encodes}
+use Rattle.bincode_spec.specs.Encoding.{Adds, Refuses, IsReady, EncodeFailure, by_writer, by_name, Encodes}
 
 module _ {W : Type 0} (adds : Adds W) (refuses : Refuses W) (loans : W → List GName) (Writable : Type 0) (A : List ℕ → Type 0) (N : EncodeError → Type 0) where
   -- what the reference adds and refuses
@@ -13,7 +13,7 @@ module _ {W : Type 0} (adds : Adds W) (refuses : Refuses W) (loans : W → List 
   abbrev Refused : Refuses (MutBor W)
   Refused a piece e b = refuses a.now piece e b.now
 
-  halts : (old new : MutBor W) (e : EncodeError) → EncodeFailure Added Refused (Ready Writable A) N old new e → EncodeFailure adds refuses (Ready Writable A) N old.now new.now e
+  halts : (old new : MutBor W) (e : EncodeError) → EncodeFailure Added Refused (IsReady Writable A) N old new e → EncodeFailure adds refuses (IsReady Writable A) N old.now new.now e
   halts old new e (by_writer front piece middle h r b) = by_writer front piece middle.now h.0 r b
   halts old new e (by_name front h n b) = by_name front h.0 n b
 

@@ -1,7 +1,7 @@
 //! Decoding bytes that are one encoding, and nothing more.
 ghost use Rattle.std.specs.Prelude.{Result, IfOk, length, ℕ};
 ghost use Rattle.bincode_base.specs.declared.error.DecodeError.{DecodeError};
-ghost use Rattle.bincode_spec.specs.Slice.{Decoded, IsAnswer};
+ghost use Rattle.bincode_spec.specs.Slice.{IsDecoded, IsAnswer};
 ghost use Rattle.bincode.specs.Exact.{TakesAll, ReadsWhole};
 
 use crate::slice::decode_from_slice;
@@ -46,7 +46,7 @@ pub fn decode_exact_from_slice<D: Decode<()>, C: Config>(
     config: C,
 ) -> Result<D, DecodeExactError>
     // All of the bytes are an encoding within the limit, and the value is given for its meaning.
-    ensures word { IfOk result (λ v. Decoded (D.words.format C.setting) C.bound src.now (λ m. D.words.decodes_to m v)
+    ensures word { IfOk result (λ v. IsDecoded (D.words.format C.setting) C.bound src.now (λ m. D.words.decodes_to m v)
         (length src.now)) }
     // If all of them are an encoding within the limit, it is read, unless memory is refused.
     ensures found { ReadsWhole (D.words.format C.setting) C.bound D.words.may_allocate src.now result }

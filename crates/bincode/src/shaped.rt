@@ -3,7 +3,7 @@ ghost use Rattle.std.specs.Prelude.{◌≡◌, ◌≤◌, ℕ, true, false, Some
 ghost use Rattle.bincode_spec.specs.Answer.{answer};
 ghost use Rattle.bincode_spec.specs.Decoding.{Decodes, DecodeFailure, IsExcused, IsRead};
 ghost use Rattle.bincode_spec.specs.Device.{WriterFails};
-ghost use Rattle.bincode_spec.specs.Encoding.{Ready, Writes, EncodeFailure, Encodes, FitsRoom};
+ghost use Rattle.bincode_spec.specs.Encoding.{IsReady, Writes, EncodeFailure, Encodes, FitsRoom};
 ghost use Rattle.bincode_spec.specs.Limited.{WordBounded};
 ghost use Rattle.bincode_spec.specs.Slice.{IsAnswer};
 ghost use Rattle.bincode_shape.specs.Shapes.{format_of, fits, IsImage, TakesMemory};
@@ -46,10 +46,10 @@ pub fn encode_shaped<W: Writer, C: Config>(
         (AllowsImage C.setting shape.now value.now) writer.old writer.new) }
     // After an error a prefix of an encoding is written, and the writer refused what comes next,
     ensures left { fits shape.now value.now ≡ true → IfErr result (EncodeFailure W.adds W.refuses
-        (Ready (Unit {0}) (AllowsImage C.setting shape.now value.now)) (λ _. ⊥) writer.old writer.new) }
+        (IsReady (Unit {0}) (AllowsImage C.setting shape.now value.now)) (λ _. ⊥) writer.old writer.new) }
     // for lack of room, or because memory or the device failed.
     ensures room { fits shape.now value.now ≡ true → FitsRoom
-        (Ready (Unit {0}) (AllowsImage C.setting shape.now value.now)) (λ _. ⊥)
+        (IsReady (Unit {0}) (AllowsImage C.setting shape.now value.now)) (λ _. ⊥)
         (WriterFails W.device (W.failures writer.old) (W.failures writer.new)) (W.room writer.old) result }
     // It writes through the references that it had.
     ensures loans { W.loans writer.new ≡ W.loans writer.old }

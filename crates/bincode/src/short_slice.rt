@@ -2,7 +2,7 @@
 ghost use Rattle.std.specs.Prelude.{◌≡◌, ◌⊎◌, IfOk, IfErr, length};
 ghost use Rattle.bincode_base.specs.declared.error.EncodeError.TheVariants.{UnexpectedEnd};
 ghost use Rattle.bincode_spec.specs.Allowed.{AllowedWord};
-ghost use Rattle.bincode_spec.specs.Encoding.{Ready, Encodes};
+ghost use Rattle.bincode_spec.specs.Encoding.{IsReady, Encodes};
 ghost use Rattle.bincode_spec.specs.Slice.{WordWritten, FrontWritten, FitsExactly};
 
 use crate::writer::encode_with;
@@ -37,10 +37,10 @@ pub(crate) fn encode_into_short<E: Encode, C: Config>(
     ensures word { IfOk result (λ n. WordWritten (AllowedWord (E.words.means val) (E.words.format C.setting))
         n dst.old dst.new) }
     ensures fault { IfErr result (λ e. (e ≡ UnexpectedEnd) ⊎ E.words.own_errors e) }
-    ensures room { FitsExactly (Ready (E.words.writable C.setting val)
+    ensures room { FitsExactly (IsReady (E.words.writable C.setting val)
         (AllowedWord (E.words.means val) (E.words.format C.setting)))
         E.words.own_errors (length dst.old) result }
-    ensures left { IfErr result (FrontWritten (Ready (E.words.writable C.setting val)
+    ensures left { IfErr result (FrontWritten (IsReady (E.words.writable C.setting val)
         (AllowedWord (E.words.means val) (E.words.format C.setting))) dst.old dst.new) }
 {
     let mut writer = SliceWriter::new(dst);

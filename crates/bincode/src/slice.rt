@@ -2,7 +2,7 @@
 ghost use Rattle.std.specs.Prelude.{◌≡◌, ◌⊎◌, IfOk, IfErr, length};
 ghost use Rattle.bincode_base.specs.declared.error.EncodeError.TheVariants.{UnexpectedEnd};
 ghost use Rattle.bincode_spec.specs.Allowed.{AllowedWord};
-ghost use Rattle.bincode_spec.specs.Encoding.{Ready};
+ghost use Rattle.bincode_spec.specs.Encoding.{IsReady};
 ghost use Rattle.bincode_spec.specs.Slice.{WordWritten, FrontWritten, FitsExactly, IsAnswer};
 
 use crate::reader::decode_with;
@@ -31,11 +31,11 @@ pub fn encode_into_slice<E: Encode, C: Config>(
     // No other errors come than these,
     ensures fault { IfErr result (λ e. (e ≡ UnexpectedEnd) ⊎ E.words.own_errors e) }
     // `UnexpectedEnd` only for lack of room,
-    ensures room { FitsExactly (Ready (E.words.writable C.setting val)
+    ensures room { FitsExactly (IsReady (E.words.writable C.setting val)
         (AllowedWord (E.words.means val) (E.words.format C.setting)))
         E.words.own_errors (length dst.old) result }
     // and after an error the slice holds a prefix of an allowed encoding.
-    ensures left { IfErr result (FrontWritten (Ready (E.words.writable C.setting val)
+    ensures left { IfErr result (FrontWritten (IsReady (E.words.writable C.setting val)
         (AllowedWord (E.words.means val) (E.words.format C.setting))) dst.old dst.new) }
 {
     if needs_checks(dst, E::MAX_FIXED_SIZE, &config) {

@@ -1,7 +1,7 @@
 //! Decoding from the streams of `std::io`, and encoding into them.
 ghost use Rattle.std.specs.Prelude.{◌≡◌, ℕ, IfOk, IfErr, MatchOption};
 ghost use Rattle.bincode_spec.specs.Allowed.{AllowedWord};
-ghost use Rattle.bincode_spec.specs.Encoding.{Ready};
+ghost use Rattle.bincode_spec.specs.Encoding.{IsReady};
 ghost use Rattle.bincode_io.specs.Stream.{StreamWritten, StreamHalts, FrontOut, IsWriteIo};
 ghost use Rattle.bincode_blocks.specs.Blocks.{stream_behind, held_by, failure_of, loans_of};
 ghost use Rattle.bincode.specs.Streamed.{IsStreamRead};
@@ -63,7 +63,7 @@ pub fn encode_into_std_write<E: Encode, C: Config, W: Write>(
     ensures word { IfOk result (λ n. StreamWritten W.contents (AllowedWord (E.words.means val)
         (E.words.format C.setting)) n dst.old dst.new) }
     // After an error a prefix of an allowed encoding was written.
-    ensures left { IfErr result (StreamHalts W.contents (Ready (E.words.writable C.setting val)
+    ensures left { IfErr result (StreamHalts W.contents (IsReady (E.words.writable C.setting val)
         (AllowedWord (E.words.means val) (E.words.format C.setting))) E.words.own_errors dst.old dst.new) }
 {
     let mut writer = BlockWriter::new(dst);

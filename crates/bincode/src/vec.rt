@@ -1,7 +1,7 @@
 //! Encoding into a vector.
 ghost use Rattle.std.specs.Prelude.{◌≡◌, IfOk, IfErr};
 ghost use Rattle.bincode_spec.specs.Allowed.{AllowedWord};
-ghost use Rattle.bincode_spec.specs.Encoding.{Ready, FailsEmpty};
+ghost use Rattle.bincode_spec.specs.Encoding.{IsReady, FailsEmpty};
 ghost use Rattle.bincode_spec.specs.Vec.{IsMemoryOrNamed};
 
 use crate::writer::encode_with;
@@ -24,7 +24,7 @@ pub fn encode_to_vec<E: Encode, C: Config>(
     // No other errors come than `Memory` and those of the type.
     ensures fault { IfErr result (IsMemoryOrNamed E.words.own_errors) }
     // A value without bytes is never refused with `Memory`.
-    ensures empty { FailsEmpty (Ready (E.words.writable C.setting val)
+    ensures empty { FailsEmpty (IsReady (E.words.writable C.setting val)
         (AllowedWord (E.words.means val) (E.words.format C.setting)))
         E.words.own_errors result }
 {
@@ -43,7 +43,7 @@ fn encode_in_room<E: Encode, C: Config>(
 ) -> Result<Vec<u8>, EncodeError>
     ensures word { IfOk result (λ v. AllowedWord (E.words.means val.now) (E.words.format C.setting) v.items) }
     ensures fault { IfErr result (IsMemoryOrNamed E.words.own_errors) }
-    ensures empty { counted ≡ 0 → FailsEmpty (Ready (E.words.writable C.setting val.now)
+    ensures empty { counted ≡ 0 → FailsEmpty (IsReady (E.words.writable C.setting val.now)
         (AllowedWord (E.words.means val.now) (E.words.format C.setting)))
         E.words.own_errors result }
 {

@@ -6,7 +6,7 @@ use Rattle.std.proofs.lemmas.List.{append-nil}
 use Rattle.std.proofs.KnownBytes.{Appends-nil, Appends-trans}
 use Rattle.bincode_base.specs.declared.error.EncodeError.{EncodeError}
 use Rattle.bincode_base.specs.declared.error.EncodeError.TheVariants.{Memory, UnexpectedEnd}
-use Rattle.bincode_spec.specs.Device.{TooLong, Rose}
+use Rattle.bincode_spec.specs.Device.{TooLong, CountRises}
 use Rattle.bincode_spec.specs.Layers.Pieces.{TakesRoom}
 use Rattle.bincode_io.specs.RoomLaws.{first-empty, second-empty}
 use Rattle.bincode_blocks.specs.declared.block_writer.BlockWriter.{BlockWriter}
@@ -38,7 +38,7 @@ adds-join contents a b c x y p q = record {
 }
 
 pub refuses-why : {W : Type 0} (contents : W → Option (List ℕ)) (a b : BlockWriter W) (piece : List ℕ) (e : EncodeError) → BlockRefuses contents a piece e b →
-    TooLong (Some (2 ^ 64 - 1 - count_of a)) piece ⊎ ((e ≡ Memory) ⊎ ((e ≡ UnexpectedEnd) ⊎ Rose 0 0))
+    TooLong (Some (2 ^ 64 - 1 - count_of a)) piece ⊎ ((e ≡ Memory) ⊎ ((e ≡ UnexpectedEnd) ⊎ CountRises 0 0))
 refuses-why contents a b piece e h = inr (inr (inl h.0))
 
 pub adds-room : {W : Type 0} (contents : W → Option (List ℕ)) (a b : BlockWriter W) (piece : List ℕ) → BlockAdds contents a piece b →

@@ -12,7 +12,7 @@ use Rattle.bincode_spec.specs.Format.{Format}
 use Rattle.bincode_spec.specs.Meaning.{Meaning}
 use Rattle.bincode_spec.specs.Collections.{Makes, IsMadeOf}
 use Rattle.bincode_spec.specs.Words.{len, array, list}
-use Rattle.bincode_spec.specs.Layers.Claims.{Claimed}
+use Rattle.bincode_spec.specs.Layers.Claims.{ClaimSucceeds}
 use Rattle.bincode_spec.specs.Layers.Claims.{OnlyCharged}
 use Rattle.bincode_spec.specs.Run.{IsListOf}
 use Rattle.bincode_spec.specs.Layers.Values.{Reads, RunRead}
@@ -42,7 +42,7 @@ pub array-reads :
     {D R C A T : Type 0} {is_known : D → Type 0} {remaining : D → List ℕ} {charge failures : D → ℕ} {reader_of : D → R} {context_of : D → C} {loans : D → List GName}
     {limit : Option ℕ} {end_error : ℕ → DecodeError → Type 0} {device : DeviceErrors} {may_allocate : Type 0} {claim : ℕ} {format : Format Meaning}
     {decodes_to : Meaning → T → Type 0} {n : ℕ} {values : A → List T} {r : Result A DecodeError} {old now new : D} →
-    OnlyCharged is_known remaining failures reader_of context_of loans old now → Claimed limit (charge old) (n * claim) (charge now) →
+    OnlyCharged is_known remaining failures reader_of context_of loans old now → ClaimSucceeds limit (charge old) (n * claim) (charge now) →
     RunRead is_known remaining charge failures loans limit end_error device may_allocate claim format decodes_to n values r now new →
     Reads is_known remaining charge failures loans limit end_error device may_allocate (array n claim format) (λ m v. IsListOf (λ x k. decodes_to k x) (values v) m) (charge old) r old new
 array-reads {remaining = remaining} {charge = charge} {failures = failures} {limit = limit} {end_error = end_error} {device = device} {may_allocate = may_allocate} {claim = claim} {format = format}
@@ -63,7 +63,7 @@ pub made-reads :
     {D R C A T : Type 0} {is_known : D → Type 0} {remaining : D → List ℕ} {charge failures : D → ℕ} {reader_of : D → R} {context_of : D → C} {loans : D → List GName}
     {limit : Option ℕ} {end_error : ℕ → DecodeError → Type 0} {device : DeviceErrors} {may_allocate : Type 0} {claim : ℕ} {format : Format Meaning}
     {decodes_to : Meaning → T → Type 0} {n : ℕ} {r : Result A DecodeError} {old now new : D} (Making : Makes T) (values : A → List T) →
-    OnlyCharged is_known remaining failures reader_of context_of loans old now → Claimed limit (charge old) (n * claim) (charge now) →
+    OnlyCharged is_known remaining failures reader_of context_of loans old now → ClaimSucceeds limit (charge old) (n * claim) (charge now) →
     (items : List T) → IfOk r (λ v. Making items (values v)) →
     RunRead is_known remaining charge failures loans limit end_error device may_allocate claim format decodes_to n (λ _. items) r now new →
     Reads is_known remaining charge failures loans limit end_error device may_allocate (array n claim format) (λ m v. IsMadeOf Making (λ x k. decodes_to k x) (values v) m) (charge old) r old new

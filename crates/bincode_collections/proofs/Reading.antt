@@ -5,12 +5,12 @@ use Rattle.std.proofs.Common.{◌∙◌, arith}
 use Rattle.bincode_base.specs.declared.error.DecodeError.{DecodeError}
 use Rattle.bincode_spec.specs.Device.{DeviceErrors}
 use Rattle.bincode_spec.specs.Format.{Format, elements}
-use Rattle.bincode_spec.specs.Layers.Laws.{Lawful, Balanced}
+use Rattle.bincode_spec.specs.Layers.Laws.{IsLawful, IsBalanced}
 use Rattle.bincode_spec.specs.Meaning.{Meaning, list_meaning}
 use Rattle.bincode_spec.specs.Answer.{answer, Allows, after_release}
 use Rattle.bincode_lemmas.specs.DecodingLaws.{stops-besides}
 use Rattle.bincode_spec.specs.Run.{IsListOf}
-use Rattle.bincode_spec.specs.Layers.Releases.{CanRelease, Held}
+use Rattle.bincode_spec.specs.Layers.Releases.{CanRelease, ReleasesAtMost}
 use Rattle.bincode_lemmas.specs.RunLaws.{ReadSoFar, none-read, one-more, one_stops, all-read, one-releases, others-release, held-none, held-more, is_list-push}
 use Rattle.bincode_spec.specs.Layers.Values.{Reads, RunRead}
 use Rattle.bincode_decoder.proofs.Rooms.{held-within, unclaimed-within}
@@ -22,7 +22,7 @@ pub record RunSoFar {D T : Type 0} (is_known : D → Type 0) (remaining : D → 
       is_known now × (ms : List Meaning) × ReadSoFar limit claim format (answer limit (elements count claim format) (remaining old) (charge old)) (remaining old) ms (count - read) (remaining now)
       (charge now) × IsListOf (λ x m. decodes_to m x) vs (list_meaning ms)
   pub reserved : CanRelease limit (charge now) ((count - read) * claim)
-  pub charge_kept : Held limit (read * claim) (charge old) (charge now)
+  pub charge_kept : ReleasesAtMost limit (read * claim) (charge old) (charge now)
   pub within : Allows limit (charge old) → Allows limit (charge now)
   pub failures_monotone : failures old ≤ failures now
   pub same_loans : loans now ≡ loans old
@@ -71,7 +71,7 @@ module _ {D T : Type 0} {is_known : D → Type 0} {remaining : D → List ℕ} {
       next-releases = one-releases limit (charge now) claim (count - (read + 1)) (rw (one_fewer count read l) at h.reserved)
 
       module _ {end_error : ℕ → DecodeError → Type 0} {device : DeviceErrors} {may_allocate : Type 0} {after : D} where
-        pub next-so_far : Lawful format → Balanced format → {v : T} {ws : List T} → ws ≡ vs ++ v ∷ [] →
+        pub next-so_far : IsLawful format → IsBalanced format → {v : T} {ws : List T} → ws ≡ vs ++ v ∷ [] →
             Reads is_known remaining charge failures loans limit end_error device may_allocate format decodes_to (after_release limit (charge now) claim) (Ok v) now after →
             RunSoFar is_known remaining charge failures loans limit claim format decodes_to count (read + 1) ws old after
         next-so_far f b {v = v} e r = record {

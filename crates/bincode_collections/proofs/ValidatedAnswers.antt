@@ -5,7 +5,7 @@ use Rattle.bincode_base.specs.declared.error.DecodeError.{DecodeError}
 use Rattle.bincode_spec.specs.Device.{DeviceErrors}
 use Rattle.bincode_spec.specs.Fault.{Fault}
 use Rattle.bincode_spec.specs.Format.{Format}
-use Rattle.bincode_spec.specs.Layers.Laws.{Lawful}
+use Rattle.bincode_spec.specs.Layers.Laws.{IsLawful}
 use Rattle.bincode_spec.specs.Meaning.{Meaning}
 use Rattle.bincode_spec.specs.Validated.{passed_of, with_test, TellsOwn}
 use Rattle.bincode_spec.specs.Decoding.{by_fault}
@@ -36,7 +36,7 @@ module _ {D T U : Type 0} {is_known : D → Type 0} {remaining : D → List ℕ}
       read
 
   -- it fails
-  pub read-failing : Lawful F → {e : DecodeError} → ((m : Meaning) → decodes_to m v → passes m ≡ false) → TellsOwn why e →
+  pub read-failing : IsLawful F → {e : DecodeError} → ((m : Meaning) → decodes_to m v → passes m ≡ false) → TellsOwn why e →
       Reads is_known remaining charge failures loans limit end_error device G (with_test passes why F) other start (Err e) old new
   read-failing f {e = e} test tells =
       read-as

@@ -10,7 +10,7 @@ use Rattle.bincode_base.specs.declared.error.DecodeError.TheVariants.{NonZeroTyp
 use Rattle.bincode_spec.specs.Device.{DeviceErrors}
 use Rattle.bincode_spec.specs.Fault.{Zero}
 use Rattle.bincode_spec.specs.Format.{Format, from_result, pure, map_format}
-use Rattle.bincode_spec.specs.Layers.Laws.{Lawful}
+use Rattle.bincode_spec.specs.Layers.Laws.{IsLawful}
 use Rattle.bincode_lemmas.specs.FormatLaws.{map-lawful}
 use Rattle.bincode_spec.specs.Meaning.{Meaning, Number}
 use Rattle.bincode_spec.specs.Words.{not_zero_of, not_zero_by}
@@ -96,7 +96,7 @@ module _ {A : Type 0} (f : A → Meaning) (size : A → ℕ) (name : IntegerType
         (answer limit (map_format f F) (remaining old) start) (read.err known))) (λ _. tt) read
 
     -- otherwise the integer is tested
-    pub read-tested : (get : T → A) (zero n k : A) (number : Option T) (r : Result T DecodeError) → size zero ≡ 0 → Lawful F →
+    pub read-tested : (get : T → A) (zero n k : A) (number : Option T) (r : Result T DecodeError) → size zero ≡ 0 → IsLawful F →
         ((x : T) → 0 < size (get x)) → ((m : Meaning) → decodes_to m n → m ≡ f n) → ((x : T) (m : Meaning) → m ≡ f (get x) → other m x) →
         k ≡ n → MatchOption number (k ≡ zero) (λ x. get x ≡ k) → r ≡ ok_or number (NonZeroTypeIsZero name) →
         Reads is_known remaining charge failures loans limit end_error device ⊥ (map_format f F) decodes_to start (Ok n) old new →

@@ -4,7 +4,7 @@ use Rattle.std.proofs.Common.{sym, ◌∙◌, ap, subst, inl, inr, arith, append
 use Rattle.std.proofs.lemmas.Bool.{le-ltb, le-leb}
 use Rattle.bincode_base.specs.declared.error.DecodeError.{DecodeError}
 use Rattle.bincode_spec.specs.Fault.{End}
-use Rattle.bincode_spec.specs.Device.{DeviceErrors, Rose, Takes}
+use Rattle.bincode_spec.specs.Device.{DeviceErrors, CountRises, Takes}
 use Rattle.bincode_spec.specs.Layers.Pieces.{FallsShort}
 use Rattle.bincode_spec.specs.Format.{pure, fixed_bytes, step, ◌>>=◌, without_count, elements}
 use Rattle.bincode_lemmas.specs.FormatLaws.{map-lawful}
@@ -88,7 +88,7 @@ module _ (limit : Option ℕ) (n : ℕ) (input : List ℕ) (c : ℕ) (l : Allows
 
   -- if the bytes cannot be read at once, reading them one by one fails too
   pub bytes-stop : (end_error : ℕ → DecodeError → Type 0) (device : DeviceErrors) (H : Type 0) (before after : ℕ) (remaining : List ℕ) {now : ℕ} (e : DecodeError) → now ≡ c →
-      FallsShort end_error input n e ⊎ (device.is_uncounted e ⊎ (device.is_counted e × Rose before after)) → device.is_uncounted e ⊎ Takes input remaining →
+      FallsShort end_error input n e ⊎ (device.is_uncounted e ⊎ (device.is_counted e × CountRises before after)) → device.is_uncounted e ⊎ Takes input remaining →
       DecodeFailure end_error device H (answer limit (elements n 1 (natural_number unsigned_byte)) input c) before after input remaining now e
   bytes-stop end_error device H before after remaining e still why (inl u) = by_device u
   bytes-stop end_error device H before after remaining e still (inl s) (inr t) = by_fault (End None) (bytes_end s.0 ∙ ap (Refused (End None)) (sym still)) (n - length input, s.1) t

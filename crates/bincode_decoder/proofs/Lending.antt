@@ -5,7 +5,7 @@ use Rattle.std.proofs.Common.{arith}
 use Rattle.std.proofs.lemmas.Result.{IfOk-weaker, IfErr-weaker}
 use Rattle.bincode_base.specs.declared.error.DecodeError.{DecodeError}
 use Rattle.bincode_spec.specs.Answer.{Allows}
-use Rattle.bincode_spec.specs.Layers.Claims.{Claimed}
+use Rattle.bincode_spec.specs.Layers.Claims.{ClaimSucceeds}
 use Rattle.bincode_spec.specs.Device.{DeviceErrors}
 use Rattle.bincode_spec.specs.Format.{fixed_bytes, without_count}
 use Rattle.bincode_spec.specs.Integers.{unsigned_byte}
@@ -56,6 +56,6 @@ taken-run {remaining = remaining} {charge = charge} {failures = failures} {limit
 }
 
 -- a claim that succeeded can be released
-pub claimed-room : (limit : Option ℕ) (before n after : ℕ) → Claimed limit before n after → CanRelease limit after n
+pub claimed-room : (limit : Option ℕ) (before n after : ℕ) → ClaimSucceeds limit before n after → CanRelease limit after n
 claimed-room None before n after h = tt
 claimed-room (Some limit) before n after h = let e = claimed_by (nat_le (before + n) limit) (before + n) after h in omega (arith, e)

@@ -11,7 +11,7 @@ use Rattle.std.proofs.lemmas.Result.{on_ok_weaker, IfErr-weaker}
 use Rattle.std.proofs.lemmas.Str.{IsUtf8-from_is_utf8, IsUtf8-string_bytes}
 use Rattle.bincode_base.specs.declared.error.DecodeError.{DecodeError}
 use Rattle.bincode_spec.specs.Fault.{End, Utf8}
-use Rattle.bincode_spec.specs.Device.{DeviceErrors, Rose, Takes}
+use Rattle.bincode_spec.specs.Device.{DeviceErrors, CountRises, Takes}
 use Rattle.bincode_spec.specs.Layers.Pieces.{FallsShort, FillsBuffer}
 use Rattle.bincode_spec.specs.Format.{Took, Failed, fixed_bytes, without_count, reading_without_count}
 use Rattle.bincode_spec.specs.Layers.Reads.{ReadsWord, ReadFailure, by_fault, by_failure, by_device}
@@ -31,7 +31,7 @@ unfolding without_count fixed_bytes
 short input n h = ap reading_without_count ((fixed_bytes-lawful n).fault_read input (End (Some (n - length input))) [] (h, refl, refl))
 
 pub misread : (end_error : ℕ → DecodeError → Type 0) (device : DeviceErrors) (remaining remaining' : List ℕ) (n before after : ℕ) (e : DecodeError) →
-    FallsShort end_error remaining n e ⊎ (device.is_uncounted e ⊎ (device.is_counted e × Rose before after)) → device.is_uncounted e ⊎ Takes remaining remaining' →
+    FallsShort end_error remaining n e ⊎ (device.is_uncounted e ⊎ (device.is_counted e × CountRises before after)) → device.is_uncounted e ⊎ Takes remaining remaining' →
     ReadFailure end_error device ((without_count (fixed_bytes n)).read remaining) before after remaining remaining' e
 misread end_error device remaining remaining' n before after e why (inl d) = by_device d
 misread end_error device remaining remaining' n before after e (inl h) (inr t) = by_fault (End None) (short remaining n h.0) (n - length remaining, h.1) t

@@ -7,7 +7,7 @@ use Rattle.bincode_base.specs.declared.error.DecodeError.{DecodeError}
 use Rattle.bincode_spec.specs.Fault.{Fault, Tells}
 use Rattle.bincode_spec.specs.Device.{DeviceErrors}
 use Rattle.bincode_spec.specs.Format.{Format, ◌>>=◌, from_result}
-use Rattle.bincode_spec.specs.Layers.Laws.{Lawful}
+use Rattle.bincode_spec.specs.Layers.Laws.{IsLawful}
 use Rattle.bincode_spec.specs.Decoding.{by_fault}
 use Rattle.bincode_spec.specs.Layers.Values.{Reads}
 use Rattle.bincode_lemmas.specs.DecodingLaws.{answer-next, stops-first, stops-next, stops-besides, from_result-gave, from_result-refused, gave-takes}
@@ -33,7 +33,7 @@ module _ {D A B T U : Type 0} {is_known : D → Type 0} {remaining : D → List 
   first-stops {e = e} grow read = read-as (λ known. tt) (λ known. stops-first end_error device G H grow limit F S _ _ _ _ _ e (read.err known)) (λ _. tt) read
 
   -- what follows a part that was read
-  pub next-reads : {mean : T → A} {v : T} {r : Result U DecodeError} {middle end : D} → Lawful F →
+  pub next-reads : {mean : T → A} {v : T} {r : Result U DecodeError} {middle end : D} → IsLawful F →
       Reads is_known remaining charge failures loans limit end_error device G F (λ m w. m ≡ mean w) start (Ok v) old middle →
       Reads is_known remaining charge failures loans limit end_error device H (S (mean v)) whole (charge middle) r middle end →
       Reads is_known remaining charge failures loans limit end_error device H (F >>= S) whole start r old end
@@ -62,7 +62,7 @@ module _ {D A B T U : Type 0} {is_known : D → Type 0} {remaining : D → List 
       read
 
   -- it fails it
-  pub test-failed : Lawful F → (why : Fault) (e : DecodeError) → test (mean v) ≡ Err why → Tells end_error why e →
+  pub test-failed : IsLawful F → (why : Fault) (e : DecodeError) → test (mean v) ≡ Err why → Tells end_error why e →
       Reads is_known remaining charge failures loans limit end_error device G (F >>= λ a. from_result (test a)) whole start (Err e) old new
   test-failed lawful why e h tells =
       read-as

@@ -9,7 +9,7 @@ use Rattle.bincode_spec.specs.Layers.Pieces.{FillsBuffer}
 use Rattle.bincode_spec.specs.Format.{Format, charge_then, map_format}
 use Rattle.bincode_spec.specs.Layers.Reads.{ReadsWord}
 use Rattle.bincode_spec.specs.Answer.{Answer, answer, Gave, Allows}
-use Rattle.bincode_spec.specs.Layers.Claims.{Claimed, OverClaimed, Charges}
+use Rattle.bincode_spec.specs.Layers.Claims.{ClaimSucceeds, ClaimFails, Charges}
 use Rattle.bincode_spec.specs.Meaning.{Number}
 use Rattle.bincode_base.specs.declared.error.DecodeError.TheVariants.{Memory}
 use Rattle.bincode_spec.specs.Decoding.{Decodes, DecodeFailure, by_memory}
@@ -60,7 +60,7 @@ module _ {D R C : Type 0} {is_known : D → Type 0} {remaining : D → List ℕ}
     (kept : OnlyCharged is_known remaining failures reader_of context_of loans old now) where
   -- a claim passes the limit
   pub claim-passed : {A T G : Type 0} {F : Format A} {decodes_to : A → T → Type 0} {e : DecodeError} (n : ℕ) →
-      OverClaimed limit (charge old) n (charge now) →
+      ClaimFails limit (charge old) n (charge now) →
       DecodeFailure end_error device G (answer limit F (remaining old) (charge old)) (failures old) (failures now) (remaining old) (remaining now) (charge now) e →
       Reads is_known remaining charge failures loans limit end_error device G F decodes_to (charge old) (Err e) old now
   claim-passed n over stops = record {
@@ -74,7 +74,7 @@ module _ {D R C : Type 0} {is_known : D → Type 0} {remaining : D → List ℕ}
   }
 
   -- a claim succeeds, then memory is refused
-  pub charge-refused : {A T G : Type 0} {F : Format A} {decodes_to : A → T → Type 0} (n : ℕ) → Claimed limit (charge old) n (charge now) → G →
+  pub charge-refused : {A T G : Type 0} {F : Format A} {decodes_to : A → T → Type 0} (n : ℕ) → ClaimSucceeds limit (charge old) n (charge now) → G →
       Reads is_known remaining charge failures loans limit end_error device G F decodes_to (charge old) (Err Memory) old now
   charge-refused n claim grows = record {
     ok = λ known. tt;
@@ -88,7 +88,7 @@ module _ {D R C : Type 0} {is_known : D → Type 0} {remaining : D → List ℕ}
 
   -- a claim succeeds, then a word is read
   pub charge_then-reads : {A T : Type 0} {F : Format A} {mean : T → A} {r : Result T DecodeError} {new : D} (n : ℕ) →
-      Claimed limit (charge old) n (charge now) → ReadsWord is_known remaining failures loans end_error device F mean r now new → charge new ≡ charge now →
+      ClaimSucceeds limit (charge old) n (charge now) → ReadsWord is_known remaining failures loans end_error device F mean r now new → charge new ≡ charge now →
       Reads is_known remaining charge failures loans limit end_error device ⊥ (charge_then n F) (λ a v. a ≡ mean v) (charge old) r old new
   charge_then-reads {F = F} {mean = mean} {r = r} {new = new} n claim read still = record {
     ok = λ known. IfOk-weaker r _ _ (λ v h. record {

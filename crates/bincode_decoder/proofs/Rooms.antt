@@ -8,17 +8,17 @@ use Rattle.bincode_base.specs.declared.error.DecodeError.TheVariants.{LimitExcee
 use Rattle.bincode_spec.specs.Layers.Claims.{Claims, OnlyCharged}
 use Rattle.std.proofs.Math.Nat.{mul-le-mul_right}
 use Rattle.bincode_spec.specs.Answer.{Allows, after_release}
-use Rattle.bincode_spec.specs.Layers.Claims.{Claimed, OverClaimed}
-use Rattle.bincode_spec.specs.Layers.Releases.{Held}
+use Rattle.bincode_spec.specs.Layers.Claims.{ClaimSucceeds, ClaimFails}
+use Rattle.bincode_spec.specs.Layers.Releases.{ReleasesAtMost}
 use Rattle.bincode_lemmas.specs.AnswerLaws.{claim-falls}
 
 -- the claims of fewer values are within those of more
-pub held-within : (limit : Option ℕ) (share n m start c : ℕ) → n ≤ m → Held limit (n * share) start c → Held limit (m * share) start c
+pub held-within : (limit : Option ℕ) (share n m start c : ℕ) → n ≤ m → ReleasesAtMost limit (n * share) start c → ReleasesAtMost limit (m * share) start c
 held-within None share n m start c le h = h
 held-within (Some limit) share n m start c le h = let k : n * share ≤ m * share = mul-le-mul_right share le in omega arith
 
 -- if nothing was released, the claims are still reserved
-pub held-still : (limit : Option ℕ) (room charge : ℕ) → Held limit room charge charge
+pub held-still : (limit : Option ℕ) (room charge : ℕ) → ReleasesAtMost limit room charge charge
 held-still None room charge = omega arith
 held-still (Some limit) room charge = omega arith
 
@@ -28,12 +28,12 @@ claimed_by true raised after e = cc
 claimed_by false raised after e = absurd (cc)
 
 -- a claim that succeeds lowers nothing,
-pub claimed-grows : (limit : Option ℕ) (before n after : ℕ) → Claimed limit before n after → before ≤ after
+pub claimed-grows : (limit : Option ℕ) (before n after : ℕ) → ClaimSucceeds limit before n after → before ≤ after
 claimed-grows None before n after h = let e : after ≡ before = cc in omega (arith, e)
 claimed-grows (Some limit) before n after h = let e = claimed_by (nat_le (before + n) limit) (before + n) after h in omega (arith, e)
 
 -- and leads to a charge within the limit;
-pub claimed-within : (limit : Option ℕ) (before n after : ℕ) → Claimed limit before n after → Allows limit after
+pub claimed-within : (limit : Option ℕ) (before n after : ℕ) → ClaimSucceeds limit before n after → Allows limit after
 claimed-within None before n after h = tt
 claimed-within (Some limit) before n after h = stands (nat_le (before + n) limit) refl
   where
@@ -55,12 +55,12 @@ whatever_given (Ok v) p = p
 whatever_given (Err e) p = tt
 
 -- nor does it lower what is reserved,
-pub claimed-held : (limit : Option ℕ) (before n after end : ℕ) → Claimed limit before n after → Held limit n after end → before ≤ end
+pub claimed-held : (limit : Option ℕ) (before n after end : ℕ) → ClaimSucceeds limit before n after → ReleasesAtMost limit n after end → before ≤ end
 claimed-held None before n after end h k = let e : after ≡ before = cc in omega (arith, e, k)
 claimed-held (Some limit) before n after end h k = let e = claimed_by (nat_le (before + n) limit) (before + n) after h in omega (arith, e, k)
 
 -- nor does one that passes the limit
-pub over-grows : (limit : Option ℕ) (before n after : ℕ) → OverClaimed limit before n after → before ≤ after
+pub over-grows : (limit : Option ℕ) (before n after : ℕ) → ClaimFails limit before n after → before ≤ after
 over-grows limit before n after h = rw h.1 (each (nat_lt (before + n) (2 ^ 64)))
   where
     each : (b : Bool) → before ≤ (if b then before + n else before)

@@ -5,7 +5,7 @@ ghost use Rattle.bincode_base.specs.Setting.{Setting};
 ghost use Rattle.bincode_spec.specs.Words.{array};
 ghost use Rattle.bincode_spec.specs.Run.{IsListOf};
 ghost use Rattle.bincode_spec.specs.Allowed.{AllowedWord};
-ghost use Rattle.bincode_spec.specs.Encoding.{Ready, Encodes};
+ghost use Rattle.bincode_spec.specs.Encoding.{IsReady, Encodes};
 
 use bincode_base::error::EncodeError;
 use bincode_encoder::encoder::Encoder;
@@ -36,7 +36,7 @@ pub trait Encode: Wire + Drop {
     fn as_bytes(_items: &[Self]) -> Option<&[u8]>
     where
         Self: Sized,
-        ensures { IfSome result (λ bytes. (s : Setting) → Ready (All (Self.words.writable s) _items.now)
+        ensures { IfSome result (λ bytes. (s : Setting) → IsReady (All (Self.words.writable s) _items.now)
             (AllowedWord (IsListOf Self.words.means _items.now)
             (array (length _items.now) Self.words.claim (Self.words.format s)))
             bytes.now) }

@@ -11,7 +11,7 @@ use Rattle.bincode_spec.specs.Words.{not_zero_by}
 use Rattle.bincode_spec.specs.Allowed.{AllowedWord}
 use Rattle.bincode_lemmas.specs.Sequences.{Both}
 use Rattle.bincode_lemmas.specs.AllowedLaws.{not_zero-allows, allowed-not_zero}
-use Rattle.bincode_spec.specs.Encoding.{Adds, Refuses, Ready, Encodes}
+use Rattle.bincode_spec.specs.Encoding.{Adds, Refuses, IsReady, Encodes}
 use Rattle.bincode_lemmas.specs.EncodingLaws.{writes-alone, writes-both, writes-same, halts-alone, halts-within, halts-same, halts-named, halts-where, halts-in_first, halts-in_next, ready-as}
 
 -- writes in turn are one write
@@ -21,11 +21,11 @@ Joined {W} adds = (a b c : W) (x y : List ℕ) → adds a x b → adds b y c →
 module _ {E W : Type 0} {adds : Adds W} {refuses : Refuses W} {writer_of : E → W} {loans : E → List GName} {old new : E} {T R : Type 0}
     {A : List ℕ → Type 0} {N : EncodeError → Type 0} {r : Result T EncodeError} where
   -- one piece is the whole word
-  pub piece-encodes : {piece : List ℕ} → ((w : W) → adds w [] w) → Ready R A piece → OnOk r (adds (writer_of old) piece (writer_of new)) →
+  pub piece-encodes : {piece : List ℕ} → ((w : W) → adds w [] w) → IsReady R A piece → OnOk r (adds (writer_of old) piece (writer_of new)) →
       IfErr r (λ e. refuses (writer_of old) piece e (writer_of new)) → loans new ≡ loans old → Encodes adds refuses writer_of loans R A N r old new
   piece-encodes {piece = piece} none a ok err same = record {
     ok = on_ok_weaker r (writes-alone adds A piece _ _ a.is_allowed) ok;
-    err = IfErr-weaker r _ _ (λ e h. halts-alone adds refuses none (Ready R A) piece a N _ _ e h) err;
+    err = IfErr-weaker r _ _ (λ e h. halts-alone adds refuses none (IsReady R A) piece a N _ _ e h) err;
     same_loans = same;
   }
 
@@ -36,7 +36,7 @@ module _ {E W : Type 0} {adds : Adds W} {refuses : Refuses W} {writer_of : E →
   encodes-as {S = S} {B = B} {M = M} to from can more w = record {
     ok = on_ok_weaker r (writes-same adds A B _ _ to) w.ok;
     err = IfErr-weaker r _ _ (λ e h. halts-where adds refuses R S B can M _ _ e
-        (halts-same adds refuses (Ready R A) (Ready R B) M _ _ e (ready-as R A B to) (ready-as R B A from) (halts-named adds refuses (Ready R A) N M _ _ e (more e) h))) w.err;
+        (halts-same adds refuses (IsReady R A) (IsReady R B) M _ _ e (ready-as R A B to) (ready-as R B A from) (halts-named adds refuses (IsReady R A) N M _ _ e (more e) h))) w.err;
     same_loans = w.same_loans;
   }
 
@@ -45,7 +45,7 @@ module _ {E W : Type 0} {adds : Adds W} {refuses : Refuses W} {writer_of : E →
       Encodes adds refuses writer_of loans R A N r old new → Encodes adds refuses writer_of loans R B N r old new
   encodes-within {B = B} to from w = record {
     ok = on_ok_weaker r (writes-same adds A B _ _ to) w.ok;
-    err = IfErr-weaker r _ _ (λ e h. halts-within adds refuses (Ready R A) (Ready R B) N _ _ e (ready-as R A B to)
+    err = IfErr-weaker r _ _ (λ e h. halts-within adds refuses (IsReady R A) (IsReady R B) N _ _ e (ready-as R A B to)
         (λ bytes b. let a = from bytes b.is_allowed in (a.0, record { is_writable = b.is_writable; is_allowed = a.1 })) h) w.err;
     same_loans = w.same_loans;
   }

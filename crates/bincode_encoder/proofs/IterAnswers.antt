@@ -10,7 +10,7 @@ use Rattle.bincode_spec.specs.Words.{array}
 use Rattle.bincode_spec.specs.Allowed.{AllowedWord}
 use Rattle.bincode_spec.specs.Run.{IsListOf}
 use Rattle.bincode_lemmas.specs.Sequences.{AllowsEach}
-use Rattle.bincode_spec.specs.Encoding.{Adds, Refuses, Writes, Ready, EncodeFailure}
+use Rattle.bincode_spec.specs.Encoding.{Adds, Refuses, Writes, IsReady, EncodeFailure}
 use Rattle.bincode_lemmas.specs.RunAllowedLaws.{array-allows}
 use Rattle.bincode_lemmas.specs.EncodingLaws.{writes-same}
 use Rattle.bincode_encoder.proofs.EncodingAnswers.{Joined}
@@ -59,10 +59,10 @@ module _ {W : Type 0} (adds : Adds W) {A : Type 0} (Means : A → Meaning → Ty
   -- if encoding an item fails, so does the array
   pub written-halts : (refuses : Refuses W) → Joined adds → (share : ℕ) (Writable : A → Type 0) (N : EncodeError → Type 0) {vs left rest : List A} {v : A}
       {before between after : W} {e : EncodeError} →
-      WrittenSoFar vs left before between → left ≡ v ∷ rest → EncodeFailure adds refuses (Ready (Writable v) (AllowedWord (Means v) F)) N between after e →
-      EncodeFailure adds refuses (Ready (All Writable vs) (AllowedWord (IsListOf Means vs) (array (length vs) share F))) N before after e
+      WrittenSoFar vs left before between → left ≡ v ∷ rest → EncodeFailure adds refuses (IsReady (Writable v) (AllowedWord (Means v) F)) N between after e →
+      EncodeFailure adds refuses (IsReady (All Writable vs) (AllowedWord (IsListOf Means vs) (array (length vs) share F))) N before after e
   written-halts refuses join share Writable N {vs = vs} {rest = rest} {v = v} {before = before} {between = between} {after = after} {e = why} (xs, e, d) f h =
       let p : xs ++ v ∷ rest ≡ vs = ap (λ z. xs ++ z) (sym f) ∙ e in
-      subst (λ z. EncodeFailure adds refuses (Ready (All Writable z) (AllowedWord (IsListOf Means z) (array (length z) share F))) N before after why) p
+      subst (λ z. EncodeFailure adds refuses (IsReady (All Writable z) (AllowedWord (IsListOf Means z) (array (length z) share F))) N before after why) p
       (halts_array adds refuses Means share F _ N _ (xs ++ v ∷ rest) before after why refl
       (halts-between adds refuses join Writable (λ v. AllowedWord (Means v) F) N before between after xs rest v why d h))

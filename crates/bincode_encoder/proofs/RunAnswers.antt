@@ -13,7 +13,7 @@ use Rattle.bincode_lemmas.specs.Sequences.{Both}
 use Rattle.bincode_spec.specs.Run.{IsListOf}
 use Rattle.bincode_lemmas.specs.Sequences.{AllowsEach}
 use Rattle.bincode_lemmas.specs.RunAllowedLaws.{array-allows, allowed-array, each-join, each-split}
-use Rattle.bincode_spec.specs.Encoding.{Adds, Refuses, Writes, Ready, EncodeFailure}
+use Rattle.bincode_spec.specs.Encoding.{Adds, Refuses, Writes, IsReady, EncodeFailure}
 use Rattle.bincode_lemmas.specs.EncodingLaws.{writes-both, writes-same, halts-first, halts-next, halts-same, halts-named, ready-as}
 
 -- the items before an index, the item there, and those after it
@@ -49,9 +49,9 @@ module _ {W : Type 0} (adds : Adds W) where
 -- what each value allows, if it can be written
 module _ {A : Type 0} (Writable : A → Type 0) (Allowed : A → List ℕ → Type 0) where
   abbrev pub ReadyEach : A → List ℕ → Type 0
-  ReadyEach v = Ready (Writable v) (Allowed v)
+  ReadyEach v = IsReady (Writable v) (Allowed v)
 
-  ready_each : (vs : List A) (bytes : List ℕ) → Ready (All Writable vs) (AllowsEach Allowed vs) bytes → AllowsEach ReadyEach vs bytes
+  ready_each : (vs : List A) (bytes : List ℕ) → IsReady (All Writable vs) (AllowsEach Allowed vs) bytes → AllowsEach ReadyEach vs bytes
   ready_each [] bytes w = w.is_allowed
   ready_each (v ∷ vs) bytes w =
       let b = w.is_allowed in (
@@ -63,7 +63,7 @@ module _ {A : Type 0} (Writable : A → Type 0) (Allowed : A → List ℕ → Ty
             (record { is_writable = All-tail Writable v vs w.is_writable; is_allowed = b.4 }),
       )
 
-  each_ready : (vs : List A) (bytes : List ℕ) → AllowsEach ReadyEach vs bytes → Ready (All Writable vs) (AllowsEach Allowed vs) bytes
+  each_ready : (vs : List A) (bytes : List ℕ) → AllowsEach ReadyEach vs bytes → IsReady (All Writable vs) (AllowsEach Allowed vs) bytes
   each_ready [] bytes e = record { is_writable = All-nil Writable; is_allowed = e }
   each_ready (v ∷ vs) bytes (x, y, e, a, b) =
       let w = each_ready vs y b in
@@ -71,12 +71,12 @@ module _ {A : Type 0} (Writable : A → Type 0) (Allowed : A → List ℕ → Ty
 
   -- those before one, that one, and those after it
   ready_around : (xs ys : List A) (v : A) (bytes : List ℕ) →
-      Both (Ready (All Writable xs) (AllowsEach Allowed xs)) (Both (ReadyEach v) (AllowsEach ReadyEach ys)) bytes →
-      Ready (All Writable (xs ++ v ∷ ys)) (AllowsEach Allowed (xs ++ v ∷ ys)) bytes
+      Both (IsReady (All Writable xs) (AllowsEach Allowed xs)) (Both (ReadyEach v) (AllowsEach ReadyEach ys)) bytes →
+      IsReady (All Writable (xs ++ v ∷ ys)) (AllowsEach Allowed (xs ++ v ∷ ys)) bytes
   ready_around xs ys v bytes (x, y, e, a, b) = each_ready (xs ++ v ∷ ys) bytes (each-join ReadyEach xs (v ∷ ys) bytes (x, y, e, ready_each xs x a, b))
 
-  around_ready : (xs ys : List A) (v : A) (bytes : List ℕ) → Ready (All Writable (xs ++ v ∷ ys)) (AllowsEach Allowed (xs ++ v ∷ ys)) bytes →
-      Both (Ready (All Writable xs) (AllowsEach Allowed xs)) (Both (ReadyEach v) (AllowsEach ReadyEach ys)) bytes
+  around_ready : (xs ys : List A) (v : A) (bytes : List ℕ) → IsReady (All Writable (xs ++ v ∷ ys)) (AllowsEach Allowed (xs ++ v ∷ ys)) bytes →
+      Both (IsReady (All Writable xs) (AllowsEach Allowed xs)) (Both (ReadyEach v) (AllowsEach ReadyEach ys)) bytes
   around_ready xs ys v bytes w =
       let b = each-split ReadyEach xs (v ∷ ys) bytes (ready_each (xs ++ v ∷ ys) bytes w) in
       (b.0, b.1, b.2, each_ready xs b.0 b.3, b.4)
@@ -90,31 +90,31 @@ module _ {W : Type 0} (adds : Adds W) (refuses : Refuses W) where
   -- if encoding an item fails, so does the run
   pub halts-between : ((a b c : W) (x y : List ℕ) → adds a x b → adds b y c → adds a (x ++ y) c) →
       {A : Type 0} (Writable : A → Type 0) (Allowed : A → List ℕ → Type 0) (N : EncodeError → Type 0) (before between after : W) (xs ys : List A) (v : A) (e : EncodeError) →
-      Writes adds (AllowsEach Allowed xs) before between → EncodeFailure adds refuses (Ready (Writable v) (Allowed v)) N between after e →
-      EncodeFailure adds refuses (Ready (All Writable (xs ++ v ∷ ys)) (AllowsEach Allowed (xs ++ v ∷ ys))) N before after e
+      Writes adds (AllowsEach Allowed xs) before between → EncodeFailure adds refuses (IsReady (Writable v) (Allowed v)) N between after e →
+      EncodeFailure adds refuses (IsReady (All Writable (xs ++ v ∷ ys)) (AllowsEach Allowed (xs ++ v ∷ ys))) N before after e
   halts-between join Writable Allowed N before between after xs ys v e w u =
       let first = halts-first adds refuses (ReadyEach Writable Allowed v) (AllowsEach (ReadyEach Writable Allowed) ys) N N between after e u in
       let next =
       halts-next adds refuses join (All Writable xs) (AllowsEach Allowed xs)
       (Both (ReadyEach Writable Allowed v) (AllowsEach (ReadyEach Writable Allowed) ys)) N (λ d. N d ⊎ N d) before between after e w first in
       let all =
-      halts-same adds refuses _ (Ready (All Writable (xs ++ v ∷ ys)) (AllowsEach Allowed (xs ++ v ∷ ys))) _ before after e
+      halts-same adds refuses _ (IsReady (All Writable (xs ++ v ∷ ys)) (AllowsEach Allowed (xs ++ v ∷ ys))) _ before after e
       (ready_around Writable Allowed xs ys v) (around_ready Writable Allowed xs ys v) next in
       halts-named adds refuses _ _ N before after e (one_of N e) all
 
   pub halts-at : ((a b c : W) (x y : List ℕ) → adds a x b → adds b y c → adds a (x ++ y) c) →
       {A : Type 0} (Writable : A → Type 0) (Allowed : A → List ℕ → Type 0) (N : EncodeError → Type 0) (before between after : W) (vs : List A) (i : ℕ) (v : A) (e : EncodeError) →
       i < length vs → v ≡ slice_index_or vs i v →
-      Writes adds (AllowsEach Allowed (take i vs)) before between → EncodeFailure adds refuses (Ready (Writable v) (Allowed v)) N between after e →
-      EncodeFailure adds refuses (Ready (All Writable vs) (AllowsEach Allowed vs)) N before after e
+      Writes adds (AllowsEach Allowed (take i vs)) before between → EncodeFailure adds refuses (IsReady (Writable v) (Allowed v)) N between after e →
+      EncodeFailure adds refuses (IsReady (All Writable vs) (AllowsEach Allowed vs)) N before after e
   halts-at join Writable Allowed N before between after vs i v e h k w u =
-      subst (λ z. EncodeFailure adds refuses (Ready (All Writable z) (AllowsEach Allowed z)) N before after e) (sym (around vs i v h k))
+      subst (λ z. EncodeFailure adds refuses (IsReady (All Writable z) (AllowsEach Allowed z)) N before after e) (sym (around vs i v h k))
       (halts-between join Writable Allowed N before between after (take i vs) (drop (i + 1) vs) v e w u)
 
   -- and so does the array
   pub halts_array :
       {A : Type 0} (Means : A → Meaning → Type 0) (share : ℕ) (F : Format Meaning) (R : Type 0) (N : EncodeError → Type 0) (n : ℕ) (vs : List A) (before after : W) (e : EncodeError) →
-      length vs ≡ n → EncodeFailure adds refuses (Ready R (AllowsEach (λ v. AllowedWord (Means v) F) vs)) N before after e →
-      EncodeFailure adds refuses (Ready R (AllowedWord (IsListOf Means vs) (array n share F))) N before after e
+      length vs ≡ n → EncodeFailure adds refuses (IsReady R (AllowsEach (λ v. AllowedWord (Means v) F) vs)) N before after e →
+      EncodeFailure adds refuses (IsReady R (AllowedWord (IsListOf Means vs) (array n share F))) N before after e
   halts_array Means share F R N n vs before after e l =
       halts-same adds refuses _ _ N before after e (ready-as R _ _ (λ bytes. array-allows Means share F n vs bytes l)) (ready-as R _ _ (λ bytes. allowed-array Means share F n vs bytes l))

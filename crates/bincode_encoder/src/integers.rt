@@ -8,7 +8,7 @@ ghost use Rattle.bincode_spec.specs.Meaning.{Number, IsNumber};
 ghost use Rattle.bincode_spec.specs.Words.{natural_number, integer_number, array};
 ghost use Rattle.bincode_spec.specs.Run.{IsListOf};
 ghost use Rattle.bincode_spec.specs.Allowed.{AllowedWord};
-ghost use Rattle.bincode_spec.specs.Encoding.{Ready, Encodes};
+ghost use Rattle.bincode_spec.specs.Encoding.{IsReady, Encodes};
 
 use crate::answers::rebuild_result;
 use crate::encoder::{Encoder, write_from};
@@ -53,7 +53,7 @@ pub fn encode_signed_byte<E: Encoder>(encoder: &mut E, val: i8) -> Result<(), En
 /// Returns the bytes: they are their own encoding.
 #[inline(always)]
 pub fn words_of_bytes(values: &[u8]) -> &[u8]
-    ensures { Ready (All (λ _. Unit {0}) values.now) (AllowedWord (IsListOf (λ v. IsNumber (pos v)) values.now)
+    ensures { IsReady (All (λ _. Unit {0}) values.now) (AllowedWord (IsListOf (λ v. IsNumber (pos v)) values.now)
         (array (length values.now) 1 (natural_number unsigned_byte))) result.now }
 {
     values

@@ -5,7 +5,7 @@ ghost use Rattle.bincode_base.specs.Setting.{Setting};
 ghost use Rattle.bincode_spec.specs.Words.{array};
 ghost use Rattle.bincode_spec.specs.Run.{IsListOf};
 ghost use Rattle.bincode_spec.specs.Allowed.{AllowedWord};
-ghost use Rattle.bincode_spec.specs.Encoding.{Ready, Encodes};
+ghost use Rattle.bincode_spec.specs.Encoding.{IsReady, Encodes};
 
 use crate::encoder::{Encoder, write_from};
 use crate::room::fits_in_one_check;
@@ -32,7 +32,7 @@ pub trait WriteValues {
 
     /// The bytes of a slice of values, if they are their own encoding.
     fn as_bytes(items: &[Self::Value]) -> Option<&[u8]>
-        ensures { IfSome result (λ bytes. (s : Setting) → Ready (All (Self.Value.words.writable s) items.now)
+        ensures { IfSome result (λ bytes. (s : Setting) → IsReady (All (Self.Value.words.writable s) items.now)
             (AllowedWord (IsListOf Self.Value.words.means items.now)
             (array (length items.now) Self.Value.words.claim (Self.Value.words.format s))) bytes.now) };
 }

@@ -4,7 +4,7 @@ use Rattle.std.proofs.Common.{◌∙◌, sym, subst, arith}
 use Rattle.bincode_base.specs.Setting.{Setting}
 use Rattle.bincode_base.specs.declared.error.EncodeError.{EncodeError}
 use Rattle.bincode_base.specs.declared.error.IntegerType.TheVariants.{U32}
-use Rattle.bincode_spec.specs.Allowed.{AllowedWord, SomeWord, MayName, WrittenAlike, Shortest, OneLength}
+use Rattle.bincode_spec.specs.Allowed.{AllowedWord, SomeWord, MayName, WrittenAlike, IsShortest, OneLength}
 use Rattle.bincode_spec.specs.Answer.{answer}
 use Rattle.bincode_spec.specs.Choices.{IsChoice}
 use Rattle.bincode_spec.specs.Layers.Laws.{AllLawful, AllBalanced}
@@ -37,8 +37,8 @@ IsNone found [] = Unit {0}
 IsNone found (n ∷ tags) = ((found == n) ≡ false) × IsNone found tags
 
 -- two formats decode alike
-abbrev pub ReadAlike : Format Meaning → Format Meaning → Type 0
-ReadAlike F G = (limit : Option ℕ) (input : List ℕ) (c : ℕ) → answer limit F input c ≡ answer limit G input c
+abbrev pub DecodeAlike : Format Meaning → Format Meaning → Type 0
+DecodeAlike F G = (limit : Option ℕ) (input : List ℕ) (c : ℕ) → answer limit F input c ≡ answer limit G input c
 
 -- the formats of the variants, and the laws that they have if all of their parts have them
 pub record VariantWords (A : Type 0) : Type 1 where
@@ -79,7 +79,7 @@ pub record VariantWords (A : Type 0) : Type 1 where
   pub comes_back : (eq : A → A → Bool) → AllExact eq → (v w : A) (m : Meaning) → valid v → (variant v).0 ≡ (variant w).0 → means v m → decodes_to w m → eq v w ≡ true
   -- each part is canonical
   pub AllCanonical : Type 0
-  pub shortest : AllCanonical → (s : Setting) (v w : A) → valid v → (variant v).0 ≡ (variant w).0 → Shortest (means v) (decodes_to w) ((variant v).1 s)
+  pub shortest : AllCanonical → (s : Setting) (v w : A) → valid v → (variant v).0 ≡ (variant w).0 → IsShortest (means v) (decodes_to w) ((variant v).1 s)
 
 -- no variant
 abbrev pub no_more : {A : Type 0} → VariantWords A
@@ -242,7 +242,7 @@ pub record EnumLaws {A : Type 0} (W : Words A) (E : EnumVariants A) : Type 0 whe
   -- a value is written as the tag of its variant, then its part
   pub written : (s : Setting) → WrittenAlike (W.format s) (tag_then_part tag E.variants s)
   -- and decoded so
-  pub read : (s : Setting) → ReadAlike (W.format s) (tag_then_part tag E.variants s)
+  pub read : (s : Setting) → DecodeAlike (W.format s) (tag_then_part tag E.variants s)
   pub writable : E.AllWritable → AlwaysWritable W
   pub plain : E.AllPlain → PlainWords W
   pub exact : (eq : A → A → Bool) → E.AllExact eq → ExactWords W eq

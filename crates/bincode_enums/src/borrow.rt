@@ -5,7 +5,7 @@ ghost use Rattle.bincode_spec.specs.Meaning.{Choice};
 ghost use Rattle.bincode_spec.specs.Words.{after_tag};
 ghost use Rattle.bincode_spec.specs.Choices.{IsChoice};
 ghost use Rattle.bincode_spec.specs.Layers.Values.{Reads};
-ghost use Rattle.bincode_enums.specs.EnumWords.{ReadAlike};
+ghost use Rattle.bincode_enums.specs.EnumWords.{DecodeAlike};
 
 use crate::enums::Enum;
 use bincode_base::error::DecodeError;
@@ -50,7 +50,7 @@ pub fn borrow_decode_part<
     D: BorrowDecoder<B, Context = Context>,
 >(tag: u32, number: u32, decoder: &mut D) -> Result<A, DecodeError>
     requires same { tag ≡ number }
-    requires picks { ReadAlike (after_tag T.choices.variants D.C.setting number)
+    requires picks { DecodeAlike (after_tag T.choices.variants D.C.setting number)
         (map_format (Choice number) (A.words.format D.C.setting)) }
     requires may_allocate { A.words.may_allocate → T.words.may_allocate }
     ensures { Reads D.is_known D.remaining D.charge D.failures D.loans D.C.bound D.R.end_error D.R.device

@@ -5,7 +5,7 @@ ghost use Rattle.bincode_spec.specs.Meaning.{Choice};
 ghost use Rattle.bincode_spec.specs.Words.{after_tag, variant_tags, in_order, last_of};
 ghost use Rattle.bincode_spec.specs.Choices.{IsChoice};
 ghost use Rattle.bincode_spec.specs.Layers.Values.{Reads};
-ghost use Rattle.bincode_enums.specs.EnumWords.{IsNone, ReadAlike};
+ghost use Rattle.bincode_enums.specs.EnumWords.{IsNone, DecodeAlike};
 
 use crate::enums::Enum;
 use bincode_base::error::{AllowedEnumVariants, DecodeError};
@@ -46,7 +46,7 @@ pub fn decode_part<Context: Drop, T: Enum, A: Decode<Context>, D: Decoder<Contex
     decoder: &mut D,
 ) -> Result<A, DecodeError>
     requires same { tag ≡ number }
-    requires picks { ReadAlike (after_tag T.choices.variants D.C.setting number)
+    requires picks { DecodeAlike (after_tag T.choices.variants D.C.setting number)
         (map_format (Choice number) (A.words.format D.C.setting)) }
     requires may_allocate { A.words.may_allocate → T.words.may_allocate }
     ensures { Reads D.is_known D.remaining D.charge D.failures D.loans D.C.bound D.R.end_error D.R.device

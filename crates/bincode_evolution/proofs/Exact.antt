@@ -19,7 +19,7 @@ use Rattle.bincode_spec.specs.Words.{natural_number, integer_number}
 use Rattle.bincode_shape.specs.declared.shape.Shape as shapes
 use Rattle.bincode_shape.specs.declared.shape.Shape.{Shape}
 use Rattle.bincode_shape.specs.Shapes.{format_of}
-use Rattle.bincode_evolution.specs.Reading.{Takes, Differs}
+use Rattle.bincode_evolution.specs.Reading.{ReadsTo, Differs}
 use Rattle.bincode_evolution.specs.Kinds.{Kind, OfNumber, kind_of, is_scalar, IsClear, of_scalars, of_kinds, of_lengths, of_lists, of_options, of_variants, of_missing, variant_at, is_choice}
 use Rattle.bincode_evolution.specs.Rules.{has_words, is_u8, is_i8, unsigned_width, signed_width, keeps, is_read}
 use Rattle.bincode_evolution.proofs.Kinded.{kinds-differ, lengths-differ}
@@ -31,8 +31,8 @@ use Rattle.bincode_evolution.proofs.Widths.{Short, number_short, digits_short, u
 
 -- the format reads numbers, each of which means an integer
 record Numeric (F : Format Meaning) (R : Format ℕ) (value : ℕ → ℤ) : Type 0 where
-  into : (input : List ℕ) (n : ℕ) (remaining : List ℕ) → Takes (R.read input) n remaining → Takes (F.read input) (Number (value n)) remaining
-  out : (input : List ℕ) (m : Meaning) (remaining : List ℕ) → Takes (F.read input) m remaining → (n : ℕ) × (m ≡ Number (value n)) × Takes (R.read input) n remaining
+  into : (input : List ℕ) (n : ℕ) (remaining : List ℕ) → ReadsTo (R.read input) n remaining → ReadsTo (F.read input) (Number (value n)) remaining
+  out : (input : List ℕ) (m : Meaning) (remaining : List ℕ) → ReadsTo (F.read input) m remaining → (n : ℕ) × (m ≡ Number (value n)) × ReadsTo (R.read input) n remaining
 
 plain_numeric : (n : ℕ) (R : Format ℕ) → Numeric (natural_number (step (Charge n) >>= λ _. R)) R pos
 plain_numeric n R = record {
@@ -60,7 +60,7 @@ by_rest F G R Q f g a b short = record {
 }
 
 -- both take one number, which means two integers
-by_value : (F G : Format Meaning) (R Q : Format ℕ) (f g : ℕ → ℤ) → Numeric F R f → Numeric G Q g → (input : List ℕ) (n : ℕ) → Takes (R.read input) n [] → ((k : ℕ) → Takes (Q.read input) k [] → k ≡ n) →
+by_value : (F G : Format Meaning) (R Q : Format ℕ) (f g : ℕ → ℤ) → Numeric F R f → Numeric G Q g → (input : List ℕ) (n : ℕ) → ReadsTo (R.read input) n [] → ((k : ℕ) → ReadsTo (Q.read input) k [] → k ≡ n) →
     (f n ≡ g n → ⊥) → Differs G F
 by_value F G R Q f g a b input n t only apart = record {
   input = input;
@@ -83,7 +83,7 @@ at_least_two width (Sixteen e) h = omega (arith, e, h)
 
 -- one byte
 
-byte_whole : (input : List ℕ) (m : ℕ) → Takes (byte.read input) m [] → length input ≡ 1
+byte_whole : (input : List ℕ) (m : ℕ) → ReadsTo (byte.read input) m [] → length input ≡ 1
 unfolding byte
 byte_whole input m t =
     let p = taken_map first_of (fixed_bytes 1) input m [] t in
@@ -108,7 +108,7 @@ byte_short tags name order width Variable w = record {
       let e = taken_byte 255 [] p.head p.middle p.first in
       let f : first_byte width p.head ≡ TooWide = ap (first_byte width) e in
       (none_failed (InvalidInteger name (tags p.head))).none p.middle [] n
-      (subst (λ z. Takes ((number_after order (InvalidInteger name (tags p.head)) p.head z).read p.middle) n []) f p.second);
+      (subst (λ z. ReadsTo ((number_after order (InvalidInteger name (tags p.head)) p.head z).read p.middle) n []) f p.second);
 }
 
 -- digits that no byte takes
@@ -147,7 +147,7 @@ bytes_differ F G f g a b apart = by_value F G byte byte f g a b (255 ∷ []) 255
 record Full (order : Endianness) (width : ℕ) : Type 0 where
   input : List ℕ
   number : ℕ
-  taken : Takes ((digits order width).read input) number []
+  taken : ReadsTo ((digits order width).read input) number []
   is_high : nat_lt (2 * number) (256 ^ width) ≡ false
 
 full : (order : Endianness) (width : ℕ) → IsWidth width → Full order width
@@ -173,21 +173,21 @@ full Big width (Sixteen e) =
       is_high = refl;
     })
 
-one_taken : (tags : ℕ → IntegerType) (name : IntegerType) (order : Endianness) (width : ℕ) → Takes ((varint tags name order width).read (1 ∷ [])) 1 []
+one_taken : (tags : ℕ → IntegerType) (name : IntegerType) (order : Endianness) (width : ℕ) → ReadsTo ((varint tags name order width).read (1 ∷ [])) 1 []
 unfolding varint written_as
 one_taken tags name order width =
     takes_in_turn byte (λ first. number_after order (InvalidInteger name (tags first)) first (first_byte width first)) (1 ∷ []) 1 [] (record { head = 1; middle = []; first = takes_byte 1 []; second = takes_pure 1 [] })
 
-one_only : (tags : ℕ → IntegerType) (name : IntegerType) (order : Endianness) (width k : ℕ) → Takes ((varint tags name order width).read (1 ∷ [])) k [] → k ≡ 1
+one_only : (tags : ℕ → IntegerType) (name : IntegerType) (order : Endianness) (width k : ℕ) → ReadsTo ((varint tags name order width).read (1 ∷ [])) k [] → k ≡ 1
 unfolding varint written_as
 one_only tags name order width k t =
     let p = taken_in_turn byte (λ first. number_after order (InvalidInteger name (tags first)) first (first_byte width first)) (1 ∷ []) k [] t in
     let e = taken_byte 1 [] p.head p.middle p.first in
     let f : first_byte width p.head ≡ Itself = ap (first_byte width) e in
-    let q = taken_pure p.head p.middle k [] (subst (λ z. Takes ((number_after order (InvalidInteger name (tags p.head)) p.head z).read p.middle) k []) f p.second) in
+    let q = taken_pure p.head p.middle k [] (subst (λ z. ReadsTo ((number_after order (InvalidInteger name (tags p.head)) p.head z).read p.middle) k []) f p.second) in
     q.0 ∙ e
 
-same_number : (R : Format ℕ) (input : List ℕ) (n k : ℕ) → Takes (R.read input) n [] → Takes (R.read input) k [] → k ≡ n
+same_number : (R : Format ℕ) (input : List ℕ) (n k : ℕ) → ReadsTo (R.read input) n [] → ReadsTo (R.read input) k [] → k ≡ n
 same_number R input n k t u = let e = sym t.1 ∙ u.1 in cc
 
 high_apart : (width n : ℕ) → nat_lt (2 * n) (256 ^ width) ≡ false → pos n ≡ from_two_complement width n → ⊥
@@ -200,7 +200,7 @@ unsigned_signed F G old new order width other Fixed w v a b =
     elim (cases_eq width other) [
       | inl e ↦
           let top = full order width w in
-          let same : Takes ((digits order other).read top.input) top.number [] = subst (λ z. Takes ((digits order z).read top.input) top.number []) e top.taken in
+          let same : ReadsTo ((digits order other).read top.input) top.number [] = subst (λ z. ReadsTo ((digits order z).read top.input) top.number []) e top.taken in
           by_value F G (digits order width) (digits order other) pos (from_two_complement other) a b top.input top.number top.taken
           (λ k t. same_number (digits order other) top.input top.number k same t)
           (subst (λ z. pos top.number ≡ from_two_complement z top.number → ⊥) e (high_apart width top.number top.is_high))
@@ -215,7 +215,7 @@ signed_unsigned F G old new order width other Fixed w v a b =
     elim (cases_eq width other) [
       | inl e ↦
           let top = full order width w in
-          let same : Takes ((digits order other).read top.input) top.number [] = subst (λ z. Takes ((digits order z).read top.input) top.number []) e top.taken in
+          let same : ReadsTo ((digits order other).read top.input) top.number [] = subst (λ z. ReadsTo ((digits order z).read top.input) top.number []) e top.taken in
           by_value F G (digits order width) (digits order other) (from_two_complement width) pos a b top.input top.number top.taken
           (λ k t. same_number (digits order other) top.input top.number k same t)
           (λ q. high_apart width top.number top.is_high (sym q))

@@ -14,7 +14,7 @@ use Rattle.bincode_spec.specs.Charge.{Step, Charge, Reserve, Release}
 use Rattle.bincode_spec.specs.Fault.{Allowed, InvalidInteger}
 use Rattle.bincode_spec.specs.Format.{Format, pure, fail, fixed_bytes, step, ◌>>=◌, written_as, without_count, map_format, elements}
 use Rattle.bincode_spec.specs.Integers.{digits, first_of, byte, number_after, first_byte, varint, number_by, unsigned_integer, unsigned_tag, Two, Four, Eight, Sixteen}
-use Rattle.bincode_spec.specs.Layers.Laws.{Lawful}
+use Rattle.bincode_spec.specs.Layers.Laws.{IsLawful}
 use Rattle.bincode_spec.specs.Meaning.{Meaning, Nothing, Then, Choice, list_meaning}
 use Rattle.bincode_spec.specs.Number.{number_of, low_first_number}
 use Rattle.bincode_spec.specs.Words.{nothing, first_and, tuple, array, list, len, tag, Variant, variant_tags, allowed_tags, part, after_tag, tag_then_part}
@@ -26,8 +26,8 @@ use Rattle.bincode_lemmas.specs.TextLaws.{text-has_word}
 use Rattle.bincode_shape.specs.declared.shape.Shape as shapes
 use Rattle.bincode_shape.specs.declared.shape.Shape.{Shape, Row_of-Shape, end_of-Shape, more_of-Shape}
 use Rattle.bincode_shape.specs.ShapeLaws.{format_of-lawful}
-use Rattle.bincode_shape.specs.Shapes.{format_of, formats_of, share, at, byte_tag, optional, one_of, numbered}
-use Rattle.bincode_evolution.specs.Reading.{HasWord}
+use Rattle.bincode_shape.specs.Shapes.{format_of, formats_of, share, at, byte_tag, option_variants, one_of, numbered_variants}
+use Rattle.bincode_evolution.specs.Reading.{WordOf}
 use Rattle.bincode_evolution.specs.Rules.{has_words, all_have_words, some_has_words}
 use Rattle.bincode_evolution.proofs.Sound.{shape_none}
 
@@ -35,7 +35,7 @@ use Rattle.bincode_evolution.proofs.Sound.{shape_none}
 abbrev pub Spells : {A : Type 0} → Format A → A → Type 0
 Spells F m = (word : List ℕ) × (steps : List Step) × F.Word word m steps
 
-spelled : {A : Type 0} (F : Format A) (m : A) → Spells F m → HasWord F
+spelled : {A : Type 0} (F : Format A) (m : A) → Spells F m → WordOf F
 spelled F m w = record { word = w.0; meaning = m; steps = w.1; is_word = w.2 }
 
 spells_in_turn : {A B : Type 0} (F : Format A) (G : A → Format B) (a : A) (m : B) → Spells F a → Spells (G a) m → Spells (F >>= G) m
@@ -110,7 +110,7 @@ spells_byte_tag : (s : Setting) (b : ℕ) → Spells (byte_tag s) b
 spells_byte_tag s b = let w = unsigned_byte-lawful.written_is_word (b ∷ []) b (written-unsigned_byte b) in (b ∷ [], w.0, w.1)
 
 -- what may be written is a word
-allowed_word : (P : Meaning → Type 0) (F : Format Meaning) (bytes : List ℕ) → Lawful F → AllowedWord P F bytes → HasWord F
+allowed_word : (P : Meaning → Type 0) (F : Format Meaning) (bytes : List ℕ) → IsLawful F → AllowedWord P F bytes → WordOf F
 allowed_word P F bytes f a = let w = f.written_is_word bytes a.meaning a.is_written in record { word = bytes; meaning = a.meaning; steps = w.0; is_word = w.1 }
 
 -- elements
@@ -123,11 +123,11 @@ spells_elements (suc n) share F m w =
           (spells_in_turn (without_count F) (λ a. map_format (λ others. a ∷ others) (elements n share F)) m (m ∷ v.0) (spells_without_count F m w) (spells_map (λ others. m ∷ others) (elements n share F) v.0 v.1)),
     )
 
-array_spelled : (n share : ℕ) (F : Format Meaning) (ms : List Meaning) → Spells (elements n share F) ms → HasWord (array n share F)
+array_spelled : (n share : ℕ) (F : Format Meaning) (ms : List Meaning) → Spells (elements n share F) ms → WordOf (array n share F)
 array_spelled n share F ms w =
     spelled (array n share F) (list_meaning ms) (spells_map list_meaning (step (Reserve n share) >>= λ _. elements n share F) ms (spells_stepped (Reserve n share) (elements n share F) ms w))
 
-array_word : (n share : ℕ) (F : Format Meaning) (words : Bool) → (words ≡ true → HasWord F) → ((n == 0) || words) ≡ true → HasWord (array n share F)
+array_word : (n share : ℕ) (F : Format Meaning) (words : Bool) → (words ≡ true → WordOf F) → ((n == 0) || words) ≡ true → WordOf (array n share F)
 array_word zero share F words f h = array_spelled 0 share F [] (spells_pure [])
 array_word (suc n) share F words f h =
     let e : (suc n == 0) ≡ false = ne_eqb (suc n) 0 (λ z. omega (arith, z)) in
@@ -135,42 +135,42 @@ array_word (suc n) share F words f h =
     let v = spells_elements (suc n) share F w.meaning (w.word, w.steps, w.is_word) in
     array_spelled (suc n) share F v.0 v.1
 
-list_word : (s : Setting) (share : ℕ) (F : Format Meaning) → HasWord (list s share F)
+list_word : (s : Setting) (share : ℕ) (F : Format Meaning) → WordOf (list s share F)
 list_word s share F =
     spelled (list s share F) Nothing (spells_in_turn (len s) (λ n. array n share F) 0 Nothing (spells_len s)
     (spells_map list_meaning (step (Reserve 0 share) >>= λ _. elements 0 share F) [] (spells_stepped (Reserve 0 share) (elements 0 share F) [] (spells_pure []))))
 
-first_and_word : (F others : Format Meaning) → HasWord F → HasWord others → HasWord (first_and F others)
+first_and_word : (F others : Format Meaning) → WordOf F → WordOf others → WordOf (first_and F others)
 unfolding first_and
 first_and_word F others w v =
     spelled (first_and F others) (Then w.meaning v.meaning) (spells_in_turn F (λ m. map_format (Then m) others) w.meaning (Then w.meaning v.meaning) (w.word, w.steps, w.is_word)
     (spells_map (Then w.meaning) others v.meaning (v.word, v.steps, v.is_word)))
 
-chosen_word : (tags : Setting → Format ℕ) (s : Setting) (variants : List Variant) (found : ℕ) → Spells (tags s) found → HasWord (after_tag variants s found) → HasWord (tag_then_part tags variants s)
+chosen_word : (tags : Setting → Format ℕ) (s : Setting) (variants : List Variant) (found : ℕ) → Spells (tags s) found → WordOf (after_tag variants s found) → WordOf (tag_then_part tags variants s)
 unfolding tag_then_part
 chosen_word tags s variants found w v =
     spelled _ v.meaning (spells_in_turn (tags s) (after_tag variants s) found v.meaning w (v.word, v.steps, v.is_word))
 
-map_word : (f : Meaning → Meaning) (F : Format Meaning) → HasWord F → HasWord (map_format f F)
+map_word : (f : Meaning → Meaning) (F : Format Meaning) → WordOf F → WordOf (map_format f F)
 map_word f F w = spelled (map_format f F) (f w.meaning) (spells_map f F w.meaning (w.word, w.steps, w.is_word))
 
-optional_word : (s : Setting) (F : Setting → Format Meaning) → HasWord (tag_then_part byte_tag (optional F) s)
+optional_word : (s : Setting) (F : Setting → Format Meaning) → WordOf (tag_then_part byte_tag (option_variants F) s)
 optional_word s F =
-    chosen_word byte_tag s (optional F) 0 (spells_byte_tag s 0)
-    (subst (λ G. HasWord G) (sym (part-here s (allowed_tags (variant_tags (optional F))) 0 (λ z. nothing) ((1, F) ∷ []))) (map_word (Choice 0) nothing (spelled nothing Nothing spells_nothing)))
+    chosen_word byte_tag s (option_variants F) 0 (spells_byte_tag s 0)
+    (subst (λ G. WordOf G) (sym (part-here s (allowed_tags (variant_tags (option_variants F))) 0 (λ z. nothing) ((1, F) ∷ []))) (map_word (Choice 0) nothing (spelled nothing Nothing spells_nothing)))
 
 -- no variant, no word
-none_word : (s : Setting) (allowed : Allowed) (found : ℕ) → HasWord (part s [] allowed found) → HasWord (one_of [] s)
+none_word : (s : Setting) (allowed : Allowed) (found : ℕ) → WordOf (part s [] allowed found) → WordOf (one_of [] s)
 unfolding fail
 none_word s allowed found w = absurd w.is_word
 
-one_of_word : (s : Setting) (variants : List Variant) → ((allowed : Allowed) → (found : ℕ) × HasWord (part s variants allowed found)) → HasWord (one_of variants s)
+one_of_word : (s : Setting) (variants : List Variant) → ((allowed : Allowed) → (found : ℕ) × WordOf (part s variants allowed found)) → WordOf (one_of variants s)
 one_of_word s [] h = let w = h (allowed_tags []) in none_word s (allowed_tags []) w.0 w.1
 one_of_word s (variant ∷ others) h =
     let w = h (allowed_tags (variant_tags (variant ∷ others))) in chosen_word tag s (variant ∷ others) w.0 (spells_tag s w.0) w.1
 
 mutual
-  pub shape_word : (shape : Shape) (s : Setting) → has_words shape ≡ true → HasWord (format_of shape s)
+  pub shape_word : (shape : Shape) (s : Setting) → has_words shape ≡ true → WordOf (format_of shape s)
   shape_word shapes.Unit s h = spelled nothing Nothing spells_nothing
   shape_word shapes.Bool s h = allowed_word _ _ _ (format_of-lawful shapes.Bool s) (truth-allows true)
   shape_word shapes.Char s h = allowed_word _ _ _ (format_of-lawful shapes.Char s) (character-allows 0 refl)
@@ -191,40 +191,40 @@ mutual
   shape_word (shapes.Array' n claim p element) s h = array_word n (share claim) (format_of element s) (has_words element) (λ e. shape_word element s e) h
   shape_word (shapes.Tuple' v parts) s h = tuple_word parts s h
   shape_word (shapes.Optional' p element) s h = optional_word s (format_of element)
-  shape_word (shapes.Choice' v parts) s h = one_of_word s (numbered 0 (formats_of parts)) (λ allowed. let w = variant_word parts s 0 allowed h in (w.0, w.2))
+  shape_word (shapes.Choice' v parts) s h = one_of_word s (numbered_variants 0 (formats_of parts)) (λ allowed. let w = variant_word parts s 0 allowed h in (w.0, w.2))
 
-  tuple_word : {m : _} → (parts : Row_of-Shape m) (s : Setting) → all_have_words parts ≡ true → HasWord (tuple (at s (formats_of parts)))
+  tuple_word : {m : _} → (parts : Row_of-Shape m) (s : Setting) → all_have_words parts ≡ true → WordOf (tuple (at s (formats_of parts)))
   tuple_word end_of-Shape s h = spelled nothing Nothing spells_nothing
   tuple_word (more_of-Shape shape others) s h =
       let both = and_parts (has_words shape) (all_have_words others) h in first_and_word (format_of shape s) (tuple (at s (formats_of others))) (shape_word shape s both.0) (tuple_word others s both.1)
 
   -- some tag selects a part with words
   variant_word : {m : _} → (parts : Row_of-Shape m) (s : Setting) (n : ℕ) (allowed : Allowed) → some_has_words parts ≡ true →
-      (found : ℕ) × (n ≤ found) × HasWord (part s (numbered n (formats_of parts)) allowed found)
+      (found : ℕ) × (n ≤ found) × WordOf (part s (numbered_variants n (formats_of parts)) allowed found)
   variant_word end_of-Shape s n allowed h = absurd (cc)
   variant_word (more_of-Shape shape others) s n allowed h =
       elim (or_cases (has_words shape) (some_has_words others) h) [
         | inl e ↦ (
           n,
           omega arith,
-          subst (λ G. HasWord G) (sym (part-here s allowed n (format_of shape) (numbered (n + 1) (formats_of others)))) (map_word (Choice n) (format_of shape s) (shape_word shape s e)),
+          subst (λ G. WordOf G) (sym (part-here s allowed n (format_of shape) (numbered_variants (n + 1) (formats_of others)))) (map_word (Choice n) (format_of shape s) (shape_word shape s e)),
         )
         | inr e ↦
             let w = variant_word others s (n + 1) allowed e in (
               w.0,
               omega (arith, w.1),
-              subst (λ G. HasWord G) (sym (part-there s allowed w.0 n (format_of shape) (numbered (n + 1) (formats_of others)) (ne_eqb w.0 n (λ z. omega (arith, z, w.1))))) w.2,
+              subst (λ G. WordOf G) (sym (part-there s allowed w.0 n (format_of shape) (numbered_variants (n + 1) (formats_of others)) (ne_eqb w.0 n (λ z. omega (arith, z, w.1))))) w.2,
             )
       ]
 
 -- a word is read, so that a shape without words has none
-word_refuted : (shape : Shape) (s : Setting) → has_words shape ≡ false → HasWord (format_of shape s) → ⊥
+word_refuted : (shape : Shape) (s : Setting) → has_words shape ≡ false → WordOf (format_of shape s) → ⊥
 word_refuted shape s h w =
     (shape_none shape s h).none (w.word ++ []) [] w.meaning (w.steps, (format_of-lawful shape s).word_read w.word [] w.meaning w.steps w.is_word)
 
 -- the rules say exactly which shapes have words
-pub words_exact : (shape : Shape) (s : Setting) → IsTrue (has_words shape) ↔ HasWord (format_of shape s)
+pub words_exact : (shape : Shape) (s : Setting) → IsTrue (has_words shape) ↔ WordOf (format_of shape s)
 words_exact shape s = (λ h. shape_word shape s h, λ w. true_since w)
   where
-    true_since : HasWord (format_of shape s) → has_words shape ≡ true
+    true_since : WordOf (format_of shape s) → has_words shape ≡ true
     true_since w = true_from_ne_false (has_words shape) (λ e. word_refuted shape s e w)

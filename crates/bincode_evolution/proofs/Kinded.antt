@@ -12,9 +12,9 @@ use Rattle.bincode_spec.specs.Words.{natural_number, nothing, first_and, tuple, 
 use Rattle.bincode_shape.specs.declared.shape.Shape as shapes
 use Rattle.bincode_shape.specs.declared.shape.Shape.{Shape, Row_of-Shape, end_of-Shape, more_of-Shape, items-the_row-Shape}
 use Rattle.bincode_shape.specs.ShapeLaws.{format_of-lawful}
-use Rattle.bincode_shape.specs.Shapes.{format_of, formats_of, share, at, byte_tag, optional, one_of, numbered}
+use Rattle.bincode_shape.specs.Shapes.{format_of, formats_of, share, at, byte_tag, option_variants, one_of, numbered_variants}
 use Rattle.bincode_evolution.specs.Kinds.{Kind, OfTruth, OfNumber, OfCharacter, OfText, OfRow, OfChoice, kind, kind_of, row_length}
-use Rattle.bincode_evolution.specs.Reading.{Takes, Differs}
+use Rattle.bincode_evolution.specs.Reading.{ReadsTo, Differs}
 use Rattle.bincode_evolution.specs.Rules.{has_words}
 use Rattle.bincode_evolution.proofs.Inhabited.{shape_word}
 use Rattle.bincode_evolution.proofs.Parts.{taken_element, taken_array}
@@ -22,7 +22,7 @@ use Rattle.bincode_evolution.proofs.Taking.{taken_in_turn, taken_pure, taken_map
 
 -- each meaning that is read has this kind
 record Kinded (k : Kind) (F : Format Meaning) : Type 0 where
-  is_kind : (input : List ℕ) (m : Meaning) (remaining : List ℕ) → Takes (F.read input) m remaining → kind m ≡ k
+  is_kind : (input : List ℕ) (m : Meaning) (remaining : List ℕ) → ReadsTo (F.read input) m remaining → kind m ≡ k
 
 map_kinded : {A : Type 0} (k : Kind) (f : A → Meaning) (F : Format A) → ((a : A) → kind (f a) ≡ k) → Kinded k (map_format f F)
 map_kinded k f F h = record {
@@ -114,15 +114,15 @@ shape_kinded shapes.Isize s = map_kinded OfNumber Number _ (λ n. refl)
 shape_kinded (shapes.Seq' claim p element) s = turn_kinded OfRow (len s) (λ n. array n (share claim) (format_of element s)) (λ n. array_kinded n (share claim) (format_of element s))
 shape_kinded (shapes.Array' n claim p element) s = array_kinded n (share claim) (format_of element s)
 shape_kinded (shapes.Tuple' v parts) s = tuple_kinded (at s (formats_of parts))
-shape_kinded (shapes.Optional' p element) s = chosen_kinded byte_tag s (optional (format_of element))
-shape_kinded (shapes.Choice' v parts) s = one_of_kinded s (numbered 0 (formats_of parts))
+shape_kinded (shapes.Optional' p element) s = chosen_kinded byte_tag s (option_variants (format_of element))
+shape_kinded (shapes.Choice' v parts) s = one_of_kinded s (numbered_variants 0 (formats_of parts))
 
 -- Of two shapes of two kinds, the new one reads no word of the old one with the same meaning: there is an input that
 -- shows it, where the old one has words.
 pub kinds-differ : (old new : Shape) (s : Setting) → has_words old ≡ true → (kind_of old ≡ kind_of new → ⊥) → Differs (format_of new s) (format_of old s)
 kinds-differ old new s h apart =
     let w = shape_word old s h in
-    let t : Takes ((format_of old s).read (w.word ++ [])) w.meaning [] = (w.steps, (format_of-lawful old s).word_read w.word [] w.meaning w.steps w.is_word) in
+    let t : ReadsTo ((format_of old s).read (w.word ++ [])) w.meaning [] = (w.steps, (format_of-lawful old s).word_read w.word [] w.meaning w.steps w.is_word) in
     record {
       input = w.word ++ [];
       remaining = [];
@@ -139,9 +139,9 @@ parts_in m = 0
 
 -- each meaning that is read has so many parts
 record Counted (n : ℕ) (F : Format Meaning) : Type 0 where
-  is_count : (input : List ℕ) (m : Meaning) (remaining : List ℕ) → Takes (F.read input) m remaining → parts_in m ≡ n
+  is_count : (input : List ℕ) (m : Meaning) (remaining : List ℕ) → ReadsTo (F.read input) m remaining → parts_in m ≡ n
 
-elements_counted : (n claim : ℕ) (F : Format Meaning) (input : List ℕ) (ms : List Meaning) (remaining : List ℕ) → Takes ((elements n claim F).read input) ms remaining → parts_in (list_meaning ms) ≡ n
+elements_counted : (n claim : ℕ) (F : Format Meaning) (input : List ℕ) (ms : List Meaning) (remaining : List ℕ) → ReadsTo ((elements n claim F).read input) ms remaining → parts_in (list_meaning ms) ≡ n
 unfolding parts_in
 elements_counted zero claim F input ms remaining t = ap (λ z. parts_in (list_meaning z)) (taken_pure [] input ms remaining t).0
 elements_counted (suc n) claim F input ms remaining t =
@@ -186,7 +186,7 @@ row_counted shape s n e = absurd (cc)
 pub lengths-differ : (old new : Shape) (s : Setting) (n k : ℕ) → has_words old ≡ true → row_length old ≡ Some n → row_length new ≡ Some k → (n ≡ k → ⊥) → Differs (format_of new s) (format_of old s)
 lengths-differ old new s n k h e f apart =
     let w = shape_word old s h in
-    let t : Takes ((format_of old s).read (w.word ++ [])) w.meaning [] = (w.steps, (format_of-lawful old s).word_read w.word [] w.meaning w.steps w.is_word) in
+    let t : ReadsTo ((format_of old s).read (w.word ++ [])) w.meaning [] = (w.steps, (format_of-lawful old s).word_read w.word [] w.meaning w.steps w.is_word) in
     record {
       input = w.word ++ [];
       remaining = [];

@@ -11,7 +11,7 @@ use Rattle.bincode_spec.specs.Meaning.{Meaning, Choice}
 use Rattle.bincode_spec.specs.Words.{natural_number, integer_number, truth, character, text, list, len, array, tuple, part, tag, variant_tags, allowed_tags}
 use Rattle.bincode_shape.specs.declared.shape.Shape as shapes
 use Rattle.bincode_shape.specs.declared.shape.Shape.{Shape, Row_of-Shape, end_of-Shape, more_of-Shape}
-use Rattle.bincode_shape.specs.Shapes.{format_of, formats_of, share, at, one_of, numbered}
+use Rattle.bincode_shape.specs.Shapes.{format_of, formats_of, share, at, one_of, numbered_variants}
 use Rattle.bincode_evolution.specs.Reading.{ReadsAll}
 use Rattle.bincode_evolution.specs.Rules.{has_words, all_have_words, some_has_words, is_nothing, is_bool, is_char, is_text, is_u8, is_i8, is_list, is_row, is_read, parts_of}
 use Rattle.bincode_evolution.specs.Lists.{part_of}
@@ -24,9 +24,9 @@ array_none : (n share : ℕ) (F : Format Meaning) → (n == 0) ≡ false → NoW
 array_none zero share F h f = absurd (eqb-false 0 0 h refl)
 array_none (suc n) share F h f = none_array n share f
 
-one_of_none : (s : Setting) (Fs : List (Setting → Format Meaning)) → ((n found : ℕ) (allowed : Allowed) → NoWord (part s (numbered n Fs) allowed found)) → NoWord (one_of (numbered 0 Fs) s)
+one_of_none : (s : Setting) (Fs : List (Setting → Format Meaning)) → ((n found : ℕ) (allowed : Allowed) → NoWord (part s (numbered_variants n Fs) allowed found)) → NoWord (one_of (numbered_variants 0 Fs) s)
 one_of_none s [] h = none_failed EmptyEnum
-one_of_none s (F ∷ Fs) h = chosen_none tag s (numbered 0 (F ∷ Fs)) (λ found. h 0 found (allowed_tags (variant_tags (numbered 0 (F ∷ Fs)))))
+one_of_none s (F ∷ Fs) h = chosen_none tag s (numbered_variants 0 (F ∷ Fs)) (λ found. h 0 found (allowed_tags (variant_tags (numbered_variants 0 (F ∷ Fs)))))
 
 mutual
   -- a shape of which the rules say so has no words
@@ -45,7 +45,7 @@ mutual
         | inr e ↦ none_others (format_of shape s) (tuple_none others s e)
       ]
 
-  variants_none : {m : _} → (parts : Row_of-Shape m) (s : Setting) (n found : ℕ) (allowed : Allowed) → some_has_words parts ≡ false → NoWord (part s (numbered n (formats_of parts)) allowed found)
+  variants_none : {m : _} → (parts : Row_of-Shape m) (s : Setting) (n found : ℕ) (allowed : Allowed) → some_has_words parts ≡ false → NoWord (part s (numbered_variants n (formats_of parts)) allowed found)
   variants_none end_of-Shape s n found allowed h = none_failed (UnexpectedVariant allowed found)
   variants_none (more_of-Shape shape others) s n found allowed h =
       let both = or_parts (has_words shape) (some_has_words others) h in
@@ -114,7 +114,7 @@ mutual
   shape_reads (shapes.Optional' p element) s new h =
       optional_reads s (part_of s.encoding element) (format_of element) (record { reads = λ z e. shape_reads element s z e; none = λ e. shape_none element s e }) new h
   shape_reads (shapes.Choice' v parts) s new h =
-      either _ (some_has_words parts) (one_of (numbered 0 (formats_of parts)) s) (format_of new s)
+      either _ (some_has_words parts) (one_of (numbered_variants 0 (formats_of parts)) s) (format_of new s)
       (λ e. variants_are_read s (parts_of s.encoding parts) (formats_of parts) (parts_sound parts s) new e)
       (λ e. one_of_none s (formats_of parts) (λ n found allowed. variants_none parts s n found allowed e)) h
 

@@ -6,77 +6,77 @@ use Rattle.bincode_spec.specs.Fault.{Fault}
 use Rattle.bincode_spec.specs.Format.{Format, Reading, Took, Failed, after_steps, then_read, reading_without_count, pure, fail, step, ◌>>=◌, written_as, without_count, map_format, elements}
 use Rattle.bincode_spec.specs.Meaning.{Meaning, Then, list_meaning}
 use Rattle.bincode_spec.specs.Words.{first_and, if_picked, array}
-use Rattle.bincode_evolution.specs.Reading.{Takes, ReadsAll}
+use Rattle.bincode_evolution.specs.Reading.{ReadsTo, ReadsAll}
 
 -- what is taken in turn
 pub record TakesBoth {A B : Type 0} (F : Format A) (G : A → Format B) (input : List ℕ) (m : B) (remaining : List ℕ) : Type 0 where
   pub head : A
   pub middle : List ℕ
-  pub first : Takes (F.read input) head middle
-  pub second : Takes ((G head).read middle) m remaining
+  pub first : ReadsTo (F.read input) head middle
+  pub second : ReadsTo ((G head).read middle) m remaining
 
-took_after : {B : Type 0} (s : List Step) (r : Reading B) (m : B) (remaining : List ℕ) → Takes (after_steps s r) m remaining → Takes r m remaining
+took_after : {B : Type 0} (s : List Step) (r : Reading B) (m : B) (remaining : List ℕ) → ReadsTo (after_steps s r) m remaining → ReadsTo r m remaining
 took_after s (Took n more u) m remaining t = (u, let e = t.1 in cc)
 took_after s (Failed why u) m remaining t = let e = t.1 in absurd (cc)
 
-took_both : {A B : Type 0} (G : A → Format B) (r : Reading A) (m : B) (remaining : List ℕ) → Takes (then_read r (λ head rest. (G head).read rest)) m remaining →
-    (head : A) × (middle : List ℕ) × Takes r head middle × Takes ((G head).read middle) m remaining
+took_both : {A B : Type 0} (G : A → Format B) (r : Reading A) (m : B) (remaining : List ℕ) → ReadsTo (then_read r (λ head rest. (G head).read rest)) m remaining →
+    (head : A) × (middle : List ℕ) × ReadsTo r head middle × ReadsTo ((G head).read middle) m remaining
 took_both G (Took head middle s) m remaining t = (head, middle, (s, refl), took_after s ((G head).read middle) m remaining t)
 took_both G (Failed why s) m remaining t = let e = t.1 in absurd (cc)
 
-pub taken_in_turn : {A B : Type 0} (F : Format A) (G : A → Format B) (input : List ℕ) (m : B) (remaining : List ℕ) → Takes ((F >>= G).read input) m remaining → TakesBoth F G input m remaining
+pub taken_in_turn : {A B : Type 0} (F : Format A) (G : A → Format B) (input : List ℕ) (m : B) (remaining : List ℕ) → ReadsTo ((F >>= G).read input) m remaining → TakesBoth F G input m remaining
 unfolding ◌>>=◌
 taken_in_turn F G input m remaining t =
     let p = took_both G (F.read input) m remaining t in record { head = p.0; middle = p.1; first = p.2; second = p.3 }
 
-pub takes_in_turn : {A B : Type 0} (F : Format A) (G : A → Format B) (input : List ℕ) (m : B) (remaining : List ℕ) → TakesBoth F G input m remaining → Takes ((F >>= G).read input) m remaining
+pub takes_in_turn : {A B : Type 0} (F : Format A) (G : A → Format B) (input : List ℕ) (m : B) (remaining : List ℕ) → TakesBoth F G input m remaining → ReadsTo ((F >>= G).read input) m remaining
 unfolding ◌>>=◌
 takes_in_turn F G input m remaining t =
     (t.first.0 ++ t.second.0, ap (λ r. then_read r (λ head rest. (G head).read rest)) t.first.1 ∙ ap (after_steps t.first.0) t.second.1)
 
 -- nothing is taken
-pub takes_pure : {A : Type 0} (a : A) (input : List ℕ) → Takes ((pure a).read input) a input
+pub takes_pure : {A : Type 0} (a : A) (input : List ℕ) → ReadsTo ((pure a).read input) a input
 unfolding pure
 takes_pure a input = ([], refl)
 
-pub taken_pure : {A : Type 0} (a : A) (input : List ℕ) (m : A) (remaining : List ℕ) → Takes ((pure a).read input) m remaining → (m ≡ a) × (remaining ≡ input)
+pub taken_pure : {A : Type 0} (a : A) (input : List ℕ) (m : A) (remaining : List ℕ) → ReadsTo ((pure a).read input) m remaining → (m ≡ a) × (remaining ≡ input)
 unfolding pure
 taken_pure a input m remaining t = let e = t.1 in (cc, cc)
 
-pub takes_step : (change : Step) (input : List ℕ) → Takes ((step change).read input) tt input
+pub takes_step : (change : Step) (input : List ℕ) → ReadsTo ((step change).read input) tt input
 unfolding step
 takes_step change input = (change ∷ [], refl)
 
 -- after a step the word is taken
-pub takes_stepped : {A : Type 0} (change : Step) (F : Format A) (input : List ℕ) (m : A) (remaining : List ℕ) → Takes (F.read input) m remaining → Takes ((step change >>= λ _. F).read input) m remaining
+pub takes_stepped : {A : Type 0} (change : Step) (F : Format A) (input : List ℕ) (m : A) (remaining : List ℕ) → ReadsTo (F.read input) m remaining → ReadsTo ((step change >>= λ _. F).read input) m remaining
 takes_stepped change F input m remaining t =
     takes_in_turn (step change) (λ _. F) input m remaining (record { head = tt; middle = input; first = takes_step change input; second = t })
 
-pub taken_stepped : {A : Type 0} (change : Step) (F : Format A) (input : List ℕ) (m : A) (remaining : List ℕ) → Takes ((step change >>= λ _. F).read input) m remaining → Takes (F.read input) m remaining
+pub taken_stepped : {A : Type 0} (change : Step) (F : Format A) (input : List ℕ) (m : A) (remaining : List ℕ) → ReadsTo ((step change >>= λ _. F).read input) m remaining → ReadsTo (F.read input) m remaining
 unfolding step ◌>>=◌
 taken_stepped change F input m remaining t = took_after (change ∷ []) (F.read input) m remaining t
 
 -- what a meaning becomes
-pub takes_map : {A B : Type 0} (f : A → B) (F : Format A) (input : List ℕ) (a : A) (remaining : List ℕ) → Takes (F.read input) a remaining → Takes ((map_format f F).read input) (f a) remaining
+pub takes_map : {A B : Type 0} (f : A → B) (F : Format A) (input : List ℕ) (a : A) (remaining : List ℕ) → ReadsTo (F.read input) a remaining → ReadsTo ((map_format f F).read input) (f a) remaining
 takes_map f F input a remaining t =
     takes_in_turn F (λ z. pure (f z)) input (f a) remaining (record { head = a; middle = remaining; first = t; second = takes_pure (f a) remaining })
 
-pub taken_map : {A B : Type 0} (f : A → B) (F : Format A) (input : List ℕ) (b : B) (remaining : List ℕ) → Takes ((map_format f F).read input) b remaining →
-    (a : A) × (b ≡ f a) × Takes (F.read input) a remaining
+pub taken_map : {A B : Type 0} (f : A → B) (F : Format A) (input : List ℕ) (b : B) (remaining : List ℕ) → ReadsTo ((map_format f F).read input) b remaining →
+    (a : A) × (b ≡ f a) × ReadsTo (F.read input) a remaining
 taken_map f F input b remaining t =
     let p = taken_in_turn F (λ z. pure (f z)) input b remaining t in
     let q = taken_pure (f p.head) p.middle b remaining p.second in
-    (p.head, q.0, subst (λ z. Takes (F.read input) p.head z) (sym q.1) p.first)
+    (p.head, q.0, subst (λ z. ReadsTo (F.read input) p.head z) (sym q.1) p.first)
 
-took_without : {A : Type 0} (r : Reading A) (m : A) (remaining : List ℕ) → Takes (reading_without_count r) m remaining → Takes r m remaining
+took_without : {A : Type 0} (r : Reading A) (m : A) (remaining : List ℕ) → ReadsTo (reading_without_count r) m remaining → ReadsTo r m remaining
 took_without (Took n more s) m remaining t = t
 took_without (Failed why s) m remaining t = let e = t.1 in absurd (cc)
 
-pub taken_without_count : {A : Type 0} (F : Format A) (input : List ℕ) (m : A) (remaining : List ℕ) → Takes ((without_count F).read input) m remaining → Takes (F.read input) m remaining
+pub taken_without_count : {A : Type 0} (F : Format A) (input : List ℕ) (m : A) (remaining : List ℕ) → ReadsTo ((without_count F).read input) m remaining → ReadsTo (F.read input) m remaining
 unfolding without_count
 taken_without_count F input m remaining t = took_without (F.read input) m remaining t
 
-pub takes_without_count : {A : Type 0} (F : Format A) (input : List ℕ) (m : A) (remaining : List ℕ) → Takes (F.read input) m remaining → Takes ((without_count F).read input) m remaining
+pub takes_without_count : {A : Type 0} (F : Format A) (input : List ℕ) (m : A) (remaining : List ℕ) → ReadsTo (F.read input) m remaining → ReadsTo ((without_count F).read input) m remaining
 unfolding without_count
 takes_without_count F input m remaining t = (t.0, ap reading_without_count t.1)
 
@@ -138,7 +138,7 @@ reads_picked false f g = g
 
 -- no input begins with a word
 pub record NoWord {A : Type 0} (F : Format A) : Type 0 where
-  pub none : (input remaining : List ℕ) (m : A) → Takes (F.read input) m remaining → ⊥
+  pub none : (input remaining : List ℕ) (m : A) → ReadsTo (F.read input) m remaining → ⊥
 
 -- and then each format reads all words
 pub reads_none : {A : Type 0} {F : Format A} (G : Format A) → NoWord F → ReadsAll G F

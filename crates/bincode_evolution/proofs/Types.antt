@@ -6,7 +6,7 @@ use Rattle.bincode_spec.specs.Charge.{Step, Charge, Reserve, Release}
 use Rattle.bincode_spec.specs.Format.{Format, Reading, Took, Failed}
 use Rattle.bincode_spec.specs.Meaning.{Meaning}
 use Rattle.bincode_shape.specs.Same.{SameWords}
-use Rattle.bincode_evolution.specs.Reading.{Takes, ReadsAll}
+use Rattle.bincode_evolution.specs.Reading.{ReadsTo, ReadsAll}
 
 -- what reads the words of a shape reads those of the type that it describes
 pub described_reads : {F F' G G' : Format Meaning} → SameWords F F' → SameWords G G' → ReadsAll G F → ReadsAll G' F'
@@ -22,7 +22,7 @@ uncounted charge (Charge n ∷ steps) = uncounted charge steps
 uncounted charge (Reserve n share ∷ steps) = uncounted charge steps
 uncounted charge (Release n ∷ steps) = uncounted charge steps
 
-given : {A : Type 0} (charge : ℕ) (r : Reading A) (m : A) (remaining : List ℕ) (after : ℕ) → weigh_reading None charge r ≡ Gave m remaining after → Takes r m remaining
+given : {A : Type 0} (charge : ℕ) (r : Reading A) (m : A) (remaining : List ℕ) (after : ℕ) → weigh_reading None charge r ≡ Gave m remaining after → ReadsTo r m remaining
 given charge (Took n rest steps) m remaining after e =
     let k : Gave n rest charge ≡ Gave m remaining after = ap (gave_at n rest) (sym (uncounted charge steps)) ∙ e in (steps, cc)
 given charge (Failed why steps) m remaining after e =

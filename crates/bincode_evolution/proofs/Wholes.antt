@@ -10,32 +10,32 @@ use Rattle.bincode_spec.specs.Words.{after_tag, tag_then_part, len, array, list}
 use Rattle.bincode_lemmas.specs.IntegerLaws.{unsigned-lawful, written-unsigned, unsigned_byte-lawful, written-unsigned_byte}
 use Rattle.bincode_shape.specs.declared.shape.Shape as shapes
 use Rattle.bincode_shape.specs.declared.shape.Shape.{Shape}
-use Rattle.bincode_shape.specs.Shapes.{format_of, share, byte_tag, optional}
+use Rattle.bincode_shape.specs.Shapes.{format_of, share, byte_tag, option_variants}
 use Rattle.bincode_evolution.specs.Kinds.{element_of, part_in}
-use Rattle.bincode_evolution.specs.Reading.{Takes, Differs}
+use Rattle.bincode_evolution.specs.Reading.{ReadsTo, Differs}
 use Rattle.bincode_evolution.specs.Rules.{is_read}
 use Rattle.bincode_evolution.proofs.Taking.{taken_in_turn, takes_in_turn, takes_pure, taken_pure, takes_map, taken_map}
 use Rattle.bincode_evolution.proofs.Parts.{taken_element, takes_element, taken_array, takes_array}
 
-pub same_taken : {A : Type 0} (r : Reading A) (m n : A) (remaining others : List ℕ) → Takes r m remaining → Takes r n others → (n ≡ m) × (others ≡ remaining)
+pub same_taken : {A : Type 0} (r : Reading A) (m n : A) (remaining others : List ℕ) → ReadsTo r m remaining → ReadsTo r n others → (n ≡ m) × (others ≡ remaining)
 same_taken r m n remaining others t u = let e = sym t.1 ∙ u.1 in (cc, cc)
 
 -- one element: its length, and what follows
-length_one : (s : Setting) → (word : List ℕ) × ((rest : List ℕ) → Takes ((len s).read (word ++ rest)) 1 rest)
+length_one : (s : Setting) → (word : List ℕ) × ((rest : List ℕ) → ReadsTo ((len s).read (word ++ rest)) 1 rest)
 length_one s =
     let below : 1 < 256 ^ 8 = omega arith in
     let law = unsigned-lawful integers.U64 8 s (Eight refl) in
     let w = law.written_is_word _ 1 (written-unsigned integers.U64 8 1 s below) in
     (spelling s.encoding s.order 8 1, λ rest. (w.0, law.word_read _ rest 1 w.0 w.1))
 
-single : (claim : ℕ) (G : Format Meaning) (input : List ℕ) (m : Meaning) (remaining : List ℕ) → Takes ((array 1 claim G).read input) (Then m Nothing) remaining → Takes (G.read input) m remaining
+single : (claim : ℕ) (G : Format Meaning) (input : List ℕ) (m : Meaning) (remaining : List ℕ) → ReadsTo ((array 1 claim G).read input) (Then m Nothing) remaining → ReadsTo (G.read input) m remaining
 single claim G input m remaining t =
     let p = taken_array 1 claim G input (Then m Nothing) remaining t in
     let q = taken_element 0 claim G input p.0 remaining p.2 in
     let r = taken_pure [] q.middle q.others remaining q.second in
     let e : Then m Nothing ≡ Then q.m (list_meaning q.others) = p.1 ∙ ap list_meaning q.meaning_is in
     let k : m ≡ q.m = cc in
-    subst (λ z. Takes (G.read input) z remaining) (sym k) (subst (λ z. Takes (G.read input) q.m z) (sym r.1) q.first)
+    subst (λ z. ReadsTo (G.read input) z remaining) (sym k) (subst (λ z. ReadsTo (G.read input) q.m z) (sym r.1) q.first)
 
 list_differs : (s : Setting) (old new : ℕ) (F G : Format Meaning) → Differs G F → Differs (list s new G) (list s old F)
 list_differs s old new F G d =
@@ -54,35 +54,35 @@ list_differs s old new F G d =
           let p = taken_in_turn (len s) (λ n. array n new G) (one.0 ++ d.input) (Then d.meaning Nothing) d.remaining t in
           let q = same_taken ((len s).read (one.0 ++ d.input)) 1 p.head d.input p.middle (one.1 d.input) p.first in
           d.untaken (single new G d.input d.meaning d.remaining
-          (subst (λ z. Takes ((array 1 new G).read z) (Then d.meaning Nothing) d.remaining) q.1 (subst (λ n. Takes ((array n new G).read p.middle) (Then d.meaning Nothing) d.remaining) q.0 p.second)));
+          (subst (λ z. ReadsTo ((array 1 new G).read z) (Then d.meaning Nothing) d.remaining) q.1 (subst (λ n. ReadsTo ((array n new G).read p.middle) (Then d.meaning Nothing) d.remaining) q.0 p.second)));
     }
 
 -- an option of something
-byte_one : (rest : List ℕ) → Takes (unsigned_byte.read (1 ∷ rest)) 1 rest
+byte_one : (rest : List ℕ) → ReadsTo (unsigned_byte.read (1 ∷ rest)) 1 rest
 byte_one rest =
     let w = unsigned_byte-lawful.written_is_word (1 ∷ []) 1 (written-unsigned_byte 1) in (w.0, unsigned_byte-lawful.word_read (1 ∷ []) rest 1 w.0 w.1)
 
-option_differs : (s : Setting) (F G : Setting → Format Meaning) → Differs (G s) (F s) → Differs (tag_then_part byte_tag (optional G) s) (tag_then_part byte_tag (optional F) s)
+option_differs : (s : Setting) (F G : Setting → Format Meaning) → Differs (G s) (F s) → Differs (tag_then_part byte_tag (option_variants G) s) (tag_then_part byte_tag (option_variants F) s)
 unfolding tag_then_part
 option_differs s F G d = record {
   input = 1 ∷ d.input;
   remaining = d.remaining;
   meaning = Choice 1 d.meaning;
-  taken = takes_in_turn unsigned_byte (after_tag (optional F) s) (1 ∷ d.input) (Choice 1 d.meaning) d.remaining (record {
+  taken = takes_in_turn unsigned_byte (after_tag (option_variants F) s) (1 ∷ d.input) (Choice 1 d.meaning) d.remaining (record {
     head = 1;
     middle = d.input;
     first = byte_one d.input;
     second = takes_map (Choice 1) (F s) d.input d.meaning d.remaining d.taken;
   });
   untaken = λ t.
-      let p = taken_in_turn unsigned_byte (after_tag (optional G) s) (1 ∷ d.input) (Choice 1 d.meaning) d.remaining t in
+      let p = taken_in_turn unsigned_byte (after_tag (option_variants G) s) (1 ∷ d.input) (Choice 1 d.meaning) d.remaining t in
       let q = same_taken (unsigned_byte.read (1 ∷ d.input)) 1 p.head d.input p.middle (byte_one d.input) p.first in
-      let u : Takes ((map_format (Choice 1) (G s)).read d.input) (Choice 1 d.meaning) d.remaining =
-      subst (λ z. Takes ((after_tag (optional G) s 1).read z) (Choice 1 d.meaning) d.remaining) q.1
-      (subst (λ n. Takes ((after_tag (optional G) s n).read p.middle) (Choice 1 d.meaning) d.remaining) q.0 p.second) in
+      let u : ReadsTo ((map_format (Choice 1) (G s)).read d.input) (Choice 1 d.meaning) d.remaining =
+      subst (λ z. ReadsTo ((after_tag (option_variants G) s 1).read z) (Choice 1 d.meaning) d.remaining) q.1
+      (subst (λ n. ReadsTo ((after_tag (option_variants G) s n).read p.middle) (Choice 1 d.meaning) d.remaining) q.0 p.second) in
       let v = taken_map (Choice 1) (G s) d.input (Choice 1 d.meaning) d.remaining u in
       let k : d.meaning ≡ v.0 = let e = v.1 in cc in
-      d.untaken (subst (λ z. Takes ((G s).read d.input) z d.remaining) (sym k) v.2);
+      d.untaken (subst (λ z. ReadsTo ((G s).read d.input) z d.remaining) (sym k) v.2);
 }
 
 -- what the rules say of the part, they say of the whole, and so does what shows it

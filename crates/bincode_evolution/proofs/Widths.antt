@@ -19,7 +19,7 @@ use Rattle.bincode_spec.specs.Words.{natural_number, integer_number}
 use Rattle.bincode_shape.specs.declared.shape.Shape as shapes
 use Rattle.bincode_shape.specs.declared.shape.Shape.{Shape}
 use Rattle.bincode_shape.specs.Shapes.{format_of}
-use Rattle.bincode_evolution.specs.Reading.{Takes, Differs}
+use Rattle.bincode_evolution.specs.Reading.{ReadsTo, Differs}
 use Rattle.bincode_evolution.specs.Rules.{keeps, unsigned_width, signed_width, is_read}
 use Rattle.bincode_evolution.proofs.Taking.{taken_in_turn, takes_in_turn, takes_map, taken_map, takes_stepped, taken_stepped, none_failed}
 
@@ -27,8 +27,8 @@ use Rattle.bincode_evolution.proofs.Taking.{taken_in_turn, takes_in_turn, takes_
 pub record Short (new old : Format ℕ) : Type 0 where
   pub input : List ℕ
   pub number : ℕ
-  pub taken : Takes (old.read input) number []
-  pub untaken : (n : ℕ) → Takes (new.read input) n [] → ⊥
+  pub taken : ReadsTo (old.read input) number []
+  pub untaken : (n : ℕ) → ReadsTo (new.read input) n [] → ⊥
 
 pub zeros : ℕ → List ℕ
 zeros zero = []
@@ -40,14 +40,14 @@ length-zeros zero = refl
 length-zeros (suc n) = ap suc (length-zeros n)
 
 -- so many bytes
-pub takes_all : (n : ℕ) (input : List ℕ) → length input ≡ n → (bytes : List ℕ) × Takes ((fixed_bytes n).read input) bytes []
+pub takes_all : (n : ℕ) (input : List ℕ) → length input ≡ n → (bytes : List ℕ) × ReadsTo ((fixed_bytes n).read input) bytes []
 unfolding fixed_bytes
 takes_all n input h =
     let e : nat_lt (length input) n ≡ false = le-ltb (length input) n (omega (arith, h)) in
     let d : drop n input ≡ [] = drop_all n input (omega (arith, h)) in
     (take n input, ([], rw e (ap (λ z. Took (take n input) z []) d)))
 
-pub untaken_all : (n : ℕ) (input bytes : List ℕ) → (length input ≡ n → ⊥) → Takes ((fixed_bytes n).read input) bytes [] → ⊥
+pub untaken_all : (n : ℕ) (input bytes : List ℕ) → (length input ≡ n → ⊥) → ReadsTo ((fixed_bytes n).read input) bytes [] → ⊥
 unfolding fixed_bytes
 untaken_all n input bytes h t =
     elim (cases_lt (length input) n) [
@@ -75,13 +75,13 @@ digits_short order width other h =
     }
 
 -- a first byte
-pub takes_byte : (b : ℕ) (rest : List ℕ) → Takes (byte.read (b ∷ rest)) b rest
+pub takes_byte : (b : ℕ) (rest : List ℕ) → ReadsTo (byte.read (b ∷ rest)) b rest
 unfolding byte fixed_bytes
 takes_byte b rest =
     let e : nat_lt (length (b ∷ rest)) 1 ≡ false = le-ltb (length (b ∷ rest)) 1 (omega arith) in
     takes_map first_of (fixed_bytes 1) (b ∷ rest) (b ∷ []) rest ([], rw e refl)
 
-pub taken_byte : (b : ℕ) (rest : List ℕ) (m : ℕ) (remaining : List ℕ) → Takes (byte.read (b ∷ rest)) m remaining → m ≡ b
+pub taken_byte : (b : ℕ) (rest : List ℕ) (m : ℕ) (remaining : List ℕ) → ReadsTo (byte.read (b ∷ rest)) m remaining → m ≡ b
 unfolding byte fixed_bytes
 taken_byte b rest m remaining t =
     let e : nat_lt (length (b ∷ rest)) 1 ≡ false = le-ltb (length (b ∷ rest)) 1 (omega arith) in
@@ -97,7 +97,7 @@ unfolding varint written_as digits
 varint_short tags old new order width narrower tag count known unknown =
     let after = λ (name : IntegerType) (wide first : ℕ). number_after order (InvalidInteger name (tags first)) first (first_byte wide first) in
     let w = takes_all count (zeros count) (length-zeros count) in
-    let digits_taken : Takes ((number_after order (InvalidInteger old (tags tag)) tag (Before count)).read (zeros count)) (number_of order w.0) [] =
+    let digits_taken : ReadsTo ((number_after order (InvalidInteger old (tags tag)) tag (Before count)).read (zeros count)) (number_of order w.0) [] =
     takes_map (number_of order) (fixed_bytes count) (zeros count) w.0 [] w.1 in
     record {
       input = tag ∷ zeros count;
@@ -106,14 +106,14 @@ varint_short tags old new order width narrower tag count known unknown =
         head = tag;
         middle = zeros count;
         first = takes_byte tag (zeros count);
-        second = subst (λ z. Takes ((number_after order (InvalidInteger old (tags tag)) tag z).read (zeros count)) (number_of order w.0) []) (sym known) digits_taken;
+        second = subst (λ z. ReadsTo ((number_after order (InvalidInteger old (tags tag)) tag z).read (zeros count)) (number_of order w.0) []) (sym known) digits_taken;
       });
       untaken = λ n t.
           let p = taken_in_turn byte (after new narrower) (tag ∷ zeros count) n [] t in
           let e = taken_byte tag (zeros count) p.head p.middle p.first in
           let f : first_byte narrower p.head ≡ TooWide = ap (first_byte narrower) e ∙ unknown in
           (none_failed (InvalidInteger new (tags p.head))).none p.middle [] n
-          (subst (λ z. Takes ((number_after order (InvalidInteger new (tags p.head)) p.head z).read p.middle) n []) f p.second);
+          (subst (λ z. ReadsTo ((number_after order (InvalidInteger new (tags p.head)) p.head z).read p.middle) n []) f p.second);
     }
 
 -- a narrower width lacks the tag of the wider one

@@ -20,9 +20,9 @@ any_has_words (shape ∷ others) = has_words shape || any_has_words others
 abbrev pub part_of : IntEncoding → Shape → Part
 part_of encoding shape = record { has_words = has_words shape; is_read_by = is_read encoding shape }
 
-abbrev pub listed : IntEncoding → List Shape → List Part
-listed encoding [] = []
-listed encoding (shape ∷ others) = part_of encoding shape ∷ listed encoding others
+abbrev pub parts_in_list : IntEncoding → List Shape → List Part
+parts_in_list encoding [] = []
+parts_in_list encoding (shape ∷ others) = part_of encoding shape ∷ parts_in_list encoding others
 
 -- an array of this length and element
 abbrev pub is_array_read : IntEncoding → ℕ → Shape → Shape → Bool
@@ -47,12 +47,12 @@ some-items (more_of-Shape part others) = ap (λ z. has_words part || z) (some-it
 pub some-vec : (v : Vec Shape Global) → some_has_words (hidden-the_row-Shape-0 v) ≡ any_has_words v.items
 some-vec v = some-items (hidden-the_row-Shape-0 v) ∙ ap any_has_words (items_hidden-the_row-Shape-0 v)
 
-parts-items : (encoding : IntEncoding) → {m : _} → (row : Row_of-Shape m) → parts_of encoding row ≡ listed encoding (items-the_row-Shape _ row)
+parts-items : (encoding : IntEncoding) → {m : _} → (row : Row_of-Shape m) → parts_of encoding row ≡ parts_in_list encoding (items-the_row-Shape _ row)
 parts-items encoding end_of-Shape = refl
 parts-items encoding (more_of-Shape part others) = ap (λ z. part_of encoding part ∷ z) (parts-items encoding others)
 
-pub parts-vec : (encoding : IntEncoding) (v : Vec Shape Global) → parts_of encoding (hidden-the_row-Shape-0 v) ≡ listed encoding v.items
-parts-vec encoding v = parts-items encoding (hidden-the_row-Shape-0 v) ∙ ap (listed encoding) (items_hidden-the_row-Shape-0 v)
+pub parts-vec : (encoding : IntEncoding) (v : Vec Shape Global) → parts_of encoding (hidden-the_row-Shape-0 v) ≡ parts_in_list encoding v.items
+parts-vec encoding v = parts-items encoding (hidden-the_row-Shape-0 v) ∙ ap (parts_in_list encoding) (items_hidden-the_row-Shape-0 v)
 
 -- the formats of a row are those of its items
 pub formats-items : {m : _} → (row : Row_of-Shape m) → formats_of row ≡ formats (items-the_row-Shape _ row)

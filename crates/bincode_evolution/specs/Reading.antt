@@ -4,15 +4,15 @@ use Rattle.bincode_spec.specs.Charge.{Step}
 use Rattle.bincode_spec.specs.Format.{Format, Reading, Took}
 
 -- a word with this meaning is read, and these bytes remain; whatever is charged
-abbrev pub Takes : {A : Type 0} → Reading A → A → List ℕ → Type 0
-Takes reading m remaining = (steps : List Step) × (reading ≡ Took m remaining steps)
+abbrev pub ReadsTo : {A : Type 0} → Reading A → A → List ℕ → Type 0
+ReadsTo reading m remaining = (steps : List Step) × (reading ≡ Took m remaining steps)
 
 -- each input that the old format reads, the new one reads too: with the same meaning, and as many bytes
 pub record ReadsAll {A : Type 0} (new old : Format A) : Type 0 where
-  pub reads : (input remaining : List ℕ) (m : A) → Takes (old.read input) m remaining → Takes (new.read input) m remaining
+  pub reads : (input remaining : List ℕ) (m : A) → ReadsTo (old.read input) m remaining → ReadsTo (new.read input) m remaining
 
 -- some bytes are a word
-pub record HasWord {A : Type 0} (F : Format A) : Type 0 where
+pub record WordOf {A : Type 0} (F : Format A) : Type 0 where
   pub word : List ℕ
   pub meaning : A
   pub steps : List Step
@@ -23,5 +23,5 @@ pub record Differs {A : Type 0} (new old : Format A) : Type 0 where
   pub input : List ℕ
   pub remaining : List ℕ
   pub meaning : A
-  pub taken : Takes (old.read input) meaning remaining
-  pub untaken : Takes (new.read input) meaning remaining → ⊥
+  pub taken : ReadsTo (old.read input) meaning remaining
+  pub untaken : ReadsTo (new.read input) meaning remaining → ⊥

@@ -3,7 +3,7 @@ ghost use Rattle.std.specs.Prelude.{◌≡◌, ◌||◌, ◌==◌, ◌<◌, not,
 ghost use Rattle.std.specs.List.{list_all};
 ghost use Rattle.bincode_evolution.specs.Rules.{has_words, is_read, is_list, is_optional, is_option_of, has_parts};
 ghost use Rattle.bincode_evolution.specs.Rules.{has_variants, each_read, reads_each, variants_read};
-ghost use Rattle.bincode_evolution.specs.Lists.{any_has_words, part_of, listed, is_array_read, is_variant_read};
+ghost use Rattle.bincode_evolution.specs.Lists.{any_has_words, part_of, parts_in_list, is_array_read, is_variant_read};
 
 use crate::scalars::{is_nothing, is_variable, keeps, signed_width, unsigned_width};
 use crate::words::{do_all_have_words, does_have_words, does_some_have_words};
@@ -144,7 +144,7 @@ fn compare_element(newer: &[Shape], element: &Shape, encoding: IntEncoding) -> C
 #[cycle(compare)]
 fn compare_tuple(new: &Shape, parts: &[Shape], encoding: IntEncoding) -> Comparison
     ensures has_words { result.has_words ≡ list_all has_words parts.now }
-    ensures is_read { result.is_read ≡ (has_parts (listed encoding parts.now) new.now
+    ensures is_read { result.is_read ≡ (has_parts (parts_in_list encoding parts.now) new.now
         || not (list_all has_words parts.now)) }
 {
     match new {
@@ -181,7 +181,7 @@ fn compare_tuple(new: &Shape, parts: &[Shape], encoding: IntEncoding) -> Compari
 #[cycle(compare)]
 fn compare_with_element(element: &Shape, parts: &[Shape], encoding: IntEncoding) -> Comparison
     ensures has_words { result.has_words ≡ list_all has_words parts.now }
-    ensures is_read { result.is_read ≡ (reads_each element.now (listed encoding parts.now)
+    ensures is_read { result.is_read ≡ (reads_each element.now (parts_in_list encoding parts.now)
         || not (list_all has_words parts.now)) }
 {
     let mut is_read = true;
@@ -200,7 +200,7 @@ fn compare_with_element(element: &Shape, parts: &[Shape], encoding: IntEncoding)
 fn compare_parts(newer: &[Shape], parts: &[Shape], encoding: IntEncoding) -> Comparison
     requires { length newer.now ≡ length parts.now }
     ensures has_words { result.has_words ≡ list_all has_words parts.now }
-    ensures is_read { result.is_read ≡ (each_read (listed encoding parts.now) newer.now
+    ensures is_read { result.is_read ≡ (each_read (parts_in_list encoding parts.now) newer.now
         || not (list_all has_words parts.now)) }
 {
     let mut is_read = true;
@@ -246,7 +246,7 @@ fn is_option_read(variants: &[Shape], part: &Shape, encoding: IntEncoding) -> bo
 #[cycle(compare)]
 fn compare_choice(new: &Shape, parts: &[Shape], encoding: IntEncoding) -> Comparison
     ensures has_words { result.has_words ≡ any_has_words parts.now }
-    ensures is_read { result.is_read ≡ (has_variants (listed encoding parts.now) new.now
+    ensures is_read { result.is_read ≡ (has_variants (parts_in_list encoding parts.now) new.now
         || not (any_has_words parts.now)) }
 {
     match new {
@@ -259,7 +259,7 @@ fn compare_choice(new: &Shape, parts: &[Shape], encoding: IntEncoding) -> Compar
 #[cycle(compare)]
 fn compare_variants(newer: &[Shape], parts: &[Shape], encoding: IntEncoding) -> Comparison
     ensures has_words { result.has_words ≡ any_has_words parts.now }
-    ensures is_read { result.is_read ≡ (variants_read (listed encoding parts.now) newer.now
+    ensures is_read { result.is_read ≡ (variants_read (parts_in_list encoding parts.now) newer.now
         || not (any_has_words parts.now)) }
 {
     let mut has_words = false;

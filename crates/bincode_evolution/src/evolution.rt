@@ -5,7 +5,7 @@ ghost use Rattle.bincode_shape.specs.Describing.{Describes};
 ghost use Rattle.bincode_shape.specs.Shapes.{format_of};
 ghost use Rattle.bincode_shape.specs.declared.shape.Shape.{Shape};
 ghost use Rattle.bincode_evolution.specs.Kinds.{IsClear};
-ghost use Rattle.bincode_evolution.specs.Reading.{Differs, HasWord, ReadsAll};
+ghost use Rattle.bincode_evolution.specs.Reading.{Differs, WordOf, ReadsAll};
 ghost use Rattle.bincode_evolution.specs.Rules.{has_words, is_read};
 
 use crate::compare::compare;
@@ -39,7 +39,7 @@ pub fn reads_all<C: Config>(new: &Shape, old: &Shape, config: C) -> bool
 /// is none, nor is there of what always holds such a part. Visits each part once, and recurses as deep as the shape.
 pub fn has_words(shape: &Shape) -> bool
     ensures by_rules { result ≡ has_words shape.now }
-    ensures exact { (s : Setting) → (IsTrue result ↔ HasWord (format_of shape.now s)) }
+    ensures exact { (s : Setting) → (IsTrue result ↔ WordOf (format_of shape.now s)) }
 {
     does_have_words(shape)
 }

@@ -5,7 +5,7 @@ use Rattle.std.proofs.Common.{sym, ap, ◌∙◌, arith, append_assoc, length-ap
 use Rattle.bincode_base.specs.declared.error.DecodeError.{DecodeError}
 use Rattle.bincode_base.specs.declared.error.DecodeError.TheVariants.{UnexpectedEnd, InvalidIntegerType}
 use Rattle.bincode_base.specs.declared.error.IntegerType.{IntegerType}
-use Rattle.bincode_spec.specs.Layers.Pieces.{no_device, Unmoved, TakesShown}
+use Rattle.bincode_spec.specs.Layers.Pieces.{no_device, LeavesState, TakesShown}
 use Rattle.bincode_spec.specs.Device.{DeviceErrors}
 use Rattle.bincode_lemmas.specs.ValidatedLaws.{own-tells}
 use Rattle.bincode_spec.specs.Fault.{Fault, IsEnd, Tells, Between, OneOf, End, InvalidInteger, Zero, UnexpectedVariant, Utf8, InvalidChar, InvalidBool, InvalidDuration, NulAt, Other, LengthMismatch, EmptyEnum, OutsideUsize, short, long}
@@ -14,7 +14,7 @@ use Rattle.bincode_spec.specs.Format.{Format, Took, ◌>>=◌, written_as}
 use Rattle.bincode_spec.specs.Integers.{FirstByte, Itself, Before, TooWide, first_byte, number_after, byte, varint}
 use Rattle.bincode_lemmas.specs.FormatLaws.{pure-lawful, fail-lawful, turn-lawful}
 use Rattle.bincode_lemmas.specs.IntegerLaws.{byte-lawful, digits-lawful}
-use Rattle.bincode_spec.specs.Layers.Laws.{Lawful}
+use Rattle.bincode_spec.specs.Layers.Laws.{IsLawful}
 use Rattle.bincode_spec.specs.Layers.Reads.{ReadsWord, ReadFailure, by_fault, by_failure, by_device}
 use Rattle.bincode_io.specs.Window.{FrontIs, FrontFails}
 use Rattle.bincode_io.proofs.Words.{fixed_bytes-read, byte-took}
@@ -26,7 +26,7 @@ drop-front word remaining = drop_at word remaining (length word) refl
 abbrev ReadsAs : {A : Type 0} → Format A → Format A → Type 0
 ReadsAs F G = (input : List ℕ) → F.read input ≡ G.read input
 
-pub front-is : {A : Type 0} (F G : Format A) → ReadsAs F G → Lawful G → (window left : List ℕ) (m : A) (taken : ℕ) → F.read window ≡ Took m left [] →
+pub front-is : {A : Type 0} (F G : Format A) → ReadsAs F G → IsLawful G → (window left : List ℕ) (m : A) (taken : ℕ) → F.read window ≡ Took m left [] →
     taken ≡ length window - length left → FrontIs F window m taken
 front-is F G same l window left m taken given e =
     let read = sym (same window) ∙ given in
@@ -63,7 +63,7 @@ tag-told end_error other (OutsideUsize _) x y never h = absurd (cc)
 no-end : (x y : IntegerType) (n : ℕ) → InvalidIntegerType x y ≡ UnexpectedEnd n → ⊥
 no-end x y n e = cc
 
-pub front-fails : {A : Type 0} (F G : Format A) → ReadsAs F G → Lawful G → (window left : List ℕ) (x y : IntegerType) →
+pub front-fails : {A : Type 0} (F G : Format A) → ReadsAs F G → IsLawful G → (window left : List ℕ) (x y : IntegerType) →
     ReadFailure (λ missing d. d ≡ UnexpectedEnd missing) no_device (F.read window) 0 0 window left (InvalidIntegerType x y) → FrontFails F window (InvalidIntegerType x y)
 front-fails F G same l window left x y (by_fault why given tells takes) =
     let read = sym (same window) ∙ given in
@@ -73,7 +73,7 @@ front-fails F G same l window left x y (by_failure h r t) = absurd h
 front-fails F G same l window left x y (by_device h) = absurd h
 
 -- what is left of a window is no longer than it
-pub left-shorter : {A : Type 0} (F G : Format A) → ReadsAs F G → Lawful G → (window left : List ℕ) (m : A) (n : ℕ) → F.read window ≡ Took m left [] → n ≡ length left →
+pub left-shorter : {A : Type 0} (F G : Format A) → ReadsAs F G → IsLawful G → (window left : List ℕ) (m : A) (n : ℕ) → F.read window ≡ Took m left [] → n ≡ length left →
     n ≤ length window
 left-shorter F G same l window left m n given e =
     let read = sym (same window) ∙ given in
@@ -89,7 +89,7 @@ module _ {R A T : Type 0} {is_known : R → Type 0} {remaining : R → List ℕ}
     {device : DeviceErrors} {F : Format A} {mean : T → A} {old middle : R} {window : List ℕ} (n : ℕ) where
   -- a refused tag in the window is not consumed
   pub window-fails : {e : DecodeError} → FrontFails F window e → (is_known old → window ≡ take n (remaining old)) →
-      Unmoved (is_known old) (is_known middle) (remaining old) (remaining middle) (failures old) (failures middle) (loans old) (loans middle) →
+      LeavesState (is_known old) (is_known middle) (remaining old) (remaining middle) (failures old) (failures middle) (loans old) (loans middle) →
       ReadsWord is_known remaining failures loans end_error device F mean (Err e) old middle
   window-fails {e} f shown kept = record {
     ok = λ known. tt;
@@ -101,7 +101,7 @@ module _ {R A T : Type 0} {is_known : R → Type 0} {remaining : R → List ℕ}
 
   -- a word at the front of the window is read
   pub window-reads : {new : R} {v : T} {taken : ℕ} → FrontIs F window (mean v) taken → (is_known old → window ≡ take n (remaining old)) →
-      Unmoved (is_known old) (is_known middle) (remaining old) (remaining middle) (failures old) (failures middle) (loans old) (loans middle) →
+      LeavesState (is_known old) (is_known middle) (remaining old) (remaining middle) (failures old) (failures middle) (loans old) (loans middle) →
       TakesShown is_known remaining failures loans taken middle new → ReadsWord is_known remaining failures loans end_error device F mean (Ok v) old new
   window-reads {new} {v} {taken} f shown kept takes = record {
     ok = λ known.
@@ -121,7 +121,7 @@ byte-shown (b ∷ []) one = record { within = omega arith; reads = λ more. byte
 byte-shown (b ∷ c ∷ more) one = absurd (omega (arith, one))
 
 -- the parts of a varint are lawful formats at every width
-after-lawful : (order : Endianness) (why : Fault) (first : ℕ) (f : FirstByte) → ¬ (IsEnd why) → Lawful (number_after order why first f)
+after-lawful : (order : Endianness) (why : Fault) (first : ℕ) (f : FirstByte) → ¬ (IsEnd why) → IsLawful (number_after order why first f)
 after-lawful order why first Itself never = pure-lawful first
 after-lawful order why first (Before n) never = digits-lawful order n
 after-lawful order why first TooWide never = fail-lawful why never
@@ -130,7 +130,7 @@ module _ (tags : ℕ → IntegerType) (name : IntegerType) (order : Endianness) 
   abbrev pub read_by : Format ℕ
   read_by = byte >>= λ first. number_after order (InvalidInteger name (tags first)) first (first_byte width first)
 
-  pub read_by-lawful : Lawful read_by
+  pub read_by-lawful : IsLawful read_by
   read_by-lawful =
       turn-lawful byte (λ first. number_after order (InvalidInteger name (tags first)) first (first_byte width first)) byte-lawful
       (λ first. after-lawful order (InvalidInteger name (tags first)) first (first_byte width first) (λ k. k))

@@ -23,7 +23,7 @@ use Rattle.bincode_base.specs.declared.config.IntEncoding.{IntEncoding}
 use Rattle.bincode_base.specs.declared.config.IntEncoding.TheVariants.{Fixed}
 use Rattle.bincode_spec.specs.Integers.{shortest_word, spelling, number_for, byte, digits, first_of, varint, first_byte, Itself, Before, TooWide, number_after, width_in_bytes}
 use Rattle.bincode_spec.specs.Layers.Spelling.{shortest_pieces, spelling_pieces}
-use Rattle.bincode_spec.specs.Device.{DeviceErrors, Rose, Takes}
+use Rattle.bincode_spec.specs.Device.{DeviceErrors, CountRises, Takes}
 use Rattle.bincode_spec.specs.Layers.Pieces.{FallsShort, StopsAmong, TakesPiece, TakesPieces}
 use mir.Val.{to_z, of_z, Fits}
 use Rattle.bincode_spec.specs.Layers.Reads.{ReadFailure, by_fault, by_device, by_failure}
@@ -70,7 +70,7 @@ map-failed f F input why e = rw e refl
 
 -- why a read of n bytes failed
 pub fixed_bytes-misreads : (end_error : ℕ → DecodeError → Type 0) (device : DeviceErrors) (remaining remaining' : List ℕ) (n before after : ℕ) (e : DecodeError) →
-    FallsShort end_error remaining n e ⊎ (device.is_uncounted e ⊎ (device.is_counted e × Rose before after)) → device.is_uncounted e ⊎ Takes remaining remaining' →
+    FallsShort end_error remaining n e ⊎ (device.is_uncounted e ⊎ (device.is_counted e × CountRises before after)) → device.is_uncounted e ⊎ Takes remaining remaining' →
     ReadFailure end_error device ((fixed_bytes n).read remaining) before after remaining remaining' e
 fixed_bytes-misreads end_error device remaining remaining' n before after e why (inl d) = by_device d
 fixed_bytes-misreads end_error device remaining remaining' n before after e (inl h) (inr t) = by_fault (End (Some (n - length remaining))) (raw_too_short remaining n h.0) h.1 t
@@ -88,7 +88,7 @@ misreads-more end_error device part whole before after remaining remaining' e sa
 takes-then : (remaining middle remaining' : List ℕ) → Takes remaining middle → Takes middle remaining' → Takes remaining remaining'
 takes-then remaining middle remaining' (a, e) (b, f) = (a ++ b, e ∙ ap (λ z. a ++ z) f ∙ sym (append_assoc a b remaining'))
 
-rose-then : (a b c : ℕ) → a ≤ b → Rose b c → Rose a c
+rose-then : (a b c : ℕ) → a ≤ b → CountRises b c → CountRises a c
 rose-then a b c h (inl r) = inl (omega arith)
 rose-then a b c h (inr r) = inr r
 

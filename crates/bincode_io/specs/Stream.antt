@@ -43,8 +43,8 @@ abbrev pub IsIo : DecodeError → Type 0
 IsIo e = (inner : StreamError) × (additional : ℕ) × (e ≡ decoding.Io inner additional)
 
 -- `told` has the kind of an error of the stream, and its number if there is one
-abbrev pub Tells : Error → StreamError → Type 0
-Tells cause told = (kind_of told ≡ error_kind cause) × (code_of told ≡ raw_os_error cause)
+abbrev pub CopiesError : Error → StreamError → Type 0
+CopiesError cause told = (kind_of told ≡ error_kind cause) × (code_of told ≡ raw_os_error cause)
 
 -- the stream ended with n bytes missing: the end of a file
 abbrev pub EndsAsFile : ℕ → DecodeError → Type 0

@@ -8,7 +8,7 @@ use Rattle.std.proofs.KnownBytes.{Appends-nil, Appends-trans}
 use Rattle.std.specs.declared.io.buffered.BufReader.{BufReader}
 use Rattle.bincode_base.specs.declared.error.EncodeError.{EncodeError}
 use Rattle.bincode_base.specs.declared.error.EncodeError.TheVariants.{Memory}
-use Rattle.bincode_spec.specs.Device.{TooLong, Rose}
+use Rattle.bincode_spec.specs.Device.{TooLong, CountRises}
 use Rattle.bincode_spec.specs.Layers.Pieces.{TakesRoom}
 use Rattle.bincode_io.specs.declared.io_write.IoWriter.{IoWriter}
 use Rattle.bincode_io.specs.RoomLaws.{first-empty, second-empty}
@@ -45,7 +45,7 @@ adds-join contents a b c x y p q = record {
 }
 
 pub refuses-why : {W : Type 0} (contents : W → Option (List ℕ)) (a b : IoWriter W) (piece : List ℕ) (e : EncodeError) → StreamRefuses contents a piece e b →
-    TooLong (Some (2 ^ 64 - 1 - written_through a)) piece ⊎ ((e ≡ Memory) ⊎ (((written : ℕ) × IsWriteIo written e) ⊎ Rose 0 0))
+    TooLong (Some (2 ^ 64 - 1 - written_through a)) piece ⊎ ((e ≡ Memory) ⊎ (((written : ℕ) × IsWriteIo written e) ⊎ CountRises 0 0))
 refuses-why contents a b piece e (inl h) = inl h.1
 refuses-why contents a b piece e (inr h) = inr (inr (inl (_, h.0)))
 

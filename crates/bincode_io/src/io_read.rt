@@ -7,7 +7,7 @@ ghost use Rattle.std.specs.Io.Buffered.{reader_remaining};
 ghost use Rattle.std.specs.Io.KnownBytes.{Consumes, IsAtEnd, Keeps};
 ghost use Rattle.std.specs.IoError.{error_kind};
 ghost use Rattle.bincode_io.specs.Stream.{TellsBytes, known_bytes, EndsAsFile, EndsShort, FillsFrom};
-ghost use Rattle.bincode_io.specs.Stream.{IsIo, Tells, stream_errors};
+ghost use Rattle.bincode_io.specs.Stream.{IsIo, CopiesError, stream_errors};
 
 use crate::read::Reader;
 use bincode_base::error::{DecodeError, StreamError};
@@ -28,7 +28,7 @@ fn read_again<R: Read>(
     ensures end { IfOk result (λ n. n ≡ 0 → 0 < length bytes.old → IsAtEnd (R.remaining stream.new)) }
     ensures err { OnErr result (Keeps (R.remaining stream.old) (R.remaining stream.new)) }
     ensures error { error_kind cause ≢ ErrorKind.Interrupted → (stream.new ≡ stream.old)
-        × MatchResult result (λ _. ⊥) (Tells cause) }
+        × MatchResult result (λ _. ⊥) (CopiesError cause) }
 {
     let mut cause = cause;
     for _ in 0..usize::MAX {

@@ -6,7 +6,7 @@ ghost use Rattle.std.specs.Io.{WritesAtMost};
 ghost use Rattle.std.specs.Io.KnownBytes.{Appends, Keeps};
 ghost use Rattle.std.specs.IoError.{error_kind};
 ghost use Rattle.bincode_base.specs.StreamError.{kind_of};
-ghost use Rattle.bincode_io.specs.Stream.{target_of, written_through, Tells, FrontOut, StreamAdds, StreamRefuses};
+ghost use Rattle.bincode_io.specs.Stream.{target_of, written_through, CopiesError, FrontOut, StreamAdds, StreamRefuses};
 
 use crate::write::Writer;
 use bincode_base::error::{EncodeError, StreamError};
@@ -26,7 +26,7 @@ fn write_again<W: Write>(
     ensures ok { IfOk result (λ n. Appends (W.contents stream.old) (W.contents stream.new) (take n bytes.now)) }
     ensures err { OnErr result (Keeps (W.contents stream.old) (W.contents stream.new)) }
     ensures error { error_kind cause ≢ ErrorKind.Interrupted → (stream.new ≡ stream.old)
-        × MatchResult result (λ _. ⊥) (Tells cause) }
+        × MatchResult result (λ _. ⊥) (CopiesError cause) }
 {
     let mut cause = cause;
     for _ in 0..usize::MAX {

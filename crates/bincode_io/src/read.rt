@@ -7,7 +7,7 @@ ghost use Rattle.std.specs.Borrow.{GName, sem};
 ghost use Rattle.std.specs.Io.BufRead.{Rests};
 ghost use Rattle.bincode_spec.specs.Device.{DeviceErrors};
 ghost use Rattle.bincode_spec.specs.Layers.Pieces.{no_device, IsEndError};
-ghost use Rattle.bincode_spec.specs.Layers.Pieces.{FallsShort, FillsBuffer, TakesShown, Unmoved};
+ghost use Rattle.bincode_spec.specs.Layers.Pieces.{FallsShort, FillsBuffer, TakesShown, LeavesState};
 ghost use Rattle.bincode_base.specs.declared.error.DecodeError.{DecodeError};
 ghost use Rattle.bincode_base.specs.declared.error.DecodeError.TheVariants.{UnexpectedEnd};
 
@@ -56,7 +56,7 @@ pub trait Reader: Drop {
             × (is_known self.old → s.now ≡ take n (remaining self.old))) }
         ensures shows { 0 < n → IsSome result ↔ (n ≤ buffered_len self.old) }
         ensures* stays { sem 𝓛 (Rests Self.row self.entry (λ after.
-            Unmoved (is_known self.old) (is_known after) (remaining self.old) (remaining after) (failures self.old)
+            LeavesState (is_known self.old) (is_known after) (remaining self.old) (remaining after) (failures self.old)
             (failures after) (loans self.old) (loans after)
             × IfSome result (λ _. n ≤ buffered_len after))) };
 
@@ -152,7 +152,7 @@ impl Reader for SliceReader<'_> {
         ensures next { IfSome result (λ s. (length s.now ≡ n) × (s.now ≡ take n (left_of self.old))) }
         ensures shows { IsSome result ↔ (n ≤ length (left_of self.old)) }
         ensures* stays { sem 𝓛 (Rests (the_row (record { mir = named 1; lft = [] })) self.entry (λ after.
-            Unmoved ⊤ ⊤ (left_of self.old) (left_of after) 0 0 [] []
+            LeavesState ⊤ ⊤ (left_of self.old) (left_of after) 0 0 [] []
             × IfSome result (λ _. n ≤ length (left_of after)))) }
     {
         self.slice[self.taken..].get(..n)

@@ -5,7 +5,7 @@ use Rattle.std.proofs.lemmas.Bool.{cases_lt, le-leb, lt-leb}
 use Rattle.bincode_spec.specs.Fault.{Fault}
 use Rattle.bincode_spec.specs.Charge.{Step, Charge, Reserve, Release, charged_bytes, reserved_bytes, released_bytes, charge_after, Passes, StaysWithin}
 use Rattle.bincode_spec.specs.Format.{Format, Reading, Took, Failed, after_steps, then_read, pure, fail, step, ◌>>=◌}
-use Rattle.bincode_spec.specs.Layers.Laws.{Lawful, BeginsWith, IsBacked, Balanced, Settles, Holds}
+use Rattle.bincode_spec.specs.Layers.Laws.{IsLawful, BeginsWith, IsBacked, IsBalanced, Settles, Holds}
 use Rattle.bincode_lemmas.specs.Balance.{balanced-word, balanced-fault}
 use Rattle.bincode_spec.specs.Answer.{StepsOf, of_word, of_fault, Allows, after_claim, after_release, after_step, on_some, charge_after_steps}
 use Rattle.bincode_spec.specs.Answer.{Answer, Gave, Refused, PassedLimit, gave_at, refused_at, weigh_reading, answer}
@@ -90,12 +90,12 @@ unfolding answer step
 answer-release limit n input charge = refl
 
 -- the charge after a claim that succeeds; without a limit nothing is counted
-abbrev pub raised : Option ℕ → ℕ → ℕ → ℕ
-raised None charge n = charge
-raised (Some limit) charge n = charge + n
+abbrev pub charge_after_claim : Option ℕ → ℕ → ℕ → ℕ
+charge_after_claim None charge n = charge
+charge_after_claim (Some limit) charge n = charge + n
 
 -- if the limit allows the new charge, the claim succeeds
-pub claim-stands : (limit : Option ℕ) (charge n : ℕ) → Allows limit (charge + n) → after_claim limit charge n ≡ Some (raised limit charge n)
+pub claim-stands : (limit : Option ℕ) (charge n : ℕ) → Allows limit (charge + n) → after_claim limit charge n ≡ Some (charge_after_claim limit charge n)
 claim-stands None charge n h = refl
 claim-stands (Some limit) charge n h = rw (le-leb (charge + n) limit h) refl
 
@@ -287,7 +287,7 @@ allowed_none : (limit : Option ℕ) → Allows limit 0
 allowed_none None = tt
 allowed_none (Some limit) = omega arith
 
-module _ {A : Type 0} (F : Format A) (f : Lawful F) (b : Balanced F) (limit : Option ℕ) where
+module _ {A : Type 0} (F : Format A) (f : IsLawful F) (b : IsBalanced F) (limit : Option ℕ) where
   word_backed : (word : List ℕ) (m : A) (steps : List Step) → F.Word word m steps → IsBacked 0 steps
   word_backed word m steps u = let h = balanced-word F word m steps f b u in h.0
 
@@ -360,7 +360,7 @@ module _ {A : Type 0} (F : Format A) (f : Lawful F) (b : Balanced F) (limit : Op
 
 -- A word charges its full width, and releases what was held before and is not held after.
 pub gave-recharged :
-    {A : Type 0} (F : Format A) (f : Lawful F) (held left : ℕ) (b : Holds held left F) (limit : ℕ) (input remaining : List ℕ) (m : A) (charge after : ℕ) →
+    {A : Type 0} (F : Format A) (f : IsLawful F) (held left : ℕ) (b : Holds held left F) (limit : ℕ) (input remaining : List ℕ) (m : A) (charge after : ℕ) →
     held ≤ charge → answer (Some limit) F input charge ≡ Gave m remaining after →
     (steps : List Step) × BeginsWith F input m remaining steps × (after + held ≡ charge + charged_bytes steps + left)
 unfolding answer
@@ -372,7 +372,7 @@ gave-recharged F f held left b limit input remaining m charge after le e =
     (p.0, f.read_word input remaining m p.0 p.1, omega arith)
 
 -- Without a limit nothing is counted.
-pub gave-is_uncounted : {A : Type 0} (F : Format A) (f : Lawful F) (input remaining : List ℕ) (m : A) (charge after : ℕ) →
+pub gave-is_uncounted : {A : Type 0} (F : Format A) (f : IsLawful F) (input remaining : List ℕ) (m : A) (charge after : ℕ) →
     answer None F input charge ≡ Gave m remaining after → (steps : List Step) × BeginsWith F input m remaining steps × (after ≡ charge)
 unfolding answer
 gave-is_uncounted F f input remaining m charge after e =
@@ -386,7 +386,7 @@ gave-is_uncounted F f input remaining m charge after e =
     is_uncounted charge ((Release n) ∷ steps) after e = is_uncounted charge steps after e
 
 -- A balanced one charges its full width.
-pub gave-charge : {A : Type 0} (F : Format A) (f : Lawful F) (b : Balanced F) (limit : ℕ) (input remaining : List ℕ) (m : A) (charge after : ℕ) →
+pub gave-charge : {A : Type 0} (F : Format A) (f : IsLawful F) (b : IsBalanced F) (limit : ℕ) (input remaining : List ℕ) (m : A) (charge after : ℕ) →
     answer (Some limit) F input charge ≡ Gave m remaining after → (steps : List Step) × BeginsWith F input m remaining steps × (after ≡ charge + charged_bytes steps)
 gave-charge F f b limit input remaining m charge after e =
     let p = gave-recharged F f 0 0 b limit input remaining m charge after (omega arith) e in
@@ -394,6 +394,6 @@ gave-charge F f b limit input remaining m charge after e =
     (p.0, p.1, omega arith)
 
 -- A whole word releases no more than it claims.
-pub gave-grows : {A : Type 0} (F : Format A) (f : Lawful F) (b : Balanced F) (limit : ℕ) (input remaining : List ℕ) (m : A) (charge after : ℕ) →
+pub gave-grows : {A : Type 0} (F : Format A) (f : IsLawful F) (b : IsBalanced F) (limit : ℕ) (input remaining : List ℕ) (m : A) (charge after : ℕ) →
     answer (Some limit) F input charge ≡ Gave m remaining after → charge ≤ after
 gave-grows F f b limit input remaining m charge after e = let p = gave-charge F f b limit input remaining m charge after e in let k = p.2 in omega arith

@@ -8,7 +8,7 @@ use Rattle.bincode_base.specs.Setting.{Setting}
 use Rattle.bincode_spec.specs.Format.{Format}
 use Rattle.bincode_spec.specs.Meaning.{Meaning, IsNumber}
 use Rattle.bincode_spec.specs.Words.{natural_number, len, list}
-use Rattle.bincode_spec.specs.Allowed.{AllowedWord, OneLength, Shortest}
+use Rattle.bincode_spec.specs.Allowed.{AllowedWord, OneLength, IsShortest}
 use Rattle.bincode_lemmas.specs.Sequences.{Both}
 use Rattle.bincode_spec.specs.Run.{IsListOf}
 use Rattle.bincode_lemmas.specs.Sequences.{AllowsEach}
@@ -58,8 +58,8 @@ module _ {A : Type 0} (Means : A → Meaning → Type 0) (s : Setting) (share : 
         let number = subst (λ n. ReadsAs (IsNumber (pos n)) (natural_number (len s)) b.0) (sym (length_permutation vs ws moved)) b.3 in
         (b.0 ++ p.0, reads-list DecodesTo share F s ws (b.0 ++ p.0) (b.0, p.0, refl, number, p.1), omega (arith, length-append b.0 p.0, length-append b.0 b.1, p.2, ap length b.2))
 
-    pub bag-shortest : (P : A → Type 0) → ((v w : A) → P v → Shortest (Means v) (DecodesTo w) F) → (vs ws : List A) → All P vs →
-        Shortest (IsMadeOf MakesBag Means vs) (IsMadeOf MakesBag DecodesTo ws) (list s share F)
+    pub bag-shortest : (P : A → Type 0) → ((v w : A) → P v → IsShortest (Means v) (DecodesTo w) F) → (vs ws : List A) → All P vs →
+        IsShortest (IsMadeOf MakesBag Means vs) (IsMadeOf MakesBag DecodesTo ws) (list s share F)
     bag-shortest P least vs ws h written bytes m steps w below u i =
         let meant = w.is_meant.0 in
         let given = w.is_meant.1 in

@@ -5,7 +5,7 @@ use Rattle.bincode_spec.specs.Fault.{Fault}
 use Rattle.bincode_spec.specs.Charge.{Step, Charge, Reserve, Release, charged_bytes, reserved_bytes, released_bytes}
 use Rattle.bincode_spec.specs.Format.{Format, Reading, Took, Failed, after_steps, then_read, pure, fail, fixed_bytes, step, ◌>>=◌, reading_without_count, without_count}
 use Rattle.bincode_spec.specs.Format.{written_as, from_result, map_format, charge_then, elements, sequence}
-use Rattle.bincode_spec.specs.Layers.Laws.{Lawful, IsBacked, Settles, Holds, Balanced}
+use Rattle.bincode_spec.specs.Layers.Laws.{IsLawful, IsBacked, Settles, Holds, IsBalanced}
 
 pub full_append : (s t : List Step) → charged_bytes (s ++ t) ≡ charged_bytes s + charged_bytes t
 full_append [] t = omega arith
@@ -131,7 +131,7 @@ settles_more held (Took a remaining s) h = let e : 0 + reserved_bytes s ≡ 0 + 
 settles_more held (Failed why s) h = backed_more held s h
 
 -- a balanced format leaves what is held
-pub more-holds : {A : Type 0} (held : ℕ) (F : Format A) → Balanced F → Holds held held F
+pub more-holds : {A : Type 0} (held : ℕ) (F : Format A) → IsBalanced F → Holds held held F
 more-holds held F f = record { settles = λ input. settles_more held (F.read input) (f.settles input) }
 
 from_result_holds : {A : Type 0} (held : ℕ) (r : Result A Fault) → Holds held held (from_result r)
@@ -139,19 +139,19 @@ from_result_holds held (Ok a) = pure-holds held a
 from_result_holds held (Err why) = fail-holds held held why
 
 -- a test of the meaning takes no steps
-pub test-balanced : {A B : Type 0} (F : Format A) (test : A → Result B Fault) → Balanced F → Balanced (F >>= λ a. from_result (test a))
+pub test-balanced : {A B : Type 0} (F : Format A) (test : A → Result B Fault) → IsBalanced F → IsBalanced (F >>= λ a. from_result (test a))
 test-balanced F test f = turn-holds 0 0 0 F (λ a. from_result (test a)) f (λ a. from_result_holds 0 (test a))
 
 -- another meaning takes no steps
-pub map-balanced : {A B : Type 0} (f : A → B) (F : Format A) → Balanced F → Balanced (map_format f F)
+pub map-balanced : {A B : Type 0} (f : A → B) (F : Format A) → IsBalanced F → IsBalanced (map_format f F)
 map-balanced f F h = turn-holds 0 0 0 F (λ a. pure (f a)) h (λ a. pure-holds 0 (f a))
 
 -- a charge before it
-pub charge_then-balanced : {A : Type 0} (n : ℕ) (F : Format A) → Balanced F → Balanced (charge_then n F)
+pub charge_then-balanced : {A : Type 0} (n : ℕ) (F : Format A) → IsBalanced F → IsBalanced (charge_then n F)
 charge_then-balanced n F f = turn-holds 0 0 0 (step (Charge n)) (λ _. F) (charge-holds 0 n) (λ _. f)
 
 -- the elements release the room that was reserved for them
-pub elements-holds : {A : Type 0} (n share : ℕ) (F : Format A) → Balanced F → Holds (n * share) 0 (elements n share F)
+pub elements-holds : {A : Type 0} (n share : ℕ) (F : Format A) → IsBalanced F → Holds (n * share) 0 (elements n share F)
 elements-holds zero share F f = let e : 0 * share ≡ 0 = omega arith in rw e (pure-holds 0 [])
 elements-holds (suc n) share F f =
     let e : suc n * share ≡ n * share + share = omega arith in
@@ -160,18 +160,18 @@ elements-holds (suc n) share F f =
     (λ a. turn-holds (n * share) 0 0 (elements n share F) (λ others. pure (a ∷ others)) (elements-holds n share F f) (λ others. pure-holds 0 (a ∷ others)))))
 
 -- a sequence releases all that it reserves
-pub sequence-balanced : {A : Type 0} (n share : ℕ) (F : Format A) → Balanced F → Balanced (sequence n share F)
+pub sequence-balanced : {A : Type 0} (n share : ℕ) (F : Format A) → IsBalanced F → IsBalanced (sequence n share F)
 sequence-balanced n share F f =
     turn-holds 0 (0 + n * share) 0 (step (Reserve n share)) (λ _. elements n share F) (reserve-holds 0 n share)
     (λ _. let e : 0 + n * share ≡ n * share = omega arith in rw e (elements-holds n share F f))
 
 -- a word releases all that it reserves, and never before
-pub balanced-word : {A : Type 0} (F : Format A) (word : List ℕ) (m : A) (s : List Step) → Lawful F → Balanced F → F.Word word m s → IsBacked 0 s × (reserved_bytes s ≡ released_bytes s)
+pub balanced-word : {A : Type 0} (F : Format A) (word : List ℕ) (m : A) (s : List Step) → IsLawful F → IsBalanced F → F.Word word m s → IsBacked 0 s × (reserved_bytes s ≡ released_bytes s)
 balanced-word F word m s f b u =
     let p : Settles 0 0 (Took m [] s) = subst (Settles 0 0) (f.word_read word [] m s u) (b.settles (word ++ [])) in
     let e : 0 + reserved_bytes s ≡ 0 + released_bytes s = p.1 in
     (p.0, omega arith)
 
 -- a fault releases nothing before it is reserved
-pub balanced-fault : {A : Type 0} (F : Format A) (input : List ℕ) (why : Fault) (s : List Step) → Lawful F → Balanced F → F.Faults input why s → IsBacked 0 s
+pub balanced-fault : {A : Type 0} (F : Format A) (input : List ℕ) (why : Fault) (s : List Step) → IsLawful F → IsBalanced F → F.Faults input why s → IsBacked 0 s
 balanced-fault F input why s f b h = subst (Settles 0 0) (f.fault_read input why s h) (b.settles input)

@@ -4,7 +4,7 @@ use Rattle.std.specs.List.{All}
 use Rattle.bincode_base.specs.declared.error.EncodeError.{EncodeError}
 use Rattle.bincode_spec.specs.Charge.{Step}
 use Rattle.bincode_spec.specs.Format.{Format, AnyWord, of_cell, written_as}
-use Rattle.bincode_spec.specs.Layers.Laws.{Lawful, Balanced}
+use Rattle.bincode_spec.specs.Layers.Laws.{IsLawful, IsBalanced}
 use Rattle.bincode_lemmas.specs.FormatLaws.{rewritten-lawful}
 use Rattle.bincode_lemmas.specs.Balance.{rewritten-holds}
 use Rattle.bincode_spec.specs.Meaning.{Meaning}
@@ -12,20 +12,20 @@ use Rattle.bincode_spec.specs.Allowed.{AllowedWord, SomeWord, MayName}
 use Rattle.bincode_spec.specs.Cells.{IsAny, IsBorrowed, HasWord}
 
 -- a cell keeps the laws that the format of what it holds does
-pub cell-lawful : (F : Format Meaning) → Lawful F → Lawful (of_cell F)
+pub cell-lawful : (F : Format Meaning) → IsLawful F → IsLawful (of_cell F)
 cell-lawful F f = rewritten-lawful (AnyWord F) F f (λ word m w. (w.steps, w.is_word))
 
-pub cell-balanced : (F : Format Meaning) → Balanced F → Balanced (of_cell F)
+pub cell-balanced : (F : Format Meaning) → IsBalanced F → IsBalanced (of_cell F)
 cell-balanced F f = rewritten-holds 0 0 (AnyWord F) F f
 
 -- it allows what a value that it may hold does
-pub cell-allows : (F : Format Meaning) → Lawful F → (P : Meaning → Type 0) (bytes : List ℕ) → AllowedWord P F bytes → AllowedWord IsAny (of_cell F) bytes
+pub cell-allows : (F : Format Meaning) → IsLawful F → (P : Meaning → Type 0) (bytes : List ℕ) → AllowedWord P F bytes → AllowedWord IsAny (of_cell F) bytes
 unfolding written_as
 cell-allows F f P bytes w =
     let p = f.written_is_word bytes w.meaning w.is_written in
     record { meaning = w.meaning; is_meant = tt; is_written = record { steps = p.0; is_word = p.1 } }
 
-pub cell-has_word : (F : Format Meaning) → Lawful F → (P : Meaning → Type 0) → SomeWord (AllowedWord P F) → HasWord F
+pub cell-has_word : (F : Format Meaning) → IsLawful F → (P : Meaning → Type 0) → SomeWord (AllowedWord P F) → HasWord F
 cell-has_word F f P w = record { bytes = w.bytes; are_bytes = w.are_bytes; is_allowed = cell-allows F f P w.bytes w.is_allowed }
 
 -- any word is one of a cell

@@ -14,8 +14,8 @@ use lib.Utf8.{encode, scalar, scalar_cases, low_scalar}
 use Rattle.bincode_spec.specs.Fault.{Fault, InvalidChar}
 use Rattle.bincode_spec.specs.Charge.{Step, Charge}
 use Rattle.bincode_spec.specs.Format.{pure, fail, fixed_bytes, step, ◌>>=◌, from_result}
-use Rattle.bincode_spec.specs.Layers.Laws.{Lawful, Balanced}
-use Rattle.bincode_lemmas.specs.FormatLaws.{IsSettling, Settles, fail-lawful, fixed_bytes-lawful, turn-lawful, test-lawful, charge_then-lawful}
+use Rattle.bincode_spec.specs.Layers.Laws.{IsLawful, IsBalanced}
+use Rattle.bincode_lemmas.specs.FormatLaws.{IsSettling, FailsBeforeEnd, fail-lawful, fixed_bytes-lawful, turn-lawful, test-lawful, charge_then-lawful}
 use Rattle.bincode_lemmas.specs.Balance.{fail-holds, fixed_bytes-holds, turn-holds, test-balanced, charge_then-balanced}
 use Rattle.bincode_spec.specs.Integers.{byte, first_of}
 use Rattle.bincode_lemmas.specs.IntegerLaws.{byte-lawful, byte-balanced}
@@ -32,7 +32,7 @@ use Rattle.bincode_spec.specs.Layers.Chars.{Spells}
 
 -- the laws
 
-settles_by : (test : Bool) (m : Meaning) (bytes : List ℕ) → Settles (if test then Ok m else Err (InvalidChar bytes))
+settles_by : (test : Bool) (m : Meaning) (bytes : List ℕ) → FailsBeforeEnd (if test then Ok m else Err (InvalidChar bytes))
 settles_by true m bytes = tt
 settles_by false m bytes = λ h. h
 
@@ -40,27 +40,27 @@ char_settles : (first : ℕ) → IsSettling (λ bytes. char_of (first ∷ bytes)
 char_settles first bytes = settles_by (is_utf8 (first ∷ bytes)) (Character (code_point (first ∷ bytes))) (four_bytes (first ∷ bytes))
 
 -- the bytes after the first are lawful
-pub rest_of_char-lawful : (first width : ℕ) → Lawful (rest_of_char first width)
+pub rest_of_char-lawful : (first width : ℕ) → IsLawful (rest_of_char first width)
 rest_of_char-lawful first width = test-lawful (fixed_bytes (width - 1)) (λ bytes. char_of (first ∷ bytes)) (fixed_bytes-lawful (width - 1)) (char_settles first)
 
 -- and balanced
-pub rest_of_char-balanced : (first width : ℕ) → Balanced (rest_of_char first width)
+pub rest_of_char-balanced : (first width : ℕ) → IsBalanced (rest_of_char first width)
 rest_of_char-balanced first width = test-balanced (fixed_bytes (width - 1)) (λ bytes. char_of (first ∷ bytes)) (fixed_bytes-holds 0 (width - 1))
 
-after_lawful : (first : ℕ) (width : Option ℕ) → Lawful (after_char first width)
+after_lawful : (first : ℕ) (width : Option ℕ) → IsLawful (after_char first width)
 after_lawful first None = fail-lawful (InvalidChar (four_bytes (first ∷ []))) (λ h. h)
 after_lawful first (Some width) = charge_then-lawful width (rest_of_char first width) (rest_of_char-lawful first width)
 
-after_balanced : (first : ℕ) (width : Option ℕ) → Balanced (after_char first width)
+after_balanced : (first : ℕ) (width : Option ℕ) → IsBalanced (after_char first width)
 after_balanced first None = fail-holds 0 0 (InvalidChar (four_bytes (first ∷ [])))
 after_balanced first (Some width) = charge_then-balanced width (rest_of_char first width) (rest_of_char-balanced first width)
 
 -- a character is lawful
-pub character-lawful : Lawful character
+pub character-lawful : IsLawful character
 character-lawful = turn-lawful byte (λ first. after_char first (char_width first)) byte-lawful (λ first. after_lawful first (char_width first))
 
 -- a character is balanced
-pub character-balanced : Balanced character
+pub character-balanced : IsBalanced character
 character-balanced = turn-holds 0 0 0 byte (λ first. after_char first (char_width first)) byte-balanced (λ first. after_balanced first (char_width first))
 
 -- the forms
@@ -105,7 +105,7 @@ pub length-encoded_3 : (c : ℕ) → c < 65536 → length (encode_utf8 c) ≤ 3
 length-encoded_3 c h = ⊎_elim (λ k. omega (arith, length-encoded_2 c k)) (λ k. omega (arith, ap length (encoded-3 c k h))) (cases_lt c 2048)
 
 -- the bytes of a character have the width that the first one says, and the digits of its code point
-pub record Spelled (c : ℕ) : Type 0 where
+pub record IsCharSpelling (c : ℕ) : Type 0 where
   pub first : ℕ
   pub tail : List ℕ
   pub bytes_are : encode_utf8 c ≡ first ∷ tail
@@ -119,10 +119,10 @@ last_byte c = All-cons (λ b. b < 256) (128 + c % 64) [] (omega arith) (All-nil 
 last_bytes : (c : ℕ) → All (λ b. b < 256) ((128 + c / 64 % 64) ∷ (128 + c % 64) ∷ [])
 last_bytes c = All-cons (λ b. b < 256) (128 + c / 64 % 64) ((128 + c % 64) ∷ []) (omega arith) (last_byte c)
 
-spelled_1 : (c : ℕ) → c < 128 → Spelled c
+spelled_1 : (c : ℕ) → c < 128 → IsCharSpelling c
 spelled_1 c h = record { first = c; tail = []; bytes_are = encoded-1 c h; width_is = width_1 c h; code_is = refl; are_bytes = All-cons (λ b. b < 256) c [] (omega (arith, h)) (All-nil (λ b. b < 256)) }
 
-spelled_2 : (c : ℕ) → 128 ≤ c → c < 2048 → Spelled c
+spelled_2 : (c : ℕ) → 128 ≤ c → c < 2048 → IsCharSpelling c
 spelled_2 c h k = record {
   first = 192 + c / 64;
   tail = (128 + c % 64) ∷ [];
@@ -132,7 +132,7 @@ spelled_2 c h k = record {
   are_bytes = All-cons (λ b. b < 256) (192 + c / 64) ((128 + c % 64) ∷ []) (omega arith) (last_byte c);
 }
 
-spelled_3 : (c : ℕ) → 2048 ≤ c → c < 65536 → Spelled c
+spelled_3 : (c : ℕ) → 2048 ≤ c → c < 65536 → IsCharSpelling c
 spelled_3 c h k = record {
   first = 224 + c / 4096;
   tail = (128 + c / 64 % 64) ∷ (128 + c % 64) ∷ [];
@@ -142,7 +142,7 @@ spelled_3 c h k = record {
   are_bytes = All-cons (λ b. b < 256) (224 + c / 4096) ((128 + c / 64 % 64) ∷ (128 + c % 64) ∷ []) (omega arith) (last_bytes c);
 }
 
-spelled_4 : (c : ℕ) → 65536 ≤ c → c < 1114112 → Spelled c
+spelled_4 : (c : ℕ) → 65536 ≤ c → c < 1114112 → IsCharSpelling c
 spelled_4 c h k = record {
   first = 240 + c / 262144;
   tail = (128 + c / 4096 % 64) ∷ (128 + c / 64 % 64) ∷ (128 + c % 64) ∷ [];
@@ -153,7 +153,7 @@ spelled_4 c h k = record {
       (All-cons (λ b. b < 256) (128 + c / 4096 % 64) ((128 + c / 64 % 64) ∷ (128 + c % 64) ∷ []) (omega arith) (last_bytes c));
 }
 
-spelled_by : (c : ℕ) → c < 1114112 → (c < 128) ⊎ (128 ≤ c) → (c < 2048) ⊎ (2048 ≤ c) → (c < 65536) ⊎ (65536 ≤ c) → Spelled c
+spelled_by : (c : ℕ) → c < 1114112 → (c < 128) ⊎ (128 ≤ c) → (c < 2048) ⊎ (2048 ≤ c) → (c < 65536) ⊎ (65536 ≤ c) → IsCharSpelling c
 spelled_by c l (inl h) y z = spelled_1 c h
 spelled_by c l (inr h) (inl k) z = spelled_2 c h k
 spelled_by c l (inr h) (inr k) (inl m) = spelled_3 c k m
@@ -164,7 +164,7 @@ below_most c (inl h) = omega arith
 below_most c (inr h) = h.1
 
 -- what std gives for a character is spelled as the format has it
-pub spelled : (c : ℕ) → IsScalar c → Spelled c
+pub spelled : (c : ℕ) → IsScalar c → IsCharSpelling c
 spelled c s = spelled_by c (below_most c (scalar_cases c s)) (cases_lt c 128) (cases_lt c 2048) (cases_lt c 65536)
 
 -- words

@@ -17,11 +17,11 @@ use Rattle.bincode_spec.specs.Charge.{Step, Charge, Reserve, Release, charged_by
 use Rattle.bincode_spec.specs.Format.{Format, pure, fail, fixed_bytes, step, ◌>>=◌, without_count, written_as, from_result, map_format, charge_then, elements, sequence}
 use Rattle.bincode_spec.specs.Integers.{digits, byte, first_of, FirstByte, Itself, Before, TooWide, first_byte, number_after, varint, number_by, unsigned_tag, signed_tag}
 use Rattle.bincode_spec.specs.Integers.{unsigned_integer, signed_integer, unsigned_byte, signed_byte, integer_by}
-use Rattle.bincode_spec.specs.Layers.Laws.{Lawful, Balanced}
+use Rattle.bincode_spec.specs.Layers.Laws.{IsLawful, IsBalanced}
 use Rattle.bincode_spec.specs.Meaning.{Meaning, Bytes, Then, list_meaning}
 use Rattle.bincode_spec.specs.Octets.{octets}
 use Rattle.bincode_spec.specs.Number.{number_of, from_two_complement}
-use Rattle.bincode_spec.specs.Room.{EachContainer, elements_after, Bounded}
+use Rattle.bincode_spec.specs.Room.{EachContainer, elements_after, IsWithinBounds}
 use Rattle.bincode_spec.specs.Words.{Variant, if_picked, after_tag, tag_then_part, len, array, list, length_prefixed, text, text_of, without_nul, without_nul_of, character, after_char, rest_of_char, char_width, char_of, first_and, nothing, duration, duration_of, seconds_and_nanos}
 use Rattle.bincode_lemmas.specs.AnswerLaws.{stays-after, counted_after}
 use Rattle.bincode_lemmas.specs.Balance.{full_append, balanced-word}
@@ -372,7 +372,7 @@ lengths_within limit last ((Reserve n share) ∷ s) h =
 lengths_within limit last ((Release n) ∷ s) h = let p = lengths_within limit 0 s h in let a = p.1 in let b = p.2 in (p.0, a, omega arith)
 
 -- A word within a limit is bounded by it.
-pub within-bounded : {A : Type 0} (F : Format A) → Lawful F → Balanced F → ChargesEnough F → (limit : ℕ) (word : List ℕ) (m : A) (s : List Step) → F.Word word m s → StaysWithin (Some limit) 0 s → Bounded limit word s
+pub within-bounded : {A : Type 0} (F : Format A) → IsLawful F → IsBalanced F → ChargesEnough F → (limit : ℕ) (word : List ℕ) (m : A) (s : List Step) → F.Word word m s → StaysWithin (Some limit) 0 s → IsWithinBounds limit word s
 within-bounded F f b h limit word m s w stays =
     let x = h.charges_enough word m s w in
     let a = x.spans in

@@ -6,7 +6,7 @@ use Rattle.bincode_spec.specs.Device.{DeviceErrors}
 use Rattle.bincode_base.specs.declared.error.DecodeError.{DecodeError}
 use Rattle.bincode_base.specs.Setting.{Setting}
 use Rattle.bincode_spec.specs.Format.{Format, map_format}
-use Rattle.bincode_spec.specs.Layers.Laws.{Lawful}
+use Rattle.bincode_spec.specs.Layers.Laws.{IsLawful}
 use Rattle.bincode_spec.specs.Meaning.{Meaning, Choice}
 use Rattle.bincode_spec.specs.Words.{Variant, if_picked, after_tag, tag_then_part}
 use Rattle.bincode_spec.specs.Choices.{IsChoice}
@@ -32,7 +32,7 @@ module _ (limit : Option ℕ) (tags : Setting → Format ℕ) (variants : List V
     choice-decodes P remaining after p = record { meaning = p.meaning; answer_is = answer-next limit (tags s) (after_tag variants s) input c found middle d gave ∙ p.answer_is; is_decoded = p.is_decoded }
 
     -- and if decoding that fails, so does the whole
-    pub choice-stops_part : Lawful (tags s) →
+    pub choice-stops_part : IsLawful (tags s) →
         (end_error : ℕ → DecodeError → Type 0) (device : DeviceErrors) (H : Type 0) (before between after : ℕ) (remaining : List ℕ) {now : ℕ} (e : DecodeError) →
         before ≤ between → DecodeFailure end_error device H (answer limit (after_tag variants s found) middle d) between after middle remaining now e →
         DecodeFailure end_error device H (answer limit (tag_then_part tags variants s) input c) before after input remaining now e

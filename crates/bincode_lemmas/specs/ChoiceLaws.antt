@@ -1,4 +1,4 @@
--- Choices, from their tags and their parts: they are lawful, what they allow, and that they are `Spelled`.
+-- Choices, from their tags and their parts: they are lawful, what they allow, and that they are `HasShortestWords`.
 use Rattle.std.specs.Prelude.{◌≡◌, ℕ, ◌<◌, pos, Bool, true, false, ◌==◌, Result, Ok, List, [], ◌∷◌, ◌++◌, refl}
 use Rattle.std.proofs.Common.{sym, ◌∙◌, ap, subst}
 use Rattle.std.proofs.lemmas.Bool.{eq-eqb}
@@ -7,12 +7,12 @@ use Rattle.bincode_spec.specs.Fault.{Fault, UnexpectedVariant, Allowed}
 use Rattle.bincode_base.specs.Setting.{Setting}
 use Rattle.bincode_spec.specs.Charge.{Step}
 use Rattle.bincode_spec.specs.Format.{Format, fail, ◌>>=◌, map_format}
-use Rattle.bincode_spec.specs.Layers.Laws.{Lawful, Balanced, AllLawful, AllBalanced}
+use Rattle.bincode_spec.specs.Layers.Laws.{IsLawful, IsBalanced, AllLawful, AllBalanced}
 use Rattle.bincode_lemmas.specs.FormatLaws.{fail-lawful, turn-lawful, map-lawful}
 use Rattle.bincode_lemmas.specs.Balance.{fail-holds, turn-holds, map-balanced}
 use Rattle.bincode_spec.specs.Meaning.{Meaning, Number, Choice, IsNumber}
 use Rattle.bincode_spec.specs.Words.{natural_number, Variant, if_picked, part, after_tag, tag_then_part}
-use Rattle.bincode_spec.specs.Allowed.{AllowedWord, SomeWord, WrittenAlike, OneLength, NoneShorter, Shortest}
+use Rattle.bincode_spec.specs.Allowed.{AllowedWord, SomeWord, WrittenAlike, OneLength, NoneShorter, IsShortest}
 use Rattle.bincode_lemmas.specs.Sequences.{Both}
 use Rattle.bincode_lemmas.specs.AllowedLaws.{map-written, written-map, natural-allows, allowed-natural, same-one_length, both-one_length}
 use Rattle.bincode_lemmas.specs.SpelledLaws.{word-from_result, from_result-word, parts-no_longer}
@@ -26,13 +26,13 @@ by_pick P true f g = f
 by_pick P false f g = g
 
 module _ (s : Setting) (allowed : Allowed) (found : ℕ) where
-  part_lawful : (variants : List Variant) → AllLawful s variants → Lawful (part s variants allowed found)
+  part_lawful : (variants : List Variant) → AllLawful s variants → IsLawful (part s variants allowed found)
   part_lawful [] h = fail-lawful (UnexpectedVariant allowed found) (λ h. h)
-  part_lawful (variant ∷ others) h = by_pick Lawful (found == variant.0) (map-lawful (Choice found) (variant.1 s) h.0) (part_lawful others h.1)
+  part_lawful (variant ∷ others) h = by_pick IsLawful (found == variant.0) (map-lawful (Choice found) (variant.1 s) h.0) (part_lawful others h.1)
 
-  part_balanced : (variants : List Variant) → AllBalanced s variants → Balanced (part s variants allowed found)
+  part_balanced : (variants : List Variant) → AllBalanced s variants → IsBalanced (part s variants allowed found)
   part_balanced [] h = fail-holds 0 0 (UnexpectedVariant allowed found)
-  part_balanced (variant ∷ others) h = by_pick Balanced (found == variant.0) (map-balanced (Choice found) (variant.1 s) h.0) (part_balanced others h.1)
+  part_balanced (variant ∷ others) h = by_pick IsBalanced (found == variant.0) (map-balanced (Choice found) (variant.1 s) h.0) (part_balanced others h.1)
 
   -- whatever the part, its meaning has the tag
   part_written : (variants : List Variant) (bytes : List ℕ) (m : Meaning) → (part s variants allowed found).Written bytes m → (n : Meaning) × (m ≡ Choice found n)
@@ -64,11 +64,11 @@ same-alike e = (λ bytes m w. subst (λ H. H.Written bytes m) (sym e) w, λ byte
 
 module _ (tags : Setting → Format ℕ) (variants : List Variant) (s : Setting) where
   -- a tag and the part that it selects are lawful
-  pub chosen-lawful : Lawful (tags s) → AllLawful s variants → Lawful (tag_then_part tags variants s)
+  pub chosen-lawful : IsLawful (tags s) → AllLawful s variants → IsLawful (tag_then_part tags variants s)
   unfolding tag_then_part
   chosen-lawful t h = turn-lawful (tags s) (after_tag variants s) t (λ found. part_lawful s _ found variants h)
 
-  pub chosen-balanced : Balanced (tags s) → AllBalanced s variants → Balanced (tag_then_part tags variants s)
+  pub chosen-balanced : IsBalanced (tags s) → AllBalanced s variants → IsBalanced (tag_then_part tags variants s)
   unfolding tag_then_part
   chosen-balanced t h = turn-holds 0 0 0 (tags s) (after_tag variants s) t (λ found. part_balanced s _ found variants h)
 
@@ -140,8 +140,8 @@ module _ (tags : Setting → Format ℕ) (variants : List Variant) (s : Setting)
 
   -- and none that decodes to what it decodes to
   module _ (found other : ℕ) (F : Format Meaning) (at : after_tag variants s found ≡ map_format (Choice found) F) (P P' : Meaning → Type 0) where
-    pub choice-shortest : NoneShorter (IsNumber (pos found)) (IsNumber (pos found)) (natural_number (tags s)) → (found ≡ other → Shortest P P' F) →
-        Shortest (IsChoice found P) (IsChoice other P') (tag_then_part tags variants s)
+    pub choice-shortest : NoneShorter (IsNumber (pos found)) (IsNumber (pos found)) (natural_number (tags s)) → (found ≡ other → IsShortest P P' F) →
+        IsShortest (IsChoice found P) (IsChoice other P') (tag_then_part tags variants s)
     choice-shortest t f written bytes m steps w h u e =
         let p = w.is_meant.0 in
         let q = w.is_meant.1 in
@@ -156,7 +156,7 @@ module _ (tags : Setting → Format ℕ) (variants : List Variant) (s : Setting)
         choice_none_shorter found F at (λ n. P n × P' n) P' t (f k) written bytes m steps x h u (subst (λ z. IsChoice z P' m) (sym k) e)
 
   -- it has a word, if the tag and the part that it selects have
-  pub choice-some_word : (found : ℕ) (F : Format Meaning) → after_tag variants s found ≡ map_format (Choice found) F → Lawful (tags s) →
+  pub choice-some_word : (found : ℕ) (F : Format Meaning) → after_tag variants s found ≡ map_format (Choice found) F → IsLawful (tags s) →
       SomeWord (AllowedWord (IsNumber (pos found)) (natural_number (tags s))) → HasWord F → HasWord (tag_then_part tags variants s)
   unfolding tag_then_part ◌>>=◌
   choice-some_word found F at f t x =

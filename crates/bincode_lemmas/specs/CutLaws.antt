@@ -11,9 +11,9 @@ use Rattle.bincode_spec.specs.Decoding.{IsRefused}
 use Rattle.bincode_spec.specs.Fault.{Fault, Tells, IsEnd, End, InvalidInteger, Zero, UnexpectedVariant, Utf8, InvalidChar, InvalidBool, Between, OneOf, short, long}
 use Rattle.bincode_spec.specs.Fault.{InvalidDuration, NulAt, Other, LengthMismatch, EmptyEnum, OutsideUsize}
 use Rattle.bincode_spec.specs.Format.{Format, Reading, Took, Failed}
-use Rattle.bincode_spec.specs.Layers.Laws.{Lawful, Balanced, IsAnswered, steps_of}
+use Rattle.bincode_spec.specs.Layers.Laws.{IsLawful, IsBalanced, IsAnswered, steps_of}
 use Rattle.bincode_spec.specs.Meaning.{Meaning}
-use Rattle.bincode_spec.specs.Slice.{Decoded, EndsSlice, IsAnswer}
+use Rattle.bincode_spec.specs.Slice.{IsDecoded, EndsSlice, IsAnswer}
 use Rattle.bincode_lemmas.specs.AnswerLaws.{gave-word, refused-fault, passed-limit}
 use Rattle.bincode_lemmas.specs.FormatLaws.{one-word, end-or-other}
 
@@ -81,7 +81,7 @@ answered_end : (r : Reading Meaning) (why : Fault) (steps : List Step) → IsEnd
 answered_end (Took m remaining steps') why steps h e a = cc
 answered_end (Failed fault steps') why steps h e a = let p : fault ≡ why = cc in a (subst IsEnd (sym p) h)
 
-module _ (F : Format Meaning) (f : Lawful F) (b : Balanced F) (limit : Option ℕ) where
+module _ (F : Format Meaning) (f : IsLawful F) (b : IsBalanced F) (limit : Option ℕ) where
   steps_read : (input : List ℕ) (r : Reading Meaning) → F.read input ≡ r → StepsOf F input (steps_of r)
   steps_read input (Took m remaining steps) e = let q = f.read_word input remaining m steps e in of_word q.word remaining m q.is_word q.input_is
   steps_read input (Failed why steps) e = of_fault why (f.read_fault input why steps e)
@@ -100,7 +100,7 @@ module _ (F : Format Meaning) (f : Lawful F) (b : Balanced F) (limit : Option �
 
   module _ {T : Type 0} (MayAllocate : Type 0) (DecodesTo : Meaning → T → Type 0) where
     same_reading : (x y : T × ℕ) (word remaining remaining' : List ℕ) (m : Meaning) (steps : List Step) → F.Word word m steps →
-        Decoded F limit (word ++ remaining) (λ z. DecodesTo z x.0) x.1 → Decoded F limit (word ++ remaining') (λ z. DecodesTo z y.0) y.1 → SameReading DecodesTo x y
+        IsDecoded F limit (word ++ remaining) (λ z. DecodesTo z x.0) x.1 → IsDecoded F limit (word ++ remaining') (λ z. DecodesTo z y.0) y.1 → SameReading DecodesTo x y
     same_reading x y word remaining remaining' m steps u d e =
         let p = one-word f word d.word remaining d.remaining m d.meaning steps d.steps u d.is_word d.input_is in
         let q = one-word f word e.word remaining' e.remaining m e.meaning steps e.steps u e.is_word e.input_is in

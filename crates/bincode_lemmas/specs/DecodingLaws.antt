@@ -5,23 +5,23 @@ use Rattle.bincode_base.specs.declared.error.DecodeError.{DecodeError}
 use Rattle.bincode_base.specs.declared.error.DecodeError.TheVariants.{LimitExceeded}
 use Rattle.bincode_spec.specs.Fault.{Fault, InvalidBool}
 use Rattle.bincode_spec.specs.Charge.{Step, Charge}
-use Rattle.bincode_spec.specs.Device.{DeviceErrors, Rose, Takes}
+use Rattle.bincode_spec.specs.Device.{DeviceErrors, CountRises, Takes}
 use Rattle.bincode_spec.specs.Layers.Reads as reads
 use Rattle.bincode_spec.specs.Layers.Reads.{ReadFailure}
 use Rattle.bincode_spec.specs.Format.{Format, Reading, Took, Failed, pure, step, ◌>>=◌, from_result, map_format, charge_then}
-use Rattle.bincode_spec.specs.Layers.Laws.{Lawful}
+use Rattle.bincode_spec.specs.Layers.Laws.{IsLawful}
 use Rattle.bincode_spec.specs.Integers.{unsigned_byte}
 use Rattle.bincode_spec.specs.Meaning.{Meaning, Truth, Nothing, Then, IsTruth, IsNothing, IsThen}
 use Rattle.bincode_spec.specs.Words.{truth_of, truth_byte, truth, nothing, first_and}
 use Rattle.bincode_lemmas.specs.WordsLaws.{truth_byte-passes, truth-fails}
 use Rattle.bincode_spec.specs.Answer.{Answer, Gave, Refused, PassedLimit, answer, weigh_reading, gave_at, refused_at, charge_after_steps}
 use Rattle.bincode_lemmas.specs.Sequences.{and_then}
-use Rattle.bincode_spec.specs.Layers.Claims.{Claimed, OverClaimed}
+use Rattle.bincode_spec.specs.Layers.Claims.{ClaimSucceeds, ClaimFails}
 use Rattle.bincode_lemmas.specs.AnswerLaws.{answer-then, answer-took, answer-failed, answer-pure, answer-fail, step-answered}
 use Rattle.bincode_spec.specs.Decoding.{Decodes, DecodeFailure, by_fault, by_limit, by_memory, by_failure, by_device}
 
 -- a rise after what did not fall
-pub rose-then : (a b c : ℕ) → a ≤ b → Rose b c → Rose a c
+pub rose-then : (a b c : ℕ) → a ≤ b → CountRises b c → CountRises a c
 rose-then a b c h (inl r) = inl (omega arith)
 rose-then a b c h (inr r) = inr r
 
@@ -52,7 +52,7 @@ weighed_took limit c (Took b r s) a remaining d e = let p = gave_at_parts b a r 
 weighed_took limit c (Failed why s) a remaining d e = absurd (refused_at_gave why a remaining (charge_after_steps limit c s) d e)
 
 -- an answer that gave a meaning took a prefix of the input
-pub gave-takes : {A : Type 0} (limit : Option ℕ) (F : Format A) → Lawful F → (input : List ℕ) (c : ℕ) (a : A) (remaining : List ℕ) (d : ℕ) → answer limit F input c ≡ Gave a remaining d → Takes input remaining
+pub gave-takes : {A : Type 0} (limit : Option ℕ) (F : Format A) → IsLawful F → (input : List ℕ) (c : ℕ) (a : A) (remaining : List ℕ) (d : ℕ) → answer limit F input c ≡ Gave a remaining d → Takes input remaining
 unfolding answer
 gave-takes limit F f input c a remaining d e =
     let t = weighed_took limit c (F.read input) a remaining d e in
@@ -76,7 +76,7 @@ module _ {A B : Type 0} (end_error : ℕ → DecodeError → Type 0) (device : D
   stops-first input c before after remaining' e (by_device h) = by_device h
 
   -- if decoding what follows fails, so does the whole
-  pub stops-next : Lawful F → (input : List ℕ) (c before between after : ℕ) (a : A) (remaining remaining' : List ℕ) (d : ℕ) {now : ℕ} (e : DecodeError) → answer limit F input c ≡ Gave a remaining d → before ≤ between →
+  pub stops-next : IsLawful F → (input : List ℕ) (c before between after : ℕ) (a : A) (remaining remaining' : List ℕ) (d : ℕ) {now : ℕ} (e : DecodeError) → answer limit F input c ≡ Gave a remaining d → before ≤ between →
       DecodeFailure end_error device H (answer limit (G a) remaining d) between after remaining remaining' now e → DecodeFailure end_error device K (answer limit (F >>= G) input c) before after input remaining' now e
   stops-next f input c before between after a remaining remaining' d e g le (by_fault why h t k) =
       by_fault why (answer-next limit F G input c a remaining d g ∙ h) t (takes-then input remaining remaining' (gave-takes limit F f input c a remaining d g) k)
@@ -88,27 +88,27 @@ module _ {A B : Type 0} (end_error : ℕ → DecodeError → Type 0) (device : D
   stops-next f input c before between after a remaining remaining' d e g le (by_device h) = by_device h
 
 -- a claim that succeeds, and one that passes the limit
-pub claimed-answer : (limit : Option ℕ) (c n d : ℕ) (input : List ℕ) → Claimed limit c n d → answer limit (step (Charge n)) input c ≡ Gave tt input d
+pub claimed-answer : (limit : Option ℕ) (c n d : ℕ) (input : List ℕ) → ClaimSucceeds limit c n d → answer limit (step (Charge n)) input c ≡ Gave tt input d
 claimed-answer limit c n d input h = step-answered limit (Charge n) input c (Some d) h
 
-pub over_claimed-answer : (limit : Option ℕ) (c n d : ℕ) (input : List ℕ) → OverClaimed limit c n d → answer limit (step (Charge n)) input c ≡ PassedLimit
+pub over_claimed-answer : (limit : Option ℕ) (c n d : ℕ) (input : List ℕ) → ClaimFails limit c n d → answer limit (step (Charge n)) input c ≡ PassedLimit
 over_claimed-answer limit c n d input h = step-answered limit (Charge n) input c None h.0
 
 module _ {A : Type 0} (limit : Option ℕ) (n : ℕ) (F : Format A) (input : List ℕ) (c : ℕ) where
   -- a charge, then a word
-  pub charge_then-gave : (d : ℕ) (middle remaining : List ℕ) (a : A) → Claimed limit c n d → middle ≡ input → F.read middle ≡ Took a remaining [] → answer limit (charge_then n F) input c ≡ Gave a remaining d
+  pub charge_then-gave : (d : ℕ) (middle remaining : List ℕ) (a : A) → ClaimSucceeds limit c n d → middle ≡ input → F.read middle ≡ Took a remaining [] → answer limit (charge_then n F) input c ≡ Gave a remaining d
   charge_then-gave d middle remaining a h same r =
       answer-next limit (step (Charge n)) (λ _. F) input c tt input d (claimed-answer limit c n d input h) ∙ answer-took limit F input remaining a d (ap F.read (sym same) ∙ r)
 
   module _ (end_error : ℕ → DecodeError → Type 0) (device : DeviceErrors) (H : Type 0) where
     -- a charge that passes the limit
-    pub charge_then-passed : (d before after : ℕ) (remaining : List ℕ) {now : ℕ} (e : DecodeError) → OverClaimed limit c n d → e ≡ LimitExceeded → remaining ≡ input →
+    pub charge_then-passed : (d before after : ℕ) (remaining : List ℕ) {now : ℕ} (e : DecodeError) → ClaimFails limit c n d → e ≡ LimitExceeded → remaining ≡ input →
         DecodeFailure end_error device H (answer limit (charge_then n F) input c) before after input remaining now e
     charge_then-passed d before after remaining e h k same =
         by_limit (answer-then limit (step (Charge n)) (λ _. F) input c ∙ ap (λ o. and_then o (λ _ r after. answer limit F r after)) (over_claimed-answer limit c n d input h)) k ([], sym same)
 
     -- a charge, then a fault
-    pub charge_then-misread : (d before between after : ℕ) (middle remaining : List ℕ) {now : ℕ} (e : DecodeError) → now ≡ d → Claimed limit c n d → middle ≡ input →
+    pub charge_then-misread : (d before between after : ℕ) (middle remaining : List ℕ) {now : ℕ} (e : DecodeError) → now ≡ d → ClaimSucceeds limit c n d → middle ≡ input →
         between ≡ before → ReadFailure end_error device (F.read middle) between after middle remaining e →
         DecodeFailure end_error device H (answer limit (charge_then n F) input c) before after input remaining now e
     charge_then-misread d before between after middle remaining e still h same count (reads.by_fault why r t k) =
@@ -116,7 +116,7 @@ module _ {A : Type 0} (limit : Option ℕ) (n : ℕ) (F : Format A) (input : Lis
         (answer-next limit (step (Charge n)) (λ _. F) input c tt input d (claimed-answer limit c n d input h) ∙ answer-failed limit F input why d (ap F.read (sym same) ∙ r)
         ∙ ap (Refused why) (sym still)) t
         (subst (λ z. Takes z remaining) same k)
-    charge_then-misread d before between after middle remaining e still h same count (reads.by_failure x r k) = by_failure x (subst (λ z. Rose z after) count r) (subst (λ z. Takes z remaining) same k)
+    charge_then-misread d before between after middle remaining e still h same count (reads.by_failure x r k) = by_failure x (subst (λ z. CountRises z after) count r) (subst (λ z. Takes z remaining) same k)
     charge_then-misread d before between after middle remaining e still h same count (reads.by_device k) = by_device k
 
 -- a mapped format
@@ -171,7 +171,7 @@ module _ (limit : Option ℕ) (F : Format Meaning) (others : Format Meaning) (in
     unfolding first_and
     tuple-stops_first before after remaining e = stops-first end_error device H (H ⊎ K) inl limit F (λ m. map_format (Then m) others) input c before after remaining e
 
-    pub tuple-stops_next : Lawful F → (P : Meaning → Type 0) (middle remaining : List ℕ) (d before between after : ℕ) {now : ℕ} (e : DecodeError) →
+    pub tuple-stops_next : IsLawful F → (P : Meaning → Type 0) (middle remaining : List ℕ) (d before between after : ℕ) {now : ℕ} (e : DecodeError) →
         Decodes P (answer limit F input c) middle d → before ≤ between →
         DecodeFailure end_error device K (answer limit others middle d) between after middle remaining now e →
         DecodeFailure end_error device (H ⊎ K) (answer limit (first_and F others) input c) before after input remaining now e

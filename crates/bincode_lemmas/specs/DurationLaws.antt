@@ -7,8 +7,8 @@ use Rattle.bincode_base.specs.declared.error.IntegerType.TheVariants as integers
 use Rattle.bincode_base.specs.Setting.{Setting}
 use Rattle.bincode_spec.specs.Fault.{Fault, InvalidDuration}
 use Rattle.bincode_spec.specs.Format.{◌>>=◌, from_result, written_as}
-use Rattle.bincode_spec.specs.Layers.Laws.{Lawful, Balanced}
-use Rattle.bincode_lemmas.specs.FormatLaws.{Settles, turn-lawful, test-lawful, map-lawful, rewritten-lawful}
+use Rattle.bincode_spec.specs.Layers.Laws.{IsLawful, IsBalanced}
+use Rattle.bincode_lemmas.specs.FormatLaws.{FailsBeforeEnd, turn-lawful, test-lawful, map-lawful, rewritten-lawful}
 use Rattle.bincode_lemmas.specs.Balance.{turn-holds, test-balanced, map-balanced, rewritten-holds}
 use Rattle.bincode_spec.specs.Integers.{unsigned_integer}
 use Rattle.bincode_spec.specs.Integers.{Four, Eight}
@@ -22,26 +22,26 @@ use Rattle.bincode_lemmas.specs.CellLaws.{cell-has_word}
 use Rattle.bincode_lemmas.specs.AllowedLaws.{map-written, written-map, natural-allows, allowed-natural}
 use Rattle.bincode_lemmas.specs.SpelledLaws.{from_result-word, unsigned-spelled}
 
-settles_by : (seconds nanos : ℕ) (m : Meaning) (fits : Bool) → Settles {A = Meaning} (if fits then Ok m else Err (InvalidDuration seconds nanos))
+settles_by : (seconds nanos : ℕ) (m : Meaning) (fits : Bool) → FailsBeforeEnd {A = Meaning} (if fits then Ok m else Err (InvalidDuration seconds nanos))
 settles_by seconds nanos m true = tt
 settles_by seconds nanos m false = λ h. h
 
 module _ (s : Setting) where
-  pub parts-lawful : Lawful (seconds_and_nanos s)
+  pub parts-lawful : IsLawful (seconds_and_nanos s)
   parts-lawful =
       turn-lawful _ _ (unsigned-lawful integers.U64 8 s (Eight refl)) (λ seconds. map-lawful (λ nanos. (seconds, nanos)) (unsigned_integer integers.U32 4 s) (unsigned-lawful integers.U32 4 s (Four refl)))
 
-  parts_balanced : Balanced (seconds_and_nanos s)
+  parts_balanced : IsBalanced (seconds_and_nanos s)
   parts_balanced = turn-holds 0 0 0 _ _ (unsigned-balanced integers.U64 8 s) (λ seconds. map-balanced (λ nanos. (seconds, nanos)) (unsigned_integer integers.U32 4 s) (unsigned-balanced integers.U32 4 s))
 
   -- durations are lawful
-  pub duration-lawful : Lawful (duration s)
+  pub duration-lawful : IsLawful (duration s)
   duration-lawful =
       rewritten-lawful _ (seconds_and_nanos s >>= λ parts. from_result (duration_of parts.0 parts.1))
       (test-lawful (seconds_and_nanos s) (λ parts. duration_of parts.0 parts.1) parts-lawful (λ parts. settles_by parts.0 parts.1 _ _))
       (λ word m h. let p = parts-lawful.written_is_word word h.0 h.3 in (p.0, from_result-word (λ parts. duration_of parts.0 parts.1) (seconds_and_nanos s) word h.0 m p.0 h.2 p.1))
 
-  pub duration-balanced : Balanced (duration s)
+  pub duration-balanced : IsBalanced (duration s)
   duration-balanced = rewritten-holds 0 0 _ _ (test-balanced (seconds_and_nanos s) (λ parts. duration_of parts.0 parts.1) parts_balanced)
 
 -- what seconds and nanoseconds mean together

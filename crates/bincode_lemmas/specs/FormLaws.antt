@@ -6,7 +6,7 @@ use Rattle.bincode_base.specs.declared.error.IntegerType.{IntegerType}
 use Rattle.bincode_base.specs.declared.error.IntegerType.TheVariants.{U8, I8}
 use Rattle.bincode_base.specs.Setting.{Setting}
 use Rattle.bincode_spec.specs.Format.{Format, map_format}
-use Rattle.bincode_spec.specs.Layers.Laws.{Lawful, Balanced}
+use Rattle.bincode_spec.specs.Layers.Laws.{IsLawful, IsBalanced}
 use Rattle.bincode_lemmas.specs.FormatLaws.{map-lawful}
 use Rattle.bincode_lemmas.specs.Balance.{map-balanced}
 use Rattle.bincode_spec.specs.Integers.{unsigned_integer, signed_integer, unsigned_byte, signed_byte}
@@ -16,7 +16,7 @@ use Rattle.bincode_lemmas.specs.IntegerLaws.{signed-balanced, unsigned_byte-lawf
 use Rattle.bincode_spec.specs.Meaning.{Meaning, Number, IsNumber}
 use Rattle.bincode_spec.specs.Words.{truth, truth_of, not_zero_of}
 use Rattle.bincode_lemmas.specs.WordsLaws.{not_zero-lawful, not_zero-balanced, truth-lawful, truth-balanced}
-use Rattle.bincode_spec.specs.Allowed.{Spelled}
+use Rattle.bincode_spec.specs.Allowed.{HasShortestWords}
 use Rattle.bincode_spec.specs.Cells.{HasWord}
 use Rattle.bincode_spec.specs.Forms.{Form, numbers, numbers_not_zero, bytes, unsigned_numbers, signed_bytes, signed_numbers}
 use Rattle.bincode_spec.specs.Forms.{bytes_not_zero, unsigned_not_zero, signed_bytes_not_zero, signed_not_zero, truths}
@@ -27,9 +27,9 @@ use Rattle.bincode_lemmas.specs.AllowedLaws.{natural-one}
 use Rattle.bincode_lemmas.specs.SpelledLaws.{unsigned-spelled, byte-spelled, signed-spelled, signed_byte-spelled, truth-spelled, number-not_zero}
 
 pub record FormLaws {A : Type 0} (form : Form A) : Type 0 where
-  pub lawful : (s : Setting) → Lawful (form.format s)
-  pub balanced : (s : Setting) → Balanced (form.format s)
-  pub spelled : (s : Setting) (v : A) → form.Bounds v → Spelled (form.means v) (form.format s)
+  pub lawful : (s : Setting) → IsLawful (form.format s)
+  pub balanced : (s : Setting) → IsBalanced (form.format s)
+  pub spelled : (s : Setting) (v : A) → form.Bounds v → HasShortestWords (form.means v) (form.format s)
   pub one_meaning : (v w : A) (m n : Meaning) → form.means v m → form.means w m → form.means w n → form.means v n
   pub some_word : (s : Setting) → HasWord (form.format s)
   pub needs : (s : Setting) → Needs form.need (form.format s)
@@ -37,9 +37,9 @@ pub record FormLaws {A : Type 0} (form : Form A) : Type 0 where
 
 -- `FormLaws` of integers, before they are mapped to meanings
 pub record Numerals {A : Type 0} (width : ℕ) (Bounds : A → Type 0) (integer : A → ℤ) (F : Setting → Format A) : Type 0 where
-  pub lawful : (s : Setting) → Lawful (F s)
-  pub balanced : (s : Setting) → Balanced (F s)
-  pub spelled : (s : Setting) (n : A) → Bounds n → Spelled (IsNumber (integer n)) (map_format (λ k. Number (integer k)) (F s))
+  pub lawful : (s : Setting) → IsLawful (F s)
+  pub balanced : (s : Setting) → IsBalanced (F s)
+  pub spelled : (s : Setting) (n : A) → Bounds n → HasShortestWords (IsNumber (integer n)) (map_format (λ k. Number (integer k)) (F s))
   pub needs : (s : Setting) → Needs (λ _. width) (F s)
   pub charges_enough : (s : Setting) → ChargesEnough (F s)
 

@@ -10,33 +10,33 @@ use Rattle.bincode_spec.specs.Fault.{InvalidChar, InvalidBool, InvalidDuration, 
 use Rattle.bincode_spec.specs.Charge.{Step, Charge, Reserve, Release}
 use Rattle.bincode_spec.specs.Format.{Format, Reading, Took, Failed, after_steps, then_read, pure, fail, fixed_bytes, step, ◌>>=◌, InTurn, WrittenInTurn}
 use Rattle.bincode_spec.specs.Format.{FaultsLater, fault_without_count, reading_without_count, without_count, written_as, from_result, map_format, charge_then, elements, sequence}
-use Rattle.bincode_spec.specs.Layers.Laws.{Begun, BeginsWith, steps_of, IsAnswered, Mended, Lawful}
+use Rattle.bincode_spec.specs.Layers.Laws.{IsStepPrefix, BeginsWith, steps_of, IsAnswered, Completion, IsLawful}
 
 -- what follows for every format
 
 module _ {A : Type 0} {F : Format A} where
   -- no word is a proper front of another, and a word has one meaning and one list of steps
-  pub one-word : Lawful F → (a b x y : List ℕ) (m n : A) (s t : List Step) → F.Word a m s → F.Word b n t → a ++ x ≡ b ++ y → (a ≡ b) × (m ≡ n) × (s ≡ t)
+  pub one-word : IsLawful F → (a b x y : List ℕ) (m n : A) (s t : List Step) → F.Word a m s → F.Word b n t → a ++ x ≡ b ++ y → (a ≡ b) × (m ≡ n) × (s ≡ t)
   one-word f a b x y m n s t u v e =
       let p : Took m x s ≡ Took n y t = sym (f.word_read a x m s u) ∙ ap F.read e ∙ f.word_read b y n t v in
       let q : x ≡ y = cc in
       (append_cancel_right a b x (e ∙ ap (λ z. b ++ z) (sym q)), cc, cc)
 
   -- an input never begins with a word and has a fault
-  pub apart : Lawful F → (a x : List ℕ) (m : A) (s t : List Step) (fault : Fault) → F.Word a m s → F.Faults (a ++ x) fault t → ⊥
+  pub apart : IsLawful F → (a x : List ℕ) (m : A) (s t : List Step) (fault : Fault) → F.Word a m s → F.Faults (a ++ x) fault t → ⊥
   apart f a x m s t fault u h =
       let p : Took m x s ≡ Failed fault t = sym (f.word_read a x m s u) ∙ f.fault_read (a ++ x) fault t h in
       cc
 
   -- an input has one fault
-  pub one-fault : Lawful F → (input : List ℕ) (p q : Fault) (s t : List Step) → F.Faults input p s → F.Faults input q t → (p ≡ q) × (s ≡ t)
+  pub one-fault : IsLawful F → (input : List ℕ) (p q : Fault) (s t : List Step) → F.Faults input p s → F.Faults input q t → (p ≡ q) × (s ≡ t)
   one-fault f input p q s t h k =
       let e : ◌≡◌ {A = Reading A} (Failed p s) (Failed q t) = sym (f.fault_read input p s h) ∙ f.fault_read input q t k in
       (cc, cc)
 
 -- the formats that take no part
 
-pub pure-lawful : {A : Type 0} (a : A) → Lawful (pure a)
+pub pure-lawful : {A : Type 0} (a : A) → IsLawful (pure a)
 unfolding pure
 pure-lawful a = record {
   word_read = λ word remaining m s u. rw (u.0, u.1, u.2) refl;
@@ -50,7 +50,7 @@ pure-lawful a = record {
 }
 
 -- the end of the input cannot be the fault: more bytes would have to complete the input
-pub fail-lawful : {A : Type 0} (why : Fault) → ¬ (IsEnd why) → Lawful (fail {A = A} why)
+pub fail-lawful : {A : Type 0} (why : Fault) → ¬ (IsEnd why) → IsLawful (fail {A = A} why)
 unfolding fail
 fail-lawful {A} why other = record {
   word_read = λ _ _ _ _ u. absurd u;
@@ -63,7 +63,7 @@ fail-lawful {A} why other = record {
   written_is_word = λ _ _ w. absurd w;
 }
 
-pub step-lawful : (change : Step) → Lawful (step change)
+pub step-lawful : (change : Step) → IsLawful (step change)
 unfolding step
 step-lawful change = record {
   word_read = λ word remaining m s u. rw (u.0, u.1) refl;
@@ -151,7 +151,7 @@ fixed_bytes_read_fault n input fault s (inl h) e =
 fixed_bytes_read_fault n input fault s (inr h) e =
     let p : ◌≡◌ {A = Reading (List ℕ)} (Took (take n input) (drop n input) []) (Failed fault s) = sym (fixed_bytes_enough n input h) ∙ e in absurd (cc)
 
-fixed_bytes_mended : (n : ℕ) (input : List ℕ) → length input < n → Mended (fixed_bytes n).read input
+fixed_bytes_mended : (n : ℕ) (input : List ℕ) → length input < n → Completion (fixed_bytes n).read input
 fixed_bytes_mended n input h =
     let k : n ≤ length (input ++ replicate (n - length input) 0) = simp (length-append, length-replicate) (omega (arith, h)) in
     record {
@@ -160,7 +160,7 @@ fixed_bytes_mended n input h =
       answered = rw (fixed_bytes_enough n (input ++ replicate (n - length input) 0) k) tt;
     }
 
-pub fixed_bytes-lawful : (n : ℕ) → Lawful (fixed_bytes n)
+pub fixed_bytes-lawful : (n : ℕ) → IsLawful (fixed_bytes n)
 unfolding fixed_bytes
 fixed_bytes-lawful n = record {
   word_read = fixed_bytes_word_read n;
@@ -193,15 +193,15 @@ answered_after : {B : Type 0} (s : List Step) (r : Reading B) → IsAnswered r �
 answered_after s (Took _ _ _) h = tt
 answered_after s (Failed _ _) h = h
 
-begun_after : {B : Type 0} (s t : List Step) (r : Reading B) → Begun t (steps_of r) → Begun (s ++ t) (steps_of (after_steps s r))
+begun_after : {B : Type 0} (s t : List Step) (r : Reading B) → IsStepPrefix t (steps_of r) → IsStepPrefix (s ++ t) (steps_of (after_steps s r))
 begun_after s t (Took _ _ u) b = (b.0, ap (λ z. s ++ z) b.1 ∙ sym (append_assoc s t b.0))
 begun_after s t (Failed _ u) b = (b.0, ap (λ z. s ++ z) b.1 ∙ sym (append_assoc s t b.0))
 
-begun_more : {B : Type 0} (s t : List Step) (r : Reading B) → Begun s t → Begun s (steps_of (after_steps t r))
+begun_more : {B : Type 0} (s t : List Step) (r : Reading B) → IsStepPrefix s t → IsStepPrefix s (steps_of (after_steps t r))
 begun_more s t (Took _ _ u) b = (b.0 ++ u, ap (λ z. z ++ u) b.1 ∙ append_assoc s b.0 u)
 begun_more s t (Failed _ u) b = (b.0 ++ u, ap (λ z. z ++ u) b.1 ∙ append_assoc s b.0 u)
 
-module _ {A B : Type 0} (F : Format A) (G : A → Format B) (f : Lawful F) (g : (a : A) → Lawful (G a)) where
+module _ {A B : Type 0} (F : Format A) (G : A → Format B) (f : IsLawful F) (g : (a : A) → IsLawful (G a)) where
   turn_word_read : (word remaining : List ℕ) (m : B) (s : List Step) → InTurn F G word m s → (F >>= G).read (word ++ remaining) ≡ Took m remaining s
   unfolding ◌>>=◌
   turn_word_read word remaining m s u =
@@ -278,13 +278,13 @@ module _ {A B : Type 0} (F : Format A) (G : A → Format B) (f : Lawful F) (g : 
       let p = (g b.head).stays b.middle more fault b.second_steps other b.second_is in
       first_stands input more b.middle b.head b.first_steps b.first_is ∙ rw (p, b.steps_are) refl
 
-  then_begun : (s : List Step) (r : Reading A) → Begun s (steps_of r) → Begun s (steps_of (then_read r (λ head remaining. (G head).read remaining)))
+  then_begun : (s : List Step) (r : Reading A) → IsStepPrefix s (steps_of r) → IsStepPrefix s (steps_of (then_read r (λ head remaining. (G head).read remaining)))
   then_begun s (Took head remaining t) b = begun_more s t ((G head).read remaining) b
   then_begun s (Failed why t) b = b
 
   turn_begun : (input more : List ℕ) (fault : Fault) (s : List Step) → IsEnd fault →
       (F.read input ≡ Failed fault s) ⊎ FailedLater (F.read input) (λ head remaining. (G head).read remaining) fault s →
-      Begun s (steps_of ((F >>= G).read (input ++ more)))
+      IsStepPrefix s (steps_of ((F >>= G).read (input ++ more)))
   unfolding ◌>>=◌
   turn_begun input more fault s end (inl h) = then_begun s (F.read (input ++ more)) (f.begun input more fault s end h)
   turn_begun input more fault s end (inr b) =
@@ -292,7 +292,7 @@ module _ {A B : Type 0} (F : Format A) (G : A → Format B) (f : Lawful F) (g : 
       rw (first_stands input more b.middle b.head b.first_steps b.first_is, b.steps_are) (begun_after b.first_steps b.second_steps ((G b.head).read (b.middle ++ more)) p)
 
   -- if the second is completed, so is the whole
-  later_mended : (input middle : List ℕ) (head : A) (s : List Step) → F.read input ≡ Took head middle s → Mended (G head).read middle → Mended (F >>= G).read input
+  later_mended : (input middle : List ℕ) (head : A) (s : List Step) → F.read input ≡ Took head middle s → Completion (G head).read middle → Completion (F >>= G).read input
   unfolding ◌>>=◌
   later_mended input middle head s e h = record {
     more = h.more;
@@ -300,16 +300,16 @@ module _ {A B : Type 0} (F : Format A) (G : A → Format B) (f : Lawful F) (g : 
     answered = rw (first_stands input h.more middle head s e) (answered_after s ((G head).read (middle ++ h.more)) h.answered);
   }
 
-  failed_mended : (head : A) (middle : List ℕ) (why : Fault) (t : List Step) → IsEnd why ⊎ ¬ (IsEnd why) → (G head).read middle ≡ Failed why t → Mended (G head).read middle
+  failed_mended : (head : A) (middle : List ℕ) (why : Fault) (t : List Step) → IsEnd why ⊎ ¬ (IsEnd why) → (G head).read middle ≡ Failed why t → Completion (G head).read middle
   failed_mended head middle why t (inl h) e = (g head).mended middle why t h e
   failed_mended head middle why t (inr h) e = record { more = []; are_bytes = All-nil (λ b. b < 256); answered = rw (append-nil middle) (rw e h) }
 
   -- an input that is answered needs no more bytes, and one that ends too early is completed
-  second_mended : (head : A) (middle : List ℕ) (r : Reading B) → (G head).read middle ≡ r → Mended (G head).read middle
+  second_mended : (head : A) (middle : List ℕ) (r : Reading B) → (G head).read middle ≡ r → Completion (G head).read middle
   second_mended head middle (Took m remaining t) e = record { more = []; are_bytes = All-nil (λ b. b < 256); answered = rw (append-nil middle) (rw e tt) }
   second_mended head middle (Failed why t) e = failed_mended head middle why t (end-or-other why) e
 
-  first_mended : (input more : List ℕ) → All (λ b. b < 256) more → (r : Reading A) → F.read (input ++ more) ≡ r → IsAnswered r → Mended (F >>= G).read input
+  first_mended : (input more : List ℕ) → All (λ b. b < 256) more → (r : Reading A) → F.read (input ++ more) ≡ r → IsAnswered r → Completion (F >>= G).read input
   unfolding ◌>>=◌
   first_mended input more small (Took head middle t) e h =
       let p = later_mended (input ++ more) middle head t e (second_mended head middle ((G head).read middle) refl) in
@@ -321,7 +321,7 @@ module _ {A B : Type 0} (F : Format A) (G : A → Format B) (f : Lawful F) (g : 
   first_mended input more small (Failed why t) e h = record { more = more; are_bytes = small; answered = rw e h }
 
   turn_mended : (input : List ℕ) (fault : Fault) (s : List Step) → IsEnd fault →
-      (F.read input ≡ Failed fault s) ⊎ FailedLater (F.read input) (λ head remaining. (G head).read remaining) fault s → Mended (F >>= G).read input
+      (F.read input ≡ Failed fault s) ⊎ FailedLater (F.read input) (λ head remaining. (G head).read remaining) fault s → Completion (F >>= G).read input
   unfolding ◌>>=◌
   turn_mended input fault s end (inl h) = let p = f.mended input fault s end h in first_mended input p.more p.are_bytes (F.read (input ++ p.more)) refl p.answered
   turn_mended input fault s end (inr b) = later_mended input b.middle b.head b.first_steps b.first_is ((g b.head).mended b.middle fault b.second_steps end b.second_is)
@@ -337,7 +337,7 @@ module _ {A B : Type 0} (F : Format A) (G : A → Format B) (f : Lawful F) (g : 
   unfolding ◌>>=◌
   either input fault s e = failed_either (F.read input) (λ head remaining. (G head).read remaining) fault s e
 
-  pub turn-lawful : Lawful (F >>= G)
+  pub turn-lawful : IsLawful (F >>= G)
   unfolding ◌>>=◌
   turn-lawful = record {
     word_read = turn_word_read;
@@ -351,8 +351,8 @@ module _ {A B : Type 0} (F : Format A) (G : A → Format B) (f : Lawful F) (g : 
   }
 
 -- other words may be chosen for writing
-pub rewritten-lawful : {A : Type 0} (Chosen : List ℕ → A → Type 0) (F : Format A) → Lawful F →
-    ((word : List ℕ) (m : A) → Chosen word m → (s : List Step) × F.Word word m s) → Lawful (written_as Chosen F)
+pub rewritten-lawful : {A : Type 0} (Chosen : List ℕ → A → Type 0) (F : Format A) → IsLawful F →
+    ((word : List ℕ) (m : A) → Chosen word m → (s : List Step) × F.Word word m s) → IsLawful (written_as Chosen F)
 unfolding written_as
 rewritten-lawful Chosen F f chosen = record {
   word_read = f.word_read;
@@ -412,7 +412,7 @@ steps_vaguely : {A : Type 0} (r : Reading A) → steps_of (reading_without_count
 steps_vaguely (Took _ _ _) = refl
 steps_vaguely (Failed _ _) = refl
 
-pub without_count-lawful : {A : Type 0} (F : Format A) → Lawful F → Lawful (without_count F)
+pub without_count-lawful : {A : Type 0} (F : Format A) → IsLawful F → IsLawful (without_count F)
 unfolding without_count
 without_count-lawful F f = record {
   word_read = λ word remaining m s u. rw (f.word_read word remaining m s u) refl;
@@ -435,32 +435,32 @@ without_count-lawful F f = record {
 }
 
 -- a test whose fault is never the end of the input
-abbrev pub Settles : {A : Type 0} → Result A Fault → Type 0
-Settles (Ok a) = Unit {0}
-Settles (Err why) = ¬ (IsEnd why)
+abbrev pub FailsBeforeEnd : {A : Type 0} → Result A Fault → Type 0
+FailsBeforeEnd (Ok a) = Unit {0}
+FailsBeforeEnd (Err why) = ¬ (IsEnd why)
 
 abbrev pub IsSettling : {A B : Type 0} → (A → Result B Fault) → Type 0
-IsSettling {A} test = (a : A) → Settles (test a)
+IsSettling {A} test = (a : A) → FailsBeforeEnd (test a)
 
-from_result_lawful : {A : Type 0} (r : Result A Fault) → Settles r → Lawful (from_result r)
+from_result_lawful : {A : Type 0} (r : Result A Fault) → FailsBeforeEnd r → IsLawful (from_result r)
 from_result_lawful (Ok a) h = pure-lawful a
 from_result_lawful (Err why) h = fail-lawful why h
 
-pub test-lawful : {A B : Type 0} (F : Format A) (test : A → Result B Fault) → Lawful F → IsSettling test → Lawful (F >>= λ a. from_result (test a))
+pub test-lawful : {A B : Type 0} (F : Format A) (test : A → Result B Fault) → IsLawful F → IsSettling test → IsLawful (F >>= λ a. from_result (test a))
 test-lawful F test f h = turn-lawful F (λ a. from_result (test a)) f (λ a. from_result_lawful (test a) (h a))
 
-pub map-lawful : {A B : Type 0} (f : A → B) (F : Format A) → Lawful F → Lawful (map_format f F)
+pub map-lawful : {A B : Type 0} (f : A → B) (F : Format A) → IsLawful F → IsLawful (map_format f F)
 map-lawful f F h = turn-lawful F (λ a. pure (f a)) h (λ a. pure-lawful (f a))
 
-pub charge_then-lawful : {A : Type 0} (n : ℕ) (F : Format A) → Lawful F → Lawful (charge_then n F)
+pub charge_then-lawful : {A : Type 0} (n : ℕ) (F : Format A) → IsLawful F → IsLawful (charge_then n F)
 charge_then-lawful n F f = turn-lawful (step (Charge n)) (λ _. F) (step-lawful (Charge n)) (λ _. f)
 
-pub elements-lawful : {A : Type 0} (n share : ℕ) (F : Format A) → Lawful F → Lawful (elements n share F)
+pub elements-lawful : {A : Type 0} (n share : ℕ) (F : Format A) → IsLawful F → IsLawful (elements n share F)
 elements-lawful zero share F f = pure-lawful []
 elements-lawful (suc n) share F f =
     turn-lawful (step (Release share)) (λ _. without_count F >>= λ a. map_format (λ others. a ∷ others) (elements n share F)) (step-lawful (Release share))
     (λ _. turn-lawful (without_count F) (λ a. map_format (λ others. a ∷ others) (elements n share F)) (without_count-lawful F f)
     (λ a. map-lawful (λ others. a ∷ others) (elements n share F) (elements-lawful n share F f)))
 
-pub sequence-lawful : {A : Type 0} (n share : ℕ) (F : Format A) → Lawful F → Lawful (sequence n share F)
+pub sequence-lawful : {A : Type 0} (n share : ℕ) (F : Format A) → IsLawful F → IsLawful (sequence n share F)
 sequence-lawful n share F f = turn-lawful (step (Reserve n share)) (λ _. elements n share F) (step-lawful (Reserve n share)) (λ _. elements-lawful n share F f)

@@ -20,7 +20,7 @@ use Rattle.bincode_base.specs.Setting.{Setting}
 use Rattle.bincode_spec.specs.Format.{Format}
 use Rattle.bincode_spec.specs.Meaning.{Meaning}
 use Rattle.bincode_spec.specs.Words.{list}
-use Rattle.bincode_spec.specs.Allowed.{Shortest}
+use Rattle.bincode_spec.specs.Allowed.{IsShortest}
 use Rattle.bincode_lemmas.specs.Sequences.{Both}
 use Rattle.bincode_lemmas.specs.Sequences.{AllowsEach}
 use Rattle.bincode_spec.specs.Collections.{AreValid, IsMadeOf, MakesBag}
@@ -309,8 +309,8 @@ module _ {K : Type 0} (eq : K → K → Bool) (laws : IsEquivalence eq) (Means D
       members-same eq laws Means DecodesTo Valid (λ k. Unit {0}) (λ v w n p q. comes_back v w n p) keys others m h (λ k e lt. tt) meant (given.0, g.1, given.2)
 
   -- no word that decodes to it is shorter, if none of a key is
-  pub hashed_set-shortest : (s : Setting) (share : ℕ) (F : Format Meaning) → ((v w : K) → Valid v → Shortest (Means v) (DecodesTo w) F) →
-      (keys others : List K) → AreValid Valid keys → IsDistinct eq keys → Shortest (IsMadeOf MakesBag Means keys) (IsMadeOf (MakesHashedSet eq) DecodesTo others) (list s share F)
+  pub hashed_set-shortest : (s : Setting) (share : ℕ) (F : Format Meaning) → ((v w : K) → Valid v → IsShortest (Means v) (DecodesTo w) F) →
+      (keys others : List K) → AreValid Valid keys → IsDistinct eq keys → IsShortest (IsMadeOf MakesBag Means keys) (IsMadeOf (MakesHashedSet eq) DecodesTo others) (list s share F)
   hashed_set-shortest s share F least keys others h d written bytes m steps w below u (items, e, i) =
       let meant = w.is_meant.0 in
       let given = w.is_meant.1 in
@@ -357,8 +357,8 @@ module _ {K V : Type 0} (eq : K → K → Bool) (laws : IsEquivalence eq) (Valid
   -- no word that decodes to it is shorter, if none of an entry is: of words of equal keys those of the first key and of
   -- the last value count
   pub hashed_map-shortest : ((v w : K × V) (m : Meaning) → Valid v → Means v m → DecodesTo w m → eq v.0 w.0 ≡ true) → (s : Setting) (share : ℕ) (F G : Format Meaning) →
-      ((v w : K × V) → Valid v → Shortest (Means v) (DecodesTo w) (pair_of F G)) → (entries others : List (K × V)) → AreValid Valid entries →
-      IsDistinct eq (keys_of entries) → Shortest (IsMadeOf MakesBag Means entries) (IsMadeOf (MakesHashedMap eq) DecodesTo others) (list s share (pair_of F G))
+      ((v w : K × V) → Valid v → IsShortest (Means v) (DecodesTo w) (pair_of F G)) → (entries others : List (K × V)) → AreValid Valid entries →
+      IsDistinct eq (keys_of entries) → IsShortest (IsMadeOf MakesBag Means entries) (IsMadeOf (MakesHashedMap eq) DecodesTo others) (list s share (pair_of F G))
   hashed_map-shortest keys_come_back s share F G least entries others h d written bytes m steps w below u (items, e, i) =
       let H = pair_of F G in
       let meant = w.is_meant.0 in

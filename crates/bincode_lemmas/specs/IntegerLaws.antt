@@ -14,7 +14,7 @@ use Rattle.bincode_spec.specs.Number.{number_of, digits_of, FitsIn, two_compleme
 use Rattle.bincode_spec.specs.Fault.{Fault, IsEnd, InvalidInteger}
 use Rattle.bincode_spec.specs.Charge.{Step}
 use Rattle.bincode_spec.specs.Format.{Format, pure, fail, fixed_bytes, step, ◌>>=◌, written_as, map_format, charge_then}
-use Rattle.bincode_spec.specs.Layers.Laws.{Lawful, Balanced}
+use Rattle.bincode_spec.specs.Layers.Laws.{IsLawful, IsBalanced}
 use Rattle.bincode_lemmas.specs.FormatLaws.{pure-lawful, fail-lawful, fixed_bytes-lawful, turn-lawful, map-lawful, rewritten-lawful, charge_then-lawful}
 use Rattle.bincode_lemmas.specs.Balance.{pure-holds, fail-holds, fixed_bytes-holds, turn-holds, rewritten-holds, map-balanced, charge_then-balanced}
 use Rattle.bincode_spec.specs.Layers.Pieces.{concat_pieces}
@@ -26,7 +26,7 @@ use Rattle.bincode_lemmas.specs.DigitLaws.{length-digits_of, digits_of-are_bytes
 use Rattle.bincode_lemmas.specs.SignedLaws.{unzigzag-zigzag, from_two_complement-two_complement, integer_by-number_for, number_for-integer_by, number_for-fits, integer_by-fits}
 
 -- a byte is a lawful format
-pub byte-lawful : Lawful byte
+pub byte-lawful : IsLawful byte
 unfolding byte
 byte-lawful = map-lawful first_of (fixed_bytes 1) (fixed_bytes-lawful 1)
 
@@ -46,7 +46,7 @@ digits_word order width n h = record {
 }
 
 -- digits are a lawful format
-pub digits-lawful : (order : Endianness) (width : ℕ) → Lawful (digits order width)
+pub digits-lawful : (order : Endianness) (width : ℕ) → IsLawful (digits order width)
 unfolding digits written_as
 digits-lawful order width = rewritten-lawful _ (map_format (number_of order) (fixed_bytes width)) (map-lawful (number_of order) (fixed_bytes width) (fixed_bytes-lawful width))
     (λ word n h. ([], subst (λ z. (digits order width).Word z n []) (sym h.1) (digits_word order width n h.0)))
@@ -65,7 +65,7 @@ byte_word b = record {
   second_word = (refl, refl, refl);
 }
 
-after_lawful : (order : Endianness) (why : Fault) (first : ℕ) (said : FirstByte) → ¬ (IsEnd why) → Lawful (number_after order why first said)
+after_lawful : (order : Endianness) (why : Fault) (first : ℕ) (said : FirstByte) → ¬ (IsEnd why) → IsLawful (number_after order why first said)
 after_lawful order why first Itself h = pure-lawful first
 after_lawful order why first (Before n) h = digits-lawful order n
 after_lawful order why first TooWide h = fail-lawful why h
@@ -238,7 +238,7 @@ module _ (tags : ℕ → IntegerType) (name : IntegerType) (order : Endianness) 
   shortest-word = shortest_by (size_of n)
 
 -- tags and digits are a lawful format
-pub varint-lawful : (tags : ℕ → IntegerType) (name : IntegerType) (order : Endianness) (width : ℕ) → IsWidth width → Lawful (varint tags name order width)
+pub varint-lawful : (tags : ℕ → IntegerType) (name : IntegerType) (order : Endianness) (width : ℕ) → IsWidth width → IsLawful (varint tags name order width)
 unfolding varint written_as
 varint-lawful tags name order width w =
     rewritten-lawful _ (byte >>= λ first. number_after order (InvalidInteger name (tags first)) first (first_byte width first))
@@ -247,30 +247,30 @@ varint-lawful tags name order width w =
     (λ word n h. ([], subst (λ z. (varint tags name order width).Word z n []) (sym h.1) (shortest-word tags name order width n w h.0)))
 
 -- a number in either encoding is a lawful format
-pub number_by-lawful : (tags : ℕ → IntegerType) (name : IntegerType) (order : Endianness) (width : ℕ) (encoding : IntEncoding) → IsWidth width → Lawful (number_by tags name order width encoding)
+pub number_by-lawful : (tags : ℕ → IntegerType) (name : IntegerType) (order : Endianness) (width : ℕ) (encoding : IntEncoding) → IsWidth width → IsLawful (number_by tags name order width encoding)
 number_by-lawful tags name order width Fixed w = digits-lawful order width
 number_by-lawful tags name order width Variable w = varint-lawful tags name order width w
 
 -- an unsigned number is a lawful format
-pub unsigned-lawful : (name : IntegerType) (width : ℕ) (setting : Setting) → IsWidth width → Lawful (unsigned_integer name width setting)
+pub unsigned-lawful : (name : IntegerType) (width : ℕ) (setting : Setting) → IsWidth width → IsLawful (unsigned_integer name width setting)
 unfolding unsigned_integer
 unsigned-lawful name width setting w = let F = number_by unsigned_tag name setting.order width setting.encoding in charge_then-lawful width F
     (number_by-lawful unsigned_tag name setting.order width setting.encoding w)
 
 -- a signed number is a lawful format
-pub signed-lawful : (name : IntegerType) (width : ℕ) (setting : Setting) → IsWidth width → Lawful (signed_integer name width setting)
+pub signed-lawful : (name : IntegerType) (width : ℕ) (setting : Setting) → IsWidth width → IsLawful (signed_integer name width setting)
 unfolding signed_integer
 signed-lawful name width setting w =
     let F = number_by signed_tag name setting.order width setting.encoding in
     charge_then-lawful width (map_format (integer_by width setting.encoding) F) (map-lawful (integer_by width setting.encoding) F (number_by-lawful signed_tag name setting.order width setting.encoding w))
 
 -- an unsigned number of one byte is a lawful format
-pub unsigned_byte-lawful : Lawful unsigned_byte
+pub unsigned_byte-lawful : IsLawful unsigned_byte
 unfolding unsigned_byte
 unsigned_byte-lawful = charge_then-lawful 1 byte byte-lawful
 
 -- a signed number of one byte is a lawful format
-pub signed_byte-lawful : Lawful signed_byte
+pub signed_byte-lawful : IsLawful signed_byte
 unfolding signed_byte
 signed_byte-lawful = charge_then-lawful 1 (map_format (from_two_complement 1) byte) (map-lawful (from_two_complement 1) byte byte-lawful)
 
@@ -349,40 +349,40 @@ unsigned_byte-written bytes b h = written_byte bytes b (written_charged 1 byte b
 -- the balance
 
 -- a byte is balanced
-pub byte-balanced : Balanced byte
+pub byte-balanced : IsBalanced byte
 unfolding byte
 byte-balanced = map-balanced first_of (fixed_bytes 1) (fixed_bytes-holds 0 1)
 
 -- digits are balanced
-pub digits-balanced : (order : Endianness) (width : ℕ) → Balanced (digits order width)
+pub digits-balanced : (order : Endianness) (width : ℕ) → IsBalanced (digits order width)
 unfolding digits
 digits-balanced order width = rewritten-holds 0 0 _ (map_format (number_of order) (fixed_bytes width)) (map-balanced (number_of order) (fixed_bytes width) (fixed_bytes-holds 0 width))
 
-after_balanced : (order : Endianness) (why : Fault) (first : ℕ) (said : FirstByte) → Balanced (number_after order why first said)
+after_balanced : (order : Endianness) (why : Fault) (first : ℕ) (said : FirstByte) → IsBalanced (number_after order why first said)
 after_balanced order why first Itself = pure-holds 0 first
 after_balanced order why first (Before n) = digits-balanced order n
 after_balanced order why first TooWide = fail-holds 0 0 why
 
 -- tags and digits are balanced
-pub varint-balanced : (tags : ℕ → IntegerType) (name : IntegerType) (order : Endianness) (width : ℕ) → Balanced (varint tags name order width)
+pub varint-balanced : (tags : ℕ → IntegerType) (name : IntegerType) (order : Endianness) (width : ℕ) → IsBalanced (varint tags name order width)
 unfolding varint
 varint-balanced tags name order width =
     let G : ℕ → Format ℕ = λ first. number_after order (InvalidInteger name (tags first)) first (first_byte width first) in
     rewritten-holds 0 0 _ (byte >>= G) (turn-holds 0 0 0 byte G byte-balanced (λ first. after_balanced order (InvalidInteger name (tags first)) first (first_byte width first)))
 
 -- a number in either encoding is balanced
-pub number_by-balanced : (tags : ℕ → IntegerType) (name : IntegerType) (order : Endianness) (width : ℕ) (encoding : IntEncoding) → Balanced (number_by tags name order width encoding)
+pub number_by-balanced : (tags : ℕ → IntegerType) (name : IntegerType) (order : Endianness) (width : ℕ) (encoding : IntEncoding) → IsBalanced (number_by tags name order width encoding)
 number_by-balanced tags name order width Fixed = digits-balanced order width
 number_by-balanced tags name order width Variable = varint-balanced tags name order width
 
 -- an unsigned number is balanced
-pub unsigned-balanced : (name : IntegerType) (width : ℕ) (setting : Setting) → Balanced (unsigned_integer name width setting)
+pub unsigned-balanced : (name : IntegerType) (width : ℕ) (setting : Setting) → IsBalanced (unsigned_integer name width setting)
 unfolding unsigned_integer
 unsigned-balanced name width setting =
     charge_then-balanced width (number_by unsigned_tag name setting.order width setting.encoding) (number_by-balanced unsigned_tag name setting.order width setting.encoding)
 
 -- a signed number is balanced
-pub signed-balanced : (name : IntegerType) (width : ℕ) (setting : Setting) → Balanced (signed_integer name width setting)
+pub signed-balanced : (name : IntegerType) (width : ℕ) (setting : Setting) → IsBalanced (signed_integer name width setting)
 unfolding signed_integer
 signed-balanced name width setting =
     let F = number_by signed_tag name setting.order width setting.encoding in
@@ -390,12 +390,12 @@ signed-balanced name width setting =
     (map-balanced (integer_by width setting.encoding) F (number_by-balanced signed_tag name setting.order width setting.encoding))
 
 -- an unsigned number of one byte is balanced
-pub unsigned_byte-balanced : Balanced unsigned_byte
+pub unsigned_byte-balanced : IsBalanced unsigned_byte
 unfolding unsigned_byte
 unsigned_byte-balanced = charge_then-balanced 1 byte byte-balanced
 
 -- a signed number of one byte is balanced
-pub signed_byte-balanced : Balanced signed_byte
+pub signed_byte-balanced : IsBalanced signed_byte
 unfolding signed_byte
 signed_byte-balanced = charge_then-balanced 1 (map_format (from_two_complement 1) byte) (map-balanced (from_two_complement 1) byte byte-balanced)
 

@@ -9,9 +9,9 @@ use Rattle.bincode_spec.specs.Decoding.{IsRefused, AcceptsAll, ReportsFault, Enf
 use Rattle.bincode_spec.specs.Fault.{Fault, Tells, End, InvalidInteger, Zero, UnexpectedVariant, Utf8, InvalidChar, InvalidBool, InvalidDuration, NulAt}
 use Rattle.bincode_spec.specs.Fault.{Other, LengthMismatch, EmptyEnum, OutsideUsize, short, long, Between, OneOf}
 use Rattle.bincode_spec.specs.Format.{Format, Reading, Took, Failed}
-use Rattle.bincode_spec.specs.Layers.Laws.{Lawful, Balanced, steps_of}
+use Rattle.bincode_spec.specs.Layers.Laws.{IsLawful, IsBalanced, steps_of}
 use Rattle.bincode_spec.specs.Meaning.{Meaning}
-use Rattle.bincode_spec.specs.Slice.{Decoded, EndsSlice, IsAnswer}
+use Rattle.bincode_spec.specs.Slice.{IsDecoded, EndsSlice, IsAnswer}
 use Rattle.bincode_lemmas.specs.NeedLaws.{Needs, peak-passes, peak-stays}
 use Rattle.bincode_lemmas.specs.ChargedLaws.{ChargesEnough, within-bounded}
 use Rattle.bincode_spec.specs.Limited.{LimitedBy, WordBounded}
@@ -36,7 +36,7 @@ module _ (end_error : ℕ → DecodeError → Type 0) (never : (missing : ℕ) (
   tells_limit EmptyEnum e i h = let k = h.1 in cc
   tells_limit (OutsideUsize n) e i h = cc
 
-module _ (F : Format Meaning) (f : Lawful F) (input : List ℕ) where
+module _ (F : Format Meaning) (f : IsLawful F) (input : List ℕ) where
   steps_by : (r : Reading Meaning) → F.read input ≡ r → StepsOf F input (steps_of r)
   steps_by (Took m remaining steps) e = let q = f.read_word input remaining m steps e in of_word q.word remaining m q.is_word q.input_is
   steps_by (Failed why steps) e = of_fault why (f.read_fault input why steps e)
@@ -77,21 +77,21 @@ module _ (F : Format Meaning) (f : Lawful F) (input : List ℕ) where
       }
 
 -- `LimitedBy` from what a call that reads promises under this limit
-pub read-limited : {A : Type 0} (F : Format Meaning) → Lawful F → (need : List ℕ → ℕ) → Needs need F → (end_error : ℕ → DecodeError → Type 0) → ((missing : ℕ) (e : DecodeError) → end_error missing e → e ≡ LimitExceeded → ⊥) →
+pub read-limited : {A : Type 0} (F : Format Meaning) → IsLawful F → (need : List ℕ → ℕ) → Needs need F → (end_error : ℕ → DecodeError → Type 0) → ((missing : ℕ) (e : DecodeError) → end_error missing e → e ≡ LimitExceeded → ⊥) →
     (Excused : DecodeError → Type 0) (input : List ℕ) (bound : Option ℕ) (result : Result A DecodeError) → AcceptsAll F bound Excused input result → ReportsFault end_error F bound Excused input result → EnforcesLimit F bound Excused input result →
     (limit : ℕ) → bound ≡ Some limit → LimitedBy end_error F need limit Excused input result
 read-limited F f need n end_error never Excused input bound result found told over limit e =
     limited F f input need n limit end_error never Excused result (subst (λ b. AcceptsAll F b Excused input result) e found) (subst (λ b. ReportsFault end_error F b Excused input result) e told) (subst (λ b. EnforcesLimit F b Excused input result) e over)
 
 -- and from an answer to a slice
-pub answer-limited : {A : Type 0} (F : Format Meaning) → Lawful F → (need : List ℕ → ℕ) → Needs need F → (MayAllocate : Type 0) (DecodesTo : Meaning → A → Type 0) (input : List ℕ) (bound : Option ℕ) (result : Result (A × ℕ) DecodeError) →
+pub answer-limited : {A : Type 0} (F : Format Meaning) → IsLawful F → (need : List ℕ → ℕ) → Needs need F → (MayAllocate : Type 0) (DecodesTo : Meaning → A → Type 0) (input : List ℕ) (bound : Option ℕ) (result : Result (A × ℕ) DecodeError) →
     IsAnswer F bound MayAllocate DecodesTo input result → (limit : ℕ) → bound ≡ Some limit → LimitedBy EndsSlice F need limit (IsRefused MayAllocate) input result
 answer-limited F f need n MayAllocate DecodesTo input bound result a =
     read-limited F f need n EndsSlice (λ missing e h l. cc) (IsRefused MayAllocate) input bound result a.found a.fault a.limit
 
 -- what was decoded under a limit is bounded by it
-module _ (F : Format Meaning) (f : Lawful F) (b : Balanced F) (h : ChargesEnough F) where
-  decoded_bounded : (limit : ℕ) (input : List ℕ) (DecodesTo : Meaning → Type 0) (n : ℕ) → Decoded F (Some limit) input DecodesTo n → WordBounded F limit input n
+module _ (F : Format Meaning) (f : IsLawful F) (b : IsBalanced F) (h : ChargesEnough F) where
+  decoded_bounded : (limit : ℕ) (input : List ℕ) (DecodesTo : Meaning → Type 0) (n : ℕ) → IsDecoded F (Some limit) input DecodesTo n → WordBounded F limit input n
   decoded_bounded limit input DecodesTo n d = record {
     word = d.word;
     remaining = d.remaining;
@@ -103,8 +103,8 @@ module _ (F : Format Meaning) (f : Lawful F) (b : Balanced F) (h : ChargesEnough
     bounded = within-bounded F f b h limit d.word d.meaning d.steps d.is_word d.within;
   }
 
-  pub decoded-bounded : (input : List ℕ) (DecodesTo : Meaning → Type 0) (n : ℕ) (bound : Option ℕ) → Decoded F bound input DecodesTo n → (limit : ℕ) → bound ≡ Some limit → WordBounded F limit input n
-  decoded-bounded input DecodesTo n bound d limit e = decoded_bounded limit input DecodesTo n (subst (λ o. Decoded F o input DecodesTo n) e d)
+  pub decoded-bounded : (input : List ℕ) (DecodesTo : Meaning → Type 0) (n : ℕ) (bound : Option ℕ) → IsDecoded F bound input DecodesTo n → (limit : ℕ) → bound ≡ Some limit → WordBounded F limit input n
+  decoded-bounded input DecodesTo n bound d limit e = decoded_bounded limit input DecodesTo n (subst (λ o. IsDecoded F o input DecodesTo n) e d)
 
   pub answer-bounded : {A : Type 0} (MayAllocate : Type 0) (DecodesTo : Meaning → A → Type 0) (input : List ℕ) (bound : Option ℕ) (result : Result (A × ℕ) DecodeError) → IsAnswer F bound MayAllocate DecodesTo input result →
       (limit : ℕ) → bound ≡ Some limit → IfOk result (λ x. WordBounded F limit input x.1)

@@ -8,11 +8,11 @@ use Rattle.bincode_base.specs.declared.error.IntegerType.TheVariants.{U64}
 use Rattle.bincode_spec.specs.Fault.{Fault}
 use Rattle.bincode_spec.specs.Charge.{Step, Reserve}
 use Rattle.bincode_spec.specs.Format.{Format, pure, step, ◌>>=◌, without_count, elements, sequence}
-use Rattle.bincode_spec.specs.Layers.Laws.{Lawful, Balanced}
+use Rattle.bincode_spec.specs.Layers.Laws.{IsLawful, IsBalanced}
 use Rattle.bincode_spec.specs.Integers.{Eight}
 use Rattle.bincode_spec.specs.Meaning.{Meaning, Number, IsNumber, list_meaning}
 use Rattle.bincode_spec.specs.Words.{natural_number, len, array, list}
-use Rattle.bincode_spec.specs.Allowed.{AllowedWord, SomeWord, OneLength, NoneShorter, Shortest}
+use Rattle.bincode_spec.specs.Allowed.{AllowedWord, SomeWord, OneLength, NoneShorter, IsShortest}
 use Rattle.bincode_lemmas.specs.Sequences.{Both}
 use Rattle.bincode_spec.specs.Cells.{HasWord}
 use Rattle.bincode_spec.specs.Run.{IsListOf}
@@ -88,10 +88,10 @@ module _ (share : ℕ) (F : Format Meaning) where
       is_list-length Is vs t.0 (subst (IsListOf Is vs) k h) ∙ elements_word n t.3.second t.0 t.3.second_steps t.3.second_word
 
 -- lists are lawful
-pub list-lawful : (s : Setting) (share : ℕ) (F : Format Meaning) → Lawful F → Lawful (list s share F)
+pub list-lawful : (s : Setting) (share : ℕ) (F : Format Meaning) → IsLawful F → IsLawful (list s share F)
 list-lawful s share F f = turn-lawful (len s) (λ n. array n share F) (unsigned-lawful U64 8 s (Eight refl)) (λ n. array-lawful n share F f)
 
-pub list-balanced : (s : Setting) (share : ℕ) (F : Format Meaning) → Balanced F → Balanced (list s share F)
+pub list-balanced : (s : Setting) (share : ℕ) (F : Format Meaning) → IsBalanced F → IsBalanced (list s share F)
 list-balanced s share F f = turn-holds 0 0 0 (len s) (λ n. array n share F) (unsigned-balanced U64 8 s) (λ n. array-balanced n share F f)
 
 module _ {A : Type 0} (Means : A → Meaning → Type 0) (s : Setting) (share : ℕ) (F : Format Meaning) where
@@ -147,8 +147,8 @@ module _ {A : Type 0} (Means : A → Meaning → Type 0) (s : Setting) (share : 
   list-one_length P f vs h = same-one_length _ _ (list-each vs) (both-one_length _ _ (length-one_length s (length vs)) (each-one_length _ P vs f h))
 
   -- no word that decodes to what it decodes to is shorter, if none of a value is
-  pub list-shortest : (DecodesTo : A → Meaning → Type 0) (P : A → Type 0) → ((v w : A) → P v → Shortest (Means v) (DecodesTo w) F) → (vs ws : List A) → All P vs →
-      Shortest (IsListOf Means vs) (IsListOf DecodesTo ws) (list s share F)
+  pub list-shortest : (DecodesTo : A → Meaning → Type 0) (P : A → Type 0) → ((v w : A) → P v → IsShortest (Means v) (DecodesTo w) F) → (vs ws : List A) → All P vs →
+      IsShortest (IsListOf Means vs) (IsListOf DecodesTo ws) (list s share F)
   unfolding ◌>>=◌
   list-shortest DecodesTo P least vs ws h written bytes m steps w below u i =
       let x = w.is_written in

@@ -16,7 +16,7 @@ use Rattle.bincode_base.specs.Setting.{Setting}
 use Rattle.bincode_spec.specs.Format.{Format}
 use Rattle.bincode_spec.specs.Meaning.{Meaning}
 use Rattle.bincode_spec.specs.Words.{list}
-use Rattle.bincode_spec.specs.Allowed.{Shortest}
+use Rattle.bincode_spec.specs.Allowed.{IsShortest}
 use Rattle.bincode_lemmas.specs.Sequences.{Both}
 use Rattle.bincode_spec.specs.Run.{IsListOf}
 use Rattle.bincode_lemmas.specs.Sequences.{AllowsEach}
@@ -80,8 +80,8 @@ module _ {K V : Type 0} (cmp : K → K → Ordering) (eq : K → K → Bool) (to
     DecodesTo e = IsPair (GivenKey e.0) (GivenValue e.1)
 
     pub map-shortest : ((v w : K × V) (m : Meaning) → Valid v → Means v m → DecodesTo w m → eq v.0 w.0 ≡ true) → (s : Setting) (share : ℕ) (F G : Format Meaning) →
-        ((v w : K × V) → Valid v → Shortest (Means v) (DecodesTo w) (pair_of F G)) → (entries others : List (K × V)) → AreValid Valid entries →
-        IsStrictlySortedBy cmp (keys_of entries) → Shortest (IsListOf Means entries) (IsMadeOf (MakesMap cmp) DecodesTo others) (list s share (pair_of F G))
+        ((v w : K × V) → Valid v → IsShortest (Means v) (DecodesTo w) (pair_of F G)) → (entries others : List (K × V)) → AreValid Valid entries →
+        IsStrictlySortedBy cmp (keys_of entries) → IsShortest (IsListOf Means entries) (IsMadeOf (MakesMap cmp) DecodesTo others) (list s share (pair_of F G))
     map-shortest keys_come_back s share F G least entries others h sorted written bytes m steps w below u (items, e, i) =
         let H = pair_of F G in
         let Reads : K × V → List ℕ → Type 0 = λ v. ReadsAs (DecodesTo v) H in

@@ -14,7 +14,7 @@ use Rattle.bincode_spec.specs.Charge.{Step, Charge, Reserve, Release, charged_by
 use Rattle.bincode_spec.specs.Format.{Format, Reading, Took, Failed, after_steps, then_read, pure, fail, fixed_bytes, step, ◌>>=◌, reading_without_count, without_count, written_as, from_result, map_format, charge_then, elements, sequence}
 use Rattle.bincode_spec.specs.Integers.{digits, byte, first_of, FirstByte, Itself, Before, TooWide, first_byte, number_after, varint, number_by, unsigned_tag, signed_tag}
 use Rattle.bincode_spec.specs.Integers.{unsigned_integer, signed_integer, unsigned_byte, signed_byte, integer_by}
-use Rattle.bincode_spec.specs.Layers.Laws.{steps_of, Settles, Holds, Balanced}
+use Rattle.bincode_spec.specs.Layers.Laws.{steps_of, Settles, Holds, IsBalanced}
 use Rattle.bincode_spec.specs.Meaning.{Meaning, Bytes, Then, list_meaning}
 use Rattle.bincode_spec.specs.Layers.Needs.{after_word, then_needs, each_needs, array_needs, list_needs, text_needs, picked_needs, duration_needs}
 use Rattle.bincode_spec.specs.Need.{width_needs, char_needs}
@@ -313,7 +313,7 @@ pub nothing-needs : Needs (λ _. 0) nothing
 unfolding nothing
 nothing-needs = pure_peaks 0 _
 
-pub then-needs : {F others : Format Meaning} {p q : List ℕ → ℕ} → Balanced F → Needs p F → Needs q others → Needs (then_needs F p (λ _. q)) (first_and F others)
+pub then-needs : {F others : Format Meaning} {p q : List ℕ → ℕ} → IsBalanced F → Needs p F → Needs q others → Needs (then_needs F p (λ _. q)) (first_and F others)
 unfolding first_and
 then-needs {F} {others} {p} {q} b f g = turn_peaks 0 0 (λ m. map_format (Then m) others) (λ _. q) (λ m. map-needs q (Then m) others g) p F b f
 
@@ -332,7 +332,7 @@ room_covered room p next (Took a remaining s) h f =
     omega arith
 room_covered room p next (Failed why s) h f = omega arith
 
-module _ {A : Type 0} (share : ℕ) (F : Format A) (need : List ℕ → ℕ) (b : Balanced F) (f : Needs need F) where
+module _ {A : Type 0} (share : ℕ) (F : Format A) (need : List ℕ → ℕ) (b : IsBalanced F) (f : Needs need F) where
   element_peaks : (room : ℕ) → PeaksFrom room (λ input. need input + room) F
   element_peaks room = record { peaks = λ input. let e : 0 + room ≡ room = omega arith in subst (λ h. IsPeak h (need input + room) (steps_of (F.read input))) e (peak_more 0 (need input) room _ (f.peaks input)) }
 
@@ -372,10 +372,10 @@ module _ {A : Type 0} (share : ℕ) (F : Format A) (need : List ℕ → ℕ) (b 
       (λ _. let e : 0 + n * share ≡ n * share = omega arith in rw e (elements_peaks n))
       (λ _. 0 + n * share) (step (Reserve n share)) (reserve-holds 0 n share) (reserve_peaks 0 n share))
 
-pub array-needs : (n share : ℕ) (F : Format Meaning) (need : List ℕ → ℕ) → Balanced F → Needs need F → Needs (array_needs n share F need) (array n share F)
+pub array-needs : (n share : ℕ) (F : Format Meaning) (need : List ℕ → ℕ) → IsBalanced F → Needs need F → Needs (array_needs n share F need) (array n share F)
 array-needs n share F need b f = map-needs _ list_meaning (sequence n share F) (sequence_needs share F need b f n)
 
-pub list-needs : (s : Setting) (share : ℕ) (F : Format Meaning) (need : List ℕ → ℕ) → Balanced F → Needs need F → Needs (list_needs s share F need) (list s share F)
+pub list-needs : (s : Setting) (share : ℕ) (F : Format Meaning) (need : List ℕ → ℕ) → IsBalanced F → Needs need F → Needs (list_needs s share F need) (list s share F)
 list-needs s share F need b f =
     turn_peaks 0 0 (λ n. array n share F) (λ n. array_needs n share F need) (λ n. array-needs n share F need b f) (λ _. 8) (len s) (unsigned-balanced integers.U64 8 s) (unsigned-needs integers.U64 8 s)
 
@@ -404,7 +404,7 @@ picked-needs false F G p q f g = g
 pub fail-needs : (why : Fault) → Needs (λ _. 0) (fail {A = Meaning} why)
 fail-needs why = fail_peaks 0 why
 
-pub chosen-needs : (tags : Setting → Format ℕ) (variants : List Variant) (s : Setting) (width : ℕ) (next : ℕ → List ℕ → ℕ) → Balanced (tags s) → Needs (λ _. width) (tags s) →
+pub chosen-needs : (tags : Setting → Format ℕ) (variants : List Variant) (s : Setting) (width : ℕ) (next : ℕ → List ℕ → ℕ) → IsBalanced (tags s) → Needs (λ _. width) (tags s) →
     ((found : ℕ) → Needs (next found) (after_tag variants s found)) → Needs (then_needs (tags s) (λ _. width) next) (tag_then_part tags variants s)
 unfolding tag_then_part
 chosen-needs tags variants s width next b t g = turn_peaks 0 0 (after_tag variants s) next g (λ _. width) (tags s) b t

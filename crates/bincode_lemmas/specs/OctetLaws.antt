@@ -6,10 +6,10 @@ use Rattle.std.proofs.lemmas.List.{append-nil, length-replicate}
 use Rattle.std.proofs.lemmas.List.Elements.{All-replicate}
 use Rattle.bincode_spec.specs.Charge.{Step}
 use Rattle.bincode_spec.specs.Format.{pure, fixed_bytes, step, ◌>>=◌, charge_then}
-use Rattle.bincode_spec.specs.Layers.Laws.{Lawful, Balanced, Costs}
+use Rattle.bincode_spec.specs.Layers.Laws.{IsLawful, IsBalanced, Costs}
 use Rattle.bincode_spec.specs.Meaning.{Meaning, Bytes, IsBytes}
 use Rattle.bincode_spec.specs.Octets.{octets}
-use Rattle.bincode_spec.specs.Allowed.{AllowedWord, SomeWord, OneLength, Shortest}
+use Rattle.bincode_spec.specs.Allowed.{AllowedWord, SomeWord, OneLength, IsShortest}
 use Rattle.bincode_spec.specs.Cells.{HasWord}
 use Rattle.bincode_lemmas.specs.FormatLaws.{fixed_bytes-lawful, charge_then-lawful, map-lawful}
 use Rattle.bincode_lemmas.specs.Balance.{fixed_bytes-holds, charge_then-balanced, map-balanced}
@@ -19,10 +19,10 @@ use Rattle.bincode_lemmas.specs.CostLaws.{fixed_bytes-costs, charge_then-costs, 
 use Rattle.bincode_lemmas.specs.IntegerLaws.{word-charged}
 
 module _ (n : ℕ) where
-  pub octets-lawful : Lawful (octets n)
+  pub octets-lawful : IsLawful (octets n)
   octets-lawful = map-lawful Bytes (charge_then n (fixed_bytes n)) (charge_then-lawful n (fixed_bytes n) (fixed_bytes-lawful n))
 
-  pub octets-balanced : Balanced (octets n)
+  pub octets-balanced : IsBalanced (octets n)
   octets-balanced = map-balanced Bytes (charge_then n (fixed_bytes n)) (charge_then-balanced n (fixed_bytes n) (fixed_bytes-holds 0 n))
 
   -- they are charged one by one
@@ -60,5 +60,5 @@ module _ (n : ℕ) where
   pub octets-one_length : (bytes : List ℕ) → OneLength (AllowedWord (IsBytes bytes) (octets n))
   octets-one_length bytes x y a b = written_octets x a.meaning a.is_written ∙ sym (written_octets y b.meaning b.is_written)
 
-  pub octets-shortest : (bytes other : List ℕ) → Shortest (IsBytes bytes) (IsBytes other) (octets n)
+  pub octets-shortest : (bytes other : List ℕ) → IsShortest (IsBytes bytes) (IsBytes other) (octets n)
   octets-shortest bytes other written word m steps w below u g = omega (arith, written_octets written w.meaning w.is_written, word_octets word m steps u)

@@ -4,10 +4,10 @@ use Rattle.std.specs.Prelude.{Bool, true, ◌&&◌, [], ◌∷◌, refl}
 use Rattle.std.proofs.lemmas.Bool.{and_parts}
 use Rattle.bincode_base.specs.Setting.{Setting}
 use Rattle.bincode_spec.specs.Format.{Format}
-use Rattle.bincode_spec.specs.Layers.Laws.{Lawful, Balanced}
+use Rattle.bincode_spec.specs.Layers.Laws.{IsLawful, IsBalanced}
 use Rattle.bincode_spec.specs.Meaning.{Meaning, IsNothing, IsThen}
 use Rattle.bincode_spec.specs.Words.{nothing, first_and}
-use Rattle.bincode_spec.specs.Allowed.{AllowedWord, SomeWord, OneLength, Shortest}
+use Rattle.bincode_spec.specs.Allowed.{AllowedWord, SomeWord, OneLength, IsShortest}
 use Rattle.bincode_lemmas.specs.RowLaws.{row-same}
 use Rattle.bincode_lemmas.specs.SpelledLaws.{nothing-none_shorter}
 use Rattle.bincode_lemmas.specs.AllowedLaws.{fewer-none_shorter}
@@ -22,10 +22,10 @@ IsPair P Q = IsThen P (IsThen Q IsNothing)
 
 -- the laws of formats
 module _ {F G : Format Meaning} (s : Setting) where
-  pub pair-lawful : Lawful F → Lawful G → Lawful (pair_of F G)
+  pub pair-lawful : IsLawful F → IsLawful G → IsLawful (pair_of F G)
   pair-lawful f g = then-lawful f (then-lawful g (units-laws.lawful s))
 
-  pub pair-balanced : Balanced F → Balanced G → Balanced (pair_of F G)
+  pub pair-balanced : IsBalanced F → IsBalanced G → IsBalanced (pair_of F G)
   pair-balanced f g = then-balanced f (then-balanced g (units-laws.balanced s))
 
   module _ {P Q : Meaning → Type 0} where
@@ -38,7 +38,7 @@ module _ {F G : Format Meaning} (s : Setting) where
 
     module _ {P' Q' : Meaning → Type 0} where
       -- no shorter word
-      pub pair-shortest : Shortest P P' F → Shortest Q Q' G → Shortest (IsPair P Q) (IsPair P' Q') (pair_of F G)
+      pub pair-shortest : IsShortest P P' F → IsShortest Q Q' G → IsShortest (IsPair P Q) (IsPair P' Q') (pair_of F G)
       pair-shortest f g = then-shortest f (then-shortest g (fewer-none_shorter (λ m h. h.0) (λ m h. h) nothing-none_shorter))
 
 -- pairs are equal if their parts are

@@ -9,7 +9,7 @@ use Rattle.bincode_spec.specs.Charge.{Step, Reserve, Release}
 use Rattle.bincode_spec.specs.Format.{Format, pure, step, ◌>>=◌, without_count, map_format, elements, sequence}
 use Rattle.bincode_spec.specs.Meaning.{Meaning, Nothing, Then, list_meaning}
 use Rattle.bincode_spec.specs.Words.{array}
-use Rattle.bincode_spec.specs.Allowed.{AllowedWord, SomeWord, OneLength, Shortest}
+use Rattle.bincode_spec.specs.Allowed.{AllowedWord, SomeWord, OneLength, IsShortest}
 use Rattle.bincode_lemmas.specs.Sequences.{Both}
 use Rattle.bincode_lemmas.specs.AllowedLaws.{map-written, written-map, both-one_length}
 use Rattle.bincode_spec.specs.Cells.{HasWord}
@@ -163,7 +163,7 @@ module _ {A : Type 0} (Allowed : A → List ℕ → Type 0) where
 
 -- no word that decodes to what a run decodes to is shorter, if none that decodes to what an element does is
 
-module _ {A : Type 0} (Means DecodesTo : A → Meaning → Type 0) (share : ℕ) (F : Format Meaning) (P : A → Type 0) (least : (v w : A) → P v → Shortest (Means v) (DecodesTo w) F) where
+module _ {A : Type 0} (Means DecodesTo : A → Meaning → Type 0) (share : ℕ) (F : Format Meaning) (P : A → Type 0) (least : (v w : A) → P v → IsShortest (Means v) (DecodesTo w) F) where
   each_shortest : (vs ws : List A) → All P vs → (written bytes : List ℕ) (ns ms : List Meaning) (s : List Step) → IsListOf Means vs (list_meaning ns) →
       IsListOf DecodesTo ws (list_meaning ns) → (elements (length vs) share F).Written written ns → All (λ b. b < 256) bytes →
       (elements (length vs) share F).Word bytes ms s → IsListOf DecodesTo ws (list_meaning ms) → length written ≤ length bytes
@@ -194,7 +194,7 @@ module _ {A : Type 0} (Means DecodesTo : A → Meaning → Type 0) (share : ℕ)
       (λ bytes_below. each_shortest vs ws (All-tail P v vs h) x.second r.second z.0 t.0 t.1 (subst (IsListOf Means vs) i_others i.are_others)
       (subst (IsListOf DecodesTo ws) j_others j.are_others) z.2 bytes_below t.3 (subst (IsListOf DecodesTo ws) k_others k.are_others))
 
-  pub array-shortest : (n : ℕ) (vs ws : List A) → length vs ≡ n → All P vs → Shortest (IsListOf Means vs) (IsListOf DecodesTo ws) (array n share F)
+  pub array-shortest : (n : ℕ) (vs ws : List A) → length vs ≡ n → All P vs → IsShortest (IsListOf Means vs) (IsListOf DecodesTo ws) (array n share F)
   unfolding step ◌>>=◌
   array-shortest n vs ws e h written bytes m s w below u i =
       let a = written-map list_meaning (sequence n share F) written w.meaning w.is_written in

@@ -8,19 +8,19 @@ use Rattle.bincode_spec.specs.Fault.{InvalidBool, InvalidDuration, NulAt, Other,
 use Rattle.bincode_spec.specs.Charge.{Reserve, Release}
 use Rattle.bincode_spec.specs.Device.{DeviceErrors, Takes}
 use Rattle.bincode_spec.specs.Format.{Format, Reading, Took, Failed, pure, step, ◌>>=◌, fault_without_count, reading_without_count, without_count, map_format, elements, sequence}
-use Rattle.bincode_spec.specs.Layers.Laws.{Lawful, Balanced}
+use Rattle.bincode_spec.specs.Layers.Laws.{IsLawful, IsBalanced}
 use Rattle.bincode_lemmas.specs.FormatLaws.{elements-lawful}
 use Rattle.bincode_lemmas.specs.Balance.{elements-holds}
 use Rattle.bincode_spec.specs.Meaning.{Meaning, Nothing, list_meaning}
 use Rattle.bincode_spec.specs.Words.{array}
 use Rattle.bincode_spec.specs.Answer.{Answer, Gave, Refused, PassedLimit, answer, weigh_reading, gave_at, refused_at, charge_after_steps, after_release}
 use Rattle.bincode_lemmas.specs.Sequences.{and_then}
-use Rattle.bincode_spec.specs.Layers.Claims.{Claimed, OverClaimed}
+use Rattle.bincode_spec.specs.Layers.Claims.{ClaimSucceeds, ClaimFails}
 use Rattle.bincode_lemmas.specs.AnswerLaws.{answer-then, answer-pure, answer-release, step-answered, gave-grows, gave-recharged, gave-is_uncounted}
 use Rattle.bincode_spec.specs.Decoding.{Decodes, DecodeFailure, by_fault, by_limit, by_memory, by_failure, by_device}
 use Rattle.bincode_lemmas.specs.DecodingLaws.{rose-then, takes-then, gave-takes, answer-next, map-gave, map-stops}
 use Rattle.bincode_spec.specs.Run.{IsListOf}
-use Rattle.bincode_spec.specs.Layers.Releases.{CanRelease, Held, RoomReturned}
+use Rattle.bincode_spec.specs.Layers.Releases.{CanRelease, ReleasesAtMost, RoomReturned}
 
 -- how far a run is read
 
@@ -76,13 +76,13 @@ tells_vague end_error EmptyEnum e h = h
 tells_vague end_error (OutsideUsize _) e h = h
 
 -- a claim of elements that succeeds, and one that passes the limit
-reserved_answer : (limit : Option ℕ) (c n share d : ℕ) (input : List ℕ) → Claimed limit c (n * share) d → answer limit (step (Reserve n share)) input c ≡ Gave tt input d
+reserved_answer : (limit : Option ℕ) (c n share d : ℕ) (input : List ℕ) → ClaimSucceeds limit c (n * share) d → answer limit (step (Reserve n share)) input c ≡ Gave tt input d
 reserved_answer limit c n share d input h = step-answered limit (Reserve n share) input c (Some d) h
 
-over_reserved_answer : (limit : Option ℕ) (c n share d : ℕ) (input : List ℕ) → OverClaimed limit c (n * share) d → answer limit (step (Reserve n share)) input c ≡ PassedLimit
+over_reserved_answer : (limit : Option ℕ) (c n share d : ℕ) (input : List ℕ) → ClaimFails limit c (n * share) d → answer limit (step (Reserve n share)) input c ≡ PassedLimit
 over_reserved_answer limit c n share d input h = step-answered limit (Reserve n share) input c None h.0
 
-still_reserved : (limit : Option ℕ) (share : ℕ) (F : Format Meaning) → Lawful F → Balanced F →
+still_reserved : (limit : Option ℕ) (share : ℕ) (F : Format Meaning) → IsLawful F → IsBalanced F →
     (n : ℕ) (remaining : List ℕ) (c : ℕ) (m : Meaning) (remaining' : List ℕ) (d : ℕ) → CanRelease limit c (suc n * share) →
     answer limit F remaining (after_release limit c share) ≡ Gave m remaining' d → CanRelease limit d (n * share)
 still_reserved None share F f b n remaining c m remaining' d h e = tt
@@ -127,7 +127,7 @@ module _ (limit : Option ℕ) (share : ℕ) (F : Format Meaning) where
     so_far n remaining c a h e = sym h.is_rest ∙ ap (behind ms) (element_then n remaining c ∙ ap (λ z. others_after limit share F n (vague_answer z)) e)
 
     -- one element more is read
-    pub one-more : Lawful F → Balanced F → (n : ℕ) (remaining : List ℕ) (c : ℕ) (m : Meaning) (remaining' : List ℕ) (d : ℕ) →
+    pub one-more : IsLawful F → IsBalanced F → (n : ℕ) (remaining : List ℕ) (c : ℕ) (m : Meaning) (remaining' : List ℕ) (d : ℕ) →
         ReadSoFar limit share F all input ms (suc n) remaining c → answer limit F remaining (after_release limit c share) ≡ Gave m remaining' d →
         ReadSoFar limit share F all input (ms ++ m ∷ []) n remaining' d
     one-more f b n remaining c m remaining' d h e = record {
@@ -163,7 +163,7 @@ module _ (limit : Option ℕ) (share : ℕ) (F : Format Meaning) where
 
   -- an array, after the claim of its elements
   module _ (n : ℕ) (input : List ℕ) (c d : ℕ) where
-    pub array-decodes : (DecodesTo : Meaning → Type 0) (remaining : List ℕ) (after : ℕ) → Claimed limit c (n * share) d →
+    pub array-decodes : (DecodesTo : Meaning → Type 0) (remaining : List ℕ) (after : ℕ) → ClaimSucceeds limit c (n * share) d →
         Decodes (λ ms. DecodesTo (list_meaning ms)) (answer limit (elements n share F) input d) remaining after →
         Decodes DecodesTo (answer limit (array n share F) input c) remaining after
     array-decodes DecodesTo remaining after h p = record {
@@ -174,7 +174,7 @@ module _ (limit : Option ℕ) (share : ℕ) (F : Format Meaning) where
     }
 
     pub array-stops : (end_error : ℕ → DecodeError → Type 0) (device : DeviceErrors) (H : Type 0) (before after : ℕ) (remaining : List ℕ) {now : ℕ} (e : DecodeError) →
-        Claimed limit c (n * share) d → DecodeFailure end_error device H (answer limit (elements n share F) input d) before after input remaining now e →
+        ClaimSucceeds limit c (n * share) d → DecodeFailure end_error device H (answer limit (elements n share F) input d) before after input remaining now e →
         DecodeFailure end_error device H (answer limit (array n share F) input c) before after input remaining now e
     array-stops end_error device H before after remaining {now} e h s =
         map-stops list_meaning end_error device H limit (sequence n share F) input c before after remaining e
@@ -183,7 +183,7 @@ module _ (limit : Option ℕ) (share : ℕ) (F : Format Meaning) where
 
     -- whose claim passes the limit
     pub array-passed : (end_error : ℕ → DecodeError → Type 0) (device : DeviceErrors) (H : Type 0) (before after : ℕ) (remaining : List ℕ) {now : ℕ} (e : DecodeError) →
-        OverClaimed limit c (n * share) d → e ≡ LimitExceeded → remaining ≡ input →
+        ClaimFails limit c (n * share) d → e ≡ LimitExceeded → remaining ≡ input →
         DecodeFailure end_error device H (answer limit (array n share F) input c) before after input remaining now e
     array-passed end_error device H before after remaining e h k same =
         map-stops list_meaning end_error device H limit (sequence n share F) input c before after remaining e
@@ -201,11 +201,11 @@ others-release None c share n d h le = tt
 others-release (Some limit) c share n d h le = let k : suc n * share ≡ n * share + share = omega arith in omega arith
 
 -- nothing was released; one more claim was
-pub held-none : (limit : Option ℕ) (share start : ℕ) → Held limit (0 * share) start start
+pub held-none : (limit : Option ℕ) (share start : ℕ) → ReleasesAtMost limit (0 * share) start start
 held-none None share start = omega arith
 held-none (Some limit) share start = omega arith
 
-pub held-more : (limit : Option ℕ) (share n start c d : ℕ) → Held limit (n * share) start c → after_release limit c share ≤ d → Held limit ((n + 1) * share) start d
+pub held-more : (limit : Option ℕ) (share n start c d : ℕ) → ReleasesAtMost limit (n * share) start c → after_release limit c share ≤ d → ReleasesAtMost limit ((n + 1) * share) start d
 held-more None share n start c d h le = omega arith
 held-more (Some limit) share n start c d h le = let k : (n + 1) * share ≡ n * share + share = omega arith in omega arith
 
@@ -222,7 +222,7 @@ is_list-push Is (w ∷ vs) (n ∷ ms) v m h k =
     record { first = n; others = list_meaning (ms ++ m ∷ []); meaning_is = refl; is_first = subst (Is w) a h.is_first; are_others = is_list-push Is vs ms v m (subst (IsListOf Is vs) b h.are_others) k }
 
 -- decoding from a charge that holds the claims of a run releases them
-pub run-returns : {A : Type 0} (limit : Option ℕ) (n share : ℕ) (F : Format A) → Lawful F → Balanced F →
+pub run-returns : {A : Type 0} (limit : Option ℕ) (n share : ℕ) (F : Format A) → IsLawful F → IsBalanced F →
     (input remaining : List ℕ) (ms : List A) (before after : ℕ) → CanRelease limit before (n * share) →
     answer limit (elements n share F) input before ≡ Gave ms remaining after → RoomReturned limit (elements n share F) (n * share) input remaining before after
 run-returns None n share F f b input remaining ms before after h e =

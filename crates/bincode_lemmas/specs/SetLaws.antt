@@ -12,7 +12,7 @@ use Rattle.bincode_base.specs.Setting.{Setting}
 use Rattle.bincode_spec.specs.Format.{Format}
 use Rattle.bincode_spec.specs.Meaning.{Meaning}
 use Rattle.bincode_spec.specs.Words.{list}
-use Rattle.bincode_spec.specs.Allowed.{Shortest}
+use Rattle.bincode_spec.specs.Allowed.{IsShortest}
 use Rattle.bincode_spec.specs.Run.{IsListOf}
 use Rattle.bincode_lemmas.specs.Sequences.{AllowsEach}
 use Rattle.bincode_spec.specs.Collections.{AreValid, IsMadeOf, MakesSet, put_keys}
@@ -55,8 +55,8 @@ module _ {K : Type 0} (cmp : K → K → Ordering) (eq : K → K → Bool) (tota
     set-comes_back keys others m s h i j = (given_keys keys others m s h i j).0
 
     -- no word that decodes to it is shorter, if none of a key is
-    pub set-shortest : (s : Setting) (share : ℕ) (F : Format Meaning) → ((v w : K) → Valid v → Shortest (Means v) (DecodesTo w) F) →
-        (keys others : List K) → AreValid Valid keys → IsStrictlySortedBy cmp keys → Shortest (IsListOf Means keys) (IsMadeOf (MakesSet cmp) DecodesTo others) (list s share F)
+    pub set-shortest : (s : Setting) (share : ℕ) (F : Format Meaning) → ((v w : K) → Valid v → IsShortest (Means v) (DecodesTo w) F) →
+        (keys others : List K) → AreValid Valid keys → IsStrictlySortedBy cmp keys → IsShortest (IsListOf Means keys) (IsMadeOf (MakesSet cmp) DecodesTo others) (list s share F)
     set-shortest s share F least keys others h sorted written bytes m steps w below u (items, e, i) =
         let g = given_keys keys others w.meaning sorted h.1 w.is_meant.0 w.is_meant.1 in
         let long : length keys ≡ length others = as_long eq keys others g.0 in

@@ -12,7 +12,7 @@ use Rattle.bincode_spec.specs.Number.{two_complement}
 use Rattle.bincode_spec.specs.Fault.{Fault}
 use Rattle.bincode_spec.specs.Charge.{Step}
 use Rattle.bincode_spec.specs.Format.{Format, pure, fail, from_result, ◌>>=◌, map_format}
-use Rattle.bincode_spec.specs.Layers.Laws.{Lawful}
+use Rattle.bincode_spec.specs.Layers.Laws.{IsLawful}
 use Rattle.bincode_lemmas.specs.FormatLaws.{one-word, map-lawful}
 use Rattle.bincode_spec.specs.Integers.{number_for, unsigned_integer, signed_integer, unsigned_byte, signed_byte, spelling}
 use Rattle.bincode_lemmas.specs.SignedLaws.{two_complement-fits}
@@ -21,7 +21,7 @@ use Rattle.bincode_lemmas.specs.IntegerLaws.{FitsIn-from_signed, spelling-are_by
 use Rattle.bincode_spec.specs.Meaning.{Meaning, Number, IsTruth, IsNumber, IsNothing}
 use Rattle.bincode_spec.specs.Words.{natural_number, integer_number, not_zero_of, not_zero_by, truth_byte, truth, nothing}
 use Rattle.bincode_lemmas.specs.WordsLaws.{not_zero-passed, truth-lawful}
-use Rattle.bincode_spec.specs.Allowed.{AllowedWord, NoneShorter, Spelled}
+use Rattle.bincode_spec.specs.Allowed.{AllowedWord, NoneShorter, HasShortestWords}
 use Rattle.bincode_lemmas.specs.AllowedLaws.{natural-one, allowed-number, unsigned-allows, allowed-unsigned, byte-allows, allowed-byte, signed-allows}
 use Rattle.bincode_lemmas.specs.AllowedLaws.{allowed-signed, signed_byte-allows, allowed-signed_byte, truth-allows, allowed-truth, not_zero-allows}
 use Rattle.bincode_lemmas.specs.AllowedLaws.{allowed-not_zero, alone-one_length, same-one_length, allowed-nothing}
@@ -71,14 +71,14 @@ number-none_shorter integer one F a least written bytes m s w h u e =
     least written bytes p.1 h (allowed-number integer one F written a w) (subst (λ z. F.Word bytes z p.1) q p.3)
 
 -- an unsigned number is spelled, and a signed one
-pub unsigned-spelled : (name : IntegerType) (width n : ℕ) (s : Setting) → n < 256 ^ width → Spelled (IsNumber (pos n)) (natural_number (unsigned_integer name width s))
+pub unsigned-spelled : (name : IntegerType) (width n : ℕ) (s : Setting) → n < 256 ^ width → HasShortestWords (IsNumber (pos n)) (natural_number (unsigned_integer name width s))
 unsigned-spelled name width n s h = record {
   has_word = record { bytes = spelling s.encoding s.order width n; are_bytes = spelling-are_bytes s.encoding s.order width n; is_allowed = unsigned-allows name width n s h };
   one_length = alone-one_length _ (spelling s.encoding s.order width n) (allowed-unsigned name width n s);
   none_shorter = number-none_shorter pos natural-one (unsigned_integer name width s) n (unsigned-least name width n s);
 }
 
-pub signed-spelled : (name : IntegerType) (w : Width) (z : ℤ) (s : Setting) → IsWidth (width_in_bytes w) → FitsSigned w z → Spelled (IsNumber z) (integer_number (signed_integer name (width_in_bytes w) s))
+pub signed-spelled : (name : IntegerType) (w : Width) (z : ℤ) (s : Setting) → IsWidth (width_in_bytes w) → FitsSigned w z → HasShortestWords (IsNumber z) (integer_number (signed_integer name (width_in_bytes w) s))
 signed-spelled name w z s more h =
     let width = width_in_bytes w in
     let bytes = spelling s.encoding s.order width (number_for width s.encoding z) in
@@ -93,15 +93,15 @@ signed-spelled name w z s more h =
       none_shorter = number-none_shorter (λ k. k) (λ a b e. e) (signed_integer name width s) z (signed-least name width z s);
     }
 
-not_shorter : (P : Meaning → Type 0) (F : Format Meaning) → Lawful F → ((bytes : List ℕ) → AllowedWord P F bytes → length bytes ≡ 1) → NoneShorter P P F
+not_shorter : (P : Meaning → Type 0) (F : Format Meaning) → IsLawful F → ((bytes : List ℕ) → AllowedWord P F bytes → length bytes ≡ 1) → NoneShorter P P F
 not_shorter P F f one written [] m s w h u e =
     let p = f.written_is_word written w.meaning w.is_written in
     let q : [] ≡ written = (one-word f [] written written [] m w.meaning s p.0 u p.1 (sym (append-nil written))).0 in
     omega (arith, ap length q)
 not_shorter P F f one written (b ∷ bytes) m s w h u e = omega (arith, one written w)
 
--- what is always one byte is `Spelled`
-pub one_byte-spelled : (P : Meaning → Type 0) (F : Format Meaning) (b : ℕ) → Lawful F → b < 256 → AllowedWord P F (b ∷ []) → ((bytes : List ℕ) → AllowedWord P F bytes → length bytes ≡ 1) → Spelled P F
+-- what is always one byte is `HasShortestWords`
+pub one_byte-spelled : (P : Meaning → Type 0) (F : Format Meaning) (b : ℕ) → IsLawful F → b < 256 → AllowedWord P F (b ∷ []) → ((bytes : List ℕ) → AllowedWord P F bytes → length bytes ≡ 1) → HasShortestWords P F
 one_byte-spelled P F b f h w one = record {
   has_word = record { bytes = b ∷ []; are_bytes = All-cons (λ b. b < 256) b [] h (All-nil (λ b. b < 256)); is_allowed = w };
   one_length = λ x y a c. one x a ∙ sym (one y c);
@@ -109,10 +109,10 @@ one_byte-spelled P F b f h w one = record {
 }
 
 -- numbers of one byte are, and truth values
-pub byte-spelled : (n : ℕ) → n < 2 ^ 8 → Spelled (IsNumber (pos n)) (natural_number unsigned_byte)
+pub byte-spelled : (n : ℕ) → n < 2 ^ 8 → HasShortestWords (IsNumber (pos n)) (natural_number unsigned_byte)
 byte-spelled n h = one_byte-spelled (IsNumber (pos n)) (natural_number unsigned_byte) n (map-lawful _ unsigned_byte unsigned_byte-lawful) h (byte-allows n) (λ bytes a. ap length (allowed-byte n bytes a))
 
-pub signed_byte-spelled : (z : ℤ) → FitsSigned w8 z → Spelled (IsNumber z) (integer_number signed_byte)
+pub signed_byte-spelled : (z : ℤ) → FitsSigned w8 z → HasShortestWords (IsNumber z) (integer_number signed_byte)
 signed_byte-spelled z h =
     one_byte-spelled (IsNumber z) (integer_number signed_byte) (two_complement 1 z) (map-lawful _ signed_byte signed_byte-lawful)
     (two_complement-fits 1 z (FitsIn-from_signed w8 z h)) (signed_byte-allows z (FitsIn-from_signed w8 z h)) (allowed-signed_byte z)
@@ -121,7 +121,7 @@ truth_byte_is_byte : (v : Bool) → truth_byte v < 256
 truth_byte_is_byte true = omega arith
 truth_byte_is_byte false = omega arith
 
-pub truth-spelled : (v : Bool) → Spelled (IsTruth v) truth
+pub truth-spelled : (v : Bool) → HasShortestWords (IsTruth v) truth
 truth-spelled v = one_byte-spelled (IsTruth v) truth (truth_byte v) truth-lawful (truth_byte_is_byte v) (truth-allows v) (λ bytes a. ap length (allowed-truth v bytes a))
 
 module _ {A : Type 0} (integer : A → ℤ) (one : (a b : A) → integer a ≡ integer b → a ≡ b) (size : A → ℕ) (name : IntegerType) (F : Format A) (a : A) where
@@ -134,8 +134,8 @@ module _ {A : Type 0} (integer : A → ℤ) (one : (a b : A) → integer a ≡ i
       (q.1, from_result-word (λ k. Ok (Number (integer k))) F bytes p.0 m q.1 p.2 (subst (λ x. F.Word bytes x q.1) e q.3))
 
   -- a number that is not 0 is spelled as the number
-  pub number-not_zero : 0 < size a → Spelled (IsNumber (integer a)) (map_format (λ k. Number (integer k)) F) →
-      Spelled (IsNumber (integer a)) (map_format (λ k. Number (integer k)) (not_zero_by size name F))
+  pub number-not_zero : 0 < size a → HasShortestWords (IsNumber (integer a)) (map_format (λ k. Number (integer k)) F) →
+      HasShortestWords (IsNumber (integer a)) (map_format (λ k. Number (integer k)) (not_zero_by size name F))
   number-not_zero h p = record {
     has_word = record { bytes = p.has_word.bytes; are_bytes = p.has_word.are_bytes; is_allowed = not_zero-allows integer one size name F p.has_word.bytes a h p.has_word.is_allowed };
     one_length = same-one_length _ _ (λ bytes. allowed-not_zero integer one size name F bytes a) p.one_length;

@@ -15,15 +15,15 @@ use Rattle.bincode_base.specs.Setting.{Setting}
 use Rattle.bincode_spec.specs.Fault.{Fault, Utf8}
 use Rattle.bincode_spec.specs.Charge.{Step}
 use Rattle.bincode_spec.specs.Format.{Format, fixed_bytes, step, ◌>>=◌, without_count, charge_then, from_result}
-use Rattle.bincode_spec.specs.Layers.Laws.{Lawful, Balanced}
-use Rattle.bincode_lemmas.specs.FormatLaws.{Settles, fixed_bytes-lawful, turn-lawful, without_count-lawful, test-lawful, charge_then-lawful}
+use Rattle.bincode_spec.specs.Layers.Laws.{IsLawful, IsBalanced}
+use Rattle.bincode_lemmas.specs.FormatLaws.{FailsBeforeEnd, fixed_bytes-lawful, turn-lawful, without_count-lawful, test-lawful, charge_then-lawful}
 use Rattle.bincode_lemmas.specs.Balance.{fixed_bytes-holds, turn-holds, without_count-holds, test-balanced, charge_then-balanced}
 use Rattle.bincode_spec.specs.Integers.{Eight}
 use Rattle.bincode_lemmas.specs.IntegerLaws.{unsigned-lawful, unsigned-balanced, unsigned-least}
 use Rattle.bincode_spec.specs.Meaning.{Meaning, Bytes, IsBytes}
 use Rattle.bincode_spec.specs.NoZero.{first_zero, HasNoZero}
 use Rattle.bincode_spec.specs.Words.{len, length_prefixed, text_of, text, without_nul_of, without_nul}
-use Rattle.bincode_spec.specs.Allowed.{AllowedWord, SomeWord, OneLength, Shortest}
+use Rattle.bincode_spec.specs.Allowed.{AllowedWord, SomeWord, OneLength, IsShortest}
 use Rattle.bincode_lemmas.specs.Sequences.{Both}
 use Rattle.bincode_spec.specs.Layers.Meanings.{LengthWord}
 use Rattle.bincode_spec.specs.Cells.{HasWord}
@@ -35,11 +35,11 @@ use Rattle.bincode_lemmas.specs.CharLaws.{spelled}
 -- the laws
 
 -- length-prefixed bytes are lawful
-pub length_prefixed-lawful : (s : Setting) → Lawful (length_prefixed s)
+pub length_prefixed-lawful : (s : Setting) → IsLawful (length_prefixed s)
 length_prefixed-lawful s =
     turn-lawful (len s) (λ n. charge_then n (without_count (fixed_bytes n))) (unsigned-lawful U64 8 s (Eight refl)) (λ n. charge_then-lawful n (without_count (fixed_bytes n)) (without_count-lawful (fixed_bytes n) (fixed_bytes-lawful n)))
 
-pub length_prefixed-balanced : (s : Setting) → Balanced (length_prefixed s)
+pub length_prefixed-balanced : (s : Setting) → IsBalanced (length_prefixed s)
 length_prefixed-balanced s =
     turn-holds 0 0 0 (len s) (λ n. charge_then n (without_count (fixed_bytes n))) (unsigned-balanced U64 8 s) (λ n. charge_then-balanced n (without_count (fixed_bytes n)) (without_count-holds 0 0 (fixed_bytes n) (fixed_bytes-holds 0 n)))
 
@@ -108,7 +108,7 @@ module _ (test : List ℕ → Result Meaning Fault) (Is : List ℕ → Type 0) (
       }
 
   -- no word that decodes to what it means is shorter than one that is written for it
-  pub tested-shortest : (bytes other : List ℕ) → Shortest (IsBytes bytes) (IsBytes other) (tested s)
+  pub tested-shortest : (bytes other : List ℕ) → IsShortest (IsBytes bytes) (IsBytes other) (tested s)
   tested-shortest bytes other written word m t w h u g =
       let a = allowed-tested bytes written (more-allowed (λ n p. p.0) written w) in
       let i = w.is_meant in
@@ -122,15 +122,15 @@ module _ (test : List ℕ → Result Meaning Fault) (Is : List ℕ → Type 0) (
 
 -- texts
 
-settles_by : (test : Bool) (bytes : List ℕ) → Settles {A = Meaning} (if test then Ok (Bytes bytes) else Err Utf8)
+settles_by : (test : Bool) (bytes : List ℕ) → FailsBeforeEnd {A = Meaning} (if test then Ok (Bytes bytes) else Err Utf8)
 settles_by true bytes = tt
 settles_by false bytes = λ h. h
 
 -- texts are lawful
-pub text-lawful : (s : Setting) → Lawful (text s)
+pub text-lawful : (s : Setting) → IsLawful (text s)
 text-lawful s = test-lawful (length_prefixed s) text_of (length_prefixed-lawful s) (λ bytes. settles_by (is_utf8 bytes) bytes)
 
-pub text-balanced : (s : Setting) → Balanced (text s)
+pub text-balanced : (s : Setting) → IsBalanced (text s)
 text-balanced s = test-balanced (length_prefixed s) text_of (length_prefixed-balanced s)
 
 -- UTF-8 passes the test
@@ -178,7 +178,7 @@ module _ (s : Setting) where
   text-some_word = cell-has_word (text s) (text-lawful s) _ (text-has_word [] ([], (refl, refl)) (omega arith))
 
   -- no word that decodes to what a text means is shorter than one that is written for it
-  pub text-shortest : (bytes other : List ℕ) → Shortest (IsBytes bytes) (IsBytes other) (text s)
+  pub text-shortest : (bytes other : List ℕ) → IsShortest (IsBytes bytes) (IsBytes other) (text s)
   text-shortest = tested-shortest text_of IsUtf8 text_of-passes text_of-passed s
 
 -- C strings
@@ -187,15 +187,15 @@ module _ (s : Setting) where
 abbrev pub nul_test : List ℕ → Result Meaning Fault
 nul_test bytes = without_nul_of bytes (first_zero bytes)
 
-settles_at : (bytes : List ℕ) (place : Option ℕ) → Settles (without_nul_of bytes place)
+settles_at : (bytes : List ℕ) (place : Option ℕ) → FailsBeforeEnd (without_nul_of bytes place)
 settles_at bytes None = tt
 settles_at bytes (Some n) = λ h. h
 
 -- C strings are lawful
-pub c_string-lawful : (s : Setting) → Lawful (without_nul s)
+pub c_string-lawful : (s : Setting) → IsLawful (without_nul s)
 c_string-lawful s = test-lawful (length_prefixed s) nul_test (length_prefixed-lawful s) (λ bytes. settles_at bytes (first_zero bytes))
 
-pub c_string-balanced : (s : Setting) → Balanced (without_nul s)
+pub c_string-balanced : (s : Setting) → IsBalanced (without_nul s)
 c_string-balanced s = test-balanced (length_prefixed s) nul_test (length_prefixed-balanced s)
 
 -- bytes without a zero pass the test as they are
@@ -231,7 +231,7 @@ module _ (s : Setting) where
   c_string-some_word = cell-has_word (without_nul s) (c_string-lawful s) _ (c_string-has_word [] refl (All-nil (λ b. b < 256)) (omega arith))
 
   -- no word that decodes to what a C string means is shorter than one that is written for it
-  pub c_string-shortest : (bytes other : List ℕ) → Shortest (IsBytes bytes) (IsBytes other) (without_nul s)
+  pub c_string-shortest : (bytes other : List ℕ) → IsShortest (IsBytes bytes) (IsBytes other) (without_nul s)
   c_string-shortest = tested-shortest nul_test HasNoZero nul_test-passes nul_test-passed s
 
 -- equality

@@ -4,12 +4,12 @@ use Rattle.std.proofs.Common.{sym, ◌∙◌, ap, subst, inl, inr}
 use Rattle.std.proofs.lemmas.List.Elements.{All-nil, All-append}
 use Rattle.bincode_spec.specs.Fault.{Fault}
 use Rattle.bincode_spec.specs.Format.{Format, ◌>>=◌, map_format}
-use Rattle.bincode_spec.specs.Layers.Laws.{Lawful, Balanced}
+use Rattle.bincode_spec.specs.Layers.Laws.{IsLawful, IsBalanced}
 use Rattle.bincode_lemmas.specs.FormatLaws.{pure-lawful, turn-lawful, map-lawful}
 use Rattle.bincode_lemmas.specs.Balance.{pure-holds, turn-holds, map-balanced}
 use Rattle.bincode_spec.specs.Meaning.{Meaning, Nothing, Then, IsNothing, IsThen, IsFourThen}
 use Rattle.bincode_spec.specs.Words.{nothing, first_and, four_and}
-use Rattle.bincode_spec.specs.Allowed.{AllowedWord, SomeWord, OneLength, NoneShorter, Shortest}
+use Rattle.bincode_spec.specs.Allowed.{AllowedWord, SomeWord, OneLength, NoneShorter, IsShortest}
 use Rattle.bincode_lemmas.specs.Sequences.{Both}
 use Rattle.bincode_lemmas.specs.AllowedLaws.{tuple-allows, allowed-tuple, nothing-allows, allowed-nothing, alone-one_length, both-one_length, same-one_length, fewer-none_shorter}
 use Rattle.bincode_lemmas.specs.SpelledLaws.{word-from_result, from_result-word, parts-no_longer, nothing-none_shorter}
@@ -21,20 +21,20 @@ use Rattle.bincode_lemmas.specs.NeedLaws.{nothing-needs}
 use Rattle.bincode_lemmas.specs.ChargedLaws.{nothing-charged}
 
 -- a tuple is lawful
-pub nothing-lawful : Lawful nothing
+pub nothing-lawful : IsLawful nothing
 unfolding nothing
 nothing-lawful = pure-lawful Nothing
 
-pub then-lawful : {F others : Format Meaning} → Lawful F → Lawful others → Lawful (first_and F others)
+pub then-lawful : {F others : Format Meaning} → IsLawful F → IsLawful others → IsLawful (first_and F others)
 unfolding first_and
 then-lawful {F} {others} f g = turn-lawful F (λ m. map_format (Then m) others) f (λ m. map-lawful (Then m) others g)
 
 -- and balanced
-pub nothing-balanced : Balanced nothing
+pub nothing-balanced : IsBalanced nothing
 unfolding nothing
 nothing-balanced = pure-holds 0 Nothing
 
-pub then-balanced : {F others : Format Meaning} → Balanced F → Balanced others → Balanced (first_and F others)
+pub then-balanced : {F others : Format Meaning} → IsBalanced F → IsBalanced others → IsBalanced (first_and F others)
 unfolding first_and
 then-balanced {F} {others} f g = turn-holds 0 0 0 F (λ m. map_format (Then m) others) f (λ m. map-balanced (Then m) others g)
 
@@ -110,7 +110,7 @@ both_then {P} {Q} {P'} {Q'} m b =
     let k : q.others ≡ p.others = cc in
     record { first = p.first; others = p.others; meaning_is = p.meaning_is; is_first = (p.is_first, subst P' j q.is_first); are_others = (p.are_others, subst Q' k q.are_others) }
 
-pub then-shortest : {P Q P' Q' : Meaning → Type 0} {F others : Format Meaning} → Shortest P P' F → Shortest Q Q' others → Shortest (IsThen P Q) (IsThen P' Q') (first_and F others)
+pub then-shortest : {P Q P' Q' : Meaning → Type 0} {F others : Format Meaning} → IsShortest P P' F → IsShortest Q Q' others → IsShortest (IsThen P Q) (IsThen P' Q') (first_and F others)
 then-shortest f g = fewer-none_shorter both_then (λ m h. h) (then-none_shorter f g)
 
 -- no parts
@@ -132,10 +132,10 @@ units-laws = record {
 
 -- the laws of four parts and the others
 module _ {F G H I others : Format Meaning} where
-  pub four-lawful : Lawful F → Lawful G → Lawful H → Lawful I → Lawful others → Lawful (four_and F G H I others)
+  pub four-lawful : IsLawful F → IsLawful G → IsLawful H → IsLawful I → IsLawful others → IsLawful (four_and F G H I others)
   four-lawful f g h i o = then-lawful f (then-lawful g (then-lawful h (then-lawful i o)))
 
-  pub four-balanced : Balanced F → Balanced G → Balanced H → Balanced I → Balanced others → Balanced (four_and F G H I others)
+  pub four-balanced : IsBalanced F → IsBalanced G → IsBalanced H → IsBalanced I → IsBalanced others → IsBalanced (four_and F G H I others)
   four-balanced f g h i o = then-balanced f (then-balanced g (then-balanced h (then-balanced i o)))
 
   module _ {P Q R S T : Meaning → Type 0} where
@@ -147,8 +147,8 @@ module _ {F G H I others : Format Meaning} where
         OneLength (AllowedWord T others) → OneLength (AllowedWord (IsFourThen P Q R S T) (four_and F G H I others))
     four-one_length f g h i o = then-one_length f (then-one_length g (then-one_length h (then-one_length i o)))
 
-    pub four-shortest : {P' Q' R' S' T' : Meaning → Type 0} → Shortest P P' F → Shortest Q Q' G → Shortest R R' H → Shortest S S' I →
-        Shortest T T' others → Shortest (IsFourThen P Q R S T) (IsFourThen P' Q' R' S' T') (four_and F G H I others)
+    pub four-shortest : {P' Q' R' S' T' : Meaning → Type 0} → IsShortest P P' F → IsShortest Q Q' G → IsShortest R R' H → IsShortest S S' I →
+        IsShortest T T' others → IsShortest (IsFourThen P Q R S T) (IsFourThen P' Q' R' S' T') (four_and F G H I others)
     four-shortest f g h i o = then-shortest f (then-shortest g (then-shortest h (then-shortest i o)))
 
 pub four-same : {P Q R S T P' Q' R' S' T' : Meaning → Type 0} {x y z u v : Bool} → SameIn P P' x → SameIn Q Q' y → SameIn R R' z → SameIn S S' u →

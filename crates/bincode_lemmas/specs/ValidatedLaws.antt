@@ -6,11 +6,11 @@ use Rattle.bincode_spec.specs.Fault.{Fault, Tells, IsEnd, End, InvalidInteger, Z
 use Rattle.bincode_spec.specs.Fault.{InvalidBool, InvalidDuration, NulAt, Other, LengthMismatch, EmptyEnum, OutsideUsize}
 use Rattle.bincode_spec.specs.Charge.{Step}
 use Rattle.bincode_spec.specs.Format.{Format}
-use Rattle.bincode_spec.specs.Layers.Laws.{Lawful, Balanced}
+use Rattle.bincode_spec.specs.Layers.Laws.{IsLawful, IsBalanced}
 use Rattle.bincode_spec.specs.Meaning.{Meaning}
 use Rattle.bincode_spec.specs.Validated.{passed_of, with_test, TellsOwn}
-use Rattle.bincode_spec.specs.Allowed.{AllowedWord, SomeWord, OneLength, Shortest}
-use Rattle.bincode_lemmas.specs.FormatLaws.{Settles, test-lawful}
+use Rattle.bincode_spec.specs.Allowed.{AllowedWord, SomeWord, OneLength, IsShortest}
+use Rattle.bincode_lemmas.specs.FormatLaws.{FailsBeforeEnd, test-lawful}
 use Rattle.bincode_lemmas.specs.Balance.{test-balanced}
 use Rattle.bincode_lemmas.specs.AllowedLaws.{from_result-written, written-from_result, same-one_length}
 use Rattle.bincode_lemmas.specs.SpelledLaws.{word-from_result}
@@ -48,15 +48,15 @@ module _ (passes : Meaning → Bool) (why : Fault) where
   passed_same : (m n : Meaning) → passed_of passes why m ≡ Ok n → m ≡ n
   passed_same m = same_by (passes m) m
 
-  settles_by : ¬ (IsEnd why) → (picked : Bool) (m : Meaning) → Settles {A = Meaning} (if picked then Ok m else Err why)
+  settles_by : ¬ (IsEnd why) → (picked : Bool) (m : Meaning) → FailsBeforeEnd {A = Meaning} (if picked then Ok m else Err why)
   settles_by other true m = tt
   settles_by other false m = other
 
   module _ (F : Format Meaning) where
-    pub with_test-lawful : ¬ (IsEnd why) → Lawful F → Lawful (with_test passes why F)
+    pub with_test-lawful : ¬ (IsEnd why) → IsLawful F → IsLawful (with_test passes why F)
     with_test-lawful other f = test-lawful F (passed_of passes why) f (λ m. settles_by other (passes m) m)
 
-    pub with_test-balanced : Balanced F → Balanced (with_test passes why F)
+    pub with_test-balanced : IsBalanced F → IsBalanced (with_test passes why F)
     with_test-balanced = test-balanced F (passed_of passes why)
 
     -- a word that passes is one of the tested ones
@@ -87,7 +87,7 @@ module _ (passes : Meaning → Bool) (why : Fault) where
       with_test-one_length = same-one_length (AllowedWord P F) (AllowedWord P (with_test passes why F)) allowed-passed
 
     -- none of the words that pass is shorter than the shortest
-    pub with_test-shortest : (P Q : Meaning → Type 0) → Shortest P Q F → Shortest P (λ m. Q m × (passes m ≡ true)) (with_test passes why F)
+    pub with_test-shortest : (P Q : Meaning → Type 0) → IsShortest P Q F → IsShortest P (λ m. Q m × (passes m ≡ true)) (with_test passes why F)
     with_test-shortest P Q least written bytes m s w h u e =
         let t = passed_word bytes m s u in
         let a = allowed-passed (λ n. P n × Q n × (passes n ≡ true)) written

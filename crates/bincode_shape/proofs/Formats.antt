@@ -11,7 +11,7 @@ use Rattle.bincode_spec.specs.Words.{nothing, first_and, tuple, list, array, Var
 use Rattle.bincode_lemmas.specs.EqualLaws.{both-show}
 use Rattle.bincode_shape.specs.declared.shape.Shape as shapes
 use Rattle.bincode_shape.specs.declared.shape.Shape.{Shape}
-use Rattle.bincode_shape.specs.Shapes.{format_of, at, share, byte_tag, one_of, numbered}
+use Rattle.bincode_shape.specs.Shapes.{format_of, at, share, byte_tag, one_of, numbered_variants}
 use Rattle.bincode_shape.specs.Rows.{formats, formats_of-vec}
 use Rattle.bincode_shape.specs.Same.{SameWords, same-itself, list-same, array-same, first_and-same}
 use Rattle.bincode_shape.specs.SameChoices.{SameVariants, chosen-same}
@@ -43,8 +43,8 @@ option_described b F s f = chosen-same byte_tag s _ _ (refl, same-itself nothing
 pub choice_described : (v : Vec Shape Global) (variants : List Variant) (s : Setting) → DescribesVariants [] v.items variants →
     (0 < length variants) × (in_order 0 (variant_tags variants) ≡ true) → SameWords (format_of (shapes.Choice v) s) (tag_then_part tag variants s)
 choice_described v variants s d counted = rw (formats_of-vec v, d.1) (chosen-parts d.0 variants counted.0 (d.2 0 s counted.1)) where
-  chosen-parts : (parts : List Shape) (variants : List Variant) → 0 < length variants → SameVariants s (numbered 0 (formats parts)) variants →
-      SameWords (one_of (numbered 0 (formats parts)) s) (tag_then_part tag variants s)
+  chosen-parts : (parts : List Shape) (variants : List Variant) → 0 < length variants → SameVariants s (numbered_variants 0 (formats parts)) variants →
+      SameWords (one_of (numbered_variants 0 (formats parts)) s) (tag_then_part tag variants s)
   chosen-parts parts [] some h = absurd (omega (arith, some))
   chosen-parts [] (w ∷ ws) some h = absurd h
   chosen-parts (p ∷ ps) (w ∷ ws) some h = chosen-same tag s _ _ h

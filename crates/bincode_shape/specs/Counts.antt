@@ -60,12 +60,12 @@ abbrev mutual
   counts_of (more_of-Shape part others) = count_of part ∷ counts_of others
 
 -- as a `u128`, at most its maximum
-abbrev pub capped : ℕ → ℕ
-capped n = min n (2 ^ 128 - 1)
+abbrev pub as_u128 : ℕ → ℕ
+as_u128 n = min n (2 ^ 128 - 1)
 
 -- it is the count of a meaning
 abbrev pub IsCounted : Shape → Meaning → ℕ → Type 0
-IsCounted shape m n = n ≡ capped (count_of shape m)
+IsCounted shape m n = n ≡ as_u128 (count_of shape m)
 
 abbrev mutual
   -- all words of the shape are empty

@@ -6,7 +6,7 @@ use Rattle.bincode_shape.specs.declared.shape.Shape.{Shape}
 use Rattle.bincode_shape.specs.Rows.{formats}
 use Rattle.bincode_shape.specs.Same.{SameWords}
 use Rattle.bincode_shape.specs.SameChoices.{SameVariants}
-use Rattle.bincode_shape.specs.Shapes.{format_of, at, numbered}
+use Rattle.bincode_shape.specs.Shapes.{format_of, at, numbered_variants}
 use Rattle.bincode_types.specs.TypeWords.{Words}
 
 -- the shape has the type's words, meanings, steps and faults in each setting
@@ -21,4 +21,4 @@ DescribesRow before after W = (parts : List Shape) × (after ≡ before ++ parts
 abbrev pub DescribesVariants : List Shape → List Shape → List Variant → Type 0
 DescribesVariants before after variants =
     (parts : List Shape) × (after ≡ before ++ parts)
-    × ((n : ℕ) (s : Setting) → in_order n (variant_tags variants) ≡ true → SameVariants s (numbered n (formats parts)) variants)
+    × ((n : ℕ) (s : Setting) → in_order n (variant_tags variants) ≡ true → SameVariants s (numbered_variants n (formats parts)) variants)

@@ -3,7 +3,7 @@ use Rattle.std.specs.Prelude.{ℕ, ◌+◌, ◌≤◌, ◌==◌, List, [], ◌�
 use Rattle.std.proofs.Common.{arith}
 use Rattle.bincode_base.specs.declared.error.IntegerType.TheVariants as integers
 use Rattle.bincode_base.specs.Setting.{Setting}
-use Rattle.bincode_spec.specs.Layers.Laws.{AllLawful, AllBalanced, Lawful, Balanced}
+use Rattle.bincode_spec.specs.Layers.Laws.{AllLawful, AllBalanced, IsLawful, IsBalanced}
 use Rattle.bincode_spec.specs.Fault.{Allowed, EmptyEnum, UnexpectedVariant}
 use Rattle.bincode_spec.specs.Format.{Format}
 use Rattle.bincode_spec.specs.Integers.{Two, Four, Eight, Sixteen, unsigned_integer, signed_integer, unsigned_byte, signed_byte}
@@ -19,7 +19,7 @@ use Rattle.bincode_lemmas.specs.ListLaws.{list-lawful, list-balanced}
 use Rattle.bincode_lemmas.specs.WordsLaws.{truth-lawful, truth-balanced, array-lawful, array-balanced}
 use Rattle.bincode_shape.specs.declared.shape.Shape as shapes
 use Rattle.bincode_shape.specs.declared.shape.Shape.{Shape, Row_of-Shape, end_of-Shape, more_of-Shape}
-use Rattle.bincode_shape.specs.Shapes.{share, byte_tag, optional, one_of, at, numbered, format_of, formats_of}
+use Rattle.bincode_shape.specs.Shapes.{share, byte_tag, option_variants, one_of, at, numbered_variants, format_of, formats_of}
 use Rattle.bincode_lemmas.specs.CharLaws.{character-lawful, character-balanced}
 use Rattle.bincode_lemmas.specs.TextLaws.{text-lawful, text-balanced}
 use Rattle.bincode_lemmas.specs.TupleLaws.{nothing-lawful, nothing-balanced, then-lawful, then-balanced}
@@ -27,39 +27,39 @@ use Rattle.bincode_lemmas.specs.TupleLaws.{nothing-lawful, nothing-balanced, the
 -- each of the formats is lawful, and balanced
 abbrev EachLawful : Setting → List (Setting → Format Meaning) → Type 0
 EachLawful s [] = Unit {0}
-EachLawful s (F ∷ others) = Lawful (F s) × EachLawful s others
+EachLawful s (F ∷ others) = IsLawful (F s) × EachLawful s others
 
 abbrev EachBalanced : Setting → List (Setting → Format Meaning) → Type 0
 EachBalanced s [] = Unit {0}
-EachBalanced s (F ∷ others) = Balanced (F s) × EachBalanced s others
+EachBalanced s (F ∷ others) = IsBalanced (F s) × EachBalanced s others
 
-tuple-lawful : (parts : List (Setting → Format Meaning)) (s : Setting) → EachLawful s parts → Lawful (tuple (at s parts))
+tuple-lawful : (parts : List (Setting → Format Meaning)) (s : Setting) → EachLawful s parts → IsLawful (tuple (at s parts))
 tuple-lawful [] s h = nothing-lawful
 tuple-lawful (F ∷ others) s h = then-lawful h.0 (tuple-lawful others s h.1)
 
-tuple-balanced : (parts : List (Setting → Format Meaning)) (s : Setting) → EachBalanced s parts → Balanced (tuple (at s parts))
+tuple-balanced : (parts : List (Setting → Format Meaning)) (s : Setting) → EachBalanced s parts → IsBalanced (tuple (at s parts))
 tuple-balanced [] s h = nothing-balanced
 tuple-balanced (F ∷ others) s h = then-balanced h.0 (tuple-balanced others s h.1)
 
-numbered-lawful : (n : ℕ) (parts : List (Setting → Format Meaning)) (s : Setting) → EachLawful s parts → AllLawful s (numbered n parts)
+numbered-lawful : (n : ℕ) (parts : List (Setting → Format Meaning)) (s : Setting) → EachLawful s parts → AllLawful s (numbered_variants n parts)
 numbered-lawful n [] s h = tt
 numbered-lawful n (F ∷ others) s h = (h.0, numbered-lawful (n + 1) others s h.1)
 
-numbered-balanced : (n : ℕ) (parts : List (Setting → Format Meaning)) (s : Setting) → EachBalanced s parts → AllBalanced s (numbered n parts)
+numbered-balanced : (n : ℕ) (parts : List (Setting → Format Meaning)) (s : Setting) → EachBalanced s parts → AllBalanced s (numbered_variants n parts)
 numbered-balanced n [] s h = tt
 numbered-balanced n (F ∷ others) s h = (h.0, numbered-balanced (n + 1) others s h.1)
 
-one_of-lawful : (variants : List Variant) (s : Setting) → AllLawful s variants → Lawful (one_of variants s)
+one_of-lawful : (variants : List Variant) (s : Setting) → AllLawful s variants → IsLawful (one_of variants s)
 one_of-lawful [] s h = fail-lawful EmptyEnum (λ e. e)
 one_of-lawful (variant ∷ others) s h = chosen-lawful _ (variant ∷ others) s (unsigned-lawful integers.U32 4 s (Four refl)) h
 
-one_of-balanced : (variants : List Variant) (s : Setting) → AllBalanced s variants → Balanced (one_of variants s)
+one_of-balanced : (variants : List Variant) (s : Setting) → AllBalanced s variants → IsBalanced (one_of variants s)
 one_of-balanced [] s h = fail-holds 0 0 EmptyEnum
 one_of-balanced (variant ∷ others) s h = chosen-balanced _ (variant ∷ others) s (unsigned-balanced integers.U32 4 s) h
 
 mutual
   -- Each input begins with one word of a shape, or has one fault.
-  pub format_of-lawful : (shape : Shape) (s : Setting) → Lawful (format_of shape s)
+  pub format_of-lawful : (shape : Shape) (s : Setting) → IsLawful (format_of shape s)
   format_of-lawful shapes.Unit s = nothing-lawful
   format_of-lawful shapes.Bool s = truth-lawful
   format_of-lawful shapes.Char s = character-lawful
@@ -80,7 +80,7 @@ mutual
   format_of-lawful (shapes.Array' len claim p element) s = array-lawful len (share claim) (format_of element s) (format_of-lawful element s)
   format_of-lawful (shapes.Tuple' v parts) s = tuple-lawful (formats_of parts) s (parts-lawful parts s)
   format_of-lawful (shapes.Optional' p part) s = chosen-lawful byte_tag _ s unsigned_byte-lawful (nothing-lawful, (format_of-lawful part s, tt))
-  format_of-lawful (shapes.Choice' v parts) s = one_of-lawful (numbered 0 (formats_of parts)) s (numbered-lawful 0 (formats_of parts) s (parts-lawful parts s))
+  format_of-lawful (shapes.Choice' v parts) s = one_of-lawful (numbered_variants 0 (formats_of parts)) s (numbered-lawful 0 (formats_of parts) s (parts-lawful parts s))
 
   parts-lawful : {m : _} → (parts : Row_of-Shape m) (s : Setting) → EachLawful s (formats_of parts)
   parts-lawful end_of-Shape s = tt
@@ -88,7 +88,7 @@ mutual
 
 mutual
   -- A word releases what it reserves.
-  pub format_of-balanced : (shape : Shape) (s : Setting) → Balanced (format_of shape s)
+  pub format_of-balanced : (shape : Shape) (s : Setting) → IsBalanced (format_of shape s)
   format_of-balanced shapes.Unit s = nothing-balanced
   format_of-balanced shapes.Bool s = truth-balanced
   format_of-balanced shapes.Char s = character-balanced
@@ -109,7 +109,7 @@ mutual
   format_of-balanced (shapes.Array' len claim p element) s = array-balanced len (share claim) (format_of element s) (format_of-balanced element s)
   format_of-balanced (shapes.Tuple' v parts) s = tuple-balanced (formats_of parts) s (parts-balanced parts s)
   format_of-balanced (shapes.Optional' p part) s = chosen-balanced byte_tag _ s unsigned_byte-balanced (nothing-balanced, (format_of-balanced part s, tt))
-  format_of-balanced (shapes.Choice' v parts) s = one_of-balanced (numbered 0 (formats_of parts)) s (numbered-balanced 0 (formats_of parts) s (parts-balanced parts s))
+  format_of-balanced (shapes.Choice' v parts) s = one_of-balanced (numbered_variants 0 (formats_of parts)) s (numbered-balanced 0 (formats_of parts) s (parts-balanced parts s))
 
   parts-balanced : {m : _} → (parts : Row_of-Shape m) (s : Setting) → EachBalanced s (formats_of parts)
   parts-balanced end_of-Shape s = tt
@@ -128,7 +128,7 @@ tuple-charged : (parts : List (Setting → Format Meaning)) (s : Setting) → Ea
 tuple-charged [] s h = nothing-charged
 tuple-charged (F ∷ others) s h = then-charged h.0 (tuple-charged others s h.1)
 
-numbered-charged : (n : ℕ) (parts : List (Setting → Format Meaning)) (s : Setting) → EachCharged s parts → AllCharged s (numbered n parts)
+numbered-charged : (n : ℕ) (parts : List (Setting → Format Meaning)) (s : Setting) → EachCharged s parts → AllCharged s (numbered_variants n parts)
 numbered-charged n [] s h = tt
 numbered-charged n (F ∷ others) s h = (h.0, numbered-charged (n + 1) others s h.1)
 
@@ -169,9 +169,9 @@ mutual
   format_of-charged (shapes.Array' len claim p element) s = array-charged len (share claim) (format_of element s) (share-some claim) (format_of-charged element s)
   format_of-charged (shapes.Tuple' v parts) s = tuple-charged (formats_of parts) s (parts-charged parts s)
   format_of-charged (shapes.Optional' p element) s =
-      let variants = optional (format_of element) in
+      let variants = option_variants (format_of element) in
       chosen-charged byte_tag variants s unsigned_byte-charged (λ found. part-charged s variants (allowed_tags (variant_tags variants)) found (nothing-charged, (format_of-charged element s, tt)))
-  format_of-charged (shapes.Choice' v parts) s = one_of-charged (numbered 0 (formats_of parts)) s (numbered-charged 0 (formats_of parts) s (parts-charged parts s))
+  format_of-charged (shapes.Choice' v parts) s = one_of-charged (numbered_variants 0 (formats_of parts)) s (numbered-charged 0 (formats_of parts) s (parts-charged parts s))
 
   parts-charged : {m : _} → (parts : Row_of-Shape m) (s : Setting) → EachCharged s (formats_of parts)
   parts-charged end_of-Shape s = tt

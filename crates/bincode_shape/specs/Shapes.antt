@@ -22,8 +22,8 @@ abbrev pub byte_tag : Setting → Format ℕ
 byte_tag s = unsigned_byte
 
 -- the variants of an option
-abbrev pub optional : (Setting → Format Meaning) → List Variant
-optional F = (0, λ s. nothing) ∷ (1, F) ∷ []
+abbrev pub option_variants : (Setting → Format Meaning) → List Variant
+option_variants F = (0, λ s. nothing) ∷ (1, F) ∷ []
 
 -- without variants there is no word
 abbrev pub one_of : List Variant → Setting → Format Meaning
@@ -36,9 +36,9 @@ at s [] = []
 at s (F ∷ others) = F s ∷ at s others
 
 -- variants with consecutive tags
-abbrev pub numbered : ℕ → List (Setting → Format Meaning) → List Variant
-numbered n [] = []
-numbered n (F ∷ others) = (n, F) ∷ numbered (n + 1) others
+abbrev pub numbered_variants : ℕ → List (Setting → Format Meaning) → List Variant
+numbered_variants n [] = []
+numbered_variants n (F ∷ others) = (n, F) ∷ numbered_variants (n + 1) others
 
 abbrev mutual
   -- the words of a shape
@@ -62,8 +62,8 @@ abbrev mutual
   format_of (shapes.Seq' claim p element) s = list s (share claim) (format_of element s)
   format_of (shapes.Array' len claim p element) s = array len (share claim) (format_of element s)
   format_of (shapes.Tuple' v parts) s = tuple (at s (formats_of parts))
-  format_of (shapes.Optional' p part) s = tag_then_part byte_tag (optional (format_of part)) s
-  format_of (shapes.Choice' v parts) s = one_of (numbered 0 (formats_of parts)) s
+  format_of (shapes.Optional' p part) s = tag_then_part byte_tag (option_variants (format_of part)) s
+  format_of (shapes.Choice' v parts) s = one_of (numbered_variants 0 (formats_of parts)) s
 
   pub formats_of : {m : _} → Row_of-Shape m → List (Setting → Format Meaning)
   formats_of end_of-Shape = []

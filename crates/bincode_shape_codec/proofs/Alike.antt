@@ -10,10 +10,10 @@ use Rattle.bincode_spec.specs.Charge.{Step, Reserve, Release, charged_bytes, res
 use Rattle.bincode_spec.specs.Layers.Claims.{MakesRelease}
 use Rattle.bincode_spec.specs.Device.{DeviceErrors}
 use Rattle.bincode_spec.specs.Format.{Format, Took, after_steps, then_read, reading_without_count, pure, step, ◌>>=◌, without_count, elements}
-use Rattle.bincode_spec.specs.Layers.Laws.{Lawful, IsBacked, Balanced}
+use Rattle.bincode_spec.specs.Layers.Laws.{IsLawful, IsBacked, IsBalanced}
 use Rattle.bincode_spec.specs.Meaning.{Meaning, Then, list_meaning}
 use Rattle.bincode_spec.specs.Run.{IsListOf}
-use Rattle.bincode_spec.specs.Layers.Releases.{CanRelease, Held}
+use Rattle.bincode_spec.specs.Layers.Releases.{CanRelease, ReleasesAtMost}
 use Rattle.bincode_spec.specs.Layers.Values.{Reads}
 use Rattle.bincode_spec.specs.Words.{nothing, first_and, tuple, array}
 use Rattle.bincode_lemmas.specs.AnswerLaws.{after-stays, stays-after}
@@ -114,7 +114,7 @@ same_some : (a b : ℕ) → ◌≡◌ {A = Option ℕ} (Some a) (Some b) → a �
 same_some a b e = cc
 
 -- if one is decoded, so is each from a lower charge
-answers-alike : {F : Format Meaning} (h : Empty F) → Balanced F → (limit : Option ℕ) (input remaining : List ℕ) (c after : ℕ) (m : Meaning) → Allows limit c →
+answers-alike : {F : Format Meaning} (h : Empty F) → IsBalanced F → (limit : Option ℕ) (input remaining : List ℕ) (c after : ℕ) (m : Meaning) → Allows limit c →
     answer limit F input c ≡ Gave m remaining after → (m ≡ h.meaning) × (remaining ≡ input) × (after ≡ c) × ((d : ℕ) (i : List ℕ) → d ≤ c → answer limit F i d ≡ Gave h.meaning i d)
 unfolding answer
 answers-alike h b limit input remaining c after m a e =
@@ -146,7 +146,7 @@ unclaimed-twice : (limit : Option ℕ) (c n share : ℕ) → after_release limit
 unclaimed-twice None c n share = refl
 unclaimed-twice (Some limit) c n share = let k : suc n * share ≡ n * share + share = omega arith in omega (arith, k)
 
-module _ (limit : Option ℕ) (share : ℕ) (F : Format Meaning) (f : Lawful F) (b : Balanced F) (all : Answer (List Meaning)) (input : List ℕ) (m : Meaning) (remaining : List ℕ) where
+module _ (limit : Option ℕ) (share : ℕ) (F : Format Meaning) (f : IsLawful F) (b : IsBalanced F) (all : Answer (List Meaning)) (input : List ℕ) (m : Meaning) (remaining : List ℕ) where
   -- all others are decoded
   others-alike : (n : ℕ) (ms : List Meaning) (c : ℕ) → ((d : ℕ) → d ≤ c → answer limit F remaining d ≡ Gave m remaining d) → ReadSoFar limit share F all input ms n remaining c →
       ReadSoFar limit share F all input (ms ++ copies n m) 0 remaining (after_release limit c (n * share))
@@ -178,15 +178,15 @@ can-none : (limit : Option ℕ) (c claim : ℕ) → CanRelease limit c (0 * clai
 can-none None c claim = tt
 can-none (Some limit) c claim = omega arith
 
-held-alike : (limit : Option ℕ) (count claim start c : ℕ) → 0 < count → Held limit (1 * claim) start c → CanRelease limit c ((count - 1) * claim) →
-    Held limit (count * claim) start (after_release limit c ((count - 1) * claim))
+held-alike : (limit : Option ℕ) (count claim start c : ℕ) → 0 < count → ReleasesAtMost limit (1 * claim) start c → CanRelease limit c ((count - 1) * claim) →
+    ReleasesAtMost limit (count * claim) start (after_release limit c ((count - 1) * claim))
 held-alike None count claim start c some h k = h
 held-alike (Some limit) count claim start c some h k = let e = times count claim some in omega (arith, e, h, k)
 
 module _ {D R C T : Type 0} {is_known : D → Type 0} {remaining : D → List ℕ} {charge failures : D → ℕ} {reader_of : D → R} {context_of : D → C} {loans : D → List GName}
     {limit : Option ℕ} {end_error : ℕ → DecodeError → Type 0} {device : DeviceErrors} {may_allocate : Type 0} {claim : ℕ} {format : Format Meaning} {decodes_to : Meaning → T → Type 0} where
   -- The first of a run was read, and the claims of the others were released: then all are read.
-  pub alike-so_far : {count : ℕ} {v : T} {old middle now : D} (h : Empty format) → Lawful format → Balanced format → 0 < count → Allows limit (charge old) →
+  pub alike-so_far : {count : ℕ} {v : T} {old middle now : D} (h : Empty format) → IsLawful format → IsBalanced format → 0 < count → Allows limit (charge old) →
       CanRelease limit (charge old) (count * claim) →
       Reads is_known remaining charge failures loans limit end_error device may_allocate format decodes_to (after_release limit (charge old) claim) (Ok v) old middle →
       MakesRelease is_known remaining charge failures reader_of context_of loans limit ((count - 1) * claim) middle now →

@@ -15,9 +15,9 @@ use Rattle.bincode_spec.specs.Words.{tag, tuple, tag_then_part}
 use Rattle.bincode_lemmas.specs.DecodingLaws.{stops-besides, takes-then, gave-takes}
 use Rattle.bincode_decoder.proofs.ReadAnswers.{read-as, made-of}
 use Rattle.bincode_shape.specs.declared.shape.Shape.{Shape}
-use Rattle.bincode_shape.specs.Shapes.{format_of, at, byte_tag, optional, one_of, numbered}
+use Rattle.bincode_shape.specs.Shapes.{format_of, at, byte_tag, option_variants, one_of, numbered_variants}
 use Rattle.bincode_shape.specs.ShapeLaws.{format_of-lawful}
-use Rattle.bincode_shape.specs.Counts.{count_of, count_each, count_parts, count_some, count_picked, count_choice, capped, IsCounted}
+use Rattle.bincode_shape.specs.Counts.{count_of, count_each, count_parts, count_some, count_picked, count_choice, as_u128, IsCounted}
 use Rattle.bincode_shape.specs.Rows.{formats, counts}
 use Rattle.bincode_shape_codec.specs.Counted.{total, with_whole}
 use Rattle.bincode_shape_codec.proofs.Alike.{copies}
@@ -26,14 +26,14 @@ use Rattle.bincode_shape_codec.proofs.Optional.{some-reads, some-stops}
 use Rattle.bincode_shape_codec.proofs.Parts.{before, before-push, behind, after-none, after-push, part-then, part-stops, stops-after, nothing-gives}
 
 -- counts of two parts
-pub capped-adds : (a b c d : ℕ) → a ≡ capped c → b ≡ capped d → capped (a + b) ≡ capped (c + d)
+pub capped-adds : (a b c d : ℕ) → a ≡ as_u128 c → b ≡ as_u128 d → as_u128 (a + b) ≡ as_u128 (c + d)
 capped-adds a b c d h k = omega (arith, h, k)
 
-pub capped-joins : (a b c d : ℕ) → capped a ≡ capped c → b ≡ capped d → capped (b + a) ≡ capped (d + c)
+pub capped-joins : (a b c d : ℕ) → as_u128 a ≡ as_u128 c → b ≡ as_u128 d → as_u128 (b + a) ≡ as_u128 (d + c)
 capped-joins a b c d h k = omega (arith, h, k)
 
 -- of a list
-pub total-counted : (count : Meaning → ℕ) (ns : List ℕ) (m : Meaning) → IsListOf (λ n k. n ≡ capped (count k)) ns m → capped (total ns) ≡ capped (count_each count m)
+pub total-counted : (count : Meaning → ℕ) (ns : List ℕ) (m : Meaning) → IsListOf (λ n k. n ≡ as_u128 (count k)) ns m → as_u128 (total ns) ≡ as_u128 (count_each count m)
 total-counted count [] m h = rw h refl
 total-counted count (n ∷ ns) m h =
     rw h.meaning_is (capped-joins (total ns) n (count_each count h.others) (count h.first) (total-counted count ns h.others h.are_others) h.is_first)
@@ -66,10 +66,10 @@ module _ {D : Type 0} {is_known : D → Type 0} {remaining : D → List ℕ} {ch
     {end_error : ℕ → DecodeError → Type 0} {device : DeviceErrors} {may_allocate : Type 0} {F : Format Meaning} {start : ℕ} {old new : D} where
   -- the whole is one value more than its parts
   pub whole-counted : (count whole : Meaning → ℕ) (r : Result ℕ DecodeError) → ((m : Meaning) → whole m ≡ count m + 1) →
-      Reads is_known remaining charge failures loans limit end_error device may_allocate F (λ m n. n ≡ capped (count m)) start r old new →
-      Reads is_known remaining charge failures loans limit end_error device may_allocate F (λ m n. n ≡ capped (whole m)) start (with_whole r) old new
+      Reads is_known remaining charge failures loans limit end_error device may_allocate F (λ m n. n ≡ as_u128 (count m)) start r old new →
+      Reads is_known remaining charge failures loans limit end_error device may_allocate F (λ m n. n ≡ as_u128 (whole m)) start (with_whole r) old new
   whole-counted count whole (Ok n) e read =
-      read-as (λ known. made-of (λ m h. let one : 1 ≡ capped 1 = omega arith in capped-adds n 1 (count m) 1 h one ∙ ap capped (sym (e m))) (read.ok known)) (λ known. tt) read.within read
+      read-as (λ known. made-of (λ m h. let one : 1 ≡ as_u128 1 = omega arith in capped-adds n 1 (count m) 1 h one ∙ ap as_u128 (sym (e m))) (read.ok known)) (λ known. tt) read.within read
   whole-counted count whole (Err e) more read = read-as (λ known. tt) read.err (λ _. tt) read
 
 -- these parts of a tuple are left, and n values were counted
@@ -77,23 +77,23 @@ pub record PartsCounted {D : Type 0} (is_known : D → Type 0) (remaining : D �
     (s : Setting) (parts left : List Shape) (n : ℕ) (old now : D) : Type 0 where
   pub known : is_known old →
       is_known now × (ms : List Meaning) × (behind ms (answer limit (tuple (at s (formats left))) (remaining now) (charge now)) ≡ answer limit (tuple (at s (formats parts))) (remaining old) (charge old))
-      × Takes (remaining old) (remaining now) × ((m : Meaning) → capped (count_parts (counts parts) (before ms m)) ≡ capped (n + count_parts (counts left) m))
-  pub small : n ≡ capped n
+      × Takes (remaining old) (remaining now) × ((m : Meaning) → as_u128 (count_parts (counts parts) (before ms m)) ≡ as_u128 (n + count_parts (counts left) m))
+  pub small : n ≡ as_u128 n
   pub charge_kept : charge old ≤ charge now
   pub within : Allows limit (charge old) → Allows limit (charge now)
   pub failures_monotone : failures old ≤ failures now
   pub same_loans : loans now ≡ loans old
 
-none-yet : (n : ℕ) → capped n ≡ capped (0 + n)
+none-yet : (n : ℕ) → as_u128 n ≡ as_u128 (0 + n)
 none-yet n = omega arith
 
-no-more : (n : ℕ) → n ≡ capped n → capped (n + 0) ≡ n
+no-more : (n : ℕ) → n ≡ as_u128 n → as_u128 (n + 0) ≡ n
 no-more n h = omega (arith, h)
 
-once-more : (n a b v w : ℕ) → v ≡ capped a → w ≡ capped (n + v) → capped (n + (a + b)) ≡ capped (w + b)
+once-more : (n a b v w : ℕ) → v ≡ as_u128 a → w ≡ as_u128 (n + v) → as_u128 (n + (a + b)) ≡ as_u128 (w + b)
 once-more n a b v w h k = omega (arith, h, k)
 
-capped-twice : (n w : ℕ) → w ≡ capped n → w ≡ capped w
+capped-twice : (n w : ℕ) → w ≡ as_u128 n → w ≡ as_u128 w
 capped-twice n w h = omega (arith, h)
 
 module _ {D : Type 0} {is_known : D → Type 0} {remaining : D → List ℕ} {charge failures : D → ℕ} {loans : D → List GName} {limit : Option ℕ}
@@ -110,7 +110,7 @@ module _ {D : Type 0} {is_known : D → Type 0} {remaining : D → List ℕ} {ch
 
   module _ {left : List Shape} {n : ℕ} {now : D} (h : PartsCounted is_known remaining charge failures loans limit s parts left n old now) where
     pub all-counted : {end_error : ℕ → DecodeError → Type 0} {device : DeviceErrors} {may_allocate : Type 0} → left ≡ [] →
-        Reads is_known remaining charge failures loans limit end_error device may_allocate (tuple (at s (formats parts))) (λ m k. k ≡ capped (count_parts (counts parts) m)) (charge old) (Ok n) old now
+        Reads is_known remaining charge failures loans limit end_error device may_allocate (tuple (at s (formats parts))) (λ m k. k ≡ as_u128 (count_parts (counts parts) m)) (charge old) (Ok n) old now
     all-counted none = record {
       ok = λ k.
           let p = h.known k in
@@ -128,7 +128,7 @@ module _ {D : Type 0} {is_known : D → Type 0} {remaining : D → List ℕ} {ch
     }
 
     module _ {part : Shape} {others : List Shape} (next : left ≡ part ∷ others) {end_error : ℕ → DecodeError → Type 0} {device : DeviceErrors} {may_allocate : Type 0} {after : D} where
-      pub next-counted : {v w : ℕ} → w ≡ capped (n + v) →
+      pub next-counted : {v w : ℕ} → w ≡ as_u128 (n + v) →
           Reads is_known remaining charge failures loans limit end_error device may_allocate (format_of part s) (IsCounted part) (charge now) (Ok v) now after →
           PartsCounted is_known remaining charge failures loans limit s parts others w old after
       next-counted {v = v} {w = w} sum r = record {
@@ -144,7 +144,7 @@ module _ {D : Type 0} {is_known : D → Type 0} {remaining : D → List ℕ} {ch
                   ∙ ap (behind p.1) (sym (part-then limit (format_of part s) (tuple (at s (formats others))) (remaining now) (remaining after) (charge now) (charge after) x d.answer_is))
                   ∙ is,
               takes-then (remaining old) (remaining now) (remaining after) p.3 (gave-takes limit (format_of part s) (format_of-lawful part s) (remaining now) (charge now) x (remaining after) (charge after) d.answer_is),
-              λ m. ap (λ z. capped (count_parts (counts parts) z)) (before-push p.1 x m) ∙ each (Then x m)
+              λ m. ap (λ z. as_u128 (count_parts (counts parts) z)) (before-push p.1 x m) ∙ each (Then x m)
                   ∙ once-more n (count_of part x) (count_parts (counts others) m) v w d.is_decoded sum,
             );
         small = capped-twice (n + v) w sum;
@@ -178,7 +178,7 @@ module _ {D : Type 0} {is_known : D → Type 0} {remaining : D → List ℕ} {ch
   pub some-counted : (part : Shape) {b : ℕ} {old middle new : D} (r : Result ℕ DecodeError) → b ≡ 1 →
       Reads is_known remaining charge failures loans limit end_error device ⊥ unsigned_byte (λ n v. n ≡ v) start (Ok b) old middle →
       Reads is_known remaining charge failures loans limit end_error device may_allocate (format_of part s) (IsCounted part) (charge middle) r middle new →
-      Reads is_known remaining charge failures loans limit end_error device may_allocate (tag_then_part byte_tag (optional (format_of part)) s) (λ m n. n ≡ capped (count_some (count_of part) m)) start r old new
+      Reads is_known remaining charge failures loans limit end_error device may_allocate (tag_then_part byte_tag (option_variants (format_of part)) s) (λ m n. n ≡ as_u128 (count_some (count_of part) m)) start r old new
   some-counted part (Ok v) one first read = some-reads s part one (λ m h. h) first read
   some-counted part (Err e) one first read = some-stops s part one first read
 
@@ -186,6 +186,6 @@ module _ {D : Type 0} {is_known : D → Type 0} {remaining : D → List ℕ} {ch
   pub held-counted : (ps : List Shape) (found : ℕ) (p : Shape) {old middle new : D} (r : Result ℕ DecodeError) → 0 < length ps → found < length ps → p ≡ get_or ps found p →
       Reads is_known remaining charge failures loans limit end_error device ⊥ (tag s) (λ n v. n ≡ v) start (Ok found) old middle →
       Reads is_known remaining charge failures loans limit end_error device may_allocate (format_of p s) (IsCounted p) (charge middle) r middle new →
-      Reads is_known remaining charge failures loans limit end_error device may_allocate (one_of (numbered 0 (formats ps)) s) (λ m n. n ≡ capped (count_choice (counts ps) m)) start r old new
-  held-counted ps found p (Ok v) some h e first read = held-reads s ps some h e (λ m k. k ∙ ap capped (picked-counts ps found p m h e)) first read
+      Reads is_known remaining charge failures loans limit end_error device may_allocate (one_of (numbered_variants 0 (formats ps)) s) (λ m n. n ≡ as_u128 (count_choice (counts ps) m)) start r old new
+  held-counted ps found p (Ok v) some h e first read = held-reads s ps some h e (λ m k. k ∙ ap as_u128 (picked-counts ps found p m h e)) first read
   held-counted ps found p (Err e) some h i first read = held-stops s ps some h i first read

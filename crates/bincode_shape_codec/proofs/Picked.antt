@@ -9,11 +9,11 @@ use Rattle.bincode_spec.specs.Words.{tag, variant_tags, allowed_tags, after_tag,
 use Rattle.bincode_shape.specs.declared.shape.Shape as shapes
 use Rattle.bincode_shape.specs.declared.shape.Shape.{Shape}
 use Rattle.bincode_shape.specs.declared.shape.Value.{Value}
-use Rattle.bincode_shape.specs.Shapes.{format_of, numbered, one_of, picked_passes}
+use Rattle.bincode_shape.specs.Shapes.{format_of, numbered_variants, one_of, picked_passes}
 use Rattle.bincode_shape.specs.Rows.{formats, tests}
 use Rattle.bincode_shape.proofs.Tags.{allowed-numbered, numbered-here, numbered-none}
 
-pub one_of-some : (ps : List Shape) (s : Setting) → 0 < length ps → one_of (numbered 0 (formats ps)) s ≡ tag_then_part tag (numbered 0 (formats ps)) s
+pub one_of-some : (ps : List Shape) (s : Setting) → 0 < length ps → one_of (numbered_variants 0 (formats ps)) s ≡ tag_then_part tag (numbered_variants 0 (formats ps)) s
 one_of-some [] s h = absurd (omega arith)
 one_of-some (p ∷ ps) s h = refl
 
@@ -36,19 +36,19 @@ no-parts [] h = refl
 no-parts (p ∷ ps) h = absurd (omega (arith, h))
 
 -- the part that a tag selects
-pub picked : (s : Setting) (ps : List Shape) (found : ℕ) (p : Shape) → found < length ps → p ≡ get_or ps found p → after_tag (numbered 0 (formats ps)) s found ≡ map_format (Choice found) (format_of p s)
+pub picked : (s : Setting) (ps : List Shape) (found : ℕ) (p : Shape) → found < length ps → p ≡ get_or ps found p → after_tag (numbered_variants 0 (formats ps)) s found ≡ map_format (Choice found) (format_of p s)
 picked s ps found p h e =
     let k : 0 + found ≡ found = omega arith in
     let l = length-formats ps in
-    rw k at (numbered-here s (allowed_tags (variant_tags (numbered 0 (formats ps)))) 0 found (formats ps) (format_of p) (omega (arith, h, l)) (formats-at ps found p ∙ ap format_of (sym e)))
+    rw k at (numbered-here s (allowed_tags (variant_tags (numbered_variants 0 (formats ps)))) 0 found (formats ps) (format_of p) (omega (arith, h, l)) (formats-at ps found p ∙ ap format_of (sym e)))
 
-pub unpicked : (s : Setting) (ps : List Shape) (found last : ℕ) → length ps ≡ last + 1 → length ps ≤ found → after_tag (numbered 0 (formats ps)) s found ≡ fail (UnexpectedVariant (Between 0 last) found)
+pub unpicked : (s : Setting) (ps : List Shape) (found last : ℕ) → length ps ≡ last + 1 → length ps ≤ found → after_tag (numbered_variants 0 (formats ps)) s found ≡ fail (UnexpectedVariant (Between 0 last) found)
 unpicked s [] found last n h = absurd (omega arith)
 unpicked s (p ∷ ps) found last n h =
     let l = length-formats (p ∷ ps) in
     let m = length-formats ps in
     let k : length (formats ps) ≡ last = omega (arith, m, n) in
-    numbered-none s (allowed_tags (variant_tags (numbered 0 (formats (p ∷ ps))))) 0 found (formats (p ∷ ps)) (omega (arith, l, h))
+    numbered-none s (allowed_tags (variant_tags (numbered_variants 0 (formats (p ∷ ps))))) 0 found (formats (p ∷ ps)) (omega (arith, l, h))
     ∙ ap (λ a. fail (UnexpectedVariant a found)) (allowed-numbered (format_of p) (formats ps) ∙ ap (λ z. Between 0 z) k)
 
 -- a tag that selects a test selects a part
@@ -68,5 +68,5 @@ same_there (p ∷ ps) (suc n) h = get_or-default ps n shapes.Unit (get_or ps n s
     get_or-default (q ∷ qs) (suc i) d e h = get_or-default qs i d e (omega (arith, h))
 
 -- the format that a tag selects
-pub picked-there : (s : Setting) (ps : List Shape) (n : ℕ) → n < length ps → after_tag (numbered 0 (formats ps)) s n ≡ map_format (Choice n) (format_of (get_or ps n shapes.Unit) s)
+pub picked-there : (s : Setting) (ps : List Shape) (n : ℕ) → n < length ps → after_tag (numbered_variants 0 (formats ps)) s n ≡ map_format (Choice n) (format_of (get_or ps n shapes.Unit) s)
 picked-there s ps n h = picked s ps n (get_or ps n shapes.Unit) h (same_there ps n h)

@@ -4,7 +4,7 @@ use Rattle.std.proofs.Common.{sym, ◌∙◌, ap, subst, append_assoc}
 use Rattle.bincode_base.specs.Setting.{Setting}
 use Rattle.bincode_base.specs.declared.error.EncodeError.{EncodeError}
 use Rattle.bincode_lemmas.specs.Sequences.{Both}
-use Rattle.bincode_spec.specs.Encoding.{Adds, Refuses, Writes, Ready, Begins, EncodeFailure, by_writer, by_name}
+use Rattle.bincode_spec.specs.Encoding.{Adds, Refuses, Writes, IsReady, Begins, EncodeFailure, by_writer, by_name}
 use Rattle.bincode_spec.specs.Meaning.{Meaning, list_meaning}
 use Rattle.bincode_spec.specs.Run.{IsListOf}
 use Rattle.bincode_spec.specs.Words.{tuple}
@@ -52,7 +52,7 @@ module _ {W : Type 0} (adds : Adds W) (join : (a b c : W) (x y : List ℕ) → a
     is_left = λ some k. let r = h.is_left some k in let b = from r.0 r.1 in (b.1, b.4);
   }
 
-  begins-more : (before between : W) (h : WritesSome adds Rest Whole before between) (front : List ℕ) → Begins (Ready (Unit {0}) Part) front → Begins (Ready (Unit {0}) Whole) (h.front ++ front)
+  begins-more : (before between : W) (h : WritesSome adds Rest Whole before between) (front : List ℕ) → Begins (IsReady (Unit {0}) Part) front → Begins (IsReady (Unit {0}) Whole) (h.front ++ front)
   begins-more before between h front g some k =
       let r = h.is_left some k.is_allowed in
       let b = from r.0 r.1 in
@@ -64,10 +64,10 @@ module _ {W : Type 0} (adds : Adds W) (join : (a b c : W) (x y : List ℕ) → a
 
   -- if encoding a part fails, so does the whole
   pub some-halts : (refuses : Refuses W) (before between after : W) (e : EncodeError) → WritesSome adds Rest Whole before between →
-      EncodeFailure adds refuses (Ready (Unit {0}) Part) (λ _. ⊥) between after e → EncodeFailure adds refuses (Ready (Unit {0}) Whole) (λ _. ⊥) before after e
+      EncodeFailure adds refuses (IsReady (Unit {0}) Part) (λ _. ⊥) between after e → EncodeFailure adds refuses (IsReady (Unit {0}) Whole) (λ _. ⊥) before after e
   some-halts refuses before between after e h (by_writer front piece middle a r g) =
       by_writer (h.front ++ front) piece middle (join before between middle h.front front h.added a) r
-      (subst (Begins (Ready (Unit {0}) Whole)) (sym (append_assoc h.front front piece)) (begins-more before between h (front ++ piece) g))
+      (subst (Begins (IsReady (Unit {0}) Whole)) (sym (append_assoc h.front front piece)) (begins-more before between h (front ++ piece) g))
   some-halts refuses before between after e h (by_name front a n o) = absurd n
 
 -- at first nothing was written, at last everything

@@ -10,10 +10,10 @@ use Rattle.bincode_shape.specs.declared.shape.Shape as shapes
 use Rattle.bincode_shape.specs.declared.shape.Shape.{Shape}
 use Rattle.bincode_shape.specs.declared.shape.Value as values
 use Rattle.bincode_shape.specs.declared.shape.Value.{Value, items_hidden-the_row-Value-0}
-use Rattle.bincode_shape.specs.Shapes.{format_of, fits, is_unit, share, numbered, one_of, each_passes, meaning, IsMeant}
+use Rattle.bincode_shape.specs.Shapes.{format_of, fits, is_unit, share, numbered_variants, one_of, each_passes, meaning, IsMeant}
 use Rattle.bincode_shape.specs.Rows.{formats, tests, AllowsImage, AllowsImages, formats_of-vec, meanings_of-vec}
 use Rattle.bincode_shape_codec.proofs.Writing.{list-meant, meant-list, images-both, both-images, WritesSome, some-more, some-halts}
-use Rattle.bincode_spec.specs.Encoding.{Writes, Ready, EncodeFailure}
+use Rattle.bincode_spec.specs.Encoding.{Writes, IsReady, EncodeFailure}
 use Rattle.std.specs.Prelude.{◌≡◌, ◌⊎◌, ℕ, zero, suc, ◌+◌, ◌<◌, ◌≤◌, pos, ◌==◌, ◌&&◌, Bool, true, false, List, [], ◌∷◌, ◌++◌, length, get_or, drop, Box, Result, Ok, Err, refl}
 use Rattle.std.specs.List.{All, list_all}
 use Rattle.std.specs.Borrow.{GName}
@@ -112,7 +112,7 @@ module _ {E W T : Type 0} {adds : Adds W} {refuses : Refuses W} {writer_of : E �
 
   -- a choice
   pub one_of-encodes : (s : Setting) (p : Vec Shape Global) (n : ℕ) (b : Box Value Global) →
-      Encodes adds refuses writer_of loans (Unit {0}) (AllowedWord (λ m. m ≡ Choice n (meaning b.value)) (one_of (numbered 0 (formats p.items)) s)) (λ _. ⊥) r old new →
+      Encodes adds refuses writer_of loans (Unit {0}) (AllowedWord (λ m. m ≡ Choice n (meaning b.value)) (one_of (numbered_variants 0 (formats p.items)) s)) (λ _. ⊥) r old new →
       Encodes adds refuses writer_of loans (Unit {0}) (AllowsImage s (shapes.Choice p) (values.Choice n b)) (λ _. ⊥) r old new
   one_of-encodes s p n b w = rw (formats_of-vec p) w
 
@@ -179,7 +179,7 @@ module _ (s : Setting) (ps : List Shape) (vs : List Value) (i : ℕ) (p : Shape)
         (rw (left_at ps i p h at_p, left_at vs i v k at_v) at so_far) w
 
     pub parts-halt : {e : EncodeError} → WritesSome adds (AllowsImages s (drop i ps) (drop i vs)) Whole before between →
-        EncodeFailure adds refuses (Ready (Unit {0}) (AllowsImage s p v)) (λ _. ⊥) between after e → EncodeFailure adds refuses (Ready (Unit {0}) Whole) (λ _. ⊥) before after e
+        EncodeFailure adds refuses (IsReady (Unit {0}) (AllowsImage s p v)) (λ _. ⊥) between after e → EncodeFailure adds refuses (IsReady (Unit {0}) Whole) (λ _. ⊥) before after e
     parts-halt {e} so_far w =
         some-halts adds join (AllowsImage s p v) (AllowsImages s (drop (i + 1) ps) (drop (i + 1) vs)) (AllowsImages s (p ∷ drop (i + 1) ps) (v ∷ drop (i + 1) vs)) Whole
         (images-both s p (drop (i + 1) ps) v (drop (i + 1) vs)) (both-images s p (drop (i + 1) ps) v (drop (i + 1) vs)) refuses before between after e

@@ -9,7 +9,7 @@ use Rattle.bincode_spec.specs.Fault.{Fault, Tells}
 use Rattle.bincode_spec.specs.Format.{Format}
 use Rattle.bincode_spec.specs.Meaning.{Meaning}
 use Rattle.bincode_spec.specs.Slice.{EndsSlice}
-use Rattle.bincode_shape.specs.Counts.{capped}
+use Rattle.bincode_shape.specs.Counts.{as_u128}
 use Rattle.bincode_shape_codec.specs.declared.within.DecodeWithinError.{DecodeWithinError}
 use Rattle.bincode_shape_codec.specs.declared.within.DecodeWithinError.TheVariants as errors
 
@@ -29,7 +29,7 @@ FindsFew F limit MayAllocate count most input result = (word remaining : List �
 -- each that has more is refused with their number
 abbrev pub RefusesMany : {A : Type 0} → Format Meaning → Option ℕ → (Meaning → ℕ) → ℕ → List ℕ → Result A DecodeWithinError → Type 0
 RefusesMany F limit count most input result = (word remaining : List ℕ) (meaning : Meaning) (steps : List Step) → input ≡ word ++ remaining → F.Word word meaning steps → StaysWithin limit 0 steps →
-    most < count meaning → IsErrAnd result (IsTooMany (capped (count meaning)) most)
+    most < count meaning → IsErrAnd result (IsTooMany (as_u128 (count meaning)) most)
 
 -- each fault within the limit is reported
 abbrev pub TellsDecodeFaults : {A : Type 0} → Format Meaning → Option ℕ → List ℕ → Result A DecodeWithinError → Type 0

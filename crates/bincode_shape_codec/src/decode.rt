@@ -5,7 +5,8 @@ ghost use Rattle.bincode_spec.specs.Layers.Releases.{CanRelease};
 ghost use Rattle.bincode_spec.specs.Run.{IsListOf};
 ghost use Rattle.bincode_spec.specs.Layers.Values.{Reads, RunRead};
 ghost use Rattle.bincode_spec.specs.Words.{array, list, tuple, tag_then_part};
-ghost use Rattle.bincode_shape.specs.Shapes.{format_of, byte_tag, optional, at, numbered, one_of, IsImage, TakesMemory};
+ghost use Rattle.bincode_shape.specs.Shapes.{format_of, byte_tag, option_variants, at, numbered_variants, one_of};
+ghost use Rattle.bincode_shape.specs.Shapes.{IsImage, TakesMemory};
 ghost use Rattle.bincode_shape_codec.specs.Held.{IsOptional, IsChosen};
 ghost use Rattle.bincode_shape.specs.Rows.{formats, AreImages};
 
@@ -172,7 +173,7 @@ fn decode_optional<D: Decoder>(
     decoder: &mut D,
 ) -> Result<Option<Box<Value>>, DecodeError>
     ensures { Reads D.is_known D.remaining D.charge D.failures D.loans D.C.bound D.R.end_error D.R.device (Unit {0})
-        (tag_then_part byte_tag (optional (format_of part.now)) D.C.setting) (IsOptional part.now)
+        (tag_then_part byte_tag (option_variants (format_of part.now)) D.C.setting) (IsOptional part.now)
         (D.charge decoder.old) result decoder.old decoder.new }
 {
     match decode_byte(decoder) {
@@ -212,8 +213,8 @@ fn decode_choice<D: Decoder>(
     decoder: &mut D,
 ) -> Result<(u32, Box<Value>), DecodeError>
     ensures { Reads D.is_known D.remaining D.charge D.failures D.loans D.C.bound D.R.end_error D.R.device (Unit {0})
-        (one_of (numbered 0 (formats parts.now)) D.C.setting) (IsChosen parts.now) (D.charge decoder.old) result
-        decoder.old decoder.new }
+        (one_of (numbered_variants 0 (formats parts.now)) D.C.setting) (IsChosen parts.now) (D.charge decoder.old)
+        result decoder.old decoder.new }
 {
     if parts.is_empty() {
         return Err(DecodeError::EmptyEnum {

@@ -7,7 +7,7 @@ ghost use Rattle.bincode_spec.specs.Run.{IsListOf};
 ghost use Rattle.bincode_spec.specs.Words.{array, list, tag_then_part};
 ghost use Rattle.bincode_spec.specs.Meaning.{Choice};
 ghost use Rattle.bincode_shape.specs.Shapes.{format_of, fits, is_optional, each_passes, picked_passes, meaning};
-ghost use Rattle.bincode_shape.specs.Shapes.{byte_tag, one_of, numbered, optional, IsMeant};
+ghost use Rattle.bincode_shape.specs.Shapes.{byte_tag, one_of, numbered_variants, option_variants, IsMeant};
 ghost use Rattle.bincode_shape.specs.Rows.{formats, tests, AllowsImage, AllowsImages};
 
 use crate::contents::{char_of, choice_for, items_for, items_of, option_of, text_of, truth_of};
@@ -126,7 +126,8 @@ fn encode_optional<E: Encoder>(
 ) -> Result<(), EncodeError>
     requires { is_optional (fits part.now) value.now ≡ true }
     ensures { Encodes E.W.adds E.W.refuses E.writer_of E.loans (Unit {0}) (AllowedWord (IsMeant value.now)
-        (tag_then_part byte_tag (optional (format_of part.now)) E.C.setting)) (λ _. ⊥) result encoder.old encoder.new }
+        (tag_then_part byte_tag (option_variants (format_of part.now)) E.C.setting)) (λ _. ⊥) result
+        encoder.old encoder.new }
 {
     match option_of(value) {
         None => encode_byte(encoder, 0),
@@ -148,7 +149,7 @@ fn encode_choice<E: Encoder>(
     requires { picked_passes (tests parts.now) index held.now ≡ true }
     ensures { Encodes E.W.adds E.W.refuses E.writer_of E.loans (Unit {0})
         (AllowedWord (λ m. m ≡ Choice index (meaning held.now))
-        (one_of (numbered 0 (formats parts.now)) E.C.setting)) (λ _. ⊥) result encoder.old encoder.new }
+        (one_of (numbered_variants 0 (formats parts.now)) E.C.setting)) (λ _. ⊥) result encoder.old encoder.new }
 {
     encode_integer(encoder, index)?;
     encode_shape(&parts[index as usize], held, encoder)

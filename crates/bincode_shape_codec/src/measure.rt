@@ -5,8 +5,9 @@ ghost use Rattle.bincode_spec.specs.Layers.Claims.{MakesRelease};
 ghost use Rattle.bincode_spec.specs.Layers.Releases.{CanRelease};
 ghost use Rattle.bincode_spec.specs.Layers.Values.{Reads, RunRead};
 ghost use Rattle.bincode_spec.specs.Words.{array, list, text, tuple, tag_then_part};
-ghost use Rattle.bincode_shape.specs.Shapes.{format_of, byte_tag, optional, at, numbered, one_of, TakesMemory};
-ghost use Rattle.bincode_shape.specs.Counts.{count_of, count_each, count_some, count_parts, count_choice, capped};
+ghost use Rattle.bincode_shape.specs.Shapes.{format_of, byte_tag, option_variants, at, numbered_variants, one_of};
+ghost use Rattle.bincode_shape.specs.Shapes.{TakesMemory};
+ghost use Rattle.bincode_shape.specs.Counts.{count_of, count_each, count_some, count_parts, count_choice, as_u128};
 ghost use Rattle.bincode_shape.specs.Counts.{IsCounted, without_bytes};
 ghost use Rattle.bincode_shape.specs.Rows.{formats, counts};
 ghost use Rattle.bincode_shape_codec.specs.Counted.{total, with_whole};
@@ -106,7 +107,7 @@ fn measure_list<B: LentBytes, D: BorrowDecoder<B>>(
 ) -> Result<u128, DecodeError>
     ensures { Reads D.is_known D.remaining D.charge D.failures D.loans D.C.bound D.R.end_error D.R.device ⊥
         (list D.C.setting claim (format_of element.now D.C.setting))
-        (λ m n. n ≡ capped (count_each (count_of element.now) m)) (D.charge decoder.old) result decoder.old
+        (λ m n. n ≡ as_u128 (count_each (count_of element.now) m)) (D.charge decoder.old) result decoder.old
         decoder.new }
 {
     let len = decode_length(decoder)?;
@@ -123,7 +124,7 @@ fn measure_array<B: LentBytes, D: BorrowDecoder<B>>(
 ) -> Result<u128, DecodeError>
     ensures { Reads D.is_known D.remaining D.charge D.failures D.loans D.C.bound D.R.end_error D.R.device ⊥
         (array len claim (format_of element.now D.C.setting))
-        (λ m n. n ≡ capped (count_each (count_of element.now) m)) (D.charge decoder.old) result decoder.old
+        (λ m n. n ≡ as_u128 (count_each (count_of element.now) m)) (D.charge decoder.old) result decoder.old
         decoder.new }
 {
     claim_room(decoder, len, claim)?;
@@ -142,7 +143,7 @@ fn measure_elements<B: LentBytes, D: BorrowDecoder<B>>(
     requires within { Allows D.C.bound (D.charge decoder.old) }
     ensures { (ns : List ℕ) × RunRead D.is_known D.remaining D.charge D.failures D.loans D.C.bound D.R.end_error
         D.R.device ⊥ claim (format_of element.now D.C.setting) (IsCounted element.now) len (λ _. ns) result decoder.old
-        decoder.new × IfOk result (λ n. n ≡ capped (total ns)) }
+        decoder.new × IfOk result (λ n. n ≡ as_u128 (total ns)) }
 {
     if len > 0 && has_no_bytes(element) {
         measure_alike::<B, D>(element, claim, len, decoder)
@@ -162,7 +163,7 @@ fn measure_each<B: LentBytes, D: BorrowDecoder<B>>(
     requires { CanRelease D.C.bound (D.charge decoder.old) (len * claim) }
     ensures { (ns : List ℕ) × RunRead D.is_known D.remaining D.charge D.failures D.loans D.C.bound D.R.end_error
         D.R.device ⊥ claim (format_of element.now D.C.setting) (IsCounted element.now) len (λ _. ns) result decoder.old
-        decoder.new × IfOk result (λ n. n ≡ capped (total ns)) }
+        decoder.new × IfOk result (λ n. n ≡ as_u128 (total ns)) }
 {
     let mut count: u128 = 0;
     for _ in 0..len {
@@ -186,7 +187,7 @@ fn measure_alike<B: LentBytes, D: BorrowDecoder<B>>(
     requires within { Allows D.C.bound (D.charge decoder.old) }
     ensures { (ns : List ℕ) × RunRead D.is_known D.remaining D.charge D.failures D.loans D.C.bound D.R.end_error
         D.R.device ⊥ claim (format_of element.now D.C.setting) (IsCounted element.now) len (λ _. ns) result decoder.old
-        decoder.new × IfOk result (λ n. n ≡ capped (total ns)) }
+        decoder.new × IfOk result (λ n. n ≡ as_u128 (total ns)) }
 {
     let values = measure_element::<B, D>(element, claim, decoder)?;
     release_room(decoder, len - 1, claim);
@@ -228,7 +229,7 @@ fn measure_parts<B: LentBytes, D: BorrowDecoder<B>>(
     decoder: &mut D,
 ) -> Result<u128, DecodeError>
     ensures { Reads D.is_known D.remaining D.charge D.failures D.loans D.C.bound D.R.end_error D.R.device ⊥
-        (tuple (at D.C.setting (formats parts.now))) (λ m n. n ≡ capped (count_parts (counts parts.now) m))
+        (tuple (at D.C.setting (formats parts.now))) (λ m n. n ≡ as_u128 (count_parts (counts parts.now) m))
         (D.charge decoder.old) result decoder.old decoder.new }
 {
     let mut count: u128 = 0;
@@ -246,8 +247,8 @@ fn measure_optional<B: LentBytes, D: BorrowDecoder<B>>(
     decoder: &mut D,
 ) -> Result<u128, DecodeError>
     ensures { Reads D.is_known D.remaining D.charge D.failures D.loans D.C.bound D.R.end_error D.R.device ⊥
-        (tag_then_part byte_tag (optional (format_of part.now)) D.C.setting)
-        (λ m n. n ≡ capped (count_some (count_of part.now) m)) (D.charge decoder.old) result decoder.old
+        (tag_then_part byte_tag (option_variants (format_of part.now)) D.C.setting)
+        (λ m n. n ≡ as_u128 (count_some (count_of part.now) m)) (D.charge decoder.old) result decoder.old
         decoder.new }
 {
     match decode_byte(decoder) {
@@ -270,8 +271,8 @@ fn measure_choice<B: LentBytes, D: BorrowDecoder<B>>(
     decoder: &mut D,
 ) -> Result<u128, DecodeError>
     ensures { Reads D.is_known D.remaining D.charge D.failures D.loans D.C.bound D.R.end_error D.R.device ⊥
-        (one_of (numbered 0 (formats parts.now)) D.C.setting)
-        (λ m n. n ≡ capped (count_choice (counts parts.now) m)) (D.charge decoder.old) result decoder.old
+        (one_of (numbered_variants 0 (formats parts.now)) D.C.setting)
+        (λ m n. n ≡ as_u128 (count_choice (counts parts.now) m)) (D.charge decoder.old) result decoder.old
         decoder.new }
 {
     if parts.is_empty() {

@@ -43,11 +43,11 @@ NoneShorter Written Read F =
     (λ b. b < 256) bytes → F.Word bytes meaning steps → Read meaning → length written ≤ length bytes
 
 -- no word that decodes to what an allowed word decodes to is shorter than that one
-abbrev pub Shortest : (Means DecodesTo : Meaning → Type 0) → Format Meaning → Type 0
-Shortest Means DecodesTo F = NoneShorter (λ m. Means m × DecodesTo m) DecodesTo F
+abbrev pub IsShortest : (Means DecodesTo : Meaning → Type 0) → Format Meaning → Type 0
+IsShortest Means DecodesTo F = NoneShorter (λ m. Means m × DecodesTo m) DecodesTo F
 
 -- a value without cells: it has a word, all its words have one length, and none that decodes to it is shorter
-pub record Spelled (Means : Meaning → Type 0) (F : Format Meaning) : Type 0 where
+pub record HasShortestWords (Means : Meaning → Type 0) (F : Format Meaning) : Type 0 where
   pub has_word : SomeWord (AllowedWord Means F)
   pub one_length : OneLength (AllowedWord Means F)
   pub none_shorter : NoneShorter Means Means F

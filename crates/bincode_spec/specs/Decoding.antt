@@ -6,7 +6,7 @@ use Rattle.bincode_spec.specs.Fault.{Fault, Tells}
 use Rattle.bincode_spec.specs.Charge.{Step, Passes, StaysWithin}
 use Rattle.bincode_spec.specs.Format.{Format}
 use Rattle.bincode_spec.specs.Meaning.{Meaning}
-use Rattle.bincode_spec.specs.Device.{DeviceErrors, Rose, Takes}
+use Rattle.bincode_spec.specs.Device.{DeviceErrors, CountRises, Takes}
 use Rattle.bincode_spec.specs.Answer.{Answer, Gave, Refused, PassedLimit, StepsOf}
 
 -- the value is given for the meaning of the answer, which ends with these bytes left and at this charge
@@ -22,7 +22,7 @@ pub data DecodeFailure {A : Type 0} (end_error : ℕ → DecodeError → Type 0)
   by_fault : (why : Fault) → a ≡ Refused why charge → Tells end_error why e → Takes remaining remaining' → DecodeFailure end_error device MayAllocate a before after remaining remaining' charge e
   by_limit : a ≡ PassedLimit → e ≡ LimitExceeded → Takes remaining remaining' → DecodeFailure end_error device MayAllocate a before after remaining remaining' charge e
   by_memory : MayAllocate → e ≡ Memory → Takes remaining remaining' → DecodeFailure end_error device MayAllocate a before after remaining remaining' charge e
-  by_failure : device.is_counted e → Rose before after → Takes remaining remaining' → DecodeFailure end_error device MayAllocate a before after remaining remaining' charge e
+  by_failure : device.is_counted e → CountRises before after → Takes remaining remaining' → DecodeFailure end_error device MayAllocate a before after remaining remaining' charge e
   by_device : device.is_uncounted e → DecodeFailure end_error device MayAllocate a before after remaining remaining' charge e
 
 -- memory was refused, and decoding may allocate
@@ -31,7 +31,7 @@ IsRefused MayAllocate e = MayAllocate × (e ≡ Memory)
 
 -- memory was refused, and decoding may allocate; or the device failed
 abbrev pub IsExcused : DeviceErrors → Type 0 → ℕ → ℕ → DecodeError → Type 0
-IsExcused device MayAllocate before after e = IsRefused MayAllocate e ⊎ ((device.is_counted e × Rose before after) ⊎ device.is_uncounted e)
+IsExcused device MayAllocate before after e = IsRefused MayAllocate e ⊎ ((device.is_counted e × CountRises before after) ⊎ device.is_uncounted e)
 
 -- what was taken is a word whose steps stay within the limit, and the value is given for its meaning
 pub record WordRead (F : Format Meaning) (limit : Option ℕ) (input remaining : List ℕ) (DecodesTo : Meaning → Type 0) : Type 0 where

@@ -11,8 +11,8 @@ pub record DeviceErrors : Type 1 where
   pub is_uncounted : DecodeError → Type 0
 
 -- a count of failures rose; one at its maximum passes for one that rose
-abbrev pub Rose : ℕ → ℕ → Type 0
-Rose before after = (before < after) ⊎ (after ≡ 2 ^ 64 - 1)
+abbrev pub CountRises : ℕ → ℕ → Type 0
+CountRises before after = (before < after) ⊎ (after ≡ 2 ^ 64 - 1)
 
 -- a prefix was taken
 abbrev pub Takes : List ℕ → List ℕ → Type 0
@@ -30,4 +30,4 @@ WithinRoom (Some room) piece = length piece ≤ room
 
 -- memory was refused, or the device failed: its error says so, or its count of failures
 abbrev pub WriterFails : (EncodeError → Type 0) → ℕ → ℕ → EncodeError → Type 0
-WriterFails device before after e = (e ≡ Memory) ⊎ (device e ⊎ Rose before after)
+WriterFails device before after e = (e ≡ Memory) ⊎ (device e ⊎ CountRises before after)

@@ -21,7 +21,7 @@ pub record Writes {W : Type 0} (adds : Adds W) (Allowed : List ℕ → Type 0) (
   pub added : adds before word after
 
 -- an allowed word of a value that can be written: the inner type of each cell in it has a word
-pub record Ready (Writable : Type 0) (Allowed : List ℕ → Type 0) (bytes : List ℕ) : Type 0 where
+pub record IsReady (Writable : Type 0) (Allowed : List ℕ → Type 0) (bytes : List ℕ) : Type 0 where
   pub is_writable : Writable
   pub is_allowed : Allowed bytes
 
@@ -47,7 +47,7 @@ pub data EncodeFailure {W : Type 0} (adds : Adds W) (refuses : Refuses W) (Allow
 pub record Encodes {E W T : Type 0} (adds : Adds W) (refuses : Refuses W) (writer_of : E → W) (loans : E → List GName) (Writable : Type 0)
     (Allowed : List ℕ → Type 0) (OwnErrors : EncodeError → Type 0) (result : Result T EncodeError) (old new : E) : Type 0 where
   pub ok : OnOk result (Writes adds Allowed (writer_of old) (writer_of new))
-  pub err : IfErr result (EncodeFailure adds refuses (Ready Writable Allowed) OwnErrors (writer_of old) (writer_of new))
+  pub err : IfErr result (EncodeFailure adds refuses (IsReady Writable Allowed) OwnErrors (writer_of old) (writer_of new))
   pub same_loans : loans new ≡ loans old
 
 -- An error that is neither the type's own nor one of memory or device comes only if a prefix of an allowed word is

@@ -6,7 +6,7 @@ use Rattle.bincode_spec.specs.Charge.{Step}
 use Rattle.bincode_spec.specs.Format.{Format}
 use Rattle.bincode_spec.specs.Meaning.{Meaning}
 use Rattle.bincode_spec.specs.Decoding.{AcceptsAll, ReportsFault}
-use Rattle.bincode_spec.specs.Room.{Bounded}
+use Rattle.bincode_spec.specs.Room.{IsWithinBounds}
 
 -- `LimitExceeded` comes exactly if the input needs more than the limit; else the answer is that without a limit: each
 -- word is accepted and each fault is reported. All that unless the call is excused.
@@ -25,4 +25,4 @@ pub record WordBounded (F : Format Meaning) (limit : ℕ) (input : List ℕ) (n 
   pub input_is : input ≡ word ++ remaining
   pub is_word : F.Word word meaning steps
   pub count : n ≡ length word
-  pub bounded : Bounded limit word steps
+  pub bounded : IsWithinBounds limit word steps

@@ -5,10 +5,10 @@ use Rattle.bincode_spec.specs.Format.{Format}
 use Rattle.bincode_spec.specs.Meaning.{Meaning}
 
 -- the second limit allows all that the first does
-abbrev pub NoTighter : Option ℕ → Option ℕ → Type 0
-NoTighter small None = Unit {0}
-NoTighter None (Some large) = ⊥
-NoTighter (Some small) (Some large) = small ≤ large
+abbrev pub IsNoTighter : Option ℕ → Option ℕ → Type 0
+IsNoTighter small None = Unit {0}
+IsNoTighter None (Some large) = ⊥
+IsNoTighter (Some small) (Some large) = small ≤ large
 
 -- the steps of this word stay within the limit
 abbrev pub FitsLimit : Format Meaning → Option ℕ → List ℕ → Type 0

@@ -8,5 +8,5 @@ pub record Promise : Type 1 where
   pub joins : (OfParts : Type 0) → OfValue → OfParts → Promised OfParts
 
 -- no more than that
-abbrev pub no_more : Promise
-no_more = record { OfValue = Unit {0}; Promised = λ of_parts. of_parts; keeps = λ of_parts h. h; joins = λ of_parts a h. h }
+abbrev pub nothing_more : Promise
+nothing_more = record { OfValue = Unit {0}; Promised = λ of_parts. of_parts; keeps = λ of_parts h. h; joins = λ of_parts a h. h }

@@ -20,7 +20,7 @@ elements_after last ((Release n) ∷ steps) = elements_after 0 steps
 -- A word within a limit is at most one and a half times as long as the limit. Each of its containers claims no more
 -- than the limit, and so has no more elements; those with a length prefix have in all at most the limit times an eighth
 -- of it.
-pub record Bounded (limit : ℕ) (word : List ℕ) (steps : List Step) : Type 0 where
+pub record IsWithinBounds (limit : ℕ) (word : List ℕ) (steps : List Step) : Type 0 where
   pub bytes : length word ≤ limit + limit / 2
   pub room : EachContainer (λ n share. n * share ≤ limit) steps
   pub counts : EachContainer (λ n share. n ≤ limit) steps

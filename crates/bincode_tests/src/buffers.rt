@@ -33,9 +33,13 @@ fn reads_what_a_buffer_shows(rt: HostRuntime) -> Result<(), AllocError> {
     Ok(())
 }
 
-/// The encoding of a list of 400 times 300, of 1,203 bytes, and a 9.
-fn long_list(alloc: Global) -> Result<Vec<u8>, AllocError> {
-    let mut bytes = vec![in alloc; 251, 144, 1]?;
+/// The encodings of a text of 2,000 bytes and of a list of 400 times 300, and a 9: 3,207 bytes.
+fn long_pair(alloc: Global) -> Result<Vec<u8>, AllocError> {
+    let mut bytes = vec![in alloc; 251, 208, 7]?;
+    for _ in 0..2000 {
+        bytes.push(b'x')?;
+    }
+    bytes.extend_from_slice(&[251, 144, 1])?;
     for _ in 0..400 {
         bytes.extend_from_slice(&[251, 44, 1])?;
     }
@@ -43,57 +47,30 @@ fn long_list(alloc: Global) -> Result<Vec<u8>, AllocError> {
     Ok(bytes)
 }
 
-/// Whether a list that is longer than a window is read through a buffer of this capacity, and the 9 is left. `None`
-/// where it is not read, as where memory is refused.
+/// Whether that text and that list are read through a buffer of this capacity, and the 9 is left. `None` where they are
+/// not read, as where memory is refused.
 fn reads_long(alloc: Global, capacity: usize) -> Option<bool> {
-    let bytes = long_list(alloc).ok()?;
+    let bytes = long_pair(alloc).ok()?;
     let mut stream = BufReader::with_capacity(alloc, capacity, bytes.as_slice()).ok()?;
-    let read: Result<Vec<u16>, DecodeError> = decode_from_buf_read(
+    let read: Result<(String, Vec<u16>), DecodeError> = decode_from_buf_read(
         alloc,
         &mut stream,
         config::standard(),
     );
-    let list = read.ok()?;
+    let (text, list) = read.ok()?;
     let mut after = [0u8; 1];
     stream.read_exact(&mut after).ok()?;
-    Some(after == [9] && list.len() == 400 && list.iter().all(|item| *item == 300))
+    let is_text = text.len() == 2000 && text.bytes().all(|byte| byte == b'x');
+    let is_list = list.len() == 400 && list.iter().all(|item| *item == 300);
+    Some(after == [9] && is_text && is_list)
 }
 
-/// So it is whether a window ends within a number, at its end, or with the buffer.
+/// Both are longer than a window, which ends within a piece, within a number, at its end, or with the buffer.
 #[test]
 fn reads_a_value_longer_than_a_window(rt: HostRuntime) {
     let alloc = rt.alloc();
-    for capacity in [0, 1, 2, 3, 511, 512, 513, 600, 1203, 1204, 4096] {
+    for capacity in [0, 1, 2, 3, 511, 512, 513, 600, 2003, 2004, 3206, 3207, 4096] {
         let is_read = reads_long(alloc, capacity).or_else(|| reads_long(alloc, capacity));
-        assert!(rt; is_read == Some(true), "{capacity}");
-    }
-}
-
-/// Whether a text of 2,000 bytes, more than a window holds, is read as one piece, and the 9 after it is left. `None`
-/// where it is not read, as where memory is refused.
-fn reads_long_text(alloc: Global, capacity: usize) -> Option<bool> {
-    let mut bytes = vec![in alloc; 251, 208, 7].ok()?;
-    for _ in 0..2000 {
-        bytes.push(b'x').ok()?;
-    }
-    bytes.push(9).ok()?;
-    let mut stream = BufReader::with_capacity(alloc, capacity, bytes.as_slice()).ok()?;
-    let read: Result<String, DecodeError> = decode_from_buf_read(
-        alloc,
-        &mut stream,
-        config::standard(),
-    );
-    let text = read.ok()?;
-    let mut after = [0u8; 1];
-    stream.read_exact(&mut after).ok()?;
-    Some(after == [9] && text.len() == 2000 && text.bytes().all(|byte| byte == b'x'))
-}
-
-#[test]
-fn reads_a_piece_longer_than_a_window(rt: HostRuntime) {
-    let alloc = rt.alloc();
-    for capacity in [1, 500, 1024, 2003, 4096] {
-        let is_read = reads_long_text(alloc, capacity).or_else(|| reads_long_text(alloc, capacity));
         assert!(rt; is_read == Some(true), "{capacity}");
     }
 }
@@ -242,19 +219,5 @@ fn tells_faults_of_what_a_buffer_shows(rt: HostRuntime) {
     );
     assert!(rt;
         matches!(read, Err(DecodeError::InvalidBooleanValue(5))) && stream == [6].as_slice()
-    );
-    let read: Result<u16, DecodeError> = decode_from_buf_read(
-        rt.alloc(),
-        &mut &[251u8, 1][..],
-        config::standard(),
-    );
-    assert!(rt;
-        matches!(
-            read,
-            Err(DecodeError::Io {
-                inner: _,
-                additional: 1
-            })
-        )
     );
 }

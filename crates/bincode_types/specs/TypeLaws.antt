@@ -2,7 +2,7 @@
 use Rattle.std.specs.Prelude.{◌≡◌, Bool, true}
 use Rattle.bincode_base.specs.Setting.{Setting}
 use Rattle.bincode_base.specs.declared.error.EncodeError.{EncodeError}
-use Rattle.bincode_spec.specs.Allowed.{AllowedWord, Shortest, OneLength}
+use Rattle.bincode_spec.specs.Allowed.{AllowedWord, IsShortest, OneLength}
 use Rattle.bincode_spec.specs.Cells.{HasWord}
 use Rattle.bincode_spec.specs.Format.{Format}
 use Rattle.bincode_spec.specs.Meaning.{Meaning}
@@ -40,4 +40,4 @@ ExactWords W eq = IsExact W.valid W.means W.decodes_to eq
 
 -- of all words that decode to what the written one decodes to, none is shorter
 abbrev pub CanonicalWords : {A : Type 0} → Words A → Type 0
-CanonicalWords {A} W = (s : Setting) (v w : A) → W.valid v → Shortest (W.means v) (λ m. W.decodes_to m w) (W.format s)
+CanonicalWords {A} W = (s : Setting) (v w : A) → W.valid v → IsShortest (W.means v) (λ m. W.decodes_to m w) (W.format s)

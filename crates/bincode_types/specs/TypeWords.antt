@@ -4,7 +4,7 @@ use Rattle.std.proofs.Common.{arith}
 use Rattle.bincode_base.specs.Setting.{Setting}
 use Rattle.bincode_base.specs.declared.error.EncodeError.{EncodeError}
 use Rattle.bincode_spec.specs.Format.{Format}
-use Rattle.bincode_spec.specs.Layers.Laws.{Lawful, Balanced}
+use Rattle.bincode_spec.specs.Layers.Laws.{IsLawful, IsBalanced}
 use Rattle.bincode_spec.specs.Forms.{Form}
 use Rattle.bincode_spec.specs.Meaning.{Meaning}
 use Rattle.bincode_spec.specs.Allowed.{AllowedWord, SomeWord, MayName}
@@ -32,9 +32,9 @@ pub record Words (A : Type 0) : Type 1 where
   -- how large a limit an input needs: for the word that it begins with, or up to its first fault
   pub need : Setting → List ℕ → ℕ
   -- no word begins another, each has one meaning, and each input begins with one word or has one fault
-  pub lawful : (s : Setting) → Lawful (format s)
+  pub lawful : (s : Setting) → IsLawful (format s)
   -- a word releases what it reserves
-  pub balanced : (s : Setting) → Balanced (format s)
+  pub balanced : (s : Setting) → IsBalanced (format s)
   -- each valid value that can be written allows a word, which is made of bytes
   pub has_word : (s : Setting) (v : A) → valid v → writable s v → SomeWord (AllowedWord (means v) (format s))
   -- no error of a writer is the type's own

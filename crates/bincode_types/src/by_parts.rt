@@ -1,6 +1,6 @@
 //! Types that are encoded as their parts.
 ghost use Rattle.std.specs.Prelude.{◌≡◌};
-ghost use Rattle.bincode_spec.specs.Promises.{Promise, no_more};
+ghost use Rattle.bincode_spec.specs.Promises.{Promise, nothing_more};
 
 use crate::laws::{Canonical, ConstantCharge, Exact, Inhabited, Plain, Writable};
 use crate::wire::Wire;
@@ -15,7 +15,7 @@ pub trait ByParts {
     ghost parts: { Self → Self.Parts };
 
     /// What decoding promises of a value, beside what it promises of its parts.
-    ghost promise: { Self → Promise } = { λ v. no_more };
+    ghost promise: { Self → Promise } = { λ v. nothing_more };
 }
 
 impl<T: ByParts> Wire for T

@@ -16,7 +16,7 @@ ghost use Rattle.bincode_base.specs.declared.error.EncodeError.{EncodeError};
 ghost use Rattle.bincode_spec.specs.Meaning.{Meaning, Choice, Number};
 ghost use Rattle.bincode_spec.specs.Words.{tag, Variant, variant_tags, allowed_tags, in_order, part, tag_then_part};
 ghost use Rattle.bincode_lemmas.specs.FormLaws.{Numerals, byte-numerals, unsigned-numerals};
-ghost use Rattle.bincode_spec.specs.Allowed.{AllowedWord, SomeWord, MayName, Shortest, OneLength};
+ghost use Rattle.bincode_spec.specs.Allowed.{AllowedWord, SomeWord, MayName, IsShortest, OneLength};
 ghost use Rattle.bincode_spec.specs.Choices.{IsChoice};
 ghost use Rattle.bincode_spec.specs.Layers.Laws.{AllLawful, AllBalanced};
 ghost use Rattle.bincode_lemmas.specs.ChoiceLaws.{part-here, part-there, same-alike};
@@ -171,7 +171,7 @@ pub trait CanonicalVariants: PlainVariants {
     /// Proves it.
     fn tell_canonical()
         ensures { (s : Setting) (v w : Self) → Self.valid v → (Self.variant v).0 ≡ (Self.variant w).0
-            → Shortest (Self.means v) (Self.decodes_to w) ((Self.variant v).1 s) };
+            → IsShortest (Self.means v) (Self.decodes_to w) ((Self.variant v).1 s) };
 }
 
 /// The end of the variants of the enum `Of`, with tags of type `T`. It has no values. `Of` only names the enum: for one

@@ -7,14 +7,14 @@ use Rattle.bincode_base.specs.declared.error.DecodeError.TheVariants as decoding
 use Rattle.bincode_spec.specs.Allowed.{AllowedWord}
 use Rattle.bincode_spec.specs.Charge.{StaysWithin}
 use Rattle.bincode_spec.specs.Meaning.{Meaning}
-use Rattle.bincode_spec.specs.Slice.{Decoded, FindsWords}
+use Rattle.bincode_spec.specs.Slice.{IsDecoded, FindsWords}
 use Rattle.bincode_lemmas.specs.FormatLaws.{one-word}
 use Rattle.bincode_types.specs.TypeWords.{Words}
 use Rattle.framed_store.specs.Appended.{IsFitting, FitsStore}
 
 -- a word that is read within the limit stays within it
 pub read-fitting : {A : Type 0} (W : Words A) (s : Setting) (limit : Option ℕ) (most : ℕ) (v : A) (word : List ℕ) → W.valid v → AllowedWord (W.means v) (W.format s) word → length word ≤ most →
-    (DecodesTo : Meaning → Type 0) (n : ℕ) → Decoded (W.format s) limit word DecodesTo n → IsFitting W s limit most v word
+    (DecodesTo : Meaning → Type 0) (n : ℕ) → IsDecoded (W.format s) limit word DecodesTo n → IsFitting W s limit most v word
 read-fitting W s limit most v word valid allowed short DecodesTo n d = record {
   is_entry = record {
     is_valid = valid;

@@ -12,7 +12,7 @@ use mathlib.Core.Logic.{dite}
 use native.Mathlib.Decide.{dec_le}
 use Rattle.bincode_base.specs.Setting.{Setting}
 use Rattle.bincode_spec.specs.Format.{Format}
-use Rattle.bincode_spec.specs.Layers.Laws.{Lawful}
+use Rattle.bincode_spec.specs.Layers.Laws.{IsLawful}
 use Rattle.bincode_spec.specs.Meaning.{Meaning}
 use Rattle.bincode_lemmas.specs.FormatLaws.{one-word}
 use Rattle.bincode_types.specs.TypeLaws.{ExactWords}
@@ -94,7 +94,7 @@ module _ {A : Type 0} (W : Words A) (s : Setting) (limit : Option ℕ) (most : �
   abbrev F : Format Meaning
   F = W.format s
 
-  f : Lawful F
+  f : IsLawful F
   f = W.lawful s
 
   abbrev Told : List ℕ → ℕ → Content A → Type 0

@@ -7,7 +7,7 @@ use Rattle.bincode_spec.specs.Charge.{Step, StaysWithin, Passes}
 use Rattle.bincode_spec.specs.Fault.{Fault, Tells}
 use Rattle.bincode_spec.specs.Format.{Format}
 use Rattle.bincode_spec.specs.Meaning.{Meaning}
-use Rattle.bincode_spec.specs.Slice.{Decoded, EndsSlice}
+use Rattle.bincode_spec.specs.Slice.{IsDecoded, EndsSlice}
 use Rattle.frames.specs.Frames.{Reads, framed_word}
 use Rattle.frames.specs.declared.Frame.TheVariants as frames
 use Rattle.framed_store.specs.declared.ending.Ending.{Ending}
@@ -26,10 +26,10 @@ pub record IsRefusedFor (F : Format Meaning) (limit : Option ℕ) (bytes : List 
 
 -- what a word holds
 abbrev pub IsContent : {A : Type 0} → Format Meaning → Option ℕ → (Meaning → A → Type 0) → List ℕ → Content A → Type 0
-IsContent F limit decodes_to word (Value v) = Decoded F limit word (λ m. decodes_to m v) (length word)
+IsContent F limit decodes_to word (Value v) = IsDecoded F limit word (λ m. decodes_to m v) (length word)
 IsContent F limit decodes_to word Damaged = ⊥
 IsContent F limit decodes_to word (Undecodable why) = IsRefusedFor F limit word why
-IsContent F limit decodes_to word (Longer taken) = Decoded F limit word (λ _. Unit {0}) taken × (taken < length word)
+IsContent F limit decodes_to word (Longer taken) = IsDecoded F limit word (λ _. Unit {0}) taken × (taken < length word)
 
 -- what the frame holds that the bytes begin with, of this size
 abbrev pub IsRecord : {A : Type 0} → Format Meaning → Option ℕ → (Meaning → A → Type 0) → ℕ → List ℕ → ℕ → Content A → Type 0

@@ -6,11 +6,11 @@ use Rattle.std.proofs.lemmas.List.{length-drop, take_all}
 use Rattle.std.proofs.lemmas.List.Elements.{All-push}
 use Rattle.bincode.specs.ChargedLaws.{ChargesEnough}
 use Rattle.bincode.specs.Format.{Format}
-use Rattle.bincode.specs.Laws.{Lawful, Balanced}
+use Rattle.bincode.specs.Laws.{IsLawful, IsBalanced}
 use Rattle.bincode.specs.Limited.{WordBounded}
 use Rattle.bincode.specs.LimitedLaws.{decoded-bounded}
 use Rattle.bincode.specs.Meaning.{Meaning}
-use Rattle.bincode.specs.Slice.{Decoded}
+use Rattle.bincode.specs.Slice.{IsDecoded}
 use Rattle.own_types.specs.Requests.{FollowOn, IsBounded, IsRead}
 use Rattle.own_types.specs.declared.requests.Request.{Request}
 
@@ -29,17 +29,17 @@ follows : {A : Type 0} (requests : List (Request A)) (start end : ℕ) (request 
 follows [] start end request e f = (f ∙ sym e, ap (λ n. n + request.size) e)
 follows (first ∷ others) start end request h f = (h.0, follows others (start + first.size) end request h.1 f)
 
-module _ {A : Type 0} (F : Format Meaning) (f : Lawful F) (b : Balanced F) (h : ChargesEnough F) (DecodesTo : Meaning → A → Type 0) (bound : Option ℕ) (received : List ℕ) (requests : List (Request A)) (request : Request A) where
+module _ {A : Type 0} (F : Format Meaning) (f : IsLawful F) (b : IsBalanced F) (h : ChargesEnough F) (DecodesTo : Meaning → A → Type 0) (bound : Option ℕ) (received : List ℕ) (requests : List (Request A)) (request : Request A) where
   bounded : (limit : ℕ) → bound ≡ Some limit → IsRead F bound DecodesTo received request → All (IsBounded F limit received) requests → All (IsBounded F limit received) (requests ++ request ∷ [])
   bounded limit e d all = All-push (IsBounded F limit received) requests request all (decoded-bounded F f b h (drop request.start received) (λ m. DecodesTo m request.value) request.size bound d limit e)
 
-  pub read-on : (most : ℕ) → request.start ≤ length received → length requests < most → Decoded F bound (left received request.start) (λ m. DecodesTo m request.value) request.size →
+  pub read-on : (most : ℕ) → request.start ≤ length received → length requests < most → IsDecoded F bound (left received request.start) (λ m. DecodesTo m request.value) request.size →
       ((limit : ℕ) → bound ≡ Some limit → All (IsBounded F limit received) requests) → FollowOn 0 requests request.start → All (IsRead F bound DecodesTo received) requests →
       (length (requests ++ request ∷ []) ≤ most) × (request.start + request.size ≤ length received)
       × ((limit : ℕ) → bound ≡ Some limit → All (IsBounded F limit received) (requests ++ request ∷ [])) × FollowOn 0 (requests ++ request ∷ []) (request.start + request.size)
       × All (IsRead F bound DecodesTo received) (requests ++ request ∷ [])
   read-on most within fewer decoded all follow words =
-      let d = answer-left (λ bytes. Decoded F bound bytes (λ m. DecodesTo m request.value) request.size) received request.start decoded in
+      let d = answer-left (λ bytes. IsDecoded F bound bytes (λ m. DecodesTo m request.value) request.size) received request.start decoded in
       let size = d.count in
       let rest = length-drop request.start received in
       let parts = ap length d.input_is ∙ length-append d.word d.remaining in

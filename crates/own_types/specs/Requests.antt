@@ -3,7 +3,7 @@ use Rattle.std.specs.Prelude.{◌≡◌, ◌+◌, ◌≤◌, ℕ, List, [], ◌�
 use Rattle.bincode.specs.Format.{Format}
 use Rattle.bincode.specs.Limited.{WordBounded}
 use Rattle.bincode.specs.Meaning.{Meaning}
-use Rattle.bincode.specs.Slice.{Decoded}
+use Rattle.bincode.specs.Slice.{IsDecoded}
 use Rattle.own_types.specs.declared.requests.Request.{Request}
 
 -- at its start is a word of the request's length, which the limit bounds
@@ -12,7 +12,7 @@ IsBounded F limit received request = WordBounded F limit (drop request.start rec
 
 -- at its start is a word of the request's length within the limit, and its value is given for the meaning of the word
 abbrev pub IsRead : {A : Type 0} → Format Meaning → Option ℕ → (Meaning → A → Type 0) → List ℕ → Request A → Type 0
-IsRead F limit DecodesTo received request = Decoded F limit (drop request.start received) (λ m. DecodesTo m request.value) request.size
+IsRead F limit DecodesTo received request = IsDecoded F limit (drop request.start received) (λ m. DecodesTo m request.value) request.size
 
 -- its length is at most `most`
 abbrev pub IsWithin : {A : Type 0} → ℕ → Request A → Type 0

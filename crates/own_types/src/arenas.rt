@@ -1,7 +1,7 @@
 //! Two arenas in a context: which one is lent to a decoder, and how long its lists live.
 ghost use Rattle.std.specs.Prelude.{◌≡◌, ℕ, List, length, IfOk};
 ghost use Rattle.bincode.specs.Run.{IsListOf};
-ghost use Rattle.bincode.specs.Slice.{Decoded};
+ghost use Rattle.bincode.specs.Slice.{IsDecoded};
 
 use crate::arena::ArenaList;
 use bincode::config::Config;
@@ -37,7 +37,7 @@ pub fn count_numbers<C: Config>(
     config: C,
 ) -> Result<usize, DecodeError>
     ensures { IfOk result (λ n. (taken : ℕ)
-        × Decoded (⟦<ArenaList<'static, u32> as Wire>⟧.words.format C.setting) C.bound bytes.now
+        × IsDecoded (⟦<ArenaList<'static, u32> as Wire>⟧.words.format C.setting) C.bound bytes.now
         (λ m. (items : List ℕ) × IsListOf (λ x k. ⟦<u32 as Wire>⟧.words.decodes_to k x) items m
         × (n ≡ length items)) taken) }
 {

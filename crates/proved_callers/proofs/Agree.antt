@@ -5,12 +5,12 @@ use Rattle.bincode_base.specs.declared.error.DecodeError.{DecodeError}
 use Rattle.bincode_spec.specs.Layers.Agree.{SameReading}
 use Rattle.bincode_spec.specs.Decoding.{IsRefused}
 use Rattle.bincode_spec.specs.Format.{Format, Took}
-use Rattle.bincode_spec.specs.Layers.Laws.{Lawful}
+use Rattle.bincode_spec.specs.Layers.Laws.{IsLawful}
 use Rattle.bincode_spec.specs.Meaning.{Meaning}
-use Rattle.bincode_spec.specs.Slice.{Decoded, FindsWords}
+use Rattle.bincode_spec.specs.Slice.{IsDecoded, FindsWords}
 
-module _ {T : Type 0} (F : Format Meaning) (f : Lawful F) (limit : Option ℕ) (MayAllocate : Type 0) (input : List ℕ) (DecodesTo : Meaning → T → Type 0) where
-  same-reading : (x y : T × ℕ) → Decoded F limit input (λ m. DecodesTo m x.0) x.1 → Decoded F limit input (λ m. DecodesTo m y.0) y.1 → SameReading DecodesTo x y
+module _ {T : Type 0} (F : Format Meaning) (f : IsLawful F) (limit : Option ℕ) (MayAllocate : Type 0) (input : List ℕ) (DecodesTo : Meaning → T → Type 0) where
+  same-reading : (x y : T × ℕ) → IsDecoded F limit input (λ m. DecodesTo m x.0) x.1 → IsDecoded F limit input (λ m. DecodesTo m y.0) y.1 → SameReading DecodesTo x y
   same-reading x y d e =
       let p : F.read input ≡ Took d.meaning d.remaining d.steps = ap F.read d.input_is ∙ f.word_read d.word d.remaining d.meaning d.steps d.is_word in
       let q : F.read input ≡ Took e.meaning e.remaining e.steps = ap F.read e.input_is ∙ f.word_read e.word e.remaining e.meaning e.steps e.is_word in
@@ -23,12 +23,12 @@ module _ {T : Type 0} (F : Format Meaning) (f : Lawful F) (limit : Option ℕ) (
       record { same_length = omega (arith, l, s, a, b); meaning = e.meaning; first = subst (λ z. DecodesTo z x.0) m d.is_decoded; second = e.is_decoded }
 
   -- what one decodes the other does, unless memory is refused
-  both-read : (x : T × ℕ) (r : Result (T × ℕ) DecodeError) → Decoded F limit input (λ m. DecodesTo m x.0) x.1 → IfOk r (λ y. Decoded F limit input (λ m. DecodesTo m y.0) y.1) →
+  both-read : (x : T × ℕ) (r : Result (T × ℕ) DecodeError) → IsDecoded F limit input (λ m. DecodesTo m x.0) x.1 → IfOk r (λ y. IsDecoded F limit input (λ m. DecodesTo m y.0) y.1) →
       FindsWords F limit MayAllocate input r → MatchResult r (SameReading DecodesTo x) (IsRefused MayAllocate)
   both-read x (Ok y) d e finds = same-reading x y d e
   both-read x (Err why) d e finds = finds d.word d.remaining d.meaning d.steps d.input_is d.is_word d.within
 
-  pub each-read : (a r : Result (T × ℕ) DecodeError) → IfOk a (λ x. Decoded F limit input (λ m. DecodesTo m x.0) x.1) → IfOk r (λ y. Decoded F limit input (λ m. DecodesTo m y.0) y.1) →
+  pub each-read : (a r : Result (T × ℕ) DecodeError) → IfOk a (λ x. IsDecoded F limit input (λ m. DecodesTo m x.0) x.1) → IfOk r (λ y. IsDecoded F limit input (λ m. DecodesTo m y.0) y.1) →
       FindsWords F limit MayAllocate input r → IfOk a (λ x. MatchResult r (SameReading DecodesTo x) (IsRefused MayAllocate))
   each-read (Ok x) r d e finds = both-read x r d e finds
   each-read (Err why) r d e finds = tt

@@ -5,12 +5,12 @@ use Rattle.std.proofs.lemmas.List.{take-append-drop, take-append-le, length-drop
 use Rattle.bincode_base.specs.declared.error.DecodeError.{DecodeError}
 use Rattle.bincode_spec.specs.Layers.Agree.{SameAnswer, WasCut, WasRefused}
 use Rattle.bincode_spec.specs.Format.{Format}
-use Rattle.bincode_spec.specs.Layers.Laws.{Lawful, Balanced}
+use Rattle.bincode_spec.specs.Layers.Laws.{IsLawful, IsBalanced}
 use Rattle.bincode_spec.specs.Meaning.{Meaning}
 use Rattle.bincode_spec.specs.Slice.{IsAnswer}
 use Rattle.bincode_lemmas.specs.CutLaws.{longer-answers, front-ends}
 
-module _ {T : Type 0} (F : Format Meaning) (f : Lawful F) (b : Balanced F) (limit : Option ℕ) (MayAllocate : Type 0) (DecodesTo : Meaning → T → Type 0) (bytes : List ℕ) (count : ℕ) where
+module _ {T : Type 0} (F : Format Meaning) (f : IsLawful F) (b : IsBalanced F) (limit : Option ℕ) (MayAllocate : Type 0) (DecodesTo : Meaning → T → Type 0) (bytes : List ℕ) (count : ℕ) where
   -- a result for the first that is no end is the result for all
   pub same-longer : (a c : Result (T × ℕ) DecodeError) → IsAnswer F limit MayAllocate DecodesTo (take count bytes) a → IsAnswer F limit MayAllocate DecodesTo bytes c →
       ¬ (WasCut a) → WasRefused MayAllocate a ⊎ (WasRefused MayAllocate c ⊎ SameAnswer DecodesTo a c)

@@ -13,9 +13,9 @@ use Rattle.bincode_spec.specs.Decoding.{IsRefused}
 use Rattle.bincode_spec.specs.Encoding.{Adds, Writes}
 use Rattle.bincode_spec.specs.Fault.{Fault, Tells}
 use Rattle.bincode_spec.specs.Format.{Format, Took}
-use Rattle.bincode_spec.specs.Layers.Laws.{Lawful, Balanced}
+use Rattle.bincode_spec.specs.Layers.Laws.{IsLawful, IsBalanced}
 use Rattle.bincode_spec.specs.Meaning.{Meaning}
-use Rattle.bincode_spec.specs.Slice.{Decoded, EndsSlice, FindsWords, IsAnswer}
+use Rattle.bincode_spec.specs.Slice.{IsDecoded, EndsSlice, FindsWords, IsAnswer}
 use Rattle.bincode_lemmas.specs.AnswerLaws.{gave-word, refused-fault, passed-limit}
 use Rattle.bincode_shape.specs.declared.shape.Shape.{Shape}
 use Rattle.bincode_shape.specs.declared.shape.Value.{Value}
@@ -26,12 +26,12 @@ use Rattle.bincode_shape.specs.Shapes.{format_of, TakesMemory, IsImage, meaning}
 use Rattle.bincode_types.specs.TypeWords.{Words}
 use Rattle.proved_callers.specs.Shaped.{ReadsAlike, AllowsEachValue, AllowsEachImage}
 
-module _ (F G : Format Meaning) (f : Lawful F) (g : Lawful G) (same : G.read ≡ F.read) (limit : Option ℕ) (input : List ℕ) where
+module _ (F G : Format Meaning) (f : IsLawful F) (g : IsLawful G) (same : G.read ≡ F.read) (limit : Option ℕ) (input : List ℕ) where
   same_read : G.read input ≡ F.read input
   same_read = ap (λ read. read input) same
 
   -- each word of the one is one of the other
-  word_found : (DecodesTo : Meaning → Type 0) (n : ℕ) → Decoded F limit input DecodesTo n → (A : Type 0) (MayAllocate : Type 0) (result : Result A DecodeError) →
+  word_found : (DecodesTo : Meaning → Type 0) (n : ℕ) → IsDecoded F limit input DecodesTo n → (A : Type 0) (MayAllocate : Type 0) (result : Result A DecodeError) →
       FindsWords G limit MayAllocate input result → MatchResult result (λ _. Unit {0}) (IsRefused MayAllocate)
   word_found DecodesTo n d A MayAllocate result found =
       let p : F.read input ≡ Took d.meaning d.remaining d.steps = ap F.read d.input_is ∙ f.word_read d.word d.remaining d.meaning d.steps d.is_word in
@@ -45,7 +45,7 @@ module _ (F G : Format Meaning) (f : Lawful F) (g : Lawful G) (same : G.read ≡
       of_word w.word rest m w.is_word w.input_is
   steps_carried steps (of_fault why h) = of_fault why (g.read_fault input why steps (same_read ∙ f.fault_read input why steps h))
 
-  module _ (DecodesTo : Meaning → Type 0) (DecodesTo' : Meaning → Type 0) (n n' : ℕ) (d : Decoded F limit input DecodesTo n) (e : Decoded G limit input DecodesTo' n') where
+  module _ (DecodesTo : Meaning → Type 0) (DecodesTo' : Meaning → Type 0) (n n' : ℕ) (d : IsDecoded F limit input DecodesTo n) (e : IsDecoded G limit input DecodesTo' n') where
     same_meaning : d.meaning ≡ e.meaning
     same_meaning =
         let p : F.read input ≡ Took d.meaning d.remaining d.steps = ap F.read d.input_is ∙ f.word_read d.word d.remaining d.meaning d.steps d.is_word in
@@ -80,7 +80,7 @@ module _ (F G : Format Meaning) (f : Lawful F) (g : Lawful G) (same : G.read ≡
     both_limit (inl h) (inr k) = inr (inl k)
     both_limit (inl h) (inl k) = inr (inr (both_passed h k))
 
-    by_answer : (b : Balanced F) {T T' : Type 0} (DecodesTo : Meaning → T → Type 0) (DecodesTo' : Meaning → T' → Type 0) →
+    by_answer : (b : IsBalanced F) {T T' : Type 0} (DecodesTo : Meaning → T → Type 0) (DecodesTo' : Meaning → T' → Type 0) →
         IsAnswer F limit MayAllocate DecodesTo input (Err d) → IsAnswer G limit MayAllocate' DecodesTo' input (Err e) → (a : Answer Meaning) → answer limit F input 0 ≡ a → Said
     by_answer b DecodesTo DecodesTo' p q (Gave m rest after) h =
         let w = gave-word F f b limit input rest m after h in

@@ -6,7 +6,7 @@ use Rattle.bincode_base.specs.declared.error.DecodeError.TheVariants.{LimitExcee
 use Rattle.bincode_spec.specs.Fault.{Fault, Tells, End, InvalidInteger, Zero, UnexpectedVariant, Utf8, InvalidChar, InvalidBool, InvalidDuration, NulAt}
 use Rattle.bincode_spec.specs.Fault.{Other, LengthMismatch, EmptyEnum, OutsideUsize, short, long, Between, OneOf}
 use Rattle.bincode_spec.specs.Format.{Format}
-use Rattle.bincode_spec.specs.Layers.Laws.{Lawful, Balanced}
+use Rattle.bincode_spec.specs.Layers.Laws.{IsLawful, IsBalanced}
 use Rattle.bincode_spec.specs.Meaning.{Meaning}
 use Rattle.bincode_spec.specs.Answer.{Answer, Gave, Refused, PassedLimit, answer}
 use Rattle.bincode_lemmas.specs.AnswerLaws.{gave-word, refused-fault, passed-limit}
@@ -32,7 +32,7 @@ tells_none (LengthMismatch required found) e i h = cc
 tells_none EmptyEnum e i h = let k = h.1 in cc
 tells_none (OutsideUsize n) e i h = cc
 
-module _ (F : Format Meaning) (f : Lawful F) (b : Balanced F) (limit : Option ℕ) (input : List ℕ) (MayAllocate : Type 0) (none : MayAllocate → ⊥) where
+module _ (F : Format Meaning) (f : IsLawful F) (b : IsBalanced F) (limit : Option ℕ) (input : List ℕ) (MayAllocate : Type 0) (none : MayAllocate → ⊥) where
   of_fault : (why : Fault) (e : DecodeError) → e ≡ Memory → Tells EndsSlice why e ⊎ IsRefused MayAllocate e → ⊥
   of_fault why e i (inl h) = tells_none why e i h
   of_fault why e i (inr h) = none h.0

@@ -11,7 +11,7 @@ use Rattle.bincode_spec.specs.Format.{Format, Took, Failed}
 use Rattle.bincode_spec.specs.Meaning.{Meaning, Truth, Number, Character, Bytes, Nothing, Choice, IsNumber, list_meaning}
 use Rattle.bincode_spec.specs.Allowed.{AllowedWord}
 use Rattle.bincode_spec.specs.Layers.Laws.{steps_of}
-use Rattle.bincode_spec.specs.Room.{Bounded, elements_after}
+use Rattle.bincode_spec.specs.Room.{IsWithinBounds, elements_after}
 use Rattle.bincode_spec.specs.Words.{list, text, without_nul}
 
 -- what is computed, and what docs/FORMAT.md expects
@@ -283,7 +283,7 @@ ElementRows lists arrays = AllHold (
 
 -- its word is bounded by a limit of 32, and not by one that the 24 bytes of the inner list pass
 abbrev pub IsBounded : Formats → Type 0
-IsBounded lists = Bounded 32 (1 ∷ 2 ∷ 7 ∷ 8 ∷ []) (one_list lists)
+IsBounded lists = IsWithinBounds 32 (1 ∷ 2 ∷ 7 ∷ 8 ∷ []) (one_list lists)
 
 abbrev pub IsUnbounded : Formats → Type 0
-IsUnbounded lists = ¬ (Bounded 23 (1 ∷ 2 ∷ 7 ∷ 8 ∷ []) (one_list lists))
+IsUnbounded lists = ¬ (IsWithinBounds 23 (1 ∷ 2 ∷ 7 ∷ 8 ∷ []) (one_list lists))

@@ -3,7 +3,7 @@ ghost use Rattle.std.specs.Prelude.{◌≡◌, ◌+◌, ◌-◌, ◌^◌, ◌<�
 ghost use Rattle.std.specs.Prelude.{◌⊎◌, ◌++◌, [], length};
 ghost use Rattle.std.specs.Prelude.{⊤, Some};
 ghost use Rattle.std.proofs.Common.{zero-le, le_refl, inl, inr, arith, length-append, refl, ap, ◌∙◌};
-ghost use Rattle.bincode_spec.specs.Device.{Rose};
+ghost use Rattle.bincode_spec.specs.Device.{CountRises};
 ghost use Rattle.bincode_io.specs.Slices.{left_of};
 ghost use Rattle.bincode_io.specs.RoomLaws.{first-empty, second-empty};
 ghost use Rattle.bincode_base.specs.declared.error.DecodeError.TheVariants.{UnexpectedEnd};
@@ -108,7 +108,7 @@ impl Writer for CutWriter {
         × (length piece ≤ 2 ^ 64 - 1 - a.sent) × (piece ≡ [] → b ≡ a) };
 
     ghost refuses = { λ a piece e b. (b.sent ≡ a.sent) × (a.failures ≤ b.failures)
-        × ((2 ^ 64 - 1 - a.sent < length piece) ⊎ Rose a.failures b.failures) };
+        × ((2 ^ 64 - 1 - a.sent < length piece) ⊎ CountRises a.failures b.failures) };
 
     ghost room = { λ w. Some (2 ^ 64 - 1 - w.sent) };
 

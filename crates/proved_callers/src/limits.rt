@@ -2,7 +2,7 @@
 ghost use Rattle.std.specs.Prelude.{◌≡◌, IfOk, MatchResult};
 ghost use Rattle.bincode_spec.specs.Layers.Agree.{SameReading};
 ghost use Rattle.bincode_spec.specs.Decoding.{IsRefused};
-ghost use Rattle.bincode_spec.specs.Limits.{NoTighter};
+ghost use Rattle.bincode_spec.specs.Limits.{IsNoTighter};
 
 use bincode::config::Config;
 use bincode::de::Decode;
@@ -25,7 +25,7 @@ pub fn read_under_both<T: Decode<()>, C: Config, D: Config>(
     small: C,
     large: D,
 ) -> ReadUnderBoth<T>
-    ensures { D.setting ≡ C.setting → NoTighter C.bound D.bound → IfOk result.small
+    ensures { D.setting ≡ C.setting → IsNoTighter C.bound D.bound → IfOk result.small
         (λ x. MatchResult result.large (λ y. SameReading T.words.decodes_to x y) (IsRefused T.words.may_allocate)) }
 {
     let small = decode_from_slice(alloc, src, small);

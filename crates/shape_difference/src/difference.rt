@@ -2,7 +2,7 @@
 ghost use Rattle.std.specs.Prelude.{◌≡◌, ◌&&◌, not, IfOk, IfSome, IsTrue, []};
 ghost use Rattle.bincode_base.specs.declared.error.DecodeError.TheVariants.{Memory, LimitExceeded};
 ghost use Rattle.bincode_shape.specs.Shapes.{format_of, meaning};
-ghost use Rattle.bincode_evolution.specs.Reading.{Takes};
+ghost use Rattle.bincode_evolution.specs.Reading.{ReadsTo};
 ghost use Rattle.shape_difference.specs.Alike.{alike};
 ghost use Rattle.shape_difference.specs.Differing.{Shows};
 
@@ -79,7 +79,7 @@ pub fn shows<C: Config>(alloc: Global, new: &Shape, old: &Shape, word: &[u8], co
 
 /// Whether decoding shows that all of these bytes are no word of the shape that means the same as the value.
 fn is_unread<C: Config>(alloc: Global, shape: &Shape, value: &Value, word: &[u8], config: C) -> bool
-    ensures { IsTrue result → Takes ((format_of shape.now C.setting).read word.now) (meaning value.now) [] → ⊥ }
+    ensures { IsTrue result → ReadsTo ((format_of shape.now C.setting).read word.now) (meaning value.now) [] → ⊥ }
 {
     match decode_shaped_within(alloc, shape, word, config, MOST_VALUES) {
         Ok((read, taken)) => is_other(value, &read, taken == word.len()),

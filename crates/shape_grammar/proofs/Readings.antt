@@ -7,7 +7,7 @@ use Rattle.bincode_shape.specs.declared.shape.Shape.{Shape}
 use Rattle.bincode_shape.specs.declared.shape.Shape.TheVariants as shapes
 use Rattle.shape_grammar.specs.declared.nested.Nested.{Nested}
 use Rattle.shape_grammar.specs.declared.text.ShapeTextError.{ShapeTextError}
-use Rattle.shape_grammar.specs.Claims.{claim, capped}
+use Rattle.shape_grammar.specs.Claims.{claim, as_u128}
 use Rattle.shape_grammar.specs.Grammar.{Kind, Spells, Alone, Marked, Any, Variants, Barred, Parts, Length, nothing, tuple, tuple_comma, list, array, unmarked, optional, one, choice, barred_choice, variants, variant, barred, barred_variant, part, parts}
 use Rattle.shape_grammar.specs.Marks.{Mark}
 
@@ -82,15 +82,15 @@ pub tuple_comma-of : (a b c d e : List ℕ) (v : Vec Shape Global) (whole : Shap
     Spells Alone a (whole ∷ []) e
 tuple_comma-of a b c d e v whole p m s n o = as_shape p (tuple_comma a b c d e v m s n o)
 
-as_list : (claimed : ℕ) (element : Box Shape Global) (inner : Shape) → element.value ≡ inner → claimed ≡ capped (claim inner) → claimed ≡ capped (claim element.value)
-as_list claimed element inner e f = f ∙ ap (λ z. capped (claim z)) (sym e)
+as_list : (claimed : ℕ) (element : Box Shape Global) (inner : Shape) → element.value ≡ inner → claimed ≡ as_u128 (claim inner) → claimed ≡ as_u128 (claim element.value)
+as_list claimed element inner e f = f ∙ ap (λ z. as_u128 (claim z)) (sym e)
 
-pub list-of : (a b c d e : List ℕ) (claimed : ℕ) (element : Box Shape Global) (inner whole : Shape) → element.value ≡ inner → claimed ≡ capped (claim inner) →
+pub list-of : (a b c d e : List ℕ) (claimed : ℕ) (element : Box Shape Global) (inner whole : Shape) → element.value ≡ inner → claimed ≡ as_u128 (claim inner) →
     whole ≡ shapes.Seq claimed element → e ≡ c → Mark 91 a b → Spells Any b (inner ∷ []) c → Mark 93 e d → Spells Alone a (whole ∷ []) d
 list-of a b c d e claimed element inner whole p q r f m s n =
     as_shape (r ∙ ap (λ z. shapes.Seq z element) (as_list claimed element inner p q)) (list a b e d element m (as_rest f (as_shape p s)) n)
 
-pub array-of : (a b c d e f g : List ℕ) (len claimed : ℕ) (element : Box Shape Global) (inner whole : Shape) → element.value ≡ inner → claimed ≡ capped (claim inner) →
+pub array-of : (a b c d e f g : List ℕ) (len claimed : ℕ) (element : Box Shape Global) (inner whole : Shape) → element.value ≡ inner → claimed ≡ as_u128 (claim inner) →
     whole ≡ shapes.Array len claimed element → Mark 91 a b → Spells Any b (inner ∷ []) c → Mark 59 c d → Length len d e → g ≡ e → Mark 93 g f → Spells Alone a (whole ∷ []) f
 array-of a b c d e f g len claimed element inner whole p q r m s n l h o =
     as_shape (r ∙ ap (λ z. shapes.Array len z element) (as_list claimed element inner p q)) (array a b c d e f len element m (as_shape p s) n l (subst (λ z. Mark 93 z f) h o))

@@ -64,5 +64,5 @@ pub greatest_of-vec : (v : Vec Shape Global) → greatest_of (hidden-the_row-Sha
 greatest_of-vec v = greatest_of-items (hidden-the_row-Shape-0 v) ∙ ap greatest_claim (items_hidden-the_row-Shape-0 v)
 
 -- as a `usize`, at most its maximum
-abbrev pub capped : ℕ → ℕ
-capped n = min n (2 ^ 64 - 1)
+abbrev pub as_u128 : ℕ → ℕ
+as_u128 n = min n (2 ^ 64 - 1)

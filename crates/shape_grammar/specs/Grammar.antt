@@ -5,7 +5,7 @@ use Rattle.std.specs.declared.alloc.Global.{Global}
 use Rattle.std.specs.declared.vec.Vec.{Vec}
 use Rattle.bincode_shape.specs.declared.shape.Shape.{Shape}
 use Rattle.bincode_shape.specs.declared.shape.Shape.TheVariants as shapes
-use Rattle.shape_grammar.specs.Claims.{claim, capped}
+use Rattle.shape_grammar.specs.Claims.{claim, as_u128}
 use Rattle.shape_grammar.specs.Marks.{Mark, Word, IsEnd}
 use Rattle.shape_grammar.specs.Names.{shape_named}
 
@@ -33,9 +33,9 @@ pub data Spells : Kind → List ℕ → List Shape → List ℕ → Type 0 where
   tuple : (a b c d : List ℕ) (parts : Vec Shape Global) → Mark 40 a b → Spells Parts b parts.items c → Mark 41 c d → Spells Alone a (shapes.Tuple parts ∷ []) d
   tuple_comma : (a b c d e : List ℕ) (parts : Vec Shape Global) → Mark 40 a b → Spells Parts b parts.items c → Mark 44 c d → Mark 41 d e → Spells Alone a (shapes.Tuple parts ∷ []) e
   list : (a b c d : List ℕ) (element : Box Shape Global) → Mark 91 a b → Spells Any b (element.value ∷ []) c → Mark 93 c d
-      → Spells Alone a (shapes.Seq (capped (claim element.value)) element ∷ []) d
+      → Spells Alone a (shapes.Seq (as_u128 (claim element.value)) element ∷ []) d
   array : (a b c d e f : List ℕ) (len : ℕ) (element : Box Shape Global) → Mark 91 a b → Spells Any b (element.value ∷ []) c → Mark 59 c d → Length len d e → Mark 93 e f
-      → Spells Alone a (shapes.Array len (capped (claim element.value)) element ∷ []) f
+      → Spells Alone a (shapes.Array len (as_u128 (claim element.value)) element ∷ []) f
   unmarked : (a b : List ℕ) (shape : Shape) → Spells Alone a (shape ∷ []) b → Spells Marked a (shape ∷ []) b
   optional : (a b c : List ℕ) (part : Box Shape Global) → Spells Marked a (part.value ∷ []) b → Mark 63 b c → Spells Marked a (shapes.Optional part ∷ []) c
   one : (a b : List ℕ) (shape : Shape) → Spells Marked a (shape ∷ []) b → Spells Any a (shape ∷ []) b

@@ -1,6 +1,6 @@
 //! What a list claims for each element of a shape.
 ghost use Rattle.std.specs.Prelude.{◌≡◌, max};
-ghost use Rattle.shape_grammar.specs.Claims.{claim, claim_sum, greatest_claim, capped};
+ghost use Rattle.shape_grammar.specs.Claims.{claim, claim_sum, greatest_claim, as_u128};
 
 use bincode_shape::shape::Shape;
 
@@ -9,7 +9,7 @@ use bincode_shape::shape::Shape;
 /// `usize::MAX`.
 #[cycle(claims)]
 pub fn claim_of(shape: &Shape) -> usize
-    ensures { result ≡ capped (claim shape.now) }
+    ensures { result ≡ as_u128 (claim shape.now) }
 {
     match shape {
         Shape::Unit | Shape::Bool | Shape::U8 | Shape::I8 => 1,
@@ -32,7 +32,7 @@ pub fn claim_of(shape: &Shape) -> usize
 /// The sum over the parts of a tuple, and 1 where there is none.
 #[cycle(claims)]
 fn claim_of_parts(parts: &[Shape]) -> usize
-    ensures { result ≡ capped (max (claim_sum parts.now) 1) }
+    ensures { result ≡ as_u128 (max (claim_sum parts.now) 1) }
 {
     let mut sum = 0usize;
     for part in parts {
@@ -44,7 +44,7 @@ fn claim_of_parts(parts: &[Shape]) -> usize
 /// The greatest claim of a variant's part.
 #[cycle(claims)]
 fn greatest_of(variants: &[Shape]) -> usize
-    ensures { result ≡ capped (greatest_claim variants.now) }
+    ensures { result ≡ as_u128 (greatest_claim variants.now) }
 {
     let mut greatest = 0;
     for variant in variants {

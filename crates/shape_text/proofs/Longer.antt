@@ -4,7 +4,7 @@ use Rattle.std.proofs.Common.{sym, ◌∙◌, ap, subst, inl, inr, arith, append
 use Rattle.bincode_base.specs.declared.error.DecodeError.{DecodeError}
 use Rattle.bincode_base.specs.declared.error.DecodeError.TheVariants.{LimitExceeded}
 use Rattle.bincode_spec.specs.Layers.Agree.{IsCut}
-use Rattle.bincode_spec.specs.Layers.Laws.{Lawful, Balanced, steps_of}
+use Rattle.bincode_spec.specs.Layers.Laws.{IsLawful, IsBalanced, steps_of}
 use Rattle.bincode_lemmas.specs.AnswerLaws.{counted_after, gave-word, refused-fault, passed-limit, word-gave, fault-refused, passes-passed}
 use Rattle.bincode_lemmas.specs.CutLaws.{end-told}
 use Rattle.bincode_lemmas.specs.FormatLaws.{end-or-other}
@@ -26,7 +26,7 @@ more_passes : (limit : Option ℕ) (front back : List Step) → Passes limit 0 f
 more_passes None front back h = absurd h
 more_passes (Some n) front back h = (h.0, h.1 ++ back, ap (λ z. z ++ back) h.2 ∙ append_assoc h.0 h.1 back, h.3)
 
-module _ (F : Format Meaning) (f : Lawful F) (b : Balanced F) (limit : Option ℕ) where
+module _ (F : Format Meaning) (f : IsLawful F) (b : IsBalanced F) (limit : Option ℕ) where
   steps_read : (input : List ℕ) (r : Reading Meaning) → F.read input ≡ r → StepsOf F input (steps_of r)
   steps_read input (Took m remaining steps) e = let q = f.read_word input remaining m steps e in of_word q.word remaining m q.is_word q.input_is
   steps_read input (Failed why steps) e = of_fault why (f.read_fault input why steps e)

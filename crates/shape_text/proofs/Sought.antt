@@ -4,7 +4,7 @@ use Rattle.std.proofs.Common.{sym, ◌∙◌, ap, subst, arith, append-nil, leng
 use Rattle.std.specs.Io.KnownBytes.{Keeps, IsAtEnd, prepend_known}
 use Rattle.bincode_base.specs.declared.error.DecodeError.{DecodeError}
 use Rattle.bincode_spec.specs.Layers.Agree.{IsCut}
-use Rattle.bincode_spec.specs.Layers.Laws.{Lawful, Balanced}
+use Rattle.bincode_spec.specs.Layers.Laws.{IsLawful, IsBalanced}
 use Rattle.bincode_spec.specs.Format.{Format}
 use Rattle.bincode_spec.specs.Meaning.{Meaning}
 use Rattle.bincode_spec.specs.Slice.{FindsWords, TellsFaults, KeepsLimit}
@@ -23,7 +23,7 @@ shown-left None now shown kept some = tt
 shown-left (Some xs) None shown kept some = absurd kept
 shown-left (Some xs) (Some left) shown kept some = (λ no. absurd (cc), λ none. absurd (some-left shown left some (kept ∙ none)))
 
-module _ (F : Format Meaning) (f : Lawful F) (b : Balanced F) (limit : Option ℕ) (shown : List ℕ) (e : DecodeError) (some : 0 < length shown)
+module _ (F : Format Meaning) (f : IsLawful F) (b : IsBalanced F) (limit : Option ℕ) (shown : List ℕ) (e : DecodeError) (some : 0 < length shown)
     (found : FindsWords {A = Unit {0}} F limit ⊥ shown (Err e)) (told : TellsFaults {A = Unit {0}} F limit ⊥ shown (Err e)) (kept : KeepsLimit {A = Unit {0}} F limit ⊥ shown (Err e)) where
   -- an error that is no end holds of all that is left
   pub shown-refused : (left : Option (List ℕ)) → ¬ (IsCut e) → AreRefused F limit (prepend_known shown left) e

@@ -3,7 +3,7 @@ ghost use Rattle.std.specs.Prelude.{◌≡◌, ◌↔◌, ◌<◌, [], length, I
 ghost use Rattle.std.specs.Io.{StartsWith};
 ghost use Rattle.std.specs.Io.KnownBytes.{Keeps};
 ghost use Rattle.bincode_spec.specs.Layers.Agree.{IsCut};
-ghost use Rattle.bincode_spec.specs.Slice.{Decoded};
+ghost use Rattle.bincode_spec.specs.Slice.{IsDecoded};
 ghost use Rattle.bincode_shape.specs.Counts.{IsCounted};
 ghost use Rattle.bincode_shape.specs.Shapes.{format_of};
 ghost use Rattle.shape_text.specs.Windows.{shown_bytes, bytes_left};
@@ -45,7 +45,7 @@ pub fn next_word<R: Read, C: Config>(
     ensures kept { Keeps (bytes_left R.remaining window.old) (bytes_left R.remaining window.new) }
     ensures grown { StartsWith (shown_bytes window.new) (shown_bytes window.old) }
     // What is shown begins with an encoding within the limit, of this length and with so many values.
-    ensures word { IfOk result (λ next. IfSome next (λ x. Decoded (format_of shape.now C.setting) C.bound
+    ensures word { IfOk result (λ next. IfSome next (λ x. IsDecoded (format_of shape.now C.setting) C.bound
         (shown_bytes window.new) (λ m. IsCounted shape.now m x.values) x.bytes)) }
     // `None` is the answer exactly if no byte is left,
     ensures end { IfOk result (λ next. IfSome (bytes_left R.remaining window.old)
@@ -80,7 +80,7 @@ fn look<R: Read, C: Config>(
     ensures kept { Keeps (bytes_left R.remaining window.old) (bytes_left R.remaining window.new) }
     ensures grown { StartsWith (shown_bytes window.new) (shown_bytes window.old) }
     ensures some { 0 < length (shown_bytes window.new) }
-    ensures word { IfOk result (λ next. IfSome next (λ x. Decoded (format_of shape.now C.setting) C.bound
+    ensures word { IfOk result (λ next. IfSome next (λ x. IsDecoded (format_of shape.now C.setting) C.bound
         (shown_bytes window.new) (λ m. IsCounted shape.now m x.values) x.bytes)) }
     ensures refused { IfErr result (λ e. Refuses (format_of shape.now C.setting) C.bound
         (bytes_left R.remaining window.old) e) }

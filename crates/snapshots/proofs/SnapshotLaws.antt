@@ -12,9 +12,9 @@ use Rattle.bincode_base.specs.declared.error.DecodeError.{DecodeError}
 use Rattle.bincode_base.specs.declared.error.DecodeError.TheVariants.{Memory}
 use Rattle.bincode_spec.specs.Allowed.{AllowedWord}
 use Rattle.bincode_spec.specs.Format.{Format}
-use Rattle.bincode_spec.specs.Layers.Laws.{Lawful}
+use Rattle.bincode_spec.specs.Layers.Laws.{IsLawful}
 use Rattle.bincode_spec.specs.Meaning.{Meaning}
-use Rattle.bincode_spec.specs.Slice.{Decoded, FindsWords}
+use Rattle.bincode_spec.specs.Slice.{IsDecoded, FindsWords}
 use Rattle.bincode_lemmas.specs.FormatLaws.{one-word}
 use Rattle.bincode_types.specs.TypeLaws.{ExactWords}
 use Rattle.bincode_types.specs.TypeWords.{Words}
@@ -69,12 +69,12 @@ module _ {A : Type 0} (W : Words A) (s : Setting) (limit : Option ℕ) where
   abbrev F : Format Meaning
   F = W.format s
 
-  f : Lawful F
+  f : IsLawful F
   f = W.lawful s
 
   module _ (state : A) (word : List ℕ) (entry : IsEntry W s limit state word) where
     -- decoding a state's word gives an equal state
-    equal-state : (eq : A → A → Bool) → ExactWords W eq → (other : A) → Decoded F limit word (λ m. W.decodes_to m other) (length word) → eq state other ≡ true
+    equal-state : (eq : A → A → Bool) → ExactWords W eq → (other : A) → IsDecoded F limit word (λ m. W.decodes_to m other) (length word) → eq state other ≡ true
     equal-state eq exact other d =
         let w = entry.is_written in
         let u = f.written_is_word word w.meaning w.is_written in
@@ -105,7 +105,7 @@ module _ {A : Type 0} (W : Words A) (s : Setting) (limit : Option ℕ) where
       IsLoaded F limit W.decodes_to bytes n other → (n ≡ commands) × (eq state other ≡ true)
   loaded-back eq exact commands state bytes small saved n other below loaded =
       let one = one-snapshot n commands loaded.word saved.word below small (sym loaded.bytes_are ∙ saved.bytes_are) in
-      (one.0, equal-state state saved.word saved.is_entry eq exact other (subst (λ z. Decoded F limit z (λ m. W.decodes_to m other) (length z)) one.1 loaded.is_word))
+      (one.0, equal-state state saved.word saved.is_entry eq exact other (subst (λ z. IsDecoded F limit z (λ m. W.decodes_to m other) (length z)) one.1 loaded.is_word))
 
   pub not-loaded-back : (commands : ℕ) (state : A) (bytes : List ℕ) → IsSnapshot W s limit commands state bytes → (e : LoadError) → IsLoadFault F limit bytes e → IsNoMemory e
   not-loaded-back commands state bytes saved e (inl h) = absurd (no-header-fault commands saved.word bytes saved.bytes_are e h)

@@ -9,7 +9,7 @@ use Rattle.bincode_spec.specs.Allowed.{AllowedWord}
 use Rattle.bincode_spec.specs.Format.{Format}
 use Rattle.bincode_spec.specs.Limits.{FitsLimit}
 use Rattle.bincode_spec.specs.Meaning.{Meaning}
-use Rattle.bincode_spec.specs.Slice.{Decoded}
+use Rattle.bincode_spec.specs.Slice.{IsDecoded}
 use Rattle.bincode_types.specs.TypeWords.{Words}
 use Rattle.framed_store.specs.Appended.{IsEntry}
 use Rattle.framed_store.specs.Told.{IsRefusedFor}
@@ -36,7 +36,7 @@ pub record IsSnapshot {A : Type 0} (W : Words A) (s : Setting) (limit : Option �
 pub record IsLoaded {A : Type 0} (F : Format Meaning) (limit : Option ℕ) (decodes_to : Meaning → A → Type 0) (bytes : List ℕ) (commands : ℕ) (state : A) : Type 0 where
   pub word : List ℕ
   pub bytes_are : bytes ≡ snapshot commands word
-  pub is_word : Decoded F limit word (λ m. decodes_to m state) (length word)
+  pub is_word : IsDecoded F limit word (λ m. decodes_to m state) (length word)
 
 -- there are a digest and a number, and the digest fits
 abbrev pub DigestFits : List ℕ → Type 0
@@ -59,7 +59,7 @@ abbrev pub IsStateFault : Format Meaning → Option ℕ → List ℕ → LoadErr
 IsStateFault F limit word failures.Short = ⊥
 IsStateFault F limit word failures.Damaged = ⊥
 IsStateFault F limit word (failures.Undecodable why) = IsRefusedFor F limit word why
-IsStateFault F limit word (failures.Longer taken) = Decoded F limit word (λ _. Unit {0}) taken × (taken < length word)
+IsStateFault F limit word (failures.Longer taken) = IsDecoded F limit word (λ _. Unit {0}) taken × (taken < length word)
 IsStateFault F limit word (failures.Memory _) = Unit {0}
 
 -- why bytes are no snapshot; each case excludes the others

@@ -3,7 +3,7 @@ ghost use Rattle.std.specs.Prelude.{◌≡◌, ◌<◌, ◌^◌, ◌++◌, ℕ, 
 ghost use Rattle.std.specs.Int.{w64, to_le_bytes};
 ghost use Rattle.sha2.specs.Sha256.{sha256};
 ghost use Rattle.bincode_base.specs.declared.error.DecodeError.TheVariants.{Memory};
-ghost use Rattle.bincode_spec.specs.Slice.{Decoded};
+ghost use Rattle.bincode_spec.specs.Slice.{IsDecoded};
 ghost use Rattle.framed_store.specs.Appended.{IsEntry};
 ghost use Rattle.snapshots.specs.Snapshots.{
   snapshot,
@@ -197,7 +197,7 @@ fn number_of(count: &[u8]) -> u64
 
 /// The state that a word holds, all of it.
 fn state_of<T: Decode<()>, C: Config>(alloc: Global, word: &[u8], config: C) -> Result<T, LoadError>
-    ensures state { IfOk result (λ state. Decoded (T.words.format C.setting) C.bound word.now
+    ensures state { IfOk result (λ state. IsDecoded (T.words.format C.setting) C.bound word.now
         (λ m. T.words.decodes_to m state) (length word.now)) }
     ensures fault { IfErr result (IsStateFault (T.words.format C.setting) C.bound word.now) }
 {

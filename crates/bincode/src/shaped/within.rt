@@ -2,7 +2,7 @@
 ghost use Rattle.std.specs.Prelude.{◌≡◌, ◌≤◌, ℕ, IfOk, IfErr};
 ghost use Rattle.bincode_spec.specs.Answer.{answer};
 ghost use Rattle.bincode_spec.specs.Decoding.{Decodes, DecodeFailure};
-ghost use Rattle.bincode_spec.specs.Slice.{Decoded, FindsWords, TellsFaults, KeepsLimit};
+ghost use Rattle.bincode_spec.specs.Slice.{IsDecoded, FindsWords, TellsFaults, KeepsLimit};
 ghost use Rattle.bincode_shape.specs.Counts.{values_in, count_of, IsCounted};
 ghost use Rattle.bincode_shape.specs.Shapes.{format_of, IsImage, TakesMemory};
 ghost use Rattle.bincode_shape_codec.specs.Within.{FindsFew, RefusesMany, TellsDecodeFaults, KeepsDecodeLimit};
@@ -27,7 +27,7 @@ pub fn measure_shaped<C: Config>(
     config: C,
 ) -> Result<Measure, DecodeError>
     // On `Ok` the front of the slice is an encoding within the limit, with its length and its number of values.
-    ensures word { IfOk result (λ x. Decoded (format_of shape.now C.setting) C.bound src.now
+    ensures word { IfOk result (λ x. IsDecoded (format_of shape.now C.setting) C.bound src.now
         (λ m. IsCounted shape.now m x.values) x.bytes) }
     // Each encoding within the limit is accepted,
     ensures found { FindsWords (format_of shape.now C.setting) C.bound ⊥ src.now result }
@@ -75,7 +75,7 @@ pub fn decode_shaped_within<C: Config>(
 ) -> Result<(Value, usize), DecodeWithinError>
     // On `Ok((v, n))` the first `n` bytes are an encoding within the limit, `v` fits the shape and has its meaning, and
     // it is made of at most `most` values.
-    ensures word { IfOk result (λ x. Decoded (format_of shape.now C.setting) C.bound src.now
+    ensures word { IfOk result (λ x. IsDecoded (format_of shape.now C.setting) C.bound src.now
         (λ m. IsImage shape.now m x.0 × (values_in x.0 ≤ most)) x.1) }
     // Each encoding within the limit that has no more values is accepted,
     ensures found { FindsFew (format_of shape.now C.setting) C.bound (TakesMemory shape.now) (count_of shape.now)

@@ -2,7 +2,7 @@
 use Rattle.std.specs.Prelude.{◌≡◌, ◌⊎◌, ℕ, List, Result, Ok, Err}
 use Rattle.bincode_base.specs.declared.error.DecodeError.{DecodeError}
 use Rattle.bincode_base.specs.declared.error.DecodeError.TheVariants.{LimitExceeded}
-use Rattle.bincode_spec.specs.Device.{DeviceErrors, Rose}
+use Rattle.bincode_spec.specs.Device.{DeviceErrors, CountRises}
 use Rattle.bincode_spec.specs.Fault.{Fault, Tells}
 
 -- both errors are `LimitExceeded`, or both tell one fault, each with its reader's error for the end of the input
@@ -12,7 +12,7 @@ pub data TellAlike (end_error end_error' : ℕ → DecodeError → Type 0) (d e 
 
 -- the device failed, by an error that it counts or by one that it does not
 abbrev pub DeviceFailed : DeviceErrors → ℕ → ℕ → DecodeError → Type 0
-DeviceFailed device before after e = (device.is_counted e × Rose before after) ⊎ device.is_uncounted e
+DeviceFailed device before after e = (device.is_counted e × CountRises before after) ⊎ device.is_uncounted e
 
 -- the values are given for one meaning, and equal bytes and an equal charge are left
 pub record GivenAlike {A T : Type 0} (DecodesTo : A → T → Type 0) (remaining remaining' : List ℕ) (charge charge' : ℕ) (v w : T) : Type 0 where

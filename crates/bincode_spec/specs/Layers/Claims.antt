@@ -6,21 +6,21 @@ use Rattle.bincode_base.specs.declared.error.DecodeError.TheVariants.{LimitExcee
 use Rattle.bincode_spec.specs.Answer.{after_release, after_claim}
 
 -- the claim of n bytes succeeds
-abbrev pub Claimed : Option ℕ → ℕ → ℕ → ℕ → Type 0
-Claimed limit before n after = after_claim limit before n ≡ Some after
+abbrev pub ClaimSucceeds : Option ℕ → ℕ → ℕ → ℕ → Type 0
+ClaimSucceeds limit before n after = after_claim limit before n ≡ Some after
 
 -- the claim passes the limit: the new charge is kept if it fits 64 bits
-abbrev pub OverClaimed : Option ℕ → ℕ → ℕ → ℕ → Type 0
-OverClaimed limit before n after = (after_claim limit before n ≡ None) × (after ≡ (if nat_lt (before + n) (2 ^ 64) then before + n else before))
+abbrev pub ClaimFails : Option ℕ → ℕ → ℕ → ℕ → Type 0
+ClaimFails limit before n after = (after_claim limit before n ≡ None) × (after ≡ (if nat_lt (before + n) (2 ^ 64) then before + n else before))
 
 -- A claim of n bytes was made: it succeeded or passed the limit, and released nothing.
 abbrev pub Charges : Option ℕ → ℕ → ℕ → ℕ → Type 0
-Charges limit before n after = Claimed limit before n after ⊎ OverClaimed limit before n after
+Charges limit before n after = ClaimSucceeds limit before n after ⊎ ClaimFails limit before n after
 
 -- a claim of n bytes succeeds, or fails because it passes the limit
 pub record Claims (limit : Option ℕ) (before n after : ℕ) (result : Result (Unit {0}) DecodeError) : Type 0 where
-  pub ok : OnOk result (Claimed limit before n after)
-  pub err : IfErr result (λ e. (e ≡ LimitExceeded) × OverClaimed limit before n after)
+  pub ok : OnOk result (ClaimSucceeds limit before n after)
+  pub err : IfErr result (λ e. (e ≡ LimitExceeded) × ClaimFails limit before n after)
 
 -- a decoder (`old` before, `new` after) has the input, failures, reader, context and references that it had
 pub record OnlyCharged {D R C : Type 0} (is_known : D → Type 0) (remaining : D → List ℕ) (failures : D → ℕ) (reader_of : D → R) (context_of : D → C) (loans : D → List GName) (old new : D) : Type 0 where

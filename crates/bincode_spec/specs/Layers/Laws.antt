@@ -7,8 +7,8 @@ use Rattle.bincode_spec.specs.Format.{Format, Reading, Took, Failed}
 use Rattle.bincode_spec.specs.Words.{Variant}
 
 -- these steps are a prefix of those
-abbrev pub Begun : List Step → List Step → Type 0
-Begun front steps = (back : List Step) × (steps ≡ front ++ back)
+abbrev pub IsStepPrefix : List Step → List Step → Type 0
+IsStepPrefix front steps = (back : List Step) × (steps ≡ front ++ back)
 
 -- the steps that were taken
 abbrev pub steps_of : {A : Type 0} → Reading A → List Step
@@ -21,7 +21,7 @@ IsAnswered (Took _ _ _) = Unit {0}
 IsAnswered (Failed fault _) = ¬ (IsEnd fault)
 
 -- bytes that complete an input which ended too early
-pub record Mended {A : Type 0} (read : List ℕ → Reading A) (input : List ℕ) : Type 0 where
+pub record Completion {A : Type 0} (read : List ℕ → Reading A) (input : List ℕ) : Type 0 where
   pub more : List ℕ
   pub are_bytes : All (λ b. b < 256) more
   pub answered : IsAnswered (read (input ++ more))
@@ -35,14 +35,14 @@ pub record BeginsWith {A : Type 0} (F : Format A) (input : List ℕ) (meaning : 
 -- Each input begins with one word, or has one fault: what the program finds. More bytes change no fault but the end of
 -- the input; the steps of that are a prefix of those of each longer input, and some bytes complete it. What is written
 -- is a word.
-pub record Lawful {A : Type 0} (F : Format A) : Type 0 where
+pub record IsLawful {A : Type 0} (F : Format A) : Type 0 where
   pub word_read : (word remaining : List ℕ) (m : A) (s : List Step) → F.Word word m s → F.read (word ++ remaining) ≡ Took m remaining s
   pub read_word : (input remaining : List ℕ) (m : A) (s : List Step) → F.read input ≡ Took m remaining s → BeginsWith F input m remaining s
   pub fault_read : (input : List ℕ) (fault : Fault) (s : List Step) → F.Faults input fault s → F.read input ≡ Failed fault s
   pub read_fault : (input : List ℕ) (fault : Fault) (s : List Step) → F.read input ≡ Failed fault s → F.Faults input fault s
   pub stays : (input more : List ℕ) (fault : Fault) (s : List Step) → ¬ (IsEnd fault) → F.read input ≡ Failed fault s → F.read (input ++ more) ≡ Failed fault s
-  pub begun : (input more : List ℕ) (fault : Fault) (s : List Step) → IsEnd fault → F.read input ≡ Failed fault s → Begun s (steps_of (F.read (input ++ more)))
-  pub mended : (input : List ℕ) (fault : Fault) (s : List Step) → IsEnd fault → F.read input ≡ Failed fault s → Mended F.read input
+  pub begun : (input more : List ℕ) (fault : Fault) (s : List Step) → IsEnd fault → F.read input ≡ Failed fault s → IsStepPrefix s (steps_of (F.read (input ++ more)))
+  pub mended : (input : List ℕ) (fault : Fault) (s : List Step) → IsEnd fault → F.read input ≡ Failed fault s → Completion F.read input
   pub written_is_word : (word : List ℕ) (m : A) → F.Written word m → (s : List Step) × F.Word word m s
 
 -- no prefix of the steps releases more than was held before and reserved since
@@ -59,18 +59,18 @@ pub record Holds (before after : ℕ) {A : Type 0} (F : Format A) : Type 0 where
   pub settles : (input : List ℕ) → Settles before after (F.read input)
 
 -- a word releases all that it reserves, and never too early
-abbrev pub Balanced : {A : Type 0} → Format A → Type 0
-Balanced F = Holds 0 0 F
+abbrev pub IsBalanced : {A : Type 0} → Format A → Type 0
+IsBalanced F = Holds 0 0 F
 
 -- the part of each variant is lawful
 abbrev pub AllLawful : Setting → List Variant → Type 0
 AllLawful s [] = Unit {0}
-AllLawful s (variant ∷ others) = Lawful (variant.1 s) × AllLawful s others
+AllLawful s (variant ∷ others) = IsLawful (variant.1 s) × AllLawful s others
 
 -- and is balanced
 abbrev pub AllBalanced : Setting → List Variant → Type 0
 AllBalanced s [] = Unit {0}
-AllBalanced s (variant ∷ others) = Balanced (variant.1 s) × AllBalanced s others
+AllBalanced s (variant ∷ others) = IsBalanced (variant.1 s) × AllBalanced s others
 
 -- Each word charges `cost` in all and releases what it reserves, and no front of its steps charges and holds more
 -- than `peak`.

@@ -5,7 +5,7 @@ use Rattle.bincode_base.specs.declared.error.DecodeError.{DecodeError}
 use Rattle.bincode_base.specs.declared.error.StreamError.{StreamError}
 use Rattle.bincode_base.specs.declared.error.DecodeError.TheVariants.{UnexpectedEnd, Io}
 use Rattle.bincode_base.specs.declared.error.EncodeError.{EncodeError}
-use Rattle.bincode_spec.specs.Device.{DeviceErrors, Rose, Takes, WithinRoom}
+use Rattle.bincode_spec.specs.Device.{DeviceErrors, CountRises, Takes, WithinRoom}
 
 -- a reader without a device
 abbrev pub no_device : DeviceErrors
@@ -16,8 +16,8 @@ abbrev pub IsEndError : ℕ → DecodeError → Type 0
 IsEndError missing e = (e ≡ UnexpectedEnd missing) ⊎ ((inner : StreamError) × (e ≡ Io inner missing))
 
 -- a call left the failures and the references as they were, and what remains if it is known
-abbrev pub Unmoved : Type 0 → Type 0 → List ℕ → List ℕ → ℕ → ℕ → List GName → List GName → Type 0
-Unmoved is_known is_known' remaining remaining' failures failures' loans loans' = (is_known → is_known' × (remaining' ≡ remaining)) × (failures' ≡ failures) × (loans' ≡ loans)
+abbrev pub LeavesState : Type 0 → Type 0 → List ℕ → List ℕ → ℕ → ℕ → List GName → List GName → Type 0
+LeavesState is_known is_known' remaining remaining' failures failures' loans loans' = (is_known → is_known' × (remaining' ≡ remaining)) × (failures' ≡ failures) × (loans' ≡ loans)
 
 -- a read of `wanted` bytes has too few: `end_error` has the error for the number that is missing
 abbrev pub FallsShort : (ℕ → DecodeError → Type 0) → List ℕ → ℕ → DecodeError → Type 0
@@ -29,7 +29,7 @@ FallsShort end_error remaining wanted e = (length remaining < wanted) × end_err
 pub record FillsBuffer {R : Type 0} (is_known : R → Type 0) (remaining : R → List ℕ) (failures : R → ℕ) (loans : R → List GName)
     (end_error : ℕ → DecodeError → Type 0) (device : DeviceErrors) (before after : List ℕ) (result : Result (Unit {0}) DecodeError) (old new : R) : Type 0 where
   pub next : is_known old → OnOk result (remaining old ≡ after ++ remaining new)
-  pub why : is_known old → IfErr result (λ e. FallsShort end_error (remaining old) (length before) e ⊎ (device.is_uncounted e ⊎ (device.is_counted e × Rose (failures old) (failures new))))
+  pub why : is_known old → IfErr result (λ e. FallsShort end_error (remaining old) (length before) e ⊎ (device.is_uncounted e ⊎ (device.is_counted e × CountRises (failures old) (failures new))))
   pub left : is_known old → IfErr result (λ e. device.is_uncounted e ⊎ Takes (remaining old) (remaining new))
   pub failures_monotone : failures old ≤ failures new
   pub tells : is_known old → is_known new

@@ -4,13 +4,13 @@ use Rattle.std.specs.Borrow.{GName}
 use Rattle.bincode_base.specs.declared.error.DecodeError.{DecodeError}
 use Rattle.bincode_spec.specs.Fault.{Fault, Tells}
 use Rattle.bincode_spec.specs.Format.{Format, Reading, Took, Failed}
-use Rattle.bincode_spec.specs.Device.{DeviceErrors, Rose, Takes}
+use Rattle.bincode_spec.specs.Device.{DeviceErrors, CountRises, Takes}
 
 -- The error tells the fault of the input, or the device failed with an error that it counts, and a prefix of the input
 -- was taken; or with one that it does not count, and then nothing is said of the input.
 pub data ReadFailure {A : Type 0} (end_error : ℕ → DecodeError → Type 0) (device : DeviceErrors) (reading : Reading A) (before after : ℕ) (remaining remaining' : List ℕ) (e : DecodeError) : Type 0 where
   by_fault : (why : Fault) → reading ≡ Failed why [] → Tells end_error why e → Takes remaining remaining' → ReadFailure end_error device reading before after remaining remaining' e
-  by_failure : device.is_counted e → Rose before after → Takes remaining remaining' → ReadFailure end_error device reading before after remaining remaining' e
+  by_failure : device.is_counted e → CountRises before after → Takes remaining remaining' → ReadFailure end_error device reading before after remaining remaining' e
   by_device : device.is_uncounted e → ReadFailure end_error device reading before after remaining remaining' e
 
 -- A reader (`old` before, `new` after) read a word of a format without steps: the value has its meaning, or the error

@@ -9,7 +9,7 @@ use Rattle.bincode_spec.specs.Answer.{answer, Allows}
 use Rattle.bincode_spec.specs.Layers.Claims.{Charges}
 use Rattle.bincode_spec.specs.Decoding.{Decodes, DecodeFailure}
 use Rattle.bincode_spec.specs.Run.{IsListOf}
-use Rattle.bincode_spec.specs.Layers.Releases.{Held}
+use Rattle.bincode_spec.specs.Layers.Releases.{ReleasesAtMost}
 
 -- A decoder (`old` before, `new` after) read one value, from a charge of `charged`: it is given for the meaning of a
 -- word, or the error tells why there is none. Failures don't fall, what remains stays known, no earlier charge is
@@ -48,6 +48,6 @@ pub record RunRead {D A T : Type 0} (is_known : D → Type 0) (remaining : D →
   pub err : is_known old → IfErr result (DecodeFailure end_error device may_allocate (answer limit (elements count claim format) (remaining old) (charge old)) (failures old) (failures new) (remaining old) (remaining new) (charge new))
   pub failures_monotone : failures old ≤ failures new
   pub tells : is_known old → is_known new
-  pub charge_kept : Held limit (count * claim) (charge old) (charge new)
+  pub charge_kept : ReleasesAtMost limit (count * claim) (charge old) (charge new)
   pub within : Allows limit (charge old) → IfOk result (λ _. Allows limit (charge new))
   pub same_loans : loans new ≡ loans old

@@ -1,6 +1,6 @@
 use Rattle.std.proofs.lemmas.Result.{IfErr-weaker, on_ok_weaker}
 use Rattle.bincode_lemmas.specs.AllowedLaws.{number-allows}
-use Rattle.bincode_lemmas.specs.EncodingLaws.{writes-alone, halts-among, ready}
+use Rattle.bincode_lemmas.specs.EncodingLaws.{writes-alone, halts-among, ready_word}
 use Rattle.bincode_encoder.proofs.integers.encode_integer.Goals as goal
 
 pub returns : goal.returns
@@ -14,6 +14,6 @@ returns g c =
     rw c.rebuild_result.ensures (record {
       ok = rw put (on_ok_weaker _ (writes-alone _ _ _ _ _ a) write.ok);
       err = rw put (IfErr-weaker c.write.result _ _ (λ e. halts-among _ _ _ (spelling.pieces s.order s.encoding c.args.val)
-          (ready _ _ (rw (laws.pieces_join s.order s.encoding c.args.val) a)) _ _ _ e) write.err);
+          (ready_word _ _ (rw (laws.pieces_join s.order s.encoding c.args.val) a)) _ _ _ e) write.err);
       same_loans = g.met.E.Encoder.put_loans c.args.encoder.now c.write.new.writer write.same_loans;
     })

@@ -8,7 +8,7 @@ use Rattle.bincode_encoder.proofs.EncodingAnswers.{encodes-as}
 use Rattle.bincode_encoder.proofs.ListAnswers.{length-halts, list-encodes}
 use Rattle.bincode_encoder.proofs.RunAnswers.{writes-more, writes-array, halts-at, halts_array}
 use Rattle.bincode_spec.specs.Words.{tag}
-use Rattle.bincode_shape.specs.Shapes.{share, byte_tag, optional, numbered, format_of, IsMeant}
+use Rattle.bincode_shape.specs.Shapes.{share, byte_tag, option_variants, numbered_variants, format_of, IsMeant}
 use Rattle.bincode_shape.specs.Rows.{formats, tests_of-vec}
 use Rattle.bincode_shape.proofs.Fitting.{picked-at}
 use Rattle.bincode_shape_codec.proofs.Picked.{picked, picked-there, picked-within, one_of-some}
@@ -53,18 +53,18 @@ encode_items-returns g t c =
 
 pub encode_optional-returns-in-None : goal.encode_optional-returns-in-None
 encode_optional-returns-in-None g t c =
-    rw (c.option_of.ensures, c.in-None.is) (written.tag-encodes byte_tag (optional (format_of c.args.part.now)) g.E.C.Config.setting 0 refl c.encode_byte.ensures)
+    rw (c.option_of.ensures, c.in-None.is) (written.tag-encodes byte_tag (option_variants (format_of c.args.part.now)) g.E.C.Config.setting 0 refl c.encode_byte.ensures)
 
 pub encode_optional-returns-in_err-encode_byte-in-Some : goal.encode_optional-returns-in_err-encode_byte-in-Some
 encode_optional-returns-in_err-encode_byte-in-Some g t c =
     let p = err_from_is_err_and c.from_residual.result c.from_residual.ensures.1 in
     rw (p.1, p.2, c.option_of.ensures, c.in-Some.is)
-    (written.tag-halts byte_tag (optional (format_of c.args.part.now)) g.E.C.Config.setting 1 _ refl _ c.in_err-encode_byte-in-Some.ensures)
+    (written.tag-halts byte_tag (option_variants (format_of c.args.part.now)) g.E.C.Config.setting 1 _ refl _ c.in_err-encode_byte-in-Some.ensures)
 
 pub encode_optional-returns-in_ok-encode_byte-in-Some : goal.encode_optional-returns-in_ok-encode_byte-in-Some
 encode_optional-returns-in_ok-encode_byte-in-Some g t c =
     rw (c.option_of.ensures, c.in-Some.is)
-    (written.choice-encodes byte_tag (optional (format_of c.args.part.now)) g.E.C.Config.setting 1 _ refl _ g.met.E.W.Writer.adds_join
+    (written.choice-encodes byte_tag (option_variants (format_of c.args.part.now)) g.E.C.Config.setting 1 _ refl _ g.met.E.W.Writer.adds_join
     c.in_ok-encode_byte-in-Some.ensures (rw c.deref.ensures at c.encode_shape.ensures))
 
 pub encode_choice-bounds-parts-index : goal.encode_choice-bounds-parts-index
@@ -86,7 +86,7 @@ encode_choice-returns-in_err-encode_integer g t c =
     let within = picked-within parts n c.args.held.now c.requires in
     let s = g.E.C.Config.setting in
     rw (p.1, p.2, one_of-some parts s (omega (arith, within)))
-    (written.tag-halts tag (numbered 0 (formats parts)) s n _ (picked-there s parts n within) _ c.in_err-encode_integer.ensures)
+    (written.tag-halts tag (numbered_variants 0 (formats parts)) s n _ (picked-there s parts n within) _ c.in_err-encode_integer.ensures)
 
 pub encode_choice-returns : goal.encode_choice-returns
 encode_choice-returns g t c =
@@ -96,7 +96,7 @@ encode_choice-returns g t c =
     let within = picked-within parts n c.args.held.now c.requires in
     let s = g.E.C.Config.setting in
     rw (one_of-some parts s (omega (arith, within)))
-    (written.choice-encodes tag (numbered 0 (formats parts)) s n (format_of part s) (picked s parts n part within c.index-parts-index.is) _ g.met.E.W.Writer.adds_join
+    (written.choice-encodes tag (numbered_variants 0 (formats parts)) s n (format_of part s) (picked s parts n part within c.index-parts-index.is) _ g.met.E.W.Writer.adds_join
     c.in_ok-encode_integer.ensures c.encode_shape.ensures)
 
 pub encode_parts-bounds-items-index : goal.encode_parts-bounds-items-index

@@ -4,7 +4,7 @@ use Rattle.std.proofs.lemmas.Result.{err_from_is_err_and}
 use Rattle.bincode_lemmas.specs.RunLaws.{array-passed}
 use Rattle.bincode_decoder.proofs.ReadAnswers.{claim-passed}
 use Rattle.bincode_shape.specs.declared.shape.Shape as shapes
-use Rattle.bincode_shape.specs.Counts.{count_of, count_each, count_parts, count_some, count_choice, capped}
+use Rattle.bincode_shape.specs.Counts.{count_of, count_each, count_parts, count_some, count_choice, as_u128}
 use Rattle.bincode_shape.specs.Rows.{counts, formats_of-vec, counts_of-vec}
 use Rattle.bincode_shape.specs.ShapeLaws.{format_of-lawful, format_of-balanced}
 use Rattle.bincode_collections.proofs.Containers.{array-reads, length-stops, length-reads, reads-with}
@@ -12,7 +12,7 @@ use Rattle.bincode_collections.proofs.Reading.{none-so_far, next-releases, next-
 use Rattle.bincode_shape_codec.proofs.Alike.{copies, shape-empty, alike-so_far}
 use Rattle.bincode_shape_codec.proofs.Counting as counting
 use Rattle.bincode_shape_codec.proofs.Parts as parts
-use Rattle.bincode_shape_codec.proofs.Optional as optional
+use Rattle.bincode_shape_codec.proofs.Optional as option_variants
 use Rattle.bincode_shape_codec.proofs.Chosen as chosen
 use Rattle.bincode_shape_codec.proofs.Picked.{some-parts}
 use Rattle.bincode_shape_codec.proofs.measure.+measure.Goals as goal
@@ -77,7 +77,7 @@ measure_alike-returns g t c =
       all-so_far
           (alike-so_far (shape-empty element s c.requires.bytes) (format_of-lawful element s) (format_of-balanced element s) c.requires.some c.requires.within c.requires.room
           c.in_ok-values.ensures c.release_room.ensures) refl refl,
-      c.saturating_mul.ensures ∙ ap capped (sym sum),
+      c.saturating_mul.ensures ∙ ap as_u128 (sym sum),
     )
 
 pub measure_parts-loop-part-init : goal.measure_parts-loop-part-init
