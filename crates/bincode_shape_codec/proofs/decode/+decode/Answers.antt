@@ -13,7 +13,7 @@ use Rattle.bincode_collections.proofs.Containers.{array-reads, length-stops, len
 use Rattle.bincode_collections.proofs.Reading.{none-so_far, next-releases, next-so_far, stops-so_far, all-so_far}
 use Rattle.bincode_shape_codec.proofs.Parts as parts
 use Rattle.bincode_shape_codec.proofs.Images as images
-use Rattle.bincode_shape_codec.proofs.Optional as option_variants
+use Rattle.bincode_shape_codec.proofs.Optional as optional
 use Rattle.bincode_shape_codec.proofs.Chosen as chosen
 use Rattle.bincode_shape_codec.proofs.Picked.{some-parts}
 use Rattle.bincode_shape_codec.proofs.decode.+decode.Goals as goal

@@ -12,7 +12,7 @@ use Rattle.bincode_collections.proofs.Reading.{none-so_far, next-releases, next-
 use Rattle.bincode_shape_codec.proofs.Alike.{copies, shape-empty, alike-so_far}
 use Rattle.bincode_shape_codec.proofs.Counting as counting
 use Rattle.bincode_shape_codec.proofs.Parts as parts
-use Rattle.bincode_shape_codec.proofs.Optional as option_variants
+use Rattle.bincode_shape_codec.proofs.Optional as optional
 use Rattle.bincode_shape_codec.proofs.Chosen as chosen
 use Rattle.bincode_shape_codec.proofs.Picked.{some-parts}
 use Rattle.bincode_shape_codec.proofs.measure.+measure.Goals as goal
