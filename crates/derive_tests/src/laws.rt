@@ -105,6 +105,24 @@ struct Outer(self::Inner, u8);
 -----
 //! Left out of Inner: Exact.
 //! Left out of Outer: Exact.
+=====
+// A type that is skipped is taken to keep what it derives, and what no note leaves out.
+// bincode: skip
+#[derive(Drop, PartialEq)]
+struct Inner(u8);
+#[derive(Drop, PartialEq)]
+struct Outer(Inner);
+-----
+impl Exact for Outer {
+=====
+// bincode: skip
+// bincode: without Canonical
+#[derive(Drop)]
+struct Inner(u8);
+#[derive(Drop, PartialEq)]
+struct Outer(Inner);
+-----
+//! Left out of Outer: Exact, Canonical.
 ";
 
 #[test]

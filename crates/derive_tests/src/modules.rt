@@ -104,6 +104,12 @@ struct Row(u8, u8, u8, u8, u8, u8, u8, u8, u8);
 -----
 type RowParts = ((u8, u8, u8, u8), (u8, u8, u8, u8), u8);
 =====
+#[derive(Drop)]
+struct Row<'a>(&'a str, u8, u8, u8, u8, u8, u8, u8, u8);
+-----
+        let parts: RowParts<'a> = BorrowDecode::borrow_decode(decoder)?;
+        Ok(Row::from_parts(parts))
+=====
 // Names that mean something else where they would be bound.
 #[derive(Drop)]
 enum Kind {

@@ -151,6 +151,19 @@ enum Code {
 refused 3:5: a note stands in a line of its own, above the type or the variant that it is about: move \"// bincode: \
     tag 5\" there
 =====
+// bincode: with Writable
+use std::alloc::Global;
+struct A(u8);
+-----
+refused 1:1: a note stands in a line of its own, above the type or the variant that it is about: move \"// bincode: \
+    with Writable\" there
+=====
+// bincode: skip
+pub fn area() {}
+-----
+refused 1:1: a note stands in a line of its own, above the type or the variant that it is about: move \"// bincode: \
+    skip\" there
+=====
 struct A;
 // bincode: skip
 -----

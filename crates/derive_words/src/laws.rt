@@ -40,10 +40,10 @@ fn keeps_at(source: &Source<'_>, at: usize, round: usize) -> Keeps {
     }
 }
 
-/// What a type keeps by its derives and its notes alone.
+/// What a type keeps by its derives and its notes alone. Of one that is skipped no variant was read.
 fn first_keeps(source: &Source<'_>, item: &Item<'_>) -> Keeps {
     let marks = item.marks;
-    let has_values = !item.variants.is_empty();
+    let has_values = marks.is_skipped || !item.variants.is_empty();
     Keeps {
         plain: !marks.without.plain,
         exact: has_values && source.is_comparable(item) && !marks.without.exact,

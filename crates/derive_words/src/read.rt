@@ -21,13 +21,14 @@ pub fn source_of<'t>(alloc: Global, tokens: &'t [Token<'t>]) -> Result<Source<'t
 }
 
 /// Refuses the first note that is not above something that it may be about. One behind code in its line would be taken
-/// for a note to what stands below it, and one before a `}` or at the end of the source for none.
+/// for a note to what stands below it, and one before a `}`, at the end of the source or above what is no type for none.
 fn refuse_misplaced<'t>(cursor: &mut Cursor<'t>, tokens: &'t [Token<'t>]) {
     let mut code_ends = 0usize;
     for (at, token) in tokens.iter().enumerate() {
         if is_note(token.text) {
             let below = text_at(tokens, at.saturating_add(1));
-            if token.place.line == code_ends || below.is_empty() || below == "}" {
+            let is_lost = below.is_empty() || below == "}" || is_no_type(tokens, at);
+            if token.place.line == code_ends || is_lost {
                 cursor.refuse(token.place, MISPLACED_NOTE, token.text);
             }
         } else {
@@ -35,6 +36,16 @@ fn refuse_misplaced<'t>(cursor: &mut Cursor<'t>, tokens: &'t [Token<'t>]) {
         }
     }
 }
+
+/// Whether what stands below the token at this place is an item, and no type.
+fn is_no_type(tokens: &[Token<'_>], at: usize) -> bool {
+    let below = text_at(tokens, at.saturating_add(1));
+    let next = text_at(tokens, at.saturating_add(2));
+    is_listed(below, OTHER_ITEMS) || below == "pub" && is_listed(next, OTHER_ITEMS)
+}
+
+/// What the items begin with that are no types.
+const OTHER_ITEMS: &str = "use fn mod impl trait type const static unsafe extern ghost";
 
 /// Reads all that stands in a source.
 fn read_source<'t>(alloc: Global, cursor: &mut Cursor<'t>) -> Source<'t> {
