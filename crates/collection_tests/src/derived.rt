@@ -45,7 +45,6 @@ fn keeps_packet(alloc: Global, word: &[u8], payload: Option<&[u8]>) -> bool {
         Ok((packet, taken)) => {
             taken == word.len()
                 && packet.to == 7
-                && packet.hops == 64
                 && packet.payload == payload
                 && fills(&packet, word)
         }
@@ -57,7 +56,6 @@ fn keeps_packet(alloc: Global, word: &[u8], payload: Option<&[u8]>) -> bool {
 fn keeps_lent_bytes_that_may_be_missing(rt: HostRuntime) {
     let alloc = rt.alloc();
     assert!(rt;
-        keeps_packet(alloc, &[1, 7, 2, 3, 1, 4, 5, 64, 0], None)
-            && keeps_packet(alloc, &[1, 7, 2, 3, 0, 4, 5, 64, 1, 2, 5, 6], Some(&[5, 6]))
+        keeps_packet(alloc, &[7, 0], None) && keeps_packet(alloc, &[7, 1, 2, 5, 6], Some(&[5, 6]))
     );
 }

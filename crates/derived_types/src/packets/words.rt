@@ -4,20 +4,16 @@ ghost use Rattle.std.specs.Prelude.{◌≡◌};
 ghost use Rattle.bincode.specs.TypeLaws.{CanonicalWords, ExactWords, PlainWords};
 
 use super::*;
-use bincode::de::{BorrowDecode, BorrowDecoder, FromParts, Sequential};
+use bincode::de::{BorrowDecode, BorrowDecoder, Sequential};
 use bincode::enc::{Encode, Encoder};
 use bincode::error::{DecodeError, EncodeError};
 use bincode::laws::{Canonical, Exact, Plain, canonical_by_parts, exact_by_fields, plain_by_parts};
 use bincode::{HasParts, Wire};
 
-type PacketParts<'a> = ((u16, u16, u32, u32), (bool, u16, u16, u8), Option<&'a [u8]>);
+type PacketParts<'a> = (u16, Option<&'a [u8]>);
 
 impl<'a> HasParts<PacketParts<'a>> for Packet<'a> {
-    ghost parts = { λ v. (
-      (v.from, v.to, v.number, v.acknowledged),
-      (v.is_last, v.window, v.check, v.hops),
-      v.payload,
-    ) };
+    ghost parts = { λ v. (v.to, v.payload) };
 }
 
 impl<'a> Wire for Packet<'a> {
@@ -58,38 +54,11 @@ impl<'a> Canonical for Packet<'a> {
 
 impl<'a> Encode for Packet<'a> {
     fn tell_valid(&self) {
-        (
-            (&self.from, &self.to, &self.number, &self.acknowledged),
-            (&self.is_last, &self.window, &self.check, &self.hops),
-            &self.payload,
-        )
-            .tell_valid();
+        (&self.to, &self.payload).tell_valid();
     }
 
     fn encode<E: Encoder>(&self, encoder: &mut E) -> Result<(), EncodeError> {
-        (
-            (&self.from, &self.to, &self.number, &self.acknowledged),
-            (&self.is_last, &self.window, &self.check, &self.hops),
-            &self.payload,
-        )
-            .encode(encoder)
-    }
-}
-
-impl<'a> FromParts<PacketParts<'a>> for Packet<'a> {
-    fn from_parts(parts: PacketParts<'a>) -> Packet<'a> {
-        let ((from, to, number, acknowledged), (is_last, window, check, hops), payload) = parts;
-        Packet {
-            from,
-            to,
-            number,
-            acknowledged,
-            is_last,
-            window,
-            check,
-            hops,
-            payload,
-        }
+        (&self.to, &self.payload).encode(encoder)
     }
 }
 
@@ -99,7 +68,7 @@ impl<'a, Context: Drop> BorrowDecode<&'a [u8], Context> for Packet<'a> {
     fn borrow_decode<D: BorrowDecoder<&'a [u8], Context = Context>>(
         decoder: &mut D,
     ) -> Result<Packet<'a>, DecodeError> {
-        let parts: PacketParts<'a> = BorrowDecode::borrow_decode(decoder)?;
-        Ok(Packet::from_parts(parts))
+        let (to, payload): PacketParts<'a> = BorrowDecode::borrow_decode(decoder)?;
+        Ok(Packet { to, payload })
     }
 }
