@@ -107,8 +107,11 @@ type RowParts = ((u8, u8, u8, u8), (u8, u8, u8, u8), u8);
 #[derive(Drop)]
 struct Row<'a>(&'a str, u8, u8, u8, u8, u8, u8, u8, u8);
 -----
-        let parts: RowParts<'a> = BorrowDecode::borrow_decode(decoder)?;
-        Ok(Row::from_parts(parts))
+        let (
+            (first, second, third, fourth),
+            (fifth, sixth, seventh, eighth),
+            part_8,
+        ): RowParts<'a> = BorrowDecode::borrow_decode(decoder)?;
 =====
 // Names that mean something else where they would be bound.
 #[derive(Drop)]

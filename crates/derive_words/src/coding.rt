@@ -107,11 +107,8 @@ $if by variants$        $if borrowing$borrow_$end$decode_by_tag(decoder)
 $end$\
 $if empty$        decode_no_variants::<$itself$, $itself$, $D$>(decoder)
 $end$\
-$if long row$\
-$if borrowing$        let parts: $parts$ = BorrowDecode::borrow_decode(decoder)?;
-        Ok($path$::from_parts(parts))
-$else$        decode_by_parts::<$parts$, $itself$, $D$>(decoder)
-$end$$end$\
+$if long row$        decode_by_parts::<$parts$, $itself$, $D$>(decoder)
+$end$\
 $if struct$$if not long row$        let $bound$: $parts$ = \
 $if borrowing$BorrowDecode::borrow_decode$else$Decode::decode$end$(decoder)?;
         Ok($name$$made$)

@@ -13,7 +13,7 @@ pub fn is_fact(item: &Item<'_>, fact: &str) -> bool {
     let with = item.marks.with;
     match fact {
         "struct" => !item.is_enum,
-        "long row" => !item.is_enum && item.fields.len() > 8,
+        "long row" => item.fields.len() > 8 && !item.is_enum && !item.is_borrowing(),
         "row" => !item.is_enum && item.fields.len() > 1,
         "numbers" => most_of(item.fields.as_slice()).is_some(),
         "by variants" => is_by_variants(item),
