@@ -1,4 +1,4 @@
--- Choices, from their tags and their parts: they are lawful, what they allow, and that they are `HasShortestWords`.
+-- Choices, from their tags and their parts: they are lawful, what they allow, and that they have shortest words.
 use Rattle.std.specs.Prelude.{◌≡◌, ℕ, ◌<◌, pos, Bool, true, false, ◌==◌, Result, Ok, List, [], ◌∷◌, ◌++◌, refl}
 use Rattle.std.proofs.Common.{sym, ◌∙◌, ap, subst}
 use Rattle.std.proofs.lemmas.Bool.{eq-eqb}

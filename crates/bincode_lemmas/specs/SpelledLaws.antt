@@ -100,7 +100,7 @@ not_shorter P F f one written [] m s w h u e =
     omega (arith, ap length q)
 not_shorter P F f one written (b ∷ bytes) m s w h u e = omega (arith, one written w)
 
--- what is always one byte is `HasShortestWords`
+-- what is always one byte has shortest words
 pub one_byte-spelled : (P : Meaning → Type 0) (F : Format Meaning) (b : ℕ) → IsLawful F → b < 256 → AllowedWord P F (b ∷ []) → ((bytes : List ℕ) → AllowedWord P F bytes → length bytes ≡ 1) → HasShortestWords P F
 one_byte-spelled P F b f h w one = record {
   has_word = record { bytes = b ∷ []; are_bytes = All-cons (λ b. b < 256) b [] h (All-nil (λ b. b < 256)); is_allowed = w };

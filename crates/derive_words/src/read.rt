@@ -21,7 +21,8 @@ pub fn source_of<'t>(alloc: Global, tokens: &'t [Token<'t>]) -> Result<Source<'t
 }
 
 /// Refuses the first note that is not above something that it may be about. One behind code in its line would be taken
-/// for a note to what stands below it, and one before a `}`, at the end of the source or above what is no type for none.
+/// for a note to what stands below it. One before a `}`, at the end of the source or above what is no type would be
+/// taken for none.
 fn refuse_misplaced<'t>(cursor: &mut Cursor<'t>, tokens: &'t [Token<'t>]) {
     let mut code_ends = 0usize;
     for (at, token) in tokens.iter().enumerate() {
