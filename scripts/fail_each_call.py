@@ -3,15 +3,14 @@
 
     scripts/fail_each_call.py [--only WORD] [PROGRAM ..]
 
-PROGRAM is a built program (crates/records/out/records), and by default each of records, ledger, stock and describe, where `rt run`
-left it. It wants `strace`, which fails the Nth call of a kind and lets all others through. Each run begins with the same files, in
+PROGRAM is a built program (crates/records/out/records), and by default each of records and describe, where `rt run` left it. It wants `strace`, which fails the Nth call of a kind and lets all others through. Each run begins with the same files, in
 a temporary folder.
 
 A run has to end by itself, with status 3 or that of a run without a failure, and to say why on the standard error where it is 3. It
 leaves no other files than such a run. Then its files are looked at by the same program, without a failure. Unless the status was 3
 they are what a run without a failure leaves, and what was printed is the same, if it is not a message about a change. After status
 3 they are what they were before or that, or have a torn end that `repair` cuts off; and the same command once more does what it
-does without a failure. Of a server, each change that was answered is there.
+does without a failure.
 
 A line is printed for each command, with how many calls failed in turn and how many runs were answered wrongly. The status is 1 if
 any was, and 2 where nothing could be tried.
@@ -200,71 +199,6 @@ def records_cases():
     ]
 
 
-def ledger_cases():
-    def book(program, folder):
-        for words in (["open", "ann", "100"], ["open", "bob", "5"], ["pay", "ann", "bob", "30"], ["pay", "bob", "ann", "1"]):
-            run([program, "book", *words], folder)
-
-    def compacted(program, folder):
-        book(program, folder)
-        run([program, "book", "compact"], folder)
-        run([program, "book", "pay", "ann", "bob", "7"], folder)
-
-    def torn(program, folder):
-        book(program, folder)
-        change(folder, "book", lambda held: held[:-3])
-
-    def look(program, folder):
-        return [run([program, "book", word], folder)[:2] for word in ("balance", "check")]
-
-    def balances(program, folder):
-        # (a snapshot moves commands out of the log: what has to stay are the balances)
-        return run([program, "book", "balance"], folder)[:2]
-
-    mend = ["book", "repair"]
-    return [
-        Case("ledger open", ["book", "open", "cy", "3"], book, look, mend=mend),
-        Case("ledger open in a new book", ["book", "open", "cy", "3"], no_files, look, mend=mend, new="book"),
-        Case("ledger pay", ["book", "pay", "ann", "bob", "20"], compacted, look, mend=mend),
-        Case("ledger balance", ["book", "balance"], compacted, look),
-        Case("ledger log", ["book", "log"], compacted, look),
-        Case("ledger check", ["book", "check"], compacted, look),
-        Case("ledger compact", ["book", "compact"], book, balances),
-        Case("ledger compact, once more", ["book", "compact"], compacted, balances),
-        Case("ledger repair", ["book", "repair"], torn, look, mend=mend),
-    ]
-
-
-def stock_cases():
-    asked = ["add tea 5", "take tea 2", "add cup 3", "get tea"]
-    # The counts of tea and of cups after each of the first three.
-    stages = [(b"0", b"0"), (b"5", b"0"), (b"3", b"0"), (b"3", b"3")]
-
-    def requests(program, folder, *words):
-        return run([program, "ask", *words], folder)[1]
-
-    def counts(program, folder):
-        replies = run([program, "serve", "--log", "log"], folder, requests(program, folder, "get tea", "get cup"))[1]
-        return run([program, "show"], folder, replies)[1].split()
-
-    def keeps_answered(program, folder, printed, status):
-        answered = run([program, "show"], folder, printed)[1].splitlines()
-        changes = min(len(answered), 3)
-        if status == DONE and len(answered) != 4:
-            return f"status 0, and {len(answered)} answers"
-        seen = tuple(counts(program, folder))
-        if seen not in stages[changes : changes + 2]:
-            return f"{changes} changes were answered, and then there are {seen!r}"
-        return None
-
-    return asked, requests, [
-        Case("stock ask", ["ask", *asked], no_files, no_look),
-        Case("stock serve", ["serve"], no_files, no_look, given=None),
-        Case("stock serve --log", ["serve", "--log", "log"], no_files, no_look, given=None, answers=keeps_answered),
-        Case("stock show", ["show"], no_files, no_look, given=False),
-    ]
-
-
 def describe_cases():
     def files(program, folder):
         (folder / "file").write_bytes(bytes([7, 2, 5, 251, 0, 1, 1, 2, 111, 107, 0, 251, 44, 1]) * 3)
@@ -276,25 +210,15 @@ def describe_cases():
     ]
 
 
-def cases_of(program, folder):
+def cases_of(program):
     """The cases of a program, by its name."""
-    name = Path(program).name
-    if name == "stock":
-        asked, requests, cases = stock_cases()
-        given = requests(program, folder, *asked)
-        for case in cases:
-            if case.given is None:
-                case.given = given
-            elif case.given is False:
-                case.given = run([program, "serve"], folder, given)[1]
-        return cases
-    return {"records": records_cases, "ledger": ledger_cases, "describe": describe_cases}[name]()
+    return {"records": records_cases, "describe": describe_cases}[Path(program).name]()
 
 
 def main():
     asks = argparse.ArgumentParser(description=__doc__, formatter_class=argparse.RawDescriptionHelpFormatter)
     asks.add_argument("--only", default="", help="only the commands with this word in their name")
-    asks.add_argument("programs", nargs="*", default=[f"{TOP}/crates/{it}/out/{it}" for it in ("records", "ledger", "stock", "describe")])
+    asks.add_argument("programs", nargs="*", default=[f"{TOP}/crates/{it}/out/{it}" for it in ("records", "describe")])
     words = asks.parse_args()
     lacking = [it for it in words.programs if not Path(it).is_file()]
     if lacking or not shutil.which("strace"):
@@ -304,7 +228,7 @@ def main():
     for program in words.programs:
         with tempfile.TemporaryDirectory(prefix="fail-each-call-") as room:
             folder = Path(room)
-            for case in cases_of(str(Path(program).resolve()), folder):
+            for case in cases_of(program):
                 if words.only in case.name:
                     more = try_case(case, str(Path(program).resolve()), folder)
                     calls, wrong = calls + more[0], wrong + more[1]

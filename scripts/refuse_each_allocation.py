@@ -30,9 +30,9 @@ import tempfile
 import time
 from pathlib import Path
 
-CRATES = ["bincode_tests", "collection_tests", "shape_tests", "log_tests", "ledger_tests", "stock_tests"]
+CRATES = ["bincode_tests", "collection_tests", "shape_tests", "log_tests", "call_tests"]
 
-ONLY = {"log_tests": "refused_memory::", "ledger_tests": "refused_memory::", "stock_tests": "refused_memory"}
+ONLY = {"log_tests": "refused_memory::", "call_tests": "refused_memory"}
 
 # The calls of these tests take no memory: what builds configurations, the varint calls over a slice, encoders and decoders over a
 # slice, encoding plain values into a slice or a writer of blocks, and decoding from a slice, owned what holds nothing on the heap

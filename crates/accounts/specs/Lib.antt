@@ -1,2 +1,0 @@
-pub mod Accounts
-pub mod Changes

@@ -1,0 +1,14 @@
+//! The tests of calls, over a service whose replies are of a generic enum: what is answered to frames of each kind, what
+//! a caller reads, and memory that is refused.
+#![tactic(auto)]
+
+#[cfg(test)]
+mod answers;
+#[cfg(test)]
+mod refused_memory_of_calls;
+#[cfg(test)]
+mod reply;
+#[cfg(test)]
+mod streams;
+#[cfg(test)]
+mod zeros;

@@ -1,2 +1,0 @@
-mod Equal
-mod Runs

@@ -1,9 +1,0 @@
-mod Ends
-mod Entries
-mod Equal
-mod Logs
-mod Recovery
-mod Served
-mod Shown
-mod Spelled
-mod Sums
