@@ -1,7 +1,7 @@
 #!/usr/bin/env python3
 """Runs the rows of rows.json by shapes.py and words.py, which were written from docs/FORMAT.md alone.
 
-    conformance/check.py [ROWS]        crates/vectors/data/rows.json unless another file is named
+    conformance/check.py [ROWS]        conformance/rows.json unless another file is named
 
 Prints each row that differs, then a line for each family with its counts. Status: 0 all rows hold, 1 some do not. Of a row:
 
@@ -20,7 +20,7 @@ sys.dont_write_bytecode = True
 from shapes import parsed
 from words import Unfit, decode, encode, write_into
 
-PATH = os.path.join(os.path.dirname(os.path.abspath(__file__)), "..", "crates", "vectors", "data", "rows.json")
+PATH = os.path.join(os.path.dirname(os.path.abspath(__file__)), "rows.json")
 HOW = ("order", "integers", "limit", "stream")
 ANSWER = ("value", "taken", "fault")
 NAMES = {"family", "label", "shape", "type", *HOW, "input", *ANSWER, "word", "written", "slice", "left", "error", "text"}

@@ -1,7 +1,7 @@
 #!/usr/bin/env python3
 """Writes the rows of rows.json, family by family, by the rules of docs/FORMAT.md.
 
-    conformance/make_rows.py           rewrites crates/vectors/data/rows.json
+    conformance/make_rows.py           rewrites conformance/rows.json
 
 The rows of the family `worked` were worked by hand: they stand in that file alone, and are kept as they are. The others are written here with
 their answers: words are put together by the rules of sections 3 to 5, and least limits, faults and their fields stand as literals or follow from a
@@ -9,7 +9,7 @@ sum. Nothing here reads a word: that is what check.py and the library do.
 """
 import json, os
 
-PATH = os.path.join(os.path.dirname(os.path.abspath(__file__)), "..", "crates", "vectors", "data", "rows.json")
+PATH = os.path.join(os.path.dirname(os.path.abspath(__file__)), "rows.json")
 UNSIGNED = {"u8": 1, "u16": 2, "u32": 4, "u64": 8, "usize": 8, "u128": 16}
 SIGNED = {"i8": 1, "i16": 2, "i32": 4, "i64": 8, "isize": 8, "i128": 16}
 STANDARD, BIG, FIXED, BIG_FIXED = {}, {"order": "big"}, {"integers": "fixint"}, {"order": "big", "integers": "fixint"}

@@ -1,17 +1,18 @@
 #!/usr/bin/env python3
-"""Asks the program `vectors` and words.py for random values and hostile bytes of random shapes, and prints where they differ.
+"""Asks the program `describe` and words.py for random values and hostile bytes of random shapes, and prints where they differ.
 
-    conformance/random_shapes.py PROGRAM [--rows N] [--seed N] [--keep FILE]
+    conformance/random_shapes.py PROGRAM [--rows N] [--seed N]
 
-PROGRAM is crates/vectors/out/vectors, which `rt run -- data/rows.json` in crates/vectors builds. N is 20000 unless it is given; the seed is drawn
-where none is given, and printed. The rows are kept in FILE, if it is named. Of the rows that differ the first five are made smaller, as long as a
-smaller one differs too, and printed with both answers. Status: 0 none differs, 1 some do, 2 the program did not run all rows.
+PROGRAM is crates/describe/out/describe, which `rt run` in crates/describe builds. N is 5000 unless it is given; the seed is drawn where none is given,
+and printed. run_rows.py asks for each row; those that it passes over are not drawn. Of the rows that differ the first five are made smaller, as long
+as a smaller one differs too, and printed with both answers. Status: 0 none differs, 1 some do.
 """
-import argparse, json, os, random, subprocess, sys, tempfile
+import argparse, json, os, random, sys
 
 sys.dont_write_bytecode = True
 from shapes import SCALARS, WIDTHS, parsed
-from words import Reader, Fault, decode, encode, write_into
+from run_rows import unasked, wrong
+from words import Reader, Fault, decode, encode
 
 TEXTS = ["", "a", "\u00e9", "\u20ac", "\U0001f600", "a\0b", "caf\u00e9 \u20ac", "z" * 251, "\"\\\n"]
 CODES = [0, 65, 127, 128, 2047, 2048, 55295, 57344, 65535, 65536, 1114111]
@@ -82,30 +83,22 @@ def hostile(draw, word):
     return bytes(read)
 
 
-class Peak(Reader):
-    """A reader that knows the greatest sum of its charges, and the greatest count of elements without bytes."""
-    peak = most = 0
-
-    def charge(self, count):
-        super().charge(count)
-        self.peak = max(self.peak, self.sum)
+class Counting(Reader):
+    """A reader that knows the greatest count of elements without bytes."""
+    most = 0
 
     def items(self, element, count):
         self.most = max(self.most, count if element.has_no_bytes else 0)
         return super().items(element, count)
 
 
-def peak_of(shape, read, how):
-    reader = Peak(read, how.get("order", "little"), how.get("integers", "varint"), None)
+def most_items(shape, read, how):
+    reader = Counting(read, how.get("order", "little"), how.get("integers", "varint"), None)
     try:
         reader.value(shape)
     except Fault:
         pass
-    return reader
-
-
-def least_limit(shape, read, how):
-    return peak_of(shape, read, how).peak
+    return reader.most
 
 
 def item_count(value):
@@ -117,18 +110,18 @@ def item_count(value):
 
 
 def answered(row):
-    """The row with the answer of words.py, or None where the answer would take much memory."""
-    asked = {name: row[name] for name in ("family", "label", "shape", "order", "integers", "limit", "stream", "input", "slice", "word") if name in row}
-    how = {name: row[name] for name in ("order", "integers", "limit", "stream") if name in row}
+    """The row with the answer of words.py, or None where run_rows.py passes it over, or the answer would take much memory."""
+    asked = {name: row[name] for name in ("family", "label", "shape", "order", "integers", "input", "word") if name in row}
+    how = {name: row[name] for name in ("order", "integers") if name in row}
     shape = parsed(row["shape"])
     if "input" in row:
         read = bytes.fromhex(row["input"])
         answer = decode(shape, read, **how)
-        is_large = peak_of(shape, read, how).most > MOST_ITEMS or item_count(answer.get("value")) > MOST_ITEMS
-        return None if is_large else {**asked, **answer}
-    if "slice" in row:
-        return {**asked, "value": row["value"], **write_into(bytes.fromhex(row["slice"]), shape, row["value"], **how)}
-    return {**asked, "value": row["value"], "word": b"".join(encode(shape, row["value"], **how)).hex()}
+        is_large = most_items(shape, read, how) > MOST_ITEMS or item_count(answer.get("value")) > MOST_ITEMS
+        found = {**asked, **answer}
+        return None if is_large or unasked(found) else found
+    found = {**asked, "value": row["value"], "word": b"".join(encode(shape, row["value"], **how)).hex()}
+    return None if unasked(found) else found
 
 
 def draw_how(draw):
@@ -137,19 +130,14 @@ def draw_how(draw):
 
 
 def draw_rows(draw, text):
-    """Some rows of a shape: a value that is written, also into a slice that is short, and what is read of its word and of hostile ones."""
+    """Some rows of a shape: a value and its word, and what is read of that word and of hostile ones."""
     shape, how = parsed(text), draw_how(draw)
     value = draw_value(draw, shape)
     word = b"".join(encode(shape, value, **how))
     common = {"family": "random", "label": "", "shape": text, **how}
     yield {**common, "value": value}
-    yield {**common, "value": value, "slice": "ee" * draw.randrange(len(word) + 2)}
-    for read in [word, word + b"\7"] + [hostile(draw, word) for _ in range(3)] + [bytes(draw.randrange(256) for _ in range(draw.randrange(9)))]:
+    for read in [word + b"\7"] + [hostile(draw, word) for _ in range(3)] + [bytes(draw.randrange(256) for _ in range(draw.randrange(9)))]:
         yield {**common, "input": read.hex()}
-        peak = least_limit(shape, read, how)
-        limit = draw.choice([peak, peak, max(peak - 1, 0), draw.randrange(40), 1000])
-        if limit < 2**64:
-            yield {**common, "limit": limit, "input": read.hex(), **({"stream": True} if limit < 10000 and draw.random() < 0.2 else {})}
 
 
 def smaller_shapes(text):
@@ -164,25 +152,16 @@ def smaller_shapes(text):
 
 
 def smaller(row):
-    """Rows that ask for less: a shorter input or slice, the usual setting, and a smaller shape, under its least limit or one below."""
-    for name in "input", "slice":
-        read, size = bytes.fromhex(row.get(name, "")), len(row.get(name, "")) // 2
-        while size:
-            yield from ({**row, name: (read[:place] + read[place + size:]).hex()} for place in range(0, len(read), size))
-            size //= 2
-    for name in "limit", "order", "integers", "stream":
+    """Rows that ask for less: a shorter input, the usual setting, and a smaller shape."""
+    read, size = bytes.fromhex(row.get("input", "")), len(row.get("input", "")) // 2
+    while size:
+        yield from ({**row, "input": (read[:place] + read[place + size:]).hex()} for place in range(0, len(read), size))
+        size //= 2
+    for name in "order", "integers":
         if name in row:
             yield {other: row[other] for other in row if other != name}
     for shape in set(smaller_shapes(row["shape"])) - {row["shape"]}:
         yield {**row, "shape": shape}
-
-
-def under_limits(row):
-    """The row, and the same under the least limit and one below."""
-    yield row
-    if "limit" in row and "input" in row:
-        peak = least_limit(parsed(row["shape"]), bytes.fromhex(row["input"]), row)
-        yield from ({**row, "limit": limit} for limit in (peak, peak - 1) if 0 <= limit < row["limit"])
 
 
 def smaller_rows(row):
@@ -190,46 +169,28 @@ def smaller_rows(row):
     found = []
     for one in smaller(row):
         try:
-            found += [answered(limited) for limited in under_limits(one)]
+            found.append(answered(one))
         except Exception:
             continue
     return [one for one in found if one]
 
 
-def run(rows, program, path):
-    """The labels of the rows that differ, with what the program found."""
-    for number, row in enumerate(rows):
-        row["label"] = str(number)
-    with open(path, "w", encoding="utf-8") as file:
-        file.write("[\n" + ",\n".join(json.dumps(row, ensure_ascii=False, separators=(",", ":")) for row in rows) + "\n]\n")
-    done = subprocess.run([program, path], capture_output=True, text=True)
-    lines = done.stdout.splitlines()
-    found = dict(line.split(": ", 2)[1:] for line in lines if line.startswith("random: ") and not line.startswith("random: rows "))
-    if lines[-1:] != [f"rows {len(rows)} failed {len(found)}"] or done.returncode != bool(found):
-        print(f"the program did not run all rows: {done.stdout[-2000:]}{done.stderr[-2000:]}")
-        sys.exit(2)
-    return {int(label): told for label, told in found.items()}
-
-
-def minimised(row, found, program, path):
+def minimised(row, program):
     """The smallest row that was found to differ, by going to smaller ones as long as there is one."""
     for _ in range(50):
-        rows = smaller_rows(row)
-        differing = run(rows, program, path) if rows else {}
-        if not differing:
+        differing = [one for one in smaller_rows(row) if wrong(program, one)]
+        best = min(differing, key=lambda one: len(json.dumps(one)), default=row)
+        if len(json.dumps(best)) >= len(json.dumps(row)):
             break
-        best = min(differing, key=lambda label: len(json.dumps(rows[label])))
-        if len(json.dumps(rows[best])) >= len(json.dumps(row)):
-            break
-        row, found = rows[best], differing[best]
-    return row, found
+        row = best
+    return row
 
 
 def counted(rows):
     """How many rows have which answer."""
     counts = {}
     for row in rows:
-        answer = row["fault"]["name"] if "fault" in row else "a value" if "input" in row else "a slice" if "slice" in row else "a word"
+        answer = row["fault"]["name"] if "fault" in row else "a value" if "input" in row else "a word"
         counts[answer] = counts.get(answer, 0) + 1
     return ", ".join(f"{name} {count}" for name, count in sorted(counts.items()))
 
@@ -237,21 +198,19 @@ def counted(rows):
 def main():
     parser = argparse.ArgumentParser(description=__doc__, formatter_class=argparse.RawDescriptionHelpFormatter)
     parser.add_argument("program", metavar="PROGRAM")
-    parser.add_argument("--rows", type=int, default=20000)
+    parser.add_argument("--rows", type=int, default=5000)
     parser.add_argument("--seed", type=int, default=random.randrange(2**32))
-    parser.add_argument("--keep")
     options = parser.parse_args()
     draw, rows = random.Random(options.seed), []
     while len(rows) < options.rows:
         text = draw_shape(draw, draw.choice([0, 1, 2, 3]))
         rows += [row for row in map(answered, draw_rows(draw, text)) if row]
     print(f"seed {options.seed}, shapes {len({row['shape'] for row in rows})}, rows {len(rows)}: {counted(rows)}", flush=True)
-    with tempfile.TemporaryDirectory() as folder:
-        program = os.path.abspath(options.program)
-        differing = run(rows, program, os.path.abspath(options.keep) if options.keep else os.path.join(folder, "rows.json"))
-        for label in list(differing)[:5]:
-            row, found = minimised(rows[label], differing[label], program, os.path.join(folder, "smaller.json"))
-            print(f"row {label}: {json.dumps(row, ensure_ascii=False)}: {found}")
+    program = os.path.abspath(options.program)
+    differing = [row for row in rows if wrong(program, row)]
+    for row in differing[:5]:
+        row = minimised(row, program)
+        print(f"{json.dumps(row, ensure_ascii=False)}: {wrong(program, row)}")
     print(f"rows {len(rows)} differ {len(differing)}")
     return 1 if differing else 0
 

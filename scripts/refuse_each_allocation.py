@@ -4,7 +4,7 @@
 usage: refuse_each_allocation.py [--jobs N] [--most N] [--only WORD] [CRATE ..]
 
 CRATE is a crate with tests, and by default each of CRATES below. Of those in ONLY the tests of one module are run, which say what is
-left where memory is refused; their other tests want memory, as those of WANT_MEMORY do, which are left out. --only leaves the tests whose names have WORD in them, --most leaves the
+left where memory is refused; their other tests want memory. --only leaves the tests whose names have WORD in them, --most leaves the
 first N allocations of each test, and --jobs says how many run at once (2 by default). It proves nothing.
 
 The tests of a crate are built once, by `rt try --test --fail-alloc`, which makes an executable that counts the allocations (each
@@ -81,9 +81,6 @@ SAMPLED = {
     "collection_tests": ["maps::keeps_large_sets_and_maps", "maps::keeps_large_hashed_sets_and_maps"],
     "shape_tests": ["changed_shapes::explains_each_difference"],
 }
-
-# A row that is refused memory is told as one that can't be run, so that this test finds another text. It is left out.
-WANT_MEMORY = {"collection_tests": ["tables::tells_rows_that_fail"]}
 
 # How many allocations of a sampled test are refused from its first one on, how many up to its last one, and how many between.
 NEAR = 20
@@ -222,11 +219,10 @@ def sweep(crate, program, given):
     """Runs each test of the crate without each of its allocations, and answers how many runs failed."""
     tests = tests_of(program)
     without = WITHOUT_MEMORY.get(crate.name, [])
-    left_out = WANT_MEMORY.get(crate.name, [])
-    gone = [it for it in [*without, *SAMPLED.get(crate.name, []), *left_out] if it not in tests]
+    gone = [it for it in [*without, *SAMPLED.get(crate.name, [])] if it not in tests]
     if gone:
         stop(f"{crate.name} has no test {gone[0]}")
-    tests = [it for it in tests if given.only in it and ONLY.get(crate.name, "") in it and it not in left_out]
+    tests = [it for it in tests if given.only in it and ONLY.get(crate.name, "") in it]
     without = [it for it in without if given.only in it]
     failed = 0
     with multiprocessing.Pool(given.jobs, begin, (program, places_in(program))) as pool:

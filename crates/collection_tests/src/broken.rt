@@ -1,23 +1,44 @@
-//! A stream that fails at each of its calls in turn.
+//! Streams that fail at each of their calls in turn.
 
-use crate::sources::{Bytewise, Source};
 use bincode::config::Config;
 use bincode::de::Decode;
-use bincode::decode_from_std_read;
-use bincode::error::DecodeError;
+use bincode::enc::Encode;
+use bincode::error::{DecodeError, EncodeError};
+use bincode::{decode_from_std_read, encode_into_slice, encode_into_std_write};
+use conformance::calls::{Bytewise, Calls};
+use conformance::fault::Fault;
 use std::alloc::Global;
+use std::io;
+use std::io::{ErrorKind, Write};
 use test_helpers::streams::{Breaking, is_broken};
 
-/// A stream that fails at its first call, at its second and so on: the first result that is not this failure, with how
-/// many bytes were given until then.
+/// Streams that fail at their first call, at their second and so on, each with `Io`: the first answer that is not this
+/// failure, with how many bytes were given until then.
 pub struct Broken;
 
-impl Source for Broken {
+impl Calls for Broken {
+    fn encode<V: Encode + Copy, C: Config>(
+        _alloc: Global,
+        value: V,
+        slice: &mut [u8],
+        config: C,
+    ) -> Option<Result<usize, EncodeError>> {
+        let written = encode_into_slice(value, slice, config);
+        if let Ok(length) = &written {
+            for calls in 0..*length {
+                if !is_broken_at(value, config, calls) {
+                    return None;
+                }
+            }
+        }
+        Some(written)
+    }
+
     fn decode<T: Decode<()>, C: Config>(
         alloc: Global,
         input: &[u8],
         config: C,
-    ) -> Result<(T, usize), DecodeError> {
+    ) -> Option<Result<(T, usize), DecodeError>> {
         for calls in 0..=input.len() {
             let mut stream = Breaking {
                 bytes: input,
@@ -25,15 +46,47 @@ impl Source for Broken {
             };
             let outcome: Result<T, DecodeError> = decode_from_std_read(alloc, &mut stream, config);
             if !is_broken(&outcome) {
-                return Ok((outcome?, calls));
+                return Some(outcome.map(|value| (value, calls)));
             }
         }
-        // A stream that ends in place of breaking gives no value, since each is to come with the last byte of its word.
-        let (value, _) = Bytewise::decode::<T, C>(alloc, input, config)?;
-        Ok((value, usize::MAX))
+        // A stream that ends in place of breaking gives no value, since that is to come with the last of its bytes.
+        match Bytewise::decode::<T, C>(alloc, input, config) {
+            Some(Err(error)) => Some(Err(error)),
+            _ => None,
+        }
     }
 
-    fn missing(error: &DecodeError) -> Option<usize> {
-        Bytewise::missing(error)
+    fn fault(error: &DecodeError) -> Option<Fault> {
+        Fault::of_stream(error)
     }
+}
+
+/// Takes one byte a call, and fails from a given call on.
+#[derive(Drop)]
+struct Refusing {
+    calls: usize,
+}
+
+impl Write for Refusing {
+    fn write(&mut self, bytes: &[u8]) -> io::Result<usize> {
+        if self.calls == 0 {
+            return Err(ErrorKind::BrokenPipe.into());
+        }
+        self.calls -= 1;
+        Ok(bytes.len().min(1))
+    }
+
+    fn flush(&mut self) -> io::Result<()> {
+        Ok(())
+    }
+}
+
+/// Whether writing the value into a stream that fails from this call on gives that failure.
+fn is_broken_at<V: Encode, C: Config>(value: V, config: C, calls: usize) -> bool {
+    let mut stream = Refusing { calls };
+    let outcome = encode_into_std_write(value, &mut stream, config);
+    matches!(
+        outcome,
+        Err(EncodeError::Io { inner, index: _ }) if inner.kind() == ErrorKind::BrokenPipe
+    )
 }

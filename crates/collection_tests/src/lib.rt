@@ -9,6 +9,8 @@ mod borrowed;
 #[cfg(test)]
 mod broken;
 #[cfg(test)]
+mod by_shape;
+#[cfg(test)]
 mod cells;
 #[cfg(test)]
 mod collected;
@@ -40,10 +42,6 @@ mod requests;
 mod reserved;
 #[cfg(test)]
 mod shown;
-#[cfg(test)]
-mod sources;
-#[cfg(test)]
-mod streams;
 #[cfg(test)]
 mod tables;
 #[cfg(test)]

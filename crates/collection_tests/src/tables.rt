@@ -1,78 +1,114 @@
-//! What is said of worked rows: of those that do not hold, and of those that can't be run.
+//! The tables of worked rows by the calls for slices, for streams and for shapes.
 
-use conformance_rows::rows::{RowsError, run};
-use conformance_rows::setting::Setting;
-use conformance_rows::typed::{TypedAnswer, Types};
+use crate::broken::Broken;
+use crate::by_shape::ByShape;
+use bincode::config::Endianness;
+use conformance::calls::{Buffered, Bytewise, Calls, Slice};
+use conformance::case::{Case, Encoding, Number, Spelling, Value};
+use conformance::rows::{Row, run, tables, trailing_cases};
+use conformance::setting::{LegacyBig, Standard};
 use std::alloc::Global;
+use std::io;
 use test_helpers::checks::either;
 
-/// No types.
-struct Nameless;
+/// A row that does not hold, since its bytes are those of 6, and three that do.
+static FIRST: [Row; 4] = [
+    Row {
+        label: "2",
+        case: Case::Encode(Value::U32(Encoding {
+            setting: LegacyBig,
+            value: 5,
+            bytes: &[0, 0, 0, 6],
+        })),
+    },
+    Row {
+        label: "5b",
+        case: Case::Varint(Number::U32(Spelling {
+            endian: Endianness::Little,
+            value: 251,
+            bytes: &[251, 251, 0],
+        })),
+    },
+    Row {
+        label: "5d",
+        case: Case::Varint(Number::U32(Spelling {
+            endian: Endianness::Little,
+            value: 65536,
+            bytes: &[252, 0, 0, 1, 0],
+        })),
+    },
+    Row {
+        label: "16a",
+        case: Case::Encode(Value::Pair(Encoding {
+            setting: Standard,
+            value: (1, 300),
+            bytes: &[1, 251, 44, 1],
+        })),
+    },
+];
 
-impl Types for Nameless {
-    fn reread(_: Global, _: &str, _: &[u8], _: Setting) -> Option<TypedAnswer> {
-        None
-    }
+/// What is printed of them.
+const TEXT: &str = "2 FAIL\n5b ok\n5d ok\n16a ok\nrows 4 failed 1\n";
 
-    fn write(_: Global, _: &str, _: &[u8], _: Setting) -> Option<Vec<u8>> {
-        None
+/// The first table, into a vector. Retries once if an allocation is refused.
+fn printed(alloc: Global) -> Option<(usize, Vec<u8>)> {
+    let mut first = Vec::new(alloc);
+    if let Ok(failed) = run::<Slice, _>(alloc, &[&FIRST], &mut first) {
+        return Some((failed, first));
     }
-
-    fn parts(_: &str) -> Option<&'static str> {
-        None
-    }
+    let mut second = Vec::new(alloc);
+    let failed = run::<Slice, _>(alloc, &[&FIRST], &mut second).ok()?;
+    Some((failed, second))
 }
 
-/// A row that does not hold, since its word is that of 6, one that does, one whose value is another, and two that can't
-/// be run.
-const ROWS: &str = "[
-{\"family\":\"numbers\",\"label\":\"2\",\"shape\":\"u32\",\"order\":\"big\",\"value\":5,\"word\":\"06\"},
-{\"family\":\"numbers\",\"label\":\"5b\",\"shape\":\"u32\",\"value\":251,\"word\":\"fbfb00\"},
-{\"family\":\"texts\",\"label\":\"a\",\"shape\":\"text\",\"input\":\"0161\",\"value\":\"b\",\"taken\":2},
-{\"family\":\"texts\",\"label\":\"b\",\"shape\":\"text\",\"value\":\"a\",\"word\":\"0161\",\"taken\":2},
-{\"family\":\"texts\",\"label\":\"c\",\"type\":\"Text\",\"value\":\"a\",\"word\":\"0161\"}
-]";
-
-/// What is said of them.
-const TOLD: &str = "\
-numbers: 2: written: wanted Slice { left: [6], refused: None }, found Slice { left: [5], refused: None }
-numbers: rows 2 failed 1
-texts: a: from a slice: wanted Value(Text(\"b\"), 2), found Value(Text(\"a\"), 2)
-texts: b: it can't be run: it has a field too many: taken
-texts: c: it can't be run: it has no shape, and its type is not run so
-texts: rows 3 failed 3
-rows 5 failed 4
-";
-
-/// A device takes the whole text, and where it takes less, the run fails.
+/// a first table with a wrong word
 #[test]
-fn tells_rows_that_fail(rt: HostRuntime) {
-    let mut bytes = [0u8; 600];
-    for room in [0, 1, TOLD.len() - 1, TOLD.len()] {
-        let failed = either(
-            run::<Nameless, _>(rt.alloc(), ROWS, &mut &mut bytes[..room]),
-            run::<Nameless, _>(rt.alloc(), ROWS, &mut &mut bytes[..room]),
-        );
-        let wanted = if room == TOLD.len() { Some(4) } else { None };
-        assert!(rt; failed == wanted);
-    }
-    assert!(rt; bytes.starts_with(TOLD.as_bytes()));
+fn reports_a_wrong_word(rt: HostRuntime) {
+    let Some((failed, text)) = printed(rt.alloc()) else {
+        assert!(rt; false);
+        return;
+    };
+    assert!(rt; failed == 1 && text.as_slice() == TEXT.as_bytes());
 }
 
-/// Why a text can't be run. Retries once if an allocation is refused.
-fn refusal(alloc: Global, text: &str) -> Option<RowsError> {
-    match run::<Nameless, _>(alloc, text, &mut Vec::new(alloc)) {
-        Err(RowsError::Json(_)) if text.starts_with('{') => {
-            run::<Nameless, _>(alloc, text, &mut Vec::new(alloc)).err()
-        }
-        outcome => outcome.err(),
-    }
-}
-
-/// A text that is no list is refused.
+/// A device that takes less than the whole text, however much, is an error.
 #[test]
-fn refuses_what_is_no_list(rt: HostRuntime) {
+fn reports_a_failed_output(rt: HostRuntime) {
+    let mut bytes = [0u8; 42];
+    for room in 0..TEXT.len() {
+        assert!(rt; run::<Slice, _>(rt.alloc(), &[&FIRST], &mut &mut bytes[..room]).is_err());
+    }
+    assert!(rt; TEXT.as_bytes().starts_with(&bytes[..41]));
+}
+
+/// How many of the worked rows, and of those with bytes after them, fail by these calls.
+fn failures<K: Calls>(alloc: Global) -> io::Result<usize> {
+    let mut out = Vec::new(alloc);
+    let failed = run::<K, _>(alloc, &tables(), &mut out)?;
+    Ok(failed.saturating_add(run::<K, _>(alloc, &[trailing_cases()], &mut out)?))
+}
+
+/// Whether all of them hold. Retries once if an allocation is refused.
+fn all_hold<K: Calls>(alloc: Global) -> bool {
+    either(failures::<K>(alloc), failures::<K>(alloc)) == Some(0)
+}
+
+/// each row byte by byte
+#[test]
+fn reads_the_rows_from_streams(rt: HostRuntime) {
     let alloc = rt.alloc();
-    assert!(rt; matches!(refusal(alloc, "{}"), Some(RowsError::NoList)));
-    assert!(rt; matches!(refusal(alloc, "["), Some(RowsError::Json(_))));
+    assert!(rt; all_hold::<Bytewise>(alloc));
+    assert!(rt; all_hold::<Buffered<4>>(alloc));
+}
+
+/// a stream that fails at each call
+#[test]
+fn fails_with_the_stream(rt: HostRuntime) {
+    assert!(rt; all_hold::<Broken>(rt.alloc()));
+}
+
+/// each row by its shape
+#[test]
+fn keeps_the_rows_by_shapes(rt: HostRuntime) {
+    assert!(rt; all_hold::<ByShape>(rt.alloc()));
 }
