@@ -6,7 +6,8 @@
 PROGRAM is crates/describe/out/describe, which `rt run` in crates/describe builds. A row runs if it has a shape and some bytes: an input, with the value
 and the count of bytes that are to be read of it or the fault, or a word, with the value that is to be read back. Its order and integers are options of
 the program. What the program has no words for is passed over and counted: a type without a shape, a limit, a stream, a value that is only written, an
-encoding without bytes (no count of them is known), and of an input that ends too early how many bytes are missing.
+encoding without bytes (no count of them is known), and an input without any (there is no value in it). Of an input that ends too early it does not
+tell how many bytes are missing.
 
 Prints each row that differs, then how many were run, failed and were passed over, by the reason. Status: 0 all that ran hold, 1 some do not.
 """
@@ -30,6 +31,8 @@ def unasked(row):
         return "a value that is only written"
     if "fault" not in row and not row.get("taken", len(row.get("word", ""))):
         return "an encoding without bytes"
+    if not row.get("input", row.get("word")):
+        return "an input without bytes"
     return None
 
 

@@ -61,7 +61,7 @@ fn printed(alloc: Global) -> Option<(usize, Vec<u8>)> {
     Some((failed, second))
 }
 
-/// a first table with a wrong word
+/// a first table with a wrong word: the loop of `vectors` prints that 2 fails, that the others hold, and one failure.
 #[test]
 fn reports_a_wrong_word(rt: HostRuntime) {
     let Some((failed, text)) = printed(rt.alloc()) else {
@@ -93,7 +93,8 @@ fn all_hold<K: Calls>(alloc: Global) -> bool {
     either(failures::<K>(alloc), failures::<K>(alloc)) == Some(0)
 }
 
-/// each row byte by byte
+/// each row byte by byte: those of an owned type through a stream of one byte a call, and through a `BufReader` of 4
+/// bytes over it. The values and counts are the same, and `Io` comes for each `UnexpectedEnd`.
 #[test]
 fn reads_the_rows_from_streams(rt: HostRuntime) {
     let alloc = rt.alloc();
@@ -101,13 +102,14 @@ fn reads_the_rows_from_streams(rt: HostRuntime) {
     assert!(rt; all_hold::<Buffered<4>>(alloc));
 }
 
-/// a stream that fails at each call
+/// a stream that fails at each call: a read that fails at any place before the last byte is an `Io`, and so is a write.
 #[test]
 fn fails_with_the_stream(rt: HostRuntime) {
     assert!(rt; all_hold::<Broken>(rt.alloc()));
 }
 
-/// each row by its shape
+/// each row by its shape: the 56 whose type is described, by the type and by `Described::shape`, with the same bytes,
+/// counts and faults.
 #[test]
 fn keeps_the_rows_by_shapes(rt: HostRuntime) {
     assert!(rt; all_hold::<ByShape>(rt.alloc()));

@@ -16,7 +16,7 @@ pub enum Case {
     RefusePair(Refusal<(u8, u32)>),
     Varint(Number),
     Decode(Input),
-    /// A pair that is decoded from a stream of one byte a call.
+    /// A pair that is decoded from a stream of one byte a call, and by the calls of the run.
     DecodeBytewise(Decoding<(u32, u32), Standard>),
     Borrow(Borrowed),
     Shaped(Shaped),
