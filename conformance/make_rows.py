@@ -586,6 +586,9 @@ def of_claims():
         shaped = f"[{shape}] = Vec<{of_type}>" if of_type else f"[{shape}]"
         read("claims", f"{of_type or shape}, {claim}", shaped, of_bytes(1), {"count": 1}, {"limit": 8 + claim})
         refused("claims", f"{of_type or shape}, {claim - 1}", shaped, of_bytes(1), {"limit": 7 + claim}, name="LimitExceeded")
+    # Section 7: 4 for the tag, and no field to add to it. The element charges its tag, after its claim is released.
+    read("claims", "an enum without fields, 4", "type Vec<CStyleEnum>", of_bytes(1, 4), [{"4": None}], {"limit": 8 + 4})
+    refused("claims", "an enum without fields, 3", "type Vec<CStyleEnum>", of_bytes(1, 4), {"limit": 7 + 4}, name="LimitExceeded")
 
 
 def main():

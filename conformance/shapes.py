@@ -48,6 +48,8 @@ OTHERS = {
     "Result": lambda right, wrong: Shape("choice", right, wrong),
     "Bound": lambda part: Shape("choice", Shape("unit"), part, part),
     "Never": lambda: Shape("choice"),
+    # An enum of a user's own of five variants without fields, which claims its tag alone (section 7).
+    "CStyleEnum": lambda: Shape("choice", *[Shape("unit")] * 5, claim=4),
     "Range": lambda part: Shape("tuple", part, part),
     "RangeInclusive": lambda part: Shape("tuple", part, part),
     "Duration": lambda: Shape("tuple", Shape("u64"), Shape("u32"), rule="Duration"),

@@ -145,10 +145,12 @@ use bincode::{NoMoreVariants, VariantOf, Wire};
 =====
 #[derive(Drop, PartialEq)]
 pub enum Code {
-    Done = 1,
+    // bincode: tag 1
+    Done,
     // bincode: tag 5
     Late(u16),
-    Refused(String) = 300,
+    // bincode: tag 300
+    Refused(String),
 }
 -----
             300 => match decode_part::<Context, Code, CodeRefusedPart, D>(tag, 300, decoder) {
@@ -294,20 +296,64 @@ enum Kind {
                 since.tell_valid();
             }
 =====
-// A note says the tag, also where a number stands too.
+// A note gives the tag, whatever stands after the `=`. Where there is no note the place does, and only the tag is claimed.
 #[derive(Clone, Copy)]
 enum Code {
-    // bincode: tag 1
+    // bincode: tag 7
     Done = 200,
-    Late,
-    Refused = 9,
+    Late = 1,
+    // bincode: tag 4294967295
+    Refused = -(1 << 4),
+    Lost,
 }
 -----
 type CodeParts = VariantOf<
-    1,
+    7,
     CodeDonePart,
-    VariantOf<2, CodeLatePart, VariantOf<9, CodeRefusedPart, NoMoreVariants<Code>>>,
+    VariantOf<
+        1,
+        CodeLatePart,
+        VariantOf<4294967295, CodeRefusedPart, VariantOf<3, CodeLostPart, NoMoreVariants<Code>>>,
+    >,
 >;
+-----
+    ghost variants = { record (or_else 7 ⟦<CodeDonePart as Wire>⟧.words
+        (or_else 1 ⟦<CodeLatePart as Wire>⟧.words
+        (or_else 4294967295 ⟦<CodeRefusedPart as Wire>⟧.words
+        (or_else 3 ⟦<CodeLostPart as Wire>⟧.words
+        no_more)))) { claim = 0 } };
+-----
+    fn claim_size() -> usize {
+        enum_claim(0)
+    }
+-----
+            _ => decode_unlisted_variant(tag, &[7, 1, 4294967295, 3], decoder),
+=====
+// Numbers that are the places.
+#[derive(Clone, Copy)]
+enum Side {
+    // bincode: tag 0
+    Left = -1,
+    Right = 1,
+    // bincode: tag 2
+    Both = 0x10,
+}
+-----
+            _ => decode_no_variant(tag, 2, decoder),
+=====
+// A sum claims its tag alone too.
+// bincode: with Inhabited
+#[derive(Clone, Copy)]
+enum Side {
+    Left,
+    Right,
+}
+-----
+    ghost words = { with_claim 4 (omega arith) (words_by ⟦<SideParts as Wire>⟧.words ⟦<Side as HasParts<SideParts>>⟧.parts) };
+
+    fn claim_size() -> usize {
+        4
+    }
 =====
 // The shape of an enum.
 // bincode: with Described

@@ -91,21 +91,50 @@ refused 1:1: \"many\" is no number below 2^32: write one, in digits alone
 =====
 enum A {
     B = -1,
+    C = 2,
 }
 -----
-refused 2:9: \"-\" is no number below 2^32: write one, in digits alone
+refused 2:9: the tag of B is its place, 0, and not what stands after its `=`: to have 0, write a note `// bincode: \
+    tag 0` above it, or take the `=` away; a note may also give another number below 2^32
 =====
 enum A {
-    B = 0xc8,
+    B = 0,
+    // bincode: tag 1
+    C = 2,
+    D = 0xc8,
 }
 -----
-refused 2:9: \"0xc8\" is no number below 2^32: write one, in digits alone
+refused 5:9: the tag of D is its place, 2, and not what stands after its `=`: to have 2, write a note `// bincode: \
+    tag 2` above it, or take the `=` away; a note may also give another number below 2^32
 =====
 enum A {
     B = 1_000,
 }
 -----
-refused 2:9: \"1_000\" is no number below 2^32: write one, in digits alone
+refused 2:9: the tag of B is its place, 0, and not what stands after its `=`: to have 0, write a note `// bincode: \
+    tag 0` above it, or take the `=` away; a note may also give another number below 2^32
+=====
+enum A {
+    B = 0 + 1,
+}
+-----
+refused 2:9: the tag of B is its place, 0, and not what stands after its `=`: to have 0, write a note `// bincode: \
+    tag 0` above it, or take the `=` away; a note may also give another number below 2^32
+=====
+enum A {
+    B,
+    C(u8) = 300
+}
+-----
+refused 3:13: the tag of C is its place, 1, and not 300: to have 300, write a note `// bincode: tag 300` above it; to \
+    have 1, write `// bincode: tag 1` there, or take `= 300` away
+=====
+enum A {
+    B = 4294967296,
+}
+-----
+refused 2:9: the tag of B is its place, 0, and not what stands after its `=`: to have 0, write a note `// bincode: \
+    tag 0` above it, or take the `=` away; a note may also give another number below 2^32
 =====
 enum A {
     // bincode: tag 4294967296
@@ -113,6 +142,29 @@ enum A {
 }
 -----
 refused 2:5: \"4294967296\" is no number below 2^32: write one, in digits alone
+=====
+enum A {
+    // bincode: tag -1
+    B = -1,
+}
+-----
+refused 2:5: \"-1\" is no number below 2^32: write one, in digits alone
+=====
+enum A {
+    // bincode: tag 1
+    // bincode: tag 1
+    B,
+}
+-----
+refused 3:5: a second tag for one variant: take one of the two notes away
+=====
+enum A {
+    // bincode: tag 1 2
+    B,
+}
+-----
+refused 2:5: no note \"// bincode: tag 1 2\" here: a type has skip, claims NUMBER, with TRAIT and without TRAIT, a \
+    variant tag NUMBER
 =====
 enum Code {
     Done, // bincode: tag 1
@@ -304,7 +356,8 @@ refused 2:8: A holds itself, and the library has no words for it: hold its items
 // bincode: with Described
 #[derive(Drop)]
 enum A {
-    B = 1,
+    // bincode: tag 1
+    B,
 }
 -----
 refused 3:6: A is described, and has tags that are not 0, 1 and so on, or more than eight variants and a parameter \
@@ -312,12 +365,13 @@ refused 3:6: A is described, and has tags that are not 0, 1 and so on, or more t
 =====
 #[derive(Drop)]
 enum A {
-    F = 1,
-    G = 0,
+    F,
+    // bincode: tag 2
+    G,
     H,
 }
 -----
-refused 5:5: H has the tag 1 of another variant: give it one of its own
+refused 6:5: H has the tag 2 of another variant: give it one of its own, by a note `// bincode: tag NUMBER`
 =====
 #[derive(Drop)]
 struct A<Words>(Words);

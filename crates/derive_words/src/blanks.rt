@@ -1,6 +1,6 @@
 //! What fills the blanks of templates.
 
-use crate::facts::most_of;
+use crate::facts::{claim_of, most_of};
 use crate::filling::Filling;
 use crate::heads::add_head;
 use crate::items::{Field, Variant};
@@ -17,7 +17,7 @@ pub fn add_blank(out: &mut Text, filling: &Filling<'_, '_>, word: &str, object: 
         "above" => out.add_times(object, filling.variant_at()),
         "at" => out.add_number(filling.variant_at() as u64),
         "count" => out.add_number(item.variants.len() as u64),
-        "claim" => out.add_number(u64::from(item.marks.claim.unwrap_or(0))),
+        "claim" => out.add_number(u64::from(claim_of(item).unwrap_or(0))),
         "most" => out.add_number(u64::from(most_of(item.fields.as_slice()).unwrap_or(0))),
         "declared" => out.add(filling.declared),
         "crate" => out.add(halves(filling.declared).0),

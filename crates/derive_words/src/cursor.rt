@@ -96,8 +96,13 @@ impl<'t> Cursor<'t> {
 
     /// Refuses something: this is said of a word at this place.
     pub fn refuse(&mut self, place: Place, says: &'static str, word: &'t str) {
+        self.end_with(Refusal::new(place, says, word));
+    }
+
+    /// Refuses something, as this says.
+    pub fn end_with(&mut self, refusal: Refusal<'t>) {
         if self.refusal.is_none() {
-            self.refusal = Some(Refusal::new(place, says, word));
+            self.refusal = Some(refusal);
         }
         self.taken = self.tokens.len();
     }

@@ -48,7 +48,7 @@ pub const NEVER_ADDED: &str =
 pub const NEVER_LEFT_OUT: &str =
     "no note leaves $word$ out: `without` takes Plain, Exact and Canonical";
 
-/// The word after `claims` or `tag`, or after the `=` of a variant, is no number that may stand there.
+/// The word after `claims` or `tag` is no number that may stand there.
 pub const NO_NUMBER: &str = "$quoted$ is no number below 2^32: write one, in digits alone";
 
 /// A field is a fact, by which each value of the type has passed a test.
@@ -86,7 +86,24 @@ pub const NOT_DESCRIBED: &str =
     variants and a parameter or another note: take `Described` away";
 
 /// Two variants have one tag.
-pub const SAME_TAG: &str = "$word$ has the tag $tag$ of another variant: give it one of its own";
+pub const SAME_TAG: &str =
+    "$word$ has the tag $tag$ of another variant: give it one of its own, by a note \
+    `// bincode: tag NUMBER`";
+
+/// A variant has two notes with a tag.
+pub const SECOND_TAG: &str = "a second tag for one variant: take one of the two notes away";
+
+/// The number after the `=` of a variant is not its place, and no note gives its tag.
+pub const OTHER_NUMBER: &str =
+    "the tag of $word$ is its place, $tag$, and not $number$: to have $number$, write a note \
+    `// bincode: tag $number$` above it; to have $tag$, write `// bincode: tag $tag$` there, or \
+    take `= $number$` away";
+
+/// What stands after the `=` of a variant is no number that a tag may be, and no note gives its tag.
+pub const NO_TAG: &str =
+    "the tag of $word$ is its place, $tag$, and not what stands after its `=`: to have $tag$, \
+    write a note `// bincode: tag $tag$` above it, or take the `=` away; a note may also give \
+    another number below 2^32";
 
 /// The name of a type or a parameter is one that is written with another meaning.
 pub const TAKEN_NAME: &str =
@@ -108,7 +125,8 @@ pub struct Refusal<'t> {
     /// A template, with blanks for what follows.
     says: &'static str,
     word: &'t str,
-    instead: &'static str,
+    /// What to write instead, or the number that was written.
+    other: &'t str,
     tag: u32,
 }
 
@@ -119,7 +137,7 @@ impl<'t> Refusal<'t> {
             place,
             says,
             word,
-            instead: "",
+            other: "",
             tag: 0,
         }
     }
@@ -130,7 +148,7 @@ impl<'t> Refusal<'t> {
             place,
             says: NO_WORDS,
             word,
-            instead,
+            other: instead,
             tag: 0,
         }
     }
@@ -141,7 +159,28 @@ impl<'t> Refusal<'t> {
             place,
             says: SAME_TAG,
             word,
-            instead: "",
+            other: "",
+            tag,
+        }
+    }
+
+    /// A variant, whose tag would be its place, has an `=` with something else. `number` is what stands there, if that
+    /// is a number that a tag may be.
+    pub fn not_place(
+        place: Place,
+        word: &'t str,
+        tag: u32,
+        number: Option<&'t str>,
+    ) -> Refusal<'t> {
+        Refusal {
+            place,
+            says: if number.is_some() {
+                OTHER_NUMBER
+            } else {
+                NO_TAG
+            },
+            word,
+            other: number.unwrap_or(""),
             tag,
         }
     }
@@ -151,7 +190,7 @@ impl<'t> Refusal<'t> {
         match name {
             "word" => out.add(self.word),
             "quoted" => out.add_quoted(self.word),
-            "instead" => out.add(self.instead),
+            "instead" | "number" => out.add(self.other),
             _ => out.add_number(u64::from(self.tag)),
         }
     }

@@ -24,7 +24,7 @@ pub fn is_fact(item: &Item<'_>, fact: &str) -> bool {
         "in order" => is_in_order(item.variants.as_slice()),
         "borrowing" => item.is_borrowing(),
         "lent" => keeps.is_lent && !item.is_borrowing(),
-        "claim" => item.marks.claim.is_some(),
+        "claim" => claim_of(item).is_some(),
         "plain" => keeps.plain,
         "exact" => keeps.exact,
         "canonical" => keeps.canonical,
@@ -34,6 +34,15 @@ pub fn is_fact(item: &Item<'_>, fact: &str) -> bool {
         "described" => with.described,
         _ => false,
     }
+}
+
+/// What a container claims for a value, where that is not what the parts claim: the claim of a note, or that of a tag
+/// alone.
+pub fn claim_of(item: &Item<'_>) -> Option<u32> {
+    let is_tag_alone = !item.variants.is_empty() && item.is_enum && item.fields.is_empty();
+    item.marks
+        .claim
+        .or(if is_tag_alone { Some(4) } else { None })
 }
 
 /// Whether this is a fact of the variant that a template is filled for.

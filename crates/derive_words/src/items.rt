@@ -33,8 +33,8 @@ pub enum Brackets {
     Curly,
 }
 
-/// A variant. Where the author gives it no tag, that is one more than that of the variant before. A struct has one, of
-/// its own name.
+/// A variant. Its tag is its place, counted from 0, unless a note above it gives another. A struct has one, of its own
+/// name.
 #[derive(Clone, Copy)]
 pub struct Variant<'t> {
     pub name: Token<'t>,

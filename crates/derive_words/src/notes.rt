@@ -173,8 +173,8 @@ pub fn number_of<'t>(cursor: &mut Cursor<'t>, place: Place, word: &'t str) -> u3
 pub fn tag_of<'t>(cursor: &mut Cursor<'t>, token: Token<'t>) -> Option<u32> {
     let words = token.text.strip_prefix(NOTE)?;
     let mut words = words.split_whitespace();
-    match (words.next(), words.next()) {
-        (Some("tag"), Some(word)) => Some(number_of(cursor, token.place, word)),
+    match (words.next(), words.next(), words.next()) {
+        (Some("tag"), Some(word), None) => Some(number_of(cursor, token.place, word)),
         _ => {
             cursor.refuse(token.place, UNKNOWN_NOTE, token.text);
             None

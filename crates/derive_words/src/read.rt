@@ -2,11 +2,12 @@
 
 use crate::cursor::{Cursor, is_opening};
 use crate::error::{
-    CONST_PARAMETER, Fault, GHOST_FIELD, MISPLACED_NOTE, MISSING, UNCLOSED, UNKNOWN_NOTE,
+    CONST_PARAMETER, Fault, GHOST_FIELD, MISPLACED_NOTE, MISSING, Refusal, SECOND_TAG, UNCLOSED,
+    UNKNOWN_NOTE,
 };
 use crate::items::{Brackets, Field, Item, Param, Predicate, Source, Variant, is_known};
 use crate::laws::NOTHING;
-use crate::notes::{Marks, number_of, tag_of};
+use crate::notes::{Marks, tag_of};
 use crate::text::text_at;
 use crate::tokens::{Token, is_listed, is_note, is_word};
 use std::alloc::Global;
@@ -210,7 +211,7 @@ fn read_body<'t>(cursor: &mut Cursor<'t>, item: &mut Item<'t>) {
         read_variants(cursor, item);
     } else {
         let name = item.name;
-        read_variant(cursor, item, name, None, 0);
+        read_variant(cursor, item, name, 0);
         // The `where` of a struct without named fields stands after them.
         read_wheres(cursor, &mut item.wheres);
     }
@@ -279,17 +280,19 @@ fn read_param<'t>(cursor: &mut Cursor<'t>, item: &mut Item<'t>) {
     }
 }
 
-/// Reads the variants of an enum.
+/// Reads the variants of an enum. The tag of each is the one that a note gives it, or else its place.
 fn read_variants<'t>(cursor: &mut Cursor<'t>, item: &mut Item<'t>) {
-    let mut next = 0u32;
     cursor.mark("{");
-    for _ in 0..u64::MAX {
+    for place in 0..u32::MAX {
         let noted = read_variant_marks(cursor);
         if cursor.ends("}") {
             break;
         }
         let name = cursor.name();
-        next = read_variant(cursor, item, name, noted, next).saturating_add(1);
+        read_variant(cursor, item, name, noted.unwrap_or(place));
+        if cursor.takes("=") {
+            read_discriminant(cursor, name.text, place, noted.is_some());
+        }
         if cursor.text() != "}" {
             cursor.mark(",");
         }
@@ -304,6 +307,9 @@ fn read_variant_marks(cursor: &mut Cursor<'_>) -> Option<u32> {
             skip_attribute(cursor);
         } else if is_note(cursor.text()) {
             let note = cursor.take();
+            if tag.is_some() {
+                cursor.refuse(note.place, SECOND_TAG, "");
+            }
             tag = tag_of(cursor, note);
         } else {
             break;
@@ -312,19 +318,10 @@ fn read_variant_marks(cursor: &mut Cursor<'_>) -> Option<u32> {
     tag
 }
 
-/// Reads the fields of a variant or of a struct, from what opens them on, and the tag after them. Its own tag, which is
-/// handed out, is the one that a note gives it, or else the one after its fields, or else the next.
-fn read_variant<'t>(
-    cursor: &mut Cursor<'t>,
-    item: &mut Item<'t>,
-    name: Token<'t>,
-    noted: Option<u32>,
-    next: u32,
-) -> u32 {
+/// Reads the fields of a variant with this tag, or of a struct, from what opens them on.
+fn read_variant<'t>(cursor: &mut Cursor<'t>, item: &mut Item<'t>, name: Token<'t>, tag: u32) {
     let start = item.fields.len();
     let brackets = read_fields(cursor, &mut item.fields);
-    let written = read_discriminant(cursor);
-    let tag = noted.or(written).unwrap_or(next);
     let variant = Variant {
         name,
         tag,
@@ -333,16 +330,36 @@ fn read_variant<'t>(
         end: item.fields.len(),
     };
     cursor.push(&mut item.variants, variant);
-    tag
 }
 
-/// Reads the number after a variant's `=`, if one comes next.
-fn read_discriminant(cursor: &mut Cursor<'_>) -> Option<u32> {
-    if !cursor.takes("=") {
-        return None;
+/// Takes what stands after a variant's `=`, which is no part of the bytes. Without a note that gives the variant's tag
+/// it has to be the variant's place: whoever counts on the number in the bytes would get other ones unseen.
+fn read_discriminant<'t>(cursor: &mut Cursor<'t>, name: &'t str, place: u32, is_noted: bool) {
+    let first = cursor.token();
+    let number = if is_listed(cursor.text_ahead(1), ", }") {
+        first.text.parse::<u32>().ok()
+    } else {
+        None
+    };
+    skip_expression(cursor);
+    if !is_noted && number != Some(place) {
+        let written = number.map(|_| first.text);
+        cursor.end_with(Refusal::not_place(first.place, name, place, written));
     }
-    let token = cursor.take();
-    Some(number_of(cursor, token.place, token.text))
+}
+
+/// Takes an expression, up to the comma or the brace behind it.
+fn skip_expression(cursor: &mut Cursor<'_>) {
+    for _ in 0..u64::MAX {
+        if cursor.text().is_empty() || is_listed(cursor.text(), ", }") {
+            break;
+        }
+        if is_opening(cursor.text()) {
+            cursor.skip_brackets();
+        } else {
+            cursor.take();
+        }
+    }
 }
 
 /// Reads the fields of a struct or of a variant.

@@ -42,9 +42,10 @@ $impl Sum$    ghost use Rattle.bincode.specs.Sums.{this$if many variants$, other
     ghost use Rattle.bincode.specs.EnumWords.{by, no_more, or_else};
     ghost use Rattle.$declared$.$name$.TheVariants.{$each variant$$if not first$,¶$end$$variant$$next variant$};
 
-    ghost variants = { $each variant$$if not first$($end$or_else $tag$ \
+    ghost variants = { $if not any field$record ($end$\
+$each variant$$if not first$($end$or_else $tag$ \
 $if parameter$$part$$else$⟦<$part$ as Wire>⟧$end$.words¶$next variant$no_more\
-$each variant$$if not first$)$end$$next variant$ };
+$each variant$$if not first$)$end$$next variant$$if not any field$) { claim = 0 }$end$ };
 
     ghost parts = { elim [
 $each variant$      | $variant$$each field$ $field_in_clause$$next field$ ↦ $above other ($this $shown$$above )$
@@ -95,9 +96,11 @@ $end$    ghost use Rattle.bincode.specs.EnumWords.{enum_words};
         ensures { result ≡ min (4 + ⟦<$itself$ as Sum<$parts$>>⟧.variants.claim) (2 ^ 64 - 1) }
     {
 $else$ {
-$end$$each variant back$        let widest = $part_path$::claim_size().max($if last$0$else$widest$end$);
+$end$$if any field$\
+$each variant back$        let widest = $part_path$::claim_size().max($if last$0$else$widest$end$);
 $next variant$        enum_claim(widest)
-    }
+$else$        enum_claim(0)
+$end$    }
 }
 
 $end$";

@@ -5,8 +5,9 @@ use super::*;
 use bincode::de::{Decode, Decoder, Sequential};
 use bincode::enc::{Encode, Encoder};
 use bincode::enums::{
-    DecodeVariants, Enum, Sum, canonical_by_variants, decode_by_tag, decode_part,
-    decode_unlisted_variant, encode_variant, enum_claim, exact_by_variants, plain_by_variants,
+    DecodeVariants, Enum, Sum, canonical_by_variants, decode_by_tag, decode_no_variant,
+    decode_part, decode_unlisted_variant, encode_variant, enum_claim, exact_by_variants,
+    plain_by_variants,
 };
 use bincode::error::{DecodeError, EncodeError};
 use bincode::laws::{Canonical, Exact, Plain};
@@ -30,10 +31,10 @@ impl Sum<MixedParts> for Mixed {
     ghost use Rattle.bincode.specs.EnumWords.{by, no_more, or_else};
     ghost use Rattle.derived_types.specs.declared.tags.Mixed.TheVariants.{Third, First, Second};
 
-    ghost variants = { or_else 3 ⟦<MixedThirdPart as Wire>⟧.words
+    ghost variants = { record (or_else 3 ⟦<MixedThirdPart as Wire>⟧.words
         (or_else 1 ⟦<MixedFirstPart as Wire>⟧.words
         (or_else 2 ⟦<MixedSecondPart as Wire>⟧.words
-        no_more)) };
+        no_more))) { claim = 0 } };
 
     ghost parts = { elim [
       | Third ↦ this tt
@@ -53,10 +54,7 @@ impl Wire for Mixed {
     ghost words = { enum_words ⟦<Mixed as Sum<MixedParts>>⟧.variants ⟦<Mixed as Sum<MixedParts>>⟧.parts };
 
     fn claim_size() -> usize {
-        let widest = MixedSecondPart::claim_size().max(0);
-        let widest = MixedFirstPart::claim_size().max(widest);
-        let widest = MixedThirdPart::claim_size().max(widest);
-        enum_claim(widest)
+        enum_claim(0)
     }
 }
 
@@ -145,6 +143,182 @@ impl<Context: Drop> Decode<Context> for Mixed {
     type Run = Sequential;
 
     fn decode<D: Decoder<Context = Context>>(decoder: &mut D) -> Result<Mixed, DecodeError> {
+        decode_by_tag(decoder)
+    }
+}
+
+type CStyleEnumAPart = ();
+
+type CStyleEnumBPart = ();
+
+type CStyleEnumCPart = ();
+
+type CStyleEnumDPart = ();
+
+type CStyleEnumEPart = ();
+
+type CStyleEnumParts = VariantOf<
+    0,
+    CStyleEnumAPart,
+    VariantOf<
+        1,
+        CStyleEnumBPart,
+        VariantOf<
+            2,
+            CStyleEnumCPart,
+            VariantOf<
+                3,
+                CStyleEnumDPart,
+                VariantOf<4, CStyleEnumEPart, NoMoreVariants<CStyleEnum>>,
+            >,
+        >,
+    >,
+>;
+
+impl Sum<CStyleEnumParts> for CStyleEnum {
+    ghost use Rattle.bincode.specs.Sums.{this, other};
+    ghost use Rattle.bincode.specs.EnumWords.{by, no_more, or_else};
+    ghost use Rattle.derived_types.specs.declared.tags.CStyleEnum.TheVariants.{A, B, C, D, E};
+
+    ghost variants = { record (or_else 0 ⟦<CStyleEnumAPart as Wire>⟧.words
+        (or_else 1 ⟦<CStyleEnumBPart as Wire>⟧.words
+        (or_else 2 ⟦<CStyleEnumCPart as Wire>⟧.words
+        (or_else 3 ⟦<CStyleEnumDPart as Wire>⟧.words
+        (or_else 4 ⟦<CStyleEnumEPart as Wire>⟧.words
+        no_more))))) { claim = 0 } };
+
+    ghost parts = { elim [
+      | A ↦ this tt
+      | B ↦ other (this tt)
+      | C ↦ other (other (this tt))
+      | D ↦ other (other (other (this tt)))
+      | E ↦ other (other (other (other (this tt))))
+    ] };
+
+    ghost made = { by (λ p. A)
+        (by (λ p. B)
+        (by (λ p. C)
+        (by (λ p. D)
+        (by (λ p. E)
+        (λ n. elim (n.0) [ ]))))) };
+}
+
+impl Wire for CStyleEnum {
+    ghost use Rattle.bincode.specs.EnumWords.{enum_words};
+
+    ghost words = { enum_words ⟦<CStyleEnum as Sum<CStyleEnumParts>>⟧.variants
+        ⟦<CStyleEnum as Sum<CStyleEnumParts>>⟧.parts };
+
+    fn claim_size() -> usize {
+        enum_claim(0)
+    }
+}
+
+impl Enum for CStyleEnum {
+    ghost use Rattle.std.specs.Prelude.{refl};
+    ghost use Rattle.bincode.specs.EnumWords.{enum_laws, enum_variants};
+    ghost use Rattle.derived_types.specs.declared.tags.CStyleEnum.TheVariants.{A, B, C, D, E};
+
+    ghost choices = { enum_variants ⟦<CStyleEnum as Sum<CStyleEnumParts>>⟧.variants
+        ⟦<CStyleEnum as Sum<CStyleEnumParts>>⟧.made };
+
+    fn type_name() -> TypeName {
+        TypeName::new("CStyleEnum")
+    }
+
+    ghost laws = { enum_laws ⟦<CStyleEnum as Sum<CStyleEnumParts>>⟧.variants
+        ⟦<CStyleEnum as Sum<CStyleEnumParts>>⟧.parts
+        ⟦<CStyleEnum as Sum<CStyleEnumParts>>⟧.made (elim [
+          | A ↦ refl
+          | B ↦ refl
+          | C ↦ refl
+          | D ↦ refl
+          | E ↦ refl
+        ]) };
+}
+
+impl Plain for CStyleEnum {
+    fn tell_plain() {
+        CStyleEnumAPart::tell_plain();
+        CStyleEnumBPart::tell_plain();
+        CStyleEnumCPart::tell_plain();
+        CStyleEnumDPart::tell_plain();
+        CStyleEnumEPart::tell_plain();
+        plain_by_variants::<CStyleEnum>();
+    }
+}
+
+impl Exact for CStyleEnum {
+    fn tell_exact() {
+        CStyleEnumAPart::tell_exact();
+        CStyleEnumBPart::tell_exact();
+        CStyleEnumCPart::tell_exact();
+        CStyleEnumDPart::tell_exact();
+        CStyleEnumEPart::tell_exact();
+        exact_by_variants::<CStyleEnum>();
+    }
+}
+
+impl Canonical for CStyleEnum {
+    fn tell_canonical() {
+        CStyleEnumAPart::tell_canonical();
+        CStyleEnumBPart::tell_canonical();
+        CStyleEnumCPart::tell_canonical();
+        CStyleEnumDPart::tell_canonical();
+        CStyleEnumEPart::tell_canonical();
+        canonical_by_variants::<CStyleEnum>();
+    }
+}
+
+impl Encode for CStyleEnum {
+    fn tell_valid(&self) {}
+
+    fn encode<E: Encoder>(&self, encoder: &mut E) -> Result<(), EncodeError> {
+        match self {
+            CStyleEnum::A => encode_variant(self, 0, &(), encoder),
+            CStyleEnum::B => encode_variant(self, 1, &(), encoder),
+            CStyleEnum::C => encode_variant(self, 2, &(), encoder),
+            CStyleEnum::D => encode_variant(self, 3, &(), encoder),
+            CStyleEnum::E => encode_variant(self, 4, &(), encoder),
+        }
+    }
+}
+
+impl<Context: Drop> DecodeVariants<Context> for CStyleEnum {
+    fn decode_variant<D: Decoder<Context = Context>>(
+        tag: u32,
+        decoder: &mut D,
+    ) -> Result<CStyleEnum, DecodeError> {
+        match tag {
+            0 => match decode_part::<Context, CStyleEnum, CStyleEnumAPart, D>(tag, 0, decoder) {
+                Ok(()) => Ok(CStyleEnum::A),
+                Err(error) => Err(error),
+            },
+            1 => match decode_part::<Context, CStyleEnum, CStyleEnumBPart, D>(tag, 1, decoder) {
+                Ok(()) => Ok(CStyleEnum::B),
+                Err(error) => Err(error),
+            },
+            2 => match decode_part::<Context, CStyleEnum, CStyleEnumCPart, D>(tag, 2, decoder) {
+                Ok(()) => Ok(CStyleEnum::C),
+                Err(error) => Err(error),
+            },
+            3 => match decode_part::<Context, CStyleEnum, CStyleEnumDPart, D>(tag, 3, decoder) {
+                Ok(()) => Ok(CStyleEnum::D),
+                Err(error) => Err(error),
+            },
+            4 => match decode_part::<Context, CStyleEnum, CStyleEnumEPart, D>(tag, 4, decoder) {
+                Ok(()) => Ok(CStyleEnum::E),
+                Err(error) => Err(error),
+            },
+            _ => decode_no_variant(tag, 4, decoder),
+        }
+    }
+}
+
+impl<Context: Drop> Decode<Context> for CStyleEnum {
+    type Run = Sequential;
+
+    fn decode<D: Decoder<Context = Context>>(decoder: &mut D) -> Result<CStyleEnum, DecodeError> {
         decode_by_tag(decoder)
     }
 }
