@@ -43,14 +43,17 @@ const TEN_AT_56: u64 = 720_575_940_379_279_360;
 const TEN_AT_120: u128 = 13_292_279_957_849_158_729_038_070_602_803_445_760;
 
 /// Whether all of these bytes are decoded as this number.
-fn reads_number<T: Decode<()> + PartialEq, C: Config>(
+fn reads_number<T: Decode<()> + PartialEq + Copy, C: Config>(
     alloc: Global,
     config: C,
     input: &[u8],
     number: T,
 ) -> bool {
     let read: Result<(T, usize), DecodeError> = decode_from_slice(alloc, input, config);
-    matches!(read, Ok((value, taken)) if value == number && taken == input.len())
+    match read {
+        Ok((value, taken)) => value == number && taken == input.len(),
+        Err(_) => false,
+    }
 }
 
 /// Whether so many bytes of a `u16` are missing.

@@ -29,23 +29,30 @@ enum Told<T> {
     Zero(IntegerType),
 }
 
-/// Whether it came so, after so many bytes.
-fn is_told<T: PartialEq + Drop>(
+/// Whether the error is the one that is told.
+fn is_fault<T: Copy>(error: &DecodeError, told: Told<T>) -> bool {
+    match (error, told) {
+        (DecodeError::InvalidIntegerType { expected, found }, Wide(of_type, of_tag)) => {
+            *expected == of_type && *found == of_tag
+        }
+        (DecodeError::UnexpectedEnd { additional }, Ends(missing)) => *additional == missing,
+        (DecodeError::LimitExceeded, Passed) => true,
+        (DecodeError::NonZeroTypeIsZero { non_zero_type }, Zero(of_type)) => {
+            *non_zero_type == of_type
+        }
+        _ => false,
+    }
+}
+
+/// Whether what is told came, after so many bytes.
+fn is_told<T: PartialEq + Copy>(
     outcome: Result<T, DecodeError>,
     taken: usize,
     told: Told<T>,
 ) -> bool {
-    match (outcome, told) {
-        (Ok(read), Number(number, length)) => read == number && taken == length,
-        (Err(DecodeError::InvalidIntegerType { expected, found }), Wide(of_type, of_tag)) => {
-            expected == of_type && found == of_tag
-        }
-        (Err(DecodeError::UnexpectedEnd { additional }), Ends(missing)) => additional == missing,
-        (Err(DecodeError::LimitExceeded), Passed) => true,
-        (Err(DecodeError::NonZeroTypeIsZero { non_zero_type }), Zero(of_type)) => {
-            non_zero_type == of_type
-        }
-        _ => false,
+    match outcome {
+        Ok(read) => { matches!(told, Number(number, length) if read == number && taken == length) }
+        Err(error) => is_fault(&error, told),
     }
 }
 
@@ -62,7 +69,7 @@ fn read_shown<T: Decode<()>, C: Config>(
 }
 
 /// Whether the same comes of some bytes, with two 9s after them, through each window.
-fn is_told_through_each<T: Decode<()> + PartialEq + Copy + Drop, C: Config>(
+fn is_told_through_each<T: Decode<()> + PartialEq + Copy, C: Config>(
     alloc: Global,
     bytes: &[u8],
     config: C,
@@ -89,7 +96,7 @@ fn is_told_through_each<T: Decode<()> + PartialEq + Copy + Drop, C: Config>(
 type Row<T> = (&'static str, Endianness, &'static [u8], Told<T>);
 
 /// The first row of a type of which something else comes.
-fn first_otherwise<T: Decode<()> + PartialEq + Copy + Drop>(
+fn first_otherwise<T: Decode<()> + PartialEq + Copy>(
     alloc: Global,
     rows: &[Row<T>],
 ) -> Option<&'static str> {
