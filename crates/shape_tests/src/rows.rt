@@ -1,4 +1,4 @@
-//! Worked rows of shapes, by their labels: the shape of a struct, what lists claim of a limit, and refused memory.
+//! Worked rows of shapes, by their labels.
 
 use crate::asserts::each_holds;
 use crate::shaped::has_shape;
@@ -7,68 +7,60 @@ use bincode::error::DecodeError;
 use bincode::shape::{Described, Shape, Value, decode_shaped};
 use own_types::foo::Foo;
 use std::alloc::{AllocError, Global};
-use test_helpers::checks::{either, is_passed};
+use test_helpers::checks::is_passed;
 
-/// A list of `element` with this claim.
-fn list_of(alloc: Global, element: Shape, claim: usize) -> Result<Shape, AllocError> {
-    let element = Box::new(alloc, element)?;
-    Ok(Shape::Seq { claim, element })
+/// Whether the input is three `()` by this shape, which need more than the first limit, and no more than the second.
+fn are_three<const LESS: usize, const ENOUGH: usize>(
+    alloc: Global,
+    shape: &Shape,
+    input: &[u8],
+) -> bool {
+    let three = [Value::Unit, Value::Unit, Value::Unit];
+    let less = config::standard().with_limit::<LESS>();
+    let enough = config::standard().with_limit::<ENOUGH>();
+    match decode_shaped(alloc, shape, input, enough) {
+        Ok((Value::List(items), taken)) => {
+            taken == input.len()
+                && items.as_slice() == three.as_slice()
+                && is_passed(decode_shaped(alloc, shape, input, less))
+        }
+        _ => false,
+    }
 }
 
-/// Whether three `()` with this claim are refused under limit 10 and read under limit 11, as they are with a claim of 1:
-/// 8 for the length, and 1 for each.
-fn claims_one(alloc: Global, claim: usize) -> bool {
-    let Some(shape) = either(
-        list_of(alloc, Shape::Unit, claim),
-        list_of(alloc, Shape::Unit, claim),
-    ) else {
-        return false;
+/// Whether lists and arrays with this claim are read as with a claim of 1: three elements need 3, and a length 8.
+fn claims_one(alloc: Global, claim: usize) -> Result<bool, AllocError> {
+    let list = Shape::Seq {
+        claim,
+        element: Box::new(alloc, Shape::Unit)?,
     };
-    let less = config::standard().with_limit::<10>();
-    let enough = config::standard().with_limit::<11>();
-    let Some((value, taken)) = either(
-        decode_shaped(alloc, &shape, &[3], enough),
-        decode_shaped(alloc, &shape, &[3], enough),
-    ) else {
-        return false;
+    let array = Shape::Array {
+        len: 3,
+        claim,
+        element: Box::new(alloc, Shape::Unit)?,
     };
-    let Value::List(items) = value else {
-        return false;
-    };
-    taken == 1
-        && items.as_slice() == [Value::Unit, Value::Unit, Value::Unit].as_slice()
-        && is_passed(decode_shaped(alloc, &shape, &[3], less))
+    Ok(are_three::<10, 11>(alloc, &list, &[3]) && are_three::<2, 3>(alloc, &array, &[]))
 }
 
-/// Whether a list of two bytes, each with a claim of 2^63, passes the limit 2^64 - 1: the product is 2^64.
-fn list_passes(alloc: Global) -> bool {
-    let limited = config::standard().with_limit::<{ usize::MAX }>();
-    let Some(shape) = either(
-        list_of(alloc, Shape::U8, 1 << 63),
-        list_of(alloc, Shape::U8, 1 << 63),
-    ) else {
-        return false;
+/// Whether a list of two with a claim of 2^63, and an array of 2^64 - 1 with a claim of 2, pass the limit 2^64 - 1.
+/// Without a limit the array asks for memory that is not there.
+fn passes_each_limit(alloc: Global) -> Result<bool, AllocError> {
+    let list = Shape::Seq {
+        claim: 1 << 63,
+        element: Box::new(alloc, Shape::U8)?,
     };
-    is_passed(decode_shaped(alloc, &shape, &[2, 1, 1], limited))
-}
-
-/// Whether an array of 2^64 - 1 bytes, each with a claim of 2, passes the limit 2^64 - 1, and asks for memory that is
-/// not there without a limit.
-fn array_passes(alloc: Global) -> bool {
-    let limited = config::standard().with_limit::<{ usize::MAX }>();
-    let Some(element) = either(Box::new(alloc, Shape::U8), Box::new(alloc, Shape::U8)) else {
-        return false;
-    };
-    let shape = Shape::Array {
+    let array = Shape::Array {
         len: usize::MAX,
         claim: 2,
-        element,
+        element: Box::new(alloc, Shape::U8)?,
     };
-    is_passed(decode_shaped(alloc, &shape, &[1, 1], limited))
-        && matches!(
-            decode_shaped(alloc, &shape, &[1, 1], config::standard()),
-            Err(DecodeError::Memory)
-        )
+    let limited = config::standard().with_limit::<{ usize::MAX }>();
+    let unlimited = decode_shaped(alloc, &array, &[1, 1], config::standard());
+    Ok(
+        is_passed(decode_shaped(alloc, &list, &[2, 1, 1], limited))
+            && is_passed(decode_shaped(alloc, &array, &[1, 1], limited))
+            && matches!(unlimited, Err(DecodeError::Memory)),
+    )
 }
 
 /// A list of tuples: its shape and its values take memory at several places.
@@ -77,8 +69,8 @@ type Wholes = Vec<(String, Option<u8>, Result<u8, bool>)>;
 /// Two of them.
 const WORD: [u8; 11] = [2, 1, 97, 1, 5, 1, 1, 0, 0, 0, 9];
 
-/// What comes of reading them by their shape: whether they are two, or nothing where memory was refused.
-fn read_wholes(alloc: Global) -> Option<bool> {
+/// Whether they are read by their shape as two; `None` where memory was refused for the shape or the values.
+fn are_read(alloc: Global) -> Option<bool> {
     let shape = Wholes::shape(alloc)?;
     match decode_shaped(alloc, &shape, &WORD, config::standard()) {
         Ok((Value::List(items), taken)) => Some(items.len() == 2 && taken == WORD.len()),
@@ -87,20 +79,26 @@ fn read_wholes(alloc: Global) -> Option<bool> {
     }
 }
 
-/// Whether refused memory is the one reason for which a value is not read by the shape of its type: of two calls, one
-/// at the most is refused an allocation.
-fn is_refused_memory_alone(alloc: Global) -> bool {
-    match (read_wholes(alloc), read_wholes(alloc)) {
+/// Whether nothing but refused memory keeps them from being read: of two calls at most one is refused an allocation.
+fn are_read_or_refused_memory(alloc: Global) -> bool {
+    match (are_read(alloc), are_read(alloc)) {
         (Some(first), Some(second)) => first && second,
-        (Some(is_read), None) | (None, Some(is_read)) => is_read,
+        (Some(outcome), None) | (None, Some(outcome)) => outcome,
         (None, None) => false,
     }
 }
 
-/// Each by its label.
+/// Whether one of two equal answers is that it holds, since an allocation of the other may be refused.
+fn either_holds(first: Result<bool, AllocError>, second: Result<bool, AllocError>) -> bool {
+    matches!(first, Ok(true)) || matches!(second, Ok(true))
+}
+
 #[test]
 fn worked_rows_hold(rt: HostRuntime) {
     let alloc = rt.alloc();
+    let of_nothing = either_holds(claims_one(alloc, 0), claims_one(alloc, 0));
+    let of_one = either_holds(claims_one(alloc, 1), claims_one(alloc, 1));
+    let overflow = either_holds(passes_each_limit(alloc), passes_each_limit(alloc));
     each_holds(
         &rt,
         &[
@@ -108,15 +106,9 @@ fn worked_rows_hold(rt: HostRuntime) {
                 "the shape of a struct",
                 has_shape::<Foo>(alloc, "Tuple([U32, U32])"),
             ),
-            (
-                "a claim of nothing",
-                claims_one(alloc, 0) && claims_one(alloc, 1),
-            ),
-            (
-                "a claim that overflows",
-                list_passes(alloc) && array_passes(alloc),
-            ),
-            ("a shape without memory", is_refused_memory_alone(alloc)),
+            ("a claim of nothing", of_nothing && of_one),
+            ("a claim that overflows", overflow),
+            ("a shape without memory", are_read_or_refused_memory(alloc)),
         ],
     );
 }
