@@ -18,14 +18,15 @@ fn are_three<const LESS: usize, const ENOUGH: usize>(
     let three = [Value::Unit, Value::Unit, Value::Unit];
     let less = config::standard().with_limit::<LESS>();
     let enough = config::standard().with_limit::<ENOUGH>();
-    match decode_shaped(alloc, shape, input, enough) {
-        Ok((Value::List(items), taken)) => {
-            taken == input.len()
-                && items.as_slice() == three.as_slice()
-                && is_passed(decode_shaped(alloc, shape, input, less))
-        }
-        _ => false,
-    }
+    let Ok((value, taken)) = decode_shaped(alloc, shape, input, enough) else {
+        return false;
+    };
+    let Value::List(items) = value else {
+        return false;
+    };
+    taken == input.len()
+        && items.as_slice() == three.as_slice()
+        && is_passed(decode_shaped(alloc, shape, input, less))
 }
 
 /// Whether lists and arrays with this claim are read as with a claim of 1: three elements need 3, and a length 8.
@@ -73,9 +74,11 @@ const WORD: [u8; 11] = [2, 1, 97, 1, 5, 1, 1, 0, 0, 0, 9];
 fn are_read(alloc: Global) -> Option<bool> {
     let shape = Wholes::shape(alloc)?;
     match decode_shaped(alloc, &shape, &WORD, config::standard()) {
-        Ok((Value::List(items), taken)) => Some(items.len() == 2 && taken == WORD.len()),
+        Ok((value, taken)) => {
+            Some(matches!(&value, Value::List(items) if items.len() == 2) && taken == WORD.len())
+        }
         Err(DecodeError::Memory) => None,
-        _ => Some(false),
+        Err(_) => Some(false),
     }
 }
 
