@@ -7,3 +7,10 @@ use test_helpers::rows::first_false;
 pub fn all_true(rt: &impl Abort, answers: &[bool]) {
     assert_eq!(rt; first_false(answers), None);
 }
+
+/// Each row holds; else the label of the first that does not is told.
+pub fn each_holds(rt: &impl Abort, rows: &[(&str, bool)]) {
+    for &(label, holds) in rows {
+        assert!(rt; holds, "{label}");
+    }
+}

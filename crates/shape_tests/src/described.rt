@@ -1,5 +1,4 @@
-//! The shapes of scalars and of what holds them, of tuples with each number of parts, of enums, and of types of one's
-//! own.
+//! The shapes of tuples with each number of parts, of enums, and of types of one's own.
 
 use crate::asserts::all_true;
 use crate::shaped::has_shape;
@@ -9,47 +8,6 @@ use derived_types::enums::Figure;
 use own_types::foo::Foo;
 use own_types::kind::Kind;
 use std::alloc::Global;
-
-#[test]
-fn scalars_tell_their_shapes(rt: HostRuntime) {
-    let alloc = rt.alloc();
-    all_true(
-        &rt,
-        &[
-            has_shape::<()>(alloc, "Unit"),
-            has_shape::<bool>(alloc, "Bool"),
-            has_shape::<char>(alloc, "Char"),
-            has_shape::<String>(alloc, "Text"),
-            has_shape::<u8>(alloc, "U8"),
-            has_shape::<u16>(alloc, "U16"),
-            has_shape::<u32>(alloc, "U32"),
-            has_shape::<u64>(alloc, "U64"),
-            has_shape::<u128>(alloc, "U128"),
-            has_shape::<usize>(alloc, "Usize"),
-            has_shape::<i8>(alloc, "I8"),
-            has_shape::<i16>(alloc, "I16"),
-            has_shape::<i32>(alloc, "I32"),
-            has_shape::<i64>(alloc, "I64"),
-            has_shape::<i128>(alloc, "I128"),
-            has_shape::<isize>(alloc, "Isize"),
-        ],
-    );
-}
-
-#[test]
-fn wholes_tell_their_shapes(rt: HostRuntime) {
-    let alloc = rt.alloc();
-    all_true(
-        &rt,
-        &[
-            has_shape::<Vec<u16>>(alloc, "Seq { claim: 2, element: U16 }"),
-            has_shape::<[u16; 2]>(alloc, "Array { len: 2, claim: 2, element: U16 }"),
-            has_shape::<Option<u8>>(alloc, "Optional(U8)"),
-            has_shape::<Box<u8>>(alloc, "U8"),
-            has_shape::<Result<bool, u8>>(alloc, "Choice([Bool, U8])"),
-        ],
-    );
-}
 
 /// Whether a shape is there, and is a tuple of so many bytes.
 fn are_bytes(shape: Option<Shape>, count: usize) -> bool {
@@ -122,7 +80,6 @@ fn types_of_ones_own_tell_their_shapes(rt: HostRuntime) {
         &[
             has_shape::<Three>(alloc, "Choice([U8, Bool, Text])"),
             has_shape::<Eight>(alloc, "Choice([U8, U8, U8, U8, U8, U8, U8, U8])"),
-            has_shape::<Foo>(alloc, "Tuple([U32, U32])"),
             has_shape::<Figure>(
                 alloc,
                 "Choice([Unit, U32, Tuple([U32, U32]), Tuple([U32, U32, U32])])",

@@ -18,9 +18,11 @@ mod described;
 #[cfg(test)]
 mod explained;
 #[cfg(test)]
-mod kept;
+mod images;
 #[cfg(test)]
 mod printed;
+#[cfg(test)]
+mod rows;
 #[cfg(test)]
 mod shaped;
 #[cfg(test)]

@@ -1,20 +1,26 @@
-//! The shapes of types.
+//! The shapes of types, as they are printed.
 
-use bincode::shape::{Described, Shape};
+use bincode::shape::Described;
 use std::alloc::Global;
+use std::fmt::Debug;
 
-/// Whether a shape is there, and is printed so.
-fn is_printed(alloc: Global, shape: Option<Shape>, wanted: &str) -> bool {
-    let Some(shape) = shape else {
-        return false;
-    };
-    match format!(in alloc; "{shape:?}") {
+/// Whether it is printed so.
+pub fn is_printed<T: Debug>(alloc: Global, value: &T, wanted: &str) -> bool {
+    match format!(in alloc; "{value:?}") {
         Ok(text) => text.as_str() == wanted,
         Err(_) => false,
     }
 }
 
-/// Whether the shape of a type is printed so. Retries once, since an allocation may be refused.
+/// Whether the type has a shape that is printed so.
+fn has_shape_once<T: Described>(alloc: Global, wanted: &str) -> bool {
+    match T::shape(alloc) {
+        Some(shape) => is_printed(alloc, &shape, wanted),
+        None => false,
+    }
+}
+
+/// The same. Retries once, since an allocation may be refused.
 pub fn has_shape<T: Described>(alloc: Global, wanted: &str) -> bool {
-    is_printed(alloc, T::shape(alloc), wanted) || is_printed(alloc, T::shape(alloc), wanted)
+    has_shape_once::<T>(alloc, wanted) || has_shape_once::<T>(alloc, wanted)
 }
