@@ -3,12 +3,15 @@
 //! made. Expected values come from docs/FORMAT.md and from what the calls promise in words.
 
 use crate::pieces::word_of;
+use bincode::alloc::encode_to_vec;
 use bincode::checked::{encoded_length, round_trip_by_vec};
+use bincode::enc::Encoder;
 use bincode::enc::write::{VecWriter, Writer};
-use bincode::enc::{Encode, Encoder};
 use bincode::error::{DecodeError, EncodeError};
+use bincode::impls::Encode;
 use bincode::shape::{DecodeWithinError, Described, Shape, decode_shaped_within};
-use bincode::{Wire, config, decode_from_buf_read, encode_into_slice, encode_to_vec};
+use bincode::std_io::decode_from_buf_read;
+use bincode::{Wire, config, encode_into_slice};
 use std::alloc::Global;
 use std::cell::Cell;
 use std::io;
