@@ -5,7 +5,7 @@ use Rattle.std.proofs.Math.Nat.{lt_of_not-le}
 use Rattle.bincode_base.specs.declared.error.EncodeError.{EncodeError}
 use Rattle.bincode_base.specs.declared.error.EncodeError.TheVariants.{Memory, UnexpectedEnd}
 use Rattle.bincode_spec.specs.Allowed.{OneLength}
-use Rattle.bincode_spec.specs.Encoding.{IsReady, FailsEmpty}
+use Rattle.bincode_spec.specs.Encoding.{IsReady}
 use Rattle.bincode_spec.specs.Slice.{FitsExactly}
 use Rattle.bincode.specs.Short.{LacksMemory, TooShort}
 
@@ -26,8 +26,7 @@ only_memory N none e (inl h) = h
 only_memory N none e (inr n) = absurd (none e n)
 
 -- memory is refused to none but a value with bytes
-pub lacks-memory : {X : Type 0} (R : Type 0) (A : List ℕ → Type 0) (N : EncodeError → Type 0) → OneLength A → ((e : EncodeError) → N e → ⊥) → R →
-    (result : Result X EncodeError) → FailsEmpty (IsReady R A) N result → IfErr result (λ e. (e ≡ Memory) ⊎ N e) → IfErr result (LacksMemory A)
-lacks-memory R A N one none r (Ok x) empty fault = tt
-lacks-memory R A N one none r (Err e) empty fault =
+pub lacks-memory : (R : Type 0) (A : List ℕ → Type 0) (N : EncodeError → Type 0) → OneLength A → ((e : EncodeError) → N e → ⊥) → R →
+    (e : EncodeError) → (OneLength (IsReady R A) → IsReady R A [] → N e) → (e ≡ Memory) ⊎ N e → LacksMemory A e
+lacks-memory R A N one none r e empty fault =
     (only_memory N none e fault, λ word a is. none e (empty (λ v w a b. one v w a.is_allowed b.is_allowed) (record { is_writable = r; is_allowed = subst A is a })))

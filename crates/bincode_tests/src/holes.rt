@@ -1,6 +1,6 @@
-//! What no contract of the library says: that a stream which is interrupted within a window is asked again, how much
-//! room an encoding takes, that a long value is not refused for its length, and that values are counted before they are
-//! made. Expected values come from docs/FORMAT.md and from what the calls promise in words.
+//! What no contract of the library says: that a stream which is interrupted within a window is asked again, how a
+//! vector grows that has too little room, that a long value is not refused for its length, and that values are counted
+//! before they are made. Expected values come from docs/FORMAT.md and from what the calls promise in words.
 
 use crate::pieces::word_of;
 use bincode::alloc::encode_to_vec;
@@ -17,7 +17,6 @@ use std::cell::Cell;
 use std::io;
 use std::io::{BufRead, ErrorKind, Read};
 use std::time::{Duration, Instant};
-use test_helpers::checks::either;
 
 /// A stream that shows at most so many bytes at once, and of whose calls each of this number is interrupted.
 #[derive(Drop)]
@@ -92,32 +91,6 @@ fn reads_on_after_an_interruption(rt: HostRuntime) {
 /// A text of a hundred letters.
 const LONG: &str =
     "0123456789012345678901234567890123456789012345678901234567890123456789012345678901234567890123456789";
-
-/// Numbers, texts, and how many bytes both are written as.
-static ROOMS: [(u32, &str, usize); 4] = [
-    (0, "", 2),
-    (300, "abc", 7),
-    (70_000, "", 6),
-    (70_000, LONG, 106),
-];
-
-/// The length and the capacity of a value's encoding in a vector. Retries once if an allocation is refused.
-fn room_of<T: Encode>(alloc: Global, value: &T) -> Option<(usize, usize)> {
-    let bytes = either(
-        encode_to_vec(alloc, value, config::standard()),
-        encode_to_vec(alloc, value, config::standard()),
-    )?;
-    Some((bytes.len(), bytes.capacity()))
-}
-
-/// A vector has the room of the bytes, and no more.
-#[test]
-fn takes_the_room_of_the_bytes(rt: HostRuntime) {
-    for (number, text, length) in ROOMS {
-        let room = room_of(rt.alloc(), &(number, text));
-        assert!(rt; room == Some((length, length)), "{length}");
-    }
-}
 
 /// A value without bytes that puts the long text into a cell when it is written again.
 #[derive(Clone, Copy)]
